@@ -1,0 +1,121 @@
+//! The bytes of a write.
+ghost use Rattle.std.specs.Prelude.{◌≡◌, ◌<◌, ◌≤◌, IfOk, length, replicate, slice_get, Some};
+
+use crate::{NoMemory, Sector};
+use std::alloc::Global;
+use std::marker::Model;
+use std::sync::Arc;
+
+/// 1 to 8 sectors.
+#[derive(Debug, Drop)]
+pub struct Data {
+    sectors: Vec<Sector>,
+}
+
+impl Model for Data {
+    ghost use Rattle.std.specs.Prelude.{List, ℕ, ◌≤◌, length};
+
+    ghost Value = { List (List ℕ) };
+
+    ghost view = { λ d. d.sectors.items };
+
+    ghost invariant = { λ d. (1 ≤ length d.sectors.items) × (length d.sectors.items ≤ 8) };
+}
+
+impl Data {
+    /// `count` sectors, 1 to 8, each byte of them `byte`.
+    pub fn filled(alloc: Global, byte: u8, count: u32) -> Result<Data, NoMemory>
+        requires some { 1 ≤ count }
+        requires few { count ≤ 8 }
+        ensures { IfOk result (λ d. d ≡ replicate count (replicate 512 byte)) }
+    {
+        let mut sectors = Vec::new(alloc);
+        for made in 0..count {
+            sectors.push([byte; 512])?;
+        }
+        Ok(Data { sectors })
+    }
+
+    /// A copy of 1 to 8 sectors.
+    pub fn copied(alloc: Global, sectors: &[Sector]) -> Result<Data, NoMemory>
+        requires some { 1 ≤ length sectors.now }
+        requires few { length sectors.now ≤ 8 }
+        ensures { IfOk result (λ d. d ≡ sectors.now) }
+    {
+        let sectors = Vec::from_slice(alloc, sectors)?;
+        Ok(Data { sectors })
+    }
+
+    /// The count of sectors, 1 to 8.
+    pub fn len(&self) -> usize
+        ensures count { result ≡ length self.now }
+        ensures some { 1 ≤ result }
+        ensures few { result ≤ 8 }
+    {
+        self.sectors.len()
+    }
+
+    /// Sector `k` of them, counted from 0.
+    pub fn sector(&self, k: usize) -> &Sector
+        requires { k < length self.now }
+        ensures { slice_get self.now k ≡ Some result.now }
+    {
+        &self.sectors[k]
+    }
+
+    /// All its sectors.
+    pub fn as_slice(&self) -> &[Sector]
+        ensures { result.now ≡ self.now }
+    {
+        &self.sectors
+    }
+}
+
+/// The sectors of a write, which all holders of its op share.
+#[derive(Drop)]
+pub struct Payload {
+    data: Arc<Data, Global>,
+}
+
+impl Model for Payload {
+    ghost use Rattle.std.specs.Prelude.{List, ℕ};
+    ghost use Rattle.std.specs.Arc.{arc_value};
+
+    ghost Value = { List (List ℕ) };
+
+    ghost view = { λ p. arc_value p.data };
+}
+
+impl Payload {
+    /// Sectors that are to be shared.
+    pub fn new(alloc: Global, sectors: Data) -> Result<Payload, NoMemory>
+        ensures { IfOk result (λ p. p ≡ sectors) }
+    {
+        let data = Arc::new(alloc, sectors)?;
+        Ok(Payload { data })
+    }
+
+    /// One more holder of the same sectors. No sector is copied.
+    pub fn try_clone(&self) -> Result<Payload, NoMemory>
+        ensures { IfOk result (λ p. p ≡ self.now) }
+    {
+        let data = Arc::try_clone(&self.data)?;
+        Ok(Payload { data })
+    }
+
+    /// The count of sectors, 1 to 8.
+    pub fn len(&self) -> usize
+        ensures count { result ≡ length self.now }
+        ensures some { 1 ≤ result }
+        ensures few { result ≤ 8 }
+    {
+        self.data.len()
+    }
+
+    /// Its sectors.
+    pub fn as_slice(&self) -> &[Sector]
+        ensures { result.now ≡ self.now }
+    {
+        self.data.as_slice()
+    }
+}
