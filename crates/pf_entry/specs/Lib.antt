@@ -1,0 +1,14 @@
+pub mod Maps
+pub mod Sets
+pub mod Tables
+pub mod StartMaps
+pub mod EntryMaps
+pub mod Ops
+pub mod Entries
+pub mod Sizes
+pub mod Records
+pub mod Canonical
+pub mod Voids
+pub mod Merging
+pub mod Applying
+pub mod Lists
