@@ -1,0 +1,261 @@
+-- What holds of every history.
+use Rattle.std.proofs.Common.{◌≡◌, ℕ, ◌<◌, ◌≤◌, ◌⊎◌, inl, inr, true, [], ◌∷◌, ◌++◌, Some, arith, refl, sym, ap, subst, ◌∙◌}
+use Rattle.std.specs.FinMap
+use Rattle.std.proofs.lemmas.Option.{same_Some}
+use Rattle.std.proofs.lemmas.Bool.{cases_lt}
+use Rattle.pf_entry.specs.declared.ops.Op.{Op}
+use Rattle.pf_entry.specs.declared.entries.Entry.{Entry}
+use Rattle.pf_entry.specs.Records.{Durable}
+use Rattle.pf_protocol.proofs.Ballots.{Ballot, Ballots, Sound, IsChosen}
+use Rattle.pf_protocol.proofs.Law.{chosen_stays, kept_at, chosen_agree, IsChosenBy}
+use Rattle.pf_protocol.proofs.Keeping.{holds_is}
+use Rattle.pf_protocol.specs.Servers.{Setup, Role, Follower, Candidate, Merging, Serving, Server, Running, has_applied}
+use Rattle.pf_protocol.specs.Groups.{Group, ending, happens, opening}
+use Rattle.pf_protocol.specs.Histories.{History, run, replay, Runs, Holds, Accepted, Proposed, Chosen}
+use Rattle.pf_protocol.specs.declared.events.Happening.{Happening}
+use Rattle.pf_protocol.specs.Safety.{OneLeader, leads, Agrees, AppliesInOrder, KeepsAcknowledged, Safe}
+use Rattle.pf_entry.proofs.Lists.{every_get}
+use Rattle.pf_protocol.proofs.Knowing.{IsAcked, AckMarks, AllAcked, RoleMarks}
+use Rattle.pf_protocol.proofs.Serving.{Served}
+use Rattle.pf_protocol.proofs.Follows.{Follows, IsLeader, RoleIs}
+use Rattle.pf_protocol.proofs.Steps.{HoldsAt, happens_next}
+use Rattle.pf_protocol.proofs.Opening.{opening_ballots, nothing_accepted, opening_sound, opening_served, opening_follows}
+
+-- what one of the ballots says of an entry that a server accepted
+pub record IsHeld (b : Ballots) (i : ℕ) (e : Entry) : Type 0 where
+  pub accepted : b.accepted i e.slot e.term ≡ true
+  pub proposed : b.proposal e.slot e.term ≡ Some e
+
+-- at some moment of the run the server had an entry of the slot and term
+pub record AcceptedIn (setup : Setup) (g : Group) (history : History) (i slot term : ℕ) : Type 0 where
+  pub earlier : History
+  pub rest : History
+  pub parts : earlier ++ rest ≡ history
+  pub holds_it : HoldsAt (run setup g earlier) i slot term
+
+-- ballots that go with a whole run, and with each moment of it
+pub record Told (setup : Setup) (g : Group) (b : Ballots) (history : History) : Type 0 where
+  pub ballots : Ballots
+  pub sound : Sound ballots
+  pub served : Served ballots
+  pub follows : Follows (run setup g history) ballots
+  pub keeps : (i : ℕ) (e : Entry) → IsHeld b i e → IsHeld ballots i e
+  pub held : (earlier rest : History) → earlier ++ rest ≡ history → (i : ℕ) (e : Entry) → Holds (run setup g earlier) i e → IsHeld ballots i e
+  pub back : (i slot term : ℕ) → ballots.accepted i slot term ≡ true → (b.accepted i slot term ≡ true) ⊎ AcceptedIn setup g history i slot term
+
+-- an entry that a running server holds was accepted and proposed
+held_now : (b : Ballots) (sound : Sound b) (g : Group) (follows : Follows g b) (i : ℕ) (e : Entry) → Holds g i e → IsHeld b i e
+held_now b sound g follows i e h =
+    let is = (follows.servers i (Running h.server) h.runs).1 in
+    let in_log = ap (λ d. FinMap.get d.log e.slot) is.disk ∙ h.held in
+    record { accepted = sound.held_accepted i e.slot e in_log; proposed = ((sound.disks i).proposes e.slot e in_log).1 }
+
+nil_parts : (earlier rest : History) → earlier ++ rest ≡ [] → earlier ≡ []
+nil_parts [] rest is = refl
+nil_parts (h ∷ hs) rest is = absurd (grind arith)
+
+tell : (setup : Setup) (history : History) (g : Group) (b : Ballots) → Sound b → Served b → Follows g b → Told setup g b history
+tell setup [] g b sound served follows = record {
+  ballots = b;
+  sound = sound;
+  served = served;
+  follows = follows;
+  keeps = λ i e h. h;
+  held = λ earlier rest parts i e h. held_now b sound g follows i e (subst (λ hs. Holds (run setup g hs) i e) (nil_parts earlier rest parts) h);
+  back = λ i slot term is. inl is;
+}
+tell setup (x ∷ xs) g b sound served follows =
+    let n = happens_next setup b sound served g follows x.event (ending x.answer) in
+    let t = tell setup xs (happens setup g x.event (ending x.answer)) n.ballots n.sound n.served n.follows in
+    let keeps : (i : ℕ) (e : Entry) → IsHeld b i e → IsHeld t.ballots i e =
+    λ i e h. t.keeps i e (record { accepted = n.accepted i e.slot e.term h.accepted; proposed = n.proposals e.slot e.term e h.proposed }) in
+    record {
+      ballots = t.ballots;
+      sound = t.sound;
+      served = t.served;
+      follows = t.follows;
+      keeps = keeps;
+      held = λ earlier rest parts i e h. held_later setup g b sound follows x xs t.ballots keeps t.held earlier rest parts i e h;
+      back = λ i slot term is. elim (t.back i slot term is) [
+        | inl before ↦ elim (n.new_accepted i slot term before) [
+          | inl old ↦ inl old
+          | inr now ↦ inr (record { earlier = x ∷ []; rest = xs; parts = refl; holds_it = now })
+        ]
+        | inr later ↦ inr (record { earlier = x ∷ later.earlier; rest = later.rest; parts = ap (λ hs. x ∷ hs) later.parts; holds_it = later.holds_it })
+      ];
+    }
+  where
+    held_later : (setup : Setup) (g : Group) (b : Ballots) → Sound b → Follows g b → (x : Happening) (xs : History) (last : Ballots) → ((i : ℕ) (e : Entry) → IsHeld b i e → IsHeld last i e) → ((earlier rest : History) → earlier ++ rest ≡ xs → (i : ℕ) (e : Entry) → Holds (run setup (happens setup g x.event (ending x.answer)) earlier) i e → IsHeld last i e) → (earlier rest : History) → earlier ++ rest ≡ x ∷ xs → (i : ℕ) (e : Entry) → Holds (run setup g earlier) i e → IsHeld last i e
+    held_later setup g b sound follows x xs last keeps held [] rest parts i e h = keeps i e (held_now b sound g follows i e h)
+    held_later setup g b sound follows x xs last keeps held (y ∷ ys) rest parts i e h =
+        let p : y ∷ (ys ++ rest) ≡ x ∷ xs = parts in
+        let head : y ≡ x = cc in
+        let tail : ys ++ rest ≡ xs = cc in
+        held ys rest tail i e (subst (λ z. Holds (run setup (happens setup g z.event (ending z.answer)) ys) i e) head h)
+
+pub told : (setup : Setup) (history : History) → Told setup (opening setup) (opening_ballots setup) history
+told setup history = tell setup history (opening setup) (opening_ballots setup) (opening_sound setup) (opening_served setup) (opening_follows setup)
+
+-- an accepted entry, at the end
+pub held_at_end : (setup : Setup) (history : History) (i : ℕ) (e : Entry) → Accepted setup history i e → IsHeld (told setup history).ballots i e
+held_at_end setup history i e a = (told setup history).held a.earlier a.is_earlier.rest a.is_earlier.whole i e a.holds
+
+-- no held entry's term is above its server's
+pub entries_within : (setup : Setup) (history : History) (i : ℕ) (s : Server) (slot : ℕ) (e : Entry) → Runs (replay setup history) i s → FinMap.get s.durable.log slot ≡ Some e → (e.slot ≡ slot) × (e.term ≤ s.durable.term)
+entries_within setup history i s slot e at held =
+    let t = told setup history in
+    let x = (t.follows.servers i (Running s) at).1 in
+    let p = (t.sound.disks i).proposes slot e (ap (λ d. FinMap.get d.log slot) x.disk ∙ held) in
+    ((t.sound.made slot e.term e p.1).in_slot, omega (arith, p.0, ap (λ d. d.term) x.disk))
+
+-- what the ballots say was accepted was accepted in the history
+pub accepted_in_history : (setup : Setup) (history : History) (i slot term : ℕ) (e : Entry) → (told setup history).ballots.accepted i slot term ≡ true → (told setup history).ballots.proposal slot term ≡ Some e → Accepted setup history i e
+accepted_in_history setup history i slot term e did is =
+    elim ((told setup history).back i slot term did) [
+      | inl never ↦ absurd (nothing_accepted setup i slot term never)
+      | inr a ↦
+          let h = holds_is a.holds_it.server.durable slot term a.holds_it.has in
+          let in_slot = (entries_within setup a.earlier i a.holds_it.server slot h.0 a.holds_it.runs h.1).0 in
+          let it : Accepted setup history i h.0 = record {
+            earlier = a.earlier;
+            is_earlier = record { rest = a.rest; whole = a.parts };
+            holds = record { server = a.holds_it.server; runs = a.holds_it.runs; held = ap (FinMap.get a.holds_it.server.durable.log) in_slot ∙ h.1 };
+          } in
+          let same : h.0 ≡ e = same_Some h.0 e (sym (held_at_end setup history i h.0 it).proposed ∙ ap (λ s. (told setup history).ballots.proposal s h.0.term) in_slot ∙ ap ((told setup history).ballots.proposal slot) h.2 ∙ is) in
+          subst (Accepted setup history i) same it
+    ]
+
+-- what is chosen in a history is chosen in its ballots, and the other way round
+pub chosen_at_end : (setup : Setup) (history : History) (slot term : ℕ) (op : Op) (c : Chosen setup history slot term op) → IsChosen (told setup history).ballots slot term c.entry
+chosen_at_end setup history slot term op c =
+    let one = held_at_end setup history c.one c.entry c.one_accepted in
+    let two = held_at_end setup history c.two c.entry c.two_accepted in
+    let b = (told setup history).ballots in
+    subst (λ s. IsChosen b s term c.entry) c.in_slot (subst (λ t. IsChosen b c.entry.slot t c.entry) c.in_term (record {
+      is = one.proposed;
+      one = c.one;
+      two = c.two;
+      apart = c.apart;
+      one_accepted = one.accepted;
+      two_accepted = two.accepted;
+    }))
+
+pub chosen_in_history : (setup : Setup) (history : History) (slot term : ℕ) (e : Entry) → IsChosen (told setup history).ballots slot term e → Chosen setup history slot term e.op
+chosen_in_history setup history slot term e c =
+    let m = (told setup history).sound.made slot term e c.is in
+    record {
+      entry = e;
+      in_slot = m.in_slot;
+      in_term = m.in_term;
+      has_op = refl;
+      one = c.one;
+      two = c.two;
+      apart = c.apart;
+      one_accepted = accepted_in_history setup history c.one slot term e c.one_accepted c.is;
+      two_accepted = accepted_in_history setup history c.two slot term e c.two_accepted c.is;
+    }
+
+pub known_in_history : (setup : Setup) (history : History) (slot term : ℕ) (op : Op) → IsChosenBy (told setup history).ballots slot term op → (t : ℕ) × (t ≤ term) × Chosen setup history slot t op
+known_in_history setup history slot term op c = (c.by, c.not_later, subst (Chosen setup history slot c.by) c.has_op (chosen_in_history setup history slot c.by c.entry c.chosen))
+
+-- an op that was chosen is the op of every later entry of its slot that some server accepted
+pub later_entries_agree : (setup : Setup) (history : History) (slot term : ℕ) (op : Op) → Chosen setup history slot term op → (i : ℕ) (e : Entry) → Accepted setup history i e → e.slot ≡ slot → term ≤ e.term → e.op ≡ op
+later_entries_agree setup history slot term op c i e a in_slot later =
+    let t = told setup history in
+    let h = held_at_end setup history i e a in
+    chosen_stays t.ballots t.sound slot term c.entry (chosen_at_end setup history slot term op c) e.term e later (ap (λ s. t.ballots.proposal s e.term) (sym in_slot) ∙ h.proposed) ∙ c.has_op
+
+pub later_proposals_agree : (setup : Setup) (history : History) (slot term : ℕ) (op : Op) → Chosen setup history slot term op → (e : Entry) → Proposed setup history e → e.slot ≡ slot → term ≤ e.term → e.op ≡ op
+later_proposals_agree setup history slot term op c e p = later_entries_agree setup history slot term op c p.leader e p.recorded
+
+-- no slot has two chosen ops
+pub one_chosen_op : (setup : Setup) (history : History) (slot t u : ℕ) (x y : Op) → Chosen setup history slot t x → Chosen setup history slot u y → x ≡ y
+one_chosen_op setup history slot t u x y c d =
+    elim (cases_lt t u) [
+      | inl less ↦ sym (sym d.has_op ∙ later_entries_agree setup history slot t x c d.one d.entry d.one_accepted d.in_slot (omega (arith, less, d.in_term)))
+      | inr not_less ↦ sym c.has_op ∙ later_entries_agree setup history slot u y d c.one c.entry c.one_accepted c.in_slot (omega (arith, not_less, c.in_term))
+    ]
+
+-- each committed op is the chosen op of its slot
+pub agrees : (setup : Setup) (history : History) → Agrees setup history
+agrees setup history = record {
+  one_op = one_chosen_op setup history;
+  committed = λ i s slot at is.
+      let k = ((told setup history).follows.servers i (Running s) at).1.knows.committed slot is in
+      let c = known_in_history setup history slot k.entry.term k.entry.op k.chosen in
+      (k.entry, k.held, (c.0, c.2));
+}
+
+-- each applied slot has a chosen op
+pub applied_chosen : (setup : Setup) (history : History) (i : ℕ) (s : Server) (slot : ℕ) → Runs (replay setup history) i s → 0 < slot → has_applied s slot ≡ true → (t : ℕ) × ((op : Op) × Chosen setup history slot t op)
+applied_chosen setup history i s slot at above is =
+    let k = ((told setup history).follows.servers i (Running s) at).1.knows.applied.known slot above is in
+    let c = known_in_history setup history slot s.durable.term k.op k.chosen in
+    (c.0, (k.op, c.2))
+
+-- each sector is what the applied ops leave in slot order
+pub applies_in_order : (setup : Setup) (history : History) → AppliesInOrder setup history
+applies_in_order setup history = record {
+  chosen = applied_chosen setup history;
+  sectors = λ i s x n bytes ops at is bound are.
+      let k = ((told setup history).follows.servers i (Running s) at).1.knows.applied in
+      k.in_order x n bytes ops is bound (λ slot above done.
+      let o = are slot above done in
+      let c = chosen_at_end setup history slot o.2.0 o.0 o.2.1 in
+      (o.0, o.1, (o.2.0, record { entry = o.2.1.entry; by = o.2.0; chosen = c; not_later = omega arith; has_op = o.2.1.has_op })));
+}
+
+-- what was acknowledged is kept by each later leader
+pub keeps_acknowledged : (setup : Setup) (history : History) → KeepsAcknowledged setup history
+keeps_acknowledged setup history = record {
+  chosen = λ k a at.
+      let h = every_get (λ a. IsAcked (told setup history).ballots a.term a.slot) (replay setup history).acked k a (told setup history).follows.acked at in
+      (h.entry.op, chosen_in_history setup history a.slot a.term h.entry h.chosen);
+  kept = λ k a op i s l at c runs is later above.
+      let t = told setup history in
+      let h = every_get (λ a. IsAcked t.ballots a.term a.slot) (replay setup history).acked k a t.follows.acked at in
+      let x = (t.follows.servers i (Running s) runs).1 in
+      let lead : IsLeader t.ballots.ballot t.ballots.next i s.durable l = subst (RoleIs t.ballots.vote t.ballots.ballot t.ballots.next i s.durable) is x.role in
+      let marks : AckMarks i s.durable.base s.committed l × AllAcked i l = subst (RoleMarks i s.durable.base s.committed) is x.knows.marks in
+      let low = kept_at t.ballots t.sound a.slot a.term h.entry h.chosen s.durable.term lead.merge later lead.is in
+      let who = marks.1 a.slot (omega (arith, lead.has_base, lead.base_low, above)) (omega (arith, lead.has_first, low)) in
+      let committed = marks.0 who.0 a.slot who.1 who.2 above in
+      let z = x.knows.committed a.slot committed in (
+        z.entry,
+        z.held,
+        committed,
+        chosen_agree t.ballots t.sound a.slot z.entry.term a.term z.entry.op op z.chosen
+            (record { entry = c.entry; by = a.term; chosen = chosen_at_end setup history a.slot a.term op c; not_later = omega arith; has_op = c.has_op }),
+      );
+}
+
+pub safe : (setup : Setup) (history : History) → Safe setup history
+safe setup history earlier is = record {
+  agrees = agrees setup earlier;
+  in_order = applies_in_order setup earlier;
+  acknowledged = keeps_acknowledged setup earlier;
+}
+
+-- no two servers hold different entries of one slot and term
+pub one_entry : (setup : Setup) (history : History) (i j : ℕ) (a b : Entry) → Accepted setup history i a → Accepted setup history j b → a.slot ≡ b.slot → a.term ≡ b.term → a ≡ b
+one_entry setup history i j a b x y slot term =
+    let p = (held_at_end setup history i a x).proposed in
+    let q = (held_at_end setup history j b y).proposed in
+    let f = (told setup history).ballots.proposal in
+    same_Some a b (sym p ∙ ap (λ s. f s a.term) slot ∙ ap (f b.slot) term ∙ q)
+
+-- in each term at most one server leads
+leader_of : (b : Ballots) (i : ℕ) (d : Durable) (role : Role) → leads role ≡ true → RoleIs b.vote b.ballot b.next i d role → (m : Ballot) × (b.ballot d.term ≡ Some m) × (m.leader ≡ i)
+leader_of b i d Follower is h = absurd (grind arith)
+leader_of b i d (Candidate own) is h = absurd (grind arith)
+leader_of b i d (Merging l) is h = (h.merge, h.is, h.leads)
+leader_of b i d (Serving l) is h = (h.merge, h.is, h.leads)
+
+pub one_leader : (setup : Setup) (history : History) → OneLeader (replay setup history)
+one_leader setup history i j s z at_i at_j leads_i leads_j same =
+    let t = told setup history in
+    let x = (t.follows.servers i (Running s) at_i).1 in
+    let y = (t.follows.servers j (Running z) at_j).1 in
+    let l = leader_of t.ballots i s.durable s.role leads_i x.role in
+    let k = leader_of t.ballots j z.durable z.role leads_j y.role in
+    sym l.2 ∙ ap (λ m. m.leader) (same_Some l.0 k.0 (sym l.1 ∙ ap t.ballots.ballot same ∙ k.1)) ∙ k.2

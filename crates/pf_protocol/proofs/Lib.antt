@@ -1,0 +1,14 @@
+pub mod Ballots
+pub mod Changes
+pub mod Law
+pub mod Keeping
+pub mod Growing
+pub mod Extending
+pub mod Serving
+pub mod Knowing
+pub mod Follows
+pub mod Rows
+pub mod Steps
+pub mod Opening
+pub mod Histories
+pub mod Worked

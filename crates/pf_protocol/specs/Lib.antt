@@ -1,0 +1,10 @@
+pub mod Numbers
+pub mod Servers
+pub mod Outcomes
+pub mod Leading
+pub mod Following
+pub mod Saving
+pub mod Rows
+pub mod Groups
+pub mod Histories
+pub mod Safety
