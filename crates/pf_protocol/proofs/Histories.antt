@@ -6,15 +6,16 @@ use Rattle.std.proofs.lemmas.Bool.{cases_lt}
 use Rattle.pf_entry.specs.declared.ops.Op.{Op}
 use Rattle.pf_entry.specs.declared.entries.Entry.{Entry}
 use Rattle.pf_entry.specs.Records.{Durable}
-use Rattle.pf_protocol.proofs.Ballots.{Ballot, Ballots, Sound, IsChosen}
+use Rattle.pf_protocol.proofs.Ballots.{Ballot, Ballots, Sound, IsPicked}
 use Rattle.pf_protocol.proofs.Law.{chosen_stays, kept_at, chosen_agree, IsChosenBy}
 use Rattle.pf_protocol.proofs.Keeping.{holds_is}
 use Rattle.pf_protocol.specs.Servers.{Setup, Role, Follower, Candidate, Merging, Serving, Server, Running, has_applied}
 use Rattle.pf_protocol.specs.Groups.{Group, ending, happens, opening}
-use Rattle.pf_protocol.specs.Histories.{History, run, replay, Runs, Holds, Accepted, Proposed, Chosen}
+use Rattle.pf_protocol.specs.Histories.{History, run, replay, Runs, Holds, HasAccepted, IsProposal, IsChosen}
 use Rattle.pf_protocol.specs.declared.events.Happening.{Happening}
-use Rattle.pf_protocol.specs.Safety.{OneLeader, leads, Agrees, AppliesInOrder, KeepsAcknowledged, Safe}
+use Rattle.pf_protocol.specs.Safety.{OneLeader, leads, Agrees, AppliesInOrder, KeepsAcknowledged, IsSafe}
 use Rattle.pf_entry.proofs.Lists.{every_get}
+use Rattle.pf_protocol.proofs.Making.{accepted_proposed}
 use Rattle.pf_protocol.proofs.Knowing.{IsAcked, AckMarks, AllAcked, RoleMarks}
 use Rattle.pf_protocol.proofs.Serving.{Served}
 use Rattle.pf_protocol.proofs.Follows.{Follows, IsLeader, RoleIs}
@@ -97,7 +98,7 @@ pub told : (setup : Setup) (history : History) → Told setup (opening setup) (o
 told setup history = tell setup history (opening setup) (opening_ballots setup) (opening_sound setup) (opening_served setup) (opening_follows setup)
 
 -- an accepted entry, at the end
-pub held_at_end : (setup : Setup) (history : History) (i : ℕ) (e : Entry) → Accepted setup history i e → IsHeld (told setup history).ballots i e
+pub held_at_end : (setup : Setup) (history : History) (i : ℕ) (e : Entry) → HasAccepted setup history i e → IsHeld (told setup history).ballots i e
 held_at_end setup history i e a = (told setup history).held a.earlier a.is_earlier.rest a.is_earlier.whole i e a.holds
 
 -- no held entry's term is above its server's
@@ -109,29 +110,29 @@ entries_within setup history i s slot e at held =
     ((t.sound.made slot e.term e p.1).in_slot, omega (arith, p.0, ap (λ d. d.term) x.disk))
 
 -- what the ballots say was accepted was accepted in the history
-pub accepted_in_history : (setup : Setup) (history : History) (i slot term : ℕ) (e : Entry) → (told setup history).ballots.accepted i slot term ≡ true → (told setup history).ballots.proposal slot term ≡ Some e → Accepted setup history i e
+pub accepted_in_history : (setup : Setup) (history : History) (i slot term : ℕ) (e : Entry) → (told setup history).ballots.accepted i slot term ≡ true → (told setup history).ballots.proposal slot term ≡ Some e → HasAccepted setup history i e
 accepted_in_history setup history i slot term e did is =
     elim ((told setup history).back i slot term did) [
       | inl never ↦ absurd (nothing_accepted setup i slot term never)
       | inr a ↦
           let h = holds_is a.holds_it.server.durable slot term a.holds_it.has in
           let in_slot = (entries_within setup a.earlier i a.holds_it.server slot h.0 a.holds_it.runs h.1).0 in
-          let it : Accepted setup history i h.0 = record {
+          let it : HasAccepted setup history i h.0 = record {
             earlier = a.earlier;
             is_earlier = record { rest = a.rest; whole = a.parts };
             holds = record { server = a.holds_it.server; runs = a.holds_it.runs; held = ap (FinMap.get a.holds_it.server.durable.log) in_slot ∙ h.1 };
           } in
           let same : h.0 ≡ e = same_Some h.0 e (sym (held_at_end setup history i h.0 it).proposed ∙ ap (λ s. (told setup history).ballots.proposal s h.0.term) in_slot ∙ ap ((told setup history).ballots.proposal slot) h.2 ∙ is) in
-          subst (Accepted setup history i) same it
+          subst (HasAccepted setup history i) same it
     ]
 
 -- what is chosen in a history is chosen in its ballots, and the other way round
-pub chosen_at_end : (setup : Setup) (history : History) (slot term : ℕ) (op : Op) (c : Chosen setup history slot term op) → IsChosen (told setup history).ballots slot term c.entry
+pub chosen_at_end : (setup : Setup) (history : History) (slot term : ℕ) (op : Op) (c : IsChosen setup history slot term op) → IsPicked (told setup history).ballots slot term c.entry
 chosen_at_end setup history slot term op c =
     let one = held_at_end setup history c.one c.entry c.one_accepted in
     let two = held_at_end setup history c.two c.entry c.two_accepted in
     let b = (told setup history).ballots in
-    subst (λ s. IsChosen b s term c.entry) c.in_slot (subst (λ t. IsChosen b c.entry.slot t c.entry) c.in_term (record {
+    subst (λ s. IsPicked b s term c.entry) c.in_slot (subst (λ t. IsPicked b c.entry.slot t c.entry) c.in_term (record {
       is = one.proposed;
       one = c.one;
       two = c.two;
@@ -140,11 +141,12 @@ chosen_at_end setup history slot term op c =
       two_accepted = two.accepted;
     }))
 
-pub chosen_in_history : (setup : Setup) (history : History) (slot term : ℕ) (e : Entry) → IsChosen (told setup history).ballots slot term e → Chosen setup history slot term e.op
+pub chosen_in_history : (setup : Setup) (history : History) (slot term : ℕ) (e : Entry) → IsPicked (told setup history).ballots slot term e → IsChosen setup history slot term e.op
 chosen_in_history setup history slot term e c =
     let m = (told setup history).sound.made slot term e c.is in
     record {
       entry = e;
+      proposed = accepted_proposed setup history c.one e (accepted_in_history setup history c.one slot term e c.one_accepted c.is);
       in_slot = m.in_slot;
       in_term = m.in_term;
       has_op = refl;
@@ -155,21 +157,21 @@ chosen_in_history setup history slot term e c =
       two_accepted = accepted_in_history setup history c.two slot term e c.two_accepted c.is;
     }
 
-pub known_in_history : (setup : Setup) (history : History) (slot term : ℕ) (op : Op) → IsChosenBy (told setup history).ballots slot term op → (t : ℕ) × (t ≤ term) × Chosen setup history slot t op
-known_in_history setup history slot term op c = (c.by, c.not_later, subst (Chosen setup history slot c.by) c.has_op (chosen_in_history setup history slot c.by c.entry c.chosen))
+pub known_in_history : (setup : Setup) (history : History) (slot term : ℕ) (op : Op) → IsChosenBy (told setup history).ballots slot term op → (t : ℕ) × (t ≤ term) × IsChosen setup history slot t op
+known_in_history setup history slot term op c = (c.by, c.not_later, subst (IsChosen setup history slot c.by) c.has_op (chosen_in_history setup history slot c.by c.entry c.chosen))
 
 -- an op that was chosen is the op of every later entry of its slot that some server accepted
-pub later_entries_agree : (setup : Setup) (history : History) (slot term : ℕ) (op : Op) → Chosen setup history slot term op → (i : ℕ) (e : Entry) → Accepted setup history i e → e.slot ≡ slot → term ≤ e.term → e.op ≡ op
+pub later_entries_agree : (setup : Setup) (history : History) (slot term : ℕ) (op : Op) → IsChosen setup history slot term op → (i : ℕ) (e : Entry) → HasAccepted setup history i e → e.slot ≡ slot → term ≤ e.term → e.op ≡ op
 later_entries_agree setup history slot term op c i e a in_slot later =
     let t = told setup history in
     let h = held_at_end setup history i e a in
     chosen_stays t.ballots t.sound slot term c.entry (chosen_at_end setup history slot term op c) e.term e later (ap (λ s. t.ballots.proposal s e.term) (sym in_slot) ∙ h.proposed) ∙ c.has_op
 
-pub later_proposals_agree : (setup : Setup) (history : History) (slot term : ℕ) (op : Op) → Chosen setup history slot term op → (e : Entry) → Proposed setup history e → e.slot ≡ slot → term ≤ e.term → e.op ≡ op
+pub later_proposals_agree : (setup : Setup) (history : History) (slot term : ℕ) (op : Op) → IsChosen setup history slot term op → (e : Entry) → IsProposal setup history e → e.slot ≡ slot → term ≤ e.term → e.op ≡ op
 later_proposals_agree setup history slot term op c e p = later_entries_agree setup history slot term op c p.leader e p.recorded
 
 -- no slot has two chosen ops
-pub one_chosen_op : (setup : Setup) (history : History) (slot t u : ℕ) (x y : Op) → Chosen setup history slot t x → Chosen setup history slot u y → x ≡ y
+pub one_chosen_op : (setup : Setup) (history : History) (slot t u : ℕ) (x y : Op) → IsChosen setup history slot t x → IsChosen setup history slot u y → x ≡ y
 one_chosen_op setup history slot t u x y c d =
     elim (cases_lt t u) [
       | inl less ↦ sym (sym d.has_op ∙ later_entries_agree setup history slot t x c d.one d.entry d.one_accepted d.in_slot (omega (arith, less, d.in_term)))
@@ -187,7 +189,7 @@ agrees setup history = record {
 }
 
 -- each applied slot has a chosen op
-pub applied_chosen : (setup : Setup) (history : History) (i : ℕ) (s : Server) (slot : ℕ) → Runs (replay setup history) i s → 0 < slot → has_applied s slot ≡ true → (t : ℕ) × ((op : Op) × Chosen setup history slot t op)
+pub applied_chosen : (setup : Setup) (history : History) (i : ℕ) (s : Server) (slot : ℕ) → Runs (replay setup history) i s → 0 < slot → has_applied s slot ≡ true → (t : ℕ) × ((op : Op) × IsChosen setup history slot t op)
 applied_chosen setup history i s slot at above is =
     let k = ((told setup history).follows.servers i (Running s) at).1.knows.applied.known slot above is in
     let c = known_in_history setup history slot s.durable.term k.op k.chosen in
@@ -229,7 +231,7 @@ keeps_acknowledged setup history = record {
       );
 }
 
-pub safe : (setup : Setup) (history : History) → Safe setup history
+pub safe : (setup : Setup) (history : History) → IsSafe setup history
 safe setup history earlier is = record {
   agrees = agrees setup earlier;
   in_order = applies_in_order setup earlier;
@@ -237,7 +239,7 @@ safe setup history earlier is = record {
 }
 
 -- no two servers hold different entries of one slot and term
-pub one_entry : (setup : Setup) (history : History) (i j : ℕ) (a b : Entry) → Accepted setup history i a → Accepted setup history j b → a.slot ≡ b.slot → a.term ≡ b.term → a ≡ b
+pub one_entry : (setup : Setup) (history : History) (i j : ℕ) (a b : Entry) → HasAccepted setup history i a → HasAccepted setup history j b → a.slot ≡ b.slot → a.term ≡ b.term → a ≡ b
 one_entry setup history i j a b x y slot term =
     let p = (held_at_end setup history i a x).proposed in
     let q = (held_at_end setup history j b y).proposed in

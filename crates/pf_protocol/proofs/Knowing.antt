@@ -11,7 +11,7 @@ use Rattle.pf_entry.specs.Ops.{zero_sector, writes, written}
 use Rattle.pf_entry.specs.declared.entries.Entry.{Entry}
 use Rattle.pf_entry.specs.Records.{Durable}
 use Rattle.pf_entry.specs.Applying.{is_applied, after_op, fold_to}
-use Rattle.pf_protocol.proofs.Ballots.{Ballot, first_of, Ballots, Sound, IsChosen}
+use Rattle.pf_protocol.proofs.Ballots.{Ballot, first_of, Ballots, Sound, IsPicked}
 use Rattle.pf_protocol.proofs.Changes.{Extends, Grows}
 use Rattle.pf_protocol.proofs.Law.{IsChosenBy, proposal_agrees, chosen_agree}
 use Rattle.pf_protocol.proofs.Keeping.{by_test}
@@ -89,7 +89,7 @@ marks_more i base higher committed more (Serving l) le keep h = (λ j slot apart
 pub record IsAcked (b : Ballots) (term slot : ℕ) : Type 0 where
   pub entry : Entry
   pub merge : Ballot
-  pub chosen : IsChosen b slot term entry
+  pub chosen : IsPicked b slot term entry
   pub leads : b.ballot term ≡ Some merge
   pub is_new : first_of merge ≤ slot
 

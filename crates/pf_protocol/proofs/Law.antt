@@ -9,7 +9,7 @@ use Rattle.pf_entry.specs.declared.entries.Entry.{Entry}
 use Rattle.pf_entry.specs.declared.entries.VoteLog.{VoteLog}
 use Rattle.pf_entry.specs.Merging.{is_passed_over, taken, merged_op, op_or_noop}
 use Rattle.pf_entry.proofs.Merging.{was_taken, takes_from, taken_below_first, base_below_first, IsVoid_from_test, test_from_IsVoid}
-use Rattle.pf_protocol.proofs.Ballots.{Cast, Ballot, first_of, Ballots, IsStart, HasQuorum, Faithful, Sound, IsChosen}
+use Rattle.pf_protocol.proofs.Ballots.{Cast, Ballot, first_of, Ballots, IsStart, HasQuorum, Faithful, Sound, IsPicked}
 
 pub share : (a b c d : ℕ) → a ≢ b → c ≢ d → a < 3 → b < 3 → c < 3 → d < 3 → ((a ≡ c) ⊎ (a ≡ d)) ⊎ ((b ≡ c) ⊎ (b ≡ d))
 share a b c d = grind arith
@@ -36,7 +36,7 @@ record Witness (b : Ballots) (term : ℕ) (m : Ballot) (s t : ℕ) : Type 0 wher
   vote : OneVote b term m server
   has_accepted : b.accepted server s t ≡ true
 
-witness : (b : Ballots) (sound : Sound b) (s t : ℕ) (e : Entry) (chosen : IsChosen b s t e) (u : ℕ) (m : Ballot) → b.ballot u ≡ Some m → Witness b u m s t
+witness : (b : Ballots) (sound : Sound b) (s t : ℕ) (e : Entry) (chosen : IsPicked b s t e) (u : ℕ) (m : Ballot) → b.ballot u ≡ Some m → Witness b u m s t
 witness b sound s t e chosen u m at =
     let q = sound.quorums u m at in
     let one = sound.accepted_proposed chosen.one s t chosen.one_accepted in
@@ -89,7 +89,7 @@ passed_by b sound u m s t at is =
           record { later = v.0; first = v.1.0; is_later = v.1.2; is_before = f.0; starts = f.1; reaches = v.1.3 }
     ]
 
-module _ (b : Ballots) (sound : Sound b) (s t : ℕ) (e : Entry) (chosen : IsChosen b s t e) where
+module _ (b : Ballots) (sound : Sound b) (s t : ℕ) (e : Entry) (chosen : IsPicked b s t e) where
   -- a later merge begins above the slot, and has the op there
   record Kept (m : Ballot) : Type 0 where
     below_first : s < first_of m
@@ -152,7 +152,7 @@ module _ (b : Ballots) (sound : Sound b) (s t : ℕ) (e : Entry) (chosen : IsCho
 pub record IsChosenBy (b : Ballots) (slot term : ℕ) (op : Op) : Type 0 where
   pub entry : Entry
   pub by : ℕ
-  pub chosen : IsChosen b slot by entry
+  pub chosen : IsPicked b slot by entry
   pub not_later : by ≤ term
   pub has_op : entry.op ≡ op
 
@@ -168,7 +168,7 @@ chosen_agree b sound slot t u x y c d =
 pub proposal_agrees : (b : Ballots) (sound : Sound b) (slot t u : ℕ) (op : Op) (e : Entry) → IsChosenBy b slot t op → t ≤ u → b.proposal slot u ≡ Some e → e.op ≡ op
 proposal_agrees b sound slot t u op e c le is = chosen_stays b sound slot c.by c.entry c.chosen u e (le_trans c.not_later le) is ∙ c.has_op
 
-module _ (b : Ballots) (sound : Sound b) (s t : ℕ) (e : Entry) (chosen : IsChosen b s t e) (m : Ballot) (at_t : b.ballot t ≡ Some m) (new : first_of m ≤ s) where
+module _ (b : Ballots) (sound : Sound b) (s t : ℕ) (e : Entry) (chosen : IsPicked b s t e) (m : Ballot) (at_t : b.ballot t ≡ Some m) (new : first_of m ≤ s) where
   -- where a new entry was chosen, no later leader takes anything of an earlier term from its first new slot on
   pub nothing_older : (u : ℕ) (n : Ballot) → t < u → b.ballot u ≡ Some n → (p : ℕ) (x : Entry) → first_of m ≤ p → taken n.base n.own n.theirs p ≡ Some x → t ≤ x.term
   nothing_older u n after at p x reaches is =
@@ -213,7 +213,7 @@ module _ (b : Ballots) (sound : Sound b) (s t : ℕ) (e : Entry) (chosen : IsCho
         taken_op n op (Some z) is rest = elim (rest z is) [ inl same ↦ inl (op ∙ ap op_or_noop is ∙ same) | inr noop ↦ inr (op ∙ ap op_or_noop is ∙ noop) ]
 
     -- whatever is chosen there is the leader's own op or a no-op
-    pub chosen_below : (v : ℕ) (x : Entry) → IsChosen b p v x → OwnOrNoop y x
+    pub chosen_below : (v : ℕ) (x : Entry) → IsPicked b p v x → OwnOrNoop y x
     chosen_below v x c =
         elim (cases_lt v t) [
           | inl earlier ↦ absurd (omega (arith, kept_at b sound p v x c t m earlier at_t, reaches))

@@ -10,5 +10,7 @@ pub mod Follows
 pub mod Rows
 pub mod Steps
 pub mod Opening
+pub mod Making
 pub mod Histories
+pub mod Origins
 pub mod Worked

@@ -18,7 +18,7 @@ use Rattle.pf_entry.specs.Records.{Durable, stored, put_entry, vote_of, holds, a
 use Rattle.pf_entry.specs.declared.records.Record.TheVariants.{Term as TermRecord}
 use Rattle.pf_entry.specs.Merging.{merged_first, merged_entry, merged_entries}
 use Rattle.pf_entry.proofs.Merging.{base_below_first}
-use Rattle.pf_protocol.proofs.Ballots.{Cast, Ballot, first_of, Ballots, IsChosen, HasQuorum, Faithful, Sound}
+use Rattle.pf_protocol.proofs.Ballots.{Cast, Ballot, first_of, Ballots, IsPicked, HasQuorum, Faithful, Sound}
 use Rattle.pf_protocol.proofs.Changes.{put, grown, Grows, voted, merged_proposal, merged as merged_ballots, proposed, Extends}
 use Rattle.pf_protocol.proofs.Keeping.{by_test, grown_sound, voted_sound, merged_sound, proposed_sound, holds_is, holds_from}
 use Rattle.pf_protocol.proofs.Law.{share, IsChosenBy, proposal_agrees}
@@ -1004,7 +1004,7 @@ module _ (b : Ballots) (sound : Sound b) (served : Served b) (i : ℕ) (below : 
       let new : first_of h.merge ≤ slot = omega (arith, h.has_first, leb-true l.first slot p.1) in
       let chosen : IsChosenBy b slot e.0.term e.0.op = subst (λ t. IsChosenBy b slot t e.0.op) (sym made.in_term)
       (ack_chooses b sound i from slot s.durable.term e.0 e.1 (λ same. apart (sym same)) (lead.own slot o.0 o.1) (a (omega (arith, o.0)))) in
-      let one : IsChosen b slot s.durable.term e.0 = subst (λ t. IsChosen b slot t e.0) made.in_term
+      let one : IsPicked b slot s.durable.term e.0 = subst (λ t. IsPicked b slot t e.0) made.in_term
       (new_is_chosen b sound slot e.0 (ap (b.proposal slot) made.in_term ∙ e.1) chosen (le_trans (le_of_eq (made.has_first ∙ ap first_of same_m)) new)) in
       subst (IsAcked z.ballots s.durable.term) c.1
       (acked_there i b z.ballots z.extends s.durable.term slot (record { entry = e.0; merge = h.merge; chosen = one; leads = h.is; is_new = new }))

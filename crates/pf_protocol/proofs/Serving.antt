@@ -14,7 +14,7 @@ use Rattle.pf_entry.specs.declared.entries.Named.{Named}
 use Rattle.pf_entry.specs.Records.{Durable}
 use Rattle.pf_entry.specs.Merging.{merged_entry}
 use Rattle.pf_entry.specs.Applying.{passes}
-use Rattle.pf_protocol.proofs.Ballots.{Cast, Ballot, first_of, Ballots, Sound, IsChosen}
+use Rattle.pf_protocol.proofs.Ballots.{Cast, Ballot, first_of, Ballots, Sound, IsPicked}
 use Rattle.pf_protocol.proofs.Changes.{grown, voted, merged, proposed, Extends}
 use Rattle.pf_protocol.proofs.Keeping.{put_cases, put_cases_at, proposal_stays, proposals_stay}
 use Rattle.pf_protocol.proofs.Extending.{extends_merged, extends_proposed}
@@ -108,7 +108,7 @@ proposed_served b sound i term m e leads at in_slot lists waits s =
 pub record IsPassed (b : Ballots) (a p : ℕ) : Type 0 where
   pub entry : Entry
   pub term : ℕ
-  pub chosen : IsChosen b a term entry
+  pub chosen : IsPicked b a term entry
   pub lets : passes entry.look p (range_of entry.op) ≡ true
 
 noop_apart : (r : Span) → overlaps (range_of Noop) r ≡ false
@@ -116,7 +116,7 @@ unfolding range_of
 noop_apart r = refl
 
 -- the op in p is the named one or a no-op
-named_op : (b : Ballots) (sound : Sound b) (s : Served b) (a p u k : ℕ) (e y : Entry) (other : Op) → IsChosen b a k e → (m : Ballot) → b.ballot k ≡ Some m → first_of m ≤ a → a < b.next k → m.base < p → p < a → b.proposal p k ≡ Some y → IsChosenBy b p u other → (other ≡ y.op) ⊎ (other ≡ Noop)
+named_op : (b : Ballots) (sound : Sound b) (s : Served b) (a p u k : ℕ) (e y : Entry) (other : Op) → IsPicked b a k e → (m : Ballot) → b.ballot k ≡ Some m → first_of m ≤ a → a < b.next k → m.base < p → p < a → b.proposal p k ≡ Some y → IsChosenBy b p u other → (other ≡ y.op) ⊎ (other ≡ Noop)
 named_op b sound s a p u k e y other chosen m at new low_next above below in_p d =
     elim (cases_lt p (first_of m)) [
       | inl was_merged ↦
@@ -152,12 +152,12 @@ passed_apart b sound s a p t u op other passed c d =
     ]
 
 -- a new entry whose op is chosen by its term is chosen itself
-pub new_is_chosen : (b : Ballots) (sound : Sound b) (slot : ℕ) (e : Entry) → b.proposal slot e.term ≡ Some e → IsChosenBy b slot e.term e.op → e.first ≤ slot → IsChosen b slot e.term e
+pub new_is_chosen : (b : Ballots) (sound : Sound b) (slot : ℕ) (e : Entry) → b.proposal slot e.term ≡ Some e → IsChosenBy b slot e.term e.op → e.first ≤ slot → IsPicked b slot e.term e
 new_is_chosen b sound slot e is c new =
     let made = sound.made slot e.term e is in
     elim (eq-or-lt_of_le c.not_later) [
       | inl same ↦
           let same_e : c.entry ≡ e = same_Some c.entry e (sym c.chosen.is ∙ ap (b.proposal slot) same ∙ is) in
-          subst (λ x. IsChosen b slot e.term x) same_e (subst (λ t. IsChosen b slot t c.entry) same c.chosen)
+          subst (λ x. IsPicked b slot e.term x) same_e (subst (λ t. IsPicked b slot t c.entry) same c.chosen)
       | inr earlier ↦ absurd (omega (arith, kept_at b sound slot c.by c.entry c.chosen e.term made.merge earlier made.is, made.has_first, new))
     ]

@@ -1,17 +1,20 @@
 -- Histories of a group, and what was proposed, accepted and chosen in them.
-use Rattle.std.specs.Prelude.{◌≡◌, ℕ, ◌≢◌, List, [], ◌∷◌, ◌++◌, Some, slice_get}
-use Rattle.std.specs.List.{Contains}
+use Rattle.std.specs.Prelude.{◌≡◌, ℕ, ◌<◌, ◌≤◌, ◌≢◌, ◌⊎◌, false, List, [], ◌∷◌, ◌++◌, Some, slice_get}
 use Rattle.std.specs.FinMap
 use Rattle.pf_entry.specs.declared.ops.Op.{Op}
+use Rattle.pf_entry.specs.declared.ops.Op.TheVariants.{Noop}
 use Rattle.pf_entry.specs.declared.entries.Entry.{Entry}
+use Rattle.pf_entry.specs.declared.entries.VoteLog.{VoteLog}
 use Rattle.pf_entry.specs.declared.packets.Body.TheVariants.{Vote}
-use Rattle.pf_entry.specs.Merging.{merged_entries}
+use Rattle.pf_entry.specs.Entries.{IsNew}
+use Rattle.pf_entry.specs.Merging.{taken, merged_first, merged_entry}
 use Rattle.pf_protocol.specs.Servers.{Setup, Candidate, Serving, Leader, Server, Running}
+use Rattle.pf_protocol.specs.declared.answers.Answer.{Answer}
+use Rattle.pf_protocol.specs.declared.events.Event.{Event}
+use Rattle.pf_protocol.specs.declared.events.Event.TheVariants.{Submit, Deliver}
 use Rattle.pf_protocol.specs.declared.events.Happening.{Happening}
 use Rattle.pf_protocol.specs.Leading.{new_entry}
 use Rattle.pf_protocol.specs.Groups.{Group, Sent, ending, happens, opening}
-use Rattle.pf_protocol.specs.declared.events.Event.{Event}
-use Rattle.pf_protocol.specs.declared.events.Event.TheVariants.{Submit, Deliver}
 
 abbrev pub History : Type 0
 History = List Happening
@@ -39,35 +42,82 @@ pub record Holds (g : Group) (i : ℕ) (e : Entry) : Type 0 where
   pub held : FinMap.get server.durable.log e.slot ≡ Some e
 
 -- after some event of the history, server i had the entry in its records
-pub record Accepted (setup : Setup) (history : History) (i : ℕ) (e : Entry) : Type 0 where
+pub record HasAccepted (setup : Setup) (history : History) (i : ℕ) (e : Entry) : Type 0 where
   pub earlier : History
   pub is_earlier : IsPrefix earlier history
   pub holds : Holds (replay setup earlier) i e
 
--- the entry that this event makes at this server
+-- the packet is a vote for this candidate
+pub record IsMerge (g : Group) (i : ℕ) (s : Server) (k : ℕ) (sent : Sent) (own other : VoteLog) : Type 0 where
+  pub stands : s.role ≡ Candidate own
+  pub was_sent : slice_get g.packets k ≡ Some sent
+  pub not_lost : sent.lost ≡ false
+  pub to_it : sent.packet.to ≡ i
+  pub in_term : sent.packet.term ≡ s.durable.term
+  pub is_vote : sent.packet.body ≡ Vote other
+  pub low : other.base ≤ s.durable.base
+
+-- the entry that an event makes at a server: a leader proposes in its next slot, or a candidate merges its own log and that of a
+-- vote, and proposes each merged op anew
 pub data Makes (setup : Setup) (g : Group) (i : ℕ) (s : Server) : Event → Entry → Type 0 where
   BySubmit : (op : Op) (l : Leader) → s.role ≡ Serving l → Makes setup g i s (Submit i op) (new_entry setup.names s l op)
-  ByMerge : (k : ℕ) (sent : Sent) (own other : _) (e : Entry) → slice_get g.packets k ≡ Some sent → sent.packet.to ≡ i → sent.packet.body ≡ Vote other → s.role ≡ Candidate own → Contains (merged_entries s.durable.term s.durable.base own other) e → Makes setup g i s (Deliver k) e
+  ByMerge : (k : ℕ) (sent : Sent) (own other : VoteLog) (slot : ℕ) → IsMerge g i s k sent own other → s.durable.base < slot → slot < merged_first s.durable.base own other → Makes setup g i s (Deliver k) (merged_entry s.durable.term s.durable.base own other slot)
 
--- the entry that the leader of its term made for its slot. Where the making step was cut off, it counts once its record was found
-pub record Proposed (setup : Setup) (history : History) (e : Entry) : Type 0 where
-  pub leader : ℕ
+-- some event made the entry at this server
+pub record Made (setup : Setup) (history : History) (leader : ℕ) (e : Entry) : Type 0 where
   pub earlier : History
   pub making : Happening
   pub is_earlier : IsPrefix (earlier ++ making ∷ []) history
   pub server : Server
   pub runs : Runs (replay setup earlier) leader server
   pub makes : Makes setup (replay setup earlier) leader server making.event e
-  pub recorded : Accepted setup history leader e
 
--- two of the three servers accepted the proposal of this slot and term, which has this op. Records hold proposals alone
-pub record Chosen (setup : Setup) (history : History) (slot term : ℕ) (op : Op) : Type 0 where
+-- the entry that the leader of its term made for its slot. Where the making step was cut off, it counts once its record was found
+pub record IsProposal (setup : Setup) (history : History) (e : Entry) : Type 0 where
+  pub leader : ℕ
+  pub made : Made setup history leader e
+  pub recorded : HasAccepted setup history leader e
+
+-- two of the three servers accepted the proposal of this slot and term, which has this op
+pub record IsChosen (setup : Setup) (history : History) (slot term : ℕ) (op : Op) : Type 0 where
   pub entry : Entry
+  pub proposed : IsProposal setup history entry
   pub in_slot : entry.slot ≡ slot
   pub in_term : entry.term ≡ term
   pub has_op : entry.op ≡ op
   pub one : ℕ
   pub two : ℕ
   pub apart : one ≢ two
-  pub one_accepted : Accepted setup history one entry
-  pub two_accepted : Accepted setup history two entry
+  pub one_accepted : HasAccepted setup history one entry
+  pub two_accepted : HasAccepted setup history two entry
+
+-- the op of a merge was taken from this entry, the one of the highest term that is not void
+pub record IsTakenFrom (setup : Setup) (history : History) (e from : Entry) : Type 0 where
+  pub leader : ℕ
+  pub earlier : History
+  pub k : ℕ
+  pub answer : Answer
+  pub is_earlier : IsPrefix (earlier ++ record { event = Deliver k; answer = answer } ∷ []) history
+  pub server : Server
+  pub runs : Runs (replay setup earlier) leader server
+  pub sent : Sent
+  pub own : VoteLog
+  pub other : VoteLog
+  pub merge : IsMerge (replay setup earlier) leader server k sent own other
+  pub is_merged : e ≡ merged_entry server.durable.term server.durable.base own other e.slot
+  pub is_taken : taken server.durable.base own other e.slot ≡ Some from
+
+-- the new proposal from which an op comes, through the merges that took it
+pub data HasOrigin (setup : Setup) (history : History) : (e origin : Entry) → Type 0 where
+  Itself : (e : Entry) → IsProposal setup history e → IsNew e → HasOrigin setup history e e
+  Through : (e from origin : Entry) → IsProposal setup history e → IsTakenFrom setup history e from → HasOrigin setup history from origin → HasOrigin setup history e origin
+
+-- an op comes from a new proposal of its slot, or it is a no-op by which a merge filled a slot
+pub record Origin (setup : Setup) (history : History) (e : Entry) : Type 0 where
+  pub origin : Entry
+  pub is : HasOrigin setup history e origin
+  pub same_slot : origin.slot ≡ e.slot
+  pub same_op : origin.op ≡ e.op
+
+abbrev pub HasSource : Setup → History → Entry → Type 0
+HasSource setup history e = Origin setup history e ⊎ (e.op ≡ Noop)

@@ -8,3 +8,4 @@ pub mod Rows
 pub mod Groups
 pub mod Histories
 pub mod Safety
+pub mod Answers
