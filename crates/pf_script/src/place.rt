@@ -1,0 +1,248 @@
+//! The ranges of the numbers of a line, and its place in the script.
+ghost use Rattle.std.specs.Prelude.{◌≡◌, ◌≤◌, IsTrue, IfOk, Some, None};
+ghost use Rattle.std.specs.Option.{ForSome};
+ghost use Rattle.pf_script.specs.Lines.{placed, within, is_volume, is_server, server_command, packet_command};
+ghost use Rattle.pf_script.specs.declared.command.Command.TheVariants as commands;
+
+use crate::form::{Form, PacketVerb, ServerVerb};
+use crate::{Command, LineFault};
+use pf_base::Server;
+
+/// Sectors of a volume, packets of a group and counts of sectors stand below this number in a script.
+const LIMIT: u64 = 65_536;
+
+/// The most deliveries of one `settle` line.
+const MOST_DELIVERIES: u64 = 1_000_000;
+
+fn fits_volume(chunks: u64, sectors: u64, names: u64, format: u64) -> bool
+    ensures { result ≡ is_volume chunks sectors names format }
+{
+    1 <= chunks
+        && chunks <= 8
+        && 16 <= sectors
+        && sectors <= 4096
+        && sectors % 8 == 0
+        && names <= 16
+        && (format == 2 || (format == 1 && names <= 2))
+}
+
+fn fits_server(chunks: u32, group: u64, server: u64) -> bool
+    ensures { result ≡ is_server chunks group server }
+{
+    group < u64::from(chunks) && server < 3
+}
+
+impl ServerVerb {
+    fn command(self, group: u8, server: Server) -> Command
+        ensures { result ≡ server_command self group server }
+    {
+        match self {
+            ServerVerb::Elect => Command::Elect { group, server },
+            ServerVerb::Resend => Command::Resend { group, server },
+            ServerVerb::Stop => Command::Stop { group, server },
+            ServerVerb::Restart => Command::Restart { group, server },
+            ServerVerb::Checkpoint => Command::Checkpoint { group, server },
+            ServerVerb::Mark => Command::Mark { group, server },
+            ServerVerb::ShowLog => Command::ShowLog { group, server },
+            ServerVerb::ShowApplied => Command::ShowApplied { group, server },
+            ServerVerb::ShowSectors => Command::ShowSectors { group, server },
+        }
+    }
+}
+
+impl PacketVerb {
+    fn command(self, group: u8, packet: u32) -> Command
+        ensures { result ≡ packet_command self group packet }
+    {
+        match self {
+            PacketVerb::Deliver => Command::Deliver { group, packet },
+            PacketVerb::Lose => Command::Lose { group, packet },
+        }
+    }
+}
+
+/// The command of a form before the volume.
+fn place_first(form: Form) -> Result<Command, LineFault>
+    ensures { result ≡ placed None form }
+{
+    let Form::Volume {
+        chunks,
+        sectors,
+        names,
+        format,
+    } = form
+    else {
+        return Err(LineFault::NoVolume);
+    };
+    if !fits_volume(chunks, sectors, names, format) {
+        return Err(LineFault::OutOfRange);
+    }
+    Ok(Command::Volume {
+        chunks: chunks as u32,
+        sectors: sectors as u32,
+        names: names as u8,
+        format: format as u8,
+    })
+}
+
+fn place_server(
+    chunks: u32,
+    verb: ServerVerb,
+    group: u64,
+    server: u64,
+) -> Result<Command, LineFault>
+    requires { chunks ≤ 8 }
+    ensures { result ≡ within chunks (server_command verb group server) }
+{
+    if !fits_server(chunks, group, server) {
+        return Err(LineFault::OutOfRange);
+    }
+    Ok(verb.command(group as u8, server as u8))
+}
+
+fn place_packet(
+    chunks: u32,
+    verb: PacketVerb,
+    group: u64,
+    packet: u64,
+) -> Result<Command, LineFault>
+    requires { chunks ≤ 8 }
+    ensures { result ≡ within chunks (packet_command verb group packet) }
+{
+    if group >= u64::from(chunks) || packet >= LIMIT {
+        return Err(LineFault::OutOfRange);
+    }
+    Ok(verb.command(group as u8, packet as u32))
+}
+
+fn place_submit(
+    chunks: u32,
+    group: u64,
+    server: u64,
+    sector: u64,
+    byte: u8,
+    count: u64,
+) -> Result<Command, LineFault>
+    requires { chunks ≤ 8 }
+    ensures { result ≡ within chunks (commands.Submit group server sector byte count) }
+{
+    if !fits_server(chunks, group, server) || sector >= LIMIT || count >= LIMIT {
+        return Err(LineFault::OutOfRange);
+    }
+    Ok(Command::Submit {
+        group: group as u8,
+        server: server as u8,
+        sector: sector as u32,
+        byte,
+        count: count as u32,
+    })
+}
+
+fn place_fetch(
+    chunks: u32,
+    group: u64,
+    server: u64,
+    sector: u64,
+    count: u64,
+) -> Result<Command, LineFault>
+    requires { chunks ≤ 8 }
+    ensures { result ≡ within chunks (commands.Fetch group server sector count) }
+{
+    if !fits_server(chunks, group, server) || sector >= LIMIT || count >= LIMIT {
+        return Err(LineFault::OutOfRange);
+    }
+    Ok(Command::Fetch {
+        group: group as u8,
+        server: server as u8,
+        sector: sector as u32,
+        count: count as u32,
+    })
+}
+
+fn place_settle(chunks: u32, limit: u64) -> Result<Command, LineFault>
+    ensures { result ≡ within chunks (commands.Settle limit) }
+{
+    if limit > MOST_DELIVERIES {
+        return Err(LineFault::OutOfRange);
+    }
+    Ok(Command::Settle {
+        limit: limit as u32,
+    })
+}
+
+fn place_acked(chunks: u32, group: u64) -> Result<Command, LineFault>
+    requires { chunks ≤ 8 }
+    ensures { result ≡ within chunks (commands.ShowAcked group) }
+{
+    if group >= u64::from(chunks) {
+        return Err(LineFault::OutOfRange);
+    }
+    Ok(Command::ShowAcked { group: group as u8 })
+}
+
+fn place_mark(chunks: u32, group: u64, server: u64, slot: u64) -> Result<Command, LineFault>
+    requires { chunks ≤ 8 }
+    ensures { result ≡ within chunks (commands.ShowMark group server slot) }
+{
+    if !fits_server(chunks, group, server) || slot > u64::from(u32::MAX) {
+        return Err(LineFault::OutOfRange);
+    }
+    Ok(Command::ShowMark {
+        group: group as u8,
+        server: server as u8,
+        slot: slot as u32,
+    })
+}
+
+/// The command of a form after a volume of so many chunks.
+fn place_later(chunks: u32, form: Form) -> Result<Command, LineFault>
+    requires { chunks ≤ 8 }
+    ensures { result ≡ placed (Some chunks) form }
+{
+    match form {
+        Form::Volume { .. } => Err(LineFault::NoVolume),
+        Form::OfServer {
+            verb,
+            group,
+            server,
+        } => place_server(chunks, verb, group, server),
+        Form::OfPacket {
+            verb,
+            group,
+            packet,
+        } => place_packet(chunks, verb, group, packet),
+        Form::Submit {
+            group,
+            server,
+            sector,
+            byte,
+            count,
+        } => place_submit(chunks, group, server, sector, byte, count),
+        Form::Fetch {
+            group,
+            server,
+            sector,
+            count,
+        } => place_fetch(chunks, group, server, sector, count),
+        Form::Settle { limit } => place_settle(chunks, limit),
+        Form::ShowAcked { group } => place_acked(chunks, group),
+        Form::ShowMark {
+            group,
+            server,
+            slot,
+        } => place_mark(chunks, group, server, slot),
+    }
+}
+
+/// The command of a form in a script whose volume has so many chunks, or has not come yet.
+///
+/// A form in the wrong place is `NoVolume` (24); else a number outside its range is `OutOfRange` (22).
+pub fn place(volume: Option<u32>, form: Form) -> Result<Command, LineFault>
+    requires { ForSome volume (λ chunks. chunks ≤ 8) }
+    ensures { result ≡ placed volume form }
+{
+    match volume {
+        None => place_first(form),
+        Some(chunks) => place_later(chunks, form),
+    }
+}
