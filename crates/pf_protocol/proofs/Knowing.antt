@@ -317,7 +317,7 @@ applied_to_upto s slot low =
 abbrev pub acked_in : Map Numbers → (server slot : ℕ) → Bool
 acked_in acks server slot = Sets.contains (members (FinMap.get acks slot)) server
 
-tied_same : (k slot : ℕ) → eq_by_cmp nat_cmp k slot ≡ true → k ≡ slot
+pub tied_same : (k slot : ℕ) → eq_by_cmp nat_cmp k slot ≡ true → k ≡ slot
 tied_same k slot e = grind (arith, nat_tests)
 
 pub acknowledged_cases : (acks : Map Numbers) (server slot j k : ℕ) → acked_in (acknowledged acks server slot) j k ≡ true → ((j ≡ server) × (k ≡ slot)) ⊎ (acked_in acks j k ≡ true)

@@ -13,4 +13,7 @@ pub mod Opening
 pub mod Making
 pub mod Histories
 pub mod Origins
+pub mod Fitting
+pub mod Legal
+pub mod Counting
 pub mod Worked

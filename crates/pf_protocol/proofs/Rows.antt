@@ -89,7 +89,7 @@ climb_up : (n : ℕ) (applied : Numbers) (k : ℕ) → k ≤ climb n applied k
 climb_up zero applied k = le_refl k
 climb_up (suc n) applied k = by_test (Sets.contains applied (suc k)) (λ c. k ≤ cond c (climb n applied (suc k)) k) (λ _. let h = climb_up n applied (suc k) in omega arith) (λ _. le_refl k)
 
-base_below_upto : (s : Server) → s.durable.base ≤ upto s
+pub base_below_upto : (s : Server) → s.durable.base ≤ upto s
 unfolding upto
 base_below_upto s = climb_up (Sets.len s.applied) s.applied s.durable.base
 
@@ -700,7 +700,7 @@ module _ (b : Ballots) (sound : Sound b) (served : Served b) (i : ℕ) (below : 
       }
 
   -- what it holds of its own term, in the slots that it can name
-  own_entry : (l : Leader) → IsLeader b.ballot b.next i s.durable l → LeaderKnows b i s.durable.term l → (slot : ℕ) → s.durable.base < slot → slot < l.next → (y : Entry) × (FinMap.get s.durable.log slot ≡ Some y) × (b.proposal slot s.durable.term ≡ Some y)
+  pub own_entry : (l : Leader) → IsLeader b.ballot b.next i s.durable l → LeaderKnows b i s.durable.term l → (slot : ℕ) → s.durable.base < slot → slot < l.next → (y : Entry) × (FinMap.get s.durable.log slot ≡ Some y) × (b.proposal slot s.durable.term ≡ Some y)
   own_entry l h lead slot low high =
       let did = lead.own slot (omega (arith, h.has_base, h.base_low, low)) high in
       let has = (sound.disks i).keeps slot s.durable.term did (omega (arith, ap (λ d. d.term) is_server.disk)) (omega (arith, ap (λ d. d.base) is_server.disk, low)) in

@@ -9,3 +9,4 @@ pub mod Groups
 pub mod Histories
 pub mod Safety
 pub mod Answers
+pub mod Fitting

@@ -1,10 +1,15 @@
 //! Laws of every history of a group.
-ghost use Rattle.std.specs.Prelude.{◌≡◌, ℕ, ◌≤◌};
+ghost use Rattle.std.specs.Prelude.{◌≡◌, ℕ, ◌≤◌, Some, length, slice_get};
+ghost use Rattle.std.specs.FinMap as finite;
 ghost use Rattle.pf_entry.specs.declared.ops.Op.{Op};
 ghost use Rattle.pf_entry.specs.declared.entries.Entry.{Entry};
-ghost use Rattle.pf_protocol.specs.Servers.{Setup};
-ghost use Rattle.pf_protocol.specs.Histories.{History, replay, HasAccepted, IsProposal, IsChosen, HasSource};
+ghost use Rattle.pf_entry.specs.Canonical.{IsCanonicalPacket};
+ghost use Rattle.pf_protocol.specs.Servers.{Setup, Server};
+ghost use Rattle.pf_protocol.specs.Groups.{Sent};
+ghost use Rattle.pf_protocol.specs.Histories.{History, replay, Runs, HasAccepted, IsProposal, IsChosen, HasSource};
 ghost use Rattle.pf_protocol.specs.Safety.{OneLeader, IsSafe};
+ghost use Rattle.pf_protocol.specs.Answers.{IsLegal};
+ghost use Rattle.pf_protocol.specs.Fitting.{GroupFits};
 
 /// In each term at most one server merges or serves.
 pub fn one_leader_to_a_term()
@@ -29,4 +34,13 @@ pub fn held_entries_are_proposals()
 /// is kept by each later leader.
 pub fn every_history_is_safe()
     ensures { (setup : Setup) (history : History) → IsSafe setup history }
+{}
+
+/// In a legal history every entry fits the chunk and lies in the window above its checkpoint; no slot, life, generation
+/// or read number is above the length of the history, and no term above one more than its elections. So each packet
+/// has a spelling, and a server has at most 65 starts.
+pub fn legal_histories_fit()
+    ensures fits { (setup : Setup) (history : History) → IsLegal setup history → GroupFits setup (length history) (replay setup history) }
+    ensures packets { (setup : Setup) (history : History) → IsLegal setup history → (k : ℕ) (sent : Sent) → slice_get (replay setup history).packets k ≡ Some sent → IsCanonicalPacket sent.packet }
+    ensures starts { (setup : Setup) (history : History) → IsLegal setup history → (i : ℕ) (s : Server) → Runs (replay setup history) i s → finite.len s.durable.starts ≤ 65 }
 {}

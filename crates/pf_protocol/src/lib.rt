@@ -12,5 +12,6 @@ mod laws;
 pub use answers::{Answer, Refusal};
 pub use events::{Event, Happening};
 pub use laws::{
-    every_history_is_safe, held_entries_are_proposals, one_leader_to_a_term, what_is_chosen_stays,
+    every_history_is_safe, held_entries_are_proposals, legal_histories_fit, one_leader_to_a_term,
+    what_is_chosen_stays,
 };

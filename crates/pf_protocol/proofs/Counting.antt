@@ -1,0 +1,135 @@
+-- A map whose keys lie in a range has no more entries than the range, and what fits has a spelling.
+use Rattle.std.proofs.Common.{◌≡◌, ℕ, zero, suc, ◌+◌, ◌-◌, ◌<◌, ◌≤◌, ◌^◌, Bool, true, false, cond, List, length, Option, Some, None, is_some, slice_get, arith, refl, sym, ap, ◌∙◌, le_trans}
+use Rattle.std.specs.FinMap
+use Rattle.std.specs.FinMap.{get-empty, same_map, len-empty, len-remove, nat_cmp-IsAntisymmetric}
+use Rattle.std.specs.Ordering.{nat_cmp}
+use Rattle.std.specs.Cmp.{nat_cmp_total}
+use Rattle.pf_entry.specs.Maps.{Map, Numbers}
+use Rattle.pf_entry.specs.Sets
+use Rattle.pf_entry.proofs.Lists.{every_more, every_get}
+use Rattle.pf_entry.proofs.Maps.{remove_cases}
+use Rattle.pf_entry.specs.declared.ops.Op.{Op}
+use Rattle.pf_entry.specs.declared.ops.Op.TheVariants.{Write, Noop, Mark}
+use Rattle.pf_entry.specs.declared.entries.Named.{Named}
+use Rattle.pf_entry.specs.declared.entries.Entry.{Entry}
+use Rattle.pf_entry.specs.declared.entries.VoteLog.{VoteLog}
+use Rattle.pf_entry.specs.declared.packets.Packet.{Packet}
+use Rattle.pf_entry.specs.declared.packets.Body.{Body}
+use Rattle.pf_entry.specs.declared.packets.Body.TheVariants.{RequestVote, Vote, Accept, Ack, Nack, Commit, Probe, ProbeOk, Image}
+use Rattle.pf_entry.specs.Canonical.{IsCanonicalOp, IsCanonicalName, IsCanonicalEntry, IsCanonicalVote, IsCanonicalImage, IsCanonicalMessage, IsCanonicalPacket, second_format}
+use Rattle.pf_protocol.specs.Servers.{Setup, Server, Running}
+use Rattle.pf_protocol.specs.Groups.{Sent}
+use Rattle.pf_protocol.specs.Histories.{History, replay, Runs}
+use Rattle.pf_protocol.specs.Answers.{IsSetup, IsLegal}
+use Rattle.pf_protocol.specs.Fitting.{OpFits, NameFits, EntryFits, StartFits, VoteFits, SlotsFit, SectorsFit, BodyFits, PacketFits}
+use Rattle.pf_protocol.proofs.Legal.{legal_fits}
+
+nothing_there : {X : Type 0} → (m : Map X) → ((q : ℕ) (x : X) → FinMap.get m q ≡ Some x → ⊥) → FinMap.len m ≡ 0
+nothing_there {X = X} m none = ap FinMap.len (same_map nat_cmp_total nat_cmp-IsAntisymmetric m FinMap.empty (λ q. nowhere (FinMap.get m q) q refl ∙ sym (get-empty nat_cmp q))) ∙ len-empty nat_cmp X
+  where
+    nowhere : (o : Option X) (q : ℕ) → (FinMap.get m q ≡ o) → FinMap.get m q ≡ None
+    nowhere None q is = is
+    nowhere (Some x) q is = absurd (none q x is)
+
+one_more : (b : Bool) (len less k : ℕ) → less ≡ cond b (len - 1) len → less ≤ k → len ≤ suc k
+one_more true len less k is low = omega arith
+one_more false len less k is low = omega arith
+
+pub few_keys : {X : Type 0} → (k a : ℕ) (m : Map X) → ((q : ℕ) (x : X) → FinMap.get m q ≡ Some x → (a < q) × (q ≤ a + k)) → FinMap.len m ≤ k
+few_keys zero a m within = omega (arith, nothing_there m (λ q x at. let w = within q x at in omega (arith, w.0, w.1)))
+few_keys (suc k) a m within =
+    let less = FinMap.remove m (a + suc k) in
+    one_more (FinMap.contains_key m (a + suc k)) (FinMap.len m) (FinMap.len less) k (len-remove nat_cmp_total m (a + suc k))
+    (few_keys k a less (λ q x at.
+    let was = remove_cases m (a + suc k) q x at in
+    let w = within q x was.1 in
+    (w.0, below q w.1 was.0)))
+  where
+    below : (q : ℕ) → q ≤ a + suc k → (q ≡ a + suc k → ⊥) → q ≤ a + k
+    below q low apart = omega (arith, low, apart)
+
+-- no more starts than terms
+pub few_starts : (n t : ℕ) (starts : Map ℕ) → ((term first : ℕ) → FinMap.get starts term ≡ Some first → StartFits n t term first) → FinMap.len starts ≤ t
+few_starts n t starts fit = few_keys t 0 starts (λ term first at. let f = fit term first at in (omega (arith, f.term_is), omega (arith, f.term_low)))
+
+module _ (setup : Setup) (is : IsSetup setup) (n t : ℕ) where
+  op_canonical : (op : Op) → OpFits setup op → IsCanonicalOp second_format op
+  unfolding second_format
+  op_canonical (Write range payload) f = (f.0, f.1, f.2)
+  op_canonical Noop f = tt
+  op_canonical Mark f = refl
+
+  name_canonical : (slot : ℕ) (m : Named) → NameFits setup slot m → IsCanonicalName second_format slot m
+  unfolding second_format
+  name_canonical slot m f = record { below = f.below; range = f.span; marks = λ _. refl }
+
+  few_names : (names : ℕ) → names ≤ setup.names → names ≤ second_format.names
+  unfolding second_format
+  few_names names low = le_trans low is.few_names
+
+  entry_canonical : (e : Entry) → EntryFits setup n t e → IsCanonicalEntry second_format e
+  entry_canonical e f = record {
+    slot = f.slot;
+    term = f.term;
+    first = f.first;
+    few = few_names (length e.look) f.few;
+    ascending = f.ascending;
+    named = every_more (NameFits setup e.slot) (IsCanonicalName second_format e.slot) (λ m x. name_canonical e.slot m x) e.look f.named;
+    merged = f.merged;
+    op = op_canonical e.op f.op;
+  }
+
+  in_window : (base slot : ℕ) → slot ≤ base + setup.window → slot ≤ base + second_format.window
+  unfolding second_format
+  in_window base slot low = omega (arith, low, is.window)
+
+  vote_canonical : t ≤ 65 → (v : VoteLog) → VoteFits setup n t v → IsCanonicalVote second_format v
+  vote_canonical few v f = record {
+    starts = few_enough (FinMap.len v.starts) (le_trans (few_starts n t v.starts f.starts) few);
+    entries = λ slot e at. let x = f.log slot e at in record { canonical = entry_canonical e x.fits; in_slot = x.in_slot; is_above = x.is_above; within = in_window v.base slot x.within };
+  }
+    where
+      few_enough : (k : ℕ) → k ≤ 65 → k < 2 ^ 16
+      few_enough k low = omega arith
+
+  image_canonical : (base : ℕ) (applied : Numbers) (sectors : List (List ℕ)) → SlotsFit setup n base applied → SectorsFit setup sectors → IsCanonicalImage base applied sectors
+  image_canonical base applied sectors slots sized = record {
+    above = λ slot at. (slots slot at).0;
+    few = few_slots;
+    some = omega (arith, sized.0, is.some_sectors);
+    fits = omega (arith, sized.0, is.few_sectors);
+    eighths = (is.blocks.0, sized.0 ∙ is.blocks.1);
+    bytes = sized.1;
+  }
+    where
+      few_slots : Sets.len applied < 2 ^ 32
+      few_slots = omega (arith, is.window, few_keys setup.window base applied (λ q x at. let f = slots q (ap is_some at) in (f.0, f.1)))
+
+  message_canonical : t ≤ 65 → (term : ℕ) (body : Body) → BodyFits setup n t term body → IsCanonicalMessage term body
+  message_canonical few term (RequestVote base) f = tt
+  message_canonical few term (Vote v) f = vote_canonical few v f
+  message_canonical few term (Accept e) f = (entry_canonical e f.0, f.1)
+  message_canonical few term (Ack slot upto_there) f = tt
+  message_canonical few term Nack f = tt
+  message_canonical few term (Commit slot) f = tt
+  message_canonical few term (Probe number) f = tt
+  message_canonical few term (ProbeOk number upto_there) f = tt
+  message_canonical few term (Image base applied sectors) f = image_canonical base applied sectors f.1 f.2
+
+  pub packet_canonical : t ≤ 65 → (p : Packet) → PacketFits setup n t p → IsCanonicalPacket p
+  packet_canonical few p f = record { from = f.from; to = f.to; apart = f.apart; term = f.term; message = message_canonical few p.term p.body f.body }
+
+-- every packet of a legal history has a spelling
+pub legal_packets : (setup : Setup) (history : History) → IsLegal setup history → (k : ℕ) (sent : Sent) → slice_get (replay setup history).packets k ≡ Some sent → IsCanonicalPacket sent.packet
+legal_packets setup history is k sent at =
+    let g = replay setup history in
+    let f = legal_fits setup history is in
+    packet_canonical setup is.is_setup (length history) (suc g.elections) (omega (arith, f.elections)) sent.packet
+    (every_get (λ sent. PacketFits setup (length history) (suc g.elections) sent.packet) g.packets k sent f.packets at)
+
+-- as many starts as elections, and one
+pub legal_starts : (setup : Setup) (history : History) → IsLegal setup history → (i : ℕ) (s : Server) → Runs (replay setup history) i s → FinMap.len s.durable.starts ≤ 65
+legal_starts setup history is i s at =
+    let f = legal_fits setup history is in
+    let few = few_starts (length history) (suc (replay setup history).elections) s.durable.starts (f.servers i (Running s) at).1.durable.vote.starts in
+    omega (arith, few, f.elections)
