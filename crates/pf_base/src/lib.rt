@@ -1,15 +1,25 @@
-//! What the crates of the simulator share: numbers, sectors, ranges, and the bytes of a write.
+//! What the crates of the simulator share: numbers, sectors, ranges, the bytes of a write, and what clients ask.
 #![tactic(auto)]
 
+mod asks;
+mod bytes;
+mod calls;
 mod data;
 mod errors;
 mod filled;
+mod numbers;
 mod range;
+mod value;
 
+pub use asks::{Ask, Reply};
+pub use bytes::{Bytes, Names};
+pub use calls::Call;
 pub use data::{Data, Payload};
 pub use errors::{BadRange, NoMemory};
 pub use filled::{Filled, Sectors};
+pub use numbers::{get_u16, get_u32, get_u64, put_u16, put_u32, put_u64};
 pub use range::Range;
+pub use value::Value;
 
 /// A place in the log of a group. The first is 1.
 pub type Slot = u64;
@@ -17,8 +27,11 @@ pub type Slot = u64;
 /// A term of leadership. The first is 1.
 pub type Term = u64;
 
-/// The number of a server of a group, below 3.
+/// The number of a server of a group. Every call and event that takes one has the condition that it is below 3.
 pub type Server = u8;
 
 /// The bytes of a sector.
 pub type Sector = [u8; 512];
+
+#[cfg(test)]
+mod tests;
