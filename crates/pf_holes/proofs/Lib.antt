@@ -1,0 +1,6 @@
+pub mod Found
+pub mod Trimming
+pub mod SlotLists
+pub mod Ordered
+pub mod HoleLogs
+pub mod Copying

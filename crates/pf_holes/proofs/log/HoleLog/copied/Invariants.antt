@@ -1,0 +1,5 @@
+use Rattle.pf_holes.proofs.Copying.{IsCopied}
+use Rattle.pf_holes.proofs.log.HoleLog.copied.Given as goal
+
+abbrev pub invariant-loop-slot : goal.invariant-loop-slot
+invariant-loop-slot l = IsCopied l.self.entries l.slot l.rows.items

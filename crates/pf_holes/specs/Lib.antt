@@ -1,0 +1,4 @@
+pub mod Places
+pub mod Windows
+pub mod SlotSets
+pub mod HoleLogs

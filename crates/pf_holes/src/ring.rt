@@ -1,0 +1,96 @@
+//! A table by slots, in a ring of places.
+ghost use Rattle.std.specs.Prelude.{◌≡◌, ◌+◌, ◌<◌, ◌≤◌, IfOk, MatchOption, None, Some, is_some, nat_lt};
+ghost use Rattle.std.specs.FinMap as map;
+ghost use Rattle.pf_holes.specs.Windows.{IsNear, IsWithin};
+
+use pf_base::{NoMemory, Slot};
+use std::alloc::Global;
+use std::marker::Model;
+
+/// The places of a ring, and so the slots of a window.
+const PLACES: usize = 4096;
+
+/// Values by slots, seen as a finite map.
+///
+/// Slot s stands in place s mod 4,096, so the slots that are held together are less than 4,096 apart. All places
+/// are made at once: none but `new` takes memory.
+#[derive(Drop)]
+pub struct Ring<V> {
+    places: Vec<Option<(Slot, V)>>,
+}
+
+impl<V> Model for Ring<V> {
+    ghost use Rattle.std.specs.Ordering.{nat_cmp};
+    ghost use Rattle.std.specs.Coded.{coded_ℕ};
+    ghost use Rattle.std.specs.FinMap as map;
+    ghost use Rattle.pf_holes.specs.Places.{ring_of, IsRing};
+
+    ghost Value = { map.FinMap nat_cmp V };
+
+    ghost coded = { map.code coded_ℕ V.code };
+
+    ghost view = { λ a. ring_of a.places.items };
+
+    ghost invariant = { λ a. IsRing a.places.items };
+}
+
+impl<V> Ring<V> {
+    /// The value of the slot, `None` exactly where the slot has none.
+    pub fn get(&self, slot: Slot) -> Option<&V>
+        ensures { MatchOption result (map.get self.now slot ≡ None) (λ v. map.get self.now slot ≡ Some v.now) }
+    {
+        match &self.places[(slot % 4096) as usize] {
+            Some((there, value)) if *there == slot => Some(value),
+            _ => None,
+        }
+    }
+
+    /// Whether the slot has a value.
+    pub fn has(&self, slot: Slot) -> bool
+        ensures { result ≡ map.contains_key self.now slot }
+    {
+        self.get(slot).is_some()
+    }
+}
+
+impl<V: Drop> Ring<V> {
+    /// A ring without values, and with all its places.
+    pub fn new(alloc: Global) -> Result<Ring<V>, NoMemory>
+        ensures { IfOk result (λ r. r ≡ map.empty) }
+    {
+        let mut places = Vec::with_capacity(alloc, PLACES)?;
+        for _ in 0..PLACES {
+            places.push(None)?;
+        }
+        Ok(Ring { places })
+    }
+
+    /// Gives the slot this value, in place of one that it has.
+    pub fn put(&mut self, slot: Slot, value: V)
+        requires { IsNear self.old slot }
+        ensures { self.new ≡ map.insert self.old slot value }
+    {
+        self.places[(slot % 4096) as usize] = Some((slot, value));
+    }
+
+    /// Drops the value of the slot, if it has one.
+    pub fn remove(&mut self, slot: Slot)
+        ensures { self.new ≡ map.remove self.old slot }
+    {
+        if self.has(slot) {
+            self.places[(slot % 4096) as usize] = None;
+        }
+    }
+
+    /// Drops the values of all slots up to `upto`, where all slots lie in the window above `base`. It takes a step
+    /// for each slot between the two, at most 4,096.
+    pub fn trim(&mut self, base: Slot, upto: Slot)
+        requires { IsWithin base self.old }
+        ensures { self.new ≡ map.retain_keys self.old (nat_lt upto) }
+    {
+        let count = upto.saturating_sub(base).min(4096);
+        for passed in 0..count {
+            self.remove(base + passed + 1);
+        }
+    }
+}
