@@ -1,16 +1,18 @@
 -- What holds of every history.
-use Rattle.std.proofs.Common.{◌≡◌, ℕ, ◌<◌, ◌≤◌, ◌⊎◌, inl, inr, true, [], ◌∷◌, ◌++◌, Some, arith, refl, sym, ap, subst, ◌∙◌}
+use Rattle.std.proofs.Common.{◌≡◌, ℕ, ◌<◌, ◌≤◌, ◌≢◌, ◌⊎◌, inl, inr, true, [], ◌∷◌, ◌++◌, Some, slice_get, arith, refl, sym, ap, subst, ◌∙◌}
 use Rattle.std.specs.FinMap
 use Rattle.std.proofs.lemmas.Option.{same_Some}
 use Rattle.std.proofs.lemmas.Bool.{cases_lt}
 use Rattle.pf_entry.specs.declared.ops.Op.{Op}
 use Rattle.pf_entry.specs.declared.entries.Entry.{Entry}
 use Rattle.pf_entry.specs.Records.{Durable}
-use Rattle.pf_protocol.proofs.Ballots.{Ballot, Ballots, Sound, IsPicked}
+use Rattle.pf_entry.specs.declared.entries.VoteLog.{VoteLog}
+use Rattle.pf_entry.specs.declared.packets.Body.TheVariants.{Vote}
+use Rattle.pf_protocol.proofs.Ballots.{Cast, Ballot, Ballots, Sound, IsPicked}
 use Rattle.pf_protocol.proofs.Law.{chosen_stays, kept_at, chosen_agree, IsChosenBy}
 use Rattle.pf_protocol.proofs.Keeping.{holds_is}
 use Rattle.pf_protocol.specs.Servers.{Setup, Role, Follower, Candidate, Merging, Serving, Server, Running, has_applied}
-use Rattle.pf_protocol.specs.Groups.{Group, ending, happens, opening}
+use Rattle.pf_protocol.specs.Groups.{Sent, Group, ending, happens, opening}
 use Rattle.pf_protocol.specs.Histories.{History, run, replay, Runs, Holds, HasAccepted, IsProposal, IsChosen}
 use Rattle.pf_protocol.specs.declared.events.Happening.{Happening}
 use Rattle.pf_protocol.specs.Safety.{OneLeader, leads, Agrees, AppliesInOrder, KeepsAcknowledged, IsSafe}
@@ -18,7 +20,7 @@ use Rattle.pf_entry.proofs.Lists.{every_get}
 use Rattle.pf_protocol.proofs.Making.{accepted_proposed}
 use Rattle.pf_protocol.proofs.Knowing.{IsAcked, AckMarks, AllAcked, RoleMarks}
 use Rattle.pf_protocol.proofs.Serving.{Served}
-use Rattle.pf_protocol.proofs.Follows.{Follows, IsLeader, RoleIs}
+use Rattle.pf_protocol.proofs.Follows.{Follows, IsCandidate, IsLeader, RoleIs, BodyIs, PacketIs}
 use Rattle.pf_protocol.proofs.Steps.{HoldsAt, happens_next}
 use Rattle.pf_protocol.proofs.Opening.{opening_ballots, nothing_accepted, opening_sound, opening_served, opening_follows}
 
@@ -34,6 +36,11 @@ pub record AcceptedIn (setup : Setup) (g : Group) (history : History) (i slot te
   pub parts : earlier ++ rest ≡ history
   pub holds_it : HoldsAt (run setup g earlier) i slot term
 
+-- the votes of candidates, and those that were sent
+pub record Stands (g : Group) (b : Ballots) : Type 0 where
+  pub own : (i : ℕ) (s : Server) (own : VoteLog) → Runs g i s → s.role ≡ Candidate own → (i < 3) × (s.number ≡ i) × (b.vote i s.durable.term ≡ Some (record { to = i; log = own }))
+  pub sent : (k : ℕ) (sent : Sent) (v : VoteLog) → slice_get g.packets k ≡ Some sent → sent.packet.body ≡ Vote v → (sent.packet.from < 3) × (sent.packet.from ≢ sent.packet.to) × (b.vote sent.packet.from sent.packet.term ≡ Some (record { to = sent.packet.to; log = v }))
+
 -- ballots that go with a whole run, and with each moment of it
 pub record Told (setup : Setup) (g : Group) (b : Ballots) (history : History) : Type 0 where
   pub ballots : Ballots
@@ -42,6 +49,8 @@ pub record Told (setup : Setup) (g : Group) (b : Ballots) (history : History) : 
   pub follows : Follows (run setup g history) ballots
   pub keeps : (i : ℕ) (e : Entry) → IsHeld b i e → IsHeld ballots i e
   pub held : (earlier rest : History) → earlier ++ rest ≡ history → (i : ℕ) (e : Entry) → Holds (run setup g earlier) i e → IsHeld ballots i e
+  pub keeps_votes : (i t : ℕ) (v : Cast) → b.vote i t ≡ Some v → ballots.vote i t ≡ Some v
+  pub stood : (earlier rest : History) → earlier ++ rest ≡ history → Stands (run setup g earlier) ballots
   pub back : (i slot term : ℕ) → ballots.accepted i slot term ≡ true → (b.accepted i slot term ≡ true) ⊎ AcceptedIn setup g history i slot term
 
 -- an entry that a running server holds was accepted and proposed
@@ -50,6 +59,23 @@ held_now b sound g follows i e h =
     let is = (follows.servers i (Running h.server) h.runs).1 in
     let in_log = ap (λ d. FinMap.get d.log e.slot) is.disk ∙ h.held in
     record { accepted = sound.held_accepted i e.slot e in_log; proposed = ((sound.disks i).proposes e.slot e in_log).1 }
+
+stands_now : (b : Ballots) (g : Group) → Follows g b → Stands g b
+stands_now b g follows = record {
+  own = λ i s own at role.
+      let h = follows.servers i (Running s) at in
+      let c : IsCandidate b.vote b.ballot i s.durable own = subst (RoleIs b.vote b.ballot b.next i s.durable) role h.1.role in
+      (h.0, h.1.number, c.own_vote);
+  sent = λ k sent v at body.
+      let p = every_get (λ p. PacketIs b p.packet) g.packets k sent follows.packets at in
+      (p.from_below, p.apart, subst (BodyIs b sent.packet.from sent.packet.to sent.packet.term) body p.body);
+}
+
+stands_later : (g : Group) (b after : Ballots) → ((i t : ℕ) (v : Cast) → b.vote i t ≡ Some v → after.vote i t ≡ Some v) → Stands g b → Stands g after
+stands_later g b after keeps h = record {
+  own = λ i s own at role. let x = h.own i s own at role in (x.0, x.1, keeps i s.durable.term _ x.2);
+  sent = λ k sent v at body. let x = h.sent k sent v at body in (x.0, x.1, keeps sent.packet.from sent.packet.term _ x.2);
+}
 
 nil_parts : (earlier rest : History) → earlier ++ rest ≡ [] → earlier ≡ []
 nil_parts [] rest is = refl
@@ -63,6 +89,8 @@ tell setup [] g b sound served follows = record {
   follows = follows;
   keeps = λ i e h. h;
   held = λ earlier rest parts i e h. held_now b sound g follows i e (subst (λ hs. Holds (run setup g hs) i e) (nil_parts earlier rest parts) h);
+  keeps_votes = λ i t v is. is;
+  stood = λ earlier rest parts. subst (λ hs. Stands (run setup g hs) b) (sym (nil_parts earlier rest parts)) (stands_now b g follows);
   back = λ i slot term is. inl is;
 }
 tell setup (x ∷ xs) g b sound served follows =
@@ -77,6 +105,8 @@ tell setup (x ∷ xs) g b sound served follows =
       follows = t.follows;
       keeps = keeps;
       held = λ earlier rest parts i e h. held_later setup g b sound follows x xs t.ballots keeps t.held earlier rest parts i e h;
+      keeps_votes = λ i term v is. t.keeps_votes i term v (n.votes i term v is);
+      stood = λ earlier rest parts. stood_later setup g b follows x xs t.ballots (λ i term v is. t.keeps_votes i term v (n.votes i term v is)) t.stood earlier rest parts;
       back = λ i slot term is. elim (t.back i slot term is) [
         | inl before ↦ elim (n.new_accepted i slot term before) [
           | inl old ↦ inl old
@@ -86,6 +116,14 @@ tell setup (x ∷ xs) g b sound served follows =
       ];
     }
   where
+    stood_later : (setup : Setup) (g : Group) (b : Ballots) → Follows g b → (x : Happening) (xs : History) (last : Ballots) → ((i t : ℕ) (v : Cast) → b.vote i t ≡ Some v → last.vote i t ≡ Some v) → ((earlier rest : History) → earlier ++ rest ≡ xs → Stands (run setup (happens setup g x.event (ending x.answer)) earlier) last) → (earlier rest : History) → earlier ++ rest ≡ x ∷ xs → Stands (run setup g earlier) last
+    stood_later setup g b follows x xs last keeps stood [] rest parts = stands_later g b last keeps (stands_now b g follows)
+    stood_later setup g b follows x xs last keeps stood (y ∷ ys) rest parts =
+        let p : y ∷ (ys ++ rest) ≡ x ∷ xs = parts in
+        let head : y ≡ x = cc in
+        let tail : ys ++ rest ≡ xs = cc in
+        subst (λ z. Stands (run setup (happens setup g z.event (ending z.answer)) ys) last) (sym head) (stood ys rest tail)
+
     held_later : (setup : Setup) (g : Group) (b : Ballots) → Sound b → Follows g b → (x : Happening) (xs : History) (last : Ballots) → ((i : ℕ) (e : Entry) → IsHeld b i e → IsHeld last i e) → ((earlier rest : History) → earlier ++ rest ≡ xs → (i : ℕ) (e : Entry) → Holds (run setup (happens setup g x.event (ending x.answer)) earlier) i e → IsHeld last i e) → (earlier rest : History) → earlier ++ rest ≡ x ∷ xs → (i : ℕ) (e : Entry) → Holds (run setup g earlier) i e → IsHeld last i e
     held_later setup g b sound follows x xs last keeps held [] rest parts i e h = keeps i e (held_now b sound g follows i e h)
     held_later setup g b sound follows x xs last keeps held (y ∷ ys) rest parts i e h =

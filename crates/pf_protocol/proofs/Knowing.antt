@@ -41,9 +41,13 @@ pub record AppliedIs (b : Ballots) (term : ℕ) (done : ℕ → Bool) (sectors :
 abbrev pub AppliedKnown : Ballots → (term base : ℕ) → Numbers → List Sector → Type 0
 AppliedKnown b term base applied sectors = AppliedIs b term (is_applied base applied) sectors
 
+-- every slot up to this one has a chosen op, in a term not above this one
+abbrev pub KnownUpto : Ballots → (slot term : ℕ) → Type 0
+KnownUpto b slot term = (p : ℕ) → 0 < p → p ≤ slot → IsKnown b p term
+
 -- what an acknowledgement says
 abbrev pub AckIs : Ballots → (server slot term : ℕ) → Type 0
-AckIs b server slot term = (b.accepted server slot term ≡ true) ⊎ IsKnown b slot term
+AckIs b server slot term = (b.accepted server slot term ≡ true) ⊎ KnownUpto b slot term
 
 -- a committed mark stands on an entry whose op is chosen, in a term not above the entry's
 pub record IsCommitted (b : Ballots) (log : Map Entry) (slot : ℕ) : Type 0 where
@@ -172,7 +176,7 @@ module _ (i : ℕ) (b after : Ballots) (x : Extends i b after) where
   }
 
   pub ack_there : (j slot term : ℕ) → AckIs b j slot term → AckIs after j slot term
-  ack_there j slot term a = elim a [ inl did ↦ inl (x.accepted j slot term did) | inr knows ↦ inr (known_there i b after x slot term knows) ]
+  ack_there j slot term a = elim a [ inl did ↦ inl (x.accepted j slot term did) | inr knows ↦ inr (λ p above low. known_there i b after x p term (knows p above low)) ]
 
   pub committed_there : (log : Map Entry) (slot : ℕ) → IsCommitted b log slot → IsCommitted after log slot
   committed_there log slot c = record { entry = c.entry; held = c.held; chosen = chosen_there i b after x slot c.entry.term c.entry.op c.chosen }
@@ -291,7 +295,10 @@ pub ack_chooses : (b : Ballots) (sound : Sound b) (i j slot term : ℕ) (e : Ent
 ack_chooses b sound i j slot term e is apart own a =
     elim a [
       | inl did ↦ record { entry = e; by = term; not_later = omega arith; has_op = refl; chosen = record { is = is; one = i; two = j; apart = apart; one_accepted = own; two_accepted = did } }
-      | inr knows ↦ subst (IsChosenBy b slot term) (sym (proposal_agrees b sound slot term term knows.op e knows.chosen (omega arith) is)) knows.chosen
+      | inr knows ↦
+          let made = sound.made slot term e is in
+          let k = knows slot (omega (arith, made.is_above)) (omega arith) in
+          subst (IsChosenBy b slot term) (sym (proposal_agrees b sound slot term term k.op e k.chosen (omega arith) is)) k.chosen
     ]
 
 -- up to `upto` every slot is applied

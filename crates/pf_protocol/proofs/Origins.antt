@@ -14,7 +14,7 @@ use Rattle.pf_protocol.specs.Leading.{new_entry}
 use Rattle.pf_protocol.specs.declared.answers.Answer.{Answer}
 use Rattle.pf_protocol.specs.declared.events.Event.{Event}
 use Rattle.pf_protocol.specs.declared.events.Happening.{Happening}
-use Rattle.pf_protocol.specs.Groups.{Sent}
+use Rattle.pf_protocol.specs.Groups.{Sent, TookPlace, ending}
 use Rattle.pf_protocol.specs.Histories.{History, IsPrefix, replay, Runs, HasAccepted, Made, Makes, BySubmit, ByMerge, IsMerge, IsProposal, IsTakenFrom, HasOrigin, Itself, Through, HasSource}
 use Rattle.pf_protocol.proofs.Follows.{IsLeader, RoleIs}
 use Rattle.pf_protocol.proofs.Making.{Has, IsSaid, OwnVote, backs_all}
@@ -31,6 +31,7 @@ module _ (setup : Setup) (earlier history : History) (p : IsPrefix earlier histo
   made_after i e m = record {
     earlier = m.earlier;
     making = m.making;
+    done = m.done;
     is_earlier = prefix_of (m.earlier ++ m.making ∷ []) earlier history m.is_earlier p;
     server = m.server;
     runs = m.runs;
@@ -46,6 +47,7 @@ module _ (setup : Setup) (earlier history : History) (p : IsPrefix earlier histo
     earlier = t.earlier;
     k = t.k;
     answer = t.answer;
+    done = t.done;
     is_earlier = prefix_of _ earlier history t.is_earlier p;
     server = t.server;
     runs = t.runs;
@@ -87,7 +89,7 @@ taken_is_proposal : (setup : Setup) (earlier : History) (i k : ℕ) (s : Server)
 taken_is_proposal setup earlier i k s sent own other slot x runs merge is =
     let backs = backs_all setup earlier in
     let mine : Has (IsProposal setup earlier) own.log = subst (OwnVote setup earlier) merge.stands (backs.servers i (Running s) runs).1 in
-    let said : Has (IsProposal setup earlier) other.log = subst (IsSaid setup earlier) merge.is_vote (every_get (λ p. IsSaid setup earlier p.packet.body) (replay setup earlier).packets k sent backs.packets merge.was_sent) in
+    let said : Has (IsProposal setup earlier) other.log = (subst (IsSaid setup earlier sent.packet.from sent.packet.term) merge.is_vote (every_get (λ p. IsSaid setup earlier p.packet.from p.packet.term p.packet.body) (replay setup earlier).packets k sent backs.packets merge.was_sent)).0 in
     elim (was_taken s.durable.base own other slot x is).stood [
       | inl at ↦ (mine.keyed slot x at, mine.each slot x at)
       | inr at ↦ (said.keyed slot x at, said.each slot x at)
@@ -113,11 +115,11 @@ op_of_some : (x : Entry) → op_or_noop (Some x) ≡ x.op
 unfolding op_or_noop
 op_of_some x = refl
 
-source_by : (setup : Setup) (history earlier : History) (i : ℕ) (s : Server) (event : Event) (answer : Answer) (e : Entry) → IsPrefix (earlier ++ record { event = event; answer = answer } ∷ []) history → Runs (replay setup earlier) i s → Makes setup (replay setup earlier) i s event e → IsProposal setup history e → ((x : Entry) → IsProposal setup earlier x → HasSource setup earlier x) → HasSource setup history e
-source_by setup history earlier i s _ answer _ p runs (BySubmit op l role) is before =
+source_by : (setup : Setup) (history earlier : History) (i : ℕ) (s : Server) (event : Event) (answer : Answer) (e : Entry) → TookPlace (ending answer) → IsPrefix (earlier ++ record { event = event; answer = answer } ∷ []) history → Runs (replay setup earlier) i s → Makes setup (replay setup earlier) i s event e → IsProposal setup history e → ((x : Entry) → IsProposal setup earlier x → HasSource setup earlier x) → HasSource setup history e
+source_by setup history earlier i s _ answer _ done p runs (BySubmit op l role) is before =
     let e = new_entry setup.names s l op in
     inl (record { origin = e; is = Itself e is (new_entry_slot setup.names s l op (new_of_leader setup earlier i s l runs role)); same_slot = refl; same_op = refl })
-source_by setup history earlier i s _ answer _ p runs (ByMerge k sent own other slot merge above below) is before =
+source_by setup history earlier i s _ answer _ done p runs (ByMerge k sent own other slot merge above below) is before =
     by_taken (taken s.durable.base own other slot) refl
   where
     e : Entry
@@ -137,6 +139,7 @@ source_by setup history earlier i s _ answer _ p runs (ByMerge k sent own other 
           earlier = earlier;
           k = k;
           answer = answer;
+          done = done;
           is_earlier = p;
           server = s;
           runs = runs;
@@ -156,7 +159,7 @@ source_within : (setup : Setup) (n : ℕ) (history : History) → length history
 source_within setup zero history less e is = absurd (omega arith)
 source_within setup (suc n) history less e is =
     let m = is.made in
-    source_by setup history m.earlier is.leader m.server m.making.event m.making.answer e m.is_earlier m.runs m.makes is
+    source_by setup history m.earlier is.leader m.server m.making.event m.making.answer e m.done m.is_earlier m.runs m.makes is
     (λ x before. source_within setup n m.earlier (omega (arith, shorter m.earlier history m.making m.is_earlier, less)) x before)
 
 pub source_of : (setup : Setup) (history : History) (e : Entry) → IsProposal setup history e → HasSource setup history e

@@ -381,7 +381,7 @@ module _ (b : Ballots) (sound : Sound b) (served : Served b) (i : ℕ) (below : 
 
   -- an acknowledgement of what is applied
   known_ack : (z : Ballots) (x : Extends i b z) (from slot : ℕ) (after : Server) → from ≢ i → after.number ≡ s.number → s.durable.term ≤ after.durable.term → slot ≤ upto s → Every (PacketIs z) (to_one after from (Ack slot (upto after)) ∷ [])
-  known_ack z x from slot after apart number le low = reply z after from (Ack slot (upto after)) number apart (λ above. inr (known_later z slot s.durable.term after.durable.term le (known_to z x slot above low)))
+  known_ack z x from slot after apart number le low = reply z after from (Ack slot (upto after)) number apart (λ _. inr (λ p p_above p_low. known_later z p s.durable.term after.durable.term le (known_to z x p p_above (le_trans p_low low))))
 
   held_ack : (z : Later b i s.durable) (slot term : ℕ) → s.durable.term ≤ term → holds s.durable slot term ≡ true → AckIs z.ballots s.number slot s.durable.term
   held_ack z slot term le has =
@@ -433,7 +433,7 @@ module _ (b : Ballots) (sound : Sound b) (served : Served b) (i : ℕ) (below : 
           role = tt;
           marks = tt;
         },
-        reply z.ballots (installed s term base applied sectors) from (Ack base (upto (installed s term base applied sectors))) refl apart (λ above. inr (there.known base above (or_left _ _ (le-leb base base (le_refl base))))),
+        reply z.ballots (installed s term base applied sectors) from (Ack base (upto (installed s term base applied sectors))) refl apart (λ _. inr (λ p p_above p_low. there.known p p_above (or_left _ _ (le-leb p base p_low)))),
       ))))
 
   -- a trim leaves the same slots applied
@@ -1114,7 +1114,7 @@ module _ (b : Ballots) (sound : Sound b) (served : Served b) (i : ℕ) (below : 
 
   pub on_resend_row : (role : Role) → s.role ≡ role → Row b i s (on_resend s role)
   unfolding on_resend
-  on_resend_row Follower is = sends_row _ (λ z. sent_to_others z.ballots s i (Ack s.durable.base (upto s)) is_server.number below (λ _ above. inr (known_to z.ballots z.extends s.durable.base above (base_below_upto s))))
+  on_resend_row Follower is = sends_row _ (λ z. sent_to_others z.ballots s i (Ack s.durable.base (upto s)) is_server.number below (λ _ _. inr (λ p p_above p_low. known_to z.ballots z.extends p p_above (le_trans p_low (base_below_upto s)))))
   on_resend_row (Candidate own) is = sends_row _ (λ z. sent_to_others z.ballots s i (RequestVote s.durable.base) is_server.number below (λ _. tt))
   on_resend_row (Merging l) is = sends_row _ (λ z. all_resent z l (merging_is l is) (merging_knows l is))
   on_resend_row (Serving l) is = sends_row _ (λ z. all_resent z l (leader_is l is) (serving_knows l is).0)

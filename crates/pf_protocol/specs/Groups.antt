@@ -58,6 +58,12 @@ pub data Ending : Type 0 where
   Missed : Ending
   Untouched : Ending
 
+-- a step that was refused, or met a stopped server, did not take place. One that was cut off may have left its record
+abbrev pub TookPlace : Ending → Type 0
+TookPlace Whole = Unit {0}
+TookPlace CutOff = Unit {0}
+TookPlace _ = ⊥
+
 abbrev pub ending_of : Refusal → Ending
 ending_of Halted = CutOff
 ending_of Down = Missed

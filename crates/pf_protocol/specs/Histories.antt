@@ -7,6 +7,7 @@ use Rattle.pf_entry.specs.declared.entries.Entry.{Entry}
 use Rattle.pf_entry.specs.declared.entries.VoteLog.{VoteLog}
 use Rattle.pf_entry.specs.declared.packets.Body.TheVariants.{Vote}
 use Rattle.pf_entry.specs.Entries.{IsNew}
+use Rattle.pf_entry.specs.Records.{vote_of}
 use Rattle.pf_entry.specs.Merging.{taken, merged_first, merged_entry}
 use Rattle.pf_protocol.specs.Servers.{Setup, Candidate, Serving, Leader, Server, Running}
 use Rattle.pf_protocol.specs.declared.answers.Answer.{Answer}
@@ -14,7 +15,7 @@ use Rattle.pf_protocol.specs.declared.events.Event.{Event}
 use Rattle.pf_protocol.specs.declared.events.Event.TheVariants.{Submit, Deliver}
 use Rattle.pf_protocol.specs.declared.events.Happening.{Happening}
 use Rattle.pf_protocol.specs.Leading.{new_entry}
-use Rattle.pf_protocol.specs.Groups.{Group, Sent, ending, happens, opening}
+use Rattle.pf_protocol.specs.Groups.{Group, Sent, TookPlace, ending, happens, opening}
 
 abbrev pub History : Type 0
 History = List Happening
@@ -63,10 +64,20 @@ pub data Makes (setup : Setup) (g : Group) (i : ℕ) (s : Server) : Event → En
   BySubmit : (op : Op) (l : Leader) → s.role ≡ Serving l → Makes setup g i s (Submit i op) (new_entry setup.names s l op)
   ByMerge : (k : ℕ) (sent : Sent) (own other : VoteLog) (slot : ℕ) → IsMerge g i s k sent own other → s.durable.base < slot → slot < merged_first s.durable.base own other → Makes setup g i s (Deliver k) (merged_entry s.durable.term s.durable.base own other slot)
 
+-- at an earlier moment the server ran in a lower term, with this checkpoint, these starts and this log
+pub record WasHeld (setup : Setup) (history : History) (i term : ℕ) (v : VoteLog) : Type 0 where
+  pub earlier : History
+  pub is_earlier : IsPrefix earlier history
+  pub server : Server
+  pub runs : Runs (replay setup earlier) i server
+  pub holds : v ≡ vote_of server.durable
+  pub lower : server.durable.term < term
+
 -- some event made the entry at this server
 pub record Made (setup : Setup) (history : History) (leader : ℕ) (e : Entry) : Type 0 where
   pub earlier : History
   pub making : Happening
+  pub done : TookPlace (ending making.answer)
   pub is_earlier : IsPrefix (earlier ++ making ∷ []) history
   pub server : Server
   pub runs : Runs (replay setup earlier) leader server
@@ -97,6 +108,7 @@ pub record IsTakenFrom (setup : Setup) (history : History) (e from : Entry) : Ty
   pub earlier : History
   pub k : ℕ
   pub answer : Answer
+  pub done : TookPlace (ending answer)
   pub is_earlier : IsPrefix (earlier ++ record { event = Deliver k; answer = answer } ∷ []) history
   pub server : Server
   pub runs : Runs (replay setup earlier) leader server
