@@ -195,6 +195,10 @@ chosen_in_history setup history slot term e c =
       two_accepted = accepted_in_history setup history c.two slot term e c.two_accepted c.is;
     }
 
+pub chosen_entry : (setup : Setup) (history : History) (slot term : ℕ) (e : Entry) (c : IsPicked (told setup history).ballots slot term e) → (chosen_in_history setup history slot term e c).entry ≡ e
+unfolding chosen_in_history
+chosen_entry setup history slot term e c = refl
+
 pub known_in_history : (setup : Setup) (history : History) (slot term : ℕ) (op : Op) → IsChosenBy (told setup history).ballots slot term op → (t : ℕ) × (t ≤ term) × IsChosen setup history slot t op
 known_in_history setup history slot term op c = (c.by, c.not_later, subst (IsChosen setup history slot c.by) c.has_op (chosen_in_history setup history slot c.by c.entry c.chosen))
 

@@ -16,4 +16,6 @@ pub mod Origins
 pub mod Fitting
 pub mod Legal
 pub mod Counting
+pub mod Facts
+pub mod Naming
 pub mod Worked

@@ -73,7 +73,7 @@ source_after setup earlier history p e source =
 shorter : (earlier history : History) (h : Happening) → IsPrefix (earlier ++ h ∷ []) history → length earlier < length history
 shorter earlier history h p = omega (arith, sym (length-append (earlier ++ h ∷ []) p.rest) ∙ ap length p.whole, length-append earlier (h ∷ []))
 
-begins_with : (earlier history : History) (h : Happening) → IsPrefix (earlier ++ h ∷ []) history → IsPrefix earlier history
+pub begins_with : (earlier history : History) (h : Happening) → IsPrefix (earlier ++ h ∷ []) history → IsPrefix earlier history
 begins_with earlier history h p = prefix_of earlier (earlier ++ h ∷ []) history (record { rest = h ∷ []; whole = refl }) p
 
 -- a leader's next slot is not below its first

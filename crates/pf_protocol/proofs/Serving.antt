@@ -116,7 +116,7 @@ unfolding range_of
 noop_apart r = refl
 
 -- the op in p is the named one or a no-op
-named_op : (b : Ballots) (sound : Sound b) (s : Served b) (a p u k : ℕ) (e y : Entry) (other : Op) → IsPicked b a k e → (m : Ballot) → b.ballot k ≡ Some m → first_of m ≤ a → a < b.next k → m.base < p → p < a → b.proposal p k ≡ Some y → IsChosenBy b p u other → (other ≡ y.op) ⊎ (other ≡ Noop)
+pub named_op : (b : Ballots) (sound : Sound b) (s : Served b) (a p u k : ℕ) (e y : Entry) (other : Op) → IsPicked b a k e → (m : Ballot) → b.ballot k ≡ Some m → first_of m ≤ a → a < b.next k → m.base < p → p < a → b.proposal p k ≡ Some y → IsChosenBy b p u other → (other ≡ y.op) ⊎ (other ≡ Noop)
 named_op b sound s a p u k e y other chosen m at new low_next above below in_p d =
     elim (cases_lt p (first_of m)) [
       | inl was_merged ↦

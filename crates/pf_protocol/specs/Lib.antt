@@ -8,5 +8,6 @@ pub mod Rows
 pub mod Groups
 pub mod Histories
 pub mod Safety
+pub mod Kept
 pub mod Answers
 pub mod Fitting

@@ -7,11 +7,16 @@
 
 mod answers;
 mod events;
+mod kept;
 mod laws;
 
 pub use answers::{Answer, Refusal};
 pub use events::{Event, Happening};
+pub use kept::{
+    applied_slots_are_covered, held_entries_are_proposals, jobs_in_hand_are_apart,
+    legal_histories_fit, marks_stand_on_chosen_ops, packets_tell_the_truth, starts_are_kept,
+};
 pub use laws::{
-    every_history_is_safe, held_entries_are_proposals, legal_histories_fit, one_leader_to_a_term,
-    what_is_chosen_stays,
+    chosen_ops_persist, every_history_is_safe, merged_slots_were_chosen, named_slots_keep_their_op,
+    nothing_old_is_taken, one_leader_to_a_term,
 };

@@ -1,6 +1,0 @@
-use Rattle.pf_protocol.proofs.Making.{accepted_proposed}
-use Rattle.pf_protocol.proofs.Origins.{source_of}
-use Rattle.pf_protocol.proofs.laws.held_entries_are_proposals.Goals as goal
-
-pub returns : goal.returns
-returns c = record { made = accepted_proposed; source = source_of }

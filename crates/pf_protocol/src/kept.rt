@@ -1,0 +1,73 @@
+//! What a group keeps in every history beside its safety.
+ghost use Rattle.std.specs.Prelude.{◌≡◌, ℕ, ◌<◌, ◌≤◌, Some, length, slice_get, true};
+ghost use Rattle.std.specs.FinMap as finite;
+ghost use Rattle.pf_entry.specs.Maps.{Numbers};
+ghost use Rattle.pf_entry.specs.Sets as set;
+ghost use Rattle.std.specs.Prelude.{List};
+ghost use Rattle.pf_entry.specs.Ops.{Sector};
+ghost use Rattle.pf_entry.specs.Applying.{is_applied};
+ghost use Rattle.pf_entry.specs.Records.{Durable};
+ghost use Rattle.pf_entry.specs.Canonical.{IsCanonicalPacket};
+ghost use Rattle.pf_entry.specs.declared.ops.Op.{Op};
+ghost use Rattle.pf_entry.specs.declared.entries.Entry.{Entry};
+ghost use Rattle.pf_entry.specs.declared.entries.VoteLog.{VoteLog};
+ghost use Rattle.pf_entry.specs.declared.packets.Body.TheVariants.{Vote, Ack, Commit, Image};
+ghost use Rattle.pf_protocol.specs.Servers.{Setup, Server, has_applied};
+ghost use Rattle.pf_protocol.specs.Groups.{Sent};
+ghost use Rattle.pf_protocol.specs.Histories.{History, replay, Runs, HasAccepted, IsProposal, HasSource, WasHeld};
+ghost use Rattle.pf_protocol.specs.Kept.{MayHold, IsKeptIn, IsMarked, IsCovered, IsInHand, IsChosenIn, HasAcked};
+ghost use Rattle.pf_protocol.specs.Answers.{IsLegal};
+ghost use Rattle.pf_protocol.specs.Fitting.{GroupFits};
+
+/// Each entry that a server ever held was made by a step of the leader of its term, and its op comes from a new proposal
+/// of its slot, through the merges that took it over, or is a no-op by which a merge filled a slot. What a server
+/// accepted is under its checkpoint, or followed by an entry of no lower term; no entry's term is above its server's.
+pub fn held_entries_are_proposals()
+    ensures made { (setup : Setup) (history : History) (i : ℕ) (e : Entry) → HasAccepted setup history i e → IsProposal setup history e }
+    ensures source { (setup : Setup) (history : History) (e : Entry) → IsProposal setup history e → HasSource setup history e }
+    ensures kept { (setup : Setup) (history : History) (i : ℕ) (e : Entry) (d : Durable) → HasAccepted setup history i e → MayHold (replay setup history) i d → IsKeptIn d e }
+    ensures within { (setup : Setup) (history : History) (i : ℕ) (d : Durable) (slot : ℕ) (e : Entry) → MayHold (replay setup history) i d → finite.get d.log slot ≡ Some e → (e.slot ≡ slot) × (e.term ≤ d.term) }
+{}
+
+/// A server holds the start of the term of every entry that it ever accepted, through restarts and images.
+pub fn starts_are_kept()
+    ensures { (setup : Setup) (history : History) (i : ℕ) (e : Entry) (d : Durable) → HasAccepted setup history i e → MayHold (replay setup history) i d → finite.get d.starts e.term ≡ Some e.first }
+{}
+
+/// A committed mark stands on a held entry whose op is chosen, in a term not above the entry's, and in its own term
+/// where it is new.
+pub fn marks_stand_on_chosen_ops()
+    ensures { (setup : Setup) (history : History) (i : ℕ) (s : Server) (slot : ℕ) → Runs (replay setup history) i s → set.contains s.committed slot ≡ true → IsMarked setup history s slot }
+{}
+
+/// Each applied slot has an op that is chosen in a term not above the server's, each unapplied slot below one can be
+/// passed by it, and the sectors are the ops in slot order: at running servers, on disks, and in packets with an image.
+pub fn applied_slots_are_covered()
+    ensures servers { (setup : Setup) (history : History) (i : ℕ) (s : Server) → Runs (replay setup history) i s → IsCovered setup history s.durable.term (has_applied s) s.sectors }
+    ensures disks { (setup : Setup) (history : History) (i : ℕ) (d : Durable) → MayHold (replay setup history) i d → IsCovered setup history d.term (is_applied d.base d.saved) d.sectors }
+    ensures images { (setup : Setup) (history : History) (k : ℕ) (sent : Sent) (base : ℕ) (applied : Numbers) (sectors : List Sector) → slice_get (replay setup history).packets k ≡ Some sent → sent.packet.body ≡ Image base applied sectors → IsCovered setup history sent.packet.term (is_applied base applied) sectors }
+{}
+
+/// The jobs in hand of a server are of unapplied slots with chosen ops, can pass each unapplied slot below them, and
+/// share no sector with each other.
+pub fn jobs_in_hand_are_apart()
+    ensures { (setup : Setup) (history : History) (i : ℕ) (s : Server) (slot : ℕ) (op : Op) → Runs (replay setup history) i s → finite.get s.in_hand slot ≡ Some op → IsInHand setup history s slot op }
+{}
+
+/// A vote shows what its sender held as it voted. An acknowledgement says that its sender accepted the proposal of that
+/// slot and term, or that each slot up to it has an op that is chosen in a term not above this one. A commit says that the
+/// proposal's op is chosen so.
+pub fn packets_tell_the_truth()
+    ensures votes { (setup : Setup) (history : History) (k : ℕ) (sent : Sent) (v : VoteLog) → slice_get (replay setup history).packets k ≡ Some sent → sent.packet.body ≡ Vote v → WasHeld setup history sent.packet.from sent.packet.term v }
+    ensures acks { (setup : Setup) (history : History) (k : ℕ) (sent : Sent) (slot upto : ℕ) → slice_get (replay setup history).packets k ≡ Some sent → sent.packet.body ≡ Ack slot upto → 0 < slot → HasAcked setup history sent.packet.from slot sent.packet.term }
+    ensures commits { (setup : Setup) (history : History) (k : ℕ) (sent : Sent) (slot : ℕ) (e : Entry) → slice_get (replay setup history).packets k ≡ Some sent → sent.packet.body ≡ Commit slot → IsProposal setup history e → e.slot ≡ slot → e.term ≡ sent.packet.term → IsChosenIn setup history slot sent.packet.term e.op }
+{}
+
+/// In a legal history every entry fits the chunk and lies in the window above its checkpoint; no slot, life, generation
+/// or read number is above the length of the history, and no term above one more than its elections. So each packet
+/// has a spelling, and a server has at most 65 starts.
+pub fn legal_histories_fit()
+    ensures fits { (setup : Setup) (history : History) → IsLegal setup history → GroupFits setup (length history) (replay setup history) }
+    ensures packets { (setup : Setup) (history : History) → IsLegal setup history → (k : ℕ) (sent : Sent) → slice_get (replay setup history).packets k ≡ Some sent → IsCanonicalPacket sent.packet }
+    ensures starts { (setup : Setup) (history : History) → IsLegal setup history → (i : ℕ) (s : Server) → Runs (replay setup history) i s → finite.len s.durable.starts ≤ 65 }
+{}
