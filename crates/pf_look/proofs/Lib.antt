@@ -1,0 +1,3 @@
+pub mod Passing
+pub mod Reaching
+pub mod Listing
