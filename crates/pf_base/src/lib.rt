@@ -9,6 +9,7 @@ mod errors;
 mod filled;
 mod numbers;
 mod range;
+mod server;
 mod value;
 
 pub use asks::{Ask, Reply};
@@ -19,6 +20,7 @@ pub use errors::{BadRange, NoMemory};
 pub use filled::{Filled, Sectors};
 pub use numbers::{get_u16, get_u32, get_u64, put_u16, put_u32, put_u64};
 pub use range::Range;
+pub use server::{Server, is_server};
 pub use value::Value;
 
 /// A place in the log of a group. The first is 1.
@@ -26,9 +28,6 @@ pub type Slot = u64;
 
 /// A term of leadership. The first is 1.
 pub type Term = u64;
-
-/// The number of a server of a group. Every call and event that takes one has the condition that it is below 3.
-pub type Server = u8;
 
 /// The bytes of a sector.
 pub type Sector = [u8; 512];

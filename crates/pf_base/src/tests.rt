@@ -1,7 +1,7 @@
 //! Calls, with what is expected of them.
 use crate::{
     Ask, BadRange, Bytes, Data, Names, Payload, Range, Sectors, Value, get_u16, get_u32, get_u64,
-    put_u16, put_u32, put_u64,
+    is_server, put_u16, put_u32, put_u64,
 };
 use std::test::Fail;
 
@@ -38,6 +38,13 @@ fn numbers(rt: HostRuntime) {
     put_u32(&mut out, 3, 0x0304_0506);
     put_u64(&mut out, 8, 0x0708_090a_0b0c_0d0e);
     assert_eq!(rt; out, [1, 2, 9, 3, 4, 5, 6, 9, 7, 8, 9, 10, 11, 12, 13, 14]);
+}
+
+#[test]
+fn servers(rt: HostRuntime) {
+    for (number, is_one) in [(0, true), (2, true), (3, false), (255, false)] {
+        assert_eq!(rt; is_server(number), is_one, "{number}");
+    }
 }
 
 #[test]
