@@ -9,6 +9,8 @@ mod answers;
 mod events;
 mod kept;
 mod laws;
+#[cfg(test)]
+mod tests;
 
 pub use answers::{Answer, Refusal};
 pub use events::{Event, Happening};
