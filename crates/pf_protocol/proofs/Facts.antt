@@ -29,10 +29,11 @@ use Rattle.pf_protocol.proofs.Follows.{IsLeader, RoleIs, BodyIs, PacketIs}
 use Rattle.pf_protocol.proofs.Opening.{opening_ballots}
 use Rattle.pf_protocol.specs.Servers.{Setup, Leader, Server, Running, Stopped, has_applied}
 use Rattle.pf_protocol.specs.Groups.{Sent, opening}
-use Rattle.pf_protocol.specs.Histories.{History, replay, Runs, HasAccepted, IsProposal, IsChosen, WasHeld}
+use Rattle.pf_protocol.specs.Histories.{History, IsPrefix, replay, Runs, HasAccepted, IsProposal, IsChosen, WasHeld}
 use Rattle.pf_protocol.specs.Kept.{MayHold, Now, Without, With, IsKeptIn, IsChosenIn, HasChosen, Respects, Leads, IsMarked, IsPassed, IsCovered, IsInHand, HasAcked}
 use Rattle.pf_protocol.proofs.Serving.{IsPassed as PassedIn}
 use Rattle.pf_protocol.proofs.Making.{IsSaid, backs_all, accepted_proposed}
+use Rattle.pf_protocol.proofs.Origins.{accepted_after}
 use Rattle.pf_protocol.proofs.Histories.{Told, told, held_at_end, accepted_in_history, chosen_at_end, chosen_in_history, chosen_entry, known_in_history}
 
 module _ (setup : Setup) (history : History) where
@@ -209,39 +210,44 @@ module _ (setup : Setup) (history : History) where
       let same = proposal_agrees z.ballots z.sound slot sent.packet.term sent.packet.term known.op e known.chosen (le_refl _) proposed in
       subst (IsChosenIn setup history slot sent.packet.term) (sym same) (chosen_of slot sent.packet.term known.op known.chosen)
 
-  -- a later leader, also one that has proposed nothing
-  lead_of : (i : ℕ) (s : Server) (l : Leader) → Runs (replay setup history) i s → Leads s l → IsLeader (told setup history).ballots.ballot (told setup history).ballots.next i s.durable l × LeaderKnows (told setup history).ballots i s.durable.term l
-  lead_of i s l at role =
-      let z = (told setup history).ballots in
-      let x = ((told setup history).follows.servers i (Running s) at).1 in
+  -- a leader of a later term, also one that has proposed nothing
+  own_proposal : (earlier : History) → IsPrefix earlier history → (i : ℕ) (s : Server) (l : Leader) → Runs (replay setup earlier) i s → Leads s l → (slot : ℕ) → l.b0 < slot → slot < l.first → (e : Entry) × IsProposal setup history e × (e.slot ≡ slot) × (e.term ≡ s.durable.term)
+  own_proposal earlier p i s l at role slot above below =
+      let z = told setup earlier in
+      let x = (z.follows.servers i (Running s) at).1 in
+      let lead : IsLeader z.ballots.ballot z.ballots.next i s.durable l × LeaderKnows z.ballots i s.durable.term l =
       elim role [
-        | inl is ↦ (subst (RoleIs z.vote z.ballot z.next i s.durable) is x.role, subst (RoleKnows z i s.durable.term) is x.knows.role)
-        | inr is ↦ (subst (RoleIs z.vote z.ballot z.next i s.durable) is x.role, (subst (RoleKnows z i s.durable.term) is x.knows.role).0)
-      ]
+        | inl is ↦ (subst (RoleIs z.ballots.vote z.ballots.ballot z.ballots.next i s.durable) is x.role, subst (RoleKnows z.ballots i s.durable.term) is x.knows.role)
+        | inr is ↦ (subst (RoleIs z.ballots.vote z.ballots.ballot z.ballots.next i s.durable) is x.role, (subst (RoleKnows z.ballots i s.durable.term) is x.knows.role).0)
+      ] in
+      let begins = (z.sound.quorums s.durable.term lead.0.merge lead.0.is).begins in
+      let low : slot < z.ballots.next s.durable.term = omega (arith, below, lead.0.has_first, begins) in
+      let e = z.sound.complete s.durable.term lead.0.merge slot lead.0.is (omega (arith, lead.0.has_base, above)) low in
+      let made = z.sound.made slot s.durable.term e.0 e.1 in
+      let did = lead.1.own slot above (omega (arith, lead.0.has_next, low)) in
+      let accepted = accepted_after setup earlier history p i e.0 (accepted_in_history setup earlier i slot s.durable.term e.0 did e.1) in
+      (e.0, accepted_proposed setup history i e.0 accepted, made.in_slot, made.in_term)
 
-  pub leaders_respect : (slot term : ℕ) (op : Op) (i : ℕ) (s : Server) (l : Leader) → IsChosen setup history slot term op → Runs (replay setup history) i s → Leads s l → term < s.durable.term → Respects setup history slot op s l
-  leaders_respect slot term op i s l c at role later =
+  pub leaders_respect : (slot term : ℕ) (op : Op) (earlier : History) (i : ℕ) (s : Server) (l : Leader) → IsChosen setup history slot term op → IsPrefix earlier history → Runs (replay setup earlier) i s → Leads s l → term < s.durable.term → Respects setup history slot op s l
+  leaders_respect slot term op earlier i s l c p at role later =
       let z = told setup history in
-      let lead = lead_of i s l at role in
+      let led = (z.stood earlier p.rest p.whole).leads i s l at role in
       let picked = chosen_at_end setup history slot term op c in
-      let below = kept_at z.ballots z.sound slot term c.entry picked s.durable.term lead.0.merge later lead.0.is in
+      let below : slot < l.first = omega (arith, led.first, kept_at z.ballots z.sound slot term c.entry picked s.durable.term led.merge later led.is) in
       record {
-        begins_above = omega (arith, lead.0.has_first, below);
+        begins_above = below;
         proposes = λ above.
-            let begins = (z.sound.quorums s.durable.term lead.0.merge lead.0.is).begins in
-            let low : slot < z.ballots.next s.durable.term = omega (arith, below, begins) in
-            let e = z.sound.complete s.durable.term lead.0.merge slot lead.0.is (omega (arith, lead.0.has_base, above)) low in
-            let made = z.sound.made slot s.durable.term e.0 e.1 in
-            let did = lead.1.own slot above (omega (arith, lead.0.has_next, low)) in
-            let accepted = accepted_in_history setup history i slot s.durable.term e.0 did e.1 in
-            (e.0, accepted_proposed setup history i e.0 accepted, made.in_slot, made.in_term, chosen_stays z.ballots z.sound slot term c.entry picked s.durable.term e.0 (omega (arith, later)) e.1 ∙ c.has_op);
+            let e = own_proposal earlier p i s l at role slot above below in
+            let h = held_at_end setup history e.1.leader e.0 e.1.recorded in
+            let proposed : z.ballots.proposal slot s.durable.term ≡ Some e.0 = ap (λ x. z.ballots.proposal x s.durable.term) (sym e.2) ∙ ap (z.ballots.proposal e.0.slot) (sym e.3) ∙ h.proposed in
+            (e.0, e.1, e.2, e.3, chosen_stays z.ballots z.sound slot term c.entry picked s.durable.term e.0 (omega (arith, later)) proposed ∙ c.has_op);
       }
 
   -- no start makes an entry void that has the chosen op
-  pub starts_respect : (slot term u : ℕ) (op : Op) (i : ℕ) (d : Durable) → IsChosen setup history slot term op → MayHold (replay setup history) i d → term ≤ u → IsVoid d.starts slot u → ⊥
-  starts_respect slot term u op i d c holds le void =
+  pub starts_respect : (slot term u : ℕ) (op : Op) (earlier : History) (i : ℕ) (d : Durable) → IsChosen setup history slot term op → IsPrefix earlier history → MayHold (replay setup earlier) i d → term ≤ u → IsVoid d.starts slot u → ⊥
+  starts_respect slot term u op earlier i d c p holds le void =
       let z = told setup history in
-      let start = ((stands_for i d holds).faithful.true_starts void.0 void.1.0 void.1.1).1 in
+      let start = (z.stood earlier p.rest p.whole).starts i d void.0 void.1.0 holds void.1.1 in
       let above = kept_at z.ballots z.sound slot term c.entry (chosen_at_end setup history slot term op c) void.0 start.merge (omega (arith, le, void.1.2)) start.is in
       omega (arith, above, start.first_slot, void.1.3)
 

@@ -8,12 +8,13 @@ use Rattle.pf_entry.specs.declared.entries.Entry.{Entry}
 use Rattle.pf_entry.specs.Records.{Durable}
 use Rattle.pf_entry.specs.declared.entries.VoteLog.{VoteLog}
 use Rattle.pf_entry.specs.declared.packets.Body.TheVariants.{Vote}
-use Rattle.pf_protocol.proofs.Ballots.{Cast, Ballot, Ballots, Sound, IsPicked}
+use Rattle.pf_protocol.proofs.Ballots.{Ballot, first_of, Ballots, IsStart, Sound, IsPicked}
 use Rattle.pf_protocol.proofs.Law.{chosen_stays, kept_at, chosen_agree, IsChosenBy}
 use Rattle.pf_protocol.proofs.Keeping.{holds_is}
-use Rattle.pf_protocol.specs.Servers.{Setup, Role, Follower, Candidate, Merging, Serving, Server, Running, has_applied}
+use Rattle.pf_protocol.specs.Servers.{Setup, Leader, Role, Follower, Candidate, Merging, Serving, Server, Running, Stopped, has_applied}
+use Rattle.pf_protocol.specs.Kept.{MayHold, Now, Without, With}
 use Rattle.pf_protocol.specs.Groups.{Sent, Group, ending, happens, opening}
-use Rattle.pf_protocol.specs.Histories.{History, run, replay, Runs, Holds, HasAccepted, IsProposal, IsChosen}
+use Rattle.pf_protocol.specs.Histories.{History, IsPrefix, run, replay, Runs, Holds, HasAccepted, IsProposal, IsChosen}
 use Rattle.pf_protocol.specs.declared.events.Happening.{Happening}
 use Rattle.pf_protocol.specs.Safety.{OneLeader, leads, Agrees, AppliesInOrder, KeepsAcknowledged, IsSafe}
 use Rattle.pf_entry.proofs.Lists.{every_get}
@@ -21,7 +22,7 @@ use Rattle.pf_protocol.proofs.Making.{accepted_proposed}
 use Rattle.pf_protocol.proofs.Knowing.{IsAcked, AckMarks, AllAcked, RoleMarks}
 use Rattle.pf_protocol.proofs.Serving.{Served}
 use Rattle.pf_protocol.proofs.Follows.{Follows, IsCandidate, IsLeader, RoleIs, BodyIs, PacketIs}
-use Rattle.pf_protocol.proofs.Steps.{HoldsAt, happens_next}
+use Rattle.pf_protocol.proofs.Steps.{HoldsAt, Persists, happens_next}
 use Rattle.pf_protocol.proofs.Opening.{opening_ballots, nothing_accepted, opening_sound, opening_served, opening_follows}
 
 -- what one of the ballots says of an entry that a server accepted
@@ -36,10 +37,20 @@ pub record AcceptedIn (setup : Setup) (g : Group) (history : History) (i slot te
   pub parts : earlier ++ rest ≡ history
   pub holds_it : HoldsAt (run setup g earlier) i slot term
 
--- the votes of candidates, and those that were sent
+-- the merge by which the server leads
+pub record LedBy (b : Ballots) (i term : ℕ) (l : Leader) : Type 0 where
+  pub merge : Ballot
+  pub is : b.ballot term ≡ Some merge
+  pub leader : merge.leader ≡ i
+  pub first : l.first ≡ first_of merge
+  pub base : l.b0 ≡ merge.base
+
+-- the votes of candidates, those that were sent, and what leaders merged
 pub record Stands (g : Group) (b : Ballots) : Type 0 where
   pub own : (i : ℕ) (s : Server) (own : VoteLog) → Runs g i s → s.role ≡ Candidate own → (i < 3) × (s.number ≡ i) × (b.vote i s.durable.term ≡ Some (record { to = i; log = own }))
   pub sent : (k : ℕ) (sent : Sent) (v : VoteLog) → slice_get g.packets k ≡ Some sent → sent.packet.body ≡ Vote v → (sent.packet.from < 3) × (sent.packet.from ≢ sent.packet.to) × (b.vote sent.packet.from sent.packet.term ≡ Some (record { to = sent.packet.to; log = v }))
+  pub leads : (i : ℕ) (s : Server) (l : Leader) → Runs g i s → (s.role ≡ Merging l) ⊎ (s.role ≡ Serving l) → LedBy b i s.durable.term l
+  pub starts : (i : ℕ) (d : Durable) (t first : ℕ) → MayHold g i d → FinMap.get d.starts t ≡ Some first → IsStart b.ballot t first
 
 -- ballots that go with a whole run, and with each moment of it
 pub record Told (setup : Setup) (g : Group) (b : Ballots) (history : History) : Type 0 where
@@ -49,7 +60,7 @@ pub record Told (setup : Setup) (g : Group) (b : Ballots) (history : History) : 
   pub follows : Follows (run setup g history) ballots
   pub keeps : (i : ℕ) (e : Entry) → IsHeld b i e → IsHeld ballots i e
   pub held : (earlier rest : History) → earlier ++ rest ≡ history → (i : ℕ) (e : Entry) → Holds (run setup g earlier) i e → IsHeld ballots i e
-  pub keeps_votes : (i t : ℕ) (v : Cast) → b.vote i t ≡ Some v → ballots.vote i t ≡ Some v
+  pub persists : Persists b ballots
   pub stood : (earlier rest : History) → earlier ++ rest ≡ history → Stands (run setup g earlier) ballots
   pub back : (i slot term : ℕ) → ballots.accepted i slot term ≡ true → (b.accepted i slot term ≡ true) ⊎ AcceptedIn setup g history i slot term
 
@@ -60,8 +71,19 @@ held_now b sound g follows i e h =
     let in_log = ap (λ d. FinMap.get d.log e.slot) is.disk ∙ h.held in
     record { accepted = sound.held_accepted i e.slot e in_log; proposed = ((sound.disks i).proposes e.slot e in_log).1 }
 
-stands_now : (b : Ballots) (g : Group) → Follows g b → Stands g b
-stands_now b g follows = record {
+starts_now : (b : Ballots) (g : Group) → Sound b → Follows g b → (i : ℕ) (d : Durable) (t first : ℕ) → MayHold g i d → FinMap.get d.starts t ≡ Some first → IsStart b.ballot t first
+starts_now b g sound follows i _ t first (Now s at) is = ((sound.disks i).true_starts t first (ap (λ d. FinMap.get d.starts t) (follows.servers i (Running s) at).1.disk ∙ is)).1
+starts_now b g sound follows i _ t first (Without life before after at) is = ((sound.disks i).true_starts t first (ap (λ d. FinMap.get d.starts t) (follows.servers i (Stopped life before after) at).1.disk ∙ is)).1
+starts_now b g sound follows i _ t first (With life before after at) is =
+    let h = (follows.servers i (Stopped life before after) at).1 in
+    elim (h.grows.true_starts t first is) [
+      | inl old ↦ ((sound.disks i).true_starts t first (ap (λ d. FinMap.get d.starts t) h.disk ∙ old)).1
+      | inr new ↦ new.1
+    ]
+
+stands_now : (b : Ballots) (g : Group) → Sound b → Follows g b → Stands g b
+stands_now b g sound follows = record {
+  starts = starts_now b g sound follows;
   own = λ i s own at role.
       let h = follows.servers i (Running s) at in
       let c : IsCandidate b.vote b.ballot i s.durable own = subst (RoleIs b.vote b.ballot b.next i s.durable) role h.1.role in
@@ -69,13 +91,22 @@ stands_now b g follows = record {
   sent = λ k sent v at body.
       let p = every_get (λ p. PacketIs b p.packet) g.packets k sent follows.packets at in
       (p.from_below, p.apart, subst (BodyIs b sent.packet.from sent.packet.to sent.packet.term) body p.body);
+  leads = λ i s l at role.
+      let h = follows.servers i (Running s) at in
+      let lead : IsLeader b.ballot b.next i s.durable l = elim role [ inl is ↦ subst (RoleIs b.vote b.ballot b.next i s.durable) is h.1.role | inr is ↦ subst (RoleIs b.vote b.ballot b.next i s.durable) is h.1.role ] in
+      record { merge = lead.merge; is = lead.is; leader = lead.leads; first = lead.has_first; base = lead.has_base };
 }
 
-stands_later : (g : Group) (b after : Ballots) → ((i t : ℕ) (v : Cast) → b.vote i t ≡ Some v → after.vote i t ≡ Some v) → Stands g b → Stands g after
+stands_later : (g : Group) (b after : Ballots) → Persists b after → Stands g b → Stands g after
 stands_later g b after keeps h = record {
-  own = λ i s own at role. let x = h.own i s own at role in (x.0, x.1, keeps i s.durable.term _ x.2);
-  sent = λ k sent v at body. let x = h.sent k sent v at body in (x.0, x.1, keeps sent.packet.from sent.packet.term _ x.2);
+  own = λ i s own at role. let x = h.own i s own at role in (x.0, x.1, keeps.votes i s.durable.term _ x.2);
+  sent = λ k sent v at body. let x = h.sent k sent v at body in (x.0, x.1, keeps.votes sent.packet.from sent.packet.term _ x.2);
+  leads = λ i s l at role. let x = h.leads i s l at role in record { merge = x.merge; is = keeps.ballots s.durable.term x.merge x.is; leader = x.leader; first = x.first; base = x.base };
+  starts = λ i d t first holds is. let x = h.starts i d t first holds is in record { merge = x.merge; is = keeps.ballots t x.merge x.is; first_slot = x.first_slot };
 }
+
+both_persist : (a b c : Ballots) → Persists a b → Persists b c → Persists a c
+both_persist a b c p q = record { votes = λ i t v is. q.votes i t v (p.votes i t v is); ballots = λ t m is. q.ballots t m (p.ballots t m is) }
 
 nil_parts : (earlier rest : History) → earlier ++ rest ≡ [] → earlier ≡ []
 nil_parts [] rest is = refl
@@ -89,8 +120,8 @@ tell setup [] g b sound served follows = record {
   follows = follows;
   keeps = λ i e h. h;
   held = λ earlier rest parts i e h. held_now b sound g follows i e (subst (λ hs. Holds (run setup g hs) i e) (nil_parts earlier rest parts) h);
-  keeps_votes = λ i t v is. is;
-  stood = λ earlier rest parts. subst (λ hs. Stands (run setup g hs) b) (sym (nil_parts earlier rest parts)) (stands_now b g follows);
+  persists = record { votes = λ i t v is. is; ballots = λ t m is. is };
+  stood = λ earlier rest parts. subst (λ hs. Stands (run setup g hs) b) (sym (nil_parts earlier rest parts)) (stands_now b g sound follows);
   back = λ i slot term is. inl is;
 }
 tell setup (x ∷ xs) g b sound served follows =
@@ -105,8 +136,8 @@ tell setup (x ∷ xs) g b sound served follows =
       follows = t.follows;
       keeps = keeps;
       held = λ earlier rest parts i e h. held_later setup g b sound follows x xs t.ballots keeps t.held earlier rest parts i e h;
-      keeps_votes = λ i term v is. t.keeps_votes i term v (n.votes i term v is);
-      stood = λ earlier rest parts. stood_later setup g b follows x xs t.ballots (λ i term v is. t.keeps_votes i term v (n.votes i term v is)) t.stood earlier rest parts;
+      persists = both_persist b n.ballots t.ballots n.persists t.persists;
+      stood = λ earlier rest parts. stood_later setup g b sound follows x xs t.ballots (both_persist b n.ballots t.ballots n.persists t.persists) t.stood earlier rest parts;
       back = λ i slot term is. elim (t.back i slot term is) [
         | inl before ↦ elim (n.new_accepted i slot term before) [
           | inl old ↦ inl old
@@ -116,9 +147,9 @@ tell setup (x ∷ xs) g b sound served follows =
       ];
     }
   where
-    stood_later : (setup : Setup) (g : Group) (b : Ballots) → Follows g b → (x : Happening) (xs : History) (last : Ballots) → ((i t : ℕ) (v : Cast) → b.vote i t ≡ Some v → last.vote i t ≡ Some v) → ((earlier rest : History) → earlier ++ rest ≡ xs → Stands (run setup (happens setup g x.event (ending x.answer)) earlier) last) → (earlier rest : History) → earlier ++ rest ≡ x ∷ xs → Stands (run setup g earlier) last
-    stood_later setup g b follows x xs last keeps stood [] rest parts = stands_later g b last keeps (stands_now b g follows)
-    stood_later setup g b follows x xs last keeps stood (y ∷ ys) rest parts =
+    stood_later : (setup : Setup) (g : Group) (b : Ballots) → Sound b → Follows g b → (x : Happening) (xs : History) (last : Ballots) → Persists b last → ((earlier rest : History) → earlier ++ rest ≡ xs → Stands (run setup (happens setup g x.event (ending x.answer)) earlier) last) → (earlier rest : History) → earlier ++ rest ≡ x ∷ xs → Stands (run setup g earlier) last
+    stood_later setup g b sound follows x xs last keeps stood [] rest parts = stands_later g b last keeps (stands_now b g sound follows)
+    stood_later setup g b sound follows x xs last keeps stood (y ∷ ys) rest parts =
         let p : y ∷ (ys ++ rest) ≡ x ∷ xs = parts in
         let head : y ≡ x = cc in
         let tail : ys ++ rest ≡ xs = cc in
@@ -288,18 +319,16 @@ one_entry setup history i j a b x y slot term =
     let f = (told setup history).ballots.proposal in
     same_Some a b (sym p ∙ ap (λ s. f s a.term) slot ∙ ap (f b.slot) term ∙ q)
 
--- in each term at most one server leads
-leader_of : (b : Ballots) (i : ℕ) (d : Durable) (role : Role) → leads role ≡ true → RoleIs b.vote b.ballot b.next i d role → (m : Ballot) × (b.ballot d.term ≡ Some m) × (m.leader ≡ i)
-leader_of b i d Follower is h = absurd (grind arith)
-leader_of b i d (Candidate own) is h = absurd (grind arith)
-leader_of b i d (Merging l) is h = (h.merge, h.is, h.leads)
-leader_of b i d (Serving l) is h = (h.merge, h.is, h.leads)
+-- the leader of a term at any moment
+led_at : (setup : Setup) (history earlier : History) → IsPrefix earlier history → (i : ℕ) (s : Server) (role : Role) → Runs (replay setup earlier) i s → s.role ≡ role → leads role ≡ true → (m : Ballot) × ((told setup history).ballots.ballot s.durable.term ≡ Some m) × (m.leader ≡ i)
+led_at setup history earlier p i s Follower at is role = absurd (grind arith)
+led_at setup history earlier p i s (Candidate own) at is role = absurd (grind arith)
+led_at setup history earlier p i s (Merging l) at is role = let x = ((told setup history).stood earlier p.rest p.whole).leads i s l at (inl is) in (x.merge, x.is, x.leader)
+led_at setup history earlier p i s (Serving l) at is role = let x = ((told setup history).stood earlier p.rest p.whole).leads i s l at (inr is) in (x.merge, x.is, x.leader)
 
-pub one_leader : (setup : Setup) (history : History) → OneLeader (replay setup history)
-one_leader setup history i j s z at_i at_j leads_i leads_j same =
-    let t = told setup history in
-    let x = (t.follows.servers i (Running s) at_i).1 in
-    let y = (t.follows.servers j (Running z) at_j).1 in
-    let l = leader_of t.ballots i s.durable s.role leads_i x.role in
-    let k = leader_of t.ballots j z.durable z.role leads_j y.role in
-    sym l.2 ∙ ap (λ m. m.leader) (same_Some l.0 k.0 (sym l.1 ∙ ap t.ballots.ballot same ∙ k.1)) ∙ k.2
+-- in each term at most one server leads
+pub one_leader : (setup : Setup) (history : History) → OneLeader setup history
+one_leader setup history a b i j s z before after at_i at_j leads_i leads_j same =
+    let l = led_at setup history a before i s s.role at_i refl leads_i in
+    let k = led_at setup history b after j z z.role at_j refl leads_j in
+    sym l.2 ∙ ap (λ m. m.leader) (same_Some l.0 k.0 (sym l.1 ∙ ap (told setup history).ballots.ballot same ∙ k.1)) ∙ k.2

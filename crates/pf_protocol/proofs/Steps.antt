@@ -6,7 +6,7 @@ use Rattle.std.proofs.lemmas.Bool.{cond-true, eq-eqb}
 use Rattle.pf_entry.specs.declared.entries.Entry.{Entry}
 use Rattle.pf_entry.specs.declared.packets.Packet.{Packet}
 use Rattle.pf_entry.specs.Records.{Durable, image_of, stored, holds}
-use Rattle.pf_protocol.proofs.Ballots.{Cast, Ballots, Sound}
+use Rattle.pf_protocol.proofs.Ballots.{Cast, Ballot, Ballots, Sound}
 use Rattle.pf_protocol.proofs.Changes.{grown, Grows, Extends}
 use Rattle.pf_protocol.proofs.Keeping.{grown_sound, by_test}
 use Rattle.pf_protocol.proofs.Growing.{WithinTerm, unchanged_grows}
@@ -38,6 +38,11 @@ pub record HoldsAt (g : Group) (i slot term : ℕ) : Type 0 where
   pub runs : slice_get g.servers i ≡ Some (Running server)
   pub has : holds server.durable slot term ≡ true
 
+-- votes and merges stay
+pub record Persists (b after : Ballots) : Type 0 where
+  pub votes : (i t : ℕ) (v : Cast) → b.vote i t ≡ Some v → after.vote i t ≡ Some v
+  pub ballots : (t : ℕ) (m : Ballot) → b.ballot t ≡ Some m → after.ballot t ≡ Some m
+
 -- the ballots after an event
 pub record Next (b : Ballots) (g : Group) : Type 0 where
   pub ballots : Ballots
@@ -46,12 +51,12 @@ pub record Next (b : Ballots) (g : Group) : Type 0 where
   pub follows : Follows g ballots
   pub proposals : (s t : ℕ) (e : Entry) → b.proposal s t ≡ Some e → ballots.proposal s t ≡ Some e
   pub accepted : (i s t : ℕ) → b.accepted i s t ≡ true → ballots.accepted i s t ≡ true
-  pub votes : (i t : ℕ) (v : Cast) → b.vote i t ≡ Some v → ballots.vote i t ≡ Some v
+  pub persists : Persists b ballots
   pub new_accepted : (i s t : ℕ) → ballots.accepted i s t ≡ true → (b.accepted i s t ≡ true) ⊎ HoldsAt g i s t
 
 module _ (b : Ballots) (sound : Sound b) (served : Served b) (g : Group) (follows : Follows g b) where
   nothing_next : Next b g
-  nothing_next = record { ballots = b; sound = sound; served = served; follows = follows; proposals = λ s t e is. is; accepted = λ i s t is. is; votes = λ i t v is. is; new_accepted = λ i s t is. inl is }
+  nothing_next = record { ballots = b; sound = sound; served = served; follows = follows; proposals = λ s t e is. is; accepted = λ i s t is. is; persists = record { votes = λ i t v is. is; ballots = λ t m is. is }; new_accepted = λ i s t is. inl is }
 
   servers_follow : (i : ℕ) (c : Condition) (after : Ballots) → i < 3 → Extends i b after → Sound after → ConditionIs after i c → (j : ℕ) (d : Condition) → slice_get (slice_set g.servers i c) j ≡ Some d → (j < 3) × ConditionIs after j d
   servers_follow i c after below x after_sound is j d at =
@@ -75,7 +80,7 @@ module _ (b : Ballots) (sound : Sound b) (served : Served b) (g : Group) (follow
     follows = record { servers = servers_follow i c after below x after_sound is; packets = packets_follow i after x after_sound; acked = acked_follow i after x };
     proposals = x.proposals;
     accepted = x.accepted;
-    votes = x.votes;
+    persists = record { votes = x.votes; ballots = x.ballots };
     new_accepted = back;
   }
 
@@ -112,7 +117,7 @@ module _ (b : Ballots) (sound : Sound b) (served : Served b) (g : Group) (follow
     };
     proposals = row.done_extends.proposals;
     accepted = row.done_extends.accepted;
-    votes = row.done_extends.votes;
+    persists = record { votes = row.done_extends.votes; ballots = row.done_extends.ballots };
     new_accepted = λ j slot t is. elim (holds_there i (Running s) (settled o.server) row.done at row.done_accepted j slot t is) [
       | inl old ↦ inl old
       | inr new ↦ inr (record { server = new.server; runs = new.runs; has = new.has })
@@ -262,7 +267,7 @@ module _ (b : Ballots) (sound : Sound b) (served : Served b) (g : Group) (follow
 
   lost_next : (k : ℕ) (o : Option Sent) → slice_get g.packets k ≡ o → Next b (lost g k o)
   lost_next k None at = nothing_next
-  lost_next k (Some p) at = record { ballots = b; sound = sound; served = served; follows = marked_next k p _ at refl; proposals = λ s t e is. is; accepted = λ i s t is. is; votes = λ i t v is. is; new_accepted = λ i s t is. inl is }
+  lost_next k (Some p) at = record { ballots = b; sound = sound; served = served; follows = marked_next k p _ at refl; proposals = λ s t e is. is; accepted = λ i s t is. is; persists = record { votes = λ i t v is. is; ballots = λ t m is. is }; new_accepted = λ i s t is. inl is }
 
 -- the counts of a group are not read
 pub counts_next : (b : Ballots) (g : Group) (elections reads : ℕ) → Follows g b → Follows (record g { elections = elections; reads = reads }) b

@@ -8,17 +8,17 @@ use Rattle.pf_entry.specs.Ops.{zero_sector}
 use Rattle.pf_entry.specs.declared.entries.Entry.{Entry}
 use Rattle.pf_entry.specs.Applying.{fold_to}
 use Rattle.pf_protocol.specs.Servers.{Setup, Leader, Role, Serving, Merging, Server, has_applied}
-use Rattle.pf_protocol.specs.Groups.{Acked, Group}
+use Rattle.pf_protocol.specs.Groups.{Acked}
 use Rattle.pf_protocol.specs.Histories.{History, IsPrefix, replay, Runs, IsChosen}
 
--- in each term at most one server merges or serves
 abbrev pub leads : Role → Bool
 leads (Merging l) = true
 leads (Serving l) = true
 leads _ = false
 
-abbrev pub OneLeader : Group → Type 0
-OneLeader g = (i j : ℕ) (s z : Server) → Runs g i s → Runs g j z → leads s.role ≡ true → leads z.role ≡ true → s.durable.term ≡ z.durable.term → i ≡ j
+-- in each term at most one server merges or serves, at whatever moments
+abbrev pub OneLeader : Setup → History → Type 0
+OneLeader setup history = (a b : History) (i j : ℕ) (s z : Server) → IsPrefix a history → IsPrefix b history → Runs (replay setup a) i s → Runs (replay setup b) j z → leads s.role ≡ true → leads z.role ≡ true → s.durable.term ≡ z.durable.term → i ≡ j
 
 -- one op to a slot, and each running server's committed ops are those
 pub record Agrees (setup : Setup) (history : History) : Type 0 where

@@ -7,22 +7,22 @@ ghost use Rattle.pf_entry.specs.Entries.{IsNew};
 ghost use Rattle.pf_entry.specs.Records.{Durable};
 ghost use Rattle.pf_entry.specs.Voids.{IsVoid};
 ghost use Rattle.pf_protocol.specs.Servers.{Setup, Server, Leader};
-ghost use Rattle.pf_protocol.specs.Histories.{History, replay, Runs, HasAccepted, IsProposal, IsChosen, IsTakenFrom};
+ghost use Rattle.pf_protocol.specs.Histories.{History, IsPrefix, replay, Runs, HasAccepted, IsProposal, IsChosen, IsTakenFrom};
 ghost use Rattle.pf_protocol.specs.Kept.{MayHold, Leads, Respects, KeepsName, IsChosenIn};
 ghost use Rattle.pf_protocol.specs.Safety.{OneLeader, IsSafe};
 
-/// In each term at most one server merges or serves.
+/// In each term at most one server ever merges or serves.
 pub fn one_leader_to_a_term()
-    ensures { (setup : Setup) (history : History) → OneLeader (replay setup history) }
+    ensures { (setup : Setup) (history : History) → OneLeader setup history }
 {}
 
-/// A chosen op is the op of every later proposal of its slot. Each later leader begins above the slot, and had it under
-/// its checkpoint or proposed the op again, also a leader that has proposed nothing new. No start that a server holds
+/// A chosen op is the op of every later proposal of its slot. Each leader of a later term, whenever it leads, begins above the slot, and had it under
+/// its checkpoint or proposed the op again, also a leader that has proposed nothing new. No start that a server ever holds
 /// makes an entry void that may have the op. And no two servers ever held different entries of one slot and term.
 pub fn chosen_ops_persist()
     ensures later { (setup : Setup) (history : History) (slot term : ℕ) (op : Op) → IsChosen setup history slot term op → (e : Entry) → IsProposal setup history e → e.slot ≡ slot → term ≤ e.term → e.op ≡ op }
-    ensures leaders { (setup : Setup) (history : History) (slot term : ℕ) (op : Op) (i : ℕ) (s : Server) (l : Leader) → IsChosen setup history slot term op → Runs (replay setup history) i s → Leads s l → term < s.durable.term → Respects setup history slot op s l }
-    ensures not_void { (setup : Setup) (history : History) (slot term u : ℕ) (op : Op) (i : ℕ) (d : Durable) → IsChosen setup history slot term op → MayHold (replay setup history) i d → term ≤ u → IsVoid d.starts slot u → ⊥ }
+    ensures leaders { (setup : Setup) (history : History) (slot term : ℕ) (op : Op) (earlier : History) (i : ℕ) (s : Server) (l : Leader) → IsChosen setup history slot term op → IsPrefix earlier history → Runs (replay setup earlier) i s → Leads s l → term < s.durable.term → Respects setup history slot op s l }
+    ensures not_void { (setup : Setup) (history : History) (slot term u : ℕ) (op : Op) (earlier : History) (i : ℕ) (d : Durable) → IsChosen setup history slot term op → IsPrefix earlier history → MayHold (replay setup earlier) i d → term ≤ u → IsVoid d.starts slot u → ⊥ }
     ensures one_entry { (setup : Setup) (history : History) (i j : ℕ) (a b : Entry) → HasAccepted setup history i a → HasAccepted setup history j b → a.slot ≡ b.slot → a.term ≡ b.term → a ≡ b }
 {}
 
