@@ -18,4 +18,5 @@ pub mod Legal
 pub mod Counting
 pub mod Facts
 pub mod Naming
+pub mod Claiming
 pub mod Worked

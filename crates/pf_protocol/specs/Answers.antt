@@ -1,6 +1,7 @@
 -- What each event is answered, and which histories a group can have.
 use Rattle.std.specs.Prelude.{◌≡◌, ℕ, ◌+◌, ◌<◌, ◌≤◌, ◌*◌, ◌⊎◌, Bool, true, false, not, ◌&&◌, ◌||◌, ◌==◌, List, [], ◌∷◌, length, Option, Some, None, is_none, if◌then◌else◌, nat_lt, nat_le, slice_get, filter, sum_by}
 use Rattle.std.specs.List.{list_any}
+use Rattle.std.specs.FinMap
 use Rattle.pf_base.specs.Span.{Span, IsWritable, fits_in}
 use Rattle.pf_entry.specs.Lists.{Every}
 use Rattle.pf_entry.specs.Ops.{range_of}
@@ -195,12 +196,13 @@ pub record Claimed : Type 0 where
   pub server : ℕ
   pub life : ℕ
   pub slot : ℕ
+  pub op : Op
 
 abbrev pub is_claim : (server life slot : ℕ) → Claimed → Bool
 is_claim server life slot c = c.server == server && c.life == life && c.slot == slot
 
 abbrev pub claims_with : Answer → List Claimed → List Claimed
-claims_with (JobIs job) claims = record { server = job.server; life = job.life; slot = job.slot } ∷ claims
+claims_with (JobIs job) claims = record { server = job.server; life = job.life; slot = job.slot; op = job.op } ∷ claims
 claims_with _ claims = claims
 
 abbrev pub claims_without : (server life slot : ℕ) → List Claimed → List Claimed
@@ -212,6 +214,16 @@ claims_after claims Claim answer = claims_with answer claims
 claims_after claims (Finish server life slot) answer = claims_without server life slot claims
 claims_after claims (GiveBack server life slot) answer = claims_without server life slot claims
 claims_after claims _ answer = claims
+
+-- the claims that are open after a history
+abbrev pub claims_of : List Claimed → History → List Claimed
+claims_of claims [] = claims
+claims_of claims (h ∷ hs) = claims_of (claims_after claims h.event h.answer) hs
+
+-- what an open claim says of its server: its job is in hand while its life lasts, and no life is over that has not begun
+pub record IsOpen (servers : List Condition) (c : Claimed) : Type 0 where
+  pub running : (s : Server) → slice_get servers c.server ≡ Some (Running s) → (c.life ≤ s.life) × (c.life ≡ s.life → FinMap.get s.in_hand c.slot ≡ Some c.op)
+  pub stopped : (life : ℕ) (before after : Durable) → slice_get servers c.server ≡ Some (Stopped life before after) → c.life < life
 
 -- a host submits whole sectors, or a mark
 abbrev pub IsSubmitted : Op → Type 0

@@ -1,9 +1,9 @@
 //! What a group keeps in every history beside its safety.
-ghost use Rattle.std.specs.Prelude.{◌≡◌, ℕ, ◌<◌, ◌≤◌, Some, length, slice_get, true};
+ghost use Rattle.std.specs.Prelude.{◌≡◌, ℕ, ◌<◌, ◌≤◌, List, [], ◌∷◌, ◌++◌, Some, length, slice_get, true};
+ghost use Rattle.pf_entry.specs.Lists.{Every};
 ghost use Rattle.std.specs.FinMap as finite;
 ghost use Rattle.pf_entry.specs.Maps.{Numbers};
 ghost use Rattle.pf_entry.specs.Sets as set;
-ghost use Rattle.std.specs.Prelude.{List};
 ghost use Rattle.pf_entry.specs.Ops.{Sector};
 ghost use Rattle.pf_entry.specs.Applying.{is_applied};
 ghost use Rattle.pf_entry.specs.Records.{Durable};
@@ -13,10 +13,11 @@ ghost use Rattle.pf_entry.specs.declared.entries.Entry.{Entry};
 ghost use Rattle.pf_entry.specs.declared.entries.VoteLog.{VoteLog};
 ghost use Rattle.pf_entry.specs.declared.packets.Body.TheVariants.{Vote, Ack, Commit, Image};
 ghost use Rattle.pf_protocol.specs.Servers.{Setup, Server, has_applied};
-ghost use Rattle.pf_protocol.specs.Groups.{Sent};
-ghost use Rattle.pf_protocol.specs.Histories.{History, replay, Runs, HasAccepted, IsProposal, HasSource, WasHeld};
+ghost use Rattle.pf_protocol.specs.Groups.{Sent, ending, happens};
+ghost use Rattle.pf_protocol.specs.declared.events.Happening.{Happening};
+ghost use Rattle.pf_protocol.specs.Histories.{History, IsPrefix, replay, Runs, HasAccepted, IsProposal, HasSource, WasHeld};
 ghost use Rattle.pf_protocol.specs.Kept.{MayHold, IsKeptIn, IsMarked, IsCovered, IsInHand, IsChosenIn, HasAcked};
-ghost use Rattle.pf_protocol.specs.Answers.{IsLegal};
+ghost use Rattle.pf_protocol.specs.Answers.{IsLegalNext, IsLegal, IsOpen, claims_of};
 ghost use Rattle.pf_protocol.specs.Fitting.{GroupFits};
 
 /// Each entry that a server ever held was made by a step of the leader of its term, and its op comes from a new proposal
@@ -70,4 +71,17 @@ pub fn legal_histories_fit()
     ensures fits { (setup : Setup) (history : History) → IsLegal setup history → GroupFits setup (length history) (replay setup history) }
     ensures packets { (setup : Setup) (history : History) → IsLegal setup history → (k : ℕ) (sent : Sent) → slice_get (replay setup history).packets k ≡ Some sent → IsCanonicalPacket sent.packet }
     ensures starts { (setup : Setup) (history : History) → IsLegal setup history → (i : ℕ) (s : Server) → Runs (replay setup history) i s → finite.len s.durable.starts ≤ 65 }
+{}
+
+/// In a legal history the job of each claim that was neither finished nor given back is in hand at its server, with the
+/// op that was answered, as long as that server's life lasts. A claim is never of a life that has not begun.
+pub fn open_claims_are_in_hand()
+    ensures { (setup : Setup) (history : History) → IsLegal setup history → Every (IsOpen (replay setup history).servers) (claims_of [] history) }
+{}
+
+/// A history goes on by one event after another, and each part of a legal history from its beginning is one.
+pub fn histories_go_on()
+    ensures replay { (setup : Setup) (history : History) (h : Happening) → replay setup (history ++ h ∷ []) ≡ happens setup (replay setup history) h.event (ending h.answer) }
+    ensures legal { (setup : Setup) (history : History) (h : Happening) → IsLegal setup history → IsLegalNext setup (replay setup history) (claims_of [] history) h → IsLegal setup (history ++ h ∷ []) }
+    ensures before { (setup : Setup) (earlier history : History) → IsPrefix earlier history → IsLegal setup history → IsLegal setup earlier }
 {}
