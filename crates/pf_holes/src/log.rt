@@ -19,6 +19,7 @@ use std::marker::Model;
 #[derive(Drop)]
 pub struct HoleLog {
     base: Slot,
+    /// No slot above this one is held.
     last: Slot,
     entries: Ring<Entry>,
     marks: Ring<()>,

@@ -1,5 +1,5 @@
 //! Sets of slots.
-ghost use Rattle.std.specs.Prelude.{ℕ, IfOk, ◌-◌, ◌≡◌, ◌+◌, ◌<◌, ◌≤◌, ◌^◌, All, OnOk, false, insert, nat_eq, nat_le, nat_lt, true, ◌&&◌};
+ghost use Rattle.std.specs.Prelude.{ℕ, IfOk, ◌-◌, ◌≡◌, ◌+◌, ◌<◌, ◌≤◌, ◌^◌, All, OnErr, OnOk, false, insert, nat_eq, nat_le, nat_lt, true, ◌&&◌};
 ghost use Rattle.std.specs.List.{filter, list_any, range_with_len};
 ghost use Rattle.std.specs.VecDeque.{deque_capacity, deque_len};
 ghost use Rattle.pf_entry.specs.Sets as set;
@@ -17,12 +17,14 @@ use std::marker::Model;
 /// takes before it wants memory.
 #[derive(Drop)]
 pub struct SlotSet {
+    /// Each slot from 1 to this one is in the set.
     upto: Slot,
+    /// The others, in ascending order.
     singles: VecDeque<Slot>,
 }
 
 impl Model for SlotSet {
-    ghost use Rattle.std.specs.Prelude.{ℕ, IfOk, ◌-◌, ◌-◌};
+    ghost use Rattle.std.specs.Prelude.{◌-◌};
     ghost use Rattle.std.specs.VecDeque.{deque_len, deque_capacity};
     ghost use Rattle.pf_holes.specs.SlotSets.{SlotTable, table_code, slots_of, AreSingle};
 
@@ -92,9 +94,11 @@ impl SlotSet {
         Ok(Slots::new(slots))
     }
 
-    /// Takes memory for `more` slots. The set is the same afterwards, whatever it answers.
+    /// Takes memory for `more` slots, where there is not room for them. The set is the same afterwards, whatever it
+    /// answers.
     pub fn reserve(&mut self, more: usize) -> Result<(), NoMemory>
         ensures room { OnOk result (more ≤ self.new.spare) }
+        ensures short { OnErr result (self.old.spare < more) }
         ensures same { self.new.slots ≡ self.old.slots }
         ensures kept { self.old.spare ≤ self.new.spare }
     {
