@@ -19,4 +19,6 @@ pub mod Counting
 pub mod Facts
 pub mod Naming
 pub mod Claiming
+pub mod Stepping
+pub mod Snapshots
 pub mod Worked

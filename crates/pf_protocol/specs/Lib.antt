@@ -9,5 +9,6 @@ pub mod Groups
 pub mod Histories
 pub mod Safety
 pub mod Kept
+pub mod Snapshots
 pub mod Answers
 pub mod Fitting

@@ -1,5 +1,7 @@
 //! Laws of every history of a group: what was chosen stays, and the group is safe.
-ghost use Rattle.std.specs.Prelude.{◌≡◌, ℕ, ◌<◌, ◌≤◌, Some, slice_get};
+ghost use Rattle.std.specs.Prelude.{◌≡◌, ℕ, ◌<◌, ◌≤◌, List, Some, slice_get};
+ghost use Rattle.std.specs.FinMap as finite;
+ghost use Rattle.pf_entry.specs.Ops.{Sector};
 ghost use Rattle.pf_entry.specs.declared.ops.Op.{Op};
 ghost use Rattle.pf_entry.specs.declared.entries.Entry.{Entry};
 ghost use Rattle.pf_entry.specs.declared.entries.Named.{Named};
@@ -10,6 +12,7 @@ ghost use Rattle.pf_protocol.specs.Servers.{Setup, Server, Leader};
 ghost use Rattle.pf_protocol.specs.Histories.{History, IsPrefix, replay, Runs, HasAccepted, IsProposal, IsChosen, IsTakenFrom};
 ghost use Rattle.pf_protocol.specs.Kept.{MayHold, Leads, Respects, KeepsName, IsChosenIn};
 ghost use Rattle.pf_protocol.specs.Safety.{OneLeader, IsSafe};
+ghost use Rattle.pf_protocol.specs.Snapshots.{IsSnapshot};
 
 /// In each term at most one server ever merges or serves.
 pub fn one_leader_to_a_term()
@@ -48,4 +51,11 @@ pub fn merged_slots_were_chosen()
 /// is kept by each later leader.
 pub fn every_history_is_safe()
     ensures { (setup : Setup) (history : History) → IsSafe setup history }
+{}
+
+/// A server's snapshot of a mark holds what all slots up to the mark write, in the order of the slots, when it is taken and
+/// ever after: also where an op is chosen only later in a slot that the mark passed. The mark was chosen. (The sectors of one
+/// point of the log, as in PolarFS; that a mark may pass a slot rests on the ranges of the look-behind list.)
+pub fn snapshots_hold_all_slots()
+    ensures { (setup : Setup) (history earlier : History) (i : ℕ) (s : Server) (mark : ℕ) (sectors : List Sector) → IsPrefix earlier history → Runs (replay setup earlier) i s → finite.get s.snapshots mark ≡ Some sectors → IsSnapshot setup history mark sectors }
 {}

@@ -1,0 +1,434 @@
+-- A snapshot is what all slots up to its mark leave.
+use Rattle.std.proofs.Common.{◌≡◌, ℕ, zero, suc, ◌+◌, ◌<◌, ◌≤◌, ◌≢◌, ◌⊎◌, inl, inr, Bool, true, false, cond, not, ◌&&◌, ◌||◌, ◌==◌, if◌then◌else◌, List, [], ◌∷◌, ◌++◌, Option, Some, None, nat_lt, nat_le, slice_get, arith, refl, sym, ap, subst, ◌∙◌, le_refl}
+use Rattle.std.specs.FinMap
+use Rattle.std.specs.FinMap.{get-empty}
+use Rattle.std.specs.Ordering.{nat_cmp, eq_by_cmp}
+use Rattle.std.specs.List.{list_any}
+use Rattle.std.proofs.lemmas.Bool.Decides.{nat_tests}
+use Rattle.std.proofs.lemmas.Bool.{cases_Bool, cases_lt, cases_eq, cond-true, cond-false, eqb-true, false≢true, true≢false, or_cases, leb-true}
+use Rattle.std.proofs.lemmas.Option.{same_Some, none-some}
+use Rattle.std.proofs.lemmas.List.{append_assoc, append-nil}
+use Rattle.pf_base.specs.Span.{Span, is_in, whole, overlaps}
+use Rattle.pf_base.proofs.Spans.{shares}
+use Rattle.pf_entry.specs.Maps.{Map, Numbers}
+use Rattle.pf_entry.specs.Sets
+use Rattle.pf_entry.proofs.Sets.{contains-items}
+use Rattle.pf_entry.proofs.Maps.{insert_cases, remove_cases}
+use Rattle.pf_entry.proofs.Folding.{fold_same, writes_apart}
+use Rattle.pf_entry.specs.Ops.{Sector, range_of, zero_sector, writes}
+use Rattle.pf_entry.specs.Applying.{passes, is_applied, after_op, fold_to}
+use Rattle.pf_entry.specs.declared.ops.Op.{Op}
+use Rattle.pf_entry.specs.declared.ops.Op.TheVariants.{Write, Noop, Mark}
+use Rattle.pf_entry.specs.declared.entries.Entry.{Entry}
+use Rattle.pf_entry.specs.declared.entries.VoteLog.{VoteLog}
+use Rattle.pf_entry.specs.declared.packets.Body.{Body}
+use Rattle.pf_entry.specs.declared.packets.Body.TheVariants.{RequestVote, Vote, Accept, Ack, Nack, Commit, Probe, ProbeOk, Image}
+use Rattle.pf_entry.specs.Records.{Durable, holds}
+use Rattle.pf_protocol.proofs.Keeping.{by_test}
+use Rattle.pf_protocol.specs.declared.answers.Answer.{Answer}
+use Rattle.pf_protocol.specs.declared.answers.Answer.TheVariants.{Refused}
+use Rattle.pf_protocol.specs.declared.answers.Refusal.TheVariants.{Stale}
+use Rattle.pf_protocol.specs.declared.events.Event.{Event}
+use Rattle.pf_protocol.specs.declared.events.Happening.{Happening}
+use Rattle.pf_protocol.specs.Servers.{Setup, Role, Follower, Candidate, Merging, Serving, Server, Running, Unformatted, upto, has_applied}
+use Rattle.pf_protocol.specs.Outcomes.{Outcome, sends, refused, raise_term}
+use Rattle.pf_protocol.specs.Leading.{submitted, on_submit, on_fetch, on_elect, on_resend, merged, on_vote, marked, mark, on_ack, on_probe_ok, op_at}
+use Rattle.pf_protocol.specs.Following.{meets_term, on_request_vote, accepted, on_accept, on_nack, on_commit, on_probe, installed, on_image}
+use Rattle.pf_protocol.specs.Rows.{on_message, on_packet, settled}
+use Rattle.pf_protocol.specs.Saving.{restarted, is_short_of, trimmed, on_checkpoint, claimed, without_least, four_greatest, snapshots_after, applied_op, on_finish, on_give_back}
+use Rattle.pf_protocol.specs.Groups.{Group, ending, happens, opening, unless_failed, first_leader, opening_disk}
+use Rattle.pf_protocol.specs.Histories.{History, IsPrefix, run, replay, Runs, IsChosen}
+use Rattle.pf_protocol.specs.Kept.{IsPassed, IsCovered, IsInHand}
+use Rattle.pf_protocol.specs.Snapshots.{AreChosen, every_slot, IsSnapshot}
+use Rattle.pf_protocol.proofs.Making.{longer, run_longer}
+use Rattle.pf_protocol.proofs.Origins.{prefix_of, accepted_after, proposal_after}
+use Rattle.pf_protocol.proofs.Serving.{passed_apart}
+use Rattle.pf_protocol.proofs.Serving.{IsPassed as PassedIn}
+use Rattle.pf_protocol.proofs.Law.{IsChosenBy}
+use Rattle.pf_protocol.proofs.Histories.{told, chosen_at_end}
+use Rattle.pf_protocol.proofs.Facts.{chosen_by, servers_covered, jobs_are_apart}
+use Rattle.pf_protocol.proofs.Stepping.{IsRule, BySubmit, ByFetch, ByPacket, ByElect, ByResend, ByFinish, ByGiveBack, ByCheckpoint, Steps, Came, Stays, Stepped, Begins, Claims, Goes, goes}
+
+-- a snapshot after a step was there before, or is of a mark in hand and has the sectors as they were
+abbrev Shows : Server → Server → Type 0
+Shows s z = (mark : ℕ) (sectors : List Sector) → FinMap.get z.snapshots mark ≡ Some sectors → (FinMap.get s.snapshots mark ≡ Some sectors) ⊎ ((FinMap.get s.in_hand mark ≡ Some Mark) × (s.sectors ≡ sectors))
+
+either_shows : (s : Server) (c : Bool) (x y : Outcome) → Shows s x.server → Shows s y.server → Shows s (if c then x else y).server
+either_shows s true x y f g = f
+either_shows s false x y f g = g
+
+-- the greatest are among those that were there
+fewer : {X : Type 0} → (snapshots : Map X) (slots : List ℕ) (mark : ℕ) (x : X) → FinMap.get (without_least snapshots slots) mark ≡ Some x → FinMap.get snapshots mark ≡ Some x
+fewer snapshots [] mark x at = at
+fewer snapshots (slot ∷ slots) mark x at = (remove_cases snapshots slot mark x at).1
+
+greatest : {X : Type 0} → (snapshots : Map X) (mark : ℕ) (x : X) → FinMap.get (four_greatest snapshots) mark ≡ Some x → FinMap.get snapshots mark ≡ Some x
+greatest snapshots mark x =
+    by_test (nat_lt 4 (FinMap.len snapshots)) (λ c. FinMap.get (if c then without_least snapshots (FinMap.keys snapshots) else snapshots) mark ≡ Some x → FinMap.get snapshots mark ≡ Some x)
+    (λ _ at. fewer snapshots (FinMap.keys snapshots) mark x at) (λ _ at. at)
+
+module _ (s : Server) where
+  kept : Shows s s
+  kept mark sectors at = inl at
+
+  met : (term : ℕ) → Shows s (meets_term s term)
+  met term = by_test (nat_lt s.durable.term term) (λ c. Shows s (if c then raise_term s term else s)) (λ _ mark sectors at. inl at) (λ _. kept)
+
+  submit_shows : (setup : Setup) (op : Op) (role : Role) → Shows s (on_submit setup s op role).server
+  unfolding on_submit submitted
+  submit_shows setup op Follower = kept
+  submit_shows setup op (Candidate own) = kept
+  submit_shows setup op (Merging l) = kept
+  submit_shows setup op (Serving l) = either_shows s (nat_lt (s.durable.base + setup.window) l.next) _ _ kept (λ mark sectors at. inl at)
+
+  fetch_shows : (range : Span) (number : ℕ) (role : Role) → Shows s (on_fetch s range number role).server
+  unfolding on_fetch
+  fetch_shows range number Follower = kept
+  fetch_shows range number (Candidate own) = kept
+  fetch_shows range number (Merging l) = kept
+  fetch_shows range number (Serving l) = λ mark sectors at. inl at
+
+  elect_shows : Shows s (on_elect s).server
+  unfolding on_elect
+  elect_shows = λ mark sectors at. inl at
+
+  resend_shows : (role : Role) → Shows s (on_resend s role).server
+  unfolding on_resend
+  resend_shows Follower = kept
+  resend_shows (Candidate own) = kept
+  resend_shows (Merging l) = kept
+  resend_shows (Serving l) = kept
+
+  checkpoint_shows : Shows s (on_checkpoint s).server
+  unfolding on_checkpoint trimmed
+  checkpoint_shows = either_shows s (upto s == s.durable.base || is_short_of s.role (upto s)) _ _ kept (λ mark sectors at. inl at)
+
+  vote_shows : (term : ℕ) (vote : VoteLog) (role : Role) → Shows s (on_vote s term vote role).server
+  unfolding on_vote merged
+  vote_shows term vote Follower = kept
+  vote_shows term vote (Candidate own) = either_shows s (term == s.durable.term && nat_le vote.base s.durable.base) _ _ (λ mark sectors at. inl at) kept
+  vote_shows term vote (Merging l) = kept
+  vote_shows term vote (Serving l) = kept
+
+  ack_shows : (from term slot upto_there : ℕ) (role : Role) → Shows s (on_ack s from term slot upto_there role).server
+  unfolding on_ack marked
+  ack_shows from term slot upto_there Follower = kept
+  ack_shows from term slot upto_there (Candidate own) = kept
+  ack_shows from term slot upto_there (Merging l) = either_shows s (term == s.durable.term) _ _ (λ mark sectors at. inl at) kept
+  ack_shows from term slot upto_there (Serving l) = either_shows s (term == s.durable.term) _ _ (λ mark sectors at. inl at) kept
+
+  probe_ok_shows : (from term number upto_there : ℕ) (role : Role) → Shows s (on_probe_ok s from term number upto_there role).server
+  unfolding on_probe_ok
+  probe_ok_shows from term number upto_there Follower = kept
+  probe_ok_shows from term number upto_there (Candidate own) = kept
+  probe_ok_shows from term number upto_there (Merging l) = kept
+  probe_ok_shows from term number upto_there (Serving l) = either_shows s (term == s.durable.term) _ _ (λ mark sectors at. inl at) kept
+
+  accept_shows : (setup : Setup) (from : ℕ) (e : Entry) → Shows s (on_accept setup s from e).server
+  unfolding on_accept accepted
+  accept_shows setup from e =
+      either_shows s (nat_lt e.term s.durable.term) _ _ kept
+      (either_shows s (nat_le e.slot s.durable.base) _ _ (met e.term)
+      (either_shows s (nat_lt (s.durable.base + setup.window) e.slot) _ _ kept
+      (either_shows s (holds s.durable e.slot e.term) _ _ kept (λ mark sectors at. inl at))))
+
+  message_shows : (setup : Setup) (from term : ℕ) (body : Body) → Shows s (on_message setup s from term body).server
+  unfolding on_message on_request_vote on_nack on_commit mark on_probe on_image installed
+  message_shows setup from term (RequestVote base) = either_shows s (nat_le term s.durable.term || nat_lt base s.durable.base) _ _ kept (λ mark sectors at. inl at)
+  message_shows setup from term (Vote vote) = vote_shows term vote s.role
+  message_shows setup from term (Accept e) = accept_shows setup from e
+  message_shows setup from term (Ack slot upto_there) = ack_shows from term slot upto_there s.role
+  message_shows setup from term Nack = met term
+  message_shows setup from term (Commit slot) = either_shows s (holds s.durable slot term) _ _ (λ mark sectors at. inl at) kept
+  message_shows setup from term (Probe number) = either_shows s (nat_lt term s.durable.term) _ _ kept kept
+  message_shows setup from term (ProbeOk number upto_there) = probe_ok_shows from term number upto_there s.role
+  message_shows setup from term (Image base applied sectors) =
+      either_shows s (nat_lt term s.durable.term) _ _ kept (either_shows s (nat_le base (upto s)) _ _ (met term) (λ mark shown at. absurd (none-some shown (sym (get-empty nat_cmp mark) ∙ at))))
+
+  finish_shows : (life slot : ℕ) → Shows s (on_finish s life slot).server
+  unfolding on_finish applied_op snapshots_after
+  finish_shows life slot = either_shows s (life == s.life) _ _ (by_job (FinMap.get s.in_hand slot) refl) kept
+    where
+      by_job : (o : Option Op) → FinMap.get s.in_hand slot ≡ o → Shows s (applied_op s slot o)
+      by_job None is = kept
+      by_job (Some Noop) is = kept
+      by_job (Some (Write range payload)) is = kept
+      by_job (Some Mark) is = λ m sectors at.
+          elim (insert_cases s.snapshots slot s.sectors m sectors (greatest (FinMap.insert s.snapshots slot s.sectors) m sectors at)) [
+            | inl new ↦ inr (ap (FinMap.get s.in_hand) new.0 ∙ is, new.1)
+            | inr old ↦ inl old.1
+          ]
+
+  give_back_shows : (life slot : ℕ) → Shows s (on_give_back s life slot).server
+  unfolding on_give_back
+  give_back_shows life slot = either_shows s (life == s.life) _ _ (λ mark sectors at. inl at) kept
+
+  rule_shows : (setup : Setup) (g : Group) (i : ℕ) (event : Event) (o : Outcome) → IsRule setup g i s event o → Shows s o.server
+  unfolding on_packet
+  rule_shows setup g i _ _ (BySubmit op) = submit_shows setup op s.role
+  rule_shows setup g i _ _ (ByFetch range) = fetch_shows range g.reads s.role
+  rule_shows setup g i _ _ (ByPacket k p at to) = message_shows setup p.packet.from p.packet.term p.packet.body
+  rule_shows setup g i _ _ ByElect = elect_shows
+  rule_shows setup g i _ _ ByResend = resend_shows s.role
+  rule_shows setup g i _ _ (ByFinish life slot) = finish_shows life slot
+  rule_shows setup g i _ _ (ByGiveBack life slot) = give_back_shows life slot
+  rule_shows setup g i _ _ ByCheckpoint = checkpoint_shows
+
+-- at an earlier moment a server had the mark in hand, and these sectors
+record WasTaken (setup : Setup) (history : History) (mark : ℕ) (sectors : List Sector) : Type 0 where
+  earlier : History
+  is_earlier : IsPrefix earlier history
+  i : ℕ
+  server : Server
+  runs : Runs (replay setup earlier) i server
+  job : FinMap.get server.in_hand mark ≡ Some Mark
+  is : server.sectors ≡ sectors
+
+taken_after : (setup : Setup) (earlier history : History) → IsPrefix earlier history → (mark : ℕ) (sectors : List Sector) → WasTaken setup earlier mark sectors → WasTaken setup history mark sectors
+taken_after setup earlier history p mark sectors w = record { earlier = w.earlier; is_earlier = prefix_of w.earlier earlier history w.is_earlier p; i = w.i; server = w.server; runs = w.runs; job = w.job; is = w.is }
+
+-- each snapshot of a running server was taken so
+abbrev AllTaken : Setup → History → Type 0
+AllTaken setup history = (i : ℕ) (s : Server) (mark : ℕ) (sectors : List Sector) → Runs (replay setup history) i s → FinMap.get s.snapshots mark ≡ Some sectors → WasTaken setup history mark sectors
+
+pub whole_prefix : (history : History) → IsPrefix history history
+whole_prefix history = record { rest = []; whole = append-nil history }
+
+next_prefix : (history : History) (h : Happening) → IsPrefix history (history ++ h ∷ [])
+next_prefix history h = record { rest = h ∷ []; whole = refl }
+
+no_snapshots : (i : ℕ) (d : Durable) (life mark : ℕ) (sectors : List Sector) → FinMap.get (restarted i life d).snapshots mark ≡ Some sectors → ⊥
+unfolding restarted
+no_snapshots i d life mark sectors at = none-some sectors (sym (get-empty nat_cmp mark) ∙ at)
+
+claimed_snapshots : (s : Server) (slot : ℕ) → (claimed s slot).snapshots ≡ s.snapshots
+unfolding claimed
+claimed_snapshots s slot = refl
+
+settled_snapshots : (s : Server) → (settled s).snapshots ≡ s.snapshots
+unfolding settled
+settled_snapshots s = refl
+
+module _ (setup : Setup) (history : History) (h : Happening) (all : AllTaken setup history) where
+  came_taken : (i : ℕ) (z : Server) (mark : ℕ) (sectors : List Sector) → Came setup (replay setup history) h.event (happens setup (replay setup history) h.event (ending h.answer)) i z → FinMap.get z.snapshots mark ≡ Some sectors → WasTaken setup (history ++ h ∷ []) mark sectors
+  came_taken i _ mark sectors (Stays s runs) at = taken_after setup history (history ++ h ∷ []) (next_prefix history h) mark sectors (all i s mark sectors runs at)
+  came_taken i _ mark sectors (Stepped s o step) at =
+      elim (rule_shows s setup (replay setup history) i h.event o step.rule mark sectors (ap (λ m. FinMap.get m mark) (sym (settled_snapshots o.server)) ∙ at)) [
+        | inl old ↦ taken_after setup history (history ++ h ∷ []) (next_prefix history h) mark sectors (all i s mark sectors step.runs old)
+        | inr new ↦ record { earlier = history; is_earlier = next_prefix history h; i = i; server = s; runs = step.runs; job = new.0; is = new.1 }
+      ]
+  came_taken i _ mark sectors (Begins life d) at = absurd (no_snapshots i d life mark sectors at)
+  came_taken i _ mark sectors (Claims s slot runs) at = taken_after setup history (history ++ h ∷ []) (next_prefix history h) mark sectors (all i s mark sectors runs (ap (λ m. FinMap.get m mark) (sym (claimed_snapshots s slot)) ∙ at))
+
+  next_taken : AllTaken setup (history ++ h ∷ [])
+  next_taken i z mark sectors runs at =
+      came_taken i z mark sectors ((goes setup (replay setup history) h.event (ending h.answer)).servers i z (ap (λ g. slice_get g.servers i) (sym (run_longer setup (opening setup) history h)) ∙ runs)) at
+
+-- a property of histories that begins, and goes on by each event
+pub by_events : (P : History → Type 0) → P [] → ((history : History) (h : Happening) → P history → P (history ++ h ∷ [])) → (history : History) → P history
+by_events P start next history = go [] history start
+  where
+    go : (done rest : History) → P done → P (done ++ rest)
+    go done [] is = subst P (sym (append-nil done)) is
+    go done (h ∷ hs) is = subst P (append_assoc done (h ∷ []) hs) (go (done ++ h ∷ []) hs (next done h is))
+
+-- the servers that run at the beginning
+opened : (setup : Setup) (P : Server → Type 0) → P (first_leader setup) → ((i : ℕ) → P (restarted i 0 (opening_disk setup))) → (i : ℕ) (s : Server) → Runs (opening setup) i s → P s
+unfolding opening
+opened setup P first others i s runs = at_place i runs
+  where
+    of_running : (x y : Server) → Some (Running x) ≡ Some (Running y) → P x → P y
+    of_running x y e is = subst P (same_server (same_Some (Running x) (Running y) e)) is
+      where
+        same_server : Running x ≡ Running y → x ≡ y
+        same_server e = cc
+
+    formatted : (k : ℕ) (x : Server) → P x → Some (unless_failed setup k x) ≡ Some (Running s) → P s
+    formatted k x is = by_test (list_any (λ j. j == k) setup.failed) (λ c. Some (if c then Unformatted else Running x) ≡ Some (Running s) → P s) (λ _ e. absurd (grind (arith, e))) (λ _ e. of_running x s e is)
+
+    at_place : (i : ℕ) → Runs (opening setup) i s → P s
+    at_place zero at = formatted 0 (first_leader setup) first at
+    at_place (suc zero) at = formatted 1 (restarted 1 0 (opening_disk setup)) (others 1) at
+    at_place (suc (suc zero)) at = formatted 2 (restarted 2 0 (opening_disk setup)) (others 2) at
+    at_place (suc (suc (suc i))) at = absurd (none-some (Running s) at)
+
+first_snapshots : (setup : Setup) → (first_leader setup).snapshots ≡ FinMap.empty
+unfolding first_leader restarted
+first_snapshots setup = refl
+
+none_taken : (setup : Setup) → AllTaken setup []
+none_taken setup i s mark sectors runs at =
+    absurd (opened setup (λ x. FinMap.get x.snapshots mark ≡ Some sectors → ⊥)
+    (λ has. none-some sectors (sym (get-empty nat_cmp mark) ∙ ap (λ m. FinMap.get m mark) (sym (first_snapshots setup)) ∙ has))
+    (λ k has. no_snapshots k (opening_disk setup) 0 mark sectors has) i s runs at)
+
+all_taken : (setup : Setup) (history : History) → AllTaken setup history
+all_taken setup = by_events (AllTaken setup) (none_taken setup) (next_taken setup)
+
+-- a number that no applied slot is above
+list_bound : (xs : List ℕ) → (n : ℕ) × ((slot : ℕ) → list_any (eq_by_cmp nat_cmp slot) xs ≡ true → slot ≤ n)
+list_bound [] = (0, λ slot is. absurd (false≢true is))
+list_bound (x ∷ xs) =
+    let rest = list_bound xs in
+    (rest.0 + x, λ slot is. elim (or_cases (eq_by_cmp nat_cmp slot x) (list_any (eq_by_cmp nat_cmp slot) xs) is) [
+      | inl here ↦ omega (arith, tied slot x here)
+      | inr later ↦ omega (arith, rest.1 slot later)
+    ])
+  where
+    tied : (q k : ℕ) → eq_by_cmp nat_cmp q k ≡ true → q ≡ k
+    tied q k = grind (arith, nat_tests)
+
+pub applied_bound : (base : ℕ) (applied : Numbers) → (n : ℕ) × ((slot : ℕ) → is_applied base applied slot ≡ true → slot ≤ n)
+applied_bound base applied =
+    let set = list_bound (Sets.items applied) in
+    (set.0 + base, λ slot is. elim (or_cases (nat_le slot base) (Sets.contains applied slot) is) [
+      | inl low ↦ omega (arith, leb-true slot base low)
+      | inr has ↦ omega (arith, set.1 slot (sym (contains-items applied slot) ∙ has))
+    ])
+
+-- an op that writes nothing
+abbrev Quiet : (ℕ → Option Op) → (x slot : ℕ) → Type 0
+Quiet ops x slot = (op : Op) → ops slot ≡ Some op → writes op x ≡ false
+
+stays_quiet : (o : Option Op) (x : ℕ) (old : Sector) → ((op : Op) → o ≡ Some op → writes op x ≡ false) → after_op o x old ≡ old
+stays_quiet None x old quiet = refl
+stays_quiet (Some op) x old quiet = cond-false _ _ _ (quiet op refl)
+
+quiet_or_not : (c : Bool) (o : Option Op) (x : ℕ) (old : Sector) → ((op : Op) → o ≡ Some op → writes op x ≡ false) → cond c (after_op o x old) old ≡ old
+quiet_or_not true o x old quiet = stays_quiet o x old quiet
+quiet_or_not false o x old quiet = refl
+
+-- slots that write nothing may be left out
+module _ (ops : ℕ → Option Op) (done more : ℕ → Bool) (x : ℕ) (zeros : Sector) where
+  at_last : (m n : ℕ) → n ≡ m → fold_to ops done x zeros n ≡ fold_to ops done x zeros m
+  at_last m n same = ap (fold_to ops done x zeros) same
+
+  fold_above : (m : ℕ) → ((a : ℕ) → m < a → done a ≡ true → Quiet ops x a) → (n : ℕ) → m ≤ n → fold_to ops done x zeros n ≡ fold_to ops done x zeros m
+  fold_above m quiet zero le = at_last m zero (omega (arith, le))
+  fold_above m quiet (suc n) le =
+      elim (cases_lt m (suc n)) [
+        | inl low ↦ above (fold_above m quiet n (omega (arith, low))) (cases_Bool (done (suc n))) low
+        | inr high ↦ at_last m (suc n) (omega (arith, high, le))
+      ]
+    where
+      above : fold_to ops done x zeros n ≡ fold_to ops done x zeros m → (done (suc n) ≡ true) ⊎ (done (suc n) ≡ false) → m < suc n → fold_to ops done x zeros (suc n) ≡ fold_to ops done x zeros m
+      above before does low = elim does [
+        | inl did ↦ cond-true _ _ _ did ∙ stays_quiet (ops (suc n)) x (fold_to ops done x zeros n) (quiet (suc n) low did) ∙ before
+        | inr not_did ↦ cond-false _ _ _ not_did ∙ before
+      ]
+
+  fold_quiet : (n : ℕ) → ((p : ℕ) → 0 < p → p ≤ n → (done p ≡ more p) ⊎ Quiet ops x p) → fold_to ops done x zeros n ≡ fold_to ops more x zeros n
+  fold_quiet zero same = refl
+  fold_quiet (suc n) same =
+      let before = fold_quiet n (λ p above low. same p above (omega (arith, low))) in
+      elim (same (suc n) (omega arith) (le_refl _)) [
+        | inl alike ↦ ap (λ c. cond c (after_op (ops (suc n)) x (fold_to ops done x zeros n)) (fold_to ops done x zeros n)) alike ∙ ap (λ old. cond (more (suc n)) (after_op (ops (suc n)) x old) old) before
+        | inr quiet ↦ quiet_or_not (done (suc n)) (ops (suc n)) x (fold_to ops done x zeros n) quiet ∙ before ∙ sym (quiet_or_not (more (suc n)) (ops (suc n)) x (fold_to ops more x zeros n) quiet)
+      ]
+
+-- an op that shares no sector with a mark
+quiet_by_mark : (op : Op) (x : ℕ) → overlaps (range_of op) (range_of Mark) ≡ false → writes op x ≡ false
+unfolding range_of writes
+quiet_by_mark Noop x apart = refl
+quiet_by_mark Mark x apart = refl
+quiet_by_mark (Write range payload) x apart =
+    elim (cases_Bool (is_in range x)) [
+      | inl inside ↦ absurd (false≢true (sym apart ∙ (shares range whole).1 (x, inside, refl)))
+      | inr outside ↦ outside
+    ]
+
+mark_quiet : (x : ℕ) → writes Mark x ≡ false
+unfolding writes
+mark_quiet x = refl
+
+turned : (a b : Span) → overlaps a b ≡ false → overlaps b a ≡ false
+turned a b is = grind (arith, nat_tests, is)
+
+pub chosen_after : (setup : Setup) (earlier history : History) → IsPrefix earlier history → (slot term : ℕ) (op : Op) → IsChosen setup earlier slot term op → IsChosen setup history slot term op
+chosen_after setup earlier history p slot term op c = record {
+  entry = c.entry;
+  proposed = proposal_after setup earlier history p c.entry c.proposed;
+  in_slot = c.in_slot;
+  in_term = c.in_term;
+  has_op = c.has_op;
+  one = c.one;
+  two = c.two;
+  apart = c.apart;
+  one_accepted = accepted_after setup earlier history p c.one c.entry c.one_accepted;
+  two_accepted = accepted_after setup earlier history p c.two c.entry c.two_accepted;
+}
+
+-- what is chosen in a slot that could be passed shares no sector with the op that passed it, then and later
+passed_apart_later : (setup : Setup) (earlier history : History) → IsPrefix earlier history → (a p t u : ℕ) (op other : Op) → IsPassed setup earlier a p → IsChosen setup history a t op → IsChosen setup history p u other → overlaps (range_of other) (range_of op) ≡ false
+unfolding chosen_after
+passed_apart_later setup earlier history q a p t u op other passed c d =
+    let z = told setup history in
+    let there = chosen_after setup earlier history q a passed.term passed.op passed.chosen in
+    let is : PassedIn (told setup history).ballots a p = record {
+      entry = passed.chosen.entry;
+      term = passed.term;
+      chosen = chosen_at_end setup history a passed.term passed.op there;
+      lets = subst (λ o. passes passed.chosen.entry.look p (range_of o) ≡ true) (sym passed.chosen.has_op) passed.lets;
+    } in
+    passed_apart z.ballots z.sound z.served a p t u op other is (chosen_by setup history a t op c) (chosen_by setup history p u other d)
+
+module _ (setup : Setup) (history : History) (m : ℕ) (sectors : List Sector) (w : WasTaken setup history m sectors) where
+  cover : IsCovered setup w.earlier w.server.durable.term (has_applied w.server) w.server.sectors
+  cover = servers_covered setup w.earlier w.i w.server w.runs
+
+  in_hand : IsInHand setup w.earlier w.server m Mark
+  in_hand = jobs_are_apart setup w.earlier w.i w.server m Mark w.runs w.job
+
+  mark_chosen : IsChosen setup history m in_hand.chosen.0 Mark
+  mark_chosen = chosen_after setup w.earlier history w.is_earlier m in_hand.chosen.0 Mark in_hand.chosen.2
+
+  module _ (ops : ℕ → Option Op) (are : AreChosen setup history ops) (x : ℕ) where
+    quiet_at : Quiet ops x m
+    quiet_at op is = subst (λ o. writes o x ≡ false) (same_Some Mark op (sym (are.chosen m in_hand.chosen.0 Mark mark_chosen) ∙ is)) (mark_quiet x)
+
+    quiet_below : (p : ℕ) → 0 < p → p < m → has_applied w.server p ≡ false → Quiet ops x p
+    quiet_below p above low isnt op is =
+        let c = are.only p op is in
+        quiet_by_mark op x (passed_apart_later setup w.earlier history w.is_earlier m p in_hand.chosen.0 c.0 Mark op (in_hand.passed p above low isnt) mark_chosen c.1)
+
+    above_mark : 0 < m → (a : ℕ) → m < a → has_applied w.server a ≡ true → Quiet ops x a
+    above_mark positive a above did op is =
+        let c = are.only a op is in
+        quiet_by_mark op x (turned (range_of Mark) (range_of op) (passed_apart_later setup w.earlier history w.is_earlier a m c.0 in_hand.chosen.0 op Mark (cover.passed a m positive above did in_hand.unapplied) c.1 mark_chosen))
+
+    ops_applied : (slot : ℕ) → 0 < slot → has_applied w.server slot ≡ true → (op : Op) × (ops slot ≡ Some op) × ((t : ℕ) × IsChosen setup w.earlier slot t op)
+    ops_applied slot above did =
+        let c = cover.chosen slot above did in
+        (c.0, are.chosen slot c.1.0 c.0 (chosen_after setup w.earlier history w.is_earlier slot c.1.0 c.0 c.1.2), (c.1.0, c.1.2))
+
+    one_or_other : 0 < m → (p : ℕ) → 0 < p → p ≤ m → (has_applied w.server p ≡ every_slot p) ⊎ Quiet ops x p
+    one_or_other positive p above low =
+        elim (cases_Bool (has_applied w.server p)) [
+          | inl did ↦ inl did
+          | inr not_did ↦ elim (cases_lt p m) [
+            | inl below ↦ inr (quiet_below p above below not_did)
+            | inr reaches ↦ inr (subst (Quiet ops x) (omega (arith, reaches, low)) quiet_at)
+          ]
+        ]
+
+    folded : 0 < m → (bytes : Sector) → slice_get sectors x ≡ Some bytes → bytes ≡ fold_to ops every_slot x zero_sector m
+    folded positive bytes at =
+        let bound = applied_bound w.server.durable.base w.server.applied in
+        cover.folded x (bound.0 + m) bytes ops (ap (λ l. slice_get l x) w.is ∙ at) (λ slot did. omega (arith, bound.1 slot did)) ops_applied
+        ∙ fold_above ops (has_applied w.server) every_slot x zero_sector m (above_mark positive) (bound.0 + m) (omega arith)
+        ∙ fold_quiet ops (has_applied w.server) every_slot x zero_sector m (one_or_other positive)
+
+above_zero : (setup : Setup) (history : History) (slot t : ℕ) (op : Op) → IsChosen setup history slot t op → 0 < slot
+above_zero setup history slot t op c =
+    let z = told setup history in
+    let picked = chosen_at_end setup history slot t op c in
+    let made = z.sound.made slot t c.entry picked.is in
+    omega (arith, made.is_above)
+
+-- the snapshot of a mark, when it is taken and ever after
+pub snapshot_is : (setup : Setup) (history earlier : History) (i : ℕ) (s : Server) (m : ℕ) (sectors : List Sector) → IsPrefix earlier history → Runs (replay setup earlier) i s → FinMap.get s.snapshots m ≡ Some sectors → IsSnapshot setup history m sectors
+snapshot_is setup history earlier i s m sectors p runs at =
+    let w = taken_after setup earlier history p m sectors (all_taken setup earlier i s m sectors runs at) in
+    let c = mark_chosen setup history m sectors w in
+    let positive = above_zero setup history m (in_hand setup history m sectors w).chosen.0 Mark c in
+    record { is_mark = ((in_hand setup history m sectors w).chosen.0, c); folded = λ x bytes ops has are. folded setup history m sectors w ops are x positive bytes has }
