@@ -1,0 +1,10 @@
+//! How a server that has fallen behind is brought up to its leader.
+#![tactic(auto)]
+
+mod choice;
+mod kinds;
+#[cfg(test)]
+mod tests;
+
+pub use choice::plan;
+pub use kinds::Plan;
