@@ -15,7 +15,7 @@ use std::marker::Model;
 /// The entries of a server in the window of 4,096 slots above its checkpoint, the base, and which of them are
 /// committed (ParallelRaft: a log that may have holes).
 ///
-/// Contracts see the base, the entries as a finite map and the marks as a set. None but `new` takes memory.
+/// Contracts see the base, the entries as a finite map and the marks as a set. Only `new` and `copied` take memory.
 #[derive(Drop)]
 pub struct HoleLog {
     base: Slot,

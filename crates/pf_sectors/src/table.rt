@@ -8,7 +8,7 @@ use std::alloc::Global;
 use std::marker::Model;
 use std::mem;
 
-/// The sectors of a chunk. None but `open` takes memory.
+/// The sectors of a chunk. Only `open` and `copied` take memory.
 #[derive(Debug, Drop)]
 pub struct SectorTable {
     sectors: Vec<Sector>,
