@@ -21,4 +21,7 @@ pub mod Naming
 pub mod Claiming
 pub mod Stepping
 pub mod Snapshots
+pub mod Moving
+pub mod Fetching
+pub mod Fresh
 pub mod Worked

@@ -233,7 +233,7 @@ by_events P start next history = go [] history start
     go done (h ∷ hs) is = subst P (append_assoc done (h ∷ []) hs) (go (done ++ h ∷ []) hs (next done h is))
 
 -- the servers that run at the beginning
-opened : (setup : Setup) (P : Server → Type 0) → P (first_leader setup) → ((i : ℕ) → P (restarted i 0 (opening_disk setup))) → (i : ℕ) (s : Server) → Runs (opening setup) i s → P s
+pub opened : (setup : Setup) (P : Server → Type 0) → P (first_leader setup) → ((i : ℕ) → P (restarted i 0 (opening_disk setup))) → (i : ℕ) (s : Server) → Runs (opening setup) i s → P s
 unfolding opening
 opened setup P first others i s runs = at_place i runs
   where
@@ -344,7 +344,7 @@ mark_quiet x = refl
 turned : (a b : Span) → overlaps a b ≡ false → overlaps b a ≡ false
 turned a b is = grind (arith, nat_tests, is)
 
-pub chosen_after : (setup : Setup) (earlier history : History) → IsPrefix earlier history → (slot term : ℕ) (op : Op) → IsChosen setup earlier slot term op → IsChosen setup history slot term op
+unfoldable pub chosen_after : (setup : Setup) (earlier history : History) → IsPrefix earlier history → (slot term : ℕ) (op : Op) → IsChosen setup earlier slot term op → IsChosen setup history slot term op
 chosen_after setup earlier history p slot term op c = record {
   entry = c.entry;
   proposed = proposal_after setup earlier history p c.entry c.proposed;

@@ -1,8 +1,8 @@
 -- Each event of a group is something that may happen to its ballots.
-use Rattle.std.proofs.Common.{◌≡◌, ℕ, suc, ◌<◌, ◌⊎◌, inl, inr, Bool, true, false, cond, ◌==◌, if◌then◌else◌, List, [], ◌∷◌, map, Option, Some, None, slice_get, slice_set, arith, refl, sym, ap, subst, ◌∙◌}
+use Rattle.std.proofs.Common.{◌≡◌, ℕ, suc, ◌<◌, ◌≤◌, ◌⊎◌, inl, inr, Bool, true, false, cond, ◌==◌, if◌then◌else◌, List, [], ◌∷◌, map, Option, Some, None, slice_get, slice_set, arith, refl, sym, ap, subst, ◌∙◌, le_refl, le_of_eq}
 use Rattle.std.specs.FinMap
 use Rattle.std.specs.List.{range_with_len}
-use Rattle.std.proofs.lemmas.Bool.{cond-true, eq-eqb}
+use Rattle.std.proofs.lemmas.Bool.{cases_eq, cond-true, eq-eqb}
 use Rattle.pf_entry.specs.declared.entries.Entry.{Entry}
 use Rattle.pf_entry.specs.declared.packets.Packet.{Packet}
 use Rattle.pf_entry.specs.Records.{Durable, image_of, stored, holds}
@@ -38,8 +38,9 @@ pub record HoldsAt (g : Group) (i slot term : ℕ) : Type 0 where
   pub runs : slice_get g.servers i ≡ Some (Running server)
   pub has : holds server.durable slot term ≡ true
 
--- votes and merges stay
+-- votes and merges stay, and no term falls
 pub record Persists (b after : Ballots) : Type 0 where
+  pub terms : (i : ℕ) → (b.disk i).term ≤ (after.disk i).term
   pub votes : (i t : ℕ) (v : Cast) → b.vote i t ≡ Some v → after.vote i t ≡ Some v
   pub ballots : (t : ℕ) (m : Ballot) → b.ballot t ≡ Some m → after.ballot t ≡ Some m
 
@@ -56,7 +57,7 @@ pub record Next (b : Ballots) (g : Group) : Type 0 where
 
 module _ (b : Ballots) (sound : Sound b) (served : Served b) (g : Group) (follows : Follows g b) where
   nothing_next : Next b g
-  nothing_next = record { ballots = b; sound = sound; served = served; follows = follows; proposals = λ s t e is. is; accepted = λ i s t is. is; persists = record { votes = λ i t v is. is; ballots = λ t m is. is }; new_accepted = λ i s t is. inl is }
+  nothing_next = record { ballots = b; sound = sound; served = served; follows = follows; proposals = λ s t e is. is; accepted = λ i s t is. is; persists = record { terms = λ i. le_refl _; votes = λ i t v is. is; ballots = λ t m is. is }; new_accepted = λ i s t is. inl is }
 
   servers_follow : (i : ℕ) (c : Condition) (after : Ballots) → i < 3 → Extends i b after → Sound after → ConditionIs after i c → (j : ℕ) (d : Condition) → slice_get (slice_set g.servers i c) j ≡ Some d → (j < 3) × ConditionIs after j d
   servers_follow i c after below x after_sound is j d at =
@@ -71,16 +72,27 @@ module _ (b : Ballots) (sound : Sound b) (served : Served b) (g : Group) (follow
   acked_follow : (i : ℕ) (after : Ballots) → Extends i b after → Every (λ a. IsAcked after a.term a.slot) g.acked
   acked_follow i after x = every_more (λ a. IsAcked b a.term a.slot) (λ a. IsAcked after a.term a.slot) (λ a h. acked_there i b after x a.term a.slot h) g.acked follows.acked
 
+  -- the term of the server that stepped, and those of the others
+  terms_rise : (i : ℕ) (after : Ballots) → Extends i b after → (b.disk i).term ≤ (after.disk i).term → (j : ℕ) → (b.disk j).term ≤ (after.disk j).term
+  terms_rise i after x low j =
+      elim (cases_eq j i) [
+        | inl same ↦ subst (λ k. (b.disk k).term ≤ (after.disk k).term) (sym same) low
+        | inr apart ↦ le_of_eq (ap (λ d. d.term) (sym (x.other_disks j apart)))
+      ]
+
+  term_after : (old before later new : Durable) → old ≡ before → new ≡ later → before.term ≤ later.term → old.term ≤ new.term
+  term_after old before later new from to low = omega (arith, ap (λ d. d.term) from, ap (λ d. d.term) to, low)
+
   -- one server's condition changes
-  changed_next : (i : ℕ) (c : Condition) (after : Ballots) → i < 3 → Sound after → Served after → Extends i b after → ConditionIs after i c → ((j s t : ℕ) → after.accepted j s t ≡ true → (b.accepted j s t ≡ true) ⊎ HoldsAt (record g { servers = slice_set g.servers i c }) j s t) → Next b (record g { servers = slice_set g.servers i c })
-  changed_next i c after below after_sound after_served x is back = record {
+  changed_next : (i : ℕ) (c : Condition) (after : Ballots) → (b.disk i).term ≤ (after.disk i).term → i < 3 → Sound after → Served after → Extends i b after → ConditionIs after i c → ((j s t : ℕ) → after.accepted j s t ≡ true → (b.accepted j s t ≡ true) ⊎ HoldsAt (record g { servers = slice_set g.servers i c }) j s t) → Next b (record g { servers = slice_set g.servers i c })
+  changed_next i c after low below after_sound after_served x is back = record {
     ballots = after;
     sound = after_sound;
     served = after_served;
     follows = record { servers = servers_follow i c after below x after_sound is; packets = packets_follow i after x after_sound; acked = acked_follow i after x };
     proposals = x.proposals;
     accepted = x.accepted;
-    persists = record { votes = x.votes; ballots = x.ballots };
+    persists = record { terms = terms_rise i after x low; votes = x.votes; ballots = x.ballots };
     new_accepted = back;
   }
 
@@ -117,7 +129,7 @@ module _ (b : Ballots) (sound : Sound b) (served : Served b) (g : Group) (follow
     };
     proposals = row.done_extends.proposals;
     accepted = row.done_extends.accepted;
-    persists = record { votes = row.done_extends.votes; ballots = row.done_extends.ballots };
+    persists = record { terms = terms_rise i row.done row.done_extends (term_after (b.disk i) s.durable o.server.durable (row.done.disk i) (follows.servers i (Running s) at).1.disk row.server_is.disk row.grows.term); votes = row.done_extends.votes; ballots = row.done_extends.ballots };
     new_accepted = λ j slot t is. elim (holds_there i (Running s) (settled o.server) row.done at row.done_accepted j slot t is) [
       | inl old ↦ inl old
       | inr new ↦ inr (record { server = new.server; runs = new.runs; has = new.has })
@@ -127,7 +139,7 @@ module _ (b : Ballots) (sound : Sound b) (served : Served b) (g : Group) (follow
   cut_off_next : (i : ℕ) (s : Server) (o : Outcome) → i < 3 → ServerIs b i s → Row b i s o → Next b (cut_off g i s o)
   unfolding cut_off
   cut_off_next i s o below is row =
-      changed_next i (Stopped (suc s.life) s.durable o.server.durable) row.made below row.made_sound row.made_served row.made_extends (record { disk = row.made_disk; grows = row.grows; before_known = applied_there i b row.made row.made_extends row.made_sound s.durable.term (is_applied s.durable.base s.durable.saved) s.durable.sectors is.knows.saved; after_known = row.after_known }) (λ j slot t did. inl (row.made_accepted j slot t did))
+      changed_next i (Stopped (suc s.life) s.durable o.server.durable) row.made (term_after (b.disk i) s.durable s.durable (row.made.disk i) is.disk row.made_disk (le_refl _)) below row.made_sound row.made_served row.made_extends (record { disk = row.made_disk; grows = row.grows; before_known = applied_there i b row.made row.made_extends row.made_sound s.durable.term (is_applied s.durable.base s.durable.saved) s.durable.sectors is.knows.saved; after_known = row.after_known }) (λ j slot t did. inl (row.made_accepted j slot t did))
 
   ended_next : (how : Ending) (i : ℕ) (s : Server) (o : Outcome) → slice_get g.servers i ≡ Some (Running s) → i < 3 → ServerIs b i s → Row b i s o → Next b (ended how g i s o)
   ended_next Whole i s o at below is row = acted_next i s o at below row
@@ -162,7 +174,7 @@ module _ (b : Ballots) (sound : Sound b) (served : Served b) (g : Group) (follow
   begun_next i life d c at below grows known =
       let grown_is = grown_sound b sound i below d grows in
       let there = applied_there i b (grown b i d) (extends_grown b i d) grown_is d.term (is_applied d.base d.saved) d.sectors known in
-      changed_next i (Running (restarted i life d)) (grown b i d) below grown_is (grown_served b i d (extends_grown b i d) served) (extends_grown b i d)
+      changed_next i (Running (restarted i life d)) (grown b i d) (term_after (b.disk i) (b.disk i) d ((grown b i d).disk i) refl (cond-true _ _ _ (eq-eqb i i refl)) grows.term) below grown_is (grown_served b i d (extends_grown b i d) served) (extends_grown b i d)
       (record {
         number = refl;
         disk = cond-true _ _ _ (eq-eqb i i refl);
@@ -217,7 +229,7 @@ module _ (b : Ballots) (sound : Sound b) (served : Served b) (g : Group) (follow
 
   begun_at : (how : Ending) (i life : ℕ) (d before after : Durable) (c : Condition) → slice_get g.servers i ≡ Some c → i < 3 → Grows b.proposal b.ballot (b.disk i) d → AppliedKnown b d.term d.base d.saved d.sectors → StoppedIs b i before after → Next b (begun how g i life d before after)
   begun_at Whole i life d before after c at below grows known h = begun_next i (suc life) (renewed d) c at below (renewed_grows i d grows) (renewed_known d known)
-  begun_at CutOff i life d before after c at below grows known h = changed_next i (Stopped (suc life) before after) b below sound served (extends_self i b) h (λ j slot t did. inl did)
+  begun_at CutOff i life d before after c at below grows known h = changed_next i (Stopped (suc life) before after) b (le_refl _) below sound served (extends_self i b) h (λ j slot t did. inl did)
   begun_at Missed i life d before after c at below grows known h = nothing_next
   begun_at Untouched i life d before after c at below grows known h = nothing_next
 
@@ -234,7 +246,7 @@ module _ (b : Ballots) (sound : Sound b) (served : Served b) (g : Group) (follow
 
   stop_next : (i : ℕ) (o : Option Condition) → slice_get g.servers i ≡ o → Next b (stopped g i o)
   stop_next i (Some (Running s)) at =
-      let h = follows.servers i (Running s) at in changed_next i (Stopped (suc s.life) s.durable s.durable) b h.0 sound served (extends_self i b) (stopped_now i s h.1) (λ j slot t did. inl did)
+      let h = follows.servers i (Running s) at in changed_next i (Stopped (suc s.life) s.durable s.durable) b (le_refl _) h.0 sound served (extends_self i b) (stopped_now i s h.1) (λ j slot t did. inl did)
   stop_next i (Some (Stopped life before after)) at = nothing_next
   stop_next i (Some Unformatted) at = nothing_next
   stop_next i None at = nothing_next
@@ -246,7 +258,7 @@ module _ (b : Ballots) (sound : Sound b) (served : Served b) (g : Group) (follow
   claim_at_next : (window i slot : ℕ) (o : Option Condition) → slice_get g.servers i ≡ o → claim_of window o ≡ Some slot → Next b (claim_at g i o (Some slot))
   claim_at_next window i slot (Some (Running s)) at is =
       let h = follows.servers i (Running s) at in
-      changed_next i (Running (claimed s slot)) b h.0 sound served (extends_self i b) (claimed_is b sound served i h.0 s h.1 slot (FinMap.get s.durable.log slot) refl (claimable_is window s slot is)) (λ j slot t did. inl did)
+      changed_next i (Running (claimed s slot)) b (le_refl _) h.0 sound served (extends_self i b) (claimed_is b sound served i h.0 s h.1 slot (FinMap.get s.durable.log slot) refl (claimable_is window s slot is)) (λ j slot t did. inl did)
   claim_at_next window i slot (Some (Stopped life before after)) at is = nothing_next
   claim_at_next window i slot (Some Unformatted) at is = nothing_next
   claim_at_next window i slot None at is = nothing_next
@@ -267,7 +279,7 @@ module _ (b : Ballots) (sound : Sound b) (served : Served b) (g : Group) (follow
 
   lost_next : (k : ℕ) (o : Option Sent) → slice_get g.packets k ≡ o → Next b (lost g k o)
   lost_next k None at = nothing_next
-  lost_next k (Some p) at = record { ballots = b; sound = sound; served = served; follows = marked_next k p _ at refl; proposals = λ s t e is. is; accepted = λ i s t is. is; persists = record { votes = λ i t v is. is; ballots = λ t m is. is }; new_accepted = λ i s t is. inl is }
+  lost_next k (Some p) at = record { ballots = b; sound = sound; served = served; follows = marked_next k p _ at refl; proposals = λ s t e is. is; accepted = λ i s t is. is; persists = record { terms = λ i. le_refl _; votes = λ i t v is. is; ballots = λ t m is. is }; new_accepted = λ i s t is. inl is }
 
 -- the counts of a group are not read
 pub counts_next : (b : Ballots) (g : Group) (elections reads : ℕ) → Follows g b → Follows (record g { elections = elections; reads = reads }) b

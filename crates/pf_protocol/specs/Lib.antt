@@ -10,5 +10,6 @@ pub mod Histories
 pub mod Safety
 pub mod Kept
 pub mod Snapshots
+pub mod Fresh
 pub mod Answers
 pub mod Fitting

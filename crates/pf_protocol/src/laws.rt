@@ -12,7 +12,9 @@ ghost use Rattle.pf_protocol.specs.Servers.{Setup, Server, Leader};
 ghost use Rattle.pf_protocol.specs.Histories.{History, IsPrefix, replay, Runs, HasAccepted, IsProposal, IsChosen, IsTakenFrom};
 ghost use Rattle.pf_protocol.specs.Kept.{MayHold, Leads, Respects, KeepsName, IsChosenIn};
 ghost use Rattle.pf_protocol.specs.Safety.{OneLeader, IsSafe};
+ghost use Rattle.pf_protocol.specs.Groups.{Answered};
 ghost use Rattle.pf_protocol.specs.Snapshots.{IsSnapshot};
+ghost use Rattle.pf_protocol.specs.Fresh.{IsFresh};
 
 /// In each term at most one server ever merges or serves.
 pub fn one_leader_to_a_term()
@@ -58,4 +60,11 @@ pub fn every_history_is_safe()
 /// point of the log, as in PolarFS; that a mark may pass a slot rests on the ranges of the look-behind list.)
 pub fn snapshots_hold_all_slots()
     ensures { (setup : Setup) (history earlier : History) (i : ℕ) (s : Server) (mark : ℕ) (sectors : List Sector) → IsPrefix earlier history → Runs (replay setup earlier) i s → finite.get s.snapshots mark ≡ Some sectors → IsSnapshot setup history mark sectors }
+{}
+
+/// Reads are fresh. The answer of a read has each slot that overlaps its range and was acknowledged before the read was
+/// taken up, and each such slot of every answer given by then; its bytes are what the applied ops leave in the order of their
+/// slots. (A leader asks whether it still leads before it answers, as a read index in Raft does.)
+pub fn reads_are_fresh()
+    ensures { (setup : Setup) (history : History) (k : ℕ) (a : Answered) → slice_get (replay setup history).answered k ≡ Some a → IsFresh setup history a }
 {}

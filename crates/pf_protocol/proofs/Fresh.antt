@@ -1,0 +1,279 @@
+-- Reads are fresh.
+use Rattle.std.proofs.Common.{◌≡◌, ℕ, zero, suc, ◌+◌, ◌<◌, ◌≤◌, ◌≢◌, ◌⊎◌, inl, inr, Bool, true, false, not, ◌&&◌, List, [], ◌∷◌, ◌++◌, Option, Some, None, slice_get, slice_range, arith, refl, sym, ap, subst, ◌∙◌, le_refl}
+use Rattle.std.specs.FinMap
+use Rattle.std.specs.FinMap.{nat_cmp-IsAntisymmetric}
+use Rattle.std.specs.Ordering.{nat_cmp, eq_by_cmp}
+use Rattle.std.specs.List.{list_all, list_any}
+use Rattle.std.proofs.lemmas.Bool.Decides.{nat_tests}
+use Rattle.std.proofs.lemmas.Bool.{cases_Bool, cases_lt, or_cases, or_left, le-leb, and_parts, and_from, false≢true}
+use Rattle.std.proofs.lemmas.Option.{same_Some}
+use Rattle.pf_base.specs.Span.{Span, overlaps}
+use Rattle.pf_entry.specs.Maps.{Numbers}
+use Rattle.pf_entry.specs.Sets
+use Rattle.pf_entry.proofs.Sets.{contains-retain, contains-items}
+use Rattle.pf_entry.proofs.Lists.{every_get}
+use Rattle.pf_entry.specs.Ops.{Sector, range_of}
+use Rattle.pf_entry.specs.Applying.{is_applied}
+use Rattle.pf_entry.specs.declared.ops.Op.{Op}
+use Rattle.pf_entry.specs.declared.entries.Entry.{Entry}
+use Rattle.pf_entry.specs.Records.{Durable}
+use Rattle.pf_protocol.specs.declared.events.Event.TheVariants.{Fetch}
+use Rattle.pf_protocol.specs.declared.events.Happening.{Happening}
+use Rattle.pf_protocol.specs.Safety.{leads}
+use Rattle.pf_protocol.specs.Servers.{Setup, Leader, Role, Serving, Read, Server, Running, has_applied}
+use Rattle.pf_protocol.specs.Leading.{op_of, op_at, has_acked}
+use Rattle.pf_protocol.specs.Rows.{is_ready}
+use Rattle.pf_protocol.specs.Groups.{Acked, Answered}
+use Rattle.pf_protocol.specs.Histories.{History, IsPrefix, replay, Runs, IsChosen}
+use Rattle.pf_protocol.specs.Kept.{IsPassed, IsCovered}
+use Rattle.pf_protocol.specs.Fresh.{IsFetch, shows, HasIfOverlaps, IsFresh}
+use Rattle.pf_protocol.proofs.Ballots.{Ballots, HasQuorum}
+use Rattle.pf_protocol.proofs.Law.{share, kept_at}
+use Rattle.pf_protocol.proofs.Knowing.{AckMarks, AllAcked, RoleMarks}
+use Rattle.pf_protocol.proofs.Follows.{IsLeader, RoleIs}
+use Rattle.pf_protocol.proofs.Histories.{Told, told, LedBy, chosen_at_end, one_chosen_op, agrees, keeps_acknowledged, one_leader}
+use Rattle.pf_protocol.proofs.Facts.{servers_covered}
+use Rattle.pf_protocol.proofs.Origins.{prefix_of, begins_with}
+use Rattle.pf_protocol.proofs.Snapshots.{whole_prefix, chosen_after}
+use Rattle.pf_protocol.proofs.Moving.{new_read}
+use Rattle.pf_protocol.proofs.Fetching.{disk_term_low, reads_before, Confirmed, Waits, StaysIn, HeardOf, HasAll, AckedBy, WasRead, Traced, traced}
+
+-- of two moments of a history one comes first
+pub comparable : (a rest b other : History) → a ++ rest ≡ b ++ other → IsPrefix a b ⊎ IsPrefix b a
+comparable [] rest b other is = inl (record { rest = b; whole = refl })
+comparable (x ∷ a) rest [] other is = inr (record { rest = x ∷ a; whole = refl })
+comparable (x ∷ a) rest (y ∷ b) other is =
+    let p : x ∷ (a ++ rest) ≡ y ∷ (b ++ other) = is in
+    let head : x ≡ y = cc in
+    let tail : a ++ rest ≡ b ++ other = cc in
+    elim (comparable a rest b other tail) [
+      | inl first ↦ inl (record { rest = first.rest; whole = ap (λ z. z ∷ (a ++ first.rest)) head ∙ ap (λ hs. y ∷ hs) first.whole })
+      | inr second ↦ inr (record { rest = second.rest; whole = ap (λ z. z ∷ (b ++ second.rest)) (sym head) ∙ ap (λ hs. x ∷ hs) second.whole })
+    ]
+
+-- a moment with fewer reads comes first
+sooner : (setup : Setup) (a b history : History) → IsPrefix a history → IsPrefix b history → (replay setup a).reads < (replay setup b).reads → IsPrefix a b
+sooner setup a b history p q less =
+    elim (comparable a p.rest b q.rest (p.whole ∙ sym q.whole)) [
+      | inl first ↦ first
+      | inr second ↦ absurd (omega (arith, reads_before setup b a second, less))
+    ]
+
+-- once a read is confirmed, no leader of a higher term had led when it was taken up
+no_higher : (setup : Setup) (history : History) (i term number : ℕ) (z : Server) → Confirmed setup history i term number → Runs (replay setup history) i z → z.durable.term ≡ term → (x : History) → IsPrefix x history → (replay setup x).reads ≤ number → (k : ℕ) (w : Server) (l : Leader) → Runs (replay setup x) k w → w.role ≡ Serving l → w.durable.term ≤ term
+no_higher setup history i term number z c runs in_term x p low k w l led serves =
+    elim (cases_lt term w.durable.term) [
+      | inl higher ↦ absurd (contradiction higher)
+      | inr not_higher ↦ not_higher
+    ]
+  where
+    contradiction : term < w.durable.term → ⊥
+    contradiction higher =
+        let t = told setup c.earlier in
+        let first = sooner setup x c.earlier history p c.is_earlier (omega (arith, low, c.asked)) in
+        let by = (t.stood x first.rest first.whole).leads k w l led (inr serves) in
+        let q = t.sound.quorums w.durable.term by.merge by.is in
+        let own = t.sound.vote_terms by.merge.leader w.durable.term _ q.own_vote in
+        let theirs = t.sound.vote_terms by.merge.other w.durable.term _ q.other_vote in
+        let other = t.follows.servers c.other (Running c.server) c.runs in
+        let other_term : (t.ballots.disk c.other).term ≤ term = omega (arith, ap (λ d. d.term) other.1.disk, c.low) in
+        let mine : (t.ballots.disk i).term ≤ term = omega (arith, disk_term_low setup c.earlier history c.is_earlier i z runs, in_term) in
+        let below = ((told setup history).follows.servers i (Running z) runs).0 in
+        elim (share i c.other by.merge.leader by.merge.other (λ same. c.apart (sym same)) q.apart below other.0 q.leader_below q.other_below) [
+          | inl me ↦ elim me [
+            | inl lead ↦ omega (arith, own, mine, ap (λ n. (t.ballots.disk n).term) lead, higher)
+            | inr vote ↦ omega (arith, theirs, mine, ap (λ n. (t.ballots.disk n).term) vote, higher)
+          ]
+          | inr them ↦ elim them [
+            | inl lead ↦ omega (arith, own, other_term, ap (λ n. (t.ballots.disk n).term) lead, higher)
+            | inr vote ↦ omega (arith, theirs, other_term, ap (λ n. (t.ballots.disk n).term) vote, higher)
+          ]
+        ]
+
+-- the server has applied the slot, or has it committed with this op
+abbrev Knows : Server → ℕ → Op → Type 0
+Knows z slot op = (has_applied z slot ≡ true) ⊎ ((e : Entry) × (FinMap.get z.durable.log slot ≡ Some e) × (Sets.contains z.committed slot ≡ true) × (e.op ≡ op))
+
+module _ (setup : Setup) (before history : History) (p : IsPrefix before history) (i : ℕ) (z : Server) (l : Leader) (runs : Runs (replay setup before) i z) (serves : z.role ≡ Serving l) where
+  marks : AckMarks i z.durable.base z.committed l × AllAcked i l
+  marks = subst (RoleMarks i z.durable.base z.committed) serves ((told setup before).follows.servers i (Running z) runs).1.knows.marks
+
+  -- a slot above the checkpoint that another server acknowledged
+  committed_there : (j slot t : ℕ) (op : Op) → j ≢ i → has_acked l j slot ≡ true → IsChosen setup history slot t op → z.durable.base < slot → Knows z slot op
+  committed_there j slot t op apart has c above =
+      let is = marks.0 j slot apart has above in
+      let e = (agrees setup before).committed i z slot runs is in
+      inr (e.0, e.1, is, one_chosen_op setup history slot e.2.0 t e.0.op op (chosen_after setup before history p slot e.2.0 e.0.op e.2.1) c)
+
+  heard_knows : (j slot t : ℕ) (op : Op) → j ≢ i → has_acked l j slot ≡ true → IsChosen setup history slot t op → Knows z slot op
+  heard_knows j slot t op apart has c =
+      elim (cases_lt z.durable.base slot) [
+        | inl above ↦ committed_there j slot t op apart has c above
+        | inr below ↦ inl (or_left _ _ (le-leb slot z.durable.base below))
+      ]
+
+  -- what was chosen in a lower term
+  lower_knows : (slot u : ℕ) (own : Op) → IsChosen setup before slot u own → u < z.durable.term → (t : ℕ) (op : Op) → IsChosen setup history slot t op → Knows z slot op
+  lower_knows slot u own chosen later t op c =
+      elim (cases_lt z.durable.base slot) [
+        | inl above ↦
+            let b = told setup before in
+            let x = (b.follows.servers i (Running z) runs).1 in
+            let lead : IsLeader b.ballots.ballot b.ballots.next i z.durable l = subst (RoleIs b.ballots.vote b.ballots.ballot b.ballots.next i z.durable) serves x.role in
+            let low = kept_at b.ballots b.sound slot u chosen.entry (chosen_at_end setup before slot u own chosen) z.durable.term lead.merge later lead.is in
+            let who = marks.1 slot (omega (arith, lead.has_base, lead.base_low, above)) (omega (arith, lead.has_first, low)) in
+            committed_there who.0 slot t op who.1 who.2 c above
+        | inr below ↦ inl (or_left _ _ (le-leb slot z.durable.base below))
+      ]
+
+  -- what was acknowledged in a term not above this one
+  acked_knows : (a : Acked) → AckedBy setup before a → a.term ≤ z.durable.term → (own : Op) → IsChosen setup before a.slot a.term own → (t : ℕ) (op : Op) → IsChosen setup history a.slot t op → Knows z a.slot op
+  acked_knows a x le own chosen t op c =
+      elim (cases_lt a.term z.durable.term) [
+        | inl lower ↦ lower_knows a.slot a.term own chosen lower t op c
+        | inr not_lower ↦
+            let same : a.term ≡ z.durable.term = omega (arith, le, not_lower) in
+            let it : x.i ≡ i = one_leader setup before x.earlier before x.i i x.server z x.is_earlier (whole_prefix before) x.runs runs (ap leads x.serves) (ap leads serves) (x.in_term ∙ same) in
+            let heard : HeardOf x.i a.slot (has_applied z) l = subst (StaysIn (HeardOf x.i a.slot) (has_applied z)) serves (x.stays z (ap (slice_get (replay setup before).servers) it ∙ runs) (sym same)) in
+            heard_knows heard.0 a.slot t op (λ is. heard.1 (is ∙ sym it)) heard.2 c
+      ]
+
+  -- what an earlier answer of a term not above this one had applied
+  read_knows : (a : Answered) → (x : WasRead setup before a) → a.term ≤ z.durable.term → (slot : ℕ) → 0 < slot → shows a slot ≡ true → (t : ℕ) (op : Op) → IsChosen setup history slot t op → Knows z slot op
+  read_knows a x le slot above shown t op c =
+      let cover = servers_covered setup x.earlier a.server x.server x.runs in
+      let had = cover.chosen slot above (subst (λ n. is_applied n x.server.applied slot ≡ true) x.base (subst (λ set. is_applied a.base set slot ≡ true) x.applied shown)) in
+      elim (cases_lt had.1.0 z.durable.term) [
+        | inl lower ↦ lower_knows slot had.1.0 had.0 (chosen_after setup x.earlier before x.is_earlier slot had.1.0 had.0 had.1.2) lower t op c
+        | inr not_lower ↦
+            let same : a.term ≡ z.durable.term = omega (arith, le, not_lower, had.1.1, x.term) in
+            let y = x.waits in
+            let first = prefix_of y.earlier x.earlier before (begins_with y.earlier x.earlier y.fetch y.is_earlier) x.is_earlier in
+            let it : a.server ≡ i = one_leader setup before y.earlier before a.server i y.server z first (whole_prefix before) y.runs runs (ap leads y.serves) (ap leads serves) (sym y.same_term ∙ sym x.term ∙ same) in
+            let all : HasAll (is_applied a.base a.applied) (has_applied z) l = subst (StaysIn (HasAll (is_applied a.base a.applied)) (has_applied z)) serves (x.stays z (ap (slice_get (replay setup before).servers) it ∙ runs) (sym same)) in
+            inl (all slot shown)
+      ]
+
+-- each member of a set passes a test that all its items pass
+all_of_items : (f : ℕ → Bool) (xs : List ℕ) (slot : ℕ) → list_all f xs ≡ true → list_any (eq_by_cmp nat_cmp slot) xs ≡ true → f slot ≡ true
+all_of_items f [] slot all is = absurd (false≢true is)
+all_of_items f (x ∷ xs) slot all is =
+    let both = and_parts (f x) (list_all f xs) all in
+    elim (or_cases (eq_by_cmp nat_cmp slot x) (list_any (eq_by_cmp nat_cmp slot) xs) is) [
+      | inl here ↦ ap f (tied slot x here) ∙ both.0
+      | inr later ↦ all_of_items f xs slot both.1 later
+    ]
+  where
+    tied : (q k : ℕ) → eq_by_cmp nat_cmp q k ≡ true → q ≡ k
+    tied q k = grind (arith, nat_tests)
+
+op_of_held : (z : Server) (slot : ℕ) (e : Entry) → FinMap.get z.durable.log slot ≡ Some e → op_at z.durable.log slot ≡ e.op
+unfolding op_at
+op_of_held z slot e held = ap op_of held
+
+-- a slot that the leader knew as it took up the read
+known_shown : (setup : Setup) (history : History) (i : ℕ) (s : Server) (r : Read) (w : Waits setup history i s r) → is_ready s r ≡ true → (slot : ℕ) (op : Op) → Knows w.server slot op → overlaps (range_of op) r.range ≡ true → has_applied s slot ≡ true
+known_shown setup history i s r w ready slot op knows touches =
+    elim (cases_Bool (has_applied w.server slot)) [
+      | inl did ↦ w.more slot did
+      | inr not_yet ↦ elim knows [
+        | inl did ↦ w.more slot did
+        | inr e ↦
+            let test : ℕ → Bool = λ q. not (has_applied w.server q) && overlaps (range_of (op_at w.server.durable.log q)) r.range in
+            let passes : (not (has_applied w.server slot) && overlaps (range_of (op_at w.server.durable.log slot)) r.range) ≡ true =
+                and_from _ _ (ap not not_yet) (ap (λ o. overlaps (range_of o) r.range) (op_of_held w.server slot e.0 e.1 ∙ e.3) ∙ touches) in
+            let listed : Sets.contains (new_read w.server r.range r.number).waits_for slot ≡ true =
+                contains-retain w.server.committed (λ q. not (has_applied w.server q) && overlaps (range_of (op_at w.server.durable.log q)) r.range) slot (λ q tied. ap (λ n. not (has_applied w.server n) && overlaps (range_of (op_at w.server.durable.log n)) r.range) (sym (nat_cmp-IsAntisymmetric slot q tied)))
+                ∙ and_from _ _ e.2 passes in
+            all_of_items (has_applied s) (Sets.items r.waits_for) slot (and_parts r.confirmed _ ready).1 (sym (contains-items r.waits_for slot) ∙ ap (λ set. Sets.contains set slot) w.waits ∙ listed)
+      ]
+    ]
+
+passed_later : (setup : Setup) (earlier history : History) → IsPrefix earlier history → (a q : ℕ) → IsPassed setup earlier a q → IsPassed setup history a q
+unfolding chosen_after
+passed_later setup earlier history p a q y = record { term = y.term; op = y.op; chosen = chosen_after setup earlier history p a y.term y.op y.chosen; lets = y.lets }
+
+-- what was covered stays so
+cover_after : (setup : Setup) (earlier history : History) (p : IsPrefix earlier history) (term : ℕ) (done : ℕ → Bool) (sectors : List Sector) → IsCovered setup earlier term done sectors → IsCovered setup history term done sectors
+cover_after setup earlier history p term done sectors x = record {
+  chosen = λ slot above is. let c = x.chosen slot above is in (c.0, (c.1.0, c.1.1, chosen_after setup earlier history p slot c.1.0 c.0 c.1.2));
+  passed = λ a q above low is isnt. passed_later setup earlier history p a q (x.passed a q above low is isnt);
+  folded = λ sector n bytes ops at bound are. x.folded sector n bytes ops at bound (λ slot above is.
+      let c = x.chosen slot above is in
+      let o = are slot above is in
+      (c.0, o.1 ∙ ap Some (one_chosen_op setup history slot o.2.0 c.1.0 o.0 c.0 o.2.1 (chosen_after setup earlier history p slot c.1.0 c.0 c.1.2)), (c.1.0, c.1.2)));
+}
+
+module _ (setup : Setup) (history : History) (a : Answered) (x : WasRead setup history a) where
+  -- the moment at which the read was taken up
+  abbrev before : History
+  before = x.waits.earlier
+
+  before_answer : IsPrefix x.waits.earlier x.earlier
+  before_answer = begins_with x.waits.earlier x.earlier x.waits.fetch x.waits.is_earlier
+
+  before_end : IsPrefix x.waits.earlier history
+  before_end = prefix_of x.waits.earlier x.earlier history before_answer x.is_earlier
+
+  sure : Confirmed setup x.earlier a.server x.server.durable.term x.read.number
+  sure = x.waits.sure (and_parts x.read.confirmed _ x.ready).0
+
+  -- no leader by then was of a higher term
+  leader_low : (y : History) → IsPrefix y before → (k : ℕ) (w : Server) (l : Leader) → Runs (replay setup y) k w → w.role ≡ Serving l → w.durable.term ≤ x.waits.server.durable.term
+  leader_low y p k w l led serves =
+      omega (arith, x.waits.same_term, no_higher setup x.earlier a.server x.server.durable.term x.read.number x.server sure x.runs refl y (prefix_of y x.waits.earlier x.earlier p before_answer)
+      (omega (arith, reads_before setup y x.waits.earlier p, x.waits.number)) k w l led serves)
+
+  same_set : (slot : ℕ) → has_applied x.server slot ≡ shows a slot
+  same_set slot = ap (λ n. is_applied n x.server.applied slot) (sym x.base) ∙ ap (λ set. is_applied a.base set slot) (sym x.applied)
+
+  shown : (slot : ℕ) (op : Op) → Knows x.waits.server slot op → overlaps (range_of op) a.range ≡ true → shows a slot ≡ true
+  shown slot op knows touches =
+      sym (same_set slot) ∙ known_shown setup x.earlier a.server x.server x.read x.waits x.ready slot op knows (ap (overlaps (range_of op)) (sym x.range) ∙ touches)
+
+  acked_shown : (k : ℕ) (b : Acked) → slice_get (replay setup before).acked k ≡ Some b → HasIfOverlaps setup history a b.slot
+  acked_shown k b at t op c touches =
+      let y = every_get (AckedBy setup before) (replay setup before).acked k b (traced setup before).acked at in
+      let own = (keeps_acknowledged setup before).chosen k b at in
+      let le : b.term ≤ x.waits.server.durable.term = omega (arith, y.in_term, leader_low y.earlier y.is_earlier y.i y.server y.leader y.runs y.serves) in
+      shown b.slot op (acked_knows setup before history before_end a.server x.waits.server x.waits.leader x.waits.runs x.waits.serves b y le own.0 own.1 t op c) touches
+
+  answered_shown : (k : ℕ) (b : Answered) (slot : ℕ) → slice_get (replay setup before).answered k ≡ Some b → 0 < slot → shows b slot ≡ true → HasIfOverlaps setup history a slot
+  answered_shown k b slot at above had t op c touches =
+      let y = every_get (WasRead setup before) (replay setup before).answered k b (traced setup before).answered at in
+      let first = prefix_of y.waits.earlier y.earlier before (begins_with y.waits.earlier y.earlier y.waits.fetch y.waits.is_earlier) y.is_earlier in
+      let le : b.term ≤ x.waits.server.durable.term = omega (arith, y.term, y.waits.same_term, leader_low y.waits.earlier first b.server y.waits.server y.waits.leader y.waits.runs y.waits.serves) in
+      shown slot op (read_knows setup before history before_end a.server x.waits.server x.waits.leader x.waits.runs x.waits.serves b y le slot above had t op c) touches
+
+  covered : IsCovered setup history a.term (shows a) x.server.sectors
+  covered =
+      let there = cover_after setup x.earlier history x.is_earlier x.server.durable.term (has_applied x.server) x.server.sectors (servers_covered setup x.earlier a.server x.server x.runs) in
+      subst (λ set. IsCovered setup history a.term (is_applied a.base set) x.server.sectors) (sym x.applied)
+      (subst (λ n. IsCovered setup history a.term (is_applied n x.server.applied) x.server.sectors) (sym x.base)
+      (subst (λ u. IsCovered setup history u (has_applied x.server) x.server.sectors) (sym x.term) there))
+
+  fresh_read : IsFresh setup history a
+  fresh_read = record {
+    before = before;
+    fetched = record {
+      fetch = x.waits.fetch;
+      is_part = prefix_of (x.waits.earlier ++ x.waits.fetch ∷ []) x.earlier history x.waits.is_earlier x.is_earlier;
+      event = x.waits.event ∙ ap (Fetch a.server) (sym x.range);
+      is_next = x.number ∙ x.waits.number;
+      counts = x.waits.counts ∙ ap suc (sym x.number);
+    };
+    answering = x.earlier;
+    is_earlier = x.is_earlier;
+    server = x.server;
+    runs = x.runs;
+    bytes = x.bytes ∙ ap (λ r. slice_range x.server.sectors r.first (r.first + r.count)) (sym x.range);
+    covered = covered;
+    acknowledged = acked_shown;
+    answered = answered_shown;
+  }
+
+-- every answered read
+pub fresh : (setup : Setup) (history : History) (k : ℕ) (a : Answered) → slice_get (replay setup history).answered k ≡ Some a → IsFresh setup history a
+fresh setup history k a at =
+    let x = every_get (WasRead setup history) (replay setup history).answered k a (traced setup history).answered at in
+    fresh_read setup history a x
