@@ -25,3 +25,5 @@ pub mod Moving
 pub mod Fetching
 pub mod Fresh
 pub mod Worked
+mod Replays
+mod EarlyApply

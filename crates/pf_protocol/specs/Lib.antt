@@ -13,3 +13,5 @@ pub mod Snapshots
 pub mod Fresh
 pub mod Answers
 pub mod Fitting
+pub mod Shown
+pub mod EarlyApply

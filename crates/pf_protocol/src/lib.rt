@@ -7,6 +7,7 @@
 
 mod answers;
 mod events;
+mod examples;
 mod kept;
 mod laws;
 #[cfg(test)]
@@ -14,6 +15,7 @@ mod tests;
 
 pub use answers::{Answer, Refusal};
 pub use events::{Event, Happening};
+pub use examples::slots_are_applied_beside_a_missing_one;
 pub use kept::{
     applied_slots_are_covered, held_entries_are_proposals, histories_go_on, jobs_in_hand_are_apart,
     legal_histories_fit, marks_stand_on_chosen_ops, open_claims_are_in_hand,

@@ -1,0 +1,30 @@
+-- A follower applies a slot before a missing one that shares no sector with it, and not the slot that shares one.
+use Rattle.std.specs.Prelude.{◌≡◌, [], ◌∷◌, true}
+use Rattle.pf_entry.specs.Ops.{Sector}
+use Rattle.pf_protocol.specs.declared.answers.Answer.TheVariants.{Slot as SlotIs, Done, Job as JobIs}
+use Rattle.pf_protocol.specs.declared.events.Event.TheVariants.{Submit, Deliver, Claim, Finish}
+use Rattle.pf_protocol.specs.Histories.{History, replay}
+use Rattle.pf_protocol.specs.Shown.{Shows, small_group, write_at, line, so}
+
+-- slots 1 and 3 write one sector. Slot 1 never comes to server 1, which stores and acknowledges slots 2 and 3; the leader commits them
+abbrev pub early_apply : (first second third : Sector) → History
+early_apply first second third =
+    so (Submit 0 (write_at 0 first)) (SlotIs 1)
+    ∷ so (Submit 0 (write_at 4 second)) (SlotIs 2)
+    ∷ so (Submit 0 (write_at 0 third)) (SlotIs 3)
+    ∷ so (Deliver 2) Done
+    ∷ so (Deliver 4) Done
+    ∷ so (Deliver 6) Done
+    ∷ so Claim (JobIs (record { server = 0; life = 0; slot = 2; op = write_at 4 second }))
+    ∷ so (Finish 0 0 2) Done
+    ∷ so (Deliver 7) Done
+    ∷ so (Deliver 8) Done
+    ∷ so Claim (JobIs (record { server = 1; life = 0; slot = 2; op = write_at 4 second }))
+    ∷ so (Finish 1 0 2) Done
+    ∷ so (Deliver 9) Done
+    ∷ []
+
+-- server 1 has applied slot 2 alone, and the host was told of slots 2 and 3
+pub record AppliesEarly (first second third : Sector) : Type 0 where
+  pub acked : (replay small_group (early_apply first second third)).acked ≡ record { term = 1; slot = 2 } ∷ record { term = 1; slot = 3 } ∷ []
+  pub shown : Shows (replay small_group (early_apply first second third)) 1 1 0 (line 2 1 (write_at 4 second) true ∷ line 3 1 (write_at 0 third) true ∷ []) (2 ∷ [])

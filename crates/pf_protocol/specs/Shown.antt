@@ -1,0 +1,49 @@
+-- What a group shows of itself after a history, and the groups of the worked histories.
+use Rattle.std.specs.Prelude.{◌≡◌, ℕ, Bool, List, [], ◌∷◌, map, Some, slice_get}
+use Rattle.std.specs.FinMap
+use Rattle.pf_entry.specs.Sets
+use Rattle.pf_entry.specs.declared.ops.Op.{Op}
+use Rattle.pf_entry.specs.declared.ops.Op.TheVariants.{Write}
+use Rattle.pf_entry.specs.declared.entries.Entry.{Entry}
+use Rattle.pf_entry.specs.Ops.{Sector}
+use Rattle.pf_protocol.specs.Servers.{Setup, Server, Running}
+use Rattle.pf_protocol.specs.Groups.{Group}
+use Rattle.pf_protocol.specs.declared.answers.Answer.{Answer}
+use Rattle.pf_protocol.specs.declared.events.Event.{Event}
+use Rattle.pf_protocol.specs.declared.events.Happening.{Happening}
+
+-- a slot of a log: its entry's term and op, and whether it is marked as committed
+pub record Line : Type 0 where
+  pub slot : ℕ
+  pub term : ℕ
+  pub op : Op
+  pub committed : Bool
+
+abbrev pub line_of : Server → ℕ × Entry → Line
+line_of s held = record { slot = held.0; term = held.1.term; op = held.1.op; committed = Sets.contains s.committed held.0 }
+
+abbrev pub log_of : Server → List Line
+log_of s = map (line_of s) (FinMap.entries s.durable.log)
+
+-- a running server shows its term, its checkpoint, its log and the slots above the checkpoint that it applied
+pub record Shows (g : Group) (i term base : ℕ) (log : List Line) (applied : List ℕ) : Type 0 where
+  pub server : Server
+  pub runs : slice_get g.servers i ≡ Some (Running server)
+  pub its_term : server.durable.term ≡ term
+  pub its_base : server.durable.base ≡ base
+  pub its_log : log_of server ≡ log
+  pub its_applied : Sets.items server.applied ≡ applied
+
+-- a chunk of 16 sectors, in format 2, whose entries name the two slots before them
+abbrev pub small_group : Setup
+small_group = record { names = 2; window = 4096; chunk = 16; format = 2; failed = [] }
+
+-- a write of one sector
+abbrev pub write_at : ℕ → Sector → Op
+write_at sector bytes = Write (record { first = sector; count = 1 }) (bytes ∷ [])
+
+abbrev pub line : (slot term : ℕ) → Op → Bool → Line
+line slot term op committed = record { slot = slot; term = term; op = op; committed = committed }
+
+abbrev pub so : Event → Answer → Happening
+so event answer = record { event = event; answer = answer }
