@@ -193,13 +193,13 @@ module _ (setup : Setup) (history : History) (h : Happening) (t : Traced setup h
   same : replay setup next ≡ now
   same = run_longer setup (opening setup) history h
 
-  to_now : (i : ℕ) (z : Server) → Runs (replay setup next) i z → Runs now i z
+  pub to_now : (i : ℕ) (z : Server) → Runs (replay setup next) i z → Runs now i z
   to_now i z at = ap (λ g. slice_get g.servers i) (sym same) ∙ at
 
   from_now : (i : ℕ) (z : Server) → Runs now i z → Runs (replay setup next) i z
   from_now i z at = ap (λ g. slice_get g.servers i) same ∙ at
 
-  gone : Goes setup (replay setup history) h.event now
+  pub gone : Goes setup (replay setup history) h.event now
   gone = goes setup (replay setup history) h.event (ending h.answer)
 
   step_does : (i : ℕ) (s : Server) (o : Outcome) → Steps setup (replay setup history) h.event now i s o → Does (replay setup history) i s h.event o
@@ -352,7 +352,7 @@ module _ (setup : Setup) (history : History) (h : Happening) (t : Traced setup h
       ((step_does i s o step).packets (λ n. n < (replay setup history).reads) (numbers_low i s step.runs)))
 
   -- whoever once led in a term
-  came_stays : (P : (ℕ → Bool) → Leader → Type 0) → ((l l2 : Leader) (done more : ℕ → Bool) → AcksGrow l l2 → ((slot : ℕ) → done slot ≡ true → more slot ≡ true) → P done l → P more l2) → (i term : ℕ) → ((s : Server) → Runs (replay setup history) i s → term ≤ s.durable.term) → ((s : Server) → Runs (replay setup history) i s → s.durable.term ≡ term → StaysIn P (has_applied s) s.role) → (z : Server) → Came setup (replay setup history) h.event now i z → z.durable.term ≡ term → StaysIn P (has_applied z) z.role
+  pub came_stays : (P : (ℕ → Bool) → Leader → Type 0) → ((l l2 : Leader) (done more : ℕ → Bool) → AcksGrow l l2 → ((slot : ℕ) → done slot ≡ true → more slot ≡ true) → P done l → P more l2) → (i term : ℕ) → ((s : Server) → Runs (replay setup history) i s → term ≤ s.durable.term) → ((s : Server) → Runs (replay setup history) i s → s.durable.term ≡ term → StaysIn P (has_applied s) s.role) → (z : Server) → Came setup (replay setup history) h.event now i z → z.durable.term ≡ term → StaysIn P (has_applied z) z.role
   unfolding settled restarted claimed
   came_stays P mono i term low old _ (Stays s runs) in_term = old s runs in_term
   came_stays P mono i term low old _ (Stepped s o step) in_term =

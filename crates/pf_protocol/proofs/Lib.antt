@@ -24,6 +24,7 @@ pub mod Snapshots
 pub mod Moving
 pub mod Fetching
 pub mod Fresh
+pub mod Ports
 pub mod Worked
 mod Replays
 mod EarlyApply

@@ -85,7 +85,7 @@ new_of_leader setup earlier i s l runs is =
     omega (arith, lead.has_first, lead.has_next, (t.sound.quorums s.durable.term lead.merge lead.is).begins)
 
 -- what a merge takes was a proposal by then
-taken_is_proposal : (setup : Setup) (earlier : History) (i k : ℕ) (s : Server) (sent : Sent) (own other : VoteLog) (slot : ℕ) (x : Entry) → Runs (replay setup earlier) i s → IsMerge (replay setup earlier) i s k sent own other → taken s.durable.base own other slot ≡ Some x → (x.slot ≡ slot) × IsProposal setup earlier x
+pub taken_is_proposal : (setup : Setup) (earlier : History) (i k : ℕ) (s : Server) (sent : Sent) (own other : VoteLog) (slot : ℕ) (x : Entry) → Runs (replay setup earlier) i s → IsMerge (replay setup earlier) i s k sent own other → taken s.durable.base own other slot ≡ Some x → (x.slot ≡ slot) × IsProposal setup earlier x
 taken_is_proposal setup earlier i k s sent own other slot x runs merge is =
     let backs = backs_all setup earlier in
     let mine : Has (IsProposal setup earlier) own.log = subst (OwnVote setup earlier) merge.stands (backs.servers i (Running s) runs).1 in

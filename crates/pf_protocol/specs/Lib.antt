@@ -11,6 +11,7 @@ pub mod Safety
 pub mod Kept
 pub mod Snapshots
 pub mod Fresh
+pub mod Ports
 pub mod Answers
 pub mod Fitting
 pub mod Shown

@@ -15,6 +15,7 @@ ghost use Rattle.pf_protocol.specs.Safety.{OneLeader, IsSafe};
 ghost use Rattle.pf_protocol.specs.Groups.{Answered};
 ghost use Rattle.pf_protocol.specs.Snapshots.{IsSnapshot};
 ghost use Rattle.pf_protocol.specs.Fresh.{IsFresh};
+ghost use Rattle.pf_protocol.specs.Ports.{Submission, FollowsRule, IsOrdered};
 
 /// In each term at most one server ever merges or serves.
 pub fn one_leader_to_a_term()
@@ -67,4 +68,11 @@ pub fn snapshots_hold_all_slots()
 /// slots. (A leader asks whether it still leads before it answers, as a read index in Raft does.)
 pub fn reads_are_fresh()
     ensures { (setup : Setup) (history : History) (k : ℕ) (a : Answered) → slice_get (replay setup history).answered k ≡ Some a → IsFresh setup history a }
+{}
+
+/// The writes of a port that follows its rule are chosen in the order in which it asked them: where a copy of a write is
+/// chosen, no copy of a write that this port asked earlier is ever chosen in a higher slot, though a write may have been handed to
+/// several leaders and each of its copies may turn up. A copy whose step was cut off counts where a restart finds its record.
+pub fn ports_are_ordered()
+    ensures { (setup : Setup) (history : History) (port : List Submission) → FollowsRule setup history port → IsOrdered setup history port }
 {}
