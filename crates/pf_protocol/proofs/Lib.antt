@@ -25,6 +25,7 @@ pub mod Moving
 pub mod Fetching
 pub mod Fresh
 pub mod Ports
+pub mod LastWriters
 pub mod Worked
 mod Replays
 mod EarlyApply

@@ -303,7 +303,7 @@ module _ (ops : ℕ → Option Op) (done more : ℕ → Bool) (x : ℕ) (zeros :
   at_last : (m n : ℕ) → n ≡ m → fold_to ops done x zeros n ≡ fold_to ops done x zeros m
   at_last m n same = ap (fold_to ops done x zeros) same
 
-  fold_above : (m : ℕ) → ((a : ℕ) → m < a → done a ≡ true → Quiet ops x a) → (n : ℕ) → m ≤ n → fold_to ops done x zeros n ≡ fold_to ops done x zeros m
+  pub fold_above : (m : ℕ) → ((a : ℕ) → m < a → done a ≡ true → Quiet ops x a) → (n : ℕ) → m ≤ n → fold_to ops done x zeros n ≡ fold_to ops done x zeros m
   fold_above m quiet zero le = at_last m zero (omega (arith, le))
   fold_above m quiet (suc n) le =
       elim (cases_lt m (suc n)) [

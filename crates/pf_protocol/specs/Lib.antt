@@ -12,6 +12,7 @@ pub mod Kept
 pub mod Snapshots
 pub mod Fresh
 pub mod Ports
+pub mod LastWriters
 pub mod Answers
 pub mod Fitting
 pub mod Shown

@@ -19,6 +19,7 @@ ghost use Rattle.pf_protocol.specs.Histories.{History, IsPrefix, replay, Runs, H
 ghost use Rattle.pf_protocol.specs.Kept.{MayHold, IsKeptIn, IsMarked, IsCovered, IsInHand, IsChosenIn, HasAcked};
 ghost use Rattle.pf_protocol.specs.Answers.{IsLegalNext, IsLegal, IsOpen, claims_of};
 ghost use Rattle.pf_protocol.specs.Fitting.{GroupFits};
+ghost use Rattle.pf_protocol.specs.LastWriters.{HoldLastWrites};
 
 /// Each entry that a server ever held was made by a step of the leader of its term, and its op comes from a new proposal
 /// of its slot, through the merges that took it over, or is a no-op by which a merge filled a slot. What a server
@@ -84,4 +85,12 @@ pub fn histories_go_on()
     ensures replay { (setup : Setup) (history : History) (h : Happening) → replay setup (history ++ h ∷ []) ≡ happens setup (replay setup history) h.event (ending h.answer) }
     ensures legal { (setup : Setup) (history : History) (h : Happening) → IsLegal setup history → IsLegalNext setup (replay setup history) (claims_of [] history) h → IsLegal setup (history ++ h ∷ []) }
     ensures before { (setup : Setup) (earlier history : History) → IsPrefix earlier history → IsLegal setup history → IsLegal setup earlier }
+{}
+
+/// Each sector holds what the greatest applied slot that writes it wrote there, and zeros where no applied slot writes it: at
+/// running servers, on disks, and in packets with an image.
+pub fn sectors_hold_last_writes()
+    ensures servers { (setup : Setup) (history : History) (i : ℕ) (s : Server) → Runs (replay setup history) i s → HoldLastWrites setup history (has_applied s) s.sectors }
+    ensures disks { (setup : Setup) (history : History) (i : ℕ) (d : Durable) → MayHold (replay setup history) i d → HoldLastWrites setup history (is_applied d.base d.saved) d.sectors }
+    ensures images { (setup : Setup) (history : History) (k : ℕ) (sent : Sent) (base : ℕ) (applied : Numbers) (sectors : List Sector) → slice_get (replay setup history).packets k ≡ Some sent → sent.packet.body ≡ Image base applied sectors → HoldLastWrites setup history (is_applied base applied) sectors }
 {}
