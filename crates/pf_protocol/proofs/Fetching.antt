@@ -1,19 +1,14 @@
 -- Reads that wait, from the moment at which they were taken up.
-use Rattle.std.proofs.Common.{◌≡◌, ℕ, zero, suc, ◌+◌, ◌<◌, ◌≤◌, ◌≢◌, ◌⊎◌, inl, inr, Bool, true, false, not, ◌&&◌, ◌==◌, if◌then◌else◌, List, [], ◌∷◌, ◌++◌, map, Option, Some, None, slice_get, slice_range, arith, refl, sym, ap, subst, ◌∙◌, le_refl}
-use Rattle.std.specs.List.{list_all, filter}
-use Rattle.std.proofs.lemmas.Bool.{and_parts, eqb-true, false≢true}
+use Rattle.std.proofs.Common.{◌≡◌, ℕ, suc, ◌+◌, ◌<◌, ◌≤◌, ◌≢◌, inl, inr, Bool, true, false, not, ◌==◌, if◌then◌else◌, List, [], ◌∷◌, ◌++◌, map, Some, slice_get, slice_range, arith, refl, sym, ap, subst, ◌∙◌, le_refl}
+use Rattle.std.specs.List.{filter}
+use Rattle.std.proofs.lemmas.Bool.{eqb-true, false≢true}
 use Rattle.std.proofs.lemmas.Option.{same_Some}
-use Rattle.pf_base.specs.Span.{Span}
-use Rattle.pf_entry.specs.Maps.{Numbers}
-use Rattle.pf_entry.specs.Sets
 use Rattle.pf_entry.specs.Lists.{Every}
 use Rattle.pf_entry.proofs.Lists.{every_append, every_more, every_map, every_filter, every_get}
 use Rattle.pf_entry.specs.Applying.{is_applied}
 use Rattle.pf_entry.specs.declared.packets.Packet.{Packet}
 use Rattle.pf_entry.specs.declared.packets.Body.{Body}
 use Rattle.pf_entry.specs.declared.packets.Body.TheVariants.{RequestVote, Vote, Accept, Ack, Nack, Commit, Probe, ProbeOk, Image}
-use Rattle.pf_entry.specs.Records.{Durable}
-use Rattle.pf_protocol.specs.declared.answers.Answer.{Answer}
 use Rattle.pf_protocol.specs.declared.answers.Answer.TheVariants.{Read as ReadIs}
 use Rattle.pf_protocol.specs.declared.events.Event.TheVariants.{Fetch}
 use Rattle.pf_protocol.specs.declared.events.Happening.{Happening}
@@ -22,14 +17,14 @@ use Rattle.pf_protocol.specs.Outcomes.{Outcome}
 use Rattle.pf_protocol.specs.Leading.{has_acked, confirm}
 use Rattle.pf_protocol.specs.Rows.{is_ready, ready_reads, settled}
 use Rattle.pf_protocol.specs.Saving.{restarted, claimed}
-use Rattle.pf_protocol.specs.Groups.{Acked, Answered, Sent, Group, answer_of, reads_after, ending, happens, opening, first_leader, opening_disk}
+use Rattle.pf_protocol.specs.Groups.{Acked, Answered, Sent, Group, answer_of, reads_after, ending, happens, opening, first_leader}
 use Rattle.pf_protocol.specs.Histories.{History, IsPrefix, run, replay, Runs}
 use Rattle.pf_protocol.proofs.Making.{longer, run_longer}
 use Rattle.pf_protocol.proofs.Histories.{Told, told, tell}
 use Rattle.pf_protocol.proofs.Follows.{PacketIs}
 use Rattle.pf_protocol.proofs.Stepping.{Steps, Came, Stays, Stepped, Begins, Claims, Goes, goes}
 use Rattle.pf_protocol.proofs.Snapshots.{whole_prefix, by_events, opened}
-use Rattle.pf_protocol.proofs.Moving.{More, AcksGrow, RoleStep, RoleReads, Moves, IsReadless, Tells, new_read, TakesUp, Speaks, Plainly, Asks, AsksAgain, Replies, ReadsFrom, NoReads, SameReads, Takes, Confirms, TellsBy, Does, does}
+use Rattle.pf_protocol.proofs.Moving.{More, AcksGrow, RoleStep, RoleReads, IsReadless, new_read, Speaks, Plainly, Asks, AsksAgain, Replies, ReadsFrom, NoReads, SameReads, Takes, Confirms, Does, does}
 
 -- a history in two parts
 pub run_parts : (setup : Setup) (g : Group) (earlier rest : History) → run setup g (earlier ++ rest) ≡ run setup (run setup g earlier) rest
@@ -276,23 +271,25 @@ module _ (setup : Setup) (history : History) (h : Happening) (t : Traced setup h
       by_reads term more (SameReads is) = subst (Every (Waits setup next i o.server)) (sym is) (every_more (Waits setup history i s) (Waits setup next i o.server) (waits_on i s o.server term more) s.reads (t.waits i s step.runs))
       by_reads term more (Takes range event takes) = subst (Every (Waits setup next i o.server)) (sym takes.reads)
           (every_append (Waits setup next i o.server) s.reads (new_read s range (replay setup history).reads ∷ [])
-          (every_more (Waits setup history i s) (Waits setup next i o.server) (waits_on i s o.server term more) s.reads (t.waits i s step.runs))
-          (record {
-            earlier = history;
-            fetch = h;
-            is_earlier = whole_prefix next;
-            event = event;
-            number = refl;
-            counts = counted i s o step takes.answer;
-            server = s;
-            leader = takes.leader;
-            runs = step.runs;
-            serves = takes.serves;
-            same_term = term;
-            waits = refl;
-            more = more;
-            sure = λ is. absurd (false≢true is);
-          }, tt))
+          (every_more (Waits setup history i s) (Waits setup next i o.server) (waits_on i s o.server term more) s.reads (t.waits i s step.runs)) (
+            record {
+              earlier = history;
+              fetch = h;
+              is_earlier = whole_prefix next;
+              event = event;
+              number = refl;
+              counts = counted i s o step takes.answer;
+              server = s;
+              leader = takes.leader;
+              runs = step.runs;
+              serves = takes.serves;
+              same_term = term;
+              waits = refl;
+              more = more;
+              sure = λ is. absurd (false≢true is);
+            },
+            tt,
+          ))
       by_reads term more (Confirms k sent n upto_there at to_it body in_term is) = subst (Every (Waits setup next i o.server)) (sym is)
           (every_map (Waits setup next i o.server) (confirm n) s.reads
           (every_more (Waits setup history i s) (λ r. Waits setup next i o.server (confirm n r)) (confirms_on i s o.server n term more

@@ -1,14 +1,12 @@
 -- Reads are fresh.
-use Rattle.std.proofs.Common.{◌≡◌, ℕ, zero, suc, ◌+◌, ◌<◌, ◌≤◌, ◌≢◌, ◌⊎◌, inl, inr, Bool, true, false, not, ◌&&◌, List, [], ◌∷◌, ◌++◌, Option, Some, None, slice_get, slice_range, arith, refl, sym, ap, subst, ◌∙◌, le_refl}
+use Rattle.std.proofs.Common.{◌≡◌, ℕ, suc, ◌+◌, ◌<◌, ◌≤◌, ◌≢◌, ◌⊎◌, inl, inr, Bool, true, not, ◌&&◌, List, [], ◌∷◌, ◌++◌, Some, slice_get, slice_range, arith, refl, sym, ap, subst, ◌∙◌}
 use Rattle.std.specs.FinMap
 use Rattle.std.specs.FinMap.{nat_cmp-IsAntisymmetric}
 use Rattle.std.specs.Ordering.{nat_cmp, eq_by_cmp}
 use Rattle.std.specs.List.{list_all, list_any}
 use Rattle.std.proofs.lemmas.Bool.Decides.{nat_tests}
 use Rattle.std.proofs.lemmas.Bool.{cases_Bool, cases_lt, or_cases, or_left, le-leb, and_parts, and_from, false≢true}
-use Rattle.std.proofs.lemmas.Option.{same_Some}
-use Rattle.pf_base.specs.Span.{Span, overlaps}
-use Rattle.pf_entry.specs.Maps.{Numbers}
+use Rattle.pf_base.specs.Span.{overlaps}
 use Rattle.pf_entry.specs.Sets
 use Rattle.pf_entry.proofs.Sets.{contains-retain, contains-items}
 use Rattle.pf_entry.proofs.Lists.{every_get}
@@ -16,27 +14,24 @@ use Rattle.pf_entry.specs.Ops.{Sector, range_of}
 use Rattle.pf_entry.specs.Applying.{is_applied}
 use Rattle.pf_entry.specs.declared.ops.Op.{Op}
 use Rattle.pf_entry.specs.declared.entries.Entry.{Entry}
-use Rattle.pf_entry.specs.Records.{Durable}
 use Rattle.pf_protocol.specs.declared.events.Event.TheVariants.{Fetch}
-use Rattle.pf_protocol.specs.declared.events.Happening.{Happening}
 use Rattle.pf_protocol.specs.Safety.{leads}
-use Rattle.pf_protocol.specs.Servers.{Setup, Leader, Role, Serving, Read, Server, Running, has_applied}
+use Rattle.pf_protocol.specs.Servers.{Setup, Leader, Serving, Read, Server, Running, has_applied}
 use Rattle.pf_protocol.specs.Leading.{op_of, op_at, has_acked}
 use Rattle.pf_protocol.specs.Rows.{is_ready}
 use Rattle.pf_protocol.specs.Groups.{Acked, Answered}
 use Rattle.pf_protocol.specs.Histories.{History, IsPrefix, replay, Runs, IsChosen}
 use Rattle.pf_protocol.specs.Kept.{IsPassed, IsCovered}
-use Rattle.pf_protocol.specs.Fresh.{IsFetch, shows, HasIfOverlaps, IsFresh}
-use Rattle.pf_protocol.proofs.Ballots.{Ballots, HasQuorum}
+use Rattle.pf_protocol.specs.Fresh.{shows, HasIfOverlaps, IsFresh}
 use Rattle.pf_protocol.proofs.Law.{share, kept_at}
 use Rattle.pf_protocol.proofs.Knowing.{AckMarks, AllAcked, RoleMarks}
 use Rattle.pf_protocol.proofs.Follows.{IsLeader, RoleIs}
-use Rattle.pf_protocol.proofs.Histories.{Told, told, LedBy, chosen_at_end, one_chosen_op, agrees, keeps_acknowledged, one_leader}
+use Rattle.pf_protocol.proofs.Histories.{told, chosen_at_end, one_chosen_op, agrees, keeps_acknowledged, one_leader}
 use Rattle.pf_protocol.proofs.Facts.{servers_covered}
 use Rattle.pf_protocol.proofs.Origins.{prefix_of, begins_with}
 use Rattle.pf_protocol.proofs.Snapshots.{whole_prefix, chosen_after}
 use Rattle.pf_protocol.proofs.Moving.{new_read}
-use Rattle.pf_protocol.proofs.Fetching.{disk_term_low, reads_before, Confirmed, Waits, StaysIn, HeardOf, HasAll, AckedBy, WasRead, Traced, traced}
+use Rattle.pf_protocol.proofs.Fetching.{disk_term_low, reads_before, Confirmed, Waits, StaysIn, HeardOf, HasAll, AckedBy, WasRead, traced}
 
 -- of two moments of a history one comes first
 pub comparable : (a rest b other : History) → a ++ rest ≡ b ++ other → IsPrefix a b ⊎ IsPrefix b a
@@ -181,10 +176,10 @@ known_shown setup history i s r w ready slot op knows touches =
         | inr e ↦
             let test : ℕ → Bool = λ q. not (has_applied w.server q) && overlaps (range_of (op_at w.server.durable.log q)) r.range in
             let passes : (not (has_applied w.server slot) && overlaps (range_of (op_at w.server.durable.log slot)) r.range) ≡ true =
-                and_from _ _ (ap not not_yet) (ap (λ o. overlaps (range_of o) r.range) (op_of_held w.server slot e.0 e.1 ∙ e.3) ∙ touches) in
+            and_from _ _ (ap not not_yet) (ap (λ o. overlaps (range_of o) r.range) (op_of_held w.server slot e.0 e.1 ∙ e.3) ∙ touches) in
             let listed : Sets.contains (new_read w.server r.range r.number).waits_for slot ≡ true =
-                contains-retain w.server.committed (λ q. not (has_applied w.server q) && overlaps (range_of (op_at w.server.durable.log q)) r.range) slot (λ q tied. ap (λ n. not (has_applied w.server n) && overlaps (range_of (op_at w.server.durable.log n)) r.range) (sym (nat_cmp-IsAntisymmetric slot q tied)))
-                ∙ and_from _ _ e.2 passes in
+            contains-retain w.server.committed (λ q. not (has_applied w.server q) && overlaps (range_of (op_at w.server.durable.log q)) r.range) slot (λ q tied. ap (λ n. not (has_applied w.server n) && overlaps (range_of (op_at w.server.durable.log n)) r.range) (sym (nat_cmp-IsAntisymmetric slot q tied)))
+            ∙ and_from _ _ e.2 passes in
             all_of_items (has_applied s) (Sets.items r.waits_for) slot (and_parts r.confirmed _ ready).1 (sym (contains-items r.waits_for slot) ∙ ap (λ set. Sets.contains set slot) w.waits ∙ listed)
       ]
     ]
@@ -221,8 +216,12 @@ module _ (setup : Setup) (history : History) (a : Answered) (x : WasRead setup h
   -- no leader by then was of a higher term
   leader_low : (y : History) → IsPrefix y before → (k : ℕ) (w : Server) (l : Leader) → Runs (replay setup y) k w → w.role ≡ Serving l → w.durable.term ≤ x.waits.server.durable.term
   leader_low y p k w l led serves =
-      omega (arith, x.waits.same_term, no_higher setup x.earlier a.server x.server.durable.term x.read.number x.server sure x.runs refl y (prefix_of y x.waits.earlier x.earlier p before_answer)
-      (omega (arith, reads_before setup y x.waits.earlier p, x.waits.number)) k w l led serves)
+      omega (
+        arith,
+        x.waits.same_term,
+        no_higher setup x.earlier a.server x.server.durable.term x.read.number x.server sure x.runs refl y (prefix_of y x.waits.earlier x.earlier p before_answer)
+            (omega (arith, reads_before setup y x.waits.earlier p, x.waits.number)) k w l led serves,
+      )
 
   same_set : (slot : ℕ) → has_applied x.server slot ≡ shows a slot
   same_set slot = ap (λ n. is_applied n x.server.applied slot) (sym x.base) ∙ ap (λ set. is_applied a.base set slot) (sym x.applied)

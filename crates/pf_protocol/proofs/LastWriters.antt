@@ -1,5 +1,5 @@
 -- A sector holds what its last writer wrote.
-use Rattle.std.proofs.Common.{◌≡◌, ℕ, zero, suc, ◌+◌, ◌-◌, ◌<◌, ◌≤◌, ◌⊎◌, inl, inr, Bool, true, false, cond, List, [], ◌∷◌, Option, Some, None, slice_get, slice_index_or, arith, refl, sym, ap, subst, ◌∙◌}
+use Rattle.std.proofs.Common.{◌≡◌, ℕ, zero, suc, ◌-◌, ◌<◌, ◌≤◌, ◌⊎◌, inl, inr, Bool, true, false, List, [], ◌∷◌, Option, Some, None, slice_get, slice_index_or, arith, refl, sym, ap, subst, ◌∙◌}
 use Rattle.std.proofs.lemmas.Bool.{cases_lt, cond-true, false≢true}
 use Rattle.std.proofs.lemmas.Option.{same_Some, none-some}
 use Rattle.pf_entry.specs.Maps.{Numbers}
@@ -12,8 +12,8 @@ use Rattle.pf_entry.specs.declared.packets.Body.TheVariants.{Image}
 use Rattle.pf_protocol.specs.Servers.{Setup, Server, has_applied}
 use Rattle.pf_protocol.specs.Groups.{Sent}
 use Rattle.pf_protocol.specs.Histories.{History, replay, Runs, IsChosen}
-use Rattle.pf_protocol.specs.Kept.{MayHold, IsCovered, HasChosen}
-use Rattle.pf_protocol.specs.LastWriters.{bytes_for, IsLastWriter, NobodyWrites, HoldLastWrites}
+use Rattle.pf_protocol.specs.Kept.{MayHold, IsCovered}
+use Rattle.pf_protocol.specs.LastWriters.{bytes_for, HoldLastWrites}
 use Rattle.pf_protocol.proofs.Histories.{one_chosen_op}
 use Rattle.pf_protocol.proofs.Facts.{servers_covered, disks_covered, images_covered}
 use Rattle.pf_protocol.proofs.Snapshots.{applied_bound, fold_above}
@@ -56,7 +56,7 @@ module _ (setup : Setup) (history : History) (term : ℕ) (done : ℕ → Bool) 
   has_picked slot false is above yes_true = absurd (false≢true yes_true)
   has_picked slot true is above yes_true = by_place (cases_lt 0 slot)
     where
-      by_place : (place : (0 < slot) ⊎ (slot ≤ 0)) → (op : Op) × ((elim place [ | inl above ↦ Some (cover.chosen slot above is).0 | inr zero_slot ↦ None ]) ≡ Some op) × ((t : ℕ) × IsChosen setup history slot t op)
+      by_place : (place : (0 < slot) ⊎ (slot ≤ 0)) → (op : Op) × ((elim place [ inl above ↦ Some (cover.chosen slot above is).0 | inr zero_slot ↦ None ]) ≡ Some op) × ((t : ℕ) × IsChosen setup history slot t op)
       by_place (inl it) = let c = cover.chosen slot it is in (c.0, refl, (c.1.0, c.1.2))
       by_place (inr low) = absurd (omega (arith, above, low))
 

@@ -1,8 +1,8 @@
 -- What a step leaves of a server's term, its lead, what it applied and the reads that wait.
-use Rattle.std.proofs.Common.{◌≡◌, ℕ, zero, suc, ◌+◌, ◌-◌, ◌<◌, ◌≤◌, ◌≢◌, ◌⊎◌, inl, inr, Bool, true, false, cond, not, ◌&&◌, ◌||◌, ◌==◌, if◌then◌else◌, List, [], ◌∷◌, ◌++◌, map, Option, Some, None, nat_lt, nat_le, slice_get, arith, refl, sym, ap, subst, ◌∙◌, le_refl, lt_of_le_of_lt}
+use Rattle.std.proofs.Common.{◌≡◌, ℕ, zero, suc, ◌+◌, ◌-◌, ◌<◌, ◌≤◌, ◌⊎◌, inl, inr, Bool, true, false, cond, not, ◌&&◌, ◌||◌, ◌==◌, if◌then◌else◌, List, [], ◌∷◌, ◌++◌, map, Option, Some, None, nat_lt, nat_le, slice_get, arith, refl, sym, ap, subst, ◌∙◌, le_refl}
 use Rattle.std.specs.FinMap
-use Rattle.std.specs.List.{range_with_len, flat_map, filter, list_all}
-use Rattle.std.proofs.lemmas.Bool.{cases_Bool, cases_lt, or_cases, or_left, or_right, and_parts, or_parts, eqb-true, leb-true, leb-false, ltb-true, ltb-false, lt-ltb, lt-leb, le-leb, and_from, false≢true, true≢false}
+use Rattle.std.specs.List.{range_with_len, filter, list_all}
+use Rattle.std.proofs.lemmas.Bool.{cases_lt, or_cases, or_left, or_right, and_parts, or_parts, eqb-true, leb-true, leb-false, ltb-true, ltb-false, lt-ltb, le-leb, and_from}
 use Rattle.std.proofs.lemmas.Option.{same_Some, none-some}
 use Rattle.std.specs.Ordering.{nat_cmp, eq_by_cmp}
 use Rattle.std.proofs.lemmas.Bool.Decides.{nat_tests}
@@ -15,26 +15,25 @@ use Rattle.pf_entry.proofs.Sets.{contains-insert, contains-retain}
 use Rattle.pf_entry.specs.Lists.{Every}
 use Rattle.pf_entry.proofs.Lists.{every_append, every_more, every_map, every_filter, every_flat_map, every_of_all}
 use Rattle.pf_entry.specs.Ops.{Sector, range_of}
-use Rattle.pf_entry.specs.Applying.{is_applied}
 use Rattle.pf_entry.specs.declared.ops.Op.{Op}
 use Rattle.pf_entry.specs.declared.entries.Entry.{Entry}
 use Rattle.pf_entry.specs.declared.entries.VoteLog.{VoteLog}
 use Rattle.pf_entry.specs.declared.packets.Packet.{Packet}
 use Rattle.pf_entry.specs.declared.packets.Body.{Body}
 use Rattle.pf_entry.specs.declared.packets.Body.TheVariants.{RequestVote, Vote, Accept, Ack, Nack, Commit, Probe, ProbeOk, Image}
-use Rattle.pf_entry.specs.Records.{Durable, stored, holds, vote_of}
+use Rattle.pf_entry.specs.Records.{stored, holds}
 use Rattle.pf_entry.specs.Merging.{merged_first, merged_entries}
 use Rattle.pf_protocol.proofs.Keeping.{by_test}
-use Rattle.pf_protocol.proofs.Knowing.{acked_in, acknowledged_more, applied_to_upto}
+use Rattle.pf_protocol.proofs.Knowing.{acked_in, acknowledged_more}
 use Rattle.pf_protocol.specs.declared.answers.Answer.{Answer}
 use Rattle.pf_protocol.specs.declared.answers.Answer.TheVariants.{Done, Read as ReadIs, Base as BaseIs}
 use Rattle.pf_protocol.specs.declared.events.Event.{Event}
-use Rattle.pf_protocol.specs.declared.events.Event.TheVariants.{Fetch, Deliver}
+use Rattle.pf_protocol.specs.declared.events.Event.TheVariants.{Fetch}
 use Rattle.pf_protocol.specs.Servers.{Setup, Leader, Role, Follower, Candidate, Merging, Serving, Read, Server, climb, upto, has_applied}
 use Rattle.pf_protocol.specs.Outcomes.{Outcome, to_one, to_others, others, sends, nothing, refused, raise_term}
 use Rattle.pf_protocol.specs.Leading.{op_at, new_entry, submitted, on_submit, on_fetch, on_elect, resent_entry, resent, on_resend, led, merged, on_vote, has_acked, members, acknowledged, knows, is_own, other_acked, still_merging, counted, commit_to, marked, mark, on_ack, confirm, on_probe_ok}
 use Rattle.pf_protocol.specs.Following.{meets_term, ack, nack, on_request_vote, accepted, on_accept, on_nack, on_commit, on_probe, installed, on_image}
-use Rattle.pf_protocol.specs.Rows.{on_message, on_packet, settled}
+use Rattle.pf_protocol.specs.Rows.{on_message, on_packet}
 use Rattle.pf_protocol.specs.Saving.{is_short_of, trimmed, on_checkpoint, applied_op, on_finish, on_give_back}
 use Rattle.pf_protocol.specs.Groups.{Sent, Group}
 use Rattle.pf_protocol.proofs.Stepping.{IsRule, BySubmit, ByFetch, ByPacket, ByElect, ByResend, ByFinish, ByGiveBack, ByCheckpoint}

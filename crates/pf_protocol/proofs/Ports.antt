@@ -1,7 +1,7 @@
 -- A port's writes are chosen in the order in which it asked them.
-use Rattle.std.proofs.Common.{◌≡◌, ℕ, zero, suc, ◌+◌, ◌<◌, ◌≤◌, ◌≢◌, ◌⊎◌, inl, inr, Bool, true, false, List, [], ◌∷◌, ◌++◌, Option, Some, None, slice_get, slice_set, arith, refl, sym, ap, subst, ◌∙◌, le_refl}
+use Rattle.std.proofs.Common.{◌≡◌, ℕ, suc, ◌<◌, ◌≤◌, ◌≢◌, inl, inr, Bool, List, [], ◌∷◌, ◌++◌, Option, Some, None, slice_get, arith, refl, sym, ap, subst, ◌∙◌}
 use Rattle.std.proofs.lemmas.Bool.{cases_lt, cases_eq}
-use Rattle.std.proofs.lemmas.Option.{same_Some, none-some}
+use Rattle.std.proofs.lemmas.Option.{same_Some}
 use Rattle.std.proofs.lemmas.List.{append_assoc, append-nil}
 use Rattle.pf_entry.proofs.Lists.{every_get, set_there}
 use Rattle.pf_entry.specs.declared.ops.Op.{Op}
@@ -12,17 +12,16 @@ use Rattle.pf_entry.specs.Merging.{merged_first, merged_entry}
 use Rattle.pf_entry.proofs.Merging.{taken_below_first}
 use Rattle.pf_entry.specs.Records.{Durable}
 use Rattle.pf_protocol.specs.declared.answers.Answer.{Answer}
-use Rattle.pf_protocol.specs.declared.events.Event.{Event}
 use Rattle.pf_protocol.specs.declared.events.Event.TheVariants.{Submit}
 use Rattle.pf_protocol.specs.declared.events.Happening.{Happening}
-use Rattle.pf_protocol.specs.Servers.{Setup, Leader, Role, Serving, Server, Condition, Running, Stopped, Unformatted, has_applied}
+use Rattle.pf_protocol.specs.Servers.{Setup, Leader, Serving, Server, Condition, Running, Stopped, Unformatted, has_applied}
 use Rattle.pf_protocol.specs.Outcomes.{Outcome}
 use Rattle.pf_protocol.specs.Leading.{new_entry}
 use Rattle.pf_protocol.specs.Groups.{Acked, Group, Ending, Whole, CutOff, Missed, Untouched, TookPlace, cut_off, step_of, ending, happens, opening}
-use Rattle.pf_protocol.specs.Histories.{History, IsPrefix, replay, Runs, IsProposal, IsChosen, IsTakenFrom, HasOrigin, Itself, Through}
+use Rattle.pf_protocol.specs.Histories.{History, IsPrefix, replay, Runs, IsProposal, IsChosen, HasOrigin, Itself, Through}
 use Rattle.pf_protocol.specs.Safety.{leads}
-use Rattle.pf_protocol.specs.Ports.{Submission, submitting, IsTarget, IsCopy, IsAnswered, HasEnded, FollowsRule, ComesFrom, IsOrdered}
-use Rattle.pf_protocol.proofs.Ballots.{Ballot, first_of, Ballots, IsPicked, IsMade}
+use Rattle.pf_protocol.specs.Ports.{Submission, submitting, IsTarget, IsCopy, HasEnded, FollowsRule, ComesFrom, IsOrdered}
+use Rattle.pf_protocol.proofs.Ballots.{first_of}
 use Rattle.pf_protocol.proofs.Law.{kept_at}
 use Rattle.pf_protocol.proofs.Knowing.{IsAcked}
 use Rattle.pf_protocol.proofs.Follows.{IsLeader, RoleIs}
@@ -31,7 +30,6 @@ use Rattle.pf_protocol.proofs.Histories.{told, held_at_end, chosen_at_end, chose
 use Rattle.pf_protocol.proofs.Origins.{prefix_of, begins_with, taken_is_proposal}
 use Rattle.pf_protocol.proofs.Naming.{nothing_old}
 use Rattle.pf_protocol.proofs.Snapshots.{whole_prefix, chosen_after}
-use Rattle.pf_protocol.proofs.Moving.{AcksGrow}
 use Rattle.pf_protocol.proofs.Fetching.{term_low, StaysIn, came_stays, gone, to_now, traced}
 
 -- a server that was cut off does not run
@@ -72,7 +70,7 @@ never_again : (setup : Setup) (first later : History) (i : ℕ) (op : Op) (answe
 never_again setup first later i op answer x z l runs cut p at in_term serves =
     let h : Happening = record { event = Submit i op; answer = answer } in
     let begin : Silent setup first i x runs (first ++ record { event = Submit i op; answer = answer } ∷ []) = λ y there same. absurd (cut_stops setup (replay setup first) i op x y runs
-        (ap (λ g. slice_get g.servers i) (ap (happens setup (replay setup first) (Submit i op)) (sym cut) ∙ sym (run_longer setup (opening setup) first (record { event = Submit i op; answer = answer }))) ∙ there)) in
+    (ap (λ g. slice_get g.servers i) (ap (happens setup (replay setup first) (Submit i op)) (sym cut) ∙ sym (run_longer setup (opening setup) first (record { event = Submit i op; answer = answer }))) ∙ there)) in
     let is : Silent setup first i x runs later = subst (Silent setup first i x runs) p.whole (silent setup first i x runs (first ++ record { event = Submit i op; answer = answer } ∷ []) p.rest (record { rest = record { event = Submit i op; answer = answer } ∷ []; whole = refl }) begin) in
     subst (StaysIn Never (has_applied z)) serves (is z at in_term)
 

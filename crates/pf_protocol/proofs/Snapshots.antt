@@ -1,11 +1,11 @@
 -- A snapshot is what all slots up to its mark leave.
-use Rattle.std.proofs.Common.{◌≡◌, ℕ, zero, suc, ◌+◌, ◌<◌, ◌≤◌, ◌≢◌, ◌⊎◌, inl, inr, Bool, true, false, cond, not, ◌&&◌, ◌||◌, ◌==◌, if◌then◌else◌, List, [], ◌∷◌, ◌++◌, Option, Some, None, nat_lt, nat_le, slice_get, arith, refl, sym, ap, subst, ◌∙◌, le_refl}
+use Rattle.std.proofs.Common.{◌≡◌, ℕ, zero, suc, ◌+◌, ◌<◌, ◌≤◌, ◌⊎◌, inl, inr, Bool, true, false, cond, ◌&&◌, ◌||◌, ◌==◌, if◌then◌else◌, List, [], ◌∷◌, ◌++◌, Option, Some, None, nat_lt, nat_le, slice_get, arith, refl, sym, ap, subst, ◌∙◌, le_refl}
 use Rattle.std.specs.FinMap
 use Rattle.std.specs.FinMap.{get-empty}
 use Rattle.std.specs.Ordering.{nat_cmp, eq_by_cmp}
 use Rattle.std.specs.List.{list_any}
 use Rattle.std.proofs.lemmas.Bool.Decides.{nat_tests}
-use Rattle.std.proofs.lemmas.Bool.{cases_Bool, cases_lt, cases_eq, cond-true, cond-false, eqb-true, false≢true, true≢false, or_cases, leb-true}
+use Rattle.std.proofs.lemmas.Bool.{cases_Bool, cases_lt, cond-true, cond-false, false≢true, or_cases, leb-true}
 use Rattle.std.proofs.lemmas.Option.{same_Some, none-some}
 use Rattle.std.proofs.lemmas.List.{append_assoc, append-nil}
 use Rattle.pf_base.specs.Span.{Span, is_in, whole, overlaps}
@@ -14,7 +14,6 @@ use Rattle.pf_entry.specs.Maps.{Map, Numbers}
 use Rattle.pf_entry.specs.Sets
 use Rattle.pf_entry.proofs.Sets.{contains-items}
 use Rattle.pf_entry.proofs.Maps.{insert_cases, remove_cases}
-use Rattle.pf_entry.proofs.Folding.{fold_same, writes_apart}
 use Rattle.pf_entry.specs.Ops.{Sector, range_of, zero_sector, writes}
 use Rattle.pf_entry.specs.Applying.{passes, is_applied, after_op, fold_to}
 use Rattle.pf_entry.specs.declared.ops.Op.{Op}
@@ -25,29 +24,25 @@ use Rattle.pf_entry.specs.declared.packets.Body.{Body}
 use Rattle.pf_entry.specs.declared.packets.Body.TheVariants.{RequestVote, Vote, Accept, Ack, Nack, Commit, Probe, ProbeOk, Image}
 use Rattle.pf_entry.specs.Records.{Durable, holds}
 use Rattle.pf_protocol.proofs.Keeping.{by_test}
-use Rattle.pf_protocol.specs.declared.answers.Answer.{Answer}
-use Rattle.pf_protocol.specs.declared.answers.Answer.TheVariants.{Refused}
-use Rattle.pf_protocol.specs.declared.answers.Refusal.TheVariants.{Stale}
 use Rattle.pf_protocol.specs.declared.events.Event.{Event}
 use Rattle.pf_protocol.specs.declared.events.Happening.{Happening}
 use Rattle.pf_protocol.specs.Servers.{Setup, Role, Follower, Candidate, Merging, Serving, Server, Running, Unformatted, upto, has_applied}
-use Rattle.pf_protocol.specs.Outcomes.{Outcome, sends, refused, raise_term}
-use Rattle.pf_protocol.specs.Leading.{submitted, on_submit, on_fetch, on_elect, on_resend, merged, on_vote, marked, mark, on_ack, on_probe_ok, op_at}
+use Rattle.pf_protocol.specs.Outcomes.{Outcome, raise_term}
+use Rattle.pf_protocol.specs.Leading.{submitted, on_submit, on_fetch, on_elect, on_resend, merged, on_vote, marked, mark, on_ack, on_probe_ok}
 use Rattle.pf_protocol.specs.Following.{meets_term, on_request_vote, accepted, on_accept, on_nack, on_commit, on_probe, installed, on_image}
 use Rattle.pf_protocol.specs.Rows.{on_message, on_packet, settled}
 use Rattle.pf_protocol.specs.Saving.{restarted, is_short_of, trimmed, on_checkpoint, claimed, without_least, four_greatest, snapshots_after, applied_op, on_finish, on_give_back}
 use Rattle.pf_protocol.specs.Groups.{Group, ending, happens, opening, unless_failed, first_leader, opening_disk}
-use Rattle.pf_protocol.specs.Histories.{History, IsPrefix, run, replay, Runs, IsChosen}
+use Rattle.pf_protocol.specs.Histories.{History, IsPrefix, replay, Runs, IsChosen}
 use Rattle.pf_protocol.specs.Kept.{IsPassed, IsCovered, IsInHand}
 use Rattle.pf_protocol.specs.Snapshots.{AreChosen, every_slot, IsSnapshot}
-use Rattle.pf_protocol.proofs.Making.{longer, run_longer}
+use Rattle.pf_protocol.proofs.Making.{run_longer}
 use Rattle.pf_protocol.proofs.Origins.{prefix_of, accepted_after, proposal_after}
 use Rattle.pf_protocol.proofs.Serving.{passed_apart}
 use Rattle.pf_protocol.proofs.Serving.{IsPassed as PassedIn}
-use Rattle.pf_protocol.proofs.Law.{IsChosenBy}
 use Rattle.pf_protocol.proofs.Histories.{told, chosen_at_end}
 use Rattle.pf_protocol.proofs.Facts.{chosen_by, servers_covered, jobs_are_apart}
-use Rattle.pf_protocol.proofs.Stepping.{IsRule, BySubmit, ByFetch, ByPacket, ByElect, ByResend, ByFinish, ByGiveBack, ByCheckpoint, Steps, Came, Stays, Stepped, Begins, Claims, Goes, goes}
+use Rattle.pf_protocol.proofs.Stepping.{IsRule, BySubmit, ByFetch, ByPacket, ByElect, ByResend, ByFinish, ByGiveBack, ByCheckpoint, Came, Stays, Stepped, Begins, Claims, goes}
 
 -- a snapshot after a step was there before, or is of a mark in hand and has the sectors as they were
 abbrev Shows : Server → Server → Type 0
@@ -269,22 +264,26 @@ all_taken setup = by_events (AllTaken setup) (none_taken setup) (next_taken setu
 list_bound : (xs : List ℕ) → (n : ℕ) × ((slot : ℕ) → list_any (eq_by_cmp nat_cmp slot) xs ≡ true → slot ≤ n)
 list_bound [] = (0, λ slot is. absurd (false≢true is))
 list_bound (x ∷ xs) =
-    let rest = list_bound xs in
-    (rest.0 + x, λ slot is. elim (or_cases (eq_by_cmp nat_cmp slot x) (list_any (eq_by_cmp nat_cmp slot) xs) is) [
-      | inl here ↦ omega (arith, tied slot x here)
-      | inr later ↦ omega (arith, rest.1 slot later)
-    ])
+    let rest = list_bound xs in (
+      rest.0 + x,
+      λ slot is. elim (or_cases (eq_by_cmp nat_cmp slot x) (list_any (eq_by_cmp nat_cmp slot) xs) is) [
+        | inl here ↦ omega (arith, tied slot x here)
+        | inr later ↦ omega (arith, rest.1 slot later)
+      ],
+    )
   where
     tied : (q k : ℕ) → eq_by_cmp nat_cmp q k ≡ true → q ≡ k
     tied q k = grind (arith, nat_tests)
 
 pub applied_bound : (base : ℕ) (applied : Numbers) → (n : ℕ) × ((slot : ℕ) → is_applied base applied slot ≡ true → slot ≤ n)
 applied_bound base applied =
-    let set = list_bound (Sets.items applied) in
-    (set.0 + base, λ slot is. elim (or_cases (nat_le slot base) (Sets.contains applied slot) is) [
-      | inl low ↦ omega (arith, leb-true slot base low)
-      | inr has ↦ omega (arith, set.1 slot (sym (contains-items applied slot) ∙ has))
-    ])
+    let set = list_bound (Sets.items applied) in (
+      set.0 + base,
+      λ slot is. elim (or_cases (nat_le slot base) (Sets.contains applied slot) is) [
+        | inl low ↦ omega (arith, leb-true slot base low)
+        | inr has ↦ omega (arith, set.1 slot (sym (contains-items applied slot) ∙ has))
+      ],
+    )
 
 -- an op that writes nothing
 abbrev Quiet : (ℕ → Option Op) → (x slot : ℕ) → Type 0

@@ -1,9 +1,9 @@
 -- What one event changes: one server by its rule, or one that begins again, or nothing.
-use Rattle.std.proofs.Common.{◌≡◌, ℕ, suc, ◌+◌, ◌≤◌, ◌⊎◌, inl, inr, Bool, true, false, cond, if◌then◌else◌, List, [], ◌∷◌, ◌++◌, map, Option, Some, None, slice_get, slice_set, arith, refl, sym, ap, subst, ◌∙◌, le_refl}
+use Rattle.std.proofs.Common.{◌≡◌, ℕ, suc, ◌≤◌, inl, inr, Bool, true, false, cond, if◌then◌else◌, List, [], ◌∷◌, map, Option, Some, None, slice_get, slice_set, arith, refl, sym, ap, subst, ◌∙◌, le_refl}
 use Rattle.std.specs.Option.{option_to_list}
 use Rattle.pf_base.specs.Span.{Span}
 use Rattle.pf_entry.specs.Lists.{Every}
-use Rattle.pf_entry.proofs.Lists.{every_append, every_more, every_map, every_set, every_get, set_cases, set_there}
+use Rattle.pf_entry.proofs.Lists.{every_append, every_map, every_set, every_get, set_cases, set_there}
 use Rattle.pf_entry.specs.declared.ops.Op.{Op}
 use Rattle.pf_entry.specs.declared.packets.Packet.{Packet}
 use Rattle.pf_entry.specs.Records.{Durable}
@@ -18,7 +18,6 @@ use Rattle.pf_protocol.specs.Saving.{on_checkpoint, restarted, renewed, claimed,
 use Rattle.pf_protocol.specs.Rows.{on_packet, settled, ready_reads}
 use Rattle.pf_protocol.specs.Groups.{Acked, Answered, Sent, Group, Ending, Whole, CutOff, Missed, Untouched, send, answer_of, reads_after, acted, cut_off, ended, step_of, at_server, with_sent, marked_in, delivered, lost, stopped, begun, restart, claim_of, claim_at, claim_or, first_claim, only, counted_election, happens}
 use Rattle.pf_protocol.specs.Histories.{Runs}
-use Rattle.pf_protocol.proofs.Keeping.{by_test}
 
 -- the rule that an event follows at a running server
 pub data IsRule (setup : Setup) (g : Group) (i : ℕ) (s : Server) : Event → Outcome → Type 0 where
