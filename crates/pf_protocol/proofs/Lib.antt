@@ -29,3 +29,8 @@ pub mod LastWriters
 pub mod Worked
 mod Replays
 mod EarlyApply
+mod Answering
+mod Edge
+mod Nobody
+mod Ghost
+mod Start

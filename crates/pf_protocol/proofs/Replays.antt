@@ -20,7 +20,9 @@ use Rattle.pf_protocol.specs.declared.events.Event.TheVariants.{Submit, Fetch, D
 use Rattle.pf_protocol.specs.Leading.{on_submit, on_fetch, on_elect}
 use Rattle.pf_protocol.specs.Saving.{claimable, claimed, is_claimable, on_finish}
 use Rattle.pf_protocol.specs.Rows.{on_packet}
-use Rattle.pf_protocol.specs.Groups.{Group, Whole, acted, with_sent, happens, counted_election}
+use Rattle.pf_protocol.specs.Histories.{History, run}
+use Rattle.pf_protocol.specs.declared.events.Happening.{Happening}
+use Rattle.pf_protocol.specs.Groups.{ending, claim_of, Group, Whole, acted, with_sent, happens}
 
 pub no_rows : {A : Type 0} (es : List A) → 0 ≡ Rattle.std.proofs.Common.length es → es ≡ []
 no_rows [] e = refl
@@ -42,22 +44,26 @@ pub delivers : (setup : Setup) (g : Group) (k : ℕ) (packet : Packet) (before :
 unfolding happens
 delivers setup g k packet before s o sent at is = rw (sent, at) (ap (acted (with_sent g k (record { packet = packet; delivered = true; lost = false })) packet.to) is)
 
-pub elects : (setup : Setup) (g : Group) (i : ℕ) (s : Server) → slice_get g.servers i ≡ Some (Running s) → happens setup g (Elect i) Whole ≡ acted (counted_election Whole g) i (on_elect s)
+pub elects : (setup : Setup) (g : Group) (i : ℕ) (s : Server) (o : Outcome) → slice_get g.servers i ≡ Some (Running s) → on_elect s ≡ o → happens setup g (Elect i) Whole ≡ acted (record g { elections = suc g.elections }) i o
 unfolding happens
-elects setup g i s at = rw at refl
+elects setup g i s o at is = rw at (ap (acted (record g { elections = suc g.elections }) i) is)
 
 pub finishes : (setup : Setup) (g : Group) (i life slot : ℕ) (s : Server) (o : Outcome) → slice_get g.servers i ≡ Some (Running s) → on_finish s life slot ≡ o → happens setup g (Finish i life slot) Whole ≡ acted g i o
 unfolding happens
 finishes setup g i life slot s o at is = rw at (ap (acted g i) is)
 
--- a claim, at server 0 and at server 1
+-- a claim, at the least server that has a slot to apply
 pub claims_at_0 : (setup : Setup) (g : Group) (s : Server) (slot : ℕ) → slice_get g.servers 0 ≡ Some (Running s) → claimable setup.window s ≡ Some slot → happens setup g Claim Whole ≡ record g { servers = slice_set g.servers 0 (Running (claimed s slot)) }
 unfolding happens
 claims_at_0 setup g s slot at is = rw (at, is, at) refl
 
-pub claims_at_1 : (setup : Setup) (g : Group) (z s : Server) (slot : ℕ) → slice_get g.servers 0 ≡ Some (Running z) → claimable setup.window z ≡ None → slice_get g.servers 1 ≡ Some (Running s) → claimable setup.window s ≡ Some slot → happens setup g Claim Whole ≡ record g { servers = slice_set g.servers 1 (Running (claimed s slot)) }
+pub claims_at_1 : (setup : Setup) (g : Group) → claim_of setup.window (slice_get g.servers 0) ≡ None → (s : Server) (slot : ℕ) → slice_get g.servers 1 ≡ Some (Running s) → claimable setup.window s ≡ Some slot → happens setup g Claim Whole ≡ record g { servers = slice_set g.servers 1 (Running (claimed s slot)) }
 unfolding happens
-claims_at_1 setup g z s slot first none at is = rw (first, none, at, is, at) refl
+claims_at_1 setup g none s slot at is = rw (none, at, is, at) refl
+
+pub claims_at_2 : (setup : Setup) (g : Group) → claim_of setup.window (slice_get g.servers 0) ≡ None → claim_of setup.window (slice_get g.servers 1) ≡ None → (s : Server) (slot : ℕ) → slice_get g.servers 2 ≡ Some (Running s) → claimable setup.window s ≡ Some slot → happens setup g Claim Whole ≡ record g { servers = slice_set g.servers 2 (Running (claimed s slot)) }
+unfolding happens
+claims_at_2 setup g none nor s slot at is = rw (none, nor, at, is, at) refl
 
 abbrev can_claim : Server → ℕ → Bool
 can_claim s slot = is_claimable s (FinMap.get s.durable.log slot) slot
@@ -80,6 +86,10 @@ second_is s n base here is = subst (λ b. find (can_claim s) (range_with_len (su
 pub third_is : (s : Server) (n : ℕ) → s.durable.base ≡ 0 → can_claim s 1 ≡ false → can_claim s 2 ≡ false → can_claim s 3 ≡ true → claimable (suc (suc (suc n))) s ≡ Some 3
 unfolding claimable
 third_is s n base here next is = subst (λ b. find (can_claim s) (range_with_len (suc b) (suc (suc (suc n)))) ≡ Some 3) (sym base) (passed (can_claim s) (suc (suc n)) 1 3 here (passed (can_claim s) (suc n) 2 3 next (found_at (can_claim s) n 3 is)))
+
+pub fourth_is : (s : Server) (n : ℕ) → s.durable.base ≡ 0 → can_claim s 1 ≡ false → can_claim s 2 ≡ false → can_claim s 3 ≡ false → can_claim s 4 ≡ true → claimable (suc (suc (suc (suc n)))) s ≡ Some 4
+unfolding claimable
+fourth_is s n base here next then is = subst (λ b. find (can_claim s) (range_with_len (suc b) (suc (suc (suc (suc n))))) ≡ Some 4) (sym base) (passed (can_claim s) (suc (suc (suc n))) 1 4 here (passed (can_claim s) (suc (suc n)) 2 4 next (passed (can_claim s) (suc n) 3 4 then (found_at (can_claim s) n 4 is))))
 
 none_from : (p : ℕ → Bool) (n k : ℕ) → ((slot : ℕ) → p slot ≡ false) → find p (range_with_len k n) ≡ None
 none_from p zero k none = refl
@@ -115,3 +125,7 @@ nor_of p set n here rest slot is =
       | inl same ↦ subst (λ k. p k ≡ false) (sym (nat_cmp-IsAntisymmetric slot n (tied slot n same))) here
       | inr among ↦ rest slot among
     ]
+
+-- a history goes on from what its first event makes of the group
+pub follows : (setup : Setup) (g later last : Group) (h : Happening) (hs : History) → happens setup g h.event (ending h.answer) ≡ later → run setup later hs ≡ last → run setup g (h ∷ hs) ≡ last
+follows setup g later last h hs now rest = ap (λ x. run setup x hs) now ∙ rest

@@ -17,3 +17,7 @@ pub mod Answers
 pub mod Fitting
 pub mod Shown
 pub mod EarlyApply
+pub mod Edge
+pub mod Nobody
+pub mod Ghost
+pub mod Start

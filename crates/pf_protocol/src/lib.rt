@@ -15,7 +15,11 @@ mod tests;
 
 pub use answers::{Answer, Refusal};
 pub use events::{Event, Happening};
-pub use examples::slots_are_applied_beside_a_missing_one;
+pub use examples::{
+    ghosts_are_void, slots_are_applied_beside_a_missing_one,
+    slots_that_the_majority_lacks_are_given_away, slots_wait_for_those_they_do_not_name,
+    starts_outlive_their_entries,
+};
 pub use kept::{
     applied_slots_are_covered, held_entries_are_proposals, histories_go_on, jobs_in_hand_are_apart,
     legal_histories_fit, marks_stand_on_chosen_ops, open_claims_are_in_hand,

@@ -1,5 +1,5 @@
-use Rattle.pf_protocol.proofs.EarlyApply.{applies_early}
+use Rattle.pf_protocol.proofs.EarlyApply.{legal, shows}
 use Rattle.pf_protocol.proofs.examples.slots_are_applied_beside_a_missing_one.Goals as goal
 
 pub returns : goal.returns
-returns c = applies_early
+returns c = record { legal = legal; shows = shows }

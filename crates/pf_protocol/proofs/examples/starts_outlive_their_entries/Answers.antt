@@ -1,0 +1,5 @@
+use Rattle.pf_protocol.proofs.Start.{legal, shows}
+use Rattle.pf_protocol.proofs.examples.starts_outlive_their_entries.Goals as goal
+
+pub returns : goal.returns
+returns c = record { legal = legal; shows = shows }
