@@ -34,3 +34,4 @@ mod Edge
 mod Nobody
 mod Ghost
 mod Start
+mod Deposed

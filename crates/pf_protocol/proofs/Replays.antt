@@ -6,7 +6,8 @@ use Rattle.std.specs.Ordering.{nat_cmp, eq_by_cmp}
 use Rattle.std.proofs.lemmas.Bool.Decides.{nat_tests}
 use Rattle.std.proofs.lemmas.Bool.{or_cases, false≢true}
 use Rattle.std.specs.FinMap
-use Rattle.std.specs.FinMap.{len-entries, len-empty, get-empty, nat_cmp-IsAntisymmetric}
+use Rattle.std.specs.Cmp.{nat_cmp_total}
+use Rattle.std.specs.FinMap.{len-entries, len-empty, get-empty, get-retain_keys, same_map, nat_cmp-IsAntisymmetric}
 use Rattle.std.specs.Prelude.{is_some}
 use Rattle.pf_entry.specs.Maps.{Numbers}
 use Rattle.pf_entry.specs.Sets
@@ -129,3 +130,17 @@ nor_of p set n here rest slot is =
 -- a history goes on from what its first event makes of the group
 pub follows : (setup : Setup) (g later last : Group) (h : Happening) (hs : History) → happens setup g h.event (ending h.answer) ≡ later → run setup later hs ≡ last → run setup g (h ∷ hs) ≡ last
 follows setup g later last h hs now rest = ap (λ x. run setup x hs) now ∙ rest
+
+-- a set of which nothing is kept
+pub retains_none : (set : Numbers) (p : ℕ → Bool) → ((slot : ℕ) → Sets.contains set slot ≡ true → p slot ≡ false) → Sets.retain set p ≡ Sets.empty
+retains_none set p none =
+    same_map nat_cmp_total nat_cmp-IsAntisymmetric (Sets.retain set p) Sets.empty
+    (λ q. get-retain_keys set p q (λ x tied. ap p (sym (nat_cmp-IsAntisymmetric q x tied))) ∙ nothing q (FinMap.get set q) refl ∙ sym (get-empty nat_cmp q))
+  where
+    nothing : (q : ℕ) (found : Option (Unit {0})) → FinMap.get set q ≡ found → cond (p q) found None ≡ None
+    nothing q None is = same (p q)
+      where
+        same : (b : Bool) → cond {A = Option (Unit {0})} b None None ≡ None
+        same true = refl
+        same false = refl
+    nothing q (Some u) is = rw (none q (ap is_some is)) refl

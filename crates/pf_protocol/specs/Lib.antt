@@ -21,3 +21,4 @@ pub mod Edge
 pub mod Nobody
 pub mod Ghost
 pub mod Start
+pub mod Deposed

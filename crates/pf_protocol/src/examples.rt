@@ -3,6 +3,7 @@ ghost use Rattle.std.specs.Prelude.{◌≡◌, length};
 ghost use Rattle.pf_entry.specs.Ops.{Sector};
 ghost use Rattle.pf_protocol.specs.Answers.{IsLegal};
 ghost use Rattle.pf_protocol.specs.Shown.{small_group};
+ghost use Rattle.pf_protocol.specs.Deposed.{stale_read, ReadsAtTheLeader};
 ghost use Rattle.pf_protocol.specs.EarlyApply.{early_apply, AppliesEarly};
 ghost use Rattle.pf_protocol.specs.Edge.{past_the_edge, WaitsPastTheEdge};
 ghost use Rattle.pf_protocol.specs.Ghost.{ghost_slots, PassesOver};
@@ -42,4 +43,11 @@ pub fn ghosts_are_void()
 pub fn starts_outlive_their_entries()
     ensures legal { (first second third fourth : Sector) → length first ≡ 512 → length second ≡ 512 → length third ≡ 512 → length fourth ≡ 512 → IsLegal small_group (kept_start first second third fourth) }
     ensures shows { (first second third fourth : Sector) → length first ≡ 512 → length second ≡ 512 → length third ≡ 512 → length fourth ≡ 512 → KeepsStart first second third fourth }
+{}
+
+/// A leader that was deposed takes up a read, learns of the new term as it asks the others, and answers none; the next
+/// read it refuses. The new leader answers with the bytes that it committed.
+pub fn deposed_leaders_answer_no_read()
+    ensures legal { (first : Sector) → length first ≡ 512 → IsLegal small_group (stale_read first) }
+    ensures shows { (first : Sector) → length first ≡ 512 → ReadsAtTheLeader first }
 {}

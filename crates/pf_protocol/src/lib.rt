@@ -16,7 +16,7 @@ mod tests;
 pub use answers::{Answer, Refusal};
 pub use events::{Event, Happening};
 pub use examples::{
-    ghosts_are_void, slots_are_applied_beside_a_missing_one,
+    deposed_leaders_answer_no_read, ghosts_are_void, slots_are_applied_beside_a_missing_one,
     slots_that_the_majority_lacks_are_given_away, slots_wait_for_those_they_do_not_name,
     starts_outlive_their_entries,
 };

@@ -1,0 +1,35 @@
+-- A leader that was deposed takes up a read and answers none; the new leader answers the bytes that it committed.
+use Rattle.std.specs.Prelude.{◌≡◌, [], ◌∷◌}
+use Rattle.pf_entry.specs.Ops.{Sector}
+use Rattle.pf_protocol.specs.declared.answers.Answer.TheVariants.{Done, Job as JobIs, Read as ReadIs, Refused, Slot as SlotIs, Term as TermIs}
+use Rattle.pf_protocol.specs.declared.answers.Refusal.TheVariants.{NotLeader}
+use Rattle.pf_protocol.specs.declared.events.Event.TheVariants.{Claim, Deliver, Elect, Fetch, Finish, Submit}
+use Rattle.pf_entry.specs.Sets
+use Rattle.pf_protocol.specs.Histories.{History, replay}
+use Rattle.pf_protocol.specs.Shown.{small_group, write_at, so}
+
+-- server 1 takes over and commits slot 1. Server 0 still takes up a read, learns of the new term, and refuses the next; server 1 then reads
+abbrev pub stale_read : (first : Sector) → History
+stale_read first =
+    so (Elect 1) (TermIs 2)
+    ∷ so (Deliver 1) Done
+    ∷ so (Deliver 2) Done
+    ∷ so (Submit 1 (write_at 0 first)) (SlotIs 1)
+    ∷ so (Deliver 4) Done
+    ∷ so (Deliver 5) Done
+    ∷ so Claim (JobIs (record { server = 1; life = 0; slot = 1; op = write_at 0 first }))
+    ∷ so (Finish 1 0 1) Done
+    ∷ so (Fetch 0 (record { first = 0; count = 1 })) (ReadIs 0)
+    ∷ so (Deliver 7) Done
+    ∷ so (Deliver 8) Done
+    ∷ so (Deliver 9) Done
+    ∷ so (Fetch 0 (record { first = 0; count = 1 })) (Refused NotLeader)
+    ∷ so (Fetch 1 (record { first = 0; count = 1 })) (ReadIs 1)
+    ∷ so (Deliver 12) Done
+    ∷ so (Deliver 13) Done
+    ∷ []
+
+-- one read was answered, by the new leader, with what it wrote
+pub record ReadsAtTheLeader (first : Sector) : Type 0 where
+  pub acked : (replay small_group (stale_read first)).acked ≡ record { term = 2; slot = 1 } ∷ []
+  pub answered : (replay small_group (stale_read first)).answered ≡ record { number = 1; server = 1; term = 2; range = record { first = 0; count = 1 }; base = 0; applied = Sets.from_items (1 ∷ []); bytes = first ∷ [] } ∷ []
