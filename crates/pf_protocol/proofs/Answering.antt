@@ -6,7 +6,8 @@ use Rattle.pf_entry.specs.Ops.{range_of}
 use Rattle.pf_entry.specs.declared.ops.Op.{Op}
 use Rattle.pf_entry.specs.declared.packets.Packet.{Packet}
 use Rattle.pf_protocol.specs.declared.answers.Answer.{Answer}
-use Rattle.pf_protocol.specs.declared.answers.Answer.TheVariants.{Job as JobIs}
+use Rattle.pf_protocol.specs.declared.answers.Answer.TheVariants.{Job as JobIs, Refused}
+use Rattle.pf_protocol.specs.declared.answers.Refusal.TheVariants.{NoneFree}
 use Rattle.pf_protocol.specs.declared.events.Event.TheVariants.{Submit, Fetch, Deliver, Elect, Claim, Finish}
 use Rattle.pf_protocol.specs.declared.events.Happening.{Happening}
 use Rattle.pf_protocol.specs.Servers.{Setup, Server, Condition, Running, Stopped, Unformatted}
@@ -65,6 +66,11 @@ claim_answer_1 setup g none s slot at is = next_server 0 setup.window (slice_get
 pub claim_answer_2 : (setup : Setup) (g : Group) → claim_of setup.window (slice_get g.servers 0) ≡ None → claim_of setup.window (slice_get g.servers 1) ≡ None → (s : Server) (slot : ℕ) → slice_get g.servers 2 ≡ Some (Running s) → claimable setup.window s ≡ Some slot → answer_to setup g Claim ≡ job_of 2 s slot
 unfolding answer_to
 claim_answer_2 setup g none nor s slot at is = next_server 0 setup.window (slice_get g.servers 0) _ none ∙ next_server 1 setup.window (slice_get g.servers 1) _ nor ∙ rw (at, is) refl
+
+pub claim_answer_none : (setup : Setup) (g : Group) → claim_of setup.window (slice_get g.servers 0) ≡ None → claim_of setup.window (slice_get g.servers 1) ≡ None → claim_of setup.window (slice_get g.servers 2) ≡ None → answer_to setup g Claim ≡ Refused NoneFree
+unfolding answer_to
+claim_answer_none setup g none nor neither =
+    next_server 0 setup.window (slice_get g.servers 0) _ none ∙ next_server 1 setup.window (slice_get g.servers 1) _ nor ∙ next_server 2 setup.window (slice_get g.servers 2) _ neither
 
 -- one more event, with its answer
 pub goes_on : (setup : Setup) (g later : Group) (claims : List Claimed) (h : Happening) (hs : History) → MayHappen claims h.event → answer_to setup g h.event ≡ h.answer → happens setup g h.event (ending h.answer) ≡ later → IsLegalFrom setup later (claims_after claims h.event h.answer) hs → IsLegalFrom setup g claims (h ∷ hs)

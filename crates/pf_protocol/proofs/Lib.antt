@@ -30,8 +30,8 @@ pub mod Worked
 mod Replays
 mod EarlyApply
 mod Answering
-mod Edge
-mod Nobody
-mod Ghost
-mod Start
-mod Deposed
+mod PastTheNames
+mod GivenAway
+mod Ghosts
+mod KeptStarts
+mod StaleReads

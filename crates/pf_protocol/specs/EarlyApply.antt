@@ -1,7 +1,9 @@
 -- A follower applies a slot before a missing one that shares no sector with it, and not the slot that shares one.
 use Rattle.std.specs.Prelude.{◌≡◌, [], ◌∷◌, true}
 use Rattle.pf_entry.specs.Ops.{Sector}
-use Rattle.pf_protocol.specs.declared.answers.Answer.TheVariants.{Done, Job as JobIs, Slot as SlotIs}
+use Rattle.pf_protocol.specs.declared.answers.Answer.TheVariants.{Done, Job as JobIs, Refused, Slot as SlotIs}
+use Rattle.pf_protocol.specs.declared.answers.Refusal.TheVariants.{NoneFree}
+use Rattle.pf_protocol.specs.Answers.{answer_to}
 use Rattle.pf_protocol.specs.declared.events.Event.TheVariants.{Claim, Deliver, Finish, Submit}
 use Rattle.pf_protocol.specs.Histories.{History, replay}
 use Rattle.pf_protocol.specs.Shown.{Shows, small_group, write_at, line, so}
@@ -27,4 +29,5 @@ early_apply first second third =
 -- server 1 has applied slot 2 alone, and the host was told of slots 2 and 3
 pub record AppliesEarly (first second third : Sector) : Type 0 where
   pub acked : (replay small_group (early_apply first second third)).acked ≡ record { term = 1; slot = 2 } ∷ record { term = 1; slot = 3 } ∷ []
+  pub calm : answer_to small_group (replay small_group (early_apply first second third)) Claim ≡ Refused NoneFree
   pub shown_1 : Shows (replay small_group (early_apply first second third)) 1 1 0 (line 2 1 (write_at 4 second) true ∷ line 3 1 (write_at 0 third) true ∷ []) (2 ∷ [])

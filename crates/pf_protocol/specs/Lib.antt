@@ -17,8 +17,8 @@ pub mod Answers
 pub mod Fitting
 pub mod Shown
 pub mod EarlyApply
-pub mod Edge
-pub mod Nobody
-pub mod Ghost
-pub mod Start
-pub mod Deposed
+pub mod PastTheNames
+pub mod GivenAway
+pub mod Ghosts
+pub mod KeptStarts
+pub mod StaleReads

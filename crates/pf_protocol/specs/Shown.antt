@@ -1,5 +1,5 @@
 -- What a group shows of itself after a history, and the groups of the worked histories.
-use Rattle.std.specs.Prelude.{◌≡◌, ℕ, Bool, List, [], ◌∷◌, map, Some, slice_get}
+use Rattle.std.specs.Prelude.{◌≡◌, ℕ, Bool, List, [], ◌∷◌, map, length, Some, slice_get}
 use Rattle.std.specs.FinMap
 use Rattle.pf_entry.specs.Sets
 use Rattle.pf_entry.specs.declared.ops.Op.{Op}
@@ -37,6 +37,9 @@ pub record Shows (g : Group) (i term base : ℕ) (log : List Line) (applied : Li
 -- a chunk of 16 sectors, in format 2, whose entries name the two slots before them
 abbrev pub small_group : Setup
 small_group = record { names = 2; window = 4096; chunk = 16; format = 2; failed = [] }
+
+abbrev pub IsSector : Sector → Type 0
+IsSector bytes = length bytes ≡ 512
 
 -- a write of one sector
 abbrev pub write_at : ℕ → Sector → Op

@@ -1,4 +1,4 @@
-use Rattle.pf_protocol.proofs.Ghost.{legal, shows}
+use Rattle.pf_protocol.proofs.Ghosts.{legal, shows}
 use Rattle.pf_protocol.proofs.examples.ghosts_are_void.Goals as goal
 
 pub returns : goal.returns

@@ -1,4 +1,4 @@
-use Rattle.pf_protocol.proofs.Start.{legal, shows}
+use Rattle.pf_protocol.proofs.KeptStarts.{legal, shows}
 use Rattle.pf_protocol.proofs.examples.starts_outlive_their_entries.Goals as goal
 
 pub returns : goal.returns

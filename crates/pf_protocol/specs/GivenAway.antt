@@ -1,14 +1,16 @@
 -- A slot that nobody of a new leader's majority has is given to another op, and a late packet of the old one does nothing.
-use Rattle.std.specs.Prelude.{◌≡◌, [], ◌∷◌, true, false}
+use Rattle.std.specs.Prelude.{◌≡◌, [], ◌∷◌, ◌++◌, true, false}
 use Rattle.pf_entry.specs.Ops.{Sector}
-use Rattle.pf_protocol.specs.declared.answers.Answer.TheVariants.{Done, Job as JobIs, Slot as SlotIs, Term as TermIs}
+use Rattle.pf_protocol.specs.declared.answers.Answer.TheVariants.{Done, Job as JobIs, Refused, Slot as SlotIs, Term as TermIs}
+use Rattle.pf_protocol.specs.declared.answers.Refusal.TheVariants.{NoneFree}
+use Rattle.pf_protocol.specs.Answers.{answer_to}
 use Rattle.pf_protocol.specs.declared.events.Event.TheVariants.{Claim, Deliver, Elect, Finish, Restart, Stop, Submit}
 use Rattle.pf_protocol.specs.Histories.{History, replay}
 use Rattle.pf_protocol.specs.Shown.{Shows, small_group, write_at, line, so}
 
--- slot 1 reaches nobody. The next leader gives it to another op and commits that; the old leader comes back and hears its own packet late
-abbrev pub lost_slot : (first second : Sector) → History
-lost_slot first second =
+-- slot 1 reaches nobody. The next leader gives it to another op and commits that; the old leader comes back with the old op
+abbrev pub until_the_restart : (first second : Sector) → History
+until_the_restart first second =
     so (Submit 0 (write_at 0 first)) (SlotIs 1)
     ∷ so (Stop 0) Done
     ∷ so (Elect 1) (TermIs 2)
@@ -20,12 +22,20 @@ lost_slot first second =
     ∷ so Claim (JobIs (record { server = 1; life = 0; slot = 1; op = write_at 1 second }))
     ∷ so (Finish 1 0 1) Done
     ∷ so (Restart 0 false) Done
-    ∷ so (Deliver 0) Done
+    ∷ []
+
+-- then the old leader hears its own packet late, and takes the new entry
+abbrev pub lost_slot : (first second : Sector) → History
+lost_slot first second =
+    until_the_restart first second ++
+    so (Deliver 0) Done
     ∷ so (Deliver 5) Done
     ∷ []
 
--- each server that ran on holds the new op; the host was told of it alone
+-- the old leader came back with the old op, which is replaced: each server that ran on holds the new op; the host was told of it alone
 pub record GivesAway (first second : Sector) : Type 0 where
   pub acked : (replay small_group (lost_slot first second)).acked ≡ record { term = 2; slot = 1 } ∷ []
+  pub before : Shows (replay small_group (until_the_restart first second)) 0 1 0 (line 1 1 (write_at 0 first) false ∷ []) ([])
+  pub calm : answer_to small_group (replay small_group (lost_slot first second)) Claim ≡ Refused NoneFree
   pub shown_0 : Shows (replay small_group (lost_slot first second)) 0 2 0 (line 1 2 (write_at 1 second) false ∷ []) ([])
   pub shown_1 : Shows (replay small_group (lost_slot first second)) 1 2 0 (line 1 2 (write_at 1 second) true ∷ []) (1 ∷ [])

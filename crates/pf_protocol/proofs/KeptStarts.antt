@@ -1,5 +1,5 @@
 -- A start outlives its entry, event by event.
-use Rattle.std.proofs.Common.{◌≡◌, ℕ, true, false, [], ◌∷◌, length, Some, None, refl, ap, ◌∙◌, arith}
+use Rattle.std.proofs.Common.{◌≡◌, ℕ, true, false, [], ◌∷◌, Some, None, refl, ap, ◌∙◌, arith}
 use Rattle.std.specs.Prelude.{slice_set}
 use Rattle.std.specs.FinMap
 use Rattle.std.specs.FinMap.{gets, entries-insert}
@@ -16,23 +16,26 @@ use Rattle.pf_entry.specs.Records.{stored, put_entry, put_entries, add_start, ad
 use Rattle.pf_entry.specs.Voids.{is_void}
 use Rattle.pf_entry.specs.Merging.{merged_first, merged_entry, merged_entries, merged_op, op_or_noop, taken, left_of, higher}
 use Rattle.pf_entry.specs.Sizes.{packet_size, body_size}
-use Rattle.pf_protocol.specs.declared.answers.Answer.TheVariants.{Slot as SlotIs, Term as TermIs, Done, Job as JobIs}
+use Rattle.pf_protocol.specs.declared.answers.Answer.TheVariants.{Slot as SlotIs, Term as TermIs, Done, Job as JobIs, Refused}
+use Rattle.pf_protocol.specs.declared.answers.Refusal.TheVariants.{NoneFree}
 use Rattle.pf_protocol.specs.declared.events.Event.TheVariants.{Submit, Deliver, Elect, Stop, Restart, Claim, Finish}
 use Rattle.pf_protocol.specs.Servers.{Leader, Server, Candidate, Merging, Serving, Running, Stopped, upto}
 use Rattle.pf_protocol.specs.Outcomes.{Outcome, sends}
 use Rattle.pf_protocol.specs.Leading.{on_submit, submitted, new_entry, look_behind, op_at, acknowledged, all_acknowledged, on_elect, on_vote, merged, led, on_ack, counted, marked}
 use Rattle.pf_protocol.specs.Following.{on_request_vote, on_accept, accepted}
-use Rattle.pf_protocol.specs.Saving.{restarted, renewed, claimable, claimed, on_finish, applied_op, changed, snapshots_after}
+use Rattle.pf_protocol.specs.Saving.{restarted, renewed, is_claimable, claimable, claimed, on_finish, applied_op, changed, snapshots_after}
 use Rattle.pf_protocol.specs.Rows.{on_message, on_packet, settled}
 use Rattle.pf_protocol.specs.Groups.{Group, Whole, opening, first_leader, opening_disk, happens, acted, with_sent}
 use Rattle.pf_protocol.specs.Histories.{History, run}
 use Rattle.pf_protocol.specs.Answers.{answer_to, room_refusal, most_packets, most_packet_bytes, half_size, most_elections, IsLegal, IsLegalFrom}
-use Rattle.pf_protocol.specs.Shown.{Shows, small_group, write_at, line, so}
-use Rattle.pf_protocol.proofs.Replays.{empty_rows, submits, delivers, elects, claims_at_1, finishes, first_is, third_is, follows}
-use Rattle.pf_protocol.proofs.Answering.{submit_answer, deliver_answer, elect_answer, finish_answer, claim_answer_1, goes_on, is_small_group}
-use Rattle.pf_protocol.specs.Start.{kept_start, KeepsStart}
+use Rattle.pf_protocol.specs.Shown.{Shows, small_group, write_at, IsSector, line, so}
+use Rattle.pf_protocol.proofs.Replays.{empty_rows, submits, delivers, elects, claims_at_1, finishes, first_is, third_is, none_marked, none_of, follows}
+use Rattle.pf_protocol.proofs.Answering.{submit_answer, deliver_answer, elect_answer, finish_answer, claim_answer_1, claim_answer_none, goes_on, is_small_group}
+use Rattle.pf_entry.specs.Sets.{from_items}
+use Rattle.pf_protocol.specs.KeptStarts.{kept_start, KeepsStart}
 
-module _ (first second third fourth : Sector) (length_first : length first ≡ 512) (length_second : length second ≡ 512) (length_third : length third ≡ 512) (length_fourth : length fourth ≡ 512) where
+-- the states of the servers 0, 1 and 2 are a, b and c, each with its number; l are records of leaders, and g are the group after each event
+module _ (first second third fourth : Sector) where
   abbrev packet : (from to term : ℕ) → Body → Packet
   packet from to term body = record { from = from; to = to; term = term; body = body }
 
@@ -54,6 +57,7 @@ module _ (first second third fourth : Sector) (length_first : length first ≡ 5
   abbrev g0 : Group
   g0 = opening small_group
 
+  -- 1. server 0 takes a submission
   abbrev one : Entry
   one = record { slot = 1; term = 1; first = 1; look = []; op = write_at 0 first }
 
@@ -78,6 +82,7 @@ module _ (first second third fourth : Sector) (length_first : length first ≡ 5
   unfolding opening first_leader acted settled restarted opening_disk stored on_elect renewed led
   e1 = submits small_group g0 0 (write_at 0 first) a0 _ refl rule_1
 
+  -- 2. server 0 takes a submission
   abbrev two : Entry
   two = record { slot = 2; term = 1; first = 1; look = record { slot = 1; range = record { first = 0; count = 1 } } ∷ []; op = write_at 5 second }
 
@@ -102,6 +107,7 @@ module _ (first second third fourth : Sector) (length_first : length first ≡ 5
   unfolding opening first_leader acted settled restarted opening_disk stored on_elect renewed led
   e2 = submits small_group g1 0 (write_at 5 second) a1 _ refl rule_2
 
+  -- 3. a proposal from server 0 comes to server 2
   abbrev c1 : Server
   c1 = record c0 { durable = stored c0.durable (EntryRecord one) }
 
@@ -120,6 +126,7 @@ module _ (first second third fourth : Sector) (length_first : length first ≡ 5
   unfolding opening first_leader acted settled restarted opening_disk stored on_elect renewed led
   e3 = delivers small_group g2 1 (packet 0 2 1 (Accept one)) false c0 _ refl refl rule_3
 
+  -- 4. server 0 stops
   abbrev g4 : Group
   g4 = record g3 { servers = slice_set g3.servers 0 (Stopped 1 a2.durable a2.durable) }
 
@@ -127,6 +134,7 @@ module _ (first second third fourth : Sector) (length_first : length first ≡ 5
   unfolding happens opening first_leader acted settled restarted opening_disk stored on_elect renewed led
   e4 = refl
 
+  -- 5. server 1 stands for election
   abbrev b1 : Server
   b1 = record b0 { durable = stored b0.durable (TermRecord 2); role = Candidate (vote_of b0.durable) }
 
@@ -145,6 +153,7 @@ module _ (first second third fourth : Sector) (length_first : length first ≡ 5
   unfolding opening first_leader acted settled restarted opening_disk stored on_elect renewed led
   e5 = elects small_group g4 1 b0 _ refl rule_5
 
+  -- 6. a request for a vote from server 1 comes to server 2
   abbrev c2 : Server
   c2 = record c1 { durable = stored c1.durable (TermRecord 2) }
 
@@ -163,6 +172,7 @@ module _ (first second third fourth : Sector) (length_first : length first ≡ 5
   unfolding opening first_leader acted settled restarted opening_disk stored on_elect renewed led
   e6 = delivers small_group g5 6 (packet 1 2 2 (RequestVote 0)) false c1 _ refl refl rule_6
 
+  -- 7. a vote from server 2 comes to server 1
   abbrev m2_1 : Entry
   m2_1 = record { slot = 1; term = 2; first = 2; look = []; op = write_at 0 first }
 
@@ -199,6 +209,7 @@ module _ (first second third fourth : Sector) (length_first : length first ≡ 5
   unfolding opening first_leader acted settled restarted opening_disk stored on_elect renewed led
   e7 = delivers small_group g6 7 (packet 2 1 2 (Vote (vote_of c1.durable))) false b1 _ refl refl rule_7
 
+  -- 8. a proposal from server 1 comes to server 2
   abbrev c3 : Server
   c3 = record c2 { durable = stored c2.durable (EntryRecord m2_1) }
 
@@ -217,6 +228,7 @@ module _ (first second third fourth : Sector) (length_first : length first ≡ 5
   unfolding opening first_leader acted settled restarted opening_disk stored on_elect renewed led
   e8 = delivers small_group g7 9 (packet 1 2 2 (Accept m2_1)) false c2 _ refl refl rule_8
 
+  -- 9. an acknowledgement from server 2 comes to server 1
   abbrev l4 : Leader
   l4 = record l3 { known = FinMap.insert l3.known 2 0; acks = acknowledged l3.acks 2 1 }
 
@@ -238,12 +250,13 @@ module _ (first second third fourth : Sector) (length_first : length first ≡ 5
   unfolding opening first_leader acted settled restarted opening_disk stored on_elect renewed led
   e9 = delivers small_group g8 10 (packet 2 1 2 (Ack 1 0)) false b2 _ refl refl rule_9
 
+  -- 10 and 11. server 1 applies slot 1
   claim_10 : claimable 4096 b3 ≡ Some 1
-  unfolding restarted opening_disk stored put_entry put_entries is_free range_of merged_entry
+  unfolding settled restarted opening_disk stored put_entry put_entries is_free range_of merged_entry
   claim_10 = first_is b3 4095 (simp gets)
 
   op_10 : op_at b3.durable.log 1 ≡ write_at 0 first
-  unfolding restarted opening_disk stored put_entry put_entries is_free range_of merged_entry op_at
+  unfolding settled restarted opening_disk stored put_entry put_entries is_free range_of merged_entry op_at
   op_10 = simp gets
 
   abbrev g10 : Group
@@ -267,6 +280,7 @@ module _ (first second third fourth : Sector) (length_first : length first ≡ 5
   unfolding opening first_leader acted settled restarted opening_disk stored on_elect renewed led
   e11 = finishes small_group g10 1 0 1 (claimed b3 1) _ refl rule_11
 
+  -- 12. server 1 takes a submission
   abbrev three : Entry
   three = record { slot = 2; term = 2; first = 2; look = record { slot = 1; range = record { first = 0; count = 1 } } ∷ []; op = write_at 6 third }
 
@@ -291,6 +305,7 @@ module _ (first second third fourth : Sector) (length_first : length first ≡ 5
   unfolding opening first_leader acted settled restarted opening_disk stored on_elect renewed led
   e12 = submits small_group g11 1 (write_at 6 third) b4 _ refl rule_12
 
+  -- 13. server 1 takes a submission
   abbrev four : Entry
   four = record { slot = 3; term = 2; first = 2; look = record { slot = 1; range = record { first = 0; count = 1 } } ∷ record { slot = 2; range = record { first = 6; count = 1 } } ∷ []; op = write_at 5 fourth }
 
@@ -315,6 +330,7 @@ module _ (first second third fourth : Sector) (length_first : length first ≡ 5
   unfolding opening first_leader acted settled restarted opening_disk stored on_elect renewed led
   e13 = submits small_group g12 1 (write_at 5 fourth) b5 _ refl rule_13
 
+  -- 14. a proposal from server 1 comes to server 2
   abbrev c4 : Server
   c4 = record c3 { durable = stored c3.durable (EntryRecord four) }
 
@@ -333,6 +349,7 @@ module _ (first second third fourth : Sector) (length_first : length first ≡ 5
   unfolding opening first_leader acted settled restarted opening_disk stored on_elect renewed led
   e14 = delivers small_group g13 15 (packet 1 2 2 (Accept four)) false c3 _ refl refl rule_14
 
+  -- 15. an acknowledgement from server 2 comes to server 1
   abbrev l7 : Leader
   l7 = record l6 { known = FinMap.insert l6.known 2 0; acks = acknowledged l6.acks 2 3 }
 
@@ -354,12 +371,13 @@ module _ (first second third fourth : Sector) (length_first : length first ≡ 5
   unfolding opening first_leader acted settled restarted opening_disk stored on_elect renewed led
   e15 = delivers small_group g14 16 (packet 2 1 2 (Ack 3 0)) false b6 _ refl refl rule_15
 
+  -- 16 and 17. server 1 applies slot 3
   claim_16 : claimable 4096 b7 ≡ Some 3
-  unfolding restarted opening_disk stored put_entry put_entries is_free range_of merged_entry
+  unfolding settled restarted opening_disk stored put_entry put_entries is_free range_of merged_entry
   claim_16 = third_is b7 4093 refl (simp gets) (simp gets) (simp gets)
 
   op_16 : op_at b7.durable.log 3 ≡ write_at 5 fourth
-  unfolding restarted opening_disk stored put_entry put_entries is_free range_of merged_entry op_at
+  unfolding settled restarted opening_disk stored put_entry put_entries is_free range_of merged_entry op_at
   op_16 = simp gets
 
   abbrev g16 : Group
@@ -383,6 +401,7 @@ module _ (first second third fourth : Sector) (length_first : length first ≡ 5
   unfolding opening first_leader acted settled restarted opening_disk stored on_elect renewed led
   e17 = finishes small_group g16 1 0 3 (claimed b7 3) _ refl rule_17
 
+  -- 18. server 1 stands for election
   abbrev b9 : Server
   b9 = record b8 { durable = stored b8.durable (TermRecord 3); role = Candidate (vote_of b8.durable) }
 
@@ -401,6 +420,7 @@ module _ (first second third fourth : Sector) (length_first : length first ≡ 5
   unfolding opening first_leader acted settled restarted opening_disk stored on_elect renewed led
   e18 = elects small_group g17 1 b8 _ refl rule_18
 
+  -- 19. a request for a vote from server 1 comes to server 2
   abbrev c5 : Server
   c5 = record c4 { durable = stored c4.durable (TermRecord 3) }
 
@@ -419,6 +439,7 @@ module _ (first second third fourth : Sector) (length_first : length first ≡ 5
   unfolding opening first_leader acted settled restarted opening_disk stored on_elect renewed led
   e19 = delivers small_group g18 19 (packet 1 2 3 (RequestVote 0)) false c4 _ refl refl rule_19
 
+  -- 20. a vote from server 2 comes to server 1
   abbrev m3_1 : Entry
   m3_1 = record { slot = 1; term = 3; first = 4; look = []; op = write_at 0 first }
 
@@ -469,6 +490,7 @@ module _ (first second third fourth : Sector) (length_first : length first ≡ 5
   unfolding opening first_leader acted settled restarted opening_disk stored on_elect renewed led
   e20 = delivers small_group g19 20 (packet 2 1 3 (Vote (vote_of c4.durable))) false b9 _ refl refl rule_20
 
+  -- 21. a proposal from server 1 comes to server 2
   abbrev c6 : Server
   c6 = record c5 { durable = stored c5.durable (EntryRecord m3_1) }
 
@@ -487,6 +509,7 @@ module _ (first second third fourth : Sector) (length_first : length first ≡ 5
   unfolding opening first_leader acted settled restarted opening_disk stored on_elect renewed led
   e21 = delivers small_group g20 22 (packet 1 2 3 (Accept m3_1)) false c5 _ refl refl rule_21
 
+  -- 22. a proposal from server 1 comes to server 2
   abbrev c7 : Server
   c7 = record c6 { durable = stored c6.durable (EntryRecord m3_3) }
 
@@ -505,6 +528,7 @@ module _ (first second third fourth : Sector) (length_first : length first ≡ 5
   unfolding opening first_leader acted settled restarted opening_disk stored on_elect renewed led
   e22 = delivers small_group g21 26 (packet 1 2 3 (Accept m3_3)) false c6 _ refl refl rule_22
 
+  -- 23. server 1 stops
   abbrev g23 : Group
   g23 = record g22 { servers = slice_set g22.servers 1 (Stopped 1 b10.durable b10.durable) }
 
@@ -512,6 +536,7 @@ module _ (first second third fourth : Sector) (length_first : length first ≡ 5
   unfolding happens opening first_leader acted settled restarted opening_disk stored on_elect renewed led
   e23 = refl
 
+  -- 24. server 0 begins again
   abbrev a3 : Server
   a3 = restarted 0 2 a2.durable
 
@@ -522,6 +547,7 @@ module _ (first second third fourth : Sector) (length_first : length first ≡ 5
   unfolding happens opening first_leader acted settled restarted opening_disk stored on_elect renewed led
   e24 = refl
 
+  -- 25. server 2 stands for election
   abbrev c8 : Server
   c8 = record c7 { durable = stored c7.durable (TermRecord 4); role = Candidate (vote_of c7.durable) }
 
@@ -540,6 +566,7 @@ module _ (first second third fourth : Sector) (length_first : length first ≡ 5
   unfolding opening first_leader acted settled restarted opening_disk stored on_elect renewed led
   e25 = elects small_group g24 2 c7 _ refl rule_25
 
+  -- 26. a request for a vote from server 2 comes to server 0
   abbrev a4 : Server
   a4 = record a3 { durable = stored a3.durable (TermRecord 4) }
 
@@ -558,6 +585,7 @@ module _ (first second third fourth : Sector) (length_first : length first ≡ 5
   unfolding opening first_leader acted settled restarted opening_disk stored on_elect renewed led
   e26 = delivers small_group g25 29 (packet 2 0 4 (RequestVote 0)) false a3 _ refl refl rule_26
 
+  -- 27. a vote from server 0 comes to server 2
   abbrev m4_1 : Entry
   m4_1 = record { slot = 1; term = 4; first = 4; look = []; op = write_at 0 first }
 
@@ -607,6 +635,22 @@ module _ (first second third fourth : Sector) (length_first : length first ≡ 5
   e27 : happens small_group g26 (Deliver 31) Whole ≡ g27
   unfolding opening first_leader acted settled restarted opening_disk stored on_elect renewed led
   e27 = delivers small_group g26 31 (packet 0 2 4 (Vote (vote_of a3.durable))) false c8 _ refl refl rule_27
+
+  none_last_0 : claimable 4096 a4 ≡ None
+  unfolding settled restarted opening_disk stored put_entry put_entries is_free range_of merged_entry
+  none_last_0 =
+      let can = λ (slot : ℕ). is_claimable a4 (FinMap.get a4.durable.log slot) slot in
+      none_marked a4 4096 (none_of can)
+
+  none_last_2 : claimable 4096 c9 ≡ None
+  unfolding settled restarted opening_disk stored put_entry put_entries is_free range_of merged_entry
+  none_last_2 =
+      let can = λ (slot : ℕ). is_claimable c9 (FinMap.get c9.durable.log slot) slot in
+      none_marked c9 4096 (none_of can)
+
+  calm : answer_to small_group g27 Claim ≡ Refused NoneFree
+  unfolding opening first_leader acted settled restarted opening_disk stored on_elect renewed led
+  calm = claim_answer_none small_group g27 none_last_0 refl none_last_2
 
   abbrev rest_27 : History
   rest_27 = []
@@ -776,197 +820,113 @@ module _ (first second third fourth : Sector) (length_first : length first ≡ 5
   replayed_0 : run small_group g0 rest_0 ≡ g27
   replayed_0 = follows small_group g0 g1 g27 (so (Submit 0 (write_at 0 first)) (SlotIs 1)) rest_1 e1 replayed_1
 
-  legal_27 : IsLegalFrom small_group g27 ([]) rest_27
-  legal_27 = tt
-
   answer_27 : answer_to small_group g26 (Deliver 31) ≡ Done
   unfolding opening first_leader acted settled restarted opening_disk stored on_elect renewed led
   answer_27 = deliver_answer small_group g26 31 (packet 0 2 4 (Vote (vote_of a3.durable))) false c8 _ refl refl rule_27 room_27
-
-  legal_26 : IsLegalFrom small_group g26 ([]) rest_26
-  legal_26 = goes_on small_group g26 g27 ([]) (so (Deliver 31) Done) rest_27 tt answer_27 e27 legal_27
 
   answer_26 : answer_to small_group g25 (Deliver 29) ≡ Done
   unfolding opening first_leader acted settled restarted opening_disk stored on_elect renewed led
   answer_26 = deliver_answer small_group g25 29 (packet 2 0 4 (RequestVote 0)) false a3 _ refl refl rule_26 room_26
 
-  legal_25 : IsLegalFrom small_group g25 ([]) rest_25
-  legal_25 = goes_on small_group g25 g26 ([]) (so (Deliver 29) Done) rest_26 tt answer_26 e26 legal_26
-
   answer_25 : answer_to small_group g24 (Elect 2) ≡ TermIs 4
   unfolding opening first_leader acted settled restarted opening_disk stored on_elect renewed led most_elections
   answer_25 = elect_answer small_group g24 2 c7 _ refl refl rule_25 room_25
-
-  legal_24 : IsLegalFrom small_group g24 ([]) rest_24
-  legal_24 = goes_on small_group g24 g25 ([]) (so (Elect 2) (TermIs 4)) rest_25 (omega arith) answer_25 e25 legal_25
 
   answer_24 : answer_to small_group g23 (Restart 0 false) ≡ Done
   unfolding answer_to opening first_leader acted settled restarted opening_disk stored on_elect renewed led
   answer_24 = refl
 
-  legal_23 : IsLegalFrom small_group g23 ([]) rest_23
-  legal_23 = goes_on small_group g23 g24 ([]) (so (Restart 0 false) Done) rest_24 (omega arith) answer_24 e24 legal_24
-
   answer_23 : answer_to small_group g22 (Stop 1) ≡ Done
   unfolding answer_to opening first_leader acted settled restarted opening_disk stored on_elect renewed led
   answer_23 = refl
-
-  legal_22 : IsLegalFrom small_group g22 ([]) rest_22
-  legal_22 = goes_on small_group g22 g23 ([]) (so (Stop 1) Done) rest_23 (omega arith) answer_23 e23 legal_23
 
   answer_22 : answer_to small_group g21 (Deliver 26) ≡ Done
   unfolding opening first_leader acted settled restarted opening_disk stored on_elect renewed led
   answer_22 = deliver_answer small_group g21 26 (packet 1 2 3 (Accept m3_3)) false c6 _ refl refl rule_22 room_22
 
-  legal_21 : IsLegalFrom small_group g21 ([]) rest_21
-  legal_21 = goes_on small_group g21 g22 ([]) (so (Deliver 26) Done) rest_22 tt answer_22 e22 legal_22
-
   answer_21 : answer_to small_group g20 (Deliver 22) ≡ Done
   unfolding opening first_leader acted settled restarted opening_disk stored on_elect renewed led
   answer_21 = deliver_answer small_group g20 22 (packet 1 2 3 (Accept m3_1)) false c5 _ refl refl rule_21 room_21
-
-  legal_20 : IsLegalFrom small_group g20 ([]) rest_20
-  legal_20 = goes_on small_group g20 g21 ([]) (so (Deliver 22) Done) rest_21 tt answer_21 e21 legal_21
 
   answer_20 : answer_to small_group g19 (Deliver 20) ≡ Done
   unfolding opening first_leader acted settled restarted opening_disk stored on_elect renewed led
   answer_20 = deliver_answer small_group g19 20 (packet 2 1 3 (Vote (vote_of c4.durable))) false b9 _ refl refl rule_20 room_20
 
-  legal_19 : IsLegalFrom small_group g19 ([]) rest_19
-  legal_19 = goes_on small_group g19 g20 ([]) (so (Deliver 20) Done) rest_20 tt answer_20 e20 legal_20
-
   answer_19 : answer_to small_group g18 (Deliver 19) ≡ Done
   unfolding opening first_leader acted settled restarted opening_disk stored on_elect renewed led
   answer_19 = deliver_answer small_group g18 19 (packet 1 2 3 (RequestVote 0)) false c4 _ refl refl rule_19 room_19
-
-  legal_18 : IsLegalFrom small_group g18 ([]) rest_18
-  legal_18 = goes_on small_group g18 g19 ([]) (so (Deliver 19) Done) rest_19 tt answer_19 e19 legal_19
 
   answer_18 : answer_to small_group g17 (Elect 1) ≡ TermIs 3
   unfolding opening first_leader acted settled restarted opening_disk stored on_elect renewed led most_elections
   answer_18 = elect_answer small_group g17 1 b8 _ refl refl rule_18 room_18
 
-  legal_17 : IsLegalFrom small_group g17 ([]) rest_17
-  legal_17 = goes_on small_group g17 g18 ([]) (so (Elect 1) (TermIs 3)) rest_18 (omega arith) answer_18 e18 legal_18
-
   answer_17 : answer_to small_group g16 (Finish 1 0 3) ≡ Done
   unfolding opening first_leader acted settled restarted opening_disk stored on_elect renewed led
   answer_17 = finish_answer small_group g16 1 0 3 (claimed b7 3) _ refl rule_17
-
-  legal_16 : IsLegalFrom small_group g16 (record { server = 1; life = 0; slot = 3; op = write_at 5 fourth } ∷ []) rest_16
-  legal_16 = goes_on small_group g16 g17 (record { server = 1; life = 0; slot = 3; op = write_at 5 fourth } ∷ []) (so (Finish 1 0 3) Done) rest_17 refl answer_17 e17 legal_17
 
   answer_16 : answer_to small_group g15 Claim ≡ JobIs (record { server = 1; life = 0; slot = 3; op = write_at 5 fourth })
   unfolding opening first_leader acted settled restarted opening_disk stored on_elect renewed led
   answer_16 = claim_answer_1 small_group g15 refl b7 3 refl claim_16 ∙ ap (λ x. JobIs (record { server = 1; life = 0; slot = 3; op = x })) op_16
 
-  legal_15 : IsLegalFrom small_group g15 ([]) rest_15
-  legal_15 = goes_on small_group g15 g16 ([]) (so Claim (JobIs (record { server = 1; life = 0; slot = 3; op = write_at 5 fourth }))) rest_16 tt answer_16 e16 legal_16
-
   answer_15 : answer_to small_group g14 (Deliver 16) ≡ Done
   unfolding opening first_leader acted settled restarted opening_disk stored on_elect renewed led
   answer_15 = deliver_answer small_group g14 16 (packet 2 1 2 (Ack 3 0)) false b6 _ refl refl rule_15 room_15
-
-  legal_14 : IsLegalFrom small_group g14 ([]) rest_14
-  legal_14 = goes_on small_group g14 g15 ([]) (so (Deliver 16) Done) rest_15 tt answer_15 e15 legal_15
 
   answer_14 : answer_to small_group g13 (Deliver 15) ≡ Done
   unfolding opening first_leader acted settled restarted opening_disk stored on_elect renewed led
   answer_14 = deliver_answer small_group g13 15 (packet 1 2 2 (Accept four)) false c3 _ refl refl rule_14 room_14
 
-  legal_13 : IsLegalFrom small_group g13 ([]) rest_13
-  legal_13 = goes_on small_group g13 g14 ([]) (so (Deliver 15) Done) rest_14 tt answer_14 e14 legal_14
-
   answer_13 : answer_to small_group g12 (Submit 1 (write_at 5 fourth)) ≡ SlotIs 3
   unfolding opening first_leader acted settled restarted opening_disk stored on_elect renewed led range_of
   answer_13 = submit_answer small_group g12 1 (write_at 5 fourth) b5 _ refl refl refl refl refl rule_13 room_13
-
-  legal_12 : IsLegalFrom small_group g12 ([]) rest_12
-  legal_12 = goes_on small_group g12 g13 ([]) (so (Submit 1 (write_at 5 fourth)) (SlotIs 3)) rest_13 (omega arith, (record { some = omega arith; few = omega arith; low = omega arith }, refl, (length_fourth, tt))) answer_13 e13 legal_13
 
   answer_12 : answer_to small_group g11 (Submit 1 (write_at 6 third)) ≡ SlotIs 2
   unfolding opening first_leader acted settled restarted opening_disk stored on_elect renewed led range_of
   answer_12 = submit_answer small_group g11 1 (write_at 6 third) b4 _ refl refl refl refl refl rule_12 room_12
 
-  legal_11 : IsLegalFrom small_group g11 ([]) rest_11
-  legal_11 = goes_on small_group g11 g12 ([]) (so (Submit 1 (write_at 6 third)) (SlotIs 2)) rest_12 (omega arith, (record { some = omega arith; few = omega arith; low = omega arith }, refl, (length_third, tt))) answer_12 e12 legal_12
-
   answer_11 : answer_to small_group g10 (Finish 1 0 1) ≡ Done
   unfolding opening first_leader acted settled restarted opening_disk stored on_elect renewed led
   answer_11 = finish_answer small_group g10 1 0 1 (claimed b3 1) _ refl rule_11
-
-  legal_10 : IsLegalFrom small_group g10 (record { server = 1; life = 0; slot = 1; op = write_at 0 first } ∷ []) rest_10
-  legal_10 = goes_on small_group g10 g11 (record { server = 1; life = 0; slot = 1; op = write_at 0 first } ∷ []) (so (Finish 1 0 1) Done) rest_11 refl answer_11 e11 legal_11
 
   answer_10 : answer_to small_group g9 Claim ≡ JobIs (record { server = 1; life = 0; slot = 1; op = write_at 0 first })
   unfolding opening first_leader acted settled restarted opening_disk stored on_elect renewed led
   answer_10 = claim_answer_1 small_group g9 refl b3 1 refl claim_10 ∙ ap (λ x. JobIs (record { server = 1; life = 0; slot = 1; op = x })) op_10
 
-  legal_9 : IsLegalFrom small_group g9 ([]) rest_9
-  legal_9 = goes_on small_group g9 g10 ([]) (so Claim (JobIs (record { server = 1; life = 0; slot = 1; op = write_at 0 first }))) rest_10 tt answer_10 e10 legal_10
-
   answer_9 : answer_to small_group g8 (Deliver 10) ≡ Done
   unfolding opening first_leader acted settled restarted opening_disk stored on_elect renewed led
   answer_9 = deliver_answer small_group g8 10 (packet 2 1 2 (Ack 1 0)) false b2 _ refl refl rule_9 room_9
-
-  legal_8 : IsLegalFrom small_group g8 ([]) rest_8
-  legal_8 = goes_on small_group g8 g9 ([]) (so (Deliver 10) Done) rest_9 tt answer_9 e9 legal_9
 
   answer_8 : answer_to small_group g7 (Deliver 9) ≡ Done
   unfolding opening first_leader acted settled restarted opening_disk stored on_elect renewed led
   answer_8 = deliver_answer small_group g7 9 (packet 1 2 2 (Accept m2_1)) false c2 _ refl refl rule_8 room_8
 
-  legal_7 : IsLegalFrom small_group g7 ([]) rest_7
-  legal_7 = goes_on small_group g7 g8 ([]) (so (Deliver 9) Done) rest_8 tt answer_8 e8 legal_8
-
   answer_7 : answer_to small_group g6 (Deliver 7) ≡ Done
   unfolding opening first_leader acted settled restarted opening_disk stored on_elect renewed led
   answer_7 = deliver_answer small_group g6 7 (packet 2 1 2 (Vote (vote_of c1.durable))) false b1 _ refl refl rule_7 room_7
-
-  legal_6 : IsLegalFrom small_group g6 ([]) rest_6
-  legal_6 = goes_on small_group g6 g7 ([]) (so (Deliver 7) Done) rest_7 tt answer_7 e7 legal_7
 
   answer_6 : answer_to small_group g5 (Deliver 6) ≡ Done
   unfolding opening first_leader acted settled restarted opening_disk stored on_elect renewed led
   answer_6 = deliver_answer small_group g5 6 (packet 1 2 2 (RequestVote 0)) false c1 _ refl refl rule_6 room_6
 
-  legal_5 : IsLegalFrom small_group g5 ([]) rest_5
-  legal_5 = goes_on small_group g5 g6 ([]) (so (Deliver 6) Done) rest_6 tt answer_6 e6 legal_6
-
   answer_5 : answer_to small_group g4 (Elect 1) ≡ TermIs 2
   unfolding opening first_leader acted settled restarted opening_disk stored on_elect renewed led most_elections
   answer_5 = elect_answer small_group g4 1 b0 _ refl refl rule_5 room_5
-
-  legal_4 : IsLegalFrom small_group g4 ([]) rest_4
-  legal_4 = goes_on small_group g4 g5 ([]) (so (Elect 1) (TermIs 2)) rest_5 (omega arith) answer_5 e5 legal_5
 
   answer_4 : answer_to small_group g3 (Stop 0) ≡ Done
   unfolding answer_to opening first_leader acted settled restarted opening_disk stored on_elect renewed led
   answer_4 = refl
 
-  legal_3 : IsLegalFrom small_group g3 ([]) rest_3
-  legal_3 = goes_on small_group g3 g4 ([]) (so (Stop 0) Done) rest_4 (omega arith) answer_4 e4 legal_4
-
   answer_3 : answer_to small_group g2 (Deliver 1) ≡ Done
   unfolding opening first_leader acted settled restarted opening_disk stored on_elect renewed led
   answer_3 = deliver_answer small_group g2 1 (packet 0 2 1 (Accept one)) false c0 _ refl refl rule_3 room_3
-
-  legal_2 : IsLegalFrom small_group g2 ([]) rest_2
-  legal_2 = goes_on small_group g2 g3 ([]) (so (Deliver 1) Done) rest_3 tt answer_3 e3 legal_3
 
   answer_2 : answer_to small_group g1 (Submit 0 (write_at 5 second)) ≡ SlotIs 2
   unfolding opening first_leader acted settled restarted opening_disk stored on_elect renewed led range_of
   answer_2 = submit_answer small_group g1 0 (write_at 5 second) a1 _ refl refl refl refl refl rule_2 room_2
 
-  legal_1 : IsLegalFrom small_group g1 ([]) rest_1
-  legal_1 = goes_on small_group g1 g2 ([]) (so (Submit 0 (write_at 5 second)) (SlotIs 2)) rest_2 (omega arith, (record { some = omega arith; few = omega arith; low = omega arith }, refl, (length_second, tt))) answer_2 e2 legal_2
-
   answer_1 : answer_to small_group g0 (Submit 0 (write_at 0 first)) ≡ SlotIs 1
   unfolding opening first_leader acted settled restarted opening_disk stored on_elect renewed led range_of
   answer_1 = submit_answer small_group g0 0 (write_at 0 first) a0 _ refl refl refl refl refl rule_1 room_1
-
-  legal_0 : IsLegalFrom small_group g0 ([]) rest_0
-  legal_0 = goes_on small_group g0 g1 ([]) (so (Submit 0 (write_at 0 first)) (SlotIs 1)) rest_1 (omega arith, (record { some = omega arith; few = omega arith; low = omega arith }, refl, (length_first, tt))) answer_1 e1 legal_1
 
   acked_last : g27.acked ≡ record { term = 2; slot = 3 } ∷ []
   unfolding opening first_leader acted settled restarted opening_disk stored on_elect renewed led
@@ -976,8 +936,94 @@ module _ (first second third fourth : Sector) (length_first : length first ≡ 5
   unfolding opening first_leader acted settled restarted opening_disk stored on_elect renewed led put_entry put_entries
   shown_2 = record { server = c9; runs = refl; its_term = refl; its_base = refl; its_log = simp (entries-insert, empty_rows, gets); its_applied = simp empty_rows }
 
-  pub legal : IsLegal small_group (kept_start first second third fourth)
-  legal = record { is_setup = is_small_group; legal = legal_0 }
-
   pub shows : KeepsStart first second third fourth
-  shows = record { acked = ap (λ (g : Group). g.acked) replayed_0 ∙ acked_last; shown_2 = rw replayed_0 shown_2 }
+  shows = record { calm = ap (λ (g : Group). answer_to small_group g Claim) replayed_0 ∙ calm; acked = ap (λ (g : Group). g.acked) replayed_0 ∙ acked_last; shown_2 = rw replayed_0 shown_2 }
+
+  -- with whole sectors the history is one that the group can have
+  module _ (length_first : IsSector first) (length_second : IsSector second) (length_third : IsSector third) (length_fourth : IsSector fourth) where
+    legal_27 : IsLegalFrom small_group g27 ([]) rest_27
+    legal_27 = tt
+
+    legal_26 : IsLegalFrom small_group g26 ([]) rest_26
+    legal_26 = goes_on small_group g26 g27 ([]) (so (Deliver 31) Done) rest_27 tt answer_27 e27 legal_27
+
+    legal_25 : IsLegalFrom small_group g25 ([]) rest_25
+    legal_25 = goes_on small_group g25 g26 ([]) (so (Deliver 29) Done) rest_26 tt answer_26 e26 legal_26
+
+    legal_24 : IsLegalFrom small_group g24 ([]) rest_24
+    legal_24 = goes_on small_group g24 g25 ([]) (so (Elect 2) (TermIs 4)) rest_25 (omega arith) answer_25 e25 legal_25
+
+    legal_23 : IsLegalFrom small_group g23 ([]) rest_23
+    legal_23 = goes_on small_group g23 g24 ([]) (so (Restart 0 false) Done) rest_24 (omega arith) answer_24 e24 legal_24
+
+    legal_22 : IsLegalFrom small_group g22 ([]) rest_22
+    legal_22 = goes_on small_group g22 g23 ([]) (so (Stop 1) Done) rest_23 (omega arith) answer_23 e23 legal_23
+
+    legal_21 : IsLegalFrom small_group g21 ([]) rest_21
+    legal_21 = goes_on small_group g21 g22 ([]) (so (Deliver 26) Done) rest_22 tt answer_22 e22 legal_22
+
+    legal_20 : IsLegalFrom small_group g20 ([]) rest_20
+    legal_20 = goes_on small_group g20 g21 ([]) (so (Deliver 22) Done) rest_21 tt answer_21 e21 legal_21
+
+    legal_19 : IsLegalFrom small_group g19 ([]) rest_19
+    legal_19 = goes_on small_group g19 g20 ([]) (so (Deliver 20) Done) rest_20 tt answer_20 e20 legal_20
+
+    legal_18 : IsLegalFrom small_group g18 ([]) rest_18
+    legal_18 = goes_on small_group g18 g19 ([]) (so (Deliver 19) Done) rest_19 tt answer_19 e19 legal_19
+
+    legal_17 : IsLegalFrom small_group g17 ([]) rest_17
+    legal_17 = goes_on small_group g17 g18 ([]) (so (Elect 1) (TermIs 3)) rest_18 (omega arith) answer_18 e18 legal_18
+
+    legal_16 : IsLegalFrom small_group g16 (record { server = 1; life = 0; slot = 3; op = write_at 5 fourth } ∷ []) rest_16
+    legal_16 = goes_on small_group g16 g17 (record { server = 1; life = 0; slot = 3; op = write_at 5 fourth } ∷ []) (so (Finish 1 0 3) Done) rest_17 refl answer_17 e17 legal_17
+
+    legal_15 : IsLegalFrom small_group g15 ([]) rest_15
+    legal_15 = goes_on small_group g15 g16 ([]) (so Claim (JobIs (record { server = 1; life = 0; slot = 3; op = write_at 5 fourth }))) rest_16 tt answer_16 e16 legal_16
+
+    legal_14 : IsLegalFrom small_group g14 ([]) rest_14
+    legal_14 = goes_on small_group g14 g15 ([]) (so (Deliver 16) Done) rest_15 tt answer_15 e15 legal_15
+
+    legal_13 : IsLegalFrom small_group g13 ([]) rest_13
+    legal_13 = goes_on small_group g13 g14 ([]) (so (Deliver 15) Done) rest_14 tt answer_14 e14 legal_14
+
+    legal_12 : IsLegalFrom small_group g12 ([]) rest_12
+    legal_12 = goes_on small_group g12 g13 ([]) (so (Submit 1 (write_at 5 fourth)) (SlotIs 3)) rest_13 (omega arith, (record { some = omega arith; few = omega arith; low = omega arith }, refl, (length_fourth, tt))) answer_13 e13 legal_13
+
+    legal_11 : IsLegalFrom small_group g11 ([]) rest_11
+    legal_11 = goes_on small_group g11 g12 ([]) (so (Submit 1 (write_at 6 third)) (SlotIs 2)) rest_12 (omega arith, (record { some = omega arith; few = omega arith; low = omega arith }, refl, (length_third, tt))) answer_12 e12 legal_12
+
+    legal_10 : IsLegalFrom small_group g10 (record { server = 1; life = 0; slot = 1; op = write_at 0 first } ∷ []) rest_10
+    legal_10 = goes_on small_group g10 g11 (record { server = 1; life = 0; slot = 1; op = write_at 0 first } ∷ []) (so (Finish 1 0 1) Done) rest_11 refl answer_11 e11 legal_11
+
+    legal_9 : IsLegalFrom small_group g9 ([]) rest_9
+    legal_9 = goes_on small_group g9 g10 ([]) (so Claim (JobIs (record { server = 1; life = 0; slot = 1; op = write_at 0 first }))) rest_10 tt answer_10 e10 legal_10
+
+    legal_8 : IsLegalFrom small_group g8 ([]) rest_8
+    legal_8 = goes_on small_group g8 g9 ([]) (so (Deliver 10) Done) rest_9 tt answer_9 e9 legal_9
+
+    legal_7 : IsLegalFrom small_group g7 ([]) rest_7
+    legal_7 = goes_on small_group g7 g8 ([]) (so (Deliver 9) Done) rest_8 tt answer_8 e8 legal_8
+
+    legal_6 : IsLegalFrom small_group g6 ([]) rest_6
+    legal_6 = goes_on small_group g6 g7 ([]) (so (Deliver 7) Done) rest_7 tt answer_7 e7 legal_7
+
+    legal_5 : IsLegalFrom small_group g5 ([]) rest_5
+    legal_5 = goes_on small_group g5 g6 ([]) (so (Deliver 6) Done) rest_6 tt answer_6 e6 legal_6
+
+    legal_4 : IsLegalFrom small_group g4 ([]) rest_4
+    legal_4 = goes_on small_group g4 g5 ([]) (so (Elect 1) (TermIs 2)) rest_5 (omega arith) answer_5 e5 legal_5
+
+    legal_3 : IsLegalFrom small_group g3 ([]) rest_3
+    legal_3 = goes_on small_group g3 g4 ([]) (so (Stop 0) Done) rest_4 (omega arith) answer_4 e4 legal_4
+
+    legal_2 : IsLegalFrom small_group g2 ([]) rest_2
+    legal_2 = goes_on small_group g2 g3 ([]) (so (Deliver 1) Done) rest_3 tt answer_3 e3 legal_3
+
+    legal_1 : IsLegalFrom small_group g1 ([]) rest_1
+    legal_1 = goes_on small_group g1 g2 ([]) (so (Submit 0 (write_at 5 second)) (SlotIs 2)) rest_2 (omega arith, (record { some = omega arith; few = omega arith; low = omega arith }, refl, (length_second, tt))) answer_2 e2 legal_2
+
+    legal_0 : IsLegalFrom small_group g0 ([]) rest_0
+    legal_0 = goes_on small_group g0 g1 ([]) (so (Submit 0 (write_at 0 first)) (SlotIs 1)) rest_1 (omega arith, (record { some = omega arith; few = omega arith; low = omega arith }, refl, (length_first, tt))) answer_1 e1 legal_1
+
+    pub legal : IsLegal small_group (kept_start first second third fourth)
+    legal = record { is_setup = is_small_group; legal = legal_0 }

@@ -1,5 +1,5 @@
 -- A slot that the majority lacks, event by event.
-use Rattle.std.proofs.Common.{◌≡◌, ℕ, true, false, [], ◌∷◌, length, Some, None, refl, ap, ◌∙◌, arith}
+use Rattle.std.proofs.Common.{◌≡◌, ℕ, true, false, [], ◌∷◌, Some, None, refl, ap, ◌∙◌, arith}
 use Rattle.std.specs.Prelude.{slice_set}
 use Rattle.std.specs.Cmp.{nat_cmp_total}
 use Rattle.std.specs.FinMap
@@ -16,23 +16,26 @@ use Rattle.pf_entry.specs.Records.{stored, put_entry, put_entries, add_start, ad
 use Rattle.pf_entry.specs.Voids.{is_void}
 use Rattle.pf_entry.specs.Merging.{merged_first, merged_entry, merged_entries, taken, left_of, higher}
 use Rattle.pf_entry.specs.Sizes.{packet_size, body_size}
-use Rattle.pf_protocol.specs.declared.answers.Answer.TheVariants.{Slot as SlotIs, Term as TermIs, Done, Job as JobIs}
+use Rattle.pf_protocol.specs.declared.answers.Answer.TheVariants.{Slot as SlotIs, Term as TermIs, Done, Job as JobIs, Refused}
+use Rattle.pf_protocol.specs.declared.answers.Refusal.TheVariants.{NoneFree}
 use Rattle.pf_protocol.specs.declared.events.Event.TheVariants.{Submit, Deliver, Elect, Stop, Restart, Claim, Finish}
 use Rattle.pf_protocol.specs.Servers.{Leader, Server, Candidate, Serving, Running, Stopped, upto}
 use Rattle.pf_protocol.specs.Outcomes.{Outcome, sends}
 use Rattle.pf_protocol.specs.Leading.{on_submit, submitted, new_entry, look_behind, op_at, acknowledged, all_acknowledged, on_elect, on_vote, merged, led, on_ack, counted, marked}
 use Rattle.pf_protocol.specs.Following.{on_request_vote, on_accept, accepted}
-use Rattle.pf_protocol.specs.Saving.{restarted, renewed, claimable, claimed, on_finish, applied_op, changed, snapshots_after}
+use Rattle.pf_protocol.specs.Saving.{restarted, renewed, is_claimable, claimable, claimed, on_finish, applied_op, changed, snapshots_after}
 use Rattle.pf_protocol.specs.Rows.{on_message, on_packet, settled}
 use Rattle.pf_protocol.specs.Groups.{Group, Whole, opening, first_leader, opening_disk, happens, acted, with_sent}
-use Rattle.pf_protocol.specs.Histories.{History, run}
+use Rattle.pf_protocol.specs.Histories.{History, replay, run}
 use Rattle.pf_protocol.specs.Answers.{answer_to, room_refusal, most_packets, most_packet_bytes, half_size, most_elections, IsLegal, IsLegalFrom}
-use Rattle.pf_protocol.specs.Shown.{Shows, small_group, write_at, line, so}
-use Rattle.pf_protocol.proofs.Replays.{empty_rows, submits, delivers, elects, claims_at_1, finishes, first_is, follows}
-use Rattle.pf_protocol.proofs.Answering.{submit_answer, deliver_answer, elect_answer, finish_answer, claim_answer_1, goes_on, is_small_group}
-use Rattle.pf_protocol.specs.Nobody.{lost_slot, GivesAway}
+use Rattle.pf_protocol.specs.Shown.{Shows, small_group, write_at, IsSector, line, so}
+use Rattle.pf_protocol.proofs.Replays.{empty_rows, submits, delivers, elects, claims_at_1, finishes, first_is, none_marked, nor_of, none_of, follows}
+use Rattle.pf_protocol.proofs.Answering.{submit_answer, deliver_answer, elect_answer, finish_answer, claim_answer_1, claim_answer_none, goes_on, is_small_group}
+use Rattle.pf_entry.specs.Sets.{from_items}
+use Rattle.pf_protocol.specs.GivenAway.{lost_slot, until_the_restart, GivesAway}
 
-module _ (first second : Sector) (length_first : length first ≡ 512) (length_second : length second ≡ 512) where
+-- the states of the servers 0, 1 and 2 are a, b and c, each with its number; l are records of leaders, and g are the group after each event
+module _ (first second : Sector) where
   abbrev packet : (from to term : ℕ) → Body → Packet
   packet from to term body = record { from = from; to = to; term = term; body = body }
 
@@ -54,6 +57,7 @@ module _ (first second : Sector) (length_first : length first ≡ 512) (length_s
   abbrev g0 : Group
   g0 = opening small_group
 
+  -- 1. server 0 takes a submission
   abbrev one : Entry
   one = record { slot = 1; term = 1; first = 1; look = []; op = write_at 0 first }
 
@@ -78,6 +82,7 @@ module _ (first second : Sector) (length_first : length first ≡ 512) (length_s
   unfolding opening first_leader acted settled restarted opening_disk stored on_elect renewed led
   e1 = submits small_group g0 0 (write_at 0 first) a0 _ refl rule_1
 
+  -- 2. server 0 stops
   abbrev g2 : Group
   g2 = record g1 { servers = slice_set g1.servers 0 (Stopped 1 a1.durable a1.durable) }
 
@@ -85,6 +90,7 @@ module _ (first second : Sector) (length_first : length first ≡ 512) (length_s
   unfolding happens opening first_leader acted settled restarted opening_disk stored on_elect renewed led
   e2 = refl
 
+  -- 3. server 1 stands for election
   abbrev b1 : Server
   b1 = record b0 { durable = stored b0.durable (TermRecord 2); role = Candidate (vote_of b0.durable) }
 
@@ -103,6 +109,7 @@ module _ (first second : Sector) (length_first : length first ≡ 512) (length_s
   unfolding opening first_leader acted settled restarted opening_disk stored on_elect renewed led
   e3 = elects small_group g2 1 b0 _ refl rule_3
 
+  -- 4. a request for a vote from server 1 comes to server 2
   abbrev c1 : Server
   c1 = record c0 { durable = stored c0.durable (TermRecord 2) }
 
@@ -121,6 +128,7 @@ module _ (first second : Sector) (length_first : length first ≡ 512) (length_s
   unfolding opening first_leader acted settled restarted opening_disk stored on_elect renewed led
   e4 = delivers small_group g3 3 (packet 1 2 2 (RequestVote 0)) false c0 _ refl refl rule_4
 
+  -- 5. a vote from server 2 comes to server 1
   first_5 : merged_first 0 (vote_of b0.durable) (vote_of c0.durable) ≡ 1
   unfolding merged_first merged_entries taken left_of higher is_void restarted opening_disk stored put_entry put_entries add_start add_merged_start
   first_5 = simp (entries-insert, empty_rows, gets)
@@ -150,6 +158,7 @@ module _ (first second : Sector) (length_first : length first ≡ 512) (length_s
   unfolding opening first_leader acted settled restarted opening_disk stored on_elect renewed led
   e5 = delivers small_group g4 4 (packet 2 1 2 (Vote (vote_of c0.durable))) false b1 _ refl refl rule_5
 
+  -- 6. server 1 takes a submission
   abbrev two : Entry
   two = record { slot = 1; term = 2; first = 1; look = []; op = write_at 1 second }
 
@@ -174,6 +183,7 @@ module _ (first second : Sector) (length_first : length first ≡ 512) (length_s
   unfolding opening first_leader acted settled restarted opening_disk stored on_elect renewed led
   e6 = submits small_group g5 1 (write_at 1 second) b2 _ refl rule_6
 
+  -- 7. a proposal from server 1 comes to server 2
   abbrev c2 : Server
   c2 = record c1 { durable = stored c1.durable (EntryRecord two) }
 
@@ -192,6 +202,7 @@ module _ (first second : Sector) (length_first : length first ≡ 512) (length_s
   unfolding opening first_leader acted settled restarted opening_disk stored on_elect renewed led
   e7 = delivers small_group g6 6 (packet 1 2 2 (Accept two)) false c1 _ refl refl rule_7
 
+  -- 8. an acknowledgement from server 2 comes to server 1
   abbrev l4 : Leader
   l4 = record l3 { known = FinMap.insert l3.known 2 0; acks = acknowledged l3.acks 2 1 }
 
@@ -213,12 +224,13 @@ module _ (first second : Sector) (length_first : length first ≡ 512) (length_s
   unfolding opening first_leader acted settled restarted opening_disk stored on_elect renewed led
   e8 = delivers small_group g7 7 (packet 2 1 2 (Ack 1 0)) false b3 _ refl refl rule_8
 
+  -- 9 and 10. server 1 applies slot 1
   claim_9 : claimable 4096 b4 ≡ Some 1
-  unfolding restarted opening_disk stored put_entry put_entries is_free range_of merged_entry
+  unfolding settled restarted opening_disk stored put_entry put_entries is_free range_of merged_entry
   claim_9 = first_is b4 4095 (simp gets)
 
   op_9 : op_at b4.durable.log 1 ≡ write_at 1 second
-  unfolding restarted opening_disk stored put_entry put_entries is_free range_of merged_entry op_at
+  unfolding settled restarted opening_disk stored put_entry put_entries is_free range_of merged_entry op_at
   op_9 = simp gets
 
   abbrev g9 : Group
@@ -242,6 +254,7 @@ module _ (first second : Sector) (length_first : length first ≡ 512) (length_s
   unfolding opening first_leader acted settled restarted opening_disk stored on_elect renewed led
   e10 = finishes small_group g9 1 0 1 (claimed b4 1) _ refl rule_10
 
+  -- 11. server 0 begins again
   abbrev a2 : Server
   a2 = restarted 0 2 a1.durable
 
@@ -252,6 +265,7 @@ module _ (first second : Sector) (length_first : length first ≡ 512) (length_s
   unfolding happens opening first_leader acted settled restarted opening_disk stored on_elect renewed led
   e11 = refl
 
+  -- 12. a proposal from server 0 comes to server 1
   rule_12 : on_packet small_group b5 (packet 0 1 1 (Accept one)) ≡ sends b5 (packet 1 0 2 Nack ∷ [])
   unfolding on_packet on_message on_accept accepted restarted opening_disk stored put_entry put_entries holds upto
   rule_12 = refl
@@ -267,6 +281,7 @@ module _ (first second : Sector) (length_first : length first ≡ 512) (length_s
   unfolding opening first_leader acted settled restarted opening_disk stored on_elect renewed led
   e12 = delivers small_group g11 0 (packet 0 1 1 (Accept one)) false b5 _ refl refl rule_12
 
+  -- 13. a proposal from server 1 comes to server 0
   abbrev a3 : Server
   a3 = record a2 { durable = stored a2.durable (EntryRecord two) }
 
@@ -284,6 +299,28 @@ module _ (first second : Sector) (length_first : length first ≡ 512) (length_s
   e13 : happens small_group g12 (Deliver 5) Whole ≡ g13
   unfolding opening first_leader acted settled restarted opening_disk stored on_elect renewed led
   e13 = delivers small_group g12 5 (packet 1 0 2 (Accept two)) false a2 _ refl refl rule_13
+
+  none_last_0 : claimable 4096 a3 ≡ None
+  unfolding settled restarted opening_disk stored put_entry put_entries is_free range_of merged_entry
+  none_last_0 =
+      let can = λ (slot : ℕ). is_claimable a3 (FinMap.get a3.durable.log slot) slot in
+      none_marked a3 4096 (none_of can)
+
+  none_last_1 : claimable 4096 b5 ≡ None
+  unfolding settled restarted opening_disk stored put_entry put_entries is_free range_of merged_entry
+  none_last_1 =
+      let can = λ (slot : ℕ). is_claimable b5 (FinMap.get b5.durable.log slot) slot in
+      none_marked b5 4096 (nor_of can Sets.empty 1 (simp gets) (none_of can))
+
+  none_last_2 : claimable 4096 c2 ≡ None
+  unfolding settled restarted opening_disk stored put_entry put_entries is_free range_of merged_entry
+  none_last_2 =
+      let can = λ (slot : ℕ). is_claimable c2 (FinMap.get c2.durable.log slot) slot in
+      none_marked c2 4096 (none_of can)
+
+  calm : answer_to small_group g13 Claim ≡ Refused NoneFree
+  unfolding opening first_leader acted settled restarted opening_disk stored on_elect renewed led
+  calm = claim_answer_none small_group g13 none_last_0 none_last_1 none_last_2
 
   abbrev rest_13 : History
   rest_13 = []
@@ -369,99 +406,57 @@ module _ (first second : Sector) (length_first : length first ≡ 512) (length_s
   replayed_0 : run small_group g0 rest_0 ≡ g13
   replayed_0 = follows small_group g0 g1 g13 (so (Submit 0 (write_at 0 first)) (SlotIs 1)) rest_1 e1 replayed_1
 
-  legal_13 : IsLegalFrom small_group g13 ([]) rest_13
-  legal_13 = tt
-
   answer_13 : answer_to small_group g12 (Deliver 5) ≡ Done
   unfolding opening first_leader acted settled restarted opening_disk stored on_elect renewed led
   answer_13 = deliver_answer small_group g12 5 (packet 1 0 2 (Accept two)) false a2 _ refl refl rule_13 room_13
-
-  legal_12 : IsLegalFrom small_group g12 ([]) rest_12
-  legal_12 = goes_on small_group g12 g13 ([]) (so (Deliver 5) Done) rest_13 tt answer_13 e13 legal_13
 
   answer_12 : answer_to small_group g11 (Deliver 0) ≡ Done
   unfolding opening first_leader acted settled restarted opening_disk stored on_elect renewed led
   answer_12 = deliver_answer small_group g11 0 (packet 0 1 1 (Accept one)) false b5 _ refl refl rule_12 room_12
 
-  legal_11 : IsLegalFrom small_group g11 ([]) rest_11
-  legal_11 = goes_on small_group g11 g12 ([]) (so (Deliver 0) Done) rest_12 tt answer_12 e12 legal_12
-
   answer_11 : answer_to small_group g10 (Restart 0 false) ≡ Done
   unfolding answer_to opening first_leader acted settled restarted opening_disk stored on_elect renewed led
   answer_11 = refl
-
-  legal_10 : IsLegalFrom small_group g10 ([]) rest_10
-  legal_10 = goes_on small_group g10 g11 ([]) (so (Restart 0 false) Done) rest_11 (omega arith) answer_11 e11 legal_11
 
   answer_10 : answer_to small_group g9 (Finish 1 0 1) ≡ Done
   unfolding opening first_leader acted settled restarted opening_disk stored on_elect renewed led
   answer_10 = finish_answer small_group g9 1 0 1 (claimed b4 1) _ refl rule_10
 
-  legal_9 : IsLegalFrom small_group g9 (record { server = 1; life = 0; slot = 1; op = write_at 1 second } ∷ []) rest_9
-  legal_9 = goes_on small_group g9 g10 (record { server = 1; life = 0; slot = 1; op = write_at 1 second } ∷ []) (so (Finish 1 0 1) Done) rest_10 refl answer_10 e10 legal_10
-
   answer_9 : answer_to small_group g8 Claim ≡ JobIs (record { server = 1; life = 0; slot = 1; op = write_at 1 second })
   unfolding opening first_leader acted settled restarted opening_disk stored on_elect renewed led
   answer_9 = claim_answer_1 small_group g8 refl b4 1 refl claim_9 ∙ ap (λ x. JobIs (record { server = 1; life = 0; slot = 1; op = x })) op_9
-
-  legal_8 : IsLegalFrom small_group g8 ([]) rest_8
-  legal_8 = goes_on small_group g8 g9 ([]) (so Claim (JobIs (record { server = 1; life = 0; slot = 1; op = write_at 1 second }))) rest_9 tt answer_9 e9 legal_9
 
   answer_8 : answer_to small_group g7 (Deliver 7) ≡ Done
   unfolding opening first_leader acted settled restarted opening_disk stored on_elect renewed led
   answer_8 = deliver_answer small_group g7 7 (packet 2 1 2 (Ack 1 0)) false b3 _ refl refl rule_8 room_8
 
-  legal_7 : IsLegalFrom small_group g7 ([]) rest_7
-  legal_7 = goes_on small_group g7 g8 ([]) (so (Deliver 7) Done) rest_8 tt answer_8 e8 legal_8
-
   answer_7 : answer_to small_group g6 (Deliver 6) ≡ Done
   unfolding opening first_leader acted settled restarted opening_disk stored on_elect renewed led
   answer_7 = deliver_answer small_group g6 6 (packet 1 2 2 (Accept two)) false c1 _ refl refl rule_7 room_7
-
-  legal_6 : IsLegalFrom small_group g6 ([]) rest_6
-  legal_6 = goes_on small_group g6 g7 ([]) (so (Deliver 6) Done) rest_7 tt answer_7 e7 legal_7
 
   answer_6 : answer_to small_group g5 (Submit 1 (write_at 1 second)) ≡ SlotIs 1
   unfolding opening first_leader acted settled restarted opening_disk stored on_elect renewed led range_of
   answer_6 = submit_answer small_group g5 1 (write_at 1 second) b2 _ refl refl refl refl refl rule_6 room_6
 
-  legal_5 : IsLegalFrom small_group g5 ([]) rest_5
-  legal_5 = goes_on small_group g5 g6 ([]) (so (Submit 1 (write_at 1 second)) (SlotIs 1)) rest_6 (omega arith, (record { some = omega arith; few = omega arith; low = omega arith }, refl, (length_second, tt))) answer_6 e6 legal_6
-
   answer_5 : answer_to small_group g4 (Deliver 4) ≡ Done
   unfolding opening first_leader acted settled restarted opening_disk stored on_elect renewed led
   answer_5 = deliver_answer small_group g4 4 (packet 2 1 2 (Vote (vote_of c0.durable))) false b1 _ refl refl rule_5 room_5
-
-  legal_4 : IsLegalFrom small_group g4 ([]) rest_4
-  legal_4 = goes_on small_group g4 g5 ([]) (so (Deliver 4) Done) rest_5 tt answer_5 e5 legal_5
 
   answer_4 : answer_to small_group g3 (Deliver 3) ≡ Done
   unfolding opening first_leader acted settled restarted opening_disk stored on_elect renewed led
   answer_4 = deliver_answer small_group g3 3 (packet 1 2 2 (RequestVote 0)) false c0 _ refl refl rule_4 room_4
 
-  legal_3 : IsLegalFrom small_group g3 ([]) rest_3
-  legal_3 = goes_on small_group g3 g4 ([]) (so (Deliver 3) Done) rest_4 tt answer_4 e4 legal_4
-
   answer_3 : answer_to small_group g2 (Elect 1) ≡ TermIs 2
   unfolding opening first_leader acted settled restarted opening_disk stored on_elect renewed led most_elections
   answer_3 = elect_answer small_group g2 1 b0 _ refl refl rule_3 room_3
-
-  legal_2 : IsLegalFrom small_group g2 ([]) rest_2
-  legal_2 = goes_on small_group g2 g3 ([]) (so (Elect 1) (TermIs 2)) rest_3 (omega arith) answer_3 e3 legal_3
 
   answer_2 : answer_to small_group g1 (Stop 0) ≡ Done
   unfolding answer_to opening first_leader acted settled restarted opening_disk stored on_elect renewed led
   answer_2 = refl
 
-  legal_1 : IsLegalFrom small_group g1 ([]) rest_1
-  legal_1 = goes_on small_group g1 g2 ([]) (so (Stop 0) Done) rest_2 (omega arith) answer_2 e2 legal_2
-
   answer_1 : answer_to small_group g0 (Submit 0 (write_at 0 first)) ≡ SlotIs 1
   unfolding opening first_leader acted settled restarted opening_disk stored on_elect renewed led range_of
   answer_1 = submit_answer small_group g0 0 (write_at 0 first) a0 _ refl refl refl refl refl rule_1 room_1
-
-  legal_0 : IsLegalFrom small_group g0 ([]) rest_0
-  legal_0 = goes_on small_group g0 g1 ([]) (so (Submit 0 (write_at 0 first)) (SlotIs 1)) rest_1 (omega arith, (record { some = omega arith; few = omega arith; low = omega arith }, refl, (length_first, tt))) answer_1 e1 legal_1
 
   acked_last : g13.acked ≡ record { term = 2; slot = 1 } ∷ []
   unfolding opening first_leader acted settled restarted opening_disk stored on_elect renewed led
@@ -475,8 +470,59 @@ module _ (first second : Sector) (length_first : length first ≡ 512) (length_s
   unfolding opening first_leader acted settled restarted opening_disk stored on_elect renewed led put_entry put_entries
   shown_1 = record { server = b5; runs = refl; its_term = refl; its_base = refl; its_log = simp (entries-insert, empty_rows, gets); its_applied = simp (entries-insert, empty_rows, nat_cmp_total) }
 
-  pub legal : IsLegal small_group (lost_slot first second)
-  legal = record { is_setup = is_small_group; legal = legal_0 }
+  replayed_before : replay small_group (until_the_restart first second) ≡ g11
+  replayed_before = rw (e1, e2, e3, e4, e5, e6, e7, e8, e9, e10, e11)
+
+  shown_before : Shows g11 0 1 0 (line 1 1 (write_at 0 first) false ∷ []) ([])
+  unfolding opening first_leader acted settled restarted opening_disk stored on_elect renewed led put_entry put_entries
+  shown_before = record { server = a2; runs = refl; its_term = refl; its_base = refl; its_log = simp (entries-insert, empty_rows, gets); its_applied = simp empty_rows }
 
   pub shows : GivesAway first second
-  shows = record { acked = ap (λ (g : Group). g.acked) replayed_0 ∙ acked_last; shown_0 = rw replayed_0 shown_0; shown_1 = rw replayed_0 shown_1 }
+  shows = record { calm = ap (λ (g : Group). answer_to small_group g Claim) replayed_0 ∙ calm; acked = ap (λ (g : Group). g.acked) replayed_0 ∙ acked_last; shown_0 = rw replayed_0 shown_0; shown_1 = rw replayed_0 shown_1; before = rw replayed_before shown_before }
+
+  -- with whole sectors the history is one that the group can have
+  module _ (length_first : IsSector first) (length_second : IsSector second) where
+    legal_13 : IsLegalFrom small_group g13 ([]) rest_13
+    legal_13 = tt
+
+    legal_12 : IsLegalFrom small_group g12 ([]) rest_12
+    legal_12 = goes_on small_group g12 g13 ([]) (so (Deliver 5) Done) rest_13 tt answer_13 e13 legal_13
+
+    legal_11 : IsLegalFrom small_group g11 ([]) rest_11
+    legal_11 = goes_on small_group g11 g12 ([]) (so (Deliver 0) Done) rest_12 tt answer_12 e12 legal_12
+
+    legal_10 : IsLegalFrom small_group g10 ([]) rest_10
+    legal_10 = goes_on small_group g10 g11 ([]) (so (Restart 0 false) Done) rest_11 (omega arith) answer_11 e11 legal_11
+
+    legal_9 : IsLegalFrom small_group g9 (record { server = 1; life = 0; slot = 1; op = write_at 1 second } ∷ []) rest_9
+    legal_9 = goes_on small_group g9 g10 (record { server = 1; life = 0; slot = 1; op = write_at 1 second } ∷ []) (so (Finish 1 0 1) Done) rest_10 refl answer_10 e10 legal_10
+
+    legal_8 : IsLegalFrom small_group g8 ([]) rest_8
+    legal_8 = goes_on small_group g8 g9 ([]) (so Claim (JobIs (record { server = 1; life = 0; slot = 1; op = write_at 1 second }))) rest_9 tt answer_9 e9 legal_9
+
+    legal_7 : IsLegalFrom small_group g7 ([]) rest_7
+    legal_7 = goes_on small_group g7 g8 ([]) (so (Deliver 7) Done) rest_8 tt answer_8 e8 legal_8
+
+    legal_6 : IsLegalFrom small_group g6 ([]) rest_6
+    legal_6 = goes_on small_group g6 g7 ([]) (so (Deliver 6) Done) rest_7 tt answer_7 e7 legal_7
+
+    legal_5 : IsLegalFrom small_group g5 ([]) rest_5
+    legal_5 = goes_on small_group g5 g6 ([]) (so (Submit 1 (write_at 1 second)) (SlotIs 1)) rest_6 (omega arith, (record { some = omega arith; few = omega arith; low = omega arith }, refl, (length_second, tt))) answer_6 e6 legal_6
+
+    legal_4 : IsLegalFrom small_group g4 ([]) rest_4
+    legal_4 = goes_on small_group g4 g5 ([]) (so (Deliver 4) Done) rest_5 tt answer_5 e5 legal_5
+
+    legal_3 : IsLegalFrom small_group g3 ([]) rest_3
+    legal_3 = goes_on small_group g3 g4 ([]) (so (Deliver 3) Done) rest_4 tt answer_4 e4 legal_4
+
+    legal_2 : IsLegalFrom small_group g2 ([]) rest_2
+    legal_2 = goes_on small_group g2 g3 ([]) (so (Elect 1) (TermIs 2)) rest_3 (omega arith) answer_3 e3 legal_3
+
+    legal_1 : IsLegalFrom small_group g1 ([]) rest_1
+    legal_1 = goes_on small_group g1 g2 ([]) (so (Stop 0) Done) rest_2 (omega arith) answer_2 e2 legal_2
+
+    legal_0 : IsLegalFrom small_group g0 ([]) rest_0
+    legal_0 = goes_on small_group g0 g1 ([]) (so (Submit 0 (write_at 0 first)) (SlotIs 1)) rest_1 (omega arith, (record { some = omega arith; few = omega arith; low = omega arith }, refl, (length_first, tt))) answer_1 e1 legal_1
+
+    pub legal : IsLegal small_group (lost_slot first second)
+    legal = record { is_setup = is_small_group; legal = legal_0 }

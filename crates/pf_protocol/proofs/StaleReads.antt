@@ -1,5 +1,5 @@
 -- A deposed leader is asked to read, event by event.
-use Rattle.std.proofs.Common.{◌≡◌, ℕ, true, false, [], ◌∷◌, length, Some, None, refl, ap, ◌∙◌, arith}
+use Rattle.std.proofs.Common.{◌≡◌, ℕ, true, false, [], ◌∷◌, Some, None, refl, ap, ◌∙◌, arith}
 use Rattle.std.specs.Prelude.{slice_set}
 use Rattle.std.specs.FinMap
 use Rattle.std.specs.FinMap.{gets, entries-insert}
@@ -16,7 +16,7 @@ use Rattle.pf_entry.specs.Voids.{is_void}
 use Rattle.pf_entry.specs.Merging.{merged_first, merged_entry, merged_entries, taken, left_of, higher}
 use Rattle.pf_entry.specs.Sizes.{packet_size, body_size}
 use Rattle.pf_protocol.specs.declared.answers.Answer.TheVariants.{Slot as SlotIs, Term as TermIs, Read as ReadIs, Done, Job as JobIs, Refused}
-use Rattle.pf_protocol.specs.declared.answers.Refusal.TheVariants.{NotLeader}
+use Rattle.pf_protocol.specs.declared.answers.Refusal.TheVariants.{NotLeader, NoneFree}
 use Rattle.pf_protocol.specs.declared.events.Event.TheVariants.{Submit, Fetch, Deliver, Elect, Claim, Finish}
 use Rattle.pf_protocol.specs.Servers.{Leader, Server, Follower, Candidate, Serving, Running, upto}
 use Rattle.pf_protocol.specs.Outcomes.{Outcome, sends}
@@ -27,9 +27,9 @@ use Rattle.pf_protocol.specs.Rows.{on_message, on_packet, settled}
 use Rattle.pf_protocol.specs.Groups.{Group, Whole, opening, first_leader, opening_disk, happens, acted, with_sent}
 use Rattle.pf_protocol.specs.Histories.{History, run}
 use Rattle.pf_protocol.specs.Answers.{answer_to, room_refusal, most_packets, most_packet_bytes, half_size, most_elections, IsLegal, IsLegalFrom}
-use Rattle.pf_protocol.specs.Shown.{small_group, write_at, so}
+use Rattle.pf_protocol.specs.Shown.{small_group, write_at, IsSector, so}
 use Rattle.pf_protocol.proofs.Replays.{empty_rows, submits, fetches, delivers, elects, claims_at_1, finishes, first_is, none_marked, nor_of, none_of, follows}
-use Rattle.pf_protocol.proofs.Answering.{submit_answer, fetch_answer, deliver_answer, elect_answer, finish_answer, claim_answer_1, goes_on, is_small_group}
+use Rattle.pf_protocol.proofs.Answering.{submit_answer, fetch_answer, deliver_answer, elect_answer, finish_answer, claim_answer_1, claim_answer_none, goes_on, is_small_group}
 use Rattle.std.specs.Prelude.{not, ◌&&◌}
 use Rattle.pf_base.specs.Span.{overlaps}
 use Rattle.pf_entry.specs.Ops.{writes, written}
@@ -38,9 +38,10 @@ use Rattle.pf_protocol.specs.Servers.{has_applied}
 use Rattle.pf_protocol.specs.Groups.{Untouched}
 use Rattle.pf_protocol.specs.Answers.{fetch_refusal}
 use Rattle.pf_protocol.proofs.Replays.{retains_none}
-use Rattle.pf_protocol.specs.Deposed.{stale_read, ReadsAtTheLeader}
+use Rattle.pf_protocol.specs.StaleReads.{stale_read, ReadsAtTheLeader}
 
-module _ (first : Sector) (length_first : length first ≡ 512) where
+-- the states of the servers 0, 1 and 2 are a, b and c, each with its number; l are records of leaders, and g are the group after each event
+module _ (first : Sector) where
   abbrev packet : (from to term : ℕ) → Body → Packet
   packet from to term body = record { from = from; to = to; term = term; body = body }
 
@@ -62,6 +63,7 @@ module _ (first : Sector) (length_first : length first ≡ 512) where
   abbrev g0 : Group
   g0 = opening small_group
 
+  -- 1. server 1 stands for election
   abbrev b1 : Server
   b1 = record b0 { durable = stored b0.durable (TermRecord 2); role = Candidate (vote_of b0.durable) }
 
@@ -80,6 +82,7 @@ module _ (first : Sector) (length_first : length first ≡ 512) where
   unfolding opening first_leader acted settled restarted opening_disk stored on_elect renewed led
   e1 = elects small_group g0 1 b0 _ refl rule_1
 
+  -- 2. a request for a vote from server 1 comes to server 2
   abbrev c1 : Server
   c1 = record c0 { durable = stored c0.durable (TermRecord 2) }
 
@@ -98,6 +101,7 @@ module _ (first : Sector) (length_first : length first ≡ 512) where
   unfolding opening first_leader acted settled restarted opening_disk stored on_elect renewed led
   e2 = delivers small_group g1 1 (packet 1 2 2 (RequestVote 0)) false c0 _ refl refl rule_2
 
+  -- 3. a vote from server 2 comes to server 1
   first_3 : merged_first 0 (vote_of b0.durable) (vote_of c0.durable) ≡ 1
   unfolding merged_first merged_entries taken left_of higher is_void restarted opening_disk stored put_entry put_entries add_start add_merged_start
   first_3 = simp (entries-insert, empty_rows, gets)
@@ -127,6 +131,7 @@ module _ (first : Sector) (length_first : length first ≡ 512) where
   unfolding opening first_leader acted settled restarted opening_disk stored on_elect renewed led
   e3 = delivers small_group g2 2 (packet 2 1 2 (Vote (vote_of c0.durable))) false b1 _ refl refl rule_3
 
+  -- 4. server 1 takes a submission
   abbrev one : Entry
   one = record { slot = 1; term = 2; first = 1; look = []; op = write_at 0 first }
 
@@ -151,6 +156,7 @@ module _ (first : Sector) (length_first : length first ≡ 512) where
   unfolding opening first_leader acted settled restarted opening_disk stored on_elect renewed led
   e4 = submits small_group g3 1 (write_at 0 first) b2 _ refl rule_4
 
+  -- 5. a proposal from server 1 comes to server 2
   abbrev c2 : Server
   c2 = record c1 { durable = stored c1.durable (EntryRecord one) }
 
@@ -169,6 +175,7 @@ module _ (first : Sector) (length_first : length first ≡ 512) where
   unfolding opening first_leader acted settled restarted opening_disk stored on_elect renewed led
   e5 = delivers small_group g4 4 (packet 1 2 2 (Accept one)) false c1 _ refl refl rule_5
 
+  -- 6. an acknowledgement from server 2 comes to server 1
   abbrev l3 : Leader
   l3 = record l2 { known = FinMap.insert l2.known 2 0; acks = acknowledged l2.acks 2 1 }
 
@@ -190,18 +197,19 @@ module _ (first : Sector) (length_first : length first ≡ 512) where
   unfolding opening first_leader acted settled restarted opening_disk stored on_elect renewed led
   e6 = delivers small_group g5 5 (packet 2 1 2 (Ack 1 0)) false b3 _ refl refl rule_6
 
+  -- 7 and 8. server 1 applies slot 1
   none_7_0 : claimable 4096 a0 ≡ None
-  unfolding restarted opening_disk stored put_entry put_entries is_free range_of merged_entry
+  unfolding settled restarted opening_disk stored put_entry put_entries is_free range_of merged_entry
   none_7_0 =
       let can = λ (slot : ℕ). is_claimable a0 (FinMap.get a0.durable.log slot) slot in
       none_marked a0 4096 (none_of can)
 
   claim_7 : claimable 4096 b4 ≡ Some 1
-  unfolding restarted opening_disk stored put_entry put_entries is_free range_of merged_entry
+  unfolding settled restarted opening_disk stored put_entry put_entries is_free range_of merged_entry
   claim_7 = first_is b4 4095 (simp gets)
 
   op_7 : op_at b4.durable.log 1 ≡ write_at 0 first
-  unfolding restarted opening_disk stored put_entry put_entries is_free range_of merged_entry op_at
+  unfolding settled restarted opening_disk stored put_entry put_entries is_free range_of merged_entry op_at
   op_7 = simp gets
 
   abbrev g7 : Group
@@ -225,8 +233,9 @@ module _ (first : Sector) (length_first : length first ≡ 512) where
   unfolding opening first_leader acted settled restarted opening_disk stored on_elect renewed led
   e8 = finishes small_group g7 1 0 1 (claimed b4 1) _ refl rule_8
 
+  -- 9. server 0 is asked to read
   waits_9 : Sets.retain a0.committed (λ slot. not (has_applied a0 slot) && overlaps (range_of (op_at a0.durable.log slot)) (record { first = 0; count = 1 })) ≡ Sets.empty
-  unfolding restarted opening_disk stored put_entry put_entries is_free range_of merged_entry op_at
+  unfolding settled restarted opening_disk stored put_entry put_entries is_free range_of merged_entry op_at
   waits_9 =
       let waits = λ (slot : ℕ). not (has_applied a0 slot) && overlaps (range_of (op_at a0.durable.log slot)) (record { first = 0; count = 1 }) in
       retains_none a0.committed waits (none_of waits)
@@ -249,6 +258,7 @@ module _ (first : Sector) (length_first : length first ≡ 512) where
   unfolding opening first_leader acted settled restarted opening_disk stored on_elect renewed led
   e9 = fetches small_group g8 0 (record { first = 0; count = 1 }) a0 _ refl rule_9
 
+  -- 10. a probe from server 0 comes to server 1
   rule_10 : on_packet small_group b5 (packet 0 1 1 (Probe 0)) ≡ sends b5 (packet 1 0 2 Nack ∷ [])
   unfolding on_packet on_message on_probe restarted opening_disk stored upto
   rule_10 = refl
@@ -264,6 +274,7 @@ module _ (first : Sector) (length_first : length first ≡ 512) where
   unfolding opening first_leader acted settled restarted opening_disk stored on_elect renewed led
   e10 = delivers small_group g9 7 (packet 0 1 1 (Probe 0)) false b5 _ refl refl rule_10
 
+  -- 11. a probe from server 0 comes to server 2
   rule_11 : on_packet small_group c2 (packet 0 2 1 (Probe 0)) ≡ sends c2 (packet 2 0 2 Nack ∷ [])
   unfolding on_packet on_message on_probe restarted opening_disk stored upto
   rule_11 = refl
@@ -279,6 +290,7 @@ module _ (first : Sector) (length_first : length first ≡ 512) where
   unfolding opening first_leader acted settled restarted opening_disk stored on_elect renewed led
   e11 = delivers small_group g10 8 (packet 0 2 1 (Probe 0)) false c2 _ refl refl rule_11
 
+  -- 12. a refusal from server 1 comes to server 0
   abbrev a2 : Server
   a2 = record a1 { durable = stored a1.durable (TermRecord 2); role = Follower; reads = [] }
 
@@ -297,6 +309,7 @@ module _ (first : Sector) (length_first : length first ≡ 512) where
   unfolding opening first_leader acted settled restarted opening_disk stored on_elect renewed led
   e12 = delivers small_group g11 9 (packet 1 0 2 Nack) false a1 _ refl refl rule_12
 
+  -- 13. server 0 is asked to read
   abbrev g13 : Group
   g13 = g12
 
@@ -304,8 +317,9 @@ module _ (first : Sector) (length_first : length first ≡ 512) where
   unfolding happens opening first_leader acted settled restarted opening_disk stored on_elect renewed led
   e13 = refl
 
+  -- 14. server 1 is asked to read
   waits_14 : Sets.retain b5.committed (λ slot. not (has_applied b5 slot) && overlaps (range_of (op_at b5.durable.log slot)) (record { first = 0; count = 1 })) ≡ Sets.empty
-  unfolding restarted opening_disk stored put_entry put_entries is_free range_of merged_entry op_at
+  unfolding settled restarted opening_disk stored put_entry put_entries is_free range_of merged_entry op_at
   waits_14 =
       let waits = λ (slot : ℕ). not (has_applied b5 slot) && overlaps (range_of (op_at b5.durable.log slot)) (record { first = 0; count = 1 }) in
       retains_none b5.committed waits (nor_of waits Sets.empty 1 (simp gets) (none_of waits))
@@ -328,6 +342,7 @@ module _ (first : Sector) (length_first : length first ≡ 512) where
   unfolding opening first_leader acted settled restarted opening_disk stored on_elect renewed led
   e14 = fetches small_group g13 1 (record { first = 0; count = 1 }) b5 _ refl rule_14
 
+  -- 15. a probe from server 1 comes to server 2
   rule_15 : on_packet small_group c2 (packet 1 2 2 (Probe 1)) ≡ sends c2 (packet 2 1 2 (ProbeOk 1 0) ∷ [])
   unfolding on_packet on_message on_probe restarted opening_disk stored upto
   rule_15 = simp gets
@@ -343,6 +358,7 @@ module _ (first : Sector) (length_first : length first ≡ 512) where
   unfolding opening first_leader acted settled restarted opening_disk stored on_elect renewed led
   e15 = delivers small_group g14 12 (packet 1 2 2 (Probe 1)) false c2 _ refl refl rule_15
 
+  -- 16. the answer to a probe from server 2 comes to server 1
   abbrev l4 : Leader
   l4 = record l3 { known = FinMap.insert l3.known 2 0 }
 
@@ -363,6 +379,28 @@ module _ (first : Sector) (length_first : length first ≡ 512) where
   e16 : happens small_group g15 (Deliver 13) Whole ≡ g16
   unfolding opening first_leader acted settled restarted opening_disk stored on_elect renewed led
   e16 = delivers small_group g15 13 (packet 2 1 2 (ProbeOk 1 0)) false b6 _ refl refl rule_16
+
+  none_last_0 : claimable 4096 a2 ≡ None
+  unfolding settled restarted opening_disk stored put_entry put_entries is_free range_of merged_entry
+  none_last_0 =
+      let can = λ (slot : ℕ). is_claimable a2 (FinMap.get a2.durable.log slot) slot in
+      none_marked a2 4096 (none_of can)
+
+  none_last_1 : claimable 4096 (settled b7) ≡ None
+  unfolding settled restarted opening_disk stored put_entry put_entries is_free range_of merged_entry
+  none_last_1 =
+      let can = λ (slot : ℕ). is_claimable (settled b7) (FinMap.get (settled b7).durable.log slot) slot in
+      none_marked (settled b7) 4096 (nor_of can Sets.empty 1 (simp gets) (none_of can))
+
+  none_last_2 : claimable 4096 c2 ≡ None
+  unfolding settled restarted opening_disk stored put_entry put_entries is_free range_of merged_entry
+  none_last_2 =
+      let can = λ (slot : ℕ). is_claimable c2 (FinMap.get c2.durable.log slot) slot in
+      none_marked c2 4096 (none_of can)
+
+  calm : answer_to small_group g16 Claim ≡ Refused NoneFree
+  unfolding opening first_leader acted settled restarted opening_disk stored on_elect renewed led
+  calm = claim_answer_none small_group g16 none_last_0 none_last_1 none_last_2
 
   abbrev rest_16 : History
   rest_16 = []
@@ -466,131 +504,133 @@ module _ (first : Sector) (length_first : length first ≡ 512) where
   replayed_0 : run small_group g0 rest_0 ≡ g16
   replayed_0 = follows small_group g0 g1 g16 (so (Elect 1) (TermIs 2)) rest_1 e1 replayed_1
 
-  legal_16 : IsLegalFrom small_group g16 ([]) rest_16
-  legal_16 = tt
-
   answer_16 : answer_to small_group g15 (Deliver 13) ≡ Done
   unfolding opening first_leader acted settled restarted opening_disk stored on_elect renewed led
   answer_16 = deliver_answer small_group g15 13 (packet 2 1 2 (ProbeOk 1 0)) false b6 _ refl refl rule_16 room_16
-
-  legal_15 : IsLegalFrom small_group g15 ([]) rest_15
-  legal_15 = goes_on small_group g15 g16 ([]) (so (Deliver 13) Done) rest_16 tt answer_16 e16 legal_16
 
   answer_15 : answer_to small_group g14 (Deliver 12) ≡ Done
   unfolding opening first_leader acted settled restarted opening_disk stored on_elect renewed led
   answer_15 = deliver_answer small_group g14 12 (packet 1 2 2 (Probe 1)) false c2 _ refl refl rule_15 room_15
 
-  legal_14 : IsLegalFrom small_group g14 ([]) rest_14
-  legal_14 = goes_on small_group g14 g15 ([]) (so (Deliver 12) Done) rest_15 tt answer_15 e15 legal_15
-
   answer_14 : answer_to small_group g13 (Fetch 1 (record { first = 0; count = 1 })) ≡ ReadIs 1
   unfolding opening first_leader acted settled restarted opening_disk stored on_elect renewed led
   answer_14 = fetch_answer small_group g13 1 (record { first = 0; count = 1 }) b5 _ refl refl refl rule_14 room_14
-
-  legal_13 : IsLegalFrom small_group g13 ([]) rest_13
-  legal_13 = goes_on small_group g13 g14 ([]) (so (Fetch 1 (record { first = 0; count = 1 })) (ReadIs 1)) rest_14 (omega arith, record { some = omega arith; few = omega arith; low = omega arith }) answer_14 e14 legal_14
 
   answer_13 : answer_to small_group g12 (Fetch 0 (record { first = 0; count = 1 })) ≡ Refused NotLeader
   unfolding answer_to fetch_refusal opening first_leader acted settled restarted opening_disk stored on_elect renewed led
   answer_13 = refl
 
-  legal_12 : IsLegalFrom small_group g12 ([]) rest_12
-  legal_12 = goes_on small_group g12 g13 ([]) (so (Fetch 0 (record { first = 0; count = 1 })) (Refused NotLeader)) rest_13 (omega arith, record { some = omega arith; few = omega arith; low = omega arith }) answer_13 e13 legal_13
-
   answer_12 : answer_to small_group g11 (Deliver 9) ≡ Done
   unfolding opening first_leader acted settled restarted opening_disk stored on_elect renewed led
   answer_12 = deliver_answer small_group g11 9 (packet 1 0 2 Nack) false a1 _ refl refl rule_12 room_12
-
-  legal_11 : IsLegalFrom small_group g11 ([]) rest_11
-  legal_11 = goes_on small_group g11 g12 ([]) (so (Deliver 9) Done) rest_12 tt answer_12 e12 legal_12
 
   answer_11 : answer_to small_group g10 (Deliver 8) ≡ Done
   unfolding opening first_leader acted settled restarted opening_disk stored on_elect renewed led
   answer_11 = deliver_answer small_group g10 8 (packet 0 2 1 (Probe 0)) false c2 _ refl refl rule_11 room_11
 
-  legal_10 : IsLegalFrom small_group g10 ([]) rest_10
-  legal_10 = goes_on small_group g10 g11 ([]) (so (Deliver 8) Done) rest_11 tt answer_11 e11 legal_11
-
   answer_10 : answer_to small_group g9 (Deliver 7) ≡ Done
   unfolding opening first_leader acted settled restarted opening_disk stored on_elect renewed led
   answer_10 = deliver_answer small_group g9 7 (packet 0 1 1 (Probe 0)) false b5 _ refl refl rule_10 room_10
-
-  legal_9 : IsLegalFrom small_group g9 ([]) rest_9
-  legal_9 = goes_on small_group g9 g10 ([]) (so (Deliver 7) Done) rest_10 tt answer_10 e10 legal_10
 
   answer_9 : answer_to small_group g8 (Fetch 0 (record { first = 0; count = 1 })) ≡ ReadIs 0
   unfolding opening first_leader acted settled restarted opening_disk stored on_elect renewed led
   answer_9 = fetch_answer small_group g8 0 (record { first = 0; count = 1 }) a0 _ refl refl refl rule_9 room_9
 
-  legal_8 : IsLegalFrom small_group g8 ([]) rest_8
-  legal_8 = goes_on small_group g8 g9 ([]) (so (Fetch 0 (record { first = 0; count = 1 })) (ReadIs 0)) rest_9 (omega arith, record { some = omega arith; few = omega arith; low = omega arith }) answer_9 e9 legal_9
-
   answer_8 : answer_to small_group g7 (Finish 1 0 1) ≡ Done
   unfolding opening first_leader acted settled restarted opening_disk stored on_elect renewed led
   answer_8 = finish_answer small_group g7 1 0 1 (claimed b4 1) _ refl rule_8
-
-  legal_7 : IsLegalFrom small_group g7 (record { server = 1; life = 0; slot = 1; op = write_at 0 first } ∷ []) rest_7
-  legal_7 = goes_on small_group g7 g8 (record { server = 1; life = 0; slot = 1; op = write_at 0 first } ∷ []) (so (Finish 1 0 1) Done) rest_8 refl answer_8 e8 legal_8
 
   answer_7 : answer_to small_group g6 Claim ≡ JobIs (record { server = 1; life = 0; slot = 1; op = write_at 0 first })
   unfolding opening first_leader acted settled restarted opening_disk stored on_elect renewed led
   answer_7 = claim_answer_1 small_group g6 none_7_0 b4 1 refl claim_7 ∙ ap (λ x. JobIs (record { server = 1; life = 0; slot = 1; op = x })) op_7
 
-  legal_6 : IsLegalFrom small_group g6 ([]) rest_6
-  legal_6 = goes_on small_group g6 g7 ([]) (so Claim (JobIs (record { server = 1; life = 0; slot = 1; op = write_at 0 first }))) rest_7 tt answer_7 e7 legal_7
-
   answer_6 : answer_to small_group g5 (Deliver 5) ≡ Done
   unfolding opening first_leader acted settled restarted opening_disk stored on_elect renewed led
   answer_6 = deliver_answer small_group g5 5 (packet 2 1 2 (Ack 1 0)) false b3 _ refl refl rule_6 room_6
-
-  legal_5 : IsLegalFrom small_group g5 ([]) rest_5
-  legal_5 = goes_on small_group g5 g6 ([]) (so (Deliver 5) Done) rest_6 tt answer_6 e6 legal_6
 
   answer_5 : answer_to small_group g4 (Deliver 4) ≡ Done
   unfolding opening first_leader acted settled restarted opening_disk stored on_elect renewed led
   answer_5 = deliver_answer small_group g4 4 (packet 1 2 2 (Accept one)) false c1 _ refl refl rule_5 room_5
 
-  legal_4 : IsLegalFrom small_group g4 ([]) rest_4
-  legal_4 = goes_on small_group g4 g5 ([]) (so (Deliver 4) Done) rest_5 tt answer_5 e5 legal_5
-
   answer_4 : answer_to small_group g3 (Submit 1 (write_at 0 first)) ≡ SlotIs 1
   unfolding opening first_leader acted settled restarted opening_disk stored on_elect renewed led range_of
   answer_4 = submit_answer small_group g3 1 (write_at 0 first) b2 _ refl refl refl refl refl rule_4 room_4
-
-  legal_3 : IsLegalFrom small_group g3 ([]) rest_3
-  legal_3 = goes_on small_group g3 g4 ([]) (so (Submit 1 (write_at 0 first)) (SlotIs 1)) rest_4 (omega arith, (record { some = omega arith; few = omega arith; low = omega arith }, refl, (length_first, tt))) answer_4 e4 legal_4
 
   answer_3 : answer_to small_group g2 (Deliver 2) ≡ Done
   unfolding opening first_leader acted settled restarted opening_disk stored on_elect renewed led
   answer_3 = deliver_answer small_group g2 2 (packet 2 1 2 (Vote (vote_of c0.durable))) false b1 _ refl refl rule_3 room_3
 
-  legal_2 : IsLegalFrom small_group g2 ([]) rest_2
-  legal_2 = goes_on small_group g2 g3 ([]) (so (Deliver 2) Done) rest_3 tt answer_3 e3 legal_3
-
   answer_2 : answer_to small_group g1 (Deliver 1) ≡ Done
   unfolding opening first_leader acted settled restarted opening_disk stored on_elect renewed led
   answer_2 = deliver_answer small_group g1 1 (packet 1 2 2 (RequestVote 0)) false c0 _ refl refl rule_2 room_2
-
-  legal_1 : IsLegalFrom small_group g1 ([]) rest_1
-  legal_1 = goes_on small_group g1 g2 ([]) (so (Deliver 1) Done) rest_2 tt answer_2 e2 legal_2
 
   answer_1 : answer_to small_group g0 (Elect 1) ≡ TermIs 2
   unfolding opening first_leader acted settled restarted opening_disk stored on_elect renewed led most_elections
   answer_1 = elect_answer small_group g0 1 b0 _ refl refl rule_1 room_1
 
-  legal_0 : IsLegalFrom small_group g0 ([]) rest_0
-  legal_0 = goes_on small_group g0 g1 ([]) (so (Elect 1) (TermIs 2)) rest_1 (omega arith) answer_1 e1 legal_1
-
   acked_last : g16.acked ≡ record { term = 2; slot = 1 } ∷ []
   unfolding opening first_leader acted settled restarted opening_disk stored on_elect renewed led
   acked_last = refl
-
-  pub legal : IsLegal small_group (stale_read first)
-  legal = record { is_setup = is_small_group; legal = legal_0 }
 
   answered_last : g16.answered ≡ record { number = 1; server = 1; term = 2; range = record { first = 0; count = 1 }; base = 0; applied = Sets.from_items (1 ∷ []); bytes = first ∷ [] } ∷ []
   unfolding opening first_leader acted settled restarted opening_disk stored on_elect renewed led changed range_of writes written from_items
   answered_last = simp empty_rows
 
   pub shows : ReadsAtTheLeader first
-  shows = record { acked = ap (λ (g : Group). g.acked) replayed_0 ∙ acked_last; answered = ap (λ (g : Group). g.answered) replayed_0 ∙ answered_last }
+  shows = record { calm = ap (λ (g : Group). answer_to small_group g Claim) replayed_0 ∙ calm; acked = ap (λ (g : Group). g.acked) replayed_0 ∙ acked_last; answered = ap (λ (g : Group). g.answered) replayed_0 ∙ answered_last }
+
+  -- with whole sectors the history is one that the group can have
+  module _ (length_first : IsSector first) where
+    legal_16 : IsLegalFrom small_group g16 ([]) rest_16
+    legal_16 = tt
+
+    legal_15 : IsLegalFrom small_group g15 ([]) rest_15
+    legal_15 = goes_on small_group g15 g16 ([]) (so (Deliver 13) Done) rest_16 tt answer_16 e16 legal_16
+
+    legal_14 : IsLegalFrom small_group g14 ([]) rest_14
+    legal_14 = goes_on small_group g14 g15 ([]) (so (Deliver 12) Done) rest_15 tt answer_15 e15 legal_15
+
+    legal_13 : IsLegalFrom small_group g13 ([]) rest_13
+    legal_13 = goes_on small_group g13 g14 ([]) (so (Fetch 1 (record { first = 0; count = 1 })) (ReadIs 1)) rest_14 (omega arith, record { some = omega arith; few = omega arith; low = omega arith }) answer_14 e14 legal_14
+
+    legal_12 : IsLegalFrom small_group g12 ([]) rest_12
+    legal_12 = goes_on small_group g12 g13 ([]) (so (Fetch 0 (record { first = 0; count = 1 })) (Refused NotLeader)) rest_13 (omega arith, record { some = omega arith; few = omega arith; low = omega arith }) answer_13 e13 legal_13
+
+    legal_11 : IsLegalFrom small_group g11 ([]) rest_11
+    legal_11 = goes_on small_group g11 g12 ([]) (so (Deliver 9) Done) rest_12 tt answer_12 e12 legal_12
+
+    legal_10 : IsLegalFrom small_group g10 ([]) rest_10
+    legal_10 = goes_on small_group g10 g11 ([]) (so (Deliver 8) Done) rest_11 tt answer_11 e11 legal_11
+
+    legal_9 : IsLegalFrom small_group g9 ([]) rest_9
+    legal_9 = goes_on small_group g9 g10 ([]) (so (Deliver 7) Done) rest_10 tt answer_10 e10 legal_10
+
+    legal_8 : IsLegalFrom small_group g8 ([]) rest_8
+    legal_8 = goes_on small_group g8 g9 ([]) (so (Fetch 0 (record { first = 0; count = 1 })) (ReadIs 0)) rest_9 (omega arith, record { some = omega arith; few = omega arith; low = omega arith }) answer_9 e9 legal_9
+
+    legal_7 : IsLegalFrom small_group g7 (record { server = 1; life = 0; slot = 1; op = write_at 0 first } ∷ []) rest_7
+    legal_7 = goes_on small_group g7 g8 (record { server = 1; life = 0; slot = 1; op = write_at 0 first } ∷ []) (so (Finish 1 0 1) Done) rest_8 refl answer_8 e8 legal_8
+
+    legal_6 : IsLegalFrom small_group g6 ([]) rest_6
+    legal_6 = goes_on small_group g6 g7 ([]) (so Claim (JobIs (record { server = 1; life = 0; slot = 1; op = write_at 0 first }))) rest_7 tt answer_7 e7 legal_7
+
+    legal_5 : IsLegalFrom small_group g5 ([]) rest_5
+    legal_5 = goes_on small_group g5 g6 ([]) (so (Deliver 5) Done) rest_6 tt answer_6 e6 legal_6
+
+    legal_4 : IsLegalFrom small_group g4 ([]) rest_4
+    legal_4 = goes_on small_group g4 g5 ([]) (so (Deliver 4) Done) rest_5 tt answer_5 e5 legal_5
+
+    legal_3 : IsLegalFrom small_group g3 ([]) rest_3
+    legal_3 = goes_on small_group g3 g4 ([]) (so (Submit 1 (write_at 0 first)) (SlotIs 1)) rest_4 (omega arith, (record { some = omega arith; few = omega arith; low = omega arith }, refl, (length_first, tt))) answer_4 e4 legal_4
+
+    legal_2 : IsLegalFrom small_group g2 ([]) rest_2
+    legal_2 = goes_on small_group g2 g3 ([]) (so (Deliver 2) Done) rest_3 tt answer_3 e3 legal_3
+
+    legal_1 : IsLegalFrom small_group g1 ([]) rest_1
+    legal_1 = goes_on small_group g1 g2 ([]) (so (Deliver 1) Done) rest_2 tt answer_2 e2 legal_2
+
+    legal_0 : IsLegalFrom small_group g0 ([]) rest_0
+    legal_0 = goes_on small_group g0 g1 ([]) (so (Elect 1) (TermIs 2)) rest_1 (omega arith) answer_1 e1 legal_1
+
+    pub legal : IsLegal small_group (stale_read first)
+    legal = record { is_setup = is_small_group; legal = legal_0 }

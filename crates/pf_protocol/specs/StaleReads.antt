@@ -2,7 +2,8 @@
 use Rattle.std.specs.Prelude.{◌≡◌, [], ◌∷◌}
 use Rattle.pf_entry.specs.Ops.{Sector}
 use Rattle.pf_protocol.specs.declared.answers.Answer.TheVariants.{Done, Job as JobIs, Read as ReadIs, Refused, Slot as SlotIs, Term as TermIs}
-use Rattle.pf_protocol.specs.declared.answers.Refusal.TheVariants.{NotLeader}
+use Rattle.pf_protocol.specs.declared.answers.Refusal.TheVariants.{NotLeader, NoneFree}
+use Rattle.pf_protocol.specs.Answers.{answer_to}
 use Rattle.pf_protocol.specs.declared.events.Event.TheVariants.{Claim, Deliver, Elect, Fetch, Finish, Submit}
 use Rattle.pf_entry.specs.Sets
 use Rattle.pf_protocol.specs.Histories.{History, replay}
@@ -33,3 +34,4 @@ stale_read first =
 pub record ReadsAtTheLeader (first : Sector) : Type 0 where
   pub acked : (replay small_group (stale_read first)).acked ≡ record { term = 2; slot = 1 } ∷ []
   pub answered : (replay small_group (stale_read first)).answered ≡ record { number = 1; server = 1; term = 2; range = record { first = 0; count = 1 }; base = 0; applied = Sets.from_items (1 ∷ []); bytes = first ∷ [] } ∷ []
+  pub calm : answer_to small_group (replay small_group (stale_read first)) Claim ≡ Refused NoneFree

@@ -1,5 +1,5 @@
 -- At the edge of the look-behind list, event by event.
-use Rattle.std.proofs.Common.{◌≡◌, ℕ, true, false, [], ◌∷◌, length, Some, None, refl, ap, ◌∙◌, arith}
+use Rattle.std.proofs.Common.{◌≡◌, ℕ, true, false, [], ◌∷◌, Some, None, refl, ap, ◌∙◌, arith}
 use Rattle.std.specs.Prelude.{slice_set}
 use Rattle.std.specs.Cmp.{nat_cmp_total}
 use Rattle.std.specs.FinMap
@@ -12,10 +12,11 @@ use Rattle.pf_entry.specs.declared.packets.Packet.{Packet}
 use Rattle.pf_entry.specs.declared.packets.Body.{Body}
 use Rattle.pf_entry.specs.declared.packets.Body.TheVariants.{Accept, Ack, Commit}
 use Rattle.pf_entry.specs.declared.records.Record.TheVariants.{Entry as EntryRecord}
-use Rattle.pf_entry.specs.Records.{stored, put_entry, put_entries, holds}
+use Rattle.pf_entry.specs.Records.{stored, put_entry, put_entries, add_start, add_merged_start, holds}
 use Rattle.pf_entry.specs.Merging.{merged_entry}
 use Rattle.pf_entry.specs.Sizes.{packet_size, body_size}
-use Rattle.pf_protocol.specs.declared.answers.Answer.TheVariants.{Slot as SlotIs, Done, Job as JobIs}
+use Rattle.pf_protocol.specs.declared.answers.Answer.TheVariants.{Slot as SlotIs, Done, Job as JobIs, Refused}
+use Rattle.pf_protocol.specs.declared.answers.Refusal.TheVariants.{NoneFree}
 use Rattle.pf_protocol.specs.declared.events.Event.TheVariants.{Submit, Deliver, Claim, Finish}
 use Rattle.pf_protocol.specs.Servers.{Leader, Server, Serving, Running, upto}
 use Rattle.pf_protocol.specs.Outcomes.{Outcome, sends}
@@ -26,12 +27,14 @@ use Rattle.pf_protocol.specs.Rows.{on_message, on_packet, settled}
 use Rattle.pf_protocol.specs.Groups.{Group, Whole, opening, first_leader, opening_disk, happens, acted, with_sent}
 use Rattle.pf_protocol.specs.Histories.{History, run}
 use Rattle.pf_protocol.specs.Answers.{answer_to, room_refusal, most_packets, most_packet_bytes, half_size, IsLegal, IsLegalFrom}
-use Rattle.pf_protocol.specs.Shown.{Shows, small_group, write_at, line, so}
+use Rattle.pf_protocol.specs.Shown.{Shows, small_group, write_at, IsSector, line, so}
 use Rattle.pf_protocol.proofs.Replays.{empty_rows, submits, delivers, claims_at_0, claims_at_1, finishes, second_is, third_is, none_marked, nor_of, none_of, follows}
-use Rattle.pf_protocol.proofs.Answering.{submit_answer, deliver_answer, finish_answer, claim_answer_0, claim_answer_1, goes_on, is_small_group}
-use Rattle.pf_protocol.specs.Edge.{past_the_edge, WaitsPastTheEdge}
+use Rattle.pf_protocol.proofs.Answering.{submit_answer, deliver_answer, finish_answer, claim_answer_0, claim_answer_1, claim_answer_none, goes_on, is_small_group}
+use Rattle.pf_entry.specs.Sets.{from_items}
+use Rattle.pf_protocol.specs.PastTheNames.{past_the_names, WaitsPastTheNames}
 
-module _ (first second third fourth : Sector) (length_first : length first ≡ 512) (length_second : length second ≡ 512) (length_third : length third ≡ 512) (length_fourth : length fourth ≡ 512) where
+-- the states of the servers 0, 1 and 2 are a, b and c, each with its number; l are records of leaders, and g are the group after each event
+module _ (first second third fourth : Sector) where
   abbrev packet : (from to term : ℕ) → Body → Packet
   packet from to term body = record { from = from; to = to; term = term; body = body }
 
@@ -53,6 +56,7 @@ module _ (first second third fourth : Sector) (length_first : length first ≡ 5
   abbrev g0 : Group
   g0 = opening small_group
 
+  -- 1. server 0 takes a submission
   abbrev one : Entry
   one = record { slot = 1; term = 1; first = 1; look = []; op = write_at 0 first }
 
@@ -67,7 +71,7 @@ module _ (first second third fourth : Sector) (length_first : length first ≡ 5
   rule_1 = refl
 
   room_1 : room_refusal g0 (record { server = a1; packets = packet 0 1 1 (Accept one) ∷ packet 0 2 1 (Accept one) ∷ []; answer = SlotIs 1; acked = None }) ≡ None
-  unfolding room_refusal most_packets most_packet_bytes half_size packet_size body_size opening first_leader restarted opening_disk stored acted settled put_entry put_entries on_elect renewed led
+  unfolding room_refusal most_packets most_packet_bytes half_size packet_size body_size opening first_leader restarted opening_disk stored acted settled put_entry put_entries add_start add_merged_start on_elect renewed led
   room_1 = simp (empty_rows, gets)
 
   abbrev g1 : Group
@@ -77,6 +81,7 @@ module _ (first second third fourth : Sector) (length_first : length first ≡ 5
   unfolding opening first_leader acted settled restarted opening_disk stored on_elect renewed led
   e1 = submits small_group g0 0 (write_at 0 first) a0 _ refl rule_1
 
+  -- 2. server 0 takes a submission
   abbrev two : Entry
   two = record { slot = 2; term = 1; first = 1; look = record { slot = 1; range = record { first = 0; count = 1 } } ∷ []; op = write_at 1 second }
 
@@ -91,7 +96,7 @@ module _ (first second third fourth : Sector) (length_first : length first ≡ 5
   rule_2 = simp gets
 
   room_2 : room_refusal g1 (record { server = a2; packets = packet 0 1 1 (Accept two) ∷ packet 0 2 1 (Accept two) ∷ []; answer = SlotIs 2; acked = None }) ≡ None
-  unfolding room_refusal most_packets most_packet_bytes half_size packet_size body_size opening first_leader restarted opening_disk stored acted settled put_entry put_entries on_elect renewed led
+  unfolding room_refusal most_packets most_packet_bytes half_size packet_size body_size opening first_leader restarted opening_disk stored acted settled put_entry put_entries add_start add_merged_start on_elect renewed led
   room_2 = simp (empty_rows, gets)
 
   abbrev g2 : Group
@@ -101,6 +106,7 @@ module _ (first second third fourth : Sector) (length_first : length first ≡ 5
   unfolding opening first_leader acted settled restarted opening_disk stored on_elect renewed led
   e2 = submits small_group g1 0 (write_at 1 second) a1 _ refl rule_2
 
+  -- 3. server 0 takes a submission
   abbrev three : Entry
   three = record { slot = 3; term = 1; first = 1; look = record { slot = 1; range = record { first = 0; count = 1 } } ∷ record { slot = 2; range = record { first = 1; count = 1 } } ∷ []; op = write_at 2 third }
 
@@ -115,7 +121,7 @@ module _ (first second third fourth : Sector) (length_first : length first ≡ 5
   rule_3 = simp gets
 
   room_3 : room_refusal g2 (record { server = a3; packets = packet 0 1 1 (Accept three) ∷ packet 0 2 1 (Accept three) ∷ []; answer = SlotIs 3; acked = None }) ≡ None
-  unfolding room_refusal most_packets most_packet_bytes half_size packet_size body_size opening first_leader restarted opening_disk stored acted settled put_entry put_entries on_elect renewed led
+  unfolding room_refusal most_packets most_packet_bytes half_size packet_size body_size opening first_leader restarted opening_disk stored acted settled put_entry put_entries add_start add_merged_start on_elect renewed led
   room_3 = simp (empty_rows, gets)
 
   abbrev g3 : Group
@@ -125,6 +131,7 @@ module _ (first second third fourth : Sector) (length_first : length first ≡ 5
   unfolding opening first_leader acted settled restarted opening_disk stored on_elect renewed led
   e3 = submits small_group g2 0 (write_at 2 third) a2 _ refl rule_3
 
+  -- 4. server 0 takes a submission
   abbrev four : Entry
   four = record { slot = 4; term = 1; first = 1; look = record { slot = 2; range = record { first = 1; count = 1 } } ∷ record { slot = 3; range = record { first = 2; count = 1 } } ∷ []; op = write_at 3 fourth }
 
@@ -139,7 +146,7 @@ module _ (first second third fourth : Sector) (length_first : length first ≡ 5
   rule_4 = simp gets
 
   room_4 : room_refusal g3 (record { server = a4; packets = packet 0 1 1 (Accept four) ∷ packet 0 2 1 (Accept four) ∷ []; answer = SlotIs 4; acked = None }) ≡ None
-  unfolding room_refusal most_packets most_packet_bytes half_size packet_size body_size opening first_leader restarted opening_disk stored acted settled put_entry put_entries on_elect renewed led
+  unfolding room_refusal most_packets most_packet_bytes half_size packet_size body_size opening first_leader restarted opening_disk stored acted settled put_entry put_entries add_start add_merged_start on_elect renewed led
   room_4 = simp (empty_rows, gets)
 
   abbrev g4 : Group
@@ -149,6 +156,7 @@ module _ (first second third fourth : Sector) (length_first : length first ≡ 5
   unfolding opening first_leader acted settled restarted opening_disk stored on_elect renewed led
   e4 = submits small_group g3 0 (write_at 3 fourth) a3 _ refl rule_4
 
+  -- 5. a proposal from server 0 comes to server 1
   abbrev b1 : Server
   b1 = record b0 { durable = stored b0.durable (EntryRecord two) }
 
@@ -157,7 +165,7 @@ module _ (first second third fourth : Sector) (length_first : length first ≡ 5
   rule_5 = simp gets
 
   room_5 : room_refusal g4 (sends b1 (packet 1 0 1 (Ack 2 0) ∷ [])) ≡ None
-  unfolding room_refusal most_packets most_packet_bytes half_size packet_size body_size opening first_leader restarted opening_disk stored acted settled put_entry put_entries on_elect renewed led
+  unfolding room_refusal most_packets most_packet_bytes half_size packet_size body_size opening first_leader restarted opening_disk stored acted settled put_entry put_entries add_start add_merged_start on_elect renewed led
   room_5 = simp (empty_rows, gets)
 
   abbrev g5 : Group
@@ -167,6 +175,7 @@ module _ (first second third fourth : Sector) (length_first : length first ≡ 5
   unfolding opening first_leader acted settled restarted opening_disk stored on_elect renewed led
   e5 = delivers small_group g4 2 (packet 0 1 1 (Accept two)) false b0 _ refl refl rule_5
 
+  -- 6. a proposal from server 0 comes to server 1
   abbrev b2 : Server
   b2 = record b1 { durable = stored b1.durable (EntryRecord three) }
 
@@ -175,7 +184,7 @@ module _ (first second third fourth : Sector) (length_first : length first ≡ 5
   rule_6 = simp gets
 
   room_6 : room_refusal g5 (sends b2 (packet 1 0 1 (Ack 3 0) ∷ [])) ≡ None
-  unfolding room_refusal most_packets most_packet_bytes half_size packet_size body_size opening first_leader restarted opening_disk stored acted settled put_entry put_entries on_elect renewed led
+  unfolding room_refusal most_packets most_packet_bytes half_size packet_size body_size opening first_leader restarted opening_disk stored acted settled put_entry put_entries add_start add_merged_start on_elect renewed led
   room_6 = simp (empty_rows, gets)
 
   abbrev g6 : Group
@@ -185,6 +194,7 @@ module _ (first second third fourth : Sector) (length_first : length first ≡ 5
   unfolding opening first_leader acted settled restarted opening_disk stored on_elect renewed led
   e6 = delivers small_group g5 4 (packet 0 1 1 (Accept three)) false b1 _ refl refl rule_6
 
+  -- 7. a proposal from server 0 comes to server 1
   abbrev b3 : Server
   b3 = record b2 { durable = stored b2.durable (EntryRecord four) }
 
@@ -193,7 +203,7 @@ module _ (first second third fourth : Sector) (length_first : length first ≡ 5
   rule_7 = simp gets
 
   room_7 : room_refusal g6 (sends b3 (packet 1 0 1 (Ack 4 0) ∷ [])) ≡ None
-  unfolding room_refusal most_packets most_packet_bytes half_size packet_size body_size opening first_leader restarted opening_disk stored acted settled put_entry put_entries on_elect renewed led
+  unfolding room_refusal most_packets most_packet_bytes half_size packet_size body_size opening first_leader restarted opening_disk stored acted settled put_entry put_entries add_start add_merged_start on_elect renewed led
   room_7 = simp (empty_rows, gets)
 
   abbrev g7 : Group
@@ -203,6 +213,7 @@ module _ (first second third fourth : Sector) (length_first : length first ≡ 5
   unfolding opening first_leader acted settled restarted opening_disk stored on_elect renewed led
   e7 = delivers small_group g6 6 (packet 0 1 1 (Accept four)) false b2 _ refl refl rule_7
 
+  -- 8. an acknowledgement from server 1 comes to server 0
   abbrev l5 : Leader
   l5 = record l4 { known = FinMap.insert l4.known 1 0; acks = acknowledged l4.acks 1 2 }
 
@@ -214,7 +225,7 @@ module _ (first second third fourth : Sector) (length_first : length first ≡ 5
   rule_8 = simp gets
 
   room_8 : room_refusal g7 (record { server = a5; packets = packet 0 1 1 (Commit 2) ∷ []; answer = Done; acked = Some 2 }) ≡ None
-  unfolding room_refusal most_packets most_packet_bytes half_size packet_size body_size opening first_leader restarted opening_disk stored acted settled put_entry put_entries on_elect renewed led
+  unfolding room_refusal most_packets most_packet_bytes half_size packet_size body_size opening first_leader restarted opening_disk stored acted settled put_entry put_entries add_start add_merged_start on_elect renewed led
   room_8 = simp (empty_rows, gets)
 
   abbrev g8 : Group
@@ -224,12 +235,13 @@ module _ (first second third fourth : Sector) (length_first : length first ≡ 5
   unfolding opening first_leader acted settled restarted opening_disk stored on_elect renewed led
   e8 = delivers small_group g7 8 (packet 1 0 1 (Ack 2 0)) false a4 _ refl refl rule_8
 
+  -- 9 and 10. server 0 applies slot 2
   claim_9 : claimable 4096 a5 ≡ Some 2
-  unfolding restarted opening_disk stored put_entry put_entries is_free range_of merged_entry
+  unfolding settled restarted opening_disk stored put_entry put_entries is_free range_of merged_entry
   claim_9 = second_is a5 4094 refl (simp gets) (simp gets)
 
   op_9 : op_at a5.durable.log 2 ≡ write_at 1 second
-  unfolding restarted opening_disk stored put_entry put_entries is_free range_of merged_entry op_at
+  unfolding settled restarted opening_disk stored put_entry put_entries is_free range_of merged_entry op_at
   op_9 = simp gets
 
   abbrev g9 : Group
@@ -253,6 +265,7 @@ module _ (first second third fourth : Sector) (length_first : length first ≡ 5
   unfolding opening first_leader acted settled restarted opening_disk stored on_elect renewed led
   e10 = finishes small_group g9 0 0 2 (claimed a5 2) _ refl rule_10
 
+  -- 11. an acknowledgement from server 1 comes to server 0
   abbrev l6 : Leader
   l6 = record l5 { known = FinMap.insert l5.known 1 0; acks = acknowledged l5.acks 1 3 }
 
@@ -264,7 +277,7 @@ module _ (first second third fourth : Sector) (length_first : length first ≡ 5
   rule_11 = simp gets
 
   room_11 : room_refusal g10 (record { server = a7; packets = packet 0 1 1 (Commit 3) ∷ []; answer = Done; acked = Some 3 }) ≡ None
-  unfolding room_refusal most_packets most_packet_bytes half_size packet_size body_size opening first_leader restarted opening_disk stored acted settled put_entry put_entries on_elect renewed led
+  unfolding room_refusal most_packets most_packet_bytes half_size packet_size body_size opening first_leader restarted opening_disk stored acted settled put_entry put_entries add_start add_merged_start on_elect renewed led
   room_11 = simp (empty_rows, gets)
 
   abbrev g11 : Group
@@ -274,12 +287,13 @@ module _ (first second third fourth : Sector) (length_first : length first ≡ 5
   unfolding opening first_leader acted settled restarted opening_disk stored on_elect renewed led
   e11 = delivers small_group g10 9 (packet 1 0 1 (Ack 3 0)) false a6 _ refl refl rule_11
 
+  -- 12 and 13. server 0 applies slot 3
   claim_12 : claimable 4096 a7 ≡ Some 3
-  unfolding restarted opening_disk stored put_entry put_entries is_free range_of merged_entry
+  unfolding settled restarted opening_disk stored put_entry put_entries is_free range_of merged_entry
   claim_12 = third_is a7 4093 refl (simp gets) (simp gets) (simp gets)
 
   op_12 : op_at a7.durable.log 3 ≡ write_at 2 third
-  unfolding restarted opening_disk stored put_entry put_entries is_free range_of merged_entry op_at
+  unfolding settled restarted opening_disk stored put_entry put_entries is_free range_of merged_entry op_at
   op_12 = simp gets
 
   abbrev g12 : Group
@@ -303,6 +317,7 @@ module _ (first second third fourth : Sector) (length_first : length first ≡ 5
   unfolding opening first_leader acted settled restarted opening_disk stored on_elect renewed led
   e13 = finishes small_group g12 0 0 3 (claimed a7 3) _ refl rule_13
 
+  -- 14. an acknowledgement from server 1 comes to server 0
   abbrev l7 : Leader
   l7 = record l6 { known = FinMap.insert l6.known 1 0; acks = acknowledged l6.acks 1 4 }
 
@@ -314,7 +329,7 @@ module _ (first second third fourth : Sector) (length_first : length first ≡ 5
   rule_14 = simp gets
 
   room_14 : room_refusal g13 (record { server = a9; packets = packet 0 1 1 (Commit 4) ∷ []; answer = Done; acked = Some 4 }) ≡ None
-  unfolding room_refusal most_packets most_packet_bytes half_size packet_size body_size opening first_leader restarted opening_disk stored acted settled put_entry put_entries on_elect renewed led
+  unfolding room_refusal most_packets most_packet_bytes half_size packet_size body_size opening first_leader restarted opening_disk stored acted settled put_entry put_entries add_start add_merged_start on_elect renewed led
   room_14 = simp (empty_rows, gets)
 
   abbrev g14 : Group
@@ -324,6 +339,7 @@ module _ (first second third fourth : Sector) (length_first : length first ≡ 5
   unfolding opening first_leader acted settled restarted opening_disk stored on_elect renewed led
   e14 = delivers small_group g13 10 (packet 1 0 1 (Ack 4 0)) false a8 _ refl refl rule_14
 
+  -- 15. a commit from server 0 comes to server 1
   abbrev b4 : Server
   b4 = record b3 { committed = Sets.insert b3.committed 2 }
 
@@ -332,7 +348,7 @@ module _ (first second third fourth : Sector) (length_first : length first ≡ 5
   rule_15 = simp gets
 
   room_15 : room_refusal g14 (sends b4 []) ≡ None
-  unfolding room_refusal most_packets most_packet_bytes half_size packet_size body_size opening first_leader restarted opening_disk stored acted settled put_entry put_entries on_elect renewed led
+  unfolding room_refusal most_packets most_packet_bytes half_size packet_size body_size opening first_leader restarted opening_disk stored acted settled put_entry put_entries add_start add_merged_start on_elect renewed led
   room_15 = simp (empty_rows, gets)
 
   abbrev g15 : Group
@@ -342,18 +358,19 @@ module _ (first second third fourth : Sector) (length_first : length first ≡ 5
   unfolding opening first_leader acted settled restarted opening_disk stored on_elect renewed led
   e15 = delivers small_group g14 11 (packet 0 1 1 (Commit 2)) false b3 _ refl refl rule_15
 
+  -- 16 and 17. server 1 applies slot 2
   none_16_0 : claimable 4096 a9 ≡ None
-  unfolding restarted opening_disk stored put_entry put_entries is_free range_of merged_entry
+  unfolding settled restarted opening_disk stored put_entry put_entries is_free range_of merged_entry
   none_16_0 =
       let can = λ (slot : ℕ). is_claimable a9 (FinMap.get a9.durable.log slot) slot in
       none_marked a9 4096 (nor_of can (Sets.insert (Sets.insert Sets.empty 2) 3) 4 (simp gets) (nor_of can (Sets.insert Sets.empty 2) 3 (simp gets) (nor_of can Sets.empty 2 (simp gets) (none_of can))))
 
   claim_16 : claimable 4096 b4 ≡ Some 2
-  unfolding restarted opening_disk stored put_entry put_entries is_free range_of merged_entry
+  unfolding settled restarted opening_disk stored put_entry put_entries is_free range_of merged_entry
   claim_16 = second_is b4 4094 refl (simp gets) (simp gets)
 
   op_16 : op_at b4.durable.log 2 ≡ write_at 1 second
-  unfolding restarted opening_disk stored put_entry put_entries is_free range_of merged_entry op_at
+  unfolding settled restarted opening_disk stored put_entry put_entries is_free range_of merged_entry op_at
   op_16 = simp gets
 
   abbrev g16 : Group
@@ -377,6 +394,7 @@ module _ (first second third fourth : Sector) (length_first : length first ≡ 5
   unfolding opening first_leader acted settled restarted opening_disk stored on_elect renewed led
   e17 = finishes small_group g16 1 0 2 (claimed b4 2) _ refl rule_17
 
+  -- 18. a commit from server 0 comes to server 1
   abbrev b6 : Server
   b6 = record b5 { committed = Sets.insert b5.committed 3 }
 
@@ -385,7 +403,7 @@ module _ (first second third fourth : Sector) (length_first : length first ≡ 5
   rule_18 = simp gets
 
   room_18 : room_refusal g17 (sends b6 []) ≡ None
-  unfolding room_refusal most_packets most_packet_bytes half_size packet_size body_size opening first_leader restarted opening_disk stored acted settled put_entry put_entries on_elect renewed led
+  unfolding room_refusal most_packets most_packet_bytes half_size packet_size body_size opening first_leader restarted opening_disk stored acted settled put_entry put_entries add_start add_merged_start on_elect renewed led
   room_18 = simp (empty_rows, gets)
 
   abbrev g18 : Group
@@ -395,18 +413,19 @@ module _ (first second third fourth : Sector) (length_first : length first ≡ 5
   unfolding opening first_leader acted settled restarted opening_disk stored on_elect renewed led
   e18 = delivers small_group g17 12 (packet 0 1 1 (Commit 3)) false b5 _ refl refl rule_18
 
+  -- 19 and 20. server 1 applies slot 3
   none_19_0 : claimable 4096 a9 ≡ None
-  unfolding restarted opening_disk stored put_entry put_entries is_free range_of merged_entry
+  unfolding settled restarted opening_disk stored put_entry put_entries is_free range_of merged_entry
   none_19_0 =
       let can = λ (slot : ℕ). is_claimable a9 (FinMap.get a9.durable.log slot) slot in
       none_marked a9 4096 (nor_of can (Sets.insert (Sets.insert Sets.empty 2) 3) 4 (simp gets) (nor_of can (Sets.insert Sets.empty 2) 3 (simp gets) (nor_of can Sets.empty 2 (simp gets) (none_of can))))
 
   claim_19 : claimable 4096 b6 ≡ Some 3
-  unfolding restarted opening_disk stored put_entry put_entries is_free range_of merged_entry
+  unfolding settled restarted opening_disk stored put_entry put_entries is_free range_of merged_entry
   claim_19 = third_is b6 4093 refl (simp gets) (simp gets) (simp gets)
 
   op_19 : op_at b6.durable.log 3 ≡ write_at 2 third
-  unfolding restarted opening_disk stored put_entry put_entries is_free range_of merged_entry op_at
+  unfolding settled restarted opening_disk stored put_entry put_entries is_free range_of merged_entry op_at
   op_19 = simp gets
 
   abbrev g19 : Group
@@ -430,6 +449,7 @@ module _ (first second third fourth : Sector) (length_first : length first ≡ 5
   unfolding opening first_leader acted settled restarted opening_disk stored on_elect renewed led
   e20 = finishes small_group g19 1 0 3 (claimed b6 3) _ refl rule_20
 
+  -- 21. a commit from server 0 comes to server 1
   abbrev b8 : Server
   b8 = record b7 { committed = Sets.insert b7.committed 4 }
 
@@ -438,7 +458,7 @@ module _ (first second third fourth : Sector) (length_first : length first ≡ 5
   rule_21 = simp gets
 
   room_21 : room_refusal g20 (sends b8 []) ≡ None
-  unfolding room_refusal most_packets most_packet_bytes half_size packet_size body_size opening first_leader restarted opening_disk stored acted settled put_entry put_entries on_elect renewed led
+  unfolding room_refusal most_packets most_packet_bytes half_size packet_size body_size opening first_leader restarted opening_disk stored acted settled put_entry put_entries add_start add_merged_start on_elect renewed led
   room_21 = simp (empty_rows, gets)
 
   abbrev g21 : Group
@@ -447,6 +467,28 @@ module _ (first second third fourth : Sector) (length_first : length first ≡ 5
   e21 : happens small_group g20 (Deliver 13) Whole ≡ g21
   unfolding opening first_leader acted settled restarted opening_disk stored on_elect renewed led
   e21 = delivers small_group g20 13 (packet 0 1 1 (Commit 4)) false b7 _ refl refl rule_21
+
+  none_last_0 : claimable 4096 a9 ≡ None
+  unfolding settled restarted opening_disk stored put_entry put_entries is_free range_of merged_entry
+  none_last_0 =
+      let can = λ (slot : ℕ). is_claimable a9 (FinMap.get a9.durable.log slot) slot in
+      none_marked a9 4096 (nor_of can (Sets.insert (Sets.insert Sets.empty 2) 3) 4 (simp gets) (nor_of can (Sets.insert Sets.empty 2) 3 (simp gets) (nor_of can Sets.empty 2 (simp gets) (none_of can))))
+
+  none_last_1 : claimable 4096 b8 ≡ None
+  unfolding settled restarted opening_disk stored put_entry put_entries is_free range_of merged_entry
+  none_last_1 =
+      let can = λ (slot : ℕ). is_claimable b8 (FinMap.get b8.durable.log slot) slot in
+      none_marked b8 4096 (nor_of can (Sets.insert (Sets.insert Sets.empty 2) 3) 4 (simp gets) (nor_of can (Sets.insert Sets.empty 2) 3 (simp gets) (nor_of can Sets.empty 2 (simp gets) (none_of can))))
+
+  none_last_2 : claimable 4096 c0 ≡ None
+  unfolding settled restarted opening_disk stored put_entry put_entries is_free range_of merged_entry
+  none_last_2 =
+      let can = λ (slot : ℕ). is_claimable c0 (FinMap.get c0.durable.log slot) slot in
+      none_marked c0 4096 (none_of can)
+
+  calm : answer_to small_group g21 Claim ≡ Refused NoneFree
+  unfolding opening first_leader acted settled restarted opening_disk stored on_elect renewed led
+  calm = claim_answer_none small_group g21 none_last_0 none_last_1 none_last_2
 
   abbrev rest_21 : History
   rest_21 = []
@@ -580,155 +622,89 @@ module _ (first second third fourth : Sector) (length_first : length first ≡ 5
   replayed_0 : run small_group g0 rest_0 ≡ g21
   replayed_0 = follows small_group g0 g1 g21 (so (Submit 0 (write_at 0 first)) (SlotIs 1)) rest_1 e1 replayed_1
 
-  legal_21 : IsLegalFrom small_group g21 ([]) rest_21
-  legal_21 = tt
-
   answer_21 : answer_to small_group g20 (Deliver 13) ≡ Done
   unfolding opening first_leader acted settled restarted opening_disk stored on_elect renewed led
   answer_21 = deliver_answer small_group g20 13 (packet 0 1 1 (Commit 4)) false b7 _ refl refl rule_21 room_21
-
-  legal_20 : IsLegalFrom small_group g20 ([]) rest_20
-  legal_20 = goes_on small_group g20 g21 ([]) (so (Deliver 13) Done) rest_21 tt answer_21 e21 legal_21
 
   answer_20 : answer_to small_group g19 (Finish 1 0 3) ≡ Done
   unfolding opening first_leader acted settled restarted opening_disk stored on_elect renewed led
   answer_20 = finish_answer small_group g19 1 0 3 (claimed b6 3) _ refl rule_20
 
-  legal_19 : IsLegalFrom small_group g19 (record { server = 1; life = 0; slot = 3; op = write_at 2 third } ∷ []) rest_19
-  legal_19 = goes_on small_group g19 g20 (record { server = 1; life = 0; slot = 3; op = write_at 2 third } ∷ []) (so (Finish 1 0 3) Done) rest_20 refl answer_20 e20 legal_20
-
   answer_19 : answer_to small_group g18 Claim ≡ JobIs (record { server = 1; life = 0; slot = 3; op = write_at 2 third })
   unfolding opening first_leader acted settled restarted opening_disk stored on_elect renewed led
   answer_19 = claim_answer_1 small_group g18 none_19_0 b6 3 refl claim_19 ∙ ap (λ x. JobIs (record { server = 1; life = 0; slot = 3; op = x })) op_19
-
-  legal_18 : IsLegalFrom small_group g18 ([]) rest_18
-  legal_18 = goes_on small_group g18 g19 ([]) (so Claim (JobIs (record { server = 1; life = 0; slot = 3; op = write_at 2 third }))) rest_19 tt answer_19 e19 legal_19
 
   answer_18 : answer_to small_group g17 (Deliver 12) ≡ Done
   unfolding opening first_leader acted settled restarted opening_disk stored on_elect renewed led
   answer_18 = deliver_answer small_group g17 12 (packet 0 1 1 (Commit 3)) false b5 _ refl refl rule_18 room_18
 
-  legal_17 : IsLegalFrom small_group g17 ([]) rest_17
-  legal_17 = goes_on small_group g17 g18 ([]) (so (Deliver 12) Done) rest_18 tt answer_18 e18 legal_18
-
   answer_17 : answer_to small_group g16 (Finish 1 0 2) ≡ Done
   unfolding opening first_leader acted settled restarted opening_disk stored on_elect renewed led
   answer_17 = finish_answer small_group g16 1 0 2 (claimed b4 2) _ refl rule_17
-
-  legal_16 : IsLegalFrom small_group g16 (record { server = 1; life = 0; slot = 2; op = write_at 1 second } ∷ []) rest_16
-  legal_16 = goes_on small_group g16 g17 (record { server = 1; life = 0; slot = 2; op = write_at 1 second } ∷ []) (so (Finish 1 0 2) Done) rest_17 refl answer_17 e17 legal_17
 
   answer_16 : answer_to small_group g15 Claim ≡ JobIs (record { server = 1; life = 0; slot = 2; op = write_at 1 second })
   unfolding opening first_leader acted settled restarted opening_disk stored on_elect renewed led
   answer_16 = claim_answer_1 small_group g15 none_16_0 b4 2 refl claim_16 ∙ ap (λ x. JobIs (record { server = 1; life = 0; slot = 2; op = x })) op_16
 
-  legal_15 : IsLegalFrom small_group g15 ([]) rest_15
-  legal_15 = goes_on small_group g15 g16 ([]) (so Claim (JobIs (record { server = 1; life = 0; slot = 2; op = write_at 1 second }))) rest_16 tt answer_16 e16 legal_16
-
   answer_15 : answer_to small_group g14 (Deliver 11) ≡ Done
   unfolding opening first_leader acted settled restarted opening_disk stored on_elect renewed led
   answer_15 = deliver_answer small_group g14 11 (packet 0 1 1 (Commit 2)) false b3 _ refl refl rule_15 room_15
-
-  legal_14 : IsLegalFrom small_group g14 ([]) rest_14
-  legal_14 = goes_on small_group g14 g15 ([]) (so (Deliver 11) Done) rest_15 tt answer_15 e15 legal_15
 
   answer_14 : answer_to small_group g13 (Deliver 10) ≡ Done
   unfolding opening first_leader acted settled restarted opening_disk stored on_elect renewed led
   answer_14 = deliver_answer small_group g13 10 (packet 1 0 1 (Ack 4 0)) false a8 _ refl refl rule_14 room_14
 
-  legal_13 : IsLegalFrom small_group g13 ([]) rest_13
-  legal_13 = goes_on small_group g13 g14 ([]) (so (Deliver 10) Done) rest_14 tt answer_14 e14 legal_14
-
   answer_13 : answer_to small_group g12 (Finish 0 0 3) ≡ Done
   unfolding opening first_leader acted settled restarted opening_disk stored on_elect renewed led
   answer_13 = finish_answer small_group g12 0 0 3 (claimed a7 3) _ refl rule_13
-
-  legal_12 : IsLegalFrom small_group g12 (record { server = 0; life = 0; slot = 3; op = write_at 2 third } ∷ []) rest_12
-  legal_12 = goes_on small_group g12 g13 (record { server = 0; life = 0; slot = 3; op = write_at 2 third } ∷ []) (so (Finish 0 0 3) Done) rest_13 refl answer_13 e13 legal_13
 
   answer_12 : answer_to small_group g11 Claim ≡ JobIs (record { server = 0; life = 0; slot = 3; op = write_at 2 third })
   unfolding opening first_leader acted settled restarted opening_disk stored on_elect renewed led
   answer_12 = claim_answer_0 small_group g11 a7 3 refl claim_12 ∙ ap (λ x. JobIs (record { server = 0; life = 0; slot = 3; op = x })) op_12
 
-  legal_11 : IsLegalFrom small_group g11 ([]) rest_11
-  legal_11 = goes_on small_group g11 g12 ([]) (so Claim (JobIs (record { server = 0; life = 0; slot = 3; op = write_at 2 third }))) rest_12 tt answer_12 e12 legal_12
-
   answer_11 : answer_to small_group g10 (Deliver 9) ≡ Done
   unfolding opening first_leader acted settled restarted opening_disk stored on_elect renewed led
   answer_11 = deliver_answer small_group g10 9 (packet 1 0 1 (Ack 3 0)) false a6 _ refl refl rule_11 room_11
-
-  legal_10 : IsLegalFrom small_group g10 ([]) rest_10
-  legal_10 = goes_on small_group g10 g11 ([]) (so (Deliver 9) Done) rest_11 tt answer_11 e11 legal_11
 
   answer_10 : answer_to small_group g9 (Finish 0 0 2) ≡ Done
   unfolding opening first_leader acted settled restarted opening_disk stored on_elect renewed led
   answer_10 = finish_answer small_group g9 0 0 2 (claimed a5 2) _ refl rule_10
 
-  legal_9 : IsLegalFrom small_group g9 (record { server = 0; life = 0; slot = 2; op = write_at 1 second } ∷ []) rest_9
-  legal_9 = goes_on small_group g9 g10 (record { server = 0; life = 0; slot = 2; op = write_at 1 second } ∷ []) (so (Finish 0 0 2) Done) rest_10 refl answer_10 e10 legal_10
-
   answer_9 : answer_to small_group g8 Claim ≡ JobIs (record { server = 0; life = 0; slot = 2; op = write_at 1 second })
   unfolding opening first_leader acted settled restarted opening_disk stored on_elect renewed led
   answer_9 = claim_answer_0 small_group g8 a5 2 refl claim_9 ∙ ap (λ x. JobIs (record { server = 0; life = 0; slot = 2; op = x })) op_9
-
-  legal_8 : IsLegalFrom small_group g8 ([]) rest_8
-  legal_8 = goes_on small_group g8 g9 ([]) (so Claim (JobIs (record { server = 0; life = 0; slot = 2; op = write_at 1 second }))) rest_9 tt answer_9 e9 legal_9
 
   answer_8 : answer_to small_group g7 (Deliver 8) ≡ Done
   unfolding opening first_leader acted settled restarted opening_disk stored on_elect renewed led
   answer_8 = deliver_answer small_group g7 8 (packet 1 0 1 (Ack 2 0)) false a4 _ refl refl rule_8 room_8
 
-  legal_7 : IsLegalFrom small_group g7 ([]) rest_7
-  legal_7 = goes_on small_group g7 g8 ([]) (so (Deliver 8) Done) rest_8 tt answer_8 e8 legal_8
-
   answer_7 : answer_to small_group g6 (Deliver 6) ≡ Done
   unfolding opening first_leader acted settled restarted opening_disk stored on_elect renewed led
   answer_7 = deliver_answer small_group g6 6 (packet 0 1 1 (Accept four)) false b2 _ refl refl rule_7 room_7
-
-  legal_6 : IsLegalFrom small_group g6 ([]) rest_6
-  legal_6 = goes_on small_group g6 g7 ([]) (so (Deliver 6) Done) rest_7 tt answer_7 e7 legal_7
 
   answer_6 : answer_to small_group g5 (Deliver 4) ≡ Done
   unfolding opening first_leader acted settled restarted opening_disk stored on_elect renewed led
   answer_6 = deliver_answer small_group g5 4 (packet 0 1 1 (Accept three)) false b1 _ refl refl rule_6 room_6
 
-  legal_5 : IsLegalFrom small_group g5 ([]) rest_5
-  legal_5 = goes_on small_group g5 g6 ([]) (so (Deliver 4) Done) rest_6 tt answer_6 e6 legal_6
-
   answer_5 : answer_to small_group g4 (Deliver 2) ≡ Done
   unfolding opening first_leader acted settled restarted opening_disk stored on_elect renewed led
   answer_5 = deliver_answer small_group g4 2 (packet 0 1 1 (Accept two)) false b0 _ refl refl rule_5 room_5
-
-  legal_4 : IsLegalFrom small_group g4 ([]) rest_4
-  legal_4 = goes_on small_group g4 g5 ([]) (so (Deliver 2) Done) rest_5 tt answer_5 e5 legal_5
 
   answer_4 : answer_to small_group g3 (Submit 0 (write_at 3 fourth)) ≡ SlotIs 4
   unfolding opening first_leader acted settled restarted opening_disk stored on_elect renewed led range_of
   answer_4 = submit_answer small_group g3 0 (write_at 3 fourth) a3 _ refl refl refl refl refl rule_4 room_4
 
-  legal_3 : IsLegalFrom small_group g3 ([]) rest_3
-  legal_3 = goes_on small_group g3 g4 ([]) (so (Submit 0 (write_at 3 fourth)) (SlotIs 4)) rest_4 (omega arith, (record { some = omega arith; few = omega arith; low = omega arith }, refl, (length_fourth, tt))) answer_4 e4 legal_4
-
   answer_3 : answer_to small_group g2 (Submit 0 (write_at 2 third)) ≡ SlotIs 3
   unfolding opening first_leader acted settled restarted opening_disk stored on_elect renewed led range_of
   answer_3 = submit_answer small_group g2 0 (write_at 2 third) a2 _ refl refl refl refl refl rule_3 room_3
-
-  legal_2 : IsLegalFrom small_group g2 ([]) rest_2
-  legal_2 = goes_on small_group g2 g3 ([]) (so (Submit 0 (write_at 2 third)) (SlotIs 3)) rest_3 (omega arith, (record { some = omega arith; few = omega arith; low = omega arith }, refl, (length_third, tt))) answer_3 e3 legal_3
 
   answer_2 : answer_to small_group g1 (Submit 0 (write_at 1 second)) ≡ SlotIs 2
   unfolding opening first_leader acted settled restarted opening_disk stored on_elect renewed led range_of
   answer_2 = submit_answer small_group g1 0 (write_at 1 second) a1 _ refl refl refl refl refl rule_2 room_2
 
-  legal_1 : IsLegalFrom small_group g1 ([]) rest_1
-  legal_1 = goes_on small_group g1 g2 ([]) (so (Submit 0 (write_at 1 second)) (SlotIs 2)) rest_2 (omega arith, (record { some = omega arith; few = omega arith; low = omega arith }, refl, (length_second, tt))) answer_2 e2 legal_2
-
   answer_1 : answer_to small_group g0 (Submit 0 (write_at 0 first)) ≡ SlotIs 1
   unfolding opening first_leader acted settled restarted opening_disk stored on_elect renewed led range_of
   answer_1 = submit_answer small_group g0 0 (write_at 0 first) a0 _ refl refl refl refl refl rule_1 room_1
-
-  legal_0 : IsLegalFrom small_group g0 ([]) rest_0
-  legal_0 = goes_on small_group g0 g1 ([]) (so (Submit 0 (write_at 0 first)) (SlotIs 1)) rest_1 (omega arith, (record { some = omega arith; few = omega arith; low = omega arith }, refl, (length_first, tt))) answer_1 e1 legal_1
 
   acked_last : g21.acked ≡ record { term = 1; slot = 2 } ∷ record { term = 1; slot = 3 } ∷ record { term = 1; slot = 4 } ∷ []
   unfolding opening first_leader acted settled restarted opening_disk stored on_elect renewed led
@@ -738,8 +714,76 @@ module _ (first second third fourth : Sector) (length_first : length first ≡ 5
   unfolding opening first_leader acted settled restarted opening_disk stored on_elect renewed led put_entry put_entries
   shown_1 = record { server = b8; runs = refl; its_term = refl; its_base = refl; its_log = simp (entries-insert, empty_rows, gets); its_applied = simp (entries-insert, empty_rows, nat_cmp_total) }
 
-  pub legal : IsLegal small_group (past_the_edge first second third fourth)
-  legal = record { is_setup = is_small_group; legal = legal_0 }
+  pub shows : WaitsPastTheNames first second third fourth
+  shows = record { calm = ap (λ (g : Group). answer_to small_group g Claim) replayed_0 ∙ calm; acked = ap (λ (g : Group). g.acked) replayed_0 ∙ acked_last; shown_1 = rw replayed_0 shown_1 }
 
-  pub shows : WaitsPastTheEdge first second third fourth
-  shows = record { acked = ap (λ (g : Group). g.acked) replayed_0 ∙ acked_last; shown_1 = rw replayed_0 shown_1 }
+  -- with whole sectors the history is one that the group can have
+  module _ (length_first : IsSector first) (length_second : IsSector second) (length_third : IsSector third) (length_fourth : IsSector fourth) where
+    legal_21 : IsLegalFrom small_group g21 ([]) rest_21
+    legal_21 = tt
+
+    legal_20 : IsLegalFrom small_group g20 ([]) rest_20
+    legal_20 = goes_on small_group g20 g21 ([]) (so (Deliver 13) Done) rest_21 tt answer_21 e21 legal_21
+
+    legal_19 : IsLegalFrom small_group g19 (record { server = 1; life = 0; slot = 3; op = write_at 2 third } ∷ []) rest_19
+    legal_19 = goes_on small_group g19 g20 (record { server = 1; life = 0; slot = 3; op = write_at 2 third } ∷ []) (so (Finish 1 0 3) Done) rest_20 refl answer_20 e20 legal_20
+
+    legal_18 : IsLegalFrom small_group g18 ([]) rest_18
+    legal_18 = goes_on small_group g18 g19 ([]) (so Claim (JobIs (record { server = 1; life = 0; slot = 3; op = write_at 2 third }))) rest_19 tt answer_19 e19 legal_19
+
+    legal_17 : IsLegalFrom small_group g17 ([]) rest_17
+    legal_17 = goes_on small_group g17 g18 ([]) (so (Deliver 12) Done) rest_18 tt answer_18 e18 legal_18
+
+    legal_16 : IsLegalFrom small_group g16 (record { server = 1; life = 0; slot = 2; op = write_at 1 second } ∷ []) rest_16
+    legal_16 = goes_on small_group g16 g17 (record { server = 1; life = 0; slot = 2; op = write_at 1 second } ∷ []) (so (Finish 1 0 2) Done) rest_17 refl answer_17 e17 legal_17
+
+    legal_15 : IsLegalFrom small_group g15 ([]) rest_15
+    legal_15 = goes_on small_group g15 g16 ([]) (so Claim (JobIs (record { server = 1; life = 0; slot = 2; op = write_at 1 second }))) rest_16 tt answer_16 e16 legal_16
+
+    legal_14 : IsLegalFrom small_group g14 ([]) rest_14
+    legal_14 = goes_on small_group g14 g15 ([]) (so (Deliver 11) Done) rest_15 tt answer_15 e15 legal_15
+
+    legal_13 : IsLegalFrom small_group g13 ([]) rest_13
+    legal_13 = goes_on small_group g13 g14 ([]) (so (Deliver 10) Done) rest_14 tt answer_14 e14 legal_14
+
+    legal_12 : IsLegalFrom small_group g12 (record { server = 0; life = 0; slot = 3; op = write_at 2 third } ∷ []) rest_12
+    legal_12 = goes_on small_group g12 g13 (record { server = 0; life = 0; slot = 3; op = write_at 2 third } ∷ []) (so (Finish 0 0 3) Done) rest_13 refl answer_13 e13 legal_13
+
+    legal_11 : IsLegalFrom small_group g11 ([]) rest_11
+    legal_11 = goes_on small_group g11 g12 ([]) (so Claim (JobIs (record { server = 0; life = 0; slot = 3; op = write_at 2 third }))) rest_12 tt answer_12 e12 legal_12
+
+    legal_10 : IsLegalFrom small_group g10 ([]) rest_10
+    legal_10 = goes_on small_group g10 g11 ([]) (so (Deliver 9) Done) rest_11 tt answer_11 e11 legal_11
+
+    legal_9 : IsLegalFrom small_group g9 (record { server = 0; life = 0; slot = 2; op = write_at 1 second } ∷ []) rest_9
+    legal_9 = goes_on small_group g9 g10 (record { server = 0; life = 0; slot = 2; op = write_at 1 second } ∷ []) (so (Finish 0 0 2) Done) rest_10 refl answer_10 e10 legal_10
+
+    legal_8 : IsLegalFrom small_group g8 ([]) rest_8
+    legal_8 = goes_on small_group g8 g9 ([]) (so Claim (JobIs (record { server = 0; life = 0; slot = 2; op = write_at 1 second }))) rest_9 tt answer_9 e9 legal_9
+
+    legal_7 : IsLegalFrom small_group g7 ([]) rest_7
+    legal_7 = goes_on small_group g7 g8 ([]) (so (Deliver 8) Done) rest_8 tt answer_8 e8 legal_8
+
+    legal_6 : IsLegalFrom small_group g6 ([]) rest_6
+    legal_6 = goes_on small_group g6 g7 ([]) (so (Deliver 6) Done) rest_7 tt answer_7 e7 legal_7
+
+    legal_5 : IsLegalFrom small_group g5 ([]) rest_5
+    legal_5 = goes_on small_group g5 g6 ([]) (so (Deliver 4) Done) rest_6 tt answer_6 e6 legal_6
+
+    legal_4 : IsLegalFrom small_group g4 ([]) rest_4
+    legal_4 = goes_on small_group g4 g5 ([]) (so (Deliver 2) Done) rest_5 tt answer_5 e5 legal_5
+
+    legal_3 : IsLegalFrom small_group g3 ([]) rest_3
+    legal_3 = goes_on small_group g3 g4 ([]) (so (Submit 0 (write_at 3 fourth)) (SlotIs 4)) rest_4 (omega arith, (record { some = omega arith; few = omega arith; low = omega arith }, refl, (length_fourth, tt))) answer_4 e4 legal_4
+
+    legal_2 : IsLegalFrom small_group g2 ([]) rest_2
+    legal_2 = goes_on small_group g2 g3 ([]) (so (Submit 0 (write_at 2 third)) (SlotIs 3)) rest_3 (omega arith, (record { some = omega arith; few = omega arith; low = omega arith }, refl, (length_third, tt))) answer_3 e3 legal_3
+
+    legal_1 : IsLegalFrom small_group g1 ([]) rest_1
+    legal_1 = goes_on small_group g1 g2 ([]) (so (Submit 0 (write_at 1 second)) (SlotIs 2)) rest_2 (omega arith, (record { some = omega arith; few = omega arith; low = omega arith }, refl, (length_second, tt))) answer_2 e2 legal_2
+
+    legal_0 : IsLegalFrom small_group g0 ([]) rest_0
+    legal_0 = goes_on small_group g0 g1 ([]) (so (Submit 0 (write_at 0 first)) (SlotIs 1)) rest_1 (omega arith, (record { some = omega arith; few = omega arith; low = omega arith }, refl, (length_first, tt))) answer_1 e1 legal_1
+
+    pub legal : IsLegal small_group (past_the_names first second third fourth)
+    legal = record { is_setup = is_small_group; legal = legal_0 }

@@ -2,7 +2,9 @@
 use Rattle.std.specs.Prelude.{◌≡◌, [], ◌∷◌, false}
 use Rattle.pf_entry.specs.Ops.{Sector}
 use Rattle.pf_entry.specs.declared.ops.Op.TheVariants.{Noop}
-use Rattle.pf_protocol.specs.declared.answers.Answer.TheVariants.{Done, Job as JobIs, Slot as SlotIs, Term as TermIs}
+use Rattle.pf_protocol.specs.declared.answers.Answer.TheVariants.{Done, Job as JobIs, Refused, Slot as SlotIs, Term as TermIs}
+use Rattle.pf_protocol.specs.declared.answers.Refusal.TheVariants.{NoneFree}
+use Rattle.pf_protocol.specs.Answers.{answer_to}
 use Rattle.pf_protocol.specs.declared.events.Event.TheVariants.{Claim, Deliver, Elect, Finish, Restart, Stop, Submit}
 use Rattle.pf_protocol.specs.Histories.{History, replay}
 use Rattle.pf_protocol.specs.Shown.{Shows, small_group, write_at, line, so}
@@ -42,4 +44,5 @@ kept_start first second third fourth =
 -- slot 2 is a no-op, and not the op of term 1 that was passed over
 pub record KeepsStart (first second third fourth : Sector) : Type 0 where
   pub acked : (replay small_group (kept_start first second third fourth)).acked ≡ record { term = 2; slot = 3 } ∷ []
+  pub calm : answer_to small_group (replay small_group (kept_start first second third fourth)) Claim ≡ Refused NoneFree
   pub shown_2 : Shows (replay small_group (kept_start first second third fourth)) 2 4 0 (line 1 4 (write_at 0 first) false ∷ line 2 4 Noop false ∷ line 3 4 (write_at 5 fourth) false ∷ []) ([])

@@ -1,6 +1,7 @@
 -- A ghost is void, event by event.
-use Rattle.std.proofs.Common.{◌≡◌, ℕ, true, false, [], ◌∷◌, length, Some, None, refl, ap, ◌∙◌, arith}
+use Rattle.std.proofs.Common.{◌≡◌, ℕ, true, false, [], ◌∷◌, Some, None, refl, ap, ◌∙◌, arith}
 use Rattle.std.specs.Prelude.{slice_set}
+use Rattle.std.specs.Cmp.{nat_cmp_total}
 use Rattle.std.specs.FinMap
 use Rattle.std.specs.FinMap.{gets, entries-insert}
 use Rattle.pf_entry.specs.Sets
@@ -15,23 +16,26 @@ use Rattle.pf_entry.specs.Records.{stored, put_entry, put_entries, add_start, ad
 use Rattle.pf_entry.specs.Voids.{is_void}
 use Rattle.pf_entry.specs.Merging.{merged_first, merged_entry, merged_entries, merged_op, op_or_noop, taken, left_of, higher}
 use Rattle.pf_entry.specs.Sizes.{packet_size, body_size}
-use Rattle.pf_protocol.specs.declared.answers.Answer.TheVariants.{Slot as SlotIs, Term as TermIs, Done, Job as JobIs}
+use Rattle.pf_protocol.specs.declared.answers.Answer.TheVariants.{Slot as SlotIs, Term as TermIs, Done, Job as JobIs, Refused}
+use Rattle.pf_protocol.specs.declared.answers.Refusal.TheVariants.{NoneFree}
 use Rattle.pf_protocol.specs.declared.events.Event.TheVariants.{Submit, Deliver, Elect, Stop, Restart, Claim, Finish}
 use Rattle.pf_protocol.specs.Servers.{Leader, Server, Candidate, Merging, Serving, Running, Stopped, upto}
 use Rattle.pf_protocol.specs.Outcomes.{Outcome, sends}
 use Rattle.pf_protocol.specs.Leading.{on_submit, submitted, new_entry, look_behind, op_at, acknowledged, all_acknowledged, on_elect, on_vote, merged, led, on_ack, counted, marked}
 use Rattle.pf_protocol.specs.Following.{on_request_vote, on_accept, accepted}
-use Rattle.pf_protocol.specs.Saving.{restarted, renewed, claimable, claimed, on_finish, applied_op, changed, snapshots_after}
+use Rattle.pf_protocol.specs.Saving.{restarted, renewed, is_claimable, claimable, claimed, on_finish, applied_op, changed, snapshots_after}
 use Rattle.pf_protocol.specs.Rows.{on_message, on_packet, settled}
 use Rattle.pf_protocol.specs.Groups.{Group, Whole, opening, first_leader, opening_disk, happens, acted, with_sent}
-use Rattle.pf_protocol.specs.Histories.{History, run}
+use Rattle.pf_protocol.specs.Histories.{History, replay, run}
 use Rattle.pf_protocol.specs.Answers.{answer_to, room_refusal, most_packets, most_packet_bytes, half_size, most_elections, IsLegal, IsLegalFrom}
-use Rattle.pf_protocol.specs.Shown.{Shows, small_group, write_at, line, so}
-use Rattle.pf_protocol.proofs.Replays.{empty_rows, submits, delivers, elects, claims_at_1, finishes, first_is, second_is, follows}
-use Rattle.pf_protocol.proofs.Answering.{submit_answer, deliver_answer, elect_answer, finish_answer, claim_answer_1, goes_on, is_small_group}
-use Rattle.pf_protocol.specs.Ghost.{ghost_slots, PassesOver}
+use Rattle.pf_protocol.specs.Shown.{Shows, small_group, write_at, IsSector, line, so}
+use Rattle.pf_protocol.proofs.Replays.{empty_rows, submits, delivers, elects, claims_at_1, finishes, first_is, second_is, none_marked, nor_of, none_of, follows}
+use Rattle.pf_protocol.proofs.Answering.{submit_answer, deliver_answer, elect_answer, finish_answer, claim_answer_1, claim_answer_none, goes_on, is_small_group}
+use Rattle.pf_entry.specs.Sets.{from_items}
+use Rattle.pf_protocol.specs.Ghosts.{ghost_slots, until_the_merge, PassesOver}
 
-module _ (first second third fourth fifth sixth : Sector) (length_first : length first ≡ 512) (length_second : length second ≡ 512) (length_third : length third ≡ 512) (length_fourth : length fourth ≡ 512) (length_fifth : length fifth ≡ 512) (length_sixth : length sixth ≡ 512) where
+-- the states of the servers 0, 1 and 2 are a, b and c, each with its number; l are records of leaders, and g are the group after each event
+module _ (first second third fourth fifth sixth : Sector) where
   abbrev packet : (from to term : ℕ) → Body → Packet
   packet from to term body = record { from = from; to = to; term = term; body = body }
 
@@ -53,6 +57,7 @@ module _ (first second third fourth fifth sixth : Sector) (length_first : length
   abbrev g0 : Group
   g0 = opening small_group
 
+  -- 1. server 0 takes a submission
   abbrev one : Entry
   one = record { slot = 1; term = 1; first = 1; look = []; op = write_at 0 first }
 
@@ -77,6 +82,7 @@ module _ (first second third fourth fifth sixth : Sector) (length_first : length
   unfolding opening first_leader acted settled restarted opening_disk stored on_elect renewed led
   e1 = submits small_group g0 0 (write_at 0 first) a0 _ refl rule_1
 
+  -- 2. server 0 takes a submission
   abbrev two : Entry
   two = record { slot = 2; term = 1; first = 1; look = record { slot = 1; range = record { first = 0; count = 1 } } ∷ []; op = write_at 1 second }
 
@@ -101,6 +107,7 @@ module _ (first second third fourth fifth sixth : Sector) (length_first : length
   unfolding opening first_leader acted settled restarted opening_disk stored on_elect renewed led
   e2 = submits small_group g1 0 (write_at 1 second) a1 _ refl rule_2
 
+  -- 3. server 0 takes a submission
   abbrev three : Entry
   three = record { slot = 3; term = 1; first = 1; look = record { slot = 1; range = record { first = 0; count = 1 } } ∷ record { slot = 2; range = record { first = 1; count = 1 } } ∷ []; op = write_at 2 third }
 
@@ -125,6 +132,7 @@ module _ (first second third fourth fifth sixth : Sector) (length_first : length
   unfolding opening first_leader acted settled restarted opening_disk stored on_elect renewed led
   e3 = submits small_group g2 0 (write_at 2 third) a2 _ refl rule_3
 
+  -- 4. server 0 takes a submission
   abbrev four : Entry
   four = record { slot = 4; term = 1; first = 1; look = record { slot = 2; range = record { first = 1; count = 1 } } ∷ record { slot = 3; range = record { first = 2; count = 1 } } ∷ []; op = write_at 3 fourth }
 
@@ -149,6 +157,7 @@ module _ (first second third fourth fifth sixth : Sector) (length_first : length
   unfolding opening first_leader acted settled restarted opening_disk stored on_elect renewed led
   e4 = submits small_group g3 0 (write_at 3 fourth) a3 _ refl rule_4
 
+  -- 5. a proposal from server 0 comes to server 1
   abbrev b1 : Server
   b1 = record b0 { durable = stored b0.durable (EntryRecord one) }
 
@@ -167,6 +176,7 @@ module _ (first second third fourth fifth sixth : Sector) (length_first : length
   unfolding opening first_leader acted settled restarted opening_disk stored on_elect renewed led
   e5 = delivers small_group g4 0 (packet 0 1 1 (Accept one)) false b0 _ refl refl rule_5
 
+  -- 6. a proposal from server 0 comes to server 2
   abbrev c1 : Server
   c1 = record c0 { durable = stored c0.durable (EntryRecord one) }
 
@@ -185,6 +195,7 @@ module _ (first second third fourth fifth sixth : Sector) (length_first : length
   unfolding opening first_leader acted settled restarted opening_disk stored on_elect renewed led
   e6 = delivers small_group g5 1 (packet 0 2 1 (Accept one)) false c0 _ refl refl rule_6
 
+  -- 7. server 0 stops
   abbrev g7 : Group
   g7 = record g6 { servers = slice_set g6.servers 0 (Stopped 1 a4.durable a4.durable) }
 
@@ -192,6 +203,7 @@ module _ (first second third fourth fifth sixth : Sector) (length_first : length
   unfolding happens opening first_leader acted settled restarted opening_disk stored on_elect renewed led
   e7 = refl
 
+  -- 8. server 1 stands for election
   abbrev b2 : Server
   b2 = record b1 { durable = stored b1.durable (TermRecord 2); role = Candidate (vote_of b1.durable) }
 
@@ -210,6 +222,7 @@ module _ (first second third fourth fifth sixth : Sector) (length_first : length
   unfolding opening first_leader acted settled restarted opening_disk stored on_elect renewed led
   e8 = elects small_group g7 1 b1 _ refl rule_8
 
+  -- 9. a request for a vote from server 1 comes to server 2
   abbrev c2 : Server
   c2 = record c1 { durable = stored c1.durable (TermRecord 2) }
 
@@ -228,6 +241,7 @@ module _ (first second third fourth fifth sixth : Sector) (length_first : length
   unfolding opening first_leader acted settled restarted opening_disk stored on_elect renewed led
   e9 = delivers small_group g8 11 (packet 1 2 2 (RequestVote 0)) false c1 _ refl refl rule_9
 
+  -- 10. a vote from server 2 comes to server 1
   abbrev m2_1 : Entry
   m2_1 = record { slot = 1; term = 2; first = 2; look = []; op = write_at 0 first }
 
@@ -264,6 +278,7 @@ module _ (first second third fourth fifth sixth : Sector) (length_first : length
   unfolding opening first_leader acted settled restarted opening_disk stored on_elect renewed led
   e10 = delivers small_group g9 12 (packet 2 1 2 (Vote (vote_of c1.durable))) false b2 _ refl refl rule_10
 
+  -- 11. a proposal from server 1 comes to server 2
   abbrev c3 : Server
   c3 = record c2 { durable = stored c2.durable (EntryRecord m2_1) }
 
@@ -282,6 +297,7 @@ module _ (first second third fourth fifth sixth : Sector) (length_first : length
   unfolding opening first_leader acted settled restarted opening_disk stored on_elect renewed led
   e11 = delivers small_group g10 14 (packet 1 2 2 (Accept m2_1)) false c2 _ refl refl rule_11
 
+  -- 12. an acknowledgement from server 2 comes to server 1
   abbrev l6 : Leader
   l6 = record l5 { known = FinMap.insert l5.known 2 0; acks = acknowledged l5.acks 2 1 }
 
@@ -303,12 +319,13 @@ module _ (first second third fourth fifth sixth : Sector) (length_first : length
   unfolding opening first_leader acted settled restarted opening_disk stored on_elect renewed led
   e12 = delivers small_group g11 15 (packet 2 1 2 (Ack 1 0)) false b3 _ refl refl rule_12
 
+  -- 13 and 14. server 1 applies slot 1
   claim_13 : claimable 4096 b4 ≡ Some 1
-  unfolding restarted opening_disk stored put_entry put_entries is_free range_of merged_entry
+  unfolding settled restarted opening_disk stored put_entry put_entries is_free range_of merged_entry
   claim_13 = first_is b4 4095 (simp gets)
 
   op_13 : op_at b4.durable.log 1 ≡ write_at 0 first
-  unfolding restarted opening_disk stored put_entry put_entries is_free range_of merged_entry op_at
+  unfolding settled restarted opening_disk stored put_entry put_entries is_free range_of merged_entry op_at
   op_13 = simp gets
 
   abbrev g13 : Group
@@ -332,6 +349,7 @@ module _ (first second third fourth fifth sixth : Sector) (length_first : length
   unfolding opening first_leader acted settled restarted opening_disk stored on_elect renewed led
   e14 = finishes small_group g13 1 0 1 (claimed b4 1) _ refl rule_14
 
+  -- 15. server 1 takes a submission
   abbrev five : Entry
   five = record { slot = 2; term = 2; first = 2; look = record { slot = 1; range = record { first = 0; count = 1 } } ∷ []; op = write_at 5 fifth }
 
@@ -356,6 +374,7 @@ module _ (first second third fourth fifth sixth : Sector) (length_first : length
   unfolding opening first_leader acted settled restarted opening_disk stored on_elect renewed led
   e15 = submits small_group g14 1 (write_at 5 fifth) b5 _ refl rule_15
 
+  -- 16. a proposal from server 1 comes to server 2
   abbrev c4 : Server
   c4 = record c3 { durable = stored c3.durable (EntryRecord five) }
 
@@ -374,6 +393,7 @@ module _ (first second third fourth fifth sixth : Sector) (length_first : length
   unfolding opening first_leader acted settled restarted opening_disk stored on_elect renewed led
   e16 = delivers small_group g15 18 (packet 1 2 2 (Accept five)) false c3 _ refl refl rule_16
 
+  -- 17. an acknowledgement from server 2 comes to server 1
   abbrev l8 : Leader
   l8 = record l7 { known = FinMap.insert l7.known 2 0; acks = acknowledged l7.acks 2 2 }
 
@@ -395,12 +415,13 @@ module _ (first second third fourth fifth sixth : Sector) (length_first : length
   unfolding opening first_leader acted settled restarted opening_disk stored on_elect renewed led
   e17 = delivers small_group g16 19 (packet 2 1 2 (Ack 2 0)) false b6 _ refl refl rule_17
 
+  -- 18 and 19. server 1 applies slot 2
   claim_18 : claimable 4096 b7 ≡ Some 2
-  unfolding restarted opening_disk stored put_entry put_entries is_free range_of merged_entry
+  unfolding settled restarted opening_disk stored put_entry put_entries is_free range_of merged_entry
   claim_18 = second_is b7 4094 refl (simp gets) (simp gets)
 
   op_18 : op_at b7.durable.log 2 ≡ write_at 5 fifth
-  unfolding restarted opening_disk stored put_entry put_entries is_free range_of merged_entry op_at
+  unfolding settled restarted opening_disk stored put_entry put_entries is_free range_of merged_entry op_at
   op_18 = simp gets
 
   abbrev g18 : Group
@@ -424,6 +445,7 @@ module _ (first second third fourth fifth sixth : Sector) (length_first : length
   unfolding opening first_leader acted settled restarted opening_disk stored on_elect renewed led
   e19 = finishes small_group g18 1 0 2 (claimed b7 2) _ refl rule_19
 
+  -- 20. server 0 begins again
   abbrev a5 : Server
   a5 = restarted 0 2 a4.durable
 
@@ -434,6 +456,7 @@ module _ (first second third fourth fifth sixth : Sector) (length_first : length
   unfolding happens opening first_leader acted settled restarted opening_disk stored on_elect renewed led
   e20 = refl
 
+  -- 21. server 1 stands for election
   abbrev b9 : Server
   b9 = record b8 { durable = stored b8.durable (TermRecord 3); role = Candidate (vote_of b8.durable) }
 
@@ -452,6 +475,7 @@ module _ (first second third fourth fifth sixth : Sector) (length_first : length
   unfolding opening first_leader acted settled restarted opening_disk stored on_elect renewed led
   e21 = elects small_group g20 1 b8 _ refl rule_21
 
+  -- 22. a request for a vote from server 1 comes to server 0
   abbrev a6 : Server
   a6 = record a5 { durable = stored a5.durable (TermRecord 3) }
 
@@ -470,6 +494,7 @@ module _ (first second third fourth fifth sixth : Sector) (length_first : length
   unfolding opening first_leader acted settled restarted opening_disk stored on_elect renewed led
   e22 = delivers small_group g21 21 (packet 1 0 3 (RequestVote 0)) false a5 _ refl refl rule_22
 
+  -- 23. a vote from server 0 comes to server 1
   abbrev m3_1 : Entry
   m3_1 = record { slot = 1; term = 3; first = 3; look = []; op = write_at 0 first }
 
@@ -513,6 +538,7 @@ module _ (first second third fourth fifth sixth : Sector) (length_first : length
   unfolding opening first_leader acted settled restarted opening_disk stored on_elect renewed led
   e23 = delivers small_group g22 23 (packet 0 1 3 (Vote (vote_of a5.durable))) false b9 _ refl refl rule_23
 
+  -- 24. a proposal from server 1 comes to server 0
   abbrev a7 : Server
   a7 = record a6 { durable = stored a6.durable (EntryRecord m3_1) }
 
@@ -531,6 +557,7 @@ module _ (first second third fourth fifth sixth : Sector) (length_first : length
   unfolding opening first_leader acted settled restarted opening_disk stored on_elect renewed led
   e24 = delivers small_group g23 24 (packet 1 0 3 (Accept m3_1)) false a6 _ refl refl rule_24
 
+  -- 25. a proposal from server 1 comes to server 0
   abbrev a8 : Server
   a8 = record a7 { durable = stored a7.durable (EntryRecord m3_2) }
 
@@ -549,6 +576,7 @@ module _ (first second third fourth fifth sixth : Sector) (length_first : length
   unfolding opening first_leader acted settled restarted opening_disk stored on_elect renewed led
   e25 = delivers small_group g24 26 (packet 1 0 3 (Accept m3_2)) false a7 _ refl refl rule_25
 
+  -- 26. an acknowledgement from server 0 comes to server 1
   abbrev l10 : Leader
   l10 = record l9 { known = FinMap.insert l9.known 0 0; acks = acknowledged l9.acks 0 1 }
 
@@ -570,6 +598,7 @@ module _ (first second third fourth fifth sixth : Sector) (length_first : length
   unfolding opening first_leader acted settled restarted opening_disk stored on_elect renewed led
   e26 = delivers small_group g25 28 (packet 0 1 3 (Ack 1 0)) false b10 _ refl refl rule_26
 
+  -- 27. an acknowledgement from server 0 comes to server 1
   abbrev l11 : Leader
   l11 = record l10 { known = FinMap.insert l10.known 0 0; acks = acknowledged l10.acks 0 2 }
 
@@ -591,6 +620,7 @@ module _ (first second third fourth fifth sixth : Sector) (length_first : length
   unfolding opening first_leader acted settled restarted opening_disk stored on_elect renewed led
   e27 = delivers small_group g26 29 (packet 0 1 3 (Ack 2 0)) false b11 _ refl refl rule_27
 
+  -- 28. server 1 takes a submission
   abbrev six : Entry
   six = record { slot = 3; term = 3; first = 3; look = record { slot = 1; range = record { first = 0; count = 1 } } ∷ record { slot = 2; range = record { first = 5; count = 1 } } ∷ []; op = write_at 6 sixth }
 
@@ -614,6 +644,28 @@ module _ (first second third fourth fifth sixth : Sector) (length_first : length
   e28 : happens small_group g27 (Submit 1 (write_at 6 sixth)) Whole ≡ g28
   unfolding opening first_leader acted settled restarted opening_disk stored on_elect renewed led
   e28 = submits small_group g27 1 (write_at 6 sixth) b12 _ refl rule_28
+
+  none_last_0 : claimable 4096 a8 ≡ None
+  unfolding settled restarted opening_disk stored put_entry put_entries is_free range_of merged_entry
+  none_last_0 =
+      let can = λ (slot : ℕ). is_claimable a8 (FinMap.get a8.durable.log slot) slot in
+      none_marked a8 4096 (none_of can)
+
+  none_last_1 : claimable 4096 b13 ≡ None
+  unfolding settled restarted opening_disk stored put_entry put_entries is_free range_of merged_entry
+  none_last_1 =
+      let can = λ (slot : ℕ). is_claimable b13 (FinMap.get b13.durable.log slot) slot in
+      none_marked b13 4096 (nor_of can (Sets.insert (Sets.insert (Sets.insert Sets.empty 1) 2) 1) 2 (simp gets) (nor_of can (Sets.insert (Sets.insert Sets.empty 1) 2) 1 (simp gets) (nor_of can (Sets.insert Sets.empty 1) 2 (simp gets) (nor_of can Sets.empty 1 (simp gets) (none_of can)))))
+
+  none_last_2 : claimable 4096 c4 ≡ None
+  unfolding settled restarted opening_disk stored put_entry put_entries is_free range_of merged_entry
+  none_last_2 =
+      let can = λ (slot : ℕ). is_claimable c4 (FinMap.get c4.durable.log slot) slot in
+      none_marked c4 4096 (none_of can)
+
+  calm : answer_to small_group g28 Claim ≡ Refused NoneFree
+  unfolding opening first_leader acted settled restarted opening_disk stored on_elect renewed led
+  calm = claim_answer_none small_group g28 none_last_0 none_last_1 none_last_2
 
   abbrev rest_28 : History
   rest_28 = []
@@ -789,204 +841,117 @@ module _ (first second third fourth fifth sixth : Sector) (length_first : length
   replayed_0 : run small_group g0 rest_0 ≡ g28
   replayed_0 = follows small_group g0 g1 g28 (so (Submit 0 (write_at 0 first)) (SlotIs 1)) rest_1 e1 replayed_1
 
-  legal_28 : IsLegalFrom small_group g28 ([]) rest_28
-  legal_28 = tt
-
   answer_28 : answer_to small_group g27 (Submit 1 (write_at 6 sixth)) ≡ SlotIs 3
   unfolding opening first_leader acted settled restarted opening_disk stored on_elect renewed led range_of
   answer_28 = submit_answer small_group g27 1 (write_at 6 sixth) b12 _ refl refl refl refl refl rule_28 room_28
-
-  legal_27 : IsLegalFrom small_group g27 ([]) rest_27
-  legal_27 = goes_on small_group g27 g28 ([]) (so (Submit 1 (write_at 6 sixth)) (SlotIs 3)) rest_28 (omega arith, (record { some = omega arith; few = omega arith; low = omega arith }, refl, (length_sixth, tt))) answer_28 e28 legal_28
 
   answer_27 : answer_to small_group g26 (Deliver 29) ≡ Done
   unfolding opening first_leader acted settled restarted opening_disk stored on_elect renewed led
   answer_27 = deliver_answer small_group g26 29 (packet 0 1 3 (Ack 2 0)) false b11 _ refl refl rule_27 room_27
 
-  legal_26 : IsLegalFrom small_group g26 ([]) rest_26
-  legal_26 = goes_on small_group g26 g27 ([]) (so (Deliver 29) Done) rest_27 tt answer_27 e27 legal_27
-
   answer_26 : answer_to small_group g25 (Deliver 28) ≡ Done
   unfolding opening first_leader acted settled restarted opening_disk stored on_elect renewed led
   answer_26 = deliver_answer small_group g25 28 (packet 0 1 3 (Ack 1 0)) false b10 _ refl refl rule_26 room_26
-
-  legal_25 : IsLegalFrom small_group g25 ([]) rest_25
-  legal_25 = goes_on small_group g25 g26 ([]) (so (Deliver 28) Done) rest_26 tt answer_26 e26 legal_26
 
   answer_25 : answer_to small_group g24 (Deliver 26) ≡ Done
   unfolding opening first_leader acted settled restarted opening_disk stored on_elect renewed led
   answer_25 = deliver_answer small_group g24 26 (packet 1 0 3 (Accept m3_2)) false a7 _ refl refl rule_25 room_25
 
-  legal_24 : IsLegalFrom small_group g24 ([]) rest_24
-  legal_24 = goes_on small_group g24 g25 ([]) (so (Deliver 26) Done) rest_25 tt answer_25 e25 legal_25
-
   answer_24 : answer_to small_group g23 (Deliver 24) ≡ Done
   unfolding opening first_leader acted settled restarted opening_disk stored on_elect renewed led
   answer_24 = deliver_answer small_group g23 24 (packet 1 0 3 (Accept m3_1)) false a6 _ refl refl rule_24 room_24
-
-  legal_23 : IsLegalFrom small_group g23 ([]) rest_23
-  legal_23 = goes_on small_group g23 g24 ([]) (so (Deliver 24) Done) rest_24 tt answer_24 e24 legal_24
 
   answer_23 : answer_to small_group g22 (Deliver 23) ≡ Done
   unfolding opening first_leader acted settled restarted opening_disk stored on_elect renewed led
   answer_23 = deliver_answer small_group g22 23 (packet 0 1 3 (Vote (vote_of a5.durable))) false b9 _ refl refl rule_23 room_23
 
-  legal_22 : IsLegalFrom small_group g22 ([]) rest_22
-  legal_22 = goes_on small_group g22 g23 ([]) (so (Deliver 23) Done) rest_23 tt answer_23 e23 legal_23
-
   answer_22 : answer_to small_group g21 (Deliver 21) ≡ Done
   unfolding opening first_leader acted settled restarted opening_disk stored on_elect renewed led
   answer_22 = deliver_answer small_group g21 21 (packet 1 0 3 (RequestVote 0)) false a5 _ refl refl rule_22 room_22
-
-  legal_21 : IsLegalFrom small_group g21 ([]) rest_21
-  legal_21 = goes_on small_group g21 g22 ([]) (so (Deliver 21) Done) rest_22 tt answer_22 e22 legal_22
 
   answer_21 : answer_to small_group g20 (Elect 1) ≡ TermIs 3
   unfolding opening first_leader acted settled restarted opening_disk stored on_elect renewed led most_elections
   answer_21 = elect_answer small_group g20 1 b8 _ refl refl rule_21 room_21
 
-  legal_20 : IsLegalFrom small_group g20 ([]) rest_20
-  legal_20 = goes_on small_group g20 g21 ([]) (so (Elect 1) (TermIs 3)) rest_21 (omega arith) answer_21 e21 legal_21
-
   answer_20 : answer_to small_group g19 (Restart 0 false) ≡ Done
   unfolding answer_to opening first_leader acted settled restarted opening_disk stored on_elect renewed led
   answer_20 = refl
-
-  legal_19 : IsLegalFrom small_group g19 ([]) rest_19
-  legal_19 = goes_on small_group g19 g20 ([]) (so (Restart 0 false) Done) rest_20 (omega arith) answer_20 e20 legal_20
 
   answer_19 : answer_to small_group g18 (Finish 1 0 2) ≡ Done
   unfolding opening first_leader acted settled restarted opening_disk stored on_elect renewed led
   answer_19 = finish_answer small_group g18 1 0 2 (claimed b7 2) _ refl rule_19
 
-  legal_18 : IsLegalFrom small_group g18 (record { server = 1; life = 0; slot = 2; op = write_at 5 fifth } ∷ []) rest_18
-  legal_18 = goes_on small_group g18 g19 (record { server = 1; life = 0; slot = 2; op = write_at 5 fifth } ∷ []) (so (Finish 1 0 2) Done) rest_19 refl answer_19 e19 legal_19
-
   answer_18 : answer_to small_group g17 Claim ≡ JobIs (record { server = 1; life = 0; slot = 2; op = write_at 5 fifth })
   unfolding opening first_leader acted settled restarted opening_disk stored on_elect renewed led
   answer_18 = claim_answer_1 small_group g17 refl b7 2 refl claim_18 ∙ ap (λ x. JobIs (record { server = 1; life = 0; slot = 2; op = x })) op_18
-
-  legal_17 : IsLegalFrom small_group g17 ([]) rest_17
-  legal_17 = goes_on small_group g17 g18 ([]) (so Claim (JobIs (record { server = 1; life = 0; slot = 2; op = write_at 5 fifth }))) rest_18 tt answer_18 e18 legal_18
 
   answer_17 : answer_to small_group g16 (Deliver 19) ≡ Done
   unfolding opening first_leader acted settled restarted opening_disk stored on_elect renewed led
   answer_17 = deliver_answer small_group g16 19 (packet 2 1 2 (Ack 2 0)) false b6 _ refl refl rule_17 room_17
 
-  legal_16 : IsLegalFrom small_group g16 ([]) rest_16
-  legal_16 = goes_on small_group g16 g17 ([]) (so (Deliver 19) Done) rest_17 tt answer_17 e17 legal_17
-
   answer_16 : answer_to small_group g15 (Deliver 18) ≡ Done
   unfolding opening first_leader acted settled restarted opening_disk stored on_elect renewed led
   answer_16 = deliver_answer small_group g15 18 (packet 1 2 2 (Accept five)) false c3 _ refl refl rule_16 room_16
-
-  legal_15 : IsLegalFrom small_group g15 ([]) rest_15
-  legal_15 = goes_on small_group g15 g16 ([]) (so (Deliver 18) Done) rest_16 tt answer_16 e16 legal_16
 
   answer_15 : answer_to small_group g14 (Submit 1 (write_at 5 fifth)) ≡ SlotIs 2
   unfolding opening first_leader acted settled restarted opening_disk stored on_elect renewed led range_of
   answer_15 = submit_answer small_group g14 1 (write_at 5 fifth) b5 _ refl refl refl refl refl rule_15 room_15
 
-  legal_14 : IsLegalFrom small_group g14 ([]) rest_14
-  legal_14 = goes_on small_group g14 g15 ([]) (so (Submit 1 (write_at 5 fifth)) (SlotIs 2)) rest_15 (omega arith, (record { some = omega arith; few = omega arith; low = omega arith }, refl, (length_fifth, tt))) answer_15 e15 legal_15
-
   answer_14 : answer_to small_group g13 (Finish 1 0 1) ≡ Done
   unfolding opening first_leader acted settled restarted opening_disk stored on_elect renewed led
   answer_14 = finish_answer small_group g13 1 0 1 (claimed b4 1) _ refl rule_14
-
-  legal_13 : IsLegalFrom small_group g13 (record { server = 1; life = 0; slot = 1; op = write_at 0 first } ∷ []) rest_13
-  legal_13 = goes_on small_group g13 g14 (record { server = 1; life = 0; slot = 1; op = write_at 0 first } ∷ []) (so (Finish 1 0 1) Done) rest_14 refl answer_14 e14 legal_14
 
   answer_13 : answer_to small_group g12 Claim ≡ JobIs (record { server = 1; life = 0; slot = 1; op = write_at 0 first })
   unfolding opening first_leader acted settled restarted opening_disk stored on_elect renewed led
   answer_13 = claim_answer_1 small_group g12 refl b4 1 refl claim_13 ∙ ap (λ x. JobIs (record { server = 1; life = 0; slot = 1; op = x })) op_13
 
-  legal_12 : IsLegalFrom small_group g12 ([]) rest_12
-  legal_12 = goes_on small_group g12 g13 ([]) (so Claim (JobIs (record { server = 1; life = 0; slot = 1; op = write_at 0 first }))) rest_13 tt answer_13 e13 legal_13
-
   answer_12 : answer_to small_group g11 (Deliver 15) ≡ Done
   unfolding opening first_leader acted settled restarted opening_disk stored on_elect renewed led
   answer_12 = deliver_answer small_group g11 15 (packet 2 1 2 (Ack 1 0)) false b3 _ refl refl rule_12 room_12
-
-  legal_11 : IsLegalFrom small_group g11 ([]) rest_11
-  legal_11 = goes_on small_group g11 g12 ([]) (so (Deliver 15) Done) rest_12 tt answer_12 e12 legal_12
 
   answer_11 : answer_to small_group g10 (Deliver 14) ≡ Done
   unfolding opening first_leader acted settled restarted opening_disk stored on_elect renewed led
   answer_11 = deliver_answer small_group g10 14 (packet 1 2 2 (Accept m2_1)) false c2 _ refl refl rule_11 room_11
 
-  legal_10 : IsLegalFrom small_group g10 ([]) rest_10
-  legal_10 = goes_on small_group g10 g11 ([]) (so (Deliver 14) Done) rest_11 tt answer_11 e11 legal_11
-
   answer_10 : answer_to small_group g9 (Deliver 12) ≡ Done
   unfolding opening first_leader acted settled restarted opening_disk stored on_elect renewed led
   answer_10 = deliver_answer small_group g9 12 (packet 2 1 2 (Vote (vote_of c1.durable))) false b2 _ refl refl rule_10 room_10
-
-  legal_9 : IsLegalFrom small_group g9 ([]) rest_9
-  legal_9 = goes_on small_group g9 g10 ([]) (so (Deliver 12) Done) rest_10 tt answer_10 e10 legal_10
 
   answer_9 : answer_to small_group g8 (Deliver 11) ≡ Done
   unfolding opening first_leader acted settled restarted opening_disk stored on_elect renewed led
   answer_9 = deliver_answer small_group g8 11 (packet 1 2 2 (RequestVote 0)) false c1 _ refl refl rule_9 room_9
 
-  legal_8 : IsLegalFrom small_group g8 ([]) rest_8
-  legal_8 = goes_on small_group g8 g9 ([]) (so (Deliver 11) Done) rest_9 tt answer_9 e9 legal_9
-
   answer_8 : answer_to small_group g7 (Elect 1) ≡ TermIs 2
   unfolding opening first_leader acted settled restarted opening_disk stored on_elect renewed led most_elections
   answer_8 = elect_answer small_group g7 1 b1 _ refl refl rule_8 room_8
-
-  legal_7 : IsLegalFrom small_group g7 ([]) rest_7
-  legal_7 = goes_on small_group g7 g8 ([]) (so (Elect 1) (TermIs 2)) rest_8 (omega arith) answer_8 e8 legal_8
 
   answer_7 : answer_to small_group g6 (Stop 0) ≡ Done
   unfolding answer_to opening first_leader acted settled restarted opening_disk stored on_elect renewed led
   answer_7 = refl
 
-  legal_6 : IsLegalFrom small_group g6 ([]) rest_6
-  legal_6 = goes_on small_group g6 g7 ([]) (so (Stop 0) Done) rest_7 (omega arith) answer_7 e7 legal_7
-
   answer_6 : answer_to small_group g5 (Deliver 1) ≡ Done
   unfolding opening first_leader acted settled restarted opening_disk stored on_elect renewed led
   answer_6 = deliver_answer small_group g5 1 (packet 0 2 1 (Accept one)) false c0 _ refl refl rule_6 room_6
-
-  legal_5 : IsLegalFrom small_group g5 ([]) rest_5
-  legal_5 = goes_on small_group g5 g6 ([]) (so (Deliver 1) Done) rest_6 tt answer_6 e6 legal_6
 
   answer_5 : answer_to small_group g4 (Deliver 0) ≡ Done
   unfolding opening first_leader acted settled restarted opening_disk stored on_elect renewed led
   answer_5 = deliver_answer small_group g4 0 (packet 0 1 1 (Accept one)) false b0 _ refl refl rule_5 room_5
 
-  legal_4 : IsLegalFrom small_group g4 ([]) rest_4
-  legal_4 = goes_on small_group g4 g5 ([]) (so (Deliver 0) Done) rest_5 tt answer_5 e5 legal_5
-
   answer_4 : answer_to small_group g3 (Submit 0 (write_at 3 fourth)) ≡ SlotIs 4
   unfolding opening first_leader acted settled restarted opening_disk stored on_elect renewed led range_of
   answer_4 = submit_answer small_group g3 0 (write_at 3 fourth) a3 _ refl refl refl refl refl rule_4 room_4
-
-  legal_3 : IsLegalFrom small_group g3 ([]) rest_3
-  legal_3 = goes_on small_group g3 g4 ([]) (so (Submit 0 (write_at 3 fourth)) (SlotIs 4)) rest_4 (omega arith, (record { some = omega arith; few = omega arith; low = omega arith }, refl, (length_fourth, tt))) answer_4 e4 legal_4
 
   answer_3 : answer_to small_group g2 (Submit 0 (write_at 2 third)) ≡ SlotIs 3
   unfolding opening first_leader acted settled restarted opening_disk stored on_elect renewed led range_of
   answer_3 = submit_answer small_group g2 0 (write_at 2 third) a2 _ refl refl refl refl refl rule_3 room_3
 
-  legal_2 : IsLegalFrom small_group g2 ([]) rest_2
-  legal_2 = goes_on small_group g2 g3 ([]) (so (Submit 0 (write_at 2 third)) (SlotIs 3)) rest_3 (omega arith, (record { some = omega arith; few = omega arith; low = omega arith }, refl, (length_third, tt))) answer_3 e3 legal_3
-
   answer_2 : answer_to small_group g1 (Submit 0 (write_at 1 second)) ≡ SlotIs 2
   unfolding opening first_leader acted settled restarted opening_disk stored on_elect renewed led range_of
   answer_2 = submit_answer small_group g1 0 (write_at 1 second) a1 _ refl refl refl refl refl rule_2 room_2
 
-  legal_1 : IsLegalFrom small_group g1 ([]) rest_1
-  legal_1 = goes_on small_group g1 g2 ([]) (so (Submit 0 (write_at 1 second)) (SlotIs 2)) rest_2 (omega arith, (record { some = omega arith; few = omega arith; low = omega arith }, refl, (length_second, tt))) answer_2 e2 legal_2
-
   answer_1 : answer_to small_group g0 (Submit 0 (write_at 0 first)) ≡ SlotIs 1
   unfolding opening first_leader acted settled restarted opening_disk stored on_elect renewed led range_of
   answer_1 = submit_answer small_group g0 0 (write_at 0 first) a0 _ refl refl refl refl refl rule_1 room_1
-
-  legal_0 : IsLegalFrom small_group g0 ([]) rest_0
-  legal_0 = goes_on small_group g0 g1 ([]) (so (Submit 0 (write_at 0 first)) (SlotIs 1)) rest_1 (omega arith, (record { some = omega arith; few = omega arith; low = omega arith }, refl, (length_first, tt))) answer_1 e1 legal_1
 
   acked_last : g28.acked ≡ record { term = 2; slot = 2 } ∷ []
   unfolding opening first_leader acted settled restarted opening_disk stored on_elect renewed led
@@ -996,8 +961,104 @@ module _ (first second third fourth fifth sixth : Sector) (length_first : length
   unfolding opening first_leader acted settled restarted opening_disk stored on_elect renewed led put_entry put_entries
   shown_0 = record { server = a8; runs = refl; its_term = refl; its_base = refl; its_log = simp (entries-insert, empty_rows, gets); its_applied = simp empty_rows }
 
-  pub legal : IsLegal small_group (ghost_slots first second third fourth fifth sixth)
-  legal = record { is_setup = is_small_group; legal = legal_0 }
+  replayed_before : replay small_group (until_the_merge first second third fourth fifth sixth) ≡ g23
+  replayed_before = rw (e1, e2, e3, e4, e5, e6, e7, e8, e9, e10, e11, e12, e13, e14, e15, e16, e17, e18, e19, e20, e21, e22, e23)
+
+  shown_before : Shows g23 1 3 0 (line 1 3 (write_at 0 first) true ∷ line 2 3 (write_at 5 fifth) true ∷ []) (1 ∷ 2 ∷ [])
+  unfolding opening first_leader acted settled restarted opening_disk stored on_elect renewed led put_entry put_entries
+  shown_before = record { server = b10; runs = refl; its_term = refl; its_base = refl; its_log = simp (entries-insert, empty_rows, gets); its_applied = simp (entries-insert, empty_rows, nat_cmp_total) }
 
   pub shows : PassesOver first second third fourth fifth sixth
-  shows = record { acked = ap (λ (g : Group). g.acked) replayed_0 ∙ acked_last; shown_0 = rw replayed_0 shown_0 }
+  shows = record { calm = ap (λ (g : Group). answer_to small_group g Claim) replayed_0 ∙ calm; acked = ap (λ (g : Group). g.acked) replayed_0 ∙ acked_last; shown_0 = rw replayed_0 shown_0; before = rw replayed_before shown_before }
+
+  -- with whole sectors the history is one that the group can have
+  module _ (length_first : IsSector first) (length_second : IsSector second) (length_third : IsSector third) (length_fourth : IsSector fourth) (length_fifth : IsSector fifth) (length_sixth : IsSector sixth) where
+    legal_28 : IsLegalFrom small_group g28 ([]) rest_28
+    legal_28 = tt
+
+    legal_27 : IsLegalFrom small_group g27 ([]) rest_27
+    legal_27 = goes_on small_group g27 g28 ([]) (so (Submit 1 (write_at 6 sixth)) (SlotIs 3)) rest_28 (omega arith, (record { some = omega arith; few = omega arith; low = omega arith }, refl, (length_sixth, tt))) answer_28 e28 legal_28
+
+    legal_26 : IsLegalFrom small_group g26 ([]) rest_26
+    legal_26 = goes_on small_group g26 g27 ([]) (so (Deliver 29) Done) rest_27 tt answer_27 e27 legal_27
+
+    legal_25 : IsLegalFrom small_group g25 ([]) rest_25
+    legal_25 = goes_on small_group g25 g26 ([]) (so (Deliver 28) Done) rest_26 tt answer_26 e26 legal_26
+
+    legal_24 : IsLegalFrom small_group g24 ([]) rest_24
+    legal_24 = goes_on small_group g24 g25 ([]) (so (Deliver 26) Done) rest_25 tt answer_25 e25 legal_25
+
+    legal_23 : IsLegalFrom small_group g23 ([]) rest_23
+    legal_23 = goes_on small_group g23 g24 ([]) (so (Deliver 24) Done) rest_24 tt answer_24 e24 legal_24
+
+    legal_22 : IsLegalFrom small_group g22 ([]) rest_22
+    legal_22 = goes_on small_group g22 g23 ([]) (so (Deliver 23) Done) rest_23 tt answer_23 e23 legal_23
+
+    legal_21 : IsLegalFrom small_group g21 ([]) rest_21
+    legal_21 = goes_on small_group g21 g22 ([]) (so (Deliver 21) Done) rest_22 tt answer_22 e22 legal_22
+
+    legal_20 : IsLegalFrom small_group g20 ([]) rest_20
+    legal_20 = goes_on small_group g20 g21 ([]) (so (Elect 1) (TermIs 3)) rest_21 (omega arith) answer_21 e21 legal_21
+
+    legal_19 : IsLegalFrom small_group g19 ([]) rest_19
+    legal_19 = goes_on small_group g19 g20 ([]) (so (Restart 0 false) Done) rest_20 (omega arith) answer_20 e20 legal_20
+
+    legal_18 : IsLegalFrom small_group g18 (record { server = 1; life = 0; slot = 2; op = write_at 5 fifth } ∷ []) rest_18
+    legal_18 = goes_on small_group g18 g19 (record { server = 1; life = 0; slot = 2; op = write_at 5 fifth } ∷ []) (so (Finish 1 0 2) Done) rest_19 refl answer_19 e19 legal_19
+
+    legal_17 : IsLegalFrom small_group g17 ([]) rest_17
+    legal_17 = goes_on small_group g17 g18 ([]) (so Claim (JobIs (record { server = 1; life = 0; slot = 2; op = write_at 5 fifth }))) rest_18 tt answer_18 e18 legal_18
+
+    legal_16 : IsLegalFrom small_group g16 ([]) rest_16
+    legal_16 = goes_on small_group g16 g17 ([]) (so (Deliver 19) Done) rest_17 tt answer_17 e17 legal_17
+
+    legal_15 : IsLegalFrom small_group g15 ([]) rest_15
+    legal_15 = goes_on small_group g15 g16 ([]) (so (Deliver 18) Done) rest_16 tt answer_16 e16 legal_16
+
+    legal_14 : IsLegalFrom small_group g14 ([]) rest_14
+    legal_14 = goes_on small_group g14 g15 ([]) (so (Submit 1 (write_at 5 fifth)) (SlotIs 2)) rest_15 (omega arith, (record { some = omega arith; few = omega arith; low = omega arith }, refl, (length_fifth, tt))) answer_15 e15 legal_15
+
+    legal_13 : IsLegalFrom small_group g13 (record { server = 1; life = 0; slot = 1; op = write_at 0 first } ∷ []) rest_13
+    legal_13 = goes_on small_group g13 g14 (record { server = 1; life = 0; slot = 1; op = write_at 0 first } ∷ []) (so (Finish 1 0 1) Done) rest_14 refl answer_14 e14 legal_14
+
+    legal_12 : IsLegalFrom small_group g12 ([]) rest_12
+    legal_12 = goes_on small_group g12 g13 ([]) (so Claim (JobIs (record { server = 1; life = 0; slot = 1; op = write_at 0 first }))) rest_13 tt answer_13 e13 legal_13
+
+    legal_11 : IsLegalFrom small_group g11 ([]) rest_11
+    legal_11 = goes_on small_group g11 g12 ([]) (so (Deliver 15) Done) rest_12 tt answer_12 e12 legal_12
+
+    legal_10 : IsLegalFrom small_group g10 ([]) rest_10
+    legal_10 = goes_on small_group g10 g11 ([]) (so (Deliver 14) Done) rest_11 tt answer_11 e11 legal_11
+
+    legal_9 : IsLegalFrom small_group g9 ([]) rest_9
+    legal_9 = goes_on small_group g9 g10 ([]) (so (Deliver 12) Done) rest_10 tt answer_10 e10 legal_10
+
+    legal_8 : IsLegalFrom small_group g8 ([]) rest_8
+    legal_8 = goes_on small_group g8 g9 ([]) (so (Deliver 11) Done) rest_9 tt answer_9 e9 legal_9
+
+    legal_7 : IsLegalFrom small_group g7 ([]) rest_7
+    legal_7 = goes_on small_group g7 g8 ([]) (so (Elect 1) (TermIs 2)) rest_8 (omega arith) answer_8 e8 legal_8
+
+    legal_6 : IsLegalFrom small_group g6 ([]) rest_6
+    legal_6 = goes_on small_group g6 g7 ([]) (so (Stop 0) Done) rest_7 (omega arith) answer_7 e7 legal_7
+
+    legal_5 : IsLegalFrom small_group g5 ([]) rest_5
+    legal_5 = goes_on small_group g5 g6 ([]) (so (Deliver 1) Done) rest_6 tt answer_6 e6 legal_6
+
+    legal_4 : IsLegalFrom small_group g4 ([]) rest_4
+    legal_4 = goes_on small_group g4 g5 ([]) (so (Deliver 0) Done) rest_5 tt answer_5 e5 legal_5
+
+    legal_3 : IsLegalFrom small_group g3 ([]) rest_3
+    legal_3 = goes_on small_group g3 g4 ([]) (so (Submit 0 (write_at 3 fourth)) (SlotIs 4)) rest_4 (omega arith, (record { some = omega arith; few = omega arith; low = omega arith }, refl, (length_fourth, tt))) answer_4 e4 legal_4
+
+    legal_2 : IsLegalFrom small_group g2 ([]) rest_2
+    legal_2 = goes_on small_group g2 g3 ([]) (so (Submit 0 (write_at 2 third)) (SlotIs 3)) rest_3 (omega arith, (record { some = omega arith; few = omega arith; low = omega arith }, refl, (length_third, tt))) answer_3 e3 legal_3
+
+    legal_1 : IsLegalFrom small_group g1 ([]) rest_1
+    legal_1 = goes_on small_group g1 g2 ([]) (so (Submit 0 (write_at 1 second)) (SlotIs 2)) rest_2 (omega arith, (record { some = omega arith; few = omega arith; low = omega arith }, refl, (length_second, tt))) answer_2 e2 legal_2
+
+    legal_0 : IsLegalFrom small_group g0 ([]) rest_0
+    legal_0 = goes_on small_group g0 g1 ([]) (so (Submit 0 (write_at 0 first)) (SlotIs 1)) rest_1 (omega arith, (record { some = omega arith; few = omega arith; low = omega arith }, refl, (length_first, tt))) answer_1 e1 legal_1
+
+    pub legal : IsLegal small_group (ghost_slots first second third fourth fifth sixth)
+    legal = record { is_setup = is_small_group; legal = legal_0 }
