@@ -1,0 +1,85 @@
+-- The least read that passes a test, along a list.
+use Rattle.std.proofs.Common.{◌≡◌, ℕ, zero, suc, ◌+◌, ◌<◌, ◌≤◌, inl, inr, Bool, true, false, List, [], ◌∷◌, length, get_or, Option, Some, None, arith, refl, sym, ap, subst, ◌∙◌}
+use Rattle.std.proofs.lemmas.Bool.{cases_eq, ltb-true, ltb-false}
+use Rattle.std.specs.Option.{IfSome}
+use Rattle.pf_election.specs.declared.probes.Read.{Read}
+use Rattle.pf_election.specs.Reads.{IsAt, IsLeast, IsLower}
+
+-- a read at any default is the element
+pub same_at : (rows : List Read) (k : ℕ) (d e x : Read) → k < length rows → get_or rows k d ≡ x → get_or rows k e ≡ e → e ≡ x
+same_at [] k d e x lt a b = absurd (omega arith)
+same_at (y ∷ ys) zero d e x lt a b = sym b ∙ a
+same_at (y ∷ ys) (suc k) d e x lt a b = same_at ys k d e x (omega arith) a b
+
+pub element : (rows : List Read) (k : ℕ) (d : Read) → k < length rows → IsAt rows k (get_or rows k d)
+element [] k d lt = absurd (omega arith)
+element (y ∷ ys) zero d lt = refl
+element (y ∷ ys) (suc k) d lt = element ys k d (omega arith)
+
+no_test : (a : Bool) → a ≡ true → a ≡ false → ⊥
+no_test a t f = cc
+
+pub none_seen : (passes : Read → Bool) (reads : List Read) → IsLeast passes reads 0 None
+none_seen passes reads = λ r k lt at. absurd (omega arith)
+
+pub inside : (passes : Read → Bool) (reads : List Read) (n m : ℕ) (o : Option ℕ) → IsLeast passes reads n o → n ≤ m → IfSome o (λ k. k < m)
+inside passes reads n m None least le = tt
+inside passes reads n m (Some k) least le = let h : k < n = least.inside in omega arith
+
+-- one more that does not pass
+fails : (passes : Read → Bool) (reads : List Read) (n : ℕ) (x : Read) → n < length reads → x ≡ get_or reads n x → passes x ≡ false → (r : Read) (k : ℕ) → k ≡ n → IsAt reads k r → passes r ≡ false
+fails passes reads n x lt is goes r k same at =
+    ap passes (same_at reads n x r x lt (sym is) (subst (λ j. IsAt reads j r) same at)) ∙ goes
+
+pub one_passed : (passes : Read → Bool) (reads : List Read) (n : ℕ) (o : Option ℕ) (x : Read) → IsLeast passes reads n o → n < length reads → x ≡ get_or reads n x → passes x ≡ false → IsLeast passes reads (n + 1) o
+one_passed passes reads n None x none lt is goes = λ r k low at.
+    elim (cases_eq k n) [
+      | inl same ↦ fails passes reads n x lt is goes r k same at
+      | inr apart ↦ none r k (omega arith) at
+    ]
+one_passed passes reads n (Some place) x l lt is goes = record {
+  inside = let h : place < n = l.inside in omega arith;
+  here = l.here;
+  least = λ r other k at low there pass.
+      elim (cases_eq k n) [
+        | inl same ↦ absurd (no_test (passes other) pass (fails passes reads n x lt is goes other k same there))
+        | inr apart ↦ l.least r other k at (omega arith) there pass
+      ];
+}
+
+-- one more that is not lower
+pub one_higher : (passes : Read → Bool) (reads : List Read) (n : ℕ) (o : Option ℕ) (x : Read) → IsLeast passes reads n o → n < length reads → x ≡ get_or reads n x → IsLower reads n o false → IsLeast passes reads (n + 1) o
+one_higher passes reads n None x none lt is lower = absurd (no_test true refl (sym lower))
+one_higher passes reads n (Some place) x l lt is lower = record {
+  inside = let h : place < n = l.inside in omega arith;
+  here = l.here;
+  least = λ r other k at low there pass.
+      elim (cases_eq k n) [
+        | inl same ↦ ltb-false other.number r.number (sym (lower other r (subst (λ j. IsAt reads j other) same there) at))
+        | inr apart ↦ l.least r other k at (omega arith) there pass
+      ];
+}
+
+-- one more that passes and is lower
+pub one_lower : (passes : Read → Bool) (reads : List Read) (n : ℕ) (o : Option ℕ) (x : Read) → IsLeast passes reads n o → n < length reads → x ≡ get_or reads n x → passes x ≡ true → IsLower reads n o true → IsLeast passes reads (n + 1) (Some n)
+one_lower passes reads n o x l lt is pass lower = record {
+  inside = omega arith;
+  here = λ r at. ap passes (same_at reads n x r x lt (sym is) at) ∙ pass;
+  least = λ r other k at low there passes_too.
+      elim (cases_eq k n) [
+        | inl same ↦
+            let e : other.number ≡ r.number = ap (λ y. y.number) (same_at reads n r other r lt at (subst (λ j. IsAt reads j other) same there)) in
+            omega arith
+        | inr apart ↦ below passes reads n o x lt l lower r other k at (omega arith) there passes_too
+      ];
+}
+  where
+    below : (passes : Read → Bool) (reads : List Read) (n : ℕ) (o : Option ℕ) (x : Read) → n < length reads → IsLeast passes reads n o → IsLower reads n o true → (r other : Read) (k : ℕ) → IsAt reads n r → k < n → IsAt reads k other → passes other ≡ true → r.number ≤ other.number
+    below passes reads n None x lt none lower r other k at low there pass = absurd (no_test (passes other) pass (none other k low there))
+    below passes reads n (Some place) x lt l lower r other k at low there pass =
+        let inside : place < n = l.inside in
+        let p = get_or reads place x in
+        let there_it_is : IsAt reads place p = element reads place x (omega arith) in
+        let less : r.number < p.number = ltb-true r.number p.number (sym (lower r p at there_it_is)) in
+        let upto : p.number ≤ other.number = l.least p other k there_it_is low there pass in
+        omega arith

@@ -1,0 +1,29 @@
+use Rattle.std.proofs.Common.{◌+◌, sym, subst, ◌∙◌}
+use Rattle.pf_entry.specs.Sets as set
+use Rattle.pf_election.specs.Reads.{IsLeast, IsLower, is_ready}
+use Rattle.pf_election.proofs.Least.{one_passed, one_higher, one_lower}
+use Rattle.pf_election.proofs.probes.least_ready.Goals as goal
+use Rattle.pf_election.proofs.probes.least_ready.Goals.{then-is_ready+then-is_lower, else-is_ready, else-is_ready-via-then-is_ready+else-is_lower, else-is_ready-via-else-is_ready}
+
+pub loop-place-preserved : goal.loop-place-preserved
+loop-place-preserved c =
+    let test = is_ready (set.contains c.args.applied.now.slots) in
+    let reads = c.args.reads.now in
+    let place = c.loop-place.place in
+    let least = c.loop-place.least in
+    let read = c.index-reads-place.result in
+    elim c.if-is_ready.branch [
+      | then-is_ready+then-is_lower w ↦
+          subst (IsLeast test reads (place + 1)) (sym w.least-is)
+          (one_lower test reads place least read c.loop-place.invariant c.loop-place-test.true c.index-reads-place.is (sym c.is_ready.ensures ∙ w.if-is_ready.true)
+          (subst (IsLower reads place least) w.if-is_lower.true w.is_lower.ensures))
+      | else-is_ready w ↦
+          subst (IsLeast test reads (place + 1)) (sym w.least-is)
+          (elim w.else-is_ready.branch [
+            | else-is_ready-via-then-is_ready+else-is_lower v ↦
+                one_higher test reads place least read c.loop-place.invariant c.loop-place-test.true c.index-reads-place.is
+                (subst (IsLower reads place least) v.if-is_lower.false v.is_lower.ensures)
+            | else-is_ready-via-else-is_ready v ↦
+                one_passed test reads place least read c.loop-place.invariant c.loop-place-test.true c.index-reads-place.is (sym c.is_ready.ensures ∙ v.if-is_ready.false)
+          ])
+    ]

@@ -1,0 +1,10 @@
+//! What a server keeps as a candidate, and as a leader that is asked to read.
+#![tactic(auto)]
+
+mod candidacy;
+mod probes;
+#[cfg(test)]
+mod tests;
+
+pub use candidacy::Candidacy;
+pub use probes::{Probes, Read};

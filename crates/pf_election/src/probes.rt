@@ -1,0 +1,162 @@
+//! Reads at a leader that has to find out whether it still leads.
+ghost use Rattle.std.specs.Prelude.{◌≡◌, ◌<◌, ◌++◌, ◌∷◌, [], ◌&&◌, IfNone, IfSome, MatchOption, OnErr, OnOk, false, length, map};
+ghost use Rattle.std.specs.List.{list_all};
+ghost use Rattle.pf_entry.specs.Sets as set;
+ghost use Rattle.pf_election.specs.Reads.{IsLeast, IsLeastNumber, IsLower, IsTaken, NonePasses, confirm, is_above, is_ready, is_unconfirmed};
+
+use pf_base::{NoMemory, Range};
+use pf_entry::Slots;
+use pf_holes::SlotSet;
+use std::alloc::Global;
+use std::marker::Model;
+
+/// A read that has not been answered.
+#[derive(Drop)]
+pub struct Read {
+    pub number: u64,
+    pub range: Range,
+    /// The slots that were committed, but not yet applied, when it was asked.
+    pub named: Slots,
+    /// Whether another server has answered a probe that was sent for it.
+    pub confirmed: bool,
+}
+
+/// The reads of a leader that wait for an answer, in the order in which they were asked.
+///
+/// A read is answered once another server has told that it knows of no later leader (Raft: reads by an exchange of
+/// messages), and what was committed before the read is applied.
+#[derive(Drop)]
+pub struct Probes {
+    reads: Vec<Read>,
+}
+
+impl Model for Probes {
+    ghost use Rattle.std.specs.Prelude.{List};
+    ghost use Rattle.std.specs.Coded.{coded_list};
+    ghost use Rattle.pf_election.specs.declared.probes.Read.{Read};
+    ghost use Rattle.pf_election.specs.Reads.{read_code};
+
+    ghost Value = { List Read };
+
+    ghost coded = { coded_list read_code };
+
+    ghost view = { λ a. a.reads.items };
+}
+
+impl Probes {
+    /// No reads.
+    pub fn new(alloc: Global) -> Probes
+        ensures { result ≡ [] }
+    {
+        Probes {
+            reads: Vec::new(alloc),
+        }
+    }
+
+    /// A read of this number and range that waits for a probe and for the slots that it names. `NoMemory` (1) leaves
+    /// the reads as they were.
+    pub fn ask(&mut self, number: u64, range: Range, named: Slots) -> Result<(), NoMemory>
+        ensures ok { OnOk result (self.new ≡ self.old ++ record { number = number; range = range; named = named; confirmed = false } ∷ []) }
+        ensures err { OnErr result (self.new ≡ self.old) }
+    {
+        self.reads.push(Read {
+            number,
+            range,
+            named,
+            confirmed: false,
+        })?;
+        Ok(())
+    }
+
+    /// Another server has answered a probe for the read of this number.
+    pub fn confirm(&mut self, number: u64)
+        ensures { self.new ≡ map (confirm number) self.old }
+    {
+        for place in 0..self.reads.len() {
+            if self.reads[place].number == number {
+                self.reads[place].confirmed = true;
+            }
+        }
+    }
+
+    /// Takes out the least read that is confirmed and whose named slots are applied, and tells its number and range.
+    /// `None` exactly where there is none; the reads are then the same.
+    pub fn take_ready(&mut self, applied: &SlotSet) -> Option<(u64, Range)>
+        ensures least { MatchOption result (NonePasses (is_ready (set.contains applied.now.slots)) self.old) (λ r. IsTaken (is_ready (set.contains applied.now.slots)) self.old r.0 r.1 self.new) }
+        ensures same { IfNone result (self.new ≡ self.old) }
+    {
+        let place = least_ready(&self.reads, applied)?;
+        let read = self.reads.remove(place);
+        Some((read.number, read.range))
+    }
+
+    /// The least number of a read that is not confirmed, above `after` where it is given. `None` exactly where there
+    /// is none.
+    pub fn unconfirmed(&self, after: Option<u64>) -> Option<u64>
+        ensures { MatchOption result (NonePasses (is_unconfirmed after) self.now) (IsLeastNumber (is_unconfirmed after) self.now) }
+    {
+        let place = least_unconfirmed(&self.reads, after)?;
+        Some(self.reads[place].number)
+    }
+}
+
+/// The place of the least read that is ready.
+fn least_ready(reads: &[Read], applied: &SlotSet) -> Option<usize>
+    ensures { IsLeast (is_ready (set.contains applied.now.slots)) reads.now (length reads.now) result }
+{
+    let mut least = None;
+    for place in 0..reads.len() {
+        if is_ready(&reads[place], applied) && is_lower(reads, place, least) {
+            least = Some(place);
+        }
+    }
+    least
+}
+
+/// The place of the least read that is not confirmed, above `after` where it is given.
+fn least_unconfirmed(reads: &[Read], after: Option<u64>) -> Option<usize>
+    ensures { IsLeast (is_unconfirmed after) reads.now (length reads.now) result }
+{
+    let mut least = None;
+    for place in 0..reads.len() {
+        if is_unconfirmed(&reads[place], after) && is_lower(reads, place, least) {
+            least = Some(place);
+        }
+    }
+    least
+}
+
+/// Whether the read is confirmed, and every slot that it names is applied.
+fn is_ready(read: &Read, applied: &SlotSet) -> bool
+    ensures { result ≡ is_ready (set.contains applied.now.slots) read.now }
+{
+    read.confirmed && are_applied(read.named.as_slice(), applied)
+}
+
+fn are_applied(slots: &[u64], applied: &SlotSet) -> bool
+    ensures { result ≡ list_all (set.contains applied.now.slots) slots.now }
+{
+    slots.iter().all(|slot| applied.has(*slot))
+}
+
+fn is_unconfirmed(read: &Read, after: Option<u64>) -> bool
+    ensures { result ≡ is_unconfirmed after read.now }
+{
+    !read.confirmed
+        && match after {
+            Some(after) => after < read.number,
+            None => true,
+        }
+}
+
+/// Whether the read at `place` has a lower number than the least so far.
+fn is_lower(reads: &[Read], place: usize, least: Option<usize>) -> bool
+    requires place { place < length reads.now }
+    requires least { IfSome least (λ k. k < length reads.now) }
+    ensures { IsLower reads.now place least result }
+{
+    match least {
+        Some(k) => reads[place].number < reads[k].number,
+        None => true,
+    }
+}
