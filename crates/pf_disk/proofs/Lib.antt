@@ -1,0 +1,6 @@
+pub mod Disks
+pub mod Images
+pub mod Moments
+pub mod Replays
+pub mod Rooms
+pub mod Writes

@@ -1,0 +1,6 @@
+pub mod Causes
+pub mod Files
+pub mod Crashes
+pub mod Recorded
+pub mod Tapes
+pub mod Laws

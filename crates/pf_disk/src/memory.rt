@@ -1,0 +1,149 @@
+//! A disk in memory that records its calls, and so tells all that a crash may leave.
+ghost use Rattle.std.specs.Prelude.{◌≡◌, ◌⊎◌, ◌+◌, ◌≤◌, ◌<◌, ◌↔◌, ◌||◌, [], not, true, min, IfOk, IfSome, IsErr, IsTrue, IsSome, OnErr, OnOk, Some, length, vec_len};
+ghost use Rattle.pf_disk.specs.Causes.{HasCause, Rose};
+ghost use Rattle.pf_disk.specs.Crashes.{Cut, Elapses, Follows, Keeps, Only, Torn};
+ghost use Rattle.pf_disk.specs.Files.{IsRead, overwritten, reach, resized};
+ghost use Rattle.pf_disk.specs.Recorded.{IsImage, LeftSince, after_cut, after_failed_cut, after_failed_write, after_write, is_listed, next_call, settled};
+ghost use Rattle.pf_disk.specs.Tapes.{fits_cut, fits_write, has_place, state_of};
+
+use crate::files::copy_front;
+use crate::tape::Tape;
+use crate::{Disk, Failed};
+use std::alloc::{AllocError, Global};
+
+/// A disk in memory. Its calls are numbered from 0, and those that a list names fail. It records its writes, cuts and
+/// syncs, and what a crash may leave follows from the records alone. A write or a cut that the list fails changes no
+/// byte that is read, but counts as made for a crash. One that finds no room leaves no trace.
+#[derive(Drop)]
+pub struct MemDisk {
+    tape: Tape,
+    calls: u64,
+    failing: Vec<u64>,
+    faults: u64,
+}
+
+impl MemDisk {
+    /// An empty disk. `room` is in bytes, of the file and of all that is written together; `calls` is how many writes,
+    /// cuts and syncs it can record. All memory is taken here. The calls whose numbers are listed fail: the first call
+    /// has number 0. So does a call that finds no room.
+    pub fn new(alloc: Global, room: u64, calls: u64, failing: Vec<u64>) -> Result<MemDisk, AllocError>
+        ensures state { IfOk result (λ disk. state_of disk.tape ≡ settled []) }
+        ensures room { IfOk result (λ disk. disk.tape.room ≡ room) }
+        ensures places { IfOk result (λ disk. disk.tape.places ≡ calls) }
+        ensures faults { IfOk result (λ disk. disk.faults ≡ 0) }
+        ensures calls { IfOk result (λ disk. disk.calls ≡ 0) }
+        ensures failing { IfOk result (λ disk. disk.failing ≡ failing) }
+    {
+        Ok(MemDisk {
+            tape: Tape::new(alloc, room as usize, calls as usize)?,
+            calls: 0,
+            failing,
+            faults: 0,
+        })
+    }
+
+    /// What it reads.
+    pub fn bytes(&self) -> &[u8]
+        ensures { Some result.now ≡ ⟦<MemDisk as Disk>⟧.seen self.now }
+    {
+        &self.tape.bytes
+    }
+
+    /// Counts a call, and tells whether it is one of those that are to fail.
+    fn begin(&mut self) -> bool
+        ensures listed { result ≡ is_listed self.old.failing.items self.old.calls }
+        ensures tape { self.new.tape ≡ self.old.tape }
+        ensures calls { self.new.calls ≡ next_call self.old.calls }
+        ensures failing { self.new.failing ≡ self.old.failing }
+        ensures faults { self.new.faults ≡ self.old.faults }
+    {
+        let fails = self.failing.contains(&self.calls);
+        self.calls = self.calls.saturating_add(1);
+        fails
+    }
+
+    /// Counts a call that fails.
+    fn fail(&mut self) -> Failed
+        ensures tape { self.new.tape ≡ self.old.tape }
+        ensures calls { self.new.calls ≡ self.old.calls }
+        ensures failing { self.new.failing ≡ self.old.failing }
+        ensures later { self.old.faults ≤ self.new.faults }
+        ensures rose { Rose self.old.faults self.new.faults }
+    {
+        self.faults = self.faults.saturating_add(1);
+        Failed
+    }
+}
+
+impl Disk for MemDisk {
+    ghost use Rattle.pf_disk.specs.Laws.{no_other, now};
+
+    ghost seen = { λ d. Some d.tape.bytes.items };
+
+    ghost may_leave = { λ d. IsImage (state_of d.tape) };
+
+    ghost moment = { λ d. length d.tape.records.items };
+
+    ghost left_since = { λ d. LeftSince d.tape.base.items d.tape.records.items d.tape.written.items };
+
+    ghost tells_moments = { true };
+
+    ghost faults = { λ d. d.faults };
+
+    ghost among = { λ d. d.tape.image };
+
+    ghost counts_now = { λ d t c le image. now d.tape.base.items d.tape.records.items d.tape.written.items t c le image };
+
+    ghost only_now = { λ told d c left. no_other d.tape.base.items d.tape.records.items d.tape.written.items c left };
+
+    fn len(&mut self) -> Result<u64, Failed> {
+        if self.begin() {
+            return Err(self.fail());
+        }
+        Ok(self.tape.bytes.len() as u64)
+    }
+
+    fn read(&mut self, at: u64, buf: &mut [u8]) -> Result<usize, Failed> {
+        if self.begin() {
+            return Err(self.fail());
+        }
+        if at >= self.tape.bytes.len() as u64 {
+            return Ok(0);
+        }
+        Ok(copy_front(&self.tape.bytes[at as usize..], buf))
+    }
+
+    fn write_at(&mut self, at: u64, bytes: &[u8]) -> Result<(), Failed> {
+        let fails = self.begin();
+        if !self.tape.fits_write(at, bytes.len()) {
+            return Err(self.fail());
+        }
+        if fails {
+            self.tape.fail_write(at as usize, bytes.len());
+            return Err(self.fail());
+        }
+        self.tape.write(at as usize, bytes);
+        Ok(())
+    }
+
+    fn cut(&mut self, len: u64) -> Result<(), Failed> {
+        let fails = self.begin();
+        if !self.tape.fits_cut(len) {
+            return Err(self.fail());
+        }
+        if fails {
+            self.tape.fail_cut(len as usize);
+            return Err(self.fail());
+        }
+        self.tape.cut(len as usize);
+        Ok(())
+    }
+
+    fn sync(&mut self) -> Result<(), Failed> {
+        if self.begin() || !self.tape.has_place() {
+            return Err(self.fail());
+        }
+        self.tape.sync();
+        Ok(())
+    }
+}

@@ -1,0 +1,108 @@
+//! A file in memory of which a crash leaves what it reads.
+ghost use Rattle.std.specs.Prelude.{◌≡◌, ◌⊎◌, ◌+◌, ◌≤◌, ◌<◌, ◌↔◌, [], false, IfOk, IsErr, Some, length, vec_capacity, vec_len};
+ghost use Rattle.pf_disk.specs.Causes.{Rose};
+
+use crate::files::{copy_front, overwrite, resize};
+use crate::{Disk, Failed};
+use std::alloc::{AllocError, Global};
+
+/// A disk in memory. Its calls are done at once, and fail only past its room. It does not tell what a crash inside a
+/// call leaves.
+#[derive(Drop)]
+pub struct RamDisk {
+    bytes: Vec<u8>,
+    room: usize,
+    faults: u64,
+    ghost filled: { vec_len bytes ≤ room },
+    ghost reserved: { room ≤ vec_capacity bytes },
+}
+
+impl RamDisk {
+    /// An empty disk with room for so many bytes, which is taken here.
+    pub fn new(alloc: Global, room: u64) -> Result<RamDisk, AllocError>
+        ensures seen { IfOk result (λ disk. ⟦<RamDisk as Disk>⟧.seen disk ≡ Some []) }
+        ensures room { IfOk result (λ disk. disk.room ≡ room) }
+        ensures faults { IfOk result (λ disk. ⟦<RamDisk as Disk>⟧.faults disk ≡ 0) }
+    {
+        let room = room as usize;
+        Ok(RamDisk {
+            bytes: Vec::with_capacity(alloc, room)?,
+            room,
+            faults: 0,
+        })
+    }
+
+    /// What it reads.
+    pub fn bytes(&self) -> &[u8]
+        ensures { Some result.now ≡ ⟦<RamDisk as Disk>⟧.seen self.now }
+    {
+        &self.bytes
+    }
+
+    /// Counts a call that fails.
+    fn fail(&mut self) -> Failed
+        ensures bytes { self.new.bytes ≡ self.old.bytes }
+        ensures room { self.new.room ≡ self.old.room }
+        ensures later { self.old.faults ≤ self.new.faults }
+        ensures rose { Rose self.old.faults self.new.faults }
+    {
+        self.faults = self.faults.saturating_add(1);
+        Failed
+    }
+}
+
+impl Disk for RamDisk {
+    ghost use Rattle.std.specs.Prelude.{refl};
+    ghost use Rattle.std.proofs.Common.{inl};
+
+    ghost seen = { λ d. Some d.bytes.items };
+
+    ghost may_leave = { λ d c. c ≡ d.bytes.items };
+
+    ghost moment = { λ _. 0 };
+
+    ghost left_since = { λ _ _ _. Unit {0} };
+
+    ghost tells_moments = { false };
+
+    ghost faults = { λ d. d.faults };
+
+    ghost among = { λ d. refl };
+
+    ghost counts_now = { λ d t c le left. tt };
+
+    ghost only_now = { λ told. Prim.cc told };
+
+    fn len(&mut self) -> Result<u64, Failed> {
+        Ok(self.bytes.len() as u64)
+    }
+
+    fn read(&mut self, at: u64, buf: &mut [u8]) -> Result<usize, Failed> {
+        if at >= self.bytes.len() as u64 {
+            return Ok(0);
+        }
+        Ok(copy_front(&self.bytes[at as usize..], buf))
+    }
+
+    fn write_at(&mut self, at: u64, bytes: &[u8]) -> Result<(), Failed> {
+        let room = self.room as u64;
+        let fits = bytes.is_empty() || (at <= room && bytes.len() as u64 <= room - at);
+        if !fits {
+            return Err(self.fail());
+        }
+        overwrite(&mut self.bytes, at as usize, bytes);
+        Ok(())
+    }
+
+    fn cut(&mut self, len: u64) -> Result<(), Failed> {
+        if len > self.room as u64 {
+            return Err(self.fail());
+        }
+        resize(&mut self.bytes, len as usize);
+        Ok(())
+    }
+
+    fn sync(&mut self) -> Result<(), Failed> {
+        Ok(())
+    }
+}
