@@ -1,5 +1,5 @@
 -- What one call of a disk that records its calls may leave.
-use Rattle.std.proofs.Common.{◌≡◌, ℕ, min, List, [], length, refl, sym, ◌∙◌, ap, subst}
+use Rattle.std.proofs.Common.{◌≡◌, ℕ, min, List, length, refl, sym, ◌∙◌, ap, subst}
 use Rattle.pf_disk.specs.declared.tape.Record.{Record}
 use Rattle.pf_disk.specs.declared.tape.Tape.{Tape}
 use Rattle.pf_disk.specs.Crashes.{Torn, Cut, Follows, Keeps, Only, Elapses}
@@ -18,7 +18,7 @@ module _ (old begun new now : Tape) (is_begun : begun ≡ old) (is_now : now ≡
       → Elapses (length old.records.items) (length now.records.items) (LeftSince old.base.items old.records.items old.written.items) (LeftSince now.base.items now.records.items now.written.items) (IsImage (state_of now))
   time last bytes adds =
       let Goes : Tape → Tape → Type 0 = λ a b.
-          Elapses (length a.records.items) (length b.records.items) (LeftSince a.base.items a.records.items a.written.items) (LeftSince b.base.items b.records.items b.written.items) (IsImage (state_of b)) in
+      Elapses (length a.records.items) (length b.records.items) (LeftSince a.base.items a.records.items a.written.items) (LeftSince b.base.items b.records.items b.written.items) (IsImage (state_of b)) in
       subst (λ (a : Tape). Goes a now) is_begun (subst (λ (b : Tape). Goes begun b) (sym is_now) (goes_on begun new last bytes adds))
 
   pub failed_write : (at count : ℕ) → state_of new ≡ after_failed_write (state_of begun) at count → Follows (Torn (min (length old.bytes.items) at) (reach at count)) (IsImage (state_of old)) (IsImage (state_of now))

@@ -1,7 +1,6 @@
 -- What a crash may leave after one call more, by what it might have left before.
-use Rattle.std.proofs.Common.{◌≡◌, ◌⊎◌, inl, inr, ℕ, zero, suc, ◌+◌, ◌<◌, ◌≤◌, min, max, Bool, true, false, ◌&&◌, ◌||◌, nat_le, nat_lt, List, [], ◌∷◌, ◌++◌, length, take, drop, get_or, subst, refl, sym, ◌∙◌, ap, arith}
+use Rattle.std.proofs.Common.{◌≡◌, ◌⊎◌, inl, inr, ℕ, zero, suc, ◌<◌, ◌≤◌, min, max, Bool, true, false, ◌&&◌, ◌||◌, nat_le, nat_lt, List, [], ◌∷◌, ◌++◌, length, take, drop, get_or, subst, refl, sym, ◌∙◌, ap, arith}
 use Rattle.std.specs.Prelude.{if◌then◌else◌}
-use Rattle.std.specs.List.{list_any}
 use Rattle.std.proofs.lemmas.List.{ext_get_or}
 use Rattle.std.proofs.lemmas.List.Folds.{list_any-append}
 use Rattle.std.proofs.lemmas.Bool.Decides.{nat_tests, leb_tells}
@@ -150,21 +149,27 @@ before s low from to c ends image =
 -- what the calls of a disk may leave
 pub write_follows : (s : State) (at count : ℕ) → IsImage s s.file → Follows (Torn (min (length s.file) at) (reach at count)) (IsImage s) (IsImage (after_failed_write s at count))
 write_follows s at count image c left =
-    let b = before s s.least (min (length s.file) at) (reach at count) c (omega (arith, image.no_shorter, image.no_longer)) left in
-    (b.old, b.image, record {
-      no_shorter = omega (arith, b.size, left.no_shorter, image.no_shorter, image.no_longer);
-      no_longer = omega (arith, b.size, left.no_longer);
-      same = λ k lt out. b.same k lt (omega (arith, lt, b.size, left.no_shorter, image.no_shorter, image.no_longer)) out;
-    })
+    let b = before s s.least (min (length s.file) at) (reach at count) c (omega (arith, image.no_shorter, image.no_longer)) left in (
+      b.old,
+      b.image,
+      record {
+        no_shorter = omega (arith, b.size, left.no_shorter, image.no_shorter, image.no_longer);
+        no_longer = omega (arith, b.size, left.no_longer);
+        same = λ k lt out. b.same k lt (omega (arith, lt, b.size, left.no_shorter, image.no_shorter, image.no_longer)) out;
+      },
+    )
 
 pub cut_follows : (s : State) (len : ℕ) → IsImage s s.file → Follows (Cut (length s.file) len) (IsImage s) (IsImage (after_failed_cut s len))
 cut_follows s len image c left =
-    let b = before s len (length s.file) len c (omega (arith, image.no_shorter, image.no_longer)) left in
-    (b.old, b.image, record {
-      no_shorter = omega (arith, b.size, left.no_shorter, image.no_shorter, image.no_longer);
-      no_longer = omega (arith, b.size, left.no_longer, image.no_shorter, image.no_longer);
-      same = b.same;
-    })
+    let b = before s len (length s.file) len c (omega (arith, image.no_shorter, image.no_longer)) left in (
+      b.old,
+      b.image,
+      record {
+        no_shorter = omega (arith, b.size, left.no_shorter, image.no_shorter, image.no_longer);
+        no_longer = omega (arith, b.size, left.no_longer, image.no_shorter, image.no_longer);
+        same = b.same;
+      },
+    )
 
 -- the end and the bytes of an image do not depend on what is read
 pub of_written : (s : State) (at : ℕ) (bytes c : List ℕ) → IsImage (after_write s at bytes) c → IsImage (after_failed_write s at (length bytes)) c
@@ -183,3 +188,11 @@ cut_none end len old c left = (c, left, record { no_shorter = omega arith; no_lo
 -- a sync keeps one of the images
 pub settled_keeps : (s : State) (file c : List ℕ) → IsImage s file → IsImage (settled file) c → IsImage s c
 settled_keeps s file c image left = subst (λ (l : List ℕ). IsImage s l) (sym (only_file file c left)) image
+
+-- other bytes where something was written
+pub scrambled : (s : State) (file new : List ℕ) → IsImage s file → length new ≡ length file → ((k : ℕ) → is_touched s.touched k ≡ false → get_or new k 0 ≡ get_or file k 0) → IsImage s new
+scrambled s file new image size keeps = record {
+  no_shorter = omega (arith, size, image.no_shorter);
+  no_longer = omega (arith, size, image.no_longer);
+  same = λ k lt lt' none. keeps k none ∙ image.same k (omega (arith, lt, size)) lt' none;
+}

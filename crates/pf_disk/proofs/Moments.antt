@@ -1,5 +1,5 @@
 -- Time goes on by one recorded call, or by none.
-use Rattle.std.proofs.Common.{◌≡◌, ◌⊎◌, inl, inr, ℕ, ◌+◌, ◌<◌, ◌≤◌, List, [], ◌∷◌, ◌++◌, length, take, sym, ◌∙◌, ap, subst, arith}
+use Rattle.std.proofs.Common.{◌≡◌, ◌⊎◌, inl, inr, ℕ, ◌+◌, ◌≤◌, List, [], ◌∷◌, ◌++◌, length, take, sym, ◌∙◌, ap, subst, arith}
 use Rattle.std.proofs.lemmas.Bool.Decides.{leb_tells}
 use Rattle.std.proofs.lemmas.List.{length_push, take-append-le, take_all}
 use Rattle.pf_disk.specs.declared.tape.Record.{Record}
@@ -24,11 +24,13 @@ one base records written last bytes counts = record { later = omega (arith, more
   where
     more : length (records ++ last ∷ []) ≡ length records + 1
     more = length_push records last
+
     else_ : (t : ℕ) (c : List ℕ) → t ≤ length records → LeftSince base (records ++ last ∷ []) (written ++ bytes) t c → LeftSince base records written t c ⊎ IsImage (replayed (settled base) (records ++ last ∷ []) (written ++ bytes)) c
     else_ t c le (k, from, to, image) = elim (leb_tells k (length records)) [
       | inl early ↦ inl (k, from, early.1, subst (λ (s : State). IsImage s c) (front base records written last bytes k counts early.1) image)
       | inr late ↦ inr (subst (λ (rs : List Record). IsImage (replayed (settled base) rs (written ++ bytes)) c) (take_all k (records ++ last ∷ []) (omega (arith, late, more))) image)
     ]
+
     keep : (t : ℕ) (c : List ℕ) → t ≤ length records → LeftSince base records written t c → LeftSince base (records ++ last ∷ []) (written ++ bytes) t c
     keep t c le (k, from, to, image) = (k, from, omega (arith, to, more), subst (λ (s : State). IsImage s c) (sym (front base records written last bytes k counts to)) image)
 
@@ -38,9 +40,9 @@ pub goes_on : (old new : Tape) (last : Record) (bytes : List ℕ) → Adds old n
 goes_on old new last bytes adds =
     let counts : count_written old.records.items ≡ length old.written.items = omega (arith, old.counts, old.written.ok) in
     let Goes : List ℕ → List Record → List ℕ → Type 0 = λ base records written.
-        Elapses (length old.records.items) (length records) (LeftSince old.base.items old.records.items old.written.items) (LeftSince base records written) (IsImage (replayed (settled base) records written)) in
+    Elapses (length old.records.items) (length records) (LeftSince old.base.items old.records.items old.written.items) (LeftSince base records written) (IsImage (replayed (settled base) records written)) in
     let start : Goes old.base.items (old.records.items ++ last ∷ []) (old.written.items ++ bytes) = one old.base.items old.records.items old.written.items last bytes counts in
     let with_base : Goes new.base.items (old.records.items ++ last ∷ []) (old.written.items ++ bytes) =
-        subst (λ (b : List ℕ). Goes b (old.records.items ++ last ∷ []) (old.written.items ++ bytes)) (sym adds.base) start in
+    subst (λ (b : List ℕ). Goes b (old.records.items ++ last ∷ []) (old.written.items ++ bytes)) (sym adds.base) start in
     let with_records : Goes new.base.items new.records.items (old.written.items ++ bytes) = subst (λ (rs : List Record). Goes new.base.items rs (old.written.items ++ bytes)) (sym adds.records) with_base in
     subst (λ (w : List ℕ). Goes new.base.items new.records.items w) (sym adds.written) with_records

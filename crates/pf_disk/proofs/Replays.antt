@@ -1,6 +1,6 @@
 -- What one recorded call more makes of a replay.
-use Rattle.std.proofs.Common.{◌≡◌, ℕ, zero, suc, ◌+◌, ◌-◌, ◌<◌, ◌≤◌, List, [], ◌∷◌, ◌++◌, length, take, drop, refl, sym, ◌∙◌, ap, arith, add_assoc, length-drop}
-use Rattle.std.proofs.lemmas.List.{append-nil, take-append-le, drop-append-le}
+use Rattle.std.proofs.Common.{◌≡◌, ℕ, zero, suc, ◌+◌, ◌≤◌, List, [], ◌∷◌, ◌++◌, length, take, drop, refl, ◌∙◌, ap, arith, length-drop}
+use Rattle.std.proofs.lemmas.List.{take-append-le, drop-append-le}
 use Rattle.pf_disk.specs.declared.tape.Record.{Record}
 use Rattle.pf_disk.specs.declared.tape.Record.TheVariants.{Write, Cut, Sync, FailedWrite, FailedCut}
 use Rattle.pf_disk.specs.Recorded.{State, settled, after_write, after_cut, after_failed_write, after_failed_cut, replayed, count_written}

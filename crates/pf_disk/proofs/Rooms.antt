@@ -1,5 +1,5 @@
 -- What the tests of a tape tell.
-use Rattle.std.proofs.Common.{◌≡◌, ℕ, ◌+◌, ◌<◌, ◌≤◌, IsTrue, vec_len, arith}
+use Rattle.std.proofs.Common.{ℕ, ◌+◌, ◌<◌, ◌≤◌, IsTrue, vec_len, arith}
 use Rattle.std.proofs.lemmas.Bool.Decides.{nat_tests}
 use Rattle.pf_disk.specs.Files.{reach}
 use Rattle.pf_disk.specs.declared.tape.Tape.{Tape}

@@ -2,7 +2,6 @@
 use Rattle.std.proofs.Common.{◌≡◌, ◌⊎◌, inl, inr, ℕ, zero, suc, ◌+◌, ◌-◌, ◌<◌, ◌≤◌, min, max, List, [], ◌∷◌, ◌++◌, length, take, drop, get_or, Result, Ok, Err, IsOk, is_ok, refl, sym, ◌∙◌, ap, arith, append_assoc, length-append, length-drop, length-take, take-append-drop}
 use Rattle.std.specs.Prelude.{if◌then◌else◌}
 use Rattle.std.proofs.lemmas.List.{append-nil, take-append-le, get_or_append_left, get_or-append_right, get_or-take, get_or-drop, take_at, take_all, drop_all, drop-drop, length-replicate, replicate-append-replicate, replicate_more}
-
 use Rattle.std.proofs.Math.ListN.{replicate}
 use Rattle.std.proofs.lemmas.Bool.Decides.{nat_tests, leb_tells}
 use borrow.Rule.Slice.PartMut.{put_mid}
@@ -59,21 +58,25 @@ overwritten_is file whole bytes at over some is so = elim (leb_tells (at + lengt
   where
     reaches : reach at (length bytes) ≡ at + length bytes
     reaches = grind (arith, nat_tests)
+
     size : length whole ≡ length file + (at - length file)
     size = ap length is ∙ length-grown file at
+
     on : whole ++ replicate (at + length bytes - length whole) 0 ≡ grown file (reach at (length bytes))
     on = ap (λ (l : List ℕ). l ++ replicate (at + length bytes - length l) 0) is ∙ sym (grown_on file at (at + length bytes) (omega arith)) ∙ ap (λ (k : ℕ). grown file k) (sym reaches)
+
     here : at + length bytes ≤ length whole → put_mid at over whole (take over bytes) ++ drop over bytes ≡ overwritten file at bytes
     here fits =
         let no_more : at + length bytes - length whole ≡ 0 = omega arith in
         let same : whole ≡ grown file (reach at (length bytes)) = sym (append-nil whole) ∙ ap (λ (k : ℕ). whole ++ replicate k 0) (sym no_more) ∙ on in
         inside whole bytes at over (omega arith) ∙ ap (λ (l : List ℕ). replaced l at bytes) same
+
     there : length whole < at + length bytes → put_mid at over whole (take over bytes) ++ drop over bytes ≡ overwritten file at bytes
     there beyond =
         let zeros = replicate (at + length bytes - length whole) 0 in
         let front : take at (whole ++ zeros) ≡ take at whole = take-append-le at whole zeros (omega (arith, size)) in
         let none : drop (at + length bytes) (whole ++ zeros) ≡ [] =
-            drop_all (at + length bytes) (whole ++ zeros) (omega (arith, length-append whole zeros, length-replicate {A = ℕ} (at + length bytes - length whole) 0)) in
+        drop_all (at + length bytes) (whole ++ zeros) (omega (arith, length-append whole zeros, length-replicate {A = ℕ} (at + length bytes - length whole) 0)) in
         past whole bytes at over (omega arith)
         ∙ sym (append-nil (take at whole ++ bytes))
         ∙ ap (λ (l : List ℕ). l ++ bytes ++ []) (sym front)
@@ -109,8 +112,14 @@ pub length-overwritten : (file : List ℕ) (at : ℕ) (bytes : List ℕ) → len
 length-overwritten file at bytes = elim (reach_told at (length bytes)) [ inl none ↦ omega (arith, sizes, none) | inr some ↦ omega (arith, sizes, some) ]
   where
     sizes : (length (overwritten file at bytes) ≡ min at (length file + (reach at (length bytes) - length file)) + length bytes + (length file + (reach at (length bytes) - length file) - (at + length bytes)))
-    sizes = omega (arith, length-append (take at (grown file (reach at (length bytes))) ++ bytes) (drop (at + length bytes) (grown file (reach at (length bytes)))), length-append (take at (grown file (reach at (length bytes)))) bytes,
-        length-take at (grown file (reach at (length bytes))), length-drop (at + length bytes) (grown file (reach at (length bytes))), length-grown file (reach at (length bytes)))
+    sizes = omega (
+      arith,
+      length-append (take at (grown file (reach at (length bytes))) ++ bytes) (drop (at + length bytes) (grown file (reach at (length bytes)))),
+      length-append (take at (grown file (reach at (length bytes)))) bytes,
+      length-take at (grown file (reach at (length bytes))),
+      length-drop (at + length bytes) (grown file (reach at (length bytes))),
+      length-grown file (reach at (length bytes)),
+    )
 
 -- what a write and a cut leave alone
 pub kept_by_write : (file : List ℕ) (at : ℕ) (bytes : List ℕ) (k : ℕ) → k < length file → (k < at) ⊎ (reach at (length bytes) ≤ k) → get_or (overwritten file at bytes) k 0 ≡ get_or file k 0
@@ -127,12 +136,15 @@ kept_by_write file at bytes k in_file where_ =
 -- what a disk that does each call at once leaves is an image from before
 pub write_at_once : (file : List ℕ) (at : ℕ) (bytes : List ℕ) → Follows (Torn (min (length file) at) (reach at (length bytes))) (λ c. c ≡ file) (λ c. c ≡ overwritten file at bytes)
 write_at_once file at bytes c is =
-    let size : length c ≡ max (length file) (reach at (length bytes)) = ap length is ∙ length-overwritten file at bytes in
-    (file, refl, record {
-      no_shorter = omega (arith, size);
-      no_longer = omega (arith, size);
-      same = λ k lt out. ap (λ (l : List ℕ). get_or l k 0) is ∙ kept_by_write file at bytes k lt (elim out [ inl before ↦ inl (omega (arith, before)) | inr after ↦ inr after ]);
-    })
+    let size : length c ≡ max (length file) (reach at (length bytes)) = ap length is ∙ length-overwritten file at bytes in (
+      file,
+      refl,
+      record {
+        no_shorter = omega (arith, size);
+        no_longer = omega (arith, size);
+        same = λ k lt out. ap (λ (l : List ℕ). get_or l k 0) is ∙ kept_by_write file at bytes k lt (elim out [ inl before ↦ inl (omega (arith, before)) | inr after ↦ inr after ]);
+      },
+    )
 
 -- a part of a buffer that was written in place
 pub written_back : (items now copied front : List ℕ) (at k over len : ℕ) → now ≡ items → k ≡ over → copied ≡ front → length items ≡ len → at + over ≤ len → length front ≡ over
@@ -140,7 +152,7 @@ pub written_back : (items now copied front : List ℕ) (at k over len : ℕ) →
 written_back items now copied front at k over len is-now is-k is-copied size fits is-front =
     let same : put_mid at k now copied ≡ put_mid at over items front = λ i. put_mid at (is-k i) (is-now i) (is-copied i) in
     let all : length (put_mid at over items front) ≡ len =
-        omega (arith, length-append (take at items) (front ++ drop over (drop at items)), length-append front (drop over (drop at items)), length-take at items, length-drop over (drop at items), length-drop at items) in
+    omega (arith, length-append (take at items) (front ++ drop over (drop at items)), length-append front (drop over (drop at items)), length-take at items, length-drop over (drop at items), length-drop at items) in
     ap (λ (l : List ℕ). take len (l ++ drop (length l) items)) same ∙ take_at (put_mid at over items front) (drop (length (put_mid at over items front)) items) len all
 
 -- a cut in two steps

@@ -1,5 +1,5 @@
 -- The moments of a disk that records its calls.
-use Rattle.std.proofs.Common.{ℕ, ◌≤◌, List, length, take, sym, subst, arith}
+use Rattle.std.proofs.Common.{ℕ, ◌≤◌, List, length, sym, subst, arith}
 use Rattle.std.proofs.lemmas.List.{take_all}
 use Rattle.pf_disk.specs.declared.tape.Record.{Record}
 use Rattle.pf_disk.specs.Recorded.{IsImage, LeftSince, replayed, settled}

@@ -1,5 +1,5 @@
 -- A file with a record of its calls.
-use Rattle.std.specs.Prelude.{ℕ, ◌+◌, ◌≤◌, ◌≡◌, ◌&&◌, nat_le, nat_lt, Bool, List, [], ◌∷◌, ◌++◌, length, vec_len}
+use Rattle.std.specs.Prelude.{ℕ, ◌+◌, ◌≡◌, ◌&&◌, nat_le, nat_lt, Bool, List, [], ◌∷◌, ◌++◌, vec_len}
 use Rattle.pf_disk.specs.Files.{reach}
 use Rattle.pf_disk.specs.Recorded.{State, replayed, settled}
 use Rattle.pf_disk.specs.declared.tape.Record.{Record}

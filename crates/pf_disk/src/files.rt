@@ -1,5 +1,6 @@
 //! Writes and cuts of a file's bytes in memory, within room that was taken before.
-ghost use Rattle.std.specs.Prelude.{◌≡◌, ◌+◌, ◌-◌, ◌≤◌, ◌<◌, ◌^◌, ◌++◌, drop, length, max, min, take, vec_capacity, vec_len};
+ghost use Rattle.std.specs.Prelude.{◌≡◌, ◌+◌, ◌-◌, ◌≤◌, ◌<◌, ◌^◌, ◌++◌, ℕ, false, slice_index, drop, length, max, min, take, vec_capacity, vec_len};
+ghost use Rattle.pf_disk.specs.Recorded.{is_touched};
 ghost use Rattle.pf_disk.specs.Files.{grown, overwritten, resized, reach};
 
 /// Copies a front of `from` that fits into `to`, and answers its length.
@@ -54,4 +55,33 @@ pub fn resize(file: &mut Vec<u8>, len: usize)
 {
     file.truncate(len);
     grow(file, len);
+}
+
+/// Whether one of the ranges holds the place.
+fn is_marked(ranges: &[(usize, usize)], place: usize) -> bool
+    ensures { result ≡ is_touched ranges.now place }
+{
+    ranges
+        .iter()
+        .any(|range| range.0 <= place && place < range.1)
+}
+
+/// The next number of the generator x -> x * 6364136223846793005 + 1442695040888963407 mod 2^64.
+fn next_number(number: u64) -> u64 {
+    number
+        .wrapping_mul(6_364_136_223_846_793_005)
+        .wrapping_add(1_442_695_040_888_963_407)
+}
+
+/// Puts the top bytes of the generator's numbers, started at `seed`, into all places that one of the ranges holds.
+pub fn scramble(bytes: &mut [u8], ranges: &[(usize, usize)], seed: u64)
+    ensures { (k : ℕ) → is_touched ranges.now k ≡ false → slice_index bytes.new k ≡ slice_index bytes.old k }
+{
+    let mut number = seed;
+    for place in 0..bytes.len() {
+        if is_marked(ranges, place) {
+            number = next_number(number);
+            bytes[place] = (number >> 56) as u8;
+        }
+    }
 }

@@ -11,5 +11,5 @@ pub use disk::{Disk, Failed};
 pub use memory::MemDisk;
 pub use ram::RamDisk;
 
-//#[cfg(test)]
-//mod tests;
+#[cfg(test)]
+mod tests;

@@ -26,7 +26,12 @@ impl MemDisk {
     /// An empty disk. `room` is in bytes, of the file and of all that is written together; `calls` is how many writes,
     /// cuts and syncs it can record. All memory is taken here. The calls whose numbers are listed fail: the first call
     /// has number 0. So does a call that finds no room.
-    pub fn new(alloc: Global, room: u64, calls: u64, failing: Vec<u64>) -> Result<MemDisk, AllocError>
+    pub fn new(
+        alloc: Global,
+        room: u64,
+        calls: u64,
+        failing: Vec<u64>,
+    ) -> Result<MemDisk, AllocError>
         ensures state { IfOk result (λ disk. state_of disk.tape ≡ settled []) }
         ensures room { IfOk result (λ disk. disk.tape.room ≡ room) }
         ensures places { IfOk result (λ disk. disk.tape.places ≡ calls) }
@@ -47,6 +52,21 @@ impl MemDisk {
         ensures { Some result.now ≡ ⟦<MemDisk as Disk>⟧.seen self.now }
     {
         &self.tape.bytes
+    }
+
+    /// Crashes, and takes no memory: each byte that a crash now may change becomes the top byte of the next number of
+    /// the generator x -> x * 6364136223846793005 + 1442695040888963407 mod 2^64, started at `seed`. The file ends where
+    /// it did. The records begin anew, so that all room is free but that of the bytes.
+    pub fn crash(&mut self, seed: u64)
+        ensures image { ⟦<MemDisk as Disk>⟧.may_leave self.old self.new.tape.bytes.items }
+        ensures only { Only self.new.tape.bytes.items (⟦<MemDisk as Disk>⟧.may_leave self.new) }
+        ensures room { self.new.tape.room ≡ self.old.tape.room }
+        ensures places { self.new.tape.places ≡ self.old.tape.places }
+        ensures calls { self.new.calls ≡ self.old.calls }
+        ensures failing { self.new.failing ≡ self.old.failing }
+        ensures faults { self.new.faults ≡ self.old.faults }
+    {
+        self.tape.crash(seed);
     }
 
     /// Counts a call, and tells whether it is one of those that are to fail.
@@ -96,14 +116,37 @@ impl Disk for MemDisk {
 
     ghost only_now = { λ told d c left. no_other d.tape.base.items d.tape.records.items d.tape.written.items c left };
 
-    fn len(&mut self) -> Result<u64, Failed> {
+    fn len(&mut self) -> Result<u64, Failed>
+        ensures length { IfOk result (λ len. len ≡ length self.old.tape.bytes.items) }
+        ensures seen { Some self.new.tape.bytes.items ≡ Some self.old.tape.bytes.items }
+        ensures crash { Keeps (IsImage (state_of self.old.tape)) (IsImage (state_of self.new.tape)) }
+        ensures time { Elapses (length self.old.tape.records.items) (length self.new.tape.records.items) (LeftSince self.old.tape.base.items self.old.tape.records.items self.old.tape.written.items) (LeftSince self.new.tape.base.items self.new.tape.records.items self.new.tape.written.items) (IsImage (state_of self.new.tape)) }
+        ensures cause { HasCause self.old.faults self.new.faults result }
+        // Exactly a call that is listed fails, or that finds no room.
+        ensures fails { IsErr result ↔ IsTrue (is_listed self.old.failing.items self.old.calls) }
+        ensures calls { self.new.calls ≡ next_call self.old.calls }
+        ensures failing { self.new.failing ≡ self.old.failing }
+        ensures tape { self.new.tape ≡ self.old.tape }
+    {
         if self.begin() {
             return Err(self.fail());
         }
         Ok(self.tape.bytes.len() as u64)
     }
 
-    fn read(&mut self, at: u64, buf: &mut [u8]) -> Result<usize, Failed> {
+    fn read(&mut self, at: u64, buf: &mut [u8]) -> Result<usize, Failed>
+        ensures bound { IfOk result (λ count. count ≤ length buf.new) }
+        ensures bytes { IfOk result (λ count. IsRead self.old.tape.bytes.items at (length buf.new) count buf.new) }
+        ensures seen { Some self.new.tape.bytes.items ≡ Some self.old.tape.bytes.items }
+        ensures crash { Keeps (IsImage (state_of self.old.tape)) (IsImage (state_of self.new.tape)) }
+        ensures time { Elapses (length self.old.tape.records.items) (length self.new.tape.records.items) (LeftSince self.old.tape.base.items self.old.tape.records.items self.old.tape.written.items) (LeftSince self.new.tape.base.items self.new.tape.records.items self.new.tape.written.items) (IsImage (state_of self.new.tape)) }
+        ensures cause { HasCause self.old.faults self.new.faults result }
+        // Exactly a call that is listed fails, or that finds no room.
+        ensures fails { IsErr result ↔ IsTrue (is_listed self.old.failing.items self.old.calls) }
+        ensures calls { self.new.calls ≡ next_call self.old.calls }
+        ensures failing { self.new.failing ≡ self.old.failing }
+        ensures tape { self.new.tape ≡ self.old.tape }
+    {
         if self.begin() {
             return Err(self.fail());
         }
@@ -113,7 +156,19 @@ impl Disk for MemDisk {
         Ok(copy_front(&self.tape.bytes[at as usize..], buf))
     }
 
-    fn write_at(&mut self, at: u64, bytes: &[u8]) -> Result<(), Failed> {
+    fn write_at(&mut self, at: u64, bytes: &[u8]) -> Result<(), Failed>
+        ensures written { OnOk result (Some self.new.tape.bytes.items ≡ Some (overwritten self.old.tape.bytes.items at bytes.now)) }
+        ensures told { IsSome (Some self.old.tape.bytes.items) → IsSome (Some self.new.tape.bytes.items) }
+        ensures crash { Follows (Torn (min (length self.old.tape.bytes.items) at) (reach at (length bytes.now))) (IsImage (state_of self.old.tape)) (IsImage (state_of self.new.tape)) }
+        ensures time { Elapses (length self.old.tape.records.items) (length self.new.tape.records.items) (LeftSince self.old.tape.base.items self.old.tape.records.items self.old.tape.written.items) (LeftSince self.new.tape.base.items self.new.tape.records.items self.new.tape.written.items) (IsImage (state_of self.new.tape)) }
+        ensures cause { HasCause self.old.faults self.new.faults result }
+        // Exactly a call that is listed fails, or that finds no room.
+        ensures fails { IsErr result ↔ IsTrue (is_listed self.old.failing.items self.old.calls || not (fits_write self.old.tape at (length bytes.now))) }
+        ensures calls { self.new.calls ≡ next_call self.old.calls }
+        ensures failing { self.new.failing ≡ self.old.failing }
+        ensures state { OnOk result (state_of self.new.tape ≡ after_write (state_of self.old.tape) at bytes.now) }
+        ensures failed { OnErr result ((self.new.tape ≡ self.old.tape) ⊎ (state_of self.new.tape ≡ after_failed_write (state_of self.old.tape) at (length bytes.now))) }
+    {
         let fails = self.begin();
         if !self.tape.fits_write(at, bytes.len()) {
             return Err(self.fail());
@@ -126,7 +181,19 @@ impl Disk for MemDisk {
         Ok(())
     }
 
-    fn cut(&mut self, len: u64) -> Result<(), Failed> {
+    fn cut(&mut self, len: u64) -> Result<(), Failed>
+        ensures resized { OnOk result (Some self.new.tape.bytes.items ≡ Some (resized self.old.tape.bytes.items len)) }
+        ensures told { IsSome (Some self.old.tape.bytes.items) → IsSome (Some self.new.tape.bytes.items) }
+        ensures crash { Follows (Cut (length self.old.tape.bytes.items) len) (IsImage (state_of self.old.tape)) (IsImage (state_of self.new.tape)) }
+        ensures time { Elapses (length self.old.tape.records.items) (length self.new.tape.records.items) (LeftSince self.old.tape.base.items self.old.tape.records.items self.old.tape.written.items) (LeftSince self.new.tape.base.items self.new.tape.records.items self.new.tape.written.items) (IsImage (state_of self.new.tape)) }
+        ensures cause { HasCause self.old.faults self.new.faults result }
+        // Exactly a call that is listed fails, or that finds no room.
+        ensures fails { IsErr result ↔ IsTrue (is_listed self.old.failing.items self.old.calls || not (fits_cut self.old.tape len)) }
+        ensures calls { self.new.calls ≡ next_call self.old.calls }
+        ensures failing { self.new.failing ≡ self.old.failing }
+        ensures state { OnOk result (state_of self.new.tape ≡ after_cut (state_of self.old.tape) len) }
+        ensures failed { OnErr result ((self.new.tape ≡ self.old.tape) ⊎ (state_of self.new.tape ≡ after_failed_cut (state_of self.old.tape) len)) }
+    {
         let fails = self.begin();
         if !self.tape.fits_cut(len) {
             return Err(self.fail());
@@ -139,7 +206,19 @@ impl Disk for MemDisk {
         Ok(())
     }
 
-    fn sync(&mut self) -> Result<(), Failed> {
+    fn sync(&mut self) -> Result<(), Failed>
+        ensures durable { OnOk result (Only self.old.tape.bytes.items (IsImage (state_of self.new.tape))) }
+        ensures seen { Some self.new.tape.bytes.items ≡ Some self.old.tape.bytes.items }
+        ensures crash { Keeps (IsImage (state_of self.old.tape)) (IsImage (state_of self.new.tape)) }
+        ensures time { Elapses (length self.old.tape.records.items) (length self.new.tape.records.items) (LeftSince self.old.tape.base.items self.old.tape.records.items self.old.tape.written.items) (LeftSince self.new.tape.base.items self.new.tape.records.items self.new.tape.written.items) (IsImage (state_of self.new.tape)) }
+        ensures cause { HasCause self.old.faults self.new.faults result }
+        // Exactly a call that is listed fails, or that finds no room.
+        ensures fails { IsErr result ↔ IsTrue (is_listed self.old.failing.items self.old.calls || not (has_place self.old.tape)) }
+        ensures calls { self.new.calls ≡ next_call self.old.calls }
+        ensures failing { self.new.failing ≡ self.old.failing }
+        ensures state { OnOk result (state_of self.new.tape ≡ settled (state_of self.old.tape).file) }
+        ensures failed { OnErr result (self.new.tape ≡ self.old.tape) }
+    {
         if self.begin() || !self.tape.has_place() {
             return Err(self.fail());
         }

@@ -3,7 +3,7 @@ ghost use Rattle.std.specs.Prelude.{◌≡◌, ◌+◌, ◌≤◌, ◌<◌, ◌&
 ghost use Rattle.pf_disk.specs.Files.{overwritten, reach, resized};
 ghost use Rattle.pf_disk.specs.Recorded.{IsImage, after_cut, after_failed_cut, after_failed_write, after_write, count_written, replayed, settled};
 
-use crate::files::{end_of, overwrite, resize};
+use crate::files::{end_of, overwrite, resize, scramble};
 use std::alloc::{AllocError, Global};
 
 /// One call.
@@ -151,5 +151,21 @@ impl Tape {
     {
         self.touched.clear();
         let _ = self.records.push(Record::Sync);
+    }
+
+    /// Crashes: each byte that may change becomes the next of a generator started at `seed`, and the file ends where it
+    /// did. What is then there is durable, and the records begin anew.
+    pub fn crash(&mut self, seed: u64)
+        ensures image { IsImage (state_of self.old) self.new.bytes.items }
+        ensures state { state_of self.new ≡ settled self.new.bytes.items }
+        ensures room { self.new.room ≡ self.old.room }
+        ensures places { self.new.places ≡ self.old.places }
+    {
+        scramble(&mut self.bytes, &self.touched, seed);
+        self.base.clear();
+        let _ = self.base.extend_from_slice(&self.bytes);
+        self.written.clear();
+        self.records.clear();
+        self.touched.clear();
     }
 }

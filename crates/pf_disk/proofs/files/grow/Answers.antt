@@ -1,5 +1,4 @@
-use Rattle.std.proofs.Common.{◌≡◌, ◌+◌, ◌-◌, ◌≤◌, ◌++◌, ◌∷◌, [], ℕ, List, length, max, vec_len, vec_capacity, arith, ap, sym, ◌∙◌, length-append}
-use Rattle.std.proofs.lemmas.List.{length-replicate}
+use Rattle.std.proofs.Common.{◌≡◌, ◌-◌, ◌≤◌, ◌++◌, ◌∷◌, [], ℕ, List, length, arith, ap, ◌∙◌}
 use Rattle.std.proofs.Math.ListN.{replicate}
 use Rattle.pf_disk.proofs.Writes.{if_ok, grown_more, length-grown}
 use Rattle.pf_disk.proofs.files.grow.Goals as goal
@@ -9,7 +8,7 @@ loop-preserved c =
     let old = c.args.file.now.items in
     let past : length old ≤ c.loop.counter = omega (arith, c.args.file.now.ok, c.len-counter.ensures) in
     let size : length c.loop.file.items ≡ c.loop.counter =
-        ap length c.loop.invariant.items ∙ length-grown old c.loop.counter ∙ omega arith in
+    ap length c.loop.invariant.items ∙ length-grown old c.loop.counter ∙ omega arith in
     let ok = c.push.ensures.succeeds (omega (arith, size, c.loop.file.ok, c.loop.invariant.capacity, c.requires)) in
     record {
       items = if_ok c.push.result (c.loop.file.items ++ 0 ∷ []) c.loop.file.items _ ok c.push.ensures.items

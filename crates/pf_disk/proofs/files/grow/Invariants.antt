@@ -1,4 +1,4 @@
-use Rattle.std.proofs.Common.{◌≡◌, ◌-◌, ◌++◌, ◌≤◌, max, vec_capacity, vec_len, length}
+use Rattle.std.proofs.Common.{◌≡◌, ◌-◌, ◌++◌, ◌≤◌, max, vec_capacity, length}
 use Rattle.std.proofs.Math.ListN.{replicate}
 use Rattle.pf_disk.proofs.files.grow.Given as goal
 

@@ -1,4 +1,4 @@
-use Rattle.std.proofs.Common.{◌≡◌, ◌+◌, ◌-◌, ◌≤◌, ◌<◌, ◌++◌, ℕ, List, length, length-drop, length-take, take, drop, arith, ap, sym, ◌∙◌, min, IsOk, vec_len, vec_capacity}
+use Rattle.std.proofs.Common.{◌≡◌, ◌+◌, ◌-◌, ◌<◌, ◌++◌, ℕ, List, length, length-drop, length-take, take, drop, arith, ap, sym, ◌∙◌, min, IsOk}
 use Rattle.std.proofs.lemmas.Bool.Decides.{nat_tests}
 use Rattle.std.proofs.lemmas.List.{take_rest}
 use Rattle.pf_disk.specs.Files.{reach}
@@ -18,5 +18,5 @@ returns-clause-written c =
     let h = overwritten_is c.args.file.now.items c.grow.new.file.items c.args.bytes.now c.args.at over some c.grow.ensures.grown so in
     let front : length (take over c.args.bytes.now) ≡ over = omega (arith, length-take over c.args.bytes.now, so) in
     let back = written_back c.grow.new.file.items c.deref_mut.result.now c.copy_from_slice.new.self (take over c.args.bytes.now) c.args.at (c.args.at + over - c.args.at) over c.grow.new.file.len
-        c.deref_mut.ensures.value (omega arith) c.copy_from_slice.ensures.after (sym c.grow.new.file.ok.0) (omega (arith, so, c.grow.new.file.ok, ap length c.grow.ensures.grown, size)) front in
+    c.deref_mut.ensures.value (omega arith) c.copy_from_slice.ensures.after (sym c.grow.new.file.ok.0) (omega (arith, so, c.grow.new.file.ok, ap length c.grow.ensures.grown, size)) front in
     if_ok _ _ _ _ ok c.extend_from_slice.ensures.items ∙ rw rest (ap (λ (l : List ℕ). l ++ drop over c.args.bytes.now) back) ∙ h

@@ -1,4 +1,3 @@
-use Rattle.std.proofs.Common.{◌≡◌, List, ℕ, subst, sym}
 use Rattle.pf_disk.proofs.Writes.{write_at_once}
 use Rattle.pf_disk.proofs.ram.RamDiskDisk.write_at.Goals as goal
 

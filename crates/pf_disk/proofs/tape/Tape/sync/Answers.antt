@@ -1,14 +1,11 @@
-use Rattle.std.proofs.Common.{◌≡◌, ◌+◌, ◌≤◌, ◌++◌, [], ◌∷◌, ℕ, List, length, length-append, min, take, refl, sym, ◌∙◌, ap, arith}
-use Rattle.std.proofs.lemmas.List.{append-nil, length_push, take_all}
-use Rattle.pf_disk.specs.declared.tape.Record.{Record}
-use Rattle.pf_disk.specs.declared.tape.Record.TheVariants.{Write, Cut, Sync, FailedWrite, FailedCut}
-use Rattle.pf_disk.specs.Files.{reach, resized, overwritten}
-use Rattle.pf_disk.specs.Recorded.{State, replayed, settled, count_written, after_cut, after_failed_cut, after_failed_write, after_write}
-use Rattle.pf_disk.specs.Tapes.{state_of}
+use Rattle.std.proofs.Common.{◌≡◌, ◌+◌, ◌++◌, [], ◌∷◌, length, sym, ◌∙◌, ap, arith}
+use Rattle.std.proofs.lemmas.List.{append-nil, length_push}
+use Rattle.pf_disk.specs.declared.tape.Record.TheVariants.{Sync}
+use Rattle.pf_disk.specs.Recorded.{State, replayed, settled, count_written}
 use Rattle.pf_disk.proofs.Images.{image_of}
 use Rattle.pf_disk.proofs.Replays.{added, count_more}
-use Rattle.pf_disk.proofs.Rooms.{place_told, write_told, cut_told}
-use Rattle.pf_disk.proofs.Writes.{if_ok, length-resized, length-overwritten}
+use Rattle.pf_disk.proofs.Rooms.{place_told}
+use Rattle.pf_disk.proofs.Writes.{if_ok}
 use Rattle.pf_disk.proofs.tape.Tape.sync.Goals as goal
 
 pub invariant_of-self : goal.invariant_of-self
@@ -27,7 +24,11 @@ invariant_of-self c =
       counts = omega (arith, ap count_written noted, count_more t.records.items Sync, t.counts);
       ranges = omega (arith, c.clear.ensures.len);
       used = omega (arith, place, more, c.push.new.self.ok, t.records.ok);
-      filled = t.filled; spent = t.spent; room_of_bytes = t.room_of_bytes; room_of_base = t.room_of_base; room_of_written = t.room_of_written;
+      filled = t.filled;
+      spent = t.spent;
+      room_of_bytes = t.room_of_bytes;
+      room_of_base = t.room_of_base;
+      room_of_written = t.room_of_written;
       room_of_records = omega (arith, t.room_of_records, c.push.ensures.capacity);
       room_of_touched = omega (arith, t.room_of_touched, c.clear.ensures.capacity);
     }

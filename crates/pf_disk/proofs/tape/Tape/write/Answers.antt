@@ -1,14 +1,13 @@
-use Rattle.std.proofs.Common.{◌≡◌, ◌+◌, ◌≤◌, ◌++◌, [], ◌∷◌, ℕ, List, length, length-append, min, take, refl, sym, ◌∙◌, ap, arith}
-use Rattle.std.proofs.lemmas.List.{append-nil, length_push, take_all}
-use Rattle.pf_disk.specs.declared.tape.Record.{Record}
-use Rattle.pf_disk.specs.declared.tape.Record.TheVariants.{Write, Cut, Sync, FailedWrite, FailedCut}
-use Rattle.pf_disk.specs.Files.{reach, resized, overwritten}
-use Rattle.pf_disk.specs.Recorded.{State, replayed, settled, count_written, after_cut, after_failed_cut, after_failed_write, after_write}
+use Rattle.std.proofs.Common.{◌≡◌, ◌+◌, ◌++◌, [], ◌∷◌, ℕ, List, length, length-append, min, take, sym, ◌∙◌, ap, arith}
+use Rattle.std.proofs.lemmas.List.{length_push, take_all}
+use Rattle.pf_disk.specs.declared.tape.Record.TheVariants.{Write}
+use Rattle.pf_disk.specs.Files.{reach, overwritten}
+use Rattle.pf_disk.specs.Recorded.{State, replayed, settled, count_written, after_write}
 use Rattle.pf_disk.specs.Tapes.{state_of}
 use Rattle.pf_disk.proofs.Images.{image_of}
 use Rattle.pf_disk.proofs.Replays.{added, count_more}
-use Rattle.pf_disk.proofs.Rooms.{place_told, write_told, cut_told}
-use Rattle.pf_disk.proofs.Writes.{if_ok, length-resized, length-overwritten}
+use Rattle.pf_disk.proofs.Rooms.{write_told}
+use Rattle.pf_disk.proofs.Writes.{if_ok, length-overwritten}
 use Rattle.pf_disk.proofs.tape.Tape.write.Goals as goal
 
 pub invariant_of-self : goal.invariant_of-self
