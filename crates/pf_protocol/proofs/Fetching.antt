@@ -24,7 +24,7 @@ use Rattle.pf_protocol.proofs.Histories.{Told, told, tell}
 use Rattle.pf_protocol.proofs.Follows.{PacketIs}
 use Rattle.pf_protocol.proofs.Stepping.{Steps, Came, Stays, Stepped, Begins, Claims, Goes, goes}
 use Rattle.pf_protocol.proofs.Snapshots.{whole_prefix, by_events, opened}
-use Rattle.pf_protocol.proofs.Moving.{More, AcksGrow, RoleStep, RoleReads, IsReadless, new_read, Speaks, Plainly, Asks, AsksAgain, Replies, ReadsFrom, NoReads, SameReads, Takes, Confirms, Does, does}
+use Rattle.pf_protocol.proofs.Moving.{More, AcksGrow, RoleStep, RoleReads, IsReadless, new_read, Speaks, Plainly, Asks, AsksAgain, Replies, Requests, Grants, ReadsFrom, NoReads, SameReads, Takes, Confirms, Does, does}
 
 -- a history in two parts
 pub run_parts : (setup : Setup) (g : Group) (earlier rest : History) → run setup g (earlier ++ rest) ≡ run setup (run setup g earlier) rest
@@ -85,10 +85,29 @@ pub record Waits (setup : Setup) (history : History) (i : ℕ) (s : Server) (r :
   pub more : More server s
   pub sure : r.confirmed ≡ true → Confirmed setup history i s.durable.term r.number
 
-abbrev pub Says : Setup → History → (to term : ℕ) → Body → Type 0
-Says setup history to term (Probe number) = number < (replay setup history).reads
-Says setup history to term (ProbeOk number upto_there) = Confirmed setup history to term number
-Says setup history to term _ = Unit {0}
+-- a server had risen to the term
+pub record Rose (setup : Setup) (history : History) (i term : ℕ) : Type 0 where
+  pub earlier : History
+  pub is_earlier : IsPrefix earlier history
+  pub server : Server
+  pub runs : Runs (replay setup earlier) i server
+  pub high : term ≤ server.durable.term
+
+-- a server of a lower term voted, for one that had risen to the term by then
+pub record Granted (setup : Setup) (history : History) (from to term : ℕ) : Type 0 where
+  pub earlier : History
+  pub is_earlier : IsPrefix earlier history
+  pub server : Server
+  pub runs : Runs (replay setup earlier) from server
+  pub lower : server.durable.term < term
+  pub rose : Rose setup earlier to term
+
+abbrev pub Says : Setup → History → (from to term : ℕ) → Body → Type 0
+Says setup history from to term (Probe number) = number < (replay setup history).reads
+Says setup history from to term (ProbeOk number upto_there) = Confirmed setup history to term number
+Says setup history from to term (RequestVote base) = Rose setup history from term
+Says setup history from to term (Vote v) = Granted setup history from to term
+Says setup history from to term _ = Unit {0}
 
 -- a server that once led in a term serves there or is a follower
 abbrev pub StaysIn : ((ℕ → Bool) → Leader → Type 0) → (ℕ → Bool) → Role → Type 0
@@ -135,20 +154,20 @@ pub record WasRead (setup : Setup) (history : History) (a : Answered) : Type 0 w
 pub record Traced (setup : Setup) (history : History) : Type 0 where
   pub waits : (i : ℕ) (s : Server) → Runs (replay setup history) i s → Every (Waits setup history i s) s.reads
   pub idle : (i : ℕ) (s : Server) → Runs (replay setup history) i s → RoleReads s.role s.reads
-  pub says : Every (λ p. Says setup history p.packet.to p.packet.term p.packet.body) (replay setup history).packets
+  pub says : Every (λ p. Says setup history p.packet.from p.packet.to p.packet.term p.packet.body) (replay setup history).packets
   pub acked : Every (AckedBy setup history) (replay setup history).acked
   pub answered : Every (WasRead setup history) (replay setup history).answered
 
-readless_says : (setup : Setup) (history : History) (to term : ℕ) (body : Body) → IsReadless body → Says setup history to term body
-readless_says setup history to term (RequestVote base) is = tt
-readless_says setup history to term (Vote v) is = tt
-readless_says setup history to term (Accept e) is = tt
-readless_says setup history to term (Ack slot upto_there) is = tt
-readless_says setup history to term Nack is = tt
-readless_says setup history to term (Commit slot) is = tt
-readless_says setup history to term (Probe number) is = absurd is
-readless_says setup history to term (ProbeOk number upto_there) is = absurd is
-readless_says setup history to term (Image base applied sectors) is = tt
+readless_says : (setup : Setup) (history : History) (from to term : ℕ) (body : Body) → IsReadless body → Says setup history from to term body
+readless_says setup history from to term (RequestVote base) is = absurd is
+readless_says setup history from to term (Vote v) is = absurd is
+readless_says setup history from to term (Accept e) is = tt
+readless_says setup history from to term (Ack slot upto_there) is = tt
+readless_says setup history from to term Nack is = tt
+readless_says setup history from to term (Commit slot) is = tt
+readless_says setup history from to term (Probe number) is = absurd is
+readless_says setup history from to term (ProbeOk number upto_there) is = absurd is
+readless_says setup history from to term (Image base applied sectors) is = tt
 
 -- without the reads that are answered
 fewer_reads : (f : Read → Bool) (role : Role) (reads : List Read) → RoleReads role reads → RoleReads role (filter f reads)
@@ -253,8 +272,8 @@ module _ (setup : Setup) (history : History) (h : Happening) (t : Traced setup h
       }
       by_number false is = waits_on i s z term more r w
 
-  said : (k : ℕ) (sent : Sent) (body : Body) → slice_get (replay setup history).packets k ≡ Some sent → sent.packet.body ≡ body → Says setup history sent.packet.to sent.packet.term body
-  said k sent body at is = subst (Says setup history sent.packet.to sent.packet.term) is (every_get (λ p. Says setup history p.packet.to p.packet.term p.packet.body) (replay setup history).packets k sent t.says at)
+  said : (k : ℕ) (sent : Sent) (body : Body) → slice_get (replay setup history).packets k ≡ Some sent → sent.packet.body ≡ body → Says setup history sent.packet.from sent.packet.to sent.packet.term body
+  said k sent body at is = subst (Says setup history sent.packet.from sent.packet.to sent.packet.term) is (every_get (λ p. Says setup history p.packet.from p.packet.to p.packet.term p.packet.body) (replay setup history).packets k sent t.says at)
 
   apart_packet : (k : ℕ) (sent : Sent) → slice_get (replay setup history).packets k ≡ Some sent → sent.packet.from ≢ sent.packet.to
   apart_packet k sent at = (every_get (λ p. PacketIs (told setup history).ballots p.packet) (replay setup history).packets k sent (told setup history).follows.packets at).apart
@@ -313,25 +332,35 @@ module _ (setup : Setup) (history : History) (h : Happening) (t : Traced setup h
   came_idle i _ (Begins life d) = refl
   came_idle i _ (Claims s slot runs) = t.idle i s runs
 
-  says_longer : (to term : ℕ) (body : Body) → Says setup history to term body → Says setup next to term body
-  says_longer to term (RequestVote base) is = tt
-  says_longer to term (Vote v) is = tt
-  says_longer to term (Accept e) is = tt
-  says_longer to term (Ack slot upto_there) is = tt
-  says_longer to term Nack is = tt
-  says_longer to term (Commit slot) is = tt
-  says_longer to term (Probe number) is = omega (arith, is, reads_now)
-  says_longer to term (ProbeOk number upto_there) is = confirmed_longer to term number is
-  says_longer to term (Image base applied sectors) is = tt
+  rose_longer : (i term : ℕ) → Rose setup history i term → Rose setup next i term
+  rose_longer i term r = record { earlier = r.earlier; is_earlier = longer setup history h r.earlier r.is_earlier; server = r.server; runs = r.runs; high = r.high }
+
+  says_longer : (from to term : ℕ) (body : Body) → Says setup history from to term body → Says setup next from to term body
+  says_longer from to term (RequestVote base) is = rose_longer from term is
+  says_longer from to term (Vote v) is = record { earlier = is.earlier; is_earlier = longer setup history h is.earlier is.is_earlier; server = is.server; runs = is.runs; lower = is.lower; rose = is.rose }
+  says_longer from to term (Accept e) is = tt
+  says_longer from to term (Ack slot upto_there) is = tt
+  says_longer from to term Nack is = tt
+  says_longer from to term (Commit slot) is = tt
+  says_longer from to term (Probe number) is = omega (arith, is, reads_now)
+  says_longer from to term (ProbeOk number upto_there) is = confirmed_longer to term number is
+  says_longer from to term (Image base applied sectors) is = tt
 
   numbers_low : (i : ℕ) (s : Server) → Runs (replay setup history) i s → Every (λ r. r.number < (replay setup history).reads) s.reads
   numbers_low i s runs = every_more (Waits setup history i s) (λ r. r.number < (replay setup history).reads) (λ r w. omega (arith, w.counts, reads_before setup (w.earlier ++ w.fetch ∷ []) history w.is_earlier)) s.reads (t.waits i s runs)
 
-  speaks : (i : ℕ) (s : Server) (o : Outcome) → Steps setup (replay setup history) h.event now i s o → (p : Packet) → Speaks (λ n. n < (replay setup history).reads) (replay setup history) i s h.event o.answer p → Says setup next p.to p.term p.body
-  speaks i s o step p (Plainly is) = readless_says setup next p.to p.term p.body is
-  speaks i s o step p (Asks body answer) = subst (Says setup next p.to p.term) (sym body) (omega (arith, counted i s o step answer))
-  speaks i s o step p (AsksAgain n body low) = subst (Says setup next p.to p.term) (sym body) (omega (arith, low, reads_now))
-  speaks i s o step p (Replies k sent n upto_there at to_it probe body to term low) = subst (Says setup next p.to p.term) (sym body) (record {
+  stepper_number : (i : ℕ) (s : Server) → Runs (replay setup history) i s → s.number ≡ i
+  stepper_number i s runs = ((told setup history).follows.servers i (Running s) runs).1.number
+
+  rose_now : (i : ℕ) (s : Server) (o : Outcome) → Steps setup (replay setup history) h.event now i s o → (from term : ℕ) → from ≡ i → term ≤ o.server.durable.term → Rose setup next from term
+  unfolding settled
+  rose_now i s o step from term same le = record { earlier = next; is_earlier = whole_prefix next; server = settled o.server; runs = ap (slice_get (replay setup next).servers) same ∙ from_now i (settled o.server) step.runs_on; high = le }
+
+  speaks : (i : ℕ) (s : Server) (o : Outcome) → Steps setup (replay setup history) h.event now i s o → (p : Packet) → Speaks (λ n. n < (replay setup history).reads) (replay setup history) i s h.event o.answer o.server.durable.term p → Says setup next p.from p.to p.term p.body
+  speaks i s o step p (Plainly is) = readless_says setup next p.from p.to p.term p.body is
+  speaks i s o step p (Asks body answer) = subst (Says setup next p.from p.to p.term) (sym body) (omega (arith, counted i s o step answer))
+  speaks i s o step p (AsksAgain n body low) = subst (Says setup next p.from p.to p.term) (sym body) (omega (arith, low, reads_now))
+  speaks i s o step p (Replies k sent n upto_there at to_it probe body to term low) = subst (Says setup next p.from p.to p.term) (sym body) (record {
     earlier = history;
     is_earlier = one_more;
     other = i;
@@ -342,10 +371,20 @@ module _ (setup : Setup) (history : History) (h : Happening) (t : Traced setup h
     asked = said k sent (Probe n) at probe;
   })
 
-  next_says : Every (λ p. Says setup next p.packet.to p.packet.term p.packet.body) now.packets
-  next_says = gone.packets (λ p. Says setup next p.to p.term p.body)
-      (every_more (λ p. Says setup history p.packet.to p.packet.term p.packet.body) (λ p. Says setup next p.packet.to p.packet.term p.packet.body) (λ p is. says_longer p.packet.to p.packet.term p.packet.body is) (replay setup history).packets t.says)
-      (λ i s o step. every_more (Speaks (λ n. n < (replay setup history).reads) (replay setup history) i s h.event o.answer) (λ p. Says setup next p.to p.term p.body) (speaks i s o step) o.packets
+  speaks i s o step p (Requests base body from le) = subst (Says setup next p.from p.to p.term) (sym body) (rose_now i s o step p.from p.term (from ∙ stepper_number i s step.runs) le)
+  speaks i s o step p (Grants k sent base v at to_it request body from to term lower) = subst (Says setup next p.from p.to p.term) (sym body) (record {
+    earlier = history;
+    is_earlier = one_more;
+    server = s;
+    runs = ap (slice_get (replay setup history).servers) (from ∙ stepper_number i s step.runs) ∙ step.runs;
+    lower = lower;
+    rose = subst (λ j. Rose setup history j p.term) (sym to) (subst (Rose setup history sent.packet.from) (sym term) (said k sent (RequestVote base) at request));
+  })
+
+  next_says : Every (λ p. Says setup next p.packet.from p.packet.to p.packet.term p.packet.body) now.packets
+  next_says = gone.packets (λ p. Says setup next p.from p.to p.term p.body)
+      (every_more (λ p. Says setup history p.packet.from p.packet.to p.packet.term p.packet.body) (λ p. Says setup next p.packet.from p.packet.to p.packet.term p.packet.body) (λ p is. says_longer p.packet.from p.packet.to p.packet.term p.packet.body is) (replay setup history).packets t.says)
+      (λ i s o step. every_more (Speaks (λ n. n < (replay setup history).reads) (replay setup history) i s h.event o.answer o.server.durable.term) (λ p. Says setup next p.from p.to p.term p.body) (speaks i s o step) o.packets
       ((step_does i s o step).packets (λ n. n < (replay setup history).reads) (numbers_low i s step.runs)))
 
   -- whoever once led in a term
@@ -463,7 +502,7 @@ module _ (setup : Setup) (history : History) (h : Happening) (t : Traced setup h
   next_traced = record {
     waits = λ i z at. came_waits i z (gone.servers i z (to_now i z at));
     idle = λ i z at. came_idle i z (gone.servers i z (to_now i z at));
-    says = subst (λ g. Every (λ p. Says setup next p.packet.to p.packet.term p.packet.body) g.packets) (sym same) next_says;
+    says = subst (λ g. Every (λ p. Says setup next p.packet.from p.packet.to p.packet.term p.packet.body) g.packets) (sym same) next_says;
     acked = subst (λ g. Every (AckedBy setup next) g.acked) (sym same) next_acked;
     answered = subst (λ g. Every (WasRead setup next) g.answered) (sym same) next_answered;
   }

@@ -90,7 +90,7 @@ abbrev Knows : Server → ℕ → Op → Type 0
 Knows z slot op = (has_applied z slot ≡ true) ⊎ ((e : Entry) × (FinMap.get z.durable.log slot ≡ Some e) × (Sets.contains z.committed slot ≡ true) × (e.op ≡ op))
 
 module _ (setup : Setup) (before history : History) (p : IsPrefix before history) (i : ℕ) (z : Server) (l : Leader) (runs : Runs (replay setup before) i z) (serves : z.role ≡ Serving l) where
-  marks : AckMarks i z.durable.base z.committed l × AllAcked i l
+  pub marks : AckMarks i z.durable.base z.committed l × AllAcked i l
   marks = subst (RoleMarks i z.durable.base z.committed) serves ((told setup before).follows.servers i (Running z) runs).1.knows.marks
 
   -- a slot above the checkpoint that another server acknowledged

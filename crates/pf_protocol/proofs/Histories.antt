@@ -106,7 +106,7 @@ stands_later g b after keeps h = record {
 }
 
 both_persist : (a b c : Ballots) → Persists a b → Persists b c → Persists a c
-both_persist a b c p q = record { terms = λ i. omega (arith, p.terms i, q.terms i); votes = λ i t v is. q.votes i t v (p.votes i t v is); ballots = λ t m is. q.ballots t m (p.ballots t m is) }
+both_persist a b c p q = record { terms = λ i. omega (arith, p.terms i, q.terms i); fresh = λ i s t is. elim (q.fresh i s t is) [ inl old ↦ p.fresh i s t old | inr high ↦ inr (omega (arith, p.terms i, high)) ]; votes = λ i t v is. q.votes i t v (p.votes i t v is); ballots = λ t m is. q.ballots t m (p.ballots t m is) }
 
 nil_parts : (earlier rest : History) → earlier ++ rest ≡ [] → earlier ≡ []
 nil_parts [] rest is = refl
@@ -120,7 +120,7 @@ tell setup [] g b sound served follows = record {
   follows = follows;
   keeps = λ i e h. h;
   held = λ earlier rest parts i e h. held_now b sound g follows i e (subst (λ hs. Holds (run setup g hs) i e) (nil_parts earlier rest parts) h);
-  persists = record { terms = λ i. omega arith; votes = λ i t v is. is; ballots = λ t m is. is };
+  persists = record { terms = λ i. omega arith; fresh = λ i s t is. inl is; votes = λ i t v is. is; ballots = λ t m is. is };
   stood = λ earlier rest parts. subst (λ hs. Stands (run setup g hs) b) (sym (nil_parts earlier rest parts)) (stands_now b g sound follows);
   back = λ i slot term is. inl is;
 }

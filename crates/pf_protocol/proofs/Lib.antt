@@ -26,6 +26,7 @@ pub mod Fetching
 pub mod Fresh
 pub mod Ports
 pub mod LastWriters
+pub mod Between
 pub mod Worked
 mod Replays
 mod EarlyApply

@@ -87,9 +87,9 @@ to_others_carry : (s z : Server) (log : Map Entry) (body : Body) → Carries s l
 to_others_carry s z log body is = every_map (λ p. Carries s log p.from p.term p.body) (λ i. to_one z i body) (others z.number) (every_of_all (λ _. Carries s log z.number z.durable.term body) (others z.number) (λ _. is))
 
 -- a message brings new entries by a proposal, or by a vote to a candidate
-record Brings (s : Server) (more : Entry → Type 0) (term : ℕ) (body : Body) : Type 0 where
-  by_accept : (e : Entry) → body ≡ Accept e → more e
-  by_vote : (own vote : VoteLog) → body ≡ Vote vote → s.role ≡ Candidate own → term ≡ s.durable.term → vote.base ≤ s.durable.base → (slot : ℕ) → s.durable.base < slot → slot < merged_first s.durable.base own vote → more (merged_entry s.durable.term s.durable.base own vote slot)
+pub record Brings (s : Server) (more : Entry → Type 0) (term : ℕ) (body : Body) : Type 0 where
+  pub by_accept : (e : Entry) → body ≡ Accept e → more e
+  pub by_vote : (own vote : VoteLog) → body ≡ Vote vote → s.role ≡ Candidate own → term ≡ s.durable.term → vote.base ≤ s.durable.base → (slot : ℕ) → s.durable.base < slot → slot < merged_first s.durable.base own vote → more (merged_entry s.durable.term s.durable.base own vote slot)
 
 module _ (s : Server) (keyed : IsKeyed s.durable.log) (more : Entry → Type 0) where
   same : (o : Outcome) → o.server.number ≡ s.number → o.server.durable.log ≡ s.durable.log → VoteFrom s.role s.durable.log o.server.role → Every (λ p. Carries s o.server.durable.log p.from p.term p.body) o.packets → Stems s more o
@@ -120,7 +120,7 @@ module _ (s : Server) (keyed : IsKeyed s.durable.log) (more : Entry → Type 0) 
   met_stems : (term to slot : ℕ) → Stems s more (ack (meets_term s term) to slot)
   met_stems term to slot = same (ack (meets_term s term) to slot) (met_number term) (met_log term) (met_role term) (tt, tt)
 
-  submit_stems : (setup : Setup) (op : Op) (role : Role) → ((l : Leader) → role ≡ Serving l → more (new_entry setup.names s l op)) → Stems s more (on_submit setup s op role)
+  pub submit_stems : (setup : Setup) (op : Op) (role : Role) → ((l : Leader) → role ≡ Serving l → more (new_entry setup.names s l op)) → Stems s more (on_submit setup s op role)
   unfolding on_submit submitted stored put_entry
   submit_stems setup op Follower new = refused_stems _
   submit_stems setup op (Candidate own) new = refused_stems _
@@ -137,14 +137,14 @@ module _ (s : Server) (keyed : IsKeyed s.durable.log) (more : Entry → Type 0) 
         packets = to_others_carry s s (FinMap.insert s.durable.log e.slot e) (Accept e) (get_inserted s.durable.log e.slot e);
       })
 
-  fetch_stems : (range : Span) (number : ℕ) (role : Role) → Stems s more (on_fetch s range number role)
+  pub fetch_stems : (range : Span) (number : ℕ) (role : Role) → Stems s more (on_fetch s range number role)
   unfolding on_fetch
   fetch_stems range number Follower = refused_stems _
   fetch_stems range number (Candidate own) = refused_stems _
   fetch_stems range number (Merging l) = refused_stems _
   fetch_stems range number (Serving l) = same _ refl refl kept (to_others_carry s s s.durable.log (Probe number) tt)
 
-  elect_stems : Stems s more (on_elect s)
+  pub elect_stems : Stems s more (on_elect s)
   unfolding on_elect stored
   elect_stems = same _ refl refl (inr refl) (to_others_carry s (on_elect s).server s.durable.log (RequestVote s.durable.base) tt)
 
@@ -165,18 +165,18 @@ module _ (s : Server) (keyed : IsKeyed s.durable.log) (more : Entry → Type 0) 
       (every_flat_map P (λ slot. resent_entry s l to (FinMap.get s.durable.log slot) slot) (range_with_len (suc s.durable.base) (l.next - suc s.durable.base)) (λ slot. resent_carry l to slot (FinMap.get s.durable.log slot) refl)))
       (every_map P (λ r. to_one s to (Probe r.number)) (filter (λ r. not r.confirmed) s.reads) (every_of_all (λ r. Carries s s.durable.log s.number s.durable.term (Probe r.number)) (filter (λ r. not r.confirmed) s.reads) (λ r. tt)))
 
-  resend_stems : (role : Role) → Stems s more (on_resend s role)
+  pub resend_stems : (role : Role) → Stems s more (on_resend s role)
   unfolding on_resend
   resend_stems Follower = same _ refl refl kept (to_others_carry s s s.durable.log (Ack s.durable.base (upto s)) tt)
   resend_stems (Candidate own) = same _ refl refl kept (to_others_carry s s s.durable.log (RequestVote s.durable.base) tt)
   resend_stems (Merging l) = same _ refl refl kept (every_flat_map _ (resent s l) (others s.number) (resent_stems l))
   resend_stems (Serving l) = same _ refl refl kept (every_flat_map _ (resent s l) (others s.number) (resent_stems l))
 
-  checkpoint_stems : Stems s more (on_checkpoint s)
+  pub checkpoint_stems : Stems s more (on_checkpoint s)
   unfolding on_checkpoint trimmed stored
   checkpoint_stems = either_stems s more (upto s == s.durable.base || is_short_of s.role (upto s)) _ _ (refused_stems _) (record { number = refl; from = trimmed_log s.durable.log more (upto s); role = kept; packets = tt })
 
-  finish_stems : (life slot : ℕ) → Stems s more (on_finish s life slot)
+  pub finish_stems : (life slot : ℕ) → Stems s more (on_finish s life slot)
   unfolding on_finish applied_op
   finish_stems life slot = either_stems s more (life == s.life) _ _ (finished (FinMap.get s.in_hand slot)) (refused_stems _)
     where
@@ -184,7 +184,7 @@ module _ (s : Server) (keyed : IsKeyed s.durable.log) (more : Entry → Type 0) 
       finished None = same _ refl refl kept tt
       finished (Some op) = same _ refl refl kept tt
 
-  give_back_stems : (life slot : ℕ) → Stems s more (on_give_back s life slot)
+  pub give_back_stems : (life slot : ℕ) → Stems s more (on_give_back s life slot)
   unfolding on_give_back
   give_back_stems life slot = either_stems s more (life == s.life) _ _ (same _ refl refl kept tt) (same _ refl refl kept tt)
 
@@ -286,7 +286,7 @@ module _ (s : Server) (keyed : IsKeyed s.durable.log) (more : Entry → Type 0) 
       either_stems s more (nat_lt term s.durable.term) _ _ (nack_stems from)
       (either_stems s more (nat_le base (upto s)) _ _ (met_stems term from base) (record { number = refl; from = trimmed_log s.durable.log more base; role = tt; packets = (tt, tt) }))
 
-  message_stems : (setup : Setup) (from term : ℕ) (body : Body) → Brings s more term body → Stems s more (on_message setup s from term body)
+  pub message_stems : (setup : Setup) (from term : ℕ) (body : Body) → Brings s more term body → Stems s more (on_message setup s from term body)
   unfolding on_message
   message_stems setup from term (RequestVote base) b = request_vote_stems from term base
   message_stems setup from term (Vote vote) b = vote_stems term vote s.role (λ own is. b.by_vote own vote refl is)

@@ -21,7 +21,7 @@ use Rattle.pf_entry.specs.declared.entries.VoteLog.{VoteLog}
 use Rattle.pf_entry.specs.declared.packets.Packet.{Packet}
 use Rattle.pf_entry.specs.declared.packets.Body.{Body}
 use Rattle.pf_entry.specs.declared.packets.Body.TheVariants.{RequestVote, Vote, Accept, Ack, Nack, Commit, Probe, ProbeOk, Image}
-use Rattle.pf_entry.specs.Records.{stored, holds}
+use Rattle.pf_entry.specs.Records.{stored, holds, vote_of}
 use Rattle.pf_entry.specs.Merging.{merged_first, merged_entries}
 use Rattle.pf_protocol.proofs.Keeping.{by_test}
 use Rattle.pf_protocol.proofs.Knowing.{acked_in, acknowledged_more}
@@ -68,12 +68,15 @@ pub record Moves (s z : Server) : Type 0 where
   pub reads : (z.reads ≡ []) ⊎ ((z.durable.term ≡ s.durable.term) × More s z)
   pub idle : RoleReads s.role s.reads → RoleReads z.role z.reads
 
+-- neither of a read nor of a vote
 abbrev pub IsReadless : Body → Type 0
+IsReadless (RequestVote base) = ⊥
+IsReadless (Vote v) = ⊥
 IsReadless (Probe number) = ⊥
 IsReadless (ProbeOk number upto_there) = ⊥
 IsReadless _ = Unit {0}
 
--- a step that has to do with no read and tells no host anything
+-- a step that has to do with no read and no vote, and tells no host anything
 pub record Plain (s : Server) (o : Outcome) : Type 0 where
   pub moves : Moves s o.server
   pub reads : (o.server.reads ≡ []) ⊎ (o.server.reads ≡ s.reads)
@@ -172,14 +175,9 @@ module _ (s : Server) where
     acked = refl;
   })
 
-  elect_plain : Plain s (on_elect s)
+  elect_moves : Moves s (on_elect s).server
   unfolding on_elect stored
-  elect_plain = record {
-    moves = record { term = omega arith; role = by_role s.role; reads = inl refl; idle = λ h. refl };
-    reads = inl refl;
-    packets = to_others_plain (on_elect s).server (RequestVote s.durable.base) tt;
-    acked = refl;
-  }
+  elect_moves = record { term = omega arith; role = by_role s.role; reads = inl refl; idle = λ h. refl }
     where
       by_role : (r : Role) → RoleStep s (on_elect s).server r
       by_role Follower = inr (omega arith)
@@ -267,11 +265,6 @@ module _ (s : Server) where
       either_plain s (nat_lt term s.durable.term) _ _ (λ _. idle_plain _ (tt, tt)) (λ no_lower.
       either_plain s (nat_le base (upto s)) _ _ (λ _. met_plain term from base) (λ _.
       record { moves = falls_back (installed s term base applied sectors) refl refl (ltb-false term s.durable.term no_lower); reads = inl refl; packets = (tt, tt); acked = refl }))
-
-  request_vote_plain : (from term base : ℕ) → Plain s (on_request_vote s from term base)
-  unfolding on_request_vote stored
-  request_vote_plain from term base = either_plain s (nat_le term s.durable.term || nat_lt base s.durable.base) _ _ (λ _. idle_plain _ (tt, tt)) (λ grants.
-      record { moves = falls_back (raise_term s term) refl refl (omega (arith, leb-false term s.durable.term (or_parts _ _ grants).0)); reads = inl refl; packets = (tt, tt); acked = refl })
 
   nack_plain : (term : ℕ) → Plain s (on_nack s term)
   unfolding on_nack
@@ -401,11 +394,13 @@ module _ (s : Server) where
   fetches range number (Serving l) is = inr (record { leader = l; serves = is; reads = refl; answer = refl; server = refl })
 
 -- what a packet of a step has to do with reads. B is known of the numbers of reads that wait
-pub data Speaks (B : ℕ → Type 0) (g : Group) (i : ℕ) (s : Server) (event : Event) (answer : Answer) (p : Packet) : Type 0 where
-  Plainly : IsReadless p.body → Speaks B g i s event answer p
-  Asks : p.body ≡ Probe g.reads → answer ≡ ReadIs g.reads → Speaks B g i s event answer p
-  AsksAgain : (n : ℕ) → p.body ≡ Probe n → B n → Speaks B g i s event answer p
-  Replies : (k : ℕ) (sent : Sent) (n upto_there : ℕ) → slice_get g.packets k ≡ Some sent → sent.packet.to ≡ i → sent.packet.body ≡ Probe n → p.body ≡ ProbeOk n upto_there → p.to ≡ sent.packet.from → p.term ≡ sent.packet.term → s.durable.term ≤ sent.packet.term → Speaks B g i s event answer p
+pub data Speaks (B : ℕ → Type 0) (g : Group) (i : ℕ) (s : Server) (event : Event) (answer : Answer) (after : ℕ) (p : Packet) : Type 0 where
+  Plainly : IsReadless p.body → Speaks B g i s event answer after p
+  Asks : p.body ≡ Probe g.reads → answer ≡ ReadIs g.reads → Speaks B g i s event answer after p
+  AsksAgain : (n : ℕ) → p.body ≡ Probe n → B n → Speaks B g i s event answer after p
+  Replies : (k : ℕ) (sent : Sent) (n upto_there : ℕ) → slice_get g.packets k ≡ Some sent → sent.packet.to ≡ i → sent.packet.body ≡ Probe n → p.body ≡ ProbeOk n upto_there → p.to ≡ sent.packet.from → p.term ≡ sent.packet.term → s.durable.term ≤ sent.packet.term → Speaks B g i s event answer after p
+  Requests : (base : ℕ) → p.body ≡ RequestVote base → p.from ≡ s.number → p.term ≤ after → Speaks B g i s event answer after p
+  Grants : (k : ℕ) (sent : Sent) (base : ℕ) (v : VoteLog) → slice_get g.packets k ≡ Some sent → sent.packet.to ≡ i → sent.packet.body ≡ RequestVote base → p.body ≡ Vote v → p.from ≡ s.number → p.to ≡ sent.packet.from → p.term ≡ sent.packet.term → s.durable.term < p.term → Speaks B g i s event answer after p
 
 -- where the reads that wait after a step come from
 pub data ReadsFrom (g : Group) (i : ℕ) (s : Server) (event : Event) (o : Outcome) : Type 0 where
@@ -424,56 +419,64 @@ pub record TellsBy (g : Group) (i : ℕ) (s : Server) (o : Outcome) (slot : ℕ)
 pub record Does (g : Group) (i : ℕ) (s : Server) (event : Event) (o : Outcome) : Type 1 where
   pub moves : Moves s o.server
   pub reads : ReadsFrom g i s event o
-  pub packets : (B : ℕ → Type 0) → Every (λ r. B r.number) s.reads → Every (Speaks B g i s event o.answer) o.packets
+  pub packets : (B : ℕ → Type 0) → Every (λ r. B r.number) s.reads → Every (Speaks B g i s event o.answer o.server.durable.term) o.packets
   pub acked : (slot : ℕ) → o.acked ≡ Some slot → TellsBy g i s o slot
 
 module _ (g : Group) (i : ℕ) (s : Server) (event : Event) where
-  plainly : (B : ℕ → Type 0) (answer : Answer) (packets : List Packet) → Every (λ p. IsReadless p.body) packets → Every (Speaks B g i s event answer) packets
-  plainly B answer packets are = every_more (λ p. IsReadless p.body) (Speaks B g i s event answer) (λ p is. Plainly is) packets are
+  plainly : (B : ℕ → Type 0) (answer : Answer) (after : ℕ) (packets : List Packet) → Every (λ p. IsReadless p.body) packets → Every (Speaks B g i s event answer after) packets
+  plainly B answer after packets are = every_more (λ p. IsReadless p.body) (Speaks B g i s event answer after) (λ p is. Plainly is) packets are
 
   plain_does : (o : Outcome) → Plain s o → Does g i s event o
   plain_does o h = record {
     moves = h.moves;
     reads = elim (h.reads) [ inl none ↦ NoReads none | inr same ↦ SameReads same ];
-    packets = λ B each. plainly B o.answer o.packets h.packets;
+    packets = λ B each. plainly B o.answer o.server.durable.term o.packets h.packets;
     acked = λ slot is. absurd (none-some slot (sym h.acked ∙ is));
   }
 
-  ask_packets : (B : ℕ → Type 0) (answer : Answer) → answer ≡ ReadIs g.reads → Every (Speaks B g i s event answer) (to_others s (Probe g.reads))
-  ask_packets B answer is = every_map (Speaks B g i s event answer) (λ j. to_one s j (Probe g.reads)) (others s.number) (every_of_all (λ j. Speaks B g i s event answer (to_one s j (Probe g.reads))) (others s.number) (λ j. Asks refl is))
+  ask_packets : (B : ℕ → Type 0) (answer : Answer) (after : ℕ) → answer ≡ ReadIs g.reads → Every (Speaks B g i s event answer after) (to_others s (Probe g.reads))
+  ask_packets B answer after is = every_map (Speaks B g i s event answer after) (λ j. to_one s j (Probe g.reads)) (others s.number) (every_of_all (λ j. Speaks B g i s event answer after (to_one s j (Probe g.reads))) (others s.number) (λ j. Asks refl is))
 
-  entry_packets : (B : ℕ → Type 0) (answer : Answer) (l : Leader) (to slot : ℕ) (o : Option Entry) → Every (Speaks B g i s event answer) (resent_entry s l to o slot)
-  entry_packets B answer l to slot None = tt
-  entry_packets B answer l to slot (Some e) =
-      by_test (not (has_acked l to slot)) (λ c. Every (Speaks B g i s event answer) (if c then to_one s to (Accept e) ∷ [] else (if nat_lt (knows l to) slot then to_one s to (Commit slot) ∷ [] else [])))
+  entry_packets : (B : ℕ → Type 0) (answer : Answer) (after : ℕ) (l : Leader) (to slot : ℕ) (o : Option Entry) → Every (Speaks B g i s event answer after) (resent_entry s l to o slot)
+  entry_packets B answer after l to slot None = tt
+  entry_packets B answer after l to slot (Some e) =
+      by_test (not (has_acked l to slot)) (λ c. Every (Speaks B g i s event answer after) (if c then to_one s to (Accept e) ∷ [] else (if nat_lt (knows l to) slot then to_one s to (Commit slot) ∷ [] else [])))
       (λ _. (Plainly tt, tt))
-      (λ _. by_test (nat_lt (knows l to) slot) (λ c. Every (Speaks B g i s event answer) (if c then to_one s to (Commit slot) ∷ [] else [])) (λ _. (Plainly tt, tt)) (λ _. tt))
+      (λ _. by_test (nat_lt (knows l to) slot) (λ c. Every (Speaks B g i s event answer after) (if c then to_one s to (Commit slot) ∷ [] else [])) (λ _. (Plainly tt, tt)) (λ _. tt))
 
-  resent_packets : (B : ℕ → Type 0) (answer : Answer) → Every (λ r. B r.number) s.reads → (l : Leader) (to : ℕ) → Every (Speaks B g i s event answer) (resent s l to)
+  resent_packets : (B : ℕ → Type 0) (answer : Answer) (after : ℕ) → Every (λ r. B r.number) s.reads → (l : Leader) (to : ℕ) → Every (Speaks B g i s event answer after) (resent s l to)
   unfolding resent
-  resent_packets B answer each l to =
-      let P : Packet → Type 0 = Speaks B g i s event answer in
+  resent_packets B answer after each l to =
+      let P : Packet → Type 0 = Speaks B g i s event answer after in
       every_append P _ _
       (every_append P (if nat_lt (knows l to) s.durable.base then to_one s to (Image s.durable.base s.applied s.sectors) ∷ [] else []) _
       (by_test (nat_lt (knows l to) s.durable.base) (λ c. Every P (if c then to_one s to (Image s.durable.base s.applied s.sectors) ∷ [] else [])) (λ _. (Plainly tt, tt)) (λ _. tt))
-      (every_flat_map P (λ slot. resent_entry s l to (FinMap.get s.durable.log slot) slot) (range_with_len (suc s.durable.base) (l.next - suc s.durable.base)) (λ slot. entry_packets B answer l to slot (FinMap.get s.durable.log slot))))
+      (every_flat_map P (λ slot. resent_entry s l to (FinMap.get s.durable.log slot) slot) (range_with_len (suc s.durable.base) (l.next - suc s.durable.base)) (λ slot. entry_packets B answer after l to slot (FinMap.get s.durable.log slot))))
       (every_map P (λ r. to_one s to (Probe r.number)) (filter (λ r. not r.confirmed) s.reads)
       (every_filter (λ r. P (to_one s to (Probe r.number))) (λ r. not r.confirmed) s.reads
       (every_more (λ r. B r.number) (λ r. not r.confirmed ≡ true → P (to_one s to (Probe r.number))) (λ r is _. AsksAgain r.number refl is) s.reads each)))
 
+  request_packets : (B : ℕ → Type 0) (answer : Answer) (z : Server) → z.number ≡ s.number → Every (Speaks B g i s event answer z.durable.term) (to_others z (RequestVote s.durable.base))
+  request_packets B answer z same = every_map (Speaks B g i s event answer z.durable.term) (λ j. to_one z j (RequestVote s.durable.base)) (others z.number)
+      (every_of_all (λ j. Speaks B g i s event answer z.durable.term (to_one z j (RequestVote s.durable.base))) (others z.number) (λ j. Requests s.durable.base refl same (le_refl _)))
+
+  elect_does : Does g i s event (on_elect s)
+  unfolding on_elect
+  elect_does = record { moves = elect_moves s; reads = NoReads refl; packets = λ B each. request_packets B (on_elect s).answer (on_elect s).server refl; acked = λ slot is. absurd (none-some slot is) }
+
   resend_does : (role : Role) → Does g i s event (on_resend s role)
   unfolding on_resend
   resend_does Follower = plain_does _ (idle_plain s _ (to_others_plain s (Ack s.durable.base (upto s)) tt))
-  resend_does (Candidate own) = plain_does _ (idle_plain s _ (to_others_plain s (RequestVote s.durable.base) tt))
-  resend_does (Merging l) = record { moves = kept s; reads = SameReads refl; packets = λ B each. every_flat_map (Speaks B g i s event Done) (resent s l) (others s.number) (resent_packets B Done each l); acked = λ slot is. absurd (none-some slot is) }
-  resend_does (Serving l) = record { moves = kept s; reads = SameReads refl; packets = λ B each. every_flat_map (Speaks B g i s event Done) (resent s l) (others s.number) (resent_packets B Done each l); acked = λ slot is. absurd (none-some slot is) }
+  resend_does (Candidate own) = record { moves = kept s; reads = SameReads refl; packets = λ B each. request_packets B Done s refl; acked = λ slot is. absurd (none-some slot is) }
+  resend_does (Merging l) = record { moves = kept s; reads = SameReads refl; packets = λ B each. every_flat_map (Speaks B g i s event Done s.durable.term) (resent s l) (others s.number) (resent_packets B Done s.durable.term each l); acked = λ slot is. absurd (none-some slot is) }
+  resend_does (Serving l) = record { moves = kept s; reads = SameReads refl; packets = λ B each. every_flat_map (Speaks B g i s event Done s.durable.term) (resent s l) (others s.number) (resent_packets B Done s.durable.term each l); acked = λ slot is. absurd (none-some slot is) }
 
-  fetch_packets : (range : Span) (role : Role) → s.role ≡ role → TakesUp s range g.reads (on_fetch s range g.reads role) → (B : ℕ → Type 0) → Every (Speaks B g i s event (on_fetch s range g.reads role).answer) (on_fetch s range g.reads role).packets
+  fetch_packets : (range : Span) (role : Role) → s.role ≡ role → TakesUp s range g.reads (on_fetch s range g.reads role) → (B : ℕ → Type 0) → Every (Speaks B g i s event (on_fetch s range g.reads role).answer (on_fetch s range g.reads role).server.durable.term) (on_fetch s range g.reads role).packets
   unfolding on_fetch
   fetch_packets range Follower is takes B = tt
   fetch_packets range (Candidate own) is takes B = tt
   fetch_packets range (Merging l) is takes B = tt
-  fetch_packets range (Serving l) is takes B = ask_packets B (ReadIs g.reads) refl
+  fetch_packets range (Serving l) is takes B = ask_packets B (ReadIs g.reads) s.durable.term refl
 
   fetch_acked : (range : Span) (role : Role) (slot : ℕ) → (on_fetch s range g.reads role).acked ≡ Some slot → ⊥
   unfolding on_fetch
@@ -521,6 +524,21 @@ module _ (g : Group) (i : ℕ) (s : Server) (event : Event) where
           acked = λ slot told. absurd (none-some slot told);
         }
 
+    request_vote_does : (base : ℕ) → sent.packet.body ≡ RequestVote base → Does g i s event (on_request_vote s sent.packet.from sent.packet.term base)
+    unfolding on_request_vote stored
+    request_vote_does base is = by_bool (nat_le sent.packet.term s.durable.term || nat_lt base s.durable.base) refl
+      where
+        by_bool : (c : Bool) → (nat_le sent.packet.term s.durable.term || nat_lt base s.durable.base) ≡ c → Does g i s event (if c then nack s sent.packet.from else (let after = raise_term s sent.packet.term in sends after (to_one after sent.packet.from (Vote (vote_of s.durable)) ∷ [])))
+        by_bool true test = plain_does _ (idle_plain s _ (tt, tt))
+        by_bool false test =
+            let higher = leb-false sent.packet.term s.durable.term (or_parts _ _ test).0 in
+            record {
+              moves = falls_back s (raise_term s sent.packet.term) refl refl (omega (arith, higher));
+              reads = NoReads refl;
+              packets = λ B each. (Grants k sent base (vote_of s.durable) at to_it is refl refl refl refl higher, tt);
+              acked = λ slot told. absurd (none-some slot told);
+            }
+
     probe_ok_does : (number upto_there : ℕ) → sent.packet.body ≡ ProbeOk number upto_there → (role : Role) → s.role ≡ role → Does g i s event (on_probe_ok s sent.packet.from sent.packet.term number upto_there role)
     unfolding on_probe_ok
     probe_ok_does number upto_there is Follower role = plain_does _ (idle_plain s [] tt)
@@ -551,13 +569,13 @@ module _ (g : Group) (i : ℕ) (s : Server) (event : Event) where
         record {
           moves = ack_moves s sent.packet.from sent.packet.term slot upto_there s.role refl;
           reads = SameReads rest.0;
-          packets = λ B each. plainly B _ _ rest.1;
+          packets = λ B each. plainly B _ _ _ rest.1;
           acked = λ told is. record { k = k; sent = sent; at = at; to_it = to_it; tells = tells s sent.packet.from sent.packet.term slot upto_there s.role refl told is };
         }
 
     message_does : (setup : Setup) (body : Body) → sent.packet.body ≡ body → Does g i s event (on_message setup s sent.packet.from sent.packet.term body)
     unfolding on_message
-    message_does setup (RequestVote base) is = plain_does _ (request_vote_plain s sent.packet.from sent.packet.term base)
+    message_does setup (RequestVote base) is = request_vote_does base is
     message_does setup (Vote vote) is = plain_does _ (vote_plain s sent.packet.term vote s.role refl)
     message_does setup (Accept e) is = plain_does _ (accept_plain s setup sent.packet.from e)
     message_does setup (Ack slot upto_there) is = ack_does slot upto_there
@@ -573,7 +591,7 @@ unfolding on_packet
 does setup g i s event _ (BySubmit op) = plain_does g i s event _ (submit_plain s setup op s.role refl)
 does setup g i s event _ (ByFetch range) = fetch_does g i s event range refl (fetches s range g.reads s.role refl)
 does setup g i s event _ (ByPacket k p at to) = message_does g i s event k p at to setup p.packet.body refl
-does setup g i s event _ ByElect = plain_does g i s event _ (elect_plain s)
+does setup g i s event _ ByElect = elect_does g i s event
 does setup g i s event _ ByResend = resend_does g i s event s.role
 does setup g i s event _ (ByFinish life slot) = plain_does g i s event _ (finish_plain s life slot)
 does setup g i s event _ (ByGiveBack life slot) = plain_does g i s event _ (give_back_plain s life slot)

@@ -75,12 +75,12 @@ never_again setup first later i op answer x z l runs cut p at in_term serves =
     subst (StaysIn Never (has_applied z)) serves (is z at in_term)
 
 -- an acknowledged slot is chosen in its own term, as a new entry
-record NewChosen (setup : Setup) (history : History) (slot term : ℕ) : Type 0 where
-  op : Op
-  chosen : IsChosen setup history slot term op
-  is_new : IsNew chosen.entry
+pub record NewChosen (setup : Setup) (history : History) (slot term : ℕ) : Type 0 where
+  pub op : Op
+  pub chosen : IsChosen setup history slot term op
+  pub is_new : IsNew chosen.entry
 
-acked_chosen : (setup : Setup) (history : History) (k : ℕ) (a : Acked) → slice_get (replay setup history).acked k ≡ Some a → NewChosen setup history a.slot a.term
+pub acked_chosen : (setup : Setup) (history : History) (k : ℕ) (a : Acked) → slice_get (replay setup history).acked k ≡ Some a → NewChosen setup history a.slot a.term
 acked_chosen setup history k a at =
     let t = told setup history in
     let h = every_get (λ a. IsAcked (told setup history).ballots a.term a.slot) (replay setup history).acked k a (told setup history).follows.acked at in
@@ -89,11 +89,11 @@ acked_chosen setup history k a at =
     let new : IsNew h.entry = omega (arith, made.has_first, ap first_of same_m, h.is_new, made.in_slot) in
     record { op = h.entry.op; chosen = chosen_in_history setup history a.slot a.term h.entry h.chosen; is_new = subst IsNew (sym (chosen_entry setup history a.slot a.term h.entry h.chosen)) new }
 
-new_slot : (names : ℕ) (s : Server) (l : Leader) (op : Op) → ((new_entry names s l op).slot ≡ l.next) × ((new_entry names s l op).term ≡ s.durable.term) × ((new_entry names s l op).first ≡ l.first)
+pub new_slot : (names : ℕ) (s : Server) (l : Leader) (op : Op) → ((new_entry names s l op).slot ≡ l.next) × ((new_entry names s l op).term ≡ s.durable.term) × ((new_entry names s l op).first ≡ l.first)
 unfolding new_entry
 new_slot names s l op = (refl, refl, refl)
 
-merged_fields : (term base : ℕ) (own other : VoteLog) (slot : ℕ) → ((merged_entry term base own other slot).first ≡ merged_first base own other) × ((merged_entry term base own other slot).term ≡ term)
+pub merged_fields : (term base : ℕ) (own other : VoteLog) (slot : ℕ) → ((merged_entry term base own other slot).first ≡ merged_first base own other) × ((merged_entry term base own other slot).term ≡ term)
 unfolding merged_entry
 merged_fields term base own other slot = (refl, refl)
 
@@ -110,13 +110,13 @@ same_first setup history e d p q same =
     x.has_first ∙ ap first_of same_m ∙ sym y.has_first
 
 -- a later leader begins above what was chosen
-chosen_below_first : (setup : Setup) (history : History) (slot term : ℕ) (op : Op) → IsChosen setup history slot term op → (e : Entry) → IsProposal setup history e → term < e.term → slot < e.first
+pub chosen_below_first : (setup : Setup) (history : History) (slot term : ℕ) (op : Op) → IsChosen setup history slot term op → (e : Entry) → IsProposal setup history e → term < e.term → slot < e.first
 chosen_below_first setup history slot term op c e p later =
     let t = told setup history in
     let x = t.sound.made e.slot e.term e (proposed_at_end setup history e p) in
     omega (arith, kept_at t.ballots t.sound slot term c.entry (chosen_at_end setup history slot term op c) e.term x.merge later x.is, x.has_first)
 
-origin_proposal : (setup : Setup) (history : History) (e origin : Entry) → HasOrigin setup history e origin → IsProposal setup history e × IsProposal setup history origin × (origin.slot ≡ e.slot) × IsNew origin
+pub origin_proposal : (setup : Setup) (history : History) (e origin : Entry) → HasOrigin setup history e origin → IsProposal setup history e × IsProposal setup history origin × (origin.slot ≡ e.slot) × IsNew origin
 origin_proposal setup history _ _ (Itself e is new) = (is, is, refl, new)
 origin_proposal setup history _ _ (Through e from origin is k rest) =
     let r = origin_proposal setup history from origin rest in
@@ -175,9 +175,7 @@ took_cut CutOff took not_whole = refl
 took_cut Missed took not_whole = absurd took
 took_cut Untouched took not_whole = absurd took
 
-module _ (setup : Setup) (history : History) (port : List Submission) (rule : FollowsRule setup history port) (j k : ℕ) (a b : Submission) (at_j : slice_get port j ≡ Some a) (at_k : slice_get port k ≡ Some b) (earlier : a.write < b.write) where
-  ended : HasEnded setup port b.before a.write
-  ended = rule.waits j k a b at_j at_k earlier
+module _ (setup : Setup) (history : History) (port : List Submission) (rule : FollowsRule setup history port) (j : ℕ) (a b : Submission) (at_j : slice_get port j ≡ Some a) (happened : IsPrefix (b.before ++ submitting b ∷ []) history) (ended : HasEnded setup port b.before a.write) where
 
   -- where and when the earlier write was acknowledged
   told_slot : ℕ
@@ -187,7 +185,7 @@ module _ (setup : Setup) (history : History) (port : List Submission) (rule : Fo
   told_term = ended.answered.acked.term
 
   b_before : IsPrefix b.before history
-  b_before = begins_with b.before history (submitting b) (rule.happened k b at_k)
+  b_before = begins_with b.before history (submitting b) happened
 
   picked : NewChosen setup history ended.answered.acked.slot ended.answered.acked.term
   picked = new_chosen_after setup b.before history b_before ended.answered.acked.slot ended.answered.acked.term (acked_chosen setup b.before ended.answered.k ended.answered.acked ended.answered.at)
@@ -223,24 +221,13 @@ module _ (setup : Setup) (history : History) (port : List Submission) (rule : Fo
           let it : ended.final.server ≡ a.server = one_leader setup ended.final.before ended.final.before a.before ended.final.server a.server y.server x.server (whole_prefix ended.final.before) first y.runs x.runs (ap leads y.serves) (ap leads x.serves) (sym same_term) in
           never_again setup a.before ended.final.before a.server a.op a.answer x.server y.server y.leader x.runs cut p (ap (slice_get (replay setup ended.final.before).servers) (sym it) ∙ y.runs) (sym same_term) y.serves
 
-  final_first : ended.m < k
-  final_first =
-      elim (cases_eq k ended.m) [
-        | inl same ↦ absurd (omega (arith, earlier, ended.same, ap (λ d. d.write) (same_Some b ended.final (sym at_k ∙ ap (slice_get port) same ∙ ended.at))))
-        | inr apart ↦ elim (cases_lt k ended.m) [
-          | inl later ↦ absurd (omega (arith, earlier, ended.same, rule.ascends k ended.m b ended.final at_k ended.at later))
-          | inr not_later ↦ omega (arith, apart, not_later)
-        ]
-      ]
-
   -- the later write's copies are above the acknowledged one
-  later_above : (e : Entry) → IsProposal setup history e → IsNew e → IsCopy setup b e → ended.answered.acked.slot < e.slot
-  later_above e p new copy =
+  later_above : (e : Entry) → IsProposal setup history e → IsNew e → (copy : IsCopy setup b e) → ended.answered.target.server.durable.term ≤ copy.target.server.durable.term → ended.answered.acked.slot < e.slot
+  later_above e p new copy low =
       let y = copy.target in
       let fields = new_slot setup.names y.server y.leader b.op in
       let e_slot : e.slot ≡ y.leader.next = ap (λ x. x.slot) copy.is ∙ fields.0 in
       let e_term : e.term ≡ y.server.durable.term = ap (λ x. x.term) copy.is ∙ fields.1 in
-      let low = rule.no_lower ended.m k ended.final b ended.at at_k final_first ended.answered.target y in
       elim (cases_lt ended.answered.acked.term e.term) [
         | inl later ↦ omega (arith, chosen_below_first setup history ended.answered.acked.slot ended.answered.acked.term picked.op picked.chosen e p later, new)
         | inr not_later ↦
@@ -249,11 +236,11 @@ module _ (setup : Setup) (history : History) (port : List Submission) (rule : Fo
       ]
 
   -- so no copy of the earlier write is chosen above a copy of the later one
-  not_above : (low high : ℕ) → ComesFrom setup history low b → ComesFrom setup history high a → low < high → ⊥
-  not_above low high fb fa above =
+  pub not_above : (low high : ℕ) (fb : ComesFrom setup history low b) → ComesFrom setup history high a → ended.answered.target.server.durable.term ≤ fb.copy.target.server.durable.term → low < high → ⊥
+  not_above low high fb fa le above =
       let x = origin_proposal setup history fb.chosen.entry fb.origin fb.comes in
       let y = origin_proposal setup history fa.chosen.entry fa.origin fa.comes in
-      let beyond = later_above fb.origin x.1 x.3 fb.copy in
+      let beyond = later_above fb.origin x.1 x.3 fb.copy le in
       let over : ended.answered.acked.slot < high = omega (arith, beyond, x.2, fb.chosen.in_slot, above) in
       let lower = copies_lower fa.origin fa.copy (λ same. omega (arith, same, y.2, fa.chosen.in_slot, over)) in
       let begins : picked.chosen.entry.first ≤ ended.answered.acked.slot = omega (arith, picked.is_new, picked.chosen.in_slot) in
@@ -262,10 +249,23 @@ module _ (setup : Setup) (history : History) (port : List Submission) (rule : Fo
         | inr not_before ↦ no_older_origin setup history ended.answered.acked.slot ended.answered.acked.term picked fa.chosen.entry fa.origin fa.comes (omega (arith, not_before, fa.chosen.in_term)) lower (omega (arith, begins, over, fa.chosen.in_slot))
       ]
 
+-- the write that was asked earlier had its last submission earlier
+final_first : (setup : Setup) (history : History) (port : List Submission) (rule : FollowsRule setup history port) (k : ℕ) (a b : Submission) → slice_get port k ≡ Some b → a.write < b.write → (ended : HasEnded setup port b.before a.write) → ended.m < k
+final_first setup history port rule k a b at_k earlier ended =
+    elim (cases_eq k ended.m) [
+      | inl same ↦ absurd (omega (arith, earlier, ended.same, ap (λ d. d.write) (same_Some b ended.final (sym at_k ∙ ap (slice_get port) same ∙ ended.at))))
+      | inr apart ↦ elim (cases_lt k ended.m) [
+        | inl later ↦ absurd (omega (arith, earlier, ended.same, rule.ascends k ended.m b ended.final at_k ended.at later))
+        | inr not_later ↦ omega (arith, apart, not_later)
+      ]
+    ]
+
 -- every port
 pub ordered : (setup : Setup) (history : History) (port : List Submission) → FollowsRule setup history port → IsOrdered setup history port
 ordered setup history port rule j k a b low high at_j at_k earlier fb fa =
+    let ended = rule.waits j k a b at_j at_k earlier in
+    let le = rule.no_lower ended.m k ended.final b ended.at at_k (final_first setup history port rule k a b at_k earlier ended) ended.answered.target fb.copy.target in
     elim (cases_lt low high) [
-      | inl above ↦ absurd (not_above setup history port rule j k a b at_j at_k earlier low high fb fa above)
+      | inl above ↦ absurd (not_above setup history port rule j a b at_j (rule.happened k b at_k) ended low high fb fa le above)
       | inr not_above_it ↦ not_above_it
     ]

@@ -8,7 +8,7 @@ use Rattle.pf_entry.specs.declared.packets.Packet.{Packet}
 use Rattle.pf_entry.specs.Records.{Durable, image_of, stored, holds}
 use Rattle.pf_protocol.proofs.Ballots.{Cast, Ballot, Ballots, Sound}
 use Rattle.pf_protocol.proofs.Changes.{grown, Grows, Extends}
-use Rattle.pf_protocol.proofs.Keeping.{grown_sound, by_test}
+use Rattle.pf_protocol.proofs.Keeping.{grown_sound, by_test, holds_is}
 use Rattle.pf_protocol.proofs.Growing.{WithinTerm, unchanged_grows}
 use Rattle.pf_protocol.proofs.Extending.{extends_grown, extends_self, grown_accepted}
 use Rattle.pf_protocol.specs.Servers.{Setup, Server, Condition, Running, Stopped, Unformatted}
@@ -38,9 +38,10 @@ pub record HoldsAt (g : Group) (i slot term : ℕ) : Type 0 where
   pub runs : slice_get g.servers i ≡ Some (Running server)
   pub has : holds server.durable slot term ≡ true
 
--- votes and merges stay, and no term falls
+-- votes and merges stay, no term falls, and nothing is accepted of a term that is below the server's
 pub record Persists (b after : Ballots) : Type 0 where
   pub terms : (i : ℕ) → (b.disk i).term ≤ (after.disk i).term
+  pub fresh : (i s t : ℕ) → after.accepted i s t ≡ true → (b.accepted i s t ≡ true) ⊎ ((b.disk i).term ≤ t)
   pub votes : (i t : ℕ) (v : Cast) → b.vote i t ≡ Some v → after.vote i t ≡ Some v
   pub ballots : (t : ℕ) (m : Ballot) → b.ballot t ≡ Some m → after.ballot t ≡ Some m
 
@@ -57,7 +58,7 @@ pub record Next (b : Ballots) (g : Group) : Type 0 where
 
 module _ (b : Ballots) (sound : Sound b) (served : Served b) (g : Group) (follows : Follows g b) where
   nothing_next : Next b g
-  nothing_next = record { ballots = b; sound = sound; served = served; follows = follows; proposals = λ s t e is. is; accepted = λ i s t is. is; persists = record { terms = λ i. le_refl _; votes = λ i t v is. is; ballots = λ t m is. is }; new_accepted = λ i s t is. inl is }
+  nothing_next = record { ballots = b; sound = sound; served = served; follows = follows; proposals = λ s t e is. is; accepted = λ i s t is. is; persists = record { terms = λ i. le_refl _; fresh = λ i s t is. inl is; votes = λ i t v is. is; ballots = λ t m is. is }; new_accepted = λ i s t is. inl is }
 
   servers_follow : (i : ℕ) (c : Condition) (after : Ballots) → i < 3 → Extends i b after → Sound after → ConditionIs after i c → (j : ℕ) (d : Condition) → slice_get (slice_set g.servers i c) j ≡ Some d → (j < 3) × ConditionIs after j d
   servers_follow i c after below x after_sound is j d at =
@@ -83,16 +84,29 @@ module _ (b : Ballots) (sound : Sound b) (served : Served b) (g : Group) (follow
   term_after : (old before later new : Durable) → old ≡ before → new ≡ later → before.term ≤ later.term → old.term ≤ new.term
   term_after old before later new from to low = omega (arith, ap (λ d. d.term) from, ap (λ d. d.term) to, low)
 
+  -- an entry that is new on a disk is of no lower term than the disk
+  fresh_after : (proposal : ℕ → ℕ → Option Entry) (ballot : ℕ → Option Ballot) (i : ℕ) (before d : Durable) → b.disk i ≡ before → Grows proposal ballot before d → (j slot t : ℕ) → (b.accepted j slot t ≡ true) ⊎ ((j ≡ i) × (holds d slot t ≡ true)) → (b.accepted j slot t ≡ true) ⊎ ((b.disk j).term ≤ t)
+  fresh_after proposal ballot i before d disk grows j slot t which =
+      elim which [
+        | inl old ↦ inl old
+        | inr new ↦
+            let e = holds_is d slot t new.1 in
+            elim (grows.news slot e.0 e.1) [
+              | inl was ↦ inl (subst (λ k. b.accepted k slot t ≡ true) (sym new.0) (subst (λ u. b.accepted i slot u ≡ true) e.2 (sound.held_accepted i slot e.0 (ap (λ x. FinMap.get x.log slot) disk ∙ was))))
+              | inr news ↦ inr (omega (arith, news.not_old, e.2, ap (λ x. x.term) disk, ap (λ k. (b.disk k).term) new.0))
+            ]
+      ]
+
   -- one server's condition changes
-  changed_next : (i : ℕ) (c : Condition) (after : Ballots) → (b.disk i).term ≤ (after.disk i).term → i < 3 → Sound after → Served after → Extends i b after → ConditionIs after i c → ((j s t : ℕ) → after.accepted j s t ≡ true → (b.accepted j s t ≡ true) ⊎ HoldsAt (record g { servers = slice_set g.servers i c }) j s t) → Next b (record g { servers = slice_set g.servers i c })
-  changed_next i c after low below after_sound after_served x is back = record {
+  changed_next : (i : ℕ) (c : Condition) (after : Ballots) → (b.disk i).term ≤ (after.disk i).term → ((j s t : ℕ) → after.accepted j s t ≡ true → (b.accepted j s t ≡ true) ⊎ ((b.disk j).term ≤ t)) → i < 3 → Sound after → Served after → Extends i b after → ConditionIs after i c → ((j s t : ℕ) → after.accepted j s t ≡ true → (b.accepted j s t ≡ true) ⊎ HoldsAt (record g { servers = slice_set g.servers i c }) j s t) → Next b (record g { servers = slice_set g.servers i c })
+  changed_next i c after low fresh below after_sound after_served x is back = record {
     ballots = after;
     sound = after_sound;
     served = after_served;
     follows = record { servers = servers_follow i c after below x after_sound is; packets = packets_follow i after x after_sound; acked = acked_follow i after x };
     proposals = x.proposals;
     accepted = x.accepted;
-    persists = record { terms = terms_rise i after x low; votes = x.votes; ballots = x.ballots };
+    persists = record { terms = terms_rise i after x low; fresh = fresh; votes = x.votes; ballots = x.ballots };
     new_accepted = back;
   }
 
@@ -129,7 +143,7 @@ module _ (b : Ballots) (sound : Sound b) (served : Served b) (g : Group) (follow
     };
     proposals = row.done_extends.proposals;
     accepted = row.done_extends.accepted;
-    persists = record { terms = terms_rise i row.done row.done_extends (term_after (b.disk i) s.durable o.server.durable (row.done.disk i) (follows.servers i (Running s) at).1.disk row.server_is.disk row.grows.term); votes = row.done_extends.votes; ballots = row.done_extends.ballots };
+    persists = record { terms = terms_rise i row.done row.done_extends (term_after (b.disk i) s.durable o.server.durable (row.done.disk i) (follows.servers i (Running s) at).1.disk row.server_is.disk row.grows.term); fresh = λ j slot t did. fresh_after row.made.proposal row.made.ballot i s.durable o.server.durable (follows.servers i (Running s) at).1.disk row.grows j slot t (row.done_accepted j slot t did); votes = row.done_extends.votes; ballots = row.done_extends.ballots };
     new_accepted = λ j slot t is. elim (holds_there i (Running s) (settled o.server) row.done at row.done_accepted j slot t is) [
       | inl old ↦ inl old
       | inr new ↦ inr (record { server = new.server; runs = new.runs; has = new.has })
@@ -139,7 +153,7 @@ module _ (b : Ballots) (sound : Sound b) (served : Served b) (g : Group) (follow
   cut_off_next : (i : ℕ) (s : Server) (o : Outcome) → i < 3 → ServerIs b i s → Row b i s o → Next b (cut_off g i s o)
   unfolding cut_off
   cut_off_next i s o below is row =
-      changed_next i (Stopped (suc s.life) s.durable o.server.durable) row.made (term_after (b.disk i) s.durable s.durable (row.made.disk i) is.disk row.made_disk (le_refl _)) below row.made_sound row.made_served row.made_extends (record { disk = row.made_disk; grows = row.grows; before_known = applied_there i b row.made row.made_extends row.made_sound s.durable.term (is_applied s.durable.base s.durable.saved) s.durable.sectors is.knows.saved; after_known = row.after_known }) (λ j slot t did. inl (row.made_accepted j slot t did))
+      changed_next i (Stopped (suc s.life) s.durable o.server.durable) row.made (term_after (b.disk i) s.durable s.durable (row.made.disk i) is.disk row.made_disk (le_refl _)) (λ j slot t did. inl (row.made_accepted j slot t did)) below row.made_sound row.made_served row.made_extends (record { disk = row.made_disk; grows = row.grows; before_known = applied_there i b row.made row.made_extends row.made_sound s.durable.term (is_applied s.durable.base s.durable.saved) s.durable.sectors is.knows.saved; after_known = row.after_known }) (λ j slot t did. inl (row.made_accepted j slot t did))
 
   ended_next : (how : Ending) (i : ℕ) (s : Server) (o : Outcome) → slice_get g.servers i ≡ Some (Running s) → i < 3 → ServerIs b i s → Row b i s o → Next b (ended how g i s o)
   ended_next Whole i s o at below is row = acted_next i s o at below row
@@ -174,7 +188,7 @@ module _ (b : Ballots) (sound : Sound b) (served : Served b) (g : Group) (follow
   begun_next i life d c at below grows known =
       let grown_is = grown_sound b sound i below d grows in
       let there = applied_there i b (grown b i d) (extends_grown b i d) grown_is d.term (is_applied d.base d.saved) d.sectors known in
-      changed_next i (Running (restarted i life d)) (grown b i d) (term_after (b.disk i) (b.disk i) d ((grown b i d).disk i) refl (cond-true _ _ _ (eq-eqb i i refl)) grows.term) below grown_is (grown_served b i d (extends_grown b i d) served) (extends_grown b i d)
+      changed_next i (Running (restarted i life d)) (grown b i d) (term_after (b.disk i) (b.disk i) d ((grown b i d).disk i) refl (cond-true _ _ _ (eq-eqb i i refl)) grows.term) (λ j slot t did. fresh_after b.proposal b.ballot i (b.disk i) d refl grows j slot t (grown_accepted b i d j slot t did)) below grown_is (grown_served b i d (extends_grown b i d) served) (extends_grown b i d)
       (record {
         number = refl;
         disk = cond-true _ _ _ (eq-eqb i i refl);
@@ -229,7 +243,7 @@ module _ (b : Ballots) (sound : Sound b) (served : Served b) (g : Group) (follow
 
   begun_at : (how : Ending) (i life : ℕ) (d before after : Durable) (c : Condition) → slice_get g.servers i ≡ Some c → i < 3 → Grows b.proposal b.ballot (b.disk i) d → AppliedKnown b d.term d.base d.saved d.sectors → StoppedIs b i before after → Next b (begun how g i life d before after)
   begun_at Whole i life d before after c at below grows known h = begun_next i (suc life) (renewed d) c at below (renewed_grows i d grows) (renewed_known d known)
-  begun_at CutOff i life d before after c at below grows known h = changed_next i (Stopped (suc life) before after) b (le_refl _) below sound served (extends_self i b) h (λ j slot t did. inl did)
+  begun_at CutOff i life d before after c at below grows known h = changed_next i (Stopped (suc life) before after) b (le_refl _) (λ j slot t did. inl did) below sound served (extends_self i b) h (λ j slot t did. inl did)
   begun_at Missed i life d before after c at below grows known h = nothing_next
   begun_at Untouched i life d before after c at below grows known h = nothing_next
 
@@ -246,7 +260,7 @@ module _ (b : Ballots) (sound : Sound b) (served : Served b) (g : Group) (follow
 
   stop_next : (i : ℕ) (o : Option Condition) → slice_get g.servers i ≡ o → Next b (stopped g i o)
   stop_next i (Some (Running s)) at =
-      let h = follows.servers i (Running s) at in changed_next i (Stopped (suc s.life) s.durable s.durable) b (le_refl _) h.0 sound served (extends_self i b) (stopped_now i s h.1) (λ j slot t did. inl did)
+      let h = follows.servers i (Running s) at in changed_next i (Stopped (suc s.life) s.durable s.durable) b (le_refl _) (λ j slot t did. inl did) h.0 sound served (extends_self i b) (stopped_now i s h.1) (λ j slot t did. inl did)
   stop_next i (Some (Stopped life before after)) at = nothing_next
   stop_next i (Some Unformatted) at = nothing_next
   stop_next i None at = nothing_next
@@ -258,7 +272,7 @@ module _ (b : Ballots) (sound : Sound b) (served : Served b) (g : Group) (follow
   claim_at_next : (window i slot : ℕ) (o : Option Condition) → slice_get g.servers i ≡ o → claim_of window o ≡ Some slot → Next b (claim_at g i o (Some slot))
   claim_at_next window i slot (Some (Running s)) at is =
       let h = follows.servers i (Running s) at in
-      changed_next i (Running (claimed s slot)) b (le_refl _) h.0 sound served (extends_self i b) (claimed_is b sound served i h.0 s h.1 slot (FinMap.get s.durable.log slot) refl (claimable_is window s slot is)) (λ j slot t did. inl did)
+      changed_next i (Running (claimed s slot)) b (le_refl _) (λ j slot t did. inl did) h.0 sound served (extends_self i b) (claimed_is b sound served i h.0 s h.1 slot (FinMap.get s.durable.log slot) refl (claimable_is window s slot is)) (λ j slot t did. inl did)
   claim_at_next window i slot (Some (Stopped life before after)) at is = nothing_next
   claim_at_next window i slot (Some Unformatted) at is = nothing_next
   claim_at_next window i slot None at is = nothing_next
@@ -279,7 +293,7 @@ module _ (b : Ballots) (sound : Sound b) (served : Served b) (g : Group) (follow
 
   lost_next : (k : ℕ) (o : Option Sent) → slice_get g.packets k ≡ o → Next b (lost g k o)
   lost_next k None at = nothing_next
-  lost_next k (Some p) at = record { ballots = b; sound = sound; served = served; follows = marked_next k p _ at refl; proposals = λ s t e is. is; accepted = λ i s t is. is; persists = record { terms = λ i. le_refl _; votes = λ i t v is. is; ballots = λ t m is. is }; new_accepted = λ i s t is. inl is }
+  lost_next k (Some p) at = record { ballots = b; sound = sound; served = served; follows = marked_next k p _ at refl; proposals = λ s t e is. is; accepted = λ i s t is. is; persists = record { terms = λ i. le_refl _; fresh = λ i s t is. inl is; votes = λ i t v is. is; ballots = λ t m is. is }; new_accepted = λ i s t is. inl is }
 
 -- the counts of a group are not read
 pub counts_next : (b : Ballots) (g : Group) (elections reads : ℕ) → Follows g b → Follows (record g { elections = elections; reads = reads }) b

@@ -75,3 +75,8 @@ pub record ComesFrom (setup : Setup) (history : History) (slot : ℕ) (a : Submi
 -- where a write of the port is chosen, no write that it asked earlier is chosen in a higher slot
 abbrev pub IsOrdered : Setup → History → List Submission → Type 0
 IsOrdered setup history port = (j k : ℕ) (a b : Submission) (low high : ℕ) → slice_get port j ≡ Some a → slice_get port k ≡ Some b → a.write < b.write → ComesFrom setup history low b → ComesFrom setup history high a → high ≤ low
+
+-- where a write of the port was acknowledged before another port handed on a write of its own, no copy of the first is chosen above one
+-- of the second
+abbrev pub IsOrderedBetween : Setup → History → List Submission → Type 0
+IsOrderedBetween setup history port = (j : ℕ) (a b : Submission) (low high : ℕ) → slice_get port j ≡ Some a → IsPrefix (b.before ++ submitting b ∷ []) history → HasEnded setup port b.before a.write → ComesFrom setup history low b → ComesFrom setup history high a → high ≤ low

@@ -15,7 +15,7 @@ ghost use Rattle.pf_protocol.specs.Safety.{OneLeader, IsSafe};
 ghost use Rattle.pf_protocol.specs.Groups.{Answered};
 ghost use Rattle.pf_protocol.specs.Snapshots.{IsSnapshot};
 ghost use Rattle.pf_protocol.specs.Fresh.{IsFresh};
-ghost use Rattle.pf_protocol.specs.Ports.{Submission, FollowsRule, IsOrdered};
+ghost use Rattle.pf_protocol.specs.Ports.{Submission, FollowsRule, IsOrdered, IsOrderedBetween};
 
 /// In each term at most one server ever merges or serves.
 pub fn one_leader_to_a_term()
@@ -75,4 +75,10 @@ pub fn reads_are_fresh()
 /// several leaders and each of its copies may turn up. A copy whose step was cut off counts where a restart finds its record.
 pub fn ports_are_ordered()
     ensures { (setup : Setup) (history : History) (port : List Submission) → FollowsRule setup history port → IsOrdered setup history port }
+{}
+
+/// Where a write of a port was acknowledged before another port handed on a write of its own, no copy of the first is ever
+/// chosen in a higher slot than a copy of the second, to whatever leader the second port handed it.
+pub fn ports_follow_each_other()
+    ensures { (setup : Setup) (history : History) (port : List Submission) → FollowsRule setup history port → IsOrderedBetween setup history port }
 {}
