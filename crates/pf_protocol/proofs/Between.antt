@@ -1,47 +1,42 @@
 -- Writes of different ports: one that began after another was acknowledged is chosen after it.
-use Rattle.std.proofs.Common.{◌≡◌, ℕ, zero, suc, ◌+◌, ◌<◌, ◌≤◌, ◌≢◌, ◌⊎◌, inl, inr, Bool, true, false, List, [], ◌∷◌, ◌++◌, Option, Some, None, slice_get, arith, refl, sym, ap, subst, ◌∙◌, lt_of_le_of_lt}
+use Rattle.std.proofs.Common.{◌≡◌, ℕ, ◌<◌, ◌≤◌, ◌≢◌, ◌⊎◌, inl, inr, true, false, List, [], ◌∷◌, ◌++◌, Some, slice_get, arith, refl, sym, ap, subst, ◌∙◌, lt_of_le_of_lt}
 use Rattle.std.specs.FinMap
 use Rattle.std.proofs.lemmas.Bool.{cases_lt, cases_eq, or_cases, false_from_ne_true, or_left, le-leb}
-use Rattle.std.proofs.lemmas.Option.{same_Some, none-some}
+use Rattle.std.proofs.lemmas.Option.{same_Some}
 use Rattle.std.proofs.lemmas.List.{append_assoc}
-use Rattle.pf_entry.specs.Lists.{Every}
 use Rattle.pf_entry.proofs.Lists.{every_get}
-use Rattle.pf_entry.specs.Maps.{Map}
 use Rattle.pf_entry.specs.declared.ops.Op.{Op}
 use Rattle.pf_entry.specs.declared.entries.Entry.{Entry}
 use Rattle.pf_entry.specs.declared.entries.VoteLog.{VoteLog}
-use Rattle.pf_entry.specs.declared.packets.Body.{Body}
-use Rattle.pf_entry.specs.declared.packets.Body.TheVariants.{RequestVote, Vote, Accept, Ack, Nack, Commit, Probe, ProbeOk, Image}
 use Rattle.pf_entry.specs.Entries.{IsNew}
 use Rattle.pf_entry.specs.Voids.{IsVoid}
-use Rattle.pf_entry.specs.Merging.{is_passed_over, taken, merged_first, merged_entry}
+use Rattle.pf_entry.specs.Merging.{is_passed_over}
 use Rattle.pf_entry.proofs.Merging.{was_taken, takes_from, IsVoid_from_test}
-use Rattle.pf_entry.specs.Records.{Durable, vote_of}
 use Rattle.pf_protocol.specs.declared.events.Event.{Event}
 use Rattle.pf_protocol.specs.declared.events.Event.TheVariants.{Deliver}
 use Rattle.pf_protocol.specs.declared.events.Happening.{Happening}
-use Rattle.pf_protocol.specs.Servers.{Setup, Leader, Role, Follower, Candidate, Merging, Serving, Server, Running, has_applied}
+use Rattle.pf_protocol.specs.Servers.{Setup, Leader, Candidate, Serving, Server, Running}
 use Rattle.pf_protocol.specs.Outcomes.{Outcome}
 use Rattle.pf_protocol.specs.Rows.{on_packet, settled}
 use Rattle.pf_protocol.specs.Saving.{restarted, claimed}
-use Rattle.pf_protocol.specs.Groups.{Acked, Sent, Group, ending, happens, opening, first_leader, opening_disk}
-use Rattle.pf_protocol.specs.Histories.{History, IsPrefix, replay, Runs, HasAccepted, IsProposal, IsChosen, IsTakenFrom, HasOrigin, Itself, Through, WasHeld}
-use Rattle.pf_protocol.specs.Kept.{Now, IsMarked}
-use Rattle.pf_protocol.specs.Ports.{Submission, submitting, IsTarget, IsCopy, HasEnded, FollowsRule, ComesFrom, IsOrderedBetween}
-use Rattle.pf_protocol.proofs.Ballots.{Cast, Ballot, first_of, Ballots, IsStart, Faithful, HasQuorum, IsPicked}
+use Rattle.pf_protocol.specs.Groups.{Acked, Group, ending, happens, opening, first_leader}
+use Rattle.pf_protocol.specs.Histories.{History, IsPrefix, replay, Runs, HasAccepted, IsProposal, IsChosen, IsTakenFrom, HasOrigin, Itself, Through}
+use Rattle.pf_protocol.specs.Kept.{Now}
+use Rattle.pf_protocol.specs.Ports.{Submission, submitting, FollowsRule, IsOrderedBetween}
+use Rattle.pf_protocol.proofs.Ballots.{Cast, first_of, IsStart, Faithful, HasQuorum, IsPicked}
 use Rattle.pf_protocol.proofs.Law.{share, kept_at}
-use Rattle.pf_protocol.proofs.Knowing.{IsAcked, AckMarks, AllAcked}
-use Rattle.pf_protocol.proofs.Follows.{IsCandidate, IsLeader, RoleIs, PacketIs}
-use Rattle.pf_protocol.proofs.Making.{Stems, Brings, IsKeyed, VoteFrom, backs_all, submit_stems, fetch_stems, elect_stems, resend_stems, checkpoint_stems, finish_stems, give_back_stems, message_stems, accepted_longer, longer, run_longer}
-use Rattle.pf_protocol.proofs.Histories.{Told, told, Stands, held_at_end, chosen_at_end}
+use Rattle.pf_protocol.proofs.Knowing.{IsAcked}
+use Rattle.pf_protocol.proofs.Follows.{IsCandidate, IsLeader, RoleIs}
+use Rattle.pf_protocol.proofs.Making.{Stems, IsKeyed, VoteFrom, backs_all, submit_stems, fetch_stems, elect_stems, resend_stems, checkpoint_stems, finish_stems, give_back_stems, message_stems, accepted_longer, run_longer}
+use Rattle.pf_protocol.proofs.Histories.{told, Stands, held_at_end, chosen_at_end}
 use Rattle.pf_protocol.proofs.Facts.{servers_covered, marks_stand, held_is_within, votes_were_held}
 use Rattle.pf_protocol.proofs.Origins.{prefix_of, begins_with, accepted_after, taken_is_proposal}
 use Rattle.pf_protocol.proofs.Naming.{nothing_old}
-use Rattle.pf_protocol.proofs.Stepping.{IsRule, BySubmit, ByFetch, ByPacket, ByElect, ByResend, ByFinish, ByGiveBack, ByCheckpoint, Steps, Came, Stays, Stepped, Begins, Claims, goes}
+use Rattle.pf_protocol.proofs.Stepping.{IsRule, BySubmit, ByFetch, ByPacket, ByElect, ByResend, ByFinish, ByGiveBack, ByCheckpoint, Came, Stays, Stepped, Begins, Claims, goes}
 use Rattle.pf_protocol.proofs.Snapshots.{whole_prefix, by_events, opened, chosen_after}
-use Rattle.pf_protocol.proofs.Fetching.{told_on, runs_there, disk_term_low, term_low, Says, Rose, Granted, AckedBy, traced}
+use Rattle.pf_protocol.proofs.Fetching.{told_on, runs_there, disk_term_low, term_low, Says, Granted, AckedBy, traced}
 use Rattle.pf_protocol.proofs.Fresh.{comparable, marks}
-use Rattle.pf_protocol.proofs.Ports.{NewChosen, acked_chosen, new_slot, chosen_below_first, origin_proposal, merged_fields, not_above}
+use Rattle.pf_protocol.proofs.Ports.{NewChosen, acked_chosen, new_slot, chosen_below_first, merged_fields, not_above}
 
 -- what a candidate's own vote shows was accepted by it
 abbrev AllHeld : Setup → History → Type 0
@@ -303,7 +298,7 @@ module _ (setup : Setup) (history now : History) (p : IsPrefix now history) (n :
   own_stand d k leader_is low =
       let first = begins_with k.earlier history (record { event = Deliver k.k; answer = k.answer }) k.is_earlier in
       let said : Granted setup k.earlier k.sent.packet.from k.sent.packet.to k.sent.packet.term =
-          subst (Says setup k.earlier k.sent.packet.from k.sent.packet.to k.sent.packet.term) k.merge.is_vote (every_get (λ s. Says setup k.earlier s.packet.from s.packet.to s.packet.term s.packet.body) (replay setup k.earlier).packets k.k k.sent (traced setup k.earlier).says k.merge.was_sent) in
+      subst (Says setup k.earlier k.sent.packet.from k.sent.packet.to k.sent.packet.term) k.merge.is_vote (every_get (λ s. Says setup k.earlier s.packet.from s.packet.to s.packet.term s.packet.body) (replay setup k.earlier).packets k.k k.sent (traced setup k.earlier).says k.merge.was_sent) in
       let voter : Pair k.sent.packet.from = elim (who k.sent.packet.from (other_faithful setup history d e k).0) [
         | inl pair ↦ pair
         | inr same ↦ absurd ((other_faithful setup history d e k).1 (same ∙ sym leader_is))

@@ -370,7 +370,6 @@ module _ (setup : Setup) (history : History) (h : Happening) (t : Traced setup h
     low = omega (arith, low, term);
     asked = said k sent (Probe n) at probe;
   })
-
   speaks i s o step p (Requests base body from le) = subst (Says setup next p.from p.to p.term) (sym body) (rose_now i s o step p.from p.term (from ∙ stepper_number i s step.runs) le)
   speaks i s o step p (Grants k sent base v at to_it request body from to term lower) = subst (Says setup next p.from p.to p.term) (sym body) (record {
     earlier = history;

@@ -176,7 +176,6 @@ took_cut Missed took not_whole = absurd took
 took_cut Untouched took not_whole = absurd took
 
 module _ (setup : Setup) (history : History) (port : List Submission) (rule : FollowsRule setup history port) (j : ℕ) (a b : Submission) (at_j : slice_get port j ≡ Some a) (happened : IsPrefix (b.before ++ submitting b ∷ []) history) (ended : HasEnded setup port b.before a.write) where
-
   -- where and when the earlier write was acknowledged
   told_slot : ℕ
   told_slot = ended.answered.acked.slot
