@@ -31,7 +31,6 @@ use Rattle.pf_protocol.specs.Answers.{answer_to, room_refusal, most_packets, mos
 use Rattle.pf_protocol.specs.Shown.{Shows, small_group, write_at, IsSector, line, so}
 use Rattle.pf_protocol.proofs.Replays.{empty_rows, submits, delivers, elects, claims_at_1, finishes, first_is, none_marked, nor_of, none_of, follows}
 use Rattle.pf_protocol.proofs.Answering.{submit_answer, deliver_answer, elect_answer, finish_answer, claim_answer_1, claim_answer_none, goes_on, is_small_group}
-use Rattle.pf_entry.specs.Sets.{from_items}
 use Rattle.pf_protocol.specs.GivenAway.{lost_slot, until_the_restart, GivesAway}
 
 -- the states of the servers 0, 1 and 2 are a, b and c, each with its number; l are records of leaders, and g are the group after each event

@@ -26,7 +26,7 @@ early_apply first second third =
     ∷ so (Deliver 9) Done
     ∷ []
 
--- server 1 has applied slot 2 alone, and the host was told of slots 2 and 3
+-- server 1 has applied slot 2 alone, and the host was told of slots 2 and 3. Nothing more can be applied
 pub record AppliesEarly (first second third : Sector) : Type 0 where
   pub acked : (replay small_group (early_apply first second third)).acked ≡ record { term = 1; slot = 2 } ∷ record { term = 1; slot = 3 } ∷ []
   pub calm : answer_to small_group (replay small_group (early_apply first second third)) Claim ≡ Refused NoneFree

@@ -47,7 +47,7 @@ ghost_slots first second third fourth fifth sixth =
     ∷ so (Submit 1 (write_at 6 sixth)) (SlotIs 3)
     ∷ []
 
--- after the merge and after all, slot 2 is the op of term 2, which was committed; the ghosts in slots 3 and 4 stay uncommitted at server 0
+-- after the merge and after all, slot 2 is the op of term 2, which was committed; the ghosts in slots 3 and 4 stay uncommitted at server 0. Nothing more can be applied
 pub record PassesOver (first second third fourth fifth sixth : Sector) : Type 0 where
   pub acked : (replay small_group (ghost_slots first second third fourth fifth sixth)).acked ≡ record { term = 2; slot = 2 } ∷ []
   pub before : Shows (replay small_group (until_the_merge first second third fourth fifth sixth)) 1 3 0 (line 1 3 (write_at 0 first) true ∷ line 2 3 (write_at 5 fifth) true ∷ []) (1 ∷ 2 ∷ [])

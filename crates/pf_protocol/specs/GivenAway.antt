@@ -32,7 +32,7 @@ lost_slot first second =
     ∷ so (Deliver 5) Done
     ∷ []
 
--- the old leader came back with the old op, which is replaced: each server that ran on holds the new op; the host was told of it alone
+-- the old leader came back with the old op, which is replaced: each server that ran on holds the new op; the host was told of it alone. Nothing more can be applied
 pub record GivesAway (first second : Sector) : Type 0 where
   pub acked : (replay small_group (lost_slot first second)).acked ≡ record { term = 2; slot = 1 } ∷ []
   pub before : Shows (replay small_group (until_the_restart first second)) 0 1 0 (line 1 1 (write_at 0 first) false ∷ []) ([])

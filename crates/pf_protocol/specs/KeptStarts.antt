@@ -41,7 +41,7 @@ kept_start first second third fourth =
     ∷ so (Deliver 31) Done
     ∷ []
 
--- slot 2 is a no-op, and not the op of term 1 that was passed over
+-- slot 2 is a no-op, and not the op of term 1 that was passed over. Nothing more can be applied
 pub record KeepsStart (first second third fourth : Sector) : Type 0 where
   pub acked : (replay small_group (kept_start first second third fourth)).acked ≡ record { term = 2; slot = 3 } ∷ []
   pub calm : answer_to small_group (replay small_group (kept_start first second third fourth)) Claim ≡ Refused NoneFree

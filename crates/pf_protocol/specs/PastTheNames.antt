@@ -34,7 +34,7 @@ past_the_names first second third fourth =
     ∷ so (Deliver 13) Done
     ∷ []
 
--- server 1 has applied slots 2 and 3, which name slot 1, and not slot 4, which does not
+-- server 1 has applied slots 2 and 3, which name slot 1, and not slot 4, which does not. Nothing more can be applied
 pub record WaitsPastTheNames (first second third fourth : Sector) : Type 0 where
   pub acked : (replay small_group (past_the_names first second third fourth)).acked ≡ record { term = 1; slot = 2 } ∷ record { term = 1; slot = 3 } ∷ record { term = 1; slot = 4 } ∷ []
   pub calm : answer_to small_group (replay small_group (past_the_names first second third fourth)) Claim ≡ Refused NoneFree

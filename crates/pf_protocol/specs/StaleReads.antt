@@ -30,7 +30,7 @@ stale_read first =
     ∷ so (Deliver 13) Done
     ∷ []
 
--- one read was answered, by the new leader, with what it wrote
+-- one read was answered, by the new leader, with what it wrote. Nothing more can be applied
 pub record ReadsAtTheLeader (first : Sector) : Type 0 where
   pub acked : (replay small_group (stale_read first)).acked ≡ record { term = 2; slot = 1 } ∷ []
   pub answered : (replay small_group (stale_read first)).answered ≡ record { number = 1; server = 1; term = 2; range = record { first = 0; count = 1 }; base = 0; applied = Sets.from_items (1 ∷ []); bytes = first ∷ [] } ∷ []
