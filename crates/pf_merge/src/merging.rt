@@ -28,7 +28,7 @@ pub struct Merged {
 /// be old ones that come back. In each slot the entry of the highest term is taken, the candidate's own where both
 /// have one of that term, and a no-op where none is left (PolarFS: the merge stage of ParallelRaft; the no-op in a
 /// gap and the dropping of void entries are this project's). It goes once along both logs, with a look at the starts
-/// for each entry; the sectors of the ops are shared.
+/// for each entry; the sectors of the ops are shared. The one error is `NoMemory` (1).
 pub fn merge(alloc: Global, base: Slot, own: &VoteLog, other: &VoteLog) -> Result<Merged, NoMemory>
     requires base { base < 2 ^ 64 - 1 }
     requires own { AreNumbered own.now.log }
