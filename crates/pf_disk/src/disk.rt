@@ -1,5 +1,5 @@
 //! One file as the layers above see it: what a read gives, what a crash may leave, and how often a call failed.
-ghost use Rattle.std.specs.Prelude.{◌≡◌, ◌≤◌, ◌+◌, List, Option, ℕ, Bool, IfOk, IfSome, IsSome, IsTrue, OnOk, Some, length, min};
+ghost use Rattle.std.specs.Prelude.{◌≡◌, ◌≤◌, ◌+◌, List, Option, ℕ, Bool, IfOk, IfSome, IsTrue, OnOk, Some, is_some, length, min};
 ghost use Rattle.pf_disk.specs.Causes.{HasCause};
 ghost use Rattle.pf_disk.specs.Files.{IsRead, overwritten, resized, reach};
 ghost use Rattle.pf_disk.specs.Crashes.{Cut, Elapses, Follows, Keeps, Only, Torn};
@@ -52,7 +52,7 @@ pub trait Disk {
     /// Writes over what is there, and past the end. A write that begins past the end counts as written from there on.
     fn write_at(&mut self, at: u64, bytes: &[u8]) -> Result<(), Failed>
         ensures written { IfSome (seen self.old) (λ file. OnOk result (seen self.new ≡ Some (overwritten file at bytes.now))) }
-        ensures told { IsSome (seen self.old) → IsSome (seen self.new) }
+        ensures told { is_some (seen self.new) ≡ is_some (seen self.old) }
         ensures crash { IfSome (seen self.old) (λ file. Follows (Torn (min (length file) at) (reach at (length bytes.now))) (may_leave self.old) (may_leave self.new)) }
         ensures time { Elapses (moment self.old) (moment self.new) (left_since self.old) (left_since self.new) (may_leave self.new) }
         ensures cause { HasCause (faults self.old) (faults self.new) result };
@@ -60,7 +60,7 @@ pub trait Disk {
     /// Cuts the file to a length, or lengthens it with zeros.
     fn cut(&mut self, len: u64) -> Result<(), Failed>
         ensures resized { IfSome (seen self.old) (λ file. OnOk result (seen self.new ≡ Some (resized file len))) }
-        ensures told { IsSome (seen self.old) → IsSome (seen self.new) }
+        ensures told { is_some (seen self.new) ≡ is_some (seen self.old) }
         ensures crash { IfSome (seen self.old) (λ file. Follows (Cut (length file) len) (may_leave self.old) (may_leave self.new)) }
         ensures time { Elapses (moment self.old) (moment self.new) (left_since self.old) (left_since self.new) (may_leave self.new) }
         ensures cause { HasCause (faults self.old) (faults self.new) result };

@@ -1,5 +1,5 @@
 //! A disk in memory that records its calls, and so tells all that a crash may leave.
-ghost use Rattle.std.specs.Prelude.{◌≡◌, ◌⊎◌, ◌+◌, ◌≤◌, ◌<◌, ◌↔◌, ◌||◌, [], not, true, min, IfOk, IfSome, IsErr, IsTrue, IsSome, OnErr, OnOk, Some, length, vec_len};
+ghost use Rattle.std.specs.Prelude.{◌≡◌, ◌⊎◌, ◌+◌, ◌≤◌, ◌<◌, ◌↔◌, ◌||◌, [], not, true, min, IfOk, IfSome, IsErr, IsTrue, is_some, OnErr, OnOk, Some, length, vec_len};
 ghost use Rattle.pf_disk.specs.Causes.{HasCause, Rose};
 ghost use Rattle.pf_disk.specs.Crashes.{Cut, Elapses, Follows, Keeps, Only, Torn};
 ghost use Rattle.pf_disk.specs.Files.{IsRead, overwritten, reach, resized};
@@ -158,7 +158,7 @@ impl Disk for MemDisk {
 
     fn write_at(&mut self, at: u64, bytes: &[u8]) -> Result<(), Failed>
         ensures written { OnOk result (Some self.new.tape.bytes.items ≡ Some (overwritten self.old.tape.bytes.items at bytes.now)) }
-        ensures told { IsSome (Some self.old.tape.bytes.items) → IsSome (Some self.new.tape.bytes.items) }
+        ensures told { is_some (Some self.new.tape.bytes.items) ≡ is_some (Some self.old.tape.bytes.items) }
         ensures crash { Follows (Torn (min (length self.old.tape.bytes.items) at) (reach at (length bytes.now))) (IsImage (state_of self.old.tape)) (IsImage (state_of self.new.tape)) }
         ensures time { Elapses (length self.old.tape.records.items) (length self.new.tape.records.items) (LeftSince self.old.tape.base.items self.old.tape.records.items self.old.tape.written.items) (LeftSince self.new.tape.base.items self.new.tape.records.items self.new.tape.written.items) (IsImage (state_of self.new.tape)) }
         ensures cause { HasCause self.old.faults self.new.faults result }
@@ -183,7 +183,7 @@ impl Disk for MemDisk {
 
     fn cut(&mut self, len: u64) -> Result<(), Failed>
         ensures resized { OnOk result (Some self.new.tape.bytes.items ≡ Some (resized self.old.tape.bytes.items len)) }
-        ensures told { IsSome (Some self.old.tape.bytes.items) → IsSome (Some self.new.tape.bytes.items) }
+        ensures told { is_some (Some self.new.tape.bytes.items) ≡ is_some (Some self.old.tape.bytes.items) }
         ensures crash { Follows (Cut (length self.old.tape.bytes.items) len) (IsImage (state_of self.old.tape)) (IsImage (state_of self.new.tape)) }
         ensures time { Elapses (length self.old.tape.records.items) (length self.new.tape.records.items) (LeftSince self.old.tape.base.items self.old.tape.records.items self.old.tape.written.items) (LeftSince self.new.tape.base.items self.new.tape.records.items self.new.tape.written.items) (IsImage (state_of self.new.tape)) }
         ensures cause { HasCause self.old.faults self.new.faults result }
