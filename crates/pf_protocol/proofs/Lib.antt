@@ -36,3 +36,5 @@ mod GivenAway
 mod Ghosts
 mod KeptStarts
 mod StaleReads
+mod OutOfOrder
+mod KeptSlot

@@ -22,3 +22,5 @@ pub mod GivenAway
 pub mod Ghosts
 pub mod KeptStarts
 pub mod StaleReads
+pub mod OutOfOrder
+pub mod KeptSlot

@@ -8,6 +8,8 @@ ghost use Rattle.pf_protocol.specs.PastTheNames.{past_the_names, WaitsPastTheNam
 ghost use Rattle.pf_protocol.specs.GivenAway.{lost_slot, GivesAway};
 ghost use Rattle.pf_protocol.specs.Ghosts.{ghost_slots, PassesOver};
 ghost use Rattle.pf_protocol.specs.KeptStarts.{kept_start, KeepsStart};
+ghost use Rattle.pf_protocol.specs.OutOfOrder.{out_of_order, CommitsOutOfOrder};
+ghost use Rattle.pf_protocol.specs.KeptSlot.{kept_slot, KeepsSlot};
 ghost use Rattle.pf_protocol.specs.StaleReads.{stale_read, ReadsAtTheLeader};
 
 /// A follower that misses slot 1 applies slot 2, which shares no sector with it, and not slot 3, which shares one. The host
@@ -50,4 +52,17 @@ pub fn starts_outlive_their_entries()
 pub fn deposed_leaders_answer_no_read()
     ensures legal { (first : Sector) → IsSector first → IsLegal small_group (stale_read first) }
     ensures shows { (first : Sector) → ReadsAtTheLeader first }
+{}
+
+/// Both followers acknowledge slot 2 before slot 1 comes to any. The host is told of slot 2 first, and then of slot 1.
+pub fn slots_are_committed_out_of_order()
+    ensures legal { (first second : Sector) → IsSector first → IsSector second → IsLegal small_group (out_of_order first second) }
+    ensures shows { (first second : Sector) → CommitsOutOfOrder first second }
+{}
+
+/// A leader stops with an uncommitted slot that a new leader holds too. The new leader merges it, and serves once it is
+/// committed in its own term.
+pub fn slots_that_the_majority_holds_are_kept()
+    ensures legal { (first second : Sector) → IsSector first → IsSector second → IsLegal small_group (kept_slot first second) }
+    ensures shows { (first second : Sector) → KeepsSlot first second }
 {}

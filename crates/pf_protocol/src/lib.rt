@@ -17,6 +17,7 @@ pub use answers::{Answer, Refusal};
 pub use events::{Event, Happening};
 pub use examples::{
     deposed_leaders_answer_no_read, ghosts_are_void, slots_are_applied_beside_a_missing_one,
+    slots_are_committed_out_of_order, slots_that_the_majority_holds_are_kept,
     slots_that_the_majority_lacks_are_given_away, slots_wait_for_those_they_do_not_name,
     starts_outlive_their_entries,
 };

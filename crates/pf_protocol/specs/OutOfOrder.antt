@@ -1,0 +1,32 @@
+-- Slots are committed as they are acknowledged, and not in their order.
+use Rattle.std.specs.Prelude.{◌≡◌, [], ◌∷◌, true}
+use Rattle.pf_entry.specs.Ops.{Sector}
+use Rattle.pf_protocol.specs.declared.answers.Answer.TheVariants.{Done, Job as JobIs, Refused, Slot as SlotIs}
+use Rattle.pf_protocol.specs.declared.answers.Refusal.TheVariants.{NoneFree}
+use Rattle.pf_protocol.specs.Answers.{answer_to}
+use Rattle.pf_protocol.specs.declared.events.Event.TheVariants.{Claim, Deliver, Finish, Submit}
+use Rattle.pf_protocol.specs.Histories.{History, replay}
+use Rattle.pf_protocol.specs.Shown.{Shows, small_group, write_at, line, so}
+
+-- slot 2 is acknowledged by both followers before slot 1 comes to any
+abbrev pub out_of_order : (first second : Sector) → History
+out_of_order first second =
+    so (Submit 0 (write_at 0 first)) (SlotIs 1)
+    ∷ so (Submit 0 (write_at 1 second)) (SlotIs 2)
+    ∷ so (Deliver 2) Done
+    ∷ so (Deliver 3) Done
+    ∷ so (Deliver 4) Done
+    ∷ so Claim (JobIs (record { server = 0; life = 0; slot = 2; op = write_at 1 second }))
+    ∷ so (Finish 0 0 2) Done
+    ∷ so (Deliver 5) Done
+    ∷ so (Deliver 0) Done
+    ∷ so (Deliver 8) Done
+    ∷ so Claim (JobIs (record { server = 0; life = 0; slot = 1; op = write_at 0 first }))
+    ∷ so (Finish 0 0 1) Done
+    ∷ []
+
+-- the host was told of slot 2, and then of slot 1. Nothing more can be applied
+pub record CommitsOutOfOrder (first second : Sector) : Type 0 where
+  pub acked : (replay small_group (out_of_order first second)).acked ≡ record { term = 1; slot = 2 } ∷ record { term = 1; slot = 1 } ∷ []
+  pub calm : answer_to small_group (replay small_group (out_of_order first second)) Claim ≡ Refused NoneFree
+  pub shown_0 : Shows (replay small_group (out_of_order first second)) 0 1 0 (line 1 1 (write_at 0 first) true ∷ line 2 1 (write_at 1 second) true ∷ []) (1 ∷ 2 ∷ [])
