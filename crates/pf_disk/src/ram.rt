@@ -1,6 +1,8 @@
 //! A file in memory of which a crash leaves what it reads.
-ghost use Rattle.std.specs.Prelude.{◌≡◌, ◌⊎◌, ◌+◌, ◌≤◌, ◌<◌, ◌↔◌, [], false, IfOk, IsErr, Some, length, vec_capacity, vec_len};
-ghost use Rattle.pf_disk.specs.Causes.{Rose};
+ghost use Rattle.std.specs.Prelude.{◌≡◌, ◌⊎◌, ◌+◌, ◌≤◌, ◌<◌, ◌↔◌, [], false, min, is_some, IfOk, IsErr, IsOk, OnErr, OnOk, Some, length, vec_capacity, vec_len};
+ghost use Rattle.pf_disk.specs.Crashes.{Cut, Elapses, Follows, Keeps, Only, Torn};
+ghost use Rattle.pf_disk.specs.Files.{IsRead, overwritten, reach, resized};
+ghost use Rattle.pf_disk.specs.Causes.{HasCause, Rose};
 
 use crate::files::{copy_front, overwrite, resize};
 use crate::{Disk, Failed};
@@ -73,18 +75,45 @@ impl Disk for RamDisk {
 
     ghost only_now = { λ told. Prim.cc told };
 
-    fn len(&mut self) -> Result<u64, Failed> {
+    fn len(&mut self) -> Result<u64, Failed>
+        ensures length { IfOk result (λ len. len ≡ length self.old.bytes.items) }
+        ensures seen { Some self.new.bytes.items ≡ Some self.old.bytes.items }
+        ensures crash { Keeps (λ c. c ≡ self.old.bytes.items) (λ c. c ≡ self.new.bytes.items) }
+        ensures time { Elapses 0 0 (λ _ _. Unit {0}) (λ _ _. Unit {0}) (λ c. c ≡ self.new.bytes.items) }
+        ensures cause { HasCause self.old.faults self.new.faults result }
+        ensures sure { IsOk result }
+        ensures room { self.new.room ≡ self.old.room }
+    {
         Ok(self.bytes.len() as u64)
     }
 
-    fn read(&mut self, at: u64, buf: &mut [u8]) -> Result<usize, Failed> {
+    fn read(&mut self, at: u64, buf: &mut [u8]) -> Result<usize, Failed>
+        ensures bound { IfOk result (λ count. count ≤ length buf.new) }
+        ensures bytes { IfOk result (λ count. IsRead self.old.bytes.items at (length buf.new) count buf.new) }
+        ensures seen { Some self.new.bytes.items ≡ Some self.old.bytes.items }
+        ensures crash { Keeps (λ c. c ≡ self.old.bytes.items) (λ c. c ≡ self.new.bytes.items) }
+        ensures time { Elapses 0 0 (λ _ _. Unit {0}) (λ _ _. Unit {0}) (λ c. c ≡ self.new.bytes.items) }
+        ensures cause { HasCause self.old.faults self.new.faults result }
+        ensures sure { IsOk result }
+        ensures room { self.new.room ≡ self.old.room }
+    {
         if at >= self.bytes.len() as u64 {
             return Ok(0);
         }
         Ok(copy_front(&self.bytes[at as usize..], buf))
     }
 
-    fn write_at(&mut self, at: u64, bytes: &[u8]) -> Result<(), Failed> {
+    fn write_at(&mut self, at: u64, bytes: &[u8]) -> Result<(), Failed>
+        ensures written { OnOk result (Some self.new.bytes.items ≡ Some (overwritten self.old.bytes.items at bytes.now)) }
+        ensures told { is_some (Some self.new.bytes.items) ≡ is_some (Some self.old.bytes.items) }
+        ensures crash { Follows (Torn (min (length self.old.bytes.items) at) (reach at (length bytes.now))) (λ c. c ≡ self.old.bytes.items) (λ c. c ≡ self.new.bytes.items) }
+        ensures time { Elapses 0 0 (λ _ _. Unit {0}) (λ _ _. Unit {0}) (λ c. c ≡ self.new.bytes.items) }
+        ensures cause { HasCause self.old.faults self.new.faults result }
+        // Exactly a write past the room fails, and it does nothing else.
+        ensures fails { IsErr result ↔ (self.old.room < reach at (length bytes.now)) }
+        ensures failed { OnErr result (self.new.bytes ≡ self.old.bytes) }
+        ensures room { self.new.room ≡ self.old.room }
+    {
         let room = self.room as u64;
         let fits = bytes.is_empty() || (at <= room && bytes.len() as u64 <= room - at);
         if !fits {
@@ -94,7 +123,17 @@ impl Disk for RamDisk {
         Ok(())
     }
 
-    fn cut(&mut self, len: u64) -> Result<(), Failed> {
+    fn cut(&mut self, len: u64) -> Result<(), Failed>
+        ensures resized { OnOk result (Some self.new.bytes.items ≡ Some (resized self.old.bytes.items len)) }
+        ensures told { is_some (Some self.new.bytes.items) ≡ is_some (Some self.old.bytes.items) }
+        ensures crash { Follows (Cut (length self.old.bytes.items) len) (λ c. c ≡ self.old.bytes.items) (λ c. c ≡ self.new.bytes.items) }
+        ensures time { Elapses 0 0 (λ _ _. Unit {0}) (λ _ _. Unit {0}) (λ c. c ≡ self.new.bytes.items) }
+        ensures cause { HasCause self.old.faults self.new.faults result }
+        // Exactly a cut past the room fails, and it does nothing else.
+        ensures fails { IsErr result ↔ (self.old.room < len) }
+        ensures failed { OnErr result (self.new.bytes ≡ self.old.bytes) }
+        ensures room { self.new.room ≡ self.old.room }
+    {
         if len > self.room as u64 {
             return Err(self.fail());
         }
@@ -102,7 +141,15 @@ impl Disk for RamDisk {
         Ok(())
     }
 
-    fn sync(&mut self) -> Result<(), Failed> {
+    fn sync(&mut self) -> Result<(), Failed>
+        ensures durable { OnOk result (Only self.old.bytes.items (λ c. c ≡ self.new.bytes.items)) }
+        ensures seen { Some self.new.bytes.items ≡ Some self.old.bytes.items }
+        ensures crash { Keeps (λ c. c ≡ self.old.bytes.items) (λ c. c ≡ self.new.bytes.items) }
+        ensures time { Elapses 0 0 (λ _ _. Unit {0}) (λ _ _. Unit {0}) (λ c. c ≡ self.new.bytes.items) }
+        ensures cause { HasCause self.old.faults self.new.faults result }
+        ensures sure { IsOk result }
+        ensures room { self.new.room ≡ self.old.room }
+    {
         Ok(())
     }
 }
