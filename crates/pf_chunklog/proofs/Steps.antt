@@ -1,0 +1,45 @@
+-- The four calls of an append, one after another.
+use Rattle.std.proofs.Common.{◌≡◌, ◌⊎◌, inl, inr, ℕ, ◌+◌, ◌-◌, min, Option, Some, None, IfSome, List, [], ◌∷◌, ◌++◌, length, sym, subst, ap, ◌∙◌, refl}
+use Rattle.pf_disk.specs.Crashes.{Torn, Follows, Keeps, Only, Images}
+use Rattle.pf_disk.specs.Files.{overwritten, reach}
+use Rattle.pf_chunklog.specs.Records.{Raw, Holds, spelled, body_of, blocks}
+use Rattle.pf_chunklog.specs.Logs.{BeforeOrAfter, IsAtRest}
+use Rattle.pf_chunklog.proofs.Crash as crash
+
+-- what is said of an option where it holds something
+pub told : {X : Type 0} (o : Option X) (x : X) (P : X → Type 0) → o ≡ Some x → IfSome o P → P x
+told {X = X} o x P is here = subst (λ (v : Option X). IfSome v P) is here
+
+pub if_some : {X : Type 0} (o : Option X) (P : X → Type 0) → ((x : X) → o ≡ Some x → P x) → IfSome o P
+if_some None P here = tt
+if_some (Some x) P here = here x refl
+
+module _ (head : List ℕ) (records : List Raw) (raw : Raw) (file : List ℕ) (used : ℕ) (old : Images) (rest : IsAtRest head used old records file) where
+  -- the file with the body behind the closed gate
+  abbrev pub staged : List ℕ
+  staged = (head ++ blocks records) ++ rest.held.gate ∷ (spelled raw ++ 0 ∷ crash.after_body head records raw file used rest.held rest.size)
+
+  pub after_write : (n : ℕ) (new : Images) → Follows (Torn (min (length file) used) n) old new → (c : List ℕ) → new c → BeforeOrAfter head records raw c
+  after_write n new follows c left =
+      let from = follows c left in
+      inl (crash.behind head records raw file used rest.held rest.size n c (subst (λ (f : List ℕ). Torn (min (length file) used) n f c) (rest.durable from.0 from.1) from.2))
+
+  pub after_gate : (body : List ℕ) (mid new : Images) → body ≡ body_of raw → Only (overwritten file used body) mid
+      → Follows (Torn (min (length (overwritten file used body)) (used - 1)) (used - 1 + 1)) mid new → (c : List ℕ) → new c → BeforeOrAfter head records raw c
+  after_gate body mid new is only follows c left =
+      let from = follows c left in
+      let file_is : overwritten file used body ≡ staged = ap (λ (b : List ℕ). overwritten file used b) is ∙ crash.written head records raw file used rest.held rest.size in
+      crash.gate_torn head records raw file used rest.held rest.size c
+      (subst (λ (f : List ℕ). Torn (min (length f) (used - 1)) (used - 1 + 1) f c) file_is (subst (λ (f : List ℕ). Torn (min (length (overwritten file used body)) (used - 1)) (used - 1 + 1) f c) (only from.0 from.1) from.2))
+
+  -- the log after its fourth call
+  pub at_rest : (body : List ℕ) (last : Images) → body ≡ body_of raw → Only (overwritten (overwritten file used body) (used - 1) (1 ∷ [])) last
+      → IsAtRest head (used + length body) last (records ++ raw ∷ []) (overwritten (overwritten file used body) (used - 1) (1 ∷ []))
+  at_rest body last is only =
+      let file_is : overwritten file used body ≡ staged = ap (λ (b : List ℕ). overwritten file used b) is ∙ crash.written head records raw file used rest.held rest.size in
+      let end_is = ap (λ (f : List ℕ). overwritten f (used - 1) (1 ∷ [])) file_is ∙ crash.gate_written head records raw file used rest.held rest.size in
+      record {
+        held = subst (λ (f : List ℕ). Holds head (records ++ raw ∷ []) f) (sym end_is) (crash.appended head records raw file used rest.held rest.size);
+        size = ap (λ (b : List ℕ). used + length b) is ∙ crash.grows head records raw file used rest.held rest.size;
+        durable = only;
+      }

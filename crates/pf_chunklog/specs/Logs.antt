@@ -1,0 +1,21 @@
+-- What a log promises of its disk.
+use Rattle.std.specs.Prelude.{ℕ, ◌+◌, ◌≤◌, ◌≡◌, ◌⊎◌, List, [], ◌∷◌, ◌++◌, length}
+use Rattle.pf_disk.specs.Crashes.{Images, Only}
+use Rattle.pf_chunklog.specs.Records.{Raw, Holds, blocks}
+
+-- The records end at the closed gate that is the last of so many bytes, and a crash leaves the file as it is read.
+pub record IsAtRest (head : List ℕ) (used : ℕ) (images : Images) (records : List Raw) (file : List ℕ) : Type 0 where
+  pub held : Holds head records file
+  pub size : used ≡ length head + length (blocks records) + 1
+  pub durable : Only file images
+
+-- a file that holds these records, with one more or without
+abbrev pub BeforeOrAfter : List ℕ → List Raw → Raw → List ℕ → Type 0
+BeforeOrAfter head records raw file = Holds head records file ⊎ Holds head (records ++ raw ∷ []) file
+
+-- A crash at any moment since old leaves a file that has P.
+pub record LeavesOnly {D : Type 0} (moment : D → ℕ) (left_since : D → ℕ → Images) (old new : D) (P : Images) : Type 0 where
+  pub later : moment old ≤ moment new
+  pub each : (c : List ℕ) → left_since new (moment old) c → P c
+  -- for a run that began earlier
+  pub before : (t : ℕ) (c : List ℕ) → t ≤ moment old → left_since new t c → left_since old t c ⊎ P c

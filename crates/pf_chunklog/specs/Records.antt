@@ -1,0 +1,27 @@
+-- How records stand in a half of a chunk log.
+use Rattle.std.specs.Prelude.{ℕ, ◌<◌, ◌^◌, ◌≡◌, ◌≢◌, List, [], ◌∷◌, ◌++◌, length}
+use Rattle.std.specs.Int.{w32, to_be_bytes}
+
+-- a kind and a payload
+abbrev pub Raw : Type 0
+Raw = ℕ × List ℕ
+
+-- the kind, the length as four bytes, the highest first, and the payload
+abbrev pub spelled : Raw → List ℕ
+spelled raw = raw.0 ∷ to_be_bytes w32 (length raw.1) ++ raw.1
+
+-- what a caller appends: a record, and the closed gate of the next
+abbrev pub body_of : Raw → List ℕ
+body_of raw = spelled raw ++ 0 ∷ []
+
+-- records with their open gates
+abbrev pub blocks : List Raw → List ℕ
+blocks [] = []
+blocks (raw ∷ records) = 1 ∷ spelled raw ++ blocks records
+
+-- The records of a half: from its head on up to the first closed gate, whatever stands behind it.
+pub record Holds (head : List ℕ) (records : List Raw) (file : List ℕ) : Type 0 where
+  pub gate : ℕ
+  pub rest : List ℕ
+  pub closed : gate ≢ 1
+  pub split : file ≡ head ++ blocks records ++ gate ∷ rest
