@@ -1,3 +1,4 @@
 pub mod Crash
+pub mod Format
 pub mod Moments
 pub mod Steps

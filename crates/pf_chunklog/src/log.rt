@@ -1,12 +1,12 @@
 //! A log over one file. Its head comes first; each record stands behind a gate of one byte, which is open (1) or closed
 //! (any other), and a closed gate ends the records.
-ghost use Rattle.std.specs.Prelude.{◌≡◌, ◌⊎◌, ◌+◌, ◌≤◌, ◌<◌, ◌↔◌, ◌++◌, [], ◌∷◌, List, ℕ, IfSome, IsErrOf, IsTrue, OnErr, OnOk, length, nat_le, is_ok, is_some, if◌then◌else◌};
-ghost use Rattle.pf_disk.specs.Causes.{Rose};
+ghost use Rattle.std.specs.Prelude.{◌≡◌, ◌⊎◌, ◌+◌, ◌≤◌, ◌<◌, ◌↔◌, ◌++◌, [], ◌∷◌, List, ℕ, IfErr, IfOk, IfSome, IsErrOf, IsTrue, OnErr, OnOk, length, nat_le, is_ok, is_some, if◌then◌else◌};
+ghost use Rattle.pf_disk.specs.Causes.{HasCause, Rose};
 ghost use Rattle.pf_chunklog.specs.Records.{Raw, body_of};
 ghost use Rattle.pf_chunklog.specs.Logs.{BeforeOrAfter, IsAtRest, LeavesOnly};
 
-use crate::AppendFault;
-use pf_disk::Disk;
+use crate::{AppendFault, DiskFault};
+use pf_disk::{Disk, Failed};
 
 /// How many bytes of a half are used at most, with the head and the gate that ends the records.
 pub const LIMIT: u64 = 67_108_864;
@@ -21,7 +21,39 @@ pub struct ChunkLog<D: Disk> {
     ghost begun: { 9 ≤ used },
 }
 
+/// Writes the head and a closed gate over whatever the file held.
+fn begin<D: Disk>(disk: &mut D, head: &[u8; 8]) -> Result<(), Failed>
+    ensures formatted { IfSome (D.seen disk.old) (λ _. OnOk result (IfSome (D.seen disk.new) (IsAtRest head.now 9 (D.may_leave disk.new) []))) }
+    ensures told { is_some (D.seen disk.new) ≡ is_some (D.seen disk.old) }
+    ensures cause { HasCause (D.faults disk.old) (D.faults disk.new) result }
+{
+    let mut start = [0u8; 9];
+    start[..8].copy_from_slice(head);
+    disk.cut(0)?;
+    disk.sync()?;
+    disk.write_at(0, &start)?;
+    disk.sync()?;
+    Ok(())
+}
+
 impl<D: Disk> ChunkLog<D> {
+    /// Makes an empty log of a disk, whatever it held. Once it has answered Ok, every crash leaves the head and a closed
+    /// gate alone, until the next record is appended.
+    pub fn format(mut disk: D, head: [u8; 8]) -> Result<ChunkLog<D>, (D, DiskFault)>
+        ensures formatted { IfSome (D.seen disk) (λ _. IfOk result (λ log. IfSome (D.seen log.disk) (IsAtRest head log.used (D.may_leave log.disk) []))) }
+        ensures ok { IfOk result (λ log. (log.head ≡ head) × (log.used ≡ 9) × (is_some (D.seen log.disk) ≡ is_some (D.seen disk))) }
+        ensures failed { IfErr result (λ given. (is_some (D.seen given.0) ≡ is_some (D.seen disk)) × Rose (D.faults disk) (D.faults given.0)) }
+    {
+        match begin(&mut disk, &head) {
+            Ok(()) => Ok(ChunkLog {
+                disk,
+                head,
+                used: 9,
+            }),
+            Err(_) => Err((disk, DiskFault)),
+        }
+    }
+
     /// Whether so many bytes more are within the limit.
     pub fn has_room(&self, len: u64) -> bool
         ensures { result ≡ nat_le (self.now.used + len) 67108864 }
