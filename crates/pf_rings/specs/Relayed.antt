@@ -1,0 +1,31 @@
+-- What was put is what was taken and then what the ring holds, eight at most. One pass at most puts, and it has the list of what was put; one at most takes, and it has the list of what was taken. Each knows a beginning of the other's list.
+use Rattle.std.specs.Prelude.{◌≡◌, ℕ, ◌≤◌, Bool, true, List, ◌++◌, length}
+use mathlib.Core.Option.{some}
+use lib.ListN.{get_elem?}
+use Rattle.pf_rings.specs.declared.view.Request.{Request}
+use Rattle.pf_rings.specs.declared.view.View.{View}
+
+abbrev pub view_of : Bool → Bool → List Request → List Request → View
+view_of puts takes sent got = record { puts = puts; takes = takes; sent = sent; got = got }
+
+-- ys begins with xs
+abbrev pub Begins : List Request → List Request → Type 0
+Begins xs ys = (rest : List Request) × (xs ++ rest ≡ ys)
+
+abbrev pub Fits : ℕ → ℕ → List Request → List Request → ℕ → View → Type 0
+Fits writer reader sent got j v = (v.puts ≡ true → (j ≡ writer) × (v.sent ≡ sent) × Begins v.got got) × (v.takes ≡ true → (j ≡ reader) × (v.got ≡ got) × Begins v.sent sent)
+
+abbrev pub Relayed : List Request → List View → Type 0
+Relayed items views = (writer : ℕ) × (reader : ℕ) × (sent : List Request) × (got : List Request) × (sent ≡ got ++ items) × (length items ≤ 8)
+    × ((j : ℕ) (v : View) → get_elem? views j ≡ some v → Fits writer reader sent got j v)
+
+-- the ring holds what of the host's list was not taken, and what the host knows to be taken was
+abbrev pub Waits : View → List Request → Type 0
+Waits v items = (got : List Request) × (v.sent ≡ got ++ items) × Begins v.got got
+
+-- the ring holds what was put and is not in the server thread's list, and what that knows to be put was
+abbrev pub Comes : View → List Request → Type 0
+Comes v items = (sent : List Request) × (sent ≡ v.got ++ items) × Begins v.sent sent
+
+abbrev pub Meets : View → List Request → Type 0
+Meets v items = (v.sent ≡ v.got ++ items) × (length items ≤ 8)

@@ -1,0 +1,16 @@
+//! A ring of requests between one host and the thread of the server that carries them out.
+//!
+//! The host's pass puts, and knows the list of what it put. The server thread's pass takes, and knows the list of what it took:
+//! always a beginning of the host's list, so each request comes out whole, once and in order. At most eight stand between.
+#![tactic(auto)]
+
+mod calls;
+mod errors;
+mod ring;
+#[cfg(test)]
+mod tests;
+mod view;
+
+pub use errors::{Empty, Full};
+pub use ring::{Ring, RingPass};
+pub use view::Request;

@@ -1,0 +1,95 @@
+//! What a pass knows, and the rule of a ring.
+use crossbeam_queue::protocol::{Join, Lesson, Outcome, Protocol, Split};
+use pf_base::Range;
+use std::collections::LinkedList;
+
+/// What a host asks: its request of this number, to fill the sectors of the range with the byte.
+#[derive(Clone, Copy, Debug, PartialEq, Eq)]
+pub struct Request {
+    pub host: u32,
+    pub number: u32,
+    pub range: Range,
+    pub byte: u8,
+}
+
+/// What a pass knows: whether it puts and takes, what was put and what was taken. No value of it is ever made.
+pub struct View {
+    pub puts: bool,
+    pub takes: bool,
+    pub sent: LinkedList<Request>,
+    pub got: LinkedList<Request>,
+}
+
+/// The rule of a ring.
+pub struct InOrder;
+
+impl Protocol<Request, View> for InOrder {
+    ghost use Rattle.std.specs.Prelude.{true, []};
+    ghost use Rattle.pf_rings.specs.Relayed.{view_of, Relayed};
+
+    ghost holds = { Relayed };
+
+    ghost first = { view_of true true [] [] };
+}
+
+/// One pass puts, and the other takes.
+pub(crate) struct Roles;
+
+impl Split<View> for Roles {
+    ghost use Rattle.std.specs.Prelude.{true, false};
+    ghost use Rattle.pf_rings.specs.Relayed.{view_of};
+
+    ghost left = { λ v. view_of true false v.sent v.got };
+
+    ghost right = { λ v. view_of false true v.sent v.got };
+}
+
+impl Join<View> for Roles {
+    ghost use Rattle.std.specs.Prelude.{true, false, []};
+    ghost use Rattle.pf_rings.specs.Relayed.{view_of};
+
+    ghost both = { λ v w. view_of true true v.sent w.got };
+
+    ghost spent = { view_of false false [] [] };
+}
+
+/// Puts a request, or learns that the ring is full.
+pub(crate) struct Put;
+
+impl Outcome<Request, View> for Put {
+    ghost use Rattle.std.specs.Prelude.{◌≡◌, [], ◌∷◌, ◌++◌};
+    ghost use Rattle.pf_rings.specs.Relayed.{view_of};
+
+    ghost then = { λ v x w. w ≡ view_of v.puts v.takes (v.sent ++ x ∷ []) v.got };
+}
+
+impl Lesson<Request, View> for Put {
+    ghost use Rattle.pf_rings.specs.Relayed.{Waits};
+
+    ghost fact = { Waits };
+}
+
+/// Takes a request, or learns that there is none.
+pub(crate) struct Take;
+
+impl Outcome<Request, View> for Take {
+    ghost use Rattle.std.specs.Prelude.{◌≡◌, [], ◌∷◌, ◌++◌};
+    ghost use Rattle.pf_rings.specs.Relayed.{view_of};
+
+    ghost then = { λ v x w. w ≡ view_of v.puts v.takes v.sent (v.got ++ x ∷ []) };
+}
+
+impl Lesson<Request, View> for Take {
+    ghost use Rattle.pf_rings.specs.Relayed.{Comes};
+
+    ghost fact = { Comes };
+}
+
+/// Learns that what was put is what was taken and what the ring holds.
+pub(crate) struct Meet;
+
+impl Lesson<Request, View> for Meet {
+    ghost use Rattle.pf_rings.specs.Relayed.{Meets};
+
+    ghost fact = { Meets };
+}
