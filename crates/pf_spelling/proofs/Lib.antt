@@ -1,0 +1,9 @@
+pub mod Exact
+pub mod Rows
+pub mod EntryLaws
+pub mod MapLaws
+pub mod VoteLaws
+pub mod RecordLaws
+pub mod SizeLaws
+pub mod BodyLaws
+pub mod Joins

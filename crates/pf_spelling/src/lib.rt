@@ -1,0 +1,28 @@
+//! Entries, votes and the records of a chunk log as bytes, both ways.
+#![tactic(auto)]
+
+mod bounds;
+mod entries;
+mod faults;
+mod keys;
+mod laws;
+mod reader;
+mod reading;
+mod tables;
+mod votes;
+mod writer;
+mod writing;
+
+pub use bounds::Bounds;
+pub use entries::read_entry;
+pub use faults::ReadFault;
+pub use laws::{
+    bodies_have_their_sizes, bodies_tell_their_records, parts_are_exact,
+    second_format_has_the_first,
+};
+pub use reader::Reader;
+pub use reading::read_record;
+pub use tables::{read_sectors, read_slots};
+pub use votes::read_vote;
+pub use writer::Writer;
+pub use writing::{spell_record, write_entry, write_sectors, write_slots, write_vote};
