@@ -1,0 +1,6 @@
+pub mod Inserts
+pub mod Rows
+pub mod Places
+pub mod Acked
+pub mod Marked
+pub mod Started

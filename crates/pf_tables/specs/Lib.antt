@@ -1,0 +1,4 @@
+pub mod StartTables
+pub mod AckTables
+pub mod KnownTables
+pub mod SnapshotTables
