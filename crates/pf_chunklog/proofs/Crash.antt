@@ -6,7 +6,9 @@ use Rattle.std.proofs.lemmas.Bool.Decides.{nat_tests}
 use Rattle.std.proofs.Math.ListN.{replicate}
 use Rattle.pf_disk.specs.Crashes.{Torn, Follows, Only, Images}
 use Rattle.pf_disk.specs.Files.{grown, replaced, overwritten, reach}
-use Rattle.pf_chunklog.specs.Records.{Raw, Holds, blocks, spelled, body_of}
+use Rattle.std.specs.List.{All}
+use Rattle.std.proofs.lemmas.List.Elements.{All-push}
+use Rattle.pf_chunklog.specs.Records.{Raw, Holds, IsSized, blocks, spelled, body_of}
 use Rattle.pf_chunklog.specs.Logs.{BeforeOrAfter, IsAtRest}
 
 pub blocks-push : (records : List Raw) (raw : Raw) (rest : List ℕ) → blocks (records ++ raw ∷ []) ++ rest ≡ blocks records ++ 1 ∷ (spelled raw ++ rest)
@@ -20,16 +22,17 @@ abbrev front : List ℕ → List Raw → List ℕ
 front head records = head ++ blocks records
 
 -- a file of which the front stands holds the records, or one more, by its gate
-pub by_gate : (head : List ℕ) (records : List Raw) (raw : Raw) (gate : ℕ) (rest : List ℕ) (file : List ℕ) → file ≡ front head records ++ gate ∷ (spelled raw ++ 0 ∷ rest) → BeforeOrAfter head records raw file
-by_gate head records raw gate rest file is = elim (cases_eq gate 1) [
+pub by_gate : (head : List ℕ) (records : List Raw) (raw : Raw) (gate : ℕ) (rest : List ℕ) (file : List ℕ) → All IsSized records → IsSized raw → file ≡ front head records ++ gate ∷ (spelled raw ++ 0 ∷ rest) → BeforeOrAfter head records raw file
+by_gate head records raw gate rest file sized raw_sized is = elim (cases_eq gate 1) [
   | inl is_open ↦ inr (record {
     gate = 0;
     rest = rest;
     closed = λ e. absurd (cc e);
+    sized = All-push IsSized records raw sized raw_sized;
     split = is ∙ ap (λ (g : ℕ). front head records ++ g ∷ (spelled raw ++ 0 ∷ rest)) is_open ∙ append_assoc head (blocks records) (1 ∷ (spelled raw ++ 0 ∷ rest))
         ∙ ap (λ (l : List ℕ). head ++ l) (sym (blocks-push records raw (0 ∷ rest))) ∙ sym (append_assoc head (blocks (records ++ raw ∷ [])) (0 ∷ rest));
   })
-  | inr shut ↦ inl (record { gate = gate; rest = spelled raw ++ 0 ∷ rest; closed = shut; split = is })
+  | inr shut ↦ inl (record { gate = gate; rest = spelled raw ++ 0 ∷ rest; closed = shut; sized = sized; split = is })
 ]
 
 -- a list of which the first bytes stand
@@ -68,6 +71,7 @@ module _ (head : List ℕ) (records : List Raw) (raw : Raw) (file : List ℕ) (u
         gate = held.gate;
         rest = drop used c;
         closed = held.closed;
+        sized = held.sized;
         split = sym (take-append-drop used c) ∙ ap (λ (l : List ℕ). l ++ drop used c) front_is ∙ append_assoc (front head records) (held.gate ∷ []) (drop used c);
       }
 
@@ -99,8 +103,8 @@ module _ (head : List ℕ) (records : List Raw) (raw : Raw) (file : List ℕ) (u
       ∙ drop_at (front head records ++ held.gate ∷ []) (spelled raw ++ 0 ∷ after_body) (used - 1 + 1) (omega (arith, gate_end, long))
 
   -- the body stands whole in each outcome of the second write
-  pub gate_torn : (c : List ℕ) → Torn (min (length (front head records ++ held.gate ∷ (spelled raw ++ 0 ∷ after_body))) (used - 1)) (used - 1 + 1) (front head records ++ held.gate ∷ (spelled raw ++ 0 ∷ after_body)) c → BeforeOrAfter head records raw c
-  gate_torn c torn =
+  pub gate_torn : IsSized raw → (c : List ℕ) → Torn (min (length (front head records ++ held.gate ∷ (spelled raw ++ 0 ∷ after_body))) (used - 1)) (used - 1 + 1) (front head records ++ held.gate ∷ (spelled raw ++ 0 ∷ after_body)) c → BeforeOrAfter head records raw c
+  gate_torn raw_sized c torn =
       let old = front head records ++ held.gate ∷ (spelled raw ++ 0 ∷ after_body) in
       let size_of : length c ≡ length old = omega (arith, torn.no_shorter, torn.no_longer, long_staged, long) in
       let before : take (used - 1) c ≡ front head records =
@@ -108,7 +112,7 @@ module _ (head : List ℕ) (records : List Raw) (raw : Raw) (file : List ℕ) (u
       ∙ take_at (front head records) (held.gate ∷ (spelled raw ++ 0 ∷ after_body)) (used - 1) (omega (arith, place)) in
       let after : drop (used - 1 + 1) c ≡ spelled raw ++ 0 ∷ after_body = same_back old c (used - 1 + 1) (omega (arith, size_of)) (λ k le lt. torn.same k lt (inr le)) ∙ back in
       let gate = get_or c (used - 1) 0 in
-      by_gate head records raw gate after_body c
+      by_gate head records raw gate after_body c held.sized raw_sized
       (sym (take-append-drop (used - 1) c) ∙ ap (λ (l : List ℕ). l ++ drop (used - 1) c) before
       ∙ ap (λ (l : List ℕ). front head records ++ l) (drop_more c (used - 1) 0 (omega (arith, size_of, long_staged, long)))
       ∙ ap (λ (l : List ℕ). front head records ++ gate ∷ l) after)
@@ -124,11 +128,12 @@ module _ (head : List ℕ) (records : List Raw) (raw : Raw) (file : List ℕ) (u
       ∙ append_assoc (front head records) (1 ∷ []) (spelled raw ++ 0 ∷ after_body)
 
   -- the file holds one record more
-  pub appended : Holds head (records ++ raw ∷ []) (front head records ++ 1 ∷ (spelled raw ++ 0 ∷ after_body))
-  appended = record {
+  pub appended : IsSized raw → Holds head (records ++ raw ∷ []) (front head records ++ 1 ∷ (spelled raw ++ 0 ∷ after_body))
+  appended raw_sized = record {
     gate = 0;
     rest = after_body;
     closed = λ e. absurd (cc e);
+    sized = All-push IsSized records raw held.sized raw_sized;
     split = append_assoc head (blocks records) (1 ∷ (spelled raw ++ 0 ∷ after_body)) ∙ ap (λ (l : List ℕ). head ++ l) (sym (blocks-push records raw (0 ∷ after_body)))
         ∙ sym (append_assoc head (blocks (records ++ raw ∷ [])) (0 ∷ after_body));
   }

@@ -1,12 +1,13 @@
 -- An empty log.
-use Rattle.std.proofs.Common.{◌≡◌, ℕ, ◌+◌, ◌-◌, List, [], ◌∷◌, ◌++◌, length, drop, sym, subst, ◌∙◌, ap, arith}
-use Rattle.std.proofs.lemmas.List.{append-nil, drop_all, length-replicate}
+use Rattle.std.proofs.Common.{◌≡◌, ◌⊎◌, inl, inr, ℕ, ◌+◌, ◌-◌, ◌≤◌, min, List, [], ◌∷◌, ◌++◌, length, take, drop, get_or, sym, subst, ◌∙◌, ap, arith, length-take, take-append-drop}
+use Rattle.std.proofs.lemmas.List.{append-nil, drop_all, ext_get_or, get_or-take, length-replicate}
 use Rattle.std.proofs.lemmas.Bool.Decides.{nat_tests}
 use Rattle.std.proofs.Math.ListN.{replicate}
-use Rattle.pf_disk.specs.Crashes.{Only, Images}
+use Rattle.pf_disk.specs.Crashes.{Cut, Follows, Only, Images, Torn}
 use Rattle.pf_disk.specs.Files.{grown, overwritten, reach}
-use Rattle.pf_chunklog.specs.Records.{Holds}
-use Rattle.pf_chunklog.specs.Logs.{IsAtRest}
+use Rattle.std.proofs.lemmas.List.Elements.{All-nil}
+use Rattle.pf_chunklog.specs.Records.{Holds, IsSized}
+use Rattle.pf_chunklog.specs.Logs.{IsAtRest, IsCleared}
 
 written_first : (start : List ℕ) → overwritten [] 0 start ≡ start
 written_first start =
@@ -20,8 +21,27 @@ empty head start images long is only = record {
     gate = 0;
     rest = [];
     closed = λ e. absurd (cc e);
+    sized = All-nil IsSized;
     split = written_first start ∙ is ∙ ap (λ (l : List ℕ). l ++ 0 ∷ []) (sym (append-nil head));
   };
   size = omega (arith, long);
   durable = only;
 }
+
+-- what a crash leaves after the cut
+pub after_cut : (end : ℕ) (old new : Images) → Follows (Cut end 0) old new → (c : List ℕ) → new c → IsCleared old c
+after_cut end old new follows c left =
+    let from = follows c left in
+    let d = from.0 in
+    let shorter : length c ≤ length d = omega (arith, from.2.no_longer) in
+    let front : c ≡ take (length c) d =
+    ext_get_or 0 c (take (length c) d) (omega (arith, shorter, length-take (length c) d))
+    (λ k lt. from.2.same k (omega (arith, lt, shorter)) lt (inr (omega arith)) ∙ sym (get_or-take (length c) d k 0 lt)) in
+    inl (d, drop (length c) d, from.1, sym (take-append-drop (length c) d) ∙ ap (λ (l : List ℕ). l ++ drop (length c) d) (sym front))
+
+-- and after the write
+pub after_start : (start : List ℕ) (images old new : Images) → length start ≡ 9 → Only [] old → Follows (Torn (min (length {A = ℕ} []) 0) (reach 0 (length start))) old new → (c : List ℕ) → new c → IsCleared images c
+after_start start images old new long only follows c left =
+    let from = follows c left in
+    let none : length from.0 ≡ 0 = ap length (only from.0 from.1) in
+    inr (grind (arith, nat_tests, long, none, from.2.no_longer))

@@ -1,8 +1,9 @@
 -- The four calls of an append, one after another.
-use Rattle.std.proofs.Common.{◌≡◌, ◌⊎◌, inl, inr, ℕ, ◌+◌, ◌-◌, min, Option, Some, None, IfSome, List, [], ◌∷◌, ◌++◌, length, sym, subst, ap, ◌∙◌, refl}
+use Rattle.std.proofs.Common.{◌≡◌, ◌⊎◌, inl, inr, ℕ, ◌+◌, ◌-◌, min, Option, Some, None, IfSome, Result, Ok, Err, IfOk, List, [], ◌∷◌, ◌++◌, length, sym, subst, ap, ◌∙◌, refl, ◌≤◌, ◌<◌, ◌^◌, arith, length-append}
+use Rattle.std.specs.Int.{w32, to_be_bytes}
 use Rattle.pf_disk.specs.Crashes.{Torn, Follows, Keeps, Only, Images}
 use Rattle.pf_disk.specs.Files.{overwritten, reach}
-use Rattle.pf_chunklog.specs.Records.{Raw, Holds, spelled, body_of, blocks}
+use Rattle.pf_chunklog.specs.Records.{Raw, Holds, IsSized, spelled, body_of, blocks}
 use Rattle.pf_chunklog.specs.Logs.{BeforeOrAfter, IsAtRest}
 use Rattle.pf_chunklog.proofs.Crash as crash
 
@@ -14,7 +15,15 @@ pub if_some : {X : Type 0} (o : Option X) (P : X → Type 0) → ((x : X) → o 
 if_some None P here = tt
 if_some (Some x) P here = here x refl
 
-module _ (head : List ℕ) (records : List Raw) (raw : Raw) (file : List ℕ) (used : ℕ) (old : Images) (rest : IsAtRest head used old records file) where
+pub if_ok : {T E : Type 0} (r : Result T E) (P : T → Type 0) → ((x : T) → r ≡ Ok x → P x) → IfOk r P
+if_ok (Ok x) P here = here x refl
+if_ok (Err e) P here = tt
+
+-- a body that fits a half
+pub is_sized : (raw : Raw) (body : List ℕ) (used : ℕ) → body ≡ body_of raw → used + length body ≤ 67108864 → IsSized raw
+is_sized raw body used is fits = omega (arith, fits, ap length is, length-append (spelled raw) (0 ∷ []), length-append (to_be_bytes w32 (length raw.1)) raw.1)
+
+module _ (head : List ℕ) (records : List Raw) (raw : Raw) (file : List ℕ) (used : ℕ) (old : Images) (raw_sized : IsSized raw) (rest : IsAtRest head used old records file) where
   -- the file with the body behind the closed gate
   abbrev pub staged : List ℕ
   staged = (head ++ blocks records) ++ rest.held.gate ∷ (spelled raw ++ 0 ∷ crash.after_body head records raw file used rest.held rest.size)
@@ -29,7 +38,7 @@ module _ (head : List ℕ) (records : List Raw) (raw : Raw) (file : List ℕ) (u
   after_gate body mid new is only follows c left =
       let from = follows c left in
       let file_is : overwritten file used body ≡ staged = ap (λ (b : List ℕ). overwritten file used b) is ∙ crash.written head records raw file used rest.held rest.size in
-      crash.gate_torn head records raw file used rest.held rest.size c
+      crash.gate_torn head records raw file used rest.held rest.size raw_sized c
       (subst (λ (f : List ℕ). Torn (min (length f) (used - 1)) (used - 1 + 1) f c) file_is (subst (λ (f : List ℕ). Torn (min (length (overwritten file used body)) (used - 1)) (used - 1 + 1) f c) (only from.0 from.1) from.2))
 
   -- the log after its fourth call
@@ -39,7 +48,7 @@ module _ (head : List ℕ) (records : List Raw) (raw : Raw) (file : List ℕ) (u
       let file_is : overwritten file used body ≡ staged = ap (λ (b : List ℕ). overwritten file used b) is ∙ crash.written head records raw file used rest.held rest.size in
       let end_is = ap (λ (f : List ℕ). overwritten f (used - 1) (1 ∷ [])) file_is ∙ crash.gate_written head records raw file used rest.held rest.size in
       record {
-        held = subst (λ (f : List ℕ). Holds head (records ++ raw ∷ []) f) (sym end_is) (crash.appended head records raw file used rest.held rest.size);
+        held = subst (λ (f : List ℕ). Holds head (records ++ raw ∷ []) f) (sym end_is) (crash.appended head records raw file used rest.held rest.size raw_sized);
         size = ap (λ (b : List ℕ). used + length b) is ∙ crash.grows head records raw file used rest.held rest.size;
         durable = only;
       }

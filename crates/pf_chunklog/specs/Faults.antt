@@ -2,7 +2,14 @@
 use Rattle.std.specs.Prelude.{ℕ}
 use Rattle.pf_chunklog.specs.declared.errors.AppendFault.{AppendFault}
 use Rattle.pf_chunklog.specs.declared.errors.AppendFault.TheVariants.{DiskFault, LogFull}
+use Rattle.pf_chunklog.specs.declared.errors.OpenFault.{OpenFault}
+use Rattle.pf_chunklog.specs.declared.errors.OpenFault.TheVariants as open_fault
 
 abbrev pub number_of : AppendFault → ℕ
 number_of DiskFault = 40
 number_of LogFull = 41
+
+abbrev pub open_number_of : OpenFault → ℕ
+open_number_of open_fault.NoMemory = 1
+open_number_of open_fault.DiskFault = 40
+open_number_of open_fault.NotOurs = 42

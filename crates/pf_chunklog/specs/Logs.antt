@@ -1,6 +1,6 @@
 -- What a log promises of its disk.
-use Rattle.std.specs.Prelude.{ℕ, ◌+◌, ◌≤◌, ◌≡◌, ◌⊎◌, List, [], ◌∷◌, ◌++◌, length}
-use Rattle.pf_disk.specs.Crashes.{Images, Only}
+use Rattle.std.specs.Prelude.{ℕ, ◌+◌, ◌≤◌, ◌≡◌, ◌⊎◌, Option, List, [], ◌∷◌, ◌++◌, length}
+use Rattle.pf_disk.specs.Crashes.{Images, Keeps, Only}
 use Rattle.pf_chunklog.specs.Records.{Raw, Holds, blocks}
 
 -- The records end at the closed gate that is the last of so many bytes, and a crash leaves the file as it is read.
@@ -19,3 +19,12 @@ pub record LeavesOnly {D : Type 0} (moment : D → ℕ) (left_since : D → ℕ 
   pub each : (c : List ℕ) → left_since new (moment old) c → P c
   -- for a run that began earlier
   pub before : (t : ℕ) (c : List ℕ) → t ≤ moment old → left_since new t c → left_since old t c ⊎ P c
+
+-- Calls that wrote nothing: a read gives the same, and a crash leaves what one before them might have left.
+pub record IsOnlyRead {D : Type 0} (seen : D → Option (List ℕ)) (may_leave : D → Images) (old new : D) : Type 0 where
+  pub same : seen new ≡ seen old
+  pub keeps : Keeps (may_leave old) (may_leave new)
+
+-- What a crash inside `format` leaves: a front of a file that one before might have left, or at most the head and a gate.
+abbrev pub IsCleared : Images → Images
+IsCleared old file = ((whole : List ℕ) × (rest : List ℕ) × old whole × (whole ≡ file ++ rest)) ⊎ (length file ≤ 9)

@@ -1,5 +1,6 @@
 -- How records stand in a half of a chunk log.
 use Rattle.std.specs.Prelude.{ℕ, ◌<◌, ◌^◌, ◌≡◌, ◌≢◌, List, [], ◌∷◌, ◌++◌, length}
+use Rattle.std.specs.List.{All}
 use Rattle.std.specs.Int.{w32, to_be_bytes}
 
 -- a kind and a payload
@@ -19,9 +20,18 @@ abbrev pub blocks : List Raw → List ℕ
 blocks [] = []
 blocks (raw ∷ records) = 1 ∷ spelled raw ++ blocks records
 
+-- four bytes hold the length of the payload
+abbrev pub IsSized : Raw → Type 0
+IsSized raw = length raw.1 < 2 ^ 32
+
 -- The records of a half: from its head on up to the first closed gate, whatever stands behind it.
 pub record Holds (head : List ℕ) (records : List Raw) (file : List ℕ) : Type 0 where
   pub gate : ℕ
   pub rest : List ℕ
   pub closed : gate ≢ 1
+  pub sized : All IsSized records
   pub split : file ≡ head ++ blocks records ++ gate ∷ rest
+
+-- the file begins with this head, and a closed gate ends its records
+abbrev pub IsOurs : List ℕ → List ℕ → Type 0
+IsOurs head file = (records : List Raw) × Holds head records file

@@ -3,6 +3,12 @@
 
 mod errors;
 mod log;
+mod reading;
+mod records;
 
-pub use errors::{AppendFault, DiskFault};
+pub use errors::{AppendFault, DiskFault, OpenFault};
 pub use log::ChunkLog;
+pub use records::RawRecords;
+
+#[cfg(test)]
+mod tests;

@@ -1,12 +1,14 @@
 //! A log over one file. Its head comes first; each record stands behind a gate of one byte, which is open (1) or closed
 //! (any other), and a closed gate ends the records.
-ghost use Rattle.std.specs.Prelude.{◌≡◌, ◌⊎◌, ◌+◌, ◌≤◌, ◌<◌, ◌↔◌, ◌++◌, [], ◌∷◌, List, ℕ, IfErr, IfOk, IfSome, IsErrOf, IsTrue, OnErr, OnOk, length, nat_le, is_ok, is_some, if◌then◌else◌};
+ghost use Rattle.std.specs.Prelude.{◌≡◌, ◌⊎◌, ◌+◌, ◌≤◌, ◌<◌, ◌↔◌, ◌++◌, [], ◌∷◌, List, ℕ, Contains, IfErr, IfOk, IfSome, IsErrOf, IsTrue, OnErr, OnOk, length, nat_le, is_ok, is_some, if◌then◌else◌};
 ghost use Rattle.pf_disk.specs.Causes.{HasCause, Rose};
-ghost use Rattle.pf_chunklog.specs.Records.{Raw, body_of};
-ghost use Rattle.pf_chunklog.specs.Logs.{BeforeOrAfter, IsAtRest, LeavesOnly};
+ghost use Rattle.pf_chunklog.specs.Records.{Holds, IsOurs, Raw, body_of};
+ghost use Rattle.pf_chunklog.specs.Logs.{BeforeOrAfter, IsAtRest, IsCleared, IsOnlyRead, LeavesOnly};
 
-use crate::{AppendFault, DiskFault};
+use crate::reading::{behind_head, read_whole, split_records};
+use crate::{AppendFault, DiskFault, OpenFault, RawRecords};
 use pf_disk::{Disk, Failed};
+use std::alloc::Global;
 
 /// How many bytes of a half are used at most, with the head and the gate that ends the records.
 pub const LIMIT: u64 = 67_108_864;
@@ -17,13 +19,14 @@ pub struct ChunkLog<D: Disk> {
     pub disk: D,
     pub head: [u8; 8],
     pub used: u64,
-    ghost within: { used ≤ 67108864 },
     ghost begun: { 9 ≤ used },
 }
 
 /// Writes the head and a closed gate over whatever the file held.
 fn begin<D: Disk>(disk: &mut D, head: &[u8; 8]) -> Result<(), Failed>
     ensures formatted { IfSome (D.seen disk.old) (λ _. OnOk result (IfSome (D.seen disk.new) (IsAtRest head.now 9 (D.may_leave disk.new) []))) }
+    ensures any_moment { IsTrue D.tells_moments → IfSome (D.seen disk.old) (λ _. LeavesOnly D.moment D.left_since disk.old disk.new (IsCleared (D.may_leave disk.old))) }
+    ensures may_leave { IfSome (D.seen disk.old) (λ _. (c : List ℕ) → D.may_leave disk.new c → IsCleared (D.may_leave disk.old) c) }
     ensures told { is_some (D.seen disk.new) ≡ is_some (D.seen disk.old) }
     ensures cause { HasCause (D.faults disk.old) (D.faults disk.new) result }
 {
@@ -37,32 +40,140 @@ fn begin<D: Disk>(disk: &mut D, head: &[u8; 8]) -> Result<(), Failed>
 }
 
 impl<D: Disk> ChunkLog<D> {
-    /// Makes an empty log of a disk, whatever it held. Once it has answered Ok, every crash leaves the head and a closed
-    /// gate alone, until the next record is appended.
-    pub fn format(mut disk: D, head: [u8; 8]) -> Result<ChunkLog<D>, (D, DiskFault)>
-        ensures formatted { IfSome (D.seen disk) (λ _. IfOk result (λ log. IfSome (D.seen log.disk) (IsAtRest head log.used (D.may_leave log.disk) []))) }
-        ensures ok { IfOk result (λ log. (log.head ≡ head) × (log.used ≡ 9) × (is_some (D.seen log.disk) ≡ is_some (D.seen disk))) }
-        ensures failed { IfErr result (λ given. (is_some (D.seen given.0) ≡ is_some (D.seen disk)) × Rose (D.faults disk) (D.faults given.0)) }
+    /// A log over a disk that is not read or written yet: its first call is to be `clear`, `reload` or `reload_from`.
+    pub fn new(disk: D, head: [u8; 8]) -> ChunkLog<D>
+        ensures disk { result.disk ≡ disk }
+        ensures head { result.head ≡ head }
     {
-        match begin(&mut disk, &head) {
-            Ok(()) => Ok(ChunkLog {
-                disk,
-                head,
-                used: 9,
-            }),
-            Err(_) => Err((disk, DiskFault)),
+        ChunkLog {
+            disk,
+            head,
+            used: 9,
         }
     }
 
-    /// Whether so many bytes more are within the limit.
+    /// Makes an empty log of a disk, whatever it held: cuts the file to 0 bytes, syncs, writes the head and a closed gate,
+    /// and syncs. Once it has answered Ok, every crash leaves the head and a closed gate alone, until the next record is
+    /// appended. `DiskFault` (40) comes only where the disk has failed in this call.
+    pub fn format(disk: D, head: [u8; 8]) -> Result<ChunkLog<D>, (D, DiskFault)>
+        ensures formatted { IfSome (D.seen disk) (λ _. IfOk result (λ log. IfSome (D.seen log.disk) (IsAtRest head log.used (D.may_leave log.disk) []))) }
+        ensures ok { IfOk result (λ log. (log.head ≡ head) × (log.used ≡ 9) × (is_some (D.seen log.disk) ≡ is_some (D.seen disk))) }
+        ensures failed { IfErr result (λ given. (is_some (D.seen given.0) ≡ is_some (D.seen disk)) × Rose (D.faults disk) (D.faults given.0)) }
+        ensures any_moment { IsTrue D.tells_moments → IfSome (D.seen disk) (λ _.
+            IfOk result (λ log. LeavesOnly D.moment D.left_since disk log.disk (IsCleared (D.may_leave disk)))
+            × IfErr result (λ given. LeavesOnly D.moment D.left_since disk given.0 (IsCleared (D.may_leave disk)))) }
+    {
+        let mut log = ChunkLog::new(disk, head);
+        match log.clear(head) {
+            Ok(()) => Ok(log),
+            Err(fault) => Err((log.disk, fault)),
+        }
+    }
+
+    /// `format` over the log's own disk, under another head. A crash at any moment of the call leaves a front of a file that
+    /// one before might have left, or nine bytes at most. On an `Err` the log is to be cleared or reloaded.
+    pub fn clear(&mut self, head: [u8; 8]) -> Result<(), DiskFault>
+        ensures cleared { IfSome (D.seen self.old.disk) (λ _. OnOk result (IfSome (D.seen self.new.disk) (IsAtRest head self.new.used (D.may_leave self.new.disk) []))) }
+        ensures any_moment { IsTrue D.tells_moments → IfSome (D.seen self.old.disk) (λ _. LeavesOnly D.moment D.left_since self.old.disk self.new.disk (IsCleared (D.may_leave self.old.disk))) }
+        ensures may_leave { IfSome (D.seen self.old.disk) (λ _. (c : List ℕ) → D.may_leave self.new.disk c → IsCleared (D.may_leave self.old.disk) c) }
+        ensures told { is_some (D.seen self.new.disk) ≡ is_some (D.seen self.old.disk) }
+        ensures ok { OnOk result ((self.new.head ≡ head) × (self.new.used ≡ 9)) }
+        ensures err { OnErr result ((self.new.head ≡ self.old.head) × (self.new.used ≡ self.old.used)) }
+        ensures later { D.faults self.old.disk ≤ D.faults self.new.disk }
+        ensures failed { OnErr result (Rose (D.faults self.old.disk) (D.faults self.new.disk)) }
+    {
+        match begin(&mut self.disk, &head) {
+            Ok(()) => {
+                self.head = head;
+                self.used = 9;
+                Ok(())
+            }
+            Err(_) => Err(DiskFault),
+        }
+    }
+
+    /// Opens the log of a disk and hands out its records: syncs, asks for the length and then reads to the end, so every later crash
+    /// leaves what is handed out. The memory that it takes is in proportion to the file.
+    ///
+    /// `NoMemory` (1); `DiskFault` (40) only where the disk has failed in this call; `NotOurs` (42) exactly where the first eight bytes
+    /// are not the head, or no closed gate ends the records.
+    pub fn open(
+        alloc: Global,
+        disk: D,
+        head: [u8; 8],
+    ) -> Result<(ChunkLog<D>, RawRecords), (D, OpenFault)>
+        ensures records { IfSome (D.seen disk) (λ file. IfOk result (λ opened. IsAtRest head opened.0.used (D.may_leave opened.0.disk) opened.1 file)) }
+        ensures head { IfOk result (λ opened. opened.0.head ≡ head) }
+        ensures only_records { IfSome (D.seen disk) (λ file. IfOk result (λ opened. (others : List Raw) → Holds head others file → others ≡ opened.1)) }
+        ensures not_ours { IfSome (D.seen disk) (λ file. IfErr result (λ given. given.1 ≡ OpenFault.NotOurs → IsOurs head file → ⊥)) }
+        ensures only_read { IfOk result (λ opened. IsOnlyRead D.seen D.may_leave disk opened.0.disk) }
+        ensures only_read_err { IfErr result (λ given. IsOnlyRead D.seen D.may_leave disk given.0) }
+        ensures any_moment { IsTrue D.tells_moments → IfOk result (λ opened. LeavesOnly D.moment D.left_since disk opened.0.disk (D.may_leave disk)) }
+        ensures any_moment_err { IsTrue D.tells_moments → IfErr result (λ given. LeavesOnly D.moment D.left_since disk given.0 (D.may_leave disk)) }
+        ensures failed { IfErr result (λ given. given.1 ≡ OpenFault.DiskFault → Rose (D.faults disk) (D.faults given.0)) }
+    {
+        let mut log = ChunkLog::new(disk, head);
+        match log.reload(alloc) {
+            Ok(records) => Ok((log, records)),
+            Err(fault) => Err((log.disk, fault)),
+        }
+    }
+
+    /// `open` over the log's own disk, also after a `DiskFault`. On an `Err` the log is as it was: the disk reads the same.
+    pub fn reload(&mut self, alloc: Global) -> Result<RawRecords, OpenFault>
+        ensures records { IfSome (D.seen self.old.disk) (λ file. IfOk result (λ records. IsAtRest self.old.head self.new.used (D.may_leave self.new.disk) records file)) }
+        ensures head { self.new.head ≡ self.old.head }
+        ensures only_records { IfSome (D.seen self.old.disk) (λ file. IfOk result (λ records. (others : List Raw) → Holds self.old.head others file → others ≡ records)) }
+        ensures not_ours { IfSome (D.seen self.old.disk) (λ file. IsErrOf result OpenFault.NotOurs → IsOurs self.old.head file → ⊥) }
+        ensures only_read { IsOnlyRead D.seen D.may_leave self.old.disk self.new.disk }
+        ensures any_moment { IsTrue D.tells_moments → LeavesOnly D.moment D.left_since self.old.disk self.new.disk (D.may_leave self.old.disk) }
+        ensures err { OnErr result (self.new.used ≡ self.old.used) }
+        ensures later { D.faults self.old.disk ≤ D.faults self.new.disk }
+        ensures failed { IsErrOf result OpenFault.DiskFault → Rose (D.faults self.old.disk) (D.faults self.new.disk) }
+    {
+        let head = self.head;
+        self.reload_from(alloc, &[head])
+    }
+
+    /// `reload` of a file that begins with one of these heads, which is the log's head afterwards. `NotOurs` (42) exactly where
+    /// it begins with none of them, or no closed gate ends the records.
+    pub fn reload_from(&mut self, alloc: Global, heads: &[[u8; 8]]) -> Result<RawRecords, OpenFault>
+        ensures records { IfSome (D.seen self.old.disk) (λ file. IfOk result (λ records. IsAtRest self.new.head self.new.used (D.may_leave self.new.disk) records file)) }
+        ensures head { OnOk result (Contains heads.now self.new.head) }
+        ensures only_records { IfSome (D.seen self.old.disk) (λ file. IfOk result (λ records. (others : List Raw) → Holds self.new.head others file → others ≡ records)) }
+        ensures not_ours { IfSome (D.seen self.old.disk) (λ file. IsErrOf result OpenFault.NotOurs → (head : List ℕ) → Contains heads.now head → IsOurs head file → ⊥) }
+        ensures only_read { IsOnlyRead D.seen D.may_leave self.old.disk self.new.disk }
+        ensures any_moment { IsTrue D.tells_moments → LeavesOnly D.moment D.left_since self.old.disk self.new.disk (D.may_leave self.old.disk) }
+        ensures err { OnErr result ((self.new.head ≡ self.old.head) × (self.new.used ≡ self.old.used)) }
+        ensures later { D.faults self.old.disk ≤ D.faults self.new.disk }
+        ensures failed { IsErrOf result OpenFault.DiskFault → Rose (D.faults self.old.disk) (D.faults self.new.disk) }
+    {
+        self.disk.sync()?;
+        let bytes = read_whole(alloc, &mut self.disk)?;
+        let Some((head, rest)) = behind_head(heads, &bytes) else {
+            return Err(OpenFault::NotOurs);
+        };
+        let Some((records, size)) = split_records(alloc, rest)? else {
+            return Err(OpenFault::NotOurs);
+        };
+        let head = *head;
+        self.head = head;
+        self.used = 9 + size as u64;
+        Ok(records)
+    }
+
+    /// Whether the used bytes and so many more are within the limit of 67,108,864 bytes.
     pub fn has_room(&self, len: u64) -> bool
         ensures { result ≡ nat_le (self.now.used + len) 67108864 }
     {
-        len <= LIMIT - self.used
+        self.used <= LIMIT && len <= LIMIT - self.used
     }
 
-    /// Appends a record: the body behind the closed gate, a sync, the gate, a sync. At `Ok` it is acknowledged: from then
-    /// on each crash leaves a file that has it. Takes no memory.
+    /// Appends a record: writes the body behind the closed gate, syncs, opens the gate, and syncs. At `Ok` it is acknowledged:
+    /// from then on each crash leaves a file that has it. It takes no memory.
+    ///
+    /// `LogFull` (41) exactly where the used bytes and the body's are more than 67,108,864, and nothing is done; `DiskFault` (40)
+    /// only where the disk has failed in this call, and then the log is to be reloaded.
     pub fn append(&mut self, body: &[u8]) -> Result<(), AppendFault>
         requires at_rest { IfSome (D.seen self.old.disk) (λ file. (records : List Raw) × IsAtRest self.old.head self.old.used (D.may_leave self.old.disk) records file) }
         requires body { (raw : Raw) × (body.now ≡ body_of raw) }
@@ -74,6 +185,7 @@ impl<D: Disk> ChunkLog<D> {
         ensures may_leave { IfSome (D.seen self.old.disk) (λ old. (raw : Raw) (records : List Raw) → body.now ≡ body_of raw → IsAtRest self.old.head self.old.used (D.may_leave self.old.disk) records old
             → (c : List ℕ) → D.may_leave self.new.disk c → BeforeOrAfter self.old.head records raw c) }
         ensures told { is_some (D.seen self.new.disk) ≡ is_some (D.seen self.old.disk) }
+        ensures later { D.faults self.old.disk ≤ D.faults self.new.disk }
         ensures full { IsErrOf result AppendFault.LogFull ↔ (67108864 < self.old.used + length body.now) }
         ensures full_unchanged { IsErrOf result AppendFault.LogFull → self.new ≡ self.old }
         ensures failed { IsErrOf result AppendFault.DiskFault → Rose (D.faults self.old.disk) (D.faults self.new.disk) }

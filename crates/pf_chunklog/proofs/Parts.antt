@@ -1,0 +1,65 @@
+-- What a reader finds in bytes.
+use Rattle.std.proofs.Common.{◌≡◌, ◌≢◌, ◌⊎◌, inl, inr, ℕ, ◌+◌, ◌<◌, ◌≤◌, List, [], ◌∷◌, ◌++◌, length, take, get_or, Contains, refl, sym, ◌∙◌, ap, subst, arith, append_assoc, length-take}
+use Rattle.std.specs.List.{All}
+use Rattle.std.proofs.lemmas.Bool.{cases_lt}
+use Rattle.std.proofs.lemmas.List.{get_or-take, get_or_default, take_all}
+use Rattle.std.proofs.lemmas.List.Elements.{All-push}
+use Rattle.pf_chunklog.specs.Records.{Raw, Holds, IsSized, blocks, spelled}
+use Rattle.pf_chunklog.proofs.Crash.{blocks-push}
+use Rattle.pf_chunklog.proofs.Unique.{goes_on, none_left, blocks_are, same_parts}
+
+-- one element more
+pub contains_more : (xs : List (List ℕ)) (i : ℕ) (x : List ℕ) → i < length xs → Contains (take (i + 1) xs) x → Contains (take i xs) x ⊎ (x ≡ get_or xs i [])
+contains_more xs i x within (k, below, is) =
+    let more : length (take (i + 1) xs) ≡ i + 1 = omega (arith, within, length-take (i + 1) xs) in
+    let at : k < i + 1 = omega (arith, below, more) in
+    elim (cases_lt k i) [
+      | inl before ↦ inl (k, omega (arith, before, within, length-take i xs), get_or-take i xs k x before ∙ sym (get_or-take (i + 1) xs k x at) ∙ is)
+      | inr not_before ↦
+          let same : k ≡ i = omega (arith, not_before, at) in
+          inr (sym is ∙ get_or-take (i + 1) xs k x at ∙ ap (λ (n : ℕ). get_or xs n x) same ∙ get_or_default xs i x [] within)
+    ]
+
+pub contains_all : (xs : List (List ℕ)) (i : ℕ) (x : List ℕ) → length xs ≤ i → Contains xs x → Contains (take i xs) x
+contains_all xs i x past has = subst (λ (l : List (List ℕ)). Contains l x) (sym (take_all i xs past)) has
+
+-- one record more
+pub split_more : (bytes : List ℕ) (records : List Raw) (rest : List ℕ) (raw : Raw) (after : List ℕ) → bytes ≡ blocks records ++ rest → rest ≡ blocks (raw ∷ []) ++ after → bytes ≡ blocks (records ++ raw ∷ []) ++ after
+split_more bytes records rest raw after is so =
+    is ∙ ap (λ (l : List ℕ). blocks records ++ l) (so ∙ blocks_are raw [] after) ∙ sym (blocks-push records raw after)
+
+-- no closed gate ends the records
+pub no_end : (bytes rest : List ℕ) (records : List Raw) → bytes ≡ blocks records ++ rest → All IsSized records
+    → ((raw : Raw) (after : List ℕ) → IsSized raw → rest ≡ blocks (raw ∷ []) ++ after → ⊥)
+    → ((gate : ℕ) (tail : List ℕ) → rest ≡ gate ∷ tail → gate ≡ 1) → (all : List Raw) → Holds [] all bytes → ⊥
+no_end bytes rest records is sized no_block no_gate all held =
+    let on = goes_on records rest all held.gate held.rest sized held.sized held.closed (sym is ∙ held.split) in
+    none_left rest on.more held.gate held.rest no_block no_gate on.sized held.closed on.behind
+
+-- each head has eight bytes
+pub long_head : (heads : List (List ℕ)) (head : List ℕ) → ((i : ℕ) → i < length heads → length (get_or heads i []) ≡ 8) → Contains heads head → length head ≡ 8
+long_head heads head long (k, below, is) = ap length (sym is ∙ get_or_default heads k head [] below) ∙ long k below
+
+-- records behind a head
+pub behind : (head other rest file : List ℕ) (records : List Raw) → length head ≡ length other → file ≡ head ++ rest → Holds other records file → Holds [] records rest
+behind head other rest file records size is held =
+    let parts = same_parts head other rest (blocks records ++ held.gate ∷ held.rest) size (sym is ∙ held.split ∙ append_assoc other (blocks records) (held.gate ∷ held.rest)) in
+    record { gate = held.gate; rest = held.rest; closed = held.closed; sized = held.sized; split = parts.1 }
+
+pub in_front : (head rest file : List ℕ) (records : List Raw) → file ≡ head ++ rest → Holds [] records rest → Holds head records file
+in_front head rest file records is held = record {
+  gate = held.gate;
+  rest = held.rest;
+  closed = held.closed;
+  sized = held.sized;
+  split = is ∙ ap (λ (l : List ℕ). head ++ l) held.split ∙ sym (append_assoc head (blocks records) (held.gate ∷ held.rest));
+}
+
+-- a list of one head
+pub the_only_head : (head other : List ℕ) → Contains (head ∷ []) other → other ≡ head
+the_only_head head other (k, below, is) =
+    let first : k ≡ 0 = omega (arith, below) in
+    sym is ∙ ap (λ (n : ℕ). get_or (head ∷ []) n other) first
+
+pub has_head : (head : List ℕ) → Contains (head ∷ []) head
+has_head head = (0, omega arith, refl)

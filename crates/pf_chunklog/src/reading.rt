@@ -1,0 +1,86 @@
+//! Reading a file whole, and finding the records in its bytes.
+ghost use Rattle.std.specs.Prelude.{◌≡◌, ◌≤◌, ◌+◌, ◌++◌, ◌∷◌, [], ℕ, List, Contains, IfOk, IfSome, IsErrOf, IsNone, IsTrue, OnErr, length};
+ghost use Rattle.pf_disk.specs.Causes.{HasCause, Rose};
+ghost use Rattle.pf_chunklog.specs.Records.{Raw, Holds, IsSized, blocks};
+ghost use Rattle.pf_chunklog.specs.Logs.{IsOnlyRead, LeavesOnly};
+
+use crate::{OpenFault, RawRecords};
+use pf_base::Bytes;
+use pf_disk::Disk;
+use std::alloc::{AllocError, Global};
+
+/// How many bytes a read asks for.
+const PIECE: usize = 4096;
+
+/// The bytes of a file, read in pieces.
+pub fn read_whole<D: Disk>(alloc: Global, disk: &mut D) -> Result<Vec<u8>, OpenFault>
+    ensures bytes { IfSome (D.seen disk.old) (λ file. IfOk result (λ bytes. bytes.items ≡ file)) }
+    ensures only_read { IsOnlyRead D.seen D.may_leave disk.old disk.new }
+    ensures any_moment { IsTrue D.tells_moments → LeavesOnly D.moment D.left_since disk.old disk.new (D.may_leave disk.old) }
+    ensures later { D.faults disk.old ≤ D.faults disk.new }
+    ensures failed { IsErrOf result OpenFault.DiskFault → Rose (D.faults disk.old) (D.faults disk.new) }
+    ensures ours { IsErrOf result OpenFault.NotOurs → ⊥ }
+{
+    let len = disk.len()?;
+    let mut bytes = Vec::with_capacity(alloc, len as usize)?;
+    let mut piece = [0u8; PIECE];
+    while (bytes.len() as u64) < len {
+        let count = disk.read(bytes.len() as u64, &mut piece)?;
+        if count == 0 {
+            break;
+        }
+        bytes.extend_from_slice(&piece[..count])?;
+    }
+    Ok(bytes)
+}
+
+/// The head that the bytes begin with, and the bytes behind it.
+pub fn behind_head<'a>(heads: &'a [[u8; 8]], bytes: &'a [u8]) -> Option<(&'a [u8; 8], &'a [u8])>
+    ensures some { IfSome result (λ found. Contains heads.now found.0.now × (bytes.now ≡ found.0.now ++ found.1.now)) }
+    ensures none { IsNone result → (head rest : List ℕ) → Contains heads.now head → bytes.now ≡ head ++ rest → ⊥ }
+{
+    for head in heads {
+        if let Some(rest) = bytes.strip_prefix(head) {
+            return Some((head, rest));
+        }
+    }
+    None
+}
+
+/// The open block at the front, where it is whole: its kind, its payload and the bytes behind it.
+fn first_block(bytes: &[u8]) -> Option<(u8, &[u8], &[u8])>
+    ensures some { IfSome result (λ found. (bytes.now ≡ blocks ((found.0, found.1.now) ∷ []) ++ found.2.now) × IsSized (found.0, found.1.now)) }
+    ensures none { IsNone result → (raw : Raw) (rest : List ℕ) → IsSized raw → bytes.now ≡ blocks (raw ∷ []) ++ rest → ⊥ }
+{
+    let [1, kind, a, b, c, d, rest @ ..] = bytes else {
+        return None;
+    };
+    let len = u32::from_be_bytes([*a, *b, *c, *d]) as usize;
+    if rest.len() < len {
+        return None;
+    }
+    let (payload, rest) = rest.split_at(len);
+    Some((*kind, payload, rest))
+}
+
+/// The records at the front up to the first closed gate, and how many bytes they have without it; `None` where no
+/// closed gate ends them.
+pub fn split_records(alloc: Global, bytes: &[u8]) -> Result<Option<(RawRecords, usize)>, AllocError>
+    ensures some { IfOk result (λ found. IfSome found (λ split. Holds [] split.0 bytes.now × (split.1 ≡ length (blocks split.0)))) }
+    ensures none { IfOk result (λ found. IsNone found → (records : List Raw) → Holds [] records bytes.now → ⊥) }
+{
+    let mut records = Vec::new(alloc);
+    let mut rest = bytes;
+    while let Some((kind, payload, after)) = first_block(rest) {
+        records.push((kind, Bytes::new(payload.to_vec(alloc)?)))?;
+        rest = after;
+    }
+    let Some(gate) = rest.first() else {
+        return Ok(None);
+    };
+    if *gate == 1 {
+        return Ok(None);
+    }
+    let size = bytes.len() - rest.len();
+    Ok(Some((RawRecords::new(records), size)))
+}
