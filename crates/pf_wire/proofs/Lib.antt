@@ -1,0 +1,2 @@
+pub mod WireLaws
+pub mod PacketSizes

@@ -1,0 +1,28 @@
+//! What a packet's bytes are refused with.
+ghost use Rattle.std.specs.Prelude.{◌≡◌};
+ghost use Rattle.pf_wire.specs.Faults.{number_of};
+
+use thiserror::Error;
+
+/// Why bytes were not read as a packet.
+#[derive(Clone, Copy, Debug, PartialEq, Eq, Error)]
+pub enum WireFault {
+    /// Memory has run out.
+    #[error("no memory")]
+    NoMemory,
+    /// No packet is spelled so.
+    #[error("bad packet")]
+    BadPacket,
+}
+
+impl WireFault {
+    /// The number of this refusal.
+    pub fn number(&self) -> u32
+        ensures { result ≡ number_of self.now }
+    {
+        match self {
+            WireFault::NoMemory => 1,
+            WireFault::BadPacket => 31,
+        }
+    }
+}
