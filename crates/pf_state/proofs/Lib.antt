@@ -1,0 +1,3 @@
+pub mod Sendings
+pub mod Applied
+pub mod Steps

@@ -1,0 +1,4 @@
+pub mod Outgoing
+pub mod Packets
+pub mod Replying
+pub mod Standing

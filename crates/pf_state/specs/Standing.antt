@@ -1,0 +1,157 @@
+-- A running server over its records, and what a step of it may end in.
+use Rattle.std.specs.Prelude.{◌≡◌, ◌⊎◌, ◌≢◌, ℕ, ◌+◌, ◌<◌, ◌≤◌, ◌^◌, Bool, true, List, [], length, map, Option, Some, None, Result, Ok, Err, nat_lt}
+use Rattle.std.specs.FinMap
+use Rattle.pf_entry.specs.Sets
+use Rattle.pf_entry.specs.Ops.{Sector}
+use Rattle.pf_entry.specs.Records.{Durable}
+use Rattle.pf_entry.specs.declared.ops.Op.TheVariants.{Mark}
+use Rattle.pf_election.specs.declared.probes.Read.{Read as Asked}
+use Rattle.pf_protocol.specs.Servers.{Setup, Server, Read, Leader, Role, Follower, Candidate, Merging, Serving}
+use Rattle.pf_protocol.specs.declared.answers.Answer.{Answer}
+use Rattle.pf_protocol.specs.declared.answers.Refusal.{Refusal}
+use Rattle.pf_protocol.specs.declared.answers.Refusal.TheVariants.{PacketsFull, LogFull}
+use Rattle.pf_protocol.specs.Leading.{members}
+use Rattle.pf_protocol.specs.Outcomes.{Outcome}
+use Rattle.pf_protocol.specs.Fitting.{ServerFits}
+use Rattle.pf_protocol.specs.Answers.{IsSetup, refuse}
+use Rattle.pf_state.specs.declared.running.Leader.{Leader as LeaderHere}
+use Rattle.pf_state.specs.declared.running.Role.{Role as RoleHere}
+use Rattle.pf_state.specs.declared.running.Role.TheVariants.{Follower as FollowerHere, Candidate as CandidateHere, Merging as MergingHere, Serving as ServingHere}
+use Rattle.pf_state.specs.declared.running.Running.{Running}
+use Rattle.pf_state.specs.declared.faults.StepFault.{StepFault}
+use Rattle.pf_state.specs.declared.faults.StepFault.TheVariants.{NoMemory, Refused, Halted}
+use Rattle.pf_state.specs.Outgoing.{Outgoing, exceeds, sent_by}
+
+-- as the rules see it
+
+abbrev pub read_of : Asked → Read
+read_of r = record { number = r.number; range = r.range; waits_for = r.named; confirmed = r.confirmed }
+
+abbrev pub leader_of : LeaderHere → Leader
+leader_of l = record { first = l.first; next = l.next; b0 = l.acks.base; acks = l.acks.acks; known = l.known }
+
+abbrev pub role_of : RoleHere → Role
+role_of FollowerHere = Follower
+role_of (CandidateHere c) = Candidate c.own
+role_of (MergingHere l) = Merging (leader_of l)
+role_of (ServingHere l) = Serving (leader_of l)
+
+unfoldable pub server_of : Durable → Running → Server
+server_of d me = record {
+  number = me.number;
+  life = me.life;
+  durable = d;
+  role = role_of me.role;
+  committed = me.log.marks;
+  applied = Sets.retain me.applied.slots (nat_lt me.log.base);
+  sectors = me.sectors;
+  in_hand = me.in_hand;
+  reads = map read_of me.reads;
+  snapshots = me.snapshots;
+}
+
+unfoldable pub setup_of : Running → Setup
+setup_of me = record { names = me.names; window = 4096; chunk = length me.sectors; format = me.format; failed = [] }
+
+-- a leader's table of acknowledgements has a place for each of its proposals, and up to `settled` each merged slot was acknowledged
+-- by another server
+pub record IsLeaderKept (number : ℕ) (l : LeaderHere) : Type 0 where
+  pub counted : l.acks.base + l.acks.count + 1 ≡ l.next
+  pub low : l.acks.base ≤ l.settled
+  pub high : l.settled < l.first
+  pub heard : (slot : ℕ) → l.acks.base < slot → slot ≤ l.settled → (i : ℕ) × (i ≢ number) × (i < 3) × (Sets.contains (members (FinMap.get l.acks.acks slot)) i ≡ true)
+
+abbrev pub IsRoleKept : ℕ → RoleHere → Type 0
+IsRoleKept number FollowerHere = Unit {0}
+IsRoleKept number (CandidateHere c) = c.other ≡ None
+IsRoleKept number (MergingHere l) = IsLeaderKept number l
+IsRoleKept number (ServingHere l) = IsLeaderKept number l
+
+-- memory has what the records say, and the room that jobs and reads in hand will need
+pub record IsCached (d : Durable) (me : Running) : Type 0 where
+  pub number : me.number < 3
+  pub term : me.term ≡ d.term
+  pub generation : me.generation ≡ d.generation
+  pub base : me.log.base ≡ d.base
+  pub starts : me.starts.starts ≡ d.starts
+  pub log : me.log.entries ≡ d.log
+  pub format : (d.format ≡ 2) ⊎ (d.format ≡ me.format)
+  pub prefix : (slot : ℕ) → 0 < slot → slot ≤ me.log.base → Sets.contains me.applied.slots slot ≡ true
+  pub role : IsRoleKept me.number me.role
+  pub jobs : me.jobs ≡ FinMap.len me.in_hand
+  pub places : me.jobs ≤ me.applied.spare
+  pub rooms : (slot : ℕ) → FinMap.get me.in_hand slot ≡ Some Mark → (room : List Sector) × (FinMap.get me.rooms slot ≡ Some room) × (length room ≡ length me.sectors)
+  pub near : (slot : ℕ) → FinMap.contains_key me.rooms slot ≡ true → FinMap.contains_key me.in_hand slot ≡ true
+  pub replies : length me.reads ≤ me.replies.rooms
+
+-- the state that memory alone tells
+abbrev pub bare : Running → Durable
+bare me = record {
+  format = me.format;
+  used = 0;
+  generation = me.generation;
+  term = me.term;
+  base = me.log.base;
+  starts = me.starts.starts;
+  log = me.log.entries;
+  saved = Sets.empty;
+  sectors = me.sectors;
+}
+
+-- numbers are far from the ends of their types
+pub record IsBounded (me : Running) : Type 0 where
+  pub setup : IsSetup (setup_of me)
+  pub n : ℕ
+  pub t : ℕ
+  pub low : n < 2 ^ 63
+  pub t_low : t < 2 ^ 63
+  pub fits : ServerFits (setup_of me) n t (server_of (bare me) me)
+  pub few : FinMap.len me.starts.starts < 2 ^ 15
+
+module _ {S : Type 0} (holds : S → Durable → Durable → Type 0) (used format : S → ℕ) where
+  -- the records stand for this state, in whatever a crash leaves, and memory has what they say
+  pub record Stands (d : Durable) (store : S) (me : Running) : Type 0 where
+    pub recorded : holds store d d
+    pub used_is : used store ≡ d.used
+    pub within : d.used ≤ 67108864
+    pub half : format store ≡ d.format
+    pub cached : IsCached d me
+
+-- a step's packets have to fit, and its record
+unfoldable pub room_refusal : Outgoing → Outcome → Option Refusal
+room_refusal out o = refuse (exceeds out o.packets) PacketsFull (refuse (nat_lt 67108864 o.server.durable.used) LogFull None)
+
+module _ {S : Type 0} (holds : S → Durable → Durable → Type 0) (used format : S → ℕ) (told : S → Bool) (rose : S → S → Type 0) (d : Durable) (store : S) (me : Running) (out : Outgoing) (store' : S) (me' : Running) (out' : Outgoing) where
+  -- nothing has changed as the rules see it; there may be more room
+  pub record IsUntouched : Type 0 where
+    pub store_same : store' ≡ store
+    pub server_same : server_of d me' ≡ server_of d me
+    pub setup_same : setup_of me' ≡ setup_of me
+    pub stands : Stands holds used format d store' me'
+
+  pub record IsRefused (judged : Option Refusal) (refusal : Refusal) : Type 0 where
+    pub judged_so : judged ≡ Some refusal
+    pub untouched : IsUntouched
+
+  -- a disk failed: a restart finds the state from before the step, or the one after it
+  pub record IsHalted (judged : Option Refusal) (o : Outcome) : Type 0 where
+    pub may : judged ≡ None
+    pub in_doubt : holds store' d o.server.durable
+    pub told_same : told store' ≡ told store
+    pub cause : rose store store'
+
+  pub record IsDone (judged : Option Refusal) (o : Outcome) (answer : Answer) : Type 0 where
+    pub may : judged ≡ None
+    pub answered : answer ≡ o.answer
+    pub server_is : server_of o.server.durable me' ≡ o.server
+    pub setup_same : setup_of me' ≡ setup_of me
+    pub stands : Stands holds used format o.server.durable store' me'
+    pub told_same : told store' ≡ told store
+    pub sent : out' ≡ record (sent_by out o.packets) { acked = o.acked }
+
+  -- the rule was carried out, or there is a reason why it was not
+  abbrev pub Steps : Option Refusal → Outcome → Result Answer StepFault → Type 0
+  Steps judged o (Ok answer) = IsDone judged o answer
+  Steps judged o (Err NoMemory) = IsUntouched
+  Steps judged o (Err (Refused refusal)) = IsRefused judged refusal
+  Steps judged o (Err Halted) = IsHalted judged o

@@ -1,0 +1,17 @@
+//! A running server: what it has in memory of its records and beside them, what a step of it sends, and in what a step may end.
+//!
+//! The rules are the definitions of pf_protocol. A step is a rule that is carried out here: it judges and takes all its memory
+//! first, then adds at most one record to the store, and then changes the memory, which cannot fail.
+#![tactic(auto)]
+
+mod faults;
+mod outbox;
+mod replies;
+mod running;
+mod sending;
+
+pub use faults::StepFault;
+pub use outbox::Outbox;
+pub use replies::Replies;
+pub use running::{Leader, Role, Running};
+pub use sending::{others_of, send, send_to_others};

@@ -1,0 +1,72 @@
+//! Sending to the other servers.
+ghost use Rattle.std.specs.Prelude.{◌≡◌, ◌≢◌, ◌<◌, [], ◌∷◌, map};
+ghost use Rattle.pf_entry.specs.Canonical.{IsCanonicalPacket};
+ghost use Rattle.pf_entry.specs.declared.packets.Body.{Body as BodyIs};
+ghost use Rattle.pf_entry.specs.declared.packets.Packet.{Packet as PacketIs};
+ghost use Rattle.pf_protocol.specs.Outcomes.{others};
+ghost use Rattle.pf_state.specs.Outgoing.{Sends};
+ghost use Rattle.pf_state.specs.Packets.{packet, packets_to, AreCanonical};
+
+use crate::{Outbox, StepFault};
+use pf_base::{Server, Term};
+use pf_entry::{Body, Packet};
+use std::alloc::Global;
+
+/// Sends one packet.
+pub fn send(
+    alloc: Global,
+    out: &mut Outbox,
+    me: Server,
+    to: Server,
+    term: Term,
+    body: Body,
+) -> Result<(), StepFault>
+    requires { IsCanonicalPacket (packet me to term body) }
+    ensures { Sends out.old out.new (packet me to term body ∷ []) result }
+{
+    let packet = Packet {
+        from: me,
+        to,
+        term,
+        body,
+    };
+    out.push(alloc, &packet)
+}
+
+/// The two other servers, in ascending order.
+pub fn others_of(me: Server) -> (Server, Server)
+    requires { me < 3 }
+    ensures both { others me ≡ result.0 ∷ result.1 ∷ [] }
+    ensures first { (result.0 < 3) × (result.0 ≢ me) }
+    ensures second { (result.1 < 3) × (result.1 ≢ me) }
+{
+    match me {
+        0 => (1, 2),
+        1 => (0, 2),
+        _ => (0, 1),
+    }
+}
+
+/// Sends one body to the two other servers, to the lesser first.
+pub fn send_to_others(
+    alloc: Global,
+    out: &mut Outbox,
+    me: Server,
+    term: Term,
+    body: Body,
+) -> Result<(), StepFault>
+    requires me { me < 3 }
+    requires canonical { AreCanonical me term body }
+    ensures { Sends out.old out.new (packets_to me term body) result }
+{
+    let (first, second) = others_of(me);
+    let mut packet = Packet {
+        from: me,
+        to: first,
+        term,
+        body,
+    };
+    out.push(alloc, &packet)?;
+    packet.to = second;
+    out.push(alloc, &packet)
+}

@@ -1,0 +1,72 @@
+//! Records that outlive a crash.
+ghost use Rattle.std.specs.Prelude.{◌≡◌, ◌≢◌, ◌⊎◌, ◌+◌, ◌≤◌, ◌↔◌, Bool, ℕ, Err, IfOk, IsErrOf, IsTrue, OnErr, OnOk, false, length, true};
+ghost use Rattle.pf_entry.specs.Records.{Durable, stored};
+ghost use Rattle.pf_entry.specs.Sizes.{empty_half};
+ghost use Rattle.pf_entry.specs.declared.records.Record.{Record as RecordIs};
+ghost use Rattle.pf_store.specs.Stores.{IsImageOf, IsSpelledAs, StandsFor};
+
+use crate::{DiskFault, Found, ReloadFault};
+use std::alloc::Global;
+
+/// How many bytes of a half are used at most, with its head and the gate that ends its records.
+pub const LIMIT: u64 = 67_108_864;
+
+/// The records of one server on its two disks. A crash leaves what they stood for before the last record, or with it; the two
+/// differ only after a call that failed, and the next `reload` tells which of them is there.
+///
+/// Where a disk does not tell its content, nothing is known of what a reload finds.
+pub trait Store {
+    /// A restart would find the first state, or the second.
+    ghost holds: { Self → Durable → Durable → Type 0 };
+
+    /// Whether both disks tell their content.
+    ghost told: { Self → Bool };
+
+    /// The used bytes of the current half.
+    ghost used: { Self → ℕ };
+
+    /// The format of the current half.
+    ghost format: { Self → ℕ };
+
+    /// A count of faults of one of the disks rose from the first to the second.
+    ghost rose: { Self → Self → Type 0 };
+
+    /// Whether a body of so many bytes still fits the current half.
+    fn has_room(&self, len: u64) -> bool
+        ensures { IsTrue result ↔ (used self.now + len ≤ 67108864) };
+
+    /// Adds a record to the current half. It takes no memory.
+    fn append(&mut self, body: &[u8]) -> Result<(), DiskFault>
+        requires whole { (d : Durable) × holds self.old d d }
+        requires record { (r : RecordIs) × IsSpelledAs (format self.old) r body.now }
+        requires room { used self.old + length body.now ≤ 67108864 }
+        ensures ok { OnOk result ((d : Durable) (r : RecordIs) → holds self.old d d → IsSpelledAs (format self.old) r body.now → holds self.new (stored d r) (stored d r)) }
+        ensures err { OnErr result ((d : Durable) (r : RecordIs) → holds self.old d d → IsSpelledAs (format self.old) r body.now → holds self.new d (stored d r)) }
+        ensures used { OnOk result (used self.new ≡ used self.old + length body.now) }
+        ensures format { OnOk result (format self.new ≡ format self.old) }
+        ensures told { told self.new ≡ told self.old }
+        ensures cause { OnErr result (rose self.old self.new) };
+
+    /// Begins the other half with an image of the next generation, which is current afterwards. It takes no memory.
+    fn save(&mut self, body: &[u8]) -> Result<(), DiskFault>
+        requires whole { (d : Durable) × holds self.old d d × ((r : RecordIs) × IsImageOf d r body.now) }
+        requires room { empty_half + length body.now ≤ 67108864 }
+        ensures ok { OnOk result ((d : Durable) (r : RecordIs) → holds self.old d d → IsImageOf d r body.now → holds self.new (stored d r) (stored d r)) }
+        ensures err { OnErr result ((d : Durable) (r : RecordIs) → holds self.old d d → IsImageOf d r body.now → holds self.new d (stored d r)) }
+        ensures used { OnOk result (used self.new ≡ empty_half + length body.now) }
+        ensures format { OnOk result (format self.new ≡ 2) }
+        ensures told { told self.new ≡ told self.old }
+        ensures cause { OnErr result (rose self.old self.new) };
+
+    /// Reads the records, also after a call that failed: the state without the record in doubt, or with it. No crash
+    /// changes that afterwards. `NoMemory` (1) and `DiskFault` (40) leave both possible; `NotOurs` (42) comes only where a disk
+    /// does not tell its content.
+    fn reload(&mut self, alloc: Global) -> Result<Found, ReloadFault>
+        ensures found { IsTrue (told self.old) → IfOk result (λ found. (before after : Durable) → holds self.old before after → (d : Durable) × (d ≡ before ⊎ d ≡ after) × StandsFor found d × holds self.new d d) }
+        ensures untold { told self.old ≡ false → IfOk result (λ found. (d : Durable) × StandsFor found d × holds self.new d d) }
+        ensures state { IfOk result (λ found. (used self.new ≡ found.used) × (format self.new ≡ found.format)) }
+        ensures kept { OnErr result ((before after : Durable) → holds self.old before after → holds self.new before after) }
+        ensures ours { (before after : Durable) → holds self.old before after → IsTrue (told self.old) → result ≢ Err ReloadFault.NotOurs }
+        ensures told { told self.new ≡ told self.old }
+        ensures cause { IsErrOf result ReloadFault.DiskFault → rose self.old self.new };
+}
