@@ -1,3 +1,4 @@
 pub mod Sendings
 pub mod Applied
 pub mod Steps
+pub mod Canonicals
