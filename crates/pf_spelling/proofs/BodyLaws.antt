@@ -131,12 +131,12 @@ format_of format = cond (format == 1) first_format second_format
 
 -- what is read of a payload that is not too long is a canonical record
 pub read_is_canonical : (format kind : ℕ) (payload : List ℕ) (r : Record) → AreBytes payload → length payload < 2 ^ 32 → record_in (format_of format) kind payload ≡ Some r
-    → IsCanonicalRecord format r × (kind_of r ≡ kind) × (payload_bytes r ≡ payload)
+    → IsCanonicalRecord format r × (kind_of r ≡ kind) × (payload_bytes r ≡ payload) × RecordFits r
 read_is_canonical format kind payload r ok short e =
     let found = record_found (format_of format) (window_of_format format) kind payload r ok e in
     let size = payload_len (format_of format) (window_of_format format) r found.0.0.0.1 in
     let spelled : length payload ≡ length (payload_bytes r) = ap length found.1 in
-    (record { fields = found.0.0.0.1; short = omega (arith, size, spelled, short) }, found.0.0.1, sym found.1)
+    (record { fields = found.0.0.0.1; short = omega (arith, size, spelled, short) }, found.0.0.1, sym found.1, found.0.0.0.0)
 
 pub canonical_is_read : (format kind : ℕ) (payload : List ℕ) (r : Record) → RecordFits r → IsCanonicalRecord format r → kind_of r ≡ kind → payload_bytes r ≡ payload → record_in (format_of format) kind payload ≡ Some r
 canonical_is_read format kind payload r fits c of_kind spelled =

@@ -1,5 +1,5 @@
 //! Records that are the whole of a payload.
-ghost use Rattle.std.specs.Prelude.{◌≡◌, ◌≢◌, IfOk, IfSome, IfNone};
+ghost use Rattle.std.specs.Prelude.{◌≡◌, ◌≢◌, IfOk, IfSome, IfNone, Some};
 ghost use Rattle.pf_entry.specs.Canonical.{IsCanonicalRecord};
 ghost use Rattle.pf_entry.specs.declared.records.Record.{Record};
 ghost use Rattle.pf_spelling.specs.Fitting.{RecordFits};
@@ -116,6 +116,8 @@ pub fn read_record(
     ensures canonical { IfOk result (λ found. IfSome found (λ r. IsCanonicalRecord format r)) }
     ensures of_kind { IfOk result (λ found. IfSome found (λ r. kind_of r ≡ kind)) }
     ensures payload { IfOk result (λ found. IfSome found (λ r. payload_bytes r ≡ payload.now)) }
+    ensures fits { IfOk result (λ found. IfSome found RecordFits) }
+    ensures only { (r : Record) → RecordFits r → IsCanonicalRecord format r → kind_of r ≡ kind → payload_bytes r ≡ payload.now → IfOk result (λ found. found ≡ Some r) }
     ensures none { IfOk result (λ found. IfNone found ((r : Record) → RecordFits r → IsCanonicalRecord format r → kind_of r ≡ kind → payload_bytes r ≢ payload.now)) }
 {
     if payload.len() > LONGEST {

@@ -331,15 +331,15 @@ packet_exact =
 pub packets_tell : (p q : Packet) (x y : List ℕ) → IsPacket p → IsPacket q → packet_bytes p ++ x ≡ packet_bytes q ++ y → (p ≡ q) × (x ≡ y)
 packets_tell p q x y is_p is_q e = same_spelled packet_exact p q x y is_p is_q e
 
-pub packet_found : (bytes : List ℕ) (p : Packet) → AreBytes bytes → packet_in bytes ≡ Some p → IsCanonicalPacket p × (packet_bytes p ≡ bytes)
+pub packet_found : (bytes : List ℕ) (p : Packet) → AreBytes bytes → packet_in bytes ≡ Some p → IsCanonicalPacket p × (packet_bytes p ≡ bytes) × PacketFits p
 unfolding packet_in
 packet_found bytes p ok e =
     let a = bind_ok (packet_at bytes) (λ r. cond (length r.1 == 0) (Some r.0) None) p e in
     let ended = cond_some (length a.0.1 == 0) a.0.0 p a.2 in
     let f = packet_exact.found bytes a.0.0 a.0.1 ok a.1 in
     let none : a.0.1 ≡ [] = nil_from_length a.0.1 (eqb-true _ _ ended.0) in
-    subst (λ q. IsCanonicalPacket q × (packet_bytes q ≡ bytes)) ended.1
-    (f.0.1, sym (f.1 ∙ ap (λ rest. packet_bytes a.0.0 ++ rest) none ∙ append-nil (packet_bytes a.0.0)))
+    subst (λ q. IsCanonicalPacket q × (packet_bytes q ≡ bytes) × PacketFits q) ended.1
+    (f.0.1, sym (f.1 ∙ ap (λ rest. packet_bytes a.0.0 ++ rest) none ∙ append-nil (packet_bytes a.0.0)), f.0.0)
 
 pub packet_again : (p : Packet) → PacketFits p → IsCanonicalPacket p → packet_in (packet_bytes p) ≡ Some p
 unfolding packet_in

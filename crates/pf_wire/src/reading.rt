@@ -171,6 +171,8 @@ fn read_whole(alloc: Global, bytes: &[u8]) -> Result<Packet, ReadFault>
 pub fn decode(alloc: Global, bytes: &[u8]) -> Result<Packet, WireFault>
     ensures canonical { IfOk result (λ packet. IsCanonicalPacket packet) }
     ensures spelled { IfOk result (λ packet. packet_bytes packet ≡ bytes.now) }
+    ensures fits { IfOk result (λ packet. PacketFits packet) }
+    ensures only { (p : Packet) → PacketFits p → IsCanonicalPacket p → packet_bytes p ≡ bytes.now → IfOk result (λ packet. packet ≡ p) }
     ensures bad_packet { result ≡ Err WireFault.BadPacket → (p : Packet) → PacketFits p → IsCanonicalPacket p → packet_bytes p ≢ bytes.now }
 {
     match read_whole(alloc, bytes) {

@@ -10,6 +10,27 @@ returns-then-payload-gt-LONGEST-clause-none c = λ r fits canonical of_kind spel
     let short = canonical_is_short c.args.format r canonical in
     omega (arith, short, ap length spelled, c.if-payload-gt-LONGEST.true)
 
+pub returns-then-payload-gt-LONGEST-clause-only : goal.returns-then-payload-gt-LONGEST-clause-only
+returns-then-payload-gt-LONGEST-clause-only c = λ r fits canonical of_kind spelled.
+    let short = canonical_is_short c.args.format r canonical in
+    absurd (omega (arith, short, ap length spelled, c.if-payload-gt-LONGEST.true))
+
+pub returns-in-Ok-clause-fits : goal.returns-in-Ok-clause-fits
+returns-in-Ok-clause-fits c =
+    (read_is_canonical c.args.format c.args.kind c.args.payload.now c.in-Ok.record (λ i. omega (arith, c.type_inv.payload i)) (omega (arith, c.if-payload-gt-LONGEST.false))
+      (ap (λ b. record_in b c.args.kind c.args.payload.now) (sym c.of_format.ensures) ∙ c.in-Ok.ensures)).3
+
+pub returns-in-Ok-clause-only : goal.returns-in-Ok-clause-only
+returns-in-Ok-clause-only c = λ r fits canonical of_kind spelled.
+    sym (ap (λ b. record_in b c.args.kind c.args.payload.now) (sym c.of_format.ensures) ∙ c.in-Ok.ensures)
+    ∙ canonical_is_read c.args.format c.args.kind c.args.payload.now r fits canonical of_kind spelled
+
+pub returns-in-Err-Malformed-clause-only : goal.returns-in-Err-Malformed-clause-only
+returns-in-Err-Malformed-clause-only c = λ r fits canonical of_kind spelled.
+    sym (subst (λ f. Fails f (record_in c.of_format.result c.args.kind c.args.payload.now)) c.in-Err-Malformed.field-0-is c.in-Err-Malformed.ensures)
+    ∙ ap (λ b. record_in b c.args.kind c.args.payload.now) c.of_format.ensures
+    ∙ canonical_is_read c.args.format c.args.kind c.args.payload.now r fits canonical of_kind spelled
+
 pub returns-in-Ok-clause-canonical : goal.returns-in-Ok-clause-canonical
 returns-in-Ok-clause-canonical c =
     (read_is_canonical c.args.format c.args.kind c.args.payload.now c.in-Ok.record (λ i. omega (arith, c.type_inv.payload i)) (omega (arith, c.if-payload-gt-LONGEST.false))
