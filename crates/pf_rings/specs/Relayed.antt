@@ -1,4 +1,5 @@
--- What was put is what was taken and then what the ring holds, eight at most. One pass at most puts, and it has the list of what was put; one at most takes, and it has the list of what was taken. Each knows a beginning of the other's list.
+-- What was put is what was taken and then what the ring holds, eight at most. One pass at most puts, and it has the list of what was
+-- put; one at most takes, and it has the list of what was taken. Each knows a beginning of the other's list.
 use Rattle.std.specs.Prelude.{◌≡◌, ℕ, ◌≤◌, Bool, true, List, ◌++◌, length}
 use mathlib.Core.Option.{some}
 use lib.ListN.{get_elem?}

@@ -128,7 +128,8 @@ module _ {X E : Type 0} where
       × (entries_of m.0.number m.0.seen ≡ entries_of m.0.number m.0.before) × (entries_of m.0.brought_by m.0.seen ≡ entries_of m.0.brought_by m.0.brought) × (m.0.was_out ≡ m.0.out + 1)
 
 module _ {X E : Type 0} (log : X → List (Stamped E)) where
-  -- the value that the seat takes begins with all that it has seen, has the seat's own entries and no others of it, and is just what it has seen where no other seat is out
+  -- the value that the seat takes begins with all that it has seen, has the seat's own entries and no others of its number, and is
+  -- exactly what it has seen where no other seat is out
   abbrev pub Found : Sight E → X → Type 0
   Found v y = Begins v.seen (log y) × (entries_of v.number (log y) ≡ entries_of v.number v.seen) × (v.number ≡ 0 → v.out ≡ 0 → log y ≡ v.seen)
 

@@ -15,4 +15,3 @@ mod tests;
 
 pub use log::{Logged, Stamped};
 pub use parts::{Turn, TurnLock, TurnSeat};
-pub use sight::{Sight, Stage, Tickets};
