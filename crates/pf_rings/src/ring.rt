@@ -8,6 +8,7 @@ use crossbeam_queue::{Pass, RuledArrayQueue};
 /// Requests that one host put and the server thread has not taken yet. Eight places.
 #[derive(Drop)]
 pub struct Ring {
+    /// The host whose requests these are.
     pub host: u32,
     pub(crate) queue: RuledArrayQueue<Request, View, InOrder>,
     ghost room: { ruled_capacity queue ≡ 8 },
