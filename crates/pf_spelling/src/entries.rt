@@ -125,7 +125,8 @@ fn is_canonical(bounds: Bounds, entry: &Entry) -> bool
         && are_names(bounds, entry.slot, look)
 }
 
-/// An entry that is canonical within these bounds.
+/// An entry that is canonical within these bounds; `Malformed` where no such entry's spelling stands at the front, and
+/// `NoMemory` (1) where memory has run out.
 #[tactic(auto, unfolding(crate::specs::Reading::entry_at, crate::specs::Parsers::followed_by, crate::specs::Parsers::checked))]
 pub fn read_entry(alloc: Global, reader: &mut Reader, bounds: Bounds) -> Result<Entry, ReadFault>
     ensures { Gives (λ entry. entry) result reader.new (entry_at bounds reader.old) }

@@ -6,7 +6,7 @@ use pf_base::NoMemory;
 use std::alloc::{AllocError, AllocFailed};
 use thiserror::Error;
 
-/// Why a value was not read.
+/// Why a value was not read. `NoMemory` has the number 1; what `Malformed` is told as depends on whose bytes these are.
 #[derive(Clone, Copy, Debug, PartialEq, Eq, Error)]
 pub enum ReadFault {
     /// Memory has run out.

@@ -10,7 +10,8 @@ use pf_base::{Range, Sector};
 use std::alloc::Global;
 use std::marker::Model;
 
-/// The bytes that are still to be read. Each call takes a value from their front; after an `Err` the reader is of no more use.
+/// The bytes that are still to be read. Each call takes a value from their front. It answers `Malformed` where no spelling of
+/// such a value stands there, and calls that take memory `NoMemory` (1); after an `Err` the reader is of no more use.
 #[derive(Drop)]
 pub struct Reader<'a> {
     rest: &'a [u8],

@@ -61,7 +61,8 @@ fn are_above(base: Slot, slots: &[Slot]) -> bool
     slots.iter().all(|slot| base < *slot)
 }
 
-/// A count, and as many slots above the checkpoint `base`, which ascend.
+/// A count, and as many slots above the checkpoint `base`, which ascend; `Malformed` where none such stand at the front, and
+/// `NoMemory` (1) where memory has run out.
 #[tactic(auto, unfolding(crate::specs::Reading::slots_at, crate::specs::Parsers::followed_by, crate::specs::Parsers::checked))]
 pub fn read_slots(alloc: Global, reader: &mut Reader, base: Slot) -> Result<Slots, ReadFault>
     ensures { Gives (λ slots. slots) result reader.new (slots_at base reader.old) }
@@ -81,7 +82,8 @@ fn is_chunk(count: u32) -> bool
     (16..=4096).contains(&count) && count % 8 == 0
 }
 
-/// A count, and the sectors of a chunk: 16 to 4,096 of them, a multiple of 8.
+/// A count, and the sectors of a chunk: 16 to 4,096 of them, a multiple of 8. `Malformed` where none such stand at the front,
+/// and `NoMemory` (1) where memory has run out.
 #[tactic(auto, unfolding(crate::specs::Reading::sectors_at, crate::specs::Parsers::followed_by))]
 pub fn read_sectors(alloc: Global, reader: &mut Reader) -> Result<Sectors, ReadFault>
     ensures { Gives (λ sectors. sectors) result reader.new (sectors_at reader.old) }

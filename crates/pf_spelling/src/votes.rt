@@ -44,7 +44,8 @@ pub(crate) fn read_log(
     Ok(EntryMap::new(rows))
 }
 
-/// A vote that is canonical within these bounds.
+/// A vote that is canonical within these bounds; `Malformed` where no such vote's spelling stands at the front, and
+/// `NoMemory` (1) where memory has run out.
 #[tactic(auto, unfolding(crate::specs::Reading::vote_at, crate::specs::Parsers::followed_by, crate::specs::Parsers::checked))]
 pub fn read_vote(alloc: Global, reader: &mut Reader, bounds: Bounds) -> Result<VoteLog, ReadFault>
     ensures { Gives (λ vote. vote) result reader.new (vote_at bounds reader.old) }

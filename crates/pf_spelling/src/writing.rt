@@ -46,7 +46,7 @@ fn write_op(writer: &mut Writer, op: &Op) -> Result<(), NoMemory>
     }
 }
 
-/// Writes an entry at the end.
+/// Writes an entry at the end. The one error of this and the other writers is `NoMemory` (1).
 #[tactic(auto, using(std::proofs::lemmas::List::append_assoc), unfolding(crate::specs::Spelling::entry_bytes))]
 pub fn write_entry(writer: &mut Writer, entry: &Entry) -> Result<(), NoMemory>
     requires { IsCanonicalEntry second_format entry.now }

@@ -18,7 +18,7 @@ returns-then-payload-gt-LONGEST-clause-only c = λ r fits canonical of_kind spel
 pub returns-in-Ok-clause-fits : goal.returns-in-Ok-clause-fits
 returns-in-Ok-clause-fits c =
     (read_is_canonical c.args.format c.args.kind c.args.payload.now c.in-Ok.record (λ i. omega (arith, c.type_inv.payload i)) (omega (arith, c.if-payload-gt-LONGEST.false))
-      (ap (λ b. record_in b c.args.kind c.args.payload.now) (sym c.of_format.ensures) ∙ c.in-Ok.ensures)).3
+    (ap (λ b. record_in b c.args.kind c.args.payload.now) (sym c.of_format.ensures) ∙ c.in-Ok.ensures)).3
 
 pub returns-in-Ok-clause-only : goal.returns-in-Ok-clause-only
 returns-in-Ok-clause-only c = λ r fits canonical of_kind spelled.
