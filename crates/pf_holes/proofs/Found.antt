@@ -148,6 +148,17 @@ module _ {V : Type 0} where
           ∙ sym (get-ring_of ps q r) ∙ ap (λ n. FinMap.get n q) is
           ∙ sym (cond-false _ _ _ (ne_eqb q slot (λ e. apart (ap (λ n. n % 4096) e))))
 
+  -- a slot that has a value has that of its place
+  only_one : (v : V) (b : Bool) → is_some (cond b (Some v) None) ≡ true → cond b (Some v) None ≡ Some v
+  only_one v true has = refl
+  only_one v false has = absurd (grind arith)
+
+  pub taken_value : (m : FinMap nat_cmp V) (slot : ℕ) (p : ℕ × V) → FinMap.get m slot ≡ here slot (Some (Some p)) → FinMap.contains_key m slot ≡ true → FinMap.get m slot ≡ Some p.1
+  taken_value m slot p is has = is ∙ only_one p.1 (slot == p.0) (ap is_some (sym is) ∙ has)
+
+  pub not_empty : (m : FinMap nat_cmp V) (slot : ℕ) → FinMap.get m slot ≡ here slot (Some None) → FinMap.contains_key m slot ≡ true → ⊥
+  not_empty m slot is has = let both : false ≡ true = ap is_some (sym is) ∙ has in absurd (grind arith)
+
   pub remove_none : (m : FinMap nat_cmp V) (slot : ℕ) → FinMap.contains_key m slot ≡ false → m ≡ FinMap.remove m slot
   remove_none m slot absent = same_map nat_cmp_total nat_cmp-IsAntisymmetric _ _ (λ q. sym (get-remove nat_cmp_total m slot q ∙ ap (λ b. cond b None (FinMap.get m q)) (same_number q slot)
       ∙ elim (cases_eq q slot) [

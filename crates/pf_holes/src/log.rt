@@ -54,6 +54,7 @@ impl HoleLog {
     pub fn base(&self) -> Slot
         ensures base { result ≡ self.now.base }
         ensures within { IsWithin self.now.base self.now.entries }
+        ensures held { (q : ℕ) → set.contains self.now.marks q ≡ true → map.contains_key self.now.entries q ≡ true }
     {
         self.base
     }
