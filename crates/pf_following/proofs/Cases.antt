@@ -1,5 +1,5 @@
 -- Rows by their cases.
-use Rattle.std.proofs.Common.{◌≡◌, ℕ, ◌+◌, ◌<◌, ◌≤◌, Bool, true, false, ◌||◌, [], ◌∷◌, Option, nat_lt, nat_le, arith, refl, sym, ap, subst, ◌∙◌, if◌then◌else◌}
+use Rattle.std.proofs.Common.{List, ◌≡◌, ℕ, ◌+◌, ◌<◌, ◌≤◌, Bool, true, false, ◌||◌, [], ◌∷◌, Option, nat_lt, nat_le, arith, refl, sym, ap, subst, ◌∙◌, if◌then◌else◌}
 use Rattle.std.proofs.lemmas.Bool.{cond-true, cond-false}
 use Rattle.std.proofs.lemmas.Bool.Decides.{nat_tests}
 use Rattle.std.specs.FinMap
@@ -7,10 +7,12 @@ use Rattle.pf_entry.specs.Records.{Durable, stored, has_term, holds, vote_of}
 use Rattle.pf_entry.specs.declared.entries.Entry.{Entry}
 use Rattle.pf_entry.specs.declared.packets.Body.TheVariants.{Vote, ProbeOk}
 use Rattle.pf_entry.specs.declared.entries.VoteLog.{VoteLog}
-use Rattle.pf_entry.specs.Maps.{Map}
+use Rattle.pf_entry.specs.Maps.{Map, Numbers}
+use Rattle.pf_entry.specs.Ops.{Sector}
 use Rattle.pf_protocol.specs.Servers.{Server, upto}
 use Rattle.pf_protocol.specs.Outcomes.{Outcome, sends, nothing, raise_term}
-use Rattle.pf_protocol.specs.Following.{meets_term, ack, nack, accepted, on_accept, on_request_vote, on_nack, on_probe}
+use Rattle.pf_protocol.specs.Following.{meets_term, ack, nack, accepted, on_accept, on_request_vote, on_nack, on_probe, installed, on_image}
+use Rattle.pf_protocol.proofs.Rows.{base_below_upto}
 use Rattle.pf_state.specs.declared.running.Running.{Running}
 use Rattle.pf_state.specs.Packets.{packet}
 use Rattle.pf_state.specs.Standing.{server_of, setup_of, bare, IsCached}
@@ -120,3 +122,28 @@ vote_given d me from term base vote cached not is =
   where
     vote_here : ℕ → Map ℕ → Map Entry → VoteLog
     vote_here base starts log = record { base = base; starts = starts; log = log }
+
+-- Image
+module _ (d : Durable) (me : Running) (from term base : ℕ) where
+  pub image_stale : (applied : Numbers) (sectors : List Sector) → IsCached d me → term < me.term → on_image (server_of d me) from term base applied sectors ≡ nack (server_of d me) from
+  unfolding on_image server_of
+  image_stale applied sectors cached low = cond-true _ _ _ (higher term d.term (subst (λ n. term < n) cached.term low))
+
+  pub image_behind : (u : ℕ) (applied : Numbers) (sectors : List Sector) → IsCached d me → me.term ≤ term → u ≡ upto (server_of d me) → base ≤ u
+      → on_image (server_of d me) from term base applied sectors ≡ ack (meets_term (server_of d me) term) from base
+  unfolding on_image server_of
+  image_behind u applied sectors cached high is low =
+      cond-false _ _ _ (not_higher term d.term (subst (λ n. n ≤ term) cached.term high)) ∙ cond-true _ _ _ (no_less base (upto (server_of d me)) (subst (λ n. base ≤ n) is low))
+
+  pub image_ahead : (u : ℕ) (applied : Numbers) (sectors : List Sector) → IsCached d me → me.term ≤ term → u ≡ upto (server_of d me) → u < base
+      → on_image (server_of d me) from term base applied sectors ≡ ack (installed (server_of d me) term base applied sectors) from base
+  unfolding on_image server_of
+  image_ahead u applied sectors cached high is over =
+      cond-false _ _ _ (not_higher term d.term (subst (λ n. n ≤ term) cached.term high)) ∙ cond-false _ _ _ (less base (upto (server_of d me)) (subst (λ n. n < base) is over))
+
+own_base : (d : Durable) (me : Running) → (server_of d me).durable.base ≡ d.base
+unfolding server_of
+own_base d me = refl
+
+pub reached_by : (d : Durable) (me : Running) (base u : ℕ) → IsCached d me → u ≡ upto (server_of d me) → u < base → me.log.base ≤ base
+reached_by d me base u cached is over = omega (arith, cached.base, own_base d me, base_below_upto (server_of d me), is, over)

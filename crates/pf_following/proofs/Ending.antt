@@ -38,7 +38,7 @@ pub sent_acked : (out new : Outgoing) (ps : List Packet) → new ≡ sent_by out
 unfolding sent_by
 sent_acked out new ps is = ap (λ (o : Outgoing). o.acked) is
 
-to_host : (out new : Outgoing) (ps : List Packet) → new ≡ sent_by out ps → out.acked ≡ None → new ≡ record (sent_by out ps) { acked = None }
+pub to_host : (out new : Outgoing) (ps : List Packet) → new ≡ sent_by out ps → out.acked ≡ None → new ≡ record (sent_by out ps) { acked = None }
 unfolding sent_by
 to_host out new ps is fresh = is ∙ (λ i. record (sent_by out ps) { acked = fresh i })
 

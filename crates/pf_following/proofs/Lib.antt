@@ -4,3 +4,6 @@ pub mod Following
 pub mod Answering
 pub mod Cases
 pub mod Marking
+pub mod Aboves
+pub mod Imaging
+pub mod Saving

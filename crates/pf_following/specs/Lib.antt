@@ -1,3 +1,5 @@
 pub mod Accepting
 pub mod Coming
 pub mod Storing
+pub mod Halves
+pub mod Images

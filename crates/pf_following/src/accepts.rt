@@ -64,8 +64,9 @@ pub fn ack(me: &Running, slot: Slot) -> Body
 /// slot is more than 4,096 above the checkpoint; else with `Ack`. It is stored with its term, and the server becomes a
 /// follower, where its slot is above the checkpoint and the log has no entry of its slot and term.
 ///
-/// `NoMemory` (1), `PacketsFull` (55) and `LogFull` (41) leave the server and the store as they were; after `Halted` (52) a
-/// restart finds the record or not.
+/// `NoMemory` (1) where there is no memory, `PacketsFull` (55) where the answer does not fit the outbox, and `LogFull` (41)
+/// where the record does not fit the current half, leave the server and the store as they were. `Halted` (52) where a disk
+/// failed: a restart finds the record or not.
 pub fn accept<S: Store>(
     alloc: Global,
     store: &mut S,

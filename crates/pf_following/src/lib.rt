@@ -8,6 +8,8 @@
 mod accepts;
 mod adding;
 mod commits;
+mod images;
+mod logs;
 mod probes;
 mod replies;
 mod terms;
@@ -15,6 +17,7 @@ mod votes;
 
 pub use accepts::accept;
 pub use commits::commit;
+pub use images::image;
 pub use probes::probe;
 pub use terms::nack;
 pub use votes::request_vote;

@@ -17,7 +17,7 @@ use std::alloc::Global;
 /// A leader asks whether it still leads. The answer is `Nack` where the server's term is higher, and else `ProbeOk` of the
 /// probe's term. Nothing is stored.
 ///
-/// `NoMemory` (1) and `PacketsFull` (55) change nothing.
+/// `NoMemory` (1) where there is no memory, and `PacketsFull` (55) where the answer does not fit the outbox.
 pub fn probe<S: Store>(
     alloc: Global,
     store: &S,

@@ -1,8 +1,7 @@
 //! Steps that answer one packet, with a record or without.
-ghost use Rattle.std.specs.Prelude.{◌≡◌, ◌<◌, ◌≤◌, ◌+◌, ◌^◌, [], ◌∷◌, None, if◌then◌else◌, nat_lt};
+ghost use Rattle.std.specs.Prelude.{◌≡◌, ◌<◌, ◌≤◌, ◌+◌, [], ◌∷◌, None};
 ghost use Rattle.pf_entry.specs.Canonical.{IsCanonicalPacket};
 ghost use Rattle.pf_entry.specs.Records.{Durable, add_start};
-ghost use Rattle.pf_entry.specs.declared.packets.Body.{Body as BodyIs};
 ghost use Rattle.pf_entry.specs.declared.records.Record.TheVariants.{Entry as EntryRecord};
 ghost use Rattle.pf_spelling.specs.Spelling.{body_bytes};
 ghost use Rattle.pf_store.specs.Stores.{IsSpelledAs};

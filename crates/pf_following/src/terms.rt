@@ -15,8 +15,8 @@ use std::alloc::Global;
 /// Another server tells its term. Where it is higher than the server's it is stored, and the server becomes a follower. Nothing
 /// is sent.
 ///
-/// `NoMemory` (1) and `LogFull` (41) leave the server and the store as they were; after `Halted` (52) a restart finds the
-/// record or not.
+/// `NoMemory` (1) where there is no memory, and `LogFull` (41) where the term's record does not fit the current half, leave the
+/// server and the store as they were. `Halted` (52) where a disk failed: a restart finds the term or not.
 pub fn nack<S: Store>(
     alloc: Global,
     store: &mut S,

@@ -28,8 +28,9 @@ fn vote_of(alloc: Global, me: &Running) -> Result<VoteLog, NoMemory>
 /// A candidate asks for a vote. The answer is `Nack` where its term is no higher than the server's or its checkpoint is lower;
 /// else the term is stored, the server becomes a follower, and the answer is `Vote` with all that it holds.
 ///
-/// `NoMemory` (1), `PacketsFull` (55) and `LogFull` (41) leave the server and the store as they were; after `Halted` (52) a
-/// restart finds the record or not.
+/// `NoMemory` (1) where there is no memory, `PacketsFull` (55) where the answer does not fit the outbox, and `LogFull` (41)
+/// where the term's record does not fit the current half, leave the server and the store as they were. `Halted` (52) where a
+/// disk failed: a restart finds the term or not.
 pub fn request_vote<S: Store>(
     alloc: Global,
     store: &mut S,
