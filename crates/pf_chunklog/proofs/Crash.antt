@@ -1,15 +1,14 @@
 -- What a crash leaves in each of the two steps of an append, and what the file is after each.
-use Rattle.std.proofs.Common.{◌≡◌, ◌≢◌, ◌⊎◌, inl, inr, ℕ, ◌+◌, ◌-◌, ◌<◌, ◌≤◌, min, max, List, [], ◌∷◌, ◌++◌, length, take, drop, get_or, refl, sym, ◌∙◌, ap, subst, arith, append_assoc, length-append, length-take, length-drop, take-append-drop}
-use Rattle.std.proofs.lemmas.List.{append-nil, take_at, drop_at, drop_more, take_all, drop_all, take-append-le, get_or-take, get_or-drop, ext_get_or, length-replicate}
+use Rattle.std.proofs.Common.{◌≡◌, inl, inr, ℕ, ◌+◌, ◌-◌, ◌<◌, ◌≤◌, min, List, [], ◌∷◌, ◌++◌, length, take, drop, get_or, sym, ◌∙◌, ap, arith, append_assoc, length-append, length-take, length-drop, take-append-drop}
+use Rattle.std.proofs.lemmas.List.{append-nil, take_at, drop_at, drop_more, take-append-le, get_or-take, get_or-drop, ext_get_or}
 use Rattle.std.proofs.lemmas.Bool.{cases_eq}
-use Rattle.std.proofs.lemmas.Bool.Decides.{nat_tests}
 use Rattle.std.proofs.Math.ListN.{replicate}
-use Rattle.pf_disk.specs.Crashes.{Torn, Follows, Only, Images}
+use Rattle.pf_disk.specs.Crashes.{Torn}
 use Rattle.pf_disk.specs.Files.{grown, replaced, overwritten, reach}
 use Rattle.std.specs.List.{All}
 use Rattle.std.proofs.lemmas.List.Elements.{All-push}
 use Rattle.pf_chunklog.specs.Records.{Raw, Holds, IsSized, blocks, spelled, body_of}
-use Rattle.pf_chunklog.specs.Logs.{BeforeOrAfter, IsAtRest}
+use Rattle.pf_chunklog.specs.Logs.{BeforeOrAfter}
 
 pub blocks-push : (records : List Raw) (raw : Raw) (rest : List ℕ) → blocks (records ++ raw ∷ []) ++ rest ≡ blocks records ++ 1 ∷ (spelled raw ++ rest)
 blocks-push [] raw rest = ap (λ (l : List ℕ). 1 ∷ (l ++ rest)) (append-nil (spelled raw))

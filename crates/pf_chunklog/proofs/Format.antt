@@ -1,12 +1,12 @@
 -- An empty log.
-use Rattle.std.proofs.Common.{◌≡◌, ◌⊎◌, inl, inr, ℕ, ◌+◌, ◌-◌, ◌≤◌, min, List, [], ◌∷◌, ◌++◌, length, take, drop, get_or, sym, subst, ◌∙◌, ap, arith, length-take, take-append-drop}
+use Rattle.std.proofs.Common.{◌≡◌, inl, inr, ℕ, ◌+◌, ◌-◌, ◌≤◌, min, List, [], ◌∷◌, ◌++◌, length, take, drop, sym, ◌∙◌, ap, arith, length-take, take-append-drop}
 use Rattle.std.proofs.lemmas.List.{append-nil, drop_all, ext_get_or, get_or-take, length-replicate}
 use Rattle.std.proofs.lemmas.Bool.Decides.{nat_tests}
 use Rattle.std.proofs.Math.ListN.{replicate}
 use Rattle.pf_disk.specs.Crashes.{Cut, Follows, Only, Images, Torn}
-use Rattle.pf_disk.specs.Files.{grown, overwritten, reach}
+use Rattle.pf_disk.specs.Files.{overwritten, reach}
 use Rattle.std.proofs.lemmas.List.Elements.{All-nil}
-use Rattle.pf_chunklog.specs.Records.{Holds, IsSized}
+use Rattle.pf_chunklog.specs.Records.{IsSized}
 use Rattle.pf_chunklog.specs.Logs.{IsAtRest, IsCleared}
 
 written_first : (start : List ℕ) → overwritten [] 0 start ≡ start

@@ -1,10 +1,9 @@
 -- What a reader finds in bytes.
-use Rattle.std.proofs.Common.{◌≡◌, ◌≢◌, ◌⊎◌, inl, inr, ℕ, ◌+◌, ◌<◌, ◌≤◌, List, [], ◌∷◌, ◌++◌, length, take, get_or, Contains, refl, sym, ◌∙◌, ap, subst, arith, append_assoc, length-take}
+use Rattle.std.proofs.Common.{◌≡◌, ◌⊎◌, inl, inr, ℕ, ◌+◌, ◌<◌, ◌≤◌, List, [], ◌∷◌, ◌++◌, length, take, get_or, Contains, refl, sym, ◌∙◌, ap, subst, arith, append_assoc, length-take}
 use Rattle.std.specs.List.{All}
 use Rattle.std.proofs.lemmas.Bool.{cases_lt}
 use Rattle.std.proofs.lemmas.List.{get_or-take, get_or_default, take_all}
-use Rattle.std.proofs.lemmas.List.Elements.{All-push}
-use Rattle.pf_chunklog.specs.Records.{Raw, Holds, IsSized, blocks, spelled}
+use Rattle.pf_chunklog.specs.Records.{Raw, Holds, IsSized, blocks}
 use Rattle.pf_chunklog.proofs.Crash.{blocks-push}
 use Rattle.pf_chunklog.proofs.Unique.{goes_on, none_left, blocks_are, same_parts}
 

@@ -104,3 +104,11 @@ impl<T: Drop> From<AllocFailed<T>> for OpenFault {
         OpenFault::NoMemory
     }
 }
+
+impl From<pf_base::NoMemory> for OpenFault {
+    ghost from_gives = { λ _ fault. fault ≡ NoMemory };
+
+    fn from(_: pf_base::NoMemory) -> Self {
+        OpenFault::NoMemory
+    }
+}

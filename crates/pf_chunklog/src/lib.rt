@@ -8,7 +8,7 @@ mod records;
 
 pub use errors::{AppendFault, DiskFault, OpenFault};
 pub use log::ChunkLog;
-pub use records::RawRecords;
+pub use records::{Opened, RawRecords};
 
 #[cfg(test)]
 mod tests;

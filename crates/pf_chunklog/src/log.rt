@@ -1,12 +1,13 @@
 //! A log over one file. Its head comes first; each record stands behind a gate of one byte, which is open (1) or closed
 //! (any other), and a closed gate ends the records.
-ghost use Rattle.std.specs.Prelude.{◌≡◌, ◌⊎◌, ◌+◌, ◌≤◌, ◌<◌, ◌↔◌, ◌++◌, [], ◌∷◌, List, ℕ, Contains, IfErr, IfOk, IfSome, IsErrOf, IsTrue, OnErr, OnOk, length, nat_le, is_ok, is_some, if◌then◌else◌};
+ghost use Rattle.std.specs.Prelude.{◌≡◌, ◌⊎◌, ◌+◌, ◌≤◌, ◌<◌, ◌↔◌, ◌++◌, [], ◌∷◌, List, ℕ, Contains, IfErr, IfOk, IfSome, IsErrOf, IsTrue, OnErr, OnOk, Some, length, max, nat_le, is_ok, is_some, if◌then◌else◌};
 ghost use Rattle.pf_disk.specs.Causes.{HasCause, Rose};
+ghost use Rattle.pf_disk.specs.Crashes.{Only};
 ghost use Rattle.pf_chunklog.specs.Records.{Holds, IsOurs, Raw, body_of};
 ghost use Rattle.pf_chunklog.specs.Logs.{BeforeOrAfter, IsAtRest, IsCleared, IsOnlyRead, LeavesOnly};
 
 use crate::reading::{behind_head, read_whole, split_records};
-use crate::{AppendFault, DiskFault, OpenFault, RawRecords};
+use crate::{AppendFault, DiskFault, OpenFault, Opened, RawRecords};
 use pf_disk::{Disk, Failed};
 use std::alloc::Global;
 
@@ -19,12 +20,12 @@ pub struct ChunkLog<D: Disk> {
     pub disk: D,
     pub head: [u8; 8],
     pub used: u64,
-    ghost begun: { 9 ≤ used },
 }
 
 /// Writes the head and a closed gate over whatever the file held.
 fn begin<D: Disk>(disk: &mut D, head: &[u8; 8]) -> Result<(), Failed>
     ensures formatted { IfSome (D.seen disk.old) (λ _. OnOk result (IfSome (D.seen disk.new) (IsAtRest head.now 9 (D.may_leave disk.new) []))) }
+    ensures alone { IfSome (D.seen disk.old) (λ _. OnOk result (D.seen disk.new ≡ Some (head.now ++ 0 ∷ []))) }
     ensures any_moment { IsTrue D.tells_moments → IfSome (D.seen disk.old) (λ _. LeavesOnly D.moment D.left_since disk.old disk.new (IsCleared (D.may_leave disk.old))) }
     ensures may_leave { IfSome (D.seen disk.old) (λ _. (c : List ℕ) → D.may_leave disk.new c → IsCleared (D.may_leave disk.old) c) }
     ensures told { is_some (D.seen disk.new) ≡ is_some (D.seen disk.old) }
@@ -40,7 +41,7 @@ fn begin<D: Disk>(disk: &mut D, head: &[u8; 8]) -> Result<(), Failed>
 }
 
 impl<D: Disk> ChunkLog<D> {
-    /// A log over a disk that is not read or written yet: its first call is to be `clear`, `reload` or `reload_from`.
+    /// A log over a disk that is not read or written yet: its first call is to be `clear`, `reload` or `read`.
     pub fn new(disk: D, head: [u8; 8]) -> ChunkLog<D>
         ensures disk { result.disk ≡ disk }
         ensures head { result.head ≡ head }
@@ -57,6 +58,7 @@ impl<D: Disk> ChunkLog<D> {
     /// appended. `DiskFault` (40) comes only where the disk has failed in this call.
     pub fn format(disk: D, head: [u8; 8]) -> Result<ChunkLog<D>, (D, DiskFault)>
         ensures formatted { IfSome (D.seen disk) (λ _. IfOk result (λ log. IfSome (D.seen log.disk) (IsAtRest head log.used (D.may_leave log.disk) []))) }
+        ensures alone { IfSome (D.seen disk) (λ _. IfOk result (λ log. D.seen log.disk ≡ Some (head ++ 0 ∷ []))) }
         ensures ok { IfOk result (λ log. (log.head ≡ head) × (log.used ≡ 9) × (is_some (D.seen log.disk) ≡ is_some (D.seen disk))) }
         ensures failed { IfErr result (λ given. (is_some (D.seen given.0) ≡ is_some (D.seen disk)) × Rose (D.faults disk) (D.faults given.0)) }
         ensures any_moment { IsTrue D.tells_moments → IfSome (D.seen disk) (λ _.
@@ -74,6 +76,7 @@ impl<D: Disk> ChunkLog<D> {
     /// one before might have left, or nine bytes at most. On an `Err` the log is to be cleared or reloaded.
     pub fn clear(&mut self, head: [u8; 8]) -> Result<(), DiskFault>
         ensures cleared { IfSome (D.seen self.old.disk) (λ _. OnOk result (IfSome (D.seen self.new.disk) (IsAtRest head self.new.used (D.may_leave self.new.disk) []))) }
+        ensures alone { IfSome (D.seen self.old.disk) (λ _. OnOk result (D.seen self.new.disk ≡ Some (head ++ 0 ∷ []))) }
         ensures any_moment { IsTrue D.tells_moments → IfSome (D.seen self.old.disk) (λ _. LeavesOnly D.moment D.left_since self.old.disk self.new.disk (IsCleared (D.may_leave self.old.disk))) }
         ensures may_leave { IfSome (D.seen self.old.disk) (λ _. (c : List ℕ) → D.may_leave self.new.disk c → IsCleared (D.may_leave self.old.disk) c) }
         ensures told { is_some (D.seen self.new.disk) ≡ is_some (D.seen self.old.disk) }
@@ -122,33 +125,38 @@ impl<D: Disk> ChunkLog<D> {
     /// `open` over the log's own disk, also after a `DiskFault`. On an `Err` the log is as it was: the disk reads the same.
     pub fn reload(&mut self, alloc: Global) -> Result<RawRecords, OpenFault>
         ensures records { IfSome (D.seen self.old.disk) (λ file. IfOk result (λ records. IsAtRest self.old.head self.new.used (D.may_leave self.new.disk) records file)) }
-        ensures head { self.new.head ≡ self.old.head }
         ensures only_records { IfSome (D.seen self.old.disk) (λ file. IfOk result (λ records. (others : List Raw) → Holds self.old.head others file → others ≡ records)) }
         ensures not_ours { IfSome (D.seen self.old.disk) (λ file. IsErrOf result OpenFault.NotOurs → IsOurs self.old.head file → ⊥) }
+        ensures head { self.new.head ≡ self.old.head }
+        ensures err { OnErr result (self.new.used ≡ self.old.used) }
         ensures only_read { IsOnlyRead D.seen D.may_leave self.old.disk self.new.disk }
         ensures any_moment { IsTrue D.tells_moments → LeavesOnly D.moment D.left_since self.old.disk self.new.disk (D.may_leave self.old.disk) }
-        ensures err { OnErr result (self.new.used ≡ self.old.used) }
         ensures later { D.faults self.old.disk ≤ D.faults self.new.disk }
         ensures failed { IsErrOf result OpenFault.DiskFault → Rose (D.faults self.old.disk) (D.faults self.new.disk) }
     {
         let head = self.head;
-        self.reload_from(alloc, &[head])
+        match self.read(alloc, &[head]) {
+            Ok(opened) => Ok(self.resume(opened)),
+            Err(fault) => Err(fault),
+        }
     }
 
-    /// `reload` of a file that begins with one of these heads, which is the log's head afterwards. `NotOurs` (42) exactly where
-    /// it begins with none of them, or no closed gate ends the records.
-    pub fn reload_from(&mut self, alloc: Global, heads: &[[u8; 8]]) -> Result<RawRecords, OpenFault>
-        ensures records { IfSome (D.seen self.old.disk) (λ file. IfOk result (λ records. IsAtRest self.new.head self.new.used (D.may_leave self.new.disk) records file)) }
-        ensures head { OnOk result (Contains heads.now self.new.head) }
-        ensures only_records { IfSome (D.seen self.old.disk) (λ file. IfOk result (λ records. (others : List Raw) → Holds self.new.head others file → others ≡ records)) }
+    /// Reads the log's own disk as `open` does, for a file that begins with one of these heads, and leaves the log as it was.
+    /// `NotOurs` (42) exactly where it begins with none of them, or no closed gate ends the records.
+    pub fn read(&mut self, alloc: Global, heads: &[[u8; 8]]) -> Result<Opened, OpenFault>
+        ensures records { IfSome (D.seen self.old.disk) (λ file. IfOk result (λ opened. IsAtRest opened.head opened.used (D.may_leave self.new.disk) opened.records file)) }
+        ensures listed { IfOk result (λ opened. Contains heads.now opened.head) }
+        ensures only_records { IfSome (D.seen self.old.disk) (λ file. IfOk result (λ opened. (others : List Raw) → Holds opened.head others file → others ≡ opened.records)) }
         ensures not_ours { IfSome (D.seen self.old.disk) (λ file. IsErrOf result OpenFault.NotOurs → (head : List ℕ) → Contains heads.now head → IsOurs head file → ⊥) }
+        // What is not ours is not ours after a crash either.
+        ensures durable { IfSome (D.seen self.old.disk) (λ file. IsErrOf result OpenFault.NotOurs → Only file (D.may_leave self.new.disk)) }
+        ensures head { self.new.head ≡ self.old.head }
+        ensures used { self.new.used ≡ self.old.used }
         ensures only_read { IsOnlyRead D.seen D.may_leave self.old.disk self.new.disk }
         ensures any_moment { IsTrue D.tells_moments → LeavesOnly D.moment D.left_since self.old.disk self.new.disk (D.may_leave self.old.disk) }
-        ensures err { OnErr result ((self.new.head ≡ self.old.head) × (self.new.used ≡ self.old.used)) }
         ensures later { D.faults self.old.disk ≤ D.faults self.new.disk }
         ensures failed { IsErrOf result OpenFault.DiskFault → Rose (D.faults self.old.disk) (D.faults self.new.disk) }
     {
-        self.disk.sync()?;
         let bytes = read_whole(alloc, &mut self.disk)?;
         let Some((head, rest)) = behind_head(heads, &bytes) else {
             return Err(OpenFault::NotOurs);
@@ -157,9 +165,25 @@ impl<D: Disk> ChunkLog<D> {
             return Err(OpenFault::NotOurs);
         };
         let head = *head;
+        let used = 9 + size as u64;
+        Ok(Opened {
+            head,
+            used,
+            records,
+        })
+    }
+
+    /// Goes on from what was read of its file, and hands out the records. This takes no memory.
+    pub fn resume(&mut self, opened: Opened) -> RawRecords
+        ensures records { result ≡ opened.records }
+        ensures head { self.new.head ≡ opened.head }
+        ensures used { self.new.used ≡ opened.used }
+        ensures disk { self.new.disk ≡ self.old.disk }
+    {
+        let head = opened.head;
         self.head = head;
-        self.used = 9 + size as u64;
-        Ok(records)
+        self.used = opened.used;
+        opened.records
     }
 
     /// Whether the used bytes and so many more are within the limit of 67,108,864 bytes.
@@ -179,6 +203,7 @@ impl<D: Disk> ChunkLog<D> {
         requires body { (raw : Raw) × (body.now ≡ body_of raw) }
         ensures acknowledged { IfSome (D.seen self.old.disk) (λ old. (raw : Raw) (records : List Raw) → body.now ≡ body_of raw → IsAtRest self.old.head self.old.used (D.may_leave self.old.disk) records old
             → OnOk result (IfSome (D.seen self.new.disk) (IsAtRest self.new.head self.new.used (D.may_leave self.new.disk) (records ++ raw ∷ [])))) }
+        ensures length { IfSome (D.seen self.old.disk) (λ old. OnOk result (IfSome (D.seen self.new.disk) (λ file. length file ≡ max (length old) (self.old.used + length body.now)))) }
         // A crash at any moment of the call leaves the records from before it, with the new one or without.
         ensures any_moment { IsTrue D.tells_moments → IfSome (D.seen self.old.disk) (λ old. (raw : Raw) (records : List Raw) → body.now ≡ body_of raw → IsAtRest self.old.head self.old.used (D.may_leave self.old.disk) records old
             → LeavesOnly D.moment D.left_since self.old.disk self.new.disk (BeforeOrAfter self.old.head records raw)) }
@@ -195,7 +220,7 @@ impl<D: Disk> ChunkLog<D> {
         if !self.has_room(body.len() as u64) {
             return Err(AppendFault::LogFull);
         }
-        let gate = self.used - 1;
+        let gate = self.used.saturating_sub(1);
         self.disk.write_at(self.used, body)?;
         self.disk.sync()?;
         self.disk.write_at(gate, &[1])?;

@@ -1,6 +1,7 @@
 //! Reading a file whole, and finding the records in its bytes.
-ghost use Rattle.std.specs.Prelude.{◌≡◌, ◌≤◌, ◌+◌, ◌++◌, ◌∷◌, [], ℕ, List, Contains, IfOk, IfSome, IsErrOf, IsNone, IsTrue, OnErr, length};
+ghost use Rattle.std.specs.Prelude.{◌≡◌, ◌≤◌, ◌+◌, ◌++◌, ◌∷◌, [], ℕ, List, Contains, IfOk, IfSome, IsErrOf, IsNone, IsTrue, OnErr, OnOk, length};
 ghost use Rattle.pf_disk.specs.Causes.{HasCause, Rose};
+ghost use Rattle.pf_disk.specs.Crashes.{Only};
 ghost use Rattle.pf_chunklog.specs.Records.{Raw, Holds, IsSized, blocks};
 ghost use Rattle.pf_chunklog.specs.Logs.{IsOnlyRead, LeavesOnly};
 
@@ -12,15 +13,17 @@ use std::alloc::{AllocError, Global};
 /// How many bytes a read asks for.
 const PIECE: usize = 4096;
 
-/// The bytes of a file, read in pieces.
+/// The bytes of a file: syncs, so that every later crash leaves them, asks for the length, and reads in pieces.
 pub fn read_whole<D: Disk>(alloc: Global, disk: &mut D) -> Result<Vec<u8>, OpenFault>
     ensures bytes { IfSome (D.seen disk.old) (λ file. IfOk result (λ bytes. bytes.items ≡ file)) }
+    ensures durable { IfSome (D.seen disk.old) (λ file. OnOk result (Only file (D.may_leave disk.new))) }
     ensures only_read { IsOnlyRead D.seen D.may_leave disk.old disk.new }
     ensures any_moment { IsTrue D.tells_moments → LeavesOnly D.moment D.left_since disk.old disk.new (D.may_leave disk.old) }
     ensures later { D.faults disk.old ≤ D.faults disk.new }
     ensures failed { IsErrOf result OpenFault.DiskFault → Rose (D.faults disk.old) (D.faults disk.new) }
     ensures ours { IsErrOf result OpenFault.NotOurs → ⊥ }
 {
+    disk.sync()?;
     let len = disk.len()?;
     let mut bytes = Vec::with_capacity(alloc, len as usize)?;
     let mut piece = [0u8; PIECE];

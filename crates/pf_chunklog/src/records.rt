@@ -1,4 +1,4 @@
-//! Records as a log hands them out.
+//! Records as a log hands them out, and what was read of a half.
 ghost use Rattle.std.specs.Prelude.{◌≡◌, ◌↔◌, [], IsTrue, length};
 
 use pf_base::Bytes;
@@ -55,4 +55,14 @@ impl RawRecords {
         let RawRecords { items } = self;
         items
     }
+}
+
+/// What was read of a half.
+#[derive(Drop)]
+pub struct Opened {
+    /// The head that it begins with.
+    pub head: [u8; 8],
+    /// How many bytes are used, up to and with the closed gate that ends the records.
+    pub used: u64,
+    pub records: RawRecords,
 }

@@ -1,4 +1,4 @@
-use Rattle.std.proofs.Common.{◌≡◌, ◌++◌, [], ◌∷◌, ℕ, List, Some, IfSome, inl, length, refl, sym, ◌∙◌, ap, subst, arith, length-append}
+use Rattle.std.proofs.Common.{◌++◌, [], ◌∷◌, ℕ, List, IfSome, inl, length, sym, ◌∙◌, ap, subst, arith, length-append}
 use Rattle.std.proofs.lemmas.List.{append-nil}
 use Rattle.pf_chunklog.specs.Logs.{IsAtRest, IsCleared, LeavesOnly}
 use Rattle.pf_chunklog.proofs.Format.{after_cut, after_start, empty}

@@ -1,4 +1,4 @@
-use Rattle.std.proofs.Common.{◌≡◌, ◌++◌, [], ℕ, List, Contains, None, get_or, inl, inr, ap, ◌∙◌}
+use Rattle.std.proofs.Common.{◌++◌, [], ℕ, List, None, get_or, inl, inr, ap, ◌∙◌}
 use Rattle.std.proofs.lemmas.Bool.Decides.{Decides-eqb}
 use Rattle.std.proofs.lemmas.Slice.Eq.{strip_prefix_is}
 use Rattle.pf_chunklog.proofs.Parts.{contains_more, contains_all}

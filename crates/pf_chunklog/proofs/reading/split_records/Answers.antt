@@ -1,7 +1,7 @@
 use Rattle.std.proofs.Common.{◌≡◌, ◌++◌, [], ◌∷◌, ℕ, List, length, refl, ap, subst, ◌∙◌, sym, arith}
 use Rattle.std.specs.List.{All, slice_get}
 use Rattle.std.proofs.lemmas.List.Elements.{All-push}
-use Rattle.pf_chunklog.specs.Records.{Raw, Holds, IsSized, blocks}
+use Rattle.pf_chunklog.specs.Records.{Raw, IsSized, blocks}
 use Rattle.pf_chunklog.proofs.Parts.{split_more, no_end}
 use Rattle.pf_chunklog.proofs.reading.split_records.Goals as goal
 

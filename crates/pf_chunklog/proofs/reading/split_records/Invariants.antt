@@ -1,4 +1,4 @@
-use Rattle.std.proofs.Common.{◌≡◌, ◌++◌, ℕ, List, length}
+use Rattle.std.proofs.Common.{◌≡◌, ◌++◌, length}
 use Rattle.std.specs.List.{All}
 use Rattle.pf_chunklog.specs.Records.{IsSized, blocks}
 use Rattle.pf_chunklog.proofs.reading.split_records.Given as goal

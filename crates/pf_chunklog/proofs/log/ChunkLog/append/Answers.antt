@@ -1,6 +1,6 @@
-use Rattle.std.proofs.Common.{◌≡◌, ◌+◌, ◌-◌, ◌++◌, [], ◌∷◌, ℕ, List, Some, IfSome, length, inl, inr, refl, sym, ◌∙◌, ap, subst, arith}
+use Rattle.std.proofs.Common.{◌≡◌, ◌+◌, ◌++◌, [], ◌∷◌, ℕ, List, IfSome, length, inl, sym, ◌∙◌, subst}
 use Rattle.std.proofs.lemmas.Bool.{leb-true}
-use Rattle.pf_disk.specs.Files.{reach, overwritten}
+use Rattle.pf_disk.specs.Files.{reach}
 use Rattle.pf_chunklog.specs.Records.{Raw, Holds, body_of}
 use Rattle.pf_chunklog.specs.Logs.{BeforeOrAfter, IsAtRest, LeavesOnly}
 use Rattle.pf_chunklog.proofs.Moments.{started, goes_on}
@@ -46,7 +46,7 @@ returns-in_err-write_at-2-clause-may_leave g c = if_some (g.D.Disk.seen c.args.s
     let is1 = told _ file _ is c.in_ok-write_at.ensures.written in
     let only2 = told _ _ _ is1 c.in_ok-sync.ensures.durable in
     let is2 = c.sync.ensures.seen ∙ is1 in
-    let second = steps.after_gate c.args.self.now.head records raw file c.args.self.now.used (g.D.Disk.may_leave c.args.self.now.disk) raw_sized rest c.args.body.now (g.D.Disk.may_leave c.sync.new.self) (g.D.Disk.may_leave c.write_at-2.new.self) body_is only2 (told _ _ _ is2 c.write_at-2.ensures.crash) in
+    let second = steps.after_gate c.args.self.now.head records raw file c.args.self.now.used (g.D.Disk.may_leave c.args.self.now.disk) raw_sized rest c.saturating_sub-gate.result c.args.body.now (g.D.Disk.may_leave c.sync.new.self) (g.D.Disk.may_leave c.write_at-2.new.self) c.saturating_sub-gate.ensures body_is only2 (told _ _ _ is2 c.write_at-2.ensures.crash) in
     second f left)
 
 pub returns-in_err-write_at-2-clause-any_moment : goal.returns-in_err-write_at-2-clause-any_moment
@@ -56,7 +56,7 @@ returns-in_err-write_at-2-clause-any_moment g c = λ tells. if_some (g.D.Disk.se
     let is1 = told _ file _ is c.in_ok-write_at.ensures.written in
     let only2 = told _ _ _ is1 c.in_ok-sync.ensures.durable in
     let is2 = c.sync.ensures.seen ∙ is1 in
-    let second = steps.after_gate c.args.self.now.head records raw file c.args.self.now.used (g.D.Disk.may_leave c.args.self.now.disk) raw_sized rest c.args.body.now (g.D.Disk.may_leave c.sync.new.self) (g.D.Disk.may_leave c.write_at-2.new.self) body_is only2 (told _ _ _ is2 c.write_at-2.ensures.crash) in
+    let second = steps.after_gate c.args.self.now.head records raw file c.args.self.now.used (g.D.Disk.may_leave c.args.self.now.disk) raw_sized rest c.saturating_sub-gate.result c.args.body.now (g.D.Disk.may_leave c.sync.new.self) (g.D.Disk.may_leave c.write_at-2.new.self) c.saturating_sub-gate.ensures body_is only2 (told _ _ _ is2 c.write_at-2.ensures.crash) in
     let P = BeforeOrAfter c.args.self.now.head records raw in
     let m0 = started g.D.Disk.moment g.D.Disk.left_since c.args.self.now.disk P (λ f left. inl (subst (λ (l : List ℕ). Holds c.args.self.now.head records l) (sym (rest.durable f (g.met.D.Disk.only_now tells c.args.self.now.disk f left))) rest.held)) in
     let m1 = goes_on g.D.Disk.moment g.D.Disk.left_since c.args.self.now.disk c.args.self.now.disk c.write_at.new.self P (g.D.Disk.may_leave c.write_at.new.self) m0 c.write_at.ensures.time first in
@@ -71,7 +71,7 @@ returns-in_err-sync-2-clause-may_leave g c = if_some (g.D.Disk.seen c.args.self.
     let is1 = told _ file _ is c.in_ok-write_at.ensures.written in
     let only2 = told _ _ _ is1 c.in_ok-sync.ensures.durable in
     let is2 = c.sync.ensures.seen ∙ is1 in
-    let second = steps.after_gate c.args.self.now.head records raw file c.args.self.now.used (g.D.Disk.may_leave c.args.self.now.disk) raw_sized rest c.args.body.now (g.D.Disk.may_leave c.sync.new.self) (g.D.Disk.may_leave c.write_at-2.new.self) body_is only2 (told _ _ _ is2 c.write_at-2.ensures.crash) in
+    let second = steps.after_gate c.args.self.now.head records raw file c.args.self.now.used (g.D.Disk.may_leave c.args.self.now.disk) raw_sized rest c.saturating_sub-gate.result c.args.body.now (g.D.Disk.may_leave c.sync.new.self) (g.D.Disk.may_leave c.write_at-2.new.self) c.saturating_sub-gate.ensures body_is only2 (told _ _ _ is2 c.write_at-2.ensures.crash) in
     second f (c.sync-2.ensures.crash f left))
 
 pub returns-in_err-sync-2-clause-any_moment : goal.returns-in_err-sync-2-clause-any_moment
@@ -81,7 +81,7 @@ returns-in_err-sync-2-clause-any_moment g c = λ tells. if_some (g.D.Disk.seen c
     let is1 = told _ file _ is c.in_ok-write_at.ensures.written in
     let only2 = told _ _ _ is1 c.in_ok-sync.ensures.durable in
     let is2 = c.sync.ensures.seen ∙ is1 in
-    let second = steps.after_gate c.args.self.now.head records raw file c.args.self.now.used (g.D.Disk.may_leave c.args.self.now.disk) raw_sized rest c.args.body.now (g.D.Disk.may_leave c.sync.new.self) (g.D.Disk.may_leave c.write_at-2.new.self) body_is only2 (told _ _ _ is2 c.write_at-2.ensures.crash) in
+    let second = steps.after_gate c.args.self.now.head records raw file c.args.self.now.used (g.D.Disk.may_leave c.args.self.now.disk) raw_sized rest c.saturating_sub-gate.result c.args.body.now (g.D.Disk.may_leave c.sync.new.self) (g.D.Disk.may_leave c.write_at-2.new.self) c.saturating_sub-gate.ensures body_is only2 (told _ _ _ is2 c.write_at-2.ensures.crash) in
     let P = BeforeOrAfter c.args.self.now.head records raw in
     let m0 = started g.D.Disk.moment g.D.Disk.left_since c.args.self.now.disk P (λ f left. inl (subst (λ (l : List ℕ). Holds c.args.self.now.head records l) (sym (rest.durable f (g.met.D.Disk.only_now tells c.args.self.now.disk f left))) rest.held)) in
     let m1 = goes_on g.D.Disk.moment g.D.Disk.left_since c.args.self.now.disk c.args.self.now.disk c.write_at.new.self P (g.D.Disk.may_leave c.write_at.new.self) m0 c.write_at.ensures.time first in
@@ -97,7 +97,7 @@ returns-clause-may_leave g c = if_some (g.D.Disk.seen c.args.self.now.disk) (λ 
     let is1 = told _ file _ is c.in_ok-write_at.ensures.written in
     let only2 = told _ _ _ is1 c.in_ok-sync.ensures.durable in
     let is2 = c.sync.ensures.seen ∙ is1 in
-    let second = steps.after_gate c.args.self.now.head records raw file c.args.self.now.used (g.D.Disk.may_leave c.args.self.now.disk) raw_sized rest c.args.body.now (g.D.Disk.may_leave c.sync.new.self) (g.D.Disk.may_leave c.write_at-2.new.self) body_is only2 (told _ _ _ is2 c.write_at-2.ensures.crash) in
+    let second = steps.after_gate c.args.self.now.head records raw file c.args.self.now.used (g.D.Disk.may_leave c.args.self.now.disk) raw_sized rest c.saturating_sub-gate.result c.args.body.now (g.D.Disk.may_leave c.sync.new.self) (g.D.Disk.may_leave c.write_at-2.new.self) c.saturating_sub-gate.ensures body_is only2 (told _ _ _ is2 c.write_at-2.ensures.crash) in
     second f (c.sync-2.ensures.crash f left))
 
 pub returns-clause-any_moment : goal.returns-clause-any_moment
@@ -107,7 +107,7 @@ returns-clause-any_moment g c = λ tells. if_some (g.D.Disk.seen c.args.self.now
     let is1 = told _ file _ is c.in_ok-write_at.ensures.written in
     let only2 = told _ _ _ is1 c.in_ok-sync.ensures.durable in
     let is2 = c.sync.ensures.seen ∙ is1 in
-    let second = steps.after_gate c.args.self.now.head records raw file c.args.self.now.used (g.D.Disk.may_leave c.args.self.now.disk) raw_sized rest c.args.body.now (g.D.Disk.may_leave c.sync.new.self) (g.D.Disk.may_leave c.write_at-2.new.self) body_is only2 (told _ _ _ is2 c.write_at-2.ensures.crash) in
+    let second = steps.after_gate c.args.self.now.head records raw file c.args.self.now.used (g.D.Disk.may_leave c.args.self.now.disk) raw_sized rest c.saturating_sub-gate.result c.args.body.now (g.D.Disk.may_leave c.sync.new.self) (g.D.Disk.may_leave c.write_at-2.new.self) c.saturating_sub-gate.ensures body_is only2 (told _ _ _ is2 c.write_at-2.ensures.crash) in
     let P = BeforeOrAfter c.args.self.now.head records raw in
     let m0 = started g.D.Disk.moment g.D.Disk.left_since c.args.self.now.disk P (λ f left. inl (subst (λ (l : List ℕ). Holds c.args.self.now.head records l) (sym (rest.durable f (g.met.D.Disk.only_now tells c.args.self.now.disk f left))) rest.held)) in
     let m1 = goes_on g.D.Disk.moment g.D.Disk.left_since c.args.self.now.disk c.args.self.now.disk c.write_at.new.self P (g.D.Disk.may_leave c.write_at.new.self) m0 c.write_at.ensures.time first in
@@ -123,9 +123,9 @@ returns-clause-acknowledged g c = if_some (g.D.Disk.seen c.args.self.now.disk) (
     let is1 = told _ file _ is c.in_ok-write_at.ensures.written in
     let only2 = told _ _ _ is1 c.in_ok-sync.ensures.durable in
     let is2 = c.sync.ensures.seen ∙ is1 in
-    let second = steps.after_gate c.args.self.now.head records raw file c.args.self.now.used (g.D.Disk.may_leave c.args.self.now.disk) raw_sized rest c.args.body.now (g.D.Disk.may_leave c.sync.new.self) (g.D.Disk.may_leave c.write_at-2.new.self) body_is only2 (told _ _ _ is2 c.write_at-2.ensures.crash) in
+    let second = steps.after_gate c.args.self.now.head records raw file c.args.self.now.used (g.D.Disk.may_leave c.args.self.now.disk) raw_sized rest c.saturating_sub-gate.result c.args.body.now (g.D.Disk.may_leave c.sync.new.self) (g.D.Disk.may_leave c.write_at-2.new.self) c.saturating_sub-gate.ensures body_is only2 (told _ _ _ is2 c.write_at-2.ensures.crash) in
     let is3 = told _ _ _ is2 c.in_ok-write_at-2.ensures.written in
     let only4 = told _ _ _ is3 c.in_ok-sync-2.ensures.durable in
     let is4 = c.sync-2.ensures.seen ∙ is3 in
     subst (λ v. IfSome v (IsAtRest c.args.self.now.head (c.args.self.now.used + length c.args.body.now) (g.D.Disk.may_leave c.sync-2.new.self) (records ++ raw ∷ []))) (sym is4)
-    (steps.at_rest c.args.self.now.head records raw file c.args.self.now.used (g.D.Disk.may_leave c.args.self.now.disk) raw_sized rest c.args.body.now (g.D.Disk.may_leave c.sync-2.new.self) body_is only4))
+    (steps.at_rest c.args.self.now.head records raw file c.args.self.now.used (g.D.Disk.may_leave c.args.self.now.disk) raw_sized rest c.saturating_sub-gate.result c.args.body.now (g.D.Disk.may_leave c.sync-2.new.self) c.saturating_sub-gate.ensures body_is only4))

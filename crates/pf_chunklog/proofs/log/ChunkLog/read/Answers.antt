@@ -1,0 +1,34 @@
+use Rattle.std.proofs.Common.{◌≡◌, ◌+◌, List, length, ap, ◌∙◌, sym, arith}
+use Rattle.std.specs.Option.{is_some}
+use Rattle.pf_chunklog.specs.Records.{Raw, Holds}
+use Rattle.pf_chunklog.specs.Logs.{IsAtRest}
+use Rattle.pf_chunklog.proofs.Steps.{told, if_some}
+use Rattle.pf_chunklog.proofs.Parts.{behind, in_front, long_head}
+use Rattle.pf_chunklog.proofs.Unique.{one_list}
+use Rattle.pf_chunklog.proofs.log.ChunkLog.read.Goals as goal
+
+pub returns-in_default-2-clause-not_ours : goal.returns-in_default-2-clause-not_ours
+returns-in_default-2-clause-not_ours g c = if_some (g.D.Disk.seen c.args.self.now.disk) _ (λ file is _ head has (records, held).
+    let bytes_are : c.in_ok-bytes.bytes.items ≡ file = told _ file _ is c.in_ok-bytes.ensures.bytes in
+    let found = c.in-Some.ensures.some in
+    let size : length c.in-Some.head.now ≡ length head = long_head c.args.heads.now c.in-Some.head.now c.told-heads found.0 ∙ sym (long_head c.args.heads.now head c.told-heads has) in
+    c.in_ok-records.ensures.none (ap is_some c.in_default-2.is) records (behind c.in-Some.head.now head c.in-Some.rest.now file records size (sym bytes_are ∙ sym c.deref.ensures.value ∙ found.1) held))
+
+pub returns-clause-records : goal.returns-clause-records
+returns-clause-records g c = if_some (g.D.Disk.seen c.args.self.now.disk) (λ file. IsAtRest c.in-Some.head.now (9 + c.in-Some-2.size) (g.D.Disk.may_leave c.read_whole.new.disk) c.in-Some-2.records file) (λ file is.
+    let bytes_are : c.in_ok-bytes.bytes.items ≡ file = told _ file _ is c.in_ok-bytes.ensures.bytes in
+    let only = told _ file _ is c.in_ok-bytes.ensures.durable in
+    let found = c.in-Some.ensures.some in
+    let split = told _ (c.in-Some-2.records, c.in-Some-2.size) _ c.in-Some-2.is c.in_ok-records.ensures.some in
+    record {
+      held = in_front c.in-Some.head.now c.in-Some.rest.now file c.in-Some-2.records (sym bytes_are ∙ sym c.deref.ensures.value ∙ found.1) split.0;
+      size = omega (arith, split.1, long_head c.args.heads.now c.in-Some.head.now c.told-heads found.0);
+      durable = only;
+    })
+
+pub returns-clause-only_records : goal.returns-clause-only_records
+returns-clause-only_records g c = if_some (g.D.Disk.seen c.args.self.now.disk) (λ file. (others : List Raw) → Holds c.in-Some.head.now others file → others ≡ c.in-Some-2.records) (λ file is others held.
+    let bytes_are : c.in_ok-bytes.bytes.items ≡ file = told _ file _ is c.in_ok-bytes.ensures.bytes in
+    let found = c.in-Some.ensures.some in
+    let split = told _ (c.in-Some-2.records, c.in-Some-2.size) _ c.in-Some-2.is c.in_ok-records.ensures.some in
+    one_list c.in-Some.head.now c.in-Some-2.records others file (in_front c.in-Some.head.now c.in-Some.rest.now file c.in-Some-2.records (sym bytes_are ∙ sym c.deref.ensures.value ∙ found.1) split.0) held)

@@ -1,0 +1,4 @@
+pub mod Files
+pub mod Loading
+pub mod Logs
+pub mod Times

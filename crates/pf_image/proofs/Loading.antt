@@ -1,0 +1,62 @@
+-- What is made of the two halves that were read.
+use Rattle.std.proofs.Common.{◌≡◌, ℕ, Option, Some, None, IfSome, IsNone, Result, Ok, Err, OnErr, List, is_some, slice_index, refl, sym, ◌∙◌, ap, subst}
+use Rattle.pf_disk.specs.Crashes.{Images, Only}
+use Rattle.pf_chunklog.specs.Records.{Raw}
+use Rattle.pf_chunklog.specs.Logs.{IsAtRest}
+use Rattle.pf_chunklog.specs.declared.log.ChunkLog.{ChunkLog}
+use Rattle.pf_chunklog.proofs.Steps.{told}
+use Rattle.pf_image.specs.Halves.{half_head, other}
+use Rattle.pf_image.specs.Recovery.{AreRecoverable, IsBehind, IsFormat, IsHead, IsOlder, IsRecoverable, Takes, generation}
+use Rattle.pf_image.specs.Current.{IsCurrent}
+use Rattle.pf_image.specs.declared.halves.Half.{Half}
+use Rattle.pf_image.specs.declared.recovery.Found.{Found}
+use Rattle.pf_image.proofs.Files.{was_recoverable}
+
+-- what a reader found in the file of a half
+pub record IsRead (head : List ℕ) (half : Half) (file : List ℕ) (images : Images) (found : Option Found) : Type 0 where
+  pub some : IfSome found (λ f. IsRecoverable head half file f.opened.records × IsAtRest f.opened.head f.opened.used images f.opened.records file × (f.generation ≡ generation f.opened.records))
+  pub listed : IfSome found (λ f. IsHead head f.opened.head half)
+  pub durable : Only file images
+  pub only : IfSome found (λ f. (others : List Raw) → IsRecoverable head half file others → others ≡ f.opened.records)
+  pub none : IsNone found → (records : List Raw) → IsRecoverable head half file records → ⊥
+
+behind_as : (half : Half) (a b m n : ℕ) → a ≡ m → b ≡ n → IsBehind half a b → IsBehind half m n
+behind_as half a b m n is so behind = subst (λ (k : ℕ). IsBehind half m k) so (subst (λ (k : ℕ). IsBehind half k b) is behind)
+
+spare_older : (head : List ℕ) (half : Half) (file : List ℕ) (images : Images) (spare : Option Found) (current newest : ℕ) → IsRead head half file images spare → current ≡ newest
+    → IfSome spare (λ f. IsBehind half f.generation current) → IsOlder head half file newest
+spare_older head half file images (Some f) current newest read is behind records found =
+    behind_as half f.generation current (generation records) newest (read.some.2 ∙ ap generation (sym (read.only records found))) is behind
+spare_older head half file images None current newest read is behind records found = absurd (read.none refl records found)
+
+-- the half of the greater generation is the one that a restart takes
+pub taken : (head : List ℕ) (half : Half) (file spare_file : List ℕ) (images spare_images : Images) (mine spare : Option Found) (f : Found) → mine ≡ Some f
+    → IsRead head half file images mine → IsRead head (other half) spare_file spare_images spare → IfSome spare (λ s. IsBehind (other half) s.generation f.generation)
+    → Takes head half file spare_file f.opened.records
+taken head half file spare_file images spare_images mine spare f is read spare_read behind =
+    let some = told mine f _ is read.some in
+    record { recoverable = some.0; older = spare_older head (other half) spare_file spare_images spare f.generation (generation f.opened.records) spare_read some.2 behind }
+
+-- and its log is current
+pub loaded : {D : Type 0} (seen : D → Option (List ℕ)) (may_leave : D → Images) (head : List ℕ) (half : Half) (file spare_file : List ℕ) (mine spare : Option Found) (f : Found) (log spare_log : ChunkLog D) → mine ≡ Some f
+    → IsRead head half file (may_leave log.disk) mine → IsRead head (other half) spare_file (may_leave spare_log.disk) spare → IfSome spare (λ s. IsBehind (other half) s.generation f.generation)
+    → seen log.disk ≡ Some file → seen spare_log.disk ≡ Some spare_file → log.head ≡ f.opened.head → log.used ≡ f.opened.used
+    → IsCurrent seen may_leave head half log spare_log f.opened.records
+loaded seen may_leave head half file spare_file mine spare f log spare_log is read spare_read behind seen_file seen_spare head_is used_is =
+    let some = told mine f _ is read.some in
+    let listed : IsHead head f.opened.head half = told mine f _ is read.listed in
+    let take = taken head half file spare_file (may_leave log.disk) (may_leave spare_log.disk) mine spare f is read spare_read behind in
+    record {
+      file = file;
+      is_seen = seen_file;
+      rest = subst (λ (h : List ℕ). IsAtRest h log.used (may_leave log.disk) f.opened.records file) (sym head_is) (subst (λ (n : ℕ). IsAtRest f.opened.head n (may_leave log.disk) f.opened.records file) (sym used_is) some.1);
+      head_is = head_is ∙ listed.is ∙ ap (λ (h : List ℕ). half_head head (slice_index h 4) half) (sym head_is);
+      known = subst (λ (h : List ℕ). IsFormat (slice_index h 4)) (sym head_is) listed.known;
+      recoverable = subst (λ (h : List ℕ). AreRecoverable (slice_index h 4) f.opened.records) (sym head_is) (was_recoverable head f.opened.head file half f.opened.records f.opened.records listed some.1.held some.0);
+      told = ap (λ (o : Option (List ℕ)). is_some o) seen_spare;
+      older = λ c left. subst (λ (x : List ℕ). IsOlder head (other half) x (generation f.opened.records)) (sym (spare_read.durable c left)) take.older;
+    }
+
+pub if_err : {T E P : Type 0} (r : Result T E) → P → OnErr r P
+if_err (Ok x) p = tt
+if_err (Err e) p = p

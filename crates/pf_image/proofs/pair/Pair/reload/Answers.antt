@@ -1,0 +1,165 @@
+use Rattle.std.proofs.Common.{◌≡◌, inl, inr, ⊎_elim, ℕ, List, Some, IfSome, refl, sym, subst, ap, ◌∙◌, is_some}
+use Rattle.pf_chunklog.specs.Records.{Raw}
+use Rattle.pf_chunklog.proofs.Steps.{told, if_some}
+use Rattle.pf_image.specs.Halves.{of_half, other}
+use Rattle.pf_image.specs.Recovery.{Finds, IsBehind, Takes}
+use Rattle.pf_image.specs.Current.{IsCurrent}
+use Rattle.pf_image.specs.declared.halves.Half.{Half}
+use Rattle.pf_image.specs.declared.halves.Half.TheVariants.{Zero, One}
+use Rattle.pf_image.specs.declared.recovery.Found.{Found}
+use Rattle.pf_image.proofs.Files.{one_found}
+use Rattle.pf_image.proofs.Loading.{IsRead, if_err, loaded, taken}
+use Rattle.pf_image.proofs.Logs as logs
+use Rattle.pf_image.proofs.pair.Pair.reload.Goals as goal
+
+pub returns-in-Some-clause-found : goal.returns-in-Some-clause-found
+returns-in-Some-clause-found g c = if_some (g.D.Disk.seen c.args.self.now.zero.disk) (λ first. IfSome (g.D.Disk.seen c.args.self.now.one.disk) (λ second. Finds c.args.self.now.head first second c.take.result)) (λ first is_first. if_some (g.D.Disk.seen c.args.self.now.one.disk) (λ second. Finds c.args.self.now.head first second c.take.result) (λ second is_second.
+    let zero_read : IsRead c.args.self.now.head Zero first (g.D.Disk.may_leave c.read_half.new.log.disk) c.in_ok-zero.zero = record {
+      some = told _ first _ is_first c.in_ok-zero.ensures.some;
+      listed = c.in_ok-zero.ensures.listed;
+      durable = told _ first _ is_first c.in_ok-zero.ensures.durable;
+      only = told _ first _ is_first c.in_ok-zero.ensures.only_records;
+      none = told _ first _ is_first c.in_ok-zero.ensures.none;
+    } in
+    let one_read : IsRead c.args.self.now.head One second (g.D.Disk.may_leave c.read_half-2.new.log.disk) c.in_ok-one.one = record {
+      some = told _ second _ is_second c.in_ok-one.ensures.some;
+      listed = c.in_ok-one.ensures.listed;
+      durable = told _ second _ is_second c.in_ok-one.ensures.durable;
+      only = told _ second _ is_second c.in_ok-one.ensures.only_records;
+      none = told _ second _ is_second c.in_ok-one.ensures.none;
+    } in
+    let read : (h : Half) → IsRead c.args.self.now.head h (of_half h first second) (g.D.Disk.may_leave (of_half h c.read_half.new.log c.read_half-2.new.log).disk) (of_half h c.in_ok-zero.zero c.in_ok-one.one) = λ h. elim h as (λ (k : Half). IsRead c.args.self.now.head k (of_half k first second) (g.D.Disk.may_leave (of_half k c.read_half.new.log c.read_half-2.new.log).disk) (of_half k c.in_ok-zero.zero c.in_ok-one.one)) [ Zero ↦ zero_read | One ↦ one_read ] in
+    let finds : Finds c.args.self.now.head first second c.take.result = (
+      c.in-Some.half,
+      subst (λ (l : List Raw). Takes c.args.self.now.head c.in-Some.half (of_half c.in-Some.half first second) (of_half (other c.in-Some.half) first second) l) (sym c.take.ensures.records)
+          (taken c.args.self.now.head c.in-Some.half (of_half c.in-Some.half first second) (of_half (other c.in-Some.half) first second) _ _ (of_half c.in-Some.half c.in_ok-zero.zero c.in_ok-one.one) (of_half (other c.in-Some.half) c.in_ok-zero.zero c.in_ok-one.one) c.in-Some.found c.in-Some.ensures.some.0 (read c.in-Some.half) (read (other c.in-Some.half)) c.in-Some.ensures.some.1),
+    ) in
+    finds))
+
+pub returns-in-Some-clause-only_records : goal.returns-in-Some-clause-only_records
+returns-in-Some-clause-only_records g c = if_some (g.D.Disk.seen c.args.self.now.zero.disk) (λ first. IfSome (g.D.Disk.seen c.args.self.now.one.disk) (λ second. (others : List Raw) → Finds c.args.self.now.head first second others → others ≡ c.take.result)) (λ first is_first. if_some (g.D.Disk.seen c.args.self.now.one.disk) (λ second. (others : List Raw) → Finds c.args.self.now.head first second others → others ≡ c.take.result) (λ second is_second.
+    let zero_read : IsRead c.args.self.now.head Zero first (g.D.Disk.may_leave c.read_half.new.log.disk) c.in_ok-zero.zero = record {
+      some = told _ first _ is_first c.in_ok-zero.ensures.some;
+      listed = c.in_ok-zero.ensures.listed;
+      durable = told _ first _ is_first c.in_ok-zero.ensures.durable;
+      only = told _ first _ is_first c.in_ok-zero.ensures.only_records;
+      none = told _ first _ is_first c.in_ok-zero.ensures.none;
+    } in
+    let one_read : IsRead c.args.self.now.head One second (g.D.Disk.may_leave c.read_half-2.new.log.disk) c.in_ok-one.one = record {
+      some = told _ second _ is_second c.in_ok-one.ensures.some;
+      listed = c.in_ok-one.ensures.listed;
+      durable = told _ second _ is_second c.in_ok-one.ensures.durable;
+      only = told _ second _ is_second c.in_ok-one.ensures.only_records;
+      none = told _ second _ is_second c.in_ok-one.ensures.none;
+    } in
+    let read : (h : Half) → IsRead c.args.self.now.head h (of_half h first second) (g.D.Disk.may_leave (of_half h c.read_half.new.log c.read_half-2.new.log).disk) (of_half h c.in_ok-zero.zero c.in_ok-one.one) = λ h. elim h as (λ (k : Half). IsRead c.args.self.now.head k (of_half k first second) (g.D.Disk.may_leave (of_half k c.read_half.new.log c.read_half-2.new.log).disk) (of_half k c.in_ok-zero.zero c.in_ok-one.one)) [ Zero ↦ zero_read | One ↦ one_read ] in
+    let finds : Finds c.args.self.now.head first second c.take.result = (
+      c.in-Some.half,
+      subst (λ (l : List Raw). Takes c.args.self.now.head c.in-Some.half (of_half c.in-Some.half first second) (of_half (other c.in-Some.half) first second) l) (sym c.take.ensures.records)
+          (taken c.args.self.now.head c.in-Some.half (of_half c.in-Some.half first second) (of_half (other c.in-Some.half) first second) _ _ (of_half c.in-Some.half c.in_ok-zero.zero c.in_ok-one.one) (of_half (other c.in-Some.half) c.in_ok-zero.zero c.in_ok-one.one) c.in-Some.found c.in-Some.ensures.some.0 (read c.in-Some.half) (read (other c.in-Some.half)) c.in-Some.ensures.some.1),
+    ) in
+    λ others found. one_found c.args.self.now.head first second c.take.result others finds found))
+
+pub returns-in-Some-clause-settled : goal.returns-in-Some-clause-settled
+returns-in-Some-clause-settled g c = λ before after doubt tells.
+    let zero_told = logs.told_file (g.D.Disk.seen c.args.self.now.zero.disk) tells.0 in
+    let one_told = logs.told_file (g.D.Disk.seen c.args.self.now.one.disk) tells.1 in
+    let first = zero_told.0 in
+    let second = one_told.0 in
+    let is_first = zero_told.1 in
+    let is_second = one_told.1 in
+    let zero_read : IsRead c.args.self.now.head Zero first (g.D.Disk.may_leave c.read_half.new.log.disk) c.in_ok-zero.zero = record {
+      some = told _ first _ is_first c.in_ok-zero.ensures.some;
+      listed = c.in_ok-zero.ensures.listed;
+      durable = told _ first _ is_first c.in_ok-zero.ensures.durable;
+      only = told _ first _ is_first c.in_ok-zero.ensures.only_records;
+      none = told _ first _ is_first c.in_ok-zero.ensures.none;
+    } in
+    let one_read : IsRead c.args.self.now.head One second (g.D.Disk.may_leave c.read_half-2.new.log.disk) c.in_ok-one.one = record {
+      some = told _ second _ is_second c.in_ok-one.ensures.some;
+      listed = c.in_ok-one.ensures.listed;
+      durable = told _ second _ is_second c.in_ok-one.ensures.durable;
+      only = told _ second _ is_second c.in_ok-one.ensures.only_records;
+      none = told _ second _ is_second c.in_ok-one.ensures.none;
+    } in
+    let read : (h : Half) → IsRead c.args.self.now.head h (of_half h first second) (g.D.Disk.may_leave (of_half h c.read_half.new.log c.read_half-2.new.log).disk) (of_half h c.in_ok-zero.zero c.in_ok-one.one) = λ h. elim h as (λ (k : Half). IsRead c.args.self.now.head k (of_half k first second) (g.D.Disk.may_leave (of_half k c.read_half.new.log c.read_half-2.new.log).disk) (of_half k c.in_ok-zero.zero c.in_ok-one.one)) [ Zero ↦ zero_read | One ↦ one_read ] in
+    let finds : Finds c.args.self.now.head first second c.take.result = (
+      c.in-Some.half,
+      subst (λ (l : List Raw). Takes c.args.self.now.head c.in-Some.half (of_half c.in-Some.half first second) (of_half (other c.in-Some.half) first second) l) (sym c.take.ensures.records)
+          (taken c.args.self.now.head c.in-Some.half (of_half c.in-Some.half first second) (of_half (other c.in-Some.half) first second) _ _ (of_half c.in-Some.half c.in_ok-zero.zero c.in_ok-one.one) (of_half (other c.in-Some.half) c.in_ok-zero.zero c.in_ok-one.one) c.in-Some.found c.in-Some.ensures.some.0 (read c.in-Some.half) (read (other c.in-Some.half)) c.in-Some.ensures.some.1),
+    ) in
+    ⊎_elim (λ old. inl (sym (one_found c.args.self.now.head first second c.take.result before finds old))) (λ new. inr (sym (one_found c.args.self.now.head first second c.take.result after finds new)))
+    (doubt first second (told _ first _ is_first (g.met.D.Disk.among c.args.self.now.zero.disk)) (told _ second _ is_second (g.met.D.Disk.among c.args.self.now.one.disk)))
+
+pub returns-in-None-clause-not_ours : goal.returns-in-None-clause-not_ours
+returns-in-None-clause-not_ours g c = if_some (g.D.Disk.seen c.args.self.now.zero.disk) _ (λ first is_first. if_some (g.D.Disk.seen c.args.self.now.one.disk) _ (λ second is_second _ half records found.
+    let zero_read : IsRead c.args.self.now.head Zero first (g.D.Disk.may_leave c.read_half.new.log.disk) c.in_ok-zero.zero = record {
+      some = told _ first _ is_first c.in_ok-zero.ensures.some;
+      listed = c.in_ok-zero.ensures.listed;
+      durable = told _ first _ is_first c.in_ok-zero.ensures.durable;
+      only = told _ first _ is_first c.in_ok-zero.ensures.only_records;
+      none = told _ first _ is_first c.in_ok-zero.ensures.none;
+    } in
+    let one_read : IsRead c.args.self.now.head One second (g.D.Disk.may_leave c.read_half-2.new.log.disk) c.in_ok-one.one = record {
+      some = told _ second _ is_second c.in_ok-one.ensures.some;
+      listed = c.in_ok-one.ensures.listed;
+      durable = told _ second _ is_second c.in_ok-one.ensures.durable;
+      only = told _ second _ is_second c.in_ok-one.ensures.only_records;
+      none = told _ second _ is_second c.in_ok-one.ensures.none;
+    } in
+    let read : (h : Half) → IsRead c.args.self.now.head h (of_half h first second) (g.D.Disk.may_leave (of_half h c.read_half.new.log c.read_half-2.new.log).disk) (of_half h c.in_ok-zero.zero c.in_ok-one.one) = λ h. elim h as (λ (k : Half). IsRead c.args.self.now.head k (of_half k first second) (g.D.Disk.may_leave (of_half k c.read_half.new.log c.read_half-2.new.log).disk) (of_half k c.in_ok-zero.zero c.in_ok-one.one)) [ Zero ↦ zero_read | One ↦ one_read ] in
+    (read half).none (ap (λ o. is_some o) (c.in-None.ensures.none refl half)) records found))
+
+pub returns-in_err-zero-clause-err : goal.returns-in_err-zero-clause-err
+returns-in_err-zero-clause-err g c = if_err c.from_residual.result (λ records whole.
+    let kept : (h : Half) → IsCurrent g.D.Disk.seen g.D.Disk.may_leave c.args.self.now.head h (of_half h c.args.self.now.zero c.args.self.now.one) (of_half (other h) c.args.self.now.zero c.args.self.now.one) records → IsCurrent g.D.Disk.seen g.D.Disk.may_leave c.args.self.now.head h (of_half h c.read_half.new.log c.args.self.now.one) (of_half (other h) c.read_half.new.log c.args.self.now.one) records = λ h. elim h as (λ (k : Half). IsCurrent g.D.Disk.seen g.D.Disk.may_leave c.args.self.now.head k (of_half k c.args.self.now.zero c.args.self.now.one) (of_half (other k) c.args.self.now.zero c.args.self.now.one) records → IsCurrent g.D.Disk.seen g.D.Disk.may_leave c.args.self.now.head k (of_half k c.read_half.new.log c.args.self.now.one) (of_half (other k) c.read_half.new.log c.args.self.now.one) records) [
+      | Zero ↦ λ w. logs.only_read g.D.Disk.seen g.D.Disk.may_leave c.args.self.now.head Zero c.args.self.now.zero c.args.self.now.one records w c.read_half.new.log c.args.self.now.one c.read_half.ensures.head c.read_half.ensures.used c.read_half.ensures.only_read.same c.read_half.ensures.only_read.keeps refl (λ f left. left)
+      | One ↦ λ w. logs.only_read g.D.Disk.seen g.D.Disk.may_leave c.args.self.now.head One c.args.self.now.one c.args.self.now.zero records w c.args.self.now.one c.read_half.new.log refl refl refl (λ f left. left) c.read_half.ensures.only_read.same c.read_half.ensures.only_read.keeps
+    ] in
+    kept c.args.self.now.current whole)
+
+pub returns-in_err-one-clause-err : goal.returns-in_err-one-clause-err
+returns-in_err-one-clause-err g c = if_err c.from_residual-in_err-one.result (λ records whole.
+    let kept : (h : Half) → IsCurrent g.D.Disk.seen g.D.Disk.may_leave c.args.self.now.head h (of_half h c.args.self.now.zero c.args.self.now.one) (of_half (other h) c.args.self.now.zero c.args.self.now.one) records → IsCurrent g.D.Disk.seen g.D.Disk.may_leave c.args.self.now.head h (of_half h c.read_half.new.log c.read_half-2.new.log) (of_half (other h) c.read_half.new.log c.read_half-2.new.log) records = λ h. elim h as (λ (k : Half). IsCurrent g.D.Disk.seen g.D.Disk.may_leave c.args.self.now.head k (of_half k c.args.self.now.zero c.args.self.now.one) (of_half (other k) c.args.self.now.zero c.args.self.now.one) records → IsCurrent g.D.Disk.seen g.D.Disk.may_leave c.args.self.now.head k (of_half k c.read_half.new.log c.read_half-2.new.log) (of_half (other k) c.read_half.new.log c.read_half-2.new.log) records) [
+      | Zero ↦ λ w. logs.only_read g.D.Disk.seen g.D.Disk.may_leave c.args.self.now.head Zero c.args.self.now.zero c.args.self.now.one records w c.read_half.new.log c.read_half-2.new.log c.read_half.ensures.head c.read_half.ensures.used c.read_half.ensures.only_read.same c.read_half.ensures.only_read.keeps c.read_half-2.ensures.only_read.same c.read_half-2.ensures.only_read.keeps
+      | One ↦ λ w. logs.only_read g.D.Disk.seen g.D.Disk.may_leave c.args.self.now.head One c.args.self.now.one c.args.self.now.zero records w c.read_half-2.new.log c.read_half.new.log c.read_half-2.ensures.head c.read_half-2.ensures.used c.read_half-2.ensures.only_read.same c.read_half-2.ensures.only_read.keeps c.read_half.ensures.only_read.same c.read_half.ensures.only_read.keeps
+    ] in
+    kept c.args.self.now.current whole)
+
+pub returns-in-None-clause-err : goal.returns-in-None-clause-err
+returns-in-None-clause-err g c = λ records whole.
+    let kept : (h : Half) → IsCurrent g.D.Disk.seen g.D.Disk.may_leave c.args.self.now.head h (of_half h c.args.self.now.zero c.args.self.now.one) (of_half (other h) c.args.self.now.zero c.args.self.now.one) records → IsCurrent g.D.Disk.seen g.D.Disk.may_leave c.args.self.now.head h (of_half h c.read_half.new.log c.read_half-2.new.log) (of_half (other h) c.read_half.new.log c.read_half-2.new.log) records = λ h. elim h as (λ (k : Half). IsCurrent g.D.Disk.seen g.D.Disk.may_leave c.args.self.now.head k (of_half k c.args.self.now.zero c.args.self.now.one) (of_half (other k) c.args.self.now.zero c.args.self.now.one) records → IsCurrent g.D.Disk.seen g.D.Disk.may_leave c.args.self.now.head k (of_half k c.read_half.new.log c.read_half-2.new.log) (of_half (other k) c.read_half.new.log c.read_half-2.new.log) records) [
+      | Zero ↦ λ w. logs.only_read g.D.Disk.seen g.D.Disk.may_leave c.args.self.now.head Zero c.args.self.now.zero c.args.self.now.one records w c.read_half.new.log c.read_half-2.new.log c.read_half.ensures.head c.read_half.ensures.used c.read_half.ensures.only_read.same c.read_half.ensures.only_read.keeps c.read_half-2.ensures.only_read.same c.read_half-2.ensures.only_read.keeps
+      | One ↦ λ w. logs.only_read g.D.Disk.seen g.D.Disk.may_leave c.args.self.now.head One c.args.self.now.one c.args.self.now.zero records w c.read_half-2.new.log c.read_half.new.log c.read_half-2.ensures.head c.read_half-2.ensures.used c.read_half-2.ensures.only_read.same c.read_half-2.ensures.only_read.keeps c.read_half.ensures.only_read.same c.read_half.ensures.only_read.keeps
+    ] in
+    kept c.args.self.now.current whole
+
+pub returns-in-Some-clause-whole : goal.returns-in-Some-clause-whole
+returns-in-Some-clause-whole g c = if_some (g.D.Disk.seen c.args.self.now.zero.disk) (λ _. IfSome (g.D.Disk.seen c.args.self.now.one.disk) (λ _. IsCurrent g.D.Disk.seen g.D.Disk.may_leave c.take.new.self.head c.take.new.self.current (of_half c.take.new.self.current c.take.new.self.zero c.take.new.self.one) (of_half (other c.take.new.self.current) c.take.new.self.zero c.take.new.self.one) c.take.result)) (λ first is_first. if_some (g.D.Disk.seen c.args.self.now.one.disk) (λ _. IsCurrent g.D.Disk.seen g.D.Disk.may_leave c.take.new.self.head c.take.new.self.current (of_half c.take.new.self.current c.take.new.self.zero c.take.new.self.one) (of_half (other c.take.new.self.current) c.take.new.self.zero c.take.new.self.one) c.take.result) (λ second is_second.
+    let zero_read : IsRead c.args.self.now.head Zero first (g.D.Disk.may_leave c.read_half.new.log.disk) c.in_ok-zero.zero = record {
+      some = told _ first _ is_first c.in_ok-zero.ensures.some;
+      listed = c.in_ok-zero.ensures.listed;
+      durable = told _ first _ is_first c.in_ok-zero.ensures.durable;
+      only = told _ first _ is_first c.in_ok-zero.ensures.only_records;
+      none = told _ first _ is_first c.in_ok-zero.ensures.none;
+    } in
+    let one_read : IsRead c.args.self.now.head One second (g.D.Disk.may_leave c.read_half-2.new.log.disk) c.in_ok-one.one = record {
+      some = told _ second _ is_second c.in_ok-one.ensures.some;
+      listed = c.in_ok-one.ensures.listed;
+      durable = told _ second _ is_second c.in_ok-one.ensures.durable;
+      only = told _ second _ is_second c.in_ok-one.ensures.only_records;
+      none = told _ second _ is_second c.in_ok-one.ensures.none;
+    } in
+    let read : (h : Half) → IsRead c.args.self.now.head h (of_half h first second) (g.D.Disk.may_leave (of_half h c.read_half.new.log c.read_half-2.new.log).disk) (of_half h c.in_ok-zero.zero c.in_ok-one.one) = λ h. elim h as (λ (k : Half). IsRead c.args.self.now.head k (of_half k first second) (g.D.Disk.may_leave (of_half k c.read_half.new.log c.read_half-2.new.log).disk) (of_half k c.in_ok-zero.zero c.in_ok-one.one)) [ Zero ↦ zero_read | One ↦ one_read ] in
+    let zero_here = subst (λ d. IsRead c.args.self.now.head Zero first (g.D.Disk.may_leave d) c.in_ok-zero.zero) (sym c.take.ensures.zero) zero_read in
+    let one_here = subst (λ d. IsRead c.args.self.now.head One second (g.D.Disk.may_leave d) c.in_ok-one.one) (sym c.take.ensures.one) one_read in
+    let zero_seen : g.D.Disk.seen c.take.new.self.zero.disk ≡ Some first = ap g.D.Disk.seen c.take.ensures.zero ∙ c.read_half.ensures.only_read.same ∙ is_first in
+    let one_seen : g.D.Disk.seen c.take.new.self.one.disk ≡ Some second = ap g.D.Disk.seen c.take.ensures.one ∙ c.read_half-2.ensures.only_read.same ∙ is_second in
+    let build : (k : Half) → of_half k c.in_ok-zero.zero c.in_ok-one.one ≡ Some c.in-Some.found → IfSome (of_half (other k) c.in_ok-zero.zero c.in_ok-one.one) (λ (spare : Found). IsBehind (other k) spare.generation c.in-Some.found.generation) → (of_half k c.take.new.self.zero c.take.new.self.one).head ≡ c.in-Some.found.opened.head → (of_half k c.take.new.self.zero c.take.new.self.one).used ≡ c.in-Some.found.opened.used → IsCurrent g.D.Disk.seen g.D.Disk.may_leave c.args.self.now.head k (of_half k c.take.new.self.zero c.take.new.self.one) (of_half (other k) c.take.new.self.zero c.take.new.self.one) c.in-Some.found.opened.records = λ h. elim h as (λ (k : Half). of_half k c.in_ok-zero.zero c.in_ok-one.one ≡ Some c.in-Some.found → IfSome (of_half (other k) c.in_ok-zero.zero c.in_ok-one.one) (λ (spare : Found). IsBehind (other k) spare.generation c.in-Some.found.generation) → (of_half k c.take.new.self.zero c.take.new.self.one).head ≡ c.in-Some.found.opened.head → (of_half k c.take.new.self.zero c.take.new.self.one).used ≡ c.in-Some.found.opened.used → IsCurrent g.D.Disk.seen g.D.Disk.may_leave c.args.self.now.head k (of_half k c.take.new.self.zero c.take.new.self.one) (of_half (other k) c.take.new.self.zero c.take.new.self.one) c.in-Some.found.opened.records) [
+      | Zero ↦ λ is behind head_is used_is. loaded g.D.Disk.seen g.D.Disk.may_leave c.args.self.now.head Zero first second c.in_ok-zero.zero c.in_ok-one.one c.in-Some.found c.take.new.self.zero c.take.new.self.one is zero_here one_here behind zero_seen one_seen head_is used_is
+      | One ↦ λ is behind head_is used_is. loaded g.D.Disk.seen g.D.Disk.may_leave c.args.self.now.head One second first c.in_ok-one.one c.in_ok-zero.zero c.in-Some.found c.take.new.self.one c.take.new.self.zero is one_here zero_here behind one_seen zero_seen head_is used_is
+    ] in
+    let built = build c.in-Some.half c.in-Some.ensures.some.0 c.in-Some.ensures.some.1 c.take.ensures.log_head c.take.ensures.log_used in
+    subst (λ (l : List Raw). IsCurrent g.D.Disk.seen g.D.Disk.may_leave c.take.new.self.head c.take.new.self.current (of_half c.take.new.self.current c.take.new.self.zero c.take.new.self.one) (of_half (other c.take.new.self.current) c.take.new.self.zero c.take.new.self.one) l) (sym c.take.ensures.records)
+    (subst (λ (k : Half). IsCurrent g.D.Disk.seen g.D.Disk.may_leave c.take.new.self.head k (of_half k c.take.new.self.zero c.take.new.self.one) (of_half (other k) c.take.new.self.zero c.take.new.self.one) c.in-Some.found.opened.records) (sym c.take.ensures.current)
+    (subst (λ (h : List ℕ). IsCurrent g.D.Disk.seen g.D.Disk.may_leave h c.in-Some.half (of_half c.in-Some.half c.take.new.self.zero c.take.new.self.one) (of_half (other c.in-Some.half) c.take.new.self.zero c.take.new.self.one) c.in-Some.found.opened.records) (sym c.take.ensures.head) built))))

@@ -1,0 +1,4 @@
+pub mod Halves
+pub mod Recovery
+pub mod Current
+pub mod Pairs

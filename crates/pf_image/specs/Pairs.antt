@@ -1,0 +1,41 @@
+-- What a pair promises of its disks.
+use Rattle.std.specs.Prelude.{ℕ, ◌≡◌, ◌⊎◌, true, List, Option, is_some, slice_index}
+use Rattle.pf_disk.specs.Crashes.{Images}
+use Rattle.pf_chunklog.specs.Records.{Raw}
+use Rattle.pf_chunklog.specs.declared.log.ChunkLog.{ChunkLog}
+use Rattle.pf_image.specs.Halves.{of_half, other}
+use Rattle.pf_image.specs.Current.{IsCurrent}
+use Rattle.pf_image.specs.Recovery.{Finds}
+use Rattle.pf_image.specs.declared.pair.Pair.{Pair}
+
+-- the log of the current half, and that of the other
+abbrev pub current_of : {D : Type 0} → Pair D → ChunkLog D
+current_of pair = of_half pair.current pair.zero pair.one
+
+abbrev pub spare_of : {D : Type 0} → Pair D → ChunkLog D
+spare_of pair = of_half (other pair.current) pair.zero pair.one
+
+-- the format of the current half
+abbrev pub format_of : {D : Type 0} → Pair D → ℕ
+format_of pair = slice_index (current_of pair).head 4
+
+-- The pair has these records: a restart finds them after each crash, and more can be appended.
+abbrev pub IsWhole : {D : Type 0} → (D → Option (List ℕ)) → (D → Images) → Pair D → List Raw → Type 0
+IsWhole seen may_leave pair records = IsCurrent seen may_leave pair.head pair.current (current_of pair) (spare_of pair) records
+
+-- both disks tell their content
+abbrev pub Tells : {D : Type 0} → (D → Option (List ℕ)) → Pair D → Type 0
+Tells seen pair = (is_some (seen pair.zero.disk) ≡ true) × (is_some (seen pair.one.disk) ≡ true)
+
+-- in whatever two files a crash leaves a restart finds the records before, or those after
+abbrev pub Leaves : List ℕ → (zero one : Images) → (before after : List Raw) → Type 0
+Leaves head zero one before after = (a b : List ℕ) → zero a → one b → Finds head a b before ⊎ Finds head a b after
+
+-- a crash now leaves one of the two
+abbrev pub IsInDoubt : {D : Type 0} → (D → Images) → Pair D → (before after : List Raw) → Type 0
+IsInDoubt may_leave pair before after = Leaves pair.head (may_leave pair.zero.disk) (may_leave pair.one.disk) before after
+
+-- and so did a crash at any moment since old
+abbrev pub WasInDoubt : {D : Type 0} → (D → ℕ) → (D → ℕ → Images) → (old new : Pair D) → (before after : List Raw) → Type 0
+WasInDoubt moment left_since old new before after =
+    Leaves old.head (left_since new.zero.disk (moment old.zero.disk)) (left_since new.one.disk (moment old.one.disk)) before after

@@ -1,0 +1,284 @@
+//! A pair of halves: one is current and takes the records, and the next image begins the other.
+ghost use Rattle.std.specs.Prelude.{◌≡◌, ◌⊎◌, ◌+◌, ◌≤◌, ◌<◌, ◌↔◌, ◌++◌, [], ◌∷◌, List, ℕ, true, IfErr, IfOk, IfSome, IsErrOf, IsTrue, OnErr, OnOk, Some, length, nat_le, is_some, slice_index};
+ghost use Rattle.pf_disk.specs.Causes.{HasCause, Rose};
+ghost use Rattle.pf_disk.specs.Crashes.{Only};
+ghost use Rattle.pf_chunklog.specs.Records.{Holds, Raw, body_of};
+ghost use Rattle.pf_chunklog.specs.Logs.{IsAtRest, IsCleared, IsOnlyRead, LeavesOnly};
+ghost use Rattle.pf_image.specs.Halves.{half_head, of_half, other};
+ghost use Rattle.pf_image.specs.Current.{IsBegun, IsReady};
+ghost use Rattle.pf_image.specs.Recovery.{AreRecoverable, Finds, IsChange, IsFormat, IsNext, IsRecoverable};
+
+use crate::Half;
+use crate::recovery::{Found, newer, read_half};
+use pf_chunklog::{AppendFault, ChunkLog, DiskFault, OpenFault, RawRecords};
+use pf_disk::{Disk, Failed};
+use std::alloc::Global;
+
+/// The two halves of a server's chunk log, over two disks that nobody else writes.
+#[derive(Drop)]
+pub struct Pair<D: Disk> {
+    pub(crate) zero: ChunkLog<D>,
+    pub(crate) one: ChunkLog<D>,
+    pub(crate) current: Half,
+    pub(crate) head: [u8; 7],
+}
+
+/// Cuts a file to 0 bytes and syncs it.
+fn empty<D: Disk>(disk: &mut D) -> Result<(), Failed>
+    ensures empty { IfSome (D.seen disk.old) (λ _. OnOk result (Only [] (D.may_leave disk.new))) }
+    ensures told { is_some (D.seen disk.new) ≡ is_some (D.seen disk.old) }
+    ensures cause { HasCause (D.faults disk.old) (D.faults disk.new) result }
+{
+    disk.cut(0)?;
+    disk.sync()
+}
+
+/// Makes a log of this one record.
+fn begin<D: Disk>(log: &mut ChunkLog<D>, head: [u8; 8], body: &[u8]) -> Result<(), DiskFault>
+    requires body { (raw : Raw) × (body.now ≡ body_of raw) }
+    requires fits { 9 + length body.now ≤ 67108864 }
+    ensures begun { (raw : Raw) → body.now ≡ body_of raw → IfSome (D.seen log.old.disk) (λ _. OnOk result (IfSome (D.seen log.new.disk) (IsAtRest head log.new.used (D.may_leave log.new.disk) (raw ∷ [])))) }
+    ensures length { IfSome (D.seen log.old.disk) (λ _. OnOk result (IfSome (D.seen log.new.disk) (λ file. length file ≡ 9 + length body.now))) }
+    ensures may_leave { (raw : Raw) → body.now ≡ body_of raw → IfSome (D.seen log.old.disk) (λ _. (c : List ℕ) → D.may_leave log.new.disk c → IsBegun (D.may_leave log.old.disk) head raw c) }
+    ensures any_moment { IsTrue D.tells_moments → (raw : Raw) → body.now ≡ body_of raw → IfSome (D.seen log.old.disk) (λ _. LeavesOnly D.moment D.left_since log.old.disk log.new.disk (IsBegun (D.may_leave log.old.disk) head raw)) }
+    ensures told { is_some (D.seen log.new.disk) ≡ is_some (D.seen log.old.disk) }
+    ensures head { OnOk result (log.new.head ≡ head) }
+    ensures later { D.faults log.old.disk ≤ D.faults log.new.disk }
+    ensures failed { OnErr result (Rose (D.faults log.old.disk) (D.faults log.new.disk)) }
+{
+    log.clear(head)?;
+    match log.append(body) {
+        Ok(()) => Ok(()),
+        Err(_) => Err(DiskFault),
+    }
+}
+
+impl<D: Disk> Pair<D> {
+    ghost use Rattle.pf_image.specs.Pairs.{IsInDoubt, IsWhole, Tells, WasInDoubt, current_of, format_of};
+
+    /// Whether the used bytes of the current half and so many more are within the limit of 67,108,864 bytes.
+    pub fn has_room(&self, len: u64) -> bool
+        ensures { result ≡ nat_le ((current_of self.now).used + len) 67108864 }
+    {
+        match self.current {
+            Half::Zero => self.zero.has_room(len),
+            Half::One => self.one.has_room(len),
+        }
+    }
+
+    /// The format of the current half, 1 or 2.
+    pub fn format(&self) -> u8
+        ensures { result ≡ format_of self.now }
+    {
+        match self.current {
+            Half::Zero => self.zero.head[4],
+            Half::One => self.one.head[4],
+        }
+    }
+
+    /// Gives the disks back, that of half 0 first.
+    pub fn into_disks(self) -> (D, D)
+        ensures zero { result.0 ≡ self.zero.disk }
+        ensures one { result.1 ≡ self.one.disk }
+    {
+        (self.zero.into_disk(), self.one.into_disk())
+    }
+
+    /// Appends a change to the current half, in its format: the body of a Term, Entry or Merged record. At `Ok` it is
+    /// acknowledged: from then on a restart finds it after each crash. It takes no memory.
+    ///
+    /// `LogFull` (41) exactly where the used bytes of the current half and the body's are more than 67,108,864, and nothing is
+    /// done; `DiskFault` (40) only where one of the disks has failed in this call, and then the pair is to be reloaded.
+    pub fn append(&mut self, body: &[u8]) -> Result<(), AppendFault>
+        requires ready { IsReady D.seen D.may_leave (current_of self.old) }
+        requires body { (raw : Raw) × (body.now ≡ body_of raw) }
+        ensures acknowledged { (raw : Raw) (records : List Raw) → body.now ≡ body_of raw → IsChange (format_of self.old) raw → IsWhole D.seen D.may_leave self.old records
+            → OnOk result (IsWhole D.seen D.may_leave self.new (records ++ raw ∷ [])) }
+        // A crash leaves the records from before the call, with the new one or without, also inside the call.
+        ensures doubt { (raw : Raw) (records : List Raw) → body.now ≡ body_of raw → IsChange (format_of self.old) raw → IsWhole D.seen D.may_leave self.old records
+            → IsInDoubt D.may_leave self.new records (records ++ raw ∷ []) }
+        ensures any_moment { IsTrue D.tells_moments → (raw : Raw) (records : List Raw) → body.now ≡ body_of raw → IsChange (format_of self.old) raw → IsWhole D.seen D.may_leave self.old records
+            → WasInDoubt D.moment D.left_since self.old self.new records (records ++ raw ∷ []) }
+        ensures full { IsErrOf result AppendFault.LogFull ↔ (67108864 < (current_of self.old).used + length body.now) }
+        ensures full_unchanged { IsErrOf result AppendFault.LogFull → self.new ≡ self.old }
+        ensures failed { IsErrOf result AppendFault.DiskFault → Rose (D.faults self.old.zero.disk) (D.faults self.new.zero.disk) ⊎ Rose (D.faults self.old.one.disk) (D.faults self.new.one.disk) }
+        ensures head { self.new.head ≡ self.old.head }
+        ensures format { format_of self.new ≡ format_of self.old }
+        ensures told { Tells D.seen self.old → Tells D.seen self.new }
+    {
+        match self.current {
+            Half::Zero => self.zero.append(body),
+            Half::One => self.one.append(body),
+        }
+    }
+
+    /// Begins the other half with an image, in format 2: it is current once this has answered Ok. It takes no memory. A crash
+    /// at any moment of the call leaves the records of the old half, or the new image alone.
+    ///
+    /// `DiskFault` (40) only where one of the disks has failed in this call, and then the pair is to be reloaded.
+    pub fn save(&mut self, body: &[u8]) -> Result<(), DiskFault>
+        requires body { (raw : Raw) × (body.now ≡ body_of raw) }
+        requires fits { 9 + length body.now ≤ 67108864 }
+        ensures saved { (raw : Raw) (records : List Raw) → body.now ≡ body_of raw → IsNext records raw → IsWhole D.seen D.may_leave self.old records
+            → OnOk result (IsWhole D.seen D.may_leave self.new (raw ∷ [])) }
+        ensures doubt { (raw : Raw) (records : List Raw) → body.now ≡ body_of raw → IsNext records raw → IsWhole D.seen D.may_leave self.old records
+            → IsInDoubt D.may_leave self.new records (raw ∷ []) }
+        ensures any_moment { IsTrue D.tells_moments → (raw : Raw) (records : List Raw) → body.now ≡ body_of raw → IsNext records raw → IsWhole D.seen D.may_leave self.old records
+            → WasInDoubt D.moment D.left_since self.old self.new records (raw ∷ []) }
+        ensures failed { OnErr result (Rose (D.faults self.old.zero.disk) (D.faults self.new.zero.disk) ⊎ Rose (D.faults self.old.one.disk) (D.faults self.new.one.disk)) }
+        ensures head { self.new.head ≡ self.old.head }
+        ensures format { OnOk result (format_of self.new ≡ 2) }
+        ensures told { Tells D.seen self.old → Tells D.seen self.new }
+    {
+        match self.current {
+            Half::Zero => {
+                let head = Half::One.head(&self.head, 2);
+                begin(&mut self.one, head, body)?;
+                self.current = Half::One;
+                Ok(())
+            }
+            Half::One => {
+                let head = Half::Zero.head(&self.head, 2);
+                begin(&mut self.zero, head, body)?;
+                self.current = Half::Zero;
+                Ok(())
+            }
+        }
+    }
+
+    /// Makes a pair of two disks, whatever they held: cuts half 1 to 0 bytes and syncs it, formats half 0 in the format of the
+    /// head, and appends the first record, the body of an Image record of generation 0 in that format. Once it has
+    /// answered Ok, every crash before the next `append` or `save` leaves this record alone in half 0, and half 1 empty.
+    ///
+    /// `DiskFault` (40) only where one of the disks has failed in this call.
+    pub fn new(a: D, b: D, head: [u8; 7], first: &[u8]) -> Result<Pair<D>, (D, D, DiskFault)>
+        requires body { (raw : Raw) × (first.now ≡ body_of raw) }
+        requires fits { 9 + length first.now ≤ 67108864 }
+        ensures made { (raw : Raw) → first.now ≡ body_of raw → IsFormat (slice_index head 4) → AreRecoverable (slice_index head 4) (raw ∷ []) → IfSome (D.seen a) (λ _. IfSome (D.seen b) (λ _.
+            IfOk result (λ pair. IsWhole D.seen D.may_leave pair (raw ∷ [])))) }
+        ensures alone { (raw : Raw) → first.now ≡ body_of raw → IfSome (D.seen a) (λ _. IfOk result (λ pair. (c : List ℕ) → D.may_leave pair.zero.disk c
+            → Holds (half_head head (slice_index head 4) Half.Zero) (raw ∷ []) c × (length c ≡ 9 + length first.now))) }
+        ensures empty { IfSome (D.seen b) (λ _. IfOk result (λ pair. Only [] (D.may_leave pair.one.disk))) }
+        ensures head { IfOk result (λ pair. pair.head ≡ head) }
+        ensures failed { IfErr result (λ given. Rose (D.faults a) (D.faults given.0) ⊎ Rose (D.faults b) (D.faults given.1)) }
+    {
+        let zero = Half::Zero.head(&head, head[4]);
+        let mut pair = Pair::unread(a, b, head);
+        match pair.make(zero, first) {
+            Ok(()) => Ok(pair),
+            Err(fault) => {
+                let (a, b) = pair.into_disks();
+                Err((a, b, fault))
+            }
+        }
+    }
+
+    /// Opens the pair of two disks and hands out the records of the recoverable half that has the greater generation, half 0
+    /// where they are equal. A half may have either format, whatever that of the head is. It syncs each disk before it reads
+    /// it, so every later crash leaves what is handed out. The memory that it takes is in proportion to the two files.
+    ///
+    /// `NoMemory` (1); `DiskFault` (40) only where one of the disks has failed in this call; `NotOurs` (42) exactly where neither
+    /// half is recoverable.
+    pub fn load(
+        alloc: Global,
+        a: D,
+        b: D,
+        head: [u8; 7],
+    ) -> Result<(Pair<D>, RawRecords), (D, D, OpenFault)>
+        ensures found { IfSome (D.seen a) (λ zero. IfSome (D.seen b) (λ one. IfOk result (λ loaded. Finds head zero one loaded.1))) }
+        ensures whole { IfSome (D.seen a) (λ _. IfSome (D.seen b) (λ _. IfOk result (λ loaded. IsWhole D.seen D.may_leave loaded.0 loaded.1))) }
+        ensures only_records { IfSome (D.seen a) (λ zero. IfSome (D.seen b) (λ one. IfOk result (λ loaded. (others : List Raw) → Finds head zero one others → others ≡ loaded.1))) }
+        ensures not_ours { IfSome (D.seen a) (λ zero. IfSome (D.seen b) (λ one. IfErr result (λ given. given.2 ≡ OpenFault.NotOurs
+            → (half : Half) (records : List Raw) → IsRecoverable head half (of_half half zero one) records → ⊥))) }
+        ensures head { IfOk result (λ loaded. loaded.0.head ≡ head) }
+        ensures only_read { IfOk result (λ loaded. IsOnlyRead D.seen D.may_leave a loaded.0.zero.disk × IsOnlyRead D.seen D.may_leave b loaded.0.one.disk) }
+        ensures only_read_err { IfErr result (λ given. IsOnlyRead D.seen D.may_leave a given.0 × IsOnlyRead D.seen D.may_leave b given.1) }
+        ensures failed { IfErr result (λ given. given.2 ≡ OpenFault.DiskFault → Rose (D.faults a) (D.faults given.0) ⊎ Rose (D.faults b) (D.faults given.1)) }
+    {
+        let mut pair = Pair::unread(a, b, head);
+        match pair.reload(alloc) {
+            Ok(records) => Ok((pair, records)),
+            Err(fault) => {
+                let (a, b) = pair.into_disks();
+                Err((a, b, fault))
+            }
+        }
+    }
+
+    /// `load` over the pair's own two disks, also after a `DiskFault`. On an `Err` the pair is as it was: the disks read the same.
+    pub fn reload(&mut self, alloc: Global) -> Result<RawRecords, OpenFault>
+        ensures found { IfSome (D.seen self.old.zero.disk) (λ zero. IfSome (D.seen self.old.one.disk) (λ one. IfOk result (Finds self.old.head zero one))) }
+        ensures whole { IfSome (D.seen self.old.zero.disk) (λ _. IfSome (D.seen self.old.one.disk) (λ _. IfOk result (IsWhole D.seen D.may_leave self.new))) }
+        ensures only_records { IfSome (D.seen self.old.zero.disk) (λ zero. IfSome (D.seen self.old.one.disk) (λ one. IfOk result (λ records. (others : List Raw) → Finds self.old.head zero one others → others ≡ records))) }
+        // What was in doubt is settled.
+        ensures settled { (before after : List Raw) → IsInDoubt D.may_leave self.old before after → Tells D.seen self.old → IfOk result (λ records. (records ≡ before) ⊎ (records ≡ after)) }
+        ensures not_ours { IfSome (D.seen self.old.zero.disk) (λ zero. IfSome (D.seen self.old.one.disk) (λ one. IsErrOf result OpenFault.NotOurs
+            → (half : Half) (records : List Raw) → IsRecoverable self.old.head half (of_half half zero one) records → ⊥)) }
+        ensures err { OnErr result ((records : List Raw) → IsWhole D.seen D.may_leave self.old records → IsWhole D.seen D.may_leave self.new records) }
+        ensures head { self.new.head ≡ self.old.head }
+        ensures zero { IsOnlyRead D.seen D.may_leave self.old.zero.disk self.new.zero.disk }
+        ensures one { IsOnlyRead D.seen D.may_leave self.old.one.disk self.new.one.disk }
+        ensures any_moment { IsTrue D.tells_moments → LeavesOnly D.moment D.left_since self.old.zero.disk self.new.zero.disk (D.may_leave self.old.zero.disk)
+            × LeavesOnly D.moment D.left_since self.old.one.disk self.new.one.disk (D.may_leave self.old.one.disk) }
+        ensures failed { IsErrOf result OpenFault.DiskFault → Rose (D.faults self.old.zero.disk) (D.faults self.new.zero.disk) ⊎ Rose (D.faults self.old.one.disk) (D.faults self.new.one.disk) }
+    {
+        let zero = read_half(alloc, &mut self.zero, &self.head, Half::Zero)?;
+        let one = read_half(alloc, &mut self.one, &self.head, Half::One)?;
+        match newer(zero, one) {
+            Some((half, found)) => Ok(self.take(half, found)),
+            None => Err(OpenFault::NotOurs),
+        }
+    }
+
+    /// A pair of two disks that are not read or written yet.
+    fn unread(a: D, b: D, head: [u8; 7]) -> Pair<D>
+        ensures zero { result.zero.disk ≡ a }
+        ensures one { result.one.disk ≡ b }
+        ensures head { result.head ≡ head }
+        ensures current { result.current ≡ Half.Zero }
+    {
+        Pair {
+            zero: ChunkLog::new(a, [0; 8]),
+            one: ChunkLog::new(b, [0; 8]),
+            current: Half::Zero,
+            head,
+        }
+    }
+
+    /// Empties half 1, and begins half 0 with the first record.
+    fn make(&mut self, head: [u8; 8], first: &[u8]) -> Result<(), DiskFault>
+        requires body { (raw : Raw) × (first.now ≡ body_of raw) }
+        requires fits { 9 + length first.now ≤ 67108864 }
+        ensures begun { (raw : Raw) → first.now ≡ body_of raw → IfSome (D.seen self.old.zero.disk) (λ _. OnOk result (IfSome (D.seen self.new.zero.disk) (IsAtRest head self.new.zero.used (D.may_leave self.new.zero.disk) (raw ∷ [])))) }
+        ensures length { IfSome (D.seen self.old.zero.disk) (λ _. OnOk result (IfSome (D.seen self.new.zero.disk) (λ file. length file ≡ 9 + length first.now))) }
+        ensures empty { IfSome (D.seen self.old.one.disk) (λ _. OnOk result (Only [] (D.may_leave self.new.one.disk))) }
+        ensures told_zero { is_some (D.seen self.new.zero.disk) ≡ is_some (D.seen self.old.zero.disk) }
+        ensures told_one { is_some (D.seen self.new.one.disk) ≡ is_some (D.seen self.old.one.disk) }
+        ensures log { OnOk result (self.new.zero.head ≡ head) }
+        ensures current { self.new.current ≡ self.old.current }
+        ensures head { self.new.head ≡ self.old.head }
+        ensures failed { OnErr result (Rose (D.faults self.old.zero.disk) (D.faults self.new.zero.disk) ⊎ Rose (D.faults self.old.one.disk) (D.faults self.new.one.disk)) }
+    {
+        match empty(&mut self.one.disk) {
+            Ok(()) => begin(&mut self.zero, head, first),
+            Err(_) => Err(DiskFault),
+        }
+    }
+
+    /// Goes on from what was found in a half, which is current from now on, and hands out its records.
+    fn take(&mut self, half: Half, found: Found) -> RawRecords
+        ensures records { result ≡ found.opened.records }
+        ensures current { self.new.current ≡ half }
+        ensures head { self.new.head ≡ self.old.head }
+        ensures log_head { (of_half half self.new.zero self.new.one).head ≡ found.opened.head }
+        ensures log_used { (of_half half self.new.zero self.new.one).used ≡ found.opened.used }
+        ensures zero { self.new.zero.disk ≡ self.old.zero.disk }
+        ensures one { self.new.one.disk ≡ self.old.one.disk }
+    {
+        self.current = half;
+        match half {
+            Half::Zero => self.zero.resume(found.opened),
+            Half::One => self.one.resume(found.opened),
+        }
+    }
+}
