@@ -1,0 +1,6 @@
+pub mod Ending
+pub mod Storing
+pub mod Electing
+pub mod Looks
+pub mod Submitting
+pub mod Proposing

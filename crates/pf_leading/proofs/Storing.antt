@@ -1,0 +1,28 @@
+-- What is told of a record that is added.
+use Rattle.std.proofs.Common.{◌≡◌, ℕ, ◌+◌, ◌<◌, ◌≤◌, ◌^◌, Bool, true, false, cond, ◌==◌, Result, Err, arith, sym, ap, subst, ◌∙◌}
+use Rattle.pf_entry.specs.Sizes.{payload_size}
+use Rattle.pf_entry.specs.Canonical.{IsCanonicalRecord, IsCanonicalFor, first_format, second_format}
+use Rattle.pf_entry.specs.declared.records.Record.{Record}
+use Rattle.pf_entry.specs.Records.{Durable}
+use Rattle.pf_spelling.proofs.BodyLaws.{format_more}
+use Rattle.pf_state.specs.declared.faults.StepFault.{StepFault}
+use Rattle.pf_state.specs.declared.faults.StepFault.TheVariants.{Halted}
+use Rattle.pf_leading.specs.Storing.{IsInDoubt, Stores}
+
+-- what has a spelling in either format has one in the second
+by_format : (first : Bool) (r : Record) → IsCanonicalFor (cond first first_format second_format) r → payload_size r < 2 ^ 32 → IsCanonicalRecord 2 r
+by_format true r fields short = format_more r (record { fields = fields; short = short })
+by_format false r fields short = record { fields = fields; short = short }
+
+pub in_second : (format : ℕ) (r : Record) → IsCanonicalRecord format r → IsCanonicalRecord 2 r
+in_second format r c = by_format (format == 1) r c.fields c.short
+
+pub past : (used there len size : ℕ) → (used + len ≤ 67108864 → ⊥) → used ≡ there → len ≡ size → 67108864 < there + size
+past used there len size beyond is same = omega (arith, beyond)
+
+pub up_to : (used there len size : ℕ) → used + len ≤ 67108864 → used ≡ there → len ≡ size → there + size ≤ 67108864
+up_to used there len size fits is same = omega arith
+
+pub is_in_doubt : {S X : Type 0} (holds : S → Durable → Durable → Type 0) (used format : S → ℕ) (told : S → Bool) (rose : S → S → Type 0) (d : Durable) (r : Record) (store store' : S) (q : Result X StepFault)
+    → (e : StepFault) × (q ≡ Err e) × (e ≡ Halted) → IsInDoubt holds used format told rose d r store store' → Stores holds used format told rose d r store store' q
+is_in_doubt holds used format told rose d r store store' q (e, is, halted) doubt = subst (Stores holds used format told rose d r store store') (sym (is ∙ ap Err halted)) doubt

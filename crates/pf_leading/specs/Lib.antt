@@ -1,0 +1,3 @@
+pub mod Electing
+pub mod Storing
+pub mod Submitting

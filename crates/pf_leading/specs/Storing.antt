@@ -1,0 +1,36 @@
+-- What comes of adding a record.
+use Rattle.std.specs.Prelude.{◌≡◌, ℕ, ◌+◌, ◌<◌, ◌≤◌, Bool, Result, Ok, Err}
+use Rattle.pf_entry.specs.Records.{Durable, stored}
+use Rattle.pf_entry.specs.Sizes.{body_size}
+use Rattle.pf_entry.specs.declared.records.Record.{Record}
+use Rattle.pf_protocol.specs.declared.answers.Refusal.{Refusal}
+use Rattle.pf_protocol.specs.declared.answers.Refusal.TheVariants.{LogFull}
+use Rattle.pf_state.specs.declared.faults.StepFault.{StepFault}
+use Rattle.pf_state.specs.declared.faults.StepFault.TheVariants.{NoMemory, Refused, Halted}
+
+module _ {S : Type 0} (holds : S → Durable → Durable → Type 0) (used format : S → ℕ) (told : S → Bool) (rose : S → S → Type 0) (d : Durable) (r : Record) (store store' : S) where
+  pub record IsStored : Type 0 where
+    pub fits : d.used + body_size r ≤ 67108864
+    pub recorded : holds store' (stored d r) (stored d r)
+    pub used_is : used store' ≡ d.used + body_size r
+    pub format_same : format store' ≡ format store
+    pub told_same : told store' ≡ told store
+
+  pub record IsFull (refusal : Refusal) : Type 0 where
+    pub is : refusal ≡ LogFull
+    pub beyond : 67108864 < d.used + body_size r
+    pub same : store' ≡ store
+
+  -- a disk failed: a restart finds the state without the record, or with it
+  pub record IsInDoubt : Type 0 where
+    pub fits : d.used + body_size r ≤ 67108864
+    pub either : holds store' d (stored d r)
+    pub told_same : told store' ≡ told store
+    pub cause : rose store store'
+
+  -- the record is stored, or there is a reason why it is not
+  abbrev pub Stores : {X : Type 0} → Result X StepFault → Type 0
+  Stores (Ok x) = IsStored
+  Stores (Err NoMemory) = store' ≡ store
+  Stores (Err (Refused refusal)) = IsFull refusal
+  Stores (Err Halted) = IsInDoubt

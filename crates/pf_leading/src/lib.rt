@@ -1,0 +1,14 @@
+//! The rows of candidates and leaders: what a running server does with a submission, with the call of an election, and with an
+//! acknowledgement.
+//!
+//! The rules are the definitions of pf_protocol. Each row carries out its rule over a store, and ends in one of four ways: it is
+//! done, refused, out of memory, or cut off by a disk.
+#![tactic(auto)]
+
+mod adding;
+mod elections;
+mod plans;
+mod submits;
+
+pub use elections::elect;
+pub use submits::submit;
