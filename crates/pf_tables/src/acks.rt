@@ -45,6 +45,13 @@ impl Acks {
         }
     }
 
+    /// The slot before the first of them.
+    pub fn base(&self) -> Slot
+        ensures { result ≡ self.now.base }
+    {
+        self.base
+    }
+
     /// Takes memory for `more` slots more, where there is not room for them. The rest is the same afterwards, whatever it
     /// answers: `NoMemory` (1) comes only where there is not room.
     pub fn reserve(&mut self, more: usize) -> Result<(), NoMemory>
