@@ -1,0 +1,33 @@
+-- Jobs that come back.
+use Rattle.std.specs.Prelude.{◌≡◌, ℕ, List, length, Option, Some, true}
+use Rattle.std.specs.FinMap
+use Rattle.pf_base.specs.Span.{fits_in, IsWritable}
+use Rattle.pf_base.specs.declared.filled.Filled.{Filled}
+use Rattle.pf_entry.specs.Ops.{Sector}
+use Rattle.pf_entry.specs.declared.ops.Op.{Op}
+use Rattle.pf_entry.specs.declared.ops.Op.TheVariants.{Write, Noop, Mark}
+use Rattle.pf_state.specs.declared.running.Running.{Running}
+
+-- a write comes back with its sectors
+abbrev pub IsFilledFor : Op → Filled → Type 0
+IsFilledFor (Write range payload) filled = filled.sectors ≡ payload
+IsFilledFor Noop filled = Unit {0}
+IsFilledFor Mark filled = Unit {0}
+
+-- the op of the job is in hand
+pub record IsJobOf (me : Running) (filled : Filled) : Type 0 where
+  pub op : Op
+  pub held : FinMap.get me.in_hand filled.slot ≡ Some op
+  pub brought : IsFilledFor op filled
+
+-- a write lies in a chunk of so many sectors
+abbrev pub IsInside : ℕ → Op → Type 0
+IsInside chunk (Write range payload) = IsWritable range.first range.count × (length payload ≡ range.count) × (fits_in range chunk ≡ true)
+IsInside chunk Noop = Unit {0}
+IsInside chunk Mark = Unit {0}
+
+-- there is memory for the snapshot of a mark
+abbrev pub HasRoomFor : Op → Option (List Sector) → ℕ → Type 0
+HasRoomFor Mark room chunk = (sectors : List Sector) × (room ≡ Some sectors) × (length sectors ≡ chunk)
+HasRoomFor Noop room chunk = Unit {0}
+HasRoomFor (Write range payload) room chunk = Unit {0}

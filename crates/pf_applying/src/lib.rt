@@ -1,0 +1,9 @@
+//! Applying what is committed: jobs are claimed, finished and given back.
+//!
+//! The rules are the definitions of pf_protocol. None of these steps sends or stores anything; what a job's end needs of memory
+//! is taken as it is claimed.
+#![tactic(auto)]
+
+mod jobs;
+
+pub use jobs::{finish, give_back};
