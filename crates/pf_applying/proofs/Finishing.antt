@@ -1,5 +1,5 @@
 -- Jobs that end.
-use Rattle.std.proofs.Common.{◌≡◌, ℕ, ◌+◌, ◌-◌, ◌<◌, ◌≤◌, ◌≢◌, Bool, true, false, ◌&&◌, ◌||◌, List, [], length, Option, Some, None, is_some, nat_lt, arith, refl, sym, ap, subst, ◌∙◌}
+use Rattle.std.proofs.Common.{◌≡◌, ℕ, ◌+◌, ◌-◌, ◌<◌, ◌≤◌, ◌≢◌, Bool, true, false, ◌&&◌, ◌||◌, List, [], length, Option, Some, None, Result, Ok, Err, OnErr, is_some, nat_lt, arith, refl, sym, ap, subst, ◌∙◌}
 use Rattle.std.proofs.lemmas.Bool.{cond-true, cond-false, eq-eqb, false≢true, ne_eqb}
 use Rattle.std.proofs.lemmas.Option.{same_Some, none-some}
 use Rattle.std.specs.Option.{MatchOption}
@@ -55,7 +55,7 @@ or_true : (b : Bool) → (b || true) ≡ true
 or_true true = refl
 or_true false = refl
 
-there : {X : Type 0} (o : Option X) → is_some o ≡ true → (x : X) × (o ≡ Some x)
+pub there : {X : Type 0} (o : Option X) → is_some o ≡ true → (x : X) × (o ≡ Some x)
 there None e = absurd (grind arith)
 there (Some x) e = (x, refl)
 
@@ -189,3 +189,11 @@ module _ (d : Durable) (me : Running) (cached : IsCached d me) where
   pub not_in_hand : (slot : ℕ) → FinMap.contains_key me.in_hand slot ≡ false → IsAfter d me me (record (server_of d me) { in_hand = FinMap.remove me.in_hand slot })
   unfolding server_of
   not_in_hand slot absent = record { server_is = ap (λ m. record (server_of d me) { in_hand = m }) (remove_none me.in_hand slot absent); setup_same = refl; cached = cached }
+
+pub none_matches : {X : Type 0} (r : Option X) (A : Type 0) (P : X → Type 0) → r ≡ None → A → MatchOption r A P
+none_matches None A P is a = a
+none_matches (Some x) A P is a = absurd (none-some x (sym is))
+
+pub on_err : {X E : Type 0} (r : Result X E) (P : Type 0) → P → OnErr r P
+on_err (Ok x) P p = tt
+on_err (Err e) P p = p

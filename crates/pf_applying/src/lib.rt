@@ -4,6 +4,8 @@
 //! is taken as it is claimed.
 #![tactic(auto)]
 
+mod claims;
 mod jobs;
 
+pub use claims::claim;
 pub use jobs::{finish, give_back};
