@@ -1,3 +1,4 @@
 pub mod Claims
 pub mod Jobs
+pub mod Reads
 pub mod Turns

@@ -6,6 +6,8 @@
 
 mod claims;
 mod jobs;
+mod reads;
 
 pub use claims::claim;
 pub use jobs::{finish, give_back};
+pub use reads::settle;
