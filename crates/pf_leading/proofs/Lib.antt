@@ -4,3 +4,5 @@ pub mod Electing
 pub mod Looks
 pub mod Submitting
 pub mod Proposing
+pub mod Acking
+pub mod Counting

@@ -1,3 +1,5 @@
+pub mod Acking
+pub mod Coming
 pub mod Electing
 pub mod Storing
 pub mod Submitting

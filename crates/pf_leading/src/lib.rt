@@ -5,10 +5,13 @@
 //! done, refused, out of memory, or cut off by a disk.
 #![tactic(auto)]
 
+mod acks;
 mod adding;
+mod counts;
 mod elections;
 mod plans;
 mod submits;
 
+pub use acks::ack;
 pub use elections::elect;
 pub use submits::submit;
