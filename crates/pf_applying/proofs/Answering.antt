@@ -22,10 +22,10 @@ use Rattle.pf_state.specs.Standing.{server_of, read_of, IsCached}
 use Rattle.pf_applying.specs.Reads.{AreAsked, IsAsked, answered, reply_to}
 use Rattle.pf_applying.proofs.Claiming.{applied_test}
 
-lower : (a b : ℕ) → nat_lt a b ≡ true → a < b
+pub lower : (a b : ℕ) → nat_lt a b ≡ true → a < b
 lower a b is = grind (arith, nat_tests)
 
-is_lower : (a b : ℕ) → a < b → nat_lt a b ≡ true
+pub is_lower : (a b : ℕ) → a < b → nat_lt a b ≡ true
 is_lower a b lt = grind (arith, nat_tests)
 
 abbrev numbers : List ReadHere → List ℕ
@@ -45,7 +45,7 @@ from_lower n m (k ∷ ks) lt is =
     let next = lower m k parts.0 in
     and_from _ _ (is_lower n k (omega (arith, lt, next))) parts.1
 
-rest_ascends : (n : ℕ) (ms : List ℕ) → ascends_from n ms ≡ true → ascends ms ≡ true
+pub rest_ascends : (n : ℕ) (ms : List ℕ) → ascends_from n ms ≡ true → ascends ms ≡ true
 rest_ascends n [] is = refl
 rest_ascends n (m ∷ ms) is = (and_parts (nat_lt n m) (ascends_from m ms) is).1
 

@@ -1,4 +1,6 @@
 pub mod Claims
+pub mod Fetching
 pub mod Jobs
+pub mod Probing
 pub mod Reads
 pub mod Turns

@@ -5,9 +5,13 @@
 #![tactic(auto)]
 
 mod claims;
+mod fetches;
 mod jobs;
+mod probes;
 mod reads;
 
 pub use claims::claim;
+pub use fetches::fetch;
 pub use jobs::{finish, give_back};
+pub use probes::probe_ok;
 pub use reads::settle;

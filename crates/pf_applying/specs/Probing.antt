@@ -1,0 +1,23 @@
+-- A leader hears of another server.
+use Rattle.std.specs.Prelude.{ℕ, Bool, true, false, map, if◌then◌else◌}
+use Rattle.std.specs.FinMap
+use Rattle.pf_election.specs.Reads.{confirm}
+use Rattle.pf_state.specs.declared.running.Role.{Role}
+use Rattle.pf_state.specs.declared.running.Role.TheVariants.{Follower, Candidate, Merging, Serving}
+use Rattle.pf_state.specs.declared.running.Running.{Running}
+
+abbrev pub is_serving_here : Role → Bool
+is_serving_here Follower = false
+is_serving_here (Candidate c) = false
+is_serving_here (Merging l) = false
+is_serving_here (Serving l) = true
+
+-- a leader keeps what the server has applied
+abbrev pub knowing : Role → (from upto : ℕ) → Role
+knowing Follower from upto = Follower
+knowing (Candidate c) from upto = Candidate c
+knowing (Merging l) from upto = Merging l
+knowing (Serving l) from upto = Serving (record l { known = FinMap.insert l.known from upto })
+
+abbrev pub heard : Running → (from number upto : ℕ) → Running
+heard me from number upto = record me { role = knowing me.role from upto; reads = if is_serving_here me.role then map (confirm number) me.reads else me.reads }
