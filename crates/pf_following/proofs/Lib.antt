@@ -7,3 +7,4 @@ pub mod Marking
 pub mod Aboves
 pub mod Imaging
 pub mod Saving
+pub mod Trying

@@ -3,3 +3,4 @@ pub mod Coming
 pub mod Storing
 pub mod Halves
 pub mod Images
+pub mod Formatted

@@ -13,6 +13,8 @@ mod logs;
 mod probes;
 mod replies;
 mod terms;
+#[cfg(test)]
+mod tests;
 mod votes;
 
 pub use accepts::accept;
