@@ -53,6 +53,13 @@ impl Probes {
         }
     }
 
+    /// The reads, in the order in which they were asked.
+    pub fn as_slice(&self) -> &[Read]
+        ensures { result.now ≡ self.now }
+    {
+        &self.reads
+    }
+
     /// A read of this number and range that waits for a probe and for the slots that it names. `NoMemory` (1) leaves
     /// the reads as they were.
     pub fn ask(&mut self, number: u64, range: Range, named: Slots) -> Result<(), NoMemory>
