@@ -6,3 +6,5 @@ pub mod Submitting
 pub mod Proposing
 pub mod Acking
 pub mod Counting
+pub mod Resending
+pub mod Again

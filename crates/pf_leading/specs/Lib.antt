@@ -1,5 +1,6 @@
 pub mod Acking
 pub mod Coming
 pub mod Electing
+pub mod Resending
 pub mod Storing
 pub mod Submitting

@@ -1,5 +1,5 @@
-//! The rows of candidates and leaders: what a running server does with a submission, with the call of an election, and with an
-//! acknowledgement.
+//! The rows of candidates and leaders: what a running server does with a submission, with the call of an election, with an
+//! acknowledgement, and when it is to send again.
 //!
 //! The rules are the definitions of pf_protocol. Each row carries out its rule over a store, and ends in one of four ways: it is
 //! done, refused, out of memory, or cut off by a disk.
@@ -10,8 +10,10 @@ mod adding;
 mod counts;
 mod elections;
 mod plans;
+mod resends;
 mod submits;
 
 pub use acks::ack;
 pub use elections::elect;
+pub use resends::resend;
 pub use submits::submit;
