@@ -84,3 +84,8 @@ module _ {S : Type 0} (holds : S → Durable → Durable → Type 0) (used forma
       → Steps holds used format told rose d store me out store me new (room_refusal out o) o r2
   unsent {X = X} o e r r2 sent is (e2, is2, same) =
       subst (Steps holds used format told rose d store me out store me new (room_refusal out o) o) (sym (is2 ∙ ap Err same)) (unsent_by X o e (subst (Sends out new o.packets) is sent))
+
+-- the same outcome of any step, written in another way
+pub renamed_step : {S : Type 0} (holds : S → Durable → Durable → Type 0) (used format : S → ℕ) (told : S → Bool) (rose : S → S → Type 0) (d : Durable) (store store' : S) (me new : Running) (out out' : Outgoing) (o o2 : Outcome) (r : Result Answer StepFault) → o2 ≡ o
+    → Steps holds used format told rose d store me out store' new out' (room_refusal out o) o r → Steps holds used format told rose d store me out store' new out' (room_refusal out o2) o2 r
+renamed_step holds used format told rose d store store' me new out out' o o2 r is x = subst (λ p. Steps holds used format told rose d store me out store' new out' (room_refusal out p) p r) (sym is) x

@@ -1,3 +1,4 @@
+pub mod Aboves
 pub mod Answering
 pub mod Changing
 pub mod Claiming
@@ -5,3 +6,4 @@ pub mod Ending
 pub mod Fetching
 pub mod Finishing
 pub mod Probing
+pub mod Saving

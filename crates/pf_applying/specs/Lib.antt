@@ -3,4 +3,5 @@ pub mod Fetching
 pub mod Jobs
 pub mod Probing
 pub mod Reads
+pub mod Saving
 pub mod Turns

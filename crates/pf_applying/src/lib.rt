@@ -4,12 +4,15 @@
 //! is taken as it is claimed.
 #![tactic(auto)]
 
+mod checkpoints;
 mod claims;
 mod fetches;
 mod jobs;
+mod logs;
 mod probes;
 mod reads;
 
+pub use checkpoints::checkpoint;
 pub use claims::claim;
 pub use fetches::fetch;
 pub use jobs::{finish, give_back};
