@@ -1,4 +1,4 @@
-use Rattle.std.proofs.Common.{◌≡◌, Ok, false, sym, ap, subst, ◌∙◌}
+use Rattle.std.proofs.Common.{◌≡◌, Ok, false, sym, ap, subst}
 use Rattle.std.proofs.lemmas.Result.{err_from_is_err_and}
 use Rattle.pf_protocol.specs.Leading.{on_ack}
 use Rattle.pf_protocol.specs.declared.answers.Answer.TheVariants.{Done}
@@ -39,7 +39,7 @@ returns g c = record {
       let same = sym (ack_counts s c.args.from c.args.term c.args.slot c.args.upto (own_term d c.args.me.now stands.cached c.args.term c.if-term-me.false)) in
       let ps = commits_same d c.args.me.now stands.cached c.args.from c.args.slot in
       let room : exceeds c.args.out.now (commits s s.role c.args.from c.args.slot) ≡ false = subst (λ ps. exceeds c.args.out.now ps ≡ false) ps c.in_ok-send_commit.ensures.0 in
-      let sent : c.send_commit.new.out ≡ sent_by c.args.out.now (commits s s.role c.args.from c.args.slot) = c.in_ok-send_commit.ensures.1 ∙ ap (sent_by c.args.out.now) ps in
+      let sent : c.send_commit.new.out ≡ sent_by c.args.out.now (commits s s.role c.args.from c.args.slot) = subst (λ qs. c.send_commit.new.out ≡ sent_by c.args.out.now qs) ps c.in_ok-send_commit.ensures.1 in
       renamed g.S.Store.holds g.S.Store.used g.S.Store.format g.S.Store.told g.S.Store.rose d c.args._store.now c.args._store.now c.args.me.now c.take.new.me c.args.out.now c.announce.new.out _ _ o (on_ack s c.args.from c.args.term c.args.slot c.args.upto s.role) (Ok Done) (ap (room_refusal c.args.out.now) same) same
       (counted_done g.S.Store.holds g.S.Store.used g.S.Store.format g.S.Store.told g.S.Store.rose d c.args._store.now c.args.me.now c.args.out.now stands c.send_commit.new.out c.announce.new.out c.args.from c.args.slot c.args.upto c.take.new.me.role
       c.take.ensures.role c.take.ensures.kept room sent c.requires.fresh c.announce.ensures c.take.new.me c.take.ensures.others);
