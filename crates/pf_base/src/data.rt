@@ -1,7 +1,7 @@
 //! The bytes of a write.
 ghost use Rattle.std.specs.Prelude.{◌≡◌, ◌<◌, ◌≤◌, IfOk, length, replicate, slice_get, Some};
 
-use crate::{NoMemory, Sector};
+use crate::{NoMemory, Sector, Sectors};
 use std::alloc::Global;
 use std::marker::Model;
 use std::sync::Arc;
@@ -44,6 +44,17 @@ impl Data {
     {
         let sectors = Vec::from_slice(alloc, sectors)?;
         Ok(Data { sectors })
+    }
+
+    /// A list of 1 to 8 sectors itself, so no memory is taken.
+    pub fn from_sectors(sectors: Sectors) -> Data
+        requires some { 1 ≤ length sectors }
+        requires few { length sectors ≤ 8 }
+        ensures { result ≡ sectors }
+    {
+        Data {
+            sectors: sectors.into_vec(),
+        }
     }
 
     /// The count of sectors, 1 to 8.
