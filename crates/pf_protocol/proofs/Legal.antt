@@ -42,19 +42,19 @@ use Rattle.pf_protocol.proofs.Rows.{own_entry}
 use Rattle.pf_protocol.proofs.Making.{run_longer}
 
 -- a refusal of a step leaves the group as it was
-abbrev IsSilent : Option Refusal → Type 0
+abbrev pub IsSilent : Option Refusal → Type 0
 IsSilent None = Unit {0}
 IsSilent (Some refusal) = ending_of refusal ≡ Untouched
 
-refuse_silent : (fault : Bool) (refusal : Refusal) (rest : Option Refusal) → ending_of refusal ≡ Untouched → IsSilent rest → IsSilent (refuse fault refusal rest)
+pub refuse_silent : (fault : Bool) (refusal : Refusal) (rest : Option Refusal) → ending_of refusal ≡ Untouched → IsSilent rest → IsSilent (refuse fault refusal rest)
 refuse_silent true refusal rest is after = is
 refuse_silent false refusal rest is after = after
 
-room_silent : (g : Group) (o : Outcome) → IsSilent (room_refusal g o)
+pub room_silent : (g : Group) (o : Outcome) → IsSilent (room_refusal g o)
 unfolding room_refusal
 room_silent g o = refuse_silent _ PacketsFull (refuse (nat_lt half_size o.server.durable.used) LogFull None) refl (refuse_silent _ LogFull None refl tt)
 
-submit_silent : (setup : Setup) (g : Group) (op : Op) (s : Server) → IsSilent (submit_refusal setup g op s)
+pub submit_silent : (setup : Setup) (g : Group) (op : Op) (s : Server) → IsSilent (submit_refusal setup g op s)
 unfolding submit_refusal
 submit_silent setup g op s =
     let room = room_refusal g (on_submit setup s op s.role) in
@@ -63,11 +63,11 @@ submit_silent setup g op s =
     refuse_silent _ OldFormat (refuse (not (fits_in (range_of op) setup.chunk)) BadRange leads) refl
     (refuse_silent _ BadRange leads refl (refuse_silent _ NotLeader window refl (refuse_silent _ WindowFull room refl (room_silent g (on_submit setup s op s.role)))))
 
-elect_silent : (g : Group) (s : Server) → IsSilent (elect_refusal g s)
+pub elect_silent : (g : Group) (s : Server) → IsSilent (elect_refusal g s)
 unfolding elect_refusal
 elect_silent g s = refuse_silent _ ElectionsFull (room_refusal g (on_elect s)) refl (room_silent g (on_elect s))
 
-refuse_none : (fault : Bool) (refusal : Refusal) (rest : Option Refusal) → refuse fault refusal rest ≡ None → (fault ≡ false) × (rest ≡ None)
+pub refuse_none : (fault : Bool) (refusal : Refusal) (rest : Option Refusal) → refuse fault refusal rest ≡ None → (fault ≡ false) × (rest ≡ None)
 refuse_none true refusal rest is = absurd (none-some refusal (sym is))
 refuse_none false refusal rest is = (refl, is)
 
@@ -76,7 +76,7 @@ none_of None is = refl
 none_of (Some x) is = absurd (false≢true is)
 
 -- a step of a running server was not refused, or has left the group as it was
-stands_or_silent : (turn : Turn) (s : Server) (answer : Answer) → IsSilent (turn.refusal s) → (answer ≡ answer_at (Some (Running s)) turn) ⊎ ((halts_at (Some (Running s)) turn ≡ true) × (answer ≡ Refused Halted)) → (turn.refusal s ≡ None) ⊎ (ending answer ≡ Untouched)
+pub stands_or_silent : (turn : Turn) (s : Server) (answer : Answer) → IsSilent (turn.refusal s) → (answer ≡ answer_at (Some (Running s)) turn) ⊎ ((halts_at (Some (Running s)) turn ≡ true) × (answer ≡ Refused Halted)) → (turn.refusal s ≡ None) ⊎ (ending answer ≡ Untouched)
 stands_or_silent turn s answer silent is =
     elim is [
       | inl right ↦ by_refusal (turn.refusal s) refl silent right
@@ -140,7 +140,7 @@ tells setup history = record {
         let same : y.0 ≡ e = same_Some y.0 e (sym y.1 ∙ held) in
         subst (λ x. x.term ≡ s.durable.term) same (z.sound.made slot s.durable.term y.0 y.2).in_term
 
-reads_low : (reads n : ℕ) (answer : Answer) → reads ≤ n → reads_after reads answer ≤ suc n
+pub reads_low : (reads n : ℕ) (answer : Answer) → reads ≤ n → reads_after reads answer ≤ suc n
 reads_low reads n Done le = omega arith
 reads_low reads n (SlotIs slot) le = omega arith
 reads_low reads n (TermIs term) le = omega arith

@@ -27,6 +27,8 @@ pub mod Fresh
 pub mod Ports
 pub mod LastWriters
 pub mod Between
+pub mod Asked
+pub mod Room
 pub mod Worked
 mod Replays
 mod EarlyApply

@@ -15,6 +15,7 @@ pub mod Ports
 pub mod LastWriters
 pub mod Answers
 pub mod Fitting
+pub mod Asked
 pub mod Shown
 pub mod EarlyApply
 pub mod PastTheNames

@@ -1,5 +1,5 @@
 //! What a group keeps in every history beside its safety.
-ghost use Rattle.std.specs.Prelude.{◌≡◌, ℕ, ◌<◌, ◌≤◌, List, [], ◌∷◌, ◌++◌, Some, length, slice_get, true};
+ghost use Rattle.std.specs.Prelude.{◌≡◌, ℕ, ◌<◌, ◌≤◌, List, [], ◌∷◌, ◌++◌, Some, length, slice_get, sum_by, true};
 ghost use Rattle.pf_entry.specs.Lists.{Every};
 ghost use Rattle.std.specs.FinMap as finite;
 ghost use Rattle.pf_entry.specs.Maps.{Numbers};
@@ -8,6 +8,7 @@ ghost use Rattle.pf_entry.specs.Ops.{Sector};
 ghost use Rattle.pf_entry.specs.Applying.{is_applied};
 ghost use Rattle.pf_entry.specs.Records.{Durable};
 ghost use Rattle.pf_entry.specs.Canonical.{IsCanonicalPacket};
+ghost use Rattle.pf_entry.specs.Sizes.{packet_size};
 ghost use Rattle.pf_entry.specs.declared.ops.Op.{Op};
 ghost use Rattle.pf_entry.specs.declared.entries.Entry.{Entry};
 ghost use Rattle.pf_entry.specs.declared.entries.VoteLog.{VoteLog};
@@ -17,8 +18,9 @@ ghost use Rattle.pf_protocol.specs.Groups.{Sent, ending, happens};
 ghost use Rattle.pf_protocol.specs.declared.events.Happening.{Happening};
 ghost use Rattle.pf_protocol.specs.Histories.{History, IsPrefix, replay, Runs, HasAccepted, IsProposal, HasSource, WasHeld};
 ghost use Rattle.pf_protocol.specs.Kept.{MayHold, IsKeptIn, IsMarked, IsCovered, IsInHand, IsChosenIn, HasAcked};
-ghost use Rattle.pf_protocol.specs.Answers.{IsLegalNext, IsLegal, IsOpen, claims_of};
+ghost use Rattle.pf_protocol.specs.Answers.{IsLegalNext, IsLegal, IsOpen, claims_of, most_packets, most_packet_bytes};
 ghost use Rattle.pf_protocol.specs.Fitting.{GroupFits};
+ghost use Rattle.pf_protocol.specs.Asked.{Asks};
 ghost use Rattle.pf_protocol.specs.LastWriters.{HoldLastWrites};
 
 /// Each entry that a server ever held was made by a step of the leader of its term, and its op comes from a new proposal
@@ -93,4 +95,17 @@ pub fn sectors_hold_last_writes()
     ensures servers { (setup : Setup) (history : History) (i : ℕ) (s : Server) → Runs (replay setup history) i s → HoldLastWrites setup history (has_applied s) s.sectors }
     ensures disks { (setup : Setup) (history : History) (i : ℕ) (d : Durable) → MayHold (replay setup history) i d → HoldLastWrites setup history (is_applied d.base d.saved) d.sectors }
     ensures images { (setup : Setup) (history : History) (k : ℕ) (sent : Sent) (base : ℕ) (applied : Numbers) (sectors : List Sector) → slice_get (replay setup history).packets k ≡ Some sent → sent.packet.body ≡ Image base applied sectors → HoldLastWrites setup history (is_applied base applied) sectors }
+{}
+
+/// In a legal history each read that waits is of 1 to 8 sectors of the chunk and waits for slots above 0, the numbers of
+/// a server's reads ascend, and each is below the number that the group gives its next read.
+pub fn waiting_reads_are_asked()
+    ensures { (setup : Setup) (history : History) → IsLegal setup history → (i : ℕ) (s : Server) → Runs (replay setup history) i s → Asks setup.chunk (replay setup history).reads s }
+{}
+
+/// In a legal history no more than 65,536 packets were ever sent, and they take no more than 134,217,728 bytes: a step
+/// whose packets have no room is refused.
+pub fn packets_have_room()
+    ensures count { (setup : Setup) (history : History) → IsLegal setup history → length (replay setup history).packets ≤ most_packets }
+    ensures bytes { (setup : Setup) (history : History) → IsLegal setup history → sum_by (λ sent. packet_size sent.packet) (replay setup history).packets ≤ most_packet_bytes }
 {}

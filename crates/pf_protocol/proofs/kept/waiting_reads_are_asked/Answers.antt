@@ -1,0 +1,5 @@
+use Rattle.pf_protocol.proofs.Asked.{legal_asks}
+use Rattle.pf_protocol.proofs.kept.waiting_reads_are_asked.Goals as goal
+
+pub returns : goal.returns
+returns c = legal_asks
