@@ -103,7 +103,7 @@ module _ (setup : Setup) (is : IsSetup setup) (n t : ℕ) where
   short_entries [] each = omega arith
   short_entries (e ∷ es) each = omega (arith, sum_by-cons entry_size e es, short_entry e each.0, short_entries es each.1)
 
-  module _ (low : n < 2 ^ 63) (t_low : t < 2 ^ 63) where
+  module _ (low : n ≤ 2 ^ 63) (t_low : t < 2 ^ 63) where
     pub has_words : (e : Entry) → EntryFits setup n t e → HasWords e
     has_words e f = record {
       slot = omega (arith, f.slot_low, low);

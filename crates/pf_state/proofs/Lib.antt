@@ -2,3 +2,6 @@ pub mod Sendings
 pub mod Applied
 pub mod Steps
 pub mod Canonicals
+pub mod Storing
+pub mod Ending
+mod Aboves

@@ -1,5 +1,5 @@
 -- What is sent, one packet after another.
-use Rattle.std.proofs.Common.{◌≡◌, ℕ, ◌+◌, ◌-◌, ◌<◌, ◌≤◌, Bool, true, false, ◌||◌, List, [], ◌∷◌, ◌++◌, length, length-append, map, Result, Ok, Err, nat_lt, sum_by, arith, refl, sym, ap, subst, ◌∙◌}
+use Rattle.std.proofs.Common.{◌≡◌, ℕ, ◌+◌, ◌-◌, ◌<◌, ◌≤◌, Bool, true, false, ◌||◌, List, [], ◌∷◌, ◌++◌, length, length-append, append-nil, map, Option, Result, Ok, Err, nat_lt, sum_by, arith, refl, sym, ap, subst, ◌∙◌}
 use Rattle.std.proofs.lemmas.Bool.Decides.{nat_tests}
 use Rattle.std.proofs.lemmas.List.{map-append, append_assoc}
 use Rattle.std.proofs.lemmas.List.Sums.{sum_by-append}
@@ -122,3 +122,40 @@ pub sends_more : {X Y : Type 0} (out mid new : Outgoing) (ps qs : List Packet) (
 sends_more out mid new ps qs r r2 x sent is more =
     let here = subst (Sends out mid ps) is sent in
     goes_on out mid new ps qs r2 here (subst (λ m. Sends m new qs r2) here.1 more)
+
+-- no packets
+pub none_exceeds : (out : Outgoing) → exceeds out [] ≡ false
+none_exceeds out = has_room out [] (omega arith) (omega arith)
+
+pub none_sent : (out : Outgoing) → out ≡ sent_by out []
+unfolding sent_by
+none_sent out =
+    let places : out.packet_room ≡ out.packet_room - 0 = omega arith in
+    let bytes : out.byte_room ≡ out.byte_room - 0 = omega arith in
+    λ i. record { packets = sym (append-nil out.packets) i; packet_room = places i; byte_room = bytes i; acked = out.acked }
+
+-- what the host is told
+pub sent_acked : (out new : Outgoing) (ps : List Packet) → new ≡ sent_by out ps → new.acked ≡ out.acked
+unfolding sent_by
+sent_acked out new ps is = ap (λ (o : Outgoing). o.acked) is
+
+pub to_host : {acked : Option ℕ} (out new : Outgoing) (ps : List Packet) → new ≡ sent_by out ps → out.acked ≡ acked → new ≡ record (sent_by out ps) { acked = acked }
+unfolding sent_by
+to_host out new ps is told = is ∙ (λ i. record (sent_by out ps) { acked = told i })
+
+pub nothing_sent : (out : Outgoing) (acked : Option ℕ) → out.acked ≡ acked → out ≡ record (sent_by out []) { acked = acked }
+nothing_sent out acked told = to_host out out [] (none_sent out) told
+
+-- packets that are sent one after another
+abbrev pub Sent : Outgoing → Outgoing → List Packet → Type 0
+Sent out new ps = (exceeds out ps ≡ false) × (new ≡ sent_by out ps)
+
+pub sent_none : (out : Outgoing) → Sent out out []
+sent_none out = (none_exceeds out, none_sent out)
+
+pub sent_on : (out mid new : Outgoing) (ps qs : List Packet) → Sent out mid ps → Sent mid new qs → Sent out new (ps ++ qs)
+sent_on out mid new ps qs here there = sends_more {X = Unit {0}} {Y = Unit {0}} out mid new ps qs (Ok tt) (Ok tt) tt here refl there
+
+pub sent_off : {Y Z : Type 0} (out mid new : Outgoing) (ps qs rest : List Packet) (r : Result Y StepFault) (r2 : Result Z StepFault) (e : StepFault) → Sent out mid ps → Sends mid new qs r → r ≡ Err e → (e2 : StepFault) × (r2 ≡ Err e2) × (e2 ≡ e)
+    → Sends out new ((ps ++ qs) ++ rest) r2
+sent_off out mid new ps qs rest r r2 e here sent is end = sends_less out new new (ps ++ qs) rest r r2 e (sends_more {X = Unit {0}} out mid new ps qs (Ok tt) r tt here refl sent) is end

@@ -1,5 +1,5 @@
 -- What every row needs: which refusal its packets and its record give, and what has not changed.
-use Rattle.std.proofs.Common.{◌≡◌, ℕ, ◌<◌, ◌≤◌, Bool, true, false, Some, None, nat_lt, arith, refl, ap, ◌∙◌}
+use Rattle.std.proofs.Common.{◌≡◌, inl, inr, ℕ, ◌<◌, ◌≤◌, Bool, true, false, Some, None, nat_lt, arith, refl, ap, ◌∙◌}
 use Rattle.std.proofs.lemmas.Bool.Decides.{nat_tests}
 use Rattle.pf_entry.specs.Records.{Durable}
 use Rattle.pf_protocol.specs.declared.answers.Refusal.TheVariants.{PacketsFull, LogFull}
@@ -7,7 +7,8 @@ use Rattle.pf_protocol.specs.Answers.{refuse}
 use Rattle.pf_protocol.specs.Outcomes.{Outcome}
 use Rattle.pf_state.specs.declared.running.Running.{Running}
 use Rattle.pf_state.specs.Outgoing.{Outgoing, exceeds}
-use Rattle.pf_state.specs.Standing.{server_of, setup_of, Stands, IsUntouched, room_refusal}
+use Rattle.pf_state.specs.Standing.{setup_of, bare, IsCached, Stands, IsUntouched, room_refusal}
+use Rattle.pf_state.proofs.Canonicals.{IsFormat}
 
 within : (a b : ℕ) → b ≤ a → nat_lt a b ≡ false
 within a b le = grind (arith, nat_tests)
@@ -32,12 +33,34 @@ module _ (out : Outgoing) (o : Outcome) where
       ap (λ b. refuse b PacketsFull (refuse (nat_lt 67108864 o.server.durable.used) LogFull None)) sends
       ∙ ap (λ b. refuse b LogFull None) (past _ _ beyond)
 
-module _ {S : Type 0} (holds : S → Durable → Durable → Type 0) (used format : S → ℕ) (told : S → Bool) (rose : S → S → Type 0) where
+module _ {S : Type 0} (holds : S → Durable → Durable → Type 0) (used format : S → ℕ) (told : S → Bool) (rose : S → S → Type 0) (was : S → S → Durable → Durable → Type 0) where
   -- where neither the store nor memory was written
-  pub untouched : (d : Durable) (store : S) (me : Running) (out new : Outgoing) → Stands holds used format d store me → IsUntouched holds used format told rose d store me out store me new
+  pub untouched : (d : Durable) (store : S) (me : Running) (out new : Outgoing) → Stands holds used format d store me → IsUntouched holds used format told rose was d store me out store me new
   untouched d store me out new stands = record { store_same = refl; server_same = refl; setup_same = refl; stands = stands }
 
-  -- where only memory was written, and it stands for the same
-  pub untouched_in : (d : Durable) (store : S) (me new : Running) (out after : Outgoing) → server_of d new ≡ server_of d me → setup_of new ≡ setup_of me → Stands holds used format d store new
-      → IsUntouched holds used format told rose d store me out store new after
-  untouched_in d store me new out after same setup stands = record { store_same = refl; server_same = same; setup_same = setup; stands = stands }
+-- the volume's format or the second
+pub half_of : {S : Type 0} (holds : S → Durable → Durable → Type 0) (used format : S → ℕ) (d : Durable) (store : S) (me : Running) → Stands holds used format d store me → IsFormat (setup_of me) (format store)
+unfolding setup_of
+half_of holds used format d store me stands = elim stands.cached.format [
+  | inl second ↦ inl (stands.half ∙ second)
+  | inr same ↦ inr (stands.half ∙ same)
+]
+
+-- memory has what it alone tells
+pub bare_cached : (d : Durable) (me : Running) → IsCached d me → IsCached (bare me) me
+bare_cached d me cached = record {
+  number = cached.number;
+  term = refl;
+  generation = refl;
+  base = refl;
+  starts = refl;
+  log = refl;
+  format = inr refl;
+  prefix = cached.prefix;
+  role = cached.role;
+  jobs = cached.jobs;
+  places = cached.places;
+  rooms = cached.rooms;
+  near = cached.near;
+  replies = cached.replies;
+}

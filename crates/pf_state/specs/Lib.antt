@@ -1,4 +1,7 @@
+pub mod Coming
 pub mod Outgoing
 pub mod Packets
 pub mod Replying
 pub mod Standing
+pub mod Storing
+pub mod Turns

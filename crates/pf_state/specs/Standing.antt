@@ -117,11 +117,15 @@ module _ {S : Type 0} (holds : S → Durable → Durable → Type 0) (used forma
     pub half : format store ≡ d.format
     pub cached : IsCached d me
 
+-- the outcome without what it sends
+abbrev pub quiet : Outcome → Outcome
+quiet o = record o { packets = [] }
+
 -- a step's packets have to fit, and its record
 unfoldable pub room_refusal : Outgoing → Outcome → Option Refusal
 room_refusal out o = refuse (exceeds out o.packets) PacketsFull (refuse (nat_lt 67108864 o.server.durable.used) LogFull None)
 
-module _ {S : Type 0} (holds : S → Durable → Durable → Type 0) (used format : S → ℕ) (told : S → Bool) (rose : S → S → Type 0) (d : Durable) (store : S) (me : Running) (out : Outgoing) (store' : S) (me' : Running) (out' : Outgoing) where
+module _ {S : Type 0} (holds : S → Durable → Durable → Type 0) (used format : S → ℕ) (told : S → Bool) (rose : S → S → Type 0) (was : S → S → Durable → Durable → Type 0) (d : Durable) (store : S) (me : Running) (out : Outgoing) (store' : S) (me' : Running) (out' : Outgoing) where
   -- nothing has changed as the rules see it; there may be more room
   pub record IsUntouched : Type 0 where
     pub store_same : store' ≡ store
@@ -138,6 +142,7 @@ module _ {S : Type 0} (holds : S → Durable → Durable → Type 0) (used forma
     pub may : judged ≡ None
     pub in_doubt : holds store' d o.server.durable
     pub told_same : told store' ≡ told store
+    pub crash : was store store' d o.server.durable
     pub cause : rose store store'
 
   pub record IsDone (judged : Option Refusal) (o : Outcome) (answer : Answer) : Type 0 where
@@ -147,6 +152,7 @@ module _ {S : Type 0} (holds : S → Durable → Durable → Type 0) (used forma
     pub setup_same : setup_of me' ≡ setup_of me
     pub stands : Stands holds used format o.server.durable store' me'
     pub told_same : told store' ≡ told store
+    pub crash : (store' ≡ store) ⊎ was store store' d o.server.durable
     pub sent : out' ≡ record (sent_by out o.packets) { acked = o.acked }
 
   -- the rule was carried out, or there is a reason why it was not

@@ -4,12 +4,16 @@
 //! first, then adds at most one record to the store, and then changes the memory, which cannot fail.
 #![tactic(auto)]
 
+mod adding;
+mod copies;
 mod faults;
 mod outbox;
 mod replies;
 mod running;
 mod sending;
 
+pub use adding::{ROOM, add};
+pub use copies::{copied_above, vote_of};
 pub use faults::StepFault;
 pub use outbox::Outbox;
 pub use replies::Replies;

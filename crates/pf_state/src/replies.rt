@@ -43,6 +43,13 @@ impl Replies {
         }
     }
 
+    /// For how many answers more there is memory.
+    pub fn rooms(&self) -> usize
+        ensures { result ≡ self.now.rooms }
+    {
+        self.rooms.len()
+    }
+
     /// Takes memory for one answer more. `NoMemory` (1) leaves the room as it was.
     pub fn reserve(&mut self, alloc: Global) -> Result<(), NoMemory>
         ensures ok { OnOk result (self.new ≡ record self.old { rooms = self.old.rooms + 1 }) }

@@ -31,6 +31,9 @@ pub trait Store {
     /// A count of faults of one of the disks rose from the first to the second.
     ghost rose: { Self → Self → Type 0 };
 
+    /// A crash at any moment from the first to the second left the first state, or the second.
+    ghost was: { Self → Self → Durable → Durable → Type 0 };
+
     /// Whether a body of so many bytes still fits the current half.
     fn has_room(&self, len: u64) -> bool
         ensures { IsTrue result ↔ (used self.now + len ≤ 67108864) };
@@ -42,6 +45,7 @@ pub trait Store {
         requires room { used self.old + length body.now ≤ 67108864 }
         ensures ok { OnOk result ((d : Durable) (r : RecordIs) → holds self.old d d → IsSpelledAs (format self.old) r body.now → holds self.new (stored d r) (stored d r)) }
         ensures err { OnErr result ((d : Durable) (r : RecordIs) → holds self.old d d → IsSpelledAs (format self.old) r body.now → holds self.new d (stored d r)) }
+        ensures any_moment { (d : Durable) (r : RecordIs) → holds self.old d d → IsSpelledAs (format self.old) r body.now → was self.old self.new d (stored d r) }
         ensures used { OnOk result (used self.new ≡ used self.old + length body.now) }
         ensures format { OnOk result (format self.new ≡ format self.old) }
         ensures told { told self.new ≡ told self.old }
@@ -53,6 +57,7 @@ pub trait Store {
         requires room { empty_half + length body.now ≤ 67108864 }
         ensures ok { OnOk result ((d : Durable) (r : RecordIs) → holds self.old d d → IsImageOf d r body.now → holds self.new (stored d r) (stored d r)) }
         ensures err { OnErr result ((d : Durable) (r : RecordIs) → holds self.old d d → IsImageOf d r body.now → holds self.new d (stored d r)) }
+        ensures any_moment { (d : Durable) (r : RecordIs) → holds self.old d d → IsImageOf d r body.now → was self.old self.new d (stored d r) }
         ensures used { OnOk result (used self.new ≡ empty_half + length body.now) }
         ensures format { OnOk result (format self.new ≡ 2) }
         ensures told { told self.new ≡ told self.old }
@@ -66,6 +71,7 @@ pub trait Store {
         ensures untold { told self.old ≡ false → IfOk result (λ found. (d : Durable) × StandsFor found d × holds self.new d d) }
         ensures state { IfOk result (λ found. (used self.new ≡ found.used) × (format self.new ≡ found.format)) }
         ensures kept { OnErr result ((before after : Durable) → holds self.old before after → holds self.new before after) }
+        ensures any_moment { (before after : Durable) → holds self.old before after → was self.old self.new before after }
         ensures ours { (before after : Durable) → holds self.old before after → IsTrue (told self.old) → result ≢ Err ReloadFault.NotOurs }
         ensures told { told self.new ≡ told self.old }
         ensures cause { IsErrOf result ReloadFault.DiskFault → rose self.old self.new };

@@ -6,8 +6,8 @@ use Rattle.pf_entry.specs.Canonical.{second_format}
 use Rattle.pf_spelling.proofs.BodyLaws.{window_of_second}
 use Rattle.pf_spelling.proofs.SizeLaws.{body_len}
 use Rattle.pf_store.specs.Stores.{IsSpelledAs}
-use Rattle.pf_following.proofs.Storing.{in_second, past, up_to, is_in_doubt}
-use Rattle.pf_following.proofs.adding.add.Goals as goal
+use Rattle.pf_state.proofs.Storing.{in_second, past, up_to, is_in_doubt}
+use Rattle.pf_state.proofs.adding.add.Goals as goal
 
 pub spell_record-requires : goal.spell_record-requires
 spell_record-requires g c = in_second (g.S.Store.format c.args.store.now) c.args.rec.now c.requires.spelled.canonical
@@ -28,9 +28,9 @@ returns-in_err-append g c = λ d whole used_is.
     let size : c.len.result ≡ body_size r = omega (arith, c.len.ensures, ap length c.in_ok-body.ensures, body_len second_format window_of_second r (in_second (g.S.Store.format c.args.store.now) r c.requires.spelled.canonical).fields) in
     let fits = up_to (g.S.Store.used c.args.store.now) d.used c.len.result (body_size r) (c.if-not-has_room.ensures.0 refl) used_is size in
     let body : IsSpelledAs (g.S.Store.format c.args.store.now) r c.deref.result.now = record { canonical = c.requires.spelled.canonical; fits = c.requires.spelled.fits; added = c.requires.spelled.added; is = c.deref.ensures.value ∙ c.in_ok-body.ensures } in
-    is_in_doubt g.S.Store.holds g.S.Store.used g.S.Store.format g.S.Store.told g.S.Store.rose d r c.args.store.now c.append.new.self c.from_residual-in_err-append.result
+    is_in_doubt g.S.Store.holds g.S.Store.used g.S.Store.format g.S.Store.told g.S.Store.rose g.S.Store.was d r c.args.store.now c.append.new.self c.from_residual-in_err-append.result
     (err_from_is_err_and c.from_residual-in_err-append.result c.from_residual-in_err-append.ensures.1)
-    (record { fits = fits; either = c.in_err-append.ensures.err d r whole body; told_same = c.append.ensures.told; cause = c.in_err-append.ensures.cause })
+    (record { fits = fits; either = c.in_err-append.ensures.err d r whole body; told_same = c.append.ensures.told; crash = c.append.ensures.any_moment d r whole body; cause = c.in_err-append.ensures.cause })
 
 pub returns : goal.returns
 returns g c = λ d whole used_is.
@@ -44,4 +44,5 @@ returns g c = λ d whole used_is.
       used_is = omega (arith, c.in_ok-append.ensures.used, used_is, c.deref.ensures.len, c.len.ensures, size);
       format_same = c.in_ok-append.ensures.format;
       told_same = c.append.ensures.told;
+      crash = c.append.ensures.any_moment d r whole body;
     }

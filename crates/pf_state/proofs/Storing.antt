@@ -7,7 +7,7 @@ use Rattle.pf_entry.specs.Records.{Durable}
 use Rattle.pf_spelling.proofs.BodyLaws.{format_more}
 use Rattle.pf_state.specs.declared.faults.StepFault.{StepFault}
 use Rattle.pf_state.specs.declared.faults.StepFault.TheVariants.{Halted}
-use Rattle.pf_leading.specs.Storing.{IsInDoubt, Stores}
+use Rattle.pf_state.specs.Storing.{IsInDoubt, Stores}
 
 -- what has a spelling in either format has one in the second
 by_format : (first : Bool) (r : Record) → IsCanonicalFor (cond first first_format second_format) r → payload_size r < 2 ^ 32 → IsCanonicalRecord 2 r
@@ -23,6 +23,6 @@ past used there len size beyond is same = omega (arith, beyond)
 pub up_to : (used there len size : ℕ) → used + len ≤ 67108864 → used ≡ there → len ≡ size → there + size ≤ 67108864
 up_to used there len size fits is same = omega arith
 
-pub is_in_doubt : {S X : Type 0} (holds : S → Durable → Durable → Type 0) (used format : S → ℕ) (told : S → Bool) (rose : S → S → Type 0) (d : Durable) (r : Record) (store store' : S) (q : Result X StepFault)
-    → (e : StepFault) × (q ≡ Err e) × (e ≡ Halted) → IsInDoubt holds used format told rose d r store store' → Stores holds used format told rose d r store store' q
-is_in_doubt holds used format told rose d r store store' q (e, is, halted) doubt = subst (Stores holds used format told rose d r store store') (sym (is ∙ ap Err halted)) doubt
+pub is_in_doubt : {S X : Type 0} (holds : S → Durable → Durable → Type 0) (used format : S → ℕ) (told : S → Bool) (rose : S → S → Type 0) (was : S → S → Durable → Durable → Type 0) (d : Durable) (r : Record) (store store' : S) (q : Result X StepFault)
+    → (e : StepFault) × (q ≡ Err e) × (e ≡ Halted) → IsInDoubt holds used format told rose was d r store store' → Stores holds used format told rose was d r store store' q
+is_in_doubt holds used format told rose was d r store store' q (e, is, halted) doubt = subst (Stores holds used format told rose was d r store store') (sym (is ∙ ap Err halted)) doubt

@@ -1,4 +1,4 @@
--- Steps of a server that neither send nor store.
+-- Steps of a server in memory alone.
 use Rattle.std.specs.Prelude.{◌≡◌}
 use Rattle.pf_entry.specs.Records.{Durable}
 use Rattle.pf_protocol.specs.declared.answers.Answer.{Answer}

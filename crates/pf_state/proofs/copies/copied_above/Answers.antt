@@ -1,9 +1,9 @@
 use Rattle.std.proofs.Common.{◌+◌, ◌≤◌, Some, sym, ap, subst, ◌∙◌}
 use Rattle.pf_entry.specs.Records.{above}
 use Rattle.pf_holes.proofs.Copying.{IsCopied, copied_none, copied_hole, copied_more, copied_all}
-use Rattle.pf_applying.proofs.Aboves.{above_next, above_within, above_upto}
-use Rattle.pf_applying.proofs.logs.copied_above.Goals as goal
-use Rattle.pf_applying.proofs.logs.copied_above.Goals.{in-Some+in_ok-try_clone+in_ok-push, in_default}
+use Rattle.pf_state.proofs.Aboves.{above_next, above_within, above_upto}
+use Rattle.pf_state.proofs.copies.copied_above.Goals as goal
+use Rattle.pf_state.proofs.copies.copied_above.Goals.{in-Some+in_ok-try_clone+in_ok-push, in_default}
 
 pub loop-slot-init : goal.loop-slot-init
 loop-slot-init c =

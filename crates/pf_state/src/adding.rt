@@ -3,21 +3,24 @@ ghost use Rattle.std.specs.Prelude.{◌≡◌};
 ghost use Rattle.pf_entry.specs.Records.{Durable};
 ghost use Rattle.pf_store.specs.Stores.{IsSpelledAs};
 ghost use Rattle.pf_spelling.specs.Spelling.{body_bytes};
-ghost use Rattle.pf_following.specs.Storing.{Stores};
+ghost use Rattle.pf_state.specs.Storing.{Stores};
 
+use crate::StepFault;
 use pf_entry::Record;
 use pf_protocol::Refusal;
 use pf_spelling::spell_record;
-use pf_state::StepFault;
 use pf_store::Store;
 use std::alloc::Global;
+
+/// The most bytes of an image's body: a half without its head and first gate.
+pub const ROOM: u64 = 67_108_855;
 
 /// Adds a record to the store. The store is as it was after `NoMemory` (1) and after `LogFull` (41), which comes exactly where
 /// the record does not fit the current half. `Halted` (52) comes only where a disk failed.
 pub fn add<S: Store>(alloc: Global, store: &mut S, rec: &Record) -> Result<(), StepFault>
     requires whole { (d : Durable) × S.holds store.old d d }
     requires spelled { IsSpelledAs (S.format store.old) rec.now (body_bytes rec.now) }
-    ensures { (d : Durable) → S.holds store.old d d → S.used store.old ≡ d.used → Stores S.holds S.used S.format S.told S.rose d rec.now store.old store.new result }
+    ensures { (d : Durable) → S.holds store.old d d → S.used store.old ≡ d.used → Stores S.holds S.used S.format S.told S.rose S.was d rec.now store.old store.new result }
 {
     let body = spell_record(alloc, rec)?;
     if !store.has_room(body.len() as u64) {

@@ -8,13 +8,14 @@ use Rattle.pf_protocol.specs.declared.answers.Refusal.TheVariants.{LogFull}
 use Rattle.pf_state.specs.declared.faults.StepFault.{StepFault}
 use Rattle.pf_state.specs.declared.faults.StepFault.TheVariants.{NoMemory, Refused, Halted}
 
-module _ {S : Type 0} (holds : S → Durable → Durable → Type 0) (used format : S → ℕ) (told : S → Bool) (rose : S → S → Type 0) (d : Durable) (r : Record) (store store' : S) where
+module _ {S : Type 0} (holds : S → Durable → Durable → Type 0) (used format : S → ℕ) (told : S → Bool) (rose : S → S → Type 0) (was : S → S → Durable → Durable → Type 0) (d : Durable) (r : Record) (store store' : S) where
   pub record IsStored : Type 0 where
     pub fits : d.used + body_size r ≤ 67108864
     pub recorded : holds store' (stored d r) (stored d r)
     pub used_is : used store' ≡ d.used + body_size r
     pub format_same : format store' ≡ format store
     pub told_same : told store' ≡ told store
+    pub crash : was store store' d (stored d r)
 
   pub record IsFull (refusal : Refusal) : Type 0 where
     pub is : refusal ≡ LogFull
@@ -26,6 +27,7 @@ module _ {S : Type 0} (holds : S → Durable → Durable → Type 0) (used forma
     pub fits : d.used + body_size r ≤ 67108864
     pub either : holds store' d (stored d r)
     pub told_same : told store' ≡ told store
+    pub crash : was store store' d (stored d r)
     pub cause : rose store store'
 
   -- the record is stored, or there is a reason why it is not

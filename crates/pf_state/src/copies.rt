@@ -1,14 +1,27 @@
-//! A part of a log.
+//! Copies of what a server holds.
 ghost use Rattle.std.specs.Prelude.{◌≡◌, ◌≤◌, ◌<◌, ◌^◌, IfOk};
-ghost use Rattle.pf_entry.specs.Records.{above};
+ghost use Rattle.pf_entry.specs.Records.{above, vote_of};
+ghost use Rattle.pf_state.specs.Standing.{bare};
 
+use crate::Running;
 use pf_base::{NoMemory, Slot};
-use pf_entry::EntryMap;
+use pf_entry::{EntryMap, VoteLog};
 use pf_holes::HoleLog;
 use std::alloc::Global;
 
+/// What the server hands to a candidate: its checkpoint, its starts and its log. `NoMemory` (1) where there is no memory.
+pub fn vote_of(alloc: Global, me: &Running) -> Result<VoteLog, NoMemory>
+    ensures { IfOk result (λ vote. vote ≡ vote_of (bare me.now)) }
+{
+    Ok(VoteLog {
+        base: me.log.base(),
+        starts: me.starts.copied(alloc)?,
+        log: me.log.copied(alloc)?,
+    })
+}
+
 /// A copy of the entries above a slot that is no lower than the log's base. Their sectors are shared. It takes a step for each
-/// slot of the window above it, at most 4,096.
+/// slot of the window above it, at most 4,096. `NoMemory` (1) where there is no memory.
 pub fn copied_above(alloc: Global, log: &HoleLog, base: Slot) -> Result<EntryMap, NoMemory>
     requires reached { log.now.base ≤ base }
     requires small { base < 2 ^ 63 }
