@@ -17,6 +17,8 @@ use Rattle.pf_entry.specs.declared.records.Record.TheVariants.{Term as TermRecor
 use Rattle.pf_entry.specs.Sizes.{op_size, entry_size}
 use Rattle.pf_entry.specs.Canonical.{IsCanonicalOp, IsCanonicalName, IsCanonicalEntry, IsCanonicalVote, IsCanonicalImage, IsCanonicalMessage, IsCanonicalPacket, IsCanonicalRecord, first_format, second_format}
 use Rattle.pf_spelling.specs.Fitting.{RecordFits, EntryFits as HasWords}
+use Rattle.pf_spelling.specs.Spelling.{body_bytes}
+use Rattle.pf_store.specs.Stores.{IsSpelledAs}
 use Rattle.pf_protocol.specs.Servers.{Setup}
 use Rattle.pf_protocol.specs.Answers.{IsSetup}
 use Rattle.pf_protocol.specs.Fitting.{OpFits, NameFits, EntryFits, VoteFits, SlotsFit, SectorsFit, BodyFits, PacketFits}
@@ -99,7 +101,7 @@ module _ (setup : Setup) (is : IsSetup setup) (n t : ℕ) where
   pub short_entry : (e : Entry) → EntryFits setup n t e → entry_size e ≤ 4335
   short_entry e f = omega (arith, f.few, is.few_names, short_op setup e.op f.op)
 
-  short_entries : (es : List Entry) → Every (EntryFits setup n t) es → sum_by entry_size es ≤ length es * 4335
+  pub short_entries : (es : List Entry) → Every (EntryFits setup n t) es → sum_by entry_size es ≤ length es * 4335
   short_entries [] each = omega arith
   short_entries (e ∷ es) each = omega (arith, sum_by-cons entry_size e es, short_entry e each.0, short_entries es each.1)
 
@@ -115,6 +117,9 @@ module _ (setup : Setup) (is : IsSetup setup) (n t : ℕ) where
     -- records
     pub entry_spelled : (format : ℕ) → IsFormat setup format → (e : Entry) → EntryFits setup n t e → IsCanonicalRecord format (EntryRecord e) × RecordFits (EntryRecord e)
     entry_spelled format half e f = (record { fields = in_format format half e f; short = omega (arith, short_entry e f) }, has_words e f)
+
+    pub entry_is_spelled : (format : ℕ) → IsFormat setup format → (e : Entry) → EntryFits setup n t e → IsSpelledAs format (EntryRecord e) (body_bytes (EntryRecord e))
+    entry_is_spelled format half e f = let spelled = entry_spelled format half e f in record { canonical = spelled.0; fits = spelled.1; added = refl; is = refl }
 
     pub term_spelled : (format term : ℕ) → term < 2 ^ 64 → IsCanonicalRecord format (TermRecord term) × RecordFits (TermRecord term)
     term_spelled format term word = (record { fields = tt; short = omega arith }, word)

@@ -1,6 +1,6 @@
 -- How a step ends, from what its parts came to.
 use Rattle.std.proofs.Common.{◌≡◌, inl, inr, ℕ, ◌+◌, ◌<◌, ◌≤◌, Bool, false, List, [], Option, Some, None, Result, Ok, Err, nat_lt, refl, sym, ap, subst, ◌∙◌}
-use Rattle.pf_entry.specs.Sizes.{body_size}
+use Rattle.pf_entry.specs.Sizes.{body_size, empty_half}
 use Rattle.pf_entry.specs.Records.{Durable, stored}
 use Rattle.pf_entry.specs.declared.packets.Packet.{Packet}
 use Rattle.pf_entry.specs.declared.records.Record.{Record}
@@ -16,16 +16,24 @@ use Rattle.pf_state.specs.declared.faults.StepFault.TheVariants.{NoMemory, Refus
 use Rattle.pf_state.specs.declared.running.Running.{Running}
 use Rattle.pf_state.specs.Outgoing.{Outgoing, exceeds, sent_by, Sends}
 use Rattle.pf_state.specs.Standing.{server_of, setup_of, quiet, IsCached, Stands, IsDone, Steps, room_refusal}
-use Rattle.pf_state.specs.Storing.{IsStored, Stores}
+use Rattle.pf_state.specs.Storing.{IsStored, Keeps, Stores, Saves}
 use Rattle.pf_state.specs.Turns.{IsAfter}
 use Rattle.pf_state.proofs.Sendings.{none_exceeds, none_sent, nothing_sent, to_host}
 use Rattle.pf_state.proofs.Steps.{room_none, room_packets, room_log, untouched}
 
--- a record was added to the state
-pub record IsAdded (d : Durable) (r : Record) (after : Durable) : Type 0 where
+-- the state with a record
+pub record IsKept (d : Durable) (r : Record) (size its : ℕ) (after : Durable) : Type 0 where
   pub is : after ≡ stored d r
-  pub used : after.used ≡ d.used + body_size r
-  pub format : after.format ≡ d.format
+  pub used : after.used ≡ size
+  pub format : after.format ≡ its
+
+-- a record was added to the state
+abbrev pub IsAdded : (d : Durable) (r : Record) (after : Durable) → Type 0
+IsAdded d r after = IsKept d r (d.used + body_size r) d.format after
+
+-- an image of the state was saved
+abbrev pub IsSaved : (d : Durable) (r : Record) (after : Durable) → Type 0
+IsSaved d r after = IsKept d r (empty_half + body_size r) 2 after
 
 -- memory over the state with the record
 abbrev pub IsFollowed : (me me' : Running) (s : Server) → Type 0
@@ -119,47 +127,73 @@ module _ {S : Type 0} (holds : S → Durable → Durable → Type 0) (used forma
     }
     after_sending (Err Halted) x = record { may = sym (sent_before out mid o not) ∙ x.may; in_doubt = x.in_doubt; told_same = x.told_same; crash = x.crash; cause = x.cause }
 
-  -- a step that sends nothing
-  module _ (store store' : S) (me : Running) (out : Outgoing) (o : Outcome) (r : Record) (stands : Stands holds used format d store me) (added : IsAdded d r o.server.durable) where
-    unstored_by : (X : Type 0) (e : StepFault) → Stores holds used format told rose was d r store store' {X = X} (Err e) → Steps holds used format told rose was d store me out store' me out (room_refusal out (quiet o)) (quiet o) (Err e)
-    unstored_by X NoMemory same = record { store_same = same; server_same = refl; setup_same = refl; stands = subst (λ x. Stands holds used format d x me) (sym same) stands }
-    unstored_by X (Refused refusal) full = record {
-      judged_so = room_log out (quiet o) (none_exceeds out) (subst (λ n. 67108864 < n) (sym added.used) full.beyond) ∙ ap Some (sym full.is);
-      untouched = record { store_same = full.same; server_same = refl; setup_same = refl; stands = subst (λ x. Stands holds used format d x me) (sym full.same) stands };
+  -- a step that sends nothing, and keeps a record
+  module _ (store store' : S) (me : Running) (out : Outgoing) (o : Outcome) (r : Record) (size its : ℕ) (stands : Stands holds used format d store me) (kept : IsKept d r size its o.server.durable) where
+    same_half : store' ≡ store → Stands holds used format d store' me
+    same_half same = subst (λ x. Stands holds used format d x me) (sym same) stands
+
+    unkept_by : (X : Type 0) (e : StepFault) → Keeps holds used format told rose was d r size its store store' {X = X} (Err e) → Steps holds used format told rose was d store me out store' me out (room_refusal out (quiet o)) (quiet o) (Err e)
+    unkept_by X NoMemory same = record { store_same = same; server_same = refl; setup_same = refl; stands = same_half same }
+    unkept_by X (Refused refusal) full = record {
+      judged_so = room_log out (quiet o) (none_exceeds out) (subst (λ n. 67108864 < n) (sym kept.used) full.beyond) ∙ ap Some (sym full.is);
+      untouched = record { store_same = full.same; server_same = refl; setup_same = refl; stands = same_half full.same };
     }
-    unstored_by X Halted doubt = record {
-      may = room_none out (quiet o) (none_exceeds out) (subst (λ n. n ≤ 67108864) (sym added.used) doubt.fits);
-      in_doubt = subst (holds store' d) (sym added.is) doubt.either;
+    unkept_by X Halted doubt = record {
+      may = room_none out (quiet o) (none_exceeds out) (subst (λ n. n ≤ 67108864) (sym kept.used) doubt.fits);
+      in_doubt = subst (holds store' d) (sym kept.is) doubt.either;
       told_same = doubt.told_same;
-      crash = subst (was store store' d) (sym added.is) doubt.crash;
+      crash = subst (was store store' d) (sym kept.is) doubt.crash;
       cause = doubt.cause;
     }
 
-    -- the record is not stored
-    pub unstored : {X : Type 0} (e : StepFault) (q : Result X StepFault) (r2 : Result Answer StepFault) → Stores holds used format told rose was d r store store' q → q ≡ Err e → (e2 : StepFault) × (r2 ≡ Err e2) × (e2 ≡ e)
+    unkept : {X : Type 0} (e : StepFault) (q : Result X StepFault) (r2 : Result Answer StepFault) → Keeps holds used format told rose was d r size its store store' q → q ≡ Err e → (e2 : StepFault) × (r2 ≡ Err e2) × (e2 ≡ e)
         → Steps holds used format told rose was d store me out store' me out (room_refusal out (quiet o)) (quiet o) r2
-    unstored {X = X} e q r2 stores is (e2, is2, same) =
-        subst (Steps holds used format told rose was d store me out store' me out (room_refusal out (quiet o)) (quiet o)) (sym (is2 ∙ ap Err same)) (unstored_by X e (subst (Stores holds used format told rose was d r store store') is stores))
+    unkept {X = X} e q r2 keeps is (e2, is2, same) =
+        subst (Steps holds used format told rose was d store me out store' me out (room_refusal out (quiet o)) (quiet o)) (sym (is2 ∙ ap Err same)) (unkept_by X e (subst (Keeps holds used format told rose was d r size its store store') is keeps))
 
-    -- the record is stored, and memory follows
-    pub stored_then : (me' : Running) (answer : Answer) → IsStored holds used format told rose was d r store store' → IsFollowed me me' o.server → answer ≡ o.answer → out.acked ≡ o.acked
+    kept_then : (me' : Running) (answer : Answer) → IsStored holds used format told rose was d r size its store store' → IsFollowed me me' o.server → answer ≡ o.answer → out.acked ≡ o.acked
         → IsDone holds used format told rose was d store me out store' me' out (room_refusal out (quiet o)) (quiet o) answer
-    stored_then me' answer x followed answered acked = record {
-      may = room_none out (quiet o) (none_exceeds out) (subst (λ n. n ≤ 67108864) (sym added.used) x.fits);
+    kept_then me' answer x followed answered acked = record {
+      may = room_none out (quiet o) (none_exceeds out) (subst (λ n. n ≤ 67108864) (sym kept.used) x.fits);
       answered = answered;
       server_is = followed.server_is;
       setup_same = followed.setup_same;
       stands = record {
-        recorded = subst (λ a. holds store' a a) (sym added.is) x.recorded;
-        used_is = x.used_is ∙ sym added.used;
-        within = subst (λ n. n ≤ 67108864) (sym added.used) x.fits;
-        half = x.format_same ∙ stands.half ∙ sym added.format;
+        recorded = subst (λ a. holds store' a a) (sym kept.is) x.recorded;
+        used_is = x.used_is ∙ sym kept.used;
+        within = subst (λ n. n ≤ 67108864) (sym kept.used) x.fits;
+        half = x.format_is ∙ sym kept.format;
         cached = followed.cached;
       };
       told_same = x.told_same;
-      crash = inr (subst (was store store' d) (sym added.is) x.crash);
+      crash = inr (subst (was store store' d) (sym kept.is) x.crash);
       sent = nothing_sent out o.acked acked;
     }
+
+  module _ (store store' : S) (me : Running) (out : Outgoing) (o : Outcome) (r : Record) (stands : Stands holds used format d store me) (added : IsAdded d r o.server.durable) where
+    in_half : IsKept d r (d.used + body_size r) (format store) o.server.durable
+    in_half = record { is = added.is; used = added.used; format = added.format ∙ sym stands.half }
+
+    -- the record is not stored
+    pub unstored : {X : Type 0} (e : StepFault) (q : Result X StepFault) (r2 : Result Answer StepFault) → Stores holds used format told rose was d r store store' q → q ≡ Err e → (e2 : StepFault) × (r2 ≡ Err e2) × (e2 ≡ e)
+        → Steps holds used format told rose was d store me out store' me out (room_refusal out (quiet o)) (quiet o) r2
+    unstored e q r2 stores is end = unkept store store' me out o r (d.used + body_size r) (format store) stands in_half e q r2 stores is end
+
+    -- the record is stored, and memory follows
+    pub stored_then : (me' : Running) (answer : Answer) → IsStored holds used format told rose was d r (d.used + body_size r) (format store) store store' → IsFollowed me me' o.server → answer ≡ o.answer → out.acked ≡ o.acked
+        → IsDone holds used format told rose was d store me out store' me' out (room_refusal out (quiet o)) (quiet o) answer
+    stored_then me' answer x followed answered acked = kept_then store store' me out o r (d.used + body_size r) (format store) stands in_half me' answer x followed answered acked
+
+  module _ (store store' : S) (me : Running) (out : Outgoing) (o : Outcome) (r : Record) (stands : Stands holds used format d store me) (saved : IsSaved d r o.server.durable) where
+    -- the image is not saved
+    pub unsaved : {X : Type 0} (e : StepFault) (q : Result X StepFault) (r2 : Result Answer StepFault) → Saves holds used format told rose was d r store store' q → q ≡ Err e → (e2 : StepFault) × (r2 ≡ Err e2) × (e2 ≡ e)
+        → Steps holds used format told rose was d store me out store' me out (room_refusal out (quiet o)) (quiet o) r2
+    unsaved e q r2 saves is end = unkept store store' me out o r (empty_half + body_size r) 2 stands saved e q r2 saves is end
+
+    -- the image is saved, and memory follows
+    pub saved_then : (me' : Running) (answer : Answer) → IsStored holds used format told rose was d r (empty_half + body_size r) 2 store store' → IsFollowed me me' o.server → answer ≡ o.answer → out.acked ≡ o.acked
+        → IsDone holds used format told rose was d store me out store' me' out (room_refusal out (quiet o)) (quiet o) answer
+    saved_then me' answer x followed answered acked = kept_then store store' me out o r (empty_half + body_size r) 2 stands saved me' answer x followed answered acked
 
   -- a step over memory that has the same content and more room
   module _ (store store' : S) (me near me' : Running) (out out' : Outgoing) (server : server_of d near ≡ server_of d me) (setup : setup_of near ≡ setup_of me) where

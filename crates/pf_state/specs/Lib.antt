@@ -1,4 +1,5 @@
 pub mod Coming
+pub mod Images
 pub mod Outgoing
 pub mod Packets
 pub mod Replying

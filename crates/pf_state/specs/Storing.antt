@@ -1,38 +1,48 @@
--- What comes of adding a record.
+-- What comes of adding a record, and of saving an image.
 use Rattle.std.specs.Prelude.{◌≡◌, ℕ, ◌+◌, ◌<◌, ◌≤◌, Bool, Result, Ok, Err}
 use Rattle.pf_entry.specs.Records.{Durable, stored}
-use Rattle.pf_entry.specs.Sizes.{body_size}
+use Rattle.pf_entry.specs.Sizes.{body_size, empty_half}
 use Rattle.pf_entry.specs.declared.records.Record.{Record}
 use Rattle.pf_protocol.specs.declared.answers.Refusal.{Refusal}
 use Rattle.pf_protocol.specs.declared.answers.Refusal.TheVariants.{LogFull}
 use Rattle.pf_state.specs.declared.faults.StepFault.{StepFault}
 use Rattle.pf_state.specs.declared.faults.StepFault.TheVariants.{NoMemory, Refused, Halted}
 
-module _ {S : Type 0} (holds : S → Durable → Durable → Type 0) (used format : S → ℕ) (told : S → Bool) (rose : S → S → Type 0) (was : S → S → Durable → Durable → Type 0) (d : Durable) (r : Record) (store store' : S) where
+module _ {S : Type 0} (holds : S → Durable → Durable → Type 0) (used format : S → ℕ) (told : S → Bool) (rose : S → S → Type 0) (was : S → S → Durable → Durable → Type 0) (d : Durable) (r : Record) (size its : ℕ) (store store' : S) where
+  -- the current half has this size and its format
   pub record IsStored : Type 0 where
-    pub fits : d.used + body_size r ≤ 67108864
+    pub fits : size ≤ 67108864
     pub recorded : holds store' (stored d r) (stored d r)
-    pub used_is : used store' ≡ d.used + body_size r
-    pub format_same : format store' ≡ format store
+    pub used_is : used store' ≡ size
+    pub format_is : format store' ≡ its
     pub told_same : told store' ≡ told store
     pub crash : was store store' d (stored d r)
 
   pub record IsFull (refusal : Refusal) : Type 0 where
     pub is : refusal ≡ LogFull
-    pub beyond : 67108864 < d.used + body_size r
+    pub beyond : 67108864 < size
     pub same : store' ≡ store
 
   -- a disk failed: a restart finds the state without the record, or with it
   pub record IsInDoubt : Type 0 where
-    pub fits : d.used + body_size r ≤ 67108864
+    pub fits : size ≤ 67108864
     pub either : holds store' d (stored d r)
     pub told_same : told store' ≡ told store
     pub crash : was store store' d (stored d r)
     pub cause : rose store store'
 
   -- the record is stored, or there is a reason why it is not
+  abbrev pub Keeps : {X : Type 0} → Result X StepFault → Type 0
+  Keeps (Ok x) = IsStored
+  Keeps (Err NoMemory) = store' ≡ store
+  Keeps (Err (Refused refusal)) = IsFull refusal
+  Keeps (Err Halted) = IsInDoubt
+
+module _ {S : Type 0} (holds : S → Durable → Durable → Type 0) (used format : S → ℕ) (told : S → Bool) (rose : S → S → Type 0) (was : S → S → Durable → Durable → Type 0) (d : Durable) (r : Record) (store store' : S) where
+  -- behind the other records of the current half
   abbrev pub Stores : {X : Type 0} → Result X StepFault → Type 0
-  Stores (Ok x) = IsStored
-  Stores (Err NoMemory) = store' ≡ store
-  Stores (Err (Refused refusal)) = IsFull refusal
-  Stores (Err Halted) = IsInDoubt
+  Stores result = Keeps holds used format told rose was d r (d.used + body_size r) (format store) store store' result
+
+  -- as the image of the other half
+  abbrev pub Saves : {X : Type 0} → Result X StepFault → Type 0
+  Saves result = Keeps holds used format told rose was d r (empty_half + body_size r) 2 store store' result

@@ -1,9 +1,10 @@
-//! Adding a record.
+//! Adding a record, and saving an image.
 ghost use Rattle.std.specs.Prelude.{◌≡◌};
 ghost use Rattle.pf_entry.specs.Records.{Durable};
-ghost use Rattle.pf_store.specs.Stores.{IsSpelledAs};
+ghost use Rattle.pf_entry.specs.declared.records.Record.{Record as RecordIs};
+ghost use Rattle.pf_store.specs.Stores.{IsImageOf, IsSpelledAs};
 ghost use Rattle.pf_spelling.specs.Spelling.{body_bytes};
-ghost use Rattle.pf_state.specs.Storing.{Stores};
+ghost use Rattle.pf_state.specs.Storing.{Saves, Stores};
 
 use crate::StepFault;
 use pf_entry::Record;
@@ -13,7 +14,7 @@ use pf_store::Store;
 use std::alloc::Global;
 
 /// The most bytes of an image's body: a half without its head and first gate.
-pub const ROOM: u64 = 67_108_855;
+const ROOM: u64 = 67_108_855;
 
 /// Adds a record to the store. The store is as it was after `NoMemory` (1) and after `LogFull` (41), which comes exactly where
 /// the record does not fit the current half. `Halted` (52) comes only where a disk failed.
@@ -27,4 +28,16 @@ pub fn add<S: Store>(alloc: Global, store: &mut S, rec: &Record) -> Result<(), S
         return Err(StepFault::Refused(Refusal::LogFull));
     }
     Ok(store.append(&body)?)
+}
+
+/// Saves the body of an image in the other half, in format 2. The store is as it was after `LogFull` (41), which comes exactly
+/// where the image does not fit a half of 67,108,864 bytes. `Halted` (52) comes only where a disk failed. It takes no memory.
+pub fn save<S: Store>(store: &mut S, body: &[u8]) -> Result<(), StepFault>
+    requires whole { (d : Durable) × S.holds store.old d d × ((r : RecordIs) × IsImageOf d r body.now) }
+    ensures { (d : Durable) (r : RecordIs) → S.holds store.old d d → IsImageOf d r body.now → Saves S.holds S.used S.format S.told S.rose S.was d r store.old store.new result }
+{
+    if ROOM < body.len() as u64 {
+        return Err(StepFault::Refused(Refusal::LogFull));
+    }
+    Ok(store.save(body)?)
 }

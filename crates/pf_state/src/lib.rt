@@ -12,7 +12,7 @@ mod replies;
 mod running;
 mod sending;
 
-pub use adding::{ROOM, add};
+pub use adding::{add, save};
 pub use copies::{copied_above, vote_of};
 pub use faults::StepFault;
 pub use outbox::Outbox;

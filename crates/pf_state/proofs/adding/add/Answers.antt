@@ -1,4 +1,4 @@
-use Rattle.std.proofs.Common.{◌≡◌, length, refl, ap, ◌∙◌, arith}
+use Rattle.std.proofs.Common.{◌≡◌, ◌+◌, length, refl, ap, ◌∙◌, arith}
 use Rattle.std.proofs.lemmas.Bool.{false≢true}
 use Rattle.std.proofs.lemmas.Result.{err_from_is_err_and}
 use Rattle.pf_entry.specs.Sizes.{body_size}
@@ -28,7 +28,7 @@ returns-in_err-append g c = λ d whole used_is.
     let size : c.len.result ≡ body_size r = omega (arith, c.len.ensures, ap length c.in_ok-body.ensures, body_len second_format window_of_second r (in_second (g.S.Store.format c.args.store.now) r c.requires.spelled.canonical).fields) in
     let fits = up_to (g.S.Store.used c.args.store.now) d.used c.len.result (body_size r) (c.if-not-has_room.ensures.0 refl) used_is size in
     let body : IsSpelledAs (g.S.Store.format c.args.store.now) r c.deref.result.now = record { canonical = c.requires.spelled.canonical; fits = c.requires.spelled.fits; added = c.requires.spelled.added; is = c.deref.ensures.value ∙ c.in_ok-body.ensures } in
-    is_in_doubt g.S.Store.holds g.S.Store.used g.S.Store.format g.S.Store.told g.S.Store.rose g.S.Store.was d r c.args.store.now c.append.new.self c.from_residual-in_err-append.result
+    is_in_doubt g.S.Store.holds g.S.Store.used g.S.Store.format g.S.Store.told g.S.Store.rose g.S.Store.was d r (d.used + body_size r) (g.S.Store.format c.args.store.now) c.args.store.now c.append.new.self c.from_residual-in_err-append.result
     (err_from_is_err_and c.from_residual-in_err-append.result c.from_residual-in_err-append.ensures.1)
     (record { fits = fits; either = c.in_err-append.ensures.err d r whole body; told_same = c.append.ensures.told; crash = c.append.ensures.any_moment d r whole body; cause = c.in_err-append.ensures.cause })
 
@@ -42,7 +42,7 @@ returns g c = λ d whole used_is.
       fits = fits;
       recorded = c.in_ok-append.ensures.ok d r whole body;
       used_is = omega (arith, c.in_ok-append.ensures.used, used_is, c.deref.ensures.len, c.len.ensures, size);
-      format_same = c.in_ok-append.ensures.format;
+      format_is = c.in_ok-append.ensures.format;
       told_same = c.append.ensures.told;
       crash = c.append.ensures.any_moment d r whole body;
     }
