@@ -65,24 +65,6 @@ only_sends s (Candidate own) = refl
 only_sends s (Merging l) = refl
 only_sends s (Serving l) = refl
 
-to_host : (out new : Outgoing) (ps : List Packet) → new ≡ sent_by out ps → out.acked ≡ None → new ≡ record (sent_by out ps) { acked = None }
-unfolding sent_by
-to_host out new ps is fresh = is ∙ (λ i. record (sent_by out ps) { acked = fresh i })
-
--- packets are sent, and nothing else happens
-pub sent_done : {S : Type 0} (holds : S → Durable → Durable → Type 0) (used format : S → ℕ) (told : S → Bool) (rose : S → S → Type 0) (d : Durable) (store : S) (me : Running) (out new : Outgoing) (stands : Stands holds used format d store me)
-    (ps : List Packet) → exceeds out ps ≡ false → new ≡ sent_by out ps → out.acked ≡ None → IsDone holds used format told rose d store me out store me new (room_refusal out (sends (server_of d me) ps)) (sends (server_of d me) ps) Done
-unfolding server_of
-sent_done holds used format told rose d store me out new stands ps not is fresh = record {
-  may = room_none out (sends (server_of d me) ps) not stands.within;
-  answered = refl;
-  server_is = refl;
-  setup_same = refl;
-  stands = stands;
-  told_same = refl;
-  sent = to_host out new ps is fresh;
-}
-
 -- what each role sends again
 module _ (me : Running) where
   pub again_follower : me.role ≡ FollowerHere → (slot u : ℕ) → slot ≡ me.log.base → u ≡ upto (server_of (bare me) me) → packets_to me.number me.term (Ack slot u) ≡ (on_resend (server_of (bare me) me) (role_of me.role)).packets
@@ -105,21 +87,3 @@ module _ (me : Running) where
   pub own_request : IsBounded me → me.number < 3 → (slot : ℕ) → AreCanonical me.number me.term (RequestVote slot)
   unfolding server_of
   own_request b number slot = λ i below apart. record { from = number; to = below; apart = λ same. apart (sym same); term = b.fits.durable.term; message = tt }
-
-  pub bare_cached : (d : Durable) → IsCached d me → IsCached (bare me) me
-  bare_cached d cached = record {
-    number = cached.number;
-    term = refl;
-    generation = refl;
-    base = refl;
-    starts = refl;
-    log = refl;
-    format = inr refl;
-    prefix = cached.prefix;
-    role = cached.role;
-    jobs = cached.jobs;
-    places = cached.places;
-    rooms = cached.rooms;
-    near = cached.near;
-    replies = cached.replies;
-  }

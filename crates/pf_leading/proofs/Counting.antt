@@ -1,5 +1,5 @@
 -- A leader that takes an acknowledgement.
-use Rattle.std.proofs.Common.{◌≡◌, ◌≢◌, ℕ, Bool, false, ◌&&◌, List, [], ◌∷◌, Some, None, if◌then◌else◌, refl, sym, subst, ◌∙◌}
+use Rattle.std.proofs.Common.{◌≡◌, inl, ◌≢◌, ℕ, Bool, false, ◌&&◌, List, [], ◌∷◌, Some, None, if◌then◌else◌, refl, sym, subst, ◌∙◌}
 use Rattle.std.proofs.lemmas.Bool.{eq-eqb, ne_eqb, cond-true, cond-false}
 use Rattle.std.specs.FinMap
 use Rattle.pf_entry.specs.Maps.{Numbers}
@@ -18,7 +18,7 @@ use Rattle.pf_state.specs.Packets.{packet}
 use Rattle.pf_state.specs.Standing.{server_of, setup_of, role_of, IsCached, IsRoleKept, Stands, IsDone, room_refusal}
 use Rattle.pf_state.proofs.Steps.{room_none}
 use Rattle.pf_leading.specs.Acking.{owns, announces, after_ack, commits, counted_ack}
-use Rattle.pf_leading.proofs.Ending.{none_exceeds, none_sent, nothing_sent, sent_acked}
+use Rattle.pf_state.proofs.Sendings.{none_exceeds, none_sent, nothing_sent, sent_acked}
 
 -- the rule
 module _ (s : Server) (from term slot upto : ℕ) where
@@ -92,20 +92,7 @@ announced out mid new ps b slot is fresh tells =
     let acked = sent_acked out mid ps is ∙ fresh in
     tells ∙ (λ i. record (is i) { acked = if b then Some slot else acked i })
 
-module _ {S : Type 0} (holds : S → Durable → Durable → Type 0) (used format : S → ℕ) (told : S → Bool) (rose : S → S → Type 0) (d : Durable) (store : S) (me : Running) (out : Outgoing) (stands : Stands holds used format d store me) where
-  -- nothing happens
-  pub nothing_done : out.acked ≡ None → IsDone holds used format told rose d store me out store me out (room_refusal out (nothing (server_of d me))) (nothing (server_of d me)) Done
-  unfolding server_of
-  nothing_done fresh = record {
-    may = room_none out (nothing (server_of d me)) (none_exceeds out) stands.within;
-    answered = refl;
-    server_is = refl;
-    setup_same = refl;
-    stands = stands;
-    told_same = refl;
-    sent = nothing_sent out None fresh;
-  }
-
+module _ {S : Type 0} (holds : S → Durable → Durable → Type 0) (used format : S → ℕ) (told : S → Bool) (rose : S → S → Type 0) (was : S → S → Durable → Durable → Type 0) (d : Durable) (store : S) (me : Running) (out : Outgoing) (stands : Stands holds used format d store me) where
   within_same : (from slot upto : ℕ) → exceeds out (commits (server_of d me) (server_of d me).role from slot) ≡ false
       → room_refusal out (counted_ack (server_of d me) from slot upto (server_of d me).role) ≡ None
   unfolding server_of
@@ -114,7 +101,7 @@ module _ {S : Type 0} (holds : S → Durable → Durable → Type 0) (used forma
   module _ (mid new : Outgoing) (from slot upto : ℕ) (role : RoleHere) (role_is : role_of role ≡ after_ack me.number from slot upto (role_of me.role)) (kept : IsRoleKept me.number role)
       (room : exceeds out (commits (server_of d me) (server_of d me).role from slot) ≡ false) (sent : mid ≡ sent_by out (commits (server_of d me) (server_of d me).role from slot)) (fresh : out.acked ≡ None)
       (tells : new ≡ record mid { acked = if announces me.number (role_of me.role) slot then Some slot else mid.acked }) where
-    here : IsDone holds used format told rose d store me out store (with_marks me role (marks_after me slot)) new (room_refusal out (counted_ack (server_of d me) from slot upto (server_of d me).role)) (counted_ack (server_of d me) from slot upto (server_of d me).role) Done
+    here : IsDone holds used format told rose was d store me out store (with_marks me role (marks_after me slot)) new (room_refusal out (counted_ack (server_of d me) from slot upto (server_of d me).role)) (counted_ack (server_of d me) from slot upto (server_of d me).role) Done
     unfolding server_of
     here = record {
       may = within_same from slot upto room;
@@ -129,12 +116,13 @@ module _ {S : Type 0} (holds : S → Durable → Durable → Type 0) (used forma
         cached = counted_cached d me stands.cached role (marks_after me slot) kept;
       };
       told_same = refl;
+      crash = inl refl;
       sent = announced out mid new (commits (server_of d me) (server_of d me).role from slot) (announces me.number (role_of me.role) slot) slot sent fresh tells;
     }
 
     pub counted_done : (me' : Running) → me' ≡ with_marks me role (marks_after me slot)
-        → IsDone holds used format told rose d store me out store me' new (room_refusal out (counted_ack (server_of d me) from slot upto (server_of d me).role)) (counted_ack (server_of d me) from slot upto (server_of d me).role) Done
-    counted_done me' is = subst (λ m. IsDone holds used format told rose d store me out store m new (room_refusal out (counted_ack (server_of d me) from slot upto (server_of d me).role)) (counted_ack (server_of d me) from slot upto (server_of d me).role) Done) (sym is) here
+        → IsDone holds used format told rose was d store me out store me' new (room_refusal out (counted_ack (server_of d me) from slot upto (server_of d me).role)) (counted_ack (server_of d me) from slot upto (server_of d me).role) Done
+    counted_done me' is = subst (λ m. IsDone holds used format told rose was d store me out store m new (room_refusal out (counted_ack (server_of d me) from slot upto (server_of d me).role)) (counted_ack (server_of d me) from slot upto (server_of d me).role) Done) (sym is) here
 
 -- the server's own term
 pub own_term : (d : Durable) (me : Running) → IsCached d me → (term : ℕ) → term ≡ me.term → term ≡ (server_of d me).durable.term

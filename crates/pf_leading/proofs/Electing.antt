@@ -11,7 +11,7 @@ use Rattle.pf_state.specs.declared.running.Role.TheVariants.{Candidate as Candid
 use Rattle.pf_state.specs.Packets.{packets_to}
 use Rattle.pf_state.specs.Standing.{server_of, setup_of, bare, IsBounded, IsCached}
 use Rattle.pf_leading.specs.Electing.{candidate, elected}
-use Rattle.pf_leading.proofs.Ending.{IsAdded, IsFollowed}
+use Rattle.pf_state.proofs.Ending.{IsAdded, IsFollowed}
 
 abbrev pub with_candidacy : Running → ℕ → VoteLog → Running
 with_candidacy me term vote = record me { term = term; role = CandidateHere (record { own = vote; other = None }); reads = [] }
@@ -23,7 +23,7 @@ stood_added d me term = record { is = refl; used = refl; format = refl }
 vote_same : (d : Durable) (me : Running) → IsCached d me → vote_of (bare me) ≡ vote_of d
 vote_same d me cached = λ i. record { base = cached.base i; starts = cached.starts i; log = cached.log i }
 
-stood_here : (d : Durable) (me : Running) (term : ℕ) (vote : VoteLog) → IsCached d me → vote ≡ vote_of d → IsFollowed d me (with_candidacy me term vote) (candidate (server_of d me) term)
+stood_here : (d : Durable) (me : Running) (term : ℕ) (vote : VoteLog) → IsCached d me → vote ≡ vote_of d → IsFollowed me (with_candidacy me term vote) (candidate (server_of d me) term)
 unfolding server_of setup_of stored
 stood_here d me term vote cached own = record {
   server_is = λ i. record (candidate (server_of d me) term) { role = Candidate (own i) };
@@ -46,9 +46,9 @@ stood_here d me term vote cached own = record {
   };
 }
 
-pub stood_followed : (d : Durable) (me me' : Running) (term : ℕ) (vote : VoteLog) → IsCached d me → vote ≡ vote_of (bare me) → me' ≡ with_candidacy me term vote → IsFollowed d me me' (candidate (server_of d me) term)
+pub stood_followed : (d : Durable) (me me' : Running) (term : ℕ) (vote : VoteLog) → IsCached d me → vote ≡ vote_of (bare me) → me' ≡ with_candidacy me term vote → IsFollowed me me' (candidate (server_of d me) term)
 stood_followed d me me' term vote cached own is =
-    subst (λ m. IsFollowed d me m (candidate (server_of d me) term)) (sym is) (stood_here d me term vote cached (own ∙ vote_same d me cached))
+    subst (λ m. IsFollowed me m (candidate (server_of d me) term)) (sym is) (stood_here d me term vote cached (own ∙ vote_same d me cached))
 
 -- the next term
 pub next_word : (me : Running) → IsBounded me → me.term + 1 < 2 ^ 64

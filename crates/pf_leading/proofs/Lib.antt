@@ -1,5 +1,3 @@
-pub mod Ending
-pub mod Storing
 pub mod Electing
 pub mod Looks
 pub mod Submitting

@@ -1,5 +1,5 @@
 -- Look-behind lists, grown slot by slot.
-use Rattle.std.proofs.Common.{◌≡◌, ℕ, zero, suc, ◌+◌, ◌-◌, ◌≤◌, ◌<◌, true, false, cond, List, [], ◌∷◌, ◌++◌, map, nat_lt, arith, refl, ap, ◌∙◌}
+use Rattle.std.proofs.Common.{◌≡◌, ℕ, zero, suc, ◌+◌, ◌-◌, ◌≤◌, ◌<◌, true, false, cond, List, [], ◌∷◌, ◌++◌, append-nil, map, nat_lt, arith, refl, ap, ◌∙◌}
 use Rattle.std.specs.List.{filter, range_with_len}
 use Rattle.std.proofs.lemmas.List.{map-append}
 use Rattle.std.proofs.lemmas.List.Elements.{filter-append}
@@ -29,11 +29,7 @@ module _ (log : Map Entry) (base from slot : ℕ) (within : from ≤ slot) where
       tested a b h = grind (arith, nat_tests)
 
   pub looks_same : slot ≤ base → map (named_at log) (filter (nat_lt base) (range_with_len from (slot + 1 - from))) ≡ map (named_at log) (filter (nat_lt base) (range_with_len from (slot - from)))
-  looks_same le = longer ∙ ap (λ b. map (named_at log) (filter (nat_lt base) (range_with_len from (slot - from))) ++ map (named_at log) (cond b (slot ∷ []) [])) (tested base slot le) ∙ append_none _
+  looks_same le = longer ∙ ap (λ b. map (named_at log) (filter (nat_lt base) (range_with_len from (slot - from))) ++ map (named_at log) (cond b (slot ∷ []) [])) (tested base slot le) ∙ append-nil _
     where
       tested : (a b : ℕ) → b ≤ a → nat_lt a b ≡ false
       tested a b h = grind (arith, nat_tests)
-
-      append_none : {X : Type 0} → (xs : List X) → xs ++ [] ≡ xs
-      append_none [] = refl
-      append_none (x ∷ xs) = ap (λ ys. x ∷ ys) (append_none xs)

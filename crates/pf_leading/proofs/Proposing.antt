@@ -30,40 +30,14 @@ use Rattle.pf_state.specs.declared.running.Running.{Running}
 use Rattle.pf_state.specs.Outgoing.{Outgoing}
 use Rattle.pf_state.specs.Packets.{AreCanonical, packet}
 use Rattle.pf_state.specs.Standing.{server_of, setup_of, bare, role_of, leader_of, IsBounded, IsCached, Stands, Steps, room_refusal}
-use Rattle.pf_state.proofs.Canonicals.{IsFormat, in_format, short_entry, packet_is}
-use Rattle.pf_state.proofs.Steps.{untouched, untouched_in}
+use Rattle.pf_state.proofs.Canonicals.{IsFormat, entry_is_spelled, packet_is}
+use Rattle.pf_state.proofs.Steps.{bare_cached, untouched}
 use Rattle.pf_leading.specs.Submitting.{submit_refusal, IsLow, IsRoomier, IsPlan, Plans, proposed}
 use Rattle.pf_leading.proofs.Submitting.{near_serves, own_leader, same_refusal, none_refused, submission}
 
 pub few_sectors : (me : Running) → IsBounded me → length me.sectors ≤ 4096
 unfolding setup_of
 few_sectors me b = b.setup.few_sectors
-
--- the volume's format or the second
-pub half_of : {S : Type 0} (holds : S → Durable → Durable → Type 0) (used format : S → ℕ) (d : Durable) (store : S) (me : Running) → Stands holds used format d store me → IsFormat (setup_of me) (format store)
-unfolding setup_of
-half_of holds used format d store me stands = elim stands.cached.format [
-  | inl second ↦ inl (stands.half ∙ second)
-  | inr same ↦ inr (stands.half ∙ same)
-]
-
-bare_cached : (d : Durable) (me : Running) → IsCached d me → IsCached (bare me) me
-bare_cached d me cached = record {
-  number = cached.number;
-  term = refl;
-  generation = refl;
-  base = refl;
-  starts = refl;
-  log = refl;
-  format = inr refl;
-  prefix = cached.prefix;
-  role = cached.role;
-  jobs = cached.jobs;
-  places = cached.places;
-  rooms = cached.rooms;
-  near = cached.near;
-  replies = cached.replies;
-}
 
 second_of : (format names : ℕ) → (format == 1) ≡ false → ((format ≡ 1) × (names ≤ 2)) ⊎ (format ≡ 2) → format ≡ 2
 second_of format names other (inl first) = absurd (false≢true (sym other ∙ ap (λ f. f == 1) first.0))
@@ -74,15 +48,6 @@ unfolding setup_of range_of
 op_fits me (Write range payload) is asked mark fits = (asked.0, asked.1, asked.2, fits)
 op_fits me Noop is asked mark fits = absurd asked
 op_fits me Mark is asked mark fits = second_of me.format me.names mark is.format
-
--- words
-has_words : (me : Running) (n t : ℕ) (e : Entry) → n < 2 ^ 63 → t < 2 ^ 63 → EntryFits (setup_of me) (suc n) t e → HasWords e
-has_words me n t e low t_low f = record {
-  slot = omega (arith, f.slot_low, low);
-  term = omega (arith, f.term_low, t_low);
-  first = omega (arith, f.first_low, low);
-  look = every_more (NameFits (setup_of me) e.slot) (λ m. m.slot < 2 ^ 64) (λ m x. omega (arith, x.below, f.slot_low, low)) e.look f.named;
-}
 
 module _ (me : Running) (b : IsBounded me) (op : Op) (asked : IsSubmitted op) (e : Entry) (p : IsPlan me op e) where
   pub plan_slot : e.slot ≡ p.leader.next
@@ -136,12 +101,7 @@ module _ (me : Running) (b : IsBounded me) (op : Op) (asked : IsSubmitted op) (e
         })
 
     pub plan_spelled : (format : ℕ) → IsFormat (setup_of me) format → IsSpelledAs format (EntryRecord e) (body_bytes (EntryRecord e))
-    plan_spelled format half = record {
-      canonical = record { fields = in_format (setup_of me) b.setup (suc b.n) b.t format half e entry_fits; short = omega (arith, short_entry (setup_of me) b.setup (suc b.n) b.t e entry_fits) };
-      fits = has_words me b.n b.t e b.low b.t_low entry_fits;
-      added = refl;
-      is = refl;
-    }
+    plan_spelled format half = entry_is_spelled (setup_of me) b.setup (suc b.n) b.t b.low b.t_low format half e entry_fits
 
 -- with more room
 canonical_near : (me near : Running) (e : Entry) → IsRoomier me near → AreCanonical me.number me.term (Accept e) → AreCanonical near.number near.term (Accept e)
@@ -174,27 +134,20 @@ module _ (me : Running) (op : Op) (e : Entry) (p : IsPlan me op e) (d : Durable)
   plan_refusal out = ap (room_refusal out) plan_outcome ∙ sym (none_refused d me cached op p.leader p.may (room_refusal out (on_submit (setup_of me) (server_of d me) op (server_of d me).role)))
 
 -- there is no plan
-module _ {S : Type 0} (holds : S → Durable → Durable → Type 0) (used format : S → ℕ) (told : S → Bool) (rose : S → S → Type 0) (d : Durable) (store : S) (me : Running) (out : Outgoing) (stands : Stands holds used format d store me) (op : Op) (o : Outcome) where
-  unplanned_by : (e : StepFault) → Plans me op (Err e) → Steps holds used format told rose d store me out store me out (submit_refusal (setup_of me) out op (server_of d me)) o (Err e)
+module _ {S : Type 0} (holds : S → Durable → Durable → Type 0) (used format : S → ℕ) (told : S → Bool) (rose : S → S → Type 0) (was : S → S → Durable → Durable → Type 0) (d : Durable) (store : S) (me : Running) (out : Outgoing) (stands : Stands holds used format d store me) (op : Op) (o : Outcome) where
+  unplanned_by : (e : StepFault) → Plans me op (Err e) → Steps holds used format told rose was d store me out store me out (submit_refusal (setup_of me) out op (server_of d me)) o (Err e)
   unfolding submit_refusal
-  unplanned_by NoMemory s = untouched holds used format told rose d store me out out stands
+  unplanned_by NoMemory s = untouched holds used format told rose was d store me out out stands
   unplanned_by (Refused refusal) s =
       let rest = room_refusal out (on_submit (setup_of me) (server_of d me) op (server_of d me).role) in
-      record { judged_so = sym (same_refusal d me stands.cached op rest) ∙ s rest; untouched = untouched holds used format told rose d store me out out stands }
+      record { judged_so = sym (same_refusal d me stands.cached op rest) ∙ s rest; untouched = untouched holds used format told rose was d store me out out stands }
   unplanned_by Halted s = absurd s
 
   pub unplanned : (e : StepFault) (r : Result Entry StepFault) (r2 : Result Answer StepFault) → Plans me op r → r ≡ Err e → (e2 : StepFault) × (r2 ≡ Err e2) × (e2 ≡ e)
-      → Steps holds used format told rose d store me out store me out (submit_refusal (setup_of me) out op (server_of d me)) o r2
+      → Steps holds used format told rose was d store me out store me out (submit_refusal (setup_of me) out op (server_of d me)) o r2
   unplanned e r r2 plans is (e2, is2, same) =
-      subst (Steps holds used format told rose d store me out store me out (submit_refusal (setup_of me) out op (server_of d me)) o) (sym (is2 ∙ ap Err same)) (unplanned_by e (subst (Plans me op) is plans))
+      subst (Steps holds used format told rose was d store me out store me out (submit_refusal (setup_of me) out op (server_of d me)) o) (sym (is2 ∙ ap Err same)) (unplanned_by e (subst (Plans me op) is plans))
 
 -- the same proposal
 pub proposed_near : (s z : Server) (l k : Leader) (e : Entry) → s ≡ z → l ≡ k → proposed s l e ≡ proposed z k e
 proposed_near s z l k e is same = λ i. proposed (is i) (same i) e
-
--- there is no memory, and only room has changed
-pub no_room : {S : Type 0} (holds : S → Durable → Durable → Type 0) (used format : S → ℕ) (told : S → Bool) (rose : S → S → Type 0) (d : Durable) (store : S) (me near : Running) (out : Outgoing) (judged : Option Refusal) (o : Outcome) (r : Result Answer StepFault)
-    → (e : StepFault) × (r ≡ Err e) × (e ≡ NoMemory) → server_of d near ≡ server_of d me → setup_of near ≡ setup_of me → Stands holds used format d store near
-    → Steps holds used format told rose d store me out store near out judged o r
-no_room holds used format told rose d store me near out judged o r (e, is, none) server setup stands =
-    subst (Steps holds used format told rose d store me out store near out judged o) (sym (is ∙ ap Err none)) (untouched_in holds used format told rose d store me near out out server setup stands)

@@ -1,5 +1,5 @@
 -- Packets that are sent one after another.
-use Rattle.std.proofs.Common.{◌≡◌, ℕ, zero, suc, ◌+◌, ◌-◌, ◌<◌, ◌≤◌, true, false, not, cond, List, [], ◌∷◌, ◌++◌, Some, None, Result, Ok, Err, map, append_assoc, nat_lt, arith, refl, sym, ap, ◌∙◌}
+use Rattle.std.proofs.Common.{◌≡◌, ℕ, zero, suc, ◌+◌, ◌-◌, ◌<◌, ◌≤◌, true, false, not, cond, List, [], ◌∷◌, ◌++◌, Some, None, Result, Ok, Err, map, append_assoc, append-nil, nat_lt, arith, refl, sym, ap, ◌∙◌}
 use Rattle.std.specs.List.{filter, flat_map, range_with_len}
 use Rattle.std.specs.FinMap
 use Rattle.pf_entry.specs.declared.packets.Packet.{Packet}
@@ -24,24 +24,7 @@ use Rattle.pf_leading.specs.Resending.{slot_packets, probes}
 use Rattle.pf_state.specs.declared.faults.StepFault.{StepFault}
 use Rattle.pf_state.specs.Outgoing.{Outgoing, exceeds, sent_by, Sends}
 use Rattle.pf_state.proofs.Sendings.{sends_less, sends_more}
-use Rattle.pf_leading.proofs.Ending.{none_exceeds, none_sent}
-
-abbrev pub Sent : Outgoing → Outgoing → List Packet → Type 0
-Sent out new ps = (exceeds out ps ≡ false) × (new ≡ sent_by out ps)
-
-pub sent_none : (out : Outgoing) → Sent out out []
-sent_none out = (none_exceeds out, none_sent out)
-
-pub sent_on : (out mid new : Outgoing) (ps qs : List Packet) → Sent out mid ps → Sent mid new qs → Sent out new (ps ++ qs)
-sent_on out mid new ps qs here there = sends_more {X = Unit {0}} {Y = Unit {0}} out mid new ps qs (Ok tt) (Ok tt) tt here refl there
-
-pub sent_off : {Y Z : Type 0} (out mid new : Outgoing) (ps qs rest : List Packet) (r : Result Y StepFault) (r2 : Result Z StepFault) (e : StepFault) → Sent out mid ps → Sends mid new qs r → r ≡ Err e → (e2 : StepFault) × (r2 ≡ Err e2) × (e2 ≡ e)
-    → Sends out new ((ps ++ qs) ++ rest) r2
-sent_off out mid new ps qs rest r r2 e here sent is end = sends_less out new new (ps ++ qs) rest r r2 e (sends_more {X = Unit {0}} out mid new ps qs (Ok tt) r tt here refl sent) is end
-
-pub append_none : {X : Type 0} (xs : List X) → xs ++ [] ≡ xs
-append_none [] = refl
-append_none (x ∷ xs) = ap (λ ys. x ∷ ys) (append_none xs)
+use Rattle.pf_state.proofs.Sendings.{none_exceeds, none_sent}
 
 flat_append : (f : ℕ → List Packet) (xs ys : List ℕ) → flat_map f (xs ++ ys) ≡ flat_map f xs ++ flat_map f ys
 flat_append f [] ys = refl
@@ -69,7 +52,7 @@ module _ (f : ℕ → List Packet) (base : ℕ) where
       ap (λ n. flat_map f (range_with_len (suc base) n)) e
       ∙ ap (flat_map f) (range_split (slot - base) 1 (suc base))
       ∙ flat_append f (range_with_len (suc base) (slot - base)) (range_with_len (suc base + (slot - base)) 1)
-      ∙ ap (λ l. up_to slot ++ l) (append_none (f (suc base + (slot - base))) ∙ ap f g)
+      ∙ ap (λ l. up_to slot ++ l) (append-nil (f (suc base + (slot - base))) ∙ ap f g)
 
   pub up_to_all : (slot next : ℕ) → base ≤ slot → slot + 1 < next → flat_map f (range_with_len (suc base) (next - suc base)) ≡ up_to (slot + 1) ++ flat_map f (range_with_len (suc base + (slot + 1 - base)) (next - 1 - (slot + 1)))
   up_to_all slot next low high =
@@ -104,7 +87,7 @@ module _ (me : Running) (to : ℕ) where
     probes_more unheard = ap (probes me to) taken ∙ probes_append (take i reads) (r ∷ []) ∙ ap (λ ps. probes me to (take i reads) ++ ps) (one_probe r ∙ cond-true _ _ _ (ap not unheard))
 
     pub probes_same_far : r.confirmed ≡ true → probes me to (take (i + 1) reads) ≡ probes me to (take i reads)
-    probes_same_far done = ap (probes me to) taken ∙ probes_append (take i reads) (r ∷ []) ∙ ap (λ ps. probes me to (take i reads) ++ ps) (one_probe r ∙ cond-false _ _ _ (ap not done)) ∙ append_none _
+    probes_same_far done = ap (probes me to) taken ∙ probes_append (take i reads) (r ∷ []) ∙ ap (λ ps. probes me to (take i reads) ++ ps) (one_probe r ∙ cond-false _ _ _ (ap not done)) ∙ append-nil _
 
     pub probes_all : probes me to reads ≡ probes me to (take (i + 1) reads) ++ probes me to (drop (i + 1) reads)
     probes_all = ap (probes me to) (sym (take-append-drop (i + 1) reads)) ∙ probes_append (take (i + 1) reads) (drop (i + 1) reads)

@@ -33,7 +33,8 @@ use Rattle.pf_state.specs.declared.running.Running.{Running}
 use Rattle.pf_state.specs.Packets.{packets_to}
 use Rattle.pf_state.specs.Standing.{server_of, setup_of, bare, role_of, leader_of, IsCached, IsLeaderKept, IsRoleKept, Stands}
 use Rattle.pf_leading.specs.Submitting.{refused_first, HasBegun, IsNext, IsRoomier, IsRoomierLeader, MayPropose, proposed}
-use Rattle.pf_leading.proofs.Ending.{IsAdded, IsFollowed}
+use Rattle.pf_state.specs.Turns.{IsAfter}
+use Rattle.pf_state.proofs.Ending.{IsAdded, IsFollowed}
 
 -- which refusal comes first
 module _ (setup : Setup) (s : Server) (op : Op) where
@@ -183,7 +184,7 @@ leader_kept : (number : ℕ) (role : RoleHere) (l : LeaderHere) → role ≡ Ser
 leader_kept number role l is kept = subst (IsRoleKept number) is kept
 
 own_here : (d : Durable) (me : Running) (e : Entry) (starts : StartRoom) (l next : LeaderHere) → IsCached d me → me.role ≡ ServingHere l → IsNext me.number l next → e.term ≡ me.term
-    → starts.starts ≡ add_start me.starts.starts e.term e.first → IsFollowed d me (with_own me e starts (ServingHere next)) (submitted (server_of d me) (leader_of l) e)
+    → starts.starts ≡ add_start me.starts.starts e.term e.first → IsFollowed me (with_own me e starts (ServingHere next)) (submitted (server_of d me) (leader_of l) e)
 unfolding server_of setup_of stored submitted put_entry
 own_here d me e starts l next cached serves step term begun =
     let kept = leader_kept me.number me.role l serves cached.role in
@@ -209,10 +210,10 @@ own_here d me e starts l next cached serves step term begun =
     }
 
 pub own_followed : (d : Durable) (me me' : Running) (e : Entry) (starts : StartRoom) (role : RoleHere) (l : LeaderHere) → IsCached d me → me.role ≡ ServingHere l → HasBegun me.number me.role role → e.term ≡ me.term
-    → starts.starts ≡ add_start me.starts.starts e.term e.first → me' ≡ with_own me e starts role → IsFollowed d me me' (submitted (server_of d me) (leader_of l) e)
+    → starts.starts ≡ add_start me.starts.starts e.term e.first → me' ≡ with_own me e starts role → IsFollowed me me' (submitted (server_of d me) (leader_of l) e)
 own_followed d me me' e starts role l cached serves begun term start is =
     let next = begun l serves in
-    subst (λ m. IsFollowed d me m (submitted (server_of d me) (leader_of l) e)) (sym (is ∙ ap (with_own me e starts) next.1))
+    subst (λ m. IsFollowed me m (submitted (server_of d me) (leader_of l) e)) (sym (is ∙ ap (with_own me e starts) next.1))
     (own_here d me e starts l next.0 cached serves next.2 term start)
 
 -- an entry of the server's own is sent
@@ -281,14 +282,11 @@ module _ (me near : Running) (roomier : IsRoomier me near) (l : LeaderHere) (ser
     replies = cached.replies;
   }
 
+  pub roomy_after : (d : Durable) → IsCached d me → IsAfter d me near (server_of d me)
+  roomy_after d cached = record { server_is = roomy_server d; setup_same = roomy_setup; cached = subst (IsCached d) (sym roomier.is) (roomy_here d cached) }
+
   pub roomy_stands : {S : Type 0} (holds : S → Durable → Durable → Type 0) (used format : S → ℕ) (d : Durable) (store : S) → Stands holds used format d store me → Stands holds used format d store near
-  roomy_stands holds used format d store stands = record {
-    recorded = stands.recorded;
-    used_is = stands.used_is;
-    within = stands.within;
-    half = stands.half;
-    cached = subst (IsCached d) (sym roomier.is) (roomy_here d stands.cached);
-  }
+  roomy_stands holds used format d store stands = record { recorded = stands.recorded; used_is = stands.used_is; within = stands.within; half = stands.half; cached = (roomy_after d stands.cached).cached }
 
 pub own_leader : (l k : LeaderHere) → ServingHere l ≡ ServingHere k → l ≡ k
 own_leader l k is = cc

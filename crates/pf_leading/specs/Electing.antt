@@ -12,7 +12,3 @@ candidate s term = record (raise_term s term) { role = Candidate (vote_of s.dura
 -- the rule of a candidate of this term
 abbrev pub elected : Server → ℕ → Outcome
 elected s term = record { server = candidate s term; packets = to_others (candidate s term) (RequestVote s.durable.base); answer = TermIs term; acked = None }
-
--- the outcome without what it sends
-abbrev pub quiet : Outcome → Outcome
-quiet o = record o { packets = [] }

@@ -10,7 +10,7 @@ ghost use Rattle.pf_state.specs.Outgoing.{Sends};
 ghost use Rattle.pf_state.specs.Packets.{packet};
 ghost use Rattle.pf_state.specs.Standing.{server_of, role_of, IsRoleKept, Stands, Steps, room_refusal};
 ghost use Rattle.pf_leading.specs.Acking.{after_ack, announces, owns};
-ghost use Rattle.pf_leading.specs.Coming.{IsComing};
+ghost use Rattle.pf_state.specs.Coming.{IsComing};
 
 use crate::counts::{advance, announces, owns};
 use pf_base::{Server, Slot, Term};
@@ -100,7 +100,7 @@ pub fn ack<S: Store>(
     requires fresh { out.old.acked ≡ None }
     requires coming { IsComing me.old from term (AckIs slot upto) }
     ensures step { (d : Durable) → Stands S.holds S.used S.format d _store.now me.old → (let s = server_of d me.old in let o = on_ack s from term slot upto s.role in
-        Steps S.holds S.used S.format S.told S.rose d _store.now me.old out.old _store.now me.new out.new (room_refusal out.old o) o result) }
+        Steps S.holds S.used S.format S.told S.rose S.was d _store.now me.old out.old _store.now me.new out.new (room_refusal out.old o) o result) }
 {
     if term != me.term {
         return Ok(Answer::Done);

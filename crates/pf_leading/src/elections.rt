@@ -1,30 +1,18 @@
 //! An election is called.
-ghost use Rattle.std.specs.Prelude.{◌≡◌, [], IfOk, None};
+ghost use Rattle.std.specs.Prelude.{◌≡◌, [], None};
 ghost use Rattle.pf_entry.specs.Records.{Durable, vote_of};
 ghost use Rattle.pf_protocol.specs.Leading.{on_elect};
 ghost use Rattle.pf_state.specs.Outgoing.{Outgoing};
-ghost use Rattle.pf_leading.specs.Electing.{elected, quiet};
-ghost use Rattle.pf_state.specs.Standing.{server_of, bare, IsBounded, Stands, Steps, room_refusal};
+ghost use Rattle.pf_leading.specs.Electing.{elected};
+ghost use Rattle.pf_state.specs.Standing.{server_of, bare, quiet, IsBounded, Stands, Steps, room_refusal};
 
-use crate::adding::add;
-use pf_base::{NoMemory, Term};
+use pf_base::Term;
 use pf_election::{Candidacy, Probes};
 use pf_entry::{Body, Record, VoteLog};
 use pf_protocol::Answer;
-use pf_state::{Outbox, Role, Running, StepFault, send_to_others};
+use pf_state::{Outbox, Role, Running, StepFault, add, send_to_others, vote_of};
 use pf_store::Store;
 use std::alloc::Global;
-
-/// What the server holds.
-fn vote_of(alloc: Global, me: &Running) -> Result<VoteLog, NoMemory>
-    ensures { IfOk result (λ vote. vote ≡ vote_of (bare me.now)) }
-{
-    Ok(VoteLog {
-        base: me.log.base(),
-        starts: me.starts.copied(alloc)?,
-        log: me.log.copied(alloc)?,
-    })
-}
 
 /// Takes over a term, as a candidate with its own vote. A candidate has no reads.
 fn run(alloc: Global, me: &mut Running, term: Term, vote: VoteLog)
@@ -46,7 +34,7 @@ fn stand<S: Store>(
     requires stands { (d : Durable) × Stands S.holds S.used S.format d store.old me.old }
     requires vote { vote ≡ vote_of (bare me.old) }
     ensures { (d : Durable) (out : Outgoing) → Stands S.holds S.used S.format d store.old me.old → out.acked ≡ None → (let o = quiet (elected (server_of d me.old) term) in
-        Steps S.holds S.used S.format S.told S.rose d store.old me.old out store.new me.new out (room_refusal out o) o result) }
+        Steps S.holds S.used S.format S.told S.rose S.was d store.old me.old out store.new me.new out (room_refusal out o) o result) }
 {
     add(alloc, store, &Record::Term(term))?;
     run(alloc, me, term, vote);
@@ -68,7 +56,7 @@ pub fn elect<S: Store>(
     requires bounded { IsBounded me.old }
     requires fresh { out.old.acked ≡ None }
     ensures step { (d : Durable) → Stands S.holds S.used S.format d store.old me.old → (let o = on_elect (server_of d me.old) in
-        Steps S.holds S.used S.format S.told S.rose d store.old me.old out.old store.new me.new out.new (room_refusal out.old o) o result) }
+        Steps S.holds S.used S.format S.told S.rose S.was d store.old me.old out.old store.new me.new out.new (room_refusal out.old o) o result) }
 {
     let term = me.term + 1;
     let vote = vote_of(alloc, me)?;

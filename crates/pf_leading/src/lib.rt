@@ -6,7 +6,6 @@
 #![tactic(auto)]
 
 mod acks;
-mod adding;
 mod counts;
 mod elections;
 mod plans;

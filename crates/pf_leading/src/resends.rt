@@ -203,7 +203,7 @@ pub fn resend<S: Store>(
     requires fresh { out.old.acked ≡ None }
     requires own { AreOwn me.now }
     ensures step { (d : Durable) → Stands S.holds S.used S.format d _store.now me.now → (let s = server_of d me.now in let o = on_resend s s.role in
-        Steps S.holds S.used S.format S.told S.rose d _store.now me.now out.old _store.now me.now out.new (room_refusal out.old o) o result) }
+        Steps S.holds S.used S.format S.told S.rose S.was d _store.now me.now out.old _store.now me.now out.new (room_refusal out.old o) o result) }
 {
     send_again(alloc, me, out)?;
     Ok(Answer::Done)

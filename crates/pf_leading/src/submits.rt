@@ -9,19 +9,17 @@ ghost use Rattle.pf_store.specs.Stores.{IsSpelledAs};
 ghost use Rattle.pf_protocol.specs.Answers.{IsSubmitted};
 ghost use Rattle.pf_protocol.specs.Leading.{on_submit};
 ghost use Rattle.pf_state.specs.Packets.{AreCanonical};
-ghost use Rattle.pf_state.specs.Standing.{server_of, setup_of, leader_of, IsBounded, Stands, Steps, room_refusal};
+ghost use Rattle.pf_state.specs.Standing.{server_of, setup_of, leader_of, quiet, IsBounded, Stands, Steps, room_refusal};
 ghost use Rattle.pf_state.specs.declared.running.Leader.{Leader as LeaderHere};
 ghost use Rattle.pf_state.specs.declared.running.Role.TheVariants.{Serving as ServingHere};
 ghost use Rattle.pf_state.specs.Outgoing.{Outgoing};
-ghost use Rattle.pf_leading.specs.Electing.{quiet};
 ghost use Rattle.pf_leading.specs.Submitting.{HasBegun, HasRoom, IsLow, IsNext, IsRoomier, IsRoomierRole, proposed, submit_refusal};
 
-use crate::adding::add;
 use crate::plans::plan;
 use pf_base::{NoMemory, Server};
 use pf_entry::{Body, Entry, Op, Record};
 use pf_protocol::Answer;
-use pf_state::{Leader, Outbox, Role, Running, StepFault, send_to_others};
+use pf_state::{Leader, Outbox, Role, Running, StepFault, add, send_to_others};
 use pf_store::Store;
 use std::alloc::Global;
 
@@ -107,7 +105,7 @@ fn store_own<S: Store>(
     requires acks { HasRoom me.old.role }
     requires low { IsLow me.old.role }
     ensures { (d : Durable) (out : Outgoing) (l : LeaderHere) → Stands S.holds S.used S.format d store.old me.old → out.acked ≡ None → me.old.role ≡ ServingHere l → entry.slot ≡ l.next → (let o = quiet (proposed (server_of d me.old) (leader_of l) entry) in
-        Steps S.holds S.used S.format S.told S.rose d store.old me.old out store.new me.new out (room_refusal out o) o result) }
+        Steps S.holds S.used S.format S.told S.rose S.was d store.old me.old out store.new me.new out (room_refusal out o) o result) }
 {
     let slot = entry.slot;
     let kept = Record::Entry(entry.try_clone(alloc)?);
@@ -135,7 +133,7 @@ fn propose<S: Store>(
     requires acks { HasRoom me.old.role }
     requires low { IsLow me.old.role }
     ensures { (d : Durable) (l : LeaderHere) → Stands S.holds S.used S.format d store.old me.old → me.old.role ≡ ServingHere l → entry.slot ≡ l.next → (let o = proposed (server_of d me.old) (leader_of l) entry in
-        Steps S.holds S.used S.format S.told S.rose d store.old me.old out.old store.new me.new out.new (room_refusal out.old o) o result) }
+        Steps S.holds S.used S.format S.told S.rose S.was d store.old me.old out.old store.new me.new out.new (room_refusal out.old o) o result) }
 {
     let body = Body::Accept(entry.try_clone(alloc)?);
     send_to_others(alloc, out, me.number, me.term, body)?;
@@ -161,7 +159,7 @@ pub fn submit<S: Store>(
     requires fresh { out.old.acked ≡ None }
     requires op { IsSubmitted op }
     ensures step { (d : Durable) → Stands S.holds S.used S.format d store.old me.old → (let s = server_of d me.old in let o = on_submit (setup_of me.old) s op s.role in
-        Steps S.holds S.used S.format S.told S.rose d store.old me.old out.old store.new me.new out.new (submit_refusal (setup_of me.old) out.old op s) o result) }
+        Steps S.holds S.used S.format S.told S.rose S.was d store.old me.old out.old store.new me.new out.new (submit_refusal (setup_of me.old) out.old op s) o result) }
 {
     let entry = plan(alloc, me, op)?;
     reserve(me)?;

@@ -3,7 +3,8 @@ use Rattle.std.proofs.lemmas.Result.{err_from_is_err_and}
 use Rattle.pf_state.specs.Outgoing.{Sends}
 use Rattle.pf_state.proofs.Sendings.{sends_less, sends_more}
 use Rattle.pf_leading.specs.Resending.{probes}
-use Rattle.pf_leading.proofs.Resending.{sent_on, sent_off, image_packets, all_slots, resent_is}
+use Rattle.pf_state.proofs.Sendings.{sent_on, sent_off}
+use Rattle.pf_leading.proofs.Resending.{image_packets, all_slots, resent_is}
 use Rattle.pf_leading.proofs.resends.resend_to.Goals as goal
 
 pub returns-in_err-send_image : goal.returns-in_err-send_image

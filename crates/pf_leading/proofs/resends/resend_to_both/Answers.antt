@@ -1,11 +1,10 @@
-use Rattle.std.proofs.Common.{◌++◌, [], sym, subst}
+use Rattle.std.proofs.Common.{◌++◌, [], append-nil, sym, subst}
 use Rattle.std.specs.List.{flat_map}
 use Rattle.std.proofs.lemmas.Result.{err_from_is_err_and}
 use Rattle.pf_protocol.specs.Leading.{resent}
 use Rattle.pf_state.specs.Outgoing.{Sends}
 use Rattle.pf_state.specs.Standing.{server_of, bare, leader_of}
 use Rattle.pf_state.proofs.Sendings.{sends_less, sends_more}
-use Rattle.pf_leading.proofs.Resending.{append_none}
 use Rattle.pf_leading.proofs.resends.resend_to_both.Goals as goal
 
 pub resend_to-requires-clause-can : goal.resend_to-requires-clause-can
@@ -31,5 +30,5 @@ returns c =
     let g = resent (server_of (bare me) me) (leader_of l) in
     let pair = c.others_of-first.result in
     subst (λ ids. Sends c.args.out.now c.resend_to-2.new.out (flat_map g ids) c.resend_to-2.result) (sym c.others_of-first.ensures.both)
-    (subst (λ ps. Sends c.args.out.now c.resend_to-2.new.out (g pair.0 ++ ps) c.resend_to-2.result) (sym (append_none (g pair.1)))
+    (subst (λ ps. Sends c.args.out.now c.resend_to-2.new.out (g pair.0 ++ ps) c.resend_to-2.result) (sym (append-nil (g pair.1)))
     (sends_more c.args.out.now c.resend_to.new.out c.resend_to-2.new.out (g pair.0) (g pair.1) c.resend_to.result c.resend_to-2.result c.in_ok-resend_to.field-0 c.resend_to.ensures c.in_ok-resend_to.was c.resend_to-2.ensures))

@@ -1,7 +1,8 @@
 use Rattle.std.proofs.Common.{inl, inr, subst}
 use Rattle.pf_state.specs.Outgoing.{Sends}
 use Rattle.pf_state.specs.Standing.{bare}
-use Rattle.pf_leading.proofs.Again.{can_send, leads_above, again_follower, again_candidate, again_leader, own_ack, own_request, bare_cached}
+use Rattle.pf_leading.proofs.Again.{can_send, leads_above, again_follower, again_candidate, again_leader, own_ack, own_request}
+use Rattle.pf_state.proofs.Steps.{bare_cached}
 use Rattle.pf_leading.proofs.resends.send_again.Goals as goal
 
 pub send_to_others-requires-clause-canonical : goal.send_to_others-requires-clause-canonical
@@ -25,7 +26,7 @@ resend_to_both-requires-in-Serving-clause-above c = leads_above c.args.me.now c.
 pub returns-in-Follower : goal.returns-in-Follower
 returns-in-Follower c =
     subst (λ ps. Sends c.args.out.now c.send_to_others.new.out ps c.send_to_others.result)
-    (again_follower c.args.me.now c.in-Follower.is c.base.result c.upto.result c.base.ensures.base (c.upto.ensures (bare c.args.me.now) (bare_cached c.args.me.now c.requires.cached.0 c.requires.cached.1))) c.send_to_others.ensures
+    (again_follower c.args.me.now c.in-Follower.is c.base.result c.upto.result c.base.ensures.base (c.upto.ensures (bare c.args.me.now) (bare_cached c.requires.cached.0 c.args.me.now c.requires.cached.1))) c.send_to_others.ensures
 
 pub returns-in-Candidate : goal.returns-in-Candidate
 returns-in-Candidate c =

@@ -1,6 +1,7 @@
 use Rattle.std.proofs.Common.{sym, subst, ◌∙◌, ◌≤◌, ◌<◌}
 use Rattle.pf_state.specs.Outgoing.{Sends}
-use Rattle.pf_leading.proofs.Resending.{Sent, sent_none, entry_unacked, entry_unknown, entry_known}
+use Rattle.pf_state.proofs.Sendings.{Sent, sent_none}
+use Rattle.pf_leading.proofs.Resending.{entry_unacked, entry_unknown, entry_known}
 use Rattle.pf_leading.proofs.resends.send_entry.Goals as goal
 
 pub returns-then-not-has : goal.returns-then-not-has

@@ -4,7 +4,8 @@ use Rattle.pf_entry.specs.declared.packets.Body.TheVariants.{Probe}
 use Rattle.pf_state.specs.Outgoing.{Sends}
 use Rattle.pf_state.specs.Packets.{packet}
 use Rattle.pf_leading.specs.Resending.{probes}
-use Rattle.pf_leading.proofs.Resending.{Sent, sent_none, sent_on, sent_off, probes_more, probes_same_far, probes_all, take_whole}
+use Rattle.pf_state.proofs.Sendings.{Sent, sent_none, sent_on, sent_off}
+use Rattle.pf_leading.proofs.Resending.{probes_more, probes_same_far, probes_all, take_whole}
 use Rattle.pf_leading.proofs.resends.send_probes.Goals as goal
 use Rattle.pf_leading.proofs.resends.send_probes.Goals.{then-not-read+in_ok-send, else-not-read}
 

@@ -1,6 +1,6 @@
 use Rattle.std.proofs.Common.{take}
 use Rattle.pf_leading.specs.Resending.{probes}
-use Rattle.pf_leading.proofs.Resending.{Sent}
+use Rattle.pf_state.proofs.Sendings.{Sent}
 use Rattle.pf_leading.proofs.resends.send_probes.Given as goal
 
 abbrev pub invariant-loop-read : goal.invariant-loop-read

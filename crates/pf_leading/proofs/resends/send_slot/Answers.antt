@@ -1,6 +1,7 @@
 use Rattle.std.proofs.Common.{subst}
 use Rattle.pf_state.specs.Outgoing.{Sends}
-use Rattle.pf_leading.proofs.Resending.{Sent, sent_none, slot_empty, slot_full}
+use Rattle.pf_state.proofs.Sendings.{Sent, sent_none}
+use Rattle.pf_leading.proofs.Resending.{slot_empty, slot_full}
 use Rattle.pf_leading.proofs.resends.send_slot.Goals as goal
 
 pub send_entry-requires-clause-canonical : goal.send_entry-requires-clause-canonical

@@ -3,7 +3,8 @@ use Rattle.std.specs.List.{flat_map, range_with_len}
 use Rattle.std.proofs.lemmas.Result.{err_from_is_err_and}
 use Rattle.pf_state.specs.Outgoing.{Sends}
 use Rattle.pf_leading.specs.Resending.{slot_packets}
-use Rattle.pf_leading.proofs.Resending.{Sent, sent_none, sent_on, sent_off, up_to, up_to_none, up_to_more, up_to_all, up_to_end}
+use Rattle.pf_state.proofs.Sendings.{Sent, sent_none, sent_on, sent_off}
+use Rattle.pf_leading.proofs.Resending.{up_to, up_to_none, up_to_more, up_to_all, up_to_end}
 use Rattle.pf_leading.proofs.resends.send_slots.Goals as goal
 
 pub loop-slot-init : goal.loop-slot-init

@@ -1,5 +1,6 @@
 use Rattle.pf_leading.specs.Resending.{slot_packets}
-use Rattle.pf_leading.proofs.Resending.{Sent, up_to}
+use Rattle.pf_state.proofs.Sendings.{Sent}
+use Rattle.pf_leading.proofs.Resending.{up_to}
 use Rattle.pf_leading.proofs.resends.send_slots.Given as goal
 
 abbrev pub invariant-loop-slot : goal.invariant-loop-slot
