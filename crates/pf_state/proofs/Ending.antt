@@ -6,7 +6,7 @@ use Rattle.pf_entry.specs.declared.packets.Packet.{Packet}
 use Rattle.pf_entry.specs.declared.records.Record.{Record}
 use Rattle.pf_protocol.specs.Servers.{Server}
 use Rattle.pf_protocol.specs.Outcomes.{Outcome, sends, nothing}
-use Rattle.pf_protocol.specs.Answers.{refuse}
+use Rattle.pf_protocol.specs.Answers.{refuse, has_stored}
 use Rattle.pf_protocol.specs.declared.answers.Answer.{Answer}
 use Rattle.pf_protocol.specs.declared.answers.Answer.TheVariants.{Done}
 use Rattle.pf_protocol.specs.declared.answers.Refusal.{Refusal}
@@ -125,7 +125,7 @@ module _ {S : Type 0} (holds : S → Durable → Durable → Type 0) (used forma
       judged_so = sym (sent_before out mid o not) ∙ x.judged_so;
       untouched = record { store_same = x.untouched.store_same; server_same = x.untouched.server_same; setup_same = x.untouched.setup_same; stands = x.untouched.stands };
     }
-    after_sending (Err Halted) x = record { may = sym (sent_before out mid o not) ∙ x.may; in_doubt = x.in_doubt; told_same = x.told_same; crash = x.crash; cause = x.cause }
+    after_sending (Err Halted) x = record { may = sym (sent_before out mid o not) ∙ x.may; stores = x.stores; in_doubt = x.in_doubt; told_same = x.told_same; crash = x.crash; cause = x.cause }
 
   -- a step that sends nothing, and keeps a record
   module _ (store store' : S) (me : Running) (out : Outgoing) (o : Outcome) (r : Record) (size its : ℕ) (stands : Stands holds used format d store me) (kept : IsKept d r size its o.server.durable) where
@@ -140,6 +140,7 @@ module _ {S : Type 0} (holds : S → Durable → Durable → Type 0) (used forma
     }
     unkept_by X Halted doubt = record {
       may = room_none out (quiet o) (none_exceeds out) (subst (λ n. n ≤ 67108864) (sym kept.used) doubt.fits);
+      stores = ap (has_stored d) kept.is ∙ doubt.moved;
       in_doubt = subst (holds store' d) (sym kept.is) doubt.either;
       told_same = doubt.told_same;
       crash = subst (was store store' d) (sym kept.is) doubt.crash;
@@ -205,7 +206,7 @@ module _ {S : Type 0} (holds : S → Durable → Durable → Type 0) (used forma
       judged_so = x.judged_so;
       untouched = record { store_same = x.untouched.store_same; server_same = x.untouched.server_same ∙ server; setup_same = x.untouched.setup_same ∙ setup; stands = x.untouched.stands };
     }
-    with_more_room o (Err Halted) x = record { may = x.may; in_doubt = x.in_doubt; told_same = x.told_same; crash = x.crash; cause = x.cause }
+    with_more_room o (Err Halted) x = record { may = x.may; stores = x.stores; in_doubt = x.in_doubt; told_same = x.told_same; crash = x.crash; cause = x.cause }
 
   -- the same outcome and refusal, written in another way
   pub renamed : (store store' : S) (me me' : Running) (out out' : Outgoing) (judged judged2 : Option Refusal) (o o2 : Outcome) (r : Result Answer StepFault) → judged ≡ judged2 → o ≡ o2

@@ -13,7 +13,7 @@ use Rattle.pf_protocol.specs.declared.answers.Refusal.TheVariants.{PacketsFull, 
 use Rattle.pf_protocol.specs.Leading.{members}
 use Rattle.pf_protocol.specs.Outcomes.{Outcome}
 use Rattle.pf_protocol.specs.Fitting.{ServerFits}
-use Rattle.pf_protocol.specs.Answers.{IsSetup, refuse}
+use Rattle.pf_protocol.specs.Answers.{IsSetup, refuse, has_stored}
 use Rattle.pf_state.specs.declared.running.Leader.{Leader as LeaderHere}
 use Rattle.pf_state.specs.declared.running.Role.{Role as RoleHere}
 use Rattle.pf_state.specs.declared.running.Role.TheVariants.{Follower as FollowerHere, Candidate as CandidateHere, Merging as MergingHere, Serving as ServingHere}
@@ -140,6 +140,7 @@ module _ {S : Type 0} (holds : S → Durable → Durable → Type 0) (used forma
   -- a disk failed: a restart finds the state from before the step, or the one after it
   pub record IsHalted (judged : Option Refusal) (o : Outcome) : Type 0 where
     pub may : judged ≡ None
+    pub stores : has_stored d o.server.durable ≡ true
     pub in_doubt : holds store' d o.server.durable
     pub told_same : told store' ≡ told store
     pub crash : was store store' d o.server.durable

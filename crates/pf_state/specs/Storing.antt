@@ -1,8 +1,9 @@
 -- What comes of adding a record, and of saving an image.
-use Rattle.std.specs.Prelude.{◌≡◌, ℕ, ◌+◌, ◌<◌, ◌≤◌, Bool, Result, Ok, Err}
+use Rattle.std.specs.Prelude.{◌≡◌, ℕ, ◌+◌, ◌<◌, ◌≤◌, Bool, true, Result, Ok, Err}
 use Rattle.pf_entry.specs.Records.{Durable, stored}
 use Rattle.pf_entry.specs.Sizes.{body_size, empty_half}
 use Rattle.pf_entry.specs.declared.records.Record.{Record}
+use Rattle.pf_protocol.specs.Answers.{has_stored}
 use Rattle.pf_protocol.specs.declared.answers.Refusal.{Refusal}
 use Rattle.pf_protocol.specs.declared.answers.Refusal.TheVariants.{LogFull}
 use Rattle.pf_state.specs.declared.faults.StepFault.{StepFault}
@@ -26,6 +27,7 @@ module _ {S : Type 0} (holds : S → Durable → Durable → Type 0) (used forma
   -- a disk failed: a restart finds the state without the record, or with it
   pub record IsInDoubt : Type 0 where
     pub fits : size ≤ 67108864
+    pub moved : has_stored d (stored d r) ≡ true
     pub either : holds store' d (stored d r)
     pub told_same : told store' ≡ told store
     pub crash : was store store' d (stored d r)

@@ -6,7 +6,7 @@ use Rattle.pf_entry.specs.Canonical.{second_format}
 use Rattle.pf_spelling.proofs.BodyLaws.{window_of_second}
 use Rattle.pf_spelling.proofs.SizeLaws.{body_len}
 use Rattle.pf_store.specs.Stores.{IsSpelledAs}
-use Rattle.pf_state.proofs.Storing.{in_second, past, up_to, is_in_doubt}
+use Rattle.pf_state.proofs.Storing.{added_moves, in_second, past, up_to, is_in_doubt}
 use Rattle.pf_state.proofs.adding.add.Goals as goal
 
 pub spell_record-requires : goal.spell_record-requires
@@ -30,7 +30,7 @@ returns-in_err-append g c = λ d whole used_is.
     let body : IsSpelledAs (g.S.Store.format c.args.store.now) r c.deref.result.now = record { canonical = c.requires.spelled.canonical; fits = c.requires.spelled.fits; added = c.requires.spelled.added; is = c.deref.ensures.value ∙ c.in_ok-body.ensures } in
     is_in_doubt g.S.Store.holds g.S.Store.used g.S.Store.format g.S.Store.told g.S.Store.rose g.S.Store.was d r (d.used + body_size r) (g.S.Store.format c.args.store.now) c.args.store.now c.append.new.self c.from_residual-in_err-append.result
     (err_from_is_err_and c.from_residual-in_err-append.result c.from_residual-in_err-append.ensures.1)
-    (record { fits = fits; either = c.in_err-append.ensures.err d r whole body; told_same = c.append.ensures.told; crash = c.append.ensures.any_moment d r whole body; cause = c.in_err-append.ensures.cause })
+    (record { fits = fits; moved = added_moves d r c.requires.spelled.added; either = c.in_err-append.ensures.err d r whole body; told_same = c.append.ensures.told; crash = c.append.ensures.any_moment d r whole body; cause = c.in_err-append.ensures.cause })
 
 pub returns : goal.returns
 returns g c = λ d whole used_is.

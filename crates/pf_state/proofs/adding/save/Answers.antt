@@ -1,7 +1,7 @@
-use Rattle.std.proofs.Common.{◌≡◌, ◌+◌, ◌≤◌, refl, arith}
+use Rattle.std.proofs.Common.{◌+◌, refl, arith}
 use Rattle.std.proofs.lemmas.Result.{err_from_is_err_and}
 use Rattle.pf_entry.specs.Sizes.{body_size, empty_half}
-use Rattle.pf_state.proofs.Storing.{image_len, is_in_doubt}
+use Rattle.pf_state.proofs.Storing.{image_len, image_moves, is_in_doubt}
 use Rattle.pf_state.proofs.adding.save.Goals as goal
 
 pub returns-then-body-gt-ROOM : goal.returns-then-body-gt-ROOM
@@ -17,6 +17,7 @@ returns-in_err-save g c = λ d r whole is.
     (err_from_is_err_and c.from_residual.result c.from_residual.ensures.1)
     (record {
       fits = omega (arith, c.if-body-gt-ROOM.false, image_len d r c.args.body.now is);
+      moved = image_moves d r c.args.body.now is;
       either = c.in_err-save.ensures.err d r whole is;
       told_same = c.save.ensures.told;
       crash = c.save.ensures.any_moment d r whole is;
