@@ -1,9 +1,10 @@
 -- How a step ends, from what its parts came to.
-use Rattle.std.proofs.Common.{◌≡◌, inl, inr, ℕ, ◌+◌, ◌<◌, ◌≤◌, Bool, false, List, [], Option, Some, None, Result, Ok, Err, nat_lt, refl, sym, ap, subst, ◌∙◌}
+use Rattle.std.proofs.Common.{◌≡◌, ◌⊎◌, inl, inr, ℕ, ◌+◌, ◌<◌, ◌≤◌, Bool, false, List, [], Option, Some, None, Result, Ok, Err, nat_lt, refl, sym, ap, subst, ◌∙◌}
 use Rattle.pf_entry.specs.Sizes.{body_size, empty_half}
 use Rattle.pf_entry.specs.Records.{Durable, stored}
 use Rattle.pf_entry.specs.declared.packets.Packet.{Packet}
 use Rattle.pf_entry.specs.declared.records.Record.{Record}
+use Rattle.pf_entry.specs.declared.records.Record.TheVariants.{Image as ImageRecord, Term as TermRecord, Entry as EntryRecord, Merged as MergedRecord}
 use Rattle.pf_protocol.specs.Servers.{Server}
 use Rattle.pf_protocol.specs.Outcomes.{Outcome, sends, nothing}
 use Rattle.pf_protocol.specs.Answers.{refuse, has_stored}
@@ -20,6 +21,14 @@ use Rattle.pf_state.specs.Storing.{IsStored, Keeps, Stores, Saves}
 use Rattle.pf_state.specs.Turns.{IsAfter}
 use Rattle.pf_state.proofs.Sendings.{none_exceeds, none_sent, nothing_sent, to_host}
 use Rattle.pf_state.proofs.Steps.{room_none, room_packets, room_log, untouched}
+
+-- a record is kept in the half where it is added, and an image is saved in the second format
+stored_format : (d : Durable) (r : Record) → ((stored d r).format ≡ 2) ⊎ ((stored d r).format ≡ d.format)
+unfolding stored
+stored_format d (ImageRecord generation term vote applied sectors) = inl refl
+stored_format d (TermRecord term) = inr refl
+stored_format d (EntryRecord e) = inr refl
+stored_format d (MergedRecord term first es) = inr refl
 
 -- the state with a record
 pub record IsKept (d : Durable) (r : Record) (size its : ℕ) (after : Durable) : Type 0 where
@@ -125,7 +134,7 @@ module _ {S : Type 0} (holds : S → Durable → Durable → Type 0) (used forma
       judged_so = sym (sent_before out mid o not) ∙ x.judged_so;
       untouched = record { store_same = x.untouched.store_same; server_same = x.untouched.server_same; setup_same = x.untouched.setup_same; stands = x.untouched.stands };
     }
-    after_sending (Err Halted) x = record { may = sym (sent_before out mid o not) ∙ x.may; stores = x.stores; in_doubt = x.in_doubt; told_same = x.told_same; crash = x.crash; cause = x.cause }
+    after_sending (Err Halted) x = record { may = sym (sent_before out mid o not) ∙ x.may; stores = x.stores; half = x.half; in_doubt = x.in_doubt; told_same = x.told_same; crash = x.crash; cause = x.cause }
 
   -- a step that sends nothing, and keeps a record
   module _ (store store' : S) (me : Running) (out : Outgoing) (o : Outcome) (r : Record) (size its : ℕ) (stands : Stands holds used format d store me) (kept : IsKept d r size its o.server.durable) where
@@ -141,6 +150,7 @@ module _ {S : Type 0} (holds : S → Durable → Durable → Type 0) (used forma
     unkept_by X Halted doubt = record {
       may = room_none out (quiet o) (none_exceeds out) (subst (λ n. n ≤ 67108864) (sym kept.used) doubt.fits);
       stores = ap (has_stored d) kept.is ∙ doubt.moved;
+      half = subst (λ a. (a.format ≡ 2) ⊎ (a.format ≡ d.format)) (sym kept.is) (stored_format d r);
       in_doubt = subst (holds store' d) (sym kept.is) doubt.either;
       told_same = doubt.told_same;
       crash = subst (was store store' d) (sym kept.is) doubt.crash;
@@ -206,7 +216,7 @@ module _ {S : Type 0} (holds : S → Durable → Durable → Type 0) (used forma
       judged_so = x.judged_so;
       untouched = record { store_same = x.untouched.store_same; server_same = x.untouched.server_same ∙ server; setup_same = x.untouched.setup_same ∙ setup; stands = x.untouched.stands };
     }
-    with_more_room o (Err Halted) x = record { may = x.may; stores = x.stores; in_doubt = x.in_doubt; told_same = x.told_same; crash = x.crash; cause = x.cause }
+    with_more_room o (Err Halted) x = record { may = x.may; stores = x.stores; half = x.half; in_doubt = x.in_doubt; told_same = x.told_same; crash = x.crash; cause = x.cause }
 
   -- the same outcome and refusal, written in another way
   pub renamed : (store store' : S) (me me' : Running) (out out' : Outgoing) (judged judged2 : Option Refusal) (o o2 : Outcome) (r : Result Answer StepFault) → judged ≡ judged2 → o ≡ o2

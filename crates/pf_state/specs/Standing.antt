@@ -141,6 +141,7 @@ module _ {S : Type 0} (holds : S → Durable → Durable → Type 0) (used forma
   pub record IsHalted (judged : Option Refusal) (o : Outcome) : Type 0 where
     pub may : judged ≡ None
     pub stores : has_stored d o.server.durable ≡ true
+    pub half : (o.server.durable.format ≡ 2) ⊎ (o.server.durable.format ≡ d.format)
     pub in_doubt : holds store' d o.server.durable
     pub told_same : told store' ≡ told store
     pub crash : was store store' d o.server.durable
