@@ -209,7 +209,3 @@ module _ (chunk : ℕ) (f : ReadHere → Bool) (xs rest : List ReadHere) (number
       append_assoc before ((number, slice_range sectors range.first (range.first + range.count)) ∷ []) (map (reply_to sectors) (filter f rest))
       ∙ (λ i. before ++ (taken.number_is i, slice_range sectors (taken.range_is i).first ((taken.range_is i).first + (taken.range_is i).count)) ∷ map (reply_to sectors) (filter f rest))
       ∙ ap (λ ys. before ++ map (reply_to sectors) ys) (sym parts.first)
-
-pub joined_none : {X : Type 0} (xs : List X) → xs ≡ xs ++ []
-joined_none [] = refl
-joined_none (x ∷ xs) = ap (λ ys. x ∷ ys) (joined_none xs)

@@ -30,7 +30,7 @@ use Rattle.pf_protocol.specs.Fitting.{ServerFits}
 use Rattle.pf_applying.specs.declared.claims.Plan.{Plan}
 use Rattle.pf_applying.specs.Claims.{can_claim, can_claim_here, with_room, IsPlan}
 use Rattle.pf_applying.specs.Jobs.{HasRoomFor}
-use Rattle.pf_applying.specs.Turns.{IsAfter}
+use Rattle.pf_state.specs.Turns.{IsAfter}
 use Rattle.pf_applying.proofs.Finishing.{there}
 
 -- the first of consecutive numbers that passes

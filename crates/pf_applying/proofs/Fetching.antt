@@ -31,9 +31,9 @@ use Rattle.pf_state.specs.declared.running.Running.{Running}
 use Rattle.pf_state.specs.Outgoing.{Outgoing}
 use Rattle.pf_state.specs.Packets.{AreCanonical, packets_to}
 use Rattle.pf_state.specs.Standing.{read_of, role_of, server_of, setup_of, room_refusal, IsBounded, IsCached}
-use Rattle.pf_applying.specs.Fetching.{HasMoreRooms, fetch_refusal, is_waited_for, waits_for}
+use Rattle.pf_applying.specs.Fetching.{HasMoreRooms, IsTakenUp, fetch_refusal, is_waited_for, waits_for}
 use Rattle.pf_applying.specs.Probing.{is_serving_here}
-use Rattle.pf_applying.specs.Turns.{IsAfter}
+use Rattle.pf_state.specs.Turns.{IsAfter}
 use Rattle.pf_applying.proofs.Answering.{is_lower, rest_ascends}
 use Rattle.pf_applying.proofs.Claiming.{applied_test}
 
@@ -182,11 +182,11 @@ module _ (d : Durable) (me : Running) (cached : IsCached d me) (range : Span) (n
   abbrev pub asked : ReadHere
   asked = record { number = number; range = range; named = named; confirmed = false }
 
-  abbrev pub with_read : Running
-  with_read = record me { reads = me.reads ++ asked ∷ []; replies = record me.replies { rooms = me.replies.rooms + 1 } }
+  abbrev pub with_read : (rooms : ℕ) → Running
+  with_read rooms = record me { reads = me.reads ++ asked ∷ []; replies = record me.replies { rooms = rooms } }
 
   abbrev pub fetched : Outcome
-  fetched = record { server = server_of d with_read; packets = packets_to me.number me.term (Probe number); answer = ReadIs number; acked = None }
+  fetched = record { server = server_of d (with_read me.replies.rooms); packets = packets_to me.number me.term (Probe number); answer = ReadIs number; acked = None }
 
   reads_then : (xs : List ReadHere) (x : ReadHere) → map read_of (xs ++ x ∷ []) ≡ map read_of xs ++ read_of x ∷ []
   reads_then [] x = refl
@@ -208,9 +208,9 @@ module _ (d : Durable) (me : Running) (cached : IsCached d me) (range : Span) (n
   unfolding server_of
   fetch_is is waits = by_leader_of me.role is waits
 
-  pub fetched_after : IsAfter d me with_read (server_of d with_read)
-  unfolding setup_of
-  fetched_after = record {
+  after_read : (rooms : ℕ) → length me.reads < rooms → IsAfter d me (with_read rooms) (server_of d (with_read me.replies.rooms))
+  unfolding server_of setup_of
+  after_read rooms enough = record {
     server_is = refl;
     setup_same = refl;
     cached = record {
@@ -227,9 +227,12 @@ module _ (d : Durable) (me : Running) (cached : IsCached d me) (range : Span) (n
       places = cached.places;
       rooms = cached.rooms;
       near = cached.near;
-      replies = omega (arith, length-append me.reads (asked ∷ []), cached.replies);
+      replies = omega (arith, length-append me.reads (asked ∷ []), enough);
     };
   }
+
+  pub fetched_after : (new : Running) → IsTakenUp me asked new → IsAfter d me new (server_of d (with_read me.replies.rooms))
+  fetched_after new taken = subst (λ m. IsAfter d me m (server_of d (with_read me.replies.rooms))) (sym taken.same) (after_read new.replies.rooms taken.rooms)
 
 -- more memory for answers
 pub roomy_replies : (d : Durable) (me new : Running) → IsCached d me → HasMoreRooms me new → IsAfter d me new (server_of d me)

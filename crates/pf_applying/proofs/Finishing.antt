@@ -27,7 +27,7 @@ use Rattle.pf_protocol.specs.Saving.{applied_op, changed, on_finish, on_give_bac
 use Rattle.pf_state.proofs.Applied.{in_above}
 use Rattle.pf_state.specs.declared.running.Running.{Running}
 use Rattle.pf_state.specs.Standing.{server_of, setup_of, IsBounded, IsCached}
-use Rattle.pf_applying.specs.Turns.{IsAfter, IsTurn}
+use Rattle.pf_state.specs.Turns.{IsAfter, IsTurn}
 use Rattle.pf_applying.specs.Jobs.{HasRoomFor, IsInside}
 use Rattle.pf_applying.proofs.Changing.{length-changed}
 
@@ -179,9 +179,6 @@ unfolding on_give_back
 not_given_back_is s life slot apart = cond-false _ _ _ (ne_eqb life s.life apart)
 
 module _ (d : Durable) (me : Running) (cached : IsCached d me) where
-  pub same_after : IsAfter d me me (server_of d me)
-  same_after = record { server_is = refl; setup_same = refl; cached = cached }
-
   pub turned : (new : Running) (o o2 : Outcome) (answer : Answer) → o2 ≡ o → answer ≡ o.answer → IsAfter d me new o.server → IsTurn d me new o2 answer
   turned new o o2 answer is answered after = subst (λ p. IsTurn d me new p answer) (sym is) (record { answered = answered; after = after })
 

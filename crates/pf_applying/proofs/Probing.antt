@@ -13,7 +13,7 @@ use Rattle.pf_state.specs.declared.running.Role.TheVariants.{Follower, Candidate
 use Rattle.pf_state.specs.declared.running.Running.{Running}
 use Rattle.pf_state.specs.Standing.{read_of, role_of, server_of, setup_of, IsCached, IsRoleKept}
 use Rattle.pf_applying.specs.Probing.{heard, is_serving_here, knowing}
-use Rattle.pf_applying.specs.Turns.{IsAfter}
+use Rattle.pf_state.specs.Turns.{IsAfter}
 
 confirmed_one : (number : ℕ) (r : ReadHere) → read_of (confirm_here number r) ≡ confirm number (read_of r)
 confirmed_one number r =

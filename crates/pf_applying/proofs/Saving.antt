@@ -25,7 +25,7 @@ use Rattle.pf_spelling.proofs.BodyLaws.{window_of_second}
 use Rattle.pf_spelling.proofs.SizeLaws.{body_len}
 use Rattle.pf_spelling.proofs.MapLaws.{every_of_gets}
 use Rattle.pf_store.specs.Stores.{IsImageOf}
-use Rattle.pf_protocol.specs.Fitting.{EntryFits, SlotsFit, StandsIn}
+use Rattle.pf_protocol.specs.Fitting.{SlotsFit, SectorsFit}
 use Rattle.pf_protocol.proofs.Counting.{few_keys}
 use Rattle.pf_protocol.specs.Servers.{Server, climb, upto}
 use Rattle.pf_protocol.specs.Outcomes.{Outcome, refused}
@@ -38,86 +38,24 @@ use Rattle.pf_state.specs.declared.faults.StepFault.TheVariants.{Halted, Refused
 use Rattle.pf_state.specs.declared.running.Running.{Running}
 use Rattle.pf_state.specs.Outgoing.{Outgoing}
 use Rattle.pf_state.specs.Standing.{bare, server_of, setup_of, IsBounded, IsCached, Stands, IsDone, IsHalted, Steps, room_refusal}
-use Rattle.pf_state.proofs.Canonicals.{in_second, short_entry, has_words, image_is}
 use Rattle.pf_state.proofs.Applied.{in_above}
-use Rattle.pf_state.proofs.Steps.{room_none, room_log, untouched}
+use Rattle.pf_state.proofs.Ending.{IsFollowed, IsSaved}
+use Rattle.pf_state.proofs.Images.{image_canonical, image_fits}
 use Rattle.pf_applying.specs.Saving.{state_at}
-use Rattle.pf_applying.proofs.Ending.{none_exceeds, none_sent, to_host}
-
-pub generation_low : (me : Running) → IsBounded me → me.generation < 2 ^ 63
-unfolding server_of
-generation_low me bounded = omega (arith, bounded.fits.durable.generation, bounded.low)
-
-stands_here : (me : Running) (bounded : IsBounded me) (slot : ℕ) (e : Entry) → FinMap.get me.log.entries slot ≡ Some e → StandsIn (setup_of me) bounded.n bounded.t me.log.base slot e
-unfolding server_of
-stands_here me bounded slot e at = bounded.fits.durable.vote.log slot e at
-
-start_words : (me : Running) (bounded : IsBounded me) (term first : ℕ) → FinMap.get me.starts.starts term ≡ Some first → (term < 2 ^ 64) × (first < 2 ^ 64)
-unfolding server_of
-start_words me bounded term first at =
-    let f = bounded.fits.durable.vote.starts term first at in
-    (omega (arith, f.term_low, bounded.t_low), omega (arith, f.first_low, bounded.low))
 
 over : (a b : ℕ) → nat_lt a b ≡ true → a < b
 over a b is = grind (arith, nat_tests)
-
-above_cases : (log : Map Entry) (base slot : ℕ) (e : Entry) → FinMap.get (above base log) slot ≡ Some e → (base < slot) × (FinMap.get log slot ≡ Some e)
-unfolding above
-above_cases log base slot e at = by (nat_lt base slot) refl (sym (get_above log base slot) ∙ at)
-  where
-    by : (b : Bool) → nat_lt base slot ≡ b → cond b (FinMap.get log slot) None ≡ Some e → (base < slot) × (FinMap.get log slot ≡ Some e)
-    by true is at = (over base slot is, at)
-    by false is at = absurd (none-some e at)
-
-short_entries : (es : List Entry) → Every (λ e. entry_size e ≤ 4335) es → sum_by entry_size es ≤ length es * 4335
-short_entries [] each = omega arith
-short_entries (e ∷ es) each = omega (arith, sum_by-cons entry_size e es, each.0, short_entries es each.1)
 
 both : (a b : Bool) → (a && b) ≡ true → (a ≡ true) × (b ≡ true)
 both true b is = (refl, is)
 both false b is = absurd (false≢true is)
 
+-- what is applied above a checkpoint
+abbrev pub above_base : Running → (base : ℕ) → Numbers
+above_base me base = Sets.retain me.applied.slots (nat_lt base)
+
 module _ (me : Running) (bounded : IsBounded me) (base : ℕ) (reached : me.log.base ≤ base) where
-  abbrev kept : Map Entry
-  kept = above base me.log.entries
-
-  stands : (slot : ℕ) (e : Entry) → FinMap.get kept slot ≡ Some e → (base < slot) × StandsIn (setup_of me) bounded.n bounded.t me.log.base slot e
-  stands slot e at =
-      let c = above_cases me.log.entries base slot e at in
-      (c.0, stands_here me bounded slot e c.1)
-
-  in_reach : (slot : ℕ) → slot ≤ me.log.base + (setup_of me).window → slot ≤ base + 4096
-  in_reach slot low = omega (arith, low, bounded.setup.window, reached)
-
-  each_value : (P : Entry → Type 0) → ((e : Entry) → EntryFits (setup_of me) bounded.n bounded.t e → P e) → Every P (FinMap.values kept)
-  each_value P f = every_map P (λ row. row.1) (FinMap.entries kept) (every_of_gets (λ slot e. P e) kept (λ slot e at. f e (stands slot e at).1.fits))
-
-  vote_is_canonical : IsCanonicalVote second_format (record { base = base; starts = me.starts.starts; log = kept })
-  unfolding second_format
-  vote_is_canonical = record {
-    starts = few me.starts.starts bounded.few;
-    entries = λ slot e at. let x = stands slot e at in record {
-      canonical = in_second (setup_of me) bounded.setup bounded.n bounded.t e x.1.fits;
-      in_slot = x.1.in_slot;
-      is_above = x.0;
-      within = in_reach slot x.1.within;
-    };
-  }
-    where
-      few : (starts : Map ℕ) → FinMap.len starts < 2 ^ 15 → FinMap.len starts < 2 ^ 16
-      few starts low = omega (arith, low)
-
-  log_short : sum_by entry_size (FinMap.values kept) ≤ 4096 * 4335
-  log_short =
-      let sum = short_entries (FinMap.values kept) (each_value (λ e. entry_size e ≤ 4335) (λ e f. short_entry (setup_of me) bounded.setup bounded.n bounded.t e f)) in
-      let values : length (FinMap.values kept) ≡ length (FinMap.entries kept) = length-map (FinMap.entries kept) (λ row. row.1) in
-      let few = few_keys 4096 base kept (λ slot e at. let x = stands slot e at in (x.0, in_reach slot x.1.within)) in
-      omega (arith, sum, values, len-entries kept, few)
-
-  abbrev above_base : Numbers
-  above_base = Sets.retain me.applied.slots (nat_lt base)
-
-  slots_fit : SlotsFit (setup_of me) bounded.n base above_base
+  slots_fit : SlotsFit (setup_of me) bounded.n base (above_base me base)
   unfolding server_of setup_of
   slots_fit slot at =
       let c = both (Sets.contains me.applied.slots slot) (nat_lt base slot) (sym (in_above me.applied.slots base slot) ∙ at) in
@@ -128,42 +66,19 @@ module _ (me : Running) (bounded : IsBounded me) (base : ℕ) (reached : me.log.
       is_over : (a b : ℕ) → a < b → nat_lt a b ≡ true
       is_over a b lt = grind (arith, nat_tests)
 
-  applied_few : Sets.len above_base ≤ 4096
-  applied_few = few_keys 4096 base above_base (λ q x at. let f = slots_fit q (ap is_some at) in (f.0, omega (arith, f.1, bounded.setup.window)))
-
-  size : length me.sectors ≡ (setup_of me).chunk
-  unfolding setup_of
-  size = refl
-
-  pub image_canonical : IsCanonicalRecord 2 (image_of (state_at me base))
+  sized : SectorsFit (setup_of me) me.sectors
   unfolding server_of
-  image_canonical = record {
-    fields = (vote_is_canonical, image_is (setup_of me) bounded.setup bounded.n bounded.t base above_base me.sectors slots_fit bounded.fits.sectors);
-    short = omega (arith, bounded.few, log_short, applied_few, size, bounded.setup.few_sectors);
-  }
+  sized = bounded.fits.sectors
+
+  pub state_canonical : IsCanonicalRecord 2 (image_of (state_at me base))
+  state_canonical = image_canonical me bounded base reached bounded.n me.term (above_base me base) me.sectors slots_fit sized
 
   term_word : me.term < 2 ^ 64
   unfolding server_of
   term_word = omega (arith, bounded.fits.durable.term_low, bounded.t_low)
 
-  pub image_fits : base < 2 ^ 63 → RecordFits (image_of (state_at me base))
-  image_fits small = (
-    omega (arith, generation_low me bounded),
-    term_word,
-    record {
-      base = omega (arith, small);
-      starts = every_of_gets (λ term first. (term < 2 ^ 64) × (first < 2 ^ 64)) me.starts.starts (λ term first at. start_words me bounded term first at);
-      log = each_value HasWords (λ e f. has_words (setup_of me) bounded.setup bounded.n bounded.t bounded.low bounded.t_low e f);
-    },
-    every_map (λ slot. slot < 2 ^ 64) (λ row. row.0) (FinMap.entries above_base) (every_of_gets (λ slot x. slot < 2 ^ 64) above_base (λ slot x at. omega (arith, (slots_fit slot (ap is_some at)).2, bounded.low))),
-  )
-
--- the image that is spelled
-pub spelled_as : (me : Running) (base : ℕ) (starts : Map ℕ) (log : Map Entry) (saved : Numbers) (sectors : List Sector) → starts ≡ me.starts.starts → log ≡ above base me.log.entries → saved ≡ Sets.retain me.applied.slots (nat_lt base) → sectors ≡ me.sectors
-    → ImageRecord (me.generation + 1) me.term (record { base = base; starts = starts; log = log }) saved sectors ≡ image_of (state_at me base)
-spelled_as me base starts log saved sectors starts_are log_is saved_is same =
-    let next : me.generation + 1 ≡ suc me.generation = omega arith in
-    λ i. ImageRecord (next i) me.term (record { base = base; starts = starts_are i; log = log_is i }) (saved_is i) (same i)
+  state_fits : base < 2 ^ 63 → RecordFits (image_of (state_at me base))
+  state_fits small = image_fits me bounded base reached bounded.n me.term (above_base me base) me.sectors slots_fit sized bounded.low term_word (omega (arith, small))
 
 -- how far all is applied
 low_by : (k : ℕ) (slots : Numbers) (n : ℕ) (b : Bool) → Sets.contains slots (suc n) ≡ b → suc n ≤ climb k slots (suc n) → n ≤ climb (suc k) slots n
@@ -257,7 +172,7 @@ module _ (d : Durable) (me : Running) (base : ℕ) (cached : IsCached d me) (is 
         applied = (ap cut (sym is) ∙ slots) i;
       }
 
-  pub passed_cached : IsCached saved.durable (passed me base)
+  passed_cached : IsCached saved.durable (passed me base)
   unfolding stored above
   passed_cached =
       let next : me.generation + 1 ≡ suc me.generation = omega arith in
@@ -278,56 +193,19 @@ module _ (d : Durable) (me : Running) (base : ℕ) (cached : IsCached d me) (is 
         replies = cached.replies;
       }
 
-  pub passed_server : server_of saved.durable (passed me base) ≡ saved
-  unfolding server_of
-  passed_server = refl
+  passed_here : IsFollowed me (passed me base) saved
+  unfolding server_of setup_of
+  passed_here = record { server_is = refl; setup_same = refl; cached = passed_cached }
 
-  module _ (bounded : IsBounded me) (small : base < 2 ^ 63) where
-    pub is_image_of : (body : List ℕ) → body ≡ body_bytes (image_of (state_at me base)) → IsImageOf d (image_of (state_at me base)) body
-    is_image_of body same = record { canonical = image_canonical me bounded base low; fits = image_fits me bounded base low small; next = ap suc cached.generation; is = same }
+  pub passed_followed : (new : Running) → new ≡ passed me base → IsFollowed me new saved
+  passed_followed new same = subst (λ m. IsFollowed me m saved) (sym same) passed_here
 
-    used_is : saved.durable.used ≡ empty_half + body_size (image_of (state_at me base))
-    unfolding stored
-    used_is = refl
+  pub saved_is : IsSaved d (image_of (state_at me base)) saved.durable
+  unfolding stored
+  saved_is = record { is = refl; used = refl; format = refl }
 
-    format_is : saved.durable.format ≡ 2
-    unfolding stored
-    format_is = refl
-
-    module _ {S : Type 0} (holds : S → Durable → Durable → Type 0) (used format : S → ℕ) (told : S → Bool) (rose : S → S → Type 0) (store store' : S) (out : Outgoing) (stands_so : Stands holds used format d store me)
-        (body : List ℕ) (spelled : body ≡ body_bytes (image_of (state_at me base))) where
-      size_is : length body ≡ body_size (image_of (state_at me base))
-      size_is = ap length spelled ∙ body_len second_format window_of_second (image_of (state_at me base)) (image_canonical me bounded base low).fields
-
-      abbrev pub outcome : Outcome
-      outcome = refused saved (BaseIs base)
-
-      pub full : 67108855 < length body → Steps holds used format told rose d store me out store me out (room_refusal out outcome) outcome (Err (Refused LogFull))
-      full beyond =
-          let more : 67108864 < saved.durable.used = omega (arith, beyond, size_is, used_is) in
-          record { judged_so = room_log out outcome (none_exceeds out) more; untouched = untouched holds used format told rose d store me out out stands_so }
-
-      within : length body ≤ 67108855 → saved.durable.used ≤ 67108864
-      within le = omega (arith, le, size_is, used_is)
-
-      pub in_doubt : length body ≤ 67108855 → holds store' d (stored d (image_of (state_at me base))) → told store' ≡ told store → rose store store'
-          → (r : Result Answer StepFault) → (e : StepFault) × (r ≡ Err e) × (e ≡ Halted) → Steps holds used format told rose d store me out store' me out (room_refusal out outcome) outcome r
-      in_doubt le either same cause r (e, is2, halted) =
-          let x : IsHalted holds used format told rose d store me out store' me out (room_refusal out outcome) outcome = record { may = room_none out outcome (none_exceeds out) (within le); in_doubt = either; told_same = same; cause = cause } in
-          subst (Steps holds used format told rose d store me out store' me out (room_refusal out outcome) outcome) (sym (is2 ∙ ap Err halted)) x
-
-      pub done_so : length body ≤ 67108855 → (new : Running) → new ≡ passed me base → holds store' (stored d (image_of (state_at me base))) (stored d (image_of (state_at me base))) → used store' ≡ empty_half + length body → format store' ≡ 2
-          → told store' ≡ told store → out.acked ≡ None → IsDone holds used format told rose d store me out store' new out (room_refusal out outcome) outcome (BaseIs base)
-      unfolding setup_of
-      done_so le new same recorded used_now format_now told_same fresh = record {
-        may = room_none out outcome (none_exceeds out) (within le);
-        answered = refl;
-        server_is = ap (server_of saved.durable) same ∙ passed_server;
-        setup_same = ap setup_of same;
-        stands = record { recorded = recorded; used_is = omega (arith, used_now, used_is, size_is); within = within le; half = format_now ∙ sym format_is; cached = subst (IsCached saved.durable) (sym same) passed_cached };
-        told_same = told_same;
-        sent = to_host out out [] (none_sent out) fresh;
-      }
+  pub is_image_of : IsBounded me → base < 2 ^ 63 → (body : List ℕ) → body ≡ body_bytes (image_of (state_at me base)) → IsImageOf d (image_of (state_at me base)) body
+  is_image_of bounded small body same = record { canonical = state_canonical me bounded base low; fits = state_fits me bounded base low small; next = ap suc cached.generation; is = same }
 
 -- whether there is a checkpoint to take
 or_first : (a b : Bool) → a ≡ true → (a || b) ≡ true

@@ -14,7 +14,7 @@ use Rattle.pf_state.specs.declared.running.Running.{Running}
 use Rattle.pf_state.specs.Standing.{server_of, IsCached}
 use Rattle.pf_applying.specs.declared.claims.Plan.{Plan}
 use Rattle.pf_applying.specs.Jobs.{HasRoomFor}
-use Rattle.pf_applying.specs.Turns.{IsAfter}
+use Rattle.pf_state.specs.Turns.{IsAfter}
 
 -- whether the slot can be claimed
 unfoldable pub can_claim : Durable → Running → ℕ → Bool

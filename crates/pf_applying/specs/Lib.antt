@@ -4,4 +4,3 @@ pub mod Jobs
 pub mod Probing
 pub mod Reads
 pub mod Saving
-pub mod Turns

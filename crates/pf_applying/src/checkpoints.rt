@@ -12,17 +12,13 @@ ghost use Rattle.pf_state.specs.Outgoing.{Outgoing};
 ghost use Rattle.pf_state.specs.Standing.{server_of, role_of, IsBounded, IsCached, Stands, Steps, room_refusal};
 ghost use Rattle.pf_applying.specs.Saving.{state_at};
 
-use crate::logs::copied_above;
 use pf_base::{NoMemory, Slot};
 use pf_entry::{Record, VoteLog};
-use pf_protocol::{Answer, Refusal};
+use pf_protocol::Answer;
 use pf_spelling::spell_record;
-use pf_state::{Role, Running, StepFault};
+use pf_state::{Role, Running, StepFault, copied_above, save};
 use pf_store::Store;
 use std::alloc::Global;
-
-/// The most bytes of an image's body: a half without its head and first gate.
-const ROOM: u64 = 67_108_855;
 
 /// The body of the image of the server's state with its checkpoint there.
 fn spell_state(alloc: Global, me: &Running, base: Slot) -> Result<Vec<u8>, NoMemory>
@@ -71,13 +67,10 @@ fn save_state<S: Store>(
     requires reached { me.old.log.base ≤ base }
     requires small { base < 2 ^ 63 }
     ensures { (d : Durable) (out : Outgoing) → Stands S.holds S.used S.format d store.old me.old → out.acked ≡ None → base ≡ upto (server_of d me.old) → (let o = refused (trimmed (server_of d me.old)) (BaseIs base) in
-        Steps S.holds S.used S.format S.told S.rose d store.old me.old out store.new me.new out (room_refusal out o) o result) }
+        Steps S.holds S.used S.format S.told S.rose S.was d store.old me.old out store.new me.new out (room_refusal out o) o result) }
 {
     let body = spell_state(alloc, me, base)?;
-    if ROOM < body.len() as u64 {
-        return Err(StepFault::Refused(Refusal::LogFull));
-    }
-    store.save(&body)?;
+    save(store, &body)?;
     pass(me, base);
     Ok(Answer::Base(base))
 }
@@ -108,7 +101,7 @@ pub fn checkpoint<S: Store>(
     requires stands { (d : Durable) × Stands S.holds S.used S.format d store.old me.old }
     requires bounded { IsBounded me.old }
     ensures step { (d : Durable) (out : Outgoing) → Stands S.holds S.used S.format d store.old me.old → out.acked ≡ None → (let o = on_checkpoint (server_of d me.old) in
-        Steps S.holds S.used S.format S.told S.rose d store.old me.old out store.new me.new out (room_refusal out o) o result) }
+        Steps S.holds S.used S.format S.told S.rose S.was d store.old me.old out store.new me.new out (room_refusal out o) o result) }
 {
     let base = me.upto();
     let before = me.log.base();

@@ -6,7 +6,7 @@ ghost use Rattle.pf_state.specs.Standing.{server_of, IsBounded, IsCached};
 ghost use Rattle.pf_holes.specs.Windows.{IsNear};
 ghost use Rattle.pf_applying.specs.Jobs.{HasRoomFor};
 ghost use Rattle.pf_applying.specs.Claims.{Claims, IsLeast, IsPlan, IsReady, Plans, can_claim, can_claim_here, with_room};
-ghost use Rattle.pf_applying.specs.Turns.{IsAfter};
+ghost use Rattle.pf_state.specs.Turns.{IsAfter};
 
 use pf_base::{NoMemory, Sectors, Slot};
 use pf_entry::{Entry, Job, Op};

@@ -1,10 +1,10 @@
 //! Reads are taken up.
-ghost use Rattle.std.specs.Prelude.{◌≡◌, ◌+◌, ◌++◌, ◌∷◌, [], ◌&&◌, IfOk, None, OnErr, OnOk, false};
+ghost use Rattle.std.specs.Prelude.{◌≡◌, ◌≤◌, ◌<◌, ◌&&◌, IfOk, None, OnErr, OnOk, false, length};
 ghost use Rattle.pf_entry.specs.Records.{Durable};
 ghost use Rattle.pf_entry.specs.Sets as set;
 ghost use Rattle.pf_protocol.specs.Leading.{on_fetch};
 ghost use Rattle.pf_state.specs.Standing.{server_of, setup_of, IsBounded, IsCached, Stands, Steps};
-ghost use Rattle.pf_applying.specs.Fetching.{HasMoreRooms, fetch_refusal, is_waited_for, waits_for};
+ghost use Rattle.pf_applying.specs.Fetching.{HasMoreRooms, IsTakenUp, fetch_refusal, is_waited_for, waits_for};
 ghost use Rattle.pf_applying.specs.Probing.{is_serving_here};
 
 use pf_base::{NoMemory, Range, Slot};
@@ -57,6 +57,18 @@ fn is_serving(role: &Role) -> bool
     }
 }
 
+/// Takes the memory of one more read's answer, where there is none.
+fn reserve_reply(alloc: Global, me: &mut Running) -> Result<(), NoMemory>
+    requires { length me.old.reads ≤ me.old.replies.rooms }
+    ensures more { HasMoreRooms me.old me.new }
+    ensures enough { OnOk result (length me.old.reads < me.new.replies.rooms) }
+{
+    if me.reads.as_slice().len() < me.replies.rooms() {
+        return Ok(());
+    }
+    me.replies.reserve(alloc)
+}
+
 /// Takes the read up, with the memory of its answer.
 fn take_up(
     alloc: Global,
@@ -65,10 +77,11 @@ fn take_up(
     range: Range,
     named: Slots,
 ) -> Result<(), NoMemory>
-    ensures ok { OnOk result (me.new ≡ record me.old { reads = me.old.reads ++ record { number = number; range = range; named = named; confirmed = false } ∷ []; replies = record me.old.replies { rooms = me.old.replies.rooms + 1 } }) }
+    requires { length me.old.reads ≤ me.old.replies.rooms }
+    ensures ok { OnOk result (IsTakenUp me.old (record { number = number; range = range; named = named; confirmed = false }) me.new) }
     ensures err { OnErr result (HasMoreRooms me.old me.new) }
 {
-    me.replies.reserve(alloc)?;
+    reserve_reply(alloc, me)?;
     me.reads.ask(number, range, named)
 }
 
@@ -89,7 +102,7 @@ pub fn fetch<S: Store>(
     requires bounded { IsBounded me.old }
     requires fresh { out.old.acked ≡ None }
     ensures step { (d : Durable) → Stands S.holds S.used S.format d _store.now me.old → (let s = server_of d me.old in let o = on_fetch s range number s.role in
-        Steps S.holds S.used S.format S.told S.rose d _store.now me.old out.old _store.now me.new out.new (fetch_refusal (setup_of me.old) out.old range number s) o result) }
+        Steps S.holds S.used S.format S.told S.rose S.was d _store.now me.old out.old _store.now me.new out.new (fetch_refusal (setup_of me.old) out.old range number s) o result) }
 {
     if !range.fits(me.sectors.as_slice().len() as u32) {
         return Err(StepFault::Refused(Refusal::BadRange));

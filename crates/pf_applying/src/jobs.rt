@@ -5,7 +5,7 @@ ghost use Rattle.pf_entry.specs.Records.{Durable};
 ghost use Rattle.pf_protocol.specs.Saving.{applied_op, changed, four_greatest, on_finish, on_give_back, snapshots_after};
 ghost use Rattle.pf_state.specs.Standing.{server_of, IsBounded, IsCached};
 ghost use Rattle.pf_applying.specs.Jobs.{HasRoomFor, IsFilledFor, IsInside, IsJobOf};
-ghost use Rattle.pf_applying.specs.Turns.{IsAfter, IsTurn};
+ghost use Rattle.pf_state.specs.Turns.{IsAfter, IsTurn};
 
 use pf_base::{Filled, Range, Sectors, Slot};
 use pf_entry::Op;

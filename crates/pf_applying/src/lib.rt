@@ -9,7 +9,6 @@ mod checkpoints;
 mod claims;
 mod fetches;
 mod jobs;
-mod logs;
 mod probes;
 mod reads;
 

@@ -52,7 +52,7 @@ pub fn probe_ok<S: Store>(
     requires stands { (d : Durable) × Stands S.holds S.used S.format d _store.now me.old }
     requires from { from < 3 }
     ensures step { (d : Durable) (out : Outgoing) → Stands S.holds S.used S.format d _store.now me.old → out.acked ≡ None → (let o = on_probe_ok (server_of d me.old) from term number upto (server_of d me.old).role in
-        Steps S.holds S.used S.format S.told S.rose d _store.now me.old out _store.now me.new out (room_refusal out o) o result) }
+        Steps S.holds S.used S.format S.told S.rose S.was d _store.now me.old out _store.now me.new out (room_refusal out o) o result) }
 {
     if term != me.term {
         return Ok(Answer::Done);

@@ -4,7 +4,7 @@ use Rattle.std.specs.FinMap
 use Rattle.pf_protocol.specs.Saving.{applied_op}
 use Rattle.pf_state.specs.declared.running.Running.{Running}
 use Rattle.pf_state.specs.Standing.{server_of}
-use Rattle.pf_applying.specs.Turns.{IsAfter}
+use Rattle.pf_state.specs.Turns.{IsAfter}
 use Rattle.pf_applying.specs.Jobs.{IsFilledFor}
 use Rattle.pf_applying.proofs.Finishing.{done, some_jobs, has_room, is_inside}
 use Rattle.pf_applying.proofs.jobs.apply.Goals as goal

@@ -2,7 +2,7 @@ use Rattle.std.proofs.Common.{◌-◌, ◌∙◌, subst, sym}
 use Rattle.std.specs.FinMap
 use Rattle.pf_state.specs.declared.running.Running.{Running}
 use Rattle.pf_state.specs.Standing.{server_of}
-use Rattle.pf_applying.specs.Turns.{IsAfter}
+use Rattle.pf_state.specs.Turns.{IsAfter}
 use Rattle.pf_applying.proofs.Finishing.{dropped, not_in_hand, some_jobs}
 use Rattle.pf_applying.proofs.jobs.drop_job.Goals as goal
 

@@ -1,6 +1,7 @@
 use Rattle.std.proofs.Common.{refl}
 use Rattle.pf_state.specs.Standing.{server_of}
-use Rattle.pf_applying.proofs.Finishing.{finished_is, same_after, stale_is, turned}
+use Rattle.pf_state.proofs.Ending.{same_after}
+use Rattle.pf_applying.proofs.Finishing.{finished_is, stale_is, turned}
 use Rattle.pf_applying.proofs.jobs.finish.Goals as goal
 
 pub returns-then-filled-me : goal.returns-then-filled-me

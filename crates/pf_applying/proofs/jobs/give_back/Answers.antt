@@ -1,6 +1,7 @@
 use Rattle.std.proofs.Common.{refl}
 use Rattle.pf_state.specs.Standing.{server_of}
-use Rattle.pf_applying.proofs.Finishing.{given_back_is, not_given_back_is, same_after, turned}
+use Rattle.pf_state.proofs.Ending.{same_after}
+use Rattle.pf_applying.proofs.Finishing.{given_back_is, not_given_back_is, turned}
 use Rattle.pf_applying.proofs.jobs.give_back.Goals as goal
 
 pub returns-then-life-me : goal.returns-then-life-me

@@ -1,11 +1,11 @@
-use Rattle.std.proofs.Common.{◌≤◌, ◌++◌, ◌∙◌, List, length, map, ap, arith, subst, sym}
+use Rattle.std.proofs.Common.{◌≤◌, ◌++◌, ◌∙◌, append-nil, List, length, map, ap, arith, subst, sym}
 use Rattle.std.specs.List.{filter}
 use Rattle.pf_entry.specs.Sets as set
 use Rattle.pf_election.specs.Reads.{is_ready}
 use Rattle.pf_election.specs.declared.probes.Read.{Read as ReadHere}
 use Rattle.pf_state.specs.Replying.{Replying}
 use Rattle.pf_applying.specs.Reads.{reply_to}
-use Rattle.pf_applying.proofs.Answering.{joined_none, none_ready, taken_answers, taken_count, taken_fits, taken_left, taken_len, taken_rest}
+use Rattle.pf_applying.proofs.Answering.{none_ready, taken_answers, taken_count, taken_fits, taken_left, taken_len, taken_rest}
 use Rattle.pf_applying.proofs.reads.answer_ready.Goals as goal
 
 pub answer-requires : goal.answer-requires
@@ -49,6 +49,6 @@ returns c =
     let same = c.in_default.ensures.same in
     record {
       left = same ∙ sym none.1 ∙ c.loop-read.invariant.left;
-      answers = joined_none c.loop-read.replies.answers ∙ ap (λ reads. c.loop-read.replies.answers ++ map (reply_to c.args.sectors.now) reads) (sym none.0) ∙ c.loop-read.invariant.answers;
+      answers = sym (append-nil c.loop-read.replies.answers) ∙ ap (λ reads. c.loop-read.replies.answers ++ map (reply_to c.args.sectors.now) reads) (sym none.0) ∙ c.loop-read.invariant.answers;
       room = subst (λ (reads : List ReadHere). length reads ≤ c.loop-read.replies.rooms) (sym same) c.loop-read.invariant.room;
     }
