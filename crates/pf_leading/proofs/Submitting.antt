@@ -34,7 +34,7 @@ use Rattle.pf_state.specs.Packets.{packets_to}
 use Rattle.pf_state.specs.Standing.{server_of, setup_of, bare, role_of, leader_of, IsCached, IsLeaderKept, IsRoleKept, Stands}
 use Rattle.pf_leading.specs.Submitting.{refused_first, HasBegun, IsNext, IsRoomier, IsRoomierLeader, MayPropose, proposed}
 use Rattle.pf_state.specs.Turns.{IsAfter}
-use Rattle.pf_state.proofs.Ending.{IsAdded, IsFollowed}
+use Rattle.pf_state.proofs.Ending.{IsAdded, IsFollowed, stands_after}
 
 -- which refusal comes first
 module _ (setup : Setup) (s : Server) (op : Op) where
@@ -286,7 +286,7 @@ module _ (me near : Running) (roomier : IsRoomier me near) (l : LeaderHere) (ser
   roomy_after d cached = record { server_is = roomy_server d; setup_same = roomy_setup; cached = subst (IsCached d) (sym roomier.is) (roomy_here d cached) }
 
   pub roomy_stands : {S : Type 0} (holds : S → Durable → Durable → Type 0) (used format : S → ℕ) (d : Durable) (store : S) → Stands holds used format d store me → Stands holds used format d store near
-  roomy_stands holds used format d store stands = record { recorded = stands.recorded; used_is = stands.used_is; within = stands.within; half = stands.half; cached = (roomy_after d stands.cached).cached }
+  roomy_stands holds used format d store stands = stands_after holds used format d store me near stands (server_of d me) (roomy_after d stands.cached)
 
 pub own_leader : (l k : LeaderHere) → ServingHere l ≡ ServingHere k → l ≡ k
 own_leader l k is = cc

@@ -60,11 +60,12 @@ then_sent out mid new ps acked is more = more ∙ ap (λ (x : Outgoing). let y :
 pub same_after : (d : Durable) (me : Running) → IsCached d me → IsAfter d me me (server_of d me)
 same_after d me cached = record { server_is = refl; setup_same = refl; cached = cached }
 
+-- over the same store
+pub stands_after : {S : Type 0} (holds : S → Durable → Durable → Type 0) (used format : S → ℕ) (d : Durable) (store : S) (me new : Running) → Stands holds used format d store me → (s : Server) → IsAfter d me new s → Stands holds used format d store new
+stands_after holds used format d store me new stands s after = record { recorded = stands.recorded; used_is = stands.used_is; within = stands.within; half = stands.half; cached = after.cached }
+
 module _ {S : Type 0} (holds : S → Durable → Durable → Type 0) (used format : S → ℕ) (told : S → Bool) (rose : S → S → Type 0) (was : S → S → Durable → Durable → Type 0) (d : Durable) where
   module _ (store : S) (me new : Running) (stands : Stands holds used format d store me) where
-    stands_after : (s : Server) → IsAfter d me new s → Stands holds used format d store new
-    stands_after s after = record { recorded = stands.recorded; used_is = stands.used_is; within = stands.within; half = stands.half; cached = after.cached }
-
     -- a step that changed memory alone
     pub changed_memory : (out out' : Outgoing) (o : Outcome) (answer : Answer) → o.server.durable ≡ d → IsAfter d me new o.server → answer ≡ o.answer → exceeds out o.packets ≡ false → out' ≡ record (sent_by out o.packets) { acked = o.acked }
         → IsDone holds used format told rose was d store me out store new out' (room_refusal out o) o answer
@@ -73,7 +74,7 @@ module _ {S : Type 0} (holds : S → Durable → Durable → Type 0) (used forma
       answered = is;
       server_is = ap (λ e. server_of e new) same ∙ after.server_is;
       setup_same = after.setup_same;
-      stands = subst (λ e. Stands holds used format e store new) (sym same) (stands_after o.server after);
+      stands = subst (λ e. Stands holds used format e store new) (sym same) (stands_after holds used format d store me new stands o.server after);
       told_same = refl;
       crash = inl refl;
       sent = sent;
@@ -87,7 +88,7 @@ module _ {S : Type 0} (holds : S → Durable → Durable → Type 0) (used forma
         → Steps holds used format told rose was d store me out store new out' judged o r
     short_of_memory out out' judged o r (e, is, none) after =
         subst (Steps holds used format told rose was d store me out store new out' judged o) (sym (is ∙ ap Err none))
-        (record { store_same = refl; server_same = after.server_is; setup_same = after.setup_same; stands = stands_after (server_of d me) after })
+        (record { store_same = refl; server_same = after.server_is; setup_same = after.setup_same; stands = stands_after holds used format d store me new stands (server_of d me) after })
 
   module _ (store : S) (me : Running) (out new : Outgoing) (stands : Stands holds used format d store me) where
     -- nothing is stored, and the packets are sent
