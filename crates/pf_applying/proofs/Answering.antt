@@ -19,7 +19,8 @@ use Rattle.pf_protocol.specs.Servers.{Read, has_applied}
 use Rattle.pf_protocol.specs.Rows.{is_ready as is_ready_there}
 use Rattle.pf_state.specs.declared.running.Running.{Running}
 use Rattle.pf_state.specs.Standing.{server_of, read_of, IsCached}
-use Rattle.pf_applying.specs.Reads.{AreAsked, IsAsked, answered, reply_to}
+use Rattle.pf_protocol.specs.Asked.{AreAsked, IsAsked}
+use Rattle.pf_applying.specs.Reads.{answered, reply_to}
 use Rattle.pf_applying.proofs.Claiming.{applied_test}
 
 pub lower : (a b : ℕ) → nat_lt a b ≡ true → a < b

@@ -1,43 +1,24 @@
 -- The image of a checkpoint, and memory over it.
-use Rattle.std.proofs.Common.{◌≡◌, ◌≢◌, inl, inr, ℕ, zero, suc, ◌+◌, ◌*◌, ◌<◌, ◌≤◌, ◌^◌, ◌==◌, Bool, true, false, cond, ◌&&◌, ◌||◌, List, [], ◌∷◌, length, Some, None, Result, Err, nat_lt, nat_le, is_some, sum_by, arith, refl, sym, ap, subst, ◌∙◌}
+use Rattle.std.proofs.Common.{◌≡◌, ◌≢◌, inl, inr, ℕ, zero, suc, ◌+◌, ◌<◌, ◌≤◌, ◌^◌, ◌==◌, Bool, true, false, ◌&&◌, ◌||◌, List, nat_lt, nat_le, arith, refl, sym, ap, subst, ◌∙◌}
 use Rattle.std.proofs.lemmas.Bool.{cases_eq, cond-true, cond-false, eq-eqb, false≢true, ne_eqb}
 use Rattle.std.proofs.lemmas.Bool.Decides.{nat_tests}
-use Rattle.std.proofs.lemmas.List.{length-map}
-use Rattle.std.proofs.lemmas.List.Sums.{sum_by-cons}
-use Rattle.std.proofs.lemmas.Option.{none-some}
 use Rattle.std.specs.FinMap
-use Rattle.std.specs.FinMap.{len-entries}
-use Rattle.pf_entry.specs.Maps.{Map, Numbers}
+use Rattle.pf_entry.specs.Maps.{Numbers}
 use Rattle.pf_entry.specs.Sets
 use Rattle.pf_entry.proofs.Sets.{same_set}
-use Rattle.pf_entry.proofs.Maps.{get_above}
-use Rattle.pf_entry.specs.Lists.{Every}
-use Rattle.pf_entry.proofs.Lists.{every_map}
-use Rattle.pf_entry.specs.Ops.{Sector}
-use Rattle.pf_entry.specs.declared.entries.Entry.{Entry}
 use Rattle.pf_entry.specs.declared.records.Record.TheVariants.{Image as ImageRecord}
-use Rattle.pf_entry.specs.Sizes.{body_size, empty_half, entry_size}
-use Rattle.pf_entry.specs.Canonical.{IsCanonicalVote, IsCanonicalRecord, second_format}
+use Rattle.pf_entry.specs.Canonical.{IsCanonicalRecord}
 use Rattle.pf_entry.specs.Records.{Durable, above, image_of, stored}
-use Rattle.pf_spelling.specs.Fitting.{RecordFits, EntryFits as HasWords}
+use Rattle.pf_spelling.specs.Fitting.{RecordFits}
 use Rattle.pf_spelling.specs.Spelling.{body_bytes}
-use Rattle.pf_spelling.proofs.BodyLaws.{window_of_second}
-use Rattle.pf_spelling.proofs.SizeLaws.{body_len}
-use Rattle.pf_spelling.proofs.MapLaws.{every_of_gets}
 use Rattle.pf_store.specs.Stores.{IsImageOf}
 use Rattle.pf_protocol.specs.Fitting.{SlotsFit, SectorsFit}
-use Rattle.pf_protocol.proofs.Counting.{few_keys}
 use Rattle.pf_protocol.specs.Servers.{Server, climb, upto}
-use Rattle.pf_protocol.specs.Outcomes.{Outcome, refused}
+use Rattle.pf_protocol.specs.Outcomes.{refused}
 use Rattle.pf_protocol.specs.Saving.{is_short_of, on_checkpoint, trimmed}
-use Rattle.pf_protocol.specs.declared.answers.Answer.{Answer}
 use Rattle.pf_protocol.specs.declared.answers.Answer.TheVariants.{Base as BaseIs}
-use Rattle.pf_protocol.specs.declared.answers.Refusal.TheVariants.{LogFull}
-use Rattle.pf_state.specs.declared.faults.StepFault.{StepFault}
-use Rattle.pf_state.specs.declared.faults.StepFault.TheVariants.{Halted, Refused}
 use Rattle.pf_state.specs.declared.running.Running.{Running}
-use Rattle.pf_state.specs.Outgoing.{Outgoing}
-use Rattle.pf_state.specs.Standing.{bare, server_of, setup_of, IsBounded, IsCached, Stands, IsDone, IsHalted, Steps, room_refusal}
+use Rattle.pf_state.specs.Standing.{bare, server_of, setup_of, IsBounded, IsCached}
 use Rattle.pf_state.proofs.Applied.{in_above}
 use Rattle.pf_state.proofs.Ending.{IsFollowed, IsSaved}
 use Rattle.pf_state.proofs.Images.{image_canonical, image_fits}

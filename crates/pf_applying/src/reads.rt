@@ -5,7 +5,8 @@ ghost use Rattle.pf_entry.specs.Sets as set;
 ghost use Rattle.pf_election.specs.Reads.{is_ready};
 ghost use Rattle.pf_protocol.specs.Rows.{ready_reads, settled};
 ghost use Rattle.pf_state.specs.Standing.{server_of, read_of, IsCached};
-ghost use Rattle.pf_applying.specs.Reads.{AreAsked, answered, reply_to};
+ghost use Rattle.pf_protocol.specs.Asked.{AreAsked};
+ghost use Rattle.pf_applying.specs.Reads.{answered, reply_to};
 ghost use Rattle.pf_state.specs.Turns.{IsAfter};
 
 use pf_election::Probes;

@@ -6,7 +6,8 @@ use Rattle.pf_election.specs.Reads.{is_ready}
 use Rattle.pf_election.specs.declared.probes.Read.{Read as ReadHere}
 use Rattle.pf_state.specs.Replying.{Replying}
 use Rattle.pf_state.specs.Standing.{read_of}
-use Rattle.pf_applying.specs.Reads.{AreAsked, reply_to}
+use Rattle.pf_protocol.specs.Asked.{AreAsked}
+use Rattle.pf_applying.specs.Reads.{reply_to}
 use Rattle.pf_applying.proofs.reads.answer_ready.Given as goal
 
 -- some of the reads are answered
