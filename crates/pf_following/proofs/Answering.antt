@@ -1,5 +1,5 @@
 -- The packets that a follower answers with.
-use Rattle.std.proofs.Common.{◌≡◌, inl, inr, ℕ, ◌<◌, ◌≤◌, ◌^◌, Bool, true, false, nat_lt, arith, refl, sym, ap, subst, ◌∙◌, if◌then◌else◌}
+use Rattle.std.proofs.Common.{◌≡◌, ℕ, ◌<◌, ◌≤◌, ◌^◌, Bool, true, false, nat_lt, arith, refl, sym, ap, subst, ◌∙◌, if◌then◌else◌}
 use Rattle.std.proofs.lemmas.Bool.Decides.{nat_tests}
 use Rattle.std.specs.FinMap
 use Rattle.pf_entry.specs.Canonical.{IsCanonicalMessage, IsCanonicalPacket, IsCanonicalVote, second_format}
@@ -9,18 +9,14 @@ use Rattle.pf_entry.specs.Records.{Durable, stored, vote_of}
 use Rattle.pf_entry.specs.declared.entries.Entry.{Entry}
 use Rattle.pf_entry.specs.declared.packets.Body.{Body}
 use Rattle.pf_entry.specs.declared.packets.Body.TheVariants.{Ack}
-use Rattle.pf_entry.specs.declared.records.Record.TheVariants.{Entry as EntryRecord}
-use Rattle.pf_spelling.specs.Spelling.{body_bytes}
-use Rattle.pf_store.specs.Stores.{IsSpelledAs}
 use Rattle.pf_protocol.specs.Servers.{upto}
 use Rattle.pf_protocol.specs.Outcomes.{to_one, raise_term}
 use Rattle.pf_protocol.specs.Following.{accepted, meets_term}
-use Rattle.pf_protocol.specs.Fitting.{EntryFits}
 use Rattle.pf_state.specs.declared.running.Running.{Running}
 use Rattle.pf_state.specs.Packets.{packet}
-use Rattle.pf_state.specs.Standing.{server_of, setup_of, bare, IsCached, IsBounded, Stands}
-use Rattle.pf_state.proofs.Canonicals.{IsFormat, entry_spelled, vote_is}
-use Rattle.pf_following.specs.Coming.{IsComing}
+use Rattle.pf_state.specs.Standing.{server_of, setup_of, bare, IsCached, IsBounded}
+use Rattle.pf_state.proofs.Canonicals.{vote_is}
+use Rattle.pf_state.specs.Coming.{IsComing}
 
 -- a server's term is at least 1
 pub term_some : (me : Running) → IsBounded me → 1 ≤ me.term
@@ -71,19 +67,6 @@ pub taken_ack : (d : Durable) (me : Running) (to : ℕ) (e : Entry) (body : Body
     → (let s = accepted (server_of d me) e in packet me.number to e.term body ≡ to_one s to (Ack e.slot (upto s)))
 unfolding server_of stored upto accepted
 taken_ack d me to e body is = λ i. packet me.number to e.term (is i)
-
--- the volume's format or the second
-pub half_of : {S : Type 0} (holds : S → Durable → Durable → Type 0) (used format : S → ℕ) (d : Durable) (store : S) (me : Running) → Stands holds used format d store me → IsFormat (setup_of me) (format store)
-unfolding setup_of
-half_of holds used format d store me stands = elim stands.cached.format [
-  | inl second ↦ inl (stands.half ∙ second)
-  | inr same ↦ inr (stands.half ∙ same)
-]
-
-pub entry_is_spelled : (me : Running) (format n t : ℕ) (e : Entry) → IsBounded me → n < 2 ^ 63 → t < 2 ^ 63 → IsFormat (setup_of me) format → EntryFits (setup_of me) n t e → IsSpelledAs format (EntryRecord e) (body_bytes (EntryRecord e))
-entry_is_spelled me format n t e bounded low t_low half fits =
-    let spelled = entry_spelled (setup_of me) bounded.setup n t low t_low format half e fits in
-    record { canonical = spelled.0; fits = spelled.1; added = refl; is = refl }
 
 pub vote_has_a_spelling : (me : Running) (vote : VoteLog) → IsBounded me → vote ≡ vote_of (bare me) → IsCanonicalVote second_format vote
 vote_has_a_spelling me vote bounded is = subst (IsCanonicalVote second_format) (sym is) (own_vote me bounded)

@@ -12,7 +12,8 @@ use Rattle.pf_protocol.specs.Following.{accepted, meets_term}
 use Rattle.pf_state.specs.declared.running.Running.{Running}
 use Rattle.pf_state.specs.declared.running.Role.TheVariants.{Follower as FollowerHere}
 use Rattle.pf_state.specs.Standing.{server_of, setup_of, IsCached, Stands}
-use Rattle.pf_following.proofs.Ending.{IsAdded, IsFollowed}
+use Rattle.pf_state.proofs.Ending.{IsAdded, IsFollowed, stands_after}
+use Rattle.pf_state.specs.Turns.{IsAfter}
 
 -- a higher term
 abbrev pub with_term : Running → ℕ → Running
@@ -22,7 +23,7 @@ pub raised_added : (d : Durable) (me : Running) (term : ℕ) → IsAdded d (Term
 unfolding server_of stored
 raised_added d me term = record { is = refl; used = refl; format = refl }
 
-raised_here : (d : Durable) (me : Running) (term : ℕ) → IsCached d me → IsFollowed d me (with_term me term) (raise_term (server_of d me) term)
+raised_here : (d : Durable) (me : Running) (term : ℕ) → IsCached d me → IsFollowed me (with_term me term) (raise_term (server_of d me) term)
 unfolding server_of setup_of stored
 raised_here d me term cached = record {
   server_is = refl;
@@ -45,8 +46,8 @@ raised_here d me term cached = record {
   };
 }
 
-pub raised_followed : (d : Durable) (me me' : Running) (term : ℕ) → IsCached d me → me' ≡ with_term me term → IsFollowed d me me' (raise_term (server_of d me) term)
-raised_followed d me me' term cached is = subst (λ m. IsFollowed d me m (raise_term (server_of d me) term)) (sym is) (raised_here d me term cached)
+pub raised_followed : (d : Durable) (me me' : Running) (term : ℕ) → IsCached d me → me' ≡ with_term me term → IsFollowed me me' (raise_term (server_of d me) term)
+raised_followed d me me' term cached is = subst (λ m. IsFollowed me m (raise_term (server_of d me) term)) (sym is) (raised_here d me term cached)
 
 lower : (a b : ℕ) → a < b → nat_lt a b ≡ true
 lower a b lt = grind (arith, nat_tests)
@@ -77,7 +78,7 @@ pub kept_added : (d : Durable) (me : Running) (e : Entry) → IsAdded d (EntryRe
 unfolding server_of stored accepted
 kept_added d me e = record { is = refl; used = refl; format = refl }
 
-kept_here : (d : Durable) (me : Running) (e : Entry) (starts : StartRoom) → IsCached d me → starts.starts ≡ add_start me.starts.starts e.term e.first → IsFollowed d me (with_entry me e starts) (accepted (server_of d me) e)
+kept_here : (d : Durable) (me : Running) (e : Entry) (starts : StartRoom) → IsCached d me → starts.starts ≡ add_start me.starts.starts e.term e.first → IsFollowed me (with_entry me e starts) (accepted (server_of d me) e)
 unfolding server_of setup_of stored accepted put_entry
 kept_here d me e starts cached begun = record {
   server_is = refl;
@@ -101,8 +102,8 @@ kept_here d me e starts cached begun = record {
 }
 
 pub kept_followed : (d : Durable) (me me' : Running) (e : Entry) (starts : StartRoom) → IsCached d me → starts.starts ≡ add_start me.starts.starts e.term e.first → me' ≡ with_entry me e starts
-    → IsFollowed d me me' (accepted (server_of d me) e)
-kept_followed d me me' e starts cached begun is = subst (λ m. IsFollowed d me m (accepted (server_of d me) e)) (sym is) (kept_here d me e starts cached begun)
+    → IsFollowed me me' (accepted (server_of d me) e)
+kept_followed d me me' e starts cached begun is = subst (λ m. IsFollowed me m (accepted (server_of d me) e)) (sym is) (kept_here d me e starts cached begun)
 
 -- more room for starts
 pub roomy_server : (d : Durable) (me : Running) (starts : StartRoom) → server_of d (record me { starts = starts }) ≡ server_of d me
@@ -113,29 +114,28 @@ pub roomy_setup : (me : Running) (starts : StartRoom) → setup_of (record me { 
 unfolding setup_of
 roomy_setup me starts = refl
 
+pub roomy_after : (d : Durable) (me : Running) (starts : StartRoom) → starts.starts ≡ me.starts.starts → IsCached d me → IsAfter d me (record me { starts = starts }) (server_of d me)
+roomy_after d me starts same cached = record {
+  server_is = roomy_server d me starts;
+  setup_same = roomy_setup me starts;
+  cached = record {
+    number = cached.number;
+    term = cached.term;
+    generation = cached.generation;
+    base = cached.base;
+    starts = same ∙ cached.starts;
+    log = cached.log;
+    format = cached.format;
+    prefix = cached.prefix;
+    role = cached.role;
+    jobs = cached.jobs;
+    places = cached.places;
+    rooms = cached.rooms;
+    near = cached.near;
+    replies = cached.replies;
+  };
+}
+
 pub roomy_stands : {S : Type 0} (holds : S → Durable → Durable → Type 0) (used format : S → ℕ) (d : Durable) (store : S) (me : Running) (starts : StartRoom) → starts.starts ≡ me.starts.starts
     → Stands holds used format d store me → Stands holds used format d store (record me { starts = starts })
-roomy_stands holds used format d store me starts same stands =
-    let cached = stands.cached in
-    record {
-      recorded = stands.recorded;
-      used_is = stands.used_is;
-      within = stands.within;
-      half = stands.half;
-      cached = record {
-        number = cached.number;
-        term = cached.term;
-        generation = cached.generation;
-        base = cached.base;
-        starts = same ∙ cached.starts;
-        log = cached.log;
-        format = cached.format;
-        prefix = cached.prefix;
-        role = cached.role;
-        jobs = cached.jobs;
-        places = cached.places;
-        rooms = cached.rooms;
-        near = cached.near;
-        replies = cached.replies;
-      };
-    }
+roomy_stands holds used format d store me starts same stands = stands_after holds used format d store me (record me { starts = starts }) stands (server_of d me) (roomy_after d me starts same stands.cached)

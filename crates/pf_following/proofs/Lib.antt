@@ -1,10 +1,7 @@
-pub mod Ending
-pub mod Storing
 pub mod Following
 pub mod Answering
 pub mod Cases
 pub mod Marking
-pub mod Aboves
 pub mod Imaging
 pub mod Saving
 pub mod Trying

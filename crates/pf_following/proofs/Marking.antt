@@ -11,7 +11,8 @@ use Rattle.pf_protocol.specs.declared.answers.Answer.TheVariants.{Done}
 use Rattle.pf_state.specs.declared.running.Running.{Running}
 use Rattle.pf_state.specs.Outgoing.{Outgoing}
 use Rattle.pf_state.specs.Standing.{server_of, setup_of, IsCached, Stands, IsDone, room_refusal}
-use Rattle.pf_following.proofs.Ending.{IsFollowed, remembered}
+use Rattle.pf_state.specs.Turns.{IsAfter}
+use Rattle.pf_state.proofs.Ending.{done_in_memory}
 
 -- with the slot marked, or not
 abbrev with_mark : Running → (slot : ℕ) → Bool → Running
@@ -25,7 +26,7 @@ unfolding on_commit server_of has_entry
 commit_is d me term slot cached = λ i. commit_outcome d me slot (has_term term (FinMap.get (cached.log i) slot))
 
 module _ (d : Durable) (me : Running) (slot : ℕ) (cached : IsCached d me) where
-  here : (held : Bool) → IsFollowed d me (with_mark me slot held) (commit_outcome d me slot held).server
+  here : (held : Bool) → IsAfter d me (with_mark me slot held) (commit_outcome d me slot held).server
   unfolding server_of setup_of mark
   here true = record { server_is = refl; setup_same = refl; cached = record { number = cached.number; term = cached.term; generation = cached.generation; base = cached.base; starts = cached.starts; log = cached.log; format = cached.format; prefix = cached.prefix; role = cached.role; jobs = cached.jobs; places = cached.places; rooms = cached.rooms; near = cached.near; replies = cached.replies } }
   here false = record { server_is = refl; setup_same = refl; cached = cached }
@@ -39,12 +40,12 @@ module _ (d : Durable) (me : Running) (slot : ℕ) (cached : IsCached d me) wher
   alone true = refl
   alone false = refl
 
-pub marked : {S : Type 0} (holds : S → Durable → Durable → Type 0) (used format : S → ℕ) (told : S → Bool) (rose : S → S → Type 0) (d : Durable) (store : S) (me : Running) (out : Outgoing) (term slot : ℕ) (log : Holes) (held : Bool)
+pub marked : {S : Type 0} (holds : S → Durable → Durable → Type 0) (used format : S → ℕ) (told : S → Bool) (rose : S → S → Type 0) (was : S → S → Durable → Durable → Type 0) (d : Durable) (store : S) (me : Running) (out : Outgoing) (term slot : ℕ) (log : Holes) (held : Bool)
     → held ≡ has_term term (FinMap.get me.log.entries slot) → log ≡ record me.log { marks = if held then Sets.insert me.log.marks slot else me.log.marks } → Stands holds used format d store me → out.acked ≡ None
-    → IsDone holds used format told rose d store me out store (record me { log = log }) out (room_refusal out (on_commit (server_of d me) term slot)) (on_commit (server_of d me) term slot) Done
-marked holds used format told rose d store me out term slot log held is put stands fresh =
+    → IsDone holds used format told rose was d store me out store (record me { log = log }) out (room_refusal out (on_commit (server_of d me) term slot)) (on_commit (server_of d me) term slot) Done
+marked holds used format told rose was d store me out term slot log held is put stands fresh =
     let cached = stands.cached in
     let outcome = sym (alone d me slot cached held) ∙ ap (commit_outcome d me slot) is ∙ commit_is d me term slot cached in
-    subst (λ (h : Holes). IsDone holds used format told rose d store me out store (record me { log = h }) out (room_refusal out (on_commit (server_of d me) term slot)) (on_commit (server_of d me) term slot) Done) (sym put)
-    (subst (λ o. IsDone holds used format told rose d store me out store (with_mark me slot held) out (room_refusal out o) o Done) outcome
-    (remembered holds used format told rose d store me (with_mark me slot held) out (commit_outcome d me slot held).server stands (same_records d me slot cached held) (here d me slot cached held) fresh))
+    subst (λ (h : Holes). IsDone holds used format told rose was d store me out store (record me { log = h }) out (room_refusal out (on_commit (server_of d me) term slot)) (on_commit (server_of d me) term slot) Done) (sym put)
+    (subst (λ o. IsDone holds used format told rose was d store me out store (with_mark me slot held) out (room_refusal out o) o Done) outcome
+    (done_in_memory holds used format told rose was d store me (with_mark me slot held) stands out (commit_outcome d me slot held).server (same_records d me slot cached held) (here d me slot cached held) fresh))

@@ -23,7 +23,7 @@ use Rattle.pf_holes.specs.HoleLogs.{Holes}
 use Rattle.pf_state.specs.declared.running.Running.{Running}
 use Rattle.pf_state.specs.Standing.{server_of, setup_of, bare, read_of, role_of, IsRoleKept, IsCached, IsBounded, Stands}
 use Rattle.pf_state.proofs.Applied.{in_above}
-use Rattle.pf_following.specs.Coming.{IsComing}
+use Rattle.pf_state.specs.Coming.{IsComing}
 use Rattle.pf_following.specs.Formatted.{IsFormatted}
 
 none_in : {X : Type 0} (m : Map X) (k : ℕ) (x : X) → m ≡ FinMap.empty → FinMap.get m k ≡ Some x → ⊥

@@ -7,7 +7,7 @@ ghost use Rattle.pf_protocol.specs.Servers.{upto};
 ghost use Rattle.pf_protocol.specs.Following.{on_accept};
 ghost use Rattle.pf_state.specs.Standing.{server_of, setup_of, IsBounded, IsCached, Stands, Steps, room_refusal};
 ghost use Rattle.pf_following.specs.Accepting.{case_at};
-ghost use Rattle.pf_following.specs.Coming.{IsComing};
+ghost use Rattle.pf_state.specs.Coming.{IsComing};
 
 use crate::replies::{meet_and_reply, reply, take_and_reply};
 use pf_base::{Server, Slot};
@@ -80,7 +80,7 @@ pub fn accept<S: Store>(
     requires fresh { out.old.acked ≡ None }
     requires coming { IsComing me.old from entry.term (AcceptIs entry) }
     ensures step { (d : Durable) → Stands S.holds S.used S.format d store.old me.old → (let o = on_accept (setup_of me.old) (server_of d me.old) from entry in
-        Steps S.holds S.used S.format S.told S.rose d store.old me.old out.old store.new me.new out.new (room_refusal out.old o) o result) }
+        Steps S.holds S.used S.format S.told S.rose S.was d store.old me.old out.old store.new me.new out.new (room_refusal out.old o) o result) }
 {
     let slot = entry.slot;
     match case_of(me, &entry) {

@@ -20,7 +20,7 @@ pub fn commit<S: Store>(
 ) -> Result<Answer, StepFault>
     requires stands { (d : Durable) × Stands S.holds S.used S.format d _store.now me.old }
     ensures step { (d : Durable) (out : Outgoing) → Stands S.holds S.used S.format d _store.now me.old → out.acked ≡ None → (let o = on_commit (server_of d me.old) term slot in
-        Steps S.holds S.used S.format S.told S.rose d _store.now me.old out _store.now me.new out (room_refusal out o) o result) }
+        Steps S.holds S.used S.format S.told S.rose S.was d _store.now me.old out _store.now me.new out (room_refusal out o) o result) }
 {
     me.log.mark_committed(slot, term);
     Ok(Answer::Done)

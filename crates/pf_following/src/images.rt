@@ -12,26 +12,22 @@ ghost use Rattle.pf_protocol.specs.Outcomes.{nothing, sends};
 ghost use Rattle.pf_protocol.specs.Following.{ack, installed, on_image};
 ghost use Rattle.pf_state.specs.Outgoing.{Outgoing};
 ghost use Rattle.pf_state.specs.Standing.{server_of, IsBounded, Stands, Steps, room_refusal};
-ghost use Rattle.pf_following.specs.Coming.{IsComing};
+ghost use Rattle.pf_state.specs.Coming.{IsComing};
 ghost use Rattle.pf_following.specs.Halves.{IsNewHalf};
 ghost use Rattle.pf_following.specs.Images.{sectors_of};
 
 use crate::accepts::ack;
-use crate::logs::copied_above;
 use crate::replies::{meet_and_reply, reply};
 use pf_base::{NoMemory, Sectors, Server, Slot, Term};
 use pf_election::Probes;
 use pf_entry::{Body, Op, Record, Slots, VoteLog};
 use pf_holes::{Ring, SlotSet};
-use pf_protocol::{Answer, Refusal};
+use pf_protocol::Answer;
 use pf_sectors::SectorTable;
 use pf_spelling::spell_record;
-use pf_state::{Outbox, Role, Running, StepFault, send};
+use pf_state::{Outbox, Role, Running, StepFault, copied_above, save, send};
 use pf_store::Store;
 use std::alloc::Global;
-
-/// The most bytes of an image's body: a half without its head and first gate.
-const ROOM: u64 = 67_108_855;
 
 /// An image that is to be saved, and what memory takes over with it.
 #[derive(Drop)]
@@ -178,12 +174,9 @@ fn save_half<S: Store>(
     requires reached { me.old.log.base ≤ base }
     requires half { IsNewHalf me.old term base half }
     ensures { (d : Durable) (out : Outgoing) → Stands S.holds S.used S.format d store.old me.old → out.acked ≡ None → (let o = nothing (installed (server_of d me.old) term base (set.retain half.applied.slots (nat_lt base)) half.sectors) in
-        Steps S.holds S.used S.format S.told S.rose d store.old me.old out store.new me.new out (room_refusal out o) o result) }
+        Steps S.holds S.used S.format S.told S.rose S.was d store.old me.old out store.new me.new out (room_refusal out o) o result) }
 {
-    if ROOM < half.body.len() as u64 {
-        return Err(StepFault::Refused(Refusal::LogFull));
-    }
-    store.save(&half.body)?;
+    save(store, &half.body)?;
     begin(alloc, me, term, base, half);
     Ok(Answer::Done)
 }
@@ -206,7 +199,7 @@ fn install<S: Store>(
     requires coming { IsComing me.old from term (ImageIs base applied sectors) }
     requires reached { me.old.log.base ≤ base }
     ensures { (d : Durable) → Stands S.holds S.used S.format d store.old me.old → (let o = ack (installed (server_of d me.old) term base applied sectors) from base in
-        Steps S.holds S.used S.format S.told S.rose d store.old me.old out.old store.new me.new out.new (room_refusal out.old o) o result) }
+        Steps S.holds S.used S.format S.told S.rose S.was d store.old me.old out.old store.new me.new out.new (room_refusal out.old o) o result) }
 {
     let half = prepare(alloc, me, term, base, applied, sectors)?;
     let upto = half.applied.upto();
@@ -244,7 +237,7 @@ pub fn image<S: Store>(
     requires fresh { out.old.acked ≡ None }
     requires coming { IsComing me.old from term (ImageIs base applied sectors) }
     ensures step { (d : Durable) → Stands S.holds S.used S.format d store.old me.old → (let o = on_image (server_of d me.old) from term base applied sectors in
-        Steps S.holds S.used S.format S.told S.rose d store.old me.old out.old store.new me.new out.new (room_refusal out.old o) o result) }
+        Steps S.holds S.used S.format S.told S.rose S.was d store.old me.old out.old store.new me.new out.new (room_refusal out.old o) o result) }
 {
     if term < me.term {
         let own = me.term;

@@ -6,10 +6,8 @@
 #![tactic(auto)]
 
 mod accepts;
-mod adding;
 mod commits;
 mod images;
-mod logs;
 mod probes;
 mod replies;
 mod terms;

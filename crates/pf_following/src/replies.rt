@@ -12,12 +12,11 @@ ghost use Rattle.pf_state.specs.Packets.{packet};
 ghost use Rattle.pf_state.specs.Standing.{server_of, Stands, Steps, room_refusal};
 ghost use Rattle.std.specs.FinMap as finite;
 
-use crate::adding::add;
 use pf_base::{Server, Term};
 use pf_election::Probes;
 use pf_entry::{Body, Entry, Record};
 use pf_protocol::Answer;
-use pf_state::{Outbox, Role, Running, StepFault, send};
+use pf_state::{Outbox, Role, Running, StepFault, add, send};
 use pf_store::Store;
 use std::alloc::Global;
 
@@ -35,7 +34,7 @@ pub fn reply<S: Store>(
     requires fresh { out.old.acked ≡ None }
     requires canonical { IsCanonicalPacket (packet me.now.number to term body) }
     ensures { (d : Durable) → Stands S.holds S.used S.format d _store.now me.now → (let o = sends (server_of d me.now) (packet me.now.number to term body ∷ []) in
-        Steps S.holds S.used S.format S.told S.rose d _store.now me.now out.old _store.now me.now out.new (room_refusal out.old o) o result) }
+        Steps S.holds S.used S.format S.told S.rose S.was d _store.now me.now out.old _store.now me.now out.new (room_refusal out.old o) o result) }
 {
     send(alloc, out, me.number, to, term, body)?;
     Ok(Answer::Done)
@@ -59,7 +58,7 @@ pub fn raise<S: Store>(
 ) -> Result<Answer, StepFault>
     requires { (d : Durable) × Stands S.holds S.used S.format d store.old me.old }
     ensures { (d : Durable) (out : Outgoing) → Stands S.holds S.used S.format d store.old me.old → out.acked ≡ None → (let o = nothing (raise_term (server_of d me.old) term) in
-        Steps S.holds S.used S.format S.told S.rose d store.old me.old out store.new me.new out (room_refusal out o) o result) }
+        Steps S.holds S.used S.format S.told S.rose S.was d store.old me.old out store.new me.new out (room_refusal out o) o result) }
 {
     add(alloc, store, &Record::Term(term))?;
     follow(alloc, me, term);
@@ -80,7 +79,7 @@ pub fn raise_and_reply<S: Store>(
     requires fresh { out.old.acked ≡ None }
     requires canonical { IsCanonicalPacket (packet me.old.number to term body) }
     ensures { (d : Durable) → Stands S.holds S.used S.format d store.old me.old → (let o = sends (raise_term (server_of d me.old) term) (packet me.old.number to term body ∷ []) in
-        Steps S.holds S.used S.format S.told S.rose d store.old me.old out.old store.new me.new out.new (room_refusal out.old o) o result) }
+        Steps S.holds S.used S.format S.told S.rose S.was d store.old me.old out.old store.new me.new out.new (room_refusal out.old o) o result) }
 {
     send(alloc, out, me.number, to, term, body)?;
     raise(alloc, store, me, term)
@@ -101,7 +100,7 @@ pub fn meet_and_reply<S: Store>(
     requires no_lower { me.old.term ≤ term }
     requires canonical { IsCanonicalPacket (packet me.old.number to term body) }
     ensures { (d : Durable) → Stands S.holds S.used S.format d store.old me.old → (let o = sends (meets_term (server_of d me.old) term) (packet me.old.number to term body ∷ []) in
-        Steps S.holds S.used S.format S.told S.rose d store.old me.old out.old store.new me.new out.new (room_refusal out.old o) o result) }
+        Steps S.holds S.used S.format S.told S.rose S.was d store.old me.old out.old store.new me.new out.new (room_refusal out.old o) o result) }
 {
     if me.term < term {
         raise_and_reply(alloc, store, me, to, term, body, out)
@@ -142,7 +141,7 @@ fn store_entry<S: Store>(
     requires window { entry.slot ≤ me.old.log.base + 4096 }
     requires room { 1 ≤ me.old.starts.spare }
     ensures { (d : Durable) (out : Outgoing) → Stands S.holds S.used S.format d store.old me.old → out.acked ≡ None → (let o = nothing (accepted (server_of d me.old) entry) in
-        Steps S.holds S.used S.format S.told S.rose d store.old me.old out store.new me.new out (room_refusal out o) o result) }
+        Steps S.holds S.used S.format S.told S.rose S.was d store.old me.old out store.new me.new out (room_refusal out o) o result) }
 {
     let kept = Record::Entry(entry.try_clone(alloc)?);
     add(alloc, store, &kept)?;
@@ -167,7 +166,7 @@ pub fn take_and_reply<S: Store>(
     requires above { me.old.log.base < entry.slot }
     requires window { entry.slot ≤ me.old.log.base + 4096 }
     ensures { (d : Durable) → Stands S.holds S.used S.format d store.old me.old → (let o = sends (accepted (server_of d me.old) entry) (packet me.old.number to entry.term body ∷ []) in
-        Steps S.holds S.used S.format S.told S.rose d store.old me.old out.old store.new me.new out.new (room_refusal out.old o) o result) }
+        Steps S.holds S.used S.format S.told S.rose S.was d store.old me.old out.old store.new me.new out.new (room_refusal out.old o) o result) }
 {
     me.starts.reserve()?;
     send(alloc, out, me.number, to, entry.term, body)?;

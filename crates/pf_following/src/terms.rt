@@ -25,7 +25,7 @@ pub fn nack<S: Store>(
 ) -> Result<Answer, StepFault>
     requires stands { (d : Durable) × Stands S.holds S.used S.format d store.old me.old }
     ensures step { (d : Durable) (out : Outgoing) → Stands S.holds S.used S.format d store.old me.old → out.acked ≡ None → (let o = on_nack (server_of d me.old) term in
-        Steps S.holds S.used S.format S.told S.rose d store.old me.old out store.new me.new out (room_refusal out o) o result) }
+        Steps S.holds S.used S.format S.told S.rose S.was d store.old me.old out store.new me.new out (room_refusal out o) o result) }
 {
     if term <= me.term {
         return Ok(Answer::Done);

@@ -10,7 +10,7 @@ use pf_entry::{Entry, Look, Op, Slots};
 use pf_holes::{HoleLog, Ring, SlotSet};
 use pf_protocol::Answer;
 use pf_sectors::SectorTable;
-use pf_state::{Outbox, Replies, Role, Running};
+use pf_state::{Outbox, Replies, Role, Running, StepFault};
 use pf_store::{DiskFault, Found, ReloadFault, Store};
 use pf_tables::{Snapshots, StartTable};
 use std::alloc::Global;
@@ -35,6 +35,8 @@ impl Store for Counting {
     ghost format = { λ s. s.format };
 
     ghost rose = { λ _ _. Unit {0} };
+
+    ghost was = { λ _ _ _ _. Unit {0} };
 
     fn has_room(&self, len: u64) -> bool {
         self.used <= 67_108_864 && len <= 67_108_864 - self.used
@@ -106,27 +108,6 @@ fn is_done(answer: &Answer) -> bool {
     }
 }
 
-#[test]
-fn takes_an_entry(rt: HostRuntime) -> Result<(), Fail> {
-    let alloc = rt.alloc();
-    let mut store = empty_store();
-    let mut me = formatted(alloc)?;
-    let mut out = Outbox::new(alloc, 1, 100);
-    let entry = noop(alloc, 3, 2);
-    let answer = accept(alloc, &mut store, &mut me, 1, entry, &mut out)?;
-    assert!(rt; is_done(&answer));
-    assert_eq!(rt; me.term, 2);
-    assert!(rt; me.log.holds(3, 2));
-    // kind, length, slot, term, first, no names, an op of one byte, and a gate
-    assert_eq!(rt; store.used, 32);
-    // kind, sender, receiver and term, and then the slot and how far all is applied
-    let ack = [
-        4, 0, 1, 0, 0, 0, 0, 0, 0, 0, 2, 0, 0, 0, 0, 0, 0, 0, 3, 0, 0, 0, 0, 0, 0, 0, 0,
-    ];
-    assert!(rt; is_packet(&mut out, &ack));
-    Ok(())
-}
-
 /// Whether the next packet is spelled so.
 fn is_packet(out: &mut Outbox, want: &[u8]) -> bool {
     match out.take() {
@@ -135,65 +116,66 @@ fn is_packet(out: &mut Outbox, want: &[u8]) -> bool {
     }
 }
 
-#[test]
-fn gives_a_vote(rt: HostRuntime) -> Result<(), Fail> {
-    let alloc = rt.alloc();
+fn entry_taken(alloc: Global) -> Result<bool, StepFault> {
+    let mut store = empty_store();
+    let mut me = formatted(alloc)?;
+    let mut out = Outbox::new(alloc, 1, 100);
+    let entry = noop(alloc, 3, 2);
+    let answer = accept(alloc, &mut store, &mut me, 1, entry, &mut out)?;
+    // kind, sender, receiver and term, and then the slot and how far all is applied
+    let ack = [
+        4, 0, 1, 0, 0, 0, 0, 0, 0, 0, 2, 0, 0, 0, 0, 0, 0, 0, 3, 0, 0, 0, 0, 0, 0, 0, 0,
+    ];
+    // kind, length, slot, term, first, no names, an op of one byte, and a gate
+    let size = 32;
+    Ok(
+        is_done(&answer)
+            && me.term == 2
+            && me.log.holds(3, 2)
+            && store.used == size
+            && is_packet(&mut out, &ack),
+    )
+}
+
+fn vote_given(alloc: Global) -> Result<bool, StepFault> {
     let mut store = empty_store();
     let mut me = formatted(alloc)?;
     let mut out = Outbox::new(alloc, 1, 100);
     let answer = request_vote(alloc, &mut store, &mut me, 1, 2, 0, &mut out)?;
-    assert!(rt; is_done(&answer));
-    assert_eq!(rt; me.term, 2);
     // its checkpoint, no starts and no entries
     let vote = [
         2, 0, 1, 0, 0, 0, 0, 0, 0, 0, 2, 0, 0, 0, 0, 0, 0, 0, 0, 0, 0, 0, 0, 0, 0,
     ];
-    assert!(rt; is_packet(&mut out, &vote));
-    Ok(())
+    Ok(is_done(&answer) && me.term == 2 && is_packet(&mut out, &vote))
 }
 
-#[test]
-fn follows_a_higher_term(rt: HostRuntime) -> Result<(), Fail> {
-    let alloc = rt.alloc();
+fn term_followed(alloc: Global) -> Result<bool, StepFault> {
     let mut store = empty_store();
     let mut me = formatted(alloc)?;
     let answer = nack(alloc, &mut store, &mut me, 9)?;
-    assert!(rt; is_done(&answer));
-    assert_eq!(rt; me.term, 9);
-    assert_eq!(rt; store.used, 14);
-    Ok(())
+    Ok(is_done(&answer) && me.term == 9 && store.used == 14)
 }
 
-#[test]
-fn marks_no_other_entry(rt: HostRuntime) -> Result<(), Fail> {
-    let alloc = rt.alloc();
+fn other_entry_unmarked(alloc: Global) -> Result<bool, StepFault> {
     let store = empty_store();
     let mut me = formatted(alloc)?;
     let answer = commit(&store, &mut me, 1, 3)?;
-    assert!(rt; is_done(&answer));
-    assert!(rt; !me.log.is_committed(3));
-    Ok(())
+    Ok(is_done(&answer) && !me.log.is_committed(3))
 }
 
-#[test]
-fn answers_a_probe(rt: HostRuntime) -> Result<(), Fail> {
-    let alloc = rt.alloc();
+fn probe_answered(alloc: Global) -> Result<bool, StepFault> {
     let store = empty_store();
     let me = formatted(alloc)?;
     let mut out = Outbox::new(alloc, 1, 100);
     let answer = probe(alloc, &store, &me, 1, 4, 7, &mut out)?;
-    assert!(rt; is_done(&answer));
     // the probe's term and number, and how far all is applied
     let told = [
         8, 0, 1, 0, 0, 0, 0, 0, 0, 0, 4, 0, 0, 0, 0, 0, 0, 0, 7, 0, 0, 0, 0, 0, 0, 0, 0,
     ];
-    assert!(rt; is_packet(&mut out, &told));
-    Ok(())
+    Ok(is_done(&answer) && is_packet(&mut out, &told))
 }
 
-#[test]
-fn installs_an_image(rt: HostRuntime) -> Result<(), Fail> {
-    let alloc = rt.alloc();
+fn image_installed(alloc: Global) -> Result<bool, StepFault> {
     let mut store = empty_store();
     let mut me = formatted(alloc)?;
     let mut out = Outbox::new(alloc, 1, 100);
@@ -202,12 +184,52 @@ fn installs_an_image(rt: HostRuntime) -> Result<(), Fail> {
     let answer = image(
         alloc, &mut store, &mut me, 1, 2, 5, applied, sectors, &mut out,
     )?;
-    assert!(rt; is_done(&answer));
-    assert_eq!(rt; (me.term, me.life, me.generation), (2, 2, 2));
-    assert_eq!(rt; (me.log.base(), me.applied.upto()), (5, 5));
     let ack = [
         4, 0, 1, 0, 0, 0, 0, 0, 0, 0, 2, 0, 0, 0, 0, 0, 0, 0, 5, 0, 0, 0, 0, 0, 0, 0, 5,
     ];
-    assert!(rt; is_packet(&mut out, &ack));
+    Ok(
+        is_done(&answer)
+            && me.term == 2
+            && me.life == 2
+            && me.generation == 2
+            && me.log.base() == 5
+            && me.applied.upto() == 5
+            && is_packet(&mut out, &ack),
+    )
+}
+
+#[test]
+fn takes_an_entry(rt: HostRuntime) -> Result<(), Fail> {
+    assert!(rt; entry_taken(rt.alloc())?);
+    Ok(())
+}
+
+#[test]
+fn gives_a_vote(rt: HostRuntime) -> Result<(), Fail> {
+    assert!(rt; vote_given(rt.alloc())?);
+    Ok(())
+}
+
+#[test]
+fn follows_a_higher_term(rt: HostRuntime) -> Result<(), Fail> {
+    assert!(rt; term_followed(rt.alloc())?);
+    Ok(())
+}
+
+#[test]
+fn marks_no_other_entry(rt: HostRuntime) -> Result<(), Fail> {
+    assert!(rt; other_entry_unmarked(rt.alloc())?);
+    Ok(())
+}
+
+#[test]
+fn answers_a_probe(rt: HostRuntime) -> Result<(), Fail> {
+    assert!(rt; probe_answered(rt.alloc())?);
+    Ok(())
+}
+
+#[test]
+fn installs_an_image(rt: HostRuntime) -> Result<(), Fail> {
+    assert!(rt; image_installed(rt.alloc())?);
     Ok(())
 }

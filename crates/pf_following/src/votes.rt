@@ -1,29 +1,18 @@
 //! A candidate asks for a vote.
-ghost use Rattle.std.specs.Prelude.{◌≡◌, IfOk, None};
-ghost use Rattle.pf_entry.specs.Records.{Durable, vote_of};
+ghost use Rattle.std.specs.Prelude.{◌≡◌, None};
+ghost use Rattle.pf_entry.specs.Records.{Durable};
 ghost use Rattle.pf_entry.specs.declared.packets.Body.TheVariants.{RequestVote as RequestVoteIs};
 ghost use Rattle.pf_protocol.specs.Following.{on_request_vote};
-ghost use Rattle.pf_state.specs.Standing.{server_of, bare, IsBounded, Stands, Steps, room_refusal};
-ghost use Rattle.pf_following.specs.Coming.{IsComing};
+ghost use Rattle.pf_state.specs.Standing.{server_of, IsBounded, Stands, Steps, room_refusal};
+ghost use Rattle.pf_state.specs.Coming.{IsComing};
 
 use crate::replies::{raise_and_reply, reply};
-use pf_base::{NoMemory, Server, Slot, Term};
-use pf_entry::{Body, VoteLog};
+use pf_base::{Server, Slot, Term};
+use pf_entry::Body;
 use pf_protocol::Answer;
-use pf_state::{Outbox, Running, StepFault};
+use pf_state::{Outbox, Running, StepFault, vote_of};
 use pf_store::Store;
 use std::alloc::Global;
-
-/// What the server hands to a candidate.
-fn vote_of(alloc: Global, me: &Running) -> Result<VoteLog, NoMemory>
-    ensures { IfOk result (λ vote. vote ≡ vote_of (bare me.now)) }
-{
-    Ok(VoteLog {
-        base: me.log.base(),
-        starts: me.starts.copied(alloc)?,
-        log: me.log.copied(alloc)?,
-    })
-}
 
 /// A candidate asks for a vote. The answer is `Nack` where its term is no higher than the server's or its checkpoint is lower;
 /// else the term is stored, the server becomes a follower, and the answer is `Vote` with all that it holds.
@@ -45,7 +34,7 @@ pub fn request_vote<S: Store>(
     requires fresh { out.old.acked ≡ None }
     requires coming { IsComing me.old from term (RequestVoteIs base) }
     ensures step { (d : Durable) → Stands S.holds S.used S.format d store.old me.old → (let o = on_request_vote (server_of d me.old) from term base in
-        Steps S.holds S.used S.format S.told S.rose d store.old me.old out.old store.new me.new out.new (room_refusal out.old o) o result) }
+        Steps S.holds S.used S.format S.told S.rose S.was d store.old me.old out.old store.new me.new out.new (room_refusal out.old o) o result) }
 {
     if term <= me.term || base < me.log.base() {
         let term = me.term;

@@ -1,15 +1,13 @@
 -- A server that sends again.
-use Rattle.std.proofs.Common.{◌≡◌, ◌⊎◌, inl, inr, ℕ, ◌<◌, Bool, false, List, None, nat_lt, refl, sym, ap, subst, ◌∙◌}
+use Rattle.std.proofs.Common.{◌≡◌, ◌⊎◌, inl, inr, ℕ, ◌<◌, nat_lt, refl, sym, ap, subst, ◌∙◌}
 use Rattle.pf_entry.specs.Sets
 use Rattle.pf_entry.specs.Canonical.{IsCanonicalImage}
 use Rattle.pf_entry.specs.Records.{Durable}
-use Rattle.pf_entry.specs.declared.packets.Packet.{Packet}
 use Rattle.pf_entry.specs.declared.packets.Body.TheVariants.{Ack, RequestVote}
 use Rattle.pf_protocol.specs.Servers.{Server, Role, Follower, Candidate, Merging, Serving, upto}
 use Rattle.pf_protocol.specs.Outcomes.{sends}
 use Rattle.pf_protocol.specs.Leading.{on_resend, resent}
 use Rattle.pf_protocol.specs.Fitting.{LeaderFits, RoleFits}
-use Rattle.pf_protocol.specs.declared.answers.Answer.TheVariants.{Done}
 use Rattle.pf_state.specs.declared.running.Leader.{Leader as LeaderHere}
 use Rattle.std.specs.List.{flat_map}
 use Rattle.pf_election.specs.Votes.{Votes}
@@ -17,10 +15,8 @@ use Rattle.pf_protocol.specs.Outcomes.{others}
 use Rattle.pf_state.specs.Packets.{packets_to, AreCanonical}
 use Rattle.pf_state.specs.declared.running.Role.TheVariants.{Follower as FollowerHere, Candidate as CandidateHere, Merging as MergingHere, Serving as ServingHere}
 use Rattle.pf_state.specs.declared.running.Running.{Running}
-use Rattle.pf_state.specs.Outgoing.{Outgoing, exceeds, sent_by}
-use Rattle.pf_state.specs.Standing.{server_of, setup_of, bare, role_of, leader_of, IsBounded, IsCached, Stands, IsDone, room_refusal}
+use Rattle.pf_state.specs.Standing.{server_of, setup_of, bare, role_of, leader_of, IsBounded, IsCached}
 use Rattle.pf_state.proofs.Canonicals.{in_second, image_is}
-use Rattle.pf_state.proofs.Steps.{room_none}
 use Rattle.pf_leading.specs.Resending.{AreOwn, CanSendToBoth}
 
 -- what a bounded leader has may be sent

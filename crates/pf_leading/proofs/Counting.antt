@@ -18,7 +18,7 @@ use Rattle.pf_state.specs.Packets.{packet}
 use Rattle.pf_state.specs.Standing.{server_of, setup_of, role_of, IsCached, IsRoleKept, Stands, IsDone, room_refusal}
 use Rattle.pf_state.proofs.Steps.{room_none}
 use Rattle.pf_leading.specs.Acking.{owns, announces, after_ack, commits, counted_ack}
-use Rattle.pf_state.proofs.Sendings.{none_exceeds, none_sent, nothing_sent, sent_acked}
+use Rattle.pf_state.proofs.Sendings.{none_exceeds, none_sent, sent_acked}
 
 -- the rule
 module _ (s : Server) (from term slot upto : ℕ) where

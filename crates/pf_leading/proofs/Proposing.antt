@@ -1,8 +1,7 @@
 -- A proposal of a bounded server has a spelling, and is the rule's.
-use Rattle.std.proofs.Common.{◌≡◌, ◌⊎◌, inl, inr, ℕ, suc, ◌+◌, ◌<◌, ◌≤◌, ◌^◌, Bool, true, false, ◌&&◌, ◌==◌, Option, Result, Err, length, arith, refl, sym, ap, subst, ◌∙◌}
+use Rattle.std.proofs.Common.{◌≡◌, ◌⊎◌, inl, inr, ℕ, suc, ◌+◌, ◌<◌, ◌≤◌, ◌^◌, Bool, true, false, ◌&&◌, ◌==◌, Result, Err, length, arith, sym, ap, subst, ◌∙◌}
 use Rattle.std.proofs.lemmas.Bool.{false≢true}
 use Rattle.pf_base.specs.Span.{fits_in}
-use Rattle.pf_entry.proofs.Lists.{every_more}
 use Rattle.pf_entry.proofs.Maps.{get_inserted}
 use Rattle.pf_entry.specs.Ops.{range_of}
 use Rattle.pf_entry.specs.Records.{Durable, stored, put_entry}
@@ -12,15 +11,13 @@ use Rattle.pf_entry.specs.declared.entries.Entry.{Entry}
 use Rattle.pf_entry.specs.declared.packets.Body.TheVariants.{Accept}
 use Rattle.pf_entry.specs.declared.records.Record.TheVariants.{Entry as EntryRecord}
 use Rattle.pf_spelling.specs.Spelling.{body_bytes}
-use Rattle.pf_spelling.specs.Fitting.{EntryFits as HasWords}
 use Rattle.pf_store.specs.Stores.{IsSpelledAs}
 use Rattle.pf_protocol.specs.Servers.{Leader, Server}
 use Rattle.pf_protocol.specs.Answers.{IsSubmitted, IsSetup, is_mark}
 use Rattle.pf_protocol.specs.Leading.{new_entry, on_submit, submitted}
-use Rattle.pf_protocol.specs.Fitting.{OpFits, NameFits, EntryFits, StandsIn, LeaderFits, RoleFits}
+use Rattle.pf_protocol.specs.Fitting.{OpFits, EntryFits, StandsIn, LeaderFits, RoleFits}
 use Rattle.pf_protocol.specs.Outcomes.{Outcome}
 use Rattle.pf_protocol.specs.declared.answers.Answer.{Answer}
-use Rattle.pf_protocol.specs.declared.answers.Refusal.{Refusal}
 use Rattle.pf_protocol.proofs.Fitting.{Fits, submit_fits}
 use Rattle.pf_state.specs.declared.faults.StepFault.{StepFault}
 use Rattle.pf_state.specs.declared.faults.StepFault.TheVariants.{NoMemory, Refused, Halted}

@@ -1,5 +1,5 @@
 -- Packets that are sent one after another.
-use Rattle.std.proofs.Common.{◌≡◌, ℕ, zero, suc, ◌+◌, ◌-◌, ◌<◌, ◌≤◌, true, false, not, cond, List, [], ◌∷◌, ◌++◌, Some, None, Result, Ok, Err, map, append_assoc, append-nil, nat_lt, arith, refl, sym, ap, ◌∙◌}
+use Rattle.std.proofs.Common.{◌≡◌, ℕ, zero, suc, ◌+◌, ◌-◌, ◌<◌, ◌≤◌, true, false, not, cond, List, [], ◌∷◌, ◌++◌, Some, None, map, append_assoc, append-nil, nat_lt, arith, refl, sym, ap, ◌∙◌}
 use Rattle.std.specs.List.{filter, flat_map, range_with_len}
 use Rattle.std.specs.FinMap
 use Rattle.pf_entry.specs.declared.packets.Packet.{Packet}
@@ -21,10 +21,6 @@ use Rattle.pf_state.specs.declared.running.Running.{Running}
 use Rattle.pf_state.specs.Packets.{packet}
 use Rattle.pf_state.specs.Standing.{server_of, bare, leader_of, read_of}
 use Rattle.pf_leading.specs.Resending.{slot_packets, probes}
-use Rattle.pf_state.specs.declared.faults.StepFault.{StepFault}
-use Rattle.pf_state.specs.Outgoing.{Outgoing, exceeds, sent_by, Sends}
-use Rattle.pf_state.proofs.Sendings.{sends_less, sends_more}
-use Rattle.pf_state.proofs.Sendings.{none_exceeds, none_sent}
 
 flat_append : (f : ℕ → List Packet) (xs ys : List ℕ) → flat_map f (xs ++ ys) ≡ flat_map f xs ++ flat_map f ys
 flat_append f [] ys = refl

@@ -1,5 +1,5 @@
 -- A candidate of a term.
-use Rattle.std.specs.Prelude.{ℕ, [], None}
+use Rattle.std.specs.Prelude.{ℕ, None}
 use Rattle.pf_entry.specs.declared.packets.Body.TheVariants.{RequestVote}
 use Rattle.pf_entry.specs.Records.{vote_of}
 use Rattle.pf_protocol.specs.Servers.{Server, Candidate}

@@ -2,7 +2,7 @@ use Rattle.std.proofs.Common.{ap, lit≤}
 use Rattle.pf_entry.specs.declared.packets.Body.TheVariants.{RequestVote}
 use Rattle.pf_following.specs.declared.tests.Counting.{Counting}
 use Rattle.pf_following.proofs.Trying.{stands, bounded, coming}
-use Rattle.pf_following.proofs.tests.gives_a_vote.Goals as goal
+use Rattle.pf_following.proofs.tests.vote_given.Goals as goal
 
 pub request_vote-requires-clause-stands : goal.request_vote-requires-clause-stands
 request_vote-requires-clause-stands g c =

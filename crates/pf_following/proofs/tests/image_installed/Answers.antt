@@ -3,7 +3,7 @@ use Rattle.pf_entry.specs.declared.packets.Body.TheVariants.{Image}
 use Rattle.pf_entry.specs.Sets
 use Rattle.pf_following.specs.declared.tests.Counting.{Counting}
 use Rattle.pf_following.proofs.Trying.{stands, bounded, coming, image_fits, no_slots}
-use Rattle.pf_following.proofs.tests.installs_an_image.Goals as goal
+use Rattle.pf_following.proofs.tests.image_installed.Goals as goal
 
 pub image-requires-clause-stands : goal.image-requires-clause-stands
 image-requires-clause-stands g c =

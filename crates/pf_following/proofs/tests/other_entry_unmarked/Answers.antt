@@ -1,7 +1,7 @@
 use Rattle.std.proofs.Common.{ap}
 use Rattle.pf_following.specs.declared.tests.Counting.{Counting}
 use Rattle.pf_following.proofs.Trying.{stands}
-use Rattle.pf_following.proofs.tests.marks_no_other_entry.Goals as goal
+use Rattle.pf_following.proofs.tests.other_entry_unmarked.Goals as goal
 
 pub commit-requires : goal.commit-requires
 commit-requires g c = record {

@@ -2,7 +2,7 @@ use Rattle.std.proofs.Common.{ap, lit≤}
 use Rattle.pf_entry.specs.declared.packets.Body.TheVariants.{Probe}
 use Rattle.pf_following.specs.declared.tests.Counting.{Counting}
 use Rattle.pf_following.proofs.Trying.{stands, coming}
-use Rattle.pf_following.proofs.tests.answers_a_probe.Goals as goal
+use Rattle.pf_following.proofs.tests.probe_answered.Goals as goal
 
 pub probe-requires-clause-stands : goal.probe-requires-clause-stands
 probe-requires-clause-stands g c =

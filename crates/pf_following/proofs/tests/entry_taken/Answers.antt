@@ -3,7 +3,7 @@ use Rattle.pf_entry.specs.declared.packets.Body.TheVariants.{Accept}
 use Rattle.pf_entry.specs.declared.entries.Entry.{Entry}
 use Rattle.pf_following.specs.declared.tests.Counting.{Counting}
 use Rattle.pf_following.proofs.Trying.{stands, bounded, coming, noop_fits}
-use Rattle.pf_following.proofs.tests.takes_an_entry.Goals as goal
+use Rattle.pf_following.proofs.tests.entry_taken.Goals as goal
 
 pub accept-requires-clause-stands : goal.accept-requires-clause-stands
 accept-requires-clause-stands g c =

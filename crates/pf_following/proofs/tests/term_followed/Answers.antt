@@ -1,7 +1,7 @@
 use Rattle.std.proofs.Common.{ap}
 use Rattle.pf_following.specs.declared.tests.Counting.{Counting}
 use Rattle.pf_following.proofs.Trying.{stands}
-use Rattle.pf_following.proofs.tests.follows_a_higher_term.Goals as goal
+use Rattle.pf_following.proofs.tests.term_followed.Goals as goal
 
 pub nack-requires : goal.nack-requires
 nack-requires g c = record {
