@@ -38,6 +38,10 @@ impl Store for Counting {
 
     ghost was = { λ _ _ _ _. Unit {0} };
 
+    fn used_bytes(&self) -> u64 {
+        self.used
+    }
+
     fn has_room(&self, len: u64) -> bool {
         self.used <= 67_108_864 && len <= 67_108_864 - self.used
     }

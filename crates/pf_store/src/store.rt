@@ -34,6 +34,10 @@ pub trait Store {
     /// A crash at any moment from the first to the second left the first state, or the second.
     ghost was: { Self → Self → Durable → Durable → Type 0 };
 
+    /// The used bytes of the current half.
+    fn used_bytes(&self) -> u64
+        ensures { result ≡ used self.now };
+
     /// Whether a body of so many bytes still fits the current half.
     fn has_room(&self, len: u64) -> bool
         ensures { IsTrue result ↔ (used self.now + len ≤ 67108864) };
@@ -71,6 +75,7 @@ pub trait Store {
         ensures untold { told self.old ≡ false → IfOk result (λ found. (d : Durable) × StandsFor found d × holds self.new d d) }
         ensures state { IfOk result (λ found. (used self.new ≡ found.used) × (format self.new ≡ found.format)) }
         ensures kept { OnErr result ((before after : Durable) → holds self.old before after → holds self.new before after) }
+        ensures same { OnErr result ((used self.new ≡ used self.old) × (format self.new ≡ format self.old)) }
         ensures any_moment { (before after : Durable) → holds self.old before after → was self.old self.new before after }
         ensures ours { (before after : Durable) → holds self.old before after → IsTrue (told self.old) → result ≢ Err ReloadFault.NotOurs }
         ensures told { told self.new ≡ told self.old }
