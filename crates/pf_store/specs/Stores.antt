@@ -2,6 +2,7 @@
 use Rattle.std.specs.Prelude.{◌≡◌, ◌⊎◌, ℕ, suc, Bool, true, false, List, [], ◌∷◌}
 use Rattle.std.specs.FinMap
 use Rattle.pf_entry.specs.Sets
+use Rattle.pf_entry.specs.Lists.{Every}
 use Rattle.pf_entry.specs.Canonical.{IsCanonicalRecord}
 use Rattle.pf_entry.specs.Records.{Durable, stored, recovered}
 use Rattle.pf_entry.specs.declared.records.Record.{Record}
@@ -44,7 +45,7 @@ state_of format (image ∷ rest) = recovered (record (stored blank image) { form
 
 abbrev pub BeginsWithImage : List Record → Type 0
 BeginsWithImage [] = ⊥
-BeginsWithImage (image ∷ rest) = is_image image ≡ true
+BeginsWithImage (image ∷ rest) = (is_image image ≡ true) × Every (λ r. is_image r ≡ false) rest
 
 pub record StandsFor (found : Found) (d : Durable) : Type 0 where
   pub format : (found.format ≡ 1) ⊎ (found.format ≡ 2)

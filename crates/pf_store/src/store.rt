@@ -72,12 +72,13 @@ pub trait Store {
     /// does not tell its content.
     fn reload(&mut self, alloc: Global) -> Result<Found, ReloadFault>
         ensures found { IsTrue (told self.old) → IfOk result (λ found. (before after : Durable) → holds self.old before after → (d : Durable) × (d ≡ before ⊎ d ≡ after) × StandsFor found d × holds self.new d d) }
-        ensures untold { told self.old ≡ false → IfOk result (λ found. (d : Durable) × StandsFor found d × holds self.new d d) }
+        ensures whole { IfOk result (λ found. (d : Durable) × StandsFor found d × holds self.new d d) }
         ensures state { IfOk result (λ found. (used self.new ≡ found.used) × (format self.new ≡ found.format)) }
         ensures kept { OnErr result ((before after : Durable) → holds self.old before after → holds self.new before after) }
         ensures same { OnErr result ((used self.new ≡ used self.old) × (format self.new ≡ format self.old)) }
         ensures any_moment { (before after : Durable) → holds self.old before after → was self.old self.new before after }
         ensures ours { (before after : Durable) → holds self.old before after → IsTrue (told self.old) → result ≢ Err ReloadFault.NotOurs }
         ensures told { told self.new ≡ told self.old }
-        ensures cause { IsErrOf result ReloadFault.DiskFault → rose self.old self.new };
+        ensures cause { IsErrOf result ReloadFault.DiskFault → rose self.old self.new }
+        ensures later { (next : Self) → rose self.new next → rose self.old next };
 }
