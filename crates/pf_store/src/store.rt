@@ -75,7 +75,7 @@ pub trait Store {
         ensures whole { IfOk result (λ found. (d : Durable) × StandsFor found d × holds self.new d d) }
         ensures state { IfOk result (λ found. (used self.new ≡ found.used) × (format self.new ≡ found.format)) }
         ensures kept { OnErr result ((before after : Durable) → holds self.old before after → holds self.new before after) }
-        ensures same { OnErr result ((used self.new ≡ used self.old) × (format self.new ≡ format self.old)) }
+        ensures same { OnErr result (IsTrue (told self.old) → (d : Durable) → holds self.old d d → (used self.new ≡ used self.old) × (format self.new ≡ format self.old)) }
         ensures any_moment { (before after : Durable) → holds self.old before after → was self.old self.new before after }
         ensures ours { (before after : Durable) → holds self.old before after → IsTrue (told self.old) → result ≢ Err ReloadFault.NotOurs }
         ensures told { told self.new ≡ told self.old }
