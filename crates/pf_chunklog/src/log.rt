@@ -1,9 +1,9 @@
 //! A log over one file. Its head comes first; each record stands behind a gate of one byte, which is open (1) or closed
 //! (any other), and a closed gate ends the records.
-ghost use Rattle.std.specs.Prelude.{◌≡◌, ◌⊎◌, ◌+◌, ◌≤◌, ◌<◌, ◌↔◌, ◌++◌, [], ◌∷◌, List, ℕ, Contains, IfErr, IfOk, IfSome, IsErrOf, IsTrue, OnErr, OnOk, Some, length, max, nat_le, is_ok, is_some, if◌then◌else◌};
+ghost use Rattle.std.specs.Prelude.{◌≡◌, ◌⊎◌, ◌+◌, ◌≤◌, ◌<◌, ◌^◌, ◌↔◌, ◌++◌, [], ◌∷◌, List, ℕ, Contains, IfErr, IfOk, IfSome, IsErrOf, IsTrue, OnErr, OnOk, Some, length, max, nat_le, is_ok, is_some, if◌then◌else◌};
 ghost use Rattle.pf_disk.specs.Causes.{HasCause, Rose};
 ghost use Rattle.pf_disk.specs.Crashes.{Only};
-ghost use Rattle.pf_chunklog.specs.Records.{Holds, IsOurs, Raw, body_of};
+ghost use Rattle.pf_chunklog.specs.Records.{Holds, IsOurs, Raw, blocks, body_of};
 ghost use Rattle.pf_chunklog.specs.Logs.{BeforeOrAfter, IsAtRest, IsCleared, IsOnlyRead, LeavesOnly};
 
 use crate::reading::{behind_head, read_whole, split_records};
@@ -146,6 +146,7 @@ impl<D: Disk> ChunkLog<D> {
     pub fn read(&mut self, alloc: Global, heads: &[[u8; 8]]) -> Result<Opened, OpenFault>
         ensures records { IfSome (D.seen self.old.disk) (λ file. IfOk result (λ opened. IsAtRest opened.head opened.used (D.may_leave self.new.disk) opened.records file)) }
         ensures listed { IfOk result (λ opened. Contains heads.now opened.head) }
+        ensures size { IfOk result (λ opened. (opened.used ≡ 9 + length (blocks opened.records)) × (opened.used < 2 ^ 64)) }
         ensures only_records { IfSome (D.seen self.old.disk) (λ file. IfOk result (λ opened. (others : List Raw) → Holds opened.head others file → others ≡ opened.records)) }
         ensures not_ours { IfSome (D.seen self.old.disk) (λ file. IsErrOf result OpenFault.NotOurs → (head : List ℕ) → Contains heads.now head → IsOurs head file → ⊥) }
         // What is not ours is not ours after a crash either.

@@ -5,8 +5,8 @@ use Rattle.std.proofs.lemmas.List.Elements.{All-nil, All-push}
 use Rattle.pf_chunklog.specs.Records.{Raw, Holds, blocks}
 use Rattle.pf_chunklog.proofs.Unique.{one_list, same_parts}
 use Rattle.pf_disk.specs.Crashes.{Images}
-use Rattle.pf_image.specs.Halves.{half_head, other}
-use Rattle.pf_image.specs.Recovery.{AreRecoverable, Finds, IsChange, IsFormat, IsHead, IsImage, IsNext, IsOlder, IsRecoverable, generation, generation_in}
+use Rattle.pf_image.specs.Halves.{half_head, of_half, other}
+use Rattle.pf_image.specs.Recovery.{AreRecoverable, Content, Finds, FindsIn, IsChange, IsFormat, IsHead, IsImage, IsNext, IsOlder, IsRecoverable, Takes, generation, generation_in}
 use Rattle.pf_image.specs.Current.{IsBegun}
 use Rattle.pf_image.specs.declared.halves.Half.{Half}
 use Rattle.pf_image.specs.declared.halves.Half.TheVariants.{Zero, One}
@@ -83,7 +83,7 @@ then_older head One file records raw found next others other =
     omega (arith, same, after)
 
 -- the image alone
-pub image_alone : (head : List ℕ) (half : Half) (file : List ℕ) (raw : Raw) (format : ℕ) → IsFormat format → IsImage format raw → Holds (half_head head format half) (raw ∷ []) file → IsRecoverable head half file (raw ∷ [])
+abbrev pub image_alone : (head : List ℕ) (half : Half) (file : List ℕ) (raw : Raw) (format : ℕ) → IsFormat format → IsImage format raw → Holds (half_head head format half) (raw ∷ []) file → IsRecoverable head half file (raw ∷ [])
 image_alone head half file raw format known image held = record { format = format; known = known; held = held; recoverable = (image, All-nil (IsChange format)) }
 
 -- one change more
@@ -117,10 +117,28 @@ long_head head whole half is = ap length (is.is)
 pub same_records : (head whole file : List ℕ) (half : Half) (records others : List Raw) → IsHead head whole half → Holds whole records file → IsRecoverable head half file others → others ≡ records
 same_records head whole file half records others is held found = one_holds whole (half_head head found.format half) file records others (long_head head whole half is) held found.held
 
+same_format : (head whole file : List ℕ) (half : Half) (records others : List Raw) → IsHead head whole half → Holds whole records file → (found : IsRecoverable head half file others) → found.format ≡ slice_index whole 4
+same_format head whole file half records others is held found =
+    ap (λ (l : List ℕ). slice_index l 4) (same_head whole (half_head head found.format half) file records others (long_head head whole half is) held found.held)
+
 pub was_recoverable : (head whole file : List ℕ) (half : Half) (records others : List Raw) → IsHead head whole half → Holds whole records file → IsRecoverable head half file others → AreRecoverable (slice_index whole 4) records
 was_recoverable head whole file half records others is held found =
-    let fifth : found.format ≡ slice_index whole 4 = ap (λ (l : List ℕ). slice_index l 4) (same_head whole (half_head head found.format half) file records others (long_head head whole half is) held found.held) in
-    subst (λ (f : ℕ). AreRecoverable f records) fifth (subst (λ (l : List Raw). AreRecoverable found.format l) (same_records head whole file half records others is held found) found.recoverable)
+    subst (λ (f : ℕ). AreRecoverable f records) (same_format head whole file half records others is held found) (subst (λ (l : List Raw). AreRecoverable found.format l) (same_records head whole file half records others is held found) found.recoverable)
+
+-- the head that was read has the format that a restart finds
+format_found : (head first second : List ℕ) (half : Half) (whole : List ℕ) (records others : List Raw) → IsHead head whole half → Holds whole records (of_half half first second)
+    → Takes head half (of_half half first second) (of_half (other half) first second) records → (found : Finds head first second others) → found.1.recoverable.format ≡ slice_index whole 4
+format_found head first second Zero whole records others is held mine (Zero, b) = same_format head whole first Zero records others is held b.recoverable
+format_found head first second One whole records others is held mine (One, b) = same_format head whole second One records others is held b.recoverable
+format_found head first second Zero whole records others is held mine (One, b) = absurd (omega (arith, mine.older others b.recoverable, b.older records mine.recoverable))
+format_found head first second One whole records others is held mine (Zero, b) = absurd (omega (arith, mine.older others b.recoverable, b.older records mine.recoverable))
+
+pub one_content : (head first second : List ℕ) (half : Half) (whole : List ℕ) (records : List Raw) (content : Content) → IsHead head whole half → Holds whole records (of_half half first second)
+    → Takes head half (of_half half first second) (of_half (other half) first second) records → FindsIn head first second content → (records ≡ content.1) × (slice_index whole 4 ≡ content.0)
+one_content head first second half whole records content is held mine found = (
+  one_found head first second content.1 records found.found (half, mine),
+  sym (format_found head first second half whole records content.1 is held mine found.found) ∙ found.format_is,
+)
 
 pub err_of : {T E : Type 0} (a b : E) → a ≡ b → IsErrOf {T = T} {E = E} (Err a) b
 err_of {T = T} {E = E} a b is =

@@ -1,14 +1,15 @@
 -- What is made of the two halves that were read.
-use Rattle.std.proofs.Common.{◌≡◌, ℕ, Option, Some, None, IfSome, IsNone, Result, Ok, Err, OnErr, List, is_some, slice_index, refl, sym, ◌∙◌, ap, subst}
+use Rattle.std.proofs.Common.{◌≡◌, ℕ, ◌+◌, length, Option, Some, None, IfSome, IsNone, Result, Ok, Err, OnErr, List, [], ◌∷◌, is_some, slice_index, refl, sym, ◌∙◌, ap, subst}
 use Rattle.pf_disk.specs.Crashes.{Images, Only}
-use Rattle.pf_chunklog.specs.Records.{Raw}
-use Rattle.pf_chunklog.specs.Logs.{IsAtRest}
+use Rattle.pf_chunklog.specs.Records.{Holds, Raw, blocks}
+use Rattle.pf_chunklog.specs.Logs.{IsAtRest, IsOnlyRead}
 use Rattle.pf_chunklog.specs.declared.log.ChunkLog.{ChunkLog}
-use Rattle.pf_chunklog.proofs.Steps.{told}
-use Rattle.pf_image.specs.Halves.{half_head, other}
+use Rattle.pf_chunklog.proofs.Steps.{if_some, told, was_told}
+use Rattle.pf_image.specs.Halves.{half_head, of_half, other}
 use Rattle.pf_image.specs.Recovery.{AreRecoverable, IsBehind, IsFormat, IsHead, IsOlder, IsRecoverable, Takes, generation}
-use Rattle.pf_image.specs.Current.{IsCurrent}
+use Rattle.pf_image.specs.Current.{IsCurrent, IsReady}
 use Rattle.pf_image.specs.declared.halves.Half.{Half}
+use Rattle.pf_image.specs.declared.halves.Half.TheVariants.{Zero, One}
 use Rattle.pf_image.specs.declared.recovery.Found.{Found}
 use Rattle.pf_image.proofs.Files.{was_recoverable}
 
@@ -56,6 +57,47 @@ loaded seen may_leave head half file spare_file mine spare f log spare_log is re
       told = ap (λ (o : Option (List ℕ)). is_some o) seen_spare;
       older = λ c left. subst (λ (x : List ℕ). IsOlder head (other half) x (generation f.opened.records)) (sym (spare_read.durable c left)) take.older;
     }
+
+-- what is said of each half that was found
+pub of_each : (P : Half → Found → Type 0) (half : Half) (first second : Option Found) → IfSome first (P Zero) → IfSome second (P One) → IfSome (of_half half first second) (P half)
+of_each P Zero first second of_zero of_one = of_zero
+of_each P One first second of_zero of_one = of_one
+
+-- the log of the half that was found goes on, also where the other disk does not tell its content
+pub then_ready : {D : Type 0} (seen : D → Option (List ℕ)) (may_leave : D → Images) (head : List ℕ) (half : Half) (was disk : D) (mine : Option Found) (f : Found) (log : ChunkLog D) → mine ≡ Some f
+    → IfSome (seen was) (λ file. IfSome mine (λ (x : Found). IsRecoverable head half file x.opened.records × IsAtRest x.opened.head x.opened.used (may_leave disk) x.opened.records file × (x.generation ≡ generation x.opened.records)))
+    → IsOnlyRead seen may_leave was disk → log.disk ≡ disk → log.head ≡ f.opened.head → log.used ≡ f.opened.used → IsReady seen may_leave log
+then_ready {D = D} seen may_leave head half was disk mine f log is read only disk_is head_is used_is =
+    if_some (seen log.disk) (λ (file : List ℕ). (records : List Raw) × IsAtRest log.head log.used (may_leave log.disk) records file) (λ file is_seen.
+    let some = told mine f _ is (told (seen was) file _ (sym only.same ∙ ap seen (sym disk_is) ∙ is_seen) read) in (
+      f.opened.records,
+      subst (λ (d : D). IsAtRest log.head log.used (may_leave d) f.opened.records file) (sym disk_is)
+          (subst (λ (h : List ℕ). IsAtRest h log.used (may_leave disk) f.opened.records file) (sym head_is) (subst (λ (n : ℕ). IsAtRest f.opened.head n (may_leave disk) f.opened.records file) (sym used_is) some.1)),
+    ))
+
+-- after calls that wrote nothing
+pub still_ready : {D : Type 0} (seen : D → Option (List ℕ)) (may_leave : D → Images) (old new : ChunkLog D) → new.head ≡ old.head → new.used ≡ old.used → IsOnlyRead seen may_leave old.disk new.disk
+    → IsReady seen may_leave old → IsReady seen may_leave new
+still_ready seen may_leave old new head_same used_same only ready =
+    if_some (seen new.disk) (λ (file : List ℕ). (records : List Raw) × IsAtRest new.head new.used (may_leave new.disk) records file) (λ file is_seen.
+    let was = told (seen old.disk) file _ (sym only.same ∙ is_seen) ready in (
+      was.0,
+      record {
+        held = subst (λ (h : List ℕ). Holds h was.0 file) (sym head_same) was.1.held;
+        size = used_same ∙ was.1.size ∙ ap (λ (h : List ℕ). length h + length (blocks was.0) + 1) (sym head_same);
+        durable = λ c left. was.1.durable c (only.keeps c left);
+      },
+    ))
+
+-- a log that was begun with a record
+pub begun_ready : {D : Type 0} (seen : D → Option (List ℕ)) (may_leave : D → Images) (was : D) (new : ChunkLog D) (head : List ℕ) (raw : Raw) → is_some (seen new.disk) ≡ is_some (seen was) → new.head ≡ head
+    → IfSome (seen was) (λ _. IfSome (seen new.disk) (IsAtRest head new.used (may_leave new.disk) (raw ∷ []))) → IsReady seen may_leave new
+begun_ready seen may_leave was new head raw told_same head_is begun =
+    if_some (seen new.disk) (λ (file : List ℕ). (records : List Raw) × IsAtRest new.head new.used (may_leave new.disk) records file) (λ file is_seen.
+    let before = was_told (seen was) (seen new.disk) file told_same is_seen in (
+      raw ∷ [],
+      subst (λ (h : List ℕ). IsAtRest h new.used (may_leave new.disk) (raw ∷ []) file) (sym head_is) (told (seen new.disk) file _ is_seen (told (seen was) before.0 _ before.1 begun)),
+    ))
 
 pub if_err : {T E P : Type 0} (r : Result T E) → P → OnErr r P
 if_err (Ok x) p = tt

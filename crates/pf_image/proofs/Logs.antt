@@ -7,14 +7,19 @@ use Rattle.pf_chunklog.specs.declared.log.ChunkLog.{ChunkLog}
 use Rattle.pf_chunklog.proofs.Steps.{told, was_told}
 use Rattle.std.proofs.lemmas.Bool.{false≢true}
 use Rattle.pf_image.specs.Halves.{half_head, other}
-use Rattle.pf_image.specs.Recovery.{AreRecoverable, IsChange, IsFormat, IsNext, IsOlder, IsRecoverable, Takes, generation}
+use Rattle.pf_image.specs.Recovery.{AreRecoverable, Content, IsChange, IsFormat, IsNext, IsOlder, IsRecoverable, Takes, generation}
 use Rattle.pf_image.specs.Current.{IsBegun, IsCurrent}
 use Rattle.pf_image.specs.declared.halves.Half.{Half}
 use Rattle.pf_image.proofs.Files.{begun_older, generation_more, image_alone, recoverable_more, then_older}
 
+-- a restart takes this half, and finds this content
+pub record TakesIn (head : List ℕ) (half : Half) (file spare : List ℕ) (content : Content) : Type 0 where
+  pub taken : Takes head half file spare content.1
+  pub format_is : taken.recoverable.format ≡ content.0
+
 module _ {D : Type 0} (seen : D → Option (List ℕ)) (may_leave : D → Images) (head : List ℕ) (half : Half) (current spare : ChunkLog D) (records : List Raw) (whole : IsCurrent seen may_leave head half current spare records) where
   -- each file that a crash leaves of the current half
-  pub recoverable : (file : List ℕ) → Holds current.head records file → IsRecoverable head half file records
+  abbrev pub recoverable : (file : List ℕ) → Holds current.head records file → IsRecoverable head half file records
   recoverable file held = record {
     format = slice_index current.head 4;
     known = whole.known;
@@ -25,11 +30,11 @@ module _ {D : Type 0} (seen : D → Option (List ℕ)) (may_leave : D → Images
   pub holds : (file : List ℕ) → may_leave current.disk file → Holds current.head records file
   holds file left = subst (λ (f : List ℕ). Holds current.head records f) (sym (whole.rest.durable file left)) whole.rest.held
 
-  pub takes : (file other_file : List ℕ) → may_leave current.disk file → may_leave spare.disk other_file → Takes head half file other_file records
-  takes file other_file left spare_left = record { recoverable = recoverable file (holds file left); older = whole.older other_file spare_left }
+  pub takes : (file other_file : List ℕ) → may_leave current.disk file → may_leave spare.disk other_file → TakesIn head half file other_file (slice_index current.head 4, records)
+  takes file other_file left spare_left = record { taken = record { recoverable = recoverable file (holds file left); older = whole.older other_file spare_left }; format_is = refl }
 
-  module _ (raw : Raw) where
-    grown : IsChange (slice_index current.head 4) raw → (file : List ℕ) → Holds current.head (records ++ raw ∷ []) file → IsRecoverable head half file (records ++ raw ∷ [])
+  module _ (raw : Raw) (format : ℕ) (format_is : slice_index current.head 4 ≡ format) where
+    abbrev grown : IsChange (slice_index current.head 4) raw → (file : List ℕ) → Holds current.head (records ++ raw ∷ []) file → IsRecoverable head half file (records ++ raw ∷ [])
     grown change file held = record {
       format = slice_index current.head 4;
       known = whole.known;
@@ -39,11 +44,14 @@ module _ {D : Type 0} (seen : D → Option (List ℕ)) (may_leave : D → Images
 
     -- what a crash inside an append leaves
     pub in_append : IsChange (slice_index current.head 4) raw → (file other_file : List ℕ) → BeforeOrAfter current.head records raw file → may_leave spare.disk other_file
-        → Takes head half file other_file records ⊎ Takes head half file other_file (records ++ raw ∷ [])
-    in_append change file other_file (inl held) spare_left = inl (record { recoverable = recoverable file held; older = whole.older other_file spare_left })
+        → TakesIn head half file other_file (format, records) ⊎ TakesIn head half file other_file (format, records ++ raw ∷ [])
+    in_append change file other_file (inl held) spare_left = inl (record { taken = record { recoverable = recoverable file held; older = whole.older other_file spare_left }; format_is = format_is })
     in_append change file other_file (inr held) spare_left = inr (record {
-      recoverable = grown change file held;
-      older = subst (λ (n : ℕ). IsOlder head (other half) other_file n) (sym (generation_more (slice_index current.head 4) records raw whole.recoverable)) (whole.older other_file spare_left);
+      taken = record {
+        recoverable = grown change file held;
+        older = subst (λ (n : ℕ). IsOlder head (other half) other_file n) (sym (generation_more (slice_index current.head 4) records raw whole.recoverable)) (whole.older other_file spare_left);
+      };
+      format_is = format_is;
     })
 
     -- after an append
@@ -65,17 +73,18 @@ module _ {D : Type 0} (seen : D → Option (List ℕ)) (may_leave : D → Images
     -- what a crash inside a save leaves: the old half is taken, or the other half holds the image alone, and the old half is older
     pub record IsSaved (file other_file : List ℕ) : Type 0 where
       pub taken : IsRecoverable head (other half) other_file (raw ∷ [])
+      pub second : taken.format ≡ 2
       pub older : IsOlder head half file (generation (raw ∷ []))
 
     pub saved_file : (file : List ℕ) → IsNext records raw → may_leave current.disk file → IsOlder head half file (generation (raw ∷ []))
     saved_file file next left = then_older head half file records raw (recoverable file (holds file left)) next
 
     pub in_save : IsNext records raw → (file other_file : List ℕ) → may_leave current.disk file → IsBegun (may_leave spare.disk) (half_head head 2 (other half)) raw other_file
-        → Takes head half file other_file records ⊎ IsSaved file other_file
+        → TakesIn head half file other_file (format, records) ⊎ IsSaved file other_file
     in_save next file other_file left begun =
         elim (begun_older head (other half) (may_leave spare.disk) raw (generation records) other_file whole.older begun) [
-          | inl older ↦ inl (record { recoverable = recoverable file (holds file left); older = older })
-          | inr held ↦ inr (record { taken = image_alone head (other half) other_file raw 2 (inr refl) next.image held; older = saved_file file next left })
+          | inl older ↦ inl (record { taken = record { recoverable = recoverable file (holds file left); older = older }; format_is = format_is })
+          | inr held ↦ inr (record { taken = image_alone head (other half) other_file raw 2 (inr refl) next.image held; second = refl; older = saved_file file next left })
         ]
 
   -- after calls that wrote nothing

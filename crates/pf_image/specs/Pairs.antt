@@ -5,7 +5,7 @@ use Rattle.pf_chunklog.specs.Records.{Raw}
 use Rattle.pf_chunklog.specs.declared.log.ChunkLog.{ChunkLog}
 use Rattle.pf_image.specs.Halves.{of_half, other}
 use Rattle.pf_image.specs.Current.{IsCurrent}
-use Rattle.pf_image.specs.Recovery.{Finds}
+use Rattle.pf_image.specs.Recovery.{Content, FindsIn}
 use Rattle.pf_image.specs.declared.pair.Pair.{Pair}
 
 -- the log of the current half, and that of the other
@@ -27,15 +27,15 @@ IsWhole seen may_leave pair records = IsCurrent seen may_leave pair.head pair.cu
 abbrev pub Tells : {D : Type 0} → (D → Option (List ℕ)) → Pair D → Type 0
 Tells seen pair = (is_some (seen pair.zero.disk) ≡ true) × (is_some (seen pair.one.disk) ≡ true)
 
--- in whatever two files a crash leaves a restart finds the records before, or those after
-abbrev pub Leaves : List ℕ → (zero one : Images) → (before after : List Raw) → Type 0
-Leaves head zero one before after = (a b : List ℕ) → zero a → one b → Finds head a b before ⊎ Finds head a b after
+-- in whatever two files a crash leaves a restart finds the content before, or that after
+abbrev pub Leaves : List ℕ → (zero one : Images) → (before after : Content) → Type 0
+Leaves head zero one before after = (a b : List ℕ) → zero a → one b → FindsIn head a b before ⊎ FindsIn head a b after
 
 -- a crash now leaves one of the two
-abbrev pub IsInDoubt : {D : Type 0} → (D → Images) → Pair D → (before after : List Raw) → Type 0
+abbrev pub IsInDoubt : {D : Type 0} → (D → Images) → Pair D → (before after : Content) → Type 0
 IsInDoubt may_leave pair before after = Leaves pair.head (may_leave pair.zero.disk) (may_leave pair.one.disk) before after
 
 -- and so did a crash at any moment since old
-abbrev pub WasInDoubt : {D : Type 0} → (D → ℕ) → (D → ℕ → Images) → (old new : Pair D) → (before after : List Raw) → Type 0
+abbrev pub WasInDoubt : {D : Type 0} → (D → ℕ) → (D → ℕ → Images) → (old new : Pair D) → (before after : Content) → Type 0
 WasInDoubt moment left_since old new before after =
     Leaves old.head (left_since new.zero.disk (moment old.zero.disk)) (left_since new.one.disk (moment old.one.disk)) before after

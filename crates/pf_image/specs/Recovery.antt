@@ -77,6 +77,15 @@ pub record Takes (head : List ℕ) (half : Half) (file spare : List ℕ) (record
 abbrev pub Finds : List ℕ → List ℕ → List ℕ → List Raw → Type 0
 Finds head zero one records = (half : Half) × Takes head half (of_half half zero one) (of_half (other half) zero one) records
 
+-- a format, and the records of a half in it
+abbrev pub Content : Type 0
+Content = ℕ × List Raw
+
+-- a restart finds these records, in a half of this format
+pub record FindsIn (head zero one : List ℕ) (content : Content) : Type 0 where
+  pub found : Finds head zero one content.1
+  pub format_is : found.1.recoverable.format ≡ content.0
+
 -- the image of the next generation, in format 2
 pub record IsNext (records : List Raw) (raw : Raw) : Type 0 where
   pub image : IsImage 2 raw

@@ -1,12 +1,12 @@
 //! A pair of halves: one is current and takes the records, and the next image begins the other.
-ghost use Rattle.std.specs.Prelude.{◌≡◌, ◌⊎◌, ◌+◌, ◌≤◌, ◌<◌, ◌↔◌, ◌++◌, [], ◌∷◌, List, ℕ, true, IfErr, IfOk, IfSome, IsErrOf, IsTrue, OnErr, OnOk, Some, length, nat_le, is_some, slice_index};
+ghost use Rattle.std.specs.Prelude.{◌≡◌, ◌⊎◌, ◌+◌, ◌≤◌, ◌<◌, ◌^◌, ◌↔◌, ◌++◌, [], ◌∷◌, List, ℕ, true, IfErr, IfOk, IfSome, IsErrOf, IsTrue, OnErr, OnOk, Some, length, nat_le, is_some, slice_index};
 ghost use Rattle.pf_disk.specs.Causes.{HasCause, Rose};
 ghost use Rattle.pf_disk.specs.Crashes.{Only};
-ghost use Rattle.pf_chunklog.specs.Records.{Holds, Raw, body_of};
+ghost use Rattle.pf_chunklog.specs.Records.{Holds, Raw, blocks, body_of};
 ghost use Rattle.pf_chunklog.specs.Logs.{IsAtRest, IsCleared, IsOnlyRead, LeavesOnly};
 ghost use Rattle.pf_image.specs.Halves.{half_head, of_half, other};
 ghost use Rattle.pf_image.specs.Current.{IsBegun, IsReady};
-ghost use Rattle.pf_image.specs.Recovery.{AreRecoverable, Finds, IsChange, IsFormat, IsNext, IsRecoverable};
+ghost use Rattle.pf_image.specs.Recovery.{AreRecoverable, Content, Finds, IsChange, IsFormat, IsNext, IsRecoverable};
 
 use crate::Half;
 use crate::recovery::{Found, newer, read_half};
@@ -43,6 +43,7 @@ fn begin<D: Disk>(log: &mut ChunkLog<D>, head: [u8; 8], body: &[u8]) -> Result<(
     ensures any_moment { IsTrue D.tells_moments → (raw : Raw) → body.now ≡ body_of raw → IfSome (D.seen log.old.disk) (λ _. LeavesOnly D.moment D.left_since log.old.disk log.new.disk (IsBegun (D.may_leave log.old.disk) head raw)) }
     ensures told { is_some (D.seen log.new.disk) ≡ is_some (D.seen log.old.disk) }
     ensures head { OnOk result (log.new.head ≡ head) }
+    ensures used { OnOk result (log.new.used ≡ 9 + length body.now) }
     ensures later { D.faults log.old.disk ≤ D.faults log.new.disk }
     ensures failed { OnErr result (Rose (D.faults log.old.disk) (D.faults log.new.disk)) }
 {
@@ -96,15 +97,18 @@ impl<D: Disk> Pair<D> {
             → OnOk result (IsWhole D.seen D.may_leave self.new (records ++ raw ∷ [])) }
         // A crash leaves the records from before the call, with the new one or without, also inside the call.
         ensures doubt { (raw : Raw) (records : List Raw) → body.now ≡ body_of raw → IsChange (format_of self.old) raw → IsWhole D.seen D.may_leave self.old records
-            → IsInDoubt D.may_leave self.new records (records ++ raw ∷ []) }
+            → IsInDoubt D.may_leave self.new (format_of self.old, records) (format_of self.old, records ++ raw ∷ []) }
         ensures any_moment { IsTrue D.tells_moments → (raw : Raw) (records : List Raw) → body.now ≡ body_of raw → IsChange (format_of self.old) raw → IsWhole D.seen D.may_leave self.old records
-            → WasInDoubt D.moment D.left_since self.old self.new records (records ++ raw ∷ []) }
+            → WasInDoubt D.moment D.left_since self.old self.new (format_of self.old, records) (format_of self.old, records ++ raw ∷ []) }
         ensures full { IsErrOf result AppendFault.LogFull ↔ (67108864 < (current_of self.old).used + length body.now) }
         ensures full_unchanged { IsErrOf result AppendFault.LogFull → self.new ≡ self.old }
         ensures failed { IsErrOf result AppendFault.DiskFault → Rose (D.faults self.old.zero.disk) (D.faults self.new.zero.disk) ⊎ Rose (D.faults self.old.one.disk) (D.faults self.new.one.disk) }
         ensures head { self.new.head ≡ self.old.head }
         ensures format { format_of self.new ≡ format_of self.old }
-        ensures told { Tells D.seen self.old → Tells D.seen self.new }
+        ensures used { OnOk result ((current_of self.new).used ≡ (current_of self.old).used + length body.now) }
+        ensures ready { OnOk result (IsReady D.seen D.may_leave (current_of self.new)) }
+        ensures told_zero { is_some (D.seen self.new.zero.disk) ≡ is_some (D.seen self.old.zero.disk) }
+        ensures told_one { is_some (D.seen self.new.one.disk) ≡ is_some (D.seen self.old.one.disk) }
     {
         match self.current {
             Half::Zero => self.zero.append(body),
@@ -122,13 +126,16 @@ impl<D: Disk> Pair<D> {
         ensures saved { (raw : Raw) (records : List Raw) → body.now ≡ body_of raw → IsNext records raw → IsWhole D.seen D.may_leave self.old records
             → OnOk result (IsWhole D.seen D.may_leave self.new (raw ∷ [])) }
         ensures doubt { (raw : Raw) (records : List Raw) → body.now ≡ body_of raw → IsNext records raw → IsWhole D.seen D.may_leave self.old records
-            → IsInDoubt D.may_leave self.new records (raw ∷ []) }
+            → IsInDoubt D.may_leave self.new (format_of self.old, records) (2, raw ∷ []) }
         ensures any_moment { IsTrue D.tells_moments → (raw : Raw) (records : List Raw) → body.now ≡ body_of raw → IsNext records raw → IsWhole D.seen D.may_leave self.old records
-            → WasInDoubt D.moment D.left_since self.old self.new records (raw ∷ []) }
+            → WasInDoubt D.moment D.left_since self.old self.new (format_of self.old, records) (2, raw ∷ []) }
         ensures failed { OnErr result (Rose (D.faults self.old.zero.disk) (D.faults self.new.zero.disk) ⊎ Rose (D.faults self.old.one.disk) (D.faults self.new.one.disk)) }
         ensures head { self.new.head ≡ self.old.head }
         ensures format { OnOk result (format_of self.new ≡ 2) }
-        ensures told { Tells D.seen self.old → Tells D.seen self.new }
+        ensures used { OnOk result ((current_of self.new).used ≡ 9 + length body.now) }
+        ensures ready { OnOk result (IsReady D.seen D.may_leave (current_of self.new)) }
+        ensures told_zero { is_some (D.seen self.new.zero.disk) ≡ is_some (D.seen self.old.zero.disk) }
+        ensures told_one { is_some (D.seen self.new.one.disk) ≡ is_some (D.seen self.old.one.disk) }
     {
         match self.current {
             Half::Zero => {
@@ -160,6 +167,10 @@ impl<D: Disk> Pair<D> {
             → Holds (half_head head (slice_index head 4) Half.Zero) (raw ∷ []) c × (length c ≡ 9 + length first.now))) }
         ensures empty { IfSome (D.seen b) (λ _. IfOk result (λ pair. Only [] (D.may_leave pair.one.disk))) }
         ensures head { IfOk result (λ pair. pair.head ≡ head) }
+        ensures format { IfOk result (λ pair. format_of pair ≡ slice_index head 4) }
+        ensures used { IfOk result (λ pair. (current_of pair).used ≡ 9 + length first.now) }
+        ensures ready { IfOk result (λ pair. IsReady D.seen D.may_leave (current_of pair)) }
+        ensures told { IfOk result (λ pair. (is_some (D.seen pair.zero.disk) ≡ is_some (D.seen a)) × (is_some (D.seen pair.one.disk) ≡ is_some (D.seen b))) }
         ensures failed { IfErr result (λ given. Rose (D.faults a) (D.faults given.0) ⊎ Rose (D.faults b) (D.faults given.1)) }
     {
         let zero = Half::Zero.head(&head, head[4]);
@@ -211,10 +222,17 @@ impl<D: Disk> Pair<D> {
         ensures whole { IfSome (D.seen self.old.zero.disk) (λ _. IfSome (D.seen self.old.one.disk) (λ _. IfOk result (IsWhole D.seen D.may_leave self.new))) }
         ensures only_records { IfSome (D.seen self.old.zero.disk) (λ zero. IfSome (D.seen self.old.one.disk) (λ one. IfOk result (λ records. (others : List Raw) → Finds self.old.head zero one others → others ≡ records))) }
         // What was in doubt is settled.
-        ensures settled { (before after : List Raw) → IsInDoubt D.may_leave self.old before after → Tells D.seen self.old → IfOk result (λ records. (records ≡ before) ⊎ (records ≡ after)) }
+        ensures settled { (before after : Content) → IsInDoubt D.may_leave self.old before after → Tells D.seen self.old
+            → IfOk result (λ records. ((records ≡ before.1) × (format_of self.new ≡ before.0)) ⊎ ((records ≡ after.1) × (format_of self.new ≡ after.0))) }
         ensures not_ours { IfSome (D.seen self.old.zero.disk) (λ zero. IfSome (D.seen self.old.one.disk) (λ one. IsErrOf result OpenFault.NotOurs
             → (half : Half) (records : List Raw) → IsRecoverable self.old.head half (of_half half zero one) records → ⊥)) }
         ensures err { OnErr result ((records : List Raw) → IsWhole D.seen D.may_leave self.old records → IsWhole D.seen D.may_leave self.new records) }
+        ensures same_err { OnErr result (((current_of self.new).used ≡ (current_of self.old).used) × (format_of self.new ≡ format_of self.old)) }
+        ensures ready { OnOk result (IsReady D.seen D.may_leave (current_of self.new)) }
+        ensures ready_err { OnErr result (IsReady D.seen D.may_leave (current_of self.old) → IsReady D.seen D.may_leave (current_of self.new)) }
+        ensures used { IfOk result (λ records. ((current_of self.new).used ≡ 9 + length (blocks records)) × ((current_of self.new).used < 2 ^ 64)) }
+        ensures recoverable { IfOk result (AreRecoverable (format_of self.new)) }
+        ensures known { OnOk result (IsFormat (format_of self.new)) }
         ensures head { self.new.head ≡ self.old.head }
         ensures zero { IsOnlyRead D.seen D.may_leave self.old.zero.disk self.new.zero.disk }
         ensures one { IsOnlyRead D.seen D.may_leave self.old.one.disk self.new.one.disk }
@@ -230,8 +248,8 @@ impl<D: Disk> Pair<D> {
         }
     }
 
-    /// A pair of two disks that are not read or written yet.
-    fn unread(a: D, b: D, head: [u8; 7]) -> Pair<D>
+    /// A pair of two disks that are not read or written yet, whatever they hold: its first call is to be `reload`.
+    pub fn unread(a: D, b: D, head: [u8; 7]) -> Pair<D>
         ensures zero { result.zero.disk ≡ a }
         ensures one { result.one.disk ≡ b }
         ensures head { result.head ≡ head }
@@ -255,6 +273,7 @@ impl<D: Disk> Pair<D> {
         ensures told_zero { is_some (D.seen self.new.zero.disk) ≡ is_some (D.seen self.old.zero.disk) }
         ensures told_one { is_some (D.seen self.new.one.disk) ≡ is_some (D.seen self.old.one.disk) }
         ensures log { OnOk result (self.new.zero.head ≡ head) }
+        ensures used { OnOk result (self.new.zero.used ≡ 9 + length first.now) }
         ensures current { self.new.current ≡ self.old.current }
         ensures head { self.new.head ≡ self.old.head }
         ensures failed { OnErr result (Rose (D.faults self.old.zero.disk) (D.faults self.new.zero.disk) ⊎ Rose (D.faults self.old.one.disk) (D.faults self.new.one.disk)) }

@@ -1,9 +1,9 @@
 //! Which halves are recoverable.
-ghost use Rattle.std.specs.Prelude.{◌≡◌, ◌≤◌, ◌↔◌, ℕ, List, IfOk, IfSome, IsErrOf, IsNone, IsTrue, None, OnOk, Some};
+ghost use Rattle.std.specs.Prelude.{◌≡◌, ◌≤◌, ◌<◌, ◌^◌, ◌↔◌, ◌+◌, ℕ, List, IfOk, IfSome, IsErrOf, IsNone, IsTrue, None, OnOk, Some, length, slice_index};
 ghost use Rattle.std.specs.List.{All};
 ghost use Rattle.pf_disk.specs.Causes.{Rose};
 ghost use Rattle.pf_disk.specs.Crashes.{Only};
-ghost use Rattle.pf_chunklog.specs.Records.{Raw};
+ghost use Rattle.pf_chunklog.specs.Records.{Raw, blocks};
 ghost use Rattle.pf_chunklog.specs.Logs.{IsAtRest, IsOnlyRead, LeavesOnly};
 ghost use Rattle.pf_image.specs.Recovery.{AreRecoverable, IsBehind, IsChange, IsHead, IsRecoverable, IsSpelled, generation};
 ghost use Rattle.pf_image.specs.Halves.{of_half, other};
@@ -79,6 +79,8 @@ pub fn read_half<D: Disk>(
         × IsAtRest half_found.opened.head half_found.opened.used (D.may_leave log.new.disk) half_found.opened.records file
         × (half_found.generation ≡ generation half_found.opened.records)))) }
     ensures listed { IfOk result (λ found. IfSome found (λ half_found. IsHead head.now half_found.opened.head half)) }
+    ensures size { IfOk result (λ found. IfSome found (λ half_found. (half_found.opened.used ≡ 9 + length (blocks half_found.opened.records)) × (half_found.opened.used < 2 ^ 64))) }
+    ensures recoverable { IfOk result (λ found. IfSome found (λ half_found. AreRecoverable (slice_index half_found.opened.head 4) half_found.opened.records)) }
     ensures durable { IfSome (D.seen log.old.disk) (λ file. OnOk result (Only file (D.may_leave log.new.disk))) }
     ensures only_records { IfSome (D.seen log.old.disk) (λ file. IfOk result (λ found. IfSome found (λ half_found. (others : List Raw) → IsRecoverable head.now half file others → others ≡ half_found.opened.records))) }
     ensures none { IfSome (D.seen log.old.disk) (λ file. IfOk result (λ found. IsNone found → (records : List Raw) → IsRecoverable head.now half file records → ⊥)) }
