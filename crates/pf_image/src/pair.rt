@@ -67,6 +67,16 @@ impl<D: Disk> Pair<D> {
         }
     }
 
+    /// The bytes of the current half that are used, with the closed gate that ends its records.
+    pub fn used_bytes(&self) -> u64
+        ensures { result ≡ (current_of self.now).used }
+    {
+        match self.current {
+            Half::Zero => self.zero.used,
+            Half::One => self.one.used,
+        }
+    }
+
     /// The format of the current half, 1 or 2.
     pub fn format(&self) -> u8
         ensures { result ≡ format_of self.now }
@@ -238,6 +248,7 @@ impl<D: Disk> Pair<D> {
         ensures one { IsOnlyRead D.seen D.may_leave self.old.one.disk self.new.one.disk }
         ensures any_moment { IsTrue D.tells_moments → LeavesOnly D.moment D.left_since self.old.zero.disk self.new.zero.disk (D.may_leave self.old.zero.disk)
             × LeavesOnly D.moment D.left_since self.old.one.disk self.new.one.disk (D.may_leave self.old.one.disk) }
+        ensures later { (D.faults self.old.zero.disk ≤ D.faults self.new.zero.disk) × (D.faults self.old.one.disk ≤ D.faults self.new.one.disk) }
         ensures failed { IsErrOf result OpenFault.DiskFault → Rose (D.faults self.old.zero.disk) (D.faults self.new.zero.disk) ⊎ Rose (D.faults self.old.one.disk) (D.faults self.new.one.disk) }
     {
         let zero = read_half(alloc, &mut self.zero, &self.head, Half::Zero)?;

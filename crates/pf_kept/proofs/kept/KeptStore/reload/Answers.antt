@@ -1,0 +1,91 @@
+use Rattle.std.proofs.Common.{◌≡◌, ◌∙◌, sym, is_some}
+use Rattle.std.proofs.lemmas.Bool.{and_parts}
+use Rattle.pf_chunklog.proofs.Steps.{told}
+use Rattle.pf_store.specs.Stores.{state_of}
+use Rattle.pf_image.specs.Pairs.{format_of}
+use Rattle.pf_image.proofs.Files.{err_of}
+use Rattle.pf_image.proofs.Loading.{if_err}
+use Rattle.pf_image.proofs.Logs as logs
+use Rattle.pf_kept.proofs.States.{read_state, stands_for}
+use Rattle.pf_kept.proofs.Pairs.{IsReread, format_is, has_one, has_state, kept_err, kept_in, kept_ok, one_recovers, one_rose_later, one_settled, read_leaves, same_state, used_is, whole_now}
+use Rattle.pf_kept.proofs.kept.KeptStore.reload.Goals as goal
+
+pub returns-in_err-found-in-Ok-clause-kept : goal.returns-in_err-found-in-Ok-clause-kept
+returns-in_err-found-in-Ok-clause-kept g c = if_err c.from_residual.result (λ before after kept.
+    let read : IsReread g.D.Disk.seen g.D.Disk.may_leave c.args.self.now.pair c.reload.new.self = record { head = c.reload.ensures.head; on_zero = c.reload.ensures.zero; on_one = c.reload.ensures.one } in
+    kept_ok g.D.Disk.seen g.D.Disk.may_leave g.met.D.Disk.among c.args.self.now.pair c.reload.new.self c.in-Ok.raws read c.in-Ok.ensures.whole before after c.in-Ok.ensures.ready kept)
+
+pub returns-in_err-found-in-Ok-clause-same : goal.returns-in_err-found-in-Ok-clause-same
+returns-in_err-found-in-Ok-clause-same g c = if_err c.from_residual.result (λ tells_it d kept.
+    let read : IsReread g.D.Disk.seen g.D.Disk.may_leave c.args.self.now.pair c.reload.new.self = record { head = c.reload.ensures.head; on_zero = c.reload.ensures.zero; on_one = c.reload.ensures.one } in
+    let had = has_one g.D.Disk.seen g.D.Disk.may_leave c.args.self.now.pair d kept tells_it in
+    let has = same_state g.D.Disk.seen g.D.Disk.may_leave g.met.D.Disk.among c.args.self.now.pair c.reload.new.self c.in-Ok.raws read c.in-Ok.ensures.whole d kept tells_it in (
+      used_is g.D.Disk.seen g.D.Disk.may_leave c.reload.new.self d has ∙ sym (used_is g.D.Disk.seen g.D.Disk.may_leave c.args.self.now.pair d had),
+      format_is g.D.Disk.seen g.D.Disk.may_leave c.reload.new.self d has ∙ sym (format_is g.D.Disk.seen g.D.Disk.may_leave c.args.self.now.pair d had),
+    ))
+
+pub returns-in_err-found-in-Ok-clause-any_moment : goal.returns-in_err-found-in-Ok-clause-any_moment
+returns-in_err-found-in-Ok-clause-any_moment g c = λ before after kept tells_moments tells_it.
+    let times = c.reload.ensures.any_moment tells_moments in
+    read_leaves g.D.Disk.seen g.D.Disk.may_leave g.D.Disk.moment g.D.Disk.left_since c.args.self.now.pair c.reload.new.self before after kept tells_it times.0 times.1
+
+pub returns-in_ok-found-in-Ok-clause-any_moment : goal.returns-in_ok-found-in-Ok-clause-any_moment
+returns-in_ok-found-in-Ok-clause-any_moment g c = λ before after kept tells_moments tells_it.
+    let times = c.reload.ensures.any_moment tells_moments in
+    read_leaves g.D.Disk.seen g.D.Disk.may_leave g.D.Disk.moment g.D.Disk.left_since c.args.self.now.pair c.reload.new.self before after kept tells_it times.0 times.1
+
+pub returns-in-Err-clause-any_moment : goal.returns-in-Err-clause-any_moment
+returns-in-Err-clause-any_moment g c = λ before after kept tells_moments tells_it.
+    let times = c.reload.ensures.any_moment tells_moments in
+    read_leaves g.D.Disk.seen g.D.Disk.may_leave g.D.Disk.moment g.D.Disk.left_since c.args.self.now.pair c.reload.new.self before after kept tells_it times.0 times.1
+
+pub returns-in-Err-clause-kept : goal.returns-in-Err-clause-kept
+returns-in-Err-clause-kept g c = λ before after kept.
+    let read : IsReread g.D.Disk.seen g.D.Disk.may_leave c.args.self.now.pair c.reload.new.self = record { head = c.reload.ensures.head; on_zero = c.reload.ensures.zero; on_one = c.reload.ensures.one } in
+    kept_err g.D.Disk.seen g.D.Disk.may_leave c.args.self.now.pair c.reload.new.self before after read c.in-Err.ensures.err c.in-Err.ensures.same_err.1 c.in-Err.ensures.ready_err kept
+
+pub returns-in-Err-clause-ours : goal.returns-in-Err-clause-ours
+returns-in-Err-clause-ours g c = λ before after kept tells_it is.
+    let pair = c.args.self.now.pair in
+    let both = and_parts (is_some (g.D.Disk.seen pair.zero.disk)) (is_some (g.D.Disk.seen pair.one.disk)) tells_it in
+    let a = logs.told_file (g.D.Disk.seen pair.zero.disk) both.0 in
+    let b = logs.told_file (g.D.Disk.seen pair.one.disk) both.1 in
+    let found = one_recovers g.D.Disk.seen g.D.Disk.may_leave g.met.D.Disk.among pair before after kept tells_it a.0 b.0 a.1 b.1 in
+    let fault : c.named.result ≡ _ = cc is in
+    told _ b.0 _ b.1 (told _ a.0 _ a.1 c.in-Err.ensures.not_ours) (err_of _ _ (c.named.ensures.ours fault)) found.0 found.1 found.2
+
+pub returns-in_ok-found-in-Ok-clause-found : goal.returns-in_ok-found-in-Ok-clause-found
+returns-in_ok-found-in-Ok-clause-found g c = λ tells_it before after kept.
+    let old = c.args.self.now.pair in
+    let new = c.reload.new.self in
+    let read : IsReread g.D.Disk.seen g.D.Disk.may_leave old new = record { head = c.reload.ensures.head; on_zero = c.reload.ensures.zero; on_one = c.reload.ensures.one } in
+    let settled = one_settled g.D.Disk.seen g.D.Disk.may_leave g.met.D.Disk.among old new c.in-Ok.raws read c.in-Ok.ensures.whole before after kept tells_it in (
+      settled.0,
+      settled.1,
+      stands_for c.in_ok-found-in-Ok.field-0 (format_of new) c.in-Ok.raws settled.0 c.in-Ok.ensures.known c.in_ok-found-in-Ok.ensures.format (c.in_ok-found-in-Ok.ensures.used ∙ c.in-Ok.ensures.used.0) c.in_ok-found-in-Ok.ensures.records settled.2.state,
+      kept_in g.D.Disk.seen g.D.Disk.may_leave new settled.0 c.in-Ok.ensures.ready (λ _. has_state g.D.Disk.seen g.D.Disk.may_leave new c.in-Ok.raws settled.0 settled.2),
+    )
+
+pub returns-in_ok-found-in-Ok-clause-whole : goal.returns-in_ok-found-in-Ok-clause-whole
+returns-in_ok-found-in-Ok-clause-whole g c =
+    let old = c.args.self.now.pair in
+    let new = c.reload.new.self in
+    let read : IsReread g.D.Disk.seen g.D.Disk.may_leave old new = record { head = c.reload.ensures.head; on_zero = c.reload.ensures.zero; on_one = c.reload.ensures.one } in
+    let d = state_of (format_of new) c.in_ok-found-in-Ok.field-0.records.items in
+    let state = read_state (format_of new) c.in-Ok.raws c.in_ok-found-in-Ok.field-0.records.items c.in-Ok.ensures.recoverable c.in_ok-found-in-Ok.ensures.records in (
+      d,
+      stands_for c.in_ok-found-in-Ok.field-0 (format_of new) c.in-Ok.raws d c.in-Ok.ensures.known c.in_ok-found-in-Ok.ensures.format (c.in_ok-found-in-Ok.ensures.used ∙ c.in-Ok.ensures.used.0) c.in_ok-found-in-Ok.ensures.records state,
+      kept_in g.D.Disk.seen g.D.Disk.may_leave new d c.in-Ok.ensures.ready (λ tells_it. has_state g.D.Disk.seen g.D.Disk.may_leave new c.in-Ok.raws d (record {
+        whole = whole_now g.D.Disk.seen g.D.Disk.may_leave g.met.D.Disk.among old new c.in-Ok.raws read c.in-Ok.ensures.whole tells_it;
+        state = state;
+      })),
+    )
+
+pub returns-in_err-found-in-Ok-clause-later : goal.returns-in_err-found-in-Ok-clause-later
+returns-in_err-found-in-Ok-clause-later g c = λ next rose. one_rose_later g.D.Disk.faults c.args.self.now.pair c.reload.new.self next.pair c.reload.ensures.later rose
+
+pub returns-in_ok-found-in-Ok-clause-later : goal.returns-in_ok-found-in-Ok-clause-later
+returns-in_ok-found-in-Ok-clause-later g c = λ next rose. one_rose_later g.D.Disk.faults c.args.self.now.pair c.reload.new.self next.pair c.reload.ensures.later rose
+
+pub returns-in-Err-clause-later : goal.returns-in-Err-clause-later
+returns-in-Err-clause-later g c = λ next rose. one_rose_later g.D.Disk.faults c.args.self.now.pair c.reload.new.self next.pair c.reload.ensures.later rose

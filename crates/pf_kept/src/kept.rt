@@ -1,0 +1,149 @@
+//! Records on two disks.
+ghost use Rattle.std.specs.Prelude.{◌≡◌, ◌≢◌, ◌⊎◌, ◌+◌, ◌≤◌, ◌<◌, ◌^◌, ◌&&◌, [], ◌∷◌, ℕ, List, Err, IfErr, IfOk, IfSome, IsTrue, OnErr, OnOk, is_some, length, slice_index};
+ghost use Rattle.std.specs.List.{AllZip};
+ghost use Rattle.pf_disk.specs.Causes.{Rose};
+ghost use Rattle.pf_chunklog.specs.Records.{blocks};
+ghost use Rattle.pf_chunklog.specs.declared.errors.OpenFault.TheVariants.{DiskFault as disk_failed, NotOurs as not_ours};
+ghost use Rattle.pf_entry.specs.Records.{Durable};
+ghost use Rattle.pf_entry.specs.declared.records.Record.{Record as RecordIs};
+ghost use Rattle.pf_store.specs.Stores.{StandsFor, state_of};
+ghost use Rattle.pf_image.specs.Recovery.{AreRecoverable, Spells};
+ghost use Rattle.pf_image.specs.Pairs.{current_of, format_of};
+ghost use Rattle.pf_kept.specs.Kept.{FindsState, IsFirst, IsKept, LeavesStates, OneRose, WasKept, tells};
+
+use crate::reading::{read_records, used_by};
+use pf_base::NoMemory;
+use pf_chunklog::{AppendFault, OpenFault, RawRecords};
+use pf_disk::Disk;
+use pf_image::Pair;
+use pf_store::{DiskFault, Found, ReloadFault, Store};
+use std::alloc::Global;
+
+/// The records of a server on two disks that nobody else writes.
+#[derive(Drop)]
+pub struct Kept<D: Disk> {
+    pair: Pair<D>,
+}
+
+/// The same fault, as a store names it.
+fn named(fault: OpenFault) -> ReloadFault
+    ensures disk { result ≡ ReloadFault.DiskFault → fault ≡ disk_failed }
+    ensures ours { result ≡ ReloadFault.NotOurs → fault ≡ not_ours }
+{
+    match fault {
+        OpenFault::NoMemory => ReloadFault::NoMemory,
+        OpenFault::DiskFault => ReloadFault::DiskFault,
+        OpenFault::NotOurs => ReloadFault::NotOurs,
+    }
+}
+
+impl<D: Disk> Kept<D> {
+    /// Makes a store of two disks, whatever they held: half 0 begins with this image, the body of an Image record of
+    /// generation 0 in the format of the head, and half 1 is empty.
+    ///
+    /// `DiskFault` (40) only where one of the disks has failed in this call.
+    pub fn new(a: D, b: D, head: [u8; 7], first: &[u8]) -> Result<Kept<D>, (D, D, DiskFault)>
+        requires first { (r : RecordIs) × IsFirst (slice_index head 4) r first.now }
+        requires fits { 9 + length first.now ≤ 67108864 }
+        ensures holds { IfOk result (λ kept. (r : RecordIs) → IsFirst (slice_index head 4) r first.now
+            → let d = state_of (slice_index head 4) (r ∷ []) in IsKept D.seen D.may_leave kept.pair d d) }
+        ensures used { IfOk result (λ kept. (current_of kept.pair).used ≡ 9 + length first.now) }
+        ensures format { IfOk result (λ kept. format_of kept.pair ≡ slice_index head 4) }
+        ensures head { IfOk result (λ kept. kept.pair.head ≡ head) }
+        ensures told { IfOk result (λ kept. tells D.seen kept.pair ≡ (is_some (D.seen a) && is_some (D.seen b))) }
+        ensures failed { IfErr result (λ given. Rose (D.faults a) (D.faults given.0) ⊎ Rose (D.faults b) (D.faults given.1)) }
+    {
+        match Pair::new(a, b, head, first) {
+            Ok(pair) => Ok(Kept { pair }),
+            Err((a, b, _)) => Err((a, b, DiskFault)),
+        }
+    }
+
+    /// A store over two disks that are not read or written yet, whatever they hold: its first call is to be `reload`. Where a
+    /// restart finds one of two states in what they hold, in halves of this head, the store is in doubt between them.
+    pub fn unread(a: D, b: D, head: [u8; 7]) -> Kept<D>
+        ensures holds { (before after : Durable) → before ≢ after → LeavesStates head (D.may_leave a) (D.may_leave b) before after → IsKept D.seen D.may_leave result.pair before after }
+        ensures zero { result.pair.zero.disk ≡ a }
+        ensures one { result.pair.one.disk ≡ b }
+        ensures head { result.pair.head ≡ head }
+    {
+        Kept {
+            pair: Pair::unread(a, b, head),
+        }
+    }
+
+    /// Gives the disks back, that of half 0 first. Whatever files a crash leaves of them, a restart finds the state of the
+    /// records, or one of the two that are in doubt; and so it does in the files as they are.
+    pub fn into_disks(self) -> (D, D)
+        ensures left { (before after : Durable) → IsKept D.seen D.may_leave self.pair before after → IsTrue (tells D.seen self.pair)
+            → LeavesStates self.pair.head (D.may_leave result.0) (D.may_leave result.1) before after }
+        ensures seen { (before after : Durable) → IsKept D.seen D.may_leave self.pair before after → IsTrue (tells D.seen self.pair)
+            → IfSome (D.seen result.0) (λ a. IfSome (D.seen result.1) (λ b. FindsState self.pair.head a b before ⊎ FindsState self.pair.head a b after)) }
+        ensures zero { result.0 ≡ self.pair.zero.disk }
+        ensures one { result.1 ≡ self.pair.one.disk }
+    {
+        self.pair.into_disks()
+    }
+
+    /// What the pair stands at, with the records that it read.
+    fn found(&self, alloc: Global, raws: &RawRecords) -> Result<Found, NoMemory>
+        requires recoverable { AreRecoverable (format_of self.now.pair) raws.now }
+        requires used { ((current_of self.now.pair).used ≡ 9 + length (blocks raws.now)) × ((current_of self.now.pair).used < 2 ^ 64) }
+        ensures format { IfOk result (λ found. found.format ≡ format_of self.now.pair) }
+        ensures used { IfOk result (λ found. found.used ≡ (current_of self.now.pair).used) }
+        ensures records { IfOk result (λ found. AllZip (Spells (format_of self.now.pair)) raws.now found.records.items) }
+    {
+        let format = self.pair.format();
+        let used = used_by(raws.as_slice());
+        let records = read_records(alloc, format, raws.as_slice())?;
+        Ok(Found {
+            format,
+            used,
+            records,
+        })
+    }
+}
+
+impl<D: Disk> Store for Kept<D> {
+    ghost holds = { λ kept before after. IsKept D.seen D.may_leave kept.pair before after };
+
+    ghost told = { λ kept. tells D.seen kept.pair };
+
+    ghost used = { λ kept. (current_of kept.pair).used };
+
+    ghost format = { λ kept. format_of kept.pair };
+
+    ghost rose = { λ old new. OneRose D.faults old.pair new.pair };
+
+    ghost was = { λ old new before after. WasKept D.seen D.moment D.left_since D.tells_moments old.pair new.pair before after };
+
+    fn used_bytes(&self) -> u64 {
+        self.pair.used_bytes()
+    }
+
+    fn has_room(&self, len: u64) -> bool {
+        self.pair.has_room(len)
+    }
+
+    fn append(&mut self, body: &[u8]) -> Result<(), DiskFault> {
+        match self.pair.append(body) {
+            Ok(()) => Ok(()),
+            Err(AppendFault::DiskFault) => Err(DiskFault),
+            Err(AppendFault::LogFull) => unreachable!(),
+        }
+    }
+
+    fn save(&mut self, body: &[u8]) -> Result<(), DiskFault> {
+        match self.pair.save(body) {
+            Ok(()) => Ok(()),
+            Err(_) => Err(DiskFault),
+        }
+    }
+
+    fn reload(&mut self, alloc: Global) -> Result<Found, ReloadFault> {
+        match self.pair.reload(alloc) {
+            Ok(raws) => Ok(self.found(alloc, &raws)?),
+            Err(fault) => Err(named(fault)),
+        }
+    }
+}
