@@ -1,0 +1,5 @@
+mod Reading
+mod Judging
+mod Living
+mod Renewing
+mod Restarting

@@ -1,0 +1,77 @@
+-- What a store has after a restart.
+use Rattle.std.proofs.Common.{◌≡◌, ◌⊎◌, inl, inr, ℕ, false, List, [], ◌∷◌, refl, sym, ap, subst, ◌∙◌, Result, Err}
+use Rattle.std.proofs.lemmas.Bool.{false≢true}
+use Rattle.pf_entry.specs.Lists.{Every}
+use Rattle.pf_entry.specs.Records.{Durable, recovered, stored}
+use Rattle.pf_entry.specs.declared.records.Record.{Record}
+use Rattle.pf_entry.specs.declared.records.Record.TheVariants.{Image as ImageRecord, Term as TermRecord, Entry as EntryRecord, Merged as MergedRecord}
+use Rattle.pf_store.specs.Stores.{BeginsWithImage, StandsFor, blank, is_image, state_of}
+use Rattle.pf_store.specs.declared.found.Found.{Found}
+use Rattle.pf_protocol.specs.Servers.{Setup}
+use Rattle.pf_protocol.specs.Saving.{renewed}
+use Rattle.pf_restart.specs.Beginning.{IsOneOf, IsThere, MayBegin, StillHas}
+
+-- no later record changes the format
+same_format : (r : Record) (d : Durable) → is_image r ≡ false → (stored d r).format ≡ d.format
+unfolding stored
+same_format (ImageRecord generation term vote applied sectors) d later = absurd (false≢true (sym later))
+same_format (TermRecord term) d later = refl
+same_format (EntryRecord e) d later = refl
+same_format (MergedRecord term first es) d later = refl
+
+format_stays : (rs : List Record) (d : Durable) → Every (λ r. is_image r ≡ false) rs → (recovered d rs).format ≡ d.format
+format_stays [] d later = refl
+format_stays (r ∷ rs) d later = format_stays rs (stored d r) later.1 ∙ same_format r d later.0
+
+half_format : (format : ℕ) (rs : List Record) → BeginsWithImage rs → (state_of format rs).format ≡ format
+half_format format [] begins = absurd begins
+half_format format (image ∷ rest) begins = format_stays rest (record (stored blank image) { format = format }) begins.1
+
+pub found_format : (found : Found) (d : Durable) → StandsFor found d → found.format ≡ d.format
+found_format found d stands = sym (half_format found.format found.records.items stands.image) ∙ ap (λ (x : Durable). x.format) stands.state
+
+-- what is found is one state
+pub one_state : (found : Found) (d e : Durable) → StandsFor found d → StandsFor found e → d ≡ e
+one_state found d e stands also = sym stands.state ∙ also.state
+
+pub one_of : (before after d : Durable) → (d ≡ before) ⊎ (d ≡ after) → IsOneOf before after d
+one_of before after d (inl is) = inl is
+one_of before after d (inr is) = inr (inl is)
+
+pub either_renewed : (before after d : Durable) → (d ≡ before) ⊎ (d ≡ after) → (renewed d ≡ renewed before) ⊎ (renewed d ≡ renewed after)
+either_renewed before after d (inl is) = inl (ap renewed is)
+either_renewed before after d (inr is) = inr (ap renewed is)
+
+renewed_one_of : (before after d : Durable) → (renewed d ≡ renewed before) ⊎ (renewed d ≡ renewed after) → IsOneOf before after (renewed d)
+renewed_one_of before after d (inl is) = inr (inr (inl is))
+renewed_one_of before after d (inr is) = inr (inr (inr is))
+
+pub may_either : (setup : Setup) (before after d : Durable) → (d ≡ before) ⊎ (d ≡ after) → MayBegin setup before → MayBegin setup after → MayBegin setup d
+may_either setup before after d (inl is) first second = subst (MayBegin setup) (sym is) first
+may_either setup before after d (inr is) first second = subst (MayBegin setup) (sym is) second
+
+pub the_same : (d e : Durable) → (e ≡ d) ⊎ (e ≡ d) → e ≡ d
+the_same d e (inl is) = is
+the_same d e (inr is) = is
+
+module _ {S : Type 0} (holds : S → Durable → Durable → Type 0) (used format : S → ℕ) where
+  pub still_both : (before after : Durable) (store : S) → holds store before after → StillHas holds used format before after store
+  still_both before after store has = record { x = before; y = after; has = has; first = inl refl; second = inr (inl refl) }
+
+  pub still_one : (before after d : Durable) (store : S) → (d ≡ before) ⊎ (d ≡ after) → holds store d d → StillHas holds used format before after store
+  still_one before after d store either has = record { x = d; y = d; has = has; first = one_of before after d either; second = one_of before after d either }
+
+  pub still_renewed : (before after d : Durable) (store : S) → (d ≡ before) ⊎ (d ≡ after) → holds store d (renewed d) → StillHas holds used format before after store
+  still_renewed before after d store either has = record { x = d; y = renewed d; has = has; first = one_of before after d either; second = renewed_one_of before after d (either_renewed before after d either) }
+
+  -- the state that was found
+  pub there_again : (found : Found) (d e : Durable) (store : S) → (e ≡ d) ⊎ (e ≡ d) → StandsFor found e → holds store e e → used store ≡ found.used → format store ≡ found.format → IsThere holds used format d store
+  there_again found d e store either stands has used_is half =
+      subst (λ x. IsThere holds used format x store) (the_same d e either) (record { recorded = has; used_is = used_is ∙ stands.used; half = half ∙ found_format found e stands })
+
+-- an error that is passed on is the one that came
+same_err : {T E : Type 0} → (x y : E) → ◌≡◌ {A = Result T E} (Err x) (Err y) → x ≡ y
+same_err x y same = cc
+
+pub passed_on : {T U E : Type 0} → (r : Result T E) (e came : E) → (y : E) × (r ≡ Err y) × (y ≡ came) → r ≡ Err e → ◌≡◌ {A = Result U E} (Err came) (Err e)
+passed_on {T = T} r e came (y, is, same) gives = ap Err (sym same ∙ same_err {T = T} y e (sym is ∙ gives))

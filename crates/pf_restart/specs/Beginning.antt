@@ -1,0 +1,65 @@
+-- A server that begins again from its records.
+use Rattle.std.specs.Prelude.{◌≡◌, ◌⊎◌, ℕ, suc, ◌+◌, ◌<◌, ◌≤◌, ◌^◌, []}
+use Rattle.std.specs.FinMap
+use Rattle.pf_entry.specs.Records.{Durable}
+use Rattle.pf_protocol.specs.Servers.{Setup}
+use Rattle.pf_protocol.specs.Saving.{renewed, restarted}
+use Rattle.pf_protocol.specs.Fitting.{DurableFits}
+use Rattle.pf_protocol.specs.Answers.{IsSetup}
+use Rattle.pf_state.specs.declared.running.Running.{Running}
+use Rattle.pf_state.specs.Standing.{server_of, setup_of, Stands}
+use Rattle.pf_restart.specs.declared.seat.Seat.{Seat}
+
+-- as the rules see it
+abbrev pub setup_at : Seat → Setup
+setup_at seat = record { names = seat.names; window = 4096; chunk = seat.sectors; format = seat.format; failed = [] }
+
+pub record IsSeat (seat : Seat) : Type 0 where
+  pub number : seat.number < 3
+  pub setup : IsSetup (setup_at seat)
+
+-- a half has the volume's format or the second, and few starts
+pub record IsHalf (setup : Setup) (d : Durable) : Type 0 where
+  pub format : (d.format ≡ 2) ⊎ (d.format ≡ setup.format)
+  pub few : FinMap.len d.starts ≤ 65
+  pub within : d.used ≤ 67108864
+
+-- a state that no restart refuses
+pub record MayBegin (setup : Setup) (d : Durable) : Type 0 where
+  pub n : ℕ
+  pub t : ℕ
+  pub low : suc n < 2 ^ 63
+  pub t_low : t < 2 ^ 63
+  pub fits : DurableFits setup n t d
+  pub half : IsHalf setup d
+
+-- a state from which a server has begun: its slots are at most 4,096 above a checkpoint below 2^63
+pub record HasBegun (setup : Setup) (d : Durable) : Type 0 where
+  pub fits : DurableFits setup (2 ^ 63 + 4096) (2 ^ 63) d
+  pub half : IsHalf setup d
+
+-- one of two states, or what a restart makes of it
+abbrev pub IsOneOf : (before after d : Durable) → Type 0
+IsOneOf before after d = (d ≡ before) ⊎ ((d ≡ after) ⊎ ((d ≡ renewed before) ⊎ (d ≡ renewed after)))
+
+module _ {S : Type 0} (holds : S → Durable → Durable → Type 0) (used format : S → ℕ) where
+  -- the server begins this life over this state
+  pub record IsBegun (d : Durable) (store : S) (me : Running) (seat : Seat) (life : ℕ) : Type 0 where
+    pub stands : Stands holds used format d store me
+    pub is : server_of d me ≡ restarted seat.number life d
+    pub setup : setup_of me ≡ setup_at seat
+    pub begun : HasBegun (setup_at seat) d
+
+  -- the store still has one of these two states for each that it had
+  pub record StillHas (before after : Durable) (store : S) : Type 0 where
+    pub x : Durable
+    pub y : Durable
+    pub has : holds store x y
+    pub first : IsOneOf before after x
+    pub second : IsOneOf before after y
+
+  -- a state that was there is there still, in the same half
+  pub record IsThere (d : Durable) (store : S) : Type 0 where
+    pub recorded : holds store d d
+    pub used_is : used store ≡ d.used
+    pub half : format store ≡ d.format

@@ -1,0 +1,5 @@
+pub mod Beginning
+pub mod Recovering
+pub mod Testing
+pub mod Reviving
+pub mod Faults

@@ -1,0 +1,65 @@
+-- What a restart reads from the records of a half.
+use Rattle.std.specs.Prelude.{◌≡◌, ℕ, ◌+◌, ◌<◌, ◌≤◌, Bool, true, false, Option, Some, None}
+use Rattle.std.specs.FinMap
+use Rattle.pf_entry.specs.Sets
+use Rattle.pf_entry.specs.Records.{Durable, stored}
+use Rattle.pf_entry.specs.declared.records.Record.{Record}
+use Rattle.pf_holes.specs.HoleLogs.{Holes}
+use Rattle.pf_holes.specs.Windows.{IsWithin}
+use Rattle.pf_store.specs.Stores.{StandsFor, blank}
+use Rattle.pf_store.specs.declared.found.Found.{Found}
+use Rattle.pf_restart.specs.declared.recovery.Recovered.{Recovered}
+
+-- the state that was read
+abbrev pub state_in : Recovered → Durable
+state_in r = record {
+  format = r.format;
+  used = r.used;
+  generation = r.generation;
+  term = r.term;
+  base = r.log.base;
+  starts = r.starts.starts;
+  log = r.log.entries;
+  saved = r.applied;
+  sectors = r.sectors;
+}
+
+-- the slot has a place in the window above the base
+abbrev pub IsPlaced : (base slot : ℕ) → Type 0
+IsPlaced base slot = (base < slot) × (slot ≤ base + 4096)
+
+-- each entry has a place
+abbrev pub HasWindow : Durable → Type 0
+HasWindow d = IsWithin d.base d.log
+
+-- the log without entries above a base
+abbrev pub no_holes : ℕ → Holes
+no_holes base = record { base = base; entries = FinMap.empty; marks = Sets.empty }
+
+-- this state was read, and no entry is marked as committed
+pub record IsRecovered (d : Durable) (r : Recovered) : Type 0 where
+  pub state : state_in r ≡ d
+  pub unmarked : r.log.marks ≡ Sets.empty
+
+-- the state after one more record, in as many bytes
+abbrev pub followed : Durable → Record → Durable
+followed d r = record (stored d r) { used = d.used }
+
+pub record IsFollowed (old : Recovered) (r : Record) (new : Recovered) : Type 0 where
+  pub state : state_in new ≡ followed (state_in old) r
+  pub unmarked : new.log.marks ≡ old.log.marks
+
+-- one more record was read, or an entry of it has no place
+abbrev pub Follows : Recovered → Record → Recovered → Bool → Type 0
+Follows old r new true = IsFollowed old r new
+Follows old r new false = HasWindow (stored (state_in old) r) → ⊥
+
+-- the image of a half was read, or an entry of it has no place
+abbrev pub Begins : (format used : ℕ) → Record → Option Recovered → Type 0
+Begins format used image (Some r) = IsRecovered (record (stored blank image) { format = format; used = used }) r
+Begins format used image None = HasWindow (stored blank image) → ⊥
+
+-- the records were read, or an entry has no place
+abbrev pub Recovers : Found → Option Recovered → Type 0
+Recovers found (Some r) = (d : Durable) → StandsFor found d → IsRecovered d r
+Recovers found None = (d : Durable) → StandsFor found d → HasWindow d → ⊥

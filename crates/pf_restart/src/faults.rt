@@ -1,0 +1,50 @@
+//! Why a server does not begin again.
+ghost use Rattle.std.specs.Prelude.{◌≡◌};
+ghost use Rattle.pf_restart.specs.Faults.{fault_of};
+ghost use Rattle.pf_restart.specs.declared.faults.RestartFault.TheVariants.{NoMemory as WantsMemory, Halted};
+
+use pf_base::NoMemory;
+use pf_store::{DiskFault, ReloadFault};
+use thiserror::Error;
+
+/// Why a server does not begin again.
+#[derive(Clone, Copy, Debug, PartialEq, Eq, Error)]
+pub enum RestartFault {
+    /// 1: there was no memory for it.
+    #[error("no memory")]
+    NoMemory,
+    /// 52: a disk failed while the records were read, or while they were saved in a new half.
+    #[error("halted")]
+    Halted,
+    /// 42: no half is recoverable, or what its records give does not fit the server.
+    #[error("not ours")]
+    NotOurs,
+}
+
+impl From<NoMemory> for RestartFault {
+    ghost from_gives = { λ _ fault. fault ≡ WantsMemory };
+
+    fn from(_: NoMemory) -> Self {
+        RestartFault::NoMemory
+    }
+}
+
+impl From<DiskFault> for RestartFault {
+    ghost from_gives = { λ _ fault. fault ≡ Halted };
+
+    fn from(_: DiskFault) -> Self {
+        RestartFault::Halted
+    }
+}
+
+impl From<ReloadFault> for RestartFault {
+    ghost from_gives = { λ fault given. given ≡ fault_of fault };
+
+    fn from(fault: ReloadFault) -> Self {
+        match fault {
+            ReloadFault::NoMemory => RestartFault::NoMemory,
+            ReloadFault::DiskFault => RestartFault::Halted,
+            ReloadFault::NotOurs => RestartFault::NotOurs,
+        }
+    }
+}

@@ -1,0 +1,86 @@
+//! A new life.
+ghost use Rattle.std.specs.Prelude.{◌≡◌, ◌<◌, ◌^◌, ℕ, IfOk, IsErrOf};
+ghost use Rattle.pf_entry.specs.Records.{Durable};
+ghost use Rattle.pf_entry.specs.Sets as set;
+ghost use Rattle.pf_store.specs.Stores.{StandsFor};
+ghost use Rattle.pf_restart.specs.Beginning.{HasBegun, IsSeat, MayBegin, setup_at};
+ghost use Rattle.pf_restart.specs.Recovering.{state_in};
+ghost use Rattle.pf_restart.specs.Reviving.{IsRevived};
+
+use crate::fitting::fits;
+use crate::recovery::{Recovered, recover};
+use crate::{RestartFault, Seat};
+use pf_base::NoMemory;
+use pf_election::Probes;
+use pf_holes::{Ring, SlotSet};
+use pf_sectors::SectorTable;
+use pf_state::{Replies, Role, Running};
+use pf_store::Found;
+use pf_tables::Snapshots;
+use std::alloc::Global;
+
+/// Begins a life over what was read, as a follower without committed slots, jobs or reads.
+fn begin(
+    alloc: Global,
+    seat: &Seat,
+    life: u64,
+    tables: Recovered,
+) -> Result<Running, NoMemory>
+    requires seat { IsSeat seat.now }
+    requires begun { HasBegun (setup_at seat.now) (state_in tables) }
+    requires unmarked { tables.log.marks ≡ set.empty }
+    ensures { IfOk result (λ me. IsRevived (state_in tables) me seat.now life) }
+{
+    let Recovered {
+        format: _,
+        used: _,
+        generation,
+        term,
+        starts,
+        log,
+        applied,
+        sectors,
+    } = tables;
+    Ok(Running {
+        number: seat.number,
+        life,
+        names: seat.names,
+        format: seat.format,
+        term,
+        generation,
+        starts,
+        applied: SlotSet::with_prefix(log.base(), applied),
+        log,
+        role: Role::Follower,
+        sectors: SectorTable::from_sectors(sectors),
+        in_hand: Ring::new(alloc)?,
+        jobs: 0,
+        rooms: Ring::new(alloc)?,
+        reads: Probes::new(alloc),
+        replies: Replies::new(alloc),
+        snapshots: Snapshots::new(alloc)?,
+    })
+}
+
+/// Begins a life over the records that were found. `NoMemory` (1) where there is no memory for it, and `NotOurs` (42) where
+/// what they give does not fit the seat.
+pub fn revive(
+    alloc: Global,
+    seat: &Seat,
+    life: u64,
+    found: Found,
+) -> Result<Running, RestartFault>
+    requires seat { IsSeat seat.now }
+    requires stands { (d : Durable) × StandsFor found d }
+    ensures begun { IfOk result (λ me. (d : Durable) → StandsFor found d → IsRevived d me seat.now life × (d.generation < 2 ^ 63)) }
+    ensures ours { IsErrOf result RestartFault.NotOurs → (d : Durable) → StandsFor found d → MayBegin (setup_at seat.now) d → ⊥ }
+    ensures moving { IsErrOf result RestartFault.Halted → ⊥ }
+{
+    let Some(tables) = recover(alloc, found)? else {
+        return Err(RestartFault::NotOurs);
+    };
+    if !fits(alloc, seat, &tables)? {
+        return Err(RestartFault::NotOurs);
+    }
+    Ok(begin(alloc, seat, life, tables)?)
+}
