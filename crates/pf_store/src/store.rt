@@ -68,8 +68,8 @@ pub trait Store {
         ensures cause { OnErr result (rose self.old self.new) };
 
     /// Reads the records, also after a call that failed: the state without the record in doubt, or with it. No crash
-    /// changes that afterwards. `NoMemory` (1) and `DiskFault` (40) leave both possible; `NotOurs` (42) comes only where a disk
-    /// does not tell its content.
+    /// changes that afterwards, and a count of faults that rises afterwards has risen since before. `NoMemory` (1) and `DiskFault`
+    /// (40) leave both possible; `NotOurs` (42) comes only where a disk does not tell its content.
     fn reload(&mut self, alloc: Global) -> Result<Found, ReloadFault>
         ensures found { IsTrue (told self.old) → IfOk result (λ found. (before after : Durable) → holds self.old before after → (d : Durable) × (d ≡ before ⊎ d ≡ after) × StandsFor found d × holds self.new d d) }
         ensures whole { IfOk result (λ found. (d : Durable) × StandsFor found d × holds self.new d d) }
