@@ -128,7 +128,6 @@ module _ (seat : Seat) (d : Durable) where
     half = record { format = numbers.format; few = starts.few; within = numbers.within };
   }
 
-
   numbers_of : MayBegin setup d → AreNumbers setup d
   numbers_of may = record {
     format = may.half.format;

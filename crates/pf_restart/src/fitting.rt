@@ -50,7 +50,7 @@ fn is_name(seat: &Seat, slot: Slot, named: &Named) -> bool
         && (seat.format == 2 || named.range != Range::all())
 }
 
-/// Whether each sector has its 512 bytes.
+/// Whether each sector has 512 bytes: its type says so, and the list that contracts see does not.
 fn are_sectors(sectors: &[Sector]) -> bool
     ensures { IsTrue result ↔ Every (λ bytes. length bytes ≡ 512) sectors.now }
 {
@@ -110,9 +110,7 @@ fn are_names(seat: &Seat, slot: Slot, look: &[Named]) -> bool
 fn is_look(seat: &Seat, slot: Slot, look: &[Named]) -> bool
     ensures { IsTrue result ↔ IsLook (setup_at seat.now) slot look.now }
 {
-    look.len() <= seat.names as usize
-        && are_names(seat, slot, look)
-        && ascend(look)
+    look.len() <= seat.names as usize && are_names(seat, slot, look) && ascend(look)
 }
 
 /// Whether a merged entry has no names.

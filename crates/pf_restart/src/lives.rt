@@ -20,12 +20,7 @@ use pf_tables::Snapshots;
 use std::alloc::Global;
 
 /// Begins a life over what was read, as a follower without committed slots, jobs or reads.
-fn begin(
-    alloc: Global,
-    seat: &Seat,
-    life: u64,
-    tables: Recovered,
-) -> Result<Running, NoMemory>
+fn begin(alloc: Global, seat: &Seat, life: u64, tables: Recovered) -> Result<Running, NoMemory>
     requires seat { IsSeat seat.now }
     requires begun { HasBegun (setup_at seat.now) (state_in tables) }
     requires unmarked { tables.log.marks ≡ set.empty }
@@ -64,12 +59,7 @@ fn begin(
 
 /// Begins a life over the records that were found. `NoMemory` (1) where there is no memory for it, and `NotOurs` (42) where
 /// what they give does not fit the seat.
-pub fn revive(
-    alloc: Global,
-    seat: &Seat,
-    life: u64,
-    found: Found,
-) -> Result<Running, RestartFault>
+pub fn revive(alloc: Global, seat: &Seat, life: u64, found: Found) -> Result<Running, RestartFault>
     requires seat { IsSeat seat.now }
     requires stands { (d : Durable) × StandsFor found d }
     ensures begun { IfOk result (λ me. (d : Durable) → StandsFor found d → IsRevived d me seat.now life × (d.generation < 2 ^ 63)) }

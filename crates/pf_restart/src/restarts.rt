@@ -16,7 +16,7 @@ use std::alloc::Global;
 ///
 /// `NoMemory` (1) leaves what the store has as it was. `Halted` (52) comes only where a disk failed: the store then has what it had,
 /// perhaps saved anew. `NotOurs` (42) where no half is recoverable or what its records give does not fit the server, which no
-/// store that tells its content gives.
+/// store that tells its content gives. It takes a step for each record and for each slot of the window.
 pub fn restart<S: Store>(
     alloc: Global,
     store: &mut S,

@@ -27,7 +27,7 @@ loop-passed-preserved c = record {
 pub returns : goal.returns
 returns c = (
   λ _. subst (λ base. AreInPlace (setup_at c.args.seat.now) base c.args.log.now.entries) c.base-base.ensures.base
-  (all_sound (setup_at c.args.seat.now) c.base-base.result c.args.log.now.entries (within_here c.args.log.now.base c.base-base.result c.args.log.now.entries c.base-base.ensures.base c.base-base.ensures.within)
-  (λ slot e le at. c.loop-passed.invariant.passed slot e (omega (arith, le, c.loop-passed-test.false)) at)),
+      (all_sound (setup_at c.args.seat.now) c.base-base.result c.args.log.now.entries (within_here c.args.log.now.base c.base-base.result c.args.log.now.entries c.base-base.ensures.base c.base-base.ensures.within)
+      (λ slot e le at. c.loop-passed.invariant.passed slot e (omega (arith, le, c.loop-passed-test.false)) at)),
   λ _. refl,
 )

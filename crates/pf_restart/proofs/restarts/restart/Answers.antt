@@ -67,7 +67,7 @@ returns-clause-begun g c =
     let both = c.in_ok-me.ensures.begun w.0 w.1 in (
       renewed w.0,
       c.in_ok-renew.ensures.saved w.0 c.args.seat.now c.args.life c.requires.seat
-      (begun_so g.S.Store.holds g.S.Store.used g.S.Store.format w.0 c.reload.new.self c.in_ok-me.me c.args.seat.now c.args.life both.0 w.2 (state.0 ∙ w.1.used) (state.1 ∙ found_format c.in_ok-found.found w.0 w.1)),
+          (begun_so g.S.Store.holds g.S.Store.used g.S.Store.format w.0 c.reload.new.self c.in_ok-me.me c.args.seat.now c.args.life both.0 w.2 (state.0 ∙ w.1.used) (state.1 ∙ found_format c.in_ok-found.found w.0 w.1)),
     )
 
 pub returns-clause-found : goal.returns-clause-found
@@ -77,6 +77,6 @@ returns-clause-found g c = λ told before after has.
     let both = c.in_ok-me.ensures.begun f.0 f.2 in (
       renewed f.0,
       c.in_ok-renew.ensures.saved f.0 c.args.seat.now c.args.life c.requires.seat
-      (begun_so g.S.Store.holds g.S.Store.used g.S.Store.format f.0 c.reload.new.self c.in_ok-me.me c.args.seat.now c.args.life both.0 f.3 (state.0 ∙ f.2.used) (state.1 ∙ found_format c.in_ok-found.found f.0 f.2)),
+          (begun_so g.S.Store.holds g.S.Store.used g.S.Store.format f.0 c.reload.new.self c.in_ok-me.me c.args.seat.now c.args.life both.0 f.3 (state.0 ∙ f.2.used) (state.1 ∙ found_format c.in_ok-found.found f.0 f.2)),
       either_renewed before after f.0 f.1,
     )
