@@ -5,3 +5,6 @@ mod kept;
 mod reading;
 
 pub use kept::Kept;
+
+#[cfg(test)]
+mod tests;
