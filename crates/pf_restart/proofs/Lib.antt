@@ -1,4 +1,4 @@
-mod Reading
+mod Recovering
 mod Judging
 mod Living
 mod Renewing

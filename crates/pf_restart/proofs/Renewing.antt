@@ -1,5 +1,5 @@
 -- The image under the next generation.
-use Rattle.std.proofs.Common.{◌≡◌, inl, ℕ, suc, ◌+◌, ◌*◌, ◌<◌, ◌≤◌, ◌^◌, List, length, nat_lt, is_some, sum_by, arith, refl, sym, ap, ◌∙◌}
+use Rattle.std.proofs.Common.{◌≡◌, inl, ℕ, suc, ◌+◌, ◌*◌, ◌<◌, ◌≤◌, ◌^◌, List, length, nat_lt, is_some, sum_by, arith, refl, sym, ap, ◌∙◌, Result, Err}
 use Rattle.std.proofs.lemmas.Bool.{cond-true, cond-false, eq-eqb, ne_eqb}
 use Rattle.std.proofs.lemmas.List.{length-map}
 use Rattle.std.specs.FinMap
@@ -30,6 +30,9 @@ use Rattle.pf_state.proofs.Canonicals.{image_is, short_entries, vote_is}
 use Rattle.pf_state.proofs.Storing.{image_len}
 use Rattle.pf_restart.specs.Beginning.{HasBegun, IsBegun, IsSeat, setup_at}
 use Rattle.pf_restart.specs.Reviving.{IsRevived, Lives, anew}
+use Rattle.pf_restart.specs.declared.faults.RestartFault.{RestartFault}
+use Rattle.pf_restart.specs.declared.faults.RestartFault.TheVariants.{SaveHalted}
+use Rattle.pf_restart.specs.declared.reading.Reading.{Reading}
 use Rattle.pf_restart.specs.declared.seat.Seat.{Seat}
 
 -- no slot of a state from which a server begins is higher
@@ -153,6 +156,10 @@ module _ (d : Durable) (me : Running) (seat : Seat) (life : ℕ) (made : IsSeat 
       let slots : saved ≡ d.saved = saved_is ∙ ap (λ b. Sets.retain me.applied.slots (nat_lt b)) base_is ∙ ap (λ (s : Server). s.applied) now.is in
       let chunk : sectors ≡ d.sectors = sectors_are ∙ ap (λ (s : Server). s.sectors) now.is in
       λ i. ImageRecord (next i) (now.cached.term i) (votes i) (slots i) (chunk i)
+
+-- a fault that tells one reading tells no other
+pub same_reading : (a b : Reading) → ◌≡◌ {A = Result (Unit {0}) RestartFault} (Err (SaveHalted b)) (Err (SaveHalted a)) → a ≡ b
+same_reading a b same = cc
 
 -- what a server may be made with is all the same
 pub lives_early : (d e : Durable) (me : Running) → Lives e me → IsCached d me → d.generation < 2 ^ 63

@@ -8,8 +8,7 @@ use Rattle.pf_entry.specs.declared.records.Record.TheVariants.{Image as ImageRec
 use Rattle.pf_store.specs.Stores.{BeginsWithImage, StandsFor, blank, is_image, state_of}
 use Rattle.pf_store.specs.declared.found.Found.{Found}
 use Rattle.pf_protocol.specs.Servers.{Setup}
-use Rattle.pf_protocol.specs.Saving.{renewed}
-use Rattle.pf_restart.specs.Beginning.{IsOneOf, IsThere, MayBegin, StillHas}
+use Rattle.pf_restart.specs.Beginning.{HasSome, IsThere, MayBegin}
 
 -- no later record changes the format
 same_format : (r : Record) (d : Durable) → is_image r ≡ false → (stored d r).format ≡ d.format
@@ -34,18 +33,6 @@ found_format found d stands = sym (half_format found.format found.records.items 
 pub one_state : (found : Found) (d e : Durable) → StandsFor found d → StandsFor found e → d ≡ e
 one_state found d e stands also = sym stands.state ∙ also.state
 
-pub one_of : (before after d : Durable) → (d ≡ before) ⊎ (d ≡ after) → IsOneOf before after d
-one_of before after d (inl is) = inl is
-one_of before after d (inr is) = inr (inl is)
-
-pub either_renewed : (before after d : Durable) → (d ≡ before) ⊎ (d ≡ after) → (renewed d ≡ renewed before) ⊎ (renewed d ≡ renewed after)
-either_renewed before after d (inl is) = inl (ap renewed is)
-either_renewed before after d (inr is) = inr (ap renewed is)
-
-renewed_one_of : (before after d : Durable) → (renewed d ≡ renewed before) ⊎ (renewed d ≡ renewed after) → IsOneOf before after (renewed d)
-renewed_one_of before after d (inl is) = inr (inr (inl is))
-renewed_one_of before after d (inr is) = inr (inr (inr is))
-
 pub may_either : (setup : Setup) (before after d : Durable) → (d ≡ before) ⊎ (d ≡ after) → MayBegin setup before → MayBegin setup after → MayBegin setup d
 may_either setup before after d (inl is) first second = subst (MayBegin setup) (sym is) first
 may_either setup before after d (inr is) first second = subst (MayBegin setup) (sym is) second
@@ -54,16 +41,14 @@ pub the_same : (d e : Durable) → (e ≡ d) ⊎ (e ≡ d) → e ≡ d
 the_same d e (inl is) = is
 the_same d e (inr is) = is
 
+module _ {S : Type 0} (holds : S → Durable → Durable → Type 0) (before after : Durable) (store : S) where
+  pub some_both : holds store before after → HasSome holds before after store
+  some_both has = record { x = before; y = after; has = has; first = inl refl; second = inr refl }
+
+  pub some_one : (d : Durable) → (d ≡ before) ⊎ (d ≡ after) → holds store d d → HasSome holds before after store
+  some_one d either has = record { x = d; y = d; has = has; first = either; second = either }
+
 module _ {S : Type 0} (holds : S → Durable → Durable → Type 0) (used format : S → ℕ) where
-  pub still_both : (before after : Durable) (store : S) → holds store before after → StillHas holds used format before after store
-  still_both before after store has = record { x = before; y = after; has = has; first = inl refl; second = inr (inl refl) }
-
-  pub still_one : (before after d : Durable) (store : S) → (d ≡ before) ⊎ (d ≡ after) → holds store d d → StillHas holds used format before after store
-  still_one before after d store either has = record { x = d; y = d; has = has; first = one_of before after d either; second = one_of before after d either }
-
-  pub still_renewed : (before after d : Durable) (store : S) → (d ≡ before) ⊎ (d ≡ after) → holds store d (renewed d) → StillHas holds used format before after store
-  still_renewed before after d store either has = record { x = d; y = renewed d; has = has; first = one_of before after d either; second = renewed_one_of before after d (either_renewed before after d either) }
-
   -- the state that was found
   pub there_again : (found : Found) (d e : Durable) (store : S) → (e ≡ d) ⊎ (e ≡ d) → StandsFor found e → holds store e e → used store ≡ found.used → format store ≡ found.format → IsThere holds used format d store
   there_again found d e store either stands has used_is half =

@@ -3,11 +3,12 @@ use Rattle.std.specs.Prelude.{◌≡◌, ◌⊎◌, ℕ, suc, ◌+◌, ◌<◌, 
 use Rattle.std.specs.FinMap
 use Rattle.pf_entry.specs.Records.{Durable}
 use Rattle.pf_protocol.specs.Servers.{Setup}
-use Rattle.pf_protocol.specs.Saving.{renewed, restarted}
+use Rattle.pf_protocol.specs.Saving.{restarted}
 use Rattle.pf_protocol.specs.Fitting.{DurableFits}
 use Rattle.pf_protocol.specs.Answers.{IsSetup}
 use Rattle.pf_state.specs.declared.running.Running.{Running}
 use Rattle.pf_state.specs.Standing.{server_of, setup_of, Stands}
+use Rattle.pf_restart.specs.declared.reading.Reading.{Reading}
 use Rattle.pf_restart.specs.declared.seat.Seat.{Seat}
 
 -- as the rules see it
@@ -38,9 +39,18 @@ pub record HasBegun (setup : Setup) (d : Durable) : Type 0 where
   pub fits : DurableFits setup (2 ^ 63 + 4096) (2 ^ 63) d
   pub half : IsHalf setup d
 
--- one of two states, or what a restart makes of it
-abbrev pub IsOneOf : (before after d : Durable) → Type 0
-IsOneOf before after d = (d ≡ before) ⊎ ((d ≡ after) ⊎ ((d ≡ renewed before) ⊎ (d ≡ renewed after)))
+-- the used bytes and the generation of this state were read
+pub record IsRead (r : Reading) (d : Durable) : Type 0 where
+  pub used : r.used ≡ d.used
+  pub generation : r.generation ≡ d.generation
+
+-- the store still has some of these two states
+pub record HasSome {S : Type 0} (holds : S → Durable → Durable → Type 0) (before after : Durable) (store : S) : Type 0 where
+  pub x : Durable
+  pub y : Durable
+  pub has : holds store x y
+  pub first : (x ≡ before) ⊎ (x ≡ after)
+  pub second : (y ≡ before) ⊎ (y ≡ after)
 
 module _ {S : Type 0} (holds : S → Durable → Durable → Type 0) (used format : S → ℕ) where
   -- the server begins this life over this state
@@ -49,14 +59,6 @@ module _ {S : Type 0} (holds : S → Durable → Durable → Type 0) (used forma
     pub is : server_of d me ≡ restarted seat.number life d
     pub setup : setup_of me ≡ setup_at seat
     pub begun : HasBegun (setup_at seat) d
-
-  -- the store still has one of these two states for each that it had
-  pub record StillHas (before after : Durable) (store : S) : Type 0 where
-    pub x : Durable
-    pub y : Durable
-    pub has : holds store x y
-    pub first : IsOneOf before after x
-    pub second : IsOneOf before after y
 
   -- a state that was there is there still, in the same half
   pub record IsThere (d : Durable) (store : S) : Type 0 where

@@ -1,10 +1,11 @@
 //! Why a server does not begin again.
 ghost use Rattle.std.specs.Prelude.{◌≡◌};
 ghost use Rattle.pf_restart.specs.Faults.{fault_of};
-ghost use Rattle.pf_restart.specs.declared.faults.RestartFault.TheVariants.{NoMemory as WantsMemory, Halted};
+ghost use Rattle.pf_restart.specs.declared.faults.RestartFault.TheVariants.{NoMemory as WantsMemory};
 
+use crate::Reading;
 use pf_base::NoMemory;
-use pf_store::{DiskFault, ReloadFault};
+use pf_store::ReloadFault;
 use thiserror::Error;
 
 /// Why a server does not begin again.
@@ -13,9 +14,12 @@ pub enum RestartFault {
     /// 1: there was no memory for it.
     #[error("no memory")]
     NoMemory,
-    /// 52: a disk failed while the records were read, or while they were saved in a new half.
+    /// 52: a disk failed while the records were read.
     #[error("halted")]
-    Halted,
+    ReadHalted,
+    /// 52: a disk failed while the records were saved in a new half. It has what was read before.
+    #[error("halted")]
+    SaveHalted(Reading),
     /// 42: no half is recoverable, or what its records give does not fit the server.
     #[error("not ours")]
     NotOurs,
@@ -29,21 +33,13 @@ impl From<NoMemory> for RestartFault {
     }
 }
 
-impl From<DiskFault> for RestartFault {
-    ghost from_gives = { λ _ fault. fault ≡ Halted };
-
-    fn from(_: DiskFault) -> Self {
-        RestartFault::Halted
-    }
-}
-
 impl From<ReloadFault> for RestartFault {
     ghost from_gives = { λ fault given. given ≡ fault_of fault };
 
     fn from(fault: ReloadFault) -> Self {
         match fault {
             ReloadFault::NoMemory => RestartFault::NoMemory,
-            ReloadFault::DiskFault => RestartFault::Halted,
+            ReloadFault::DiskFault => RestartFault::ReadHalted,
             ReloadFault::NotOurs => RestartFault::NotOurs,
         }
     }

@@ -5,14 +5,15 @@ ghost use Rattle.pf_spelling.specs.Spelling.{body_bytes};
 ghost use Rattle.pf_protocol.specs.Saving.{renewed};
 ghost use Rattle.pf_restart.specs.Beginning.{IsBegun, IsSeat};
 ghost use Rattle.pf_restart.specs.Reviving.{Lives, anew};
+ghost use Rattle.pf_restart.specs.declared.reading.Reading.{Reading as ReadingIs};
 ghost use Rattle.pf_restart.specs.declared.seat.Seat.{Seat as SeatIs};
 
-use crate::RestartFault;
+use crate::{Reading, RestartFault};
 use pf_base::NoMemory;
 use pf_entry::Record;
 use pf_spelling::spell_record;
 use pf_state::{Running, vote_of};
-use pf_store::Store;
+use pf_store::{DiskFault, Store};
 use std::alloc::Global;
 
 /// The body of the image of the server's state under the next generation.
@@ -30,38 +31,52 @@ fn spell_anew(alloc: Global, me: &Running) -> Result<Vec<u8>, NoMemory>
     spell_record(alloc, &image)
 }
 
-/// Saves the state under the next generation in the other half, which has the second format.
-fn save_anew<S: Store>(alloc: Global, store: &mut S, me: &mut Running) -> Result<(), RestartFault>
+/// Saves the state under the next generation in the other half, which has the second format. A fault of a disk tells what
+/// was read.
+fn save_anew<S: Store>(
+    alloc: Global,
+    store: &mut S,
+    me: &mut Running,
+    read: Reading,
+) -> Result<(), RestartFault>
     requires { (d : Durable) × S.holds store.old d d × Lives d me.old }
     ensures saved { OnOk result ((d : Durable) (seat : SeatIs) (life : ℕ) → IsSeat seat → IsBegun S.holds S.used S.format d store.old me.old seat life → IsBegun S.holds S.used S.format (stored d (image_of (anew d))) store.new me.new seat life) }
-    ensures halted { IsErrOf result RestartFault.Halted → ((d : Durable) → S.holds store.old d d → Lives d me.old → S.holds store.new d (stored d (image_of (anew d)))) × S.rose store.old store.new }
+    ensures halted { (reading : ReadingIs) → IsErrOf result (RestartFault.SaveHalted reading) → (reading ≡ read) × ((d : Durable) → S.holds store.old d d → Lives d me.old → S.holds store.new d (stored d (image_of (anew d)))) × S.rose store.old store.new }
     ensures no_memory { IsErrOf result RestartFault.NoMemory → store.new ≡ store.old }
+    ensures unread { IsErrOf result RestartFault.ReadHalted → ⊥ }
     ensures ours { IsErrOf result RestartFault.NotOurs → ⊥ }
     ensures told { S.told store.new ≡ S.told store.old }
 {
     let body = spell_anew(alloc, me)?;
-    store.save(&body)?;
-    me.generation += 1;
-    Ok(())
+    match store.save(&body) {
+        Ok(()) => {
+            me.generation += 1;
+            Ok(())
+        }
+        Err(DiskFault) => Err(RestartFault::SaveHalted(read)),
+    }
 }
 
-/// Saves a half of the first format anew in the second. It then has the next generation.
+/// Saves a half of the first format anew in the second. It then has the next generation. A fault of a disk tells
+/// what was read.
 pub fn renew<S: Store>(
     alloc: Global,
     store: &mut S,
     me: &mut Running,
     format: u8,
+    read: Reading,
 ) -> Result<(), RestartFault>
     requires lives { (d : Durable) × S.holds store.old d d × Lives d me.old }
     requires format { format ≡ S.format store.old }
     ensures saved { OnOk result ((d : Durable) (seat : SeatIs) (life : ℕ) → IsSeat seat → IsBegun S.holds S.used S.format d store.old me.old seat life → IsBegun S.holds S.used S.format (renewed d) store.new me.new seat life) }
-    ensures halted { IsErrOf result RestartFault.Halted → ((d : Durable) → S.holds store.old d d → Lives d me.old → S.format store.old ≡ d.format → S.holds store.new d (renewed d)) × S.rose store.old store.new }
+    ensures halted { (reading : ReadingIs) → IsErrOf result (RestartFault.SaveHalted reading) → (reading ≡ read) × ((d : Durable) → S.holds store.old d d → Lives d me.old → S.format store.old ≡ d.format → S.holds store.new d (renewed d)) × S.rose store.old store.new }
     ensures no_memory { IsErrOf result RestartFault.NoMemory → store.new ≡ store.old }
+    ensures unread { IsErrOf result RestartFault.ReadHalted → ⊥ }
     ensures ours { IsErrOf result RestartFault.NotOurs → ⊥ }
     ensures told { S.told store.new ≡ S.told store.old }
 {
     if format != 1 {
         return Ok(());
     }
-    save_anew(alloc, store, me)
+    save_anew(alloc, store, me, read)
 }

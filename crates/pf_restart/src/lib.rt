@@ -6,10 +6,12 @@ mod faults;
 mod fitting;
 mod halves;
 mod lives;
+mod reading;
 mod recovery;
 mod restarts;
 mod seat;
 
 pub use faults::RestartFault;
+pub use reading::Reading;
 pub use restarts::restart;
 pub use seat::Seat;

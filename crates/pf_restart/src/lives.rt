@@ -1,9 +1,10 @@
 //! A new life.
-ghost use Rattle.std.specs.Prelude.{◌≡◌, ◌<◌, ◌^◌, ℕ, IfOk, IsErrOf};
+ghost use Rattle.std.specs.Prelude.{◌≡◌, ◌<◌, ◌^◌, ℕ, IfErr, IfOk, IsErrOf};
 ghost use Rattle.pf_entry.specs.Records.{Durable};
 ghost use Rattle.pf_entry.specs.Sets as set;
 ghost use Rattle.pf_store.specs.Stores.{StandsFor};
 ghost use Rattle.pf_restart.specs.Beginning.{HasBegun, IsSeat, MayBegin, setup_at};
+ghost use Rattle.pf_restart.specs.Faults.{IsHalt};
 ghost use Rattle.pf_restart.specs.Recovering.{state_in};
 ghost use Rattle.pf_restart.specs.Reviving.{IsRevived};
 
@@ -64,7 +65,7 @@ pub fn revive(alloc: Global, seat: &Seat, life: u64, found: Found) -> Result<Run
     requires stands { (d : Durable) × StandsFor found d }
     ensures begun { IfOk result (λ me. (d : Durable) → StandsFor found d → IsRevived d me seat.now life × (d.generation < 2 ^ 63)) }
     ensures ours { IsErrOf result RestartFault.NotOurs → (d : Durable) → StandsFor found d → MayBegin (setup_at seat.now) d → ⊥ }
-    ensures moving { IsErrOf result RestartFault.Halted → ⊥ }
+    ensures moving { IfErr result (λ fault. IsHalt fault → ⊥) }
 {
     let Some(tables) = recover(alloc, found)? else {
         return Err(RestartFault::NotOurs);

@@ -1,41 +1,50 @@
 //! A restart.
-ghost use Rattle.std.specs.Prelude.{◌≡◌, ◌⊎◌, ◌≢◌, IfOk, IsErrOf, IsTrue, Err};
+ghost use Rattle.std.specs.Prelude.{◌≡◌, ◌⊎◌, ◌≢◌, IfErr, IfOk, IsErrOf, IsTrue, Err};
 ghost use Rattle.pf_entry.specs.Records.{Durable};
 ghost use Rattle.pf_protocol.specs.Saving.{renewed};
-ghost use Rattle.pf_restart.specs.Beginning.{setup_at, IsSeat, MayBegin, IsBegun, StillHas, IsThere};
+ghost use Rattle.pf_restart.specs.Beginning.{setup_at, IsSeat, MayBegin, IsBegun, IsRead, HasSome, IsThere};
+ghost use Rattle.pf_restart.specs.Faults.{IsHalt};
+ghost use Rattle.pf_restart.specs.declared.reading.Reading.{Reading as ReadingIs};
 
 use crate::halves::renew;
 use crate::lives::revive;
-use crate::{RestartFault, Seat};
+use crate::{Reading, RestartFault, Seat};
 use pf_state::Running;
 use pf_store::Store;
 use std::alloc::Global;
 
-/// Begins a life of a server from the records in its store, as a follower without committed slots, jobs or reads. A half of the
-/// first format is saved anew in the second.
+/// Begins a life of a server from the records in its store, as a follower without committed slots, jobs or reads, and tells what
+/// it read. A half of the first format is saved anew in the second.
 ///
-/// `NoMemory` (1) leaves what the store has as it was. `Halted` (52) comes only where a disk failed: the store then has what it had,
-/// perhaps saved anew. `NotOurs` (42) where no half is recoverable or what its records give does not fit the server, which no
-/// store that tells its content gives. It takes a step for each record and for each slot of the window.
+/// `NoMemory` (1) leaves what the store has; where a call had failed, perhaps one of the two states alone. `ReadHalted` (52) and
+/// `SaveHalted` (52) come only where a disk failed: at the first the store has what it had, at the second what was read, perhaps
+/// saved anew. `NotOurs` (42) where no half is recoverable or what its records give does not fit the server, which no store that
+/// tells its content gives. It takes a step for each record and for each slot of the window.
 pub fn restart<S: Store>(
     alloc: Global,
     store: &mut S,
     seat: &Seat,
     life: u64,
-) -> Result<Running, RestartFault>
+) -> Result<(Running, Reading), RestartFault>
     requires seat { IsSeat seat.now }
-    ensures begun { IfOk result (λ me. (d : Durable) × IsBegun S.holds S.used S.format d store.new me seat.now life) }
-    ensures found { IsTrue (S.told store.old) → IfOk result (λ me. (before after : Durable) → S.holds store.old before after → (d : Durable) × IsBegun S.holds S.used S.format d store.new me seat.now life × ((d ≡ renewed before) ⊎ (d ≡ renewed after))) }
-    ensures halted { IsErrOf result RestartFault.Halted → IsTrue (S.told store.old) → (before after : Durable) → S.holds store.old before after → StillHas S.holds S.used S.format before after store.new }
-    ensures no_memory { IsErrOf result RestartFault.NoMemory → IsTrue (S.told store.old) → (before after : Durable) → S.holds store.old before after → StillHas S.holds S.used S.format before after store.new }
+    ensures begun { IfOk result (λ r. (d : Durable) × IsBegun S.holds S.used S.format d store.new r.0 seat.now life) }
+    ensures found { IsTrue (S.told store.old) → IfOk result (λ r. (before after : Durable) → S.holds store.old before after → (d : Durable) × ((d ≡ before) ⊎ (d ≡ after)) × IsRead r.1 d × IsBegun S.holds S.used S.format (renewed d) store.new r.0 seat.now life) }
+    ensures unread { IsErrOf result RestartFault.ReadHalted → (before after : Durable) → S.holds store.old before after → S.holds store.new before after }
+    ensures unsaved { (reading : ReadingIs) → IsErrOf result (RestartFault.SaveHalted reading) → IsTrue (S.told store.old) → (before after : Durable) → S.holds store.old before after → (d : Durable) × ((d ≡ before) ⊎ (d ≡ after)) × IsRead reading d × S.holds store.new d (renewed d) }
+    ensures no_memory { IsErrOf result RestartFault.NoMemory → IsTrue (S.told store.old) → (before after : Durable) → S.holds store.old before after → HasSome S.holds before after store.new }
     ensures same { IsErrOf result RestartFault.NoMemory → IsTrue (S.told store.old) → (d : Durable) → IsThere S.holds S.used S.format d store.old → IsThere S.holds S.used S.format d store.new }
     ensures ours { IsTrue (S.told store.old) → (before after : Durable) → S.holds store.old before after → MayBegin (setup_at seat.now) before → MayBegin (setup_at seat.now) after → result ≢ Err RestartFault.NotOurs }
     ensures told { S.told store.new ≡ S.told store.old }
-    ensures cause { IsErrOf result RestartFault.Halted → S.rose store.old store.new }
+    ensures cause { IfErr result (λ fault. IsHalt fault → S.rose store.old store.new) }
 {
     let found = store.reload(alloc)?;
     let format = found.format;
+    let used = found.used;
     let mut me = revive(alloc, seat, life, found)?;
-    renew(alloc, store, &mut me, format)?;
-    Ok(me)
+    let read = Reading {
+        used,
+        generation: me.generation,
+    };
+    renew(alloc, store, &mut me, format, read)?;
+    Ok((me, read))
 }

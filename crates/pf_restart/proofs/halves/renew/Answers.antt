@@ -15,6 +15,6 @@ returns-clause-saved g c =
     c.save_anew.ensures.saved
 
 pub returns-clause-halted : goal.returns-clause-halted
-returns-clause-halted g c = λ halted.
-    let both = c.save_anew.ensures.halted halted in
-    (λ d recorded lives half. subst (g.S.Store.holds c.save_anew.new.store d) (renewed_first d (sym half ∙ sym c.requires.format ∙ c.if-format-ne1.false)) (both.0 d recorded lives), both.1)
+returns-clause-halted g c = λ reading halted.
+    let all = c.save_anew.ensures.halted reading halted in
+    (all.0, λ d recorded lives half. subst (g.S.Store.holds c.save_anew.new.store d) (renewed_first d (sym half ∙ sym c.requires.format ∙ c.if-format-ne1.false)) (all.1 d recorded lives), all.2)

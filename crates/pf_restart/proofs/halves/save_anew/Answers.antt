@@ -1,7 +1,7 @@
 use Rattle.std.proofs.Common.{◌∙◌}
 use Rattle.pf_entry.specs.Records.{image_of}
 use Rattle.pf_restart.specs.Reviving.{anew}
-use Rattle.pf_restart.proofs.Renewing.{begun_lives, image_here, room_here, saved_begun}
+use Rattle.pf_restart.proofs.Renewing.{begun_lives, image_here, room_here, same_reading, saved_begun}
 use Rattle.pf_restart.proofs.halves.save_anew.Goals as goal
 
 pub save-requires-clause-whole : goal.save-requires-clause-whole
@@ -16,14 +16,15 @@ save-requires-clause-room g c =
     let l = c.requires.2 in
     room_here d c.args.me.now l.seat l.life l.made l.revived l.early c.deref.result.now (c.deref.ensures.value ∙ c.in_ok-body.ensures d l)
 
-pub returns-in_err-save-clause-halted : goal.returns-in_err-save-clause-halted
-returns-in_err-save-clause-halted g c = λ _. (
-  λ d recorded l. c.in_err-save.ensures.err d (image_of (anew d)) recorded (image_here d c.args.me.now l.seat l.life l.made l.revived l.early c.deref.result.now (c.deref.ensures.value ∙ c.in_ok-body.ensures d l)),
-  c.in_err-save.ensures.cause,
+pub returns-clause-halted : goal.returns-clause-halted
+returns-clause-halted g c = λ reading halted. (
+  same_reading reading c.args.read halted,
+  λ d recorded l. c.in-Err.ensures.err d (image_of (anew d)) recorded (image_here d c.args.me.now l.seat l.life l.made l.revived l.early c.deref.result.now (c.deref.ensures.value ∙ c.in_ok-body.ensures d l)),
+  c.in-Err.ensures.cause,
 )
 
-pub returns-clause-saved : goal.returns-clause-saved
-returns-clause-saved g c = λ d seat life made begun.
+pub returns-in-Ok-clause-saved : goal.returns-in-Ok-clause-saved
+returns-in-Ok-clause-saved g c = λ d seat life made begun.
     let l = begun_lives g.S.Store.holds g.S.Store.used g.S.Store.format d c.requires.0 c.args.store.now c.args.me.now seat life made begun c.requires.2 in
     let is = image_here d c.args.me.now seat life made l.revived l.early c.deref.result.now (c.deref.ensures.value ∙ c.in_ok-body.ensures d l) in
-    saved_begun g.S.Store.holds g.S.Store.used g.S.Store.format d c.args.me.now seat life made l.revived l.early c.save.new.self c.deref.result.now is (c.in_ok-save.ensures.ok d (image_of (anew d)) begun.stands.recorded is) c.in_ok-save.ensures.used c.in_ok-save.ensures.format
+    saved_begun g.S.Store.holds g.S.Store.used g.S.Store.format d c.args.me.now seat life made l.revived l.early c.save.new.self c.deref.result.now is (c.in-Ok.ensures.ok d (image_of (anew d)) begun.stands.recorded is) c.in-Ok.ensures.used c.in-Ok.ensures.format

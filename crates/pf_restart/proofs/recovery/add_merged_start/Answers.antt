@@ -1,5 +1,5 @@
 use Rattle.std.proofs.Common.{◌∙◌, ◌≡◌, OnOk, sym, subst}
-use Rattle.pf_restart.proofs.Reading.{some_start, no_start}
+use Rattle.pf_restart.proofs.Recovering.{some_start, no_start}
 use Rattle.pf_restart.proofs.recovery.add_merged_start.Goals as goal
 
 pub returns-then-is_empty : goal.returns-then-is_empty

@@ -1,4 +1,4 @@
-use Rattle.pf_restart.proofs.Reading.{none_trimmed}
+use Rattle.pf_restart.proofs.Recovering.{none_trimmed}
 use Rattle.pf_restart.proofs.recovery.empty_log.Goals as goal
 
 pub returns : goal.returns

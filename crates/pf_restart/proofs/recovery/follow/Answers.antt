@@ -1,6 +1,6 @@
 use Rattle.std.proofs.Common.{subst, sym}
 use Rattle.pf_restart.specs.Recovering.{IsFollowed}
-use Rattle.pf_restart.proofs.Reading.{term_followed}
+use Rattle.pf_restart.proofs.Recovering.{term_followed}
 use Rattle.pf_restart.proofs.recovery.follow.Goals as goal
 
 pub returns-in-Term : goal.returns-in-Term

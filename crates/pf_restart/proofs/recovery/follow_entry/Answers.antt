@@ -1,6 +1,6 @@
 use Rattle.std.proofs.Common.{subst, sym}
 use Rattle.pf_restart.specs.Recovering.{IsPlaced, state_in}
-use Rattle.pf_restart.proofs.Reading.{entry_followed, entry_placed, unplaced}
+use Rattle.pf_restart.proofs.Recovering.{entry_followed, entry_placed, unplaced}
 use Rattle.pf_restart.proofs.recovery.follow_entry.Goals as goal
 
 pub returns-then-not-has_place : goal.returns-then-not-has_place

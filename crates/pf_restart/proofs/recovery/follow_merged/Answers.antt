@@ -1,7 +1,7 @@
 use Rattle.std.proofs.Common.{◌≡◌, ◌∙◌, ap, subst, sym}
 use Rattle.pf_entry.specs.Records.{add_merged_start}
 use Rattle.pf_restart.specs.Recovering.{state_in}
-use Rattle.pf_restart.proofs.Reading.{merged_followed, merged_placed, moved_places, unplaced, with_entries}
+use Rattle.pf_restart.proofs.Recovering.{merged_followed, merged_placed, moved_places, unplaced, with_entries}
 use Rattle.pf_restart.proofs.recovery.follow_merged.Goals as goal
 
 pub returns-then-not-have_places : goal.returns-then-not-have_places

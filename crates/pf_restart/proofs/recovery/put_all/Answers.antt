@@ -1,7 +1,7 @@
 use Rattle.std.proofs.Common.{◌∙◌, sym, ap, map-id}
 use Rattle.std.proofs.lemmas.Iterator.Adapters.{YieldsList-from_vec}
 use Rattle.std.proofs.lemmas.Iterator.Consumers.{YieldsList-turn, YieldsList-end}
-use Rattle.pf_restart.proofs.Reading.{none_put, one_put, next_placed, with_entries}
+use Rattle.pf_restart.proofs.Recovering.{none_put, one_put, next_placed, with_entries}
 use Rattle.pf_restart.proofs.recovery.put_all.Goals as goal
 
 pub loop-entry-init : goal.loop-entry-init

@@ -1,5 +1,5 @@
 use Rattle.std.proofs.Common.{◌≡◌}
-use Rattle.pf_restart.proofs.Reading.{with_entries}
+use Rattle.pf_restart.proofs.Recovering.{with_entries}
 use Rattle.pf_restart.proofs.recovery.put_all.Given as goal
 
 abbrev pub invariant-loop-entry : goal.invariant-loop-entry

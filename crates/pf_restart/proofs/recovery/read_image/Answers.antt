@@ -1,6 +1,6 @@
 use Rattle.std.proofs.Common.{ap, refl, sym}
 use Rattle.pf_holes.specs.HoleLogs.{Holes}
-use Rattle.pf_restart.proofs.Reading.{image_read, image_window, moved_places, rows_placed, unplaced}
+use Rattle.pf_restart.proofs.Recovering.{image_read, image_window, moved_places, rows_placed, unplaced}
 use Rattle.pf_restart.proofs.recovery.read_image.Goals as goal
 
 pub returns-then-not-have_places : goal.returns-then-not-have_places

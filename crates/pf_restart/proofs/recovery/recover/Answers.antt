@@ -2,7 +2,7 @@ use Rattle.std.proofs.Common.{◌≡◌, ◌∙◌, refl, subst, sym}
 use Rattle.std.proofs.lemmas.List.{nil_from_length}
 use Rattle.pf_entry.specs.Records.{recovered}
 use Rattle.pf_restart.specs.Recovering.{Begins, Follows, IsFollowed, state_in}
-use Rattle.pf_restart.proofs.Reading.{all_read, but_used, begins_with, image_unplaced, later_images, next_unplaced, state_goes_on, used_same}
+use Rattle.pf_restart.proofs.Recovering.{all_read, but_used, begins_with, image_unplaced, later_images, next_unplaced, state_goes_on, used_same}
 use Rattle.pf_restart.proofs.recovery.recover.Goals as goal
 
 pub returns-in_default-2 : goal.returns-in_default-2

@@ -4,7 +4,7 @@ use Rattle.pf_entry.specs.Lists.{Every}
 use Rattle.pf_entry.specs.Records.{recovered}
 use Rattle.pf_store.specs.Stores.{is_image}
 use Rattle.pf_restart.specs.Recovering.{state_in}
-use Rattle.pf_restart.proofs.Reading.{but_used}
+use Rattle.pf_restart.proofs.Recovering.{but_used}
 use Rattle.pf_restart.proofs.recovery.recover.Given as goal
 
 abbrev pub invariant-loop-next : goal.invariant-loop-next

@@ -1,18 +1,16 @@
-use Rattle.std.proofs.Common.{◌∙◌, subst, sym}
+use Rattle.std.proofs.Common.{◌∙◌, ap, subst, sym}
 use Rattle.std.proofs.lemmas.Result.{err_from_is_err_and}
 use Rattle.pf_protocol.specs.Saving.{renewed}
-use Rattle.pf_restart.specs.Beginning.{StillHas, IsThere, setup_at}
+use Rattle.pf_restart.specs.Beginning.{HasSome, IsThere, setup_at}
 use Rattle.pf_restart.specs.Reviving.{Lives}
-use Rattle.pf_restart.specs.declared.faults.RestartFault.TheVariants.{NoMemory as WantsMemory, Halted, NotOurs}
+use Rattle.pf_restart.specs.declared.faults.RestartFault.TheVariants.{NoMemory as WantsMemory, NotOurs, SaveHalted}
+use Rattle.pf_restart.specs.declared.reading.Reading.{Reading}
 use Rattle.pf_restart.proofs.Renewing.{begun_so}
-use Rattle.pf_restart.proofs.Restarting.{either_renewed, found_format, may_either, passed_on, still_both, still_one, still_renewed, there_again}
+use Rattle.pf_restart.proofs.Restarting.{found_format, may_either, passed_on, some_both, some_one, there_again}
 use Rattle.pf_restart.proofs.restarts.restart.Goals as goal
 
-pub returns-in_err-found-clause-halted : goal.returns-in_err-found-clause-halted
-returns-in_err-found-clause-halted g c = λ _ told before after has. still_both g.S.Store.holds g.S.Store.used g.S.Store.format before after c.reload.new.self (c.in_err-found.ensures.kept before after has)
-
 pub returns-in_err-found-clause-no_memory : goal.returns-in_err-found-clause-no_memory
-returns-in_err-found-clause-no_memory g c = λ _ told before after has. still_both g.S.Store.holds g.S.Store.used g.S.Store.format before after c.reload.new.self (c.in_err-found.ensures.kept before after has)
+returns-in_err-found-clause-no_memory g c = λ _ told before after has. some_both g.S.Store.holds before after c.reload.new.self (c.in_err-found.ensures.kept before after has)
 
 pub revive-requires-clause-stands : goal.revive-requires-clause-stands
 revive-requires-clause-stands g c = let w = c.in_ok-found.ensures.whole in (w.0, w.1)
@@ -20,7 +18,7 @@ revive-requires-clause-stands g c = let w = c.in_ok-found.ensures.whole in (w.0,
 pub returns-in_err-me-clause-no_memory : goal.returns-in_err-me-clause-no_memory
 returns-in_err-me-clause-no_memory g c = λ _ told before after has.
     let f = c.in_ok-found.ensures.found told before after has in
-    still_one g.S.Store.holds g.S.Store.used g.S.Store.format before after f.0 c.reload.new.self f.1 f.3
+    some_one g.S.Store.holds before after c.reload.new.self f.0 f.1 f.3
 
 pub returns-in_err-me-clause-same : goal.returns-in_err-me-clause-same
 returns-in_err-me-clause-same g c = λ _ told d there.
@@ -39,19 +37,24 @@ renew-requires-clause-lives g c =
     let both = c.in_ok-me.ensures.begun w.0 w.1 in
     (w.0, w.2, record { seat = c.args.seat.now; life = c.args.life; made = c.requires.seat; revived = both.0; early = both.1 })
 
-pub returns-in_err-renew-clause-halted : goal.returns-in_err-renew-clause-halted
-returns-in_err-renew-clause-halted g c = λ halted told before after has.
+pub returns-in_err-renew-clause-unsaved : goal.returns-in_err-renew-clause-unsaved
+returns-in_err-renew-clause-unsaved g c = λ reading halted told before after has.
     let f = c.in_ok-found.ensures.found told before after has in
-    let came = passed_on c.from_residual-in_err-renew.result Halted c.in_err-renew.field-0.0 (err_from_is_err_and c.from_residual-in_err-renew.result c.from_residual-in_err-renew.ensures.1) halted in
+    let came = passed_on c.from_residual-in_err-renew.result (SaveHalted reading) c.in_err-renew.field-0.0 (err_from_is_err_and c.from_residual-in_err-renew.result c.from_residual-in_err-renew.ensures.1) halted in
     let both = c.in_ok-me.ensures.begun f.0 f.2 in
     let lives : Lives f.0 c.in_ok-me.me = record { seat = c.args.seat.now; life = c.args.life; made = c.requires.seat; revived = both.0; early = both.1 } in
-    still_renewed g.S.Store.holds g.S.Store.used g.S.Store.format before after f.0 c.renew.new.store f.1 ((c.in_err-renew.ensures.halted came).0 f.0 f.3 lives (c.in_ok-found.ensures.state.1 ∙ found_format c.in_ok-found.found f.0 f.2))
+    let all = c.in_err-renew.ensures.halted reading came in (
+      f.0,
+      f.1,
+      record { used = ap (λ (r : Reading). r.used) all.0 ∙ f.2.used; generation = ap (λ (r : Reading). r.generation) all.0 ∙ both.0.cached.generation },
+      all.1 f.0 f.3 lives (c.in_ok-found.ensures.state.1 ∙ found_format c.in_ok-found.found f.0 f.2),
+    )
 
 pub returns-in_err-renew-clause-no_memory : goal.returns-in_err-renew-clause-no_memory
 returns-in_err-renew-clause-no_memory g c = λ short told before after has.
     let f = c.in_ok-found.ensures.found told before after has in
     let came = passed_on c.from_residual-in_err-renew.result WantsMemory c.in_err-renew.field-0.0 (err_from_is_err_and c.from_residual-in_err-renew.result c.from_residual-in_err-renew.ensures.1) short in
-    subst (StillHas g.S.Store.holds g.S.Store.used g.S.Store.format before after) (sym (c.in_err-renew.ensures.no_memory came)) (still_one g.S.Store.holds g.S.Store.used g.S.Store.format before after f.0 c.reload.new.self f.1 f.3)
+    subst (HasSome g.S.Store.holds before after) (sym (c.in_err-renew.ensures.no_memory came)) (some_one g.S.Store.holds before after c.reload.new.self f.0 f.1 f.3)
 
 pub returns-in_err-renew-clause-same : goal.returns-in_err-renew-clause-same
 returns-in_err-renew-clause-same g c = λ short told d there.
@@ -75,8 +78,9 @@ returns-clause-found g c = λ told before after has.
     let f = c.in_ok-found.ensures.found told before after has in
     let state = c.in_ok-found.ensures.state in
     let both = c.in_ok-me.ensures.begun f.0 f.2 in (
-      renewed f.0,
+      f.0,
+      f.1,
+      record { used = f.2.used; generation = both.0.cached.generation },
       c.in_ok-renew.ensures.saved f.0 c.args.seat.now c.args.life c.requires.seat
           (begun_so g.S.Store.holds g.S.Store.used g.S.Store.format f.0 c.reload.new.self c.in_ok-me.me c.args.seat.now c.args.life both.0 f.3 (state.0 ∙ f.2.used) (state.1 ∙ found_format c.in_ok-found.found f.0 f.2)),
-      either_renewed before after f.0 f.1,
     )
