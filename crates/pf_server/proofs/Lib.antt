@@ -1,0 +1,9 @@
+pub mod Bounds
+pub mod Claiming
+pub mod Coming
+pub mod Ending
+pub mod Finishing
+pub mod Packets
+pub mod Renewing
+pub mod Restarting
+pub mod Standing

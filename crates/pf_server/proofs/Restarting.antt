@@ -1,0 +1,245 @@
+-- What a restart comes to.
+use Rattle.std.proofs.Common.{◌≡◌, ◌≢◌, ◌⊎◌, inl, inr, ℕ, suc, ◌+◌, ◌<◌, ◌^◌, Bool, true, false, cond, [], Result, Ok, Err, IfOk, IfErr, arith, refl, sym, ap, subst, ◌∙◌}
+use Rattle.pf_base.specs.declared.errors.NoMemory.{NoMemory}
+use Rattle.pf_entry.specs.Records.{Durable}
+use Rattle.pf_protocol.specs.Saving.{renewed, restarted}
+use Rattle.pf_protocol.specs.Servers.{Server, Condition, Running as RunningIs, Stopped as StoppedIs, Unformatted as UnformattedIs}
+use Rattle.pf_protocol.specs.declared.answers.Answer.{Answer}
+use Rattle.pf_protocol.specs.declared.answers.Answer.TheVariants.{Done, Refused}
+use Rattle.pf_protocol.specs.declared.answers.Refusal.TheVariants.{Halted}
+use Rattle.pf_state.specs.declared.running.Running.{Running}
+use Rattle.pf_restart.specs.Beginning.{HasSome, IsBegun, IsRead, IsSeat, IsThere, MayBegin, setup_at}
+use Rattle.pf_restart.specs.Faults.{IsHalt}
+use Rattle.pf_restart.specs.declared.faults.RestartFault.{RestartFault}
+use Rattle.pf_restart.specs.declared.faults.RestartFault.TheVariants.{NoMemory as WantsMemory, ReadHalted, SaveHalted, NotOurs}
+use Rattle.pf_restart.specs.declared.reading.Reading.{Reading}
+use Rattle.pf_restart.specs.declared.seat.Seat.{Seat}
+use Rattle.pf_server.specs.declared.state.Doubt.{Doubt}
+use Rattle.pf_server.specs.declared.state.Doubt.TheVariants.{Settled, Open, Read}
+use Rattle.pf_server.specs.declared.state.State.{State}
+use Rattle.pf_server.specs.declared.state.State.TheVariants.{Runs, Stopped, Unformatted}
+use Rattle.pf_server.specs.Beginning.{IsLast, Restarts, doubt_after, found_by}
+use Rattle.pf_server.specs.Conditions.{HasOne, IsFit, IsInHalf, IsKnown, IsRunning, IsSound, IsStopped, Leaves, Meets, answers_of}
+use Rattle.pf_server.specs.Ending.{quieted}
+use Rattle.pf_server.specs.Turns.{Begins, BeginsAgain}
+use Rattle.pf_server.proofs.Renewing.{IsOf, either_read, may_of, renewed_of}
+use Rattle.pf_server.proofs.Bounds.{low_life, same_life}
+use Rattle.pf_server.proofs.Standing.{in_half, quieted_runs}
+
+-- one of two
+one_of : (P : Durable → Type 0) (x y d : Durable) → (d ≡ x) ⊎ (d ≡ y) → P x → P y → P d
+one_of P x y d (inl same) first second = subst P (sym same) first
+one_of P x y d (inr same) first second = subst P (sym same) second
+
+chosen_of : (P : Durable → Type 0) (found : Bool) (before after : Durable) → P before → P after → P (cond found after before)
+chosen_of P true before after first second = second
+chosen_of P false before after first second = first
+
+module _ {S : Type 0} (holds : S → Durable → Durable → Type 0) (used format : S → ℕ) (before after : Durable) (store : S) where
+  -- the two states that a restart may find
+  pub record IsPair (doubt : Doubt) (x y : Durable) : Type 0 where
+    pub has : holds store x y
+    pub chosen : (r : Reading) (d : Durable) → (d ≡ x) ⊎ (d ≡ y) → IsRead r d → IsOf (cond (found_by doubt r) after before) d
+    pub moved : (store' : S) → HasSome holds x y store' → Leaves holds used format doubt before after store'
+    pub may : (seat : Seat) → IsSeat seat → IsFit seat before → IsInHalf seat before → IsFit seat after → IsInHalf seat after → MayBegin (setup_at seat) x × MayBegin (setup_at seat) y
+
+  moved_one : (z x y : Durable) → IsOf z x → IsOf z y → (store' : S) → HasSome holds x y store' → HasOne holds used format z store'
+  moved_one z x y first second store' h = record { x = h.x; y = h.y; has = h.has; first = one_of (IsOf z) x y h.x h.first first second; second = one_of (IsOf z) x y h.y h.second first second }
+
+  abbrev IsEither : Durable → Type 0
+  IsEither d = (d ≡ before) ⊎ (d ≡ after)
+
+  pub pair_left : (doubt : Doubt) → Leaves holds used format doubt before after store → (x : Durable) × (y : Durable) × IsPair doubt x y
+  pair_left Settled left = let one = left.1 in (
+    one.x,
+    one.y,
+    record {
+      has = one.has;
+      chosen = λ r d is read. one_of (IsOf before) one.x one.y d is one.first one.second;
+      moved = λ store' h. (left.0, moved_one before one.x one.y one.first one.second store' h);
+      may = λ seat made fit half fit2 half2. (may_of seat made before one.x fit half one.first, may_of seat made before one.y fit half one.second);
+    },
+  )
+  pair_left (Open bytes generation) left = (
+    left.x,
+    left.y,
+    record {
+      has = left.has;
+      chosen = λ r d is read. inl (either_read bytes generation before after d r left.apart left.used_is left.generation_is (one_of IsEither left.x left.y d is left.first left.second) read);
+      moved = λ store' h. record {
+        x = h.x;
+        y = h.y;
+        has = h.has;
+        first = one_of IsEither left.x left.y h.x h.first left.first left.second;
+        second = one_of IsEither left.x left.y h.y h.second left.first left.second;
+        used_is = left.used_is;
+        generation_is = left.generation_is;
+        apart = left.apart;
+      };
+      may = λ seat made fit half fit2 half2.
+          let one = may_of seat made before before fit half (inl refl) in
+          let two = may_of seat made after after fit2 half2 (inl refl) in
+          (one_of (MayBegin (setup_at seat)) before after left.x left.first one two, one_of (MayBegin (setup_at seat)) before after left.y left.second one two);
+    },
+  )
+  pair_left (Read found) left = let z = cond found after before in (
+    left.x,
+    left.y,
+    record {
+      has = left.has;
+      chosen = λ r d is read. one_of (IsOf z) left.x left.y d is left.first left.second;
+      moved = λ store' h. moved_one z left.x left.y left.first left.second store' h;
+      may = λ seat made fit half fit2 half2.
+          let its_fit = chosen_of (IsFit seat) found before after fit fit2 in
+          let its_half = chosen_of (IsInHalf seat) found before after half half2 in
+          (may_of seat made z left.x its_fit its_half left.first, may_of seat made z left.y its_fit its_half left.second);
+    },
+  )
+
+  -- what was read is there, perhaps saved anew
+  saved_one : (z d : Durable) → IsOf z d → holds store d (renewed d) → HasOne holds used format z store
+  saved_one z d is has = record { x = d; y = renewed d; has = has; first = is; second = inr (renewed_of z d is) }
+
+  pub known_left : (doubt : Doubt) (r : Reading) (d : Durable) → (doubt ≡ Settled → before ≡ after) → IsOf (cond (found_by doubt r) after before) d → holds store d (renewed d) → Leaves holds used format (doubt_after doubt r) before after store
+  known_left Settled r d one is has = (one refl, saved_one before d is has)
+  known_left (Open bytes generation) r d one is has = saved_one (cond (found_by (Open bytes generation) r) after before) d is has
+  known_left (Read found) r d one is has = saved_one (cond found after before) d is has
+
+-- what a restart says, of a store that tells its content
+module _ {S : Type 0} (holds : S → Durable → Durable → Type 0) (used format : S → ℕ) (rose : S → S → Type 0) (seat : Seat) (store store' : S) (life : ℕ) (begun : Result (Running × Reading) RestartFault) where
+  pub record Says : Type 0 where
+    pub found : IfOk begun (λ r. (x y : Durable) → holds store x y → (d : Durable) × ((d ≡ x) ⊎ (d ≡ y)) × IsRead r.1 d × IsBegun holds used format (renewed d) store' r.0 seat (life + 1))
+    pub unread : begun ≡ Err ReadHalted → (x y : Durable) → holds store x y → holds store' x y
+    pub unsaved : (r : Reading) → begun ≡ Err (SaveHalted r) → (x y : Durable) → holds store x y → (d : Durable) × ((d ≡ x) ⊎ (d ≡ y)) × IsRead r d × holds store' d (renewed d)
+    pub no_memory : begun ≡ Err WantsMemory → (x y : Durable) → holds store x y → HasSome holds x y store'
+    pub same : begun ≡ Err WantsMemory → (d : Durable) → IsThere holds used format d store → IsThere holds used format d store'
+    pub ours : (x y : Durable) → holds store x y → MayBegin (setup_at seat) x → MayBegin (setup_at seat) y → begun ≢ Err NotOurs
+    pub cause : IfErr begun (λ fault. IsHalt fault → rose store store')
+
+module _ {S : Type 0} (holds : S → Durable → Durable → Type 0) (used format : S → ℕ) (rose : S → S → Type 0) (seat : Seat) (made : IsSeat seat) (store store' : S) (life : ℕ) (doubt : Doubt) (state state' : State) (before after : Durable) where
+  abbrev BeginsHere : Bool → Answer → Type 0
+  BeginsHere found answer = Begins holds used format rose seat store store' state' life before after found answer
+
+  -- the life that begins
+  runs_again : (d z : Durable) (me : Running) → renewed d ≡ renewed z → IsBegun holds used format (renewed d) store' me seat (life + 1) → IsRunning holds used format seat store' me (restarted seat.number (suc life) (renewed z))
+  unfolding restarted
+  runs_again d z me same begun =
+      let next : life + 1 ≡ suc life = omega arith in
+      subst (λ e. IsRunning holds used format seat store' me (restarted seat.number (suc life) e)) same
+      (subst (λ n. IsRunning holds used format seat store' me (restarted seat.number n (renewed d))) next
+      (record { stands = begun.stands; is = begun.is; setup = begun.setup }))
+
+  stops_so : (known : Doubt) → Leaves holds used format known before after store' → IsInHalf seat before → IsInHalf seat after → state' ≡ Stopped (life + 1) known → Meets holds used format seat store' state' (StoppedIs (suc life) before after)
+  stops_so known left half half2 is = subst (λ z. Meets holds used format seat store' z (StoppedIs (suc life) before after)) (sym is) (record { life_is = omega arith; left = left; first = half; second = half2 })
+
+  module _ (left : Leaves holds used format doubt before after store) (one : doubt ≡ Settled → before ≡ after) (fit : IsFit seat before) (half : IsInHalf seat before) (fit2 : IsFit seat after) (half2 : IsInHalf seat after) where
+    abbrev pair : (x : Durable) × (y : Durable) × IsPair holds used format before after store doubt x y
+    pair = pair_left holds used format before after store doubt left
+
+    begins_ok : (me : Running) (r : Reading) → Says holds used format rose seat store store' life (Ok (me, r)) → state' ≡ Runs (quieted me) → BeginsHere (found_by doubt r) Done
+    begins_ok me r says is =
+        let read = says.found pair.0 pair.1 pair.2.has in
+        let z = cond (found_by doubt r) after before in
+        let same = renewed_of z read.0 (pair.2.chosen r read.0 read.1 read.2) in
+        let next = restarted seat.number (suc life) (renewed z) in
+        subst (λ y. Meets holds used format seat store' y (RunningIs next)) (sym is) (quieted_runs holds used format seat store' me next (runs_again read.0 z me same read.3)).meets
+
+    begins_unread : Says holds used format rose seat store store' life (Err ReadHalted) → state' ≡ Stopped (life + 1) doubt → BeginsHere false (Refused Halted)
+    begins_unread says is =
+        let still : HasSome holds pair.0 pair.1 store' = record { x = pair.0; y = pair.1; has = says.unread refl pair.0 pair.1 pair.2.has; first = inl refl; second = inr refl } in
+        (stops_so doubt (pair.2.moved store' still) half half2 is, says.cause tt)
+
+    begins_unsaved : (r : Reading) → Says holds used format rose seat store store' life (Err (SaveHalted r)) → state' ≡ Stopped (life + 1) (doubt_after doubt r) → BeginsHere (found_by doubt r) (Refused Halted)
+    begins_unsaved r says is =
+        let read = says.unsaved r refl pair.0 pair.1 pair.2.has in
+        (stops_so (doubt_after doubt r) (known_left holds used format before after store' doubt r read.0 one (pair.2.chosen r read.0 read.1 read.2) read.3) half half2 is, says.cause tt)
+
+    not_ours : {P : Type 0} → Says holds used format rose seat store store' life (Err NotOurs) → P
+    not_ours says = let may = pair.2.may seat made fit half fit2 half2 in absurd (says.ours pair.0 pair.1 pair.2.has may.0 may.1 refl)
+
+    -- whatever it comes to
+    pub begins : (P : Result (Answer × Bool) NoMemory → Type 0) → ((answer : Answer) (found : Bool) → BeginsHere found answer → P (Ok (answer, found))) → (begun : Result (Running × Reading) RestartFault) (result : Result (Answer × Bool) NoMemory)
+        → (begun ≡ Err WantsMemory → state' ≡ state → P (Err (record {}))) → Says holds used format rose seat store store' life begun → Restarts life doubt state state' begun result → P result
+    begins P ok (Ok (me, r)) result err says ends = subst P (sym ends.0) (ok Done (found_by doubt r) (begins_ok me r says ends.1))
+    begins P ok (Err WantsMemory) result err says ends = subst P (sym ends.0) (err refl ends.1)
+    begins P ok (Err ReadHalted) result err says ends = subst P (sym ends.0) (ok (Refused Halted) false (begins_unread says ends.1))
+    begins P ok (Err (SaveHalted r)) result err says ends = subst P (sym ends.0) (ok (Refused Halted) (found_by doubt r) (begins_unsaved r says ends.1))
+    begins P ok (Err NotOurs) result err says ends = not_ours says
+
+settled_same : {S : Type 0} (holds : S → Durable → Durable → Type 0) (used format : S → ℕ) (doubt : Doubt) (before after : Durable) (store : S) → Leaves holds used format doubt before after store → doubt ≡ Settled → before ≡ after
+settled_same holds used format doubt before after store left is = (subst (λ k. Leaves holds used format k before after store) is left).0
+
+running_fit : (seat : Seat) (s : Server) → IsSound seat s → IsFit seat s.durable
+running_fit seat s sound = record { n = sound.n; t = sound.t; low = sound.low; t_low = sound.t_low; fits = sound.fits.durable; few = sound.few }
+
+module _ {S : Type 0} (holds : S → Durable → Durable → Type 0) (used format : S → ℕ) (rose : S → S → Type 0) (seat : Seat) (made : IsSeat seat) (store store' : S) (life : ℕ) (doubt : Doubt) (state' : State) (begun : Result (Running × Reading) RestartFault) (result : Result (Answer × Bool) NoMemory) (says : Says holds used format rose seat store store' life begun) where
+  -- without memory it runs as before
+  still_runs : (me : Running) (s : Server) → IsRunning holds used format seat store me s → begun ≡ Err WantsMemory → IsRunning holds used format seat store' me s
+  still_runs me s runs none =
+      let there : IsThere holds used format s.durable store = record { recorded = runs.stands.recorded; used_is = runs.stands.used_is; half = runs.stands.half } in
+      let now = says.same none s.durable there in
+      record {
+        stands = record { recorded = now.recorded; used_is = now.used_is; within = runs.stands.within; half = now.half; cached = runs.stands.cached };
+        is = runs.is;
+        setup = runs.setup;
+      }
+
+  from_running : (me : Running) (s : Server) → (life ≡ me.life) × (doubt ≡ Settled) → IsRunning holds used format seat store me s → IsSound seat s → Restarts life doubt (Runs me) state' begun result → BeginsAgain holds used format rose seat store store' state' (RunningIs s) result
+  from_running me s last runs sound ends =
+      let its : life ≡ s.life = last.0 ∙ same_life holds used format seat store me s runs in
+      let d = s.durable in
+      let one : HasOne holds used format d store = record { x = d; y = d; has = runs.stands.recorded; first = inl refl; second = inl refl } in
+      let left : Leaves holds used format doubt d d store = subst (λ k. Leaves holds used format k d d store) (sym last.1) (refl, one) in
+      let half = in_half holds used format seat store me s runs in
+      begins holds used format rose seat made store store' life doubt (Runs me) state' d d left (λ _. refl) (running_fit seat s sound) half (running_fit seat s sound) half
+      (BeginsAgain holds used format rose seat store store' state' (RunningIs s))
+      (λ answer found b. subst (λ n. Begins holds used format rose seat store store' state' n d d found answer) its b) begun result
+      (λ none same. subst (λ z. Meets holds used format seat store' z (RunningIs s)) (sym same) (still_runs me s runs none)) says ends
+
+  still_stopped : (l : ℕ) (known : Doubt) (there : ℕ) (before after : Durable) → IsStopped holds used format seat l known there before after store → begun ≡ Err WantsMemory → IsStopped holds used format seat l known there before after store'
+  still_stopped l known there before after stopped none =
+      let pair = pair_left holds used format before after store known stopped.left in
+      record {
+        life_is = stopped.life_is;
+        left = pair.2.moved store' (says.no_memory none pair.0 pair.1 pair.2.has);
+        first = stopped.first;
+        second = stopped.second;
+      }
+
+  from_stopped : (l : ℕ) (known : Doubt) (there : ℕ) (before after : Durable) → (life ≡ l) × (doubt ≡ known) → IsStopped holds used format seat l known there before after store → IsFit seat before → IsFit seat after → Restarts life doubt (Stopped l known) state' begun result
+      → BeginsAgain holds used format rose seat store store' state' (StoppedIs there before after) result
+  from_stopped l known there before after last stopped fit fit2 ends =
+      let its : life ≡ there = last.0 ∙ stopped.life_is in
+      let left : Leaves holds used format doubt before after store = subst (λ k. Leaves holds used format k before after store) (sym last.1) stopped.left in
+      begins holds used format rose seat made store store' life doubt (Stopped l known) state' before after left (settled_same holds used format doubt before after store left) fit stopped.first fit2 stopped.second
+      (BeginsAgain holds used format rose seat store store' state' (StoppedIs there before after))
+      (λ answer found b. subst (λ n. Begins holds used format rose seat store store' state' n before after found answer) its b) begun result
+      (λ none same. subst (λ z. Meets holds used format seat store' z (StoppedIs there before after)) (sym same) (still_stopped l known there before after stopped none)) says ends
+
+  pub again : (state : State) (c : Condition) → IsLast state life doubt → Meets holds used format seat store state c → IsKnown seat c → Restarts life doubt state state' begun result → BeginsAgain holds used format rose seat store store' state' c result
+  again (Runs me) (RunningIs s) last meets known ends = from_running me s last meets known ends
+  again (Runs me) (StoppedIs there before after) last meets known ends = absurd meets
+  again (Runs me) UnformattedIs last meets known ends = absurd meets
+  again (Stopped l k) (RunningIs s) last meets known ends = absurd meets
+  again (Stopped l k) (StoppedIs there before after) last meets known ends = from_stopped l k there before after last meets known.0 known.1 ends
+  again (Stopped l k) UnformattedIs last meets known ends = absurd meets
+  again Unformatted c last meets known ends = absurd last
+
+module _ {S : Type 0} (holds : S → Durable → Durable → Type 0) (used format : S → ℕ) (seat : Seat) (store : S) (life : ℕ) (doubt : Doubt) where
+  -- no life is near the end of its type
+  pub last_low : (state : State) (c : Condition) → IsLast state life doubt → Meets holds used format seat store state c → IsKnown seat c → life < 2 ^ 63
+  last_low (Runs me) (RunningIs s) last meets known = omega (arith, last.0, low_life holds used format seat store me s meets known)
+  last_low (Runs me) (StoppedIs there before after) last meets known = absurd meets
+  last_low (Runs me) UnformattedIs last meets known = absurd meets
+  last_low (Stopped l k) (RunningIs s) last meets known = absurd meets
+  last_low (Stopped l k) (StoppedIs there before after) last meets known = omega (arith, last.0, meets.life_is, known.2)
+  last_low (Stopped l k) UnformattedIs last meets known = absurd meets
+  last_low Unformatted c last meets known = absurd last
+
+-- a life begins without answers
+pub quiet_again : (life : ℕ) (doubt : Doubt) (state state' : State) (begun : Result (Running × Reading) RestartFault) (result : Result (Answer × Bool) NoMemory) → Restarts life doubt state state' begun result → answers_of state ≡ [] → answers_of state' ≡ []
+quiet_again life doubt state state' (Ok (me, r)) result ends none = ap answers_of ends.1
+quiet_again life doubt state state' (Err WantsMemory) result ends none = ap answers_of ends.1 ∙ none
+quiet_again life doubt state state' (Err ReadHalted) result ends none = ap answers_of ends.1
+quiet_again life doubt state state' (Err (SaveHalted r)) result ends none = ap answers_of ends.1
+quiet_again life doubt state state' (Err NotOurs) result ends none = ap answers_of ends.1

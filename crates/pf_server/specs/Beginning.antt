@@ -1,0 +1,41 @@
+-- How a restart ends in memory.
+use Rattle.std.specs.Prelude.{◌≡◌, ℕ, ◌+◌, Bool, false, not, ◌&&◌, ◌==◌, Result, Ok, Err}
+use Rattle.pf_base.specs.declared.errors.NoMemory.{NoMemory}
+use Rattle.pf_protocol.specs.declared.answers.Answer.{Answer}
+use Rattle.pf_protocol.specs.declared.answers.Answer.TheVariants.{Done, Refused}
+use Rattle.pf_protocol.specs.declared.answers.Refusal.TheVariants.{Halted, NotOurs as IsNotOurs}
+use Rattle.pf_state.specs.declared.running.Running.{Running}
+use Rattle.pf_restart.specs.declared.faults.RestartFault.{RestartFault}
+use Rattle.pf_restart.specs.declared.faults.RestartFault.TheVariants.{NoMemory as WantsMemory, ReadHalted, SaveHalted, NotOurs}
+use Rattle.pf_restart.specs.declared.reading.Reading.{Reading}
+use Rattle.pf_server.specs.declared.state.Doubt.{Doubt}
+use Rattle.pf_server.specs.declared.state.Doubt.TheVariants.{Settled, Open, Read}
+use Rattle.pf_server.specs.declared.state.State.{State}
+use Rattle.pf_server.specs.declared.state.State.TheVariants.{Runs, Stopped, Unformatted}
+use Rattle.pf_server.specs.Ending.{quieted}
+
+-- the life that a server was in last, and what is known of its last step
+abbrev pub IsLast : State → (life : ℕ) → Doubt → Type 0
+IsLast (Runs me) life doubt = (life ≡ me.life) × (doubt ≡ Settled)
+IsLast (Stopped its known) life doubt = (life ≡ its) × (doubt ≡ known)
+IsLast Unformatted life doubt = ⊥
+
+-- whether the record of the last step was read
+abbrev pub found_by : Doubt → Reading → Bool
+found_by Settled r = false
+found_by (Open bytes generation) r = not (r.used == bytes && r.generation == generation)
+found_by (Read found) r = found
+
+-- what is known of the last step after that
+abbrev pub doubt_after : Doubt → Reading → Doubt
+doubt_after Settled r = Settled
+doubt_after (Open bytes generation) r = Read (found_by (Open bytes generation) r)
+doubt_after (Read found) r = Read found
+
+-- what a restart makes of the server, and what it answers
+abbrev pub Restarts : (life : ℕ) → Doubt → State → State → Result (Running × Reading) RestartFault → Result (Answer × Bool) NoMemory → Type 0
+Restarts life doubt state state' (Ok (me, r)) result = (result ≡ Ok (Done, found_by doubt r)) × (state' ≡ Runs (quieted me))
+Restarts life doubt state state' (Err WantsMemory) result = (result ≡ Err (record {})) × (state' ≡ state)
+Restarts life doubt state state' (Err ReadHalted) result = (result ≡ Ok (Refused Halted, false)) × (state' ≡ Stopped (life + 1) doubt)
+Restarts life doubt state state' (Err (SaveHalted r)) result = (result ≡ Ok (Refused Halted, found_by doubt r)) × (state' ≡ Stopped (life + 1) (doubt_after doubt r))
+Restarts life doubt state state' (Err NotOurs) result = (result ≡ Ok (Refused IsNotOurs, false)) × (state' ≡ Stopped life doubt)

@@ -1,0 +1,142 @@
+-- A server's memory and disks, as the rules see them.
+use Rattle.std.specs.Prelude.{◌≡◌, ◌⊎◌, ℕ, suc, ◌<◌, ◌≤◌, ◌^◌, Bool, true, false, cond, List, [], length, Some}
+use Rattle.std.specs.FinMap
+use Rattle.pf_base.specs.declared.filled.Filled.{Filled}
+use Rattle.pf_entry.specs.Lists.{Every}
+use Rattle.pf_entry.specs.Ops.{Sector}
+use Rattle.pf_entry.specs.Records.{Durable}
+use Rattle.pf_entry.specs.declared.entries.Entry.{Entry}
+use Rattle.pf_entry.specs.declared.ops.Op.{Op}
+use Rattle.pf_entry.specs.declared.packets.Packet.{Packet}
+use Rattle.pf_protocol.specs.Servers.{Leader, Merging as MergingIs, Serving as ServingIs, Server, Condition, Running as RunningIs, Stopped as StoppedIs, Unformatted as UnformattedIs}
+use Rattle.pf_protocol.specs.Fitting.{DurableFits, PacketFits, ServerFits}
+use Rattle.pf_protocol.specs.Asked.{AreBelow, Asks}
+use Rattle.pf_state.specs.declared.running.Running.{Running}
+use Rattle.pf_state.specs.Standing.{server_of, setup_of, Stands}
+use Rattle.pf_protocol.specs.Answers.{has_stored}
+use Rattle.pf_protocol.specs.Saving.{renewed}
+use Rattle.pf_applying.specs.Jobs.{IsFilledFor}
+use Rattle.pf_restart.specs.Beginning.{setup_at, IsSeat}
+use Rattle.pf_restart.specs.declared.seat.Seat.{Seat}
+use Rattle.pf_server.specs.declared.state.Doubt.{Doubt}
+use Rattle.pf_server.specs.declared.state.Doubt.TheVariants.{Settled, Open, Read}
+use Rattle.pf_server.specs.declared.state.State.{State}
+use Rattle.pf_server.specs.declared.state.State.TheVariants.{Runs, Stopped, Unformatted}
+
+-- a half has the volume's format or the second, and has room for the state
+pub record IsInHalf (seat : Seat) (d : Durable) : Type 0 where
+  pub format : (d.format ≡ 2) ⊎ (d.format ≡ seat.format)
+  pub within : d.used ≤ 67108864
+
+module _ {S : Type 0} (holds : S → Durable → Durable → Type 0) (used format : S → ℕ) where
+  -- the server runs, and is this one to the rules
+  pub record IsRunning (seat : Seat) (store : S) (me : Running) (s : Server) : Type 0 where
+    pub stands : Stands holds used format s.durable store me
+    pub is : server_of s.durable me ≡ s
+    pub setup : setup_of me ≡ setup_at seat
+
+  -- a state is there, perhaps saved anew
+  pub record HasOne (d : Durable) (store : S) : Type 0 where
+    pub x : Durable
+    pub y : Durable
+    pub has : holds store x y
+    pub first : (x ≡ d) ⊎ (x ≡ renewed d)
+    pub second : (y ≡ d) ⊎ (y ≡ renewed d)
+
+  -- the step's record is there or not, and the half tells which
+  pub record HasEither (bytes generation : ℕ) (before after : Durable) (store : S) : Type 0 where
+    pub x : Durable
+    pub y : Durable
+    pub has : holds store x y
+    pub first : (x ≡ before) ⊎ (x ≡ after)
+    pub second : (y ≡ before) ⊎ (y ≡ after)
+    pub used_is : before.used ≡ bytes
+    pub generation_is : before.generation ≡ generation
+    pub apart : has_stored before after ≡ true
+
+  abbrev pub Leaves : Doubt → (before after : Durable) → S → Type 0
+  Leaves Settled before after store = (before ≡ after) × HasOne before store
+  Leaves (Open bytes generation) before after store = HasEither bytes generation before after store
+  Leaves (Read found) before after store = HasOne (cond found after before) store
+
+  -- a stopped server's records are those from before its last step, or those with it
+  pub record IsStopped (seat : Seat) (life : ℕ) (doubt : Doubt) (there : ℕ) (before after : Durable) (store : S) : Type 0 where
+    pub life_is : life ≡ there
+    pub left : Leaves doubt before after store
+    pub first : IsInHalf seat before
+    pub second : IsInHalf seat after
+
+  -- memory and disks stand for this condition
+  abbrev pub Meets : Seat → S → State → Condition → Type 0
+  Meets seat store (Runs me) (RunningIs s) = IsRunning seat store me s
+  Meets seat store (Stopped life doubt) (StoppedIs there before after) = IsStopped seat life doubt there before after store
+  Meets seat store Unformatted UnformattedIs = Unit {0}
+  Meets seat store _ _ = ⊥
+
+abbrev pub runs : State → Bool
+runs (Runs me) = true
+runs _ = false
+
+-- the answers of reads that nobody took yet
+abbrev pub answers_of : State → List (ℕ × List Sector)
+answers_of (Runs me) = me.replies.answers
+answers_of _ = []
+
+-- each has 1 to 8 sectors
+abbrev pub AreSized : List (ℕ × List Sector) → Type 0
+AreSized answers = Every (λ a. (1 ≤ length a.1) × (length a.1 ≤ 8)) answers
+
+-- what every group knows of its running servers
+pub record IsSound (seat : Seat) (s : Server) : Type 0 where
+  pub number : s.number ≡ seat.number
+  pub n : ℕ
+  pub t : ℕ
+  pub low : suc (suc n) < 2 ^ 63
+  pub t_low : t < 2 ^ 63
+  pub fits : ServerFits (setup_at seat) n t s
+  pub few : FinMap.len s.durable.starts ≤ 65
+  pub next : ℕ
+  pub asks : Asks seat.sectors next s
+  -- what a leader holds above its checkpoint and below its next slot is of its term
+  pub own : (l : Leader) → (s.role ≡ MergingIs l) ⊎ (s.role ≡ ServingIs l) → (slot : ℕ) (e : Entry) → s.durable.base < slot → slot < l.next → FinMap.get s.durable.log slot ≡ Some e → e.term ≡ s.durable.term
+
+-- of the states on the disks of its stopped ones
+pub record IsFit (seat : Seat) (d : Durable) : Type 0 where
+  pub n : ℕ
+  pub t : ℕ
+  pub low : suc (suc n) < 2 ^ 63
+  pub t_low : t < 2 ^ 63
+  pub fits : DurableFits (setup_at seat) n t d
+  pub few : FinMap.len d.starts ≤ 65
+
+-- and of their conditions
+abbrev pub IsKnown : Seat → Condition → Type 0
+IsKnown seat (RunningIs s) = IsSound seat s
+IsKnown seat (StoppedIs life before after) = IsFit seat before × IsFit seat after × (life < 2 ^ 63)
+IsKnown seat UnformattedIs = Unit {0}
+
+-- memory and disks stand for a condition that a group knows of
+pub record IsInOrder {S : Type 0} (holds : S → Durable → Durable → Type 0) (used format : S → ℕ) (seat : Seat) (store : S) (state : State) : Type 0 where
+  pub made : IsSeat seat
+  pub condition : Condition
+  pub meets : Meets holds used format seat store state condition
+  pub known : IsKnown seat condition
+
+-- a job of the server's life is in hand, and comes back with its sectors
+abbrev pub BringsBack : Condition → Filled → Type 0
+BringsBack (RunningIs s) filled = filled.life ≡ s.life → (op : Op) × (FinMap.get s.in_hand filled.slot ≡ Some op) × IsFilledFor op filled
+BringsBack _ filled = Unit {0}
+
+-- a read of this number would be the last
+abbrev pub IsNext : Condition → (number : ℕ) → Type 0
+IsNext (RunningIs s) number = AreBelow number s.reads
+IsNext _ number = Unit {0}
+
+-- what every group knows of its packets
+pub record IsFor (seat : Seat) (p : Packet) : Type 0 where
+  pub n : ℕ
+  pub t : ℕ
+  pub low : n < 2 ^ 63
+  pub t_low : t < 2 ^ 63
+  pub fits : PacketFits (setup_at seat) n t p
+  pub to : p.to ≡ seat.number

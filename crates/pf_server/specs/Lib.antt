@@ -1,0 +1,4 @@
+pub mod Beginning
+pub mod Conditions
+pub mod Ending
+pub mod Turns

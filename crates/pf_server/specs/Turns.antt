@@ -1,0 +1,97 @@
+-- What a step of a server comes to.
+use Rattle.std.specs.Prelude.{◌≡◌, ◌⊎◌, ℕ, suc, Bool, cond, not, true, List, [], map, Option, Some, None, Result, Ok, Err, ◌==◌}
+use Rattle.pf_base.specs.declared.errors.NoMemory.{NoMemory}
+use Rattle.pf_entry.specs.Ops.{Sector}
+use Rattle.pf_entry.specs.Records.{Durable}
+use Rattle.pf_entry.specs.declared.ops.Job.{Job}
+use Rattle.pf_protocol.specs.Servers.{Server, Condition, Running as RunningIs, Stopped as StoppedIs, Unformatted as UnformattedIs}
+use Rattle.pf_protocol.specs.Leading.{op_at}
+use Rattle.pf_protocol.specs.Saving.{claimable, claimed, renewed, restarted}
+use Rattle.pf_protocol.specs.Outcomes.{Outcome}
+use Rattle.pf_protocol.specs.Rows.{ready_reads, settled}
+use Rattle.pf_protocol.specs.Answers.{refuse, has_stored}
+use Rattle.pf_protocol.specs.Groups.{answer_of}
+use Rattle.pf_protocol.specs.declared.answers.Answer.{Answer}
+use Rattle.pf_protocol.specs.declared.answers.Answer.TheVariants.{Done, Refused}
+use Rattle.pf_protocol.specs.declared.answers.Refusal.{Refusal}
+use Rattle.pf_protocol.specs.declared.answers.Refusal.TheVariants.{Halted, NotOurs, Stale}
+use Rattle.pf_state.specs.Outgoing.{Outgoing, sent_by}
+use Rattle.pf_restart.specs.declared.seat.Seat.{Seat}
+use Rattle.pf_server.specs.declared.state.State.{State}
+use Rattle.pf_server.specs.Conditions.{AreSized, Meets, answers_of}
+
+-- the answers of the reads that a step made ready
+abbrev pub answers_after : Server → List (ℕ × List Sector)
+answers_after s = map (λ r. (let a = answer_of s r in (a.number, a.bytes))) (ready_reads s)
+
+module _ {S : Type 0} (holds : S → Durable → Durable → Type 0) (used format : S → ℕ) (seat : Seat) (store' : S) (state' : State) (s : Server) where
+  -- the rule was carried out, and the reads that are ready were answered
+  pub record IsSettled (o : Outcome) (answer : Answer) : Type 0 where
+    pub answered : answer ≡ o.answer
+    pub meets : Meets holds used format seat store' state' (RunningIs (settled o.server))
+    pub answers : answers_of state' ≡ answers_after o.server
+    pub sized : AreSized (answers_of state')
+
+  -- the server is as it was, but for answers that nobody took
+  pub record IsAsBefore : Type 0 where
+    pub meets : Meets holds used format seat store' state' (RunningIs s)
+    pub none : answers_of state' ≡ []
+
+  pub record WasRefused (refusal : Refusal) (answer : Answer) : Type 0 where
+    pub answered : answer ≡ Refused refusal
+    pub kept : IsAsBefore
+
+  -- what a step in memory alone comes to, of which this refusal comes first
+  abbrev pub ComesInMemory : Option Refusal → Outcome → Answer → Type 0
+  ComesInMemory None o answer = IsSettled o answer
+  ComesInMemory (Some refusal) o answer = WasRefused refusal answer
+
+  -- the job of the least slot that can be claimed, which is in hand then
+  pub record IsClaimed (job : Job) : Type 0 where
+    pub least : claimable 4096 s ≡ Some job.slot
+    pub job_is : job ≡ record { server = s.number; life = s.life; slot = job.slot; op = op_at s.durable.log job.slot }
+    pub meets : Meets holds used format seat store' state' (RunningIs (claimed s job.slot))
+    pub none : answers_of state' ≡ []
+
+  abbrev pub Claims : Result (Option Job) NoMemory → Type 0
+  Claims (Ok (Some job)) = IsClaimed job
+  Claims (Ok None) = (claimable 4096 s ≡ None) × IsAsBefore
+  Claims (Err e) = IsAsBefore
+
+module _ {S : Type 0} (holds : S → Durable → Durable → Type 0) (used format : S → ℕ) (rose : S → S → Type 0) (was : S → S → Durable → Durable → Type 0) (seat : Seat) (store store' : S) (state' : State) (s : Server) where
+  -- the step was carried out, and its packets were sent
+  pub record WasCarriedOut (out out' : Outgoing) (o : Outcome) (answer : Answer) : Type 0 where
+    pub settles : IsSettled holds used format seat store' state' s o answer
+    pub sent : out' ≡ record (sent_by out o.packets) { acked = o.acked }
+    pub crash : (store' ≡ store) ⊎ was store store' s.durable o.server.durable
+
+  -- a disk failed as the step was stored, and the server is stopped
+  pub record WasCutOff (o : Outcome) (answer : Answer) : Type 0 where
+    pub answered : answer ≡ Refused Halted
+    pub stores : has_stored s.durable o.server.durable ≡ true
+    pub meets : Meets holds used format seat store' state' (StoppedIs (suc s.life) s.durable o.server.durable)
+    pub crash : was store store' s.durable o.server.durable
+    pub cause : rose store store'
+
+  -- what a step comes to, of which this refusal comes first
+  abbrev pub Comes : Outgoing → Outgoing → Option Refusal → Outcome → Result Answer NoMemory → Type 0
+  Comes out out' None o (Ok answer) = WasCarriedOut out out' o answer ⊎ WasCutOff o answer
+  Comes out out' (Some refusal) o (Ok answer) = WasRefused holds used format seat store' state' s refusal answer
+  Comes out out' judged o (Err e) = IsAsBefore holds used format seat store' state' s
+
+-- a job of another life is refused
+abbrev pub finish_refusal : Server → (life : ℕ) → Option Refusal
+finish_refusal s life = refuse (not (life == s.life)) (Stale s.life) None
+
+module _ {S : Type 0} (holds : S → Durable → Durable → Type 0) (used format : S → ℕ) (rose : S → S → Type 0) (seat : Seat) (store store' : S) (state' : State) where
+  -- what a restart comes to that found the record of the last step, or not
+  abbrev pub Begins : (life : ℕ) → (before after : Durable) → (found : Bool) → Answer → Type 0
+  Begins life before after found Done = Meets holds used format seat store' state' (RunningIs (restarted seat.number (suc life) (renewed (cond found after before))))
+  Begins life before after found (Refused Halted) = Meets holds used format seat store' state' (StoppedIs (suc life) before after) × rose store store'
+  Begins life before after found _ = ⊥
+
+  abbrev pub BeginsAgain : Condition → Result (Answer × Bool) NoMemory → Type 0
+  BeginsAgain (RunningIs s) (Ok (answer, found)) = Begins s.life s.durable s.durable found answer
+  BeginsAgain (StoppedIs life before after) (Ok (answer, found)) = Begins life before after found answer
+  BeginsAgain UnformattedIs (Ok (answer, found)) = (answer ≡ Refused NotOurs) × Meets holds used format seat store' state' UnformattedIs
+  BeginsAgain c (Err e) = Meets holds used format seat store' state' c

@@ -1,0 +1,134 @@
+//! A server stops, and begins again.
+ghost use Rattle.std.specs.Prelude.{◌≡◌, ◌<◌, ◌^◌, suc, [], IsTrue, MatchOption, false};
+ghost use Rattle.pf_protocol.specs.Servers.{Condition, Server as ServerIs, Running as RunningIs, Stopped as StoppedIs};
+ghost use Rattle.pf_server.specs.Beginning.{IsLast, Restarts, doubt_after, found_by};
+ghost use Rattle.pf_server.specs.Conditions.{IsInOrder, IsKnown, Meets, answers_of, runs};
+ghost use Rattle.pf_server.specs.Turns.{BeginsAgain};
+ghost use Rattle.pf_server.specs.declared.state.State.TheVariants.{Unformatted as UnformattedState};
+
+use crate::ends::forget;
+use crate::{Doubt, Server, State};
+use pf_base::NoMemory;
+use pf_protocol::{Answer, Refusal};
+use pf_restart::{Reading, RestartFault, restart};
+use pf_state::Running;
+use pf_store::Store;
+use std::alloc::Global;
+
+/// The life that a server was in last and what is known of its last step, `None` exactly where it never ran.
+fn last_life(state: &State) -> Option<(u64, Doubt)>
+    ensures { MatchOption result (state.now ≡ UnformattedState) (λ last. IsLast state.now last.0 last.1) }
+{
+    match state {
+        State::Runs(me) => Some((me.life, Doubt::Settled)),
+        State::Stopped { life, doubt } => Some((*life, *doubt)),
+        State::Unformatted => None,
+    }
+}
+
+/// Whether the record of the last step was read.
+fn is_found(doubt: Doubt, read: Reading) -> bool
+    ensures { result ≡ found_by doubt read }
+{
+    match doubt {
+        Doubt::Settled => false,
+        Doubt::Open { used, generation } => !(read.used == used && read.generation == generation),
+        Doubt::Read { found } => found,
+    }
+}
+
+/// What is known of the last step after this was read.
+fn known_after(doubt: Doubt, read: Reading) -> Doubt
+    ensures { result ≡ doubt_after doubt read }
+{
+    match doubt {
+        Doubt::Settled => Doubt::Settled,
+        Doubt::Open {
+            used: _,
+            generation: _,
+        } => Doubt::Read {
+            found: is_found(doubt, read),
+        },
+        Doubt::Read { found } => Doubt::Read { found },
+    }
+}
+
+/// What comes of a restart after this life.
+fn begin(
+    state: &mut State,
+    life: u64,
+    doubt: Doubt,
+    begun: Result<(Running, Reading), RestartFault>,
+) -> Result<(Answer, bool), NoMemory>
+    requires { life < 2 ^ 63 }
+    ensures { Restarts life doubt state.old state.new begun result }
+{
+    match begun {
+        Ok((mut me, read)) => {
+            forget(&mut me.replies);
+            *state = State::Runs(me);
+            Ok((Answer::Done, is_found(doubt, read)))
+        }
+        Err(RestartFault::NoMemory) => Err(NoMemory),
+        Err(RestartFault::ReadHalted) => {
+            *state = State::Stopped {
+                life: life + 1,
+                doubt,
+            };
+            Ok((Answer::Refused(Refusal::Halted), false))
+        }
+        Err(RestartFault::SaveHalted(read)) => {
+            *state = State::Stopped {
+                life: life + 1,
+                doubt: known_after(doubt, read),
+            };
+            Ok((Answer::Refused(Refusal::Halted), is_found(doubt, read)))
+        }
+        Err(RestartFault::NotOurs) => {
+            *state = State::Stopped { life, doubt };
+            Ok((Answer::Refused(Refusal::NotOurs), false))
+        }
+    }
+}
+
+impl<S: Store> Server<S> {
+    /// Stops the server. What it had in memory is lost, and its life counts one more. `Down` (51) where it does not run.
+    pub fn stop(&mut self) -> Answer
+        requires { IsInOrder S.holds S.used S.format self.old.seat self.old.store self.old.state }
+        ensures step { (s : ServerIs) → Meets S.holds S.used S.format self.old.seat self.old.store self.old.state (RunningIs s) → (result ≡ Answer.Done) × Meets S.holds S.used S.format self.old.seat self.new.store self.new.state (StoppedIs (suc s.life) s.durable s.durable) }
+        ensures down { runs self.old.state ≡ false → (result ≡ Answer.Refused Refusal.Down) × (self.new ≡ self.old) }
+        ensures seat { self.new.seat ≡ self.old.seat }
+        ensures store { self.new.store ≡ self.old.store }
+    {
+        let State::Runs(me) = &self.state else {
+            return Answer::Refused(Refusal::Down);
+        };
+        let life = me.life + 1;
+        self.state = State::Stopped {
+            life,
+            doubt: Doubt::Settled,
+        };
+        Answer::Done
+    }
+
+    /// Begins the next life from the records, as a follower; a running server is stopped first. A half of the first format is saved
+    /// anew in the second. Beside the answer it tells whether the record of a step that was cut off was found.
+    ///
+    /// `NotOurs` (42) where the disks could not be formatted as the group was made, or hold no state of this server, which never
+    /// comes of disks that tell their content. `Halted` (52) where a disk failed: the server is stopped then. `NoMemory` (1)
+    /// leaves the server as it was.
+    pub fn restart(&mut self, alloc: Global) -> Result<(Answer, bool), NoMemory>
+        requires told { IsTrue (S.told self.old.store) }
+        requires order { IsInOrder S.holds S.used S.format self.old.seat self.old.store self.old.state }
+        ensures step { (c : Condition) → Meets S.holds S.used S.format self.old.seat self.old.store self.old.state c → IsKnown self.old.seat c → BeginsAgain S.holds S.used S.format S.rose self.old.seat self.old.store self.new.store self.new.state c result }
+        ensures answers { answers_of self.old.state ≡ [] → answers_of self.new.state ≡ [] }
+        ensures seat { self.new.seat ≡ self.old.seat }
+        ensures told { S.told self.new.store ≡ S.told self.old.store }
+    {
+        let Some((life, doubt)) = last_life(&self.state) else {
+            return Ok((Answer::Refused(Refusal::NotOurs), false));
+        };
+        let begun = restart(alloc, &mut self.store, &self.seat, life + 1);
+        begin(&mut self.state, life, doubt, begun)
+    }
+}
