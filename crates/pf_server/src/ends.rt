@@ -72,7 +72,9 @@ pub fn forget_answers(state: &mut State)
 }
 
 /// What comes of a step at a running server. The reads that it made ready are answered; where it was not done, its server is as it
-/// was, or is stopped where a disk failed.
+/// was, but for answers that nobody took, or is stopped where a disk failed.
+///
+/// `NoMemory` (1) is the step's own.
 pub fn end(
     state: &mut State,
     before: Before,
