@@ -1,0 +1,90 @@
+-- Events that are the turn of one server, and no more.
+use Rattle.std.proofs.Common.{◌≡◌, ℕ, ◌<◌, Bool, Option, Some, Result, Ok, Err, slice_get, get_or, vec_capacity, vec_len, refl, sym, ap, subst, ◌∙◌}
+use Rattle.std.specs.Global.{Vec}
+use Rattle.std.specs.Vec.{with_item}
+use Rattle.pf_base.specs.declared.errors.NoMemory.{NoMemory}
+use Rattle.pf_entry.specs.Records.{Durable}
+use Rattle.pf_protocol.specs.declared.answers.Answer.{Answer}
+use Rattle.pf_protocol.specs.declared.answers.Answer.TheVariants.{Refused}
+use Rattle.pf_protocol.specs.declared.answers.Refusal.{Refusal}
+use Rattle.pf_protocol.specs.declared.answers.Refusal.TheVariants.{Halted}
+use Rattle.pf_protocol.specs.declared.events.Event.{Event}
+use Rattle.pf_protocol.specs.Servers.{Setup, Server as ServerIs}
+use Rattle.pf_protocol.specs.Outcomes.{Outcome}
+use Rattle.pf_protocol.specs.Groups.{Group, Ending, at_server, ending, reads_after}
+use Rattle.pf_protocol.specs.Histories.{History, Runs, replay}
+use Rattle.pf_protocol.specs.Answers.{Turn}
+use Rattle.pf_state.specs.Outgoing.{Outgoing}
+use Rattle.pf_server.specs.declared.server.Server.{Server}
+use Rattle.pf_cluster.specs.declared.cluster.Cluster.{Cluster}
+use Rattle.pf_cluster.specs.declared.kept.Acked.{Acked}
+use Rattle.pf_cluster.specs.Going.{Goes, HasFault, IsReached}
+use Rattle.pf_cluster.specs.Showing.{HasTraffic, Shows}
+use Rattle.pf_cluster.specs.Turned.{Ends, HasTurned, IsTurnOf, outbox_of}
+use Rattle.pf_cluster.proofs.Beginning.{server_there}
+use Rattle.pf_cluster.proofs.Ended.{fault_of}
+use Rattle.pf_cluster.proofs.Events.{IsMid, IsTurnEvent, turn_answer, turned_so}
+use Rattle.pf_cluster.proofs.Taking.{IsDown, Tells, no_read}
+
+-- the event is this turn, of which the server has another form
+pub record IsTurnAs (setup : Setup) (history : History) (event : Event) (i : ℕ) (turn : Turn) (pre : Ending → Group) (judged : ServerIs → Option Refusal) (rule : ServerIs → Outcome) : Type 0 where
+  pub event_is : IsTurnEvent setup (replay setup history) event i turn pre
+  pub same_judged : (s : ServerIs) → judged s ≡ turn.refusal s
+  pub same_rule : (s : ServerIs) → rule s ≡ turn.rule s
+  pub knows : (s : ServerIs) → Runs (replay setup history) i s → IsTurnOf (replay setup history) turn s
+  pub plain : (s : ServerIs) → reads_after (replay setup history).reads (turn.rule s).answer ≡ (replay setup history).reads
+
+-- after a server's step, with room for a slot that it acknowledged
+abbrev pub mid_of : {S : Type 0} → Cluster S → (i : ℕ) → Server S → Vec Acked → Cluster S
+mid_of cluster i next acked = record cluster { servers = with_item cluster.servers i next; acked = acked }
+
+module _ {S : Type 0} (holds : S → Durable → Durable → Type 0) (used format : S → ℕ) (told : S → Bool) where
+  module _ (rose : S → S → Type 0) (was : S → S → Durable → Durable → Type 0) (setup : Setup) (history : History) (old : Cluster S) (reached : IsReached holds used format told setup history old) (i : ℕ) (me next : Server S) (acked : Vec Acked) (out out' : Outgoing) (judged : ServerIs → Option Refusal) (rule : ServerIs → Outcome) (outcome : Result Answer NoMemory) where
+    -- what the code did
+    pub record DidTurn : Type 0 where
+      pub low : i < 3
+      pub read : me ≡ get_or old.servers.items i me
+      pub seat : next.seat ≡ me.seat
+      pub told_same : told next.store ≡ told me.store
+      pub items : acked.items ≡ old.acked.items
+      pub place : vec_len acked < vec_capacity acked
+      pub fresh : out ≡ outbox_of old
+      pub tells : Tells holds used format told rose was me next out out' judged rule outcome
+      pub down : IsDown holds used format told rose was me next out out' judged rule outcome
+
+    module _ (did : DidTurn) where
+      pub here : slice_get old.servers.items i ≡ Some me
+      here = server_there holds used format told setup history old reached i me did.low did.read
+
+      pub middle : IsMid holds used format told rose was setup history old reached i me next (mid_of old i next acked)
+      middle = record { here = here; servers = refl; seat = did.seat; told_same = did.told_same }
+
+      pub traffic : HasTraffic (mid_of old i next acked) (replay setup history)
+      traffic = let t = reached.shows.traffic in record { packets = t.packets; places = t.places; room = t.room; acked = did.items ∙ t.acked; elections = t.elections; readings = t.readings }
+
+      unfoldable pub plain_turned : (event : Event) (turn : Turn) (pre : Ending → Group) → IsTurnAs setup history event i turn pre judged rule → HasTurned holds used format told rose was setup (replay setup history) i turn (mid_of old i next acked) out' outcome
+      plain_turned event turn pre is = turned_so holds used format told rose was setup history old reached i me next (mid_of old i next acked) middle (replay setup history) refl turn outcome out out' judged rule is.same_judged is.same_rule did.tells did.down did.fresh is.knows traffic did.place
+          (λ c took. reached.shows.reads ∙ sym (no_read holds used format told rose was (replay setup history).reads turn me next out out' outcome is.plain c took))
+
+      module _ (event : Event) (turn : Turn) (pre : Ending → Group) (is : IsTurnAs setup history event i turn pre judged rule) (after final : Cluster S) (same : outcome ≡ Ok (Refused Halted) → final.servers.items ≡ (mid_of old i next acked).servers.items) where
+        cause : outcome ≡ Ok (Refused Halted) → HasFault rose old final
+        unfolding plain_turned turned_so
+        cause halted = fault_of holds used format told rose was setup (replay setup history) i turn (mid_of old i next acked) out' outcome (plain_turned event turn pre is) old final refl (same halted) halted
+
+        module _ (whole : (answer : Answer) → outcome ≡ Ok answer → Shows holds used format told setup after (at_server (ending answer) (replay setup history) i turn.rule) → Shows holds used format told setup final (at_server (ending answer) (pre (ending answer)) i turn.rule)) (none : (e : NoMemory) → outcome ≡ Err e → Shows holds used format told setup after (replay setup history) → Shows holds used format told setup final (replay setup history)) where
+          by_outcome : (o : Result Answer NoMemory) → outcome ≡ o → Ends holds used format told setup (replay setup history) i turn after o → Goes holds used format told rose setup (replay setup history) event old final o
+          by_outcome (Err e) so shows = none e so shows
+          by_outcome (Ok answer) so ended = record {
+            answered = turn_answer setup (replay setup history) event i turn pre is.event_is answer ended.answered;
+            shows = subst (Shows holds used format told setup final) (sym (is.event_is.goes (ending answer))) (whole answer so ended.shows);
+            cause = λ halted. cause (so ∙ ap Ok halted);
+          }
+
+          -- what was made of the cluster after the turn's end is what the event makes of the group
+          pub event_goes : (result : Result Answer NoMemory) → result ≡ outcome → (HasTurned holds used format told rose was setup (replay setup history) i turn (mid_of old i next acked) out' outcome → Ends holds used format told setup (replay setup history) i turn after outcome) → Goes holds used format told rose setup (replay setup history) event old final result
+          event_goes result is_outcome ended = subst (λ r. Goes holds used format told rose setup (replay setup history) event old final r) (sym is_outcome) (by_outcome outcome refl (ended (plain_turned event turn pre is)))
+
+      -- nothing more is made of it
+      pub plain_goes : (event : Event) (turn : Turn) → IsTurnAs setup history event i turn (λ how. replay setup history) judged rule → (after : Cluster S) → (outcome ≡ Ok (Refused Halted) → after ≡ mid_of old i next acked) → (result : Result Answer NoMemory) → result ≡ outcome
+          → (HasTurned holds used format told rose was setup (replay setup history) i turn (mid_of old i next acked) out' outcome → Ends holds used format told setup (replay setup history) i turn after outcome) → Goes holds used format told rose setup (replay setup history) event old after result
+      plain_goes event turn is after same result is_outcome ended = event_goes event turn (λ how. replay setup history) is after after (λ halted. ap (λ (x : Cluster S). x.servers.items) (same halted)) (λ answer so shows. shows) (λ e so shows. shows) result is_outcome ended

@@ -1,0 +1,68 @@
+use Rattle.std.proofs.Common.{arith}
+use Rattle.pf_protocol.specs.declared.events.Event.TheVariants.{Resend}
+use Rattle.pf_protocol.specs.Histories.{replay}
+use Rattle.pf_protocol.specs.Answers.{plain}
+use Rattle.pf_protocol.specs.Leading.{on_resend}
+use Rattle.pf_cluster.proofs.Beginning.{few_parcels, in_order, same_room_refusal, server_there}
+use Rattle.pf_cluster.proofs.Plain.{plain_goes, plain_turned}
+use Rattle.pf_cluster.proofs.Simple.{resends}
+use Rattle.pf_cluster.proofs.cluster.Cluster.resend.Goals as goal
+
+pub outbox-out-requires : goal.outbox-out-requires
+outbox-out-requires g c = let q = c.requires.reached in few_parcels g.S.Store.holds g.S.Store.used g.S.Store.format g.S.Store.told q.0 q.1.0 c.args.self.now q.1.1
+
+pub resend-outcome-requires-clause-order : goal.resend-outcome-requires-clause-order
+resend-outcome-requires-clause-order g c =
+    let q = c.requires.reached in
+    in_order g.S.Store.holds g.S.Store.used g.S.Store.format g.S.Store.told q.0 q.1.0 c.args.self.now q.1.1 c.args.server c.index_mut.result.now
+    (server_there g.S.Store.holds g.S.Store.used g.S.Store.format g.S.Store.told q.0 q.1.0 c.args.self.now q.1.1 c.args.server c.index_mut.result.now c.requires.server c.index_mut.ensures.value)
+
+pub end-requires : goal.end-requires
+end-requires g c =
+    let q = c.requires.reached in
+    let outcome = c.resend-outcome in
+    let me = c.index_mut.result.now in
+    let out = c.outbox-out.result in
+    let room = same_room_refusal g.S.Store.holds g.S.Store.used g.S.Store.format g.S.Store.told q.0 q.1.0 c.args.self.now q.1.1 out c.outbox-out.ensures in (
+      q.0,
+      (
+        replay q.0 q.1.0,
+        (
+          (plain (replay q.0 q.1.0) (λ s. on_resend s s.role)),
+          plain_turned g.S.Store.holds g.S.Store.used g.S.Store.format g.S.Store.told g.S.Store.rose g.S.Store.was q.0 q.1.0 c.args.self.now q.1.1 c.args.server me outcome.new.self c.reserve.new.self out outcome.new.out _ _ outcome.result
+              (record {
+                low = c.requires.server;
+                read = c.index_mut.ensures.value;
+                seat = outcome.ensures.seat;
+                told_same = outcome.ensures.told;
+                items = c.reserve.ensures.items;
+                place = omega (arith, c.in_ok-reserve.ensures.ok);
+                fresh = c.outbox-out.ensures;
+                tells = outcome.ensures.step;
+                down = outcome.ensures.down;
+              }) (Resend c.args.server) (plain (replay q.0 q.1.0) (λ s. on_resend s s.role)) (λ how. replay q.0 q.1.0)
+              (resends q.0 q.1.0 q.1.1.legal q.1.1.short c.args.server c.requires.server out room),
+        ),
+      ),
+    )
+
+pub returns : goal.returns
+returns g c setup history reached =
+    let outcome = c.resend-outcome in
+    let me = c.index_mut.result.now in
+    let out = c.outbox-out.result in
+    let room = same_room_refusal g.S.Store.holds g.S.Store.used g.S.Store.format g.S.Store.told setup history c.args.self.now reached out c.outbox-out.ensures in
+    plain_goes g.S.Store.holds g.S.Store.used g.S.Store.format g.S.Store.told g.S.Store.rose g.S.Store.was setup history c.args.self.now reached c.args.server me outcome.new.self c.reserve.new.self out outcome.new.out _ _ outcome.result
+    (record {
+      low = c.requires.server;
+      read = c.index_mut.ensures.value;
+      seat = outcome.ensures.seat;
+      told_same = outcome.ensures.told;
+      items = c.reserve.ensures.items;
+      place = omega (arith, c.in_ok-reserve.ensures.ok);
+      fresh = c.outbox-out.ensures;
+      tells = outcome.ensures.step;
+      down = outcome.ensures.down;
+    }) (Resend c.args.server) (plain (replay setup history) (λ s. on_resend s s.role))
+    (resends setup history reached.legal reached.short c.args.server c.requires.server out room)
+    c.end.new.self c.end.ensures.halted c.end.result c.end.ensures.same (c.end.ensures.step setup (replay setup history) (plain (replay setup history) (λ s. on_resend s s.role)))

@@ -1,0 +1,20 @@
+//! Three servers, and every packet that they ever sent. Each call carries out one event of the group, as the definitions of
+//! pf_protocol have it.
+//!
+//! What a call says of the cluster holds for every setup and history that led to it: the cluster stands for the group of that history
+//! before the event, and for the group with the event after it.
+#![tactic(auto)]
+
+mod cluster;
+mod ends;
+mod jobs;
+mod keeping;
+mod kept;
+mod lives;
+mod packets;
+mod readers;
+mod requests;
+mod upkeep;
+
+pub use cluster::Cluster;
+pub use kept::{Acked, Parcel, Reading};
