@@ -12,6 +12,7 @@ use Rattle.pf_protocol.specs.Leading.{op_at}
 use Rattle.pf_protocol.specs.Saving.{claimable, claimed, is_claimable}
 use Rattle.pf_state.specs.declared.running.Running.{Running}
 use Rattle.pf_state.specs.Standing.{server_of, IsCached}
+use Rattle.pf_applying.specs.declared.claims.Claimed.{Claimed}
 use Rattle.pf_applying.specs.declared.claims.Plan.{Plan}
 use Rattle.pf_applying.specs.Jobs.{HasRoomFor}
 use Rattle.pf_state.specs.Turns.{IsAfter}
@@ -40,10 +41,12 @@ pub record IsLeast (me : Running) (e : Entry) : Type 0 where
 abbrev pub job_at : Durable → Running → ℕ → Job
 job_at d me slot = record { server = me.number; life = me.life; slot = slot; op = op_at d.log slot }
 
+-- its op stands beside it once more
 pub record IsPlan (d : Durable) (me : Running) (plan : Plan) : Type 0 where
-  pub least : claimable 4096 (server_of d me) ≡ Some plan.job.slot
-  pub job_is : plan.job ≡ job_at d me plan.job.slot
-  pub kept : plan.kept ≡ op_at d.log plan.job.slot
+  pub least : claimable 4096 (server_of d me) ≡ Some plan.claimed.job.slot
+  pub job_is : plan.claimed.job ≡ job_at d me plan.claimed.job.slot
+  pub twice : plan.claimed.copy ≡ plan.claimed.job.op
+  pub kept : plan.kept ≡ op_at d.log plan.claimed.job.slot
   pub room : HasRoomFor plan.kept plan.room (length me.sectors)
 
 abbrev pub Plans : Durable → Running → Option Plan → Type 0
@@ -54,12 +57,13 @@ abbrev pub with_room : Map (List Sector) → ℕ → Option (List Sector) → Ma
 with_room rooms slot None = rooms
 with_room rooms slot (Some room) = FinMap.insert rooms slot room
 
--- the job of the least slot that can be claimed, which is in hand then
-pub record IsClaim (d : Durable) (me new : Running) (job : Job) : Type 0 where
-  pub least : claimable 4096 (server_of d me) ≡ Some job.slot
-  pub job_is : job ≡ job_at d me job.slot
-  pub after : IsAfter d me new (claimed (server_of d me) job.slot)
+-- the job of the least slot that can be claimed, which is in hand then, and its op once more
+pub record IsClaim (d : Durable) (me new : Running) (claim : Claimed) : Type 0 where
+  pub least : claimable 4096 (server_of d me) ≡ Some claim.job.slot
+  pub job_is : claim.job ≡ job_at d me claim.job.slot
+  pub twice : claim.copy ≡ claim.job.op
+  pub after : IsAfter d me new (claimed (server_of d me) claim.job.slot)
 
-abbrev pub Claims : Durable → Running → Running → Option Job → Type 0
+abbrev pub Claims : Durable → Running → Running → Option Claimed → Type 0
 Claims d me new None = (claimable 4096 (server_of d me) ≡ None) × (new ≡ me)
-Claims d me new (Some job) = IsClaim d me new job
+Claims d me new (Some claim) = IsClaim d me new claim

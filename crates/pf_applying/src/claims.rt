@@ -66,10 +66,17 @@ fn room_for(alloc: Global, op: &Op, sectors: &SectorTable) -> Result<Option<Sect
     }
 }
 
+/// A claimed job, and its op once more, for whoever keeps a history of the claims.
+#[derive(Drop)]
+pub struct Claimed {
+    pub job: Job,
+    pub copy: Op,
+}
+
 /// A job, and what stays with the server while it is in hand.
 #[derive(Drop)]
 pub struct Plan {
-    job: Job,
+    claimed: Claimed,
     kept: Op,
     /// The memory of its snapshot, of a mark.
     room: Option<Sectors>,
@@ -84,6 +91,7 @@ fn prepare(alloc: Global, me: &Running) -> Result<Option<Plan>, NoMemory>
         return Ok(None);
     };
     let op = entry.op.try_clone()?;
+    let copy = entry.op.try_clone()?;
     let kept = entry.op.try_clone()?;
     let room = room_for(alloc, &kept, &me.sectors)?;
     let job = Job {
@@ -92,7 +100,12 @@ fn prepare(alloc: Global, me: &Running) -> Result<Option<Plan>, NoMemory>
         slot: entry.slot,
         op,
     };
-    Ok(Some(Plan { job, kept, room }))
+    let claimed = Claimed { job, copy };
+    Ok(Some(Plan {
+        claimed,
+        kept,
+        room,
+    }))
 }
 
 fn keep_room(rooms: &mut Ring<Sectors>, slot: Slot, room: Option<Sectors>)
@@ -105,25 +118,31 @@ fn keep_room(rooms: &mut Ring<Sectors>, slot: Slot, room: Option<Sectors>)
 }
 
 /// Takes the planned job in hand. It takes no memory.
-fn take_in_hand(me: &mut Running, plan: Plan) -> Job
+fn take_in_hand(me: &mut Running, plan: Plan) -> Claimed
     requires bounded { IsBounded me.old }
     requires planned { (d : Durable) × IsCached d me.old × IsPlan d me.old plan }
     requires room { me.old.jobs + 1 ≤ me.old.applied.spare }
-    ensures job { result ≡ plan.job }
-    ensures after { (d : Durable) → IsCached d me.old → IsPlan d me.old plan → IsAfter d me.old me.new (claimed (server_of d me.old) plan.job.slot) }
+    ensures claimed { result ≡ plan.claimed }
+    ensures after { (d : Durable) → IsCached d me.old → IsPlan d me.old plan → IsAfter d me.old me.new (claimed (server_of d me.old) plan.claimed.job.slot) }
 {
-    let Plan { job, kept, room } = plan;
-    me.in_hand.put(job.slot, kept);
-    keep_room(&mut me.rooms, job.slot, room);
+    let Plan {
+        claimed,
+        kept,
+        room,
+    } = plan;
+    let slot = claimed.job.slot;
+    me.in_hand.put(slot, kept);
+    keep_room(&mut me.rooms, slot, room);
     me.jobs += 1;
-    job
+    claimed
 }
 
 /// Claims the least slot that is committed, not applied, not in hand, and can pass every slot below it that is not applied.
-/// `None` exactly where there is none. Its job is in hand until it comes back, and what that will need of memory is taken.
+/// `None` exactly where there is none. Its job is in hand until it comes back, and what that will need of memory is taken. The job's op
+/// is handed out once more beside it.
 ///
 /// `NoMemory` (1) where there is no memory for it; no job is then taken in hand.
-pub fn claim(alloc: Global, me: &mut Running) -> Result<Option<Job>, NoMemory>
+pub fn claim(alloc: Global, me: &mut Running) -> Result<Option<Claimed>, NoMemory>
     requires cached { (d : Durable) × IsCached d me.old }
     requires bounded { IsBounded me.old }
     ensures ok { IfOk result (λ claimed. (d : Durable) → IsCached d me.old → Claims d me.old me.new claimed) }
@@ -133,6 +152,6 @@ pub fn claim(alloc: Global, me: &mut Running) -> Result<Option<Job>, NoMemory>
         return Ok(None);
     };
     me.applied.reserve(me.jobs + 1)?;
-    let job = take_in_hand(me, plan);
-    Ok(Some(job))
+    let claimed = take_in_hand(me, plan);
+    Ok(Some(claimed))
 }

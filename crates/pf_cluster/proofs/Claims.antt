@@ -4,7 +4,7 @@ use Rattle.std.specs.Vec.{with_item}
 use Rattle.pf_base.specs.declared.errors.NoMemory.{NoMemory}
 use Rattle.pf_entry.specs.Lists.{Every}
 use Rattle.pf_entry.specs.Records.{Durable}
-use Rattle.pf_entry.specs.declared.ops.Job.{Job}
+use Rattle.pf_applying.specs.declared.claims.Claimed.{Claimed}
 use Rattle.pf_protocol.specs.declared.answers.Answer.{Answer}
 use Rattle.pf_protocol.specs.declared.answers.Answer.TheVariants.{Job as JobIs, Refused}
 use Rattle.pf_protocol.specs.declared.answers.Refusal.TheVariants.{Halted, NoneFree}
@@ -27,9 +27,6 @@ use Rattle.pf_cluster.proofs.Beginning.{its_condition}
 use Rattle.pf_cluster.proofs.Laws.{its_number}
 use Rattle.pf_cluster.proofs.Taking.{stopped_idles, unformatted_idles}
 
-same_option : (e : Option Job) → ◌≡◌ {A = Result (Option Job) NoMemory} (Ok e) (Ok None) → e ≡ None
-same_option e is = cc
-
 module _ {S : Type 0} (holds : S → Durable → Durable → Type 0) (used format : S → ℕ) (told : S → Bool) (setup : Setup) (history : History) (old : Cluster S) (reached : IsReached holds used format told setup history old) where
   abbrev g : Group
   g = replay setup history
@@ -41,7 +38,7 @@ module _ {S : Type 0} (holds : S → Durable → Durable → Type 0) (used forma
     member : (was c : Condition) → IsMember holds used format told setup i me was → Meets holds used format me.seat next.store next.state c → IsMember holds used format told setup i next c
     member was c m meets = record { seat = seat ∙ m.seat; meets = subst (λ s. Meets holds used format s next.store next.state c) (sym seat) meets; tells = told_same ∙ m.tells }
 
-    pub claims_at : (result : Result (Option Job) NoMemory) → ((s : ServerIs) → Meets holds used format me.seat me.store me.state (RunningIs s) → Claims holds used format me.seat next.store next.state s result) → (runs me.state ≡ false → (result ≡ Ok None) × (next ≡ me)) → ClaimsAt holds used format told setup g i new result
+    pub claims_at : (result : Result (Option Claimed) NoMemory) → ((s : ServerIs) → Meets holds used format me.seat me.store me.state (RunningIs s) → Claims holds used format me.seat next.store next.state s result) → (runs me.state ≡ false → (result ≡ Ok None) × (next ≡ me)) → ClaimsAt holds used format told setup g i new result
     claims_at result step down =
         let m = its_condition holds used format told setup history old reached i me here in
         by m.0 m.1 m.2
@@ -50,12 +47,13 @@ module _ {S : Type 0} (holds : S → Durable → Durable → Type 0) (used forma
         idle c there m none d = subst (ClaimsAt holds used format told setup g i new) (sym d.0)
             (ap (claim_of setup.window) there ∙ none, alone_still holds used format told setup g old reached.shows i next c there (subst (λ (x : Server S). IsMember holds used format told setup i x c) (sym d.1) m))
 
-        running : (s : ServerIs) → slice_get g.servers i ≡ Some (RunningIs s) → IsMember holds used format told setup i me (RunningIs s) → (r : Result (Option Job) NoMemory) → Claims holds used format me.seat next.store next.state s r → ClaimsAt holds used format told setup g i new r
-        running s there m (Ok (Some job)) c = record {
+        running : (s : ServerIs) → slice_get g.servers i ≡ Some (RunningIs s) → IsMember holds used format told setup i me (RunningIs s) → (r : Result (Option Claimed) NoMemory) → Claims holds used format me.seat next.store next.state s r → ClaimsAt holds used format told setup g i new r
+        running s there m (Ok (Some claim)) c = let job = claim.job in record {
           s = s;
           runs = there;
           least = ap (λ w. claimable w s) reached.legal.is_setup.window ∙ c.least;
           job_is = c.job_is ∙ ap (λ (n : ℕ). record { server = n; life = s.life; slot = job.slot; op = op_at s.durable.log job.slot }) (its_number setup history i s there);
+          twice = c.twice;
           shows = alone holds used format told setup g old reached.shows i next (RunningIs s) (RunningIs (claimed s job.slot)) there (member (RunningIs s) (RunningIs (claimed s job.slot)) m c.meets);
         }
         running s there m (Ok None) c = (ap (claim_of setup.window) there ∙ ap (λ w. claimable w s) reached.legal.is_setup.window ∙ c.0, alone_still holds used format told setup g old reached.shows i next (RunningIs s) there (member (RunningIs s) (RunningIs s) m c.1.meets))
@@ -98,16 +96,20 @@ found_group window g (j ∷ js) rest i s slot none runs_so least =
     ap (λ o. claim_or g j o (first_claim window g (js ++ i ∷ rest))) none.0 ∙ found_group window g js rest i s slot none.1 runs_so least
 
 module _ {S : Type 0} (holds : S → Durable → Durable → Type 0) (used format : S → ℕ) (told : S → Bool) (rose : S → S → Type 0) (setup : Setup) (g : Group) (old later : Cluster S) where
-  -- some server has a job
-  pub claims_job : (before rest : List ℕ) (i : ℕ) → before ++ i ∷ rest ≡ 0 ∷ 1 ∷ 2 ∷ [] → Every (HasNone setup.window g) before → (job : Job) → IsClaimedAt holds used format told setup g i later job → HasGone holds used format told rose setup g Claim old later (JobIs job)
+  -- some server has a job, which both answers tell
+  pub claims_job : (before rest : List ℕ) (i : ℕ) → before ++ i ∷ rest ≡ 0 ∷ 1 ∷ 2 ∷ [] → Every (HasNone setup.window g) before → (claim : Claimed) → IsClaimedAt holds used format told setup g i later claim
+      → (answers : Answer × Answer) → answers.0 ≡ JobIs claim.job → answers.1 ≡ JobIs (record claim.job { op = claim.copy }) → (answers.1 ≡ answers.0) × HasGone holds used format told rose setup g Claim old later answers.0
   unfolding answer_to happens
-  claims_job before rest i all none job c = record {
-    answered = inl (ap JobIs c.job_is ∙ sym (ap (claim_answer setup.window g) (sym all) ∙ found_answer setup.window g before rest i c.s job.slot none c.runs c.least));
-    shows = subst (Shows holds used format told setup later) (sym (ap (first_claim setup.window g) (sym all) ∙ found_group setup.window g before rest i c.s job.slot none c.runs c.least)) c.shows;
-    cause = λ halted. absurd (apart halted);
-  }
+  claims_job before rest i all none claim c answers first second = let job = claim.job in (
+    second ∙ ap (λ op. JobIs (record claim.job { op = op })) c.twice ∙ sym first,
+    subst (HasGone holds used format told rose setup g Claim old later) (sym first) (record {
+      answered = inl (ap JobIs c.job_is ∙ sym (ap (claim_answer setup.window g) (sym all) ∙ found_answer setup.window g before rest i c.s job.slot none c.runs c.least));
+      shows = subst (Shows holds used format told setup later) (sym (ap (first_claim setup.window g) (sym all) ∙ found_group setup.window g before rest i c.s job.slot none c.runs c.least)) c.shows;
+      cause = λ halted. absurd (apart halted);
+    }),
+  )
     where
-      apart : JobIs job ≡ Refused Halted → ⊥
+      apart : JobIs claim.job ≡ Refused Halted → ⊥
       apart is = cc
 
   -- no server has one

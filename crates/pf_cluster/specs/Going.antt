@@ -9,7 +9,7 @@ use Rattle.pf_protocol.specs.declared.answers.Answer.{Answer}
 use Rattle.pf_protocol.specs.declared.answers.Answer.TheVariants.{Refused}
 use Rattle.pf_protocol.specs.declared.answers.Refusal.TheVariants.{Halted}
 use Rattle.pf_protocol.specs.declared.events.Event.{Event}
-use Rattle.pf_protocol.specs.declared.events.Event.TheVariants.{Restart}
+use Rattle.pf_protocol.specs.declared.events.Event.TheVariants.{Claim, Restart}
 use Rattle.pf_protocol.specs.Servers.{Setup}
 use Rattle.pf_protocol.specs.Groups.{Group, ending, happens}
 use Rattle.pf_protocol.specs.Histories.{History, replay}
@@ -50,6 +50,11 @@ module _ {S : Type 0} (holds : S → Durable → Durable → Type 0) (used forma
     abbrev pub Goes : Setup → Group → Event → (old new : Cluster S) → Result Answer NoMemory → Type 0
     Goes setup g event old new (Ok answer) = HasGone setup g event old new answer
     Goes setup g event old new (Err e) = Shows holds used format told setup new g
+
+    -- a claim is answered twice, for the host and for whoever keeps the history
+    abbrev pub GoesTwice : Setup → Group → (old new : Cluster S) → Result (Answer × Answer) NoMemory → Type 0
+    GoesTwice setup g old new (Ok (answer, again)) = HasGone setup g Claim old new answer
+    GoesTwice setup g old new (Err e) = Shows holds used format told setup new g
 
     -- a restart tells whether it found the record of a step that was cut off
     abbrev pub GoesBack : Setup → Group → (i : ℕ) → (old new : Cluster S) → Result (Answer × Bool) NoMemory → Type 0

@@ -1,23 +1,39 @@
 //! Jobs.
-ghost use Rattle.std.specs.Prelude.{◌≡◌, ◌<◌};
+ghost use Rattle.std.specs.Prelude.{◌≡◌, ◌<◌, IfOk};
 ghost use Rattle.pf_protocol.specs.Servers.{Setup};
 ghost use Rattle.pf_protocol.specs.Histories.{History, replay};
-ghost use Rattle.pf_protocol.specs.declared.events.Event.TheVariants.{Claim, Finish, GiveBack};
+ghost use Rattle.pf_protocol.specs.declared.events.Event.TheVariants.{Finish, GiveBack};
 ghost use Rattle.pf_cluster.specs.Claiming.{ClaimsAt};
-ghost use Rattle.pf_cluster.specs.Going.{Goes, HasGone, HasHistory, IsBroughtBack, IsReached};
+ghost use Rattle.pf_cluster.specs.Going.{GoesTwice, HasGone, HasHistory, IsBroughtBack, IsReached};
 
 use crate::Cluster;
 use crate::ends::is_refused;
 use crate::keeping::keep_answers;
+use pf_applying::Claimed;
 use pf_base::{Filled, NoMemory, Server as Number, Slot};
 use pf_entry::Job;
 use pf_protocol::{Answer, Refusal};
 use pf_store::Store;
 use std::alloc::Global;
 
+/// The answer with this job, once for the host and once for whoever keeps a history.
+fn both_answers(claim: Claimed) -> (Answer, Answer)
+    ensures first { result.0 ≡ Answer.Job claim.job }
+    ensures second { result.1 ≡ Answer.Job (record claim.job { op = claim.copy }) }
+{
+    let Claimed { job, copy } = claim;
+    let again = Job {
+        server: job.server,
+        life: job.life,
+        slot: job.slot,
+        op: copy,
+    };
+    (Answer::Job(job), Answer::Job(again))
+}
+
 impl<S: Store> Cluster<S> {
     /// The job of one server; `None` exactly where it has none.
-    fn claim_at(&mut self, alloc: Global, server: Number) -> Result<Option<Job>, NoMemory>
+    fn claim_at(&mut self, alloc: Global, server: Number) -> Result<Option<Claimed>, NoMemory>
         requires server { server < 3 }
         requires reached { HasHistory S.holds S.used S.format S.told self.old }
         ensures { (setup : Setup) (history : History) → IsReached S.holds S.used S.format S.told setup history self.old → ClaimsAt S.holds S.used S.format S.told setup (replay setup history) server self.new result }
@@ -25,23 +41,26 @@ impl<S: Store> Cluster<S> {
         self.servers[server as usize].claim(alloc)
     }
 
-    /// A job of the least server that has one is claimed: its least slot that is committed, not applied, not in hand and free.
+    /// A job of the least server that has one is claimed: its least slot that is committed, not applied, not in hand and free. The answer
+    /// comes twice, for the host and for whoever keeps the history.
     ///
     /// `NoneFree` (60) where no server has one, and `NoMemory` (1), leave the group as it was.
-    pub fn claim(&mut self, alloc: Global) -> Result<Answer, NoMemory>
+    pub fn claim(&mut self, alloc: Global) -> Result<(Answer, Answer), NoMemory>
         requires { HasHistory S.holds S.used S.format S.told self.old }
-        ensures { (setup : Setup) (history : History) → IsReached S.holds S.used S.format S.told setup history self.old → Goes S.holds S.used S.format S.told S.rose setup (replay setup history) Claim self.old self.new result }
+        ensures twice { IfOk result (λ answers. answers.1 ≡ answers.0) }
+        ensures step { (setup : Setup) (history : History) → IsReached S.holds S.used S.format S.told setup history self.old → GoesTwice S.holds S.used S.format S.told S.rose setup (replay setup history) self.old self.new result }
     {
-        if let Some(job) = self.claim_at(alloc, 0)? {
-            return Ok(Answer::Job(job));
+        if let Some(claim) = self.claim_at(alloc, 0)? {
+            return Ok(both_answers(claim));
         }
-        if let Some(job) = self.claim_at(alloc, 1)? {
-            return Ok(Answer::Job(job));
+        if let Some(claim) = self.claim_at(alloc, 1)? {
+            return Ok(both_answers(claim));
         }
-        if let Some(job) = self.claim_at(alloc, 2)? {
-            return Ok(Answer::Job(job));
+        if let Some(claim) = self.claim_at(alloc, 2)? {
+            return Ok(both_answers(claim));
         }
-        Ok(Answer::Refused(Refusal::NoneFree))
+        let none = Refusal::NoneFree;
+        Ok((Answer::Refused(none), Answer::Refused(none)))
     }
 
     /// An open claim's job comes back done, and its op is applied. It takes no memory.

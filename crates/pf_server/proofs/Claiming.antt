@@ -6,6 +6,7 @@ use Rattle.pf_entry.specs.declared.ops.Job.{Job}
 use Rattle.pf_protocol.specs.Leading.{op_at}
 use Rattle.pf_protocol.specs.Saving.{claimable, claimed}
 use Rattle.pf_protocol.specs.Servers.{Server}
+use Rattle.pf_applying.specs.declared.claims.Claimed.{Claimed}
 use Rattle.pf_applying.specs.Claims.{Claims as ClaimsHere}
 use Rattle.pf_state.specs.declared.running.Running.{Running}
 use Rattle.pf_state.specs.Standing.{server_of, IsCached}
@@ -32,18 +33,20 @@ module _ {S : Type 0} (holds : S → Durable → Durable → Type 0) (used forma
   unfolding server_of
   its_job job is = is ∙ ap (λ z. job_of z job.slot) runs.is
 
-  pub claims_by : (r : Result (Option Job) NoMemory) → IfOk r (λ c. (d : Durable) → IsCached d me → ClaimsHere d me new c) → OnErr r ((d : Durable) → IsCached d me → IsAfter d me new (server_of d me))
+  pub claims_by : (r : Result (Option Claimed) NoMemory) → IfOk r (λ c. (d : Durable) → IsCached d me → ClaimsHere d me new c) → OnErr r ((d : Durable) → IsCached d me → IsAfter d me new (server_of d me))
       → Claims holds used format seat store (Runs (quieted new)) s r
   claims_by (Ok None) ok err =
       let none = ok s.durable runs.stands.cached in
       (ap (claimable 4096) (sym runs.is) ∙ none.0, then_quiet s (subst (λ m. IsRunning holds used format seat store m s) (sym none.1) runs))
-  claims_by (Ok (Some job)) ok err =
-      let claim = ok s.durable runs.stands.cached in
+  claims_by (Ok (Some claim)) ok err =
+      let job = claim.job in
+      let its = ok s.durable runs.stands.cached in
       let z = claimed s job.slot in
-      let quiet = then_quiet z (then_runs z (subst (λ x. IsAfter s.durable me new (claimed x job.slot)) runs.is claim.after)) in
+      let quiet = then_quiet z (then_runs z (subst (λ x. IsAfter s.durable me new (claimed x job.slot)) runs.is its.after)) in
       record {
-        least = ap (claimable 4096) (sym runs.is) ∙ claim.least;
-        job_is = its_job job claim.job_is;
+        least = ap (claimable 4096) (sym runs.is) ∙ its.least;
+        job_is = its_job job its.job_is;
+        twice = its.twice;
         meets = quiet.meets;
         none = quiet.none;
       }

@@ -12,9 +12,8 @@ ghost use Rattle.pf_server.specs.declared.state.Doubt.{Doubt as DoubtIs};
 
 use crate::ends::{answer_reads, forget, forget_answers};
 use crate::{Server, State};
-use pf_applying::{claim, finish, give_back};
+use pf_applying::{Claimed, claim, finish, give_back};
 use pf_base::{Data, Filled, NoMemory, Slot};
-use pf_entry::Job;
 use pf_protocol::{Answer, Refusal};
 use pf_state::Running;
 use pf_store::Store;
@@ -50,10 +49,10 @@ fn end_undone(me: &mut Running, life: u64, slot: Slot)
 
 impl<S: Store> Server<S> {
     /// Claims the least slot that is committed, not applied, not in hand and free. `None` exactly where there is none, or where the
-    /// server does not run. What the end of the job needs of memory is taken here.
+    /// server does not run. What the end of the job needs of memory is taken here. The job's op is handed out once more beside it.
     ///
     /// `NoMemory` (1) leaves the server as it was.
-    pub fn claim(&mut self, alloc: Global) -> Result<Option<Job>, NoMemory>
+    pub fn claim(&mut self, alloc: Global) -> Result<Option<Claimed>, NoMemory>
         requires { IsInOrder S.holds S.used S.format self.old.seat self.old.store self.old.state }
         ensures step { (s : ServerIs) → Meets S.holds S.used S.format self.old.seat self.old.store self.old.state (RunningIs s) → Claims S.holds S.used S.format self.old.seat self.new.store self.new.state s result }
         ensures down { runs self.old.state ≡ false → (result ≡ Ok None) × (self.new ≡ self.old) }

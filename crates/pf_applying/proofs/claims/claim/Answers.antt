@@ -14,11 +14,11 @@ pub returns-in_err-reserve-clause-err : goal.returns-in_err-reserve-clause-err
 returns-in_err-reserve-clause-err c =
     on_err c.from_residual-in_err-reserve.result _ (λ d cached. roomy_after c.args.me.now c.reserve.new.self c.reserve.ensures.same d c.reserve.ensures.kept cached)
 
-pub take_in_hand-job-requires-clause-bounded : goal.take_in_hand-job-requires-clause-bounded
-take_in_hand-job-requires-clause-bounded c = roomy_bounded c.args.me.now c.reserve.new.self c.reserve.ensures.same c.requires.bounded
+pub take_in_hand-claimed-requires-clause-bounded : goal.take_in_hand-claimed-requires-clause-bounded
+take_in_hand-claimed-requires-clause-bounded c = roomy_bounded c.args.me.now c.reserve.new.self c.reserve.ensures.same c.requires.bounded
 
-pub take_in_hand-job-requires-clause-planned : goal.take_in_hand-job-requires-clause-planned
-take_in_hand-job-requires-clause-planned c =
+pub take_in_hand-claimed-requires-clause-planned : goal.take_in_hand-claimed-requires-clause-planned
+take_in_hand-claimed-requires-clause-planned c =
     let d = c.requires.cached.0 in
     let me = c.args.me.now in (
       d,
@@ -32,9 +32,10 @@ returns-clause-ok c = λ d cached.
     let room = c.reserve.new.self in
     let same = c.reserve.ensures.same in
     let plan = subst (Plans d me) c.in-Some.is (c.in_ok-plan.ensures d cached) in
-    subst (λ job. IsClaim d me c.take_in_hand-job.new.me job) (sym c.take_in_hand-job.ensures.job) (record {
+    subst (IsClaim d me c.take_in_hand-claimed.new.me) (sym c.take_in_hand-claimed.ensures.claimed) (record {
       least = plan.least;
       job_is = plan.job_is;
-      after = roomy_claim me room same d c.take_in_hand-job.new.me c.in-Some.plan.job.slot
-          (c.take_in_hand-job.ensures.after d (roomy_cached me room same d c.reserve.ensures.kept cached) (roomy_plan me room same d c.in-Some.plan plan));
+      twice = plan.twice;
+      after = roomy_claim me room same d c.take_in_hand-claimed.new.me c.in-Some.plan.claimed.job.slot
+          (c.take_in_hand-claimed.ensures.after d (roomy_cached me room same d c.reserve.ensures.kept cached) (roomy_plan me room same d c.in-Some.plan plan));
     })
