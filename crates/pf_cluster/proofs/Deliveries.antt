@@ -30,7 +30,7 @@ use Rattle.pf_restart.specs.declared.seat.Seat.{Seat}
 use Rattle.pf_cluster.specs.declared.cluster.Cluster.{Cluster}
 use Rattle.pf_cluster.specs.declared.kept.Parcel.{Parcel}
 use Rattle.pf_cluster.specs.Deliveries.{is_delivery, marks}
-use Rattle.pf_cluster.specs.Going.{HasGone, IsReached}
+use Rattle.pf_cluster.specs.Going.{HasGone, IsReached, receiver}
 use Rattle.pf_cluster.specs.Showing.{Shows, parcel_of, seat_of}
 use Rattle.pf_cluster.proofs.Alone.{marked, packet_there}
 use Rattle.pf_cluster.proofs.Beginning.{same_packets}
@@ -121,6 +121,7 @@ deliver_event setup g k p at here = record {
   halts = λ is. ap (delivery_halts setup g) at ∙ ap (λ b. not b && halts_at (slice_get g.servers p.packet.to) (deliver_turn setup g p)) here ∙ is;
   goes = λ how. ap (delivered setup how g k) at ∙ ap (λ b. if b then g else at_server how (marked_in how g k p) p.packet.to (λ s. on_packet setup s p.packet)) here;
   servers = λ how. marked_servers how g k p;
+  acts = ap receiver at;
 }
 
 pub delivers : (setup : Setup) (history : History) → IsLegal setup history → length history < 2 ^ 62 → (k : ℕ) (p : Sent) → slice_get (replay setup history).packets k ≡ Some p → p.lost ≡ false → (packet : Packet) → packet ≡ p.packet → (out : Outgoing) → ((o : Outcome) → room_refusal out o ≡ group_room_refusal (replay setup history) o) → (seat : Seat) → seat ≡ seat_of setup p.packet.to
@@ -240,7 +241,7 @@ module _ {S : Type 0} (owns : S → Durable → Durable → Type 0) (used format
 
     pub loses_none : length old.packets.items ≤ k → HasGone owns used format told rose setup (replay setup history) (Lose k) old old (Refused NoPacket)
     unfolding answer_to happens
-    loses_none beyond = record { answered = inl (sym (ap loss_answer (no_packet beyond))); shows = reached.shows; cause = λ halted. absurd (apart halted) }
+    loses_none beyond = record { answered = inl (sym (ap loss_answer (no_packet beyond))); shows = reached.shows; cause = λ halted. absurd (apart halted); others = λ i own. refl }
       where
         apart : Refused NoPacket ≡ Refused Halted → ⊥
         apart is = cc
@@ -251,6 +252,7 @@ module _ {S : Type 0} (owns : S → Durable → Durable → Type 0) (used format
       answered = inl (sym (ap (delivery_answer setup (replay setup history)) (no_packet beyond)));
       shows = subst (Shows owns used format told setup old) (sym (ap (delivered setup Untouched (replay setup history) k) (no_packet beyond))) reached.shows;
       cause = λ halted. absurd (apart halted);
+      others = λ i own. refl;
     }
       where
         apart : Refused NoPacket ≡ Refused Halted → ⊥
@@ -265,7 +267,7 @@ module _ {S : Type 0} (owns : S → Durable → Durable → Type 0) (used format
       unfolding answer_to happens
       loses_again is =
           let gone : sent_there.0.lost ≡ true = sym (ap (λ (x : Parcel). x.lost) sent_there.2) ∙ is in
-          record { answered = inl (sym (ap loss_answer sent_there.1 ∙ ap (λ b. if b then Refused LostPacket else Done) gone)); shows = reached.shows; cause = λ halted. absurd (apart halted) }
+          record { answered = inl (sym (ap loss_answer sent_there.1 ∙ ap (λ b. if b then Refused LostPacket else Done) gone)); shows = reached.shows; cause = λ halted. absurd (apart halted); others = λ i own. refl }
         where
           apart : Refused LostPacket ≡ Refused Halted → ⊥
           apart is = cc
@@ -279,6 +281,7 @@ module _ {S : Type 0} (owns : S → Durable → Durable → Type 0) (used format
             answered = inl (sym (ap (delivery_answer setup (replay setup history)) sent_there.1 ∙ ap (λ b. if b then Refused LostPacket else answer_at (slice_get (replay setup history).servers p.packet.to) (deliver_turn setup (replay setup history) p)) gone));
             shows = subst (Shows owns used format told setup old) (sym (ap (delivered setup Untouched (replay setup history) k) sent_there.1 ∙ ap (λ b. if b then replay setup history else at_server Untouched (marked_in Untouched (replay setup history) k p) p.packet.to (λ s. on_packet setup s p.packet)) gone)) reached.shows;
             cause = λ halted. absurd (apart halted);
+            others = λ i own. refl;
           }
         where
           apart : Refused LostPacket ≡ Refused Halted → ⊥
@@ -294,6 +297,7 @@ module _ {S : Type 0} (owns : S → Durable → Durable → Type 0) (used format
             shows = subst (Shows owns used format told setup (record old { packets = packets })) (sym (ap (lost (replay setup history) k) sent_there.1))
                 (marked owns used format told setup (replay setup history) old reached.shows k p (record p { lost = true }) (record parcel { lost = true }) packets sent_there.1 refl (ap (λ (x : Parcel). record x { lost = true }) sent_there.2) items places);
             cause = λ halted. absurd (apart halted);
+            others = λ i own. refl;
           }
         where
           apart : Done ≡ Refused Halted → ⊥

@@ -49,7 +49,7 @@ same_servers g Untouched = refl
 
 pub elect_event : (setup : Setup) (g : Group) (i : ℕ) → IsTurnEvent setup g (Elect i) i (elect_turn g) (λ how. counted_election how g)
 unfolding answer_to may_halt happens
-elect_event setup g i = record { answers = refl; halts = λ is. is; goes = λ how. refl; servers = same_servers g }
+elect_event setup g i = record { answers = refl; halts = λ is. is; goes = λ how. refl; servers = same_servers g; acts = refl }
 
 -- the group has had less than 64 elections
 few_judged : (g : Group) (s : ServerIs) → g.elections < 64 → elect_refusal g s ≡ group_room_refusal g (on_elect s)
@@ -164,6 +164,7 @@ module _ {S : Type 0} (holds : S → Durable → Durable → Type 0) (used forma
           answered = inl (sym (elect_answers m.0 m.1 ∙ down m.0 m.2.meets));
           shows = subst (Shows holds used format told setup old) (sym (elect_is (Refused Down) (Refused Down) refl ∙ missed (replay setup history) i on_elect (slice_get (replay setup history).servers i))) reached.shows;
           cause = λ halted. absurd (apart halted);
+          others = λ j own. refl;
         }
       where
         apart : Refused Down ≡ Refused Halted → ⊥
@@ -182,6 +183,7 @@ module _ {S : Type 0} (holds : S → Durable → Durable → Type 0) (used forma
           answered = inl (sym (elect_answers m.0 m.1 ∙ full m.0 m.2.meets));
           shows = subst (Shows holds used format told setup old) (sym (elect_is (Refused ElectionsFull) (Refused ElectionsFull) refl ∙ untouched (replay setup history) i on_elect (slice_get (replay setup history).servers i))) reached.shows;
           cause = λ halted. absurd (apart halted);
+          others = λ j own. refl;
         }
       where
         apart : Refused ElectionsFull ≡ Refused Halted → ⊥

@@ -33,10 +33,10 @@ module _ {S : Type 0} (holds : S → Durable → Durable → Type 0) (used forma
   has_stepped answer is stands = stepped holds used format told rose was setup g i turn cluster out answer (subst at_outcome is t) stands
 
   -- a halt has its cause
-  pub fault_of : (old next : Cluster S) → t.before ≡ old.servers.items → next.servers.items ≡ cluster.servers.items → outcome ≡ Ok (Refused Halted) → HasFault rose old next
+  pub fault_of : (old next : Cluster S) → t.before ≡ old.servers.items → next.servers.items ≡ cluster.servers.items → outcome ≡ Ok (Refused Halted) → HasFault rose i old next
   fault_of old next first same is = faults outcome is t first
     where
-      faults : (o : Result Answer NoMemory) → o ≡ Ok (Refused Halted) → (x : HasTurned holds used format told rose was setup g i turn cluster out o) → x.before ≡ old.servers.items → HasFault rose old next
+      faults : (o : Result Answer NoMemory) → o ≡ Ok (Refused Halted) → (x : HasTurned holds used format told rose was setup g i turn cluster out o) → x.before ≡ old.servers.items → HasFault rose i old next
       faults o so x begins =
           let moved = subst (λ r. (y : HasTurned holds used format told rose was setup g i turn cluster out r) × (y.before ≡ old.servers.items)) so (x, begins) in
           has_fault holds used format told rose was setup g i turn cluster out (Refused Halted) moved.0 old next moved.1 same refl

@@ -15,7 +15,7 @@ use Rattle.pf_protocol.specs.Answers.{Turn, MayHappen, IsAnswer, IsLegal, answer
 use Rattle.pf_state.specs.Outgoing.{Outgoing}
 use Rattle.pf_server.specs.declared.server.Server.{Server}
 use Rattle.pf_cluster.specs.declared.cluster.Cluster.{Cluster}
-use Rattle.pf_cluster.specs.Going.{IsReached}
+use Rattle.pf_cluster.specs.Going.{IsReached, acts_at}
 use Rattle.pf_cluster.specs.Showing.{AreMembers, HasTraffic}
 use Rattle.pf_cluster.specs.Turned.{HasTurned, IsTurnOf, IsTurned, Took, outbox_of, reads_with}
 use Rattle.pf_cluster.proofs.Beginning.{its_condition}
@@ -28,6 +28,7 @@ pub record IsTurnEvent (setup : Setup) (g : Group) (event : Event) (i : ℕ) (tu
   pub halts : halts_at (slice_get g.servers i) turn ≡ true → may_halt setup g event ≡ true
   pub goes : (how : Ending) → happens setup g event how ≡ at_server how (pre how) i turn.rule
   pub servers : (how : Ending) → (pre how).servers ≡ g.servers
+  pub acts : acts_at g event ≡ Some i
 
 acted_packets : (g : Group) (i : ℕ) (o : Outcome) → (acted g i o).packets ≡ g.packets ++ send o.packets
 unfolding acted

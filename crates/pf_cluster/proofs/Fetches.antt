@@ -32,7 +32,7 @@ use Rattle.pf_cluster.specs.declared.kept.Reading.TheVariants.{Waiting}
 use Rattle.pf_entry.specs.Lists.{Every}
 use Rattle.pf_protocol.specs.Asked.{AreBelow}
 use Rattle.pf_protocol.specs.Answers.{Turn}
-use Rattle.pf_cluster.specs.Going.{Goes, HasFault, IsReached}
+use Rattle.pf_cluster.specs.Going.{Goes, HasFault, IsReached, KeepsStores}
 use Rattle.pf_cluster.specs.Readings.{readings_after, readings_with}
 use Rattle.pf_cluster.specs.Showing.{AreReadings, HasTraffic, Shows, seat_of}
 use Rattle.pf_cluster.specs.Turned.{Ends, HasTurned, IsTurnOf, reads_with}
@@ -40,10 +40,11 @@ use Rattle.pf_cluster.proofs.Beginning.{its_condition}
 use Rattle.pf_cluster.proofs.Ended.{fault_of}
 use Rattle.pf_cluster.proofs.Events.{IsMid, IsTurnEvent, turn_answer, turn_canonical, turned_so}
 use Rattle.pf_cluster.proofs.Laws.{answered_below}
-use Rattle.pf_cluster.proofs.Plain.{DidTurn, here, mid_of}
+use Rattle.pf_cluster.proofs.Plain.{DidTurn, here, mid_of, spared}
 use Rattle.pf_cluster.proofs.Readings.{one_more_waits}
 use Rattle.pf_cluster.proofs.Rules.{leaves_all, packets_fit}
 use Rattle.pf_cluster.proofs.Simple.{never_halts}
+use Rattle.pf_cluster.proofs.Stores.{others_kept, stores_kept}
 
 fetch_disk : (s : ServerIs) (range : Span) (number : ℕ) (role : Role) → (on_fetch s range number role).server.durable ≡ s.durable
 unfolding on_fetch
@@ -78,7 +79,7 @@ may_go setup g range s none =
 
 pub fetch_event : (setup : Setup) (g : Group) (i : ℕ) (range : Span) → IsTurnEvent setup g (Fetch i range) i (fetch_turn setup g range) (λ how. g)
 unfolding answer_to may_halt happens
-fetch_event setup g i range = record { answers = refl; halts = never_halts (fetch_turn setup g range) (λ s. fetch_disk s range g.reads s.role) (slice_get g.servers i); goes = λ how. refl; servers = λ how. refl }
+fetch_event setup g i range = record { answers = refl; halts = never_halts (fetch_turn setup g range) (λ s. fetch_disk s range g.reads s.role) (slice_get g.servers i); goes = λ how. refl; servers = λ how. refl; acts = refl }
 
 pub fetch_known : (setup : Setup) (history : History) → IsLegal setup history → length history < 2 ^ 62 → (i : ℕ) (range : Span) → i < 3 → IsWritable range.first range.count → (s : ServerIs) → Runs (replay setup history) i s → IsTurnOf (replay setup history) (fetch_turn setup (replay setup history) range) s
 fetch_known setup history legal short i range low writable s at =
@@ -171,19 +172,20 @@ module _ {S : Type 0} (holds : S → Durable → Durable → Type 0) (used forma
     fetch_turned = turned_so holds used format told rose was setup history old reached i me next mid middle g refl turn outcome out out' (fetch_refusal (setup_at me.seat) out range number) (λ s. on_fetch s range number s.role) same_judged
         (λ s. ap (λ n. on_fetch s range n s.role) numbered) did.tells did.down did.fresh (fetch_known setup history reached.legal reached.short i range did.low writable) traffic did.place (λ c took. reads_are)
 
-    module _ (after : Cluster S) (same : outcome ≡ Ok (Refused Halted) → after ≡ mid) where
-      cause : outcome ≡ Ok (Refused Halted) → HasFault rose old after
+    module _ (after : Cluster S) (same : outcome ≡ Ok (Refused Halted) → after ≡ mid) (stores : KeepsStores mid after) where
+      cause : outcome ≡ Ok (Refused Halted) → HasFault rose i old after
       unfolding fetch_turned turned_so
       cause halted = fault_of holds used format told rose was setup g i turn mid out' outcome fetch_turned old after refl (ap (λ (x : Cluster S). x.servers.items) (same halted)) halted
 
       by_outcome : (o : Result Answer NoMemory) → outcome ≡ o → Ends holds used format told setup g i turn after o → Goes holds used format told rose setup g (Fetch i range) old after o
-      by_outcome (Err e) so shows = shows
+      by_outcome (Err e) so shows = record { shows = shows; others = λ j own. stores j ∙ stores_kept old mid i next refl me there (spared holds used format told rose was setup history old reached i me next acked out out' (fetch_refusal (setup_at me.seat) out range number) (λ s. on_fetch s range number s.role) outcome did e so) j }
       by_outcome (Ok answer) so ended =
           let event_is = fetch_event setup g i range in
           record {
             answered = turn_answer setup g (Fetch i range) i turn (λ how. g) event_is answer ended.answered;
             shows = subst (Shows holds used format told setup after) (sym (event_is.goes (ending answer))) ended.shows;
-            cause = λ halted. cause (so ∙ ap Ok halted);
+            cause = λ halted. (i, refl, cause (so ∙ ap Ok halted));
+            others = λ j apart. stores j ∙ others_kept old mid i next refl j apart;
           }
 
       pub fetch_goes : (result : Result Answer NoMemory) → result ≡ outcome → (HasTurned holds used format told rose was setup g i turn mid out' outcome → Ends holds used format told setup g i turn after outcome) → Goes holds used format told rose setup g (Fetch i range) old after result

@@ -16,6 +16,7 @@ pub mod Submits
 pub mod Simple
 pub mod Alone
 pub mod Stops
+pub mod Stores
 pub mod Elections
 pub mod Words
 pub mod Deliveries

@@ -1,5 +1,5 @@
 -- Events that are the turn of one server, and no more.
-use Rattle.std.proofs.Common.{◌≡◌, ℕ, ◌<◌, Bool, Option, Some, Result, Ok, Err, slice_get, get_or, vec_capacity, vec_len, refl, sym, ap, subst, ◌∙◌}
+use Rattle.std.proofs.Common.{◌≡◌, ℕ, ◌<◌, Bool, Option, Some, None, Result, Ok, Err, slice_get, get_or, vec_capacity, vec_len, refl, sym, ap, subst, ◌∙◌}
 use Rattle.std.specs.Global.{Vec}
 use Rattle.std.specs.Vec.{with_item}
 use Rattle.pf_base.specs.declared.errors.NoMemory.{NoMemory}
@@ -7,24 +7,28 @@ use Rattle.pf_entry.specs.Records.{Durable}
 use Rattle.pf_protocol.specs.declared.answers.Answer.{Answer}
 use Rattle.pf_protocol.specs.declared.answers.Answer.TheVariants.{Refused}
 use Rattle.pf_protocol.specs.declared.answers.Refusal.{Refusal}
-use Rattle.pf_protocol.specs.declared.answers.Refusal.TheVariants.{Halted}
+use Rattle.pf_protocol.specs.declared.answers.Refusal.TheVariants.{Down, Halted}
 use Rattle.pf_protocol.specs.declared.events.Event.{Event}
-use Rattle.pf_protocol.specs.Servers.{Setup, Server as ServerIs}
+use Rattle.pf_protocol.specs.Servers.{Setup, Server as ServerIs, Condition, Running as RunningIs, Stopped as StoppedIs, Unformatted as UnformattedIs}
 use Rattle.pf_protocol.specs.Outcomes.{Outcome}
 use Rattle.pf_protocol.specs.Groups.{Group, Ending, at_server, ending, reads_after}
 use Rattle.pf_protocol.specs.Histories.{History, Runs, replay}
 use Rattle.pf_protocol.specs.Answers.{Turn}
 use Rattle.pf_state.specs.Outgoing.{Outgoing}
 use Rattle.pf_server.specs.declared.server.Server.{Server}
+use Rattle.pf_server.specs.Conditions.{Meets}
+use Rattle.pf_server.specs.Turns.{Comes}
 use Rattle.pf_cluster.specs.declared.cluster.Cluster.{Cluster}
 use Rattle.pf_cluster.specs.declared.kept.Acked.{Acked}
-use Rattle.pf_cluster.specs.Going.{Goes, HasFault, IsReached}
+use Rattle.pf_cluster.specs.Going.{Goes, HasFault, IsReached, KeepsOthers, KeepsStores, acts_at}
 use Rattle.pf_cluster.specs.Showing.{HasTraffic, Shows}
 use Rattle.pf_cluster.specs.Turned.{Ends, HasTurned, IsTurnOf, outbox_of}
-use Rattle.pf_cluster.proofs.Beginning.{server_there}
+use Rattle.pf_cluster.proofs.Beginning.{its_condition, server_there}
 use Rattle.pf_cluster.proofs.Ended.{fault_of}
 use Rattle.pf_cluster.proofs.Events.{IsMid, IsTurnEvent, turn_answer, turned_so}
-use Rattle.pf_cluster.proofs.Taking.{IsDown, Tells, no_read}
+use Rattle.pf_cluster.proofs.Stores.{others_kept, stores_kept}
+use Rattle.pf_cluster.proofs.Taking.{IsDown, Tells, no_read, stopped_idles, unformatted_idles}
+use Rattle.pf_cluster.proofs.Turning.{no_ok}
 
 -- the event is this turn, of which the server has another form
 pub record IsTurnAs (setup : Setup) (history : History) (event : Event) (i : ℕ) (turn : Turn) (pre : Ending → Group) (judged : ServerIs → Option Refusal) (rule : ServerIs → Outcome) : Type 0 where
@@ -62,22 +66,39 @@ module _ {S : Type 0} (holds : S → Durable → Durable → Type 0) (used forma
       pub traffic : HasTraffic (mid_of old i next acked) (replay setup history)
       traffic = let t = reached.shows.traffic in record { packets = t.packets; places = t.places; room = t.room; acked = did.items ∙ t.acked; elections = t.elections; readings = t.readings }
 
+      -- without memory for the turn the server's disks are as they were
+      pub spared : (e : NoMemory) → outcome ≡ Err e → next.store ≡ me.store
+      spared e so = let m = its_condition holds used format told setup history old reached i me here in by m.0 m.2.meets
+        where
+          kept : (s : ServerIs) (j : Option Refusal) → Comes holds used format rose was me.seat me.store next.store next.state s out out' j (rule s) (Err e) → next.store ≡ me.store
+          kept s None x = x.store_same
+          kept s (Some refusal) x = x.store_same
+
+          by : (c : Condition) → Meets holds used format me.seat me.store me.state c → next.store ≡ me.store
+          by (RunningIs s) meets = kept s (judged s) (subst (λ (r : Result Answer NoMemory). Comes holds used format rose was me.seat me.store next.store next.state s out out' (judged s) (rule s) r) so (did.tells s meets))
+          by (StoppedIs life before after) meets = no_ok e (Refused Down) (sym so ∙ (did.down (stopped_idles holds used format me.seat me.store me.state life before after meets)).0)
+          by UnformattedIs meets = no_ok e (Refused Down) (sym so ∙ (did.down (unformatted_idles holds used format me.seat me.store me.state meets)).0)
+
       unfoldable pub plain_turned : (event : Event) (turn : Turn) (pre : Ending → Group) → IsTurnAs setup history event i turn pre judged rule → HasTurned holds used format told rose was setup (replay setup history) i turn (mid_of old i next acked) out' outcome
       plain_turned event turn pre is = turned_so holds used format told rose was setup history old reached i me next (mid_of old i next acked) middle (replay setup history) refl turn outcome out out' judged rule is.same_judged is.same_rule did.tells did.down did.fresh is.knows traffic did.place
           (λ c took. reached.shows.reads ∙ sym (no_read holds used format told rose was (replay setup history).reads turn me next out out' outcome is.plain c took))
 
-      module _ (event : Event) (turn : Turn) (pre : Ending → Group) (is : IsTurnAs setup history event i turn pre judged rule) (after final : Cluster S) (same : outcome ≡ Ok (Refused Halted) → final.servers.items ≡ (mid_of old i next acked).servers.items) where
-        cause : outcome ≡ Ok (Refused Halted) → HasFault rose old final
+      module _ (event : Event) (turn : Turn) (pre : Ending → Group) (is : IsTurnAs setup history event i turn pre judged rule) (after final : Cluster S) (same : outcome ≡ Ok (Refused Halted) → final.servers.items ≡ (mid_of old i next acked).servers.items) (stores : KeepsStores (mid_of old i next acked) final) where
+        cause : outcome ≡ Ok (Refused Halted) → (j : ℕ) × (acts_at (replay setup history) event ≡ Some j) × HasFault rose j old final
         unfolding plain_turned turned_so
-        cause halted = fault_of holds used format told rose was setup (replay setup history) i turn (mid_of old i next acked) out' outcome (plain_turned event turn pre is) old final refl (same halted) halted
+        cause halted = (i, is.event_is.acts, fault_of holds used format told rose was setup (replay setup history) i turn (mid_of old i next acked) out' outcome (plain_turned event turn pre is) old final refl (same halted) halted)
+
+        others : KeepsOthers (acts_at (replay setup history) event) old final
+        others = subst (λ own. KeepsOthers own old final) (sym is.event_is.acts) (λ j apart. stores j ∙ others_kept old (mid_of old i next acked) i next refl j apart)
 
         module _ (whole : (answer : Answer) → outcome ≡ Ok answer → Shows holds used format told setup after (at_server (ending answer) (replay setup history) i turn.rule) → Shows holds used format told setup final (at_server (ending answer) (pre (ending answer)) i turn.rule)) (none : (e : NoMemory) → outcome ≡ Err e → Shows holds used format told setup after (replay setup history) → Shows holds used format told setup final (replay setup history)) where
           by_outcome : (o : Result Answer NoMemory) → outcome ≡ o → Ends holds used format told setup (replay setup history) i turn after o → Goes holds used format told rose setup (replay setup history) event old final o
-          by_outcome (Err e) so shows = none e so shows
+          by_outcome (Err e) so shows = record { shows = none e so shows; others = λ j own. stores j ∙ stores_kept old (mid_of old i next acked) i next refl me here (spared e so) j }
           by_outcome (Ok answer) so ended = record {
             answered = turn_answer setup (replay setup history) event i turn pre is.event_is answer ended.answered;
             shows = subst (Shows holds used format told setup final) (sym (is.event_is.goes (ending answer))) (whole answer so ended.shows);
             cause = λ halted. cause (so ∙ ap Ok halted);
+            others = others;
           }
 
           -- what was made of the cluster after the turn's end is what the event makes of the group
@@ -85,6 +106,6 @@ module _ {S : Type 0} (holds : S → Durable → Durable → Type 0) (used forma
           event_goes result is_outcome ended = subst (λ r. Goes holds used format told rose setup (replay setup history) event old final r) (sym is_outcome) (by_outcome outcome refl (ended (plain_turned event turn pre is)))
 
       -- nothing more is made of it
-      pub plain_goes : (event : Event) (turn : Turn) → IsTurnAs setup history event i turn (λ how. replay setup history) judged rule → (after : Cluster S) → (outcome ≡ Ok (Refused Halted) → after ≡ mid_of old i next acked) → (result : Result Answer NoMemory) → result ≡ outcome
+      pub plain_goes : (event : Event) (turn : Turn) → IsTurnAs setup history event i turn (λ how. replay setup history) judged rule → (after : Cluster S) → (outcome ≡ Ok (Refused Halted) → after ≡ mid_of old i next acked) → KeepsStores (mid_of old i next acked) after → (result : Result Answer NoMemory) → result ≡ outcome
           → (HasTurned holds used format told rose was setup (replay setup history) i turn (mid_of old i next acked) out' outcome → Ends holds used format told setup (replay setup history) i turn after outcome) → Goes holds used format told rose setup (replay setup history) event old after result
-      plain_goes event turn is after same result is_outcome ended = event_goes event turn (λ how. replay setup history) is after after (λ halted. ap (λ (x : Cluster S). x.servers.items) (same halted)) (λ answer so shows. shows) (λ e so shows. shows) result is_outcome ended
+      plain_goes event turn is after same stores result is_outcome ended = event_goes event turn (λ how. replay setup history) is after after (λ halted. ap (λ (x : Cluster S). x.servers.items) (same halted)) stores (λ answer so shows. shows) (λ e so shows. shows) result is_outcome ended

@@ -38,7 +38,7 @@ use Rattle.pf_entry.proofs.Lists.{every_get}
 use Rattle.pf_protocol.specs.Answers.{Claimed, IsOpen, claims_of}
 use Rattle.pf_protocol.proofs.Claiming.{legal_open}
 use Rattle.pf_server.specs.Conditions.{BringsBack}
-use Rattle.pf_cluster.specs.Going.{HasGone, IsBroughtBack, IsReached}
+use Rattle.pf_cluster.specs.Going.{HasGone, IsBroughtBack, IsReached, KeepsStores}
 use Rattle.pf_cluster.specs.Showing.{HasTraffic, IsMember, Shows}
 use Rattle.pf_cluster.specs.Turned.{HasStepped, is_refused}
 use Rattle.pf_cluster.proofs.Acting.{read_there, shows_acted}
@@ -47,6 +47,7 @@ use Rattle.pf_cluster.proofs.Beginning.{its_condition}
 use Rattle.pf_cluster.proofs.Elections.{running_there}
 use Rattle.pf_cluster.proofs.Lists.{set_there}
 use Rattle.pf_cluster.proofs.Readings.{have_places}
+use Rattle.pf_cluster.proofs.Stores.{others_kept, stores_kept}
 use Rattle.pf_cluster.proofs.Taking.{stopped_idles, unformatted_idles}
 use Rattle.pf_cluster.specs.Keeping.{HavePlaces, with_answers}
 use Rattle.pf_cluster.specs.declared.kept.Reading.{Reading}
@@ -132,6 +133,11 @@ module _ {S : Type 0} (holds : S → Durable → Durable → Type 0) (used forma
       job_places = subst (λ (x : Server S). HavePlaces old.readings.items (answers_of x.state)) (sym lent_is)
           (subst (HavePlaces old.readings.items) (sym done.settles.answers) (have_places old.readings.items (rule done.s).server (subst (λ n. AreBelow n (rule done.s).server.reads) (sym reached.shows.reads) done.below)))
 
+      pub job_stores : next.store ≡ me.store → (after : Server S) (readings : Vec Reading) → after.store ≡ lent.store → KeepsStores old (record mid { servers = with_item mid.servers i after; readings = readings })
+      job_stores kept after readings same j =
+          stores_kept mid (record mid { servers = with_item mid.servers i after; readings = readings }) i after refl lent (set_there old.servers.items i next (slice_get_within old.servers.items i me here) ∙ ap Some (sym lent_is)) same j
+          ∙ stores_kept old mid i next refl me here kept j
+
       pub job_shows : (after : Server S) (readings : Vec Reading) → after.seat ≡ lent.seat → after.store ≡ lent.store
           → ((s : ServerIs) → Meets holds used format lent.seat lent.store lent.state (RunningIs s) → Meets holds used format after.seat after.store after.state (RunningIs s))
           → readings.items ≡ with_answers old.readings.items (answers_of lent.state) → Shows holds used format told setup (record mid { servers = with_item mid.servers i after; readings = readings }) (at_server Whole g i rule)
@@ -192,14 +198,14 @@ module _ {S : Type 0} (holds : S → Durable → Durable → Type 0) (used forma
       by (StoppedIs its before after) there m = absurd (true≢false (sym running ∙ stopped_idles holds used format me.seat me.store me.state its before after m.meets))
       by UnformattedIs there m = absurd (true≢false (sym running ∙ unformatted_idles holds used format me.seat me.store me.state m.meets))
 
-  pub back_gone : (after : Cluster S) → Shows holds used format told setup after (at_server Whole grp i (λ s. on_give_back s life slot)) → HasGone holds used format told rose setup grp (GiveBack i life slot) old after Done
+  pub back_gone : (after : Cluster S) → KeepsStores old after → Shows holds used format told setup after (at_server Whole grp i (λ s. on_give_back s life slot)) → HasGone holds used format told rose setup grp (GiveBack i life slot) old after Done
   unfolding answer_to happens
-  back_gone after shows = record { answered = inl refl; shows = shows; cause = λ halted. absurd (done_apart halted) }
+  back_gone after stores shows = record { answered = inl refl; shows = shows; cause = λ halted. absurd (done_apart halted); others = λ j own. stores j }
 
   pub back_idle : runs me.state ≡ false → HasGone holds used format told rose setup grp (GiveBack i life slot) old old Done
   back_idle idle =
       let m = its_condition holds used format told setup history old reached i me here in
-      back_gone old (subst (Shows holds used format told setup old) (sym (ap (λ c. step_of Whole grp i c (λ s. on_give_back s life slot)) m.1 ∙ by m.0 m.2.meets)) reached.shows)
+      back_gone old (λ j. refl) (subst (Shows holds used format told setup old) (sym (ap (λ c. step_of Whole grp i c (λ s. on_give_back s life slot)) m.1 ∙ by m.0 m.2.meets)) reached.shows)
     where
       by : (c : Condition) → Meets holds used format me.seat me.store me.state c → step_of Whole grp i (Some c) (λ s. on_give_back s life slot) ≡ grp
       by (RunningIs s) meets = absurd (true≢false (sym (running_there holds used format told me.seat me.store me.state s meets) ∙ idle))
@@ -280,13 +286,14 @@ module _ {S : Type 0} (holds : S → Durable → Durable → Type 0) (used forma
   unfolding happens
   finish_comes how is = ap (λ h. at_server h now i (λ s. on_finish s life slot)) is
 
-  pub finish_gone : (done : done_so) → (after : Cluster S) → Shows holds used format told setup after (at_server Whole now i (λ s. on_finish s life slot)) → HasGone holds used format told rose setup now (Finish i life slot) old after answer
-  finish_gone done after shows =
+  pub finish_gone : (done : done_so) → (after : Cluster S) → KeepsStores old after → Shows holds used format told setup after (at_server Whole now i (λ s. on_finish s life slot)) → HasGone holds used format told rose setup now (Finish i life slot) old after answer
+  finish_gone done after stores shows =
       let is : answer ≡ Done = done.settles.answered ∙ done.still.answer in
       record {
         answered = inl (done.settles.answered ∙ sym (finish_answers (RunningIs done.s) done.there));
         shows = subst (Shows holds used format told setup after) (sym (finish_comes Whole (ap ending is))) shows;
         cause = λ halted. absurd (done_apart (sym is ∙ halted));
+        others = λ j own. stores j;
       }
 
   -- it was refused
@@ -301,6 +308,7 @@ module _ {S : Type 0} (holds : S → Durable → Durable → Type 0) (used forma
         shows = subst (Shows holds used format told setup middle) (sym (finish_comes how (ap ending same ∙ ends) ∙ ap (λ x. step_of how now i x (λ s. on_finish s life slot)) there ∙ idle))
             (alone_still holds used format told setup now old reached.shows i next c there m);
         cause = λ halted. absurd (apart (sym same ∙ halted));
+        others = others_kept old middle i next refl;
       }
 
       by : (c : Condition) → slice_get now.servers i ≡ Some c → IsMember holds used format told setup i me c → HasGone holds used format told rose setup now (Finish i life slot) old middle answer

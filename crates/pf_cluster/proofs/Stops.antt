@@ -17,12 +17,13 @@ use Rattle.pf_server.specs.declared.server.Server.{Server}
 use Rattle.pf_server.specs.Conditions.{IsKnown, Meets, runs}
 use Rattle.pf_server.specs.Turns.{Begins, BeginsAgain}
 use Rattle.pf_cluster.specs.declared.cluster.Cluster.{Cluster}
-use Rattle.pf_cluster.specs.Going.{GoesBack, HasFault, HasGone, IsReached}
+use Rattle.pf_cluster.specs.Going.{GoesBack, HasFault, HasGone, IsReached, KeepsOthers}
 use Rattle.pf_cluster.specs.Showing.{IsMember, Shows}
 use Rattle.pf_cluster.proofs.Alone.{alone, alone_still}
 use Rattle.pf_cluster.proofs.Beginning.{its_condition}
 use Rattle.pf_cluster.proofs.Laws.{is_known}
 use Rattle.pf_cluster.proofs.Lists.{set_there}
+use Rattle.pf_cluster.proofs.Stores.{others_kept}
 use Rattle.pf_cluster.proofs.Taking.{stopped_idles, unformatted_idles}
 
 module _ {S : Type 0} (holds : S → Durable → Durable → Type 0) (used format : S → ℕ) (told : S → Bool) (rose : S → S → Type 0) (setup : Setup) (history : History) (old : Cluster S) (reached : IsReached holds used format told setup history old) (i : ℕ) (me next : Server S) (here : slice_get old.servers.items i ≡ Some me) (seat : next.seat ≡ me.seat) (told_same : told next.store ≡ told me.store) where
@@ -34,6 +35,9 @@ module _ {S : Type 0} (holds : S → Durable → Durable → Type 0) (used forma
 
   member : (was c : Condition) → IsMember holds used format told setup i me was → Meets holds used format me.seat next.store next.state c → IsMember holds used format told setup i next c
   member was c m meets = record { seat = seat ∙ m.seat; meets = subst (λ s. Meets holds used format s next.store next.state c) (sym seat) meets; tells = told_same ∙ m.tells }
+
+  elsewhere : KeepsOthers (Some i) old new
+  elsewhere = others_kept old new i next refl
 
   -- Stop
   module _ (result : Answer) (step : (s : ServerIs) → Meets holds used format me.seat me.store me.state (RunningIs s) → (result ≡ Done) × Meets holds used format me.seat next.store next.state (StoppedIs (suc s.life) s.durable s.durable)) (down : runs me.state ≡ false → (result ≡ Refused Down) × (next ≡ me)) where
@@ -52,6 +56,7 @@ module _ {S : Type 0} (holds : S → Durable → Durable → Type 0) (used forma
       shows = subst (Shows holds used format told setup new) (sym (comes c there result ∙ ap (λ a. only (ending a) g (stopped g i (Some c))) d.0))
           (alone_still holds used format told setup g old reached.shows i next c there (subst (λ x. IsMember holds used format told setup i x c) (sym d.1) m));
       cause = λ halted. absurd (down_apart (sym d.0 ∙ halted));
+      others = elsewhere;
     }
       where
         down_apart : Refused Down ≡ Refused Halted → ⊥
@@ -65,6 +70,7 @@ module _ {S : Type 0} (holds : S → Durable → Durable → Type 0) (used forma
           shows = subst (Shows holds used format told setup new) (sym (comes (RunningIs s) there result ∙ ap (λ a. only (ending a) g (stopped g i (Some (RunningIs s)))) d.0))
               (alone holds used format told setup g old reached.shows i next (RunningIs s) (StoppedIs (suc s.life) s.durable s.durable) there (member (RunningIs s) (StoppedIs (suc s.life) s.durable s.durable) m d.1));
           cause = λ halted. absurd (done_apart (sym d.0 ∙ halted));
+          others = elsewhere;
         }
       where
         done_apart : Done ≡ Refused Halted → ⊥
@@ -76,8 +82,8 @@ module _ {S : Type 0} (holds : S → Durable → Durable → Type 0) (used forma
     stops = let m = its_condition holds used format told setup history old reached i me here in by_condition m.0 m.1 m.2
 
   -- Restart
-  fault : rose me.store next.store → HasFault rose old new
-  fault risen = record { i = i; before = me; after = next; was = here; is = set_there old.servers.items i next (slice_get_within old.servers.items i me here); risen = risen }
+  fault : rose me.store next.store → HasFault rose i old new
+  fault risen = record { before = me; after = next; was = here; is = set_there old.servers.items i next (slice_get_within old.servers.items i me here); risen = risen }
 
   ways : (life : ℕ) (before after : Durable) (found : Bool) (answer : Answer) → Begins holds used format rose me.seat me.store next.store next.state life before after found answer
       → ((answer ≡ Done) × Meets holds used format me.seat next.store next.state (RunningIs (restarted me.seat.number (suc life) (renewed (cond found after before))))) ⊎ ((answer ≡ Refused Halted) × Meets holds used format me.seat next.store next.state (StoppedIs (suc life) before after) × rose me.store next.store)
@@ -106,12 +112,14 @@ module _ {S : Type 0} (holds : S → Durable → Durable → Type 0) (used forma
           (member c (RunningIs (restarted i (suc life) (renewed (cond found after before)))) m
           (subst (λ k. Meets holds used format me.seat next.store next.state (RunningIs (restarted k (suc life) (renewed (cond found after before))))) (ap (λ x. x.number) m.seat) done.1)));
       cause = λ halted. absurd (done_apart (sym done.0 ∙ halted));
+      others = elsewhere;
     }
     | inr halt ↦ record {
       answered = inr ((restart_answers c found there).1 ∙ formatted, halt.0);
       shows = subst (Shows holds used format told setup new) (sym (restart_comes c found there answer (Refused Halted) halt.0 ∙ cut))
           (alone holds used format told setup g old reached.shows i next c (StoppedIs (suc life) before after) there (member c (StoppedIs (suc life) before after) m halt.1));
-      cause = λ halted. fault halt.2;
+      cause = λ halted. (i, refl, fault halt.2);
+      others = elsewhere;
     }
   ]
     where
@@ -123,7 +131,7 @@ module _ {S : Type 0} (holds : S → Durable → Durable → Type 0) (used forma
   same_found false d = refl
 
   restarts_at : (c : Condition) → slice_get g.servers i ≡ Some c → IsMember holds used format told setup i me c → (result : Result (Answer × Bool) NoMemory) → BeginsAgain holds used format rose me.seat me.store next.store next.state c result → GoesBack holds used format told rose setup g i old new result
-  restarts_at c there m (Err e) b = alone_still holds used format told setup g old reached.shows i next c there (member c c m (again c b))
+  restarts_at c there m (Err e) b = record { shows = alone_still holds used format told setup g old reached.shows i next c there (member c c m (again c b)); others = elsewhere }
     where
       again : (x : Condition) → BeginsAgain holds used format rose me.seat me.store next.store next.state x (Err e) → Meets holds used format me.seat next.store next.state x
       again (RunningIs s) is = is
@@ -137,6 +145,7 @@ module _ {S : Type 0} (holds : S → Durable → Durable → Type 0) (used forma
     shows = subst (Shows holds used format told setup new) (sym (restart_comes UnformattedIs found there answer (Refused NotOurs) b.0))
         (alone_still holds used format told setup g old reached.shows i next UnformattedIs there (member UnformattedIs UnformattedIs m b.1));
     cause = λ halted. absurd (ours_apart (sym b.0 ∙ halted));
+    others = elsewhere;
   }
     where
       ours_apart : Refused NotOurs ≡ Refused Halted → ⊥

@@ -86,7 +86,7 @@ goes_whole setup op s (Serving l) serves within =
 -- a submission is the turn of its server
 pub submit_event : (setup : Setup) (g : Group) (i : ℕ) (op : Op) → IsTurnEvent setup g (Submit i op) i (submit_turn setup g op) (λ how. g)
 unfolding answer_to may_halt happens
-submit_event setup g i op = record { answers = refl; halts = λ is. is; goes = λ how. refl; servers = λ how. refl }
+submit_event setup g i op = record { answers = refl; halts = λ is. is; goes = λ how. refl; servers = λ how. refl; acts = refl }
 
 pub submit_known : (setup : Setup) (history : History) → IsLegal setup history → length history < 2 ^ 62 → (i : ℕ) (op : Op) → i < 3 → IsSubmitted op → (s : Server) → Runs (replay setup history) i s → IsTurnOf (replay setup history) (submit_turn setup (replay setup history) op) s
 submit_known setup history legal short i op low submitted_so s at =

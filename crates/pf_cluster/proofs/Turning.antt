@@ -45,14 +45,14 @@ refused_is answer refusal is = ap is_refused is
 pub same_ok : (answer b : Answer) → ◌≡◌ {A = Result Answer NoMemory} (Ok answer) (Ok b) → answer ≡ b
 same_ok answer b is = cc
 
-no_ok : {X : Type 0} → (e : NoMemory) (answer : Answer) → ◌≡◌ {A = Result Answer NoMemory} (Err e) (Ok answer) → X
+pub no_ok : {X : Type 0} → (e : NoMemory) (answer : Answer) → ◌≡◌ {A = Result Answer NoMemory} (Err e) (Ok answer) → X
 no_ok e answer is = cc
 
 -- without memory the group is as it was
 module _ {S : Type 0} (holds : S → Durable → Durable → Type 0) (used format : S → ℕ) (told : S → Bool) (rose : S → S → Type 0) (was : S → S → Durable → Durable → Type 0) (setup : Setup) (g : Group) (i : ℕ) (turn : Turn) (cluster : Cluster S) (out : Outgoing) (e : NoMemory) (t : HasTurned holds used format told rose was setup g i turn cluster out (Err e)) where
   as_before : (s : ServerIs) (o : Option Refusal) → Comes holds used format rose was t.me.seat t.me.store t.next.store t.next.state s (outbox_of cluster) out o (turn.rule s) (Err e) → Meets holds used format t.me.seat t.next.store t.next.state (RunningIs s)
-  as_before s None is = is.meets
-  as_before s (Some refusal) is = is.meets
+  as_before s None is = is.kept.meets
+  as_before s (Some refusal) is = is.kept.meets
 
   as_it_was : (c : Condition) → Took holds used format told rose was turn t.me t.next (outbox_of cluster) out (Err e) c → Meets holds used format t.me.seat t.next.store t.next.state c
   as_it_was (RunningIs s) took = as_before s (turn.refusal s) took
@@ -260,9 +260,8 @@ module _ {S : Type 0} (holds : S → Durable → Durable → Type 0) (used forma
       not_down : Refused Down ≡ Refused Halted → ⊥
       not_down is = cc
 
-  pub has_fault : (old next : Cluster S) → t.before ≡ old.servers.items → next.servers.items ≡ cluster.servers.items → answer ≡ Refused Halted → HasFault rose old next
+  pub has_fault : (old next : Cluster S) → t.before ≡ old.servers.items → next.servers.items ≡ cluster.servers.items → answer ≡ Refused Halted → HasFault rose i old next
   has_fault old next first same halted = record {
-    i = i;
     before = t.me;
     after = t.next;
     was = ap (λ xs. slice_get xs i) (sym first) ∙ t.here;

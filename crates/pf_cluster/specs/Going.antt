@@ -1,5 +1,6 @@
 -- One event of a cluster.
-use Rattle.std.specs.Prelude.{◌≡◌, ℕ, ◌<◌, ◌^◌, Bool, [], length, Some, Result, Ok, Err, slice_get}
+use Rattle.std.specs.Prelude.{◌≡◌, ◌≢◌, ℕ, ◌<◌, ◌^◌, Bool, [], length, Option, Some, None, Result, Ok, Err, slice_get}
+use Rattle.std.specs.Option.{option_map}
 use Rattle.pf_base.specs.declared.errors.NoMemory.{NoMemory}
 use Rattle.pf_base.specs.declared.filled.Filled.{Filled}
 use Rattle.pf_entry.specs.declared.ops.Op.{Op}
@@ -9,19 +10,50 @@ use Rattle.pf_protocol.specs.declared.answers.Answer.{Answer}
 use Rattle.pf_protocol.specs.declared.answers.Answer.TheVariants.{Refused}
 use Rattle.pf_protocol.specs.declared.answers.Refusal.TheVariants.{Halted}
 use Rattle.pf_protocol.specs.declared.events.Event.{Event}
-use Rattle.pf_protocol.specs.declared.events.Event.TheVariants.{Claim, Restart}
+use Rattle.pf_protocol.specs.declared.events.Event.TheVariants.{Submit, Fetch, Deliver, Lose, Elect, Resend, Stop, Restart, Claim, Finish, GiveBack, Checkpoint}
 use Rattle.pf_protocol.specs.Servers.{Setup}
-use Rattle.pf_protocol.specs.Groups.{Group, ending, happens}
+use Rattle.pf_protocol.specs.Groups.{Group, Sent, ending, happens}
 use Rattle.pf_protocol.specs.Histories.{History, replay}
 use Rattle.pf_protocol.specs.Answers.{IsAnswer, IsLegal, claims_of}
 use Rattle.pf_server.specs.declared.server.Server.{Server}
 use Rattle.pf_cluster.specs.declared.cluster.Cluster.{Cluster}
 use Rattle.pf_cluster.specs.Showing.{Shows}
 
+-- the server that a packet is for
+abbrev pub receiver : Option Sent → Option ℕ
+receiver (Some sent) = Some sent.packet.to
+receiver None = None
+
+-- the server at which the event takes place
+abbrev pub acts_at : Group → Event → Option ℕ
+acts_at g (Submit i op) = Some i
+acts_at g (Fetch i range) = Some i
+acts_at g (Deliver k) = receiver (slice_get g.packets k)
+acts_at g (Lose k) = None
+acts_at g (Elect i) = Some i
+acts_at g (Resend i) = Some i
+acts_at g (Stop i) = Some i
+acts_at g (Restart i found) = Some i
+acts_at g Claim = None
+acts_at g (Finish i life slot) = Some i
+acts_at g (GiveBack i life slot) = Some i
+acts_at g (Checkpoint i) = Some i
+
+module _ {S : Type 0} where
+  abbrev pub store_at : Cluster S → ℕ → Option S
+  store_at cluster i = option_map (λ (server : Server S). server.store) (slice_get cluster.servers.items i)
+
+  -- the disks of every server but this one are as they were
+  abbrev pub KeepsOthers : Option ℕ → (old new : Cluster S) → Type 0
+  KeepsOthers own old new = (i : ℕ) → own ≢ Some i → store_at new i ≡ store_at old i
+
+  -- the disks of every server are as they were
+  abbrev pub KeepsStores : (old new : Cluster S) → Type 0
+  KeepsStores old new = (i : ℕ) → store_at new i ≡ store_at old i
+
 module _ {S : Type 0} (rose : S → S → Type 0) where
-  -- a disk of some server failed
-  pub record HasFault (old new : Cluster S) : Type 0 where
-    pub i : ℕ
+  -- a disk of server i failed
+  pub record HasFault (i : ℕ) (old new : Cluster S) : Type 0 where
     pub before : Server S
     pub after : Server S
     pub was : slice_get old.servers.items i ≡ Some before
@@ -40,26 +72,33 @@ module _ {S : Type 0} (holds : S → Durable → Durable → Type 0) (used forma
   HasHistory cluster = (setup : Setup) × ((history : History) × IsReached setup history cluster)
 
   module _ (rose : S → S → Type 0) where
-    -- the event was answered as the rules say, and the cluster stands for the group after it; a step is cut off only where a disk failed
+    -- the event was answered as the rules say, and the cluster stands for the group after it. A step is cut off only where a disk of
+    -- its own server failed, and no other server's disks are touched
     pub record HasGone (setup : Setup) (g : Group) (event : Event) (old new : Cluster S) (answer : Answer) : Type 0 where
       pub answered : IsAnswer setup g event answer
       pub shows : Shows holds used format told setup new (happens setup g event (ending answer))
-      pub cause : answer ≡ Refused Halted → HasFault rose old new
+      pub cause : answer ≡ Refused Halted → (i : ℕ) × (acts_at g event ≡ Some i) × HasFault rose i old new
+      pub others : KeepsOthers (acts_at g event) old new
 
-    -- or there was no memory for it
+    -- or there was no memory for it: the cluster stands for the same group, and the disks of every server but this one are as they were
+    pub record HasStayed (setup : Setup) (g : Group) (own : Option ℕ) (old new : Cluster S) : Type 0 where
+      pub shows : Shows holds used format told setup new g
+      pub others : KeepsOthers own old new
+
     abbrev pub Goes : Setup → Group → Event → (old new : Cluster S) → Result Answer NoMemory → Type 0
     Goes setup g event old new (Ok answer) = HasGone setup g event old new answer
-    Goes setup g event old new (Err e) = Shows holds used format told setup new g
+    Goes setup g event old new (Err e) = HasStayed setup g None old new
 
     -- a claim is answered twice, for the host and for whoever keeps the history
     abbrev pub GoesTwice : Setup → Group → (old new : Cluster S) → Result (Answer × Answer) NoMemory → Type 0
     GoesTwice setup g old new (Ok (answer, again)) = HasGone setup g Claim old new answer
-    GoesTwice setup g old new (Err e) = Shows holds used format told setup new g
+    GoesTwice setup g old new (Err e) = HasStayed setup g None old new
 
-    -- a restart tells whether it found the record of a step that was cut off
+    -- a restart tells whether it found the record of a step that was cut off. Where there is no memory for it, its own server's disks
+    -- may have been read
     abbrev pub GoesBack : Setup → Group → (i : ℕ) → (old new : Cluster S) → Result (Answer × Bool) NoMemory → Type 0
     GoesBack setup g i old new (Ok (answer, found)) = HasGone setup g (Restart i found) old new answer
-    GoesBack setup g i old new (Err e) = Shows holds used format told setup new g
+    GoesBack setup g i old new (Err e) = HasStayed setup g (Some i) old new
 
   -- an open claim of such a history comes back done, with the sectors of its op
   pub record IsBroughtBack (setup : Setup) (history : History) (cluster : Cluster S) (filled : Filled) : Type 0 where

@@ -4,6 +4,7 @@ ghost use Rattle.pf_protocol.specs.Servers.{Setup};
 ghost use Rattle.pf_protocol.specs.Outcomes.{Outcome};
 ghost use Rattle.pf_protocol.specs.Groups.{Group, acted};
 ghost use Rattle.pf_protocol.specs.Answers.{Turn};
+ghost use Rattle.pf_cluster.specs.Going.{KeepsStores};
 ghost use Rattle.pf_cluster.specs.Showing.{Shows};
 ghost use Rattle.pf_cluster.specs.Turned.{Ends, HasStepped, HasTurned, is_refused};
 
@@ -32,6 +33,7 @@ impl<S: Store> Cluster<S> {
         ensures shows { (setup : Setup) (grp : Group) (o : Outcome) → HasStepped S.holds S.used S.format S.told setup grp server o self.old out.old → Shows S.holds S.used S.format S.told setup self.new (acted grp server o) }
         ensures elections { self.new.elections ≡ self.old.elections }
         ensures packets { vec_len self.old.packets ≤ vec_len self.new.packets }
+        ensures stores { KeepsStores self.old self.new }
     {
         let server = server as usize;
         keep_packets(&mut self.packets, &mut self.byte_room, out);
@@ -51,6 +53,7 @@ impl<S: Store> Cluster<S> {
         ensures step { (setup : Setup) (grp : Group) (turn : Turn) → HasTurned S.holds S.used S.format S.told S.rose S.was setup grp server turn self.old out.old outcome → Ends S.holds S.used S.format S.told setup grp server turn self.new outcome }
         ensures elections { self.new.elections ≡ self.old.elections }
         ensures packets { vec_len self.old.packets ≤ vec_len self.new.packets }
+        ensures stores { KeepsStores self.old self.new }
         ensures halted { outcome ≡ Ok (Answer.Refused Refusal.Halted) → self.new ≡ self.old }
     {
         let Ok(answer) = &outcome else {

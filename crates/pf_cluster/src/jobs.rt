@@ -4,7 +4,7 @@ ghost use Rattle.pf_protocol.specs.Servers.{Setup};
 ghost use Rattle.pf_protocol.specs.Histories.{History, replay};
 ghost use Rattle.pf_protocol.specs.declared.events.Event.TheVariants.{Finish, GiveBack};
 ghost use Rattle.pf_cluster.specs.Claiming.{ClaimsAt};
-ghost use Rattle.pf_cluster.specs.Going.{GoesTwice, HasGone, HasHistory, IsBroughtBack, IsReached};
+ghost use Rattle.pf_cluster.specs.Going.{GoesTwice, HasGone, HasHistory, IsBroughtBack, IsReached, KeepsStores};
 
 use crate::Cluster;
 use crate::ends::is_refused;
@@ -36,7 +36,8 @@ impl<S: Store> Cluster<S> {
     fn claim_at(&mut self, alloc: Global, server: Number) -> Result<Option<Claimed>, NoMemory>
         requires server { server < 3 }
         requires reached { HasHistory S.holds S.used S.format S.told self.old }
-        ensures { (setup : Setup) (history : History) → IsReached S.holds S.used S.format S.told setup history self.old → ClaimsAt S.holds S.used S.format S.told setup (replay setup history) server self.new result }
+        ensures step { (setup : Setup) (history : History) → IsReached S.holds S.used S.format S.told setup history self.old → ClaimsAt S.holds S.used S.format S.told setup (replay setup history) server self.new result }
+        ensures stores { KeepsStores self.old self.new }
     {
         self.servers[server as usize].claim(alloc)
     }

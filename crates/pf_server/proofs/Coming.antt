@@ -31,7 +31,7 @@ use Rattle.pf_server.specs.declared.state.State.{State}
 use Rattle.pf_server.specs.declared.state.State.TheVariants.{Runs, Stopped}
 use Rattle.pf_server.specs.Conditions.{IsInHalf, IsRunning, IsStopped, Meets}
 use Rattle.pf_server.specs.Ending.{CanAnswer, Ends, IsAnswered, WasAnswered, quieted}
-use Rattle.pf_server.specs.Turns.{Comes, IsAsBefore, IsSettled, WasCarriedOut, WasCutOff}
+use Rattle.pf_server.specs.Turns.{Comes, IsAsBefore, IsSettled, WasCarriedOut, WasCutOff, WasSpared}
 use Rattle.pf_server.proofs.Bounds.{same_chunk, same_life}
 use Rattle.pf_server.proofs.Ending.{asked_now}
 use Rattle.pf_server.proofs.Standing.{in_half, quieted_runs, settles}
@@ -93,13 +93,13 @@ module _ {S : Type 0} (holds : S → Durable → Durable → Type 0) (used forma
       cause = x.cause;
     }
 
-    no_memory : (j : Option Refusal) (e : NoMemoryIs) → IsAsBefore holds used format seat store' state' s → ComesTo j (Err e)
-    no_memory None e as_before = as_before
-    no_memory (Some refusal) e as_before = as_before
+    no_memory : (j : Option Refusal) (e : NoMemoryIs) → WasSpared holds used format rose was seat store store' state' s → ComesTo j (Err e)
+    no_memory None e spared = spared
+    no_memory (Some refusal) e spared = spared
 
     pub comes : (ended : Result Answer StepFault) (result : Result Answer NoMemoryIs) → IsRoomy judged o → Steps holds used format told rose was s.durable store me out store' me' out' judged o ended → Ends before (Runs me') state' ended result → ComesTo judged result
     comes (Ok answer) result roomy x end = subst (ComesTo judged) (sym end.0) (subst (λ j. ComesTo j (Ok answer)) (sym x.may) (inl (carried_out answer x end.1)))
-    comes (Err WantsMemory) result roomy x end = subst (ComesTo judged) (sym end.0) (no_memory judged (record {}) (as_it_was x end.1))
+    comes (Err WantsMemory) result roomy x end = subst (ComesTo judged) (sym end.0) (no_memory judged (record {}) (record { kept = as_it_was x end.1; store_same = x.store_same }))
     comes (Err (IsRefused refusal)) result roomy x end = subst (ComesTo judged) (sym end.0) (subst (λ j. ComesTo j (Ok (Refused refusal))) (sym x.judged_so) (record { answered = refl; kept = as_it_was x.untouched end.1 }))
     comes (Err IsHalted) result roomy x end = subst (ComesTo judged) (sym end.0) (subst (λ j. ComesTo j (Ok (Refused Halted))) (sym x.may) (inr (cut_off x roomy end.1)))
 

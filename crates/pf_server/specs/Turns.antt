@@ -74,11 +74,16 @@ module _ {S : Type 0} (holds : S → Durable → Durable → Type 0) (used forma
     pub crash : was store store' s.durable o.server.durable
     pub cause : rose store store'
 
+  -- there was no memory for the step: the server and its disks are as they were
+  pub record WasSpared : Type 0 where
+    pub kept : IsAsBefore holds used format seat store' state' s
+    pub store_same : store' ≡ store
+
   -- what a step comes to, of which this refusal comes first
   abbrev pub Comes : Outgoing → Outgoing → Option Refusal → Outcome → Result Answer NoMemory → Type 0
   Comes out out' None o (Ok answer) = WasCarriedOut out out' o answer ⊎ WasCutOff o answer
   Comes out out' (Some refusal) o (Ok answer) = WasRefused holds used format seat store' state' s refusal answer
-  Comes out out' judged o (Err e) = IsAsBefore holds used format seat store' state' s
+  Comes out out' judged o (Err e) = WasSpared
 
 -- a job of another life is refused
 abbrev pub finish_refusal : Server → (life : ℕ) → Option Refusal

@@ -3,7 +3,7 @@ use Rattle.pf_protocol.specs.Servers.{Server as ServerIs}
 use Rattle.pf_protocol.specs.Outcomes.{Outcome}
 use Rattle.pf_protocol.specs.Saving.{on_finish}
 use Rattle.pf_cluster.proofs.Beginning.{in_order, server_there}
-use Rattle.pf_cluster.proofs.Returning.{brings_back, finish_done, finish_gone, finish_refused, job_places, job_shows, job_sized}
+use Rattle.pf_cluster.proofs.Returning.{brings_back, finish_done, finish_gone, finish_refused, job_places, job_shows, job_sized, job_stores}
 use Rattle.pf_cluster.proofs.cluster.Cluster.finish.Goals as goal
 
 pub finish-answer-requires-clause-order : goal.finish-answer-requires-clause-order
@@ -34,4 +34,5 @@ returns g c setup history reached =
     let rule : ServerIs → Outcome = λ s. on_finish s c.args.filled.life c.args.filled.slot in
     let kept = c.keep_answers in
     finish_gone g.S.Store.holds g.S.Store.used g.S.Store.format g.S.Store.told g.S.Store.rose setup history c.args.self.now reached c.args.filled.server c.index_mut.result.now c.finish-answer.new.self c.requires.server (server_there g.S.Store.holds g.S.Store.used g.S.Store.format g.S.Store.told setup history c.args.self.now reached c.args.filled.server c.index_mut.result.now c.requires.server c.index_mut.ensures.value) c.finish-answer.ensures.seat (ap g.S.Store.told c.finish-answer.ensures.store) c.args.filled.life c.args.filled.slot c.finish-answer.result c.finish-answer.ensures.step c.finish-answer.ensures.stopped c.finish-answer.ensures.unformatted done _
+    (job_stores g.S.Store.holds g.S.Store.used g.S.Store.format g.S.Store.told g.S.Store.rose setup history c.args.self.now reached c.args.filled.server c.index_mut.result.now c.finish-answer.new.self c.requires.server (server_there g.S.Store.holds g.S.Store.used g.S.Store.format g.S.Store.told setup history c.args.self.now reached c.args.filled.server c.index_mut.result.now c.requires.server c.index_mut.ensures.value) c.finish-answer.ensures.seat (ap g.S.Store.told c.finish-answer.ensures.store) rule c.finish-answer.result done c.index_mut-2.result.now c.index_mut-2.ensures.value c.finish-answer.ensures.store kept.new.server kept.new.readings kept.ensures.store)
     (job_shows g.S.Store.holds g.S.Store.used g.S.Store.format g.S.Store.told g.S.Store.rose setup history c.args.self.now reached c.args.filled.server c.index_mut.result.now c.finish-answer.new.self c.requires.server (server_there g.S.Store.holds g.S.Store.used g.S.Store.format g.S.Store.told setup history c.args.self.now reached c.args.filled.server c.index_mut.result.now c.requires.server c.index_mut.ensures.value) c.finish-answer.ensures.seat (ap g.S.Store.told c.finish-answer.ensures.store) rule c.finish-answer.result done c.index_mut-2.result.now c.index_mut-2.ensures.value kept.new.server kept.new.readings kept.ensures.seat kept.ensures.store kept.ensures.same kept.ensures.readings)

@@ -1,5 +1,6 @@
-use Rattle.std.proofs.Common.{◌≡◌, ℕ, ◌++◌, map, Option, refl, sym, ap, subst, ◌∙◌}
+use Rattle.std.proofs.Common.{◌≡◌, ℕ, ◌++◌, map, Option, Some, refl, sym, ap, subst, ◌∙◌}
 use Rattle.std.specs.Option.{option_to_list}
+use Rattle.std.specs.Vec.{with_item}
 use Rattle.pf_protocol.specs.Servers.{Server as ServerIs, Running as RunningIs}
 use Rattle.pf_protocol.specs.Rows.{settled}
 use Rattle.pf_server.specs.declared.server.Server.{Server}
@@ -7,6 +8,7 @@ use Rattle.pf_server.specs.Conditions.{Meets, answers_of}
 use Rattle.pf_cluster.specs.declared.kept.Acked.{Acked}
 use Rattle.pf_cluster.specs.Keeping.{HavePlaces, with_answers}
 use Rattle.pf_cluster.proofs.Acting.{has_bytes, has_place, has_readings, read_there, shows_acted, stepped_there}
+use Rattle.pf_cluster.proofs.Stores.{stores_kept}
 use Rattle.pf_cluster.proofs.cluster.Cluster.keep.Goals as goal
 
 pub keep_packets-requires-clause-places : goal.keep_packets-requires-clause-places
@@ -45,3 +47,10 @@ returns-clause-shows g c setup grp o stepped =
       readings = c.keep_answers.ensures.readings ∙ ap (λ (x : Server g.row.S.Denot). with_answers c.args.self.now.readings.items (answers_of x.state)) lent;
       elections = refl;
     })
+
+pub returns-clause-stores : goal.returns-clause-stores
+returns-clause-stores g c =
+    let q = c.requires.stepped in
+    let there = stepped_there g.S.Store.holds g.S.Store.used g.S.Store.format g.S.Store.told q.0 q.1.0 c.args.server q.1.1.0 c.args.self.now c.args.out.now q.1.1.1 in
+    let lent = read_there c.args.self.now.servers.items c.args.server _ c.index_mut.result.now there c.index_mut.ensures.value in
+    stores_kept c.args.self.now (record c.args.self.now { servers = with_item c.args.self.now.servers c.args.server c.keep_answers.new.server }) c.args.server c.keep_answers.new.server refl c.index_mut.result.now (there ∙ ap Some (sym lent)) c.keep_answers.ensures.store
