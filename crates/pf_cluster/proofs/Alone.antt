@@ -12,7 +12,7 @@ use Rattle.pf_server.specs.declared.server.Server.{Server}
 use Rattle.pf_cluster.specs.declared.cluster.Cluster.{Cluster}
 use Rattle.pf_cluster.specs.declared.kept.Parcel.{Parcel}
 use Rattle.pf_cluster.specs.Showing.{IsMember, Shows, parcel_of}
-use Rattle.pf_cluster.proofs.Lists.{set_length}
+use Rattle.pf_cluster.proofs.Lists.{set_length, set_mapped}
 use Rattle.pf_cluster.proofs.Members.{member_set, member_stays}
 
 -- lists that were mapped
@@ -20,11 +20,6 @@ pub get_mapped : {X Y : Type 0} → (f : X → Y) (xs : List X) (k : ℕ) (y : Y
 get_mapped f [] k y at = absurd (grind (arith, at))
 get_mapped f (x ∷ xs) zero y at = (x, refl, same_Some y (f x) (sym at))
 get_mapped f (x ∷ xs) (suc k) y at = get_mapped f xs k y at
-
-pub set_mapped : {X Y : Type 0} → (f : X → Y) (xs : List X) (k : ℕ) (x : X) → slice_set (map f xs) k (f x) ≡ map f (slice_set xs k x)
-set_mapped f [] k x = refl
-set_mapped f (y ∷ ys) zero x = refl
-set_mapped f (y ∷ ys) (suc k) x = ap (λ rest. f y ∷ rest) (set_mapped f ys k x)
 
 -- a mark on a packet does not change its bytes
 pub same_bytes : (sents : List Sent) (k : ℕ) (p q : Sent) → slice_get sents k ≡ Some p → q.packet ≡ p.packet → sum_by (λ sent. packet_size sent.packet) (slice_set sents k q) ≡ sum_by (λ sent. packet_size sent.packet) sents

@@ -21,6 +21,7 @@ use Rattle.pf_server.specs.Turns.{Claims}
 use Rattle.pf_cluster.specs.declared.cluster.Cluster.{Cluster}
 use Rattle.pf_cluster.specs.Claiming.{ClaimsAt, IsClaimedAt}
 use Rattle.pf_cluster.specs.Going.{HasGone, IsReached, KeepsStores}
+use Rattle.pf_cluster.specs.Readings.{taken_of}
 use Rattle.pf_cluster.specs.Showing.{IsMember, Shows}
 use Rattle.pf_cluster.proofs.Alone.{alone, alone_still}
 use Rattle.pf_cluster.proofs.Beginning.{its_condition}
@@ -95,7 +96,7 @@ found_group window g [] rest i s slot none runs_so least =
 found_group window g (j ∷ js) rest i s slot none runs_so least =
     ap (λ o. claim_or g j o (first_claim window g (js ++ i ∷ rest))) none.0 ∙ found_group window g js rest i s slot none.1 runs_so least
 
-module _ {S : Type 0} (holds : S → Durable → Durable → Type 0) (used format : S → ℕ) (told : S → Bool) (rose : S → S → Type 0) (setup : Setup) (g : Group) (old later : Cluster S) (stores : KeepsStores old later) where
+module _ {S : Type 0} (holds : S → Durable → Durable → Type 0) (used format : S → ℕ) (told : S → Bool) (rose : S → S → Type 0) (setup : Setup) (g : Group) (old later : Cluster S) (stores : KeepsStores old later) (taken : taken_of later ≡ taken_of old) where
   -- some server has a job, which both answers tell
   pub claims_job : (before rest : List ℕ) (i : ℕ) → before ++ i ∷ rest ≡ 0 ∷ 1 ∷ 2 ∷ [] → Every (HasNone setup.window g) before → (claim : Claimed) → IsClaimedAt holds used format told setup g i later claim
       → (answers : Answer × Answer) → answers.0 ≡ JobIs claim.job → answers.1 ≡ JobIs (record claim.job { op = claim.copy }) → (answers.1 ≡ answers.0) × HasGone holds used format told rose setup g Claim old later answers.0
@@ -107,6 +108,7 @@ module _ {S : Type 0} (holds : S → Durable → Durable → Type 0) (used forma
       shows = subst (Shows holds used format told setup later) (sym (ap (first_claim setup.window g) (sym all) ∙ found_group setup.window g before rest i c.s job.slot none c.runs c.least)) c.shows;
       cause = λ halted. absurd (apart halted);
       others = λ i own. stores i;
+      taken = taken;
     }),
   )
     where
@@ -116,7 +118,7 @@ module _ {S : Type 0} (holds : S → Durable → Durable → Type 0) (used forma
   -- no server has one
   pub claims_none : Every (HasNone setup.window g) (0 ∷ 1 ∷ 2 ∷ []) → Shows holds used format told setup later g → HasGone holds used format told rose setup g Claim old later (Refused NoneFree)
   unfolding answer_to happens
-  claims_none none shows = record { answered = inl (sym (none_answer setup.window g (0 ∷ 1 ∷ 2 ∷ []) none)); shows = shows; cause = λ halted. absurd (apart halted); others = λ i own. stores i }
+  claims_none none shows = record { answered = inl (sym (none_answer setup.window g (0 ∷ 1 ∷ 2 ∷ []) none)); shows = shows; cause = λ halted. absurd (apart halted); others = λ i own. stores i; taken = taken }
     where
       apart : Refused NoneFree ≡ Refused Halted → ⊥
       apart is = cc

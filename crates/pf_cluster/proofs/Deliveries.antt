@@ -241,7 +241,7 @@ module _ {S : Type 0} (owns : S → Durable → Durable → Type 0) (used format
 
     pub loses_none : length old.packets.items ≤ k → HasGone owns used format told rose setup (replay setup history) (Lose k) old old (Refused NoPacket)
     unfolding answer_to happens
-    loses_none beyond = record { answered = inl (sym (ap loss_answer (no_packet beyond))); shows = reached.shows; cause = λ halted. absurd (apart halted); others = λ i own. refl }
+    loses_none beyond = record { answered = inl (sym (ap loss_answer (no_packet beyond))); shows = reached.shows; cause = λ halted. absurd (apart halted); others = λ i own. refl; taken = refl }
       where
         apart : Refused NoPacket ≡ Refused Halted → ⊥
         apart is = cc
@@ -253,6 +253,7 @@ module _ {S : Type 0} (owns : S → Durable → Durable → Type 0) (used format
       shows = subst (Shows owns used format told setup old) (sym (ap (delivered setup Untouched (replay setup history) k) (no_packet beyond))) reached.shows;
       cause = λ halted. absurd (apart halted);
       others = λ i own. refl;
+      taken = refl;
     }
       where
         apart : Refused NoPacket ≡ Refused Halted → ⊥
@@ -267,7 +268,7 @@ module _ {S : Type 0} (owns : S → Durable → Durable → Type 0) (used format
       unfolding answer_to happens
       loses_again is =
           let gone : sent_there.0.lost ≡ true = sym (ap (λ (x : Parcel). x.lost) sent_there.2) ∙ is in
-          record { answered = inl (sym (ap loss_answer sent_there.1 ∙ ap (λ b. if b then Refused LostPacket else Done) gone)); shows = reached.shows; cause = λ halted. absurd (apart halted); others = λ i own. refl }
+          record { answered = inl (sym (ap loss_answer sent_there.1 ∙ ap (λ b. if b then Refused LostPacket else Done) gone)); shows = reached.shows; cause = λ halted. absurd (apart halted); others = λ i own. refl; taken = refl }
         where
           apart : Refused LostPacket ≡ Refused Halted → ⊥
           apart is = cc
@@ -282,6 +283,7 @@ module _ {S : Type 0} (owns : S → Durable → Durable → Type 0) (used format
             shows = subst (Shows owns used format told setup old) (sym (ap (delivered setup Untouched (replay setup history) k) sent_there.1 ∙ ap (λ b. if b then replay setup history else at_server Untouched (marked_in Untouched (replay setup history) k p) p.packet.to (λ s. on_packet setup s p.packet)) gone)) reached.shows;
             cause = λ halted. absurd (apart halted);
             others = λ i own. refl;
+            taken = refl;
           }
         where
           apart : Refused LostPacket ≡ Refused Halted → ⊥
@@ -298,6 +300,7 @@ module _ {S : Type 0} (owns : S → Durable → Durable → Type 0) (used format
                 (marked owns used format told setup (replay setup history) old reached.shows k p (record p { lost = true }) (record parcel { lost = true }) packets sent_there.1 refl (ap (λ (x : Parcel). record x { lost = true }) sent_there.2) items places);
             cause = λ halted. absurd (apart halted);
             others = λ i own. refl;
+            taken = refl;
           }
         where
           apart : Done ≡ Refused Halted → ⊥

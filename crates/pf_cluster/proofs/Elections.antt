@@ -165,6 +165,7 @@ module _ {S : Type 0} (holds : S → Durable → Durable → Type 0) (used forma
           shows = subst (Shows holds used format told setup old) (sym (elect_is (Refused Down) (Refused Down) refl ∙ missed (replay setup history) i on_elect (slice_get (replay setup history).servers i))) reached.shows;
           cause = λ halted. absurd (apart halted);
           others = λ j own. refl;
+          taken = refl;
         }
       where
         apart : Refused Down ≡ Refused Halted → ⊥
@@ -184,6 +185,7 @@ module _ {S : Type 0} (holds : S → Durable → Durable → Type 0) (used forma
           shows = subst (Shows holds used format told setup old) (sym (elect_is (Refused ElectionsFull) (Refused ElectionsFull) refl ∙ untouched (replay setup history) i on_elect (slice_get (replay setup history).servers i))) reached.shows;
           cause = λ halted. absurd (apart halted);
           others = λ j own. refl;
+          taken = refl;
         }
       where
         apart : Refused ElectionsFull ≡ Refused Halted → ⊥

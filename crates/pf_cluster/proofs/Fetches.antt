@@ -1,5 +1,5 @@
 -- A read as the turn of a server.
-use Rattle.std.proofs.Common.{◌≡◌, ℕ, ◌<◌, ◌^◌, Bool, true, false, not, List, [], ◌∷◌, length, Option, Some, None, Result, Ok, Err, slice_get, vec_len, arith, refl, sym, ap, subst, ◌∙◌}
+use Rattle.std.proofs.Common.{◌≡◌, ℕ, ◌<◌, ◌^◌, Bool, true, false, not, List, [], ◌∷◌, length, map, Option, Some, None, Result, Ok, Err, slice_get, vec_len, arith, refl, sym, ap, subst, ◌∙◌}
 use Rattle.std.specs.Global.{Vec}
 use Rattle.std.proofs.lemmas.Bool.{true≢false}
 use Rattle.std.proofs.lemmas.List.{length-append}
@@ -33,7 +33,7 @@ use Rattle.pf_entry.specs.Lists.{Every}
 use Rattle.pf_protocol.specs.Asked.{AreBelow}
 use Rattle.pf_protocol.specs.Answers.{Turn}
 use Rattle.pf_cluster.specs.Going.{Goes, HasFault, IsReached, KeepsStores}
-use Rattle.pf_cluster.specs.Readings.{readings_after, readings_with}
+use Rattle.pf_cluster.specs.Readings.{is_taken, readings_after, readings_with, taken_of}
 use Rattle.pf_cluster.specs.Showing.{AreReadings, HasTraffic, Shows, seat_of}
 use Rattle.pf_cluster.specs.Turned.{Ends, HasTurned, IsTurnOf, reads_with}
 use Rattle.pf_cluster.proofs.Beginning.{its_condition}
@@ -41,7 +41,7 @@ use Rattle.pf_cluster.proofs.Ended.{fault_of}
 use Rattle.pf_cluster.proofs.Events.{IsMid, IsTurnEvent, turn_answer, turn_canonical, turned_so}
 use Rattle.pf_cluster.proofs.Laws.{answered_below}
 use Rattle.pf_cluster.proofs.Plain.{DidTurn, here, mid_of, spared}
-use Rattle.pf_cluster.proofs.Readings.{one_more_waits}
+use Rattle.pf_cluster.proofs.Readings.{one_more_taken, one_more_waits}
 use Rattle.pf_cluster.proofs.Rules.{leaves_all, packets_fit}
 use Rattle.pf_cluster.proofs.Simple.{never_halts}
 use Rattle.pf_cluster.proofs.Stores.{others_kept, stores_kept}
@@ -172,13 +172,13 @@ module _ {S : Type 0} (holds : S → Durable → Durable → Type 0) (used forma
     fetch_turned = turned_so holds used format told rose was setup history old reached i me next mid middle g refl turn outcome out out' (fetch_refusal (setup_at me.seat) out range number) (λ s. on_fetch s range number s.role) same_judged
         (λ s. ap (λ n. on_fetch s range n s.role) numbered) did.tells did.down did.fresh (fetch_known setup history reached.legal reached.short i range did.low writable) traffic did.place (λ c took. reads_are)
 
-    module _ (after : Cluster S) (same : outcome ≡ Ok (Refused Halted) → after ≡ mid) (stores : KeepsStores mid after) where
+    module _ (after : Cluster S) (same : outcome ≡ Ok (Refused Halted) → after ≡ mid) (stores : KeepsStores mid after) (taken : taken_of after ≡ taken_of mid) where
       cause : outcome ≡ Ok (Refused Halted) → HasFault rose i old after
       unfolding fetch_turned turned_so
       cause halted = fault_of holds used format told rose was setup g i turn mid out' outcome fetch_turned old after refl (ap (λ (x : Cluster S). x.servers.items) (same halted)) halted
 
       by_outcome : (o : Result Answer NoMemory) → outcome ≡ o → Ends holds used format told setup g i turn after o → Goes holds used format told rose setup g (Fetch i range) old after o
-      by_outcome (Err e) so shows = record { shows = shows; others = λ j own. stores j ∙ stores_kept old mid i next refl me there (spared holds used format told rose was setup history old reached i me next acked out out' (fetch_refusal (setup_at me.seat) out range number) (λ s. on_fetch s range number s.role) outcome did e so) j }
+      by_outcome (Err e) so shows = record { shows = shows; others = λ j own. stores j ∙ stores_kept old mid i next refl me there (spared holds used format told rose was setup history old reached i me next acked out out' (fetch_refusal (setup_at me.seat) out range number) (λ s. on_fetch s range number s.role) outcome did e so) j; taken = taken ∙ ap (map is_taken) kept ∙ ap (λ o. map is_taken (readings_with old.readings.items o)) so }
       by_outcome (Ok answer) so ended =
           let event_is = fetch_event setup g i range in
           record {
@@ -186,6 +186,7 @@ module _ {S : Type 0} (holds : S → Durable → Durable → Type 0) (used forma
             shows = subst (Shows holds used format told setup after) (sym (event_is.goes (ending answer))) ended.shows;
             cause = λ halted. (i, refl, cause (so ∙ ap Ok halted));
             others = λ j apart. stores j ∙ others_kept old mid i next refl j apart;
+            taken = taken ∙ ap (map is_taken) kept ∙ ap (λ o. map is_taken (readings_with old.readings.items o)) so ∙ one_more_taken old.readings.items answer;
           }
 
       pub fetch_goes : (result : Result Answer NoMemory) → result ≡ outcome → (HasTurned holds used format told rose was setup g i turn mid out' outcome → Ends holds used format told setup g i turn after outcome) → Goes holds used format told rose setup g (Fetch i range) old after result

@@ -23,3 +23,5 @@ pub mod Deliveries
 pub mod Fetches
 pub mod Returning
 pub mod Claims
+pub mod Shown
+pub mod Taken

@@ -1,5 +1,5 @@
 -- Places of lists.
-use Rattle.std.proofs.Common.{◌≡◌, ◌≢◌, ◌⊎◌, inl, inr, ℕ, zero, suc, ◌<◌, List, [], ◌∷◌, ◌++◌, length, Some, slice_get, slice_set, arith, refl, ap}
+use Rattle.std.proofs.Common.{◌≡◌, ◌≢◌, ◌⊎◌, inl, inr, ℕ, zero, suc, ◌<◌, List, [], ◌∷◌, ◌++◌, length, map, Some, slice_get, slice_set, arith, refl, ap}
 use Rattle.std.proofs.lemmas.Option.{same_Some}
 
 pub set_there : {X : Type 0} → (xs : List X) (i : ℕ) (x : X) → i < length xs → slice_get (slice_set xs i x) i ≡ Some x
@@ -28,6 +28,11 @@ pub set_length : {X : Type 0} → (xs : List X) (i : ℕ) (x : X) → length (sl
 set_length [] i x = refl
 set_length (y ∷ ys) zero x = refl
 set_length (y ∷ ys) (suc i) x = ap suc (set_length ys i x)
+
+pub set_mapped : {X Y : Type 0} → (f : X → Y) (xs : List X) (k : ℕ) (x : X) → slice_set (map f xs) k (f x) ≡ map f (slice_set xs k x)
+set_mapped f [] k x = refl
+set_mapped f (y ∷ ys) zero x = refl
+set_mapped f (y ∷ ys) (suc k) x = ap (λ rest. f y ∷ rest) (set_mapped f ys k x)
 
 pub at_front : {X : Type 0} → (xs ys : List X) (k : ℕ) (x : X) → slice_get xs k ≡ Some x → slice_get (xs ++ ys) k ≡ Some x
 at_front [] ys k x is = absurd (grind (arith, is))

@@ -21,11 +21,13 @@ use Rattle.pf_server.specs.Turns.{Comes}
 use Rattle.pf_cluster.specs.declared.cluster.Cluster.{Cluster}
 use Rattle.pf_cluster.specs.declared.kept.Acked.{Acked}
 use Rattle.pf_cluster.specs.Going.{Goes, HasFault, IsReached, KeepsOthers, KeepsStores, acts_at}
+use Rattle.pf_cluster.specs.Readings.{taken_of}
 use Rattle.pf_cluster.specs.Showing.{HasTraffic, Shows}
-use Rattle.pf_cluster.specs.Turned.{Ends, HasTurned, IsTurnOf, outbox_of}
+use Rattle.pf_cluster.specs.Turned.{Ends, HasTurned, IsTurnOf, outbox_of, reads_with}
 use Rattle.pf_cluster.proofs.Beginning.{its_condition, server_there}
 use Rattle.pf_cluster.proofs.Ended.{fault_of}
 use Rattle.pf_cluster.proofs.Events.{IsMid, IsTurnEvent, turn_answer, turned_so}
+use Rattle.pf_cluster.proofs.Readings.{no_more}
 use Rattle.pf_cluster.proofs.Stores.{others_kept, stores_kept}
 use Rattle.pf_cluster.proofs.Taking.{IsDown, Tells, no_read, stopped_idles, unformatted_idles}
 use Rattle.pf_cluster.proofs.Turning.{no_ok}
@@ -83,7 +85,7 @@ module _ {S : Type 0} (holds : S → Durable → Durable → Type 0) (used forma
       plain_turned event turn pre is = turned_so holds used format told rose was setup history old reached i me next (mid_of old i next acked) middle (replay setup history) refl turn outcome out out' judged rule is.same_judged is.same_rule did.tells did.down did.fresh is.knows traffic did.place
           (λ c took. reached.shows.reads ∙ sym (no_read holds used format told rose was (replay setup history).reads turn me next out out' outcome is.plain c took))
 
-      module _ (event : Event) (turn : Turn) (pre : Ending → Group) (is : IsTurnAs setup history event i turn pre judged rule) (after final : Cluster S) (same : outcome ≡ Ok (Refused Halted) → final.servers.items ≡ (mid_of old i next acked).servers.items) (stores : KeepsStores (mid_of old i next acked) final) where
+      module _ (event : Event) (turn : Turn) (pre : Ending → Group) (is : IsTurnAs setup history event i turn pre judged rule) (after final : Cluster S) (same : outcome ≡ Ok (Refused Halted) → final.servers.items ≡ (mid_of old i next acked).servers.items) (stores : KeepsStores (mid_of old i next acked) final) (taken : taken_of final ≡ taken_of old) where
         cause : outcome ≡ Ok (Refused Halted) → (j : ℕ) × (acts_at (replay setup history) event ≡ Some j) × HasFault rose j old final
         unfolding plain_turned turned_so
         cause halted = (i, is.event_is.acts, fault_of holds used format told rose was setup (replay setup history) i turn (mid_of old i next acked) out' outcome (plain_turned event turn pre is) old final refl (same halted) halted)
@@ -93,12 +95,13 @@ module _ {S : Type 0} (holds : S → Durable → Durable → Type 0) (used forma
 
         module _ (whole : (answer : Answer) → outcome ≡ Ok answer → Shows holds used format told setup after (at_server (ending answer) (replay setup history) i turn.rule) → Shows holds used format told setup final (at_server (ending answer) (pre (ending answer)) i turn.rule)) (none : (e : NoMemory) → outcome ≡ Err e → Shows holds used format told setup after (replay setup history) → Shows holds used format told setup final (replay setup history)) where
           by_outcome : (o : Result Answer NoMemory) → outcome ≡ o → Ends holds used format told setup (replay setup history) i turn after o → Goes holds used format told rose setup (replay setup history) event old final o
-          by_outcome (Err e) so shows = record { shows = none e so shows; others = λ j own. stores j ∙ stores_kept old (mid_of old i next acked) i next refl me here (spared e so) j }
+          by_outcome (Err e) so shows = record { shows = none e so shows; others = λ j own. stores j ∙ stores_kept old (mid_of old i next acked) i next refl me here (spared e so) j; taken = taken }
           by_outcome (Ok answer) so ended = record {
             answered = turn_answer setup (replay setup history) event i turn pre is.event_is answer ended.answered;
             shows = subst (Shows holds used format told setup final) (sym (is.event_is.goes (ending answer))) (whole answer so ended.shows);
             cause = λ halted. cause (so ∙ ap Ok halted);
             others = others;
+            taken = taken ∙ sym (no_more (taken_of old) (replay setup history).reads answer (ap (reads_with (replay setup history).reads) (sym so) ∙ sym (plain_turned event turn pre is).reads ∙ reached.shows.reads));
           }
 
           -- what was made of the cluster after the turn's end is what the event makes of the group
@@ -106,6 +109,6 @@ module _ {S : Type 0} (holds : S → Durable → Durable → Type 0) (used forma
           event_goes result is_outcome ended = subst (λ r. Goes holds used format told rose setup (replay setup history) event old final r) (sym is_outcome) (by_outcome outcome refl (ended (plain_turned event turn pre is)))
 
       -- nothing more is made of it
-      pub plain_goes : (event : Event) (turn : Turn) → IsTurnAs setup history event i turn (λ how. replay setup history) judged rule → (after : Cluster S) → (outcome ≡ Ok (Refused Halted) → after ≡ mid_of old i next acked) → KeepsStores (mid_of old i next acked) after → (result : Result Answer NoMemory) → result ≡ outcome
+      pub plain_goes : (event : Event) (turn : Turn) → IsTurnAs setup history event i turn (λ how. replay setup history) judged rule → (after : Cluster S) → (outcome ≡ Ok (Refused Halted) → after ≡ mid_of old i next acked) → KeepsStores (mid_of old i next acked) after → taken_of after ≡ taken_of old → (result : Result Answer NoMemory) → result ≡ outcome
           → (HasTurned holds used format told rose was setup (replay setup history) i turn (mid_of old i next acked) out' outcome → Ends holds used format told setup (replay setup history) i turn after outcome) → Goes holds used format told rose setup (replay setup history) event old after result
-      plain_goes event turn is after same stores result is_outcome ended = event_goes event turn (λ how. replay setup history) is after after (λ halted. ap (λ (x : Cluster S). x.servers.items) (same halted)) stores (λ answer so shows. shows) (λ e so shows. shows) result is_outcome ended
+      plain_goes event turn is after same stores taken result is_outcome ended = event_goes event turn (λ how. replay setup history) is after after (λ halted. ap (λ (x : Cluster S). x.servers.items) (same halted)) stores taken (λ answer so shows. shows) (λ e so shows. shows) result is_outcome ended

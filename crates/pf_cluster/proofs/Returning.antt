@@ -39,6 +39,7 @@ use Rattle.pf_protocol.specs.Answers.{Claimed, IsOpen, claims_of}
 use Rattle.pf_protocol.proofs.Claiming.{legal_open}
 use Rattle.pf_server.specs.Conditions.{BringsBack}
 use Rattle.pf_cluster.specs.Going.{HasGone, IsBroughtBack, IsReached, KeepsStores}
+use Rattle.pf_cluster.specs.Readings.{taken_after, taken_of}
 use Rattle.pf_cluster.specs.Showing.{HasTraffic, IsMember, Shows}
 use Rattle.pf_cluster.specs.Turned.{HasStepped, is_refused}
 use Rattle.pf_cluster.proofs.Acting.{read_there, shows_acted}
@@ -198,14 +199,14 @@ module _ {S : Type 0} (holds : S → Durable → Durable → Type 0) (used forma
       by (StoppedIs its before after) there m = absurd (true≢false (sym running ∙ stopped_idles holds used format me.seat me.store me.state its before after m.meets))
       by UnformattedIs there m = absurd (true≢false (sym running ∙ unformatted_idles holds used format me.seat me.store me.state m.meets))
 
-  pub back_gone : (after : Cluster S) → KeepsStores old after → Shows holds used format told setup after (at_server Whole grp i (λ s. on_give_back s life slot)) → HasGone holds used format told rose setup grp (GiveBack i life slot) old after Done
+  pub back_gone : (after : Cluster S) → KeepsStores old after → taken_of after ≡ taken_of old → Shows holds used format told setup after (at_server Whole grp i (λ s. on_give_back s life slot)) → HasGone holds used format told rose setup grp (GiveBack i life slot) old after Done
   unfolding answer_to happens
-  back_gone after stores shows = record { answered = inl refl; shows = shows; cause = λ halted. absurd (done_apart halted); others = λ j own. stores j }
+  back_gone after stores taken shows = record { answered = inl refl; shows = shows; cause = λ halted. absurd (done_apart halted); others = λ j own. stores j; taken = taken }
 
   pub back_idle : runs me.state ≡ false → HasGone holds used format told rose setup grp (GiveBack i life slot) old old Done
   back_idle idle =
       let m = its_condition holds used format told setup history old reached i me here in
-      back_gone old (λ j. refl) (subst (Shows holds used format told setup old) (sym (ap (λ c. step_of Whole grp i c (λ s. on_give_back s life slot)) m.1 ∙ by m.0 m.2.meets)) reached.shows)
+      back_gone old (λ j. refl) refl (subst (Shows holds used format told setup old) (sym (ap (λ c. step_of Whole grp i c (λ s. on_give_back s life slot)) m.1 ∙ by m.0 m.2.meets)) reached.shows)
     where
       by : (c : Condition) → Meets holds used format me.seat me.store me.state c → step_of Whole grp i (Some c) (λ s. on_give_back s life slot) ≡ grp
       by (RunningIs s) meets = absurd (true≢false (sym (running_there holds used format told me.seat me.store me.state s meets) ∙ idle))
@@ -286,14 +287,15 @@ module _ {S : Type 0} (holds : S → Durable → Durable → Type 0) (used forma
   unfolding happens
   finish_comes how is = ap (λ h. at_server h now i (λ s. on_finish s life slot)) is
 
-  pub finish_gone : (done : done_so) → (after : Cluster S) → KeepsStores old after → Shows holds used format told setup after (at_server Whole now i (λ s. on_finish s life slot)) → HasGone holds used format told rose setup now (Finish i life slot) old after answer
-  finish_gone done after stores shows =
+  pub finish_gone : (done : done_so) → (after : Cluster S) → KeepsStores old after → taken_of after ≡ taken_of old → Shows holds used format told setup after (at_server Whole now i (λ s. on_finish s life slot)) → HasGone holds used format told rose setup now (Finish i life slot) old after answer
+  finish_gone done after stores taken shows =
       let is : answer ≡ Done = done.settles.answered ∙ done.still.answer in
       record {
         answered = inl (done.settles.answered ∙ sym (finish_answers (RunningIs done.s) done.there));
         shows = subst (Shows holds used format told setup after) (sym (finish_comes Whole (ap ending is))) shows;
         cause = λ halted. absurd (done_apart (sym is ∙ halted));
         others = λ j own. stores j;
+        taken = taken ∙ ap (taken_after (taken_of old)) (sym is);
       }
 
   -- it was refused
@@ -302,24 +304,25 @@ module _ {S : Type 0} (holds : S → Durable → Durable → Type 0) (used forma
       let m = its_condition holds used format told setup history old reached i me here in
       by m.0 m.1 m.2
     where
-      gone : (c : Condition) → slice_get now.servers i ≡ Some c → IsMember holds used format told setup i next c → (right : Answer) → finish_answer (Some c) life slot ≡ right → answer ≡ right → (how : Ending) → ending right ≡ how → step_of how now i (Some c) (λ s. on_finish s life slot) ≡ now → (right ≡ Refused Halted → ⊥) → HasGone holds used format told rose setup now (Finish i life slot) old middle answer
-      gone c there m right is same how ends idle apart = record {
+      gone : (c : Condition) → slice_get now.servers i ≡ Some c → IsMember holds used format told setup i next c → (right : Answer) → finish_answer (Some c) life slot ≡ right → answer ≡ right → (how : Ending) → ending right ≡ how → step_of how now i (Some c) (λ s. on_finish s life slot) ≡ now → (right ≡ Refused Halted → ⊥) → taken_after (taken_of old) right ≡ taken_of old → HasGone holds used format told rose setup now (Finish i life slot) old middle answer
+      gone c there m right is same how ends idle apart quiet = record {
         answered = inl (same ∙ sym (finish_answers c there ∙ is));
         shows = subst (Shows holds used format told setup middle) (sym (finish_comes how (ap ending same ∙ ends) ∙ ap (λ x. step_of how now i x (λ s. on_finish s life slot)) there ∙ idle))
             (alone_still holds used format told setup now old reached.shows i next c there m);
         cause = λ halted. absurd (apart (sym same ∙ halted));
         others = others_kept old middle i next refl;
+        taken = sym (ap (taken_after (taken_of old)) same ∙ quiet);
       }
 
       by : (c : Condition) → slice_get now.servers i ≡ Some c → IsMember holds used format told setup i me c → HasGone holds used format told rose setup now (Finish i life slot) old middle answer
       by (RunningIs s) there m = elim (at_running s m.meets) [
         | inl done ↦ absurd (false≢true (sym (ap is_refused (done.1.answered ∙ (finished s life slot done.0).answer)) ∙ refused_so))
-        | inr other ↦ gone (RunningIs s) there (record { seat = seat ∙ m.seat; meets = subst (λ x. Meets holds used format x next.store next.state (RunningIs s)) (sym seat) other.2; tells = told_same ∙ m.tells }) (Refused (Stale s.life)) (stale s life slot other.0) other.1 Untouched refl refl (not_stale s.life)
+        | inr other ↦ gone (RunningIs s) there (record { seat = seat ∙ m.seat; meets = subst (λ x. Meets holds used format x next.store next.state (RunningIs s)) (sym seat) other.2; tells = told_same ∙ m.tells }) (Refused (Stale s.life)) (stale s life slot other.0) other.1 Untouched refl refl (not_stale s.life) refl
       ]
       by (StoppedIs its before after) there m = let d = at_stopped its before after m.meets in
-          gone (StoppedIs its before after) there (subst (λ (x : Server S). IsMember holds used format told setup i x (StoppedIs its before after)) (sym d.1) m) (Refused (Stale its)) refl d.0 Untouched refl refl (not_stale its)
+          gone (StoppedIs its before after) there (subst (λ (x : Server S). IsMember holds used format told setup i x (StoppedIs its before after)) (sym d.1) m) (Refused (Stale its)) refl d.0 Untouched refl refl (not_stale its) refl
       by UnformattedIs there m = let d = at_unformatted m.meets in
-          gone UnformattedIs there (subst (λ (x : Server S). IsMember holds used format told setup i x UnformattedIs) (sym d.1) m) (Refused Down) refl d.0 Missed refl refl not_down
+          gone UnformattedIs there (subst (λ (x : Server S). IsMember holds used format told setup i x UnformattedIs) (sym d.1) m) (Refused Down) refl d.0 Missed refl refl not_down refl
 
 -- the job is in hand where its life lasts
 pub brings_back : {S : Type 0} → (holds : S → Durable → Durable → Type 0) (used format : S → ℕ) (told : S → Bool) (setup : Setup) (history : History) (old : Cluster S) (filled : Filled) → IsBroughtBack holds used format told setup history old filled → (me : Server S) → slice_get old.servers.items filled.server ≡ Some me → (c : Condition) × Meets holds used format me.seat me.store me.state c × BringsBack c filled

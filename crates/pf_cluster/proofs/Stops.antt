@@ -18,6 +18,7 @@ use Rattle.pf_server.specs.Conditions.{IsKnown, Meets, runs}
 use Rattle.pf_server.specs.Turns.{Begins, BeginsAgain}
 use Rattle.pf_cluster.specs.declared.cluster.Cluster.{Cluster}
 use Rattle.pf_cluster.specs.Going.{GoesBack, HasFault, HasGone, IsReached, KeepsOthers}
+use Rattle.pf_cluster.specs.Readings.{taken_after, taken_of}
 use Rattle.pf_cluster.specs.Showing.{IsMember, Shows}
 use Rattle.pf_cluster.proofs.Alone.{alone, alone_still}
 use Rattle.pf_cluster.proofs.Beginning.{its_condition}
@@ -57,6 +58,7 @@ module _ {S : Type 0} (holds : S → Durable → Durable → Type 0) (used forma
           (alone_still holds used format told setup g old reached.shows i next c there (subst (λ x. IsMember holds used format told setup i x c) (sym d.1) m));
       cause = λ halted. absurd (down_apart (sym d.0 ∙ halted));
       others = elsewhere;
+      taken = ap (taken_after (taken_of old)) (sym d.0);
     }
       where
         down_apart : Refused Down ≡ Refused Halted → ⊥
@@ -71,6 +73,7 @@ module _ {S : Type 0} (holds : S → Durable → Durable → Type 0) (used forma
               (alone holds used format told setup g old reached.shows i next (RunningIs s) (StoppedIs (suc s.life) s.durable s.durable) there (member (RunningIs s) (StoppedIs (suc s.life) s.durable s.durable) m d.1));
           cause = λ halted. absurd (done_apart (sym d.0 ∙ halted));
           others = elsewhere;
+          taken = ap (taken_after (taken_of old)) (sym d.0);
         }
       where
         done_apart : Done ≡ Refused Halted → ⊥
@@ -113,6 +116,7 @@ module _ {S : Type 0} (holds : S → Durable → Durable → Type 0) (used forma
           (subst (λ k. Meets holds used format me.seat next.store next.state (RunningIs (restarted k (suc life) (renewed (cond found after before))))) (ap (λ x. x.number) m.seat) done.1)));
       cause = λ halted. absurd (done_apart (sym done.0 ∙ halted));
       others = elsewhere;
+      taken = ap (taken_after (taken_of old)) (sym done.0);
     }
     | inr halt ↦ record {
       answered = inr ((restart_answers c found there).1 ∙ formatted, halt.0);
@@ -120,6 +124,7 @@ module _ {S : Type 0} (holds : S → Durable → Durable → Type 0) (used forma
           (alone holds used format told setup g old reached.shows i next c (StoppedIs (suc life) before after) there (member c (StoppedIs (suc life) before after) m halt.1));
       cause = λ halted. (i, refl, fault halt.2);
       others = elsewhere;
+      taken = ap (taken_after (taken_of old)) (sym halt.0);
     }
   ]
     where
@@ -131,7 +136,7 @@ module _ {S : Type 0} (holds : S → Durable → Durable → Type 0) (used forma
   same_found false d = refl
 
   restarts_at : (c : Condition) → slice_get g.servers i ≡ Some c → IsMember holds used format told setup i me c → (result : Result (Answer × Bool) NoMemory) → BeginsAgain holds used format rose me.seat me.store next.store next.state c result → GoesBack holds used format told rose setup g i old new result
-  restarts_at c there m (Err e) b = record { shows = alone_still holds used format told setup g old reached.shows i next c there (member c c m (again c b)); others = elsewhere }
+  restarts_at c there m (Err e) b = record { shows = alone_still holds used format told setup g old reached.shows i next c there (member c c m (again c b)); others = elsewhere; taken = refl }
     where
       again : (x : Condition) → BeginsAgain holds used format rose me.seat me.store next.store next.state x (Err e) → Meets holds used format me.seat next.store next.state x
       again (RunningIs s) is = is
@@ -146,6 +151,7 @@ module _ {S : Type 0} (holds : S → Durable → Durable → Type 0) (used forma
         (alone_still holds used format told setup g old reached.shows i next UnformattedIs there (member UnformattedIs UnformattedIs m b.1));
     cause = λ halted. absurd (ours_apart (sym b.0 ∙ halted));
     others = elsewhere;
+    taken = ap (taken_after (taken_of old)) (sym b.0);
   }
     where
       ours_apart : Refused NotOurs ≡ Refused Halted → ⊥

@@ -17,6 +17,7 @@ use Rattle.pf_protocol.specs.Histories.{History, replay}
 use Rattle.pf_protocol.specs.Answers.{IsAnswer, IsLegal, claims_of}
 use Rattle.pf_server.specs.declared.server.Server.{Server}
 use Rattle.pf_cluster.specs.declared.cluster.Cluster.{Cluster}
+use Rattle.pf_cluster.specs.Readings.{taken_after, taken_of}
 use Rattle.pf_cluster.specs.Showing.{Shows}
 
 -- the server that a packet is for
@@ -73,17 +74,19 @@ module _ {S : Type 0} (holds : S → Durable → Durable → Type 0) (used forma
 
   module _ (rose : S → S → Type 0) where
     -- the event was answered as the rules say, and the cluster stands for the group after it. A step is cut off only where a disk of
-    -- its own server failed, and no other server's disks are touched
+    -- its own server failed, no other server's disks are touched, and no answer of a read is handed out
     pub record HasGone (setup : Setup) (g : Group) (event : Event) (old new : Cluster S) (answer : Answer) : Type 0 where
       pub answered : IsAnswer setup g event answer
       pub shows : Shows holds used format told setup new (happens setup g event (ending answer))
       pub cause : answer ≡ Refused Halted → (i : ℕ) × (acts_at g event ≡ Some i) × HasFault rose i old new
       pub others : KeepsOthers (acts_at g event) old new
+      pub taken : taken_of new ≡ taken_after (taken_of old) answer
 
     -- or there was no memory for it: the cluster stands for the same group, and the disks of every server but this one are as they were
     pub record HasStayed (setup : Setup) (g : Group) (own : Option ℕ) (old new : Cluster S) : Type 0 where
       pub shows : Shows holds used format told setup new g
       pub others : KeepsOthers own old new
+      pub taken : taken_of new ≡ taken_of old
 
     abbrev pub Goes : Setup → Group → Event → (old new : Cluster S) → Result Answer NoMemory → Type 0
     Goes setup g event old new (Ok answer) = HasGone setup g event old new answer

@@ -5,4 +5,5 @@ pub mod Going
 pub mod Keeping
 pub mod Readings
 pub mod Showing
+pub mod Shown
 pub mod Turned

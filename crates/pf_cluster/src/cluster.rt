@@ -35,7 +35,6 @@ impl<S: Store> Cluster<S> {
         requires { length self.now.packets.items ≤ 65536 }
         ensures { result ≡ outbox_of self.now }
     {
-        let sent = self.packets.len() as u32;
-        Outbox::new(alloc, PLACES - sent, self.byte_room)
+        Outbox::new(alloc, PLACES - self.packet_count(), self.byte_room)
     }
 }

@@ -5,6 +5,7 @@ ghost use Rattle.pf_protocol.specs.Outcomes.{Outcome};
 ghost use Rattle.pf_protocol.specs.Groups.{Group, acted};
 ghost use Rattle.pf_protocol.specs.Answers.{Turn};
 ghost use Rattle.pf_cluster.specs.Going.{KeepsStores};
+ghost use Rattle.pf_cluster.specs.Readings.{taken_of};
 ghost use Rattle.pf_cluster.specs.Showing.{Shows};
 ghost use Rattle.pf_cluster.specs.Turned.{Ends, HasStepped, HasTurned, is_refused};
 
@@ -34,6 +35,7 @@ impl<S: Store> Cluster<S> {
         ensures elections { self.new.elections ≡ self.old.elections }
         ensures packets { vec_len self.old.packets ≤ vec_len self.new.packets }
         ensures stores { KeepsStores self.old self.new }
+        ensures taken { taken_of self.new ≡ taken_of self.old }
     {
         let server = server as usize;
         keep_packets(&mut self.packets, &mut self.byte_room, out);
@@ -54,6 +56,7 @@ impl<S: Store> Cluster<S> {
         ensures elections { self.new.elections ≡ self.old.elections }
         ensures packets { vec_len self.old.packets ≤ vec_len self.new.packets }
         ensures stores { KeepsStores self.old self.new }
+        ensures taken { taken_of self.new ≡ taken_of self.old }
         ensures halted { outcome ≡ Ok (Answer.Refused Refusal.Halted) → self.new ≡ self.old }
     {
         let Ok(answer) = &outcome else {

@@ -5,6 +5,7 @@ ghost use Rattle.pf_protocol.specs.Histories.{History, replay};
 ghost use Rattle.pf_protocol.specs.declared.events.Event.TheVariants.{Finish, GiveBack};
 ghost use Rattle.pf_cluster.specs.Claiming.{ClaimsAt};
 ghost use Rattle.pf_cluster.specs.Going.{GoesTwice, HasGone, HasHistory, IsBroughtBack, IsReached, KeepsStores};
+ghost use Rattle.pf_cluster.specs.Readings.{taken_of};
 
 use crate::Cluster;
 use crate::ends::is_refused;
@@ -38,6 +39,7 @@ impl<S: Store> Cluster<S> {
         requires reached { HasHistory S.holds S.used S.format S.told self.old }
         ensures step { (setup : Setup) (history : History) → IsReached S.holds S.used S.format S.told setup history self.old → ClaimsAt S.holds S.used S.format S.told setup (replay setup history) server self.new result }
         ensures stores { KeepsStores self.old self.new }
+        ensures taken { taken_of self.new ≡ taken_of self.old }
     {
         self.servers[server as usize].claim(alloc)
     }

@@ -76,6 +76,6 @@ pub fn keep_answers<S: Store>(server: &mut Server<S>, readings: &mut Vec<Reading
     ensures store { server.new.store ≡ server.old.store }
 {
     while let Some((number, sectors)) = server.take_answered() {
-        readings[number as usize] = Reading::Answered(sectors);
+        readings[number as usize].answer(sectors);
     }
 }

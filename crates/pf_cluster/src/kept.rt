@@ -1,5 +1,9 @@
 //! What a cluster keeps beside its servers.
+ghost use Rattle.std.specs.Prelude.{◌≡◌, is_some};
+ghost use Rattle.pf_cluster.specs.Readings.{answer_in, with_answer, without_answer};
+
 use pf_base::{Bytes, Data, Slot, Term};
+use std::mem::replace;
 
 /// A packet, spelled as it was sent.
 #[derive(Debug, Drop)]
@@ -25,4 +29,39 @@ pub enum Reading {
     Answered(Data),
     /// Its answer was taken out.
     Taken,
+}
+
+impl Reading {
+    /// The answer of a read that waits; a read is answered once.
+    pub(crate) fn answer(&mut self, sectors: Data)
+        ensures { self.new ≡ with_answer self.old sectors }
+    {
+        if let Reading::Waiting = self {
+            *self = Reading::Answered(sectors);
+        }
+    }
+
+    /// Whether there is an answer to be taken out.
+    pub(crate) fn has_answer(&self) -> bool
+        ensures { result ≡ is_some (answer_in self.now) }
+    {
+        match self {
+            Reading::Answered(_) => true,
+            Reading::Waiting | Reading::Taken => false,
+        }
+    }
+
+    /// Takes the answer out, where one is there.
+    pub(crate) fn take(&mut self) -> Option<Data>
+        ensures answer { result ≡ answer_in self.old }
+        ensures left { self.new ≡ without_answer self.old }
+    {
+        match replace(self, Reading::Taken) {
+            Reading::Answered(sectors) => Some(sectors),
+            other => {
+                *self = other;
+                None
+            }
+        }
+    }
 }

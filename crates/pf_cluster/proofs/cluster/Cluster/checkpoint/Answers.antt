@@ -65,4 +65,4 @@ returns g c setup history reached =
       down = outcome.ensures.down;
     }) (Checkpoint c.args.server) (plain (replay setup history) on_checkpoint)
     (checkpoints setup history reached.legal reached.short c.args.server c.requires.server out room)
-    c.end.new.self c.end.ensures.halted c.end.ensures.stores c.end.result c.end.ensures.same (c.end.ensures.step setup (replay setup history) (plain (replay setup history) on_checkpoint))
+    c.end.new.self c.end.ensures.halted c.end.ensures.stores c.end.ensures.taken c.end.result c.end.ensures.same (c.end.ensures.step setup (replay setup history) (plain (replay setup history) on_checkpoint))

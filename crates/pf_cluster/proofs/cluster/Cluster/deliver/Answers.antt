@@ -138,7 +138,7 @@ returns g c setup history reached =
       tells = outcome.ensures.step;
       down = outcome.ensures.down;
     }) (Deliver c.args.k) turn (λ how. marked_in how grp c.args.k sent.0) is
-    end.new.self _ (λ halted. ap (λ (x : Cluster g.row.S.Denot). x.servers.items) (end.ensures.halted halted)) end.ensures.stores
+    end.new.self _ (λ halted. ap (λ (x : Cluster g.row.S.Denot). x.servers.items) (end.ensures.halted halted)) end.ensures.stores end.ensures.taken
     (λ answer so shows. marks_whole g.S.Store.holds g.S.Store.used g.S.Store.format g.S.Store.told setup grp packet.to c.args.k sent.0 turn.rule sent.1 end.new.self mark.new.packets end.result mark.ensures.items mark.ensures.capacity answer (end.ensures.same ∙ so) shows)
     (λ e so shows. marks_none g.S.Store.holds g.S.Store.used g.S.Store.format g.S.Store.told setup grp packet.to c.args.k sent.0 turn.rule sent.1 end.new.self mark.new.packets end.result mark.ensures.items mark.ensures.capacity e (end.ensures.same ∙ so) shows)
     end.result end.ensures.same (end.ensures.step setup grp turn)

@@ -76,7 +76,7 @@ returns g c setup history reached =
       down = outcome.ensures.down;
     }) (Elect c.args.server) (elect_turn grp) (λ how. counted_election how grp)
     (elects setup history reached.legal reached.short c.args.server c.requires.server (omega (arith, c.if-self-ge-MOST_ELECTIONS.false, reached.shows.traffic.elections)) out room)
-    c.end-outcome.new.self _ (λ halted. ap (λ (x : Cluster g.row.S.Denot). x.servers.items) (c.end-outcome.ensures.halted halted)) c.end-outcome.ensures.stores
+    c.end-outcome.new.self _ (λ halted. ap (λ (x : Cluster g.row.S.Denot). x.servers.items) (c.end-outcome.ensures.halted halted)) c.end-outcome.ensures.stores c.end-outcome.ensures.taken
     (λ answer so shows. counts_whole g.S.Store.holds g.S.Store.used g.S.Store.format g.S.Store.told setup grp c.args.server on_elect c.end-outcome.new.self.elections before c.end-outcome.new.self c.count_election.new.elections c.end-outcome.result c.count_election.ensures answer (c.end-outcome.ensures.same ∙ so) shows)
     (λ e so shows. counts_none g.S.Store.holds g.S.Store.used g.S.Store.format g.S.Store.told setup grp c.end-outcome.new.self.elections before c.end-outcome.new.self c.count_election.new.elections c.end-outcome.result c.count_election.ensures e (c.end-outcome.ensures.same ∙ so) shows)
     c.end-outcome.result c.end-outcome.ensures.same (c.end-outcome.ensures.step setup grp (elect_turn grp))

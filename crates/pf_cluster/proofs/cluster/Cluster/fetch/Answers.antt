@@ -58,4 +58,4 @@ returns g c setup history reached =
       tells = outcome.ensures.step;
       down = outcome.ensures.down;
     }) (c.note_read.ensures ∙ ap (λ xs. readings_with xs outcome.result) c.reserve.ensures.items) room
-    c.end.new.self c.end.ensures.halted c.end.ensures.stores c.end.result c.end.ensures.same (c.end.ensures.step setup (replay setup history) (fetch_turn setup (replay setup history) c.args.range))
+    c.end.new.self c.end.ensures.halted c.end.ensures.stores c.end.ensures.taken c.end.result c.end.ensures.same (c.end.ensures.step setup (replay setup history) (fetch_turn setup (replay setup history) c.args.range))

@@ -1,8 +1,11 @@
-use Rattle.std.proofs.Common.{sym, ap, ◌∙◌}
+use Rattle.std.proofs.Common.{map, sym, ap, ◌∙◌}
 use Rattle.pf_protocol.specs.Servers.{Server as ServerIs}
 use Rattle.pf_protocol.specs.Outcomes.{Outcome}
 use Rattle.pf_protocol.specs.Saving.{on_finish}
 use Rattle.pf_cluster.proofs.Beginning.{in_order, server_there}
+use Rattle.pf_server.specs.Conditions.{answers_of}
+use Rattle.pf_cluster.specs.Readings.{is_taken}
+use Rattle.pf_cluster.proofs.Readings.{none_taken}
 use Rattle.pf_cluster.proofs.Returning.{brings_back, finish_done, finish_gone, finish_refused, job_places, job_shows, job_sized, job_stores}
 use Rattle.pf_cluster.proofs.cluster.Cluster.finish.Goals as goal
 
@@ -35,4 +38,5 @@ returns g c setup history reached =
     let kept = c.keep_answers in
     finish_gone g.S.Store.holds g.S.Store.used g.S.Store.format g.S.Store.told g.S.Store.rose setup history c.args.self.now reached c.args.filled.server c.index_mut.result.now c.finish-answer.new.self c.requires.server (server_there g.S.Store.holds g.S.Store.used g.S.Store.format g.S.Store.told setup history c.args.self.now reached c.args.filled.server c.index_mut.result.now c.requires.server c.index_mut.ensures.value) c.finish-answer.ensures.seat (ap g.S.Store.told c.finish-answer.ensures.store) c.args.filled.life c.args.filled.slot c.finish-answer.result c.finish-answer.ensures.step c.finish-answer.ensures.stopped c.finish-answer.ensures.unformatted done _
     (job_stores g.S.Store.holds g.S.Store.used g.S.Store.format g.S.Store.told g.S.Store.rose setup history c.args.self.now reached c.args.filled.server c.index_mut.result.now c.finish-answer.new.self c.requires.server (server_there g.S.Store.holds g.S.Store.used g.S.Store.format g.S.Store.told setup history c.args.self.now reached c.args.filled.server c.index_mut.result.now c.requires.server c.index_mut.ensures.value) c.finish-answer.ensures.seat (ap g.S.Store.told c.finish-answer.ensures.store) rule c.finish-answer.result done c.index_mut-2.result.now c.index_mut-2.ensures.value c.finish-answer.ensures.store kept.new.server kept.new.readings kept.ensures.store)
+    (ap (map is_taken) kept.ensures.readings ∙ none_taken c.args.self.now.readings.items (answers_of c.index_mut-2.result.now.state))
     (job_shows g.S.Store.holds g.S.Store.used g.S.Store.format g.S.Store.told g.S.Store.rose setup history c.args.self.now reached c.args.filled.server c.index_mut.result.now c.finish-answer.new.self c.requires.server (server_there g.S.Store.holds g.S.Store.used g.S.Store.format g.S.Store.told setup history c.args.self.now reached c.args.filled.server c.index_mut.result.now c.requires.server c.index_mut.ensures.value) c.finish-answer.ensures.seat (ap g.S.Store.told c.finish-answer.ensures.store) rule c.finish-answer.result done c.index_mut-2.result.now c.index_mut-2.ensures.value kept.new.server kept.new.readings kept.ensures.seat kept.ensures.store kept.ensures.same kept.ensures.readings)

@@ -1,12 +1,14 @@
-use Rattle.std.proofs.Common.{refl, sym, ap, ◌∙◌}
+use Rattle.std.proofs.Common.{map, refl, sym, ap, ◌∙◌}
 use Rattle.pf_protocol.specs.declared.answers.Answer.TheVariants.{Done}
 use Rattle.pf_protocol.specs.Servers.{Server as ServerIs}
 use Rattle.pf_protocol.specs.Outcomes.{Outcome}
 use Rattle.pf_protocol.specs.Saving.{on_give_back}
 use Rattle.pf_server.specs.declared.server.Server.{Server}
-use Rattle.pf_server.specs.Conditions.{runs}
+use Rattle.pf_server.specs.Conditions.{answers_of, runs}
 use Rattle.pf_cluster.proofs.Acting.{read_there}
 use Rattle.pf_cluster.proofs.Beginning.{in_order, server_there}
+use Rattle.pf_cluster.specs.Readings.{is_taken}
+use Rattle.pf_cluster.proofs.Readings.{none_taken}
 use Rattle.pf_cluster.proofs.Returning.{back_gone, back_idle, back_taken, job_places, job_shows, job_sized, job_stores}
 use Rattle.pf_cluster.proofs.cluster.Cluster.give_back.Goals as goal
 
@@ -46,4 +48,5 @@ returns g c setup history reached =
     let kept = c.keep_answers in
     back_gone g.S.Store.holds g.S.Store.used g.S.Store.format g.S.Store.told g.S.Store.rose setup history c.args.self.now reached c.args.server c.index_mut.result.now c.give_back.new.self c.requires.server (server_there g.S.Store.holds g.S.Store.used g.S.Store.format g.S.Store.told setup history c.args.self.now reached c.args.server c.index_mut.result.now c.requires.server c.index_mut.ensures.value) c.give_back.ensures.seat (ap g.S.Store.told c.give_back.ensures.store) c.args.life c.args.slot _
     (job_stores g.S.Store.holds g.S.Store.used g.S.Store.format g.S.Store.told g.S.Store.rose setup history c.args.self.now reached c.args.server c.index_mut.result.now c.give_back.new.self c.requires.server (server_there g.S.Store.holds g.S.Store.used g.S.Store.format g.S.Store.told setup history c.args.self.now reached c.args.server c.index_mut.result.now c.requires.server c.index_mut.ensures.value) c.give_back.ensures.seat (ap g.S.Store.told c.give_back.ensures.store) rule Done done c.index_mut-2.result.now c.index_mut-2.ensures.value c.give_back.ensures.store kept.new.server kept.new.readings kept.ensures.store)
+    (ap (map is_taken) kept.ensures.readings ∙ none_taken c.args.self.now.readings.items (answers_of c.index_mut-2.result.now.state))
     (job_shows g.S.Store.holds g.S.Store.used g.S.Store.format g.S.Store.told g.S.Store.rose setup history c.args.self.now reached c.args.server c.index_mut.result.now c.give_back.new.self c.requires.server (server_there g.S.Store.holds g.S.Store.used g.S.Store.format g.S.Store.told setup history c.args.self.now reached c.args.server c.index_mut.result.now c.requires.server c.index_mut.ensures.value) c.give_back.ensures.seat (ap g.S.Store.told c.give_back.ensures.store) rule Done done c.index_mut-2.result.now c.index_mut-2.ensures.value kept.new.server kept.new.readings kept.ensures.seat kept.ensures.store kept.ensures.same kept.ensures.readings)

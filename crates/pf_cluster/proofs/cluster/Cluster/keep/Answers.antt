@@ -7,7 +7,9 @@ use Rattle.pf_server.specs.declared.server.Server.{Server}
 use Rattle.pf_server.specs.Conditions.{Meets, answers_of}
 use Rattle.pf_cluster.specs.declared.kept.Acked.{Acked}
 use Rattle.pf_cluster.specs.Keeping.{HavePlaces, with_answers}
+use Rattle.pf_cluster.specs.Readings.{is_taken}
 use Rattle.pf_cluster.proofs.Acting.{has_bytes, has_place, has_readings, read_there, shows_acted, stepped_there}
+use Rattle.pf_cluster.proofs.Readings.{none_taken}
 use Rattle.pf_cluster.proofs.Stores.{stores_kept}
 use Rattle.pf_cluster.proofs.cluster.Cluster.keep.Goals as goal
 
@@ -54,3 +56,6 @@ returns-clause-stores g c =
     let there = stepped_there g.S.Store.holds g.S.Store.used g.S.Store.format g.S.Store.told q.0 q.1.0 c.args.server q.1.1.0 c.args.self.now c.args.out.now q.1.1.1 in
     let lent = read_there c.args.self.now.servers.items c.args.server _ c.index_mut.result.now there c.index_mut.ensures.value in
     stores_kept c.args.self.now (record c.args.self.now { servers = with_item c.args.self.now.servers c.args.server c.keep_answers.new.server }) c.args.server c.keep_answers.new.server refl c.index_mut.result.now (there ∙ ap Some (sym lent)) c.keep_answers.ensures.store
+
+pub returns-clause-taken : goal.returns-clause-taken
+returns-clause-taken g c = ap (map is_taken) c.keep_answers.ensures.readings ∙ none_taken c.args.self.now.readings.items (answers_of c.index_mut.result.now.state)

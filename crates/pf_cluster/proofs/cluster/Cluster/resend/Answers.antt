@@ -65,4 +65,4 @@ returns g c setup history reached =
       down = outcome.ensures.down;
     }) (Resend c.args.server) (plain (replay setup history) (λ s. on_resend s s.role))
     (resends setup history reached.legal reached.short c.args.server c.requires.server out room)
-    c.end.new.self c.end.ensures.halted c.end.ensures.stores c.end.result c.end.ensures.same (c.end.ensures.step setup (replay setup history) (plain (replay setup history) (λ s. on_resend s s.role)))
+    c.end.new.self c.end.ensures.halted c.end.ensures.stores c.end.ensures.taken c.end.result c.end.ensures.same (c.end.ensures.step setup (replay setup history) (plain (replay setup history) (λ s. on_resend s s.role)))

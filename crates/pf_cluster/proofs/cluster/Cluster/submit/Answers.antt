@@ -68,4 +68,4 @@ returns g c setup history reached =
       down = outcome.ensures.down;
     }) (Submit c.args.server c.args.op) (submit_turn setup (replay setup history) c.args.op)
     (submits setup history reached.legal reached.short c.args.server c.args.op c.requires.server c.requires.op out room me.seat m.2.seat)
-    c.end.new.self c.end.ensures.halted c.end.ensures.stores c.end.result c.end.ensures.same (c.end.ensures.step setup (replay setup history) (submit_turn setup (replay setup history) c.args.op))
+    c.end.new.self c.end.ensures.halted c.end.ensures.stores c.end.ensures.taken c.end.result c.end.ensures.same (c.end.ensures.step setup (replay setup history) (submit_turn setup (replay setup history) c.args.op))
