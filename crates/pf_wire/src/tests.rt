@@ -1,5 +1,14 @@
-//! Packets as bytes: two of them by hand, one of each kind there and back, and bytes that are no packet.
+//! Packets as bytes: two of them by hand, one of each kind there and back, their parts by themselves, and bytes that are no
+//! packet.
+ghost use Rattle.pf_entry.specs.Canonical.{IsCanonicalMessage};
+
 use crate::{WireFault, decode, encode, length_of};
+use pf_base::{NoMemory, Term};
+use pf_entry::Body;
+use pf_spelling::{
+    Bounds, ReadFault, Reader, Writer, read_entry, read_sectors, read_slots, read_vote,
+    write_entry, write_sectors, write_slots, write_vote,
+};
 use std::alloc::Global;
 use std::test::Fail;
 
@@ -103,5 +112,82 @@ fn bytes_that_are_no_packet(rt: HostRuntime) -> Result<(), Fail> {
     let mut longer = Vec::from_slice(alloc, &REQUEST)?;
     longer.push(0)?;
     assert!(rt; is_bad(alloc, &longer));
+    Ok(())
+}
+
+/// The message's entry, its vote, or the slots and sectors of its image, by their own writers.
+fn parts_of(alloc: Global, term: Term, body: &Body) -> Result<Vec<u8>, NoMemory>
+    requires { IsCanonicalMessage term body.now }
+{
+    let mut writer = Writer::new(alloc);
+    match body {
+        Body::Vote(vote) => write_vote(&mut writer, vote)?,
+        Body::Accept(entry) => write_entry(&mut writer, entry)?,
+        Body::Image {
+            base: _,
+            applied,
+            sectors,
+        } => {
+            write_slots(&mut writer, applied)?;
+            write_sectors(&mut writer, sectors)?;
+        }
+        _ => {}
+    }
+    Ok(writer.into_vec())
+}
+
+/// The parts of the packet that the bytes are.
+fn parts_in(alloc: Global, bytes: &[u8]) -> Result<Vec<u8>, Fail> {
+    let packet = decode(alloc, bytes)?;
+    Ok(parts_of(alloc, packet.term, &packet.body)?)
+}
+
+/// Whether the parts of this packet are its message from this byte on.
+fn has_parts(alloc: Global, kind: u8, message: &[u8], from: usize) -> Result<bool, Fail> {
+    let parts = parts_in(alloc, &packet(alloc, kind, message)?)?;
+    Ok(message.get(from..) == Some(parts.as_slice()))
+}
+
+#[test]
+fn parts_are_written(rt: HostRuntime) -> Result<(), Fail> {
+    let alloc = rt.alloc();
+    assert!(rt; has_parts(alloc, 3, &ACCEPT[11..], 0)?);
+    assert!(rt; has_parts(alloc, 2, &vote(alloc)?, 0)?);
+    assert!(rt; has_parts(alloc, 9, &image(alloc)?, 8)?);
+    Ok(())
+}
+
+/// The slot and first new slot of the entry that the bytes are.
+fn entry_in(alloc: Global, bytes: &[u8]) -> Result<(u64, u64, bool), ReadFault> {
+    let mut reader = Reader::new(bytes);
+    let entry = read_entry(alloc, &mut reader, Bounds::second_format())?;
+    Ok((entry.slot, entry.first, reader.is_at_end()))
+}
+
+/// The checkpoint of the vote that the bytes are, and how many starts and entries it has.
+fn vote_in(alloc: Global, bytes: &[u8]) -> Result<(u64, usize, usize, bool), ReadFault> {
+    let mut reader = Reader::new(bytes);
+    let vote = read_vote(alloc, &mut reader, Bounds::second_format())?;
+    let starts = vote.starts.as_slice().len();
+    let entries = vote.log.as_slice().len();
+    Ok((vote.base, starts, entries, reader.is_at_end()))
+}
+
+/// How many slots above checkpoint 1 and how many sectors the bytes are.
+fn image_in(alloc: Global, bytes: &[u8]) -> Result<(usize, usize, bool), ReadFault> {
+    let mut reader = Reader::new(bytes);
+    let applied = read_slots(alloc, &mut reader, 1)?;
+    let sectors = read_sectors(alloc, &mut reader)?;
+    let (slots, count) = (applied.as_slice().len(), sectors.as_slice().len());
+    Ok((slots, count, reader.is_at_end()))
+}
+
+#[test]
+fn parts_are_read(rt: HostRuntime) -> Result<(), Fail> {
+    let alloc = rt.alloc();
+    assert!(rt; entry_in(alloc, &ACCEPT[11..]) == Ok((2, 4, true)));
+    assert!(rt; entry_in(alloc, &ACCEPT[11..36]) == Err(ReadFault::Malformed));
+    assert!(rt; vote_in(alloc, &vote(alloc)?) == Ok((1, 1, 1, true)));
+    assert!(rt; image_in(alloc, image(alloc)?.get(8..).unwrap_or(&[])) == Ok((1, 16, true)));
     Ok(())
 }
