@@ -181,6 +181,7 @@ impl<D: Disk> Pair<D> {
         ensures used { IfOk result (λ pair. (current_of pair).used ≡ 9 + length first.now) }
         ensures ready { IfOk result (λ pair. IsReady D.seen D.may_leave (current_of pair)) }
         ensures told { IfOk result (λ pair. (is_some (D.seen pair.zero.disk) ≡ is_some (D.seen a)) × (is_some (D.seen pair.one.disk) ≡ is_some (D.seen b))) }
+        ensures told_err { IfErr result (λ given. (is_some (D.seen given.0) ≡ is_some (D.seen a)) × (is_some (D.seen given.1) ≡ is_some (D.seen b))) }
         ensures failed { IfErr result (λ given. Rose (D.faults a) (D.faults given.0) ⊎ Rose (D.faults b) (D.faults given.1)) }
     {
         let zero = Half::Zero.head(&head, head[4]);

@@ -51,6 +51,7 @@ impl<D: Disk> Kept<D> {
         ensures format { IfOk result (λ kept. format_of kept.pair ≡ slice_index head 4) }
         ensures head { IfOk result (λ kept. kept.pair.head ≡ head) }
         ensures told { IfOk result (λ kept. tells D.seen kept.pair ≡ (is_some (D.seen a) && is_some (D.seen b))) }
+        ensures told_err { IfErr result (λ given. (is_some (D.seen given.0) ≡ is_some (D.seen a)) × (is_some (D.seen given.1) ≡ is_some (D.seen b))) }
         ensures failed { IfErr result (λ given. Rose (D.faults a) (D.faults given.0) ⊎ Rose (D.faults b) (D.faults given.1)) }
     {
         match Pair::new(a, b, head, first) {

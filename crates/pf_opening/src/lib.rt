@@ -1,0 +1,10 @@
+//! How a server of a new group begins: its two disks are formatted, and it runs in the group's opening state.
+#![tactic(auto)]
+
+mod fresh;
+mod room;
+
+pub use room::ServerRoom;
+
+#[cfg(test)]
+mod tests;
