@@ -1,7 +1,7 @@
 -- A server of a new group, in memory and as its first record.
 use Rattle.std.proofs.Common.{◌≡◌, inr, true, Some, ℕ, zero, suc, ◌+◌, ◌*◌, ◌<◌, ◌^◌, ◌&&◌, ◌==◌, cond, List, [], ◌∷◌, length, map, nat_lt, replicate, is_some, sum_by, arith, refl, sym, ap, ◌∙◌}
 use Rattle.std.proofs.lemmas.Bool.{false≢true}
-use Rattle.std.proofs.lemmas.List.{length-map}
+use Rattle.std.proofs.lemmas.List.{length-map, length-replicate}
 use Rattle.std.proofs.lemmas.Option.{none-some}
 use Rattle.std.specs.Ordering.{nat_cmp}
 use Rattle.std.specs.FinMap
@@ -58,10 +58,6 @@ opening_is setup (suc i) = refl
 none_above : (slots : Numbers) (base : ℕ) → slots ≡ Sets.empty → Sets.retain slots (nat_lt base) ≡ Sets.empty
 none_above slots base none = ap (λ s. Sets.retain s (nat_lt base)) none ∙ same_set _ _ (λ q. in_above Sets.empty base q ∙ ap (λ b. b && nat_lt base q) (contains-empty q) ∙ sym (contains-empty q))
 
-length_of_zeros : {X : Type 0} → (n : ℕ) (x : X) → length (replicate n x) ≡ n
-length_of_zeros zero x = refl
-length_of_zeros (suc n) x = ap suc (length_of_zeros n x)
-
 module _ (seat : Seat) (made : IsSeat seat) (starts : StartRoom) (log : Holes) (role : Role) (applied : SlotTable) (sectors : List Sector) (in_hand : Map Op) (rooms : Map (List Sector)) (reads : List Asked) (replies : Replying) (snapshots : Map (List Sector)) where
   abbrev me : Running
   me = record {
@@ -89,7 +85,7 @@ module _ (seat : Seat) (made : IsSeat seat) (starts : StartRoom) (log : Holes) (
   unfolding server_of setup_of restarted opening_disk zero_sector
   is_fresh none_started no_log role_is role_kept none_applied zeros none_held no_rooms no_reads no_replies no_snapshots =
       let base : log.base ≡ 0 = ap (λ (l : Holes). l.base) no_log in
-      let chunk : length sectors ≡ seat.sectors = ap length zeros ∙ length_of_zeros {X = Sector} seat.sectors (replicate 512 0) in
+      let chunk : length sectors ≡ seat.sectors = ap length zeros ∙ length-replicate {A = Sector} seat.sectors (replicate 512 0) in
       record {
         cached = record {
           number = made.number;

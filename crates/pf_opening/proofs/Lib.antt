@@ -1,2 +1,3 @@
 mod Begun
 mod Meeting
+pub mod Opened
