@@ -13,7 +13,7 @@ use Rattle.pf_turn.specs.declared.sight.Sight.{Sight}
 use Rattle.pf_turn.specs.declared.sight.Stage.{Stage}
 use Rattle.pf_turn.specs.declared.sight.Stage.TheVariants.{Idle, Waiting, Called}
 use Rattle.pf_turn.specs.Lists.{Begins, tally, Unique, entries_of, GrewBy}
-use Rattle.pf_turn.specs.Rule.{ticket_in, weight, opener, spent, ticket_of, number_of, has_ticket, is_live, Staged, Knows, IsCalled, IsSeen, Kept, Ruled, staged_at, holding, drawing, cut_left, cut_right, glued, drew, numbered, told, Found, looked, served_next}
+use Rattle.pf_turn.specs.Rule.{ticket_in, weight, opener, spent, ticket_of, number_of, has_ticket, is_live, Staged, Knows, IsCalled, IsSeen, Kept, Ruled, staged_at, holding, drawing, cut_left, cut_right, glued, drew, numbered, told, AreRooted, Found, looked, served_next}
 use Rattle.pf_turn.proofs.Lists.{begins_refl, begins_trans, longer_begins, begins_antisym, none_begun, entries_between, entries_stay}
 use Rattle.pf_turn.proofs.Views.{same_at, at_inside, set_at, each_set, tally-set, tally-snoc, tally_le, tally_two, unique_set, unique_same, unique_none, unique_snoc}
 
@@ -25,34 +25,41 @@ weight_one : (o : Option ℕ) → weight o ≤ 1
 weight_one none = omega arith
 weight_one (some n) = omega arith
 
-module _ {E : Type 0} where
-  live_weight : (v : Sight E) → v.live ≡ true → is_live v ≡ 1
+module _ {A : Type 0} where
+  pub not_none : (a : A) → None ≡ Some a → ⊥
+  not_none a e = cc
+
+  pub value_of_some : (a b : A) → Some a ≡ Some b → a ≡ b
+  value_of_some a b e = cc
+
+module _ {E K : Type 0} where
+  live_weight : (v : Sight E K) → v.live ≡ true → is_live v ≡ 1
   live_weight v l = ap (λ b. weight (cond b (some v.number) none)) l
 
-  live_number : (v : Sight E) → v.live ≡ true → number_of v ≡ some v.number
+  live_number : (v : Sight E K) → v.live ≡ true → number_of v ≡ some v.number
   live_number v l = ap (λ b. cond b (some v.number) none) l
 
-  stage_weight : (v : Sight E) (st : Stage) → v.stage ≡ st → has_ticket v ≡ weight (ticket_in st)
+  stage_weight : (v : Sight E K) (st : Stage) → v.stage ≡ st → has_ticket v ≡ weight (ticket_in st)
   stage_weight v st e = ap (λ z. weight (ticket_in z)) e
 
   -- a seat whose number is that of a live seat of the same number is that seat
-  same_number : (vs : List (Sight E)) (i j : ℕ) (u v : Sight E) → Unique number_of vs → get_elem? vs i ≡ some u → get_elem? vs j ≡ some v → u.live ≡ true → v.live ≡ true → u.number ≡ v.number → i ≡ j
+  same_number : (vs : List (Sight E K)) (i j : ℕ) (u v : Sight E K) → Unique number_of vs → get_elem? vs i ≡ some u → get_elem? vs j ≡ some v → u.live ≡ true → v.live ≡ true → u.number ≡ v.number → i ≡ j
   same_number vs i j u v one p q l m e = one i j v.number u v p q (live_number u l ∙ ap some e) (live_number v m)
 
-  called_set : (vs : List (Sight E)) (i : ℕ) (v w : Sight E) → get_elem? vs i ≡ some v → ((t : ℕ) → v.stage ≡ Called t → w.stage ≡ Called t) → IsCalled vs → IsCalled (set vs i w)
+  called_set : (vs : List (Sight E K)) (i : ℕ) (v w : Sight E K) → get_elem? vs i ≡ some v → ((t : ℕ) → v.stage ≡ Called t → w.stage ≡ Called t) → IsCalled vs → IsCalled (set vs i w)
   called_set vs i v w at keep c = let j = c.0 in let t = c.1 in let u = c.2 in dite (ℕ_discrete j i)
-      (λ e. let here : get_elem? vs i ≡ some u = subst (λ k. get_elem? vs k ≡ some u) e c.3 in (i, t, w, set_at vs i v w at, keep t (ap (λ (z : Sight E). z.stage) (same_at vs i v u at here) ∙ c.4)))
+      (λ e. let here : get_elem? vs i ≡ some u = subst (λ k. get_elem? vs k ≡ some u) e c.3 in (i, t, w, set_at vs i v w at, keep t (ap (λ (z : Sight E K). z.stage) (same_at vs i v u at here) ∙ c.4)))
       (λ other. (j, t, u, set_else vs i j w other ∙ c.3, c.4))
 
-  seen_set : (vs : List (Sight E)) (i : ℕ) (v w : Sight E) (h : List (Stamped E)) → get_elem? vs i ≡ some v → (v.live ≡ true → v.seen ≡ h → (w.live ≡ true) × (w.seen ≡ h)) → IsSeen vs h → IsSeen (set vs i w) h
+  seen_set : (vs : List (Sight E K)) (i : ℕ) (v w : Sight E K) (h : List (Stamped E)) → get_elem? vs i ≡ some v → (v.live ≡ true → v.seen ≡ h → (w.live ≡ true) × (w.seen ≡ h)) → IsSeen vs h → IsSeen (set vs i w) h
   seen_set vs i v w h at keep c = let j = c.0 in let u = c.1 in dite (ℕ_discrete j i)
       (λ e. let here : get_elem? vs i ≡ some u = subst (λ k. get_elem? vs k ≡ some u) e c.2 in let same : v ≡ u = same_at vs i v u at here in
-      let k = keep (ap (λ (z : Sight E). z.live) same ∙ c.3) (ap (λ (z : Sight E). z.seen) same ∙ c.4) in (i, w, set_at vs i v w at, k.0, k.1))
+      let k = keep (ap (λ (z : Sight E K). z.live) same ∙ c.3) (ap (λ (z : Sight E K). z.seen) same ∙ c.4) in (i, w, set_at vs i v w at, k.0, k.1))
       (λ other. (j, u, set_else vs i j w other ∙ c.2, c.3, c.4))
 
-module _ {X E : Type 0} (log : X → List (Stamped E)) where
+module _ {X E K : Type 0} (log : X → List (Stamped E)) (root : X → K) (about : K) where
   abbrev V : Type 0
-  V = Sight E
+  V = Sight E K
 
   abbrev St : Type 0
   St = State (Maybe X) V
@@ -61,7 +68,11 @@ module _ {X E : Type 0} (log : X → List (Stamped E)) where
   M = Me (Maybe X) V
 
   abbrev Rule : St → Type 0
-  Rule = Ruled log
+  Rule = Ruled log root about
+
+  -- a live seat of the rule has the root, and the seat that changes keeps its own
+  rooted_set : (s : St) (r : Rule s) (id : ℕ) (v w : V) → get_elem? s.views id ≡ some v → v.live ≡ w.live → v.root ≡ w.root → AreRooted about (set s.views id w)
+  rooted_set s r id v w at lives roots = each_set (λ (u : V). u.live ≡ true → u.root ≡ Some about) s.views id w (λ l. sym roots ∙ r.rooted id v at (lives ∙ l)) (λ j d _ e. r.rooted j d e)
 
   -- fewer tickets are out than the words can tell apart
   few_tickets : (s : St) (r : Rule s) → r.next < r.served + 2 ^ 64
@@ -93,6 +104,7 @@ module _ {X E : Type 0} (log : X → List (Stamped E)) where
           each = each_set (Knows (r.next + 1) r.served r.drawn r.splits r.out r.history) s.views id w
               record { staged = (omega arith, omega arith, live); lives = λ l. record { begins = (k.lives l).begins; numbered = (k.lives l).numbered; own = (k.lives l).own; before = (k.lives l).before; brought = (k.lives l).brought; own_before = (k.lives l).own_before; own_brought = (k.lives l).own_brought; counts = (k.lives l).counts; one_more = (k.lives l).one_more } }
               (λ j d _ e. let o = r.each j d e in record { staged = later r.next r.served r.history d d.stage o.staged; lives = o.lives });
+          rooted = rooted_set s r id v w at refl refl;
           numbers = unique_same number_of s.views id v w at r.numbers refl;
           tickets = unique_set ticket_of s.views id w r.tickets (λ j n u _ e p q. let b = ticket_below r.next r.served r.history u u.stage n (r.each j u e).staged p in let same : t ≡ n = some-injective t n q in omega arith);
         },
@@ -115,14 +127,15 @@ module _ {X E : Type 0} (log : X → List (Stamped E)) where
       (subst (λ (vs : List V). Rule record { words = s.words; homes = s.homes; views = vs }) (sym (set_again s.views id me.0 at)) r)
 
   -- what the seat finds that is called, where the value is at home
-  finds : (s : St) (r : Rule s) (id : ℕ) (v : V) (y : X) → get_elem? s.views id ≡ some v → v.live ≡ true → log y ≡ r.history → Found log v y
-  finds s r id v y at live is = let l = (r.each id v at).lives live in (
+  finds : (s : St) (r : Rule s) (id : ℕ) (v : V) (y : X) → get_elem? s.views id ≡ some v → v.live ≡ true → log y ≡ r.history → root y ≡ about → Found log root v y
+  finds s r id v y at live is roots = let l = (r.each id v at).lives live in (
     subst (Begins v.seen) (sym is) l.begins,
     ap (entries_of v.number) is ∙ l.own,
     λ first none_out. is ∙ sym (let j = r.seen.0 in let u = r.seen.1 in let whole = r.seen.4 in dite (ℕ_discrete j id)
         (λ e. ap (λ (z : V). z.seen) (same_at s.views id v u at (subst (λ k. get_elem? s.views k ≡ some u) e r.seen.2)) ∙ whole)
         (λ other. let two = tally_two is_live s.views j id u v r.seen.2 at other in let a = live_weight u r.seen.3 in let b = live_weight v live in let c = r.live_count in
         let d : v.out ≡ r.out = (l.counts first).2 in absurd (omega arith))),
+    r.rooted id v at live ∙ ap Some (sym roots),
   )
 
   taken : (s : St) (r : Rule s) (id : ℕ) (me : M) (t : ℕ) (y : X) → me.0.stage ≡ Waiting t → get_elem? s.views id ≡ some me.0 → r.served ≡ t → s.homes ≡ some (Some y) ∷ [] → log y ≡ r.history
@@ -162,23 +175,24 @@ module _ {X E : Type 0} (log : X → List (Stamped E)) where
               };
             }
             (λ j d _ e. r.each j d e);
+        rooted = rooted_set s r id v w at refl refl;
         numbers = unique_same number_of s.views id v w at r.numbers refl;
         tickets = unique_same ticket_of s.views id v w at r.tickets (sym (ap ticket_in is));
       }
 
-  pub looks : (slots id : ℕ) (me : M) (t : ℕ) → me.0.stage ≡ Waiting t → me.0.live ≡ true → me.1 ≡ [] → Allows Rule slots id me 1 (λ n. n) (looked log (step slots 1 0 0 none) me)
+  pub looks : (slots id : ℕ) (me : M) (t : ℕ) → me.0.stage ≡ Waiting t → me.0.live ≡ true → me.1 ≡ [] → Allows Rule slots id me 1 (λ n. n) (looked log root (step slots 1 0 0 none) me)
   looks slots id me t is live bare s r _ at _ = let v : V = me.0 in let n : ℕ = get_or s.words 1 0 in let k = r.each id v at in
       let st : Staged r.next r.served r.history v (Waiting t) = subst (Staged r.next r.served r.history v) is k.staged in
       let found : n ≡ r.served % 2 ^ 64 = ap (λ ws. get_or ws 1 0) r.words in
       let own : (t' : ℕ) → v.stage ≡ Waiting t' → t ≡ t' = λ t' is'. some-injective t t' (ap ticket_in (sym is ∙ is')) in dite (ℕ_discrete n (t % 2 ^ 64))
       (λ hit. let few = few_tickets s r in let low : r.served ≤ t = st.0 in let high : t < r.next = st.1 in let now : r.served ≡ t = one_turn r.served t (2 ^ 64) low (omega arith) (sym found ∙ hit) in ⊎_elim
-      (λ (h : (y : X) × (s.homes ≡ some (Some y) ∷ []) × (log y ≡ r.history)). let y : X = h.0 in (
+      (λ (h : (y : X) × (s.homes ≡ some (Some y) ∷ []) × (log y ≡ r.history) × (root y ≡ about)). let y : X = h.0 in (
         holding (Called t) (log y) v,
         takes 0 (Some y),
         ap (λ hs. get_elem? hs 0) h.1,
         taken s r id me t y is at now h.1 h.2,
         λ t' is'. (
-          (λ _. (y, ap (λ cs. (0, Some y) ∷ cs) bare, ap (λ (a : ℕ). holding (Called a) (log y) v) (own t' is'), finds s r id v y at live h.2)),
+          (λ _. (y, ap (λ cs. (0, Some y) ∷ cs) bare, ap (λ (a : ℕ). holding (Called a) (log y) v) (own t' is'), finds s r id v y at live h.2 h.3)),
           λ miss. absurd (miss (hit ∙ ap (λ a. a % 2 ^ 64) (own t' is'))),
         ),
       ))
@@ -193,9 +207,9 @@ module _ {X E : Type 0} (log : X → List (Stamped E)) where
       waits_not_called a b e = cc
 
   -- the seat with the turn gives back a list that grew by its own entries
-  pub serves : (slots id : ℕ) (me : M) (t : ℕ) (y : X) → me.0.stage ≡ Called t → me.0.live ≡ true → me.1 ≡ (0, Some y) ∷ [] → GrewBy me.0.number me.0.seen (log y)
+  pub serves : (slots id : ℕ) (me : M) (t : ℕ) (y : X) → me.0.stage ≡ Called t → me.0.live ≡ true → me.1 ≡ (0, Some y) ∷ [] → GrewBy me.0.number me.0.seen (log y) → me.0.root ≡ Some (root y)
       → Allows Rule slots id me 1 (λ n. (n + 1) % 2 ^ 64) (served_next log (step slots 1 1 0 none) me)
-  serves slots id me t y is live out grew s r _ at _ = let v : V = me.0 in let h : List (Stamped E) = log y in let w : V = holding Idle h v in let k = r.each id v at in
+  serves slots id me t y is live out grew roots s r _ at _ = let v : V = me.0 in let h : List (Stamped E) = log y in let w : V = holding Idle h v in let k = r.each id v at in
       let st : Staged r.next r.served r.history v (Called t) = subst (Staged r.next r.served r.history v) is k.staged in let mine = k.lives live in
       let th : tally has_ticket (set s.views id w) + has_ticket v ≡ tally has_ticket s.views + 0 = tally-set has_ticket s.views id v w at in
       let tl : tally is_live (set s.views id w) + is_live v ≡ tally is_live s.views + is_live v = tally-set is_live s.views id v w at in
@@ -218,7 +232,7 @@ module _ {X E : Type 0} (log : X → List (Stamped E)) where
           seats_count = length-set s.views id w ∙ r.seats_count;
           few = r.few;
           fresh = λ n above. let low : v.number ≤ r.splits = mine.numbered in entries_stay v.number n r.history h grown (λ e. omega arith) ∙ r.fresh n above;
-          kept = inl (y, ap (λ cs. Rattle.atomic_table.specs.Table.put_back s.homes cs) out ∙ back s.homes (Some y) r.kept, refl);
+          kept = inl (y, ap (λ cs. Rattle.atomic_table.specs.Table.put_back s.homes cs) out ∙ back s.homes (Some y) r.kept, refl, value_of_some (root y) about (sym roots ∙ r.rooted id v at live));
           seen = (id, w, set_at s.views id v w at, live, refl);
           each = each_set (Knows r.next (r.served + 1) r.drawn r.splits r.out h) s.views id w
               record {
@@ -239,6 +253,7 @@ module _ {X E : Type 0} (log : X → List (Stamped E)) where
                   one_more = p.one_more;
                 };
               });
+          rooted = rooted_set s r id v w at refl refl;
           numbers = unique_same number_of s.views id v w at r.numbers refl;
           tickets = unique_none ticket_of s.views id w r.tickets refl;
         },
@@ -249,7 +264,7 @@ module _ {X E : Type 0} (log : X → List (Stamped E)) where
       in_hand d [] = d
       in_hand d (c ∷ cs) = elim c.1 [ None ↦ d | Some x ↦ x ]
 
-      back : (hs : List (Option (Maybe X))) (z : Maybe X) → Kept log hs s.views r.history → set hs 0 (some z) ≡ some z ∷ []
+      back : (hs : List (Option (Maybe X))) (z : Maybe X) → Kept log root about hs s.views r.history → set hs 0 (some z) ≡ some z ∷ []
       back hs z c = ⊎_elim (λ a. ap (λ l. set l 0 (some z)) a.1) (λ a. ap (λ l. set l 0 (some z)) a.0) c
 
       not_served : (d : V) (j a : ℕ) → j ≢ id → get_elem? s.views j ≡ some d → ticket_of d ≡ some a → a ≢ r.served
@@ -308,6 +323,7 @@ module _ {X E : Type 0} (log : X → List (Stamped E)) where
                   one_more = p.one_more;
                 };
               });
+          rooted = rooted_set s r id v w at refl refl;
           numbers = unique_same number_of s.views id v w at r.numbers refl;
           tickets = unique_same ticket_of s.views id v w at r.tickets refl;
         },
@@ -384,6 +400,8 @@ module _ {X E : Type 0} (log : X → List (Stamped E)) where
             one_more = refl;
           };
         }) (at_snoc vs b d j e);
+        rooted = λ j d e l. ⊎_elim (λ (z : get_elem? vs j ≡ some d). rooted_set s r id v a at refl refl j d z l)
+            (λ (z : b ≡ d). ap (λ (x : V). x.root) (sym z) ∙ r.rooted id v at live) (at_snoc vs b d j e);
         numbers = unique_snoc number_of vs b numbers (λ j n u e p q. let there = older j u e in let same_n : v.drawn ≡ n = some-injective v.drawn n q in too_low j n u e p same_n);
         tickets = unique_snoc ticket_of vs b tickets (λ j n u e p q. some-ne-none n (sym q));
       }
@@ -460,6 +478,7 @@ module _ {X E : Type 0} (log : X → List (Stamped E)) where
             (λ h. inr (h.0, called_set vs other u spent there (λ c is. absurd (some-ne-none c (sym (ap ticket_in is) ∙ ap ticket_in idle'))) (called_set s.views id v w at (λ c is. is) h.1))) r.kept;
         seen = whole;
         each = each_set K vs other spent record { staged = tt; lives = λ l. absurd (true≢false (sym l)) } (λ j d _ e. met j d e);
+        rooted = each_set (λ (x : V). x.live ≡ true → x.root ≡ Some about) vs other spent (λ l. absurd (true≢false (sym l))) (λ j d _ e. rooted_set s r id v w at refl refl j d e);
         numbers = unique_none number_of vs other spent (unique_same number_of s.views id v w at r.numbers refl) refl;
         tickets = unique_none ticket_of vs other spent (unique_same ticket_of s.views id v w at r.tickets refl) refl;
       }
@@ -468,8 +487,8 @@ module _ {X E : Type 0} (log : X → List (Stamped E)) where
   tells slots id me live s r _ at _ = let l = (r.each id me.0 at).lives live in (me.0, keeps, tt, stays s r 1 id me at, (refl, refl, l.before, l.brought, l.own_before, l.own_brought, l.one_more))
 
   -- a new lock
-  pub opens : (y : X) → log y ≡ [] → Rule (opening (0 ∷ 0 ∷ 1 ∷ []) (Some y ∷ []) opener)
-  opens y bare = record {
+  pub opens : (y : X) → log y ≡ [] → root y ≡ about → Rule (opening (0 ∷ 0 ∷ 1 ∷ []) (Some y ∷ []) (opener about))
+  opens y bare roots = record {
     next = 0;
     served = 0;
     drawn = 0;
@@ -482,24 +501,25 @@ module _ {X E : Type 0} (log : X → List (Stamped E)) where
     seats_count = refl;
     few = (omega arith, omega arith);
     fresh = λ n _. refl;
-    kept = inl (y, refl, bare);
-    seen = (0, opener, refl, refl, refl);
-    each = λ j v e. let is : opener ≡ v = only j v e in subst (Knows 0 0 0 0 0 []) is record { staged = tt; lives = λ _. record { begins = begins_refl []; numbered = omega arith; own = refl; before = begins_refl []; brought = begins_refl []; own_before = refl; own_brought = refl; counts = λ _. (refl, refl, refl); one_more = refl } };
+    kept = inl (y, refl, bare, roots);
+    seen = (0, opener about, refl, refl, refl);
+    each = λ j v e. let is : opener about ≡ v = only j v e in subst (Knows 0 0 0 0 0 []) is record { staged = tt; lives = λ _. record { begins = begins_refl []; numbered = omega arith; own = refl; before = begins_refl []; brought = begins_refl []; own_before = refl; own_brought = refl; counts = λ _. (refl, refl, refl); one_more = refl } };
+    rooted = λ j v e _. ap (λ (z : V). z.root) (sym (only j v e));
     numbers = λ i j n u v p q _ _. alone i u p ∙ sym (alone j v q);
     tickets = λ i j n u v p q _ _. alone i u p ∙ sym (alone j v q);
   }
     where
-      only : (j : ℕ) (v : V) → get_elem? (opener ∷ []) j ≡ some v → opener ≡ v
-      only zero v e = some-injective opener v e
+      only : (j : ℕ) (v : V) → get_elem? (opener about ∷ []) j ≡ some v → opener about ≡ v
+      only zero v e = some-injective (opener about) v e
       only (suc j) v e = absurd (some-ne-none v (sym e))
 
-      alone : (j : ℕ) (v : V) → get_elem? (opener ∷ []) j ≡ some v → j ≡ 0
-      alone j v e = let h = at_inside (opener ∷ []) j v e in omega arith
+      alone : (j : ℕ) (v : V) → get_elem? (opener about ∷ []) j ≡ some v → j ≡ 0
+      alone j v e = let h = at_inside (opener about ∷ []) j v e in omega arith
 
   -- the value of a lock whose seats are all joined
-  pub closes : (s : St) (id : ℕ) (v : V) → Rule s → get_elem? s.views id ≡ some v → v.live ≡ true → v.stage ≡ Idle → v.number ≡ 0 → v.out ≡ 0 → (y : X) × (get_elem? s.homes 0 ≡ some (some (Some y))) × (log y ≡ v.seen)
+  pub closes : (s : St) (id : ℕ) (v : V) → Rule s → get_elem? s.views id ≡ some v → v.live ≡ true → v.stage ≡ Idle → v.number ≡ 0 → v.out ≡ 0 → (y : X) × (get_elem? s.homes 0 ≡ some (some (Some y))) × (log y ≡ v.seen) × (v.root ≡ Some (root y))
   closes s id v r at live idle first none_out = ⊎_elim
-      (λ (h : (y : X) × (s.homes ≡ some (Some y) ∷ []) × (log y ≡ r.history)). (h.0, ap (λ hs. get_elem? hs 0) h.1, (finds s r id v h.0 at live h.2).2 first none_out))
+      (λ (h : (y : X) × (s.homes ≡ some (Some y) ∷ []) × (log y ≡ r.history) × (root y ≡ about)). let f = finds s r id v h.0 at live h.2 h.3 in (h.0, ap (λ hs. get_elem? hs 0) h.1, f.2 first none_out, f.3))
       (λ (h : (s.homes ≡ none ∷ []) × IsCalled s.views). let j = h.1.0 in let u = h.1.2 in
       let su : Staged r.next r.served r.history u (Called h.1.1) = subst (Staged r.next r.served r.history u) h.1.4 (r.each j u h.1.3).staged in
       let apart : j ≢ id = λ e. let same : v ≡ u = same_at s.views id v u at (subst (λ i. get_elem? s.views i ≡ some u) e h.1.3) in
@@ -509,20 +529,11 @@ module _ {X E : Type 0} (log : X → List (Stamped E)) where
 
   -- what lies in slot 0 of a table that was closed
   pub closed_with : (ws : List ℕ) (xs : List (Maybe X)) (z : Maybe X) (id : ℕ) (v : V) → Final (Seen Rule id v) ws xs → get_elem? xs 0 ≡ some z → v.live ≡ true → v.stage ≡ Idle → v.number ≡ 0 → v.out ≡ 0
-      → (y : X) × (z ≡ Some y) × (log y ≡ v.seen) × ((n : ℕ) → v.splits < n → entries_of n (log y) ≡ [])
+      → (y : X) × (z ≡ Some y) × (log y ≡ v.seen) × ((n : ℕ) → v.splits < n → entries_of n (log y) ≡ []) × (v.root ≡ Some (root y))
   closed_with ws xs z id v end here live idle first none_out = let s = end.0 in let r = end.1.0 in let at = end.1.1 in let c = closes s id v r at live idle first none_out in let mine = (r.each id v at).lives live in (
     c.0,
     some-injective z (Some c.0) (sym here ∙ end.4 0 (Some c.0) c.1),
     c.2,
     λ n above. let split : v.splits ≡ r.splits = (mine.counts first).1 in ap (entries_of n) c.2 ∙ none_begun n v.seen r.history mine.begins (r.fresh n (omega arith)),
+    c.3,
   )
-
-  pub not_none : (y : X) → None ≡ Some y → ⊥
-  not_none y e = cc
-
-  pub value_of_some : (x y : X) → Some x ≡ Some y → x ≡ y
-  value_of_some x y e = ap (λ z. or x z) e
-    where
-      or : X → Maybe X → X
-      or d None = d
-      or d (Some a) = a

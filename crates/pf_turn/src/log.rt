@@ -9,7 +9,9 @@ pub struct Stamped<E> {
     pub what: E,
 }
 
-/// A value that stands for a list of entries.
-pub trait Logged<E> {
+/// A value that stands for a list of entries and a root, which is what never changes of the value.
+pub trait Logged<E, K> {
     ghost log: { Self → List (Stamped E) };
+
+    ghost root: { Self → K };
 }

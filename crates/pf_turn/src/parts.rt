@@ -8,16 +8,17 @@ use std::alloc::Global;
 
 /// A value that callers take turns with.
 #[derive(Drop)]
-pub struct TurnLock<E, V: Logged<E>> {
-    pub(crate) table: Table<Option<V>, Sight<E>, (), Tickets, Global>,
+pub struct TurnLock<E, K, V: Logged<E, K>> {
+    pub(crate) table: Table<Option<V>, Sight<E, K>, K, Tickets, Global>,
     ghost shape: { (table.shared.table_id.words ≡ 3) × (table.shared.table_id.slots ≡ 1) },
 }
 
-/// A caller's place at one lock. A thread has a seat of its own.
+/// A caller's place at one lock, with the root of the lock's value. A thread has a seat of its own.
 #[derive(Drop)]
-pub struct TurnSeat<E, V> {
+pub struct TurnSeat<E, K, V> {
     pub(crate) number: u64,
-    pub(crate) seat: Seat<Option<V>, Sight<E>>,
+    pub(crate) root: K,
+    pub(crate) seat: Seat<Option<V>, Sight<E, K>>,
 }
 
 /// The value, while it is a caller's turn. It cannot be dropped: code that may leave without giving it back does not compile.

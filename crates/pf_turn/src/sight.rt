@@ -13,9 +13,11 @@ pub enum Stage {
 }
 
 /// What a seat knows. No value of it is ever made.
-pub struct Sight<E> {
+pub struct Sight<E, K> {
     pub number: u64,
     pub live: bool,
+    /// What never changes of the value. A seat that was joined has none.
+    pub root: Option<K>,
     pub stage: Stage,
     /// The list as the seat last saw it.
     pub seen: LinkedList<Stamped<E>>,
@@ -34,10 +36,10 @@ pub struct Sight<E> {
 /// The rule of a turn lock.
 pub struct Tickets;
 
-impl<E, V: Logged<E>> TableRule<Option<V>, Sight<E>, ()> for Tickets {
+impl<E, K, V: Logged<E, K>> TableRule<Option<V>, Sight<E, K>, K> for Tickets {
     ghost use Rattle.pf_turn.specs.Rule.{Ruled, opener};
 
-    ghost holds = { λ _. Ruled V.log };
+    ghost holds = { Ruled V.log V.root };
 
-    ghost first = { λ _. opener };
+    ghost first = { opener };
 }

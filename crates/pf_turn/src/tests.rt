@@ -1,5 +1,5 @@
 //! Callers that add to a till by turns: one by itself, and two at once.
-ghost use Rattle.std.specs.Prelude.{◌≡◌, ◌+◌, ◌<◌, ◌^◌};
+ghost use Rattle.std.specs.Prelude.{◌≡◌, ◌+◌, ◌<◌, ◌^◌, IfOk};
 ghost use Rattle.pf_turn.specs.Seats.{splits_of, out_of, IsFirst, IsSeatOf, HasNoTurn, IsSameSeat};
 
 use crate::{Logged, Stamped, TurnLock, TurnSeat};
@@ -9,19 +9,22 @@ use std::sync::Wait;
 use std::test::Fail;
 use std::thread::{Threads, join};
 
-/// Amounts, each with the seat that added it.
+/// Amounts, each with the seat that added it, in a till with a number.
 #[derive(Drop)]
 struct Till {
+    number: u32,
     made: Vec<Stamped<u64>>,
 }
 
-impl Logged<u64> for Till {
+impl Logged<u64, u32> for Till {
     ghost log = { λ till. till.made.items };
+
+    ghost root = { λ till. till.number };
 }
 
-type Lock = TurnLock<u64, Till>;
+type Lock = TurnLock<u64, u32, Till>;
 
-type Place = TurnSeat<u64, Till>;
+type Place = TurnSeat<u64, u32, Till>;
 
 /// Adds an amount in one turn.
 fn add<R: Wait>(rt: &R, lock: &Lock, seat: &mut Place, amount: u64) -> Result<(), NoMemory>
@@ -61,11 +64,14 @@ fn add_two<R: Wait>(
 }
 
 /// Two threads add two amounts each, and then the first seat adds one.
-fn by_two_threads<R: Threads + Wait + Sync>(rt: &R, alloc: Global) -> Result<Till, NoMemory> {
+fn by_two_threads<R: Threads + Wait + Sync>(rt: &R, alloc: Global) -> Result<Till, NoMemory>
+    ensures { IfOk result (λ till. till.number ≡ 7) }
+{
     let till = Till {
+        number: 7,
         made: Vec::new(alloc),
     };
-    let (lock, mut first) = Lock::new(alloc, till).map_err(|back| back.1)?;
+    let (lock, mut first) = Lock::new(alloc, till, &7).map_err(|back| back.1)?;
     let line = &lock;
     let one = line.split(&mut first);
     let two = line.split(&mut first);
@@ -91,6 +97,7 @@ fn by_two_threads<R: Threads + Wait + Sync>(rt: &R, alloc: Global) -> Result<Til
 #[test]
 fn each_seat_finds_its_entries(rt: HostRuntime) -> Result<(), Fail> {
     let till = by_two_threads(&rt, rt.alloc())?;
+    assert_eq!(rt; till.number, 7);
     assert_eq!(rt; till.made.len(), 5);
     for (seat, first, last) in [(0, 30, 30), (1, 10, 11), (2, 20, 21)] {
         let mut own = till.made.iter().filter(|entry| entry.seat == seat);
