@@ -10,9 +10,9 @@ module _ {E K V : Type 0} where
   abbrev pub number_of : TurnSeat E K V → ℕ
   number_of s = s.number
 
-  -- the root of the lock's value
-  abbrev pub root_of : TurnSeat E K V → K
-  root_of s = s.root
+  -- what never changes of the lock's value
+  abbrev pub root_in : TurnLock E K V → K
+  root_in lock = lock.table.shared.key
 
   -- the list as the seat last saw it
   abbrev pub seen_by : TurnSeat E K V → List (Stamped E)
@@ -30,7 +30,7 @@ module _ {E K V : Type 0} where
 
   -- a seat of this lock
   abbrev pub IsSeatOf : TurnLock E K V → TurnSeat E K V → Type 0
-  IsSeatOf lock s = (s.seat.table_id ≡ lock.table.shared.table_id) × (s.seat.me.0.number ≡ number_of s) × (s.seat.me.0.live ≡ true) × (s.seat.me.0.drawn ≡ s.seat.me.0.splits) × (s.seat.me.0.root ≡ Some (root_of s))
+  IsSeatOf lock s = (s.seat.table_id ≡ lock.table.shared.table_id) × (s.seat.me.0.number ≡ number_of s) × (s.seat.me.0.live ≡ true) × (s.seat.me.0.drawn ≡ s.seat.me.0.splits) × (s.seat.me.0.root ≡ Some (root_in lock))
 
   -- the seat holds no turn
   abbrev pub HasNoTurn : TurnSeat E K V → Type 0
@@ -41,4 +41,4 @@ module _ {E K V : Type 0} where
 
   -- nothing changes but what the seat has seen, and whether it holds a turn
   abbrev pub IsSameSeat : TurnSeat E K V → TurnSeat E K V → Type 0
-  IsSameSeat s s' = (number_of s' ≡ number_of s) × (root_of s' ≡ root_of s) × (splits_of s' ≡ splits_of s) × (out_of s' ≡ out_of s)
+  IsSameSeat s s' = (number_of s' ≡ number_of s) × (splits_of s' ≡ splits_of s) × (out_of s' ≡ out_of s)

@@ -1,7 +1,7 @@
 //! What the lock does.
 ghost use Rattle.std.specs.Prelude.{◌≡◌, ◌≢◌, ℕ, ◌+◌, ◌^◌, ◌<◌, [], IfOk, IfErr};
 ghost use Rattle.pf_turn.specs.Lists.{Begins, longer, entries_of, GrewBy};
-ghost use Rattle.pf_turn.specs.Seats.{number_of, root_of, seen_by, splits_of, out_of, IsFirst, IsSeatOf, HasNoTurn, HasTurn, IsSameSeat};
+ghost use Rattle.pf_turn.specs.Seats.{number_of, root_in, seen_by, splits_of, out_of, IsFirst, IsSeatOf, HasNoTurn, HasTurn, IsSameSeat};
 
 use crate::log::Logged;
 use crate::parts::{Turn, TurnLock, TurnSeat};
@@ -21,16 +21,7 @@ impl<E, K, V> TurnSeat<E, K, V> {
     }
 }
 
-impl<E, K: Copy, V> TurnSeat<E, K, V> {
-    /// The root of the lock's value.
-    pub fn root(&self) -> K
-        ensures { result ≡ root_of self.now }
-    {
-        self.root
-    }
-}
-
-impl<E, K: Copy + Drop, V: Logged<E, K>> TurnLock<E, K, V> {
+impl<E, K, V: Logged<E, K>> TurnLock<E, K, V> {
     /// The lock of a value with an empty list and this root, and its first seat. Where memory runs out (`NoMemory`, 1) the value
     /// comes back.
     pub fn new(
@@ -42,7 +33,7 @@ impl<E, K: Copy + Drop, V: Logged<E, K>> TurnLock<E, K, V> {
         requires root { V.root value ≡ root.now }
         ensures seat { IfOk result (λ made. IsSeatOf made.0 made.1 × HasNoTurn made.1) }
         ensures first { IfOk result (λ made. IsFirst made.1 × (splits_of made.1 ≡ 0) × (out_of made.1 ≡ 0) × (seen_by made.1 ≡ [])) }
-        ensures root { IfOk result (λ made. root_of made.1 ≡ root.now) }
+        ensures root { IfOk result (λ made. root_in made.0 ≡ root.now) }
         ensures refused { IfErr result (λ back. back.0 ≡ value) }
     {
         let mut slots = Vec::new(alloc);
@@ -55,14 +46,7 @@ impl<E, K: Copy + Drop, V: Logged<E, K>> TurnLock<E, K, V> {
             };
         }
         match Table::new(alloc, &[0, 0, 1], slots, root) {
-            Ok((table, seat)) => Ok((
-                TurnLock { table },
-                TurnSeat {
-                    number: 0,
-                    root: *root,
-                    seat,
-                },
-            )),
+            Ok((table, seat)) => Ok((TurnLock { table }, TurnSeat { number: 0, seat })),
             Err(refused) => {
                 let Refused { mut slots } = refused;
                 let value = slots.pop();
@@ -83,25 +67,23 @@ impl<E, K: Copy + Drop, V: Logged<E, K>> TurnLock<E, K, V> {
         ensures seat { IsSeatOf self.now seat.new × HasNoTurn seat.new × IsFirst seat.new }
         ensures counts { (splits_of seat.new ≡ splits_of seat.old + 1) × (out_of seat.new ≡ out_of seat.old + 1) }
         ensures seen { (seen_by seat.new ≡ seen_by seat.old) × (seen_by result ≡ seen_by seat.old) }
-        ensures root { (root_of seat.new ≡ root_of seat.old) × (root_of result ≡ root_of seat.old) }
         ensures given { IsSeatOf self.now result × HasNoTurn result × (number_of result ≡ splits_of seat.old + 1) }
         ensures none_made { entries_of (number_of result) (seen_by result) ≡ [] }
     {
         let number = self.table.shared.fetch_add::<Number>(&mut seat.seat, 2, 1);
-        let root = seat.root;
         let seat = self.table.shared.split_seat::<Cut>(&mut seat.seat);
-        TurnSeat { number, root, seat }
+        TurnSeat { number, seat }
     }
 
     /// Waits for the seat's turn, and hands the value out. Its list begins with all that the seat has seen, and has the
     /// seat's own entries and no others of its number. The first seat, where no other is out, finds exactly what it has seen. The
-    /// value has the seat's root.
+    /// value has the lock's root.
     pub fn take<R: Wait>(&self, rt: &R, seat: &mut TurnSeat<E, K, V>) -> Turn<V>
         requires { IsSeatOf self.now seat.old × HasNoTurn seat.old }
         ensures seat { IsSeatOf self.now seat.new × HasTurn seat.new × IsSameSeat seat.old seat.new }
         ensures seen { (seen_by seat.new ≡ V.log result.value) × Begins (seen_by seat.old) (V.log result.value) }
         ensures own { entries_of (number_of seat.old) (V.log result.value) ≡ entries_of (number_of seat.old) (seen_by seat.old) }
-        ensures root { V.root result.value ≡ root_of seat.old }
+        ensures root { V.root result.value ≡ root_in self.now }
         ensures alone { IsFirst seat.old → out_of seat.old ≡ 0 → V.log result.value ≡ seen_by seat.old }
     {
         let ticket = self.table.shared.fetch_add::<Draw>(&mut seat.seat, 0, 1);
@@ -117,10 +99,10 @@ impl<E, K: Copy + Drop, V: Logged<E, K>> TurnLock<E, K, V> {
         unreachable!()
     }
 
-    /// Ends the seat's turn. The value's list is what the seat found, grown by entries of this seat alone, and its root is the seat's.
+    /// Ends the seat's turn. The value's list is what the seat found, grown by entries of this seat alone, and its root is the lock's.
     pub fn give(&self, seat: &mut TurnSeat<E, K, V>, turn: Turn<V>)
         requires seat { IsSeatOf self.now seat.old × HasTurn seat.old }
-        requires root { V.root turn.value ≡ root_of seat.old }
+        requires root { V.root turn.value ≡ root_in self.now }
         requires grew { GrewBy (number_of seat.old) (seen_by seat.old) (V.log turn.value) }
         ensures seat { IsSeatOf self.now seat.new × HasNoTurn seat.new × IsSameSeat seat.old seat.new }
         ensures seen { seen_by seat.new ≡ V.log turn.value }
@@ -139,7 +121,6 @@ impl<E, K: Copy + Drop, V: Logged<E, K>> TurnLock<E, K, V> {
         requires seat { IsSeatOf self.now seat.old × HasNoTurn seat.old × IsFirst seat.old }
         requires other { IsSeatOf self.now other × HasNoTurn other × (number_of other ≢ 0) }
         ensures seat { IsSeatOf self.now seat.new × HasNoTurn seat.new × IsFirst seat.new }
-        ensures root { root_of seat.new ≡ root_of seat.old }
         ensures counts { (splits_of seat.new ≡ splits_of seat.old) × (out_of seat.new + 1 ≡ out_of seat.old) }
         ensures seen { (seen_by seat.new ≡ longer (seen_by seat.old) (seen_by other)) × Begins (seen_by seat.old) (seen_by seat.new) × Begins (seen_by other) (seen_by seat.new) }
         ensures own { entries_of 0 (seen_by seat.new) ≡ entries_of 0 (seen_by seat.old) }
@@ -147,7 +128,6 @@ impl<E, K: Copy + Drop, V: Logged<E, K>> TurnLock<E, K, V> {
     {
         let TurnSeat {
             number: _,
-            root: _,
             seat: other,
         } = other;
         self.table.shared.join_seat::<Glue>(&mut seat.seat, other);
@@ -155,20 +135,16 @@ impl<E, K: Copy + Drop, V: Logged<E, K>> TurnLock<E, K, V> {
     }
 
     /// The value, once every seat has been joined. Its list is exactly what the first seat has seen, with no entry of a
-    /// number that no seat had, and its root is the seat's.
+    /// number that no seat had, and its root is the lock's.
     pub fn close(self, seat: TurnSeat<E, K, V>) -> V
         requires seat { IsSeatOf self seat × HasNoTurn seat }
         requires first { IsFirst seat × (out_of seat ≡ 0) }
         ensures seen { V.log result ≡ seen_by seat }
-        ensures root { V.root result ≡ root_of seat }
+        ensures root { V.root result ≡ root_in self }
         ensures strangers { (n : ℕ) → splits_of seat < n → entries_of n (V.log result) ≡ [] }
     {
         let TurnLock { table } = self;
-        let TurnSeat {
-            number: _,
-            root: _,
-            seat,
-        } = seat;
+        let TurnSeat { number: _, seat } = seat;
         let mut closed = table.close_with(seat);
         let value = closed.take(0);
         closed.free();

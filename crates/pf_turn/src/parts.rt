@@ -13,11 +13,10 @@ pub struct TurnLock<E, K, V: Logged<E, K>> {
     ghost shape: { (table.shared.table_id.words ≡ 3) × (table.shared.table_id.slots ≡ 1) },
 }
 
-/// A caller's place at one lock, with the root of the lock's value. A thread has a seat of its own.
+/// A caller's place at one lock. A thread has a seat of its own.
 #[derive(Drop)]
 pub struct TurnSeat<E, K, V> {
     pub(crate) number: u64,
-    pub(crate) root: K,
     pub(crate) seat: Seat<Option<V>, Sight<E, K>>,
 }
 
