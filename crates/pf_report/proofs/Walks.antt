@@ -1,0 +1,81 @@
+-- The text of a log that is walked from slot to slot.
+use Rattle.std.proofs.Common.{◌≡◌, ℕ, zero, suc, ◌+◌, ◌-◌, ◌<◌, ◌≤◌, ◌⊎◌, inl, inr, true, false, List, [], ◌∷◌, ◌++◌, map, Option, Some, None, is_some, arith, refl, sym, ap, subst, ◌∙◌, append_assoc, append-nil}
+use Rattle.std.specs.FinMap
+use Rattle.std.specs.List.{flat_map}
+use Rattle.std.proofs.lemmas.List.Concat.{flat_map-append}
+use Rattle.pf_entry.specs.declared.entries.Entry.{Entry}
+use Rattle.pf_entry.specs.Maps.{Map}
+use Rattle.pf_entry.specs.EntryMaps.{entry_rows, log_of}
+use Rattle.pf_entry.proofs.Ascending.{log_rows}
+use Rattle.pf_holes.specs.HoleLogs.{Holes, IsNext}
+use Rattle.pf_holes.specs.Windows.{IsWithin}
+use Rattle.pf_holes.proofs.Copying.{IsCopied, copied_none, copied_hole, copied_more, copied_all}
+use Rattle.pf_report.specs.Texts.{held_text}
+
+-- the entries up to a slot, whose texts were put
+pub record IsWalked (log : Holes) (after : ℕ) (before now : List ℕ) : Type 0 where
+  pub rows : List Entry
+  pub copied : IsCopied log.entries after rows
+  pub text : now ≡ before ++ flat_map (held_text log.marks) rows
+
+pub walked_none : (log : Holes) (base : ℕ) (out : List ℕ) → IsWithin base log.entries → IsWalked log base out out
+walked_none log base out within = record { rows = []; copied = copied_none log.entries base [] within refl; text = sym (append-nil out) }
+
+none_of : (o : Option Entry) → is_some o ≡ false → o ≡ None
+none_of None h = refl
+none_of (Some e) h = absurd (cc)
+
+skipped : (entries : Map Entry) (after n : ℕ) (rows : List Entry) → IsCopied entries after rows
+    → ((q : ℕ) → after < q → q ≤ after + n → FinMap.contains_key entries q ≡ false) → IsCopied entries (after + n) rows
+skipped entries after zero rows copied none = let same : after ≡ after + 0 = omega arith in subst (λ (k : ℕ). IsCopied entries k rows) same copied
+skipped entries after (suc n) rows copied none =
+    let before = skipped entries after n rows copied (λ q above upto. none q above (omega arith)) in
+    let next : after + n + 1 ≡ after + suc n = omega arith in
+    subst (λ (k : ℕ). IsCopied entries k rows) next
+    (copied_hole entries (after + n) rows before (none_of (FinMap.get entries (after + n + 1)) (none (after + n + 1) (omega arith) (omega arith))))
+
+pub walked_more : (log : Holes) (after slot : ℕ) (before mid now : List ℕ) (e : Entry) → IsWalked log after before mid → IsNext log.entries after slot
+    → FinMap.get log.entries slot ≡ Some e → e.slot ≡ slot → now ≡ mid ++ held_text log.marks e → IsWalked log slot before now
+walked_more log after slot before mid now e walked next held own put =
+    let n = slot - after - 1 in
+    let is : after + n + 1 ≡ slot = omega (arith, next.above) in
+    let near = skipped log.entries after n walked.rows walked.copied (λ q above upto. next.first q above (omega (arith, is))) in
+    let rows = walked.rows ++ e ∷ [] in
+    record {
+      rows = rows;
+      copied = subst (λ (k : ℕ). IsCopied log.entries k rows) is
+          (copied_more log.entries (after + n) walked.rows rows e near (ap (FinMap.get log.entries) is ∙ held) (own ∙ sym is) refl);
+      text = put ∙ ap (λ (l : List ℕ). l ++ held_text log.marks e) walked.text
+          ∙ append_assoc before (flat_map (held_text log.marks) walked.rows) (held_text log.marks e)
+          ∙ ap (λ (l : List ℕ). before ++ l)
+          (sym (flat_map-append (held_text log.marks) walked.rows (e ∷ []) ∙ ap (λ (l : List ℕ). flat_map (held_text log.marks) walked.rows ++ l) (append-nil (held_text log.marks e))));
+    }
+
+values_in : (rows : List Entry) → map (λ (row : ℕ × Entry). row.1) (entry_rows rows) ≡ rows
+values_in [] = refl
+values_in (e ∷ rows) = ap (λ (l : List Entry). e ∷ l) (values_in rows)
+
+low_or_high : (q n : ℕ) → (q ≤ n) ⊎ (n < q)
+low_or_high zero n = inl (omega arith)
+low_or_high (suc q) n = elim (low_or_high q n) [ inl low ↦ at_edge q n low | inr high ↦ inr (omega arith) ]
+  where
+    at_edge : (q n : ℕ) → q ≤ n → (suc q ≤ n) ⊎ (n < suc q)
+    at_edge zero zero low = inr (omega arith)
+    at_edge zero (suc n) low = inl (omega arith)
+    at_edge (suc q) zero low = absurd (omega arith)
+    at_edge (suc q) (suc n) low = elim (at_edge q n (omega arith)) [ inl lower ↦ inl (omega arith) | inr higher ↦ inr (omega arith) ]
+
+pub walked_all : (log : Holes) (after : ℕ) (before now : List ℕ) → IsWalked log after before now
+    → ((q : ℕ) → after < q → FinMap.contains_key log.entries q ≡ false) → now ≡ before ++ flat_map (held_text log.marks) (FinMap.values log.entries)
+walked_all log after before now walked none =
+    let rows = walked.rows in
+    let whole : log_of rows ≡ log.entries = copied_all log.entries after after rows walked.copied (omega arith) upto in
+    let values : FinMap.values log.entries ≡ rows =
+    ap (λ (m : Map Entry). FinMap.values m) (sym whole) ∙ ap (map (λ (row : ℕ × Entry). row.1)) (log_rows rows walked.copied.ascending) ∙ values_in rows in
+    walked.text ∙ ap (λ (l : List Entry). before ++ flat_map (held_text log.marks) l) (sym values)
+  where
+    upto : (q : ℕ) → FinMap.contains_key log.entries q ≡ true → q ≤ after
+    upto q has = elim (low_or_high q after) [
+      | inl low ↦ low
+      | inr high ↦ let gone = none q high in absurd (cc)
+    ]

@@ -1,0 +1,16 @@
+//! The lines of a report, each put at the end of a list of bytes with its line feed.
+//!
+//! `NoMemory` (1) is the only error, and leaves the list as it was. The list keeps its allocator, so these calls take none.
+#![tactic(auto)]
+
+mod answers;
+mod lines;
+mod logs;
+mod sectors;
+
+pub use answers::{put_answer, put_refusal, put_settle};
+pub use logs::{put_acked, put_applied, put_log};
+pub use sectors::{put_mark, put_read, put_sectors};
+
+#[cfg(test)]
+mod tests;

@@ -1,0 +1,106 @@
+//! Lines that show a server's log, and what it applied.
+ghost use Rattle.std.specs.Prelude.{◌≡◌, ◌++◌, OnErr, OnOk};
+ghost use Rattle.std.specs.List.{flat_map};
+ghost use Rattle.std.specs.FinMap as map;
+ghost use Rattle.pf_report.specs.Texts.{acked_text, applied_text, held_text, line_of, log_text, op_text};
+
+use crate::lines::{begun, put_all_spaced, put_ended, put_spaced};
+use pf_base::{NoMemory, Slot, Term};
+use pf_entry::{Entry, Op};
+use pf_holes::{HoleLog, SlotSet};
+use pf_text::{put_decimal, put_text};
+
+/// Puts what an op does.
+fn put_op(out: &mut Vec<u8>, op: &Op) -> Result<(), NoMemory>
+    ensures { OnOk result (out.new.items ≡ out.old.items ++ op_text op.now) }
+{
+    match op {
+        Op::Write { range, payload: _ } => {
+            put_text(out, b"w")?;
+            put_decimal(out, u64::from(range.first()))?;
+            put_text(out, b"x")?;
+            put_decimal(out, u64::from(range.count()))
+        }
+        Op::Noop => put_text(out, b"n"),
+        Op::Mark => put_text(out, b"m"),
+    }
+}
+
+/// Puts one held slot of a log.
+fn put_held(out: &mut Vec<u8>, log: &HoleLog, entry: &Entry) -> Result<(), NoMemory>
+    ensures { OnOk result (out.new.items ≡ out.old.items ++ held_text log.now.marks entry.now) }
+{
+    put_spaced(out, entry.slot)?;
+    put_text(out, b":")?;
+    put_decimal(out, entry.term)?;
+    put_text(out, b":")?;
+    put_op(out, &entry.op)?;
+    put_text(
+        out,
+        if log.is_committed(entry.slot) {
+            b"+"
+        } else {
+            b"-"
+        },
+    )
+}
+
+/// Puts each slot that a log holds, in ascending order. No entry is copied.
+fn put_entries(out: &mut Vec<u8>, log: &HoleLog) -> Result<(), NoMemory>
+    ensures { OnOk result (out.new.items ≡ out.old.items ++ flat_map (held_text log.now.marks) (map.values log.now.entries)) }
+{
+    let mut after = log.base();
+    while let Some(slot) = log.next_after(after) {
+        let Some(entry) = log.get(slot) else {
+            unreachable!()
+        };
+        put_held(out, log, entry)?;
+        after = slot;
+    }
+    Ok(())
+}
+
+/// Puts a log: the line's number, `log`, the server's term, its checkpoint, which is the log's base, and in ascending order each slot
+/// that the log holds, with its term, its op, and `+` where it is marked as committed, else `-`.
+pub fn put_log(out: &mut Vec<u8>, line: u32, term: Term, log: &HoleLog) -> Result<(), NoMemory>
+    ensures ok { OnOk result (out.new.items ≡ out.old.items ++ line_of line (log_text term log.now)) }
+    ensures err { OnErr result (out.new.items ≡ out.old.items) }
+{
+    let mut text = begun(*out.allocator(), line)?;
+    put_text(&mut text, b"log ")?;
+    put_decimal(&mut text, term)?;
+    put_spaced(&mut text, log.base())?;
+    put_entries(&mut text, log)?;
+    put_ended(out, text)
+}
+
+/// Puts what a server applied: the line's number, `applied`, the server's checkpoint, and in ascending order each slot above it that
+/// is in the set.
+pub fn put_applied(
+    out: &mut Vec<u8>,
+    line: u32,
+    base: Slot,
+    applied: &SlotSet,
+) -> Result<(), NoMemory>
+    ensures ok { OnOk result (out.new.items ≡ out.old.items ++ line_of line (applied_text base applied.now.slots)) }
+    ensures err { OnErr result (out.new.items ≡ out.old.items) }
+{
+    let alloc = *out.allocator();
+    let mut text = begun(alloc, line)?;
+    put_text(&mut text, b"applied ")?;
+    put_decimal(&mut text, base)?;
+    let above = applied.above(alloc, base)?;
+    put_all_spaced(&mut text, above.as_slice())?;
+    put_ended(out, text)
+}
+
+/// Puts the acknowledged slots: the line's number, `acked`, and the slots in the order of their acknowledgement.
+pub fn put_acked(out: &mut Vec<u8>, line: u32, slots: &[Slot]) -> Result<(), NoMemory>
+    ensures ok { OnOk result (out.new.items ≡ out.old.items ++ line_of line (acked_text slots.now)) }
+    ensures err { OnErr result (out.new.items ≡ out.old.items) }
+{
+    let mut text = begun(*out.allocator(), line)?;
+    put_text(&mut text, b"acked")?;
+    put_all_spaced(&mut text, slots)?;
+    put_ended(out, text)
+}

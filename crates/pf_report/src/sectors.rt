@@ -1,0 +1,86 @@
+//! Lines that show the bytes of sectors, by their runs of equal bytes.
+ghost use Rattle.std.specs.Prelude.{◌≡◌, ◌++◌, IfNone, IfSome, OnErr, OnOk};
+ghost use Rattle.pf_text.specs.Runs.{runs_text};
+ghost use Rattle.pf_report.specs.Texts.{bytes_of, event_line, line_of, no_snapshot_text, read_text, sectors_text, snapshot_text};
+
+use crate::lines::{begun, put_ended, put_spaced};
+use pf_base::{Data, NoMemory, Sector, Slot};
+use pf_text::{put_decimal, put_runs, put_text};
+
+/// Puts the runs of equal bytes over all sectors, of which none is copied.
+fn put_all_runs(out: &mut Vec<u8>, sectors: &[Sector]) -> Result<(), NoMemory>
+    ensures { OnOk result (out.new.items ≡ out.old.items ++ runs_text (bytes_of sectors.now)) }
+{
+    put_runs(out, sectors.as_flattened())
+}
+
+/// Puts the bytes of a chunk: the line's number, `sectors`, and the runs of equal bytes over all its sectors.
+pub fn put_sectors(out: &mut Vec<u8>, line: u32, sectors: &[Sector]) -> Result<(), NoMemory>
+    ensures ok { OnOk result (out.new.items ≡ out.old.items ++ line_of line (sectors_text sectors.now)) }
+    ensures err { OnErr result (out.new.items ≡ out.old.items) }
+{
+    let mut text = begun(*out.allocator(), line)?;
+    put_text(&mut text, b"sectors ")?;
+    put_all_runs(&mut text, sectors)?;
+    put_ended(out, text)
+}
+
+fn put_snapshot(
+    out: &mut Vec<u8>,
+    line: u32,
+    slot: Slot,
+    sectors: &[Sector],
+) -> Result<(), NoMemory>
+    ensures ok { OnOk result (out.new.items ≡ out.old.items ++ line_of line (snapshot_text slot sectors.now)) }
+    ensures err { OnErr result (out.new.items ≡ out.old.items) }
+{
+    let mut text = begun(*out.allocator(), line)?;
+    put_text(&mut text, b"mark ")?;
+    put_decimal(&mut text, slot)?;
+    put_text(&mut text, b" ")?;
+    put_all_runs(&mut text, sectors)?;
+    put_ended(out, text)
+}
+
+fn put_no_snapshot(out: &mut Vec<u8>, line: u32, slot: Slot) -> Result<(), NoMemory>
+    ensures ok { OnOk result (out.new.items ≡ out.old.items ++ line_of line (no_snapshot_text slot)) }
+    ensures err { OnErr result (out.new.items ≡ out.old.items) }
+{
+    let mut text = begun(*out.allocator(), line)?;
+    put_text(&mut text, b"mark ")?;
+    put_decimal(&mut text, slot)?;
+    put_text(&mut text, b" none")?;
+    put_ended(out, text)
+}
+
+/// Puts the snapshot of a slot: the line's number, `mark`, the slot, and the runs of equal bytes over all sectors of the snapshot,
+/// or `none` where none is kept.
+pub fn put_mark(
+    out: &mut Vec<u8>,
+    line: u32,
+    slot: Slot,
+    sectors: Option<&[Sector]>,
+) -> Result<(), NoMemory>
+    ensures none { IfNone sectors.entry (OnOk result (out.new.items ≡ out.old.items ++ line_of line (no_snapshot_text slot))) }
+    ensures kept { IfSome sectors.entry (λ kept. OnOk result (out.new.items ≡ out.old.items ++ line_of line (snapshot_text slot kept.now))) }
+    ensures err { OnErr result (out.new.items ≡ out.old.items) }
+{
+    match sectors {
+        Some(kept) => put_snapshot(out, line, slot, kept),
+        None => put_no_snapshot(out, line, slot),
+    }
+}
+
+/// Puts the line of an event, that a read was answered: `- read`, the group, the read's number, and the runs of equal bytes.
+pub fn put_read(out: &mut Vec<u8>, group: u8, number: u64, bytes: &Data) -> Result<(), NoMemory>
+    ensures ok { OnOk result (out.new.items ≡ out.old.items ++ event_line (read_text group number bytes.now)) }
+    ensures err { OnErr result (out.new.items ≡ out.old.items) }
+{
+    let mut text = Vec::new(*out.allocator());
+    put_text(&mut text, b"- read ")?;
+    put_decimal(&mut text, u64::from(group))?;
+    put_spaced(&mut text, number)?;
+    put_text(&mut text, b" ")?;
+    put_all_runs(&mut text, bytes.as_slice())?;
+    put_ended(out, text)
+}
