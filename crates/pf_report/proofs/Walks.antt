@@ -2,7 +2,6 @@
 use Rattle.std.proofs.Common.{◌≡◌, ℕ, zero, suc, ◌+◌, ◌-◌, ◌<◌, ◌≤◌, ◌⊎◌, inl, inr, true, false, List, [], ◌∷◌, ◌++◌, map, Option, Some, None, is_some, arith, refl, sym, ap, subst, ◌∙◌, append_assoc, append-nil}
 use Rattle.std.specs.FinMap
 use Rattle.std.specs.List.{flat_map}
-use Rattle.std.proofs.lemmas.List.Concat.{flat_map-append}
 use Rattle.pf_entry.specs.declared.entries.Entry.{Entry}
 use Rattle.pf_entry.specs.Maps.{Map}
 use Rattle.pf_entry.specs.EntryMaps.{entry_rows, log_of}
@@ -10,13 +9,17 @@ use Rattle.pf_entry.proofs.Ascending.{log_rows}
 use Rattle.pf_holes.specs.HoleLogs.{Holes, IsNext}
 use Rattle.pf_holes.specs.Windows.{IsWithin}
 use Rattle.pf_holes.proofs.Copying.{IsCopied, copied_none, copied_hole, copied_more, copied_all}
-use Rattle.pf_report.specs.Texts.{held_text}
+use Rattle.pf_protocol.specs.Shown.{Line}
+use Rattle.pf_report.specs.Texts.{held_text, line_in, held_in}
+
+abbrev pub lines : Holes → List Entry → List Line
+lines log rows = map (line_in log) (entry_rows rows)
 
 -- the entries up to a slot, whose texts were put
 pub record IsWalked (log : Holes) (after : ℕ) (before now : List ℕ) : Type 0 where
   pub rows : List Entry
   pub copied : IsCopied log.entries after rows
-  pub text : now ≡ before ++ flat_map (held_text log.marks) rows
+  pub text : now ≡ before ++ flat_map held_text (lines log rows)
 
 pub walked_none : (log : Holes) (base : ℕ) (out : List ℕ) → IsWithin base log.entries → IsWalked log base out out
 walked_none log base out within = record { rows = []; copied = copied_none log.entries base [] within refl; text = sym (append-nil out) }
@@ -34,26 +37,28 @@ skipped entries after (suc n) rows copied none =
     subst (λ (k : ℕ). IsCopied entries k rows) next
     (copied_hole entries (after + n) rows before (none_of (FinMap.get entries (after + n + 1)) (none (after + n + 1) (omega arith) (omega arith))))
 
+lines_more : (log : Holes) (rows : List Entry) (e : Entry) → flat_map held_text (lines log (rows ++ e ∷ [])) ≡ flat_map held_text (lines log rows) ++ held_text (line_in log (e.slot, e))
+lines_more log [] e = append-nil (held_text (line_in log (e.slot, e)))
+lines_more log (x ∷ rows) e =
+    ap (λ (l : List ℕ). held_text (line_in log (x.slot, x)) ++ l) (lines_more log rows e)
+    ∙ sym (append_assoc (held_text (line_in log (x.slot, x))) (flat_map held_text (lines log rows)) (held_text (line_in log (e.slot, e))))
+
 pub walked_more : (log : Holes) (after slot : ℕ) (before mid now : List ℕ) (e : Entry) → IsWalked log after before mid → IsNext log.entries after slot
-    → FinMap.get log.entries slot ≡ Some e → e.slot ≡ slot → now ≡ mid ++ held_text log.marks e → IsWalked log slot before now
+    → FinMap.get log.entries slot ≡ Some e → e.slot ≡ slot → now ≡ mid ++ held_text (line_in log (e.slot, e)) → IsWalked log slot before now
 walked_more log after slot before mid now e walked next held own put =
     let n = slot - after - 1 in
     let is : after + n + 1 ≡ slot = omega (arith, next.above) in
     let near = skipped log.entries after n walked.rows walked.copied (λ q above upto. next.first q above (omega (arith, is))) in
     let rows = walked.rows ++ e ∷ [] in
+    let one = held_text (line_in log (e.slot, e)) in
     record {
       rows = rows;
       copied = subst (λ (k : ℕ). IsCopied log.entries k rows) is
           (copied_more log.entries (after + n) walked.rows rows e near (ap (FinMap.get log.entries) is ∙ held) (own ∙ sym is) refl);
-      text = put ∙ ap (λ (l : List ℕ). l ++ held_text log.marks e) walked.text
-          ∙ append_assoc before (flat_map (held_text log.marks) walked.rows) (held_text log.marks e)
-          ∙ ap (λ (l : List ℕ). before ++ l)
-          (sym (flat_map-append (held_text log.marks) walked.rows (e ∷ []) ∙ ap (λ (l : List ℕ). flat_map (held_text log.marks) walked.rows ++ l) (append-nil (held_text log.marks e))));
+      text = put ∙ ap (λ (l : List ℕ). l ++ one) walked.text
+          ∙ append_assoc before (flat_map held_text (lines log walked.rows)) one
+          ∙ ap (λ (l : List ℕ). before ++ l) (sym (lines_more log walked.rows e));
     }
-
-values_in : (rows : List Entry) → map (λ (row : ℕ × Entry). row.1) (entry_rows rows) ≡ rows
-values_in [] = refl
-values_in (e ∷ rows) = ap (λ (l : List Entry). e ∷ l) (values_in rows)
 
 low_or_high : (q n : ℕ) → (q ≤ n) ⊎ (n < q)
 low_or_high zero n = inl (omega arith)
@@ -66,13 +71,12 @@ low_or_high (suc q) n = elim (low_or_high q n) [ inl low ↦ at_edge q n low | i
     at_edge (suc q) (suc n) low = elim (at_edge q n (omega arith)) [ inl lower ↦ inl (omega arith) | inr higher ↦ inr (omega arith) ]
 
 pub walked_all : (log : Holes) (after : ℕ) (before now : List ℕ) → IsWalked log after before now
-    → ((q : ℕ) → after < q → FinMap.contains_key log.entries q ≡ false) → now ≡ before ++ flat_map (held_text log.marks) (FinMap.values log.entries)
+    → ((q : ℕ) → after < q → FinMap.contains_key log.entries q ≡ false) → now ≡ before ++ flat_map held_text (held_in log)
 walked_all log after before now walked none =
     let rows = walked.rows in
     let whole : log_of rows ≡ log.entries = copied_all log.entries after after rows walked.copied (omega arith) upto in
-    let values : FinMap.values log.entries ≡ rows =
-    ap (λ (m : Map Entry). FinMap.values m) (sym whole) ∙ ap (map (λ (row : ℕ × Entry). row.1)) (log_rows rows walked.copied.ascending) ∙ values_in rows in
-    walked.text ∙ ap (λ (l : List Entry). before ++ flat_map (held_text log.marks) l) (sym values)
+    let entries : FinMap.entries log.entries ≡ entry_rows rows = ap (λ (m : Map Entry). FinMap.entries m) (sym whole) ∙ log_rows rows walked.copied.ascending in
+    walked.text ∙ ap (λ (l : List (ℕ × Entry)). before ++ flat_map held_text (map (line_in log) l)) (sym entries)
   where
     upto : (q : ℕ) → FinMap.contains_key log.entries q ≡ true → q ≤ after
     upto q has = elim (low_or_high q after) [

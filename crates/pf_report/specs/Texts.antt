@@ -1,5 +1,5 @@
 -- The texts of a report.
-use Rattle.std.specs.Prelude.{ℕ, Bool, nat_lt, if◌then◌else◌, List, [], ◌∷◌, ◌++◌, Option, Some, None, codes}
+use Rattle.std.specs.Prelude.{ℕ, Bool, nat_lt, if◌then◌else◌, List, [], ◌∷◌, ◌++◌, map, Option, Some, None, codes}
 use Rattle.std.specs.List.{flat_map}
 use Rattle.std.specs.Fmt.{decimal}
 use Rattle.std.specs.FinMap
@@ -11,6 +11,7 @@ use Rattle.pf_entry.specs.declared.ops.Op.{Op}
 use Rattle.pf_entry.specs.declared.ops.Op.TheVariants.{Write, Noop, Mark}
 use Rattle.pf_entry.specs.declared.entries.Entry.{Entry}
 use Rattle.pf_holes.specs.HoleLogs.{Holes}
+use Rattle.pf_protocol.specs.Shown.{Line}
 use Rattle.pf_protocol.specs.Numbers.{number_of}
 use Rattle.pf_protocol.specs.declared.answers.Answer.{Answer}
 use Rattle.pf_protocol.specs.declared.answers.Answer.TheVariants.{Done, Slot, Term, Read, Base, Job, Refused}
@@ -55,12 +56,19 @@ abbrev pub sign : Bool → List ℕ
 sign committed = if committed then codes "+" else codes "-"
 
 -- one held slot, as s:t:OP with its sign
-abbrev pub held_text : Numbers → Entry → List ℕ
-held_text marks e = spaced e.slot ++ codes ":" ++ decimal e.term ++ codes ":" ++ op_text e.op ++ sign (Sets.contains marks e.slot)
+abbrev pub held_text : Line → List ℕ
+held_text held = spaced held.slot ++ codes ":" ++ decimal held.term ++ codes ":" ++ op_text held.op ++ sign held.committed
 
--- a server's term and checkpoint, and each slot that its log holds, in ascending order
-abbrev pub log_text : ℕ → Holes → List ℕ
-log_text term log = codes "log " ++ decimal term ++ spaced log.base ++ flat_map (held_text log.marks) (FinMap.values log.entries)
+abbrev pub line_in : Holes → ℕ × Entry → Line
+line_in log held = record { slot = held.0; term = held.1.term; op = held.1.op; committed = Sets.contains log.marks held.0 }
+
+-- the slots that a log holds, in ascending order
+abbrev pub held_in : Holes → List Line
+held_in log = map (line_in log) (FinMap.entries log.entries)
+
+-- a server's term, its checkpoint, and the slots that its log holds
+abbrev pub log_text : ℕ → ℕ → List Line → List ℕ
+log_text term base held = codes "log " ++ decimal term ++ spaced base ++ flat_map held_text held
 
 -- a checkpoint and the applied slots above it, in ascending order
 abbrev pub applied_text : ℕ → Numbers → List ℕ

@@ -1,8 +1,7 @@
 //! Lines that show a server's log, and what it applied.
 ghost use Rattle.std.specs.Prelude.{◌≡◌, ◌++◌, OnErr, OnOk};
 ghost use Rattle.std.specs.List.{flat_map};
-ghost use Rattle.std.specs.FinMap as map;
-ghost use Rattle.pf_report.specs.Texts.{acked_text, applied_text, held_text, line_of, log_text, op_text};
+ghost use Rattle.pf_report.specs.Texts.{acked_text, applied_text, held_in, held_text, line_in, line_of, log_text, op_text};
 
 use crate::lines::{begun, put_all_spaced, put_ended, put_spaced};
 use pf_base::{NoMemory, Slot, Term};
@@ -28,7 +27,7 @@ fn put_op(out: &mut Vec<u8>, op: &Op) -> Result<(), NoMemory>
 
 /// Puts one held slot of a log.
 fn put_held(out: &mut Vec<u8>, log: &HoleLog, entry: &Entry) -> Result<(), NoMemory>
-    ensures { OnOk result (out.new.items ≡ out.old.items ++ held_text log.now.marks entry.now) }
+    ensures { OnOk result (out.new.items ≡ out.old.items ++ held_text (line_in log.now (entry.now.slot, entry.now))) }
 {
     put_spaced(out, entry.slot)?;
     put_text(out, b":")?;
@@ -47,7 +46,7 @@ fn put_held(out: &mut Vec<u8>, log: &HoleLog, entry: &Entry) -> Result<(), NoMem
 
 /// Puts each slot that a log holds, in ascending order. No entry is copied.
 fn put_entries(out: &mut Vec<u8>, log: &HoleLog) -> Result<(), NoMemory>
-    ensures { OnOk result (out.new.items ≡ out.old.items ++ flat_map (held_text log.now.marks) (map.values log.now.entries)) }
+    ensures { OnOk result (out.new.items ≡ out.old.items ++ flat_map held_text (held_in log.now)) }
 {
     let mut after = log.base();
     while let Some(slot) = log.next_after(after) {
@@ -63,7 +62,7 @@ fn put_entries(out: &mut Vec<u8>, log: &HoleLog) -> Result<(), NoMemory>
 /// Puts a log: the line's number, `log`, the server's term, its checkpoint, which is the log's base, and in ascending order each slot
 /// that the log holds, with its term, its op, and `+` where it is marked as committed, else `-`.
 pub fn put_log(out: &mut Vec<u8>, line: u32, term: Term, log: &HoleLog) -> Result<(), NoMemory>
-    ensures ok { OnOk result (out.new.items ≡ out.old.items ++ line_of line (log_text term log.now)) }
+    ensures ok { OnOk result (out.new.items ≡ out.old.items ++ line_of line (log_text term log.now.base (held_in log.now))) }
     ensures err { OnErr result (out.new.items ≡ out.old.items) }
 {
     let mut text = begun(*out.allocator(), line)?;

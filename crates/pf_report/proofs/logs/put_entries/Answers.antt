@@ -1,4 +1,4 @@
-use Rattle.std.proofs.Common.{◌≡◌, ℕ, List, ap, sym, subst, ◌∙◌}
+use Rattle.std.proofs.Common.{ℕ, sym, subst}
 use Rattle.pf_report.proofs.Walks.{IsWalked, walked_none, walked_more, walked_all}
 use Rattle.pf_report.proofs.logs.put_entries.Goals as goal
 
