@@ -1,6 +1,7 @@
 -- The text of a log that is walked from slot to slot.
-use Rattle.std.proofs.Common.{◌≡◌, ℕ, zero, suc, ◌+◌, ◌-◌, ◌<◌, ◌≤◌, ◌⊎◌, inl, inr, true, false, List, [], ◌∷◌, ◌++◌, map, Option, Some, None, is_some, arith, refl, sym, ap, subst, ◌∙◌, append_assoc, append-nil}
+use Rattle.std.proofs.Common.{◌≡◌, ℕ, zero, suc, ◌+◌, ◌-◌, ◌<◌, ◌≤◌, inl, inr, true, false, List, [], ◌∷◌, ◌++◌, map, Some, arith, refl, sym, ap, subst, ◌∙◌, append_assoc, append-nil}
 use Rattle.std.specs.FinMap
+use Rattle.std.proofs.lemmas.Bool.{cases_lt}
 use Rattle.std.specs.List.{flat_map}
 use Rattle.pf_entry.specs.declared.entries.Entry.{Entry}
 use Rattle.pf_entry.specs.Maps.{Map}
@@ -8,6 +9,7 @@ use Rattle.pf_entry.specs.EntryMaps.{entry_rows, log_of}
 use Rattle.pf_entry.proofs.Ascending.{log_rows}
 use Rattle.pf_holes.specs.HoleLogs.{Holes, IsNext}
 use Rattle.pf_holes.specs.Windows.{IsWithin}
+use Rattle.pf_holes.proofs.Found.{none_or}
 use Rattle.pf_holes.proofs.Copying.{IsCopied, copied_none, copied_hole, copied_more, copied_all}
 use Rattle.pf_protocol.specs.Shown.{Line}
 use Rattle.pf_report.specs.Texts.{held_text, line_in, held_in}
@@ -24,10 +26,6 @@ pub record IsWalked (log : Holes) (after : ℕ) (before now : List ℕ) : Type 0
 pub walked_none : (log : Holes) (base : ℕ) (out : List ℕ) → IsWithin base log.entries → IsWalked log base out out
 walked_none log base out within = record { rows = []; copied = copied_none log.entries base [] within refl; text = sym (append-nil out) }
 
-none_of : (o : Option Entry) → is_some o ≡ false → o ≡ None
-none_of None h = refl
-none_of (Some e) h = absurd (cc)
-
 skipped : (entries : Map Entry) (after n : ℕ) (rows : List Entry) → IsCopied entries after rows
     → ((q : ℕ) → after < q → q ≤ after + n → FinMap.contains_key entries q ≡ false) → IsCopied entries (after + n) rows
 skipped entries after zero rows copied none = let same : after ≡ after + 0 = omega arith in subst (λ (k : ℕ). IsCopied entries k rows) same copied
@@ -35,7 +33,7 @@ skipped entries after (suc n) rows copied none =
     let before = skipped entries after n rows copied (λ q above upto. none q above (omega arith)) in
     let next : after + n + 1 ≡ after + suc n = omega arith in
     subst (λ (k : ℕ). IsCopied entries k rows) next
-    (copied_hole entries (after + n) rows before (none_of (FinMap.get entries (after + n + 1)) (none (after + n + 1) (omega arith) (omega arith))))
+    (copied_hole entries (after + n) rows before (none_or (FinMap.get entries (after + n + 1)) (λ some. let gone = none (after + n + 1) (omega arith) (omega arith) in (cc))))
 
 lines_more : (log : Holes) (rows : List Entry) (e : Entry) → flat_map held_text (lines log (rows ++ e ∷ [])) ≡ flat_map held_text (lines log rows) ++ held_text (line_in log (e.slot, e))
 lines_more log [] e = append-nil (held_text (line_in log (e.slot, e)))
@@ -60,16 +58,6 @@ walked_more log after slot before mid now e walked next held own put =
           ∙ ap (λ (l : List ℕ). before ++ l) (sym (lines_more log walked.rows e));
     }
 
-low_or_high : (q n : ℕ) → (q ≤ n) ⊎ (n < q)
-low_or_high zero n = inl (omega arith)
-low_or_high (suc q) n = elim (low_or_high q n) [ inl low ↦ at_edge q n low | inr high ↦ inr (omega arith) ]
-  where
-    at_edge : (q n : ℕ) → q ≤ n → (suc q ≤ n) ⊎ (n < suc q)
-    at_edge zero zero low = inr (omega arith)
-    at_edge zero (suc n) low = inl (omega arith)
-    at_edge (suc q) zero low = absurd (omega arith)
-    at_edge (suc q) (suc n) low = elim (at_edge q n (omega arith)) [ inl lower ↦ inl (omega arith) | inr higher ↦ inr (omega arith) ]
-
 pub walked_all : (log : Holes) (after : ℕ) (before now : List ℕ) → IsWalked log after before now
     → ((q : ℕ) → after < q → FinMap.contains_key log.entries q ≡ false) → now ≡ before ++ flat_map held_text (held_in log)
 walked_all log after before now walked none =
@@ -79,7 +67,7 @@ walked_all log after before now walked none =
     walked.text ∙ ap (λ (l : List (ℕ × Entry)). before ++ flat_map held_text (map (line_in log) l)) (sym entries)
   where
     upto : (q : ℕ) → FinMap.contains_key log.entries q ≡ true → q ≤ after
-    upto q has = elim (low_or_high q after) [
-      | inl low ↦ low
-      | inr high ↦ let gone = none q high in absurd (cc)
+    upto q has = elim (cases_lt after q) [
+      | inl high ↦ let gone = none q high in absurd (cc)
+      | inr low ↦ low
     ]

@@ -34,14 +34,12 @@ fn put_held(out: &mut Vec<u8>, log: &HoleLog, entry: &Entry) -> Result<(), NoMem
     put_decimal(out, entry.term)?;
     put_text(out, b":")?;
     put_op(out, &entry.op)?;
-    put_text(
-        out,
-        if log.is_committed(entry.slot) {
-            b"+"
-        } else {
-            b"-"
-        },
-    )
+    let sign = if log.is_committed(entry.slot) {
+        b"+"
+    } else {
+        b"-"
+    };
+    put_text(out, sign)
 }
 
 /// Puts each slot that a log holds, in ascending order. No entry is copied.
