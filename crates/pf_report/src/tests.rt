@@ -12,24 +12,18 @@ use std::test::Fail;
 
 #[test]
 fn answers(rt: HostRuntime) -> Result<(), Fail> {
-    for (line, answer, text) in [
-        (1, Answer::Done, "1 ok\n"),
-        (4097, Answer::Slot(4096), "4097 slot 4096\n"),
-        (22, Answer::Term(4), "22 term 4\n"),
-        (8, Answer::Read(0), "8 read 0\n"),
-        (4100, Answer::Base(4096), "4100 base 4096\n"),
-        (12, Answer::Refused(Refusal::NotLeader), "12 not leader\n"),
-        (
-            4098,
-            Answer::Refused(Refusal::WindowFull),
-            "4098 window full\n",
-        ),
-        (7, Answer::Refused(Refusal::NoPacket), "7 no packet\n"),
-    ] {
-        let mut out = Vec::new(rt.alloc());
-        put_answer(&mut out, line, &answer)?;
-        assert_eq!(rt; out.as_slice(), text.as_bytes(), "{text}");
-    }
+    let mut out = Vec::new(rt.alloc());
+    put_answer(&mut out, 1, &Answer::Done)?;
+    put_answer(&mut out, 4097, &Answer::Slot(4096))?;
+    put_answer(&mut out, 22, &Answer::Term(4))?;
+    put_answer(&mut out, 8, &Answer::Read(0))?;
+    put_answer(&mut out, 4100, &Answer::Base(4096))?;
+    put_answer(&mut out, 12, &Answer::Refused(Refusal::NotLeader))?;
+    put_answer(&mut out, 4098, &Answer::Refused(Refusal::WindowFull))?;
+    put_answer(&mut out, 7, &Answer::Refused(Refusal::NoPacket))?;
+    let text =
+        "1 ok\n4097 slot 4096\n22 term 4\n8 read 0\n4100 base 4096\n12 not leader\n4098 window full\n7 no packet\n";
+    assert_eq!(rt; out.as_slice(), text.as_bytes());
     Ok(())
 }
 
