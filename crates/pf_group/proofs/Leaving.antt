@@ -1,0 +1,73 @@
+-- What the stores of a group leave.
+use Rattle.std.proofs.Common.{◌≡◌, ℕ, ◌⊎◌, inl, inr, Bool, true, false, cond, List, [], ◌∷◌, ◌++◌, length, Option, Some, None, IfSome, IsTrue, slice_get, arith, refl, sym, ap, subst, ◌∙◌}
+use Rattle.std.proofs.lemmas.List.{length-append}
+use Rattle.pf_disk.specs.Crashes.{Images}
+use Rattle.pf_entry.specs.Records.{Durable}
+use Rattle.pf_kept.specs.Kept.{FindsState, LeavesStates}
+use Rattle.pf_protocol.specs.Servers.{Server as ServerIs, Condition, Running as RunningIs, Stopped as StoppedIs, Unformatted as UnformattedIs}
+use Rattle.pf_protocol.specs.Servers.{Setup}
+use Rattle.pf_protocol.specs.Histories.{History, replay}
+use Rattle.pf_server.specs.declared.server.Server.{Server}
+use Rattle.pf_cluster.specs.declared.cluster.Cluster.{Cluster}
+use Rattle.pf_cluster.specs.Going.{IsReached}
+use Rattle.pf_restart.specs.declared.seat.Seat.{Seat}
+use Rattle.pf_server.specs.Conditions.{HasEither, HasOne, Leaves, Meets}
+use Rattle.pf_server.specs.declared.state.Doubt.{Doubt}
+use Rattle.pf_server.specs.declared.state.Doubt.TheVariants.{Settled, Open, Read}
+use Rattle.pf_server.specs.declared.state.State.{State}
+use Rattle.pf_server.specs.declared.state.State.TheVariants.{Runs, Stopped, Unformatted}
+use Rattle.pf_group.specs.Leaving.{HasLeft, IsOf, LeavesOf, as_seen}
+
+module _ {S : Type 0} (holds : S → Durable → Durable → Type 0) (used format : S → ℕ) (seat : Seat) (store : S) (head : List ℕ) (zero one : Images) (gives : (x y : Durable) → holds store x y → LeavesStates head zero one x y) where
+  one_of : (d before after x : Durable) → (d ≡ before) ⊎ (d ≡ after) → IsOf d x → IsOf before x ⊎ IsOf after x
+  one_of d before after x is of = elim is [ inl same ↦ inl (subst (λ z. IsOf z x) same of) | inr same ↦ inr (subst (λ z. IsOf z x) same of) ]
+
+  left_one : (d before after : Durable) → (d ≡ before) ⊎ (d ≡ after) → HasOne holds used format d store → HasLeft zero one before after
+  left_one d before after is h = record { head = head; x = h.x; y = h.y; left = gives h.x h.y h.has; first = one_of d before after h.x is h.first; second = one_of d before after h.y is h.second }
+
+  either_of : (before after x : Durable) → (x ≡ before) ⊎ (x ≡ after) → IsOf before x ⊎ IsOf after x
+  either_of before after x is = elim is [ inl same ↦ inl (inl same) | inr same ↦ inr (inl same) ]
+
+  by_found : (found : Bool) (before after : Durable) → (cond found after before ≡ before) ⊎ (cond found after before ≡ after)
+  by_found true before after = inr refl
+  by_found false before after = inl refl
+
+  by_doubt : (doubt : Doubt) (before after : Durable) → Leaves holds used format doubt before after store → HasLeft zero one before after
+  by_doubt Settled before after is = left_one before before after (inl refl) is.1
+  by_doubt (Open bytes generation) before after is = record { head = head; x = is.x; y = is.y; left = gives is.x is.y is.has; first = either_of before after is.x is.first; second = either_of before after is.y is.second }
+  by_doubt (Read found) before after is = left_one (cond found after before) before after (by_found found before after) is
+
+  -- what meets a condition leaves its states
+  pub leaves_of : (state : State) (c : Condition) → Meets holds used format seat store state c → LeavesOf (Some c) zero one
+  leaves_of (Runs me) (RunningIs s) is = record { head = head; x = s.durable; y = s.durable; left = gives s.durable s.durable is.stands.recorded; first = inl (inl refl); second = inl (inl refl) }
+  leaves_of (Stopped life doubt) (StoppedIs there before after) is = by_doubt doubt before after is.left
+  leaves_of Unformatted UnformattedIs is = tt
+  leaves_of (Runs me) (StoppedIs there before after) is = absurd is
+  leaves_of (Runs me) UnformattedIs is = absurd is
+  leaves_of (Stopped life doubt) (RunningIs s) is = absurd is
+  leaves_of (Stopped life doubt) UnformattedIs is = absurd is
+  leaves_of Unformatted (RunningIs s) is = absurd is
+  leaves_of Unformatted (StoppedIs there before after) is = absurd is
+
+-- in the files as they are
+pub left_as_seen : (head : List ℕ) (zero one : Option (List ℕ)) (x y : Durable) → IfSome zero (λ a. IfSome one (λ b. FindsState head a b x ⊎ FindsState head a b y)) → LeavesStates head (as_seen zero) (as_seen one) x y
+left_as_seen head zero one x y finds a b is_a is_b =
+    subst (λ o. IfSome o (λ b. FindsState head a b x ⊎ FindsState head a b y)) is_b
+    (subst (λ o. IfSome o (λ a. IfSome one (λ b. FindsState head a b x ⊎ FindsState head a b y))) is_a finds)
+
+-- three servers that were taken out from the last on
+pub three_of : {X : Type 0} → (xs rest : List X) (a b c : X) {ys zs : List X} → xs ≡ ys ++ c ∷ [] → ys ≡ zs ++ b ∷ [] → zs ≡ rest ++ a ∷ [] → length xs ≡ 3 → xs ≡ a ∷ b ∷ c ∷ []
+three_of xs rest a b c {ys} {zs} last middle first three =
+    let whole : xs ≡ ((rest ++ a ∷ []) ++ b ∷ []) ++ c ∷ [] = last ∙ ap (λ l. l ++ c ∷ []) (middle ∙ ap (λ l. l ++ b ∷ []) first) in
+    whole ∙ ap (λ l. ((l ++ a ∷ []) ++ b ∷ []) ++ c ∷ []) (none_left rest (omega (arith, sym three ∙ ap length whole, length-append ((rest ++ a ∷ []) ++ b ∷ []) (c ∷ []), length-append (rest ++ a ∷ []) (b ∷ []), length-append rest (a ∷ []))))
+  where
+    none_left : {Y : Type 0} → (ys : List Y) → length ys ≡ 0 → ys ≡ []
+    none_left [] is = refl
+    none_left (y ∷ ys) is = absurd (omega arith)
+
+-- a server of a group leaves what its condition says
+pub server_leaves : {S : Type 0} → (holds : S → Durable → Durable → Type 0) (used format : S → ℕ) (told : S → Bool) (setup : Setup) (history : History) (cluster : Cluster S) → IsReached holds used format told setup history cluster → (i : ℕ) (server : Server S) → slice_get cluster.servers.items i ≡ Some server
+    → (zero one : Images) → ((c : Condition) → Meets holds used format server.seat server.store server.state c → IsTrue (told server.store) → LeavesOf (Some c) zero one) → LeavesOf (slice_get (replay setup history).servers i) zero one
+server_leaves holds used format told setup history cluster reached i server there zero one leaves =
+    let m = reached.shows.members i server there in
+    subst (λ c. LeavesOf c zero one) (sym m.1) (leaves m.0 m.2.meets m.2.tells)

@@ -1,0 +1,130 @@
+-- A new group stands for the opening state.
+use Rattle.std.proofs.Common.{◌≡◌, ℕ, zero, suc, ◌+◌, ◌<◌, ◌≤◌, ◌⊎◌, inl, inr, Bool, true, false, ◌&&◌, ◌==◌, if◌then◌else◌, List, [], ◌∷◌, ◌++◌, length, Option, Some, IsTrue, is_some, slice_get, vec_capacity, arith, refl, sym, ap, subst, ◌∙◌}
+use Rattle.std.specs.List.{list_any}
+use Rattle.std.proofs.lemmas.Bool.{false≢true}
+use Rattle.std.proofs.lemmas.Option.{none-some, same_Some}
+use Rattle.pf_entry.specs.Lists.{Every}
+use Rattle.pf_entry.proofs.Lists.{every_append}
+use Rattle.pf_entry.specs.Records.{Durable}
+use Rattle.pf_protocol.specs.declared.answers.Answer.{Answer}
+use Rattle.pf_protocol.specs.declared.answers.Answer.TheVariants.{Done, Refused}
+use Rattle.pf_protocol.specs.declared.answers.Refusal.TheVariants.{Halted}
+use Rattle.pf_protocol.specs.Servers.{Setup, Server as ServerIs, Condition, Running as RunningIs, Unformatted as UnformattedIs}
+use Rattle.pf_protocol.specs.Groups.{opening, unless_failed}
+use Rattle.pf_protocol.specs.Histories.{History}
+use Rattle.pf_protocol.specs.Answers.{IsSetup}
+use Rattle.pf_restart.specs.declared.seat.Seat.{Seat}
+use Rattle.pf_server.specs.declared.server.Server.{Server}
+use Rattle.pf_server.specs.declared.state.State.{State}
+use Rattle.pf_server.specs.declared.state.State.TheVariants.{Unformatted}
+use Rattle.pf_server.specs.Conditions.{Meets}
+use Rattle.pf_opening.specs.Opening.{opening_server, seat_in}
+use Rattle.pf_opening.specs.Rooms.{Place}
+use Rattle.pf_opening.proofs.Opened.{opening_at}
+use Rattle.pf_cluster.specs.declared.cluster.Cluster.{Cluster}
+use Rattle.pf_cluster.specs.Going.{IsReached}
+use Rattle.pf_cluster.specs.Showing.{AreMembers, AreReadings, IsMember, Shows, seat_of}
+use Rattle.pf_group.specs.Making.{making_answer}
+use Rattle.pf_group.specs.Rooms.{halted_of, picked}
+
+-- the servers whose making was halted
+abbrev pub all_picked : (a b c : Bool) → List ℕ
+all_picked a b c = (([] ++ picked a 0) ++ picked b 1) ++ picked c 2
+
+pub picked_0 : (a b c : Bool) → list_any (λ j. j == 0) (all_picked a b c) ≡ a
+picked_0 true true true = refl
+picked_0 true true false = refl
+picked_0 true false true = refl
+picked_0 true false false = refl
+picked_0 false true true = refl
+picked_0 false true false = refl
+picked_0 false false true = refl
+picked_0 false false false = refl
+
+pub picked_1 : (a b c : Bool) → list_any (λ j. j == 1) (all_picked a b c) ≡ b
+picked_1 true true true = refl
+picked_1 true true false = refl
+picked_1 true false true = refl
+picked_1 true false false = refl
+picked_1 false true true = refl
+picked_1 false true false = refl
+picked_1 false false true = refl
+picked_1 false false false = refl
+
+pub picked_2 : (a b c : Bool) → list_any (λ j. j == 2) (all_picked a b c) ≡ c
+picked_2 true true true = refl
+picked_2 true true false = refl
+picked_2 true false true = refl
+picked_2 true false false = refl
+picked_2 false true true = refl
+picked_2 false true false = refl
+picked_2 false false true = refl
+picked_2 false false false = refl
+
+one_picked : (P : ℕ → Type 0) (b : Bool) (i : ℕ) → (b ≡ true → P i) → Every P (picked b i)
+one_picked P true i has = (has refl, tt)
+one_picked P false i has = tt
+
+pub every_picked : (P : ℕ → Type 0) (a b c : Bool) → (a ≡ true → P 0) → (b ≡ true → P 1) → (c ≡ true → P 2) → Every P (all_picked a b c)
+every_picked P a b c p q r = every_append P ([] ++ picked a 0 ++ picked b 1) (picked c 2) (every_append P ([] ++ picked a 0) (picked b 1) (one_picked P a 0 p) (one_picked P b 1 q)) (one_picked P c 2 r)
+
+module _ {S : Type 0} (holds : S → Durable → Durable → Type 0) (used format : S → ℕ) (told : S → Bool) (setup : Setup) where
+  -- a server that was opened, or whose disks failed, is as it is in the opening state
+  pub opened_member : (i : ℕ) (server : Server S) (answer : Answer) → list_any (λ j. j == i) setup.failed ≡ halted_of answer → (answer ≡ Done) ⊎ (answer ≡ Refused Halted)
+      → (answer ≡ Done → Meets holds used format server.seat server.store server.state (RunningIs (opening_server setup i))) → (answer ≡ Refused Halted → server.state ≡ Unformatted) → server.seat ≡ seat_of setup i → told server.store ≡ true
+      → IsMember holds used format told setup i server (unless_failed setup i (opening_server setup i))
+  opened_member i server answer failed outcome opened halted seat tells = elim outcome [
+    | inl done ↦ subst (IsMember holds used format told setup i server) (sym (ap (λ b. if b then UnformattedIs else RunningIs (opening_server setup i)) (failed ∙ ap halted_of done)))
+        (record { seat = seat; meets = opened done; tells = tells })
+    | inr stopped ↦ subst (IsMember holds used format told setup i server) (sym (ap (λ b. if b then UnformattedIs else RunningIs (opening_server setup i)) (failed ∙ ap halted_of stopped)))
+        (record { seat = seat; meets = subst (λ s. Meets holds used format server.seat server.store s UnformattedIs) (sym (halted stopped)) tt; tells = tells })
+  ]
+
+  pub opened_members : (zero one two : Server S) → IsMember holds used format told setup 0 zero (unless_failed setup 0 (opening_server setup 0)) → IsMember holds used format told setup 1 one (unless_failed setup 1 (opening_server setup 1)) → IsMember holds used format told setup 2 two (unless_failed setup 2 (opening_server setup 2))
+      → AreMembers holds used format told setup (zero ∷ one ∷ two ∷ []) (opening setup).servers
+  opened_members z o t first second third = members
+    where
+      members : AreMembers holds used format told setup (z ∷ o ∷ t ∷ []) (opening setup).servers
+      members zero server at = (unless_failed setup 0 (opening_server setup 0), opening_at setup 0 (omega arith), subst (λ (s : Server S). IsMember holds used format told setup 0 s (unless_failed setup 0 (opening_server setup 0))) (same_Some z server at) first)
+      members (suc zero) server at = (unless_failed setup 1 (opening_server setup 1), opening_at setup 1 (omega arith), subst (λ (s : Server S). IsMember holds used format told setup 1 s (unless_failed setup 1 (opening_server setup 1))) (same_Some o server at) second)
+      members (suc (suc zero)) server at = (unless_failed setup 2 (opening_server setup 2), opening_at setup 2 (omega arith), subst (λ (s : Server S). IsMember holds used format told setup 2 s (unless_failed setup 2 (opening_server setup 2))) (same_Some t server at) third)
+      members (suc (suc (suc i))) server at = absurd (grind (arith, at))
+
+  pub shows_opening : (cluster : Cluster S) (zero one two : Server S) → cluster.servers.items ≡ zero ∷ one ∷ two ∷ [] → AreMembers holds used format told setup (zero ∷ one ∷ two ∷ []) (opening setup).servers
+      → cluster.packets.items ≡ [] → 65536 ≤ vec_capacity cluster.packets → cluster.byte_room ≡ 134217728 → cluster.acked.items ≡ [] → cluster.readings.items ≡ [] → cluster.elections ≡ 0 → Shows holds used format told setup cluster (opening setup)
+  unfolding opening
+  shows_opening cluster z o t servers members packets places bytes acked readings elections = record {
+    three = ap length servers;
+    members = subst (λ xs. AreMembers holds used format told setup xs (opening setup).servers) (sym servers) members;
+    traffic = record {
+      packets = packets;
+      places = places;
+      room = omega (arith, bytes);
+      acked = acked;
+      elections = elections;
+      readings = subst (AreReadings []) (sym readings) none_there;
+    };
+    reads = ap length readings;
+  }
+    where
+      none_there : AreReadings [] []
+      none_there number reading at = absurd (grind (arith, at))
+
+  -- a server that was made in its place
+  pub opened_there : (i : ℕ) (place : Place) → place.seat ≡ seat_of setup i → (server : Server S) (answer : Answer) → list_any (λ j. j == i) setup.failed ≡ halted_of answer → (answer ≡ Done) ⊎ (answer ≡ Refused Halted)
+      → (answer ≡ Done → (made : Setup) → place.seat ≡ seat_in made place.seat.number → Meets holds used format server.seat server.store server.state (RunningIs (opening_server made place.seat.number))) → (answer ≡ Refused Halted → server.state ≡ Unformatted) → server.seat ≡ place.seat → told server.store ≡ true
+      → IsMember holds used format told setup i server (unless_failed setup i (opening_server setup i))
+  opened_there i place is server answer failed outcome opened halted seat tells =
+      opened_member i server answer failed outcome (λ done. subst (λ n. Meets holds used format server.seat server.store server.state (RunningIs (opening_server setup n))) (ap (λ (s : Seat). s.number) is)
+      (opened done setup (subst (λ (s : Seat). s ≡ seat_in setup s.number) (sym is) refl))) halted (seat ∙ is) tells
+
+pub was_halted : (answer : Answer) → (answer ≡ Done) ⊎ (answer ≡ Refused Halted) → halted_of answer ≡ true → answer ≡ Refused Halted
+was_halted answer outcome is = elim outcome [ inl done ↦ absurd (false≢true (sym (ap halted_of done) ∙ is)) | inr halted ↦ halted ]
+
+-- the opening state of a setup is reached by no history
+pub reached_opening : {S : Type 0} → (holds : S → Durable → Durable → Type 0) (used format : S → ℕ) (told : S → Bool) (setup : Setup) (history : History) (cluster : Cluster S) → IsSetup (record setup { failed = [] }) → history ≡ [] → Shows holds used format told setup cluster (opening setup) → IsReached holds used format told setup history cluster
+reached_opening holds used format told setup history cluster is empty shows = subst (λ h. IsReached holds used format told setup h cluster) (sym empty) (record {
+  legal = record { is_setup = record { few_names = is.few_names; some_sectors = is.some_sectors; few_sectors = is.few_sectors; blocks = is.blocks; format = is.format; window = is.window }; legal = tt };
+  short = omega arith;
+  shows = shows;
+})

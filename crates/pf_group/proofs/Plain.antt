@@ -1,0 +1,166 @@
+-- Only a claim is answered by a job, and a job is of one of the three servers.
+use Rattle.std.proofs.Common.{◌≡◌, ℕ, ◌+◌, ◌<◌, ◌⊎◌, Bool, true, false, not, if◌then◌else◌, List, [], ◌∷◌, ◌==◌, ◌||◌, nat_lt, Option, Some, None, slice_get, arith, refl, sym, subst, inl, inr}
+use Rattle.std.proofs.lemmas.Bool.{false≢true}
+use Rattle.pf_base.specs.Span.{Span}
+use Rattle.pf_entry.specs.Lists.{Every}
+use Rattle.pf_entry.proofs.Lists.{every_filter, every_more}
+use Rattle.pf_entry.specs.declared.ops.Op.{Op}
+use Rattle.pf_protocol.specs.declared.answers.Answer.{Answer}
+use Rattle.pf_protocol.specs.declared.answers.Answer.TheVariants.{Done, Slot as SlotIs, Term as TermIs, Read as ReadIs, Base as BaseIs, Job as JobIs, Refused}
+use Rattle.pf_protocol.specs.declared.answers.Refusal.{Refusal}
+use Rattle.pf_protocol.specs.declared.answers.Refusal.TheVariants.{BadRange, WindowFull, LogFull, NotOurs, NotLeader, Down, Halted, NoPacket, LostPacket, PacketsFull, ElectionsFull, NoneFree, Stale, OldFormat}
+use Rattle.pf_protocol.specs.declared.events.Event.{Event}
+use Rattle.pf_protocol.specs.declared.events.Event.TheVariants.{Submit, Fetch, Deliver, Lose, Elect, Resend, Stop, Restart, Claim, Finish, GiveBack, Checkpoint}
+use Rattle.pf_protocol.specs.declared.events.Happening.{Happening}
+use Rattle.pf_protocol.specs.Servers.{Setup, Role, Follower, Candidate, Merging, Serving, Server, Condition, Running, Stopped, Unformatted, upto}
+use Rattle.pf_protocol.specs.Outcomes.{Outcome}
+use Rattle.pf_protocol.specs.Leading.{on_submit, on_fetch, on_elect, on_resend}
+use Rattle.pf_protocol.specs.Saving.{is_short_of, on_checkpoint, on_finish}
+use Rattle.pf_protocol.specs.Rows.{on_packet}
+use Rattle.pf_protocol.specs.Groups.{Group, Sent, claim_of, ending, happens, opening}
+use Rattle.pf_protocol.specs.Histories.{History}
+use Rattle.pf_protocol.specs.Answers.{Claimed, IsAnswer, IsLegal, IsLegalFrom, Turn, answer_at, answer_by, answer_to, claim_answer, claim_answer_at, claims_after, claims_of, claims_with, deliver_turn, delivery_answer, elect_turn, fetch_turn, finish_answer, is_claim, is_formatted, loss_answer, may_halt, plain, restart_answer, stop_answer, submit_turn}
+use Rattle.pf_cluster.proofs.Deliveries.{packet_done}
+use Rattle.pf_group.specs.Plain.{IsPlain}
+
+either_plain : (b : Bool) (x y : Answer) → IsPlain x → IsPlain y → IsPlain (if b then x else y)
+either_plain true x y p q = p
+either_plain false x y p q = q
+
+either_outcome : (b : Bool) (x y : Outcome) → IsPlain x.answer → IsPlain y.answer → IsPlain (if b then x else y).answer
+either_outcome true x y p q = p
+either_outcome false x y p q = q
+
+submit_plain : (setup : Setup) (s : Server) (op : Op) (role : Role) → IsPlain (on_submit setup s op role).answer
+unfolding on_submit
+submit_plain setup s op (Serving l) = either_outcome (nat_lt (s.durable.base + setup.window) l.next) _ _ tt tt
+submit_plain setup s op Follower = tt
+submit_plain setup s op (Candidate own) = tt
+submit_plain setup s op (Merging l) = tt
+
+fetch_plain : (s : Server) (range : Span) (number : ℕ) (role : Role) → IsPlain (on_fetch s range number role).answer
+unfolding on_fetch
+fetch_plain s range number (Serving l) = tt
+fetch_plain s range number Follower = tt
+fetch_plain s range number (Candidate own) = tt
+fetch_plain s range number (Merging l) = tt
+
+elect_plain : (s : Server) → IsPlain (on_elect s).answer
+unfolding on_elect
+elect_plain s = tt
+
+resend_plain : (s : Server) (role : Role) → IsPlain (on_resend s role).answer
+unfolding on_resend
+resend_plain s (Serving l) = tt
+resend_plain s Follower = tt
+resend_plain s (Candidate own) = tt
+resend_plain s (Merging l) = tt
+
+checkpoint_plain : (s : Server) → IsPlain (on_checkpoint s).answer
+unfolding on_checkpoint
+checkpoint_plain s = either_outcome (upto s == s.durable.base || is_short_of s.role (upto s)) _ _ tt tt
+
+finish_plain : (life slot : ℕ) (s : Server) → IsPlain (on_finish s life slot).answer
+unfolding on_finish
+finish_plain life slot s = either_outcome (life == s.life) _ _ tt tt
+
+by_plain : (refusal : Option Refusal) (answer : Answer) → IsPlain answer → IsPlain (answer_by refusal answer)
+by_plain None answer is = is
+by_plain (Some refusal) answer is = tt
+
+turn_plain : (c : Option Condition) (turn : Turn) → ((s : Server) → IsPlain (turn.rule s).answer) → IsPlain (answer_at c turn)
+turn_plain (Some (Running s)) turn is = by_plain (turn.refusal s) (turn.rule s).answer (is s)
+turn_plain (Some (Stopped life before after)) turn is = tt
+turn_plain (Some Unformatted) turn is = tt
+turn_plain None turn is = tt
+
+delivery_plain : (setup : Setup) (g : Group) (sent : Option Sent) → IsPlain (delivery_answer setup g sent)
+delivery_plain setup g None = tt
+delivery_plain setup g (Some sent) = either_plain sent.lost (Refused LostPacket) (answer_at (slice_get g.servers sent.packet.to) (deliver_turn setup g sent)) tt
+    (turn_plain (slice_get g.servers sent.packet.to) (deliver_turn setup g sent) (λ s. subst IsPlain (sym (packet_done setup s sent.packet)) tt))
+
+loss_plain : (sent : Option Sent) → IsPlain (loss_answer sent)
+loss_plain None = tt
+loss_plain (Some sent) = either_plain sent.lost (Refused LostPacket) Done tt tt
+
+stop_plain : (c : Option Condition) → IsPlain (stop_answer c)
+stop_plain (Some (Running s)) = tt
+stop_plain (Some (Stopped life before after)) = tt
+stop_plain (Some Unformatted) = tt
+stop_plain None = tt
+
+finished_plain : (c : Option Condition) (life slot : ℕ) → IsPlain (finish_answer c life slot)
+finished_plain (Some (Running s)) life slot = finish_plain life slot s
+finished_plain (Some (Stopped now before after)) life slot = tt
+finished_plain (Some Unformatted) life slot = tt
+finished_plain None life slot = tt
+
+abbrev pub IsNoClaim : Event → Type 0
+IsNoClaim Claim = ⊥
+IsNoClaim _ = Unit {0}
+
+-- what is answered where no disk fails
+to_plain : (setup : Setup) (g : Group) (event : Event) → IsNoClaim event → IsPlain (answer_to setup g event)
+unfolding answer_to
+to_plain setup g (Submit i op) other = turn_plain (slice_get g.servers i) (submit_turn setup g op) (λ s. submit_plain setup s op s.role)
+to_plain setup g (Fetch i range) other = turn_plain (slice_get g.servers i) (fetch_turn setup g range) (λ s. fetch_plain s range g.reads s.role)
+to_plain setup g (Deliver k) other = delivery_plain setup g (slice_get g.packets k)
+to_plain setup g (Lose k) other = loss_plain (slice_get g.packets k)
+to_plain setup g (Elect i) other = turn_plain (slice_get g.servers i) (elect_turn g) elect_plain
+to_plain setup g (Resend i) other = turn_plain (slice_get g.servers i) (plain g (λ s. on_resend s s.role)) (λ s. resend_plain s s.role)
+to_plain setup g (Stop i) other = stop_plain (slice_get g.servers i)
+to_plain setup g (Restart i found) other = either_plain (is_formatted (slice_get g.servers i)) Done (Refused NotOurs) tt tt
+to_plain setup g Claim other = absurd other
+to_plain setup g (Finish i life slot) other = finished_plain (slice_get g.servers i) life slot
+to_plain setup g (GiveBack i life slot) other = tt
+to_plain setup g (Checkpoint i) other = turn_plain (slice_get g.servers i) (plain g on_checkpoint) checkpoint_plain
+
+pub plain_answer : (setup : Setup) (g : Group) (event : Event) (answer : Answer) → IsNoClaim event → IsAnswer setup g event answer → IsPlain answer
+plain_answer setup g event answer other is =
+    elim is [
+      | inl right ↦ subst IsPlain (sym right) (to_plain setup g event other)
+      | inr cut ↦ subst IsPlain (sym cut.1) tt
+    ]
+
+-- each open claim is of one of the three servers
+abbrev IsLow : Claimed → Type 0
+IsLow c = c.server < 3
+
+low_with : (claims : List Claimed) (i : ℕ) (c : Option Condition) (slot : Option ℕ) (rest : Answer) → i < 3 → Every IsLow claims → Every IsLow (claims_with rest claims) → Every IsLow (claims_with (claim_answer_at i c slot rest) claims)
+low_with claims i (Some (Running s)) (Some slot) rest low all later = (low, all)
+low_with claims i (Some (Running s)) None rest low all later = later
+low_with claims i (Some (Stopped life before after)) slot rest low all later = later
+low_with claims i (Some Unformatted) slot rest low all later = later
+low_with claims i None slot rest low all later = later
+
+claim_low : (window : ℕ) (g : Group) (claims : List Claimed) → Every IsLow claims → Every IsLow (claims_with (claim_answer window g (0 ∷ 1 ∷ 2 ∷ [])) claims)
+claim_low window g claims all =
+    low_with claims 0 (slice_get g.servers 0) (claim_of window (slice_get g.servers 0)) (claim_answer window g (1 ∷ 2 ∷ [])) (omega arith) all
+    (low_with claims 1 (slice_get g.servers 1) (claim_of window (slice_get g.servers 1)) (claim_answer window g (2 ∷ [])) (omega arith) all
+    (low_with claims 2 (slice_get g.servers 2) (claim_of window (slice_get g.servers 2)) (claim_answer window g []) (omega arith) all all))
+
+after_low : (setup : Setup) (g : Group) (claims : List Claimed) (event : Event) (answer : Answer) → IsAnswer setup g event answer → Every IsLow claims → Every IsLow (claims_after claims event answer)
+unfolding answer_to may_halt
+after_low setup g claims (Submit i op) answer is all = all
+after_low setup g claims (Fetch i range) answer is all = all
+after_low setup g claims (Deliver k) answer is all = all
+after_low setup g claims (Lose k) answer is all = all
+after_low setup g claims (Elect i) answer is all = all
+after_low setup g claims (Resend i) answer is all = all
+after_low setup g claims (Stop i) answer is all = all
+after_low setup g claims (Restart i found) answer is all = all
+after_low setup g claims Claim answer is all =
+    elim is [
+      | inl right ↦ subst (λ a. Every IsLow (claims_with a claims)) (sym right) (claim_low setup.window g claims all)
+      | inr cut ↦ absurd (false≢true cut.0)
+    ]
+after_low setup g claims (Finish i life slot) answer is all = every_filter IsLow (λ c. not (is_claim i life slot c)) claims (every_more IsLow (λ c. not (is_claim i life slot c) ≡ true → IsLow c) (λ c low kept. low) claims all)
+after_low setup g claims (GiveBack i life slot) answer is all = every_filter IsLow (λ c. not (is_claim i life slot c)) claims (every_more IsLow (λ c. not (is_claim i life slot c) ≡ true → IsLow c) (λ c low kept. low) claims all)
+after_low setup g claims (Checkpoint i) answer is all = all
+
+low_from : (setup : Setup) (g : Group) (claims : List Claimed) (history : History) → IsLegalFrom setup g claims history → Every IsLow claims → Every IsLow (claims_of claims history)
+low_from setup g claims [] legal all = all
+low_from setup g claims (h ∷ hs) legal all = low_from setup (happens setup g h.event (ending h.answer)) (claims_after claims h.event h.answer) hs legal.1 (after_low setup g claims h.event h.answer legal.0.answered all)
+
+pub claims_low : (setup : Setup) (history : History) → IsLegal setup history → Every (λ c. c.server < 3) (claims_of [] history)
+claims_low setup history legal = low_from setup (opening setup) [] history legal.legal tt

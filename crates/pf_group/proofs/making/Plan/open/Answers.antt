@@ -1,0 +1,81 @@
+use Rattle.std.proofs.Common.{◌≡◌, ℕ, [], ◌∷◌, ◌++◌, ◌==◌, map, slice_get, List, refl, sym, ap, subst, ◌∙◌}
+use Rattle.std.specs.List.{list_any}
+use Rattle.std.proofs.lemmas.Bool.{and_from}
+use Rattle.pf_entry.specs.Lists.{Every}
+use Rattle.pf_kept.specs.declared.kept.Kept.{Kept}
+use Rattle.pf_kept.specs.Faults.{faults_of}
+use Rattle.pf_opening.specs.Rooms.{Place}
+use Rattle.pf_protocol.specs.Servers.{Setup}
+use Rattle.pf_protocol.specs.Histories.{History}
+use Rattle.pf_server.specs.declared.server.Server.{Server}
+use Rattle.pf_cluster.specs.declared.cluster.Cluster.{Cluster}
+use Rattle.pf_cluster.specs.Going.{IsReached}
+use Rattle.pf_cluster.specs.Readings.{is_taken}
+use Rattle.pf_group.specs.GroupIs.{GroupIs}
+use Rattle.pf_group.specs.Halves.{HasRisen, all_faults, format_in, holds_in, told_in, used_in}
+use Rattle.pf_group.specs.Making.{making_answer, setup_with, six_faults}
+use Rattle.pf_group.specs.Rooms.{halted_of, picked}
+use Rattle.pf_group.proofs.Made.{every_picked, opened_members, opened_there, picked_0, picked_1, picked_2, reached_opening, shows_opening, was_halted}
+use Rattle.pf_group.proofs.making.Plan.open.Goals as goal
+
+pub invariant_of-group : goal.invariant_of-group
+invariant_of-group g c =
+    let p = c.args.self in
+    let failed = c.note-3.ensures.items ∙ ap (λ l. l ++ picked (halted_of c.open-two.result.1) 2) (c.note-2.ensures.items ∙ ap (λ l. l ++ picked (halted_of c.open-one.result.1) 1) (c.note.ensures.items ∙ ap (λ l. l ++ picked (halted_of c.open-zero.result.1) 0) c.requires.plan.failed)) in
+    let servers = c.put-3.ensures.items ∙ ap (λ l. l ++ c.open-two.result.0 ∷ []) (c.put-2.ensures.items ∙ ap (λ l. l ++ c.open-one.result.0 ∷ []) (c.put.ensures.items ∙ ap (λ l. l ++ c.open-zero.result.0 ∷ []) c.requires.plan.cluster.servers)) in
+    let setup : Setup = setup_with p.sectors p.names p.format c.note-3.new.failed.items in
+    let cluster : Cluster (Kept g.row.D.Denot) = record { servers = c.put-3.new.list; packets = p.cluster.packets; byte_room = p.cluster.byte_room; acked = p.cluster.acked; readings = p.cluster.readings; elections = p.cluster.elections } in
+    let e = c.requires.plan.cluster in
+    record {
+      reached = reached_opening (holds_in g.D.Disk.seen g.D.Disk.may_leave) used_in format_in (told_in g.D.Disk.seen) setup p.past.happenings.items cluster c.requires.setup c.requires.plan.history
+          (shows_opening (holds_in g.D.Disk.seen g.D.Disk.may_leave) used_in format_in (told_in g.D.Disk.seen) setup cluster c.open-zero.result.0 c.open-one.result.0 c.open-two.result.0 servers
+          (opened_members (holds_in g.D.Disk.seen g.D.Disk.may_leave) used_in format_in (told_in g.D.Disk.seen) setup c.open-zero.result.0 c.open-one.result.0 c.open-two.result.0
+          (opened_there (holds_in g.D.Disk.seen g.D.Disk.may_leave) used_in format_in (told_in g.D.Disk.seen) setup 0 p.zero (ap (λ (q : Place). q.seat) c.requires.plan.zero) c.open-zero.result.0 c.open-zero.result.1
+          (ap (list_any (λ j. j == 0)) failed ∙ picked_0 (halted_of c.open-zero.result.1) (halted_of c.open-one.result.1) (halted_of c.open-two.result.1)) c.open-zero.ensures.outcome c.open-zero.ensures.opened c.open-zero.ensures.halted c.open-zero.ensures.seat
+          (c.open-zero.ensures.told ∙ and_from _ _ c.requires.told.s0h0 c.requires.told.s0h1))
+          (opened_there (holds_in g.D.Disk.seen g.D.Disk.may_leave) used_in format_in (told_in g.D.Disk.seen) setup 1 p.one (ap (λ (q : Place). q.seat) c.requires.plan.one) c.open-one.result.0 c.open-one.result.1
+          (ap (list_any (λ j. j == 1)) failed ∙ picked_1 (halted_of c.open-zero.result.1) (halted_of c.open-one.result.1) (halted_of c.open-two.result.1)) c.open-one.ensures.outcome c.open-one.ensures.opened c.open-one.ensures.halted c.open-one.ensures.seat
+          (c.open-one.ensures.told ∙ and_from _ _ c.requires.told.s1h0 c.requires.told.s1h1))
+          (opened_there (holds_in g.D.Disk.seen g.D.Disk.may_leave) used_in format_in (told_in g.D.Disk.seen) setup 2 p.two (ap (λ (q : Place). q.seat) c.requires.plan.two) c.open-two.result.0 c.open-two.result.1
+          (ap (list_any (λ j. j == 2)) failed ∙ picked_2 (halted_of c.open-zero.result.1) (halted_of c.open-one.result.1) (halted_of c.open-two.result.1)) c.open-two.ensures.outcome c.open-two.ensures.opened c.open-two.ensures.halted c.open-two.ensures.seat
+          (c.open-two.ensures.told ∙ and_from _ _ c.requires.told.s2h0 c.requires.told.s2h1)))
+          e.packets e.places e.bytes e.acked e.readings e.elections);
+      past = c.requires.plan.past;
+    }
+
+pub returns : goal.returns
+returns g c =
+    let p = c.args.self in
+    let failed = c.note-3.ensures.items ∙ ap (λ l. l ++ picked (halted_of c.open-two.result.1) 2) (c.note-2.ensures.items ∙ ap (λ l. l ++ picked (halted_of c.open-one.result.1) 1) (c.note.ensures.items ∙ ap (λ l. l ++ picked (halted_of c.open-zero.result.1) 0) c.requires.plan.failed)) in
+    let servers = c.put-3.ensures.items ∙ ap (λ l. l ++ c.open-two.result.0 ∷ []) (c.put-2.ensures.items ∙ ap (λ l. l ++ c.open-one.result.0 ∷ []) (c.put.ensures.items ∙ ap (λ l. l ++ c.open-zero.result.0 ∷ []) c.requires.plan.cluster.servers)) in
+    let counts = λ (s : Server (Kept g.row.D.Denot)). faults_of g.D.Disk.faults s.store in
+    let now = map counts c.put-3.new.list.items in
+    let Risen = λ (i : ℕ). HasRisen i (six_faults g.D.Disk.faults c.args.disks) now in
+    record {
+      failed = c.note-3.new.failed.items;
+      is = ap (λ h. let v : GroupIs = record { number = p.number; setup = setup_with p.sectors p.names p.format c.note-3.new.failed.items; history = h; taken = map is_taken p.cluster.readings.items; faults = now } in v) c.requires.plan.history
+          ∙ ap (λ r. let v : GroupIs = record { number = p.number; setup = setup_with p.sectors p.names p.format c.note-3.new.failed.items; history = []; taken = map is_taken r; faults = now } in v) c.requires.plan.cluster.readings;
+      cause = subst (Every Risen) (sym failed) (every_picked Risen (halted_of c.open-zero.result.1) (halted_of c.open-one.result.1) (halted_of c.open-two.result.1)
+          (λ is. record {
+            was = (g.D.Disk.faults c.args.disks.s0h0, g.D.Disk.faults c.args.disks.s0h1);
+            is = faults_of g.D.Disk.faults c.open-zero.result.0.store;
+            then_is = refl;
+            now_is = ap (λ xs. slice_get (map counts xs) 0) servers;
+            risen = c.open-zero.ensures.failed (was_halted c.open-zero.result.1 c.open-zero.ensures.outcome is);
+          })
+          (λ is. record {
+            was = (g.D.Disk.faults c.args.disks.s1h0, g.D.Disk.faults c.args.disks.s1h1);
+            is = faults_of g.D.Disk.faults c.open-one.result.0.store;
+            then_is = refl;
+            now_is = ap (λ xs. slice_get (map counts xs) 1) servers;
+            risen = c.open-one.ensures.failed (was_halted c.open-one.result.1 c.open-one.ensures.outcome is);
+          })
+          (λ is. record {
+            was = (g.D.Disk.faults c.args.disks.s2h0, g.D.Disk.faults c.args.disks.s2h1);
+            is = faults_of g.D.Disk.faults c.open-two.result.0.store;
+            then_is = refl;
+            now_is = ap (λ xs. slice_get (map counts xs) 2) servers;
+            risen = c.open-two.ensures.failed (was_halted c.open-two.result.1 c.open-two.ensures.outcome is);
+          }));
+      answered = c.making_answer-answer.ensures ∙ ap making_answer c.deref.ensures.value;
+    }

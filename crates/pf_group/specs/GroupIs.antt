@@ -1,0 +1,16 @@
+-- A group, as contracts see it.
+use Rattle.std.specs.Prelude.{ℕ, Bool, List}
+use Rattle.pf_protocol.specs.Servers.{Setup}
+use Rattle.pf_protocol.specs.Groups.{Group}
+use Rattle.pf_protocol.specs.Histories.{History, replay}
+
+pub record GroupIs : Type 0 where
+  pub number : ℕ  -- of the group in its volume
+  pub setup : Setup
+  pub history : History
+  pub taken : List Bool  -- for each read by its number, whether its answer was handed out
+  pub faults : List (ℕ × ℕ)  -- for each server, how often the disks of its halves 0 and 1 have failed
+
+-- the state after the history
+abbrev pub state_of : GroupIs → Group
+state_of g = replay g.setup g.history

@@ -1,0 +1,44 @@
+-- Two disks as the store of a server, and three such stores.
+use Rattle.std.specs.Prelude.{◌≡◌, ◌⊎◌, ℕ, Bool, List, map, Option, Some, slice_get}
+use Rattle.pf_disk.specs.Crashes.{Images}
+use Rattle.pf_disk.specs.Causes.{Rose}
+use Rattle.pf_entry.specs.Records.{Durable}
+use Rattle.pf_image.specs.Pairs.{current_of, format_of}
+use Rattle.pf_kept.specs.declared.kept.Kept.{Kept}
+use Rattle.pf_kept.specs.Faults.{faults_of}
+use Rattle.pf_kept.specs.Kept.{IsKept, OneRose, tells}
+use Rattle.pf_server.specs.declared.server.Server.{Server}
+use Rattle.pf_cluster.specs.declared.cluster.Cluster.{Cluster}
+
+-- what a store says of its disks
+module _ {D : Type 0} where
+  abbrev pub holds_in : (seen : D → Option (List ℕ)) (may_leave : D → Images) → Kept D → Durable → Durable → Type 0
+  holds_in seen may_leave kept before after = IsKept seen may_leave kept.pair before after
+
+  abbrev pub used_in : Kept D → ℕ
+  used_in kept = (current_of kept.pair).used
+
+  abbrev pub format_in : Kept D → ℕ
+  format_in kept = format_of kept.pair
+
+  abbrev pub told_in : (D → Option (List ℕ)) → Kept D → Bool
+  told_in seen kept = tells seen kept.pair
+
+  abbrev pub rose_in : (D → ℕ) → Kept D → Kept D → Type 0
+  rose_in faults old new = OneRose faults old.pair new.pair
+
+  -- how often the disks of each have failed
+  abbrev pub all_faults : (D → ℕ) → Cluster (Kept D) → List (ℕ × ℕ)
+  all_faults faults cluster = map (λ (server : Server (Kept D)). faults_of faults server.store) cluster.servers.items
+
+-- a count of one of two disks rose
+abbrev pub EitherRose : (before after : ℕ × ℕ) → Type 0
+EitherRose before after = Rose before.0 after.0 ⊎ Rose before.1 after.1
+
+-- that of a disk of server i
+pub record HasRisen (i : ℕ) (before after : List (ℕ × ℕ)) : Type 0 where
+  pub was : ℕ × ℕ
+  pub is : ℕ × ℕ
+  pub then_is : slice_get before i ≡ Some was
+  pub now_is : slice_get after i ≡ Some is
+  pub risen : EitherRose was is

@@ -1,0 +1,40 @@
+-- How a group is made.
+use Rattle.std.specs.Prelude.{◌≡◌, ℕ, Bool, IsTrue, List, [], ◌∷◌, Option, is_some}
+use Rattle.pf_entry.specs.Lists.{Every}
+use Rattle.pf_protocol.specs.declared.answers.Answer.{Answer}
+use Rattle.pf_protocol.specs.declared.answers.Answer.TheVariants.{Done, Refused}
+use Rattle.pf_protocol.specs.declared.answers.Refusal.TheVariants.{Halted}
+use Rattle.pf_protocol.specs.Servers.{Setup}
+use Rattle.pf_group.specs.declared.six.Six.{Six}
+use Rattle.pf_group.specs.GroupIs.{GroupIs}
+use Rattle.pf_group.specs.Halves.{HasRisen}
+
+-- what a group is made with, and the servers whose disks could not be formatted
+abbrev pub setup_with : (sectors names format : ℕ) → (failed : List ℕ) → Setup
+setup_with sectors names format failed = record { names = names; window = 4096; chunk = sectors; format = format; failed = failed }
+
+module _ {D : Type 0} where
+  -- each disk tells its content
+  pub record AreTold (seen : D → Option (List ℕ)) (disks : Six D) : Type 0 where
+    pub s0h0 : IsTrue (is_some (seen disks.s0h0))
+    pub s0h1 : IsTrue (is_some (seen disks.s0h1))
+    pub s1h0 : IsTrue (is_some (seen disks.s1h0))
+    pub s1h1 : IsTrue (is_some (seen disks.s1h1))
+    pub s2h0 : IsTrue (is_some (seen disks.s2h0))
+    pub s2h1 : IsTrue (is_some (seen disks.s2h1))
+
+  -- how often each has failed, server by server
+  abbrev pub six_faults : (D → ℕ) → Six D → List (ℕ × ℕ)
+  six_faults faults disks = (faults disks.s0h0, faults disks.s0h1) ∷ (faults disks.s1h0, faults disks.s1h1) ∷ (faults disks.s2h0, faults disks.s2h1) ∷ []
+
+-- the making is halted where some server could not be formatted
+abbrev pub making_answer : List ℕ → Answer
+making_answer [] = Done
+making_answer (i ∷ is) = Refused Halted
+
+-- a new group, whose servers could be formatted but for those of which a disk failed
+pub record IsMade (number sectors names format : ℕ) (before : List (ℕ × ℕ)) (g : GroupIs) (answer : Answer) : Type 0 where
+  pub failed : List ℕ
+  pub is : g ≡ record { number = number; setup = setup_with sectors names format failed; history = []; taken = []; faults = g.faults }
+  pub cause : Every (λ i. HasRisen i before g.faults) failed
+  pub answered : answer ≡ making_answer failed

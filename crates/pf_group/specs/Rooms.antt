@@ -1,0 +1,51 @@
+-- The memory of a group that is to be made.
+use Rattle.std.specs.Prelude.{◌≡◌, ℕ, ◌+◌, ◌≤◌, Bool, true, false, List, [], ◌∷◌, ◌++◌, vec_capacity, vec_len}
+use Rattle.pf_protocol.specs.declared.answers.Answer.{Answer}
+use Rattle.pf_protocol.specs.declared.answers.Answer.TheVariants.{Refused}
+use Rattle.pf_restart.specs.declared.seat.Seat.{Seat}
+use Rattle.pf_opening.specs.Rooms.{Place}
+use Rattle.pf_cluster.specs.declared.cluster.Cluster.{Cluster}
+use Rattle.pf_group.specs.declared.making.Plan.{Plan}
+use Rattle.pf_group.specs.Pasts.{IsPast}
+
+-- no servers yet, and room for three, and for all packets
+pub record IsEmpty {S : Type 0} (cluster : Cluster S) : Type 0 where
+  pub servers : cluster.servers.items ≡ []
+  pub none : vec_len cluster.servers ≡ 0
+  pub three : 3 ≤ vec_capacity cluster.servers
+  pub packets : cluster.packets.items ≡ []
+  pub places : 65536 ≤ vec_capacity cluster.packets
+  pub bytes : cluster.byte_room ≡ 134217728
+  pub acked : cluster.acked.items ≡ []
+  pub readings : cluster.readings.items ≡ []
+  pub elections : cluster.elections ≡ 0
+
+abbrev pub place_at : (group sectors names format i : ℕ) → Place
+place_at group sectors names format i = record { group = group; seat = record { number = i; sectors = sectors; names = names; format = format } }
+
+-- all is there but the disks
+pub record IsPlan {D : Type 0} (plan : Plan D) : Type 0 where
+  pub zero : plan.zero ≡ place_at plan.number plan.sectors plan.names plan.format 0
+  pub one : plan.one ≡ place_at plan.number plan.sectors plan.names plan.format 1
+  pub two : plan.two ≡ place_at plan.number plan.sectors plan.names plan.format 2
+  pub failed : plan.failed.items ≡ []
+  pub none : vec_len plan.failed ≡ 0
+  pub three : 3 ≤ vec_capacity plan.failed
+  pub cluster : IsEmpty plan.cluster
+  pub history : plan.past.happenings.items ≡ []
+  pub past : IsPast plan.past
+
+-- it is to be made with these numbers
+pub record IsPlanOf {D : Type 0} (number sectors names format : ℕ) (plan : Plan D) : Type 0 where
+  pub number_is : plan.number ≡ number
+  pub sectors_is : plan.sectors ≡ sectors
+  pub names_is : plan.names ≡ names
+  pub format_is : plan.format ≡ format
+
+abbrev pub halted_of : Answer → Bool
+halted_of (Refused refusal) = true
+halted_of _ = false
+
+abbrev pub picked : Bool → ℕ → List ℕ
+picked true i = i ∷ []
+picked false i = []

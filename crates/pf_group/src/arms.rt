@@ -1,0 +1,166 @@
+//! One function for each event.
+ghost use Rattle.std.specs.Prelude.{◌≡◌, ◌<◌, Bool, IfOk};
+ghost use Rattle.pf_base.specs.Span.{IsWritable};
+ghost use Rattle.pf_protocol.specs.Servers.{Setup};
+ghost use Rattle.pf_protocol.specs.Histories.{History};
+ghost use Rattle.pf_protocol.specs.Answers.{IsSubmitted};
+ghost use Rattle.pf_protocol.specs.declared.events.Event.TheVariants.{Checkpoint, Claim, Deliver, Elect, Fetch, Finish, Lose, Resend, Restart, Stop, Submit};
+ghost use Rattle.pf_cluster.specs.Going.{HasHistory, IsBroughtBack, IsReached};
+ghost use Rattle.pf_group.specs.Reacting.{Comes, ComesBack, Answers};
+
+use crate::Reaction;
+use pf_base::{Filled, NoMemory, Range, Server};
+use pf_cluster::Cluster;
+use pf_entry::Op;
+use pf_protocol::Event;
+use pf_store::Store;
+use std::alloc::Global;
+
+/// A host hands on a write or a mark.
+pub fn submit<S: Store>(
+    cluster: &mut Cluster<S>,
+    alloc: Global,
+    server: Server,
+    op: Op,
+) -> Result<Reaction, NoMemory>
+    requires server { server < 3 }
+    requires op { IsSubmitted op }
+    requires reached { HasHistory S.holds S.used S.format S.told cluster.old }
+    ensures { (setup : Setup) (history : History) → IsReached S.holds S.used S.format S.told setup history cluster.old → Comes S.holds S.used S.format S.told S.rose setup history (Submit server op) cluster.old cluster.new result }
+{
+    let kept = op.try_clone()?;
+    let answer = cluster.submit(alloc, server, op)?;
+    Ok(Reaction::plain(Event::Submit { server, op: kept }, answer))
+}
+
+/// A host asks for sectors.
+pub fn fetch<S: Store>(
+    cluster: &mut Cluster<S>,
+    alloc: Global,
+    server: Server,
+    range: Range,
+) -> Result<Reaction, NoMemory>
+    requires server { server < 3 }
+    requires range { IsWritable range.first range.count }
+    requires reached { HasHistory S.holds S.used S.format S.told cluster.old }
+    ensures { (setup : Setup) (history : History) → IsReached S.holds S.used S.format S.told setup history cluster.old → Comes S.holds S.used S.format S.told S.rose setup history (Fetch server range) cluster.old cluster.new result }
+{
+    let answer = cluster.fetch(alloc, server, range)?;
+    Ok(Reaction::plain(Event::Fetch { server, range }, answer))
+}
+
+/// A packet comes.
+pub fn deliver<S: Store>(
+    cluster: &mut Cluster<S>,
+    alloc: Global,
+    k: u32,
+) -> Result<Reaction, NoMemory>
+    requires { HasHistory S.holds S.used S.format S.told cluster.old }
+    ensures { (setup : Setup) (history : History) → IsReached S.holds S.used S.format S.told setup history cluster.old → Comes S.holds S.used S.format S.told S.rose setup history (Deliver k) cluster.old cluster.new result }
+{
+    let answer = cluster.deliver(alloc, k)?;
+    Ok(Reaction::plain(Event::Deliver(k), answer))
+}
+
+/// A packet is lost.
+pub fn lose<S: Store>(cluster: &mut Cluster<S>, k: u32) -> Reaction
+    requires { HasHistory S.holds S.used S.format S.told cluster.old }
+    ensures { (setup : Setup) (history : History) → IsReached S.holds S.used S.format S.told setup history cluster.old → Answers S.holds S.used S.format S.told S.rose setup history (Lose k) cluster.old cluster.new result }
+{
+    let answer = cluster.lose(k);
+    Reaction::plain(Event::Lose(k), answer)
+}
+
+/// A server stands for election.
+pub fn elect<S: Store>(
+    cluster: &mut Cluster<S>,
+    alloc: Global,
+    server: Server,
+) -> Result<Reaction, NoMemory>
+    requires server { server < 3 }
+    requires reached { HasHistory S.holds S.used S.format S.told cluster.old }
+    ensures { (setup : Setup) (history : History) → IsReached S.holds S.used S.format S.told setup history cluster.old → Comes S.holds S.used S.format S.told S.rose setup history (Elect server) cluster.old cluster.new result }
+{
+    let answer = cluster.elect(alloc, server)?;
+    Ok(Reaction::plain(Event::Elect(server), answer))
+}
+
+/// A server sends again what others may have missed.
+pub fn resend<S: Store>(
+    cluster: &mut Cluster<S>,
+    alloc: Global,
+    server: Server,
+) -> Result<Reaction, NoMemory>
+    requires server { server < 3 }
+    requires reached { HasHistory S.holds S.used S.format S.told cluster.old }
+    ensures { (setup : Setup) (history : History) → IsReached S.holds S.used S.format S.told setup history cluster.old → Comes S.holds S.used S.format S.told S.rose setup history (Resend server) cluster.old cluster.new result }
+{
+    let answer = cluster.resend(alloc, server)?;
+    Ok(Reaction::plain(Event::Resend(server), answer))
+}
+
+/// A server stops.
+pub fn stop<S: Store>(cluster: &mut Cluster<S>, server: Server) -> Reaction
+    requires server { server < 3 }
+    requires reached { HasHistory S.holds S.used S.format S.told cluster.old }
+    ensures { (setup : Setup) (history : History) → IsReached S.holds S.used S.format S.told setup history cluster.old → Answers S.holds S.used S.format S.told S.rose setup history (Stop server) cluster.old cluster.new result }
+{
+    let answer = cluster.stop(server);
+    Reaction::plain(Event::Stop(server), answer)
+}
+
+/// A server begins again.
+pub fn restart<S: Store>(
+    cluster: &mut Cluster<S>,
+    alloc: Global,
+    server: Server,
+) -> Result<Reaction, NoMemory>
+    requires server { server < 3 }
+    requires reached { HasHistory S.holds S.used S.format S.told cluster.old }
+    ensures { (setup : Setup) (history : History) → IsReached S.holds S.used S.format S.told setup history cluster.old → ComesBack S.holds S.used S.format S.told S.rose setup history server cluster.old cluster.new result }
+{
+    let (answer, found) = cluster.restart(alloc, server)?;
+    Ok(Reaction::plain(Event::Restart { server, found }, answer))
+}
+
+/// A job is claimed.
+pub fn claim<S: Store>(cluster: &mut Cluster<S>, alloc: Global) -> Result<Reaction, NoMemory>
+    requires { HasHistory S.holds S.used S.format S.told cluster.old }
+    ensures { (setup : Setup) (history : History) → IsReached S.holds S.used S.format S.told setup history cluster.old → Comes S.holds S.used S.format S.told S.rose setup history Claim cluster.old cluster.new result }
+{
+    let (answer, kept) = cluster.claim(alloc)?;
+    Ok(Reaction {
+        event: Event::Claim,
+        answer,
+        kept,
+    })
+}
+
+/// A job is done. It takes no memory.
+pub fn finish<S: Store>(cluster: &mut Cluster<S>, filled: Filled) -> Reaction
+    requires server { filled.server < 3 }
+    requires job { (setup : Setup) × ((history : History) × IsBroughtBack S.holds S.used S.format S.told setup history cluster.old filled) }
+    ensures { (setup : Setup) (history : History) → IsReached S.holds S.used S.format S.told setup history cluster.old → Answers S.holds S.used S.format S.told S.rose setup history (Finish filled.server filled.life filled.slot) cluster.old cluster.new result }
+{
+    let event = Event::Finish {
+        server: filled.server,
+        life: filled.life,
+        slot: filled.slot,
+    };
+    let answer = cluster.finish(filled);
+    Reaction::plain(event, answer)
+}
+
+/// A server takes a checkpoint.
+pub fn checkpoint<S: Store>(
+    cluster: &mut Cluster<S>,
+    alloc: Global,
+    server: Server,
+) -> Result<Reaction, NoMemory>
+    requires server { server < 3 }
+    requires reached { HasHistory S.holds S.used S.format S.told cluster.old }
+    ensures { (setup : Setup) (history : History) → IsReached S.holds S.used S.format S.told setup history cluster.old → Comes S.holds S.used S.format S.told S.rose setup history (Checkpoint server) cluster.old cluster.new result }
+{
+    let answer = cluster.checkpoint(alloc, server)?;
+    Ok(Reaction::plain(Event::Checkpoint(server), answer))
+}

@@ -1,0 +1,167 @@
+//! The making of a group: first all its memory, then its disks.
+ghost use Rattle.std.specs.Prelude.{◌≡◌, ◌+◌, ◌<◌, ◌≤◌, ◌++◌, [], IfOk, vec_capacity, vec_len};
+ghost use Rattle.pf_protocol.specs.Answers.{IsSetup};
+ghost use Rattle.pf_restart.specs.Beginning.{setup_at};
+ghost use Rattle.pf_group.specs.Making.{AreTold, IsMade, making_answer, setup_with, six_faults};
+ghost use Rattle.pf_group.specs.Rooms.{IsEmpty, IsPlan, IsPlanOf, halted_of, picked};
+
+use crate::past::{Past, put};
+use crate::{Group, Six};
+use pf_base::{NoMemory, Server as Number};
+use pf_cluster::Cluster;
+use pf_disk::Disk;
+use pf_kept::Kept;
+use pf_opening::ServerRoom;
+use pf_protocol::{Answer, Refusal};
+use pf_restart::Seat;
+use std::alloc::Global;
+
+/// The most packets that a group sends, and their bytes.
+const PLACES: usize = 65_536;
+
+const PACKET_BYTES: u64 = 134_217_728;
+
+/// What a group is to be made with, and all the memory for it.
+#[derive(Drop)]
+pub struct Plan<D: Disk> {
+    number: u8,
+    sectors: u32,
+    names: u8,
+    format: u8,
+    zero: ServerRoom,
+    one: ServerRoom,
+    two: ServerRoom,
+    failed: Vec<Number>,
+    /// It has no servers yet.
+    cluster: Cluster<Kept<D>>,
+    past: Past,
+}
+
+/// The memory of the three servers. `NoMemory` (1) where there is none for it.
+fn rooms(
+    alloc: Global,
+    number: u8,
+    seat: Seat,
+) -> Result<(ServerRoom, ServerRoom, ServerRoom), NoMemory>
+    requires { IsSetup (setup_at seat) }
+    ensures { IfOk result (λ made. (made.0 ≡ record { group = number; seat = record seat { number = 0 } }) × (made.1 ≡ record { group = number; seat = record seat { number = 1 } }) × (made.2 ≡ record { group = number; seat = record seat { number = 2 } })) }
+{
+    let zero = ServerRoom::new(alloc, number, Seat { number: 0, ..seat })?;
+    let one = ServerRoom::new(alloc, number, Seat { number: 1, ..seat })?;
+    let two = ServerRoom::new(alloc, number, Seat { number: 2, ..seat })?;
+    Ok((zero, one, two))
+}
+
+/// A cluster without servers. `NoMemory` (1) where there is none for it.
+fn empty_cluster<D: Disk + Drop>(alloc: Global) -> Result<Cluster<Kept<D>>, NoMemory>
+    ensures { IfOk result IsEmpty }
+{
+    Ok(Cluster {
+        servers: Vec::with_capacity(alloc, 3)?,
+        packets: Vec::with_capacity(alloc, PLACES)?,
+        byte_room: PACKET_BYTES,
+        acked: Vec::new(alloc),
+        readings: Vec::new(alloc),
+        elections: 0,
+    })
+}
+
+/// Notes a server where it could not be formatted. It takes no memory.
+fn note(failed: &mut Vec<Number>, number: Number, answer: &Answer)
+    requires { vec_len failed.old < vec_capacity failed.old }
+    ensures items { failed.new.items ≡ failed.old.items ++ picked (halted_of answer.now) number }
+    ensures len { vec_len failed.new ≤ vec_len failed.old + 1 }
+    ensures capacity { vec_capacity failed.old ≤ vec_capacity failed.new }
+{
+    if let Answer::Refused(_) = answer {
+        put(failed, number);
+    }
+}
+
+/// How the making of a group is answered.
+fn making_answer(failed: &[Number]) -> Answer
+    ensures { result ≡ making_answer failed.now }
+{
+    match failed {
+        [] => Answer::Done,
+        _ => Answer::Refused(Refusal::Halted),
+    }
+}
+
+impl<D: Disk + Drop> Plan<D> {
+    /// Takes all the memory. `NoMemory` (1) where there is none for it.
+    pub fn new(
+        alloc: Global,
+        number: u8,
+        sectors: u32,
+        names: u8,
+        format: u8,
+    ) -> Result<Plan<D>, NoMemory>
+        requires { IsSetup (setup_with sectors names format []) }
+        ensures plan { IfOk result IsPlan }
+        ensures numbers { IfOk result (IsPlanOf number sectors names format) }
+    {
+        let seat = Seat {
+            number: 0,
+            sectors,
+            names,
+            format,
+        };
+        let failed = Vec::with_capacity(alloc, 3)?;
+        let cluster = empty_cluster(alloc)?;
+        let (zero, one, two) = rooms(alloc, number, seat)?;
+        Ok(Plan {
+            number,
+            sectors,
+            names,
+            format,
+            zero,
+            one,
+            two,
+            failed,
+            cluster,
+            past: Past::new(alloc),
+        })
+    }
+
+    /// Makes the group on these disks. It takes no memory.
+    pub fn open(self, disks: Six<D>) -> (Group<D>, Answer)
+        requires setup { IsSetup (setup_with self.sectors self.names self.format []) }
+        requires plan { IsPlan self }
+        requires told { AreTold D.seen disks }
+        ensures { IsMade self.number self.sectors self.names self.format (six_faults D.faults disks) result.0 result.1 }
+    {
+        let Plan {
+            number,
+            sectors,
+            names,
+            format,
+            zero,
+            one,
+            two,
+            mut failed,
+            mut cluster,
+            past,
+        } = self;
+        let (zero, first) = zero.open(disks.s0h0, disks.s0h1);
+        let (one, second) = one.open(disks.s1h0, disks.s1h1);
+        let (two, third) = two.open(disks.s2h0, disks.s2h1);
+        note(&mut failed, 0, &first);
+        note(&mut failed, 1, &second);
+        note(&mut failed, 2, &third);
+        put(&mut cluster.servers, zero);
+        put(&mut cluster.servers, one);
+        put(&mut cluster.servers, two);
+        let answer = making_answer(&failed);
+        let group = Group {
+            number,
+            sectors,
+            names,
+            format,
+            failed,
+            cluster,
+            past,
+        };
+        (group, answer)
+    }
+}

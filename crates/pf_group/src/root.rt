@@ -1,0 +1,55 @@
+//! What never changes of a group, and what happened to it.
+ghost use Rattle.std.specs.Prelude.{◌≡◌, IfOk};
+ghost use Rattle.pf_protocol.specs.Answers.{IsLegal};
+ghost use Rattle.pf_group.specs.Roots.{root_of};
+ghost use Rattle.pf_group.specs.Sound.{IsSound};
+
+use crate::Group;
+use pf_base::{NoMemory, Server};
+use pf_disk::Disk;
+use pf_protocol::Happening;
+use std::alloc::Global;
+use std::marker::Model;
+
+/// How a group was made.
+#[derive(Drop)]
+pub struct Root {
+    number: u8,
+    sectors: u32,
+    names: u8,
+    format: u8,
+    /// The servers whose disks could not be formatted.
+    failed: Vec<Server>,
+}
+
+impl Model for Root {
+    ghost use Rattle.pf_group.specs.Roots.{RootIs};
+
+    ghost Value = { RootIs };
+
+    ghost view = { λ r. record { number = r.number; setup = record { names = r.names; window = 4096; chunk = r.sectors; format = r.format; failed = r.failed.items } } };
+}
+
+impl<D: Disk + Drop> Group<D> {
+    /// All that happened, in order.
+    pub fn history(&self) -> &[Happening]
+        ensures items { result.now ≡ self.now.history }
+        ensures legal { IsLegal self.now.setup self.now.history }
+        ensures sound { IsSound self.now.setup self.now.history }
+    {
+        &self.past.happenings
+    }
+
+    /// How it was made.
+    pub fn root(&self) -> Result<Root, NoMemory>
+        ensures { IfOk result (λ root. root ≡ root_of self.now) }
+    {
+        Ok(Root {
+            number: self.number,
+            sectors: self.sectors,
+            names: self.names,
+            format: self.format,
+            failed: self.failed.clone()?,
+        })
+    }
+}
