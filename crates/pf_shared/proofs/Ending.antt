@@ -1,0 +1,54 @@
+-- What a turn with an event does, and one without.
+use Rattle.std.proofs.Common.{◌≡◌, ℕ, zero, suc, Bool, true, false, ◌||◌, List, [], ◌∷◌, ◌++◌, length, None, Some, slice_get, sym, refl, ap, ◌∙◌, subst}
+use Rattle.std.specs.List.{list_any}
+use Rattle.std.proofs.lemmas.Option.{none-some, same_Some}
+use Rattle.pf_turn.specs.declared.log.Stamped.{Stamped}
+use Rattle.pf_entry.specs.declared.ops.Op.{Op}
+use Rattle.pf_protocol.specs.Histories.{History}
+use Rattle.pf_disk.specs.declared.disk.Disk.{Ghosts}
+use Rattle.pf_protocol.specs.declared.answers.Answer.{Answer}
+use Rattle.pf_protocol.specs.declared.events.Event.{Event}
+use Rattle.pf_protocol.specs.declared.events.Happening.{Happening}
+use Rattle.pf_protocol.specs.Answers.{IsLegalNext, claims_of, is_claim}
+use Rattle.pf_group.specs.GroupIs.{GroupIs, state_of}
+use Rattle.pf_group.specs.Roots.{root_of}
+use Rattle.pf_group.specs.Steps.{Steps}
+use Rattle.pf_shared.specs.declared.moment.Moment.TheVariants.{Happened}
+use Rattle.pf_shared.specs.declared.moment.Did.{Did}
+use Rattle.pf_shared.specs.declared.moment.Did.TheVariants.{Acted}
+use Rattle.pf_shared.specs.declared.behind.Behind.{Behind}
+use Rattle.pf_shared.specs.Moments.{entry}
+use Rattle.pf_shared.specs.Woven.{steps_in, woven}
+use Rattle.pf_shared.specs.Hands.{hand, hand_of, key}
+use Rattle.pf_shared.specs.Behinds.{Acts, Stays, list_of}
+use Rattle.pf_shared.proofs.Weaving.{did}
+use Rattle.pf_shared.proofs.Acting.{is_itself, listed_on}
+use Rattle.pf_shared.proofs.Claiming.{open_claim}
+
+module _ {D : Type 0} {disk : Ghosts D} (old mid new : Behind D disk) (same_group : mid.group ≡ old.group) (same_turns : mid.turns.items ≡ old.turns.items) where
+  same_list : list_of mid ≡ list_of old
+  same_list = ap (λ l. woven l mid.group.history) same_turns ∙ ap (λ (x : GroupIs). woven old.turns.items x.history) same_group
+
+  pub acts : (seat : ℕ) (event : Event) (answer : Answer) → new.turns.items ≡ mid.turns.items ++ did seat Acted ∷ [] → Steps mid.group event answer new.group → Acts seat event answer old new
+  acts seat event answer grown s = let h : Happening = record { event = event; answer = answer } in record {
+    listed = listed_on mid.turns.items mid.group.history mid.counted seat h new.turns.items grown new.group.history (ap (λ (x : GroupIs). x.history) s.recorded) ∙ ap (λ l. l ++ entry seat (Happened h) ∷ []) same_list;
+    legal = subst (λ (x : GroupIs). IsLegalNext x.setup (state_of x) (claims_of [] x.history) h) same_group s.legal;
+    root = ap root_of s.recorded ∙ ap root_of same_group;
+  }
+
+  pub stays : new.turns.items ≡ mid.turns.items → new.group.history ≡ mid.group.history → root_of new.group ≡ root_of mid.group → Stays old new
+  stays same_items same_history same_root = record {
+    listed = ap (λ l. woven l new.group.history) same_items ∙ (ap (λ l. woven mid.turns.items l) same_history ∙ same_list);
+    root = same_root ∙ ap root_of same_group;
+  }
+
+-- an element that passes is one of some
+pub any_at : {X : Type 0} → (f : X → Bool) (xs : List X) (j : ℕ) (x : X) → slice_get xs j ≡ Some x → f x ≡ true → list_any f xs ≡ true
+any_at f [] j x there passes = absurd (none-some x there)
+any_at f (y ∷ ys) zero x there passes = ap (λ b. b || list_any f ys) (ap f (same_Some y x there) ∙ passes)
+any_at f (y ∷ ys) (suc j) x there passes = let ih = any_at f ys j x there passes in elim (f y) as (λ b. b || list_any f ys ≡ true) [ true ↦ refl | false ↦ ih ]
+
+-- so is the claim of a job in hand
+pub open_any : (ds : List (Stamped Did)) (hs : History) → steps_in ds ≡ length hs → (seat server life slot : ℕ) (op : Op) → hand_of (key server life slot) None (woven ds hs) ≡ Some (hand seat op) → list_any (is_claim server life slot) (claims_of [] hs) ≡ true
+open_any ds hs counted seat server life slot op is = let there = open_claim ds hs counted seat server life slot op is in
+    any_at (is_claim server life slot) (claims_of [] hs) there.0 _ there.1 (is_itself server life slot op)

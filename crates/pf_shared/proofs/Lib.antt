@@ -1,0 +1,7 @@
+pub mod Weaving
+pub mod Owning
+pub mod Claiming
+pub mod Acting
+pub mod Ending
+pub mod Taking
+pub mod Working

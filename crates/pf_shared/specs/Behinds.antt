@@ -1,0 +1,45 @@
+-- What one turn does to the group behind it.
+use Rattle.std.specs.Prelude.{◌≡◌, ℕ, Bool, List, [], ◌∷◌, ◌++◌, None, Some}
+use Rattle.pf_turn.specs.declared.log.Stamped.{Stamped}
+use Rattle.pf_disk.specs.declared.disk.Disk.{Ghosts}
+use Rattle.pf_base.specs.declared.filled.Filled.{Filled}
+use Rattle.pf_entry.specs.declared.ops.Op.{Op}
+use Rattle.pf_applying.specs.Jobs.{IsFilledFor}
+use Rattle.pf_protocol.specs.declared.answers.Answer.{Answer}
+use Rattle.pf_protocol.specs.declared.events.Event.{Event}
+use Rattle.pf_protocol.specs.Answers.{IsLegalNext, claims_of}
+use Rattle.pf_group.specs.declared.event.GroupEvent.{GroupEvent}
+use Rattle.pf_group.specs.Events.{event_of}
+use Rattle.pf_group.specs.GroupIs.{state_of}
+use Rattle.pf_group.specs.Roots.{root_of}
+use Rattle.pf_shared.specs.declared.moment.Moment.{Moment}
+use Rattle.pf_shared.specs.declared.moment.Moment.TheVariants.{Happened}
+use Rattle.pf_shared.specs.declared.behind.Behind.{Behind}
+use Rattle.pf_shared.specs.Moments.{entry}
+use Rattle.pf_shared.specs.Woven.{woven}
+use Rattle.pf_shared.specs.Hands.{key, hand, hand_of}
+
+-- the seat has the job in hand, and the sectors are those of its op
+pub record BringsBack (seat : ℕ) (list : List (Stamped Moment)) (filled : Filled) : Type 0 where
+  pub op : Op
+  pub in_hand : hand_of (key filled.server filled.life filled.slot) None list ≡ Some (hand seat op)
+  pub brought : IsFilledFor op filled
+
+module _ {D : Type 0} {disk : Ghosts D} where
+  abbrev pub list_of : Behind D disk → List (Stamped Moment)
+  list_of b = woven b.turns.items b.group.history
+
+  -- the event was answered as the rules say, and is one more entry of this seat
+  pub record Acts (seat : ℕ) (event : Event) (answer : Answer) (old new : Behind D disk) : Type 0 where
+    pub listed : list_of new ≡ list_of old ++ entry seat (Happened (record { event = event; answer = answer })) ∷ []
+    pub legal : IsLegalNext old.group.setup (state_of old.group) (claims_of [] old.group.history) (record { event = event; answer = answer })
+    pub root : root_of new.group ≡ root_of old.group
+
+  pub record ActsAs (seat : ℕ) (event : GroupEvent) (answer : Answer) (old new : Behind D disk) : Type 0 where
+    pub found : Bool
+    pub acts : Acts seat (event_of event found) answer old new
+
+  -- nothing that the list tells changed
+  pub record Stays (old new : Behind D disk) : Type 0 where
+    pub listed : list_of new ≡ list_of old
+    pub root : root_of new.group ≡ root_of old.group

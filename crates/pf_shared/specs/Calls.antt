@@ -1,0 +1,65 @@
+-- What one call of a seat does to the list that it has seen.
+use Rattle.std.specs.Prelude.{◌≡◌, ℕ, Bool, List, [], ◌∷◌, ◌++◌, None}
+use Rattle.pf_turn.specs.declared.log.Stamped.{Stamped}
+use Rattle.pf_turn.specs.Lists.{Begins, entries_of}
+use Rattle.pf_base.specs.declared.filled.Filled.{Filled}
+use Rattle.pf_entry.specs.declared.ops.Op.{Op}
+use Rattle.pf_entry.specs.declared.ops.Job.{Job}
+use Rattle.pf_applying.specs.Jobs.{IsFilledFor}
+use Rattle.pf_protocol.specs.declared.answers.Answer.{Answer}
+use Rattle.pf_protocol.specs.declared.answers.Answer.TheVariants.{Job as JobIs}
+use Rattle.pf_protocol.specs.declared.events.Event.{Event}
+use Rattle.pf_protocol.specs.Histories.{replay}
+use Rattle.pf_protocol.specs.Answers.{IsLegal, IsLegalNext, claims_of}
+use Rattle.pf_group.specs.declared.event.GroupEvent.{GroupEvent}
+use Rattle.pf_group.specs.Events.{event_of}
+use Rattle.pf_group.specs.Roots.{RootIs}
+use Rattle.pf_group.specs.Sound.{IsSound}
+use Rattle.pf_shared.specs.declared.moment.Moment.{Moment}
+use Rattle.pf_shared.specs.declared.moment.Moment.TheVariants.{Happened}
+use Rattle.pf_shared.specs.Moments.{entry, happenings}
+use Rattle.pf_shared.specs.Hands.{HasInHand, hand_of, key}
+
+-- what happened is one legal history of the group, and the laws hold of it
+pub record IsHistory (root : RootIs) (list : List (Stamped Moment)) : Type 0 where
+  pub legal : IsLegal root.setup (happenings list)
+  pub sound : IsSound root.setup (happenings list)
+
+-- the list that seat n finds: others may have added entries, but none of its own; none did where it is alone
+pub record Finds (n : ℕ) (alone : Type 0) (seen found : List (Stamped Moment)) : Type 0 where
+  pub begins : Begins seen found
+  pub own : entries_of n found ≡ entries_of n seen
+  pub exact : alone → found ≡ seen
+
+-- the list that it found has one more entry of its own
+pub record Adds (n : ℕ) (alone : Type 0) (seen : List (Stamped Moment)) (what : Moment) (new : List (Stamped Moment)) : Type 0 where
+  pub found : List (Stamped Moment)
+  pub finds : Finds n alone seen found
+  pub listed : new ≡ found ++ entry n what ∷ []
+  pub own : entries_of n new ≡ entries_of n seen ++ entry n what ∷ []
+
+-- the event was answered as the rules say, where it stands in the list
+pub record Steps (root : RootIs) (n : ℕ) (alone : Type 0) (seen : List (Stamped Moment)) (event : Event) (answer : Answer) (new : List (Stamped Moment)) : Type 0 where
+  pub adds : Adds n alone seen (Happened (record { event = event; answer = answer })) new
+  pub legal : IsLegalNext root.setup (replay root.setup (happenings adds.found)) (claims_of [] (happenings adds.found)) (record { event = event; answer = answer })
+
+-- where a server begins again, it finds the record of a step that was cut off, or not
+pub record HasStepped (root : RootIs) (n : ℕ) (alone : Type 0) (seen : List (Stamped Moment)) (event : GroupEvent) (answer : Answer) (new : List (Stamped Moment)) : Type 0 where
+  pub found : Bool
+  pub steps : Steps root n alone seen (event_of event found) answer new
+
+-- the seat's own entries hold a claim of the job, and no finish or return of it since; the sectors are those of its op
+pub record HasClaimed (n : ℕ) (seen : List (Stamped Moment)) (filled : Filled) : Type 0 where
+  pub op : Op
+  pub in_hand : HasInHand n (key filled.server filled.life filled.slot) op seen
+  pub brought : IsFilledFor op filled
+
+-- what is told of an answer that is a job
+abbrev pub OnJob : Answer → (Job → Type 0) → Type 0
+OnJob (JobIs job) P = P job
+OnJob answer P = Unit {0}
+
+-- the job is in the hand of seat n, in which it was not before
+pub record IsTaken (n : ℕ) (seen new : List (Stamped Moment)) (job : Job) : Type 0 where
+  pub free : hand_of (key job.server job.life job.slot) None (entries_of n seen) ≡ None
+  pub in_hand : HasInHand n (key job.server job.life job.slot) job.op new

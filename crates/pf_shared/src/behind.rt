@@ -1,0 +1,174 @@
+//! What lies behind the turn.
+ghost use Rattle.std.specs.Prelude.{◌≡◌, ◌+◌, ◌<◌, ◌≤◌, ◌^◌, ℕ, [], length, None, Some, true, vec_capacity, vec_len, IfOk, OnErr, OnOk, slice_get};
+ghost use Rattle.pf_protocol.specs.Answers.{IsLegal, claims_of};
+ghost use Rattle.pf_protocol.specs.declared.answers.Answer.TheVariants.{Done};
+ghost use Rattle.pf_protocol.specs.declared.events.Event.TheVariants.{Claim, Finish, GiveBack};
+ghost use Rattle.pf_group.specs.Sound.{IsSound};
+ghost use Rattle.pf_shared.specs.Events.{IsStep};
+ghost use Rattle.pf_shared.specs.Woven.{steps_in, woven};
+ghost use Rattle.pf_shared.specs.Moments.{handed_out};
+ghost use Rattle.pf_shared.specs.Hands.{Key, ends_after, hand, hand_of, is_tidy, key};
+
+use crate::Did;
+use pf_base::{Filled, NoMemory};
+use pf_disk::Disk;
+use pf_entry::Job;
+use pf_group::{Group, GroupEvent};
+use pf_protocol::{Answer, Happening};
+use pf_turn::{Logged, Stamped};
+use std::alloc::Global;
+
+/// A group, and what each turn did. The events themselves stand in the group's history alone.
+#[derive(Drop)]
+pub struct Behind<D: Disk> {
+    pub(crate) group: Group<D>,
+    pub(crate) turns: Vec<Stamped<Did>>,
+    /// At least the number of claims that were neither finished nor given back. There is room for an entry of the end of each.
+    pub(crate) open_ends: usize,
+    pub(crate) alloc: Global,
+    ghost counted: { steps_in turns.items ≡ length group.history },
+    ghost tidy: { (k : Key) → is_tidy k None (woven turns.items group.history) ≡ true },
+    ghost handed: { group.taken ≡ handed_out [] (woven turns.items group.history) },
+    ghost ends: { length (claims_of [] group.history) ≤ open_ends },
+    ghost room: { vec_len turns + open_ends ≤ vec_capacity turns },
+}
+
+impl<D: Disk> Logged<crate::Moment, pf_group::Root> for Behind<D> {
+    ghost use Rattle.pf_group.specs.Roots.{root_of};
+
+    ghost log = { λ b. woven b.turns.items b.group.history };
+
+    ghost root = { λ b. root_of b.group };
+}
+
+/// How many claims may be open after one was answered.
+fn ends_after(ends: usize, answer: &Answer) -> usize
+    requires { ends + 1 < 2 ^ 64 }
+    ensures { result ≡ ends_after ends answer.now }
+{
+    match answer {
+        Answer::Job(_) => ends + 1,
+        _ => ends,
+    }
+}
+
+impl<D: Disk + Drop> Behind<D> {
+    ghost use Rattle.pf_group.specs.Roots.{root_of};
+    ghost use Rattle.pf_shared.specs.Behinds.{Acts, ActsAs, BringsBack, Stays, list_of};
+
+    /// A new group, before its first turn.
+    pub(crate) fn new(alloc: Global, group: Group<D>) -> Behind<D>
+        requires { (group.history ≡ []) × (group.taken ≡ []) }
+        ensures list { list_of result ≡ [] }
+        ensures group { result.group ≡ group }
+    {
+        Behind {
+            group,
+            turns: Vec::new(alloc),
+            open_ends: 0,
+            alloc,
+        }
+    }
+
+    /// The group, with all that happened to it.
+    pub(crate) fn into_group(self) -> Group<D>
+        ensures { result ≡ self.group }
+    {
+        let Behind {
+            group,
+            turns: _,
+            open_ends: _,
+            alloc: _,
+        } = self;
+        group
+    }
+
+    /// All that happened to the group, in order.
+    pub(crate) fn happenings(&self) -> &[Happening]
+        ensures items { result.now ≡ self.now.group.history }
+        ensures legal { IsLegal self.now.group.setup self.now.group.history }
+        ensures sound { IsSound self.now.group.setup self.now.group.history }
+    {
+        self.group.history()
+    }
+
+    /// Makes room for one more entry, and for the end of what it claims.
+    fn make_room(&mut self) -> Result<(), NoMemory>
+        ensures group { self.new.group ≡ self.old.group }
+        ensures turns { self.new.turns.items ≡ self.old.turns.items }
+        ensures ends { self.new.open_ends ≡ self.old.open_ends }
+        ensures fits { OnOk result (self.new.open_ends + 2 < 2 ^ 64) }
+        ensures room { OnOk result (vec_len self.new.turns + (self.new.open_ends + 2) ≤ vec_capacity self.new.turns) }
+    {
+        let Some(ends) = self.open_ends.checked_add(2) else {
+            return Err(NoMemory);
+        };
+        self.turns.reserve(ends)?;
+        Ok(())
+    }
+
+    /// One event, as one more entry of this seat. Where there is no memory for it (`NoMemory`, 1) there is none.
+    pub(crate) fn step(
+        &mut self,
+        alloc: Global,
+        seat: u64,
+        event: GroupEvent,
+    ) -> Result<Answer, NoMemory>
+        requires { IsStep event }
+        ensures ok { IfOk result (λ answer. ActsAs seat event answer self.old self.new) }
+        ensures err { OnErr result (Stays self.old self.new) }
+    {
+        self.make_room()?;
+        let answer = self.group.step(alloc, event)?;
+        let _ = self.turns.push(Stamped {
+            seat,
+            what: Did::Acted,
+        });
+        Ok(answer)
+    }
+
+    /// A claim, as one more entry of this seat. Where there is no memory for it (`NoMemory`, 1) there is none.
+    pub(crate) fn claim(&mut self, alloc: Global, seat: u64) -> Result<Answer, NoMemory>
+        ensures ok { IfOk result (λ answer. Acts seat Claim answer self.old self.new) }
+        ensures err { OnErr result (Stays self.old self.new) }
+    {
+        self.make_room()?;
+        let _legal = self.group.history();
+        let answer = self.group.step(alloc, GroupEvent::Claim)?;
+        self.open_ends = ends_after(self.open_ends, &answer);
+        let _ = self.turns.push(Stamped {
+            seat,
+            what: Did::Acted,
+        });
+        Ok(answer)
+    }
+
+    /// The end of a job that the seat has in hand. It takes no memory.
+    pub(crate) fn finish(&mut self, seat: u64, filled: Filled) -> Answer
+        requires { BringsBack seat (list_of self.old) filled }
+        ensures { Acts seat (Finish filled.server filled.life filled.slot) result self.old self.new }
+    {
+        let Ok(answer) = self.group.step(self.alloc, GroupEvent::Finish(filled)) else {
+            unreachable!()
+        };
+        self.open_ends -= 1;
+        let _ = self.turns.push(Stamped {
+            seat,
+            what: Did::Acted,
+        });
+        answer
+    }
+
+    /// The return of a job that the seat has in hand. It takes no memory.
+    pub(crate) fn give_back(&mut self, seat: u64, job: Job)
+        requires { hand_of (key job.server job.life job.slot) None (list_of self.old) ≡ Some (hand seat job.op) }
+        ensures { Acts seat (GiveBack job.server job.life job.slot) Done self.old self.new }
+    {
+        self.group.give_back(job);
+        self.open_ends -= 1;
+        let _ = self.turns.push(Stamped {
+            seat,
+            what: Did::Acted,
+        });
+    }
+}

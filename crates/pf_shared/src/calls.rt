@@ -1,0 +1,179 @@
+//! The calls, each in one turn.
+ghost use Rattle.std.specs.Prelude.{◌≡◌, ◌≢◌, ℕ, ◌+◌, ◌<◌, ◌^◌, [], IfErr, IfOk, OnErr};
+ghost use Rattle.pf_protocol.specs.declared.answers.Answer.TheVariants.{Done};
+ghost use Rattle.pf_protocol.specs.declared.events.Event.TheVariants.{Claim, Finish, GiveBack};
+ghost use Rattle.pf_turn.specs.Lists.{Begins, GrewBy, entries_of, longer};
+ghost use Rattle.pf_turn.specs.Seats as turns;
+ghost use Rattle.pf_group.specs.Roots.{root_of};
+ghost use Rattle.pf_shared.specs.Behinds.{list_of};
+ghost use Rattle.pf_shared.specs.Calls.{Finds, HasClaimed, HasStepped, IsHistory, IsTaken, OnJob, Steps};
+ghost use Rattle.pf_shared.specs.Events.{IsStep};
+ghost use Rattle.pf_shared.specs.Hands.{HasInHand, key};
+ghost use Rattle.pf_shared.specs.Moments.{handed_out, happenings};
+ghost use Rattle.pf_shared.specs.Seats.{IsAlone, IsFirst, IsSameSeat, IsSeatOf, number_of, out_of, root_in, seen_by, splits_of};
+
+use crate::{Behind, GroupSeat, SharedGroup};
+use pf_base::{Filled, NoMemory};
+use pf_disk::Disk;
+use pf_entry::Job;
+use pf_group::{Group, GroupEvent};
+use pf_protocol::Answer;
+use pf_turn::{Turn, TurnLock};
+use std::alloc::Global;
+use std::sync::Wait;
+
+impl<D: Disk + Drop> SharedGroup<D> {
+    /// A new group behind a turn, and its first seat. Where memory runs out (`NoMemory`, 1) the group comes back.
+    pub fn new(
+        alloc: Global,
+        group: Group<D>,
+    ) -> Result<(SharedGroup<D>, GroupSeat<D>), (Group<D>, NoMemory)>
+        requires { (group.history ≡ []) × (group.taken ≡ []) }
+        ensures seat { IfOk result (λ made. IsSeatOf made.0 made.1) }
+        ensures first { IfOk result (λ made. IsFirst made.1 × (splits_of made.1 ≡ 0) × (out_of made.1 ≡ 0)) }
+        ensures list { IfOk result (λ made. seen_by made.1 ≡ []) }
+        ensures root { IfOk result (λ made. root_in made.0 ≡ root_of group) }
+        ensures back { IfErr result (λ back. back.0 ≡ group) }
+    {
+        let root = match group.root() {
+            Ok(root) => root,
+            Err(NoMemory) => return Err((group, NoMemory)),
+        };
+        match TurnLock::new(alloc, Behind::new(alloc, group), &root) {
+            Ok((lock, seat)) => Ok((SharedGroup { lock }, GroupSeat { seat })),
+            Err((behind, NoMemory)) => Err((behind.into_group(), NoMemory)),
+        }
+    }
+
+    /// A new seat, which has seen what the first seat has and made no entry. Fewer than 2^32 seats come from one first seat. It
+    /// takes no memory.
+    pub fn split(&self, seat: &mut GroupSeat<D>) -> GroupSeat<D>
+        requires seat { IsSeatOf self.now seat.old }
+        requires first { IsFirst seat.old × (splits_of seat.old < 2 ^ 32) }
+        ensures seat { IsSeatOf self.now seat.new × IsFirst seat.new }
+        ensures counts { (splits_of seat.new ≡ splits_of seat.old + 1) × (out_of seat.new ≡ out_of seat.old + 1) }
+        ensures seen { (seen_by seat.new ≡ seen_by seat.old) × (seen_by result ≡ seen_by seat.old) }
+        ensures given { IsSeatOf self.now result × (number_of result ≡ splits_of seat.old + 1) }
+        ensures none_made { entries_of (number_of result) (seen_by result) ≡ [] }
+    {
+        GroupSeat {
+            seat: self.lock.split(&mut seat.seat),
+        }
+    }
+
+    /// Takes in a seat that was split from the first one. The first seat has then seen what either had, and one seat less is out.
+    pub fn join(&self, seat: &mut GroupSeat<D>, other: GroupSeat<D>)
+        requires seat { IsSeatOf self.now seat.old × IsFirst seat.old }
+        requires other { IsSeatOf self.now other × (number_of other ≢ 0) }
+        ensures seat { IsSeatOf self.now seat.new × IsFirst seat.new }
+        ensures counts { (splits_of seat.new ≡ splits_of seat.old) × (out_of seat.new + 1 ≡ out_of seat.old) }
+        ensures seen { (seen_by seat.new ≡ longer (seen_by seat.old) (seen_by other)) × Begins (seen_by seat.old) (seen_by seat.new) × Begins (seen_by other) (seen_by seat.new) }
+        ensures own { entries_of 0 (seen_by seat.new) ≡ entries_of 0 (seen_by seat.old) }
+        ensures brought { entries_of (number_of other) (seen_by seat.new) ≡ entries_of (number_of other) (seen_by other) }
+    {
+        let GroupSeat { seat: other } = other;
+        self.lock.join(&mut seat.seat, other);
+    }
+
+    /// Ends a turn. What the list holds then is one legal history, and the laws hold of it.
+    fn end(&self, seat: &mut GroupSeat<D>, turn: Turn<Behind<D>>)
+        requires seat { turns.IsSeatOf self.now.lock seat.old.seat × turns.HasTurn seat.old.seat }
+        requires root { root_of turn.value.group ≡ root_in self.now }
+        requires grew { GrewBy (number_of seat.old) (seen_by seat.old) (list_of turn.value) }
+        ensures seat { IsSeatOf self.now seat.new × IsSameSeat seat.old seat.new }
+        ensures seen { seen_by seat.new ≡ list_of turn.value }
+        ensures history { IsHistory (root_in self.now) (seen_by seat.new) }
+    {
+        let _happenings = turn.value.happenings();
+        self.lock.give(&mut seat.seat, turn);
+    }
+
+    /// One event of the group, in one turn. A refusal is an answer, and stands in the list with its event; `NoMemory` (1) is none.
+    pub fn step<R: Wait>(
+        &self,
+        rt: &R,
+        alloc: Global,
+        seat: &mut GroupSeat<D>,
+        event: GroupEvent,
+    ) -> Result<Answer, NoMemory>
+        requires seat { IsSeatOf self.now seat.old }
+        requires event { IsStep event }
+        ensures seat { IsSeatOf self.now seat.new × IsSameSeat seat.old seat.new }
+        ensures step { IfOk result (λ answer. HasStepped (root_in self.now) (number_of seat.old) (IsAlone seat.old) (seen_by seat.old) event answer (seen_by seat.new)) }
+        ensures err { OnErr result (Finds (number_of seat.old) (IsAlone seat.old) (seen_by seat.old) (seen_by seat.new)) }
+        ensures history { IsHistory (root_in self.now) (seen_by seat.new) }
+    {
+        let mut turn = self.lock.take(rt, &mut seat.seat);
+        let number = seat.seat.number();
+        let answer = turn.value.step(alloc, number, event);
+        self.end(seat, turn);
+        answer
+    }
+
+    /// Claims a job: that of the least server that has one, its least slot that is committed, not applied, not in hand and free.
+    ///
+    /// `NoneFree` (60) exactly where no server has one; it stands in the list. The call takes all the memory that it and the end of
+    /// its job need; `NoMemory` (1) is no entry.
+    pub fn claim<R: Wait>(
+        &self,
+        rt: &R,
+        alloc: Global,
+        seat: &mut GroupSeat<D>,
+    ) -> Result<Answer, NoMemory>
+        requires { IsSeatOf self.now seat.old }
+        ensures seat { IsSeatOf self.now seat.new × IsSameSeat seat.old seat.new }
+        ensures step { IfOk result (λ answer. Steps (root_in self.now) (number_of seat.old) (IsAlone seat.old) (seen_by seat.old) Claim answer (seen_by seat.new)) }
+        ensures taken { IfOk result (λ answer. OnJob answer (IsTaken (number_of seat.old) (seen_by seat.old) (seen_by seat.new))) }
+        ensures err { OnErr result (Finds (number_of seat.old) (IsAlone seat.old) (seen_by seat.old) (seen_by seat.new)) }
+        ensures history { IsHistory (root_in self.now) (seen_by seat.new) }
+    {
+        let mut turn = self.lock.take(rt, &mut seat.seat);
+        let number = seat.seat.number();
+        let answer = turn.value.claim(alloc, number);
+        self.end(seat, turn);
+        answer
+    }
+
+    /// Ends a job that this seat claimed and has neither finished nor returned since: its sectors come into the server. `Stale` (61)
+    /// where the server began another life meanwhile. It takes no memory.
+    pub fn finish<R: Wait>(&self, rt: &R, seat: &mut GroupSeat<D>, filled: Filled) -> Answer
+        requires seat { IsSeatOf self.now seat.old }
+        requires claimed { HasClaimed (number_of seat.old) (seen_by seat.old) filled }
+        ensures seat { IsSeatOf self.now seat.new × IsSameSeat seat.old seat.new }
+        ensures step { Steps (root_in self.now) (number_of seat.old) (IsAlone seat.old) (seen_by seat.old) (Finish filled.server filled.life filled.slot) result (seen_by seat.new) }
+        ensures history { IsHistory (root_in self.now) (seen_by seat.new) }
+    {
+        let mut turn = self.lock.take(rt, &mut seat.seat);
+        let number = seat.seat.number();
+        let answer = turn.value.finish(number, filled);
+        self.end(seat, turn);
+        answer
+    }
+
+    /// Returns a job that this seat claimed and has neither finished nor returned since. It takes no memory.
+    pub fn drop_job<R: Wait>(&self, rt: &R, seat: &mut GroupSeat<D>, job: Job)
+        requires seat { IsSeatOf self.now seat.old }
+        requires claimed { HasInHand (number_of seat.old) (key job.server job.life job.slot) job.op (seen_by seat.old) }
+        ensures seat { IsSeatOf self.now seat.new × IsSameSeat seat.old seat.new }
+        ensures step { Steps (root_in self.now) (number_of seat.old) (IsAlone seat.old) (seen_by seat.old) (GiveBack job.server job.life job.slot) Done (seen_by seat.new) }
+        ensures history { IsHistory (root_in self.now) (seen_by seat.new) }
+    {
+        let mut turn = self.lock.take(rt, &mut seat.seat);
+        let number = seat.seat.number();
+        turn.value.give_back(number, job);
+        self.end(seat, turn);
+    }
+
+    /// The group, once every seat has been joined: its history is what the first seat has seen, without looks.
+    pub fn close(self, seat: GroupSeat<D>) -> Group<D>
+        requires seat { IsSeatOf self seat }
+        requires first { IsAlone seat }
+        ensures root { root_of result ≡ root_in self }
+        ensures history { result.history ≡ happenings (seen_by seat) }
+        ensures taken { result.taken ≡ handed_out [] (seen_by seat) }
+    {
+        let SharedGroup { lock } = self;
+        let GroupSeat { seat } = seat;
+        lock.close(seat).into_group()
+    }
+}

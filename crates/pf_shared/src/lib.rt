@@ -1,0 +1,21 @@
+//! A group behind a turn: threads carry out its events one after another, and each knows what it has seen of the one history.
+//!
+//! Each call is one turn, and adds one entry to the list behind the turn: an event with its answer, or a look. The list without its
+//! looks is the group's history. Nothing is promised of the order in which callers come to their turns, nor that a turn ever comes.
+#![tactic(auto)]
+
+mod applying;
+mod behind;
+mod calls;
+mod filling;
+mod gate;
+mod moment;
+mod parts;
+mod work;
+
+pub use applying::apply_all;
+pub use behind::Behind;
+pub use filling::fill;
+pub use gate::{Gate, OpenGate};
+pub use moment::{Did, Moment};
+pub use parts::{GroupSeat, SharedGroup};
