@@ -1,11 +1,12 @@
 //! What a group shows.
-ghost use Rattle.std.specs.Prelude.{◌≡◌, map};
+ghost use Rattle.std.specs.Prelude.{◌≡◌, IfNone, IfSome, length, map, slice_get};
 ghost use Rattle.pf_cluster.specs.Showing.{acked_of};
 ghost use Rattle.pf_cluster.specs.Shown.{IsLeader};
 ghost use Rattle.pf_group.specs.GroupIs.{state_of};
+ghost use Rattle.pf_group.specs.Readers.{HasTaken, LacksAnswer, is_left};
 
 use crate::Group;
-use pf_base::{Server as Number, Term};
+use pf_base::{Data, Server as Number, Term};
 use pf_cluster::Acked;
 use pf_disk::Disk;
 
@@ -22,5 +23,30 @@ impl<D: Disk> Group<D> {
         ensures { IsLeader (state_of self.now) result }
     {
         self.cluster.leader()
+    }
+
+    /// How many packets were ever sent, at most 65,536. They have the numbers below it.
+    pub fn packets(&self) -> u32
+        ensures { result ≡ length (state_of self.now).packets }
+    {
+        self.cluster.packet_count()
+    }
+
+    /// Whether packet `k` was sent, and neither delivered nor lost.
+    pub fn is_left(&self, k: u32) -> bool
+        ensures { result ≡ is_left (slice_get (state_of self.now).packets k) }
+    {
+        self.cluster.is_left(k)
+    }
+
+    /// Hands out the sectors that a read was answered with, once. `None` exactly where no read has this number, where it waits for
+    /// its answer, or where its answer was handed out; nothing changes then.
+    pub fn take_read(&mut self, number: u64) -> Option<Data>
+        ensures taken { IfSome result (λ bytes. HasTaken self.old number bytes self.new) }
+        ensures none { IfNone result (LacksAnswer self.old number) }
+        ensures same { IfNone result (self.new ≡ self.old) }
+        ensures numbered { length self.old.taken ≡ (state_of self.old).reads }
+    {
+        self.cluster.take_read(number)
     }
 }

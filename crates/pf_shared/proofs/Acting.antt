@@ -1,15 +1,13 @@
 -- One more event, or one more look, and what the group behind the turn keeps.
-use Rattle.std.proofs.Common.{◌≡◌, ℕ, zero, suc, ◌+◌, ◌≤◌, Bool, true, false, cond, not, List, [], ◌∷◌, ◌++◌, Option, Some, None, length, length-append, slice_get, sym, refl, ap, ◌∙◌, eq-eqb, arith}
-use Rattle.std.specs.List.{filter}
+use Rattle.std.proofs.Common.{◌≡◌, ℕ, ◌+◌, ◌≤◌, Bool, true, List, [], ◌∷◌, ◌++◌, Option, None, length, length-append, sym, refl, ap, ◌∙◌, eq-eqb, arith}
 use Rattle.std.proofs.lemmas.Bool.{and_from}
 use Rattle.pf_entry.specs.declared.ops.Op.{Op}
-use Rattle.std.proofs.lemmas.Option.{none-some, same_Some}
 use Rattle.pf_turn.specs.declared.log.Stamped.{Stamped}
 use Rattle.pf_protocol.specs.declared.answers.Answer.{Answer}
 use Rattle.pf_protocol.specs.declared.answers.Answer.TheVariants.{Job as JobIs}
 use Rattle.pf_protocol.specs.declared.events.Happening.{Happening}
 use Rattle.pf_protocol.specs.Histories.{History}
-use Rattle.pf_protocol.specs.Answers.{Claimed, claims_after, claims_of, claims_with, claims_without, is_claim}
+use Rattle.pf_protocol.specs.Answers.{Claimed, claims_after, claims_of, claims_with, is_claim}
 use Rattle.pf_group.specs.declared.event.GroupEvent.{GroupEvent}
 use Rattle.pf_group.specs.declared.event.GroupEvent.TheVariants as asked
 use Rattle.pf_group.specs.Events.{event_of}

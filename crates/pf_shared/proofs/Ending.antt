@@ -1,5 +1,5 @@
 -- What a turn with an event does, and one without.
-use Rattle.std.proofs.Common.{◌≡◌, ℕ, zero, suc, Bool, true, false, ◌||◌, List, [], ◌∷◌, ◌++◌, length, None, Some, slice_get, sym, refl, ap, ◌∙◌, subst}
+use Rattle.std.proofs.Common.{◌≡◌, ℕ, zero, suc, Bool, true, false, ◌||◌, List, [], ◌∷◌, ◌++◌, length, None, Some, slice_get, refl, ap, ◌∙◌, subst}
 use Rattle.std.specs.List.{list_any}
 use Rattle.std.proofs.lemmas.Option.{none-some, same_Some}
 use Rattle.pf_turn.specs.declared.log.Stamped.{Stamped}
@@ -26,7 +26,7 @@ use Rattle.pf_shared.proofs.Acting.{is_itself, listed_on}
 use Rattle.pf_shared.proofs.Claiming.{open_claim}
 
 module _ {D : Type 0} {disk : Ghosts D} (old mid new : Behind D disk) (same_group : mid.group ≡ old.group) (same_turns : mid.turns.items ≡ old.turns.items) where
-  same_list : list_of mid ≡ list_of old
+  pub same_list : list_of mid ≡ list_of old
   same_list = ap (λ l. woven l mid.group.history) same_turns ∙ ap (λ (x : GroupIs). woven old.turns.items x.history) same_group
 
   pub acts : (seat : ℕ) (event : Event) (answer : Answer) → new.turns.items ≡ mid.turns.items ++ did seat Acted ∷ [] → Steps mid.group event answer new.group → Acts seat event answer old new

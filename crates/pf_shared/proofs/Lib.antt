@@ -4,4 +4,4 @@ pub mod Claiming
 pub mod Acting
 pub mod Ending
 pub mod Taking
-pub mod Working
+pub mod Looking

@@ -38,10 +38,10 @@ history_is root setup list history same is legal sound = record {
 }
 
 -- a seat's own entry is one of its own
-own_entry : (n : ℕ) (what : Moment) → entries_of n (entry n what ∷ []) ≡ entry n what ∷ []
+pub own_entry : (n : ℕ) (what : Moment) → entries_of n (entry n what ∷ []) ≡ entry n what ∷ []
 own_entry n what = ap (λ b. cond b (entry n what ∷ []) []) (eq-eqb n n refl)
 
-pub adds_of : (n m : ℕ) (alone : Type 0) (seen found new : List (Stamped Moment)) (what : Moment) → m ≡ n → Finds n alone seen found → new ≡ found ++ entry m what ∷ [] → Adds n alone seen what new
+unfoldable pub adds_of : (n m : ℕ) (alone : Type 0) (seen found new : List (Stamped Moment)) (what : Moment) → m ≡ n → Finds n alone seen found → new ≡ found ++ entry m what ∷ [] → Adds n alone seen what new
 adds_of n m alone seen found new what same finds is = let e : new ≡ found ++ entry n what ∷ [] = is ∙ ap (λ i. found ++ entry i what ∷ []) same in record {
   found = found;
   finds = finds;

@@ -1,5 +1,5 @@
 -- What one turn does to the group behind it.
-use Rattle.std.specs.Prelude.{◌≡◌, ℕ, Bool, List, [], ◌∷◌, ◌++◌, None, Some}
+use Rattle.std.specs.Prelude.{◌≡◌, ℕ, Bool, List, [], ◌∷◌, ◌++◌, Option, None, Some}
 use Rattle.pf_turn.specs.declared.log.Stamped.{Stamped}
 use Rattle.pf_disk.specs.declared.disk.Disk.{Ghosts}
 use Rattle.pf_base.specs.declared.filled.Filled.{Filled}
@@ -13,7 +13,7 @@ use Rattle.pf_group.specs.Events.{event_of}
 use Rattle.pf_group.specs.GroupIs.{state_of}
 use Rattle.pf_group.specs.Roots.{root_of}
 use Rattle.pf_shared.specs.declared.moment.Moment.{Moment}
-use Rattle.pf_shared.specs.declared.moment.Moment.TheVariants.{Happened}
+use Rattle.pf_shared.specs.declared.moment.Moment.TheVariants.{Happened, Look}
 use Rattle.pf_shared.specs.declared.behind.Behind.{Behind}
 use Rattle.pf_shared.specs.Moments.{entry}
 use Rattle.pf_shared.specs.Woven.{woven}
@@ -42,4 +42,9 @@ module _ {D : Type 0} {disk : Ghosts D} where
   -- nothing that the list tells changed
   pub record Stays (old new : Behind D disk) : Type 0 where
     pub listed : list_of new ≡ list_of old
+    pub root : root_of new.group ≡ root_of old.group
+
+  -- nothing happened to the group, and one more entry of this seat is a look
+  pub record HasLooked (seat : ℕ) (read : Option ℕ) (old new : Behind D disk) : Type 0 where
+    pub listed : list_of new ≡ list_of old ++ entry seat (Look read) ∷ []
     pub root : root_of new.group ≡ root_of old.group

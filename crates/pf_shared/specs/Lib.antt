@@ -1,9 +1,9 @@
 pub mod Moments
 pub mod Woven
 pub mod Hands
-pub mod Filling
 pub mod Events
 pub mod Behinds
 pub mod Seats
 pub mod Calls
-pub mod Works
+pub mod Faults
+pub mod Looks

@@ -1,16 +1,18 @@
 //! What lies behind the turn.
-ghost use Rattle.std.specs.Prelude.{◌≡◌, ◌+◌, ◌<◌, ◌≤◌, ◌^◌, ℕ, [], length, None, Some, true, vec_capacity, vec_len, IfOk, OnErr, OnOk, slice_get};
+ghost use Rattle.std.specs.Prelude.{◌≡◌, ◌+◌, ◌<◌, ◌≤◌, ◌^◌, ℕ, [], length, None, Ok, Some, true, vec_capacity, vec_len, IfOk, OnErr, OnOk, slice_get};
 ghost use Rattle.pf_protocol.specs.Answers.{IsLegal, claims_of};
 ghost use Rattle.pf_protocol.specs.declared.answers.Answer.TheVariants.{Done};
 ghost use Rattle.pf_protocol.specs.declared.events.Event.TheVariants.{Claim, Finish, GiveBack};
+ghost use Rattle.pf_group.specs.GroupIs.{state_of};
 ghost use Rattle.pf_group.specs.Sound.{IsSound};
 ghost use Rattle.pf_shared.specs.Events.{IsStep};
 ghost use Rattle.pf_shared.specs.Woven.{steps_in, woven};
 ghost use Rattle.pf_shared.specs.Moments.{handed_out};
+ghost use Rattle.pf_shared.specs.Looks.{HandsOut, read_of};
 ghost use Rattle.pf_shared.specs.Hands.{Key, ends_after, hand, hand_of, is_tidy, key};
 
 use crate::Did;
-use pf_base::{Filled, NoMemory};
+use pf_base::{Data, Filled, NoMemory};
 use pf_disk::Disk;
 use pf_entry::Job;
 use pf_group::{Group, GroupEvent};
@@ -54,7 +56,7 @@ fn ends_after(ends: usize, answer: &Answer) -> usize
 
 impl<D: Disk + Drop> Behind<D> {
     ghost use Rattle.pf_group.specs.Roots.{root_of};
-    ghost use Rattle.pf_shared.specs.Behinds.{Acts, ActsAs, BringsBack, Stays, list_of};
+    ghost use Rattle.pf_shared.specs.Behinds.{Acts, ActsAs, BringsBack, HasLooked, Stays, list_of};
 
     /// A new group, before its first turn.
     pub(crate) fn new(alloc: Global, group: Group<D>) -> Behind<D>
@@ -170,5 +172,41 @@ impl<D: Disk + Drop> Behind<D> {
             seat,
             what: Did::Acted,
         });
+    }
+    /// A look of this seat that tells this, as one more entry. Where there is no memory for it (`NoMemory`, 1), or there was none for
+    /// what it tells, there is none.
+    pub(crate) fn looked<T: Drop>(
+        &mut self,
+        seat: u64,
+        told: Result<T, NoMemory>,
+    ) -> Result<T, NoMemory>
+        ensures told { IfOk result (λ it. told ≡ Ok it) }
+        ensures ok { OnOk result (HasLooked seat None self.old self.new) }
+        ensures err { OnErr result (Stays self.old self.new) }
+    {
+        let told = told?;
+        self.make_room()?;
+        let _ = self.turns.push(Stamped {
+            seat,
+            what: Did::Looked { read: None },
+        });
+        Ok(told)
+    }
+
+    /// Hands out the answer of a read, as one more entry of this seat. Where there is no memory for it (`NoMemory`, 1) there is none.
+    pub(crate) fn take_read(&mut self, seat: u64, number: u64) -> Result<Option<Data>, NoMemory>
+        ensures ok { IfOk result (λ answer. HasLooked seat (read_of number answer) self.old self.new) }
+        ensures handed { IfOk result (HandsOut (state_of self.old.group) self.old.group.taken number) }
+        ensures numbered { OnOk result (length self.old.group.taken ≡ (state_of self.old.group).reads) }
+        ensures err { OnErr result (Stays self.old self.new) }
+    {
+        self.make_room()?;
+        let answer = self.group.take_read(number);
+        let read = answer.is_some().then_some(number);
+        let _ = self.turns.push(Stamped {
+            seat,
+            what: Did::Looked { read },
+        });
+        Ok(answer)
     }
 }

@@ -76,7 +76,7 @@ impl<D: Disk + Drop> SharedGroup<D> {
     }
 
     /// Ends a turn. What the list holds then is one legal history, and the laws hold of it.
-    fn end(&self, seat: &mut GroupSeat<D>, turn: Turn<Behind<D>>)
+    pub(crate) fn end(&self, seat: &mut GroupSeat<D>, turn: Turn<Behind<D>>)
         requires seat { turns.IsSeatOf self.now.lock seat.old.seat × turns.HasTurn seat.old.seat }
         requires root { root_of turn.value.group ≡ root_in self.now }
         requires grew { GrewBy (number_of seat.old) (seen_by seat.old) (list_of turn.value) }

@@ -4,18 +4,17 @@
 //! looks is the group's history. Nothing is promised of the order in which callers come to their turns, nor that a turn ever comes.
 #![tactic(auto)]
 
-mod applying;
 mod behind;
 mod calls;
-mod filling;
-mod gate;
+mod copies;
+mod errors;
+mod looks;
 mod moment;
 mod parts;
-mod work;
+#[cfg(test)]
+mod tests;
 
-pub use applying::apply_all;
 pub use behind::Behind;
-pub use filling::fill;
-pub use gate::{Gate, OpenGate};
+pub use errors::LookFault;
 pub use moment::{Did, Moment};
 pub use parts::{GroupSeat, SharedGroup};

@@ -1,0 +1,108 @@
+-- Lines whose numbers are a range, or are none.
+use Rattle.std.proofs.Common.{◌≡◌, ℕ, zero, suc, ◌+◌, Bool, true, false, ◌&&◌, nat_le, IfOk, IsSome, if◌then◌else◌, List, [], length, replicate, Option, Some, None, Result, Ok, Err, slice_get, refl, sym, ap, subst, ◌∙◌, append-nil, inl}
+use Rattle.std.proofs.lemmas.Bool.{and_parts, and_from, leb-true, le-leb, false≢true}
+use Rattle.std.proofs.lemmas.List.{length-replicate}
+use Rattle.pf_base.specs.Span.{Span, IsWritable}
+use Rattle.pf_entry.specs.Lists.{Every}
+use Rattle.pf_entry.specs.Ops.{Sector}
+use Rattle.pf_entry.specs.declared.ops.Op.TheVariants.{Write}
+use Rattle.pf_protocol.specs.declared.answers.Answer.{Answer}
+use Rattle.pf_protocol.specs.declared.events.Event.TheVariants as events
+use Rattle.pf_protocol.specs.Servers.{Condition, Running, Stopped, Unformatted}
+use Rattle.pf_protocol.proofs.Snapshots.{whole_prefix}
+use Rattle.pf_base.specs.declared.errors.NoMemory.{NoMemory}
+use Rattle.pf_group.specs.GroupIs.{state_of}
+use Rattle.pf_report.specs.Texts.{answer_text}
+use Rattle.pf_rounds.specs.Agreeing.{chunk_of}
+use Rattle.pf_rounds.specs.Halts.{Halt}
+use Rattle.pf_chunk.specs.Asking.{fetches, filled, is_range, no_range, no_range_answer, submits}
+use Rattle.pf_chunk.specs.Happenings.{Happened, happened}
+use Rattle.pf_chunk.specs.Steps.{Event as EventIs, HasHappened}
+use Rattle.pf_chunk.specs.Views.{ChunkIs, IsReady}
+
+all_alike : {X : Type 0} → (P : X → Type 0) (n : ℕ) (x : X) → P x → Every P (replicate n x)
+all_alike P zero x is = tt
+all_alike P (suc n) x is = (is, all_alike P n x is)
+
+range_true : (first count : ℕ) → IsWritable first count → is_range first count ≡ true
+range_true first count is = and_from _ _ (and_from _ _ (le-leb 1 count is.some) (le-leb count 8 is.few)) (le-leb (first + count) 4096 is.low)
+
+range_false : (first count : ℕ) → (IsWritable first count → ⊥) → is_range first count ≡ false
+range_false first count none = by (is_range first count) refl
+  where
+    by : (b : Bool) → is_range first count ≡ b → b ≡ false
+    by false is = refl
+    by true is =
+        let parts = and_parts (nat_le 1 count && nat_le count 8) (nat_le (first + count) 4096) is in
+        let more = and_parts (nat_le 1 count) (nat_le count 8) parts.0 in
+        absurd (none (record { some = leb-true 1 count more.0; few = leb-true count 8 more.1; low = leb-true (first + count) 4096 parts.1 }))
+
+said_down : (c : Option Condition) → IsSome (answer_text (no_range_answer c))
+said_down (Some (Running s)) = refl
+said_down (Some (Stopped life before after)) = refl
+said_down (Some Unformatted) = refl
+said_down None = refl
+
+-- no event happens
+nothing : (event : EventIs) (server : ℕ) (old : ChunkIs) (out : List ℕ) (answer : Answer) → IsReady old → answer ≡ no_range_answer (slice_get (state_of old.group).servers server) → ((halts : List Halt) → event halts (chunk_of old.group) ≡ no_range server (chunk_of old.group)) → HasHappened event old out answer out old
+nothing event server old out answer ready is none = record {
+  grown = record { number = refl; setup = refl; later = whole_prefix old.group.history };
+  ready = ready;
+  left = λ k left. inl left;
+  first = refl;
+  said = subst (λ a. IsSome (answer_text a)) (sym is) (said_down (slice_get (state_of old.group).servers server));
+  text = [];
+  put = sym (append-nil out);
+  run = λ halts _. none halts ∙ ap (λ a. let h : Happened = record { chunk = chunk_of old.group; answer = a; text = [] } in h) (sym is);
+}
+
+pub no_fetch_is : (server first count : ℕ) (old : ChunkIs) (out : List ℕ) (answer : Answer) → IsReady old → (IsWritable first count → false ≡ true) → answer ≡ no_range_answer (slice_get (state_of old.group).servers server) → HasHappened (λ halts c. fetches halts server first count c) old out answer out old
+no_fetch_is server first count old out answer ready exact is =
+    nothing (λ halts c. fetches halts server first count c) server old out answer ready is
+    (λ halts. ap (λ b. if b then happened halts (chunk_of old.group) (events.Fetch server (record { first = first; count = count })) else no_range server (chunk_of old.group)) (range_false first count (λ w. false≢true (exact w))))
+
+pub no_submit_is : (server first byte count : ℕ) (old : ChunkIs) (out : List ℕ) (answer : Answer) → IsReady old → (IsWritable first count → false ≡ true) → answer ≡ no_range_answer (slice_get (state_of old.group).servers server) → HasHappened (λ halts c. submits halts server first byte count c) old out answer out old
+no_submit_is server first byte count old out answer ready exact is =
+    nothing (λ halts c. submits halts server first byte count c) server old out answer ready is
+    (λ halts. ap (λ b. if b then happened halts (chunk_of old.group) (events.Submit server (filled first byte count)) else no_range server (chunk_of old.group)) (range_false first count (λ w. false≢true (exact w))))
+
+-- one event happens, as it is told
+same_event : (a b : EventIs) (old : ChunkIs) (out : List ℕ) (answer : Answer) (put : List ℕ) (new : ChunkIs) → ((halts : List Halt) → b halts (chunk_of old.group) ≡ a halts (chunk_of old.group)) → HasHappened a old out answer put new → HasHappened b old out answer put new
+same_event a b old out answer put new same h = record {
+  grown = h.grown;
+  ready = h.ready;
+  left = h.left;
+  first = h.first;
+  said = h.said;
+  text = h.text;
+  put = h.put;
+  run = λ halts tells. same halts ∙ h.run halts tells;
+}
+
+pub fetched_is : (server first count : ℕ) (old : ChunkIs) (out : List ℕ) (answer : Answer) (put : List ℕ) (new : ChunkIs) (range : Span) → IsWritable first count → range ≡ record { first = first; count = count }
+    → HasHappened (λ halts c. happened halts c (events.Fetch server range)) old out answer put new → HasHappened (λ halts c. fetches halts server first count c) old out answer put new
+fetched_is server first count old out answer put new range writable is =
+    same_event (λ halts c. happened halts c (events.Fetch server range)) (λ halts c. fetches halts server first count c) old out answer put new (λ halts.
+    ap (λ b. if b then happened halts (chunk_of old.group) (events.Fetch server (record { first = first; count = count })) else no_range server (chunk_of old.group)) (range_true first count writable)
+    ∙ ap (λ span. happened halts (chunk_of old.group) (events.Fetch server span)) (sym is))
+
+submitted_one : (server first byte count : ℕ) (old : ChunkIs) (out : List ℕ) (answer : Answer) (put : List ℕ) (new : ChunkIs) (range : Span) (payload : List Sector) → IsWritable first count → range ≡ record { first = first; count = count } → payload ≡ replicate count (replicate 512 byte)
+    → HasHappened (λ halts c. happened halts c (events.Submit server (Write range payload))) old out answer put new → HasHappened (λ halts c. submits halts server first byte count c) old out answer put new
+submitted_one server first byte count old out answer put new range payload writable is bytes =
+    same_event (λ halts c. happened halts c (events.Submit server (Write range payload))) (λ halts c. submits halts server first byte count c) old out answer put new (λ halts.
+    ap (λ b. if b then happened halts (chunk_of old.group) (events.Submit server (filled first byte count)) else no_range server (chunk_of old.group)) (range_true first count writable)
+    ∙ ap (λ span. happened halts (chunk_of old.group) (events.Submit server (Write span (replicate count (replicate 512 byte))))) (sym is)
+    ∙ ap (λ sectors. happened halts (chunk_of old.group) (events.Submit server (Write range sectors))) (sym bytes))
+
+pub submitted_is : (server first byte count : ℕ) (old : ChunkIs) (out put : List ℕ) (new : ChunkIs) (range : Span) (payload : List Sector) → IsWritable first count → range ≡ record { first = first; count = count } → payload ≡ replicate count (replicate 512 byte)
+    → (result : Result Answer NoMemory) → IfOk result (λ answer. HasHappened (λ halts c. happened halts c (events.Submit server (Write range payload))) old out answer put new) → IfOk result (λ answer. HasHappened (λ halts c. submits halts server first byte count c) old out answer put new)
+submitted_is server first byte count old out put new range payload writable is bytes (Ok answer) went = submitted_one server first byte count old out answer put new range payload writable is bytes went
+submitted_is server first byte count old out put new range payload writable is bytes (Err e) went = tt
+
+pub may_submit : (first byte count : ℕ) (range : Span) (payload : List Sector) → IsWritable first count → range ≡ record { first = first; count = count } → payload ≡ replicate count (replicate 512 byte)
+    → IsWritable range.first range.count × (length payload ≡ range.count) × Every (λ bytes. length bytes ≡ 512) payload
+may_submit first byte count range payload writable is bytes = (
+  subst (λ (span : Span). IsWritable span.first span.count) (sym is) writable,
+  ap length bytes ∙ length-replicate count (replicate 512 byte) ∙ ap (λ (span : Span). span.count) (sym is),
+  subst (Every (λ bytes. length bytes ≡ 512)) (sym bytes) (all_alike (λ bytes. length bytes ≡ 512) count (replicate 512 byte) (length-replicate 512 byte)),
+)

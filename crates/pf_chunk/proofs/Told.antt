@@ -1,0 +1,190 @@
+-- Reads that wait are gone through one after another.
+use Rattle.std.proofs.Common.{◌≡◌, ◌≢◌, ℕ, zero, suc, ◌+◌, ◌<◌, ◌≤◌, Bool, true, false, ◌==◌, cond, List, [], ◌∷◌, ◌++◌, drop, length, map, take, Some, slice_get, slice_set, set, arith, refl, sym, ap, subst, ◌∙◌, append_assoc, append-nil, add-one}
+use Rattle.std.specs.List.{filter, flat_map}
+use Rattle.std.proofs.Math.Seq.{take-length, take-suc, take-suc-set, drop-cons}
+use Rattle.std.proofs.lemmas.Bool.{cond-true, cond-false, eq-eqb, eqb-true}
+use Rattle.std.proofs.lemmas.Grind.{flat_map-append}
+use Rattle.std.proofs.lemmas.List.{drop-set-lt, length-set}
+use Rattle.std.proofs.lemmas.List.Elements.{filter-append}
+use Rattle.std.proofs.lemmas.List.Sums.{fold-append}
+use Rattle.std.proofs.lemmas.Option.{get_or_from_slice_get, same_Some, slice_get_within}
+use Rattle.pf_entry.specs.Lists.{Every}
+use Rattle.pf_cluster.proofs.Lists.{set_elsewhere, set_there}
+use Rattle.pf_protocol.specs.Groups.{Group}
+use Rattle.pf_protocol.proofs.Keeping.{by_test}
+use Rattle.pf_group.specs.GroupIs.{GroupIs, state_of}
+use Rattle.pf_chunk.specs.declared.waiting.Waiting.{Waiting}
+use Rattle.pf_chunk.specs.Telling.{is_answered, lines_of, may_wait, now_taken, taken_all, taken_with, told_of}
+use Rattle.pf_chunk.proofs.Members.{AreApart}
+
+abbrev pub numbers_of : List Waiting → List ℕ
+numbers_of waiting = map (λ w. w.number) waiting
+
+-- one more element
+pub take_more : {X : Type 0} → (xs : List X) (k : ℕ) (x : X) → slice_get xs k ≡ Some x → take (k + 1) xs ≡ take k xs ++ x ∷ []
+take_more xs k x at =
+    ap (λ n. take n xs) (add-one k) ∙ take-suc xs k x (slice_get_within xs k x at) ∙ ap (λ y. take k xs ++ y ∷ []) (get_or_from_slice_get xs k x x at)
+
+-- the same rest has the same element in front, and the same rest behind it
+pub front_of : {X : Type 0} → (xs : List X) (k : ℕ) (x : X) → slice_get xs k ≡ Some x → drop k xs ≡ x ∷ drop (k + 1) xs
+front_of xs k x at =
+    drop-cons xs k x (slice_get_within xs k x at) ∙ ap (λ y. y ∷ drop (suc k) xs) (get_or_from_slice_get xs k x x at) ∙ ap (λ n. x ∷ drop n xs) (sym (add-one k))
+
+pub at_front : {X : Type 0} → (xs rest : List X) (k : ℕ) (x : X) → drop k xs ≡ x ∷ rest → slice_get xs k ≡ Some x
+at_front [] rest zero x is = absurd (cc)
+at_front [] rest (suc k) x is = absurd (cc)
+at_front (y ∷ ys) rest zero x is = let same : y ≡ x = cc in ap Some same
+at_front (y ∷ ys) rest (suc k) x is = at_front ys rest k x is
+
+same_rest : {X : Type 0} → (x y : X) (xs ys : List X) → x ∷ xs ≡ y ∷ ys → xs ≡ ys
+same_rest x y xs ys is = cc
+
+module _ (g : Group) where
+  -- an answer that is handed out is no other's
+  taken_apart : (taken : List Bool) (w : Waiting) (n : ℕ) → n ≢ w.number → slice_get (taken_with g taken w) n ≡ slice_get taken n
+  taken_apart taken w n apart =
+      by_test (is_answered g w.number) (λ c. slice_get (cond c (slice_set taken w.number true) taken) n ≡ slice_get taken n)
+      (λ _. set_elsewhere taken w.number n true apart) (λ _. refl)
+
+  pending_apart : (taken : List Bool) (x : Waiting) (ws : List Waiting) → Every (λ m. m ≢ x.number) (numbers_of ws) → Every (λ w. slice_get taken w.number ≡ Some false) ws → Every (λ w. slice_get (taken_with g taken x) w.number ≡ Some false) ws
+  pending_apart taken x [] apart pending = tt
+  pending_apart taken x (w ∷ ws) apart pending = (taken_apart taken x w.number apart.0 ∙ pending.0, pending_apart taken x ws apart.1 pending.1)
+
+  -- the next one was not handed out
+  pub next_pending : (taken : List Bool) (ws : List Waiting) (k : ℕ) (w : Waiting) → AreApart (numbers_of ws) → Every (λ w. slice_get taken w.number ≡ Some false) ws → slice_get ws k ≡ Some w → slice_get (taken_all g taken (take k ws)) w.number ≡ Some false
+  next_pending taken [] k w apart pending at = absurd (grind (arith, at))
+  next_pending taken (x ∷ xs) zero w apart pending at = ap (λ y. slice_get taken y.number) (sym (same_Some x w at)) ∙ pending.0
+  next_pending taken (x ∷ xs) (suc k) w apart pending at = next_pending (taken_with g taken x) xs k w apart.1 (pending_apart taken x xs apart.0 pending.1) at
+
+  -- what is not answered is not handed out
+  pub untaken : (taken : List Bool) (ws : List Waiting) (n : ℕ) → is_answered g n ≡ false → slice_get (taken_all g taken ws) n ≡ slice_get taken n
+  untaken taken [] n none = refl
+  untaken taken (w ∷ ws) n none =
+      untaken (taken_with g taken w) ws n none
+      ∙ by_test (is_answered g w.number) (λ c. (c ≡ is_answered g w.number) → slice_get (cond c (slice_set taken w.number true) taken) n ≡ slice_get taken n)
+      (λ told _. set_elsewhere taken w.number n true (λ same. let t : true ≡ false = sym told ∙ ap (is_answered g) (sym same) ∙ none in absurd (cc))) (λ _ _. refl) refl
+
+  -- what was handed out stays so
+  pub still_taken : (taken : List Bool) (ws : List Waiting) (n : ℕ) → slice_get taken n ≡ Some true → slice_get (taken_all g taken ws) n ≡ Some true
+  still_taken taken [] n is = is
+  still_taken taken (w ∷ ws) n is =
+      still_taken (taken_with g taken w) ws n
+      (by_test (is_answered g w.number) (λ c. slice_get (cond c (slice_set taken w.number true) taken) n ≡ Some true)
+      (λ _. by_test (n == w.number) (λ c. slice_get (slice_set taken w.number true) n ≡ Some true)
+      (λ same. let e = eqb-true n w.number same in ap (slice_get (slice_set taken w.number true)) e ∙ set_there taken w.number true (slice_get_within taken w.number true (ap (slice_get taken) (sym e) ∙ is)))
+      (λ apart. set_elsewhere taken w.number n true (λ e. let t : true ≡ false = sym (eq-eqb n w.number e) ∙ apart in absurd (cc)) ∙ is))
+      (λ _. is))
+
+  -- what is answered is
+  pub now_told : (taken : List Bool) (ws : List Waiting) (k : ℕ) (w : Waiting) → slice_get ws k ≡ Some w → slice_get taken w.number ≡ Some false → is_answered g w.number ≡ true → slice_get (taken_all g taken ws) w.number ≡ Some true
+  now_told taken [] k w at pending said = absurd (grind (arith, at))
+  now_told taken (x ∷ xs) zero w at pending said =
+      let same = same_Some x w at in
+      still_taken (taken_with g taken x) xs w.number
+      (subst (λ y. slice_get (taken_with g taken y) w.number ≡ Some true) (sym same)
+      (ap (λ c. slice_get (cond c (slice_set taken w.number true) taken) w.number) said ∙ set_there taken w.number true (slice_get_within taken w.number false pending)))
+  now_told taken (x ∷ xs) (suc k) w at pending said =
+      by_test (x.number == w.number) (λ c. slice_get (taken_all g (taken_with g taken x) xs) w.number ≡ Some true)
+      (λ same. let e = eqb-true x.number w.number same in
+      still_taken (taken_with g taken x) xs w.number
+      (ap (λ c. slice_get (cond c (slice_set taken x.number true) taken) w.number) (ap (is_answered g) e ∙ said)
+      ∙ ap (λ n. slice_get (slice_set taken n true) w.number) e ∙ set_there taken w.number true (slice_get_within taken w.number false pending)))
+      (λ apart. now_told (taken_with g taken x) xs k w at (taken_apart taken x w.number (λ e. let t : true ≡ false = sym (eq-eqb x.number w.number (sym e)) ∙ apart in absurd (cc)) ∙ pending) said)
+
+  length_with : (taken : List Bool) (w : Waiting) → length (taken_with g taken w) ≡ length taken
+  length_with taken w = by_test (is_answered g w.number) (λ c. length (cond c (slice_set taken w.number true) taken) ≡ length taken) (λ _. length-set taken w.number true) (λ _. refl)
+
+  pub length_all : (taken : List Bool) (ws : List Waiting) → length (taken_all g taken ws) ≡ length taken
+  length_all taken [] = refl
+  length_all taken (w ∷ ws) = length_all (taken_with g taken w) ws ∙ length_with taken w
+
+-- the reads before a place were gone through, and those that may wait on moved to the front
+pub record IsGoneThrough (chunk : ℕ) (first : GroupIs) (ws : List Waiting) (before : List ℕ) (place kept : ℕ) (now : GroupIs) (items : List Waiting) (out : List ℕ) : Type 0 where
+  pub low : kept ≤ place
+  pub count : length items ≡ length ws
+  pub kept_are : take kept items ≡ filter (may_wait (state_of first)) (take place ws)
+  pub rest : drop place items ≡ drop place ws
+  pub group : now ≡ now_taken first (taken_all (state_of first) first.taken (take place ws))
+  pub put : out ≡ before ++ told_of chunk (state_of first) (take place ws)
+
+module _ (chunk : ℕ) (first : GroupIs) (ws : List Waiting) (before : List ℕ) where
+  pub none_gone : IsGoneThrough chunk first ws before 0 0 first ws before
+  none_gone = record { low = omega arith; count = refl; kept_are = refl; rest = refl; group = refl; put = sym (append-nil before) }
+
+  module _ (place kept : ℕ) (now : GroupIs) (items : List Waiting) (out : List ℕ) (is : IsGoneThrough chunk first ws before place kept now items out) (w : Waiting) (at : slice_get items place ≡ Some w) where
+    pub there : slice_get ws place ≡ Some w
+    there = at_front ws (drop (place + 1) items) place w (sym is.rest ∙ front_of items place w at)
+
+    rest_on : drop (place + 1) items ≡ drop (place + 1) ws
+    rest_on = same_rest w w _ _ (sym (front_of items place w at) ∙ is.rest ∙ front_of ws place w there)
+
+    pub pending_here : AreApart (numbers_of ws) → Every (λ w. slice_get first.taken w.number ≡ Some false) ws → slice_get now.taken w.number ≡ Some false
+    pending_here apart pending = ap (λ (g : GroupIs). slice_get g.taken w.number) is.group ∙ next_pending (state_of first) first.taken ws place w apart pending there
+
+    pub same_state : state_of now ≡ state_of first
+    same_state = ap (λ (g : GroupIs). state_of g) is.group
+
+    -- one more
+    module _ (after : GroupIs) (gone : after ≡ now_taken now (taken_with (state_of now) now.taken w)) (put : List ℕ) (told : put ≡ out ++ lines_of chunk (state_of now) w.number) where
+      group_on : after ≡ now_taken first (taken_all (state_of first) first.taken (take (place + 1) ws))
+      group_on =
+          gone
+          ∙ ap (λ (g : GroupIs). now_taken g (taken_with (state_of g) g.taken w)) is.group
+          ∙ ap (now_taken first)
+          (sym (fold-append (taken_with (state_of first)) first.taken (take place ws) (w ∷ [])) ∙ ap (taken_all (state_of first) first.taken) (sym (take_more ws place w there)))
+
+      put_on : put ≡ before ++ told_of chunk (state_of first) (take (place + 1) ws)
+      put_on =
+          let line = λ (x : Waiting). lines_of chunk (state_of first) x.number in
+          told
+          ∙ ap (λ g. out ++ lines_of chunk g w.number) same_state
+          ∙ ap (λ text. text ++ line w) is.put
+          ∙ append_assoc before (told_of chunk (state_of first) (take place ws)) (line w)
+          ∙ ap (λ text. before ++ text)
+          (ap (λ text. told_of chunk (state_of first) (take place ws) ++ text) (sym (append-nil (line w)))
+          ∙ sym (flat_map-append line (take place ws) (w ∷ [])) ∙ ap (flat_map line) (sym (take_more ws place w there)))
+
+      kept_with : (one : List Waiting) → filter (may_wait (state_of first)) (w ∷ []) ≡ one → filter (may_wait (state_of first)) (take (place + 1) ws) ≡ take kept items ++ one
+      kept_with one are =
+          ap (filter (may_wait (state_of first))) (take_more ws place w there)
+          ∙ filter-append (may_wait (state_of first)) (take place ws) (w ∷ [])
+          ∙ ap (λ xs. xs ++ filter (may_wait (state_of first)) (w ∷ [])) (sym is.kept_are)
+          ∙ ap (λ xs. take kept items ++ xs) are
+
+      -- it waits no more
+      pub gone_on : may_wait (state_of now) w ≡ false → IsGoneThrough chunk first ws before (place + 1) kept after items put
+      gone_on gone_now = record {
+        low = omega (arith, is.low);
+        count = is.count;
+        kept_are = sym (kept_with [] (cond-false (may_wait (state_of first) w) _ _ (ap (λ g. may_wait g w) (sym same_state) ∙ gone_now)) ∙ append-nil (take kept items));
+        rest = rest_on;
+        group = group_on;
+        put = put_on;
+      }
+
+      -- it waits on
+      pub kept_on : may_wait (state_of now) w ≡ true → IsGoneThrough chunk first ws before (place + 1) (kept + 1) after (set items kept w) put
+      kept_on still =
+          let inside : place < length items = slice_get_within items place w at in
+          record {
+            low = omega (arith, is.low);
+            count = length-set items kept w ∙ is.count;
+            kept_are =
+                ap (λ n. take n (set items kept w)) (add-one kept)
+                ∙ take-suc-set items kept w (omega (arith, is.low, inside))
+                ∙ sym (kept_with (w ∷ []) (cond-true (may_wait (state_of first) w) _ _ (ap (λ g. may_wait g w) (sym same_state) ∙ still)));
+            rest = drop-set-lt (place + 1) items kept w (omega (arith, is.low)) ∙ rest_on;
+            group = group_on;
+            put = put_on;
+          }
+
+  -- all of them
+  module _ (kept : ℕ) (now : GroupIs) (items : List Waiting) (out : List ℕ) (is : IsGoneThrough chunk first ws before (length ws) kept now items out) where
+    pub all_kept : take kept items ≡ filter (may_wait (state_of first)) ws
+    all_kept = is.kept_are ∙ ap (filter (may_wait (state_of first))) (take-length ws)
+
+    pub all_taken : now ≡ now_taken first (taken_all (state_of first) first.taken ws)
+    all_taken = is.group ∙ ap (λ xs. now_taken first (taken_all (state_of first) first.taken xs)) (take-length ws)
+
+    pub all_told : out ≡ before ++ told_of chunk (state_of first) ws
+    all_told = is.put ∙ ap (λ xs. before ++ told_of chunk (state_of first) xs) (take-length ws)

@@ -1,0 +1,16 @@
+use Rattle.std.proofs.Common.{refl, ◌∙◌}
+use Rattle.pf_chunk.proofs.Ranges.{may_submit, no_submit_is, submitted_is}
+use Rattle.pf_chunk.proofs.chunk.ChunkGroup.submit.Goals as goal
+
+pub returns-in_default-clause-went : goal.returns-in_default-clause-went
+returns-in_default-clause-went g c =
+    no_submit_is c.args.server c.args.sector c.args.byte c.args.count c.args.self.now c.args.out.now.items c.no_range.result c.requires.ready c.in_default.ensures.exact.1 c.no_range.ensures
+
+pub happen-requires-clause-event : goal.happen-requires-clause-event
+happen-requires-clause-event g c _ _ =
+    (c.requires.server, may_submit c.args.sector c.args.byte c.args.count c.in-Ok.range c.in_ok-payload.payload (c.in-Ok.ensures.exact.0 refl) c.in-Ok.ensures.range (c.in_ok-payload.ensures ∙ c.in_ok-filled.ensures))
+
+pub returns-clause-went : goal.returns-clause-went
+returns-clause-went g c =
+    submitted_is c.args.server c.args.sector c.args.byte c.args.count c.args.self.now c.args.out.now.items c.happen.new.out.items c.happen.new.self c.in-Ok.range c.in_ok-payload.payload
+    (c.in-Ok.ensures.exact.0 refl) c.in-Ok.ensures.range (c.in_ok-payload.ensures ∙ c.in_ok-filled.ensures) c.happen.result c.happen.ensures.went

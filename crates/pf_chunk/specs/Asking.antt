@@ -1,0 +1,36 @@
+-- Lines that write and read sectors.
+use Rattle.std.specs.Prelude.{ℕ, ◌+◌, Bool, ◌&&◌, nat_le, if◌then◌else◌, List, [], replicate, Option, Some, slice_get}
+use Rattle.pf_entry.specs.declared.ops.Op.{Op}
+use Rattle.pf_entry.specs.declared.ops.Op.TheVariants.{Write}
+use Rattle.pf_protocol.specs.Servers.{Condition, Running}
+use Rattle.pf_protocol.specs.declared.answers.Answer.{Answer}
+use Rattle.pf_protocol.specs.declared.answers.Answer.TheVariants.{Refused}
+use Rattle.pf_protocol.specs.declared.answers.Refusal.TheVariants.{BadRange, Down}
+use Rattle.pf_protocol.specs.declared.events.Event.TheVariants as events
+use Rattle.pf_rounds.specs.Halts.{Halt}
+use Rattle.pf_rounds.specs.Chunks.{Chunk}
+use Rattle.pf_chunk.specs.Happenings.{Happened, happened}
+
+-- a range that a write or a read may name
+abbrev pub is_range : (first count : ℕ) → Bool
+is_range first count = nat_le 1 count && nat_le count 8 && nat_le (first + count) 4096
+
+-- sectors of one byte
+abbrev pub filled : (first byte count : ℕ) → Op
+filled first byte count = Write (record { first = first; count = count }) (replicate count (replicate 512 byte))
+
+-- numbers that are no range: no event of the group
+abbrev pub no_range_answer : Option Condition → Answer
+no_range_answer (Some (Running s)) = Refused BadRange
+no_range_answer c = Refused Down
+
+abbrev pub no_range : (server : ℕ) → Chunk → Happened
+no_range server c = record { chunk = c; answer = no_range_answer (slice_get c.state.servers server); text = [] }
+
+abbrev pub submits : List Halt → (server first byte count : ℕ) → Chunk → Happened
+submits halts server first byte count c =
+    if is_range first count then happened halts c (events.Submit server (filled first byte count)) else no_range server c
+
+abbrev pub fetches : List Halt → (server first count : ℕ) → Chunk → Happened
+fetches halts server first count c =
+    if is_range first count then happened halts c (events.Fetch server (record { first = first; count = count })) else no_range server c

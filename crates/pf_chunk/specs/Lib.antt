@@ -1,0 +1,11 @@
+pub mod Happenings
+pub mod Saying
+pub mod Asking
+pub mod Packets
+pub mod Showing
+pub mod Waiting
+pub mod Views
+pub mod Events
+pub mod Telling
+pub mod Steps
+pub mod Settling

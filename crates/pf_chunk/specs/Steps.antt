@@ -1,0 +1,56 @@
+-- What one event of a chunk comes to.
+use Rattle.std.specs.Prelude.{◌≡◌, ℕ, ◌<◌, true, false, IsSome, List, [], ◌++◌, filter, map, Some, slice_get}
+use Rattle.pf_entry.specs.Lists.{Every}
+use Rattle.pf_entry.specs.Tables.{ascends}
+use Rattle.pf_protocol.specs.Answers.{IsLegal, claims_of}
+use Rattle.pf_protocol.specs.declared.answers.Answer.{Answer}
+use Rattle.pf_group.specs.GroupIs.{GroupIs, state_of}
+use Rattle.pf_report.specs.Texts.{answer_text}
+use Rattle.pf_rounds.specs.Halts.{Halt}
+use Rattle.pf_rounds.specs.Chunks.{Chunk}
+use Rattle.pf_rounds.specs.Rounds.{IsApplied, applied}
+use Rattle.pf_rounds.specs.Adding.{Adds}
+use Rattle.pf_rounds.specs.Agreeing.{HasGrown, TellsOfGroup, chunk_of}
+use Rattle.pf_chunk.specs.Happenings.{Happened}
+use Rattle.pf_chunk.specs.Packets.{NoneComesBack}
+use Rattle.pf_chunk.specs.Telling.{may_wait, now_taken, taken_all, told_of}
+use Rattle.pf_chunk.specs.Views.{ChunkIs, IsReady}
+
+-- the reads that wait can be gone through
+pub record IsListed (c : ChunkIs) : Type 0 where
+  pub ascending : ascends (map (λ w. w.number) c.waiting) ≡ true
+  pub servers : Every (λ w. w.server < 3) c.waiting
+  pub pending : Every (λ w. slice_get c.group.taken w.number ≡ Some false) c.waiting
+
+-- what followed on an event: all that can be applied is, and the reads that were answered are told
+pub record HasFollowed (old : ChunkIs) (before after : List ℕ) (new : ChunkIs) : Type 0 where
+  pub then : GroupIs
+  pub count : ℕ
+  pub grown : HasGrown old.group then
+  pub taken : then.taken ≡ old.group.taken
+  pub none : claims_of [] then.history ≡ []
+  pub run : (halts : List Halt) → TellsOfGroup halts then → applied halts (chunk_of old.group) ≡ chunk_of then
+  pub applied_all : IsApplied (chunk_of then)
+  pub adds : Adds old.group then count count
+  pub legal : IsLegal then.setup then.history
+  pub is : new ≡ record old {
+    group = now_taken then (taken_all (state_of then) then.taken old.waiting);
+    waiting = filter (may_wait (state_of then)) old.waiting;
+  }
+  pub put : after ≡ before ++ told_of old.group.number (state_of then) old.waiting
+
+-- what a list of halts makes of a chunk
+abbrev pub Event : Type 0
+Event = List Halt → Chunk → Happened
+
+-- under every list of halts that tells of the group afterwards, the run comes to this group, gives this answer and writes this text,
+-- which was put at the end of a buffer
+pub record HasHappened (event : Event) (old : ChunkIs) (before : List ℕ) (answer : Answer) (after : List ℕ) (new : ChunkIs) : Type 0 where
+  pub grown : HasGrown old.group new.group
+  pub ready : IsReady new
+  pub left : NoneComesBack (state_of old.group) (state_of new.group)
+  pub first : new.first_left ≡ old.first_left
+  pub said : IsSome (answer_text answer)
+  pub text : List ℕ
+  pub put : after ≡ before ++ text
+  pub run : (halts : List Halt) → TellsOfGroup halts new.group → event halts (chunk_of old.group) ≡ record { chunk = chunk_of new.group; answer = answer; text = text }

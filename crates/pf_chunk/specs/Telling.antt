@@ -1,0 +1,50 @@
+-- Reads that wait are gone through, and those that were answered are told.
+use Rattle.std.specs.Prelude.{ℕ, Bool, true, false, not, ◌&&◌, ◌==◌, if◌then◌else◌, List, [], ◌∷◌, Option, Some, None, slice_get, slice_set}
+use Rattle.std.specs.List.{flat_map, fold}
+use Rattle.pf_protocol.specs.declared.answers.Answer.{Answer}
+use Rattle.pf_protocol.specs.declared.answers.Answer.TheVariants.{Read as ReadIs}
+use Rattle.pf_protocol.specs.Servers.{Condition, Running}
+use Rattle.pf_protocol.specs.Groups.{Answered, Group}
+use Rattle.pf_group.specs.GroupIs.{GroupIs}
+use Rattle.pf_chunk.specs.declared.waiting.Waiting.{Waiting}
+use Rattle.pf_chunk.specs.Happenings.{read_line}
+use Rattle.pf_chunk.specs.Waiting.{answers_of}
+
+abbrev pub is_some_of : List Answered → Bool
+is_some_of [] = false
+is_some_of (a ∷ rest) = true
+
+abbrev pub is_answered : Group → ℕ → Bool
+is_answered g n = is_some_of (answers_of g n)
+
+-- the lines of the answers of a read
+abbrev pub lines_of : (chunk : ℕ) → Group → ℕ → List ℕ
+lines_of chunk g n = flat_map (read_line chunk) (answers_of g n)
+
+abbrev pub told_of : (chunk : ℕ) → Group → List Waiting → List ℕ
+told_of chunk g waiting = flat_map (λ w. lines_of chunk g w.number) waiting
+
+abbrev pub runs_in : Option Condition → (term : ℕ) → Bool
+runs_in (Some (Running s)) term = s.durable.term == term
+runs_in c term = false
+
+-- not answered, and its server runs in its term still
+abbrev pub may_wait : Group → Waiting → Bool
+may_wait g w = not (is_answered g w.number) && runs_in (slice_get g.servers w.server) w.term
+
+-- the read that an answer of a server tells of
+abbrev pub read_of : Option Condition → (server : ℕ) → Answer → Option Waiting
+read_of (Some (Running s)) server (ReadIs number) = Some (record { number = number; server = server; term = s.durable.term })
+read_of c server answer = None
+
+-- its answer, if there is one, is handed out
+abbrev pub taken_with : Group → List Bool → Waiting → List Bool
+taken_with g taken w = if is_answered g w.number then slice_set taken w.number true else taken
+
+-- so are those of all these reads
+abbrev pub taken_all : Group → List Bool → List Waiting → List Bool
+taken_all g taken waiting = fold (taken_with g) taken waiting
+
+-- nothing but what was handed out is different
+abbrev pub now_taken : GroupIs → List Bool → GroupIs
+now_taken g taken = record g { taken = taken }

@@ -1,0 +1,122 @@
+//! Lines that write and read sectors.
+ghost use Rattle.std.specs.Prelude.{◌≡◌, ◌≤◌, ◌<◌, ◌++◌, IfOk, OnErr, slice_get, vec_capacity, vec_len};
+ghost use Rattle.std.specs.Option.{option_to_list};
+ghost use Rattle.pf_group.specs.GroupIs.{state_of};
+ghost use Rattle.pf_rounds.specs.Agreeing.{HasGrown};
+ghost use Rattle.pf_chunk.specs.Asking.{fetches, no_range_answer, submits};
+ghost use Rattle.pf_chunk.specs.Steps.{HasHappened};
+ghost use Rattle.pf_chunk.specs.Telling.{read_of};
+ghost use Rattle.pf_chunk.specs.Views.{IsReady};
+
+use crate::{ChunkGroup, Waiting};
+use pf_base::{Data, NoMemory, Payload, Range, Server};
+use pf_disk::Disk;
+use pf_filling::Gate;
+use pf_group::GroupEvent;
+use pf_protocol::{Answer, Refusal};
+use std::alloc::Global;
+use std::thread::Threads;
+
+/// Keeps a read, if there is one. There is room for it.
+fn keep(waiting: &mut Vec<Waiting>, read: Option<Waiting>)
+    requires { vec_len waiting.old < vec_capacity waiting.old }
+    ensures { waiting.new.items ≡ waiting.old.items ++ option_to_list read }
+{
+    if let Some(read) = read {
+        let _ = waiting.push(read);
+    }
+}
+
+impl<D: Disk + Drop> ChunkGroup<D> {
+    /// The read that an answer of the server tells of, if it was taken up.
+    fn taken_up(&self, server: Server, answer: &Answer) -> Option<Waiting>
+        requires { server < 3 }
+        ensures { result ≡ read_of (slice_get (state_of self.now.group).servers server) server answer.now }
+    {
+        let Answer::Read(number) = answer else {
+            return None;
+        };
+        match self.group.term_of(server) {
+            Ok(term) => Some(Waiting {
+                number: *number,
+                server,
+                term,
+            }),
+            Err(_) => None,
+        }
+    }
+
+    /// How a line is refused whose numbers are no range: no event happens.
+    fn no_range(&self, server: Server) -> Answer
+        requires { server < 3 }
+        ensures { result ≡ no_range_answer (slice_get (state_of self.now.group).servers server) }
+    {
+        match self.group.term_of(server) {
+            Ok(_) => Answer::Refused(Refusal::BadRange),
+            Err(_) => Answer::Refused(Refusal::Down),
+        }
+    }
+
+    /// A host asks the server to write `count` sectors of one byte from `sector` on. Numbers that are no range of 1 to 8 sectors below
+    /// 4,096 are no event: `BadRange` (10) at a running server, else `Down` (51). For the rest see `happen`.
+    #[allow(clippy::too_many_arguments)]
+    pub fn submit<R: Threads + Sync, G: Gate + Sync>(
+        &mut self,
+        rt: &R,
+        alloc: Global,
+        server: Server,
+        sector: u32,
+        byte: u8,
+        count: u32,
+        workers: u32,
+        gate: &G,
+        out: &mut Vec<u8>,
+    ) -> Result<Answer, NoMemory>
+        requires workers { (1 ≤ workers) × (workers ≤ 8) }
+        requires ready { IsReady self.old }
+        requires server { server < 3 }
+        ensures went { IfOk result (λ answer. HasHappened (λ halts c. submits halts server sector byte count c) self.old out.old.items answer out.new.items self.new) }
+        ensures err { OnErr result (HasGrown self.old.group self.new.group) }
+    {
+        let Ok(range) = Range::new(sector, count) else {
+            return Ok(self.no_range(server));
+        };
+        let payload = Payload::new(alloc, Data::filled(alloc, byte, count)?)?;
+        let event = GroupEvent::Submit {
+            server,
+            range,
+            payload,
+        };
+        self.happen(rt, alloc, event, workers, gate, out)
+    }
+
+    /// A host asks the server for `count` sectors from `sector` on. For numbers that are no range see `submit`, for the rest `happen`.
+    #[allow(clippy::too_many_arguments)]
+    pub fn fetch<R: Threads + Sync, G: Gate + Sync>(
+        &mut self,
+        rt: &R,
+        alloc: Global,
+        server: Server,
+        sector: u32,
+        count: u32,
+        workers: u32,
+        gate: &G,
+        out: &mut Vec<u8>,
+    ) -> Result<Answer, NoMemory>
+        requires workers { (1 ≤ workers) × (workers ≤ 8) }
+        requires ready { IsReady self.old }
+        requires server { server < 3 }
+        ensures went { IfOk result (λ answer. HasHappened (λ halts c. fetches halts server sector count c) self.old out.old.items answer out.new.items self.new) }
+        ensures err { OnErr result (HasGrown self.old.group self.new.group) }
+    {
+        let Ok(range) = Range::new(sector, count) else {
+            return Ok(self.no_range(server));
+        };
+        self.waiting.reserve(1)?;
+        let answer = self.group.step(alloc, GroupEvent::Fetch { server, range })?;
+        let read = self.taken_up(server, &answer);
+        keep(&mut self.waiting, read);
+        self.follow(rt, alloc, workers, gate, out)?;
+        Ok(answer)
+    }
+}

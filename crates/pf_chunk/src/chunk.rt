@@ -1,0 +1,95 @@
+//! A group, with what a report needs beside it.
+ghost use Rattle.std.specs.Prelude.{◌≡◌, [], IfErr, IfOk, Some, slice_get};
+ghost use Rattle.pf_protocol.specs.Answers.{IsLegal, IsSetup};
+ghost use Rattle.pf_group.specs.GroupIs.{state_of};
+ghost use Rattle.pf_group.specs.Leaving.{LeavesOf, as_seen};
+ghost use Rattle.pf_group.specs.Sound.{IsSound};
+ghost use Rattle.pf_group.specs.Making.{AreTold, IsMade, setup_with, six_faults};
+ghost use Rattle.pf_chunk.specs.Views.{IsReady};
+
+use crate::Waiting;
+use pf_base::NoMemory;
+use pf_disk::Disk;
+use pf_group::{Group, Six};
+use pf_protocol::{Answer, Happening};
+use std::alloc::Global;
+use std::marker::Model;
+
+/// The group of a chunk.
+#[derive(Drop)]
+pub struct ChunkGroup<D: Disk> {
+    pub(crate) group: Group<D>,
+    pub(crate) number: u8,
+    /// In the order of their numbers. A read is forgotten where its server runs in its term no more: then it is never answered.
+    pub(crate) waiting: Vec<Waiting>,
+    /// No packet below this one is left.
+    pub(crate) first_left: u32,
+    /// Of the packets from `first_left` to this one those that are left were passed over by the settling that goes on.
+    pub(crate) next: u32,
+}
+
+impl<D: Disk> Model for ChunkGroup<D> {
+    ghost use Rattle.std.specs.Prelude.{◌≡◌};
+    ghost use Rattle.pf_chunk.specs.Views.{ChunkIs};
+
+    ghost Value = { ChunkIs };
+
+    ghost view = { λ c. record { group = c.group; waiting = c.waiting.items; first_left = c.first_left; next = c.next } };
+
+    ghost invariant = { λ c. c.group.number ≡ c.number };
+}
+
+impl<D: Disk + Drop> ChunkGroup<D> {
+    /// Makes the group of a chunk on these disks, whatever they held: its number in its volume, the sectors of the chunk, the most slots
+    /// that a log entry names, and the format of the first halves, 1 or 2. `Done`, or `Halted` (52) where a disk of a server failed
+    /// while it was formatted: such a server never runs.
+    ///
+    /// `NoMemory` (1) gives the disks back; nothing was called.
+    pub fn new(
+        alloc: Global,
+        number: u8,
+        sectors: u32,
+        names: u8,
+        format: u8,
+        disks: Six<D>,
+    ) -> Result<(ChunkGroup<D>, Answer), (Six<D>, NoMemory)>
+        requires setup { IsSetup (setup_with sectors names format []) }
+        requires told { AreTold D.seen disks }
+        ensures made { IfOk result (λ made. IsMade number sectors names format (six_faults D.faults disks) made.0.group made.1) }
+        ensures ready { IfOk result (λ made. IsReady made.0) }
+        ensures err { IfErr result (λ back. back.0 ≡ disks) }
+    {
+        let (group, answer) = Group::new(alloc, number, sectors, names, format, disks)?;
+        let chunk = ChunkGroup {
+            group,
+            number,
+            waiting: Vec::new(alloc),
+            first_left: 0,
+            next: 0,
+        };
+        Ok((chunk, answer))
+    }
+
+    /// All that happened to the group, in order.
+    pub fn history(&self) -> &[Happening]
+        ensures items { result.now ≡ self.now.group.history }
+        ensures legal { IsLegal self.now.group.setup self.now.group.history }
+        ensures sound { IsSound self.now.group.setup self.now.group.history }
+    {
+        self.group.history()
+    }
+
+    /// Gives the disks back, with what the group left on them.
+    pub fn into_disks(self) -> Six<D>
+        ensures left_0 { LeavesOf (slice_get (state_of self.group).servers 0) (D.may_leave result.s0h0) (D.may_leave result.s0h1) }
+        ensures left_1 { LeavesOf (slice_get (state_of self.group).servers 1) (D.may_leave result.s1h0) (D.may_leave result.s1h1) }
+        ensures left_2 { LeavesOf (slice_get (state_of self.group).servers 2) (D.may_leave result.s2h0) (D.may_leave result.s2h1) }
+        ensures seen_0 { LeavesOf (slice_get (state_of self.group).servers 0) (as_seen (D.seen result.s0h0)) (as_seen (D.seen result.s0h1)) }
+        ensures seen_1 { LeavesOf (slice_get (state_of self.group).servers 1) (as_seen (D.seen result.s1h0)) (as_seen (D.seen result.s1h1)) }
+        ensures seen_2 { LeavesOf (slice_get (state_of self.group).servers 2) (as_seen (D.seen result.s2h0)) (as_seen (D.seen result.s2h1)) }
+        ensures faults { six_faults D.faults result ≡ self.group.faults }
+    {
+        let ChunkGroup { group, .. } = self;
+        group.into_disks()
+    }
+}

@@ -1,0 +1,68 @@
+//! One event, and what follows on it.
+ghost use Rattle.std.specs.Prelude.{◌≡◌, ◌≤◌, [], IfOk, OnErr, OnOk, false};
+ghost use Rattle.pf_protocol.specs.Answers.{claims_of};
+ghost use Rattle.pf_group.specs.Events.{event_of};
+ghost use Rattle.pf_rounds.specs.Agreeing.{HasGrown};
+ghost use Rattle.pf_chunk.specs.Happenings.{happened};
+ghost use Rattle.pf_chunk.specs.Events.{IsStep};
+ghost use Rattle.pf_chunk.specs.Steps.{HasFollowed, HasHappened, IsListed};
+ghost use Rattle.pf_chunk.specs.Views.{IsReady};
+
+use crate::ChunkGroup;
+use crate::telling::tell_reads;
+use pf_base::NoMemory;
+use pf_disk::Disk;
+use pf_filling::Gate;
+use pf_group::GroupEvent;
+use pf_protocol::Answer;
+use pf_rounds::apply_all;
+use std::alloc::Global;
+use std::thread::Threads;
+
+impl<D: Disk + Drop> ChunkGroup<D> {
+    /// One event, and then what it made free is applied, on at most `workers` threads. A line for each read that was answered is put at
+    /// the end of `out`, by the reads' numbers.
+    ///
+    /// After `NoMemory` (1) the group stands after its last whole step, with no job in hand.
+    pub fn happen<R: Threads + Sync, G: Gate + Sync>(
+        &mut self,
+        rt: &R,
+        alloc: Global,
+        event: GroupEvent,
+        workers: u32,
+        gate: &G,
+        out: &mut Vec<u8>,
+    ) -> Result<Answer, NoMemory>
+        requires workers { (1 ≤ workers) × (workers ≤ 8) }
+        requires ready { IsReady self.old }
+        requires event { IsStep event }
+        ensures went { IfOk result (λ answer. HasHappened (λ halts c. happened halts c (event_of event false)) self.old out.old.items answer out.new.items self.new) }
+        ensures next { OnOk result (self.new.next ≡ self.old.next) }
+        ensures err { OnErr result (HasGrown self.old.group self.new.group) }
+    {
+        let answer = self.group.step(alloc, event)?;
+        self.follow(rt, alloc, workers, gate, out)?;
+        Ok(answer)
+    }
+
+    /// What follows on an event.
+    pub(crate) fn follow<R: Threads + Sync, G: Gate + Sync>(
+        &mut self,
+        rt: &R,
+        alloc: Global,
+        workers: u32,
+        gate: &G,
+        out: &mut Vec<u8>,
+    ) -> Result<(), NoMemory>
+        requires workers { (1 ≤ workers) × (workers ≤ 8) }
+        requires none { claims_of [] self.old.group.history ≡ [] }
+        requires listed { IsListed self.old }
+        ensures went { OnOk result (HasFollowed self.old out.old.items out.new.items self.new) }
+        ensures err { OnErr result (HasGrown self.old.group self.new.group) }
+    {
+        apply_all(rt, alloc, &mut self.group, workers, gate)?;
+        // That the history is legal is asked of the proof alone.
+        let _legal = self.group.history();
+        tell_reads(&mut self.group, &mut self.waiting, self.number, out)
+    }
+}

@@ -1,0 +1,104 @@
+//! Packets are delivered until none is left.
+ghost use Rattle.std.specs.Prelude.{◌≡◌, ◌≤◌, ◌<◌, ◌+◌, IfOk, OnErr, OnOk, MatchOption, None, Some, false, true, length};
+ghost use Rattle.pf_group.specs.GroupIs.{state_of};
+ghost use Rattle.pf_protocol.specs.Answers.{most_packets};
+ghost use Rattle.pf_protocol.specs.declared.events.Event.TheVariants.{Deliver};
+ghost use Rattle.pf_rounds.specs.Agreeing.{HasGrown};
+ghost use Rattle.pf_chunk.specs.Happenings.{happened};
+ghost use Rattle.pf_chunk.specs.Packets.{IsFirstLeft, is_left_in, is_passed_over, least_from};
+ghost use Rattle.pf_chunk.specs.Settling.{HasTried};
+ghost use Rattle.pf_chunk.specs.Views.{IsReady};
+
+use crate::ChunkGroup;
+use pf_base::NoMemory;
+use pf_disk::Disk;
+use pf_filling::Gate;
+use pf_group::GroupEvent;
+use pf_protocol::{Answer, Refusal};
+use std::alloc::Global;
+use std::thread::Threads;
+
+/// What became of a packet that a settling took.
+#[derive(Clone, Copy, Debug, PartialEq, Eq)]
+pub enum Try {
+    /// There was no room for what it asks for, and it stays until the line ends.
+    Passed,
+    Delivered,
+}
+
+/// Whether there was no room for what a delivery asks for.
+fn is_passed_over(answer: &Answer) -> bool
+    ensures { result ≡ is_passed_over answer.now }
+{
+    matches!(
+        answer,
+        Answer::Refused(Refusal::LogFull | Refusal::PacketsFull)
+    )
+}
+
+impl<D: Disk + Drop> ChunkGroup<D> {
+    /// The least packet from `from` on that is left, or how many there are.
+    fn left_from(&self, from: u32) -> u32
+        ensures { IsFirstLeft (state_of self.now.group) from result }
+    {
+        let packets = self.group.packets();
+        for k in from..packets {
+            if self.group.is_left(k) {
+                return k;
+            }
+        }
+        packets.max(from)
+    }
+
+    /// A settling begins: no packet was passed over yet.
+    pub fn begin_settling(&mut self)
+        requires ready { IsReady self.old }
+        ensures ready { IsReady self.new }
+        ensures same { self.new ≡ record self.old { first_left = self.new.next; next = self.new.next } }
+    {
+        self.first_left = self.left_from(self.first_left);
+        self.next = self.first_left;
+    }
+
+    /// The least packet that is left and was not passed over.
+    pub fn next_left(&mut self) -> Option<u32>
+        ensures least { result ≡ least_from self.old.next (state_of self.old.group) }
+        ensures same { self.new ≡ record self.old { next = self.new.next } }
+        ensures found { MatchOption result (self.new.next ≡ self.new.next) (λ k. self.new.next ≡ k) }
+    {
+        self.next = self.left_from(self.next);
+        if self.next < self.group.packets() {
+            Some(self.next)
+        } else {
+            None
+        }
+    }
+
+    /// Delivers the next packet, which is left. Where its record or its packets have no room it is passed over. For the rest see `happen`.
+    pub fn settle_one<R: Threads + Sync, G: Gate + Sync>(
+        &mut self,
+        rt: &R,
+        alloc: Global,
+        workers: u32,
+        gate: &G,
+        out: &mut Vec<u8>,
+    ) -> Result<Try, NoMemory>
+        requires workers { (1 ≤ workers) × (workers ≤ 8) }
+        requires ready { IsReady self.old }
+        requires left { is_left_in (state_of self.old.group) self.old.next ≡ true }
+        ensures went { IfOk result (λ tried. HasTried self.old out.old.items tried out.new.items self.new) }
+        ensures few { OnOk result (self.old.next < most_packets) }
+        ensures err { OnErr result (HasGrown self.old.group self.new.group) }
+    {
+        let k = self.next;
+        // That the history is legal is asked of the proof alone.
+        let _legal = self.group.history();
+        let answer = self.happen(rt, alloc, GroupEvent::Deliver(k), workers, gate, out)?;
+        if is_passed_over(&answer) {
+            self.next = k + 1;
+            Ok(Try::Passed)
+        } else {
+            Ok(Try::Delivered)
+        }
+    }
+}

@@ -1,0 +1,97 @@
+//! Lines that show a group. A server that does not run is told as `down`.
+ghost use Rattle.std.specs.Prelude.{◌≡◌, ◌<◌, ◌++◌, IfOk, OnErr, OnOk, map};
+ghost use Rattle.pf_report.specs.Texts.{line_of};
+ghost use Rattle.pf_rounds.specs.Agreeing.{chunk_of};
+ghost use Rattle.pf_chunk.specs.Showing.{acked_shown, applied_shown, log_shown, mark_shown, of_server, sectors_shown};
+
+use crate::ChunkGroup;
+use pf_base::{NoMemory, Server, Slot};
+use pf_cluster::Acked;
+use pf_disk::Disk;
+use pf_report::{put_acked, put_applied, put_log, put_mark, put_refusal, put_sectors};
+use std::alloc::Global;
+
+/// The number of the refusal of a server that does not run.
+const DOWN: u32 = 51;
+
+/// The slots that were acknowledged to hosts.
+fn slots_of(alloc: Global, acked: &[Acked]) -> Result<Vec<Slot>, NoMemory>
+    ensures { IfOk result (λ slots. slots.items ≡ map (λ a. a.slot) acked.now) }
+{
+    let mut slots = Vec::with_capacity(alloc, acked.len())?;
+    for one in acked {
+        slots.push(one.slot)?;
+    }
+    Ok(slots)
+}
+
+impl<D: Disk + Drop> ChunkGroup<D> {
+    /// Puts a line with the server's term, its checkpoint, and its log. `NoMemory` (1) puts nothing.
+    pub fn show_log(&self, line: u32, server: Server, out: &mut Vec<u8>) -> Result<(), NoMemory>
+        requires { server < 3 }
+        ensures ok { OnOk result (out.new.items ≡ out.old.items ++ line_of line (of_server (chunk_of self.now.group) server log_shown)) }
+        ensures err { OnErr result (out.new.items ≡ out.old.items) }
+    {
+        let Ok(term) = self.group.term_of(server) else {
+            return put_refusal(out, line, DOWN);
+        };
+        let Ok(log) = self.group.log_of(server) else {
+            return put_refusal(out, line, DOWN);
+        };
+        put_log(out, line, term, log)
+    }
+
+    /// Puts a line with the server's checkpoint, and what it applied above it. `NoMemory` (1) puts nothing.
+    pub fn show_applied(&self, line: u32, server: Server, out: &mut Vec<u8>) -> Result<(), NoMemory>
+        requires { server < 3 }
+        ensures ok { OnOk result (out.new.items ≡ out.old.items ++ line_of line (of_server (chunk_of self.now.group) server applied_shown)) }
+        ensures err { OnErr result (out.new.items ≡ out.old.items) }
+    {
+        let Ok(base) = self.group.base_of(server) else {
+            return put_refusal(out, line, DOWN);
+        };
+        let Ok(applied) = self.group.applied_of(server) else {
+            return put_refusal(out, line, DOWN);
+        };
+        put_applied(out, line, base, applied)
+    }
+
+    /// Puts a line with the bytes of the server's sectors. `NoMemory` (1) puts nothing.
+    pub fn show_sectors(&self, line: u32, server: Server, out: &mut Vec<u8>) -> Result<(), NoMemory>
+        requires { server < 3 }
+        ensures ok { OnOk result (out.new.items ≡ out.old.items ++ line_of line (of_server (chunk_of self.now.group) server sectors_shown)) }
+        ensures err { OnErr result (out.new.items ≡ out.old.items) }
+    {
+        match self.group.sectors_of(server) {
+            Ok(sectors) => put_sectors(out, line, sectors),
+            Err(_) => put_refusal(out, line, DOWN),
+        }
+    }
+
+    /// Puts a line with the server's snapshot of a slot. `NoMemory` (1) puts nothing.
+    pub fn show_mark(
+        &self,
+        line: u32,
+        server: Server,
+        slot: Slot,
+        out: &mut Vec<u8>,
+    ) -> Result<(), NoMemory>
+        requires { server < 3 }
+        ensures ok { OnOk result (out.new.items ≡ out.old.items ++ line_of line (of_server (chunk_of self.now.group) server (mark_shown slot))) }
+        ensures err { OnErr result (out.new.items ≡ out.old.items) }
+    {
+        match self.group.term_of(server) {
+            Ok(_) => put_mark(out, line, slot, self.group.snapshot(server, slot)),
+            Err(_) => put_refusal(out, line, DOWN),
+        }
+    }
+
+    /// Puts a line with the slots that were acknowledged to hosts. `NoMemory` (1) puts nothing.
+    pub fn show_acked(&self, line: u32, out: &mut Vec<u8>) -> Result<(), NoMemory>
+        ensures ok { OnOk result (out.new.items ≡ out.old.items ++ line_of line (acked_shown (chunk_of self.now.group))) }
+        ensures err { OnErr result (out.new.items ≡ out.old.items) }
+    {
+        let slots = slots_of(*out.allocator(), self.group.acked())?;
+        put_acked(out, line, &slots)
+    }
+}

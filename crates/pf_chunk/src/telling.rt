@@ -1,0 +1,65 @@
+//! Reads that were answered are told.
+ghost use Rattle.std.specs.Prelude.{◌≡◌, ◌<◌, ◌++◌, false, true, IfOk, OnErr, OnOk, Some, filter, map, slice_get};
+ghost use Rattle.pf_entry.specs.Lists.{Every};
+ghost use Rattle.pf_entry.specs.Tables.{ascends};
+ghost use Rattle.pf_group.specs.GroupIs.{state_of};
+ghost use Rattle.pf_chunk.specs.Telling.{lines_of, may_wait, now_taken, taken_all, taken_with, told_of};
+
+use crate::Waiting;
+use pf_base::NoMemory;
+use pf_disk::Disk;
+use pf_group::Group;
+use pf_report::put_read;
+
+/// Puts a line for the read if it was answered. Whether it waits on: not where its server runs in its term no more.
+fn tell_read<D: Disk + Drop>(
+    group: &mut Group<D>,
+    one: Waiting,
+    number: u8,
+    out: &mut Vec<u8>,
+) -> Result<bool, NoMemory>
+    requires server { one.server < 3 }
+    requires pending { slice_get group.old.taken one.number ≡ Some false }
+    ensures kept { IfOk result (λ kept. kept ≡ may_wait (state_of group.old) one) }
+    ensures taken { OnOk result (group.new ≡ now_taken group.old (taken_with (state_of group.old) group.old.taken one)) }
+    ensures told { OnOk result (out.new.items ≡ out.old.items ++ lines_of number (state_of group.old) one.number) }
+    ensures err { OnErr result (group.new ≡ now_taken group.old group.new.taken) }
+{
+    // That the history is legal is asked of the proof alone.
+    let _legal = group.history();
+    if let Some(sectors) = group.take_read(one.number) {
+        put_read(out, number, one.number, &sectors)?;
+        return Ok(false);
+    }
+    match group.term_of(one.server) {
+        Ok(term) => Ok(term == one.term),
+        Err(_) => Ok(false),
+    }
+}
+
+/// Puts a line for each of these reads that was answered, in their order, and forgets all that wait no more.
+pub(crate) fn tell_reads<D: Disk + Drop>(
+    group: &mut Group<D>,
+    waiting: &mut Vec<Waiting>,
+    number: u8,
+    out: &mut Vec<u8>,
+) -> Result<(), NoMemory>
+    requires ascending { ascends (map (λ w. w.number) waiting.old.items) ≡ true }
+    requires servers { Every (λ w. w.server < 3) waiting.old.items }
+    requires pending { Every (λ w. slice_get group.old.taken w.number ≡ Some false) waiting.old.items }
+    ensures kept { OnOk result (waiting.new.items ≡ filter (may_wait (state_of group.old)) waiting.old.items) }
+    ensures taken { OnOk result (group.new ≡ now_taken group.old (taken_all (state_of group.old) group.old.taken waiting.old.items)) }
+    ensures told { OnOk result (out.new.items ≡ out.old.items ++ told_of number (state_of group.old) waiting.old.items) }
+    ensures err { OnErr result (group.new ≡ now_taken group.old group.new.taken) }
+{
+    let mut kept = 0;
+    for place in 0..waiting.len() {
+        let one = waiting[place];
+        if tell_read(group, one, number, out)? {
+            waiting[kept] = one;
+            kept += 1;
+        }
+    }
+    waiting.truncate(kept);
+    Ok(())
+}

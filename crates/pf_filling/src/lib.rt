@@ -1,0 +1,17 @@
+//! The work of jobs: copying the sectors of claimed slots, on several threads.
+//!
+//! A job is claimed in a group, its sectors are copied outside of it, and then it is finished there. This crate has the middle part.
+#![tactic(auto)]
+
+mod bringing;
+mod filling;
+mod gate;
+mod work;
+
+pub use bringing::bring_all;
+pub use filling::fill;
+pub use gate::{Gate, OpenGate};
+pub use work::Work;
+
+#[cfg(test)]
+mod tests;

@@ -1,0 +1,18 @@
+use Rattle.std.proofs.Common.{sym, subst}
+use Rattle.pf_protocol.specs.Histories.{replay}
+use Rattle.pf_cluster.specs.Shown.{IsMemoryOf}
+use Rattle.pf_group.specs.GroupIs.{GroupIs, state_of}
+use Rattle.pf_group.specs.Inside.{setup_in}
+use Rattle.pf_group.specs.Readers.{TellsOf}
+use Rattle.pf_group.proofs.Shown.{memory_told}
+use Rattle.pf_group.proofs.group.Group.running_at.Goals as goal
+
+pub running-requires-clause-shown : goal.running-requires-clause-shown
+running-requires-clause-shown g c = (setup_in c.self.inside, (replay (setup_in c.self.inside) c.self.inside.past.happenings.items, c.self.invariant.reached.shows))
+
+pub returns : goal.returns
+returns g c =
+    let group = replay (setup_in c.self.inside) c.self.inside.past.happenings.items in
+    subst (λ (v : GroupIs). TellsOf (state_of v) c.args.server c.ok_or.result (λ me s. IsMemoryOf me.now s)) c.self.view_is
+    (subst (λ r. TellsOf group c.args.server r (λ me s. IsMemoryOf me.now s)) (sym c.ok_or.ensures.value)
+    (memory_told (λ me. me.now) group c.args.server c.running.result _ (c.running.ensures (setup_in c.self.inside) group c.self.invariant.reached.shows)))

@@ -1,0 +1,42 @@
+use Rattle.std.proofs.Common.{◌≡◌, IfNone, IfSome, length, ap, subst, ◌∙◌}
+use Rattle.std.proofs.lemmas.List.{length-map}
+use Rattle.pf_protocol.specs.Histories.{replay}
+use Rattle.pf_cluster.specs.Readings.{is_taken}
+use Rattle.pf_group.specs.GroupIs.{GroupIs, state_of}
+use Rattle.pf_group.specs.Inside.{group_of, setup_in}
+use Rattle.pf_group.specs.Readers.{HasTaken, LacksAnswer}
+use Rattle.pf_group.proofs.Shown.{has_taken, if_none, lacks_answer}
+use Rattle.pf_group.proofs.group.Group.take_read.Goals as goal
+
+pub invariant_of-self : goal.invariant_of-self
+invariant_of-self g c = record {
+  reached = record {
+    legal = c.self.invariant.reached.legal;
+    short = c.self.invariant.reached.short;
+    shows = c.take_read.ensures.shows (setup_in c.self.inside) (replay (setup_in c.self.inside) c.self.inside.past.happenings.items) c.self.invariant.reached.shows;
+  };
+  past = c.self.invariant.past;
+}
+
+pub returns-clause-taken : goal.returns-clause-taken
+returns-clause-taken g c =
+    let setup = setup_in c.self.inside in
+    let history = c.self.inside.past.happenings.items in
+    subst (λ (v : GroupIs). IfSome c.take_read.result (λ bytes. HasTaken v c.args.number bytes (group_of g.D.Disk.faults c.self.inside.number setup history c.take_read.new.self))) c.self.view_is
+    (has_taken g.D.Disk.faults c.self.inside.number setup history c.self.inside.cluster c.take_read.new.self c.args.number c.take_read.ensures.same c.take_read.result (c.take_read.ensures.taken setup (replay setup history) c.self.invariant.reached.shows))
+
+pub returns-clause-none : goal.returns-clause-none
+returns-clause-none g c =
+    let setup = setup_in c.self.inside in
+    let history = c.self.inside.past.happenings.items in
+    subst (λ (v : GroupIs). IfNone c.take_read.result (LacksAnswer v c.args.number)) c.self.view_is
+    (lacks_answer g.D.Disk.faults c.self.inside.number setup history c.self.inside.cluster c.take_read.new.self c.args.number c.take_read.ensures.same c.take_read.result (c.take_read.ensures.taken setup (replay setup history) c.self.invariant.reached.shows))
+
+pub returns-clause-same : goal.returns-clause-same
+returns-clause-same g c =
+    if_none c.take_read.result (λ same. ap (group_of g.D.Disk.faults c.self.inside.number (setup_in c.self.inside) c.self.inside.past.happenings.items) same ∙ c.self.view_is) c.take_read.ensures.none
+
+pub returns-clause-numbered : goal.returns-clause-numbered
+returns-clause-numbered g c =
+    subst (λ (v : GroupIs). length v.taken ≡ (state_of v).reads) c.self.view_is
+    (length-map c.self.inside.cluster.readings.items is_taken ∙ c.self.invariant.reached.shows.reads)

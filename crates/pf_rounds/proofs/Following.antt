@@ -1,0 +1,89 @@
+-- A run follows a history that its list of halts tells of: it gives each event the answer that it had, and comes to the same group.
+use Rattle.std.proofs.Common.{◌≡◌, ℕ, suc, ◌⊎◌, Bool, true, false, ◌&&◌, if◌then◌else◌, List, [], ◌∷◌, ◌++◌, length, refl, sym, ap, ◌∙◌, inl, inr, arith}
+use Rattle.std.proofs.lemmas.Bool.{false≢true}
+use Rattle.std.proofs.lemmas.List.{length-append}
+use Rattle.pf_protocol.specs.Groups.{ending, happens}
+use Rattle.pf_protocol.specs.Histories.{History, IsPrefix, replay}
+use Rattle.pf_protocol.proofs.Claiming.{replay_goes_on}
+use Rattle.pf_protocol.proofs.Origins.{prefix_of}
+use Rattle.pf_protocol.proofs.Snapshots.{whole_prefix}
+use Rattle.pf_group.specs.GroupIs.{GroupIs}
+use Rattle.pf_protocol.specs.Answers.{IsAnswer, answer_to, may_halt}
+use Rattle.pf_protocol.specs.declared.answers.Answer.{Answer}
+use Rattle.pf_protocol.specs.declared.answers.Answer.TheVariants as answers
+use Rattle.pf_protocol.specs.declared.answers.Refusal.{Refusal}
+use Rattle.pf_protocol.specs.declared.answers.Refusal.TheVariants as refusals
+use Rattle.pf_protocol.specs.declared.events.Event.TheVariants as events
+use Rattle.pf_protocol.specs.declared.events.Happening.{Happening}
+use Rattle.pf_rounds.specs.Halts.{Halt, is_cut}
+use Rattle.pf_rounds.specs.Chunks.{Chunk, after, answered, listed}
+use Rattle.pf_rounds.specs.Agreeing.{TellsOf, TellsOfGroup, at_moment, chunk_of, is_halt, is_halted}
+
+-- an answer that the list calls halted
+pub halt_is : (refusal : Refusal) → is_halt refusal ≡ true → refusal ≡ refusals.Halted
+halt_is refusals.Halted is = refl
+halt_is refusals.BadRange is = absurd (false≢true is)
+halt_is refusals.WindowFull is = absurd (false≢true is)
+halt_is refusals.LogFull is = absurd (false≢true is)
+halt_is refusals.NotOurs is = absurd (false≢true is)
+halt_is refusals.NotLeader is = absurd (false≢true is)
+halt_is refusals.Down is = absurd (false≢true is)
+halt_is refusals.NoPacket is = absurd (false≢true is)
+halt_is refusals.LostPacket is = absurd (false≢true is)
+halt_is refusals.PacketsFull is = absurd (false≢true is)
+halt_is refusals.ElectionsFull is = absurd (false≢true is)
+halt_is refusals.NoneFree is = absurd (false≢true is)
+halt_is (refusals.Stale life) is = absurd (false≢true is)
+halt_is refusals.OldFormat is = absurd (false≢true is)
+
+pub halted_is : (answer : Answer) → is_halted answer ≡ true → answer ≡ answers.Refused refusals.Halted
+halted_is (answers.Refused refusal) is = ap answers.Refused (halt_is refusal is)
+halted_is answers.Done is = absurd (false≢true is)
+halted_is (answers.Slot slot) is = absurd (false≢true is)
+halted_is (answers.Term term) is = absurd (false≢true is)
+halted_is (answers.Read number) is = absurd (false≢true is)
+halted_is (answers.Base base) is = absurd (false≢true is)
+halted_is (answers.Job job) is = absurd (false≢true is)
+
+answer_by_cases : (cut may : Bool) (given answer : Answer) → cut ≡ is_halted answer → (answer ≡ given) ⊎ ((may ≡ true) × (answer ≡ answers.Refused refusals.Halted)) → (if cut && may then answers.Refused refusals.Halted else given) ≡ answer
+answer_by_cases true true given answer cut is = sym (halted_is answer (sym cut))
+answer_by_cases true false given answer cut (inl is) = sym is
+answer_by_cases true false given answer cut (inr is) = absurd (false≢true (is.0))
+answer_by_cases false may given answer cut (inl is) = sym is
+answer_by_cases false may given answer cut (inr is) = absurd (false≢true (cut ∙ ap is_halted (is.1)))
+
+-- the run gives the event the answer that it had
+pub answered_is : (halts : List Halt) (c : Chunk) (h : Happening) → TellsOf halts c h → IsAnswer c.setup c.state h.event h.answer → answered halts c h.event ≡ h.answer
+answered_is halts c h tells is = answer_by_cases (is_cut halts c.number c.events) (may_halt c.setup c.state h.event) (answer_to c.setup c.state h.event) h.answer tells.cut is
+
+-- and comes to the same group
+pub after_is : (halts : List Halt) (c : Chunk) (h : Happening) → TellsOf halts c h → IsAnswer c.setup c.state h.event h.answer → after halts c h.event ≡ record c { state = happens c.setup c.state h.event (ending h.answer); events = suc c.events }
+unfolding after
+after_is halts c h tells is = ap (λ state. record c { state = state; events = suc c.events }) (ap (λ answer. happens c.setup c.state (listed halts c h.event) (ending answer)) (answered_is halts c h tells is) ∙ tells.found)
+
+-- what stands in the history of what a restart found is not asked: the list tells
+pub restart_answer_is : (halts : List Halt) (c : Chunk) (i : ℕ) (found : Bool) → answered halts c (events.Restart i found) ≡ answered halts c (events.Restart i false)
+unfolding answer_to may_halt
+restart_answer_is halts c i found = refl
+
+pub restart_is : (halts : List Halt) (c : Chunk) (i : ℕ) (found : Bool) → after halts c (events.Restart i found) ≡ after halts c (events.Restart i false)
+unfolding after answer_to may_halt
+restart_is halts c i found = refl
+
+-- a list that tells of a group tells of it at every earlier moment
+pub tells_before : (halts : List Halt) (g : GroupIs) (earlier : History) → IsPrefix earlier g.history → TellsOfGroup halts g → TellsOfGroup halts (record g { history = earlier })
+tells_before halts g earlier before tells = record {
+  making = tells.making;
+  events = λ first h is. tells.events first h (prefix_of (first ++ h ∷ []) earlier g.history is before);
+}
+
+-- where one more event is answered, the run gives it this answer and comes to this group
+pub step_is : (halts : List Halt) (g : GroupIs) (h : Happening) → IsAnswer g.setup (replay g.setup g.history) h.event h.answer → TellsOfGroup halts (record g { history = g.history ++ h ∷ [] }) → (answered halts (chunk_of g) h.event ≡ h.answer) × (after halts (chunk_of g) h.event ≡ at_moment g (g.history ++ h ∷ []))
+step_is halts g h is tells =
+    let here = tells.events g.history h (whole_prefix (g.history ++ h ∷ [])) in
+    let more : suc (length g.history) ≡ length (g.history ++ h ∷ []) = omega (arith, length-append g.history (h ∷ [])) in (
+      answered_is halts (chunk_of g) h here is,
+      after_is halts (chunk_of g) h here is
+          ∙ ap (λ state. record (chunk_of g) { state = state; events = suc (length g.history) }) (sym (replay_goes_on g.setup g.history h))
+          ∙ ap (λ n. record (chunk_of g) { state = replay g.setup (g.history ++ h ∷ []); events = n }) more,
+    )

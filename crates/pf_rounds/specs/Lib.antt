@@ -1,0 +1,10 @@
+pub mod Halts
+pub mod Chunks
+pub mod Rounds
+pub mod Agreeing
+pub mod Jobs
+pub mod Adding
+pub mod Open
+pub mod Following
+pub mod Closed
+pub mod Telling

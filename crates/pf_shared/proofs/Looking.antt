@@ -1,0 +1,135 @@
+-- A look: one more entry, and what it tells.
+use Rattle.std.proofs.Common.{◌≡◌, ℕ, Bool, true, List, [], ◌∷◌, ◌++◌, length, Option, Some, None, is_some, Result, Ok, Err, IfNone, IfOk, IfSome, OnErr, OnOk, sym, refl, ap, ◌∙◌, subst, arith}
+use Rattle.std.specs.Bool.{then_some}
+use Rattle.pf_base.specs.declared.errors.NoMemory.{NoMemory}
+use Rattle.pf_turn.specs.declared.log.Stamped.{Stamped}
+use Rattle.pf_disk.specs.declared.disk.Disk.{Ghosts}
+use Rattle.pf_entry.specs.Ops.{Sector}
+use Rattle.pf_protocol.specs.Servers.{Server}
+use Rattle.pf_protocol.specs.Groups.{Group}
+use Rattle.pf_protocol.specs.Histories.{History, replay}
+use Rattle.pf_group.specs.declared.errors.Down.{Down}
+use Rattle.pf_group.specs.GroupIs.{GroupIs, state_of}
+use Rattle.pf_group.specs.Readers.{HasTaken, LacksAnswer, TellsOf}
+use Rattle.pf_group.specs.Roots.{RootIs, root_of}
+use Rattle.pf_shared.specs.declared.errors.LookFault.{LookFault}
+use Rattle.pf_shared.specs.declared.moment.Moment.{Moment}
+use Rattle.pf_shared.specs.declared.moment.Moment.TheVariants.{Look}
+use Rattle.pf_shared.specs.declared.moment.Did.{Did}
+use Rattle.pf_shared.specs.declared.moment.Did.TheVariants.{Looked}
+use Rattle.pf_shared.specs.declared.behind.Behind.{Behind}
+use Rattle.pf_shared.specs.Behinds.{HasLooked, Stays, list_of}
+use Rattle.pf_shared.specs.Calls.{Finds}
+use Rattle.pf_shared.specs.Hands.{Key, is_tidy}
+use Rattle.pf_shared.specs.Looks.{HandsOut, Looks, LooksAt, TakesRead, read_of, told_of}
+use Rattle.pf_shared.specs.Moments.{entry, handed_out, happenings, taken_with}
+use Rattle.pf_shared.specs.Woven.{steps_in, woven}
+use Rattle.pf_shared.proofs.Acting.{handed-append}
+use Rattle.pf_shared.proofs.Claiming.{tidy_look}
+use Rattle.pf_shared.proofs.Ending.{same_list}
+use Rattle.pf_shared.proofs.Taking.{adds_of, grew_by, grew_none}
+use Rattle.pf_shared.proofs.Weaving.{did, happenings-woven, steps-append, woven-look}
+use Rattle.pf_turn.specs.Lists.{GrewBy}
+
+-- what was before, and one more look of a seat, to which nothing happened
+module _ (ds : List (Stamped Did)) (hs : History) (counted : steps_in ds ≡ length hs) (seat : ℕ) (read : Option ℕ) (es : List (Stamped Did)) (grown : es ≡ ds ++ did seat (Looked read) ∷ []) (hs' : History) (same : hs' ≡ hs) where
+  pub looked_counted : steps_in es ≡ length hs'
+  looked_counted = let a = ap steps_in grown ∙ steps-append ds seat (Looked read) in let b = ap length same in omega arith
+
+  pub looked_listed : woven es hs' ≡ woven ds hs ++ entry seat (Look read) ∷ []
+  looked_listed = ap (λ l. woven l hs') grown ∙ (ap (λ l. woven (ds ++ did seat (Looked read) ∷ []) l) same ∙ woven-look seat (Looked read) ds hs refl)
+
+  pub looked_handed : (taken taken' : List Bool) → taken ≡ handed_out [] (woven ds hs) → taken' ≡ taken_with taken (Look read) → taken' ≡ handed_out [] (woven es hs')
+  looked_handed taken taken' was now = now ∙ (ap (λ t. taken_with t (Look read)) was ∙ sym (ap (handed_out []) looked_listed ∙ handed-append [] (woven ds hs) (entry seat (Look read) ∷ [])))
+
+  pub looked_tidy : (k : Key) → is_tidy k None (woven ds hs) ≡ true → is_tidy k None (woven es hs') ≡ true
+  looked_tidy k tidy = ap (is_tidy k None) looked_listed ∙ tidy_look seat read (woven ds hs) k tidy
+
+module _ {D : Type 0} {disk : Ghosts D} (old mid new : Behind D disk) (same_group : mid.group ≡ old.group) (same_turns : mid.turns.items ≡ old.turns.items) where
+  pub has_looked : (seat : ℕ) (read : Option ℕ) → new.turns.items ≡ mid.turns.items ++ did seat (Looked read) ∷ [] → new.group.history ≡ mid.group.history → root_of new.group ≡ root_of mid.group → HasLooked seat read old new
+  has_looked seat read grown same_history same_root = record {
+    listed = looked_listed mid.turns.items mid.group.history mid.counted seat read new.turns.items grown new.group.history same_history ∙ ap (λ l. l ++ entry seat (Look read) ∷ []) (same_list old mid new same_group same_turns);
+    root = same_root ∙ ap root_of same_group;
+  }
+
+-- the number of a read that was taken
+pub read_is : (number : ℕ) (answer : Option (List Sector)) → then_some (is_some answer) number ≡ read_of number answer
+read_is number (Some bytes) = refl
+read_is number None = refl
+
+-- an answer that is taken changes which answers were handed out, and nothing else
+pub record Took (number : ℕ) (answer : Option (List Sector)) (old new : GroupIs) : Type 0 where
+  pub history : new.history ≡ old.history
+  pub root : root_of new ≡ root_of old
+  pub taken : new.taken ≡ taken_with old.taken (Look (read_of number answer))
+  pub handed : HandsOut (state_of old) old.taken number answer
+
+pub took : (number : ℕ) (answer : Option (List Sector)) (old new : GroupIs) → IfSome answer (λ bytes. HasTaken old number bytes new) → IfNone answer (LacksAnswer old number) → IfNone answer (new ≡ old) → Took number answer old new
+took number (Some bytes) old new has lacks same = record {
+  history = ap (λ x. x.history) has.is;
+  root = ap root_of has.is;
+  taken = ap (λ x. x.taken) has.is;
+  handed = (has.first, has.answer);
+}
+took number None old new has lacks same = record {
+  history = ap (λ x. x.history) same;
+  root = ap root_of same;
+  taken = ap (λ x. x.taken) same;
+  handed = lacks;
+}
+
+-- a look by seat n, which found the list of b
+module _ {D : Type 0} {disk : Ghosts D} (root : RootIs) (n m : ℕ) (number_is : m ≡ n) (alone : Type 0) (seen : List (Stamped Moment)) (b : Behind D disk) (rooted : root_of b.group ≡ root) (finds : Finds n alone seen (list_of b)) (new : List (Stamped Moment)) where
+  happenings_are : b.group.history ≡ happenings (list_of b)
+  happenings_are = sym (happenings-woven b.turns.items b.group.history b.counted)
+
+  -- the group behind the turn is that of the list
+  group_is : state_of b.group ≡ replay root.setup (happenings (list_of b))
+  group_is = ap (λ l. replay b.group.setup l) happenings_are ∙ ap (λ r. replay r.setup (happenings (list_of b))) rooted
+
+  look : (P : Group → Type 0) → P (state_of b.group) → new ≡ list_of b ++ entry m (Look None) ∷ [] → Looks root n alone seen P new
+  unfolding adds_of
+  look P shown is = record { adds = adds_of n m alone seen (list_of b) new (Look None) number_is finds is; shown = subst P group_is shown }
+
+  -- what was told, where there was memory for it
+  pub look_ok : {A : Type 0} → (P : A → Group → Type 0) (told r : Result A NoMemory) → IfOk told (λ a. P a (state_of b.group)) → IfOk r (λ a. told ≡ Ok a) → OnOk r (new ≡ list_of b ++ entry m (Look None) ∷ []) → IfOk r (λ a. Looks root n alone seen (P a) new)
+  look_ok {A} P told (Ok a) so from is = look (P a) (subst (λ (t : Result A NoMemory). IfOk t (λ a. P a (state_of b.group))) from so) is
+  look_ok P told (Err e) so from is = tt
+
+  pub look_err : {A : Type 0} → (r : Result A NoMemory) → OnErr r (new ≡ list_of b) → OnErr r (Finds n alone seen new)
+  look_err (Ok a) is = tt
+  look_err (Err e) is = subst (Finds n alone seen) (sym is) finds
+
+  -- the same of one server
+  look_of : {A : Type 0} → (i : ℕ) (P : A → Server → Type 0) (r : Result A Down) → TellsOf (state_of b.group) i r P → new ≡ list_of b ++ entry m (Look None) ∷ [] → LooksAt root n alone seen i (told_of (Ok r)) P new
+  look_of i P (Ok a) so is = look _ so is
+  look_of i P (Err down) so is = look _ so is
+
+  told_at : {A : Type 0} → (i : ℕ) (P : A → Server → Type 0) (told r : Result (Result A Down) NoMemory) → IfOk told (λ t. TellsOf (state_of b.group) i t P) → IfOk r (λ t. told ≡ Ok t) → OnOk r (new ≡ list_of b ++ entry m (Look None) ∷ []) → OnErr r (new ≡ list_of b) → LooksAt root n alone seen i (told_of r) P new
+  told_at {A} i P told (Ok t) so from is none = look_of i P t (subst (λ (x : Result (Result A Down) NoMemory). IfOk x (λ t. TellsOf (state_of b.group) i t P)) from so) is
+  told_at i P told (Err e) so from is none = subst (Finds n alone seen) (sym none) finds
+
+  pub look_at : {A : Type 0} → (i : ℕ) (P : A → Server → Type 0) (told r : Result (Result A Down) NoMemory) → IfOk told (λ t. TellsOf (state_of b.group) i t P) → IfOk r (λ t. told ≡ Ok t) → OnOk r (new ≡ list_of b ++ entry m (Look None) ∷ []) → OnErr r (new ≡ list_of b)
+      → (out : Result A LookFault) → out ≡ told_of r → LooksAt root n alone seen i out P new
+  look_at {A} i P told r so from is none out out_is = subst (λ (o : Result A LookFault). LooksAt root n alone seen i o P new) (sym out_is) (told_at i P told r so from is none)
+
+  -- the answer of a read
+  pub take_ok : (number : ℕ) (r : Result (Option (List Sector)) NoMemory) (after : Behind D disk) → new ≡ list_of after → IfOk r (λ answer. HasLooked m (read_of number answer) b after) → IfOk r (HandsOut (state_of b.group) b.group.taken number) → OnOk r (length b.group.taken ≡ (state_of b.group).reads)
+      → IfOk r (λ answer. TakesRead root n alone seen number answer new)
+  unfolding adds_of
+  take_ok number (Ok answer) after new_is looked handed numbered = record {
+    adds = adds_of n m alone seen (list_of b) new (Look (read_of number answer)) number_is finds (new_is ∙ looked.listed);
+    numbered = subst (λ (g : Group). length (handed_out [] (list_of b)) ≡ g.reads) group_is (subst (λ (l : List Bool). length l ≡ (state_of b.group).reads) b.handed numbered);
+    handed = subst (λ (g : Group). HandsOut g (handed_out [] (list_of b)) number answer) group_is (subst (λ (l : List Bool). HandsOut (state_of b.group) l number answer) b.handed handed);
+  }
+  take_ok number (Err e) after new_is looked handed numbered = tt
+
+  pub take_err : {A : Type 0} → (r : Result A NoMemory) (after : Behind D disk) → new ≡ list_of after → OnErr r (Stays b after) → OnErr r (Finds n alone seen new)
+  take_err (Ok a) after new_is stays = tt
+  take_err (Err e) after new_is stays = subst (Finds n alone seen) (sym (new_is ∙ stays.listed)) finds
+
+-- the list grew by the look of a seat, if at all
+module _ {D : Type 0} {disk : Ghosts D} (n m : ℕ) (number_is : m ≡ n) (seen : List (Stamped Moment)) (old new : Behind D disk) (seen_is : seen ≡ list_of old) where
+  pub grew_looked : {A : Type 0} → (r : Result A NoMemory) (read : A → Option ℕ) → IfOk r (λ a. HasLooked m (read a) old new) → OnErr r (Stays old new) → GrewBy n seen (list_of new)
+  grew_looked (Ok a) read looked stays = grew_by n m seen (list_of old) (list_of new) (Look (read a)) number_is seen_is looked.listed
+  grew_looked (Err e) read looked stays = grew_none n seen (list_of old) (list_of new) seen_is stays.listed

@@ -1,0 +1,211 @@
+-- How a volume is made, chunk by chunk.
+use Rattle.std.proofs.Common.{◌≡◌, ◌≢◌, ◌⊎◌, inl, inr, ℕ, zero, suc, ◌+◌, ◌*◌, ◌/◌, ◌%◌, ◌==◌, nat_le, ◌<◌, ◌≤◌, Bool, true, false, ◌&&◌, ◌||◌, List, [], ◌∷◌, ◌++◌, None, Some, drop, take, length, map, slice_get, refl, sym, ap, subst, ◌∙◌, add-one, arith}
+use Rattle.std.specs.List.{flat_map, range_with_len}
+use Rattle.std.proofs.lemmas.Bool.{false≢true}
+use Rattle.std.proofs.lemmas.Bool.Decides.{nat_tests}
+use Rattle.std.proofs.lemmas.List.{append_assoc, append-nil, length-append, take-append-le}
+use Rattle.std.proofs.lemmas.Option.{slice_get_within}
+use Rattle.std.proofs.lemmas.Grind.{flat_map-append}
+use Rattle.std.proofs.Math.Seq.{take-length}
+use Rattle.pf_entry.specs.Lists.{Every}
+use Rattle.pf_script.specs.Lines.{is_volume}
+use Rattle.pf_protocol.specs.Answers.{IsSetup}
+use Rattle.pf_protocol.specs.declared.answers.Answer.{Answer}
+use Rattle.pf_protocol.specs.declared.answers.Answer.TheVariants.{Done, Refused}
+use Rattle.pf_protocol.specs.declared.answers.Refusal.TheVariants.{Halted}
+use Rattle.pf_cluster.proofs.Lists.{at_end, at_front, end_cases}
+use Rattle.pf_group.specs.declared.six.Six.{Six}
+use Rattle.pf_group.specs.Halves.{HasRisen}
+use Rattle.pf_group.specs.GroupIs.{GroupIs}
+use Rattle.pf_group.specs.Making as groups
+use Rattle.pf_group.specs.Making.{making_answer, setup_with}
+use Rattle.pf_rounds.specs.Halts.{Halt, failed_by}
+use Rattle.pf_rounds.specs.Chunks.{Chunk, made_chunk}
+use Rattle.pf_rounds.specs.Agreeing.{TellsOfGroup, chunk_of}
+use Rattle.pf_chunk.specs.Views.{ChunkIs, IsReady}
+use Rattle.pf_world.specs.Worlds.{made, made_answer}
+use Rattle.pf_world.specs.Views.{IsChunkOf, IsWorld, WorldIs, WorldOn, stands_at}
+use Rattle.pf_world.specs.Agreeing.{Tells}
+use Rattle.pf_world.specs.Disks.{six_list}
+use Rattle.pf_world.specs.Making.{AreNew, HasAdded, IsNew, unless_done}
+use Rattle.pf_world.specs.Steps.{IsMade}
+use Rattle.pf_world.proofs.Sixes.{drop_sixes, length_sixes}
+
+-- the numbers of a volume are those of its groups
+eights : (n : ℕ) → n % 8 ≡ 0 → n ≡ 8 * (n / 8)
+eights n even = omega (arith, even)
+
+by_format : (two : Bool) (format names : ℕ) → (format == 2) ≡ two → (two || ((format == 1) && nat_le names 2)) ≡ true → ((format ≡ 1) × (names ≤ 2)) ⊎ (format ≡ 2)
+by_format true format names is either = inr (grind (arith, nat_tests))
+by_format false format names is either = inl (grind (arith, nat_tests), grind (arith, nat_tests))
+
+pub volume_setup : (chunks sectors names format : ℕ) → is_volume chunks sectors names format ≡ true → IsSetup (setup_with sectors names format [])
+volume_setup chunks sectors names format is = record {
+  few_names = grind (arith, nat_tests);
+  some_sectors = grind (arith, nat_tests);
+  few_sectors = grind (arith, nat_tests);
+  blocks = (sectors / 8, eights sectors (grind (arith, nat_tests)));
+  format = by_format (format == 2) format names refl (grind (arith, nat_tests));
+  window = refl;
+}
+
+pub some_chunks : (chunks sectors names format : ℕ) → is_volume chunks sectors names format ≡ true → chunks ≤ 8
+some_chunks chunks sectors names format is = grind (arith, nat_tests)
+
+-- one chunk more is halted, or is made as the answer says
+pub answered_more : (xs failed : List ℕ) (answer other : Answer) → answer ≡ making_answer xs → other ≡ making_answer failed → unless_done answer other ≡ making_answer (xs ++ failed)
+answered_more xs [] answer other was new = ap (unless_done answer) new ∙ was ∙ ap making_answer (sym (append-nil xs))
+answered_more [] (i ∷ is) answer other was new = ap (unless_done answer) new
+answered_more (x ∷ xs) (i ∷ is) answer other was new = ap (unless_done answer) new
+
+-- a list that tells of a new group makes it
+made_is : (halts : List Halt) (sectors names format k : ℕ) (before : List (ℕ × ℕ)) (g : GroupIs) (answer : Answer) → groups.IsMade k sectors names format before g answer → TellsOfGroup halts g → made_chunk halts sectors names format k ≡ chunk_of g
+made_is halts sectors names format k before g answer is tells =
+    let number : g.number ≡ k = ap (λ (v : GroupIs). v.number) is.is in
+    let setup : g.setup ≡ setup_with sectors names format is.failed = ap (λ (v : GroupIs). v.setup) is.is in
+    let failed : failed_by halts k ≡ is.failed = ap (failed_by halts) (sym number) ∙ tells.making ∙ ap (λ s. s.failed) setup in
+    let new : GroupIs = record { number = k; setup = setup_with sectors names format is.failed; history = []; taken = []; faults = g.faults } in
+    made_with failed ∙ ap chunk_of (sym is.is) where
+      made_with : failed_by halts k ≡ is.failed → made_chunk halts sectors names format k ≡ chunk_of (record { number = k; setup = setup_with sectors names format is.failed; history = []; taken = []; faults = g.faults })
+      made_with failed = ap (λ fs. chunk_of (record { number = k; setup = setup_with sectors names format fs; history = []; taken = []; faults = g.faults })) failed
+
+mapped : (f : ℕ → Chunk) (first : ℕ) (cs : List ChunkIs) → ((k : ℕ) (c : ChunkIs) → slice_get cs k ≡ Some c → f (first + k) ≡ chunk_of c.group) → map f (range_with_len first (length cs)) ≡ map (λ c. chunk_of c.group) cs
+mapped f first [] each = refl
+mapped f first (c ∷ cs) each =
+    let here : f first ≡ chunk_of c.group = ap f (omega arith) ∙ each 0 c refl in
+    let later = mapped f (first + 1) cs (λ k d there. ap f (omega arith) ∙ each (suc k) d there) in
+    cc
+
+-- the servers of all these chunks that could not be formatted
+abbrev failed_in : List ChunkIs → List ℕ
+failed_in cs = flat_map (λ c. c.setup.failed) (map (λ c. chunk_of c.group) cs)
+
+failed_more : (cs : List ChunkIs) (c : ChunkIs) → failed_in (cs ++ c ∷ []) ≡ failed_in cs ++ c.group.setup.failed
+failed_more [] c = append-nil c.group.setup.failed
+failed_more (d ∷ cs) c = ap (λ fs. d.group.setup.failed ++ fs) (failed_more cs c) ∙ sym (append_assoc d.group.setup.failed (failed_in cs) c.group.setup.failed)
+
+module _ {D : Type 0} (faults : D → ℕ) where
+  -- chunk k was made on its six disks
+  pub record IsMadeOn (sectors names format : ℕ) (sixes : List (Six D)) (k : ℕ) (c : ChunkIs) : Type 0 where
+    pub six : Six D
+    pub there : slice_get sixes k ≡ Some six
+    pub answer : Answer
+    pub made : groups.IsMade k sectors names format (groups.six_faults faults six) c.group answer
+    pub ready : IsReady c
+
+  -- the first chunks are made
+  pub record Begun (disks : List D) (sectors names format number : ℕ) (w : WorldOn D) (answer : Answer) : Type 0 where
+    pub sectors_are : w.world.sectors ≡ sectors
+    pub names_are : w.world.names ≡ names
+    pub format_is : w.world.format ≡ format
+    pub count : length w.world.chunks ≡ number
+    pub sixes : List (Six D)
+    pub many : length sixes ≡ number
+    pub given : disks ≡ flat_map six_list sixes ++ w.spare
+    pub each : (k : ℕ) (c : ChunkIs) → slice_get w.world.chunks k ≡ Some c → IsMadeOn sectors names format sixes k c
+    pub answered : answer ≡ made_answer (stands_at w.world)
+
+  pub begun_none : (disks spare : List D) (sectors names format : ℕ) (chunks : List ChunkIs) → chunks ≡ [] → spare ≡ disks → Begun disks sectors names format 0 (record { world = record { sectors = sectors; names = names; format = format; chunks = chunks }; spare = spare }) Done
+  begun_none disks spare sectors names format chunks none all = record {
+    sectors_are = refl;
+    names_are = refl;
+    format_is = refl;
+    count = ap length none;
+    sixes = [];
+    many = refl;
+    given = sym all;
+    each = λ k c there. let no : None ≡ Some c = sym (ap (λ (cs : List ChunkIs). slice_get cs k) none) ∙ there in absurd (cc);
+    answered = sym (ap (λ (cs : List ChunkIs). making_answer (failed_in cs)) none);
+  }
+
+  -- one more
+  pub begun_more : (disks : List D) (sectors names format number : ℕ) (old new : WorldOn D) (answer other : Answer) → Begun disks sectors names format number old answer → HasAdded faults old other new → Begun disks sectors names format (number + 1) new (unless_done answer other)
+  begun_more disks sectors names format number old new answer other b a =
+      let chunks : new.world.chunks ≡ old.world.chunks ++ a.chunk ∷ [] = ap (λ (w : WorldIs). w.chunks) a.world in
+      let failed : a.chunk.group.setup.failed ≡ a.made.failed = ap (λ (v : GroupIs). v.setup.failed) a.made.is in
+      let Made = λ (n s m f : ℕ). groups.IsMade n s m f (groups.six_faults faults a.six) a.chunk.group other in
+      let made_0 : Made number old.world.sectors old.world.names old.world.format = subst (λ n. Made n old.world.sectors old.world.names old.world.format) b.count a.made in
+      let made_1 : Made number sectors old.world.names old.world.format = subst (λ n. Made number n old.world.names old.world.format) b.sectors_are made_0 in
+      let made_2 : Made number sectors names old.world.format = subst (λ n. Made number sectors n old.world.format) b.names_are made_1 in
+      let made_3 : Made number sectors names format = subst (λ n. Made number sectors names n) b.format_is made_2 in
+      let Each = λ (cs : List ChunkIs). (k : ℕ) (c : ChunkIs) → slice_get cs k ≡ Some c → IsMadeOn sectors names format (b.sixes ++ a.six ∷ []) k c in
+      record {
+        sectors_are = ap (λ (w : WorldIs). w.sectors) a.world ∙ b.sectors_are;
+        names_are = ap (λ (w : WorldIs). w.names) a.world ∙ b.names_are;
+        format_is = ap (λ (w : WorldIs). w.format) a.world ∙ b.format_is;
+        count = ap length chunks ∙ length-append old.world.chunks (a.chunk ∷ []) ∙ ap (λ n. n + 1) b.count;
+        sixes = b.sixes ++ a.six ∷ [];
+        many = length-append b.sixes (a.six ∷ []) ∙ ap (λ n. n + 1) b.many;
+        given = b.given ∙ ap (λ ds. flat_map six_list b.sixes ++ ds) a.given ∙ sym (append_assoc (flat_map six_list b.sixes) (six_list a.six) new.spare)
+            ∙ ap (λ ds. ds ++ new.spare) (sym (flat_map-append six_list b.sixes (a.six ∷ [])));
+        each = subst Each (sym chunks) (λ k c there. elim (end_cases old.world.chunks a.chunk k c there) [
+          | inl before ↦ kept k c (b.each k c before)
+          | inr last ↦ added k c (last.0 ∙ b.count) last.1 made_3
+        ]);
+        answered = answered_more (failed_in old.world.chunks) a.made.failed answer other b.answered a.made.answered
+            ∙ ap making_answer (ap (λ fs. failed_in old.world.chunks ++ fs) (sym failed) ∙ sym (failed_more old.world.chunks a.chunk) ∙ ap failed_in (sym chunks));
+      } where
+        kept : (k : ℕ) (c : ChunkIs) → IsMadeOn sectors names format b.sixes k c → IsMadeOn sectors names format (b.sixes ++ a.six ∷ []) k c
+        kept k c was = record { six = was.six; there = at_front b.sixes (a.six ∷ []) k was.six was.there; answer = was.answer; made = was.made; ready = was.ready }
+
+        added : (k : ℕ) (c : ChunkIs) → k ≡ number → a.chunk ≡ c → groups.IsMade number sectors names format (groups.six_faults faults a.six) a.chunk.group other → IsMadeOn sectors names format (b.sixes ++ a.six ∷ []) k c
+        added k c is same made =
+            let last : slice_get (b.sixes ++ a.six ∷ []) k ≡ Some a.six = ap (λ n. slice_get (b.sixes ++ a.six ∷ []) n) (is ∙ sym b.many) ∙ at_end b.sixes a.six in
+            let new_made = subst (λ n. groups.IsMade n sectors names format (groups.six_faults faults a.six) a.chunk.group other) (sym is) made in
+            subst (λ (d : ChunkIs). IsMadeOn sectors names format (b.sixes ++ a.six ∷ []) k d) same (record { six = a.six; there = last; answer = other; made = new_made; ready = a.ready })
+
+  module _ (disks : List D) (chunks sectors names format : ℕ) (w : WorldOn D) (answer : Answer) (b : Begun disks sectors names format chunks w answer) where
+    -- the disks that no chunk has yet
+    pub begun_spare : drop (6 * chunks) disks ≡ w.spare
+    begun_spare = ap (λ ds. drop (6 * chunks) ds) b.given ∙ drop_sixes b.sixes w.spare chunks (sym b.many)
+
+    pub begun_rest : drop (6 * length w.world.chunks) disks ≡ w.spare
+    begun_rest = ap (λ n. drop (6 * n) disks) b.count ∙ begun_spare
+
+    pub begun_low : 6 * length w.world.chunks ≤ length disks
+    begun_low = omega (arith, b.count, b.many, length_sixes b.sixes, ap length b.given, length-append (flat_map six_list b.sixes) w.spare)
+
+    chunk_made : (k : ℕ) (c : ChunkIs) → IsMadeOn sectors names format b.sixes k c → IsChunkOf w.world k c
+    chunk_made k c m = record {
+      number = ap (λ (v : GroupIs). v.number) m.made.is;
+      failed = m.made.failed;
+      setup = ap (λ (v : GroupIs). v.setup) m.made.is ∙ ap (λ s. setup_with s names format m.made.failed) (sym b.sectors_are) ∙ ap (λ n. setup_with w.world.sectors n format m.made.failed) (sym b.names_are) ∙ ap (λ f. setup_with w.world.sectors w.world.names f m.made.failed) (sym b.format_is);
+      ready = m.ready;
+    }
+
+    -- all are made
+    pub all_made : is_volume chunks sectors names format ≡ true → IsMade chunks sectors names format w.world answer
+    all_made volume = record {
+      is_world = record {
+        volume = ap (λ n. is_volume n w.world.sectors w.world.names w.world.format) b.count ∙ ap (λ s. is_volume chunks s w.world.names w.world.format) b.sectors_are ∙ ap (λ n. is_volume chunks sectors n w.world.format) b.names_are ∙ ap (is_volume chunks sectors names) b.format_is ∙ volume;
+        each = λ k c there. chunk_made k c (b.each k c there);
+      };
+      count = b.count;
+      numbers = (b.sectors_are, b.names_are, b.format_is);
+      run = λ halts tells. ap (λ cs. record { chunks = cs }) (
+          ap (λ n. map (made_chunk halts sectors names format) (range_with_len 0 n)) (sym b.count)
+          ∙ mapped (made_chunk halts sectors names format) 0 w.world.chunks (λ k c there.
+          let m = b.each k c there in
+          ap (made_chunk halts sectors names format) (omega arith) ∙ made_is halts sectors names format k (groups.six_faults faults m.six) c.group m.answer m.made (tells k c there)));
+      answered = b.answered;
+    }
+
+    new_chunk : (k : ℕ) (c : ChunkIs) → IsMadeOn sectors names format b.sixes k c → IsNew faults b.sixes k c
+    new_chunk k c m =
+        let failed : c.group.setup.failed ≡ m.made.failed = ap (λ (v : GroupIs). v.setup.failed) m.made.is in
+        record {
+          six = m.six;
+          there = m.there;
+          history = ap (λ (v : GroupIs). v.history) m.made.is;
+          cause = subst (Every (λ i. HasRisen i (groups.six_faults faults m.six) c.group.faults)) (sym failed) m.made.cause;
+        }
+
+    pub all_new : AreNew faults disks w.world
+    all_new =
+        let many : 6 * length w.world.chunks ≡ length (flat_map six_list b.sixes) = omega (arith, b.count, b.many, length_sixes b.sixes) in
+        record {
+          sixes = b.sixes;
+          given = ap (λ ds. take (6 * length w.world.chunks) ds) b.given ∙ ap (λ n. take n (flat_map six_list b.sixes ++ w.spare)) many
+              ∙ take-append-le (length (flat_map six_list b.sixes)) (flat_map six_list b.sixes) w.spare (omega arith) ∙ take-length (flat_map six_list b.sixes);
+          each = λ k c there. new_chunk k c (b.each k c there);
+        }

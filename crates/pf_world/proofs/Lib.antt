@@ -1,0 +1,14 @@
+pub mod Running
+pub mod Faultless
+pub mod Results
+pub mod Sixes
+pub mod Begun
+pub mod Happening
+pub mod Asking
+pub mod Told
+pub mod Lawful
+pub mod SettlingPackets
+pub mod SettlingTries
+pub mod SettlingChunk
+pub mod SettlingWorld
+pub mod Settles

@@ -1,0 +1,12 @@
+-- What calls come to, by their results.
+use Rattle.std.proofs.Common.{◌≡◌, List, ◌++◌, Result, Ok, Err, IsOk, OnOk, is_ok, if◌then◌else◌}
+use Rattle.std.proofs.lemmas.Bool.{false≢true}
+
+-- a push that succeeded
+pub pushed : {X E Y : Type 0} (r : Result X E) (old more now : List Y) → IsOk r → now ≡ (if is_ok r then old ++ more else old) → now ≡ old ++ more
+pushed (Ok x) old more now is items = items
+pushed (Err e) old more now is items = absurd (false≢true is)
+
+pub on_ok : {X E : Type 0} (r : Result X E) (P Q : Type 0) → (P → Q) → OnOk r P → OnOk r Q
+on_ok (Ok x) P Q more is = more is
+on_ok (Err e) P Q more is = tt

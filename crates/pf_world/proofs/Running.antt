@@ -1,0 +1,52 @@
+-- Lines that were run one after another are a run: what the making of a world and each line say is enough for a whole script.
+use Rattle.std.proofs.Common.{◌≡◌, ℕ, ◌<◌, List, [], ◌∷◌, ◌++◌, length, get_or, sym, ap, subst, ◌∙◌}
+use Rattle.std.proofs.lemmas.List.{append_assoc, append-nil}
+use Rattle.std.proofs.lemmas.Option.{slice_get-get_or, slice_get_within}
+use Rattle.pf_script.specs.declared.command.Command.{Command}
+use Rattle.pf_script.specs.declared.command.Command.TheVariants as commands
+use Rattle.pf_protocol.specs.declared.answers.Answer.{Answer}
+use Rattle.pf_rounds.specs.Halts.{Halt}
+use Rattle.pf_chunk.specs.Saying.{answer_line}
+use Rattle.pf_world.specs.Worlds.{Told, World, no_world}
+use Rattle.pf_world.specs.Lines.{line_told, volume_told}
+use Rattle.pf_world.specs.declared.line.Line.{Line}
+use Rattle.pf_world.specs.Reports.{followed, run_from}
+use Rattle.pf_world.specs.Views.{WorldIs, stands_at}
+use Rattle.pf_world.specs.Agreeing.{Tells}
+use Rattle.pf_world.specs.Steps.{GoesOn, IsMade, Runs}
+use Rattle.pf_world.specs.Headline.{RunsTo}
+use Rattle.pf_rounds.proofs.Growing.{grown_tells}
+
+-- a list that tells of a world told of it before
+pub tells_earlier : (halts : List Halt) (old new : WorldIs) → GoesOn old new → Tells halts new → Tells halts old
+tells_earlier halts old new on tells k was there =
+    let low : k < length new.chunks = subst (λ n. k < n) (sym on.chunks) (slice_get_within old.chunks k was there) in
+    let now = slice_get-get_or new.chunks k was low in
+    grown_tells halts was.group (get_or new.chunks k was).group (on.grown k was (get_or new.chunks k was) there now) (tells k (get_or new.chunks k was) now)
+
+-- one more line at the end
+followed_assoc : (first : Told) (more last : World → Told) → followed (followed first more) last ≡ followed first (λ w. followed (more w) last)
+followed_assoc first more last = ap (λ text. record { world = (last (more first.world).world).world; text = text }) (append_assoc first.text (more first.world).text (last (more first.world).world).text)
+
+run_one : (halts : List Halt) (w : World) (line : Line) → run_from halts w (line ∷ []) ≡ line_told halts w line.number line.command
+run_one halts w line = ap (λ text. record { world = (line_told halts w line.number line.command).world; text = text }) (append-nil (line_told halts w line.number line.command).text)
+
+run_snoc : (halts : List Halt) (w : World) (lines : List Line) (line : Line) → run_from halts w (lines ++ line ∷ []) ≡ followed (run_from halts w lines) (λ next. line_told halts next line.number line.command)
+run_snoc halts w [] line = run_one halts w line
+run_snoc halts w (first ∷ lines) line =
+    ap (λ rest. record { world = rest.world; text = (line_told halts w first.number first.command).text ++ rest.text }) (run_snoc halts (line_told halts w first.number first.command).world lines line)
+    ∙ sym (followed_assoc (line_told halts w first.number first.command) (λ next. run_from halts next lines) (λ next. line_told halts next line.number line.command))
+
+-- the volume is the first line
+pub run_begins : (chunks sectors names format number : ℕ) (w : WorldIs) (answer : Answer) → IsMade chunks sectors names format w answer → RunsTo (record { number = number; command = commands.Volume chunks sectors names format } ∷ []) (answer_line number answer) w
+run_begins chunks sectors names format number w answer made halts tells =
+    run_one halts no_world (record { number = number; command = commands.Volume chunks sectors names format })
+    ∙ ap (volume_told number) (made.run halts tells)
+    ∙ ap (λ a. record { world = stands_at w; text = answer_line number a }) (sym made.answered)
+
+-- and each line that was run goes on with it
+pub run_goes_on : (lines : List Line) (text : List ℕ) (old : WorldIs) (number : ℕ) (command : Command) (more : List ℕ) (new : WorldIs) → RunsTo lines text old → Runs old number command more new → RunsTo (lines ++ record { number = number; command = command } ∷ []) (text ++ more) new
+run_goes_on lines text old number command more new before runs halts tells =
+    run_snoc halts no_world lines (record { number = number; command = command })
+    ∙ ap (λ told. followed told (λ next. line_told halts next number command)) (before halts (tells_earlier halts old new runs.goes_on tells))
+    ∙ ap (λ told. record { world = told.world; text = text ++ told.text }) (runs.run halts tells)

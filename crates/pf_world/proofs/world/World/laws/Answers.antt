@@ -1,0 +1,17 @@
+use Rattle.std.proofs.Common.{◌≡◌, ◌<◌, List, Some, length, get_or, slice_get, arith, subst, rules}
+use Rattle.std.proofs.lemmas.Option.{slice_get_within}
+use Rattle.pf_chunk.specs.Views.{ChunkIs}
+use Rattle.pf_world.proofs.Lawful.{one_more}
+use Rattle.pf_world.proofs.world.World.laws.Goals as goal
+
+pub loop-chunk-init : goal.loop-chunk-init
+loop-chunk-init g c = record { lawful = λ k x lt there. absurd (omega (arith, lt)) }
+
+pub loop-chunk-preserved : goal.loop-chunk-preserved
+loop-chunk-preserved g c =
+    record { lawful = one_more c.deref-chunk-items.result.now c.loop-chunk.chunk-index c.chunk-item.result c.chunk-item.is c.loop-chunk-test.true (record { legal = c.history.ensures.legal; sound = c.history.ensures.sound }) c.loop-chunk.invariant.lawful }
+
+pub returns : goal.returns
+returns g c k x there =
+    let here = subst (λ (l : List ChunkIs). slice_get l k ≡ Some x) (search rules) there in
+    c.loop-chunk.invariant.lawful k x (omega (arith, slice_get_within c.deref-chunk-items.result.now k x here, c.loop-chunk-test.false)) here

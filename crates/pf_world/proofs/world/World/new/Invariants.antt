@@ -1,0 +1,7 @@
+use Rattle.std.proofs.Common.{◌≡◌, ◌*◌, ◌≤◌, true, length}
+use Rattle.pf_script.specs.Lines.{is_volume}
+use Rattle.pf_world.proofs.Begun.{Begun}
+use Rattle.pf_world.proofs.world.World.new.Given as goal
+
+abbrev pub invariant-loop-number : goal.invariant-loop-number
+invariant-loop-number g l = Begun g.D.Disk.faults l.fn.disks.items l.sectors l.names l.format l.number l.world l.answer

@@ -1,0 +1,33 @@
+-- The disks of a world: disk 6k + 2i + h of a list is half h of server i of chunk k.
+use Rattle.std.specs.Prelude.{◌≡◌, ℕ, ◌+◌, ◌*◌, ◌<◌, IsTrue, is_some, List, [], ◌∷◌, Option, Some, drop, length, slice_get}
+use Rattle.pf_entry.specs.Lists.{Every}
+use Rattle.pf_disk.specs.Crashes.{Images}
+use Rattle.pf_group.specs.declared.six.Six.{Six}
+use Rattle.pf_group.specs.GroupIs.{state_of}
+use Rattle.pf_group.specs.Leaving.{LeavesOf, as_seen}
+use Rattle.pf_chunk.specs.Views.{ChunkIs}
+
+-- six disks, server by server
+abbrev pub six_list : {D : Type 0} → Six D → List D
+six_list six = six.s0h0 ∷ six.s0h1 ∷ six.s1h0 ∷ six.s1h1 ∷ six.s2h0 ∷ six.s2h1 ∷ []
+
+module _ {D : Type 0} (seen : D → Option (List ℕ)) where
+  -- each tells its content
+  abbrev pub AreTold : List D → Type 0
+  AreTold disks = Every (λ disk. IsTrue (is_some (seen disk))) disks
+
+  module _ (may_leave : D → Images) where
+    -- the two halves of server i of chunk k hold what its group left there
+    pub record AreHalvesOf (disks : List D) (c : ChunkIs) (k i : ℕ) : Type 0 where
+      pub zero : D
+      pub one : D
+      pub zero_is : slice_get disks (6 * k + 2 * i) ≡ Some zero
+      pub one_is : slice_get disks (6 * k + 2 * i + 1) ≡ Some one
+      pub left : LeavesOf (slice_get (state_of c.group).servers i) (may_leave zero) (may_leave one)
+      pub as_read : LeavesOf (slice_get (state_of c.group).servers i) (as_seen (seen zero)) (as_seen (seen one))
+
+    -- these chunks left the first disks so, and all others are as they were
+    pub record AreLeft (chunks : List ChunkIs) (before disks : List D) : Type 0 where
+      pub halves : (k i : ℕ) (c : ChunkIs) → slice_get chunks k ≡ Some c → i < 3 → AreHalvesOf disks c k i
+      pub rest : drop (6 * length chunks) disks ≡ drop (6 * length chunks) before
+      pub count : length disks ≡ length before

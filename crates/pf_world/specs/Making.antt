@@ -1,0 +1,40 @@
+-- How the chunks of a world are made.
+use Rattle.std.specs.Prelude.{◌≡◌, ℕ, ◌*◌, List, [], ◌∷◌, ◌++◌, Some, length, slice_get, take}
+use Rattle.std.specs.List.{flat_map}
+use Rattle.pf_entry.specs.Lists.{Every}
+use Rattle.pf_protocol.specs.declared.answers.Answer.{Answer}
+use Rattle.pf_protocol.specs.declared.answers.Answer.TheVariants.{Done}
+use Rattle.pf_group.specs.declared.six.Six.{Six}
+use Rattle.pf_group.specs.Halves.{HasRisen}
+use Rattle.pf_group.specs.Making as groups
+use Rattle.pf_chunk.specs.Views.{ChunkIs, IsReady}
+use Rattle.pf_world.specs.Views.{WorldIs, WorldOn}
+use Rattle.pf_world.specs.Disks.{six_list}
+
+-- the second answer, unless it is done
+abbrev pub unless_done : Answer → Answer → Answer
+unless_done first Done = first
+unless_done first second = second
+
+module _ {D : Type 0} (faults : D → ℕ) where
+  -- the next chunk was made on the next six disks
+  pub record HasAdded (old : WorldOn D) (answer : Answer) (new : WorldOn D) : Type 0 where
+    pub chunk : ChunkIs
+    pub six : Six D
+    pub given : old.spare ≡ six_list six ++ new.spare
+    pub world : new.world ≡ record old.world { chunks = old.world.chunks ++ chunk ∷ [] }
+    pub made : groups.IsMade (length old.world.chunks) old.world.sectors old.world.names old.world.format (groups.six_faults faults six) chunk.group answer
+    pub ready : IsReady chunk
+
+  -- nothing has happened to chunk k yet, and each server that could not be formatted has a disk that failed
+  pub record IsNew (sixes : List (Six D)) (k : ℕ) (c : ChunkIs) : Type 0 where
+    pub six : Six D
+    pub there : slice_get sixes k ≡ Some six
+    pub history : c.group.history ≡ []
+    pub cause : Every (λ i. HasRisen i (groups.six_faults faults six) c.group.faults) c.group.setup.failed
+
+  -- the chunks are new, each on its six of these disks
+  pub record AreNew (disks : List D) (w : WorldIs) : Type 0 where
+    pub sixes : List (Six D)
+    pub given : take (6 * length w.chunks) disks ≡ flat_map six_list sixes
+    pub each : (k : ℕ) (c : ChunkIs) → slice_get w.chunks k ≡ Some c → IsNew sixes k c

@@ -1,0 +1,96 @@
+-- Packets are delivered until none is left.
+use Rattle.std.specs.Prelude.{◌≡◌, ℕ, zero, suc, ◌+◌, ◌*◌, Bool, true, false, not, ◌&&◌, ◌==◌, List, [], ◌∷◌, ◌++◌, length, find, Option, Some, None}
+use Rattle.std.specs.List.{list_any, range_with_len}
+use Rattle.pf_protocol.specs.declared.events.Event.TheVariants.{Deliver}
+use Rattle.pf_protocol.specs.Answers.{most_packets}
+use Rattle.pf_report.specs.Texts.{line_of, settle_text}
+use Rattle.pf_rounds.specs.Halts.{Halt}
+use Rattle.pf_rounds.specs.Chunks.{Chunk}
+use Rattle.pf_chunk.specs.Happenings.{Happened, happened}
+use Rattle.pf_chunk.specs.Packets.{is_left_in, is_passed_over}
+use Rattle.pf_world.specs.Worlds.{Told, World, with_chunk}
+
+-- a packet by its chunk and its number
+pub record Name : Type 0 where
+  pub chunk : ℕ
+  pub packet : ℕ
+
+abbrev pub is_among : List Name → (chunk packet : ℕ) → Bool
+is_among names chunk packet = list_any (λ name. name.chunk == chunk && name.packet == packet) names
+
+-- the least packet of a chunk that is left and was not passed over
+abbrev pub least_left : (passed : List Name) → Chunk → Option ℕ
+least_left passed c =
+    find (λ k. is_left_in c.state k && not (is_among passed c.number k)) (range_with_len 0 (length c.state.packets))
+
+-- of the least chunk that has one
+pub record Next : Type 0 where
+  pub chunk : Chunk
+  pub packet : ℕ
+
+abbrev pub next_in : Chunk → Option ℕ → Option Next → Option Next
+next_in c None rest = rest
+next_in c (Some k) rest = Some (record { chunk = c; packet = k })
+
+abbrev pub next_of : (passed : List Name) → List Chunk → Option Next
+next_of passed [] = None
+next_of passed (c ∷ cs) = next_in c (least_left passed c) (next_of passed cs)
+
+-- the world afterwards, and the lines of reads
+pub record Settled : Type 0 where
+  pub world : World
+  pub text : List ℕ
+  pub stopped : Bool  -- whether a packet was left when all deliveries were made
+  pub spare : ℕ  -- the deliveries that were not made
+  pub passed : List Name  -- the packets that were passed over
+
+abbrev pub ends : (stopped : Bool) → (limit : ℕ) → List Name → World → Settled
+ends stopped limit passed w = record { world = w; text = []; stopped = stopped; spare = limit; passed = passed }
+
+abbrev pub after_text : List ℕ → Settled → Settled
+after_text text s = record s { text = text ++ s.text }
+
+-- how it goes on: with so many deliveries, past these packets
+abbrev pub Goes : Type 0
+Goes = (limit : ℕ) → (passed : List Name) → World → Settled
+
+-- a packet that was passed over counts as no delivery
+abbrev pub goes_on : (is_passed : Bool) → Name → (limit : ℕ) → List Name → World → Goes → Settled
+goes_on true name limit passed w more = more (suc limit) (name ∷ passed) w
+goes_on false name limit passed w more = more limit passed w
+
+abbrev pub tried : Happened → (packet limit : ℕ) → List Name → World → Goes → Settled
+tried h packet limit passed w more =
+    after_text h.text (goes_on (is_passed_over h.answer) (record { chunk = h.chunk.number; packet = packet }) limit passed (with_chunk w h.chunk) more)
+
+-- quiet where no packet is left, stopped where one is and no delivery
+abbrev pub settle_next : List Halt → Option Next → Goes → Goes
+settle_next halts None more limit passed w = ends false limit passed w
+settle_next halts (Some next) more zero passed w = ends true zero passed w
+settle_next halts (Some next) more (suc limit) passed w = tried (happened halts next.chunk (Deliver next.packet)) next.packet limit passed w more
+
+-- A function that counts its tries follows the loop of a proof step by step, and leaves no choice.
+unfoldable pub settle_to : (tries : ℕ) → List Halt → Goes
+settle_to zero halts limit passed w = ends true limit passed w
+settle_to (suc tries) halts limit passed w = settle_next halts (next_of passed w.chunks) (settle_to tries halts) limit passed w
+
+-- Each try is a delivery, or passes a packet over: each of 8 groups sends at most 65,536. The last one finds that all are made, or none left.
+abbrev pub enough_tries : (limit : ℕ) → ℕ
+enough_tries limit = suc (limit + 8 * most_packets)
+
+unfoldable pub settled : List Halt → (limit : ℕ) → World → Settled
+settled halts limit w = settle_to (enough_tries limit) halts limit [] w
+
+-- quiet where no packet is left but those that were passed over; stopped where one is, and all deliveries were made
+abbrev pub IsEnd : (stopped : Bool) → (spare : ℕ) → Option Next → Type 0
+IsEnd true spare None = ⊥
+IsEnd true spare (Some next) = spare ≡ 0
+IsEnd false spare None = Unit {0}
+IsEnd false spare (Some next) = ⊥
+
+-- it was not the count of tries that ended it
+abbrev pub HasEnded : Settled → Type 0
+HasEnded s = IsEnd s.stopped s.spare (next_of s.passed s.world.chunks)
+
+abbrev pub settle_told : (number : ℕ) → Settled → Told
+settle_told number s = record { world = s.world; text = s.text ++ line_of number (settle_text s.stopped) }

@@ -1,0 +1,53 @@
+-- What the making of a world and one line of a script come to.
+use Rattle.std.specs.Prelude.{◌≡◌, ℕ, true, List, ◌++◌, length, Some, slice_get}
+use Rattle.pf_script.specs.declared.command.Command.{Command}
+use Rattle.pf_script.specs.declared.command.Command.TheVariants as commands
+use Rattle.pf_script.specs.Lines.{fits}
+use Rattle.pf_protocol.specs.declared.answers.Answer.{Answer}
+use Rattle.pf_rounds.specs.Halts.{Halt}
+use Rattle.pf_rounds.specs.Agreeing.{HasGrown}
+use Rattle.pf_chunk.specs.Views.{ChunkIs}
+use Rattle.pf_world.specs.Worlds.{World, made, made_answer}
+use Rattle.pf_world.specs.Settling.{HasEnded, settled}
+use Rattle.pf_world.specs.Lines.{line_told}
+use Rattle.pf_world.specs.Views.{IsWorld, WorldIs, stands_at}
+use Rattle.pf_world.specs.Agreeing.{Tells}
+
+-- a volume was made with these numbers: under every list of halts that tells of it, it is the one that the run makes
+pub record IsMade (chunks sectors names format : ℕ) (w : WorldIs) (answer : Answer) : Type 0 where
+  pub is_world : IsWorld w
+  pub count : length w.chunks ≡ chunks
+  pub numbers : (w.sectors ≡ sectors) × (w.names ≡ names) × (w.format ≡ format)
+  pub run : (halts : List Halt) → Tells halts w → made halts chunks sectors names format ≡ stands_at w
+  pub answered : answer ≡ made_answer (stands_at w)
+
+-- the same volume, with chunks to which more happened
+pub record GoesOn (old new : WorldIs) : Type 0 where
+  pub sectors : new.sectors ≡ old.sectors
+  pub names : new.names ≡ old.names
+  pub format : new.format ≡ old.format
+  pub chunks : length new.chunks ≡ length old.chunks
+  pub grown : (k : ℕ) (was is : ChunkIs) → slice_get old.chunks k ≡ Some was → slice_get new.chunks k ≡ Some is → HasGrown was.group is.group
+
+-- a line that may be run in a volume of so many chunks: any but another volume
+abbrev pub MayRun : (chunks : ℕ) → Command → Type 0
+MayRun chunks (commands.Volume c s n f) = ⊥
+MayRun chunks command = fits chunks command ≡ true
+
+-- each settling ends by itself
+abbrev pub Ends : List Halt → World → Command → Type 0
+Ends halts w (commands.Settle limit) = HasEnded (settled halts limit w)
+Ends halts w command = Unit {0}
+
+-- the line was run: under every list of halts that tells of the world afterwards, this world and this text are the run's
+pub record Runs (old : WorldIs) (number : ℕ) (command : Command) (text : List ℕ) (new : WorldIs) : Type 0 where
+  pub is_world : IsWorld new
+  pub goes_on : GoesOn old new
+  pub run : (halts : List Halt) → Tells halts new → line_told halts (stands_at old) number command ≡ record { world = stands_at new; text = text }
+  pub ends : (halts : List Halt) → Tells halts new → Ends halts (stands_at old) command
+
+-- the same, where the text was put at the end of a buffer
+pub record HasRun (old : WorldIs) (number : ℕ) (command : Command) (before after : List ℕ) (new : WorldIs) : Type 0 where
+  pub text : List ℕ
+  pub put : after ≡ before ++ text
+  pub runs : Runs old number command text new

@@ -1,0 +1,34 @@
+-- A world, as contracts see it.
+use Rattle.std.specs.Prelude.{◌≡◌, ℕ, true, List, length, map, Some, slice_get}
+use Rattle.pf_script.specs.Lines.{is_volume}
+use Rattle.pf_group.specs.Making.{setup_with}
+use Rattle.pf_rounds.specs.Agreeing.{chunk_of}
+use Rattle.pf_chunk.specs.Views.{ChunkIs, IsReady}
+use Rattle.pf_world.specs.Worlds.{World}
+
+-- a volume with its chunks, in the order of their numbers
+pub record WorldIs : Type 0 where
+  pub sectors : ℕ  -- of each chunk
+  pub names : ℕ
+  pub format : ℕ
+  pub chunks : List ChunkIs
+
+-- where a run stands that came to this world
+abbrev pub stands_at : WorldIs → World
+stands_at w = record { chunks = map (λ c. chunk_of c.group) w.chunks }
+
+-- chunk k between two lines is of this volume
+pub record IsChunkOf (w : WorldIs) (k : ℕ) (c : ChunkIs) : Type 0 where
+  pub number : c.group.number ≡ k
+  pub failed : List ℕ
+  pub setup : c.group.setup ≡ setup_with w.sectors w.names w.format failed
+  pub ready : IsReady c
+
+pub record IsWorld (w : WorldIs) : Type 0 where
+  pub volume : is_volume (length w.chunks) w.sectors w.names w.format ≡ true
+  pub each : (k : ℕ) (c : ChunkIs) → slice_get w.chunks k ≡ Some c → IsChunkOf w k c
+
+-- a world with the disks that no chunk has, in their order
+pub record WorldOn (D : Type 0) : Type 0 where
+  pub world : WorldIs
+  pub spare : List D

@@ -1,0 +1,15 @@
+//! A volume without mounts: its chunks, and how the lines of a script run over them.
+//!
+//! Each line of the script ends with one line of the report; before it stands a line for each read that it answered.
+#![tactic(auto)]
+
+mod disks;
+mod laws;
+mod line;
+mod lines;
+mod making;
+mod settling;
+mod world;
+
+pub use line::Line;
+pub use world::World;

@@ -1,0 +1,9 @@
+//! A command of a script, with the number of its line.
+use pf_script::Command;
+
+/// A line of a script that says something.
+#[derive(Clone, Copy, Debug, PartialEq, Eq)]
+pub struct Line {
+    pub number: u32,
+    pub command: Command,
+}

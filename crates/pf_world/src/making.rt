@@ -1,0 +1,117 @@
+//! How a world is made, and ends.
+ghost use Rattle.std.specs.Prelude.{◌≡◌, ◌≤◌, ◌*◌, ℕ, List, [], true, IfErr, IfOk, OnErr, drop, length};
+ghost use Rattle.pf_script.specs.Lines.{is_volume};
+ghost use Rattle.pf_protocol.specs.Answers.{IsSetup};
+ghost use Rattle.pf_group.specs.Making.{setup_with};
+ghost use Rattle.pf_chunk.specs.Views.{ChunkIs};
+ghost use Rattle.pf_world.specs.Disks.{AreLeft, AreTold};
+ghost use Rattle.pf_world.specs.Making.{AreNew, HasAdded, unless_done};
+ghost use Rattle.pf_world.specs.Headline.{IsSoundWorld};
+ghost use Rattle.pf_world.specs.Steps.{IsMade};
+
+use crate::World;
+use crate::disks::{put_six, take_six};
+use pf_base::NoMemory;
+use pf_chunk::ChunkGroup;
+use pf_disk::Disk;
+use pf_protocol::Answer;
+use std::alloc::Global;
+
+/// The second answer, unless it tells no more than that all was done.
+fn unless_done(first: Answer, second: Answer) -> Answer
+    ensures { result ≡ unless_done first second }
+{
+    match second {
+        Answer::Done => first,
+        other => other,
+    }
+}
+
+impl<D: Disk + Drop> World<D> {
+    /// Makes a volume of 1 to 8 chunks, each of 16 to 4,096 sectors, a multiple of 8, with look-behind lists of up to `names` names and
+    /// disks of the given format. Disk 6g + 2i + h is half h of server i of chunk g; there are enough, and each tells its content. Sectors are copied on at
+    /// most `workers` threads, 1 to 8. `Done`, or `Halted` (52) where a disk failed while it was formatted.
+    ///
+    /// `NoMemory` (1) gives the disks back in their order, those of the chunks that were made with what these left on them.
+    pub fn new(
+        alloc: Global,
+        chunks: u32,
+        sectors: u32,
+        names: u8,
+        format: u8,
+        workers: u32,
+        disks: Vec<D>,
+    ) -> Result<(World<D>, Answer), (Vec<D>, NoMemory)>
+        requires volume { is_volume chunks sectors names format ≡ true }
+        requires workers { (1 ≤ workers) × (workers ≤ 8) }
+        requires disks { 6 * chunks ≤ length disks.items }
+        requires told { AreTold D.seen disks.items }
+        ensures made { IfOk result (λ made. IsMade chunks sectors names format made.0.world made.1) }
+        ensures sound { IfOk result (λ made. IsSoundWorld made.0.world) }
+        ensures fresh { IfOk result (λ made. AreNew D.faults disks.items made.0.world) }
+        ensures spare { IfOk result (λ made. made.0.spare ≡ drop (6 * chunks) disks.items) }
+        ensures back { IfErr result (λ back. (made : List ChunkIs) × AreLeft D.seen D.may_leave made disks.items back.0.items) }
+    {
+        let mut spare = disks;
+        spare.reverse();
+        let mut world = World {
+            sectors,
+            names,
+            format,
+            workers,
+            chunks: Vec::new(alloc),
+            spare,
+        };
+        let mut answer = Answer::Done;
+        for number in 0..chunks {
+            match world.add(alloc, number as u8) {
+                Ok(made) => answer = unless_done(answer, made),
+                Err(error) => return Err((world.close(), error)),
+            }
+        }
+        world.laws();
+        Ok((world, answer))
+    }
+
+    /// Makes the next chunk. `NoMemory` (1) leaves the world as it was.
+    fn add(&mut self, alloc: Global, number: u8) -> Result<Answer, NoMemory>
+        requires setup { IsSetup (setup_with self.old.world.sectors self.old.world.names self.old.world.format []) }
+        requires number { number ≡ length self.old.world.chunks }
+        requires disks { 6 ≤ length self.old.spare }
+        requires told { AreTold D.seen self.old.spare }
+        ensures added { IfOk result (λ answer. HasAdded D.faults self.old answer self.new) }
+        ensures err { OnErr result (self.new ≡ self.old) }
+    {
+        self.chunks.reserve(1)?;
+        let Some(six) = take_six(&mut self.spare) else {
+            unreachable!()
+        };
+        match ChunkGroup::new(alloc, number, self.sectors, self.names, self.format, six) {
+            Ok((chunk, answer)) => {
+                let _ = self.chunks.push(chunk);
+                Ok(answer)
+            }
+            Err((six, error)) => {
+                put_six(&mut self.spare, six);
+                Err(error)
+            }
+        }
+    }
+
+    /// Gives the disks back, in their order, with what the chunks left on them. It takes no memory.
+    pub fn close(self) -> Vec<D>
+        ensures { (before : List D) → drop (6 * length self.world.chunks) before ≡ self.spare → 6 * length self.world.chunks ≤ length before → AreLeft D.seen D.may_leave self.world.chunks before result.items }
+    {
+        let World {
+            mut chunks,
+            spare,
+            ..
+        } = self;
+        let mut disks = spare;
+        while let Some(chunk) = chunks.pop() {
+            put_six(&mut disks, chunk.into_disks());
+        }
+        disks.reverse();
+        disks
+    }
+}

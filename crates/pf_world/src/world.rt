@@ -1,0 +1,28 @@
+//! The world of a script.
+use pf_chunk::ChunkGroup;
+use pf_disk::Disk;
+use std::marker::Model;
+
+/// The chunks of a volume, on the disks that they were given.
+#[derive(Drop)]
+pub struct World<D: Disk> {
+    pub(crate) sectors: u32,
+    pub(crate) names: u8,
+    pub(crate) format: u8,
+    /// How many threads copy sectors at once, 1 to 8.
+    pub(crate) workers: u32,
+    pub(crate) chunks: Vec<ChunkGroup<D>>,
+    /// The disks that no chunk has, in the reverse of their order. It has room for all of them.
+    pub(crate) spare: Vec<D>,
+}
+
+impl<D: Disk> Model for World<D> {
+    ghost use Rattle.std.specs.Prelude.{◌≤◌, ◌+◌, ◌*◌, length, reverse, vec_capacity, vec_len};
+    ghost use Rattle.pf_world.specs.Views.{WorldOn};
+
+    ghost Value = { WorldOn D };
+
+    ghost view = { λ w. record { world = record { sectors = w.sectors; names = w.names; format = w.format; chunks = w.chunks.items }; spare = reverse w.spare.items } };
+
+    ghost invariant = { λ w. (1 ≤ w.workers) × (w.workers ≤ 8) × (vec_len w.spare + 6 * length w.chunks.items ≤ vec_capacity w.spare) };
+}

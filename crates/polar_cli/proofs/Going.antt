@@ -1,0 +1,133 @@
+-- Lines that are run one after another.
+use Rattle.std.proofs.Common.{◌≡◌, ℕ, zero, suc, ◌+◌, ◌<◌, ◌≤◌, List, [], ◌∷◌, ◌++◌, length, take, drop, get_or, Option, refl, sym, subst, ◌∙◌, arith}
+use Rattle.std.specs.Io.KnownBytes.{Appends}
+use Rattle.std.proofs.lemmas.List.{take-append-drop, take_more}
+use Rattle.std.proofs.Math.ListN.{drop_of_length-le}
+use Rattle.pf_entry.specs.Lists.{Every}
+use Rattle.pf_script.specs.declared.command.Command.TheVariants.{Volume}
+use Rattle.pf_world.specs.declared.line.Line.{Line}
+use Rattle.pf_world.specs.Headline.{IsSoundWorld, RunsTo}
+use Rattle.pf_world.specs.Steps.{GoesOn, HasRun, MayRun}
+use Rattle.pf_world.specs.Views.{IsWorld, WorldIs}
+use Rattle.pf_world.proofs.Running.{run_goes_on}
+use Rattle.pf_world.proofs.Told.{some_tells}
+use Rattle.polar_cli.specs.declared.status.Status.TheVariants as statuses
+use Rattle.polar_cli.specs.Ends.{AppendsFront}
+use Rattle.polar_cli.specs.Running.{HasGoneOn, IsTold}
+use Rattle.polar_cli.proofs.Taken.{appends_both, front_after}
+
+abbrev pub no_line : Line
+no_line = record { number = 0; command = Volume 0 0 0 0 }
+
+-- after the volume these lines were run, and the texts written
+pub record HasGone (volume : Line) (done : List Line) (taken now : Option (List ℕ)) (old world : WorldIs) : Type 0 where
+  pub text : List ℕ
+  pub run : RunsTo (volume ∷ done) text world
+  pub told : IsTold world
+  pub lawful : IsSoundWorld world
+  pub is_world : IsWorld world
+  pub count : length world.chunks ≡ length old.chunks
+  pub written : Appends taken now text
+
+pub gone_none : (volume : Line) (text : List ℕ) (taken now : Option (List ℕ)) (w : WorldIs) → RunsTo (volume ∷ []) text w → IsWorld w → IsSoundWorld w → Appends taken now text → HasGone volume [] taken now w w
+gone_none volume text taken now w run is_world sound written = record { text = text; run = run; told = some_tells w is_world sound; lawful = sound; is_world = is_world; count = refl; written = written }
+
+-- one line more was run
+pub gone_more : (volume : Line) (lines : List Line) (i : ℕ) (taken now later : Option (List ℕ)) (old w new : WorldIs) (out : List ℕ) → i < length lines
+    → HasGone volume (take i lines) taken now old w → HasRun w (get_or lines i no_line).number (get_or lines i no_line).command [] out new → IsSoundWorld new → Appends now later out
+    → HasGone volume (take (i + 1) lines) taken later old new
+gone_more volume lines i taken now later old w new out low gone ran sound put =
+    let line = get_or lines i no_line in
+    let run : RunsTo ((volume ∷ take i lines) ++ line ∷ []) (gone.text ++ ran.text) new = run_goes_on (volume ∷ take i lines) gone.text w line.number line.command ran.text new gone.run ran.runs in
+    record {
+      text = gone.text ++ ran.text;
+      run = subst (λ done. RunsTo (volume ∷ done) (gone.text ++ ran.text) new) (sym (take_more lines i no_line low)) run;
+      told = some_tells new ran.runs.is_world sound;
+      lawful = sound;
+      is_world = ran.runs.is_world;
+      count = ran.runs.goes_on.chunks ∙ gone.count;
+      written = appends_both taken now later gone.text ran.text gone.written (subst (Appends now later) ran.put put);
+    }
+
+-- memory ran out in the next line
+pub gone_short : (volume : Line) (lines : List Line) (i : ℕ) (taken now : Option (List ℕ)) (full : Type 0) (old w new : WorldIs)
+    → HasGone volume (take i lines) taken now old w → GoesOn w new → HasGoneOn statuses.NoMemory volume lines taken now full old new
+gone_short volume lines i taken now full old w new gone on = record {
+  done = take i lines;
+  rest = drop i lines;
+  first = take-append-drop i lines;
+  text = gone.text;
+  world = w;
+  run = gone.run;
+  told = gone.told;
+  lawful = gone.lawful;
+  leaves = on;
+  count = on.chunks ∙ gone.count;
+  wrote = gone.written;
+}
+
+-- the sink failed at the text of the volume
+pub full_first : (volume : Line) (lines : List Line) (text : List ℕ) (taken now : Option (List ℕ)) (full : Type 0) (w : WorldIs) → RunsTo (volume ∷ []) text w → IsTold w → IsSoundWorld w → full → AppendsFront taken now text
+    → HasGoneOn statuses.WriteFault volume lines taken now full w w
+full_first volume lines text taken now full w run told sound rose front = record {
+  done = [];
+  rest = lines;
+  first = refl;
+  text = text;
+  world = w;
+  run = run;
+  told = told;
+  lawful = sound;
+  leaves = refl;
+  count = refl;
+  wrote = (rose, front);
+}
+
+-- or at the text of the next line
+pub full_later : (volume : Line) (lines : List Line) (i : ℕ) (taken now later : Option (List ℕ)) (full : Type 0) (old w new : WorldIs) (out : List ℕ) → i < length lines
+    → HasGone volume (take i lines) taken now old w → HasRun w (get_or lines i no_line).number (get_or lines i no_line).command [] out new → IsSoundWorld new → full → AppendsFront now later out
+    → HasGoneOn statuses.WriteFault volume lines taken later full old new
+full_later volume lines i taken now later full old w new out low gone ran sound rose front =
+    let line = get_or lines i no_line in
+    let run : RunsTo ((volume ∷ take i lines) ++ line ∷ []) (gone.text ++ ran.text) new = run_goes_on (volume ∷ take i lines) gone.text w line.number line.command ran.text new gone.run ran.runs in
+    record {
+      done = take (i + 1) lines;
+      rest = drop (i + 1) lines;
+      first = take-append-drop (i + 1) lines;
+      text = gone.text ++ ran.text;
+      world = new;
+      run = subst (λ done. RunsTo (volume ∷ done) (gone.text ++ ran.text) new) (sym (take_more lines i no_line low)) run;
+      told = some_tells new ran.runs.is_world sound;
+      lawful = sound;
+      leaves = refl;
+      count = ran.runs.goes_on.chunks ∙ gone.count;
+      wrote = (rose, front_after taken now later gone.text ran.text gone.written (subst (AppendsFront now later) ran.put front));
+    }
+
+-- all lines were run
+pub gone_all : (volume : Line) (lines : List Line) (i : ℕ) (taken now : Option (List ℕ)) (full : Type 0) (old w : WorldIs) → length lines ≤ i
+    → HasGone volume (take i lines) taken now old w → HasGoneOn statuses.Ok volume lines taken now full old w
+gone_all volume lines i taken now full old w all gone = record {
+  done = take i lines;
+  rest = drop i lines;
+  first = take-append-drop i lines;
+  text = gone.text;
+  world = w;
+  run = gone.run;
+  told = gone.told;
+  lawful = gone.lawful;
+  leaves = refl;
+  count = gone.count;
+  wrote = (drop_of_length-le lines all, gone.written);
+}
+
+every_at : (P : Line → Type 0) (lines : List Line) (i : ℕ) (d : Line) → i < length lines → Every P lines → P (get_or lines i d)
+every_at P [] i d low all = absurd (omega arith)
+every_at P (line ∷ lines) zero d low all = all.0
+every_at P (line ∷ lines) (suc i) d low all = every_at P lines i d (omega arith) all.1
+
+-- the next line may be run
+pub may_run : (lines : List Line) (i : ℕ) (old w : WorldIs) → i < length lines → length w.chunks ≡ length old.chunks → Every (λ line. MayRun (length old.chunks) line.command) lines
+    → MayRun (length w.chunks) (get_or lines i no_line).command
+may_run lines i old w low count all =
+    subst (λ n. MayRun n (get_or lines i no_line).command) (sym count) (every_at (λ line. MayRun (length old.chunks) line.command) lines i no_line low all)

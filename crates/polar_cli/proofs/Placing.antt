@@ -1,0 +1,195 @@
+-- In an accepted script the volume comes first, and each later line may be run in it.
+use Rattle.std.proofs.Common.{◌≡◌, ℕ, ◌+◌, nat_lt, Bool, true, false, cond, length, append-nil, List, [], ◌∷◌, ◌++◌, Option, Some, None, Result, Ok, Err, IfOk, refl, sym, subst}
+use Rattle.pf_entry.specs.Lists.{Every}
+use Rattle.pf_script.specs.declared.command.Command.{Command}
+use Rattle.pf_script.specs.declared.command.Command.TheVariants as commands
+use Rattle.pf_script.specs.declared.command.LineFault.{LineFault}
+use Rattle.pf_script.specs.declared.command.LineFault.TheVariants.{LineTooLong, OutOfRange, TooManyLines}
+use Rattle.pf_script.specs.declared.form.ServerVerb.{ServerVerb}
+use Rattle.pf_script.specs.declared.form.ServerVerb.TheVariants.{Elect, Resend, Stop, Restart, Checkpoint, Mark, ShowLog, ShowApplied, ShowSectors}
+use Rattle.pf_script.specs.declared.form.PacketVerb.{PacketVerb}
+use Rattle.pf_script.specs.declared.form.PacketVerb.TheVariants.{Deliver, Lose}
+use Rattle.pf_script.specs.declared.form.Form.{Form}
+use Rattle.pf_script.specs.declared.form.Form.TheVariants as forms
+use Rattle.pf_script.specs.Words.{words_of, trimmed}
+use Rattle.pf_script.specs.Forms.{form_of, ◌>>=◌}
+use Rattle.pf_script.specs.Lines.{command_of, fits, is_silent, is_volume, line_of, placed, volume_after}
+use Rattle.pf_world.specs.declared.line.Line.{Line}
+use Rattle.pf_world.specs.Steps.{MayRun}
+use Rattle.polar_cli.specs.Scripts.{Scanned, Open, Refused, Judged, close, ended, fed, fed_all, fed_line, is_feed, is_over, last_line, line_list, over_fault, read_line, scan, script_of}
+use Rattle.polar_cli.specs.Placed.{ArePlaced, IsWhole}
+use Rattle.polar_cli.proofs.Scanning.{scan_append, scan_none}
+
+-- what may come next: the volume where there is none yet, and then what may be run in it
+abbrev MayCome : Option ℕ → Command → Type 0
+MayCome None (commands.Volume c s n f) = is_volume c s n f ≡ true
+MayCome None command = ⊥
+MayCome (Some chunks) command = MayRun chunks command
+
+abbrev MayStand : Option ℕ → Option Command → Type 0
+MayStand volume None = Unit {0}
+MayStand volume (Some command) = MayCome volume command
+
+if_fault : {T : Type 0} (b : Bool) (fault : LineFault) (r : Result T LineFault) (P : T → Type 0) → IfOk r P → IfOk (cond b (Err fault) r) P
+if_fault true fault r P h = tt
+if_fault false fault r P h = h
+
+then_ok : {A B : Type 0} (r : Result A LineFault) (f : A → Result B LineFault) (P : B → Type 0) → ((a : A) → IfOk (f a) P) → IfOk (r >>= f) P
+then_ok (Ok a) f P h = h a
+then_ok (Err e) f P h = tt
+
+within_ok : (b : Bool) (command : Command) (P : Command → Type 0) → (b ≡ true → P command) → IfOk (cond b (Ok command) (Err OutOfRange)) P
+within_ok true command P h = h refl
+within_ok false command P h = tt
+
+server_may : (chunks : ℕ) (verb : ServerVerb) (g i : ℕ) → IfOk (placed (Some chunks) (forms.OfServer verb g i)) (MayRun chunks)
+server_may chunks Elect g i = within_ok (fits chunks (commands.Elect g i)) (commands.Elect g i) (MayRun chunks) (λ h. h)
+server_may chunks Resend g i = within_ok (fits chunks (commands.Resend g i)) (commands.Resend g i) (MayRun chunks) (λ h. h)
+server_may chunks Stop g i = within_ok (fits chunks (commands.Stop g i)) (commands.Stop g i) (MayRun chunks) (λ h. h)
+server_may chunks Restart g i = within_ok (fits chunks (commands.Restart g i)) (commands.Restart g i) (MayRun chunks) (λ h. h)
+server_may chunks Checkpoint g i = within_ok (fits chunks (commands.Checkpoint g i)) (commands.Checkpoint g i) (MayRun chunks) (λ h. h)
+server_may chunks Mark g i = within_ok (fits chunks (commands.Mark g i)) (commands.Mark g i) (MayRun chunks) (λ h. h)
+server_may chunks ShowLog g i = within_ok (fits chunks (commands.ShowLog g i)) (commands.ShowLog g i) (MayRun chunks) (λ h. h)
+server_may chunks ShowApplied g i = within_ok (fits chunks (commands.ShowApplied g i)) (commands.ShowApplied g i) (MayRun chunks) (λ h. h)
+server_may chunks ShowSectors g i = within_ok (fits chunks (commands.ShowSectors g i)) (commands.ShowSectors g i) (MayRun chunks) (λ h. h)
+
+packet_may : (chunks : ℕ) (verb : PacketVerb) (g k : ℕ) → IfOk (placed (Some chunks) (forms.OfPacket verb g k)) (MayRun chunks)
+packet_may chunks Deliver g k = within_ok (fits chunks (commands.Deliver g k)) (commands.Deliver g k) (MayRun chunks) (λ h. h)
+packet_may chunks Lose g k = within_ok (fits chunks (commands.Lose g k)) (commands.Lose g k) (MayRun chunks) (λ h. h)
+
+placed_may : (volume : Option ℕ) (form : Form) → IfOk (placed volume form) (MayCome volume)
+placed_may None (forms.Volume c s n f) = within_ok (is_volume c s n f) (commands.Volume c s n f) (MayCome None) (λ h. h)
+placed_may None (forms.OfServer verb g i) = tt
+placed_may None (forms.OfPacket verb g k) = tt
+placed_may None (forms.Submit g i s b c) = tt
+placed_may None (forms.Fetch g i s c) = tt
+placed_may None (forms.Settle n) = tt
+placed_may None (forms.ShowAcked g) = tt
+placed_may None (forms.ShowMark g i s) = tt
+placed_may (Some chunks) (forms.Volume c s n f) = tt
+placed_may (Some chunks) (forms.OfServer verb g i) = server_may chunks verb g i
+placed_may (Some chunks) (forms.OfPacket verb g k) = packet_may chunks verb g k
+placed_may (Some chunks) (forms.Submit g i s b c) = within_ok (fits chunks (commands.Submit g i s b c)) (commands.Submit g i s b c) (MayRun chunks) (λ h. h)
+placed_may (Some chunks) (forms.Fetch g i s c) = within_ok (fits chunks (commands.Fetch g i s c)) (commands.Fetch g i s c) (MayRun chunks) (λ h. h)
+placed_may (Some chunks) (forms.Settle n) = within_ok (fits chunks (commands.Settle n)) (commands.Settle n) (MayRun chunks) (λ h. h)
+placed_may (Some chunks) (forms.ShowAcked g) = within_ok (fits chunks (commands.ShowAcked g)) (commands.ShowAcked g) (MayRun chunks) (λ h. h)
+placed_may (Some chunks) (forms.ShowMark g i s) = within_ok (fits chunks (commands.ShowMark g i s)) (commands.ShowMark g i s) (MayRun chunks) (λ h. h)
+
+some_may : (volume : Option ℕ) (r : Result Command LineFault) → IfOk r (MayCome volume) → IfOk (r >>= λ command. Ok (Some command)) (MayStand volume)
+some_may volume (Ok command) h = h
+some_may volume (Err fault) h = tt
+
+silent_or : (b : Bool) (volume : Option ℕ) (r : Result (Option Command) LineFault) → IfOk r (MayStand volume) → IfOk (cond b (Ok None) r) (MayStand volume)
+silent_or true volume r h = tt
+silent_or false volume r h = h
+
+command_may : (volume : Option ℕ) (words : List (List ℕ)) → IfOk (command_of volume words) (MayStand volume)
+command_may volume words =
+    silent_or (is_silent words) volume (form_of words >>= λ form. placed volume form >>= λ command. Ok (Some command))
+    (then_ok (form_of words) (λ form. placed volume form >>= λ command. Ok (Some command)) (MayStand volume) (λ form. some_may volume (placed volume form) (placed_may volume form)))
+
+read_may : (number : ℕ) (volume : Option ℕ) (line : List ℕ) → IfOk (read_line number volume line) (MayStand volume)
+read_may number volume line =
+    if_fault (nat_lt 100000 number) TooManyLines (line_of volume line) (MayStand volume)
+    (if_fault (nat_lt 1024 (length line)) LineTooLong (command_of volume (words_of (trimmed line))) (MayStand volume) (command_may volume (words_of (trimmed line))))
+
+-- one line more
+every_snoc : {X : Type 0} (P : X → Type 0) (xs : List X) (x : X) → Every P xs → P x → Every P (xs ++ x ∷ [])
+every_snoc P [] x all last = (last, tt)
+every_snoc P (y ∷ ys) x all last = (all.0, every_snoc P ys x all.1 last)
+
+first_placed : (lines : List Line) (number c s n f : ℕ) → ArePlaced None lines → is_volume c s n f ≡ true → ArePlaced (Some c) (lines ++ record { number = number; command = commands.Volume c s n f } ∷ [])
+first_placed [] number c s n f none fits = ((refl, fits), tt)
+first_placed (line ∷ lines) number c s n f none fits = absurd (cc)
+
+later_placed : (chunks : ℕ) (lines : List Line) (line : Line) → ArePlaced (Some chunks) lines → MayRun chunks line.command → ArePlaced (Some chunks) (lines ++ line ∷ [])
+later_placed chunks [] line none may = absurd none
+later_placed chunks (first ∷ lines) line all may = (all.0, every_snoc (λ later. MayRun chunks later.command) lines line all.1 may)
+
+line_placed : (volume : Option ℕ) (lines : List Line) (number : ℕ) (command : Command) → ArePlaced volume lines → MayCome volume command → ArePlaced (volume_after volume (Some command)) (lines ++ record { number = number; command = command } ∷ [])
+line_placed None lines number (commands.Volume c s n f) all may = first_placed lines number c s n f all may
+line_placed None lines number (commands.Elect g i) all may = absurd may
+line_placed None lines number (commands.Resend g i) all may = absurd may
+line_placed None lines number (commands.Stop g i) all may = absurd may
+line_placed None lines number (commands.Restart g i) all may = absurd may
+line_placed None lines number (commands.Checkpoint g i) all may = absurd may
+line_placed None lines number (commands.Deliver g k) all may = absurd may
+line_placed None lines number (commands.Lose g k) all may = absurd may
+line_placed None lines number (commands.Submit g i s b c) all may = absurd may
+line_placed None lines number (commands.Fetch g i s c) all may = absurd may
+line_placed None lines number (commands.Mark g i) all may = absurd may
+line_placed None lines number (commands.Settle n) all may = absurd may
+line_placed None lines number (commands.ShowLog g i) all may = absurd may
+line_placed None lines number (commands.ShowApplied g i) all may = absurd may
+line_placed None lines number (commands.ShowSectors g i) all may = absurd may
+line_placed None lines number (commands.ShowAcked g) all may = absurd may
+line_placed None lines number (commands.ShowMark g i s) all may = absurd may
+line_placed (Some chunks) lines number (commands.Volume c s n f) all may = absurd may
+line_placed (Some chunks) lines number (commands.Elect g i) all may = later_placed chunks lines (record { number = number; command = commands.Elect g i }) all may
+line_placed (Some chunks) lines number (commands.Resend g i) all may = later_placed chunks lines (record { number = number; command = commands.Resend g i }) all may
+line_placed (Some chunks) lines number (commands.Stop g i) all may = later_placed chunks lines (record { number = number; command = commands.Stop g i }) all may
+line_placed (Some chunks) lines number (commands.Restart g i) all may = later_placed chunks lines (record { number = number; command = commands.Restart g i }) all may
+line_placed (Some chunks) lines number (commands.Checkpoint g i) all may = later_placed chunks lines (record { number = number; command = commands.Checkpoint g i }) all may
+line_placed (Some chunks) lines number (commands.Deliver g k) all may = later_placed chunks lines (record { number = number; command = commands.Deliver g k }) all may
+line_placed (Some chunks) lines number (commands.Lose g k) all may = later_placed chunks lines (record { number = number; command = commands.Lose g k }) all may
+line_placed (Some chunks) lines number (commands.Submit g i s b c) all may = later_placed chunks lines (record { number = number; command = commands.Submit g i s b c }) all may
+line_placed (Some chunks) lines number (commands.Fetch g i s c) all may = later_placed chunks lines (record { number = number; command = commands.Fetch g i s c }) all may
+line_placed (Some chunks) lines number (commands.Mark g i) all may = later_placed chunks lines (record { number = number; command = commands.Mark g i }) all may
+line_placed (Some chunks) lines number (commands.Settle n) all may = later_placed chunks lines (record { number = number; command = commands.Settle n }) all may
+line_placed (Some chunks) lines number (commands.ShowLog g i) all may = later_placed chunks lines (record { number = number; command = commands.ShowLog g i }) all may
+line_placed (Some chunks) lines number (commands.ShowApplied g i) all may = later_placed chunks lines (record { number = number; command = commands.ShowApplied g i }) all may
+line_placed (Some chunks) lines number (commands.ShowSectors g i) all may = later_placed chunks lines (record { number = number; command = commands.ShowSectors g i }) all may
+line_placed (Some chunks) lines number (commands.ShowAcked g) all may = later_placed chunks lines (record { number = number; command = commands.ShowAcked g }) all may
+line_placed (Some chunks) lines number (commands.ShowMark g i s) all may = later_placed chunks lines (record { number = number; command = commands.ShowMark g i s }) all may
+
+more_placed : (volume : Option ℕ) (lines : List Line) (number : ℕ) (command : Option Command) → ArePlaced volume lines → MayStand volume command → ArePlaced (volume_after volume command) (lines ++ line_list number command)
+more_placed volume lines number None all may = subst (ArePlaced volume) (sym (append-nil lines)) all
+more_placed volume lines number (Some command) all may = line_placed volume lines number command all may
+
+abbrev IsGood : Scanned → Type 0
+IsGood (Open lines number volume begun) = ArePlaced volume lines
+IsGood (Refused line fault) = Unit {0}
+
+abbrev IsGoodEnd : Judged → Type 0
+IsGoodEnd (Ok lines) = IsWhole lines
+IsGoodEnd (Err refused) = Unit {0}
+
+line_good : (lines : List Line) (number : ℕ) (volume : Option ℕ) (r : Result (Option Command) LineFault) → ArePlaced volume lines → IfOk r (MayStand volume) → IsGood (fed_line lines number volume r)
+line_good lines number volume (Ok command) all may = more_placed volume lines number command all may
+line_good lines number volume (Err fault) all may = tt
+
+byte_good : (feed over : Bool) (lines : List Line) (number : ℕ) (volume : Option ℕ) (r : Result (Option Command) LineFault) (fault : LineFault) (begun : List ℕ) → ArePlaced volume lines → IfOk r (MayStand volume)
+    → IsGood (cond feed (fed_line lines number volume r) (cond over (Refused number fault) (Open lines number volume begun)))
+byte_good true over lines number volume r fault begun all may = line_good lines number volume r all may
+byte_good false true lines number volume r fault begun all may = tt
+byte_good false false lines number volume r fault begun all may = all
+
+fed_good : (s : Scanned) (byte : ℕ) → IsGood s → IsGood (fed s byte)
+fed_good (Refused line fault) byte good = tt
+fed_good (Open lines number volume begun) byte good =
+    byte_good (is_feed byte) (is_over number (begun ++ byte ∷ [])) lines number volume (read_line number volume begun) (over_fault number) (begun ++ byte ∷ []) good (read_may number volume begun)
+
+all_good : (s : Scanned) (bytes : List ℕ) → IsGood s → IsGood (fed_all s bytes)
+all_good s [] good = good
+all_good s (byte ∷ bytes) good = all_good (fed s byte) bytes (fed_good s byte good)
+
+scan_good : (bytes : List ℕ) → IsGood (scan bytes)
+scan_good bytes =
+    subst IsGood (sym (scan_append [] bytes))
+    (all_good (scan []) bytes (subst IsGood (sym scan_none) refl))
+
+ended_good : (lines : List Line) (number : ℕ) (volume : Option ℕ) → ArePlaced volume lines → IsGoodEnd (ended lines number volume)
+ended_good lines number None all = tt
+ended_good lines number (Some chunks) all = record { chunks = chunks; placed = all }
+
+last_good : (lines : List Line) (number : ℕ) (volume : Option ℕ) (r : Result (Option Command) LineFault) → ArePlaced volume lines → IfOk r (MayStand volume) → IsGoodEnd (last_line lines number volume r)
+last_good lines number volume (Ok command) all may = ended_good (lines ++ line_list number command) (number + 1) (volume_after volume command) (more_placed volume lines number command all may)
+last_good lines number volume (Err fault) all may = tt
+
+close_good : (s : Scanned) → IsGood s → IsGoodEnd (close s)
+close_good (Refused line fault) good = tt
+close_good (Open lines number volume []) good = ended_good lines number volume good
+close_good (Open lines number volume (byte ∷ bytes)) good = last_good lines number volume (read_line number volume (byte ∷ bytes)) good (read_may number volume (byte ∷ bytes))
+
+pub whole_script : (script : List ℕ) (lines : List Line) → script_of script ≡ Ok lines → IsWhole lines
+whole_script script lines accepted = subst IsGoodEnd accepted (close_good (scan script) (scan_good script))

@@ -1,0 +1,74 @@
+use Rattle.std.proofs.Common.{[], arith, get_or, refl, subst, ◌∙◌}
+use Rattle.std.specs.Io.KnownBytes.{Appends}
+use Rattle.pf_io.specs.Causes.{Rose}
+use Rattle.pf_world.specs.Headline.{IsSoundWorld}
+use Rattle.pf_world.specs.Steps.{GoesOn, HasRun}
+use Rattle.pf_world.proofs.Told.{some_tells}
+use Rattle.polar_cli.specs.Ends.{AppendsFront}
+use Rattle.polar_cli.proofs.Going.{full_first, full_later, gone_all, gone_more, gone_none, gone_short, no_line}
+use Rattle.polar_cli.proofs.Writing.{done_of, failed_of}
+use Rattle.polar_cli.proofs.lines.go_on.Goals as goal
+
+pub returns-then-is_err-clause-gone : goal.returns-then-is_err-clause-gone
+returns-then-is_err-clause-gone g c =
+    let taken = g.K.Sink.taken in
+    full_first c.args.volume.now c.args.lines.now c.args.opened.now (taken c.args.sink.now) (taken c.write_all.new.sink) (Rose (g.K.Sink.faults c.args.sink.now) (g.K.Sink.faults c.write_all.new.sink)) c.args.world.now.world c.requires.run (some_tells c.args.world.now.world c.requires.world c.requires.sound) c.requires.sound
+    (failed_of c.write_all.result (Rose (g.K.Sink.faults c.args.sink.now) (g.K.Sink.faults c.write_all.new.sink)) c.if-is_err.ensures.value c.write_all.ensures.cause)
+    (failed_of c.write_all.result (AppendsFront (taken c.args.sink.now) (taken c.write_all.new.sink) c.args.opened.now) c.if-is_err.ensures.value c.write_all.ensures.front)
+
+pub returns-then-is_err-2-clause-gone : goal.returns-then-is_err-2-clause-gone
+returns-then-is_err-2-clause-gone g c =
+    let taken = g.K.Sink.taken in
+    gone_short c.args.volume.now c.args.lines.now c.loop-line.line-index (taken c.args.sink.now) (taken c.loop-line.sink) (Rose (g.K.Sink.faults c.args.sink.now) (g.K.Sink.faults c.loop-line.sink)) c.args.world.now.world c.loop-line.world.world c.line.new.self.world c.loop-line.invariant.gone
+    (failed_of c.line.result (GoesOn c.loop-line.world.world c.line.new.self.world) c.if-is_err-2.ensures.value c.line.ensures.err)
+
+pub returns-then-is_err-3-clause-gone : goal.returns-then-is_err-3-clause-gone
+returns-then-is_err-3-clause-gone g c =
+    let taken = g.K.Sink.taken in
+    let i = c.loop-line.line-index in
+    let line = get_or c.args.lines.now i no_line in
+    let out = c.line.new.out.items in
+    let ran : HasRun c.loop-line.world.world line.number line.command [] out c.line.new.self.world =
+    subst (λ before. HasRun c.loop-line.world.world line.number line.command before out c.line.new.self.world) c.new-text.ensures.items
+    (done_of c.line.result (HasRun c.loop-line.world.world line.number line.command c.new-text.result.items out c.line.new.self.world) c.if-is_err-2.ensures.value c.line.ensures.ran) in
+    let rose : Rose (g.K.Sink.faults c.loop-line.sink) (g.K.Sink.faults c.write_all-in-loop-line.new.sink) =
+    failed_of c.write_all-in-loop-line.result (Rose (g.K.Sink.faults c.loop-line.sink) (g.K.Sink.faults c.write_all-in-loop-line.new.sink)) c.if-is_err-3.ensures.value c.write_all-in-loop-line.ensures.cause in
+    let front : AppendsFront (taken c.loop-line.sink) (taken c.write_all-in-loop-line.new.sink) c.deref.result.now =
+    failed_of c.write_all-in-loop-line.result (AppendsFront (taken c.loop-line.sink) (taken c.write_all-in-loop-line.new.sink) c.deref.result.now) c.if-is_err-3.ensures.value c.write_all-in-loop-line.ensures.front in
+    full_later c.args.volume.now c.args.lines.now i (taken c.args.sink.now) (taken c.loop-line.sink) (taken c.write_all-in-loop-line.new.sink) (Rose (g.K.Sink.faults c.args.sink.now) (g.K.Sink.faults c.write_all-in-loop-line.new.sink))
+    c.args.world.now.world c.loop-line.world.world c.line.new.self.world out c.loop-line-test.true c.loop-line.invariant.gone ran
+    (done_of c.line.result (IsSoundWorld c.line.new.self.world) c.if-is_err-2.ensures.value c.line.ensures.sound) (omega (arith, rose, c.loop-line.invariant.later))
+    (subst (AppendsFront (taken c.loop-line.sink) (taken c.write_all-in-loop-line.new.sink)) c.deref.ensures.value front)
+
+pub loop-line-preserved : goal.loop-line-preserved
+loop-line-preserved g c =
+    let taken = g.K.Sink.taken in
+    let i = c.loop-line.line-index in
+    let line = get_or c.args.lines.now i no_line in
+    let out = c.line.new.out.items in
+    let ran : HasRun c.loop-line.world.world line.number line.command [] out c.line.new.self.world =
+    subst (λ before. HasRun c.loop-line.world.world line.number line.command before out c.line.new.self.world) c.new-text.ensures.items
+    (done_of c.line.result (HasRun c.loop-line.world.world line.number line.command c.new-text.result.items out c.line.new.self.world) c.if-is_err-2.ensures.value c.line.ensures.ran) in
+    let put : Appends (taken c.loop-line.sink) (taken c.write_all-in-loop-line.new.sink) c.deref.result.now =
+    done_of c.write_all-in-loop-line.result (Appends (taken c.loop-line.sink) (taken c.write_all-in-loop-line.new.sink) c.deref.result.now) c.if-is_err-3.ensures.value c.write_all-in-loop-line.ensures.ok in
+    record {
+      gone = gone_more c.args.volume.now c.args.lines.now i (taken c.args.sink.now) (taken c.loop-line.sink) (taken c.write_all-in-loop-line.new.sink)
+          c.args.world.now.world c.loop-line.world.world c.line.new.self.world out c.loop-line-test.true c.loop-line.invariant.gone ran (done_of c.line.result (IsSoundWorld c.line.new.self.world) c.if-is_err-2.ensures.value c.line.ensures.sound)
+          (subst (Appends (taken c.loop-line.sink) (taken c.write_all-in-loop-line.new.sink)) c.deref.ensures.value put);
+      later = omega (arith, c.loop-line.invariant.later, c.write_all-in-loop-line.ensures.later);
+      spare = c.line.ensures.spare ∙ c.loop-line.invariant.spare;
+    }
+
+pub returns-clause-gone : goal.returns-clause-gone
+returns-clause-gone g c =
+    let taken = g.K.Sink.taken in
+    gone_all c.args.volume.now c.args.lines.now c.loop-line.line-index (taken c.args.sink.now) (taken c.loop-line.sink) (Rose (g.K.Sink.faults c.args.sink.now) (g.K.Sink.faults c.loop-line.sink)) c.args.world.now.world c.loop-line.world.world
+    c.loop-line-test.false c.loop-line.invariant.gone
+
+pub loop-line-init : goal.loop-line-init
+loop-line-init g c = record {
+  gone = gone_none c.args.volume.now c.args.opened.now (g.K.Sink.taken c.args.sink.now) (g.K.Sink.taken c.write_all.new.sink) c.args.world.now.world c.requires.run c.requires.world c.requires.sound
+      (done_of c.write_all.result (Appends (g.K.Sink.taken c.args.sink.now) (g.K.Sink.taken c.write_all.new.sink) c.args.opened.now) c.if-is_err.ensures.value c.write_all.ensures.ok);
+  later = c.write_all.ensures.later;
+  spare = refl;
+}

@@ -1,0 +1,24 @@
+-- What stands where in an accepted script.
+use Rattle.std.specs.Prelude.{◌≡◌, ℕ, true, List, [], ◌∷◌, Option, Some, None}
+use Rattle.pf_entry.specs.Lists.{Every}
+use Rattle.pf_script.specs.declared.command.Command.{Command}
+use Rattle.pf_script.specs.declared.command.Command.TheVariants.{Volume}
+use Rattle.pf_script.specs.Lines.{is_volume}
+use Rattle.pf_world.specs.declared.line.Line.{Line}
+use Rattle.pf_world.specs.Steps.{MayRun}
+
+-- a volume of so many chunks
+abbrev pub IsVolume : (chunks : ℕ) → Command → Type 0
+IsVolume chunks (Volume c s n f) = (c ≡ chunks) × (is_volume c s n f ≡ true)
+IsVolume chunks command = ⊥
+
+-- first the volume, if it has come, and then lines that may be run in it
+abbrev pub ArePlaced : (volume : Option ℕ) → List Line → Type 0
+ArePlaced None lines = lines ≡ []
+ArePlaced (Some chunks) [] = ⊥
+ArePlaced (Some chunks) (line ∷ lines) = IsVolume chunks line.command × Every (λ later. MayRun chunks later.command) lines
+
+-- the lines of a whole script
+pub record IsWhole (lines : List Line) : Type 0 where
+  pub chunks : ℕ
+  pub placed : ArePlaced (Some chunks) lines

@@ -1,0 +1,128 @@
+//! The lines of a script, run over a world on disks.
+ghost use Rattle.std.specs.Prelude.{◌≡◌, ◌≤◌, ℕ, List, [], ◌∷◌, IfErr, IfOk, length};
+ghost use Rattle.pf_io.specs.Causes.{Rose};
+ghost use Rattle.pf_chunk.specs.Views.{ChunkIs};
+ghost use Rattle.pf_entry.specs.Lists.{Every};
+ghost use Rattle.pf_world.specs.Disks.{AreLeft, AreTold};
+ghost use Rattle.pf_world.specs.Headline.{IsSoundWorld, RunsTo};
+ghost use Rattle.pf_world.specs.Steps.{MayRun};
+ghost use Rattle.pf_world.specs.Views.{IsWorld};
+ghost use Rattle.polar_cli.specs.Placed.{IsVolume, IsWhole};
+ghost use Rattle.polar_cli.specs.Running.{HasGoneOn, HasOpened, HasRunLines};
+
+use crate::ends::write_all;
+use crate::status::Status;
+use pf_disk::Disk;
+use pf_filling::Gate;
+use pf_io::Sink;
+use pf_report::put_answer;
+use pf_script::Command;
+use pf_world::{Line, World};
+use std::alloc::Global;
+use std::mem;
+use std::thread::Threads;
+
+/// Makes the volume of a script's first line, and gives the text of that line. Where there is no memory for it, the disks come back.
+fn open<D: Disk + Drop>(
+    alloc: Global,
+    line: &Line,
+    workers: u32,
+    disks: Vec<D>,
+) -> Result<(World<D>, Vec<u8>), Vec<D>>
+    requires volume { (chunks : ℕ) × IsVolume chunks line.now.command }
+    requires workers { (1 ≤ workers) × (workers ≤ 8) }
+    requires disks { 48 ≤ length disks.items }
+    requires told { AreTold D.seen disks.items }
+    ensures opened { IfOk result (λ opened. HasOpened line.now opened.1.items disks.items opened.0) }
+    ensures back { IfErr result (λ back. (made : List ChunkIs) × AreLeft D.seen D.may_leave made disks.items back.items) }
+{
+    let Command::Volume {
+        chunks,
+        sectors,
+        names,
+        format,
+    } = line.command
+    else {
+        unreachable!()
+    };
+    match World::new(alloc, chunks, sectors, names, format, workers, disks) {
+        Ok((world, answer)) => {
+            let mut text = Vec::new(alloc);
+            if put_answer(&mut text, line.number, &answer).is_err() {
+                return Err(world.close());
+            }
+            Ok((world, text))
+        }
+        Err((disks, _)) => Err(disks),
+    }
+}
+
+/// Writes the text of the volume's line, runs the lines behind it one after another, and writes the text of each.
+#[allow(clippy::too_many_arguments)]
+fn go_on<K: Sink, D: Disk + Drop, R: Threads + Sync, G: Gate + Sync>(
+    rt: &R,
+    alloc: Global,
+    volume: &Line,
+    opened: &[u8],
+    lines: &[Line],
+    world: &mut World<D>,
+    sink: &mut K,
+    gate: &G,
+) -> Status
+    requires world { IsWorld world.old.world }
+    requires run { RunsTo (volume.now ∷ []) opened.now world.old.world }
+    requires sound { IsSoundWorld world.old.world }
+    requires lines { Every (λ line. MayRun (length world.old.world.chunks) line.command) lines.now }
+    ensures gone { HasGoneOn result volume.now lines.now (K.taken sink.old) (K.taken sink.new) (Rose (K.faults sink.old) (K.faults sink.new)) world.old.world world.new.world }
+    ensures spare { world.new.spare ≡ world.old.spare }
+{
+    if write_all(sink, opened).is_err() {
+        return Status::WriteFault;
+    }
+    for line in lines {
+        let mut text = Vec::new(alloc);
+        if world
+            .line(rt, alloc, line.number, &line.command, gate, &mut text)
+            .is_err()
+        {
+            return Status::NoMemory;
+        }
+        if write_all(sink, &text).is_err() {
+            return Status::WriteFault;
+        }
+    }
+    Status::Ok
+}
+
+/// Runs the lines of a script over the disks, and writes the text of each line after it has run.
+#[allow(clippy::too_many_arguments)]
+pub fn run_lines<K: Sink, D: Disk + Drop, R: Threads + Sync, G: Gate + Sync>(
+    rt: &R,
+    alloc: Global,
+    lines: &[Line],
+    workers: u32,
+    sink: &mut K,
+    disks: &mut Vec<D>,
+    gate: &G,
+) -> Status
+    requires lines { IsWhole lines.now }
+    requires workers { (1 ≤ workers) × (workers ≤ 8) }
+    requires disks { 48 ≤ length disks.old.items }
+    requires told { AreTold D.seen disks.old.items }
+    ensures { HasRunLines D.seen D.may_leave result lines.now (K.taken sink.old) (K.taken sink.new) (Rose (K.faults sink.old) (K.faults sink.new)) disks.old.items disks.new.items }
+{
+    let [volume, rest @ ..] = lines else {
+        unreachable!()
+    };
+    match open(alloc, volume, workers, mem::replace(disks, Vec::new(alloc))) {
+        Ok((mut world, text)) => {
+            let status = go_on(rt, alloc, volume, &text, rest, &mut world, sink, gate);
+            *disks = world.close();
+            status
+        }
+        Err(back) => {
+            *disks = back;
+            Status::NoMemory
+        }
+    }
+}
