@@ -1,5 +1,5 @@
 -- What a pair promises of its disks.
-use Rattle.std.specs.Prelude.{ℕ, ◌≡◌, ◌⊎◌, true, List, Option, is_some, slice_index}
+use Rattle.std.specs.Prelude.{ℕ, ◌≡◌, ◌≤◌, ◌⊎◌, true, List, Option, is_some, slice_index}
 use Rattle.pf_disk.specs.Crashes.{Images}
 use Rattle.pf_chunklog.specs.Records.{Raw}
 use Rattle.pf_chunklog.specs.declared.log.ChunkLog.{ChunkLog}
@@ -18,6 +18,11 @@ spare_of pair = of_half (other pair.current) pair.zero pair.one
 -- the format of the current half
 abbrev pub format_of : {D : Type 0} → Pair D → ℕ
 format_of pair = slice_index (current_of pair).head 4
+
+-- no count of faults of the two disks fell
+pub record AreLater {D : Type 0} (faults : D → ℕ) (old new : Pair D) : Type 0 where
+  pub zero : faults old.zero.disk ≤ faults new.zero.disk
+  pub one : faults old.one.disk ≤ faults new.one.disk
 
 -- The pair has these records: a restart finds them after each crash, and more can be appended.
 abbrev pub IsWhole : {D : Type 0} → (D → Option (List ℕ)) → (D → Images) → Pair D → List Raw → Type 0

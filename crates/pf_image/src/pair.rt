@@ -55,7 +55,7 @@ fn begin<D: Disk>(log: &mut ChunkLog<D>, head: [u8; 8], body: &[u8]) -> Result<(
 }
 
 impl<D: Disk> Pair<D> {
-    ghost use Rattle.pf_image.specs.Pairs.{IsInDoubt, IsWhole, Tells, WasInDoubt, current_of, format_of};
+    ghost use Rattle.pf_image.specs.Pairs.{AreLater, IsInDoubt, IsWhole, Tells, WasInDoubt, current_of, format_of};
 
     /// Whether the used bytes of the current half and so many more are within the limit of 67,108,864 bytes.
     pub fn has_room(&self, len: u64) -> bool
@@ -112,6 +112,7 @@ impl<D: Disk> Pair<D> {
             → WasInDoubt D.moment D.left_since self.old self.new (format_of self.old, records) (format_of self.old, records ++ raw ∷ []) }
         ensures full { IsErrOf result AppendFault.LogFull ↔ (67108864 < (current_of self.old).used + length body.now) }
         ensures full_unchanged { IsErrOf result AppendFault.LogFull → self.new ≡ self.old }
+        ensures later { AreLater D.faults self.old self.new }
         ensures failed { IsErrOf result AppendFault.DiskFault → Rose (D.faults self.old.zero.disk) (D.faults self.new.zero.disk) ⊎ Rose (D.faults self.old.one.disk) (D.faults self.new.one.disk) }
         ensures head { self.new.head ≡ self.old.head }
         ensures format { format_of self.new ≡ format_of self.old }
@@ -139,6 +140,7 @@ impl<D: Disk> Pair<D> {
             → IsInDoubt D.may_leave self.new (format_of self.old, records) (2, raw ∷ []) }
         ensures any_moment { IsTrue D.tells_moments → (raw : Raw) (records : List Raw) → body.now ≡ body_of raw → IsNext records raw → IsWhole D.seen D.may_leave self.old records
             → WasInDoubt D.moment D.left_since self.old self.new (format_of self.old, records) (2, raw ∷ []) }
+        ensures later { AreLater D.faults self.old self.new }
         ensures failed { OnErr result (Rose (D.faults self.old.zero.disk) (D.faults self.new.zero.disk) ⊎ Rose (D.faults self.old.one.disk) (D.faults self.new.one.disk)) }
         ensures head { self.new.head ≡ self.old.head }
         ensures format { OnOk result (format_of self.new ≡ 2) }
@@ -182,6 +184,8 @@ impl<D: Disk> Pair<D> {
         ensures ready { IfOk result (λ pair. IsReady D.seen D.may_leave (current_of pair)) }
         ensures told { IfOk result (λ pair. (is_some (D.seen pair.zero.disk) ≡ is_some (D.seen a)) × (is_some (D.seen pair.one.disk) ≡ is_some (D.seen b))) }
         ensures told_err { IfErr result (λ given. (is_some (D.seen given.0) ≡ is_some (D.seen a)) × (is_some (D.seen given.1) ≡ is_some (D.seen b))) }
+        ensures later { IfOk result (λ pair. (D.faults a ≤ D.faults pair.zero.disk) × (D.faults b ≤ D.faults pair.one.disk)) }
+        ensures later_err { IfErr result (λ given. (D.faults a ≤ D.faults given.0) × (D.faults b ≤ D.faults given.1)) }
         ensures failed { IfErr result (λ given. Rose (D.faults a) (D.faults given.0) ⊎ Rose (D.faults b) (D.faults given.1)) }
     {
         let zero = Half::Zero.head(&head, head[4]);
@@ -249,7 +253,7 @@ impl<D: Disk> Pair<D> {
         ensures one { IsOnlyRead D.seen D.may_leave self.old.one.disk self.new.one.disk }
         ensures any_moment { IsTrue D.tells_moments → LeavesOnly D.moment D.left_since self.old.zero.disk self.new.zero.disk (D.may_leave self.old.zero.disk)
             × LeavesOnly D.moment D.left_since self.old.one.disk self.new.one.disk (D.may_leave self.old.one.disk) }
-        ensures later { (D.faults self.old.zero.disk ≤ D.faults self.new.zero.disk) × (D.faults self.old.one.disk ≤ D.faults self.new.one.disk) }
+        ensures later { AreLater D.faults self.old self.new }
         ensures failed { IsErrOf result OpenFault.DiskFault → Rose (D.faults self.old.zero.disk) (D.faults self.new.zero.disk) ⊎ Rose (D.faults self.old.one.disk) (D.faults self.new.one.disk) }
     {
         let zero = read_half(alloc, &mut self.zero, &self.head, Half::Zero)?;
@@ -288,6 +292,7 @@ impl<D: Disk> Pair<D> {
         ensures used { OnOk result (self.new.zero.used ≡ 9 + length first.now) }
         ensures current { self.new.current ≡ self.old.current }
         ensures head { self.new.head ≡ self.old.head }
+        ensures later { AreLater D.faults self.old self.new }
         ensures failed { OnErr result (Rose (D.faults self.old.zero.disk) (D.faults self.new.zero.disk) ⊎ Rose (D.faults self.old.one.disk) (D.faults self.new.one.disk)) }
     {
         match empty(&mut self.one.disk) {

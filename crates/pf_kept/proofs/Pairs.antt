@@ -13,7 +13,7 @@ use Rattle.pf_store.specs.Stores.{IsImageOf, IsSpelledAs}
 use Rattle.pf_image.specs.Halves.{half_head, of_half, other}
 use Rattle.pf_image.specs.Recovery.{Content, FindsIn, IsNext, IsRecoverable}
 use Rattle.pf_image.specs.Current.{IsCurrent, IsReady}
-use Rattle.pf_image.specs.Pairs.{IsWhole, Leaves, current_of, format_of}
+use Rattle.pf_image.specs.Pairs.{AreLater, IsWhole, Leaves, current_of, format_of}
 use Rattle.pf_image.specs.declared.halves.Half.{Half}
 use Rattle.pf_image.specs.declared.halves.Half.TheVariants.{Zero, One}
 use Rattle.pf_image.specs.declared.pair.Pair.{Pair}
@@ -208,5 +208,5 @@ rose_later : (before now next : ℕ) → before ≤ now → Rose now next → Ro
 rose_later before now next le rose = omega (arith, le, rose)
 
 -- a count that rises after a reading has risen since before it
-pub one_rose_later : {D : Type 0} (faults : D → ℕ) (old new next : Pair D) → (faults old.zero.disk ≤ faults new.zero.disk) × (faults old.one.disk ≤ faults new.one.disk) → OneRose faults new next → OneRose faults old next
-one_rose_later faults old new next le rose = ⊎_elim (λ zero. inl (rose_later _ _ _ le.0 zero)) (λ one. inr (rose_later _ _ _ le.1 one)) rose
+pub one_rose_later : {D : Type 0} (faults : D → ℕ) (old new next : Pair D) → AreLater faults old new → OneRose faults new next → OneRose faults old next
+one_rose_later faults old new next le rose = ⊎_elim (λ zero. inl (rose_later _ _ _ le.zero zero)) (λ one. inr (rose_later _ _ _ le.one one)) rose

@@ -12,7 +12,7 @@ use Rattle.pf_spelling.specs.Spelling.{body_bytes}
 use Rattle.pf_store.specs.Stores.{is_image, state_of}
 use Rattle.pf_image.specs.Recovery.{AreRecoverable, Content, FindsIn, IsFormat, Spells}
 use Rattle.pf_image.specs.Current.{IsReady}
-use Rattle.pf_image.specs.Pairs.{IsWhole, current_of, format_of}
+use Rattle.pf_image.specs.Pairs.{AreLater, IsWhole, current_of, format_of}
 use Rattle.pf_image.specs.declared.pair.Pair.{Pair}
 
 -- the records of a half in a format: an image and changes, which spell records that stand for this state
@@ -69,3 +69,9 @@ module _ {D : Type 0} (seen : D → Option (List ℕ)) (may_leave : D → Images
 abbrev pub WasKept : {D : Type 0} → (D → Option (List ℕ)) → (D → ℕ) → (D → ℕ → Images) → Bool → (old new : Pair D) → (before after : Durable) → Type 0
 WasKept seen moment left_since tells_moments old new before after =
     IsTrue tells_moments → IsTrue (tells seen old) → LeavesStates old.head (left_since new.zero.disk (moment old.zero.disk)) (left_since new.one.disk (moment old.one.disk)) before after
+
+-- what became of a pair: a restart looks for the same head, no count of faults fell, and a crash at any moment left one of two states
+pub record WentOn {D : Type 0} (seen : D → Option (List ℕ)) (faults moment : D → ℕ) (left_since : D → ℕ → Images) (tells_moments : Bool) (old new : Pair D) (before after : Durable) : Type 0 where
+  pub head : new.head ≡ old.head
+  pub later : AreLater faults old new
+  pub left : WasKept seen moment left_since tells_moments old new before after

@@ -9,7 +9,7 @@ ghost use Rattle.pf_entry.specs.declared.records.Record.{Record as RecordIs};
 ghost use Rattle.pf_store.specs.Stores.{StandsFor, state_of};
 ghost use Rattle.pf_image.specs.Recovery.{AreRecoverable, Spells};
 ghost use Rattle.pf_image.specs.Pairs.{current_of, format_of};
-ghost use Rattle.pf_kept.specs.Kept.{FindsState, IsFirst, IsKept, LeavesStates, OneRose, WasKept, tells};
+ghost use Rattle.pf_kept.specs.Kept.{FindsState, IsFirst, IsKept, LeavesStates, OneRose, WentOn, tells};
 
 use crate::reading::{read_records, used_by};
 use pf_base::NoMemory;
@@ -52,6 +52,8 @@ impl<D: Disk> Kept<D> {
         ensures head { IfOk result (λ kept. kept.pair.head ≡ head) }
         ensures told { IfOk result (λ kept. tells D.seen kept.pair ≡ (is_some (D.seen a) && is_some (D.seen b))) }
         ensures told_err { IfErr result (λ given. (is_some (D.seen given.0) ≡ is_some (D.seen a)) × (is_some (D.seen given.1) ≡ is_some (D.seen b))) }
+        ensures later { IfOk result (λ kept. (D.faults a ≤ D.faults kept.pair.zero.disk) × (D.faults b ≤ D.faults kept.pair.one.disk)) }
+        ensures later_err { IfErr result (λ given. (D.faults a ≤ D.faults given.0) × (D.faults b ≤ D.faults given.1)) }
         ensures failed { IfErr result (λ given. Rose (D.faults a) (D.faults given.0) ⊎ Rose (D.faults b) (D.faults given.1)) }
     {
         match Pair::new(a, b, head, first) {
@@ -116,7 +118,7 @@ impl<D: Disk> Store for Kept<D> {
 
     ghost rose = { λ old new. OneRose D.faults old.pair new.pair };
 
-    ghost was = { λ old new before after. WasKept D.seen D.moment D.left_since D.tells_moments old.pair new.pair before after };
+    ghost was = { λ old new before after. WentOn D.seen D.faults D.moment D.left_since D.tells_moments old.pair new.pair before after };
 
     fn used_bytes(&self) -> u64 {
         self.pair.used_bytes()

@@ -1,5 +1,5 @@
 //! The making of a server, in two steps: first all its memory, then its disks.
-ghost use Rattle.std.specs.Prelude.{◌≡◌, ◌⊎◌, ◌&&◌, [], IfOk, is_some};
+ghost use Rattle.std.specs.Prelude.{◌≡◌, ◌≤◌, ◌⊎◌, ◌&&◌, [], IfOk, is_some};
 ghost use Rattle.pf_disk.specs.Causes.{Rose};
 ghost use Rattle.pf_protocol.specs.Servers.{Setup, Running as RunningIs};
 ghost use Rattle.pf_kept.specs.Faults.{faults_of};
@@ -73,6 +73,7 @@ impl ServerRoom {
         ensures halted { result.1 ≡ Answer.Refused Refusal.Halted → result.0.state ≡ State.Unformatted }
         ensures failed { result.1 ≡ Answer.Refused Refusal.Halted
             → Rose (D.faults a) (faults_of D.faults result.0.store).0 ⊎ Rose (D.faults b) (faults_of D.faults result.0.store).1 }
+        ensures later { (D.faults a ≤ (faults_of D.faults result.0.store).0) × (D.faults b ≤ (faults_of D.faults result.0.store).1) }
         ensures seat { result.0.seat ≡ self.seat }
         ensures answers { answers_of result.0.state ≡ [] }
         ensures head { result.0.store.pair.head ≡ head_of self.group self.seat }

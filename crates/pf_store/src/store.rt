@@ -31,7 +31,8 @@ pub trait Store {
     /// A count of faults of one of the disks rose from the first to the second.
     ghost rose: { Self → Self → Type 0 };
 
-    /// A crash at any moment from the first to the second left the first state, or the second.
+    /// From the first to the second no count of faults fell, the store is found by the same head, and a crash at any moment left the first
+    /// state, or the second.
     ghost was: { Self → Self → Durable → Durable → Type 0 };
 
     /// The used bytes of the current half.

@@ -17,16 +17,24 @@ returns-in-Ok-clause-ok g c = λ d r kept is.
     (λ records whole. c.in-Ok.ensures.acknowledged (raw_of r) records (change_body format r c.args.body.now is) (is_change format r c.args.body.now is) whole))
 
 pub returns-in-Ok-clause-any_moment : goal.returns-in-Ok-clause-any_moment
-returns-in-Ok-clause-any_moment g c = λ d r kept is tells_moments tells_it.
-    let format = format_of c.args.self.now.pair in
-    append_leaves g.D.Disk.seen g.D.Disk.may_leave c.args.self.now.pair d r c.args.body.now c.args.self.now.pair.head (g.D.Disk.left_since c.append.new.self.zero.disk (g.D.Disk.moment c.args.self.now.pair.zero.disk)) (g.D.Disk.left_since c.append.new.self.one.disk (g.D.Disk.moment c.args.self.now.pair.one.disk))
-    (has_one g.D.Disk.seen g.D.Disk.may_leave c.args.self.now.pair d kept tells_it) is (λ records whole. c.append.ensures.any_moment tells_moments (raw_of r) records (change_body format r c.args.body.now is) (is_change format r c.args.body.now is) whole)
+returns-in-Ok-clause-any_moment g c = λ d r kept is. record {
+  head = c.append.ensures.head;
+  later = c.append.ensures.later;
+  left = λ tells_moments tells_it.
+      let format = format_of c.args.self.now.pair in
+      append_leaves g.D.Disk.seen g.D.Disk.may_leave c.args.self.now.pair d r c.args.body.now c.args.self.now.pair.head (g.D.Disk.left_since c.append.new.self.zero.disk (g.D.Disk.moment c.args.self.now.pair.zero.disk)) (g.D.Disk.left_since c.append.new.self.one.disk (g.D.Disk.moment c.args.self.now.pair.one.disk))
+      (has_one g.D.Disk.seen g.D.Disk.may_leave c.args.self.now.pair d kept tells_it) is (λ records whole. c.append.ensures.any_moment tells_moments (raw_of r) records (change_body format r c.args.body.now is) (is_change format r c.args.body.now is) whole);
+}
 
 pub returns-in-Err-DiskFault-clause-any_moment : goal.returns-in-Err-DiskFault-clause-any_moment
-returns-in-Err-DiskFault-clause-any_moment g c = λ d r kept is tells_moments tells_it.
-    let format = format_of c.args.self.now.pair in
-    append_leaves g.D.Disk.seen g.D.Disk.may_leave c.args.self.now.pair d r c.args.body.now c.args.self.now.pair.head (g.D.Disk.left_since c.append.new.self.zero.disk (g.D.Disk.moment c.args.self.now.pair.zero.disk)) (g.D.Disk.left_since c.append.new.self.one.disk (g.D.Disk.moment c.args.self.now.pair.one.disk))
-    (has_one g.D.Disk.seen g.D.Disk.may_leave c.args.self.now.pair d kept tells_it) is (λ records whole. c.append.ensures.any_moment tells_moments (raw_of r) records (change_body format r c.args.body.now is) (is_change format r c.args.body.now is) whole)
+returns-in-Err-DiskFault-clause-any_moment g c = λ d r kept is. record {
+  head = c.append.ensures.head;
+  later = c.append.ensures.later;
+  left = λ tells_moments tells_it.
+      let format = format_of c.args.self.now.pair in
+      append_leaves g.D.Disk.seen g.D.Disk.may_leave c.args.self.now.pair d r c.args.body.now c.args.self.now.pair.head (g.D.Disk.left_since c.append.new.self.zero.disk (g.D.Disk.moment c.args.self.now.pair.zero.disk)) (g.D.Disk.left_since c.append.new.self.one.disk (g.D.Disk.moment c.args.self.now.pair.one.disk))
+      (has_one g.D.Disk.seen g.D.Disk.may_leave c.args.self.now.pair d kept tells_it) is (λ records whole. c.append.ensures.any_moment tells_moments (raw_of r) records (change_body format r c.args.body.now is) (is_change format r c.args.body.now is) whole);
+}
 
 pub returns-in-Err-DiskFault-clause-err : goal.returns-in-Err-DiskFault-clause-err
 returns-in-Err-DiskFault-clause-err g c = λ d r kept is.

@@ -25,19 +25,31 @@ returns-in_err-found-in-Ok-clause-same g c = if_err c.from_residual.result (λ t
     ))
 
 pub returns-in_err-found-in-Ok-clause-any_moment : goal.returns-in_err-found-in-Ok-clause-any_moment
-returns-in_err-found-in-Ok-clause-any_moment g c = λ before after kept tells_moments tells_it.
-    let times = c.reload.ensures.any_moment tells_moments in
-    read_leaves g.D.Disk.seen g.D.Disk.may_leave g.D.Disk.moment g.D.Disk.left_since c.args.self.now.pair c.reload.new.self before after kept tells_it times.0 times.1
+returns-in_err-found-in-Ok-clause-any_moment g c = λ before after kept. record {
+  head = c.reload.ensures.head;
+  later = c.reload.ensures.later;
+  left = λ tells_moments tells_it.
+      let times = c.reload.ensures.any_moment tells_moments in
+      read_leaves g.D.Disk.seen g.D.Disk.may_leave g.D.Disk.moment g.D.Disk.left_since c.args.self.now.pair c.reload.new.self before after kept tells_it times.0 times.1;
+}
 
 pub returns-in_ok-found-in-Ok-clause-any_moment : goal.returns-in_ok-found-in-Ok-clause-any_moment
-returns-in_ok-found-in-Ok-clause-any_moment g c = λ before after kept tells_moments tells_it.
-    let times = c.reload.ensures.any_moment tells_moments in
-    read_leaves g.D.Disk.seen g.D.Disk.may_leave g.D.Disk.moment g.D.Disk.left_since c.args.self.now.pair c.reload.new.self before after kept tells_it times.0 times.1
+returns-in_ok-found-in-Ok-clause-any_moment g c = λ before after kept. record {
+  head = c.reload.ensures.head;
+  later = c.reload.ensures.later;
+  left = λ tells_moments tells_it.
+      let times = c.reload.ensures.any_moment tells_moments in
+      read_leaves g.D.Disk.seen g.D.Disk.may_leave g.D.Disk.moment g.D.Disk.left_since c.args.self.now.pair c.reload.new.self before after kept tells_it times.0 times.1;
+}
 
 pub returns-in-Err-clause-any_moment : goal.returns-in-Err-clause-any_moment
-returns-in-Err-clause-any_moment g c = λ before after kept tells_moments tells_it.
-    let times = c.reload.ensures.any_moment tells_moments in
-    read_leaves g.D.Disk.seen g.D.Disk.may_leave g.D.Disk.moment g.D.Disk.left_since c.args.self.now.pair c.reload.new.self before after kept tells_it times.0 times.1
+returns-in-Err-clause-any_moment g c = λ before after kept. record {
+  head = c.reload.ensures.head;
+  later = c.reload.ensures.later;
+  left = λ tells_moments tells_it.
+      let times = c.reload.ensures.any_moment tells_moments in
+      read_leaves g.D.Disk.seen g.D.Disk.may_leave g.D.Disk.moment g.D.Disk.left_since c.args.self.now.pair c.reload.new.self before after kept tells_it times.0 times.1;
+}
 
 pub returns-in-Err-clause-kept : goal.returns-in-Err-clause-kept
 returns-in-Err-clause-kept g c = λ before after kept.

@@ -17,14 +17,22 @@ returns-in-Ok-clause-ok g c = λ d r kept is.
     (λ records next whole. c.in-Ok.ensures.saved (raw_of r) records (image_body d r c.args.body.now is) next whole))
 
 pub returns-in-Ok-clause-any_moment : goal.returns-in-Ok-clause-any_moment
-returns-in-Ok-clause-any_moment g c = λ d r kept is tells_moments tells_it.
-    save_leaves g.D.Disk.seen g.D.Disk.may_leave c.args.self.now.pair d r c.args.body.now c.args.self.now.pair.head (g.D.Disk.left_since c.save.new.self.zero.disk (g.D.Disk.moment c.args.self.now.pair.zero.disk)) (g.D.Disk.left_since c.save.new.self.one.disk (g.D.Disk.moment c.args.self.now.pair.one.disk))
-    (has_one g.D.Disk.seen g.D.Disk.may_leave c.args.self.now.pair d kept tells_it) is (λ records next whole. c.save.ensures.any_moment tells_moments (raw_of r) records (image_body d r c.args.body.now is) next whole)
+returns-in-Ok-clause-any_moment g c = λ d r kept is. record {
+  head = c.save.ensures.head;
+  later = c.save.ensures.later;
+  left = λ tells_moments tells_it.
+      save_leaves g.D.Disk.seen g.D.Disk.may_leave c.args.self.now.pair d r c.args.body.now c.args.self.now.pair.head (g.D.Disk.left_since c.save.new.self.zero.disk (g.D.Disk.moment c.args.self.now.pair.zero.disk)) (g.D.Disk.left_since c.save.new.self.one.disk (g.D.Disk.moment c.args.self.now.pair.one.disk))
+      (has_one g.D.Disk.seen g.D.Disk.may_leave c.args.self.now.pair d kept tells_it) is (λ records next whole. c.save.ensures.any_moment tells_moments (raw_of r) records (image_body d r c.args.body.now is) next whole);
+}
 
 pub returns-in-Err-clause-any_moment : goal.returns-in-Err-clause-any_moment
-returns-in-Err-clause-any_moment g c = λ d r kept is tells_moments tells_it.
-    save_leaves g.D.Disk.seen g.D.Disk.may_leave c.args.self.now.pair d r c.args.body.now c.args.self.now.pair.head (g.D.Disk.left_since c.save.new.self.zero.disk (g.D.Disk.moment c.args.self.now.pair.zero.disk)) (g.D.Disk.left_since c.save.new.self.one.disk (g.D.Disk.moment c.args.self.now.pair.one.disk))
-    (has_one g.D.Disk.seen g.D.Disk.may_leave c.args.self.now.pair d kept tells_it) is (λ records next whole. c.save.ensures.any_moment tells_moments (raw_of r) records (image_body d r c.args.body.now is) next whole)
+returns-in-Err-clause-any_moment g c = λ d r kept is. record {
+  head = c.save.ensures.head;
+  later = c.save.ensures.later;
+  left = λ tells_moments tells_it.
+      save_leaves g.D.Disk.seen g.D.Disk.may_leave c.args.self.now.pair d r c.args.body.now c.args.self.now.pair.head (g.D.Disk.left_since c.save.new.self.zero.disk (g.D.Disk.moment c.args.self.now.pair.zero.disk)) (g.D.Disk.left_since c.save.new.self.one.disk (g.D.Disk.moment c.args.self.now.pair.one.disk))
+      (has_one g.D.Disk.seen g.D.Disk.may_leave c.args.self.now.pair d kept tells_it) is (λ records next whole. c.save.ensures.any_moment tells_moments (raw_of r) records (image_body d r c.args.body.now is) next whole);
+}
 
 pub returns-in-Err-clause-err : goal.returns-in-Err-clause-err
 returns-in-Err-clause-err g c = λ d r kept is.
