@@ -7,8 +7,9 @@ use Rattle.pf_entry.specs.declared.records.Record.{Record}
 use Rattle.pf_entry.specs.declared.records.Record.TheVariants.{Image as ImageRecord, Term as TermRecord, Entry as EntryRecord, Merged as MergedRecord}
 use Rattle.pf_store.specs.Stores.{BeginsWithImage, StandsFor, blank, is_image, state_of}
 use Rattle.pf_store.specs.declared.found.Found.{Found}
+use Rattle.pf_protocol.specs.Saving.{renewed}
 use Rattle.pf_protocol.specs.Servers.{Setup}
-use Rattle.pf_restart.specs.Beginning.{HasSome, IsThere, MayBegin}
+use Rattle.pf_restart.specs.Beginning.{HasSome, IsThere, MayBegin, WasBegun}
 
 -- no later record changes the format
 same_format : (r : Record) (d : Durable) → is_image r ≡ false → (stored d r).format ≡ d.format
@@ -47,6 +48,12 @@ module _ {S : Type 0} (holds : S → Durable → Durable → Type 0) (before aft
 
   pub some_one : (d : Durable) → (d ≡ before) ⊎ (d ≡ after) → holds store d d → HasSome holds before after store
   some_one d either has = record { x = d; y = d; has = has; first = either; second = either }
+
+-- the state that was read, which is one of the two, was saved anew or not
+pub begun_anew : {S : Type 0} → (was : S → S → Durable → Durable → Type 0) (before after d : Durable) (old between new : S) → was old between before after → (d ≡ before) ⊎ (d ≡ after) → (new ≡ between) ⊎ was between new d (renewed d)
+    → WasBegun was before after old new
+begun_anew was before after d old between new read either (inl same) = record { between = between; read = read; saved = inl same }
+begun_anew was before after d old between new read either (inr saved) = record { between = between; read = read; saved = inr (d, either, saved) }
 
 module _ {S : Type 0} (holds : S → Durable → Durable → Type 0) (used format : S → ℕ) where
   -- the state that was found

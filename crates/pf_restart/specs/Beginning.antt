@@ -3,7 +3,7 @@ use Rattle.std.specs.Prelude.{◌≡◌, ◌⊎◌, ℕ, suc, ◌+◌, ◌<◌, 
 use Rattle.std.specs.FinMap
 use Rattle.pf_entry.specs.Records.{Durable}
 use Rattle.pf_protocol.specs.Servers.{Setup}
-use Rattle.pf_protocol.specs.Saving.{restarted}
+use Rattle.pf_protocol.specs.Saving.{renewed, restarted}
 use Rattle.pf_protocol.specs.Fitting.{DurableFits}
 use Rattle.pf_protocol.specs.Answers.{IsSetup}
 use Rattle.pf_state.specs.declared.running.Running.{Running}
@@ -51,6 +51,13 @@ pub record HasSome {S : Type 0} (holds : S → Durable → Durable → Type 0) (
   pub has : holds store x y
   pub first : (x ≡ before) ⊎ (x ≡ after)
   pub second : (y ≡ before) ⊎ (y ≡ after)
+
+-- What became of the store in a restart: it was read, and then what was read was saved anew or not. A crash at any moment left one of the
+-- two states, or the one that was read saved anew.
+pub record WasBegun {S : Type 0} (was : S → S → Durable → Durable → Type 0) (before after : Durable) (old new : S) : Type 0 where
+  pub between : S
+  pub read : was old between before after
+  pub saved : (new ≡ between) ⊎ ((d : Durable) × ((d ≡ before) ⊎ (d ≡ after)) × was between new d (renewed d))
 
 module _ {S : Type 0} (holds : S → Durable → Durable → Type 0) (used format : S → ℕ) where
   -- the server begins this life over this state

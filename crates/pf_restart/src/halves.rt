@@ -1,5 +1,5 @@
 //! A half of the first format is saved anew.
-ghost use Rattle.std.specs.Prelude.{◌≡◌, ℕ, IfOk, IsErrOf, OnOk};
+ghost use Rattle.std.specs.Prelude.{◌≡◌, ◌⊎◌, ℕ, IfOk, IsErrOf, OnOk};
 ghost use Rattle.pf_entry.specs.Records.{Durable, image_of, stored};
 ghost use Rattle.pf_spelling.specs.Spelling.{body_bytes};
 ghost use Rattle.pf_protocol.specs.Saving.{renewed};
@@ -45,6 +45,7 @@ fn save_anew<S: Store>(
     ensures no_memory { IsErrOf result RestartFault.NoMemory → store.new ≡ store.old }
     ensures unread { IsErrOf result RestartFault.ReadHalted → ⊥ }
     ensures ours { IsErrOf result RestartFault.NotOurs → ⊥ }
+    ensures any_moment { (d : Durable) → S.holds store.old d d → Lives d me.old → (store.new ≡ store.old) ⊎ S.was store.old store.new d (stored d (image_of (anew d))) }
     ensures told { S.told store.new ≡ S.told store.old }
 {
     let body = spell_anew(alloc, me)?;
@@ -73,6 +74,7 @@ pub fn renew<S: Store>(
     ensures no_memory { IsErrOf result RestartFault.NoMemory → store.new ≡ store.old }
     ensures unread { IsErrOf result RestartFault.ReadHalted → ⊥ }
     ensures ours { IsErrOf result RestartFault.NotOurs → ⊥ }
+    ensures any_moment { (d : Durable) → S.holds store.old d d → Lives d me.old → S.format store.old ≡ d.format → (store.new ≡ store.old) ⊎ S.was store.old store.new d (renewed d) }
     ensures told { S.told store.new ≡ S.told store.old }
 {
     if format != 1 {

@@ -100,7 +100,7 @@ module _ {S : Type 0} (holds : S → Durable → Durable → Type 0) (used forma
     pub comes : (ended : Result Answer StepFault) (result : Result Answer NoMemoryIs) → IsRoomy judged o → Steps holds used format told rose was s.durable store me out store' me' out' judged o ended → Ends before (Runs me') state' ended result → ComesTo judged result
     comes (Ok answer) result roomy x end = subst (ComesTo judged) (sym end.0) (subst (λ j. ComesTo j (Ok answer)) (sym x.may) (inl (carried_out answer x end.1)))
     comes (Err WantsMemory) result roomy x end = subst (ComesTo judged) (sym end.0) (no_memory judged (record {}) (record { kept = as_it_was x end.1; store_same = x.store_same }))
-    comes (Err (IsRefused refusal)) result roomy x end = subst (ComesTo judged) (sym end.0) (subst (λ j. ComesTo j (Ok (Refused refusal))) (sym x.judged_so) (record { answered = refl; kept = as_it_was x.untouched end.1 }))
+    comes (Err (IsRefused refusal)) result roomy x end = subst (ComesTo judged) (sym end.0) (subst (λ j. ComesTo j (Ok (Refused refusal))) (sym x.judged_so) (record { answered = refl; kept = as_it_was x.untouched end.1 }, x.untouched.store_same))
     comes (Err IsHalted) result roomy x end = subst (ComesTo judged) (sym end.0) (subst (λ j. ComesTo j (Ok (Refused Halted))) (sym x.may) (inr (cut_off x roomy end.1)))
 
   module _ (d : Durable) (judged : Option Refusal) (o : Outcome) where

@@ -22,6 +22,7 @@ use Rattle.pf_restart.specs.Beginning.{IsRead, IsSeat, MayBegin, setup_at}
 use Rattle.pf_restart.specs.declared.reading.Reading.{Reading}
 use Rattle.pf_restart.specs.declared.seat.Seat.{Seat}
 use Rattle.pf_server.specs.Conditions.{IsFit, IsInHalf}
+use Rattle.pf_server.specs.Turns.{IsOf}
 
 -- the image of the state under the next generation
 abbrev saved_anew : Durable → Durable
@@ -31,10 +32,6 @@ saved_anew d = stored d (image_of (record d { generation = suc d.generation }))
 pub renewed_twice : (d : Durable) → renewed (renewed d) ≡ renewed d
 unfolding renewed stored
 renewed_twice d = by_test (d.format == 1) (λ c. renewed (if c then saved_anew d else d) ≡ (if c then saved_anew d else d)) (λ _. refl) (λ second. cond-false (d.format == 1) _ _ second)
-
--- the state, perhaps saved anew
-abbrev pub IsOf : (z d : Durable) → Type 0
-IsOf z d = (d ≡ z) ⊎ (d ≡ renewed z)
 
 pub renewed_of : (z d : Durable) → IsOf z d → renewed d ≡ renewed z
 renewed_of z d (inl same) = ap renewed same

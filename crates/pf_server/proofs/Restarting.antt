@@ -8,7 +8,7 @@ use Rattle.pf_protocol.specs.declared.answers.Answer.{Answer}
 use Rattle.pf_protocol.specs.declared.answers.Answer.TheVariants.{Done, Refused}
 use Rattle.pf_protocol.specs.declared.answers.Refusal.TheVariants.{Halted}
 use Rattle.pf_state.specs.declared.running.Running.{Running}
-use Rattle.pf_restart.specs.Beginning.{HasSome, IsBegun, IsRead, IsSeat, IsThere, MayBegin, setup_at}
+use Rattle.pf_restart.specs.Beginning.{HasSome, IsBegun, IsRead, IsSeat, IsThere, MayBegin, WasBegun, setup_at}
 use Rattle.pf_restart.specs.Faults.{IsHalt}
 use Rattle.pf_restart.specs.declared.faults.RestartFault.{RestartFault}
 use Rattle.pf_restart.specs.declared.faults.RestartFault.TheVariants.{NoMemory as WantsMemory, ReadHalted, SaveHalted, NotOurs}
@@ -21,8 +21,8 @@ use Rattle.pf_server.specs.declared.state.State.TheVariants.{Runs, Stopped, Unfo
 use Rattle.pf_server.specs.Beginning.{IsLast, Restarts, doubt_after, found_by}
 use Rattle.pf_server.specs.Conditions.{HasOne, IsFit, IsInHalf, IsKnown, IsRunning, IsSound, IsStopped, Leaves, Meets, answers_of}
 use Rattle.pf_server.specs.Ending.{quieted}
-use Rattle.pf_server.specs.Turns.{Begins, BeginsAgain}
-use Rattle.pf_server.proofs.Renewing.{IsOf, either_read, may_of, renewed_of}
+use Rattle.pf_server.specs.Turns.{Begins, BeginsAgain, IsOf, WasBegunFrom, WasBegunIn}
+use Rattle.pf_server.proofs.Renewing.{either_read, may_of, renewed_of}
 use Rattle.pf_server.proofs.Bounds.{low_life, same_life}
 use Rattle.pf_server.proofs.Standing.{in_half, quieted_runs}
 
@@ -35,10 +35,25 @@ chosen_of : (P : Durable → Type 0) (found : Bool) (before after : Durable) →
 chosen_of P true before after first second = second
 chosen_of P false before after first second = first
 
+module _ (before after : Durable) where
+  -- of the state without the last step's record or of that with it
+  abbrev IsOfEither : Durable → Type 0
+  IsOfEither x = IsOf before x ⊎ IsOf after x
+
+  of_either : (x : Durable) → (x ≡ before) ⊎ (x ≡ after) → IsOfEither x
+  of_either x (inl same) = inl (inl same)
+  of_either x (inr same) = inr (inl same)
+
+  of_found : (found : Bool) (x : Durable) → IsOf (cond found after before) x → IsOfEither x
+  of_found true x of = inr of
+  of_found false x of = inl of
+
 module _ {S : Type 0} (holds : S → Durable → Durable → Type 0) (used format : S → ℕ) (before after : Durable) (store : S) where
   -- the two states that a restart may find
   pub record IsPair (doubt : Doubt) (x y : Durable) : Type 0 where
     pub has : holds store x y
+    pub first : IsOfEither before after x
+    pub second : IsOfEither before after y
     pub chosen : (r : Reading) (d : Durable) → (d ≡ x) ⊎ (d ≡ y) → IsRead r d → IsOf (cond (found_by doubt r) after before) d
     pub moved : (store' : S) → HasSome holds x y store' → Leaves holds used format doubt before after store'
     pub may : (seat : Seat) → IsSeat seat → IsFit seat before → IsInHalf seat before → IsFit seat after → IsInHalf seat after → MayBegin (setup_at seat) x × MayBegin (setup_at seat) y
@@ -55,6 +70,8 @@ module _ {S : Type 0} (holds : S → Durable → Durable → Type 0) (used forma
     one.y,
     record {
       has = one.has;
+      first = inl one.first;
+      second = inl one.second;
       chosen = λ r d is read. one_of (IsOf before) one.x one.y d is one.first one.second;
       moved = λ store' h. (left.0, moved_one before one.x one.y one.first one.second store' h);
       may = λ seat made fit half fit2 half2. (may_of seat made before one.x fit half one.first, may_of seat made before one.y fit half one.second);
@@ -65,6 +82,8 @@ module _ {S : Type 0} (holds : S → Durable → Durable → Type 0) (used forma
     left.y,
     record {
       has = left.has;
+      first = of_either before after left.x left.first;
+      second = of_either before after left.y left.second;
       chosen = λ r d is read. inl (either_read bytes generation before after d r left.apart left.used_is left.generation_is (one_of IsEither left.x left.y d is left.first left.second) read);
       moved = λ store' h. record {
         x = h.x;
@@ -87,6 +106,8 @@ module _ {S : Type 0} (holds : S → Durable → Durable → Type 0) (used forma
     left.y,
     record {
       has = left.has;
+      first = of_found before after found left.x left.first;
+      second = of_found before after found left.y left.second;
       chosen = λ r d is read. one_of (IsOf z) left.x left.y d is left.first left.second;
       moved = λ store' h. moved_one z left.x left.y left.first left.second store' h;
       may = λ seat made fit half fit2 half2.
@@ -235,6 +256,22 @@ module _ {S : Type 0} (holds : S → Durable → Durable → Type 0) (used forma
   last_low (Stopped l k) (StoppedIs there before after) last meets known = omega (arith, last.0, meets.life_is, known.2)
   last_low (Stopped l k) UnformattedIs last meets known = absurd meets
   last_low Unformatted c last meets known = absurd last
+
+-- what became of the disks
+module _ {S : Type 0} (holds : S → Durable → Durable → Type 0) (used format : S → ℕ) (was : S → S → Durable → Durable → Type 0) (seat : Seat) (store store' : S) (begun : (x y : Durable) → holds store x y → WasBegun was x y store store') where
+  begun_from : (doubt : Doubt) (before after : Durable) → Leaves holds used format doubt before after store → WasBegunFrom was store store' before after
+  begun_from doubt before after left =
+      let pair = pair_left holds used format before after store doubt left in
+      record { x = pair.0; y = pair.1; first = pair.2.first; second = pair.2.second; begun = begun pair.0 pair.1 pair.2.has }
+
+  pub begun_in : (life : ℕ) (doubt : Doubt) (state : State) (c : Condition) → IsLast state life doubt → Meets holds used format seat store state c → WasBegunIn was store store' c
+  begun_in life doubt (Runs me) (RunningIs s) last meets = record { x = s.durable; y = s.durable; first = inl (inl refl); second = inl (inl refl); begun = begun s.durable s.durable meets.stands.recorded }
+  begun_in life doubt (Runs me) (StoppedIs there before after) last meets = absurd meets
+  begun_in life doubt (Runs me) UnformattedIs last meets = absurd meets
+  begun_in life doubt (Stopped l k) (RunningIs s) last meets = absurd meets
+  begun_in life doubt (Stopped l k) (StoppedIs there before after) last meets = begun_from k before after meets.left
+  begun_in life doubt (Stopped l k) UnformattedIs last meets = absurd meets
+  begun_in life doubt Unformatted c last meets = absurd last
 
 -- a life begins without answers
 pub quiet_again : (life : ℕ) (doubt : Doubt) (state state' : State) (begun : Result (Running × Reading) RestartFault) (result : Result (Answer × Bool) NoMemory) → Restarts life doubt state state' begun result → answers_of state ≡ [] → answers_of state' ≡ []

@@ -16,6 +16,7 @@ use Rattle.pf_protocol.specs.declared.answers.Answer.TheVariants.{Done, Refused}
 use Rattle.pf_protocol.specs.declared.answers.Refusal.{Refusal}
 use Rattle.pf_protocol.specs.declared.answers.Refusal.TheVariants.{Halted, NotOurs, Stale}
 use Rattle.pf_state.specs.Outgoing.{Outgoing, sent_by}
+use Rattle.pf_restart.specs.Beginning.{WasBegun}
 use Rattle.pf_restart.specs.declared.seat.Seat.{Seat}
 use Rattle.pf_server.specs.declared.state.State.{State}
 use Rattle.pf_server.specs.Conditions.{AreSized, Meets, answers_of}
@@ -82,7 +83,7 @@ module _ {S : Type 0} (holds : S → Durable → Durable → Type 0) (used forma
   -- what a step comes to, of which this refusal comes first
   abbrev pub Comes : Outgoing → Outgoing → Option Refusal → Outcome → Result Answer NoMemory → Type 0
   Comes out out' None o (Ok answer) = WasCarriedOut out out' o answer ⊎ WasCutOff o answer
-  Comes out out' (Some refusal) o (Ok answer) = WasRefused holds used format seat store' state' s refusal answer
+  Comes out out' (Some refusal) o (Ok answer) = WasRefused holds used format seat store' state' s refusal answer × (store' ≡ store)
   Comes out out' judged o (Err e) = WasSpared
 
 -- a job of another life is refused
@@ -101,3 +102,22 @@ module _ {S : Type 0} (holds : S → Durable → Durable → Type 0) (used forma
   BeginsAgain (StoppedIs life before after) (Ok (answer, found)) = Begins life before after found answer
   BeginsAgain UnformattedIs (Ok (answer, found)) = (answer ≡ Refused NotOurs) × Meets holds used format seat store' state' UnformattedIs
   BeginsAgain c (Err e) = Meets holds used format seat store' state' c
+
+-- the state itself, or saved anew in the second format
+abbrev pub IsOf : Durable → Durable → Type 0
+IsOf d x = (x ≡ d) ⊎ (x ≡ renewed d)
+
+module _ {S : Type 0} (was : S → S → Durable → Durable → Type 0) (store store' : S) where
+  -- a restart began from the state without the last step's record or from that with it, perhaps saved anew before
+  pub record WasBegunFrom (before after : Durable) : Type 0 where
+    pub x : Durable
+    pub y : Durable
+    pub first : IsOf before x ⊎ IsOf after x
+    pub second : IsOf before y ⊎ IsOf after y
+    pub begun : WasBegun was x y store store'
+
+  -- what became of the disks of a server in this condition; of one that never ran nothing
+  abbrev pub WasBegunIn : Condition → Type 0
+  WasBegunIn (RunningIs s) = WasBegunFrom s.durable s.durable
+  WasBegunIn (StoppedIs life before after) = WasBegunFrom before after
+  WasBegunIn UnformattedIs = store' ≡ store

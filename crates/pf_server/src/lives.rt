@@ -3,7 +3,7 @@ ghost use Rattle.std.specs.Prelude.{◌≡◌, ◌<◌, ◌^◌, suc, [], IsTrue
 ghost use Rattle.pf_protocol.specs.Servers.{Condition, Server as ServerIs, Running as RunningIs, Stopped as StoppedIs};
 ghost use Rattle.pf_server.specs.Beginning.{IsLast, Restarts, doubt_after, found_by};
 ghost use Rattle.pf_server.specs.Conditions.{IsInOrder, IsKnown, Meets, answers_of, runs};
-ghost use Rattle.pf_server.specs.Turns.{BeginsAgain};
+ghost use Rattle.pf_server.specs.Turns.{BeginsAgain, WasBegunIn};
 ghost use Rattle.pf_server.specs.declared.state.State.TheVariants.{Unformatted as UnformattedState};
 
 use crate::ends::forget;
@@ -121,6 +121,7 @@ impl<S: Store> Server<S> {
         requires told { IsTrue (S.told self.old.store) }
         requires order { IsInOrder S.holds S.used S.format self.old.seat self.old.store self.old.state }
         ensures step { (c : Condition) → Meets S.holds S.used S.format self.old.seat self.old.store self.old.state c → IsKnown self.old.seat c → BeginsAgain S.holds S.used S.format S.rose self.old.seat self.old.store self.new.store self.new.state c result }
+        ensures any_moment { (c : Condition) → Meets S.holds S.used S.format self.old.seat self.old.store self.old.state c → WasBegunIn S.was self.old.store self.new.store c }
         ensures answers { answers_of self.old.state ≡ [] → answers_of self.new.state ≡ [] }
         ensures seat { self.new.seat ≡ self.old.seat }
         ensures told { S.told self.new.store ≡ S.told self.old.store }

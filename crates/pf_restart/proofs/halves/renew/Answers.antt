@@ -1,4 +1,4 @@
-use Rattle.std.proofs.Common.{◌∙◌, subst, sym}
+use Rattle.std.proofs.Common.{◌≡◌, ◌⊎◌, ◌∙◌, subst, sym}
 use Rattle.std.proofs.lemmas.Result.{on_ok_weaker}
 use Rattle.pf_restart.specs.Beginning.{IsBegun}
 use Rattle.pf_restart.proofs.Renewing.{renewed_first, renewed_second}
@@ -18,3 +18,8 @@ pub returns-clause-halted : goal.returns-clause-halted
 returns-clause-halted g c = λ reading halted.
     let all = c.save_anew.ensures.halted reading halted in
     (all.0, λ d recorded lives half. subst (g.S.Store.holds c.save_anew.new.store d) (renewed_first d (sym half ∙ sym c.requires.format ∙ c.if-format-ne1.false)) (all.1 d recorded lives), all.2)
+
+pub returns-clause-any_moment : goal.returns-clause-any_moment
+returns-clause-any_moment g c = λ d recorded lives half.
+    subst (λ e. (c.save_anew.new.store ≡ c.args.store.now) ⊎ g.S.Store.was c.args.store.now c.save_anew.new.store d e) (renewed_first d (sym half ∙ sym c.requires.format ∙ c.if-format-ne1.false))
+    (c.save_anew.ensures.any_moment d recorded lives)

@@ -1,4 +1,4 @@
-use Rattle.std.proofs.Common.{◌∙◌}
+use Rattle.std.proofs.Common.{inr, ◌∙◌}
 use Rattle.pf_entry.specs.Records.{image_of}
 use Rattle.pf_restart.specs.Reviving.{anew}
 use Rattle.pf_restart.proofs.Renewing.{begun_lives, image_here, room_here, same_reading, saved_begun}
@@ -22,6 +22,12 @@ returns-clause-halted g c = λ reading halted. (
   λ d recorded l. c.in-Err.ensures.err d (image_of (anew d)) recorded (image_here d c.args.me.now l.seat l.life l.made l.revived l.early c.deref.result.now (c.deref.ensures.value ∙ c.in_ok-body.ensures d l)),
   c.in-Err.ensures.cause,
 )
+
+pub returns-clause-any_moment : goal.returns-clause-any_moment
+returns-clause-any_moment g c = λ d recorded l. inr (c.in-Err.ensures.any_moment d (image_of (anew d)) recorded (image_here d c.args.me.now l.seat l.life l.made l.revived l.early c.deref.result.now (c.deref.ensures.value ∙ c.in_ok-body.ensures d l)))
+
+pub returns-in-Ok-clause-any_moment : goal.returns-in-Ok-clause-any_moment
+returns-in-Ok-clause-any_moment g c = λ d recorded l. inr (c.in-Ok.ensures.any_moment d (image_of (anew d)) recorded (image_here d c.args.me.now l.seat l.life l.made l.revived l.early c.deref.result.now (c.deref.ensures.value ∙ c.in_ok-body.ensures d l)))
 
 pub returns-in-Ok-clause-saved : goal.returns-in-Ok-clause-saved
 returns-in-Ok-clause-saved g c = λ d seat life made begun.

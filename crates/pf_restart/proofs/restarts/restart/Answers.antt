@@ -6,7 +6,7 @@ use Rattle.pf_restart.specs.Reviving.{Lives}
 use Rattle.pf_restart.specs.declared.faults.RestartFault.TheVariants.{NoMemory as WantsMemory, NotOurs, SaveHalted}
 use Rattle.pf_restart.specs.declared.reading.Reading.{Reading}
 use Rattle.pf_restart.proofs.Renewing.{begun_so}
-use Rattle.pf_restart.proofs.Restarting.{found_format, may_either, passed_on, some_both, some_one, there_again}
+use Rattle.pf_restart.proofs.Restarting.{begun_anew, found_format, may_either, passed_on, some_both, some_one, there_again}
 use Rattle.pf_restart.proofs.restarts.restart.Goals as goal
 
 pub returns-in_err-found-clause-no_memory : goal.returns-in_err-found-clause-no_memory
@@ -63,6 +63,14 @@ returns-in_err-renew-clause-same g c = λ short told d there.
     subst (IsThere g.S.Store.holds g.S.Store.used g.S.Store.format d) (sym (c.in_err-renew.ensures.no_memory came))
     (there_again g.S.Store.holds g.S.Store.used g.S.Store.format c.in_ok-found.found d f.0 c.reload.new.self f.1 f.2 f.3 c.in_ok-found.ensures.state.0 c.in_ok-found.ensures.state.1)
 
+pub returns-in_err-renew-clause-any_moment : goal.returns-in_err-renew-clause-any_moment
+returns-in_err-renew-clause-any_moment g c = λ told before after has.
+    let f = c.in_ok-found.ensures.found told before after has in
+    let both = c.in_ok-me.ensures.begun f.0 f.2 in
+    let lives : Lives f.0 c.in_ok-me.me = record { seat = c.args.seat.now; life = c.args.life; made = c.requires.seat; revived = both.0; early = both.1 } in
+    begun_anew g.S.Store.was before after f.0 c.args.store.now c.reload.new.self c.renew.new.store (c.reload.ensures.any_moment before after has) f.1
+    (c.renew.ensures.any_moment f.0 f.3 lives (c.in_ok-found.ensures.state.1 ∙ found_format c.in_ok-found.found f.0 f.2))
+
 pub returns-clause-begun : goal.returns-clause-begun
 returns-clause-begun g c =
     let w = c.in_ok-found.ensures.whole in
@@ -84,3 +92,11 @@ returns-clause-found g c = λ told before after has.
       c.in_ok-renew.ensures.saved f.0 c.args.seat.now c.args.life c.requires.seat
           (begun_so g.S.Store.holds g.S.Store.used g.S.Store.format f.0 c.reload.new.self c.in_ok-me.me c.args.seat.now c.args.life both.0 f.3 (state.0 ∙ f.2.used) (state.1 ∙ found_format c.in_ok-found.found f.0 f.2)),
     )
+
+pub returns-clause-any_moment : goal.returns-clause-any_moment
+returns-clause-any_moment g c = λ told before after has.
+    let f = c.in_ok-found.ensures.found told before after has in
+    let both = c.in_ok-me.ensures.begun f.0 f.2 in
+    let lives : Lives f.0 c.in_ok-me.me = record { seat = c.args.seat.now; life = c.args.life; made = c.requires.seat; revived = both.0; early = both.1 } in
+    begun_anew g.S.Store.was before after f.0 c.args.store.now c.reload.new.self c.renew.new.store (c.reload.ensures.any_moment before after has) f.1
+    (c.renew.ensures.any_moment f.0 f.3 lives (c.in_ok-found.ensures.state.1 ∙ found_format c.in_ok-found.found f.0 f.2))

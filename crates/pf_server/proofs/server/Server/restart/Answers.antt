@@ -1,5 +1,5 @@
 use Rattle.std.proofs.Common.{arith}
-use Rattle.pf_server.proofs.Restarting.{again, last_low, quiet_again}
+use Rattle.pf_server.proofs.Restarting.{again, begun_in, last_low, quiet_again}
 use Rattle.pf_server.proofs.server.Server.restart.Goals as goal
 
 pub overflow_add-life : goal.overflow_add-life
@@ -27,6 +27,11 @@ returns-clause-step g c = λ condition meets known.
       cause = said.cause;
     })
     c.args.self.now.state condition c.in-Some.ensures meets known c.begin.ensures
+
+pub returns-clause-any_moment : goal.returns-clause-any_moment
+returns-clause-any_moment g c = λ condition meets.
+    begun_in g.S.Store.holds g.S.Store.used g.S.Store.format g.S.Store.was c.args.self.now.seat c.args.self.now.store c.restart-begun.new.store (c.restart-begun.ensures.any_moment c.requires.told) c.in-Some.life c.in-Some.doubt c.args.self.now.state
+    condition c.in-Some.ensures meets
 
 pub returns-clause-answers : goal.returns-clause-answers
 returns-clause-answers g c = quiet_again c.in-Some.life c.in-Some.doubt c.args.self.now.state c.begin.new.state c.restart-begun.result c.begin.result c.begin.ensures
