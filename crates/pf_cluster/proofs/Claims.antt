@@ -27,6 +27,7 @@ use Rattle.pf_cluster.proofs.Alone.{alone, alone_still}
 use Rattle.pf_cluster.proofs.Beginning.{its_condition}
 use Rattle.pf_cluster.proofs.Laws.{its_number}
 use Rattle.pf_cluster.proofs.Taking.{stopped_idles, unformatted_idles}
+use Rattle.pf_cluster.proofs.Touching.{touches_kept}
 
 module _ {S : Type 0} (holds : S → Durable → Durable → Type 0) (used format : S → ℕ) (told : S → Bool) (setup : Setup) (history : History) (old : Cluster S) (reached : IsReached holds used format told setup history old) where
   abbrev g : Group
@@ -96,17 +97,18 @@ found_group window g [] rest i s slot none runs_so least =
 found_group window g (j ∷ js) rest i s slot none runs_so least =
     ap (λ o. claim_or g j o (first_claim window g (js ++ i ∷ rest))) none.0 ∙ found_group window g js rest i s slot none.1 runs_so least
 
-module _ {S : Type 0} (holds : S → Durable → Durable → Type 0) (used format : S → ℕ) (told : S → Bool) (rose : S → S → Type 0) (setup : Setup) (g : Group) (old later : Cluster S) (stores : KeepsStores old later) (taken : taken_of later ≡ taken_of old) where
+module _ {S : Type 0} (holds : S → Durable → Durable → Type 0) (used format : S → ℕ) (told : S → Bool) (rose : S → S → Type 0) (was : S → S → Durable → Durable → Type 0) (setup : Setup) (g : Group) (old later : Cluster S) (stores : KeepsStores old later) (taken : taken_of later ≡ taken_of old) where
   -- some server has a job, which both answers tell
   pub claims_job : (before rest : List ℕ) (i : ℕ) → before ++ i ∷ rest ≡ 0 ∷ 1 ∷ 2 ∷ [] → Every (HasNone setup.window g) before → (claim : Claimed) → IsClaimedAt holds used format told setup g i later claim
-      → (answers : Answer × Answer) → answers.0 ≡ JobIs claim.job → answers.1 ≡ JobIs (record claim.job { op = claim.copy }) → (answers.1 ≡ answers.0) × HasGone holds used format told rose setup g Claim old later answers.0
+      → (answers : Answer × Answer) → answers.0 ≡ JobIs claim.job → answers.1 ≡ JobIs (record claim.job { op = claim.copy }) → (answers.1 ≡ answers.0) × HasGone holds used format told rose was setup g Claim old later answers.0
   unfolding answer_to happens
   claims_job before rest i all none claim c answers first second = let job = claim.job in (
     second ∙ ap (λ op. JobIs (record claim.job { op = op })) c.twice ∙ sym first,
-    subst (HasGone holds used format told rose setup g Claim old later) (sym first) (record {
+    subst (HasGone holds used format told rose was setup g Claim old later) (sym first) (record {
       answered = inl (ap JobIs c.job_is ∙ sym (ap (claim_answer setup.window g) (sym all) ∙ found_answer setup.window g before rest i c.s job.slot none c.runs c.least));
       shows = subst (Shows holds used format told setup later) (sym (ap (first_claim setup.window g) (sym all) ∙ found_group setup.window g before rest i c.s job.slot none c.runs c.least)) c.shows;
       cause = λ halted. absurd (apart halted);
+      crash = touches_kept was _ _ _ old later stores;
       others = λ i own. stores i;
       taken = taken;
     }),
@@ -116,9 +118,9 @@ module _ {S : Type 0} (holds : S → Durable → Durable → Type 0) (used forma
       apart is = cc
 
   -- no server has one
-  pub claims_none : Every (HasNone setup.window g) (0 ∷ 1 ∷ 2 ∷ []) → Shows holds used format told setup later g → HasGone holds used format told rose setup g Claim old later (Refused NoneFree)
+  pub claims_none : Every (HasNone setup.window g) (0 ∷ 1 ∷ 2 ∷ []) → Shows holds used format told setup later g → HasGone holds used format told rose was setup g Claim old later (Refused NoneFree)
   unfolding answer_to happens
-  claims_none none shows = record { answered = inl (sym (none_answer setup.window g (0 ∷ 1 ∷ 2 ∷ []) none)); shows = shows; cause = λ halted. absurd (apart halted); others = λ i own. stores i; taken = taken }
+  claims_none none shows = record { answered = inl (sym (none_answer setup.window g (0 ∷ 1 ∷ 2 ∷ []) none)); shows = shows; cause = λ halted. absurd (apart halted); crash = touches_kept was _ _ _ old later stores; others = λ i own. stores i; taken = taken }
     where
       apart : Refused NoneFree ≡ Refused Halted → ⊥
       apart is = cc

@@ -47,6 +47,7 @@ use Rattle.pf_protocol.proofs.Counting.{legal_packets}
 use Rattle.pf_protocol.proofs.Legal.{legal_fits}
 use Rattle.pf_server.specs.Conditions.{IsFor}
 use Rattle.pf_cluster.proofs.Rules.{below_after, leaves_all, packets_fit, same_setup}
+use Rattle.pf_cluster.proofs.Touching.{touches_kept}
 
 -- every packet is answered so
 done_if : (c : Bool) (x y : Outcome) → x.answer ≡ Done → y.answer ≡ Done → (if c then x else y).answer ≡ Done
@@ -234,24 +235,25 @@ module _ {S : Type 0} (owns : S → Durable → Durable → Type 0) (used format
     pub marks_none : (e : NoMemory) → outcome ≡ Err e → Shows owns used format told setup after g → Shows owns used format told setup (record after { packets = packets }) g
     marks_none e is shows = same_parcels setup after g packets (items (parcel_of p) (there g shows at) ∙ ap (λ b. cond b (slice_set after.packets.items k (parcel_of now_delivered)) after.packets.items) (ap is_delivery is)) places shows
 
-  module _ (rose : S → S → Type 0) (setup : Setup) (history : History) (old : Cluster S) (reached : IsReached owns used format told setup history old) (k : ℕ) where
+  module _ (rose : S → S → Type 0) (was : S → S → Durable → Durable → Type 0) (setup : Setup) (history : History) (old : Cluster S) (reached : IsReached owns used format told setup history old) (k : ℕ) where
     -- there is no such packet
     no_packet : length old.packets.items ≤ k → slice_get (replay setup history).packets k ≡ None
     no_packet beyond = slice_get_past (replay setup history).packets k (omega (arith, beyond, same_packets owns used format told setup history old reached))
 
-    pub loses_none : length old.packets.items ≤ k → HasGone owns used format told rose setup (replay setup history) (Lose k) old old (Refused NoPacket)
+    pub loses_none : length old.packets.items ≤ k → HasGone owns used format told rose was setup (replay setup history) (Lose k) old old (Refused NoPacket)
     unfolding answer_to happens
-    loses_none beyond = record { answered = inl (sym (ap loss_answer (no_packet beyond))); shows = reached.shows; cause = λ halted. absurd (apart halted); others = λ i own. refl; taken = refl }
+    loses_none beyond = record { answered = inl (sym (ap loss_answer (no_packet beyond))); shows = reached.shows; cause = λ halted. absurd (apart halted); crash = touches_kept was _ _ _ old old (λ j. refl); others = λ i own. refl; taken = refl }
       where
         apart : Refused NoPacket ≡ Refused Halted → ⊥
         apart is = cc
 
-    pub delivers_none : length old.packets.items ≤ k → HasGone owns used format told rose setup (replay setup history) (Deliver k) old old (Refused NoPacket)
+    pub delivers_none : length old.packets.items ≤ k → HasGone owns used format told rose was setup (replay setup history) (Deliver k) old old (Refused NoPacket)
     unfolding answer_to happens
     delivers_none beyond = record {
       answered = inl (sym (ap (delivery_answer setup (replay setup history)) (no_packet beyond)));
       shows = subst (Shows owns used format told setup old) (sym (ap (delivered setup Untouched (replay setup history) k) (no_packet beyond))) reached.shows;
       cause = λ halted. absurd (apart halted);
+      crash = touches_kept was _ _ _ old old (λ j. refl);
       others = λ i own. refl;
       taken = refl;
     }
@@ -264,16 +266,16 @@ module _ {S : Type 0} (owns : S → Durable → Durable → Type 0) (used format
       pub sent_there : (sent : Sent) × (slice_get (replay setup history).packets k ≡ Some sent) × (parcel ≡ parcel_of sent)
       sent_there = packet_there owns used format told setup (replay setup history) old reached.shows k parcel at
 
-      pub loses_again : parcel.lost ≡ true → HasGone owns used format told rose setup (replay setup history) (Lose k) old old (Refused LostPacket)
+      pub loses_again : parcel.lost ≡ true → HasGone owns used format told rose was setup (replay setup history) (Lose k) old old (Refused LostPacket)
       unfolding answer_to happens
       loses_again is =
           let gone : sent_there.0.lost ≡ true = sym (ap (λ (x : Parcel). x.lost) sent_there.2) ∙ is in
-          record { answered = inl (sym (ap loss_answer sent_there.1 ∙ ap (λ b. if b then Refused LostPacket else Done) gone)); shows = reached.shows; cause = λ halted. absurd (apart halted); others = λ i own. refl; taken = refl }
+          record { answered = inl (sym (ap loss_answer sent_there.1 ∙ ap (λ b. if b then Refused LostPacket else Done) gone)); shows = reached.shows; cause = λ halted. absurd (apart halted); crash = touches_kept was _ _ _ old old (λ j. refl); others = λ i own. refl; taken = refl }
         where
           apart : Refused LostPacket ≡ Refused Halted → ⊥
           apart is = cc
 
-      pub delivers_lost : parcel.lost ≡ true → HasGone owns used format told rose setup (replay setup history) (Deliver k) old old (Refused LostPacket)
+      pub delivers_lost : parcel.lost ≡ true → HasGone owns used format told rose was setup (replay setup history) (Deliver k) old old (Refused LostPacket)
       unfolding answer_to happens
       delivers_lost is =
           let p = sent_there.0 in
@@ -282,6 +284,7 @@ module _ {S : Type 0} (owns : S → Durable → Durable → Type 0) (used format
             answered = inl (sym (ap (delivery_answer setup (replay setup history)) sent_there.1 ∙ ap (λ b. if b then Refused LostPacket else answer_at (slice_get (replay setup history).servers p.packet.to) (deliver_turn setup (replay setup history) p)) gone));
             shows = subst (Shows owns used format told setup old) (sym (ap (delivered setup Untouched (replay setup history) k) sent_there.1 ∙ ap (λ b. if b then replay setup history else at_server Untouched (marked_in Untouched (replay setup history) k p) p.packet.to (λ s. on_packet setup s p.packet)) gone)) reached.shows;
             cause = λ halted. absurd (apart halted);
+            crash = touches_kept was _ _ _ old old (λ j. refl);
             others = λ i own. refl;
             taken = refl;
           }
@@ -289,7 +292,7 @@ module _ {S : Type 0} (owns : S → Durable → Durable → Type 0) (used format
           apart : Refused LostPacket ≡ Refused Halted → ⊥
           apart is = cc
 
-      pub loses : parcel.lost ≡ false → (packets : Vec Parcel) → packets.items ≡ slice_set old.packets.items k (record parcel { lost = true }) → vec_capacity old.packets ≤ vec_capacity packets → HasGone owns used format told rose setup (replay setup history) (Lose k) old (record old { packets = packets }) Done
+      pub loses : parcel.lost ≡ false → (packets : Vec Parcel) → packets.items ≡ slice_set old.packets.items k (record parcel { lost = true }) → vec_capacity old.packets ≤ vec_capacity packets → HasGone owns used format told rose was setup (replay setup history) (Lose k) old (record old { packets = packets }) Done
       unfolding answer_to happens
       loses is packets items places =
           let p = sent_there.0 in
@@ -299,6 +302,7 @@ module _ {S : Type 0} (owns : S → Durable → Durable → Type 0) (used format
             shows = subst (Shows owns used format told setup (record old { packets = packets })) (sym (ap (lost (replay setup history) k) sent_there.1))
                 (marked owns used format told setup (replay setup history) old reached.shows k p (record p { lost = true }) (record parcel { lost = true }) packets sent_there.1 refl (ap (λ (x : Parcel). record x { lost = true }) sent_there.2) items places);
             cause = λ halted. absurd (apart halted);
+            crash = touches_kept was _ _ _ old (record old { packets = packets }) (λ j. refl);
             others = λ i own. refl;
             taken = refl;
           }

@@ -31,6 +31,7 @@ use Rattle.pf_cluster.proofs.Beginning.{its_condition}
 use Rattle.pf_cluster.proofs.Events.{IsTurnEvent, turn_canonical}
 use Rattle.pf_cluster.proofs.Plain.{IsTurnAs}
 use Rattle.pf_cluster.proofs.Taking.{stopped_idles, unformatted_idles}
+use Rattle.pf_cluster.proofs.Touching.{touches_kept}
 use Rattle.pf_cluster.proofs.Rules.{below_after, leaves_all, packets_fit}
 
 elect_answer_whole : (s : ServerIs) → ending (on_elect s).answer ≡ Whole
@@ -147,7 +148,7 @@ module _ {S : Type 0} (holds : S → Durable → Durable → Type 0) (used forma
       let count : n ≡ g.elections = is ∙ ap (elections_after before) so ∙ same in
       subst (λ k. Shows holds used format told setup (record after { elections = n }) (record g { elections = k })) count (shows_count setup after g n shows)
 
-  module _ (rose : S → S → Type 0) (setup : Setup) (history : History) (old : Cluster S) (reached : IsReached holds used format told setup history old) (i : ℕ) (me : Server S) (here : slice_get old.servers.items i ≡ Some me) where
+  module _ (rose : S → S → Type 0) (was : S → S → Durable → Durable → Type 0) (setup : Setup) (history : History) (old : Cluster S) (reached : IsReached holds used format told setup history old) (i : ℕ) (me : Server S) (here : slice_get old.servers.items i ≡ Some me) where
     elect_is : (answer right : Answer) → answer ≡ right → happens setup (replay setup history) (Elect i) (ending answer) ≡ at_server (ending right) (counted_election (ending right) (replay setup history)) i on_elect
     unfolding happens
     elect_is answer right is = ap (λ a. at_server (ending a) (counted_election (ending a) (replay setup history)) i on_elect) is
@@ -157,13 +158,14 @@ module _ {S : Type 0} (holds : S → Durable → Durable → Type 0) (used forma
     elect_answers c there = ap (λ x. answer_at x (elect_turn (replay setup history))) there
 
     -- the server does not run
-    pub elects_none : runs me.state ≡ false → HasGone holds used format told rose setup (replay setup history) (Elect i) old old (Refused Down)
+    pub elects_none : runs me.state ≡ false → HasGone holds used format told rose was setup (replay setup history) (Elect i) old old (Refused Down)
     elects_none idle =
         let m = its_condition holds used format told setup history old reached i me here in
         record {
           answered = inl (sym (elect_answers m.0 m.1 ∙ down m.0 m.2.meets));
           shows = subst (Shows holds used format told setup old) (sym (elect_is (Refused Down) (Refused Down) refl ∙ missed (replay setup history) i on_elect (slice_get (replay setup history).servers i))) reached.shows;
           cause = λ halted. absurd (apart halted);
+          crash = touches_kept was _ _ _ old old (λ j. refl);
           others = λ j own. refl;
           taken = refl;
         }
@@ -177,13 +179,14 @@ module _ {S : Type 0} (holds : S → Durable → Durable → Type 0) (used forma
         down UnformattedIs meets = refl
 
     -- the group has had all its elections
-    pub elects_full : runs me.state ≡ true → 64 ≤ old.elections → HasGone holds used format told rose setup (replay setup history) (Elect i) old old (Refused ElectionsFull)
+    pub elects_full : runs me.state ≡ true → 64 ≤ old.elections → HasGone holds used format told rose was setup (replay setup history) (Elect i) old old (Refused ElectionsFull)
     elects_full running many =
         let m = its_condition holds used format told setup history old reached i me here in
         record {
           answered = inl (sym (elect_answers m.0 m.1 ∙ full m.0 m.2.meets));
           shows = subst (Shows holds used format told setup old) (sym (elect_is (Refused ElectionsFull) (Refused ElectionsFull) refl ∙ untouched (replay setup history) i on_elect (slice_get (replay setup history).servers i))) reached.shows;
           cause = λ halted. absurd (apart halted);
+          crash = touches_kept was _ _ _ old old (λ j. refl);
           others = λ j own. refl;
           taken = refl;
         }

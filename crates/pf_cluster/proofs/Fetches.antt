@@ -14,7 +14,7 @@ use Rattle.pf_protocol.specs.declared.events.Event.TheVariants.{Fetch}
 use Rattle.pf_protocol.specs.Servers.{Setup, Role, Follower, Candidate, Merging, Serving, Server as ServerIs, Condition, Running as RunningIs, Stopped as StoppedIs, Unformatted as UnformattedIs}
 use Rattle.pf_protocol.specs.Outcomes.{Outcome}
 use Rattle.pf_protocol.specs.Leading.{on_fetch}
-use Rattle.pf_protocol.specs.Groups.{Group, Whole, ending, happens, reads_after}
+use Rattle.pf_protocol.specs.Groups.{Group, Whole, at_server, ending, happens, reads_after}
 use Rattle.pf_protocol.specs.Histories.{History, Runs, replay}
 use Rattle.pf_protocol.specs.Answers.{IsLegal, answer_to, fetch_refusal as group_fetch_refusal, fetch_turn, is_serving, may_halt, refuse, room_refusal as group_room_refusal}
 use Rattle.pf_protocol.proofs.Asked.{fetch_asks, fetch_silent, legal_asks}
@@ -32,7 +32,7 @@ use Rattle.pf_cluster.specs.declared.kept.Reading.TheVariants.{Waiting}
 use Rattle.pf_entry.specs.Lists.{Every}
 use Rattle.pf_protocol.specs.Asked.{AreBelow}
 use Rattle.pf_protocol.specs.Answers.{Turn}
-use Rattle.pf_cluster.specs.Going.{Goes, HasFault, IsReached, KeepsStores}
+use Rattle.pf_cluster.specs.Going.{Goes, HasFault, IsReached, KeepsStores, Touches}
 use Rattle.pf_cluster.specs.Readings.{is_taken, readings_after, readings_with, taken_of}
 use Rattle.pf_cluster.specs.Showing.{AreReadings, HasTraffic, Shows, seat_of}
 use Rattle.pf_cluster.specs.Turned.{Ends, HasTurned, IsTurnOf, reads_with}
@@ -45,6 +45,7 @@ use Rattle.pf_cluster.proofs.Readings.{one_more_taken, one_more_waits}
 use Rattle.pf_cluster.proofs.Rules.{leaves_all, packets_fit}
 use Rattle.pf_cluster.proofs.Simple.{never_halts}
 use Rattle.pf_cluster.proofs.Stores.{others_kept, stores_kept}
+use Rattle.pf_cluster.proofs.Touching.{touches_none, turn_touches}
 
 fetch_disk : (s : ServerIs) (range : Span) (number : ℕ) (role : Role) → (on_fetch s range number role).server.durable ≡ s.durable
 unfolding on_fetch
@@ -177,17 +178,22 @@ module _ {S : Type 0} (holds : S → Durable → Durable → Type 0) (used forma
       unfolding fetch_turned turned_so
       cause halted = fault_of holds used format told rose was setup g i turn mid out' outcome fetch_turned old after refl (ap (λ (x : Cluster S). x.servers.items) (same halted)) halted
 
-      by_outcome : (o : Result Answer NoMemory) → outcome ≡ o → Ends holds used format told setup g i turn after o → Goes holds used format told rose setup g (Fetch i range) old after o
-      by_outcome (Err e) so shows = record { shows = shows; others = λ j own. stores j ∙ stores_kept old mid i next refl me there (spared holds used format told rose was setup history old reached i me next acked out out' (fetch_refusal (setup_at me.seat) out range number) (λ s. on_fetch s range number s.role) outcome did e so) j; taken = taken ∙ ap (map is_taken) kept ∙ ap (λ o. map is_taken (readings_with old.readings.items o)) so }
+      crash : (answer : Answer) → outcome ≡ Ok answer → Touches was g (at_server (ending answer) g i turn.rule) (Some i) old after
+      unfolding fetch_turned turned_so
+      crash answer so = turn_touches holds used format told rose was setup g i turn mid out' g refl outcome fetch_turned answer so old after refl stores
+
+      by_outcome : (o : Result Answer NoMemory) → outcome ≡ o → Ends holds used format told setup g i turn after o → Goes holds used format told rose was setup g (Fetch i range) old after o
+      by_outcome (Err e) so shows = record { shows = shows; crash = touches_none was g g old after; others = λ j own. stores j ∙ stores_kept old mid i next refl me there (spared holds used format told rose was setup history old reached i me next acked out out' (fetch_refusal (setup_at me.seat) out range number) (λ s. on_fetch s range number s.role) outcome did e so) j; taken = taken ∙ ap (map is_taken) kept ∙ ap (λ o. map is_taken (readings_with old.readings.items o)) so }
       by_outcome (Ok answer) so ended =
           let event_is = fetch_event setup g i range in
           record {
             answered = turn_answer setup g (Fetch i range) i turn (λ how. g) event_is answer ended.answered;
             shows = subst (Shows holds used format told setup after) (sym (event_is.goes (ending answer))) ended.shows;
             cause = λ halted. (i, refl, cause (so ∙ ap Ok halted));
+            crash = subst (λ later. Touches was g later (Some i) old after) (sym (event_is.goes (ending answer))) (crash answer so);
             others = λ j apart. stores j ∙ others_kept old mid i next refl j apart;
             taken = taken ∙ ap (map is_taken) kept ∙ ap (λ o. map is_taken (readings_with old.readings.items o)) so ∙ one_more_taken old.readings.items answer;
           }
 
-      pub fetch_goes : (result : Result Answer NoMemory) → result ≡ outcome → (HasTurned holds used format told rose was setup g i turn mid out' outcome → Ends holds used format told setup g i turn after outcome) → Goes holds used format told rose setup g (Fetch i range) old after result
-      fetch_goes result is_outcome ended = subst (λ r. Goes holds used format told rose setup g (Fetch i range) old after r) (sym is_outcome) (by_outcome outcome refl (ended fetch_turned))
+      pub fetch_goes : (result : Result Answer NoMemory) → result ≡ outcome → (HasTurned holds used format told rose was setup g i turn mid out' outcome → Ends holds used format told setup g i turn after outcome) → Goes holds used format told rose was setup g (Fetch i range) old after result
+      fetch_goes result is_outcome ended = subst (λ r. Goes holds used format told rose was setup g (Fetch i range) old after r) (sym is_outcome) (by_outcome outcome refl (ended fetch_turned))

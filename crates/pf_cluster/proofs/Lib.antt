@@ -8,6 +8,7 @@ pub mod Acting
 pub mod Turning
 pub mod Beginning
 pub mod Taking
+pub mod Touching
 pub mod Events
 pub mod Rules
 pub mod Ended

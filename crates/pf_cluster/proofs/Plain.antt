@@ -11,7 +11,7 @@ use Rattle.pf_protocol.specs.declared.answers.Refusal.TheVariants.{Down, Halted}
 use Rattle.pf_protocol.specs.declared.events.Event.{Event}
 use Rattle.pf_protocol.specs.Servers.{Setup, Server as ServerIs, Condition, Running as RunningIs, Stopped as StoppedIs, Unformatted as UnformattedIs}
 use Rattle.pf_protocol.specs.Outcomes.{Outcome}
-use Rattle.pf_protocol.specs.Groups.{Group, Ending, at_server, ending, reads_after}
+use Rattle.pf_protocol.specs.Groups.{Group, Ending, at_server, ending, happens, reads_after}
 use Rattle.pf_protocol.specs.Histories.{History, Runs, replay}
 use Rattle.pf_protocol.specs.Answers.{Turn}
 use Rattle.pf_state.specs.Outgoing.{Outgoing}
@@ -20,7 +20,7 @@ use Rattle.pf_server.specs.Conditions.{Meets}
 use Rattle.pf_server.specs.Turns.{Comes}
 use Rattle.pf_cluster.specs.declared.cluster.Cluster.{Cluster}
 use Rattle.pf_cluster.specs.declared.kept.Acked.{Acked}
-use Rattle.pf_cluster.specs.Going.{Goes, HasFault, IsReached, KeepsOthers, KeepsStores, acts_at}
+use Rattle.pf_cluster.specs.Going.{Goes, HasFault, IsReached, KeepsOthers, KeepsStores, Touches, acts_at}
 use Rattle.pf_cluster.specs.Readings.{taken_of}
 use Rattle.pf_cluster.specs.Showing.{HasTraffic, Shows}
 use Rattle.pf_cluster.specs.Turned.{Ends, HasTurned, IsTurnOf, outbox_of, reads_with}
@@ -30,6 +30,7 @@ use Rattle.pf_cluster.proofs.Events.{IsMid, IsTurnEvent, turn_answer, turned_so}
 use Rattle.pf_cluster.proofs.Readings.{no_more}
 use Rattle.pf_cluster.proofs.Stores.{others_kept, stores_kept}
 use Rattle.pf_cluster.proofs.Taking.{IsDown, Tells, no_read, stopped_idles, unformatted_idles}
+use Rattle.pf_cluster.proofs.Touching.{touches_none, turn_touches}
 use Rattle.pf_cluster.proofs.Turning.{no_ok}
 
 -- the event is this turn, of which the server has another form
@@ -90,25 +91,34 @@ module _ {S : Type 0} (holds : S → Durable → Durable → Type 0) (used forma
         unfolding plain_turned turned_so
         cause halted = (i, is.event_is.acts, fault_of holds used format told rose was setup (replay setup history) i turn (mid_of old i next acked) out' outcome (plain_turned event turn pre is) old final refl (same halted) halted)
 
+        crash : (answer : Answer) → outcome ≡ Ok answer → Touches was (replay setup history) (happens setup (replay setup history) event (ending answer)) (acts_at (replay setup history) event) old final
+        unfolding plain_turned turned_so
+        crash answer so =
+            let g = replay setup history in
+            subst (λ own. Touches was g (happens setup g event (ending answer)) own old final) (sym is.event_is.acts)
+            (subst (λ later. Touches was g later (Some i) old final) (sym (is.event_is.goes (ending answer)))
+            (turn_touches holds used format told rose was setup g i turn (mid_of old i next acked) out' (pre (ending answer)) (is.event_is.servers (ending answer)) outcome (plain_turned event turn pre is) answer so old final refl stores))
+
         others : KeepsOthers (acts_at (replay setup history) event) old final
         others = subst (λ own. KeepsOthers own old final) (sym is.event_is.acts) (λ j apart. stores j ∙ others_kept old (mid_of old i next acked) i next refl j apart)
 
         module _ (whole : (answer : Answer) → outcome ≡ Ok answer → Shows holds used format told setup after (at_server (ending answer) (replay setup history) i turn.rule) → Shows holds used format told setup final (at_server (ending answer) (pre (ending answer)) i turn.rule)) (none : (e : NoMemory) → outcome ≡ Err e → Shows holds used format told setup after (replay setup history) → Shows holds used format told setup final (replay setup history)) where
-          by_outcome : (o : Result Answer NoMemory) → outcome ≡ o → Ends holds used format told setup (replay setup history) i turn after o → Goes holds used format told rose setup (replay setup history) event old final o
-          by_outcome (Err e) so shows = record { shows = none e so shows; others = λ j own. stores j ∙ stores_kept old (mid_of old i next acked) i next refl me here (spared e so) j; taken = taken }
+          by_outcome : (o : Result Answer NoMemory) → outcome ≡ o → Ends holds used format told setup (replay setup history) i turn after o → Goes holds used format told rose was setup (replay setup history) event old final o
+          by_outcome (Err e) so shows = record { shows = none e so shows; crash = touches_none was (replay setup history) (replay setup history) old final; others = λ j own. stores j ∙ stores_kept old (mid_of old i next acked) i next refl me here (spared e so) j; taken = taken }
           by_outcome (Ok answer) so ended = record {
             answered = turn_answer setup (replay setup history) event i turn pre is.event_is answer ended.answered;
             shows = subst (Shows holds used format told setup final) (sym (is.event_is.goes (ending answer))) (whole answer so ended.shows);
             cause = λ halted. cause (so ∙ ap Ok halted);
+            crash = crash answer so;
             others = others;
             taken = taken ∙ sym (no_more (taken_of old) (replay setup history).reads answer (ap (reads_with (replay setup history).reads) (sym so) ∙ sym (plain_turned event turn pre is).reads ∙ reached.shows.reads));
           }
 
           -- what was made of the cluster after the turn's end is what the event makes of the group
-          pub event_goes : (result : Result Answer NoMemory) → result ≡ outcome → (HasTurned holds used format told rose was setup (replay setup history) i turn (mid_of old i next acked) out' outcome → Ends holds used format told setup (replay setup history) i turn after outcome) → Goes holds used format told rose setup (replay setup history) event old final result
-          event_goes result is_outcome ended = subst (λ r. Goes holds used format told rose setup (replay setup history) event old final r) (sym is_outcome) (by_outcome outcome refl (ended (plain_turned event turn pre is)))
+          pub event_goes : (result : Result Answer NoMemory) → result ≡ outcome → (HasTurned holds used format told rose was setup (replay setup history) i turn (mid_of old i next acked) out' outcome → Ends holds used format told setup (replay setup history) i turn after outcome) → Goes holds used format told rose was setup (replay setup history) event old final result
+          event_goes result is_outcome ended = subst (λ r. Goes holds used format told rose was setup (replay setup history) event old final r) (sym is_outcome) (by_outcome outcome refl (ended (plain_turned event turn pre is)))
 
       -- nothing more is made of it
       pub plain_goes : (event : Event) (turn : Turn) → IsTurnAs setup history event i turn (λ how. replay setup history) judged rule → (after : Cluster S) → (outcome ≡ Ok (Refused Halted) → after ≡ mid_of old i next acked) → KeepsStores (mid_of old i next acked) after → taken_of after ≡ taken_of old → (result : Result Answer NoMemory) → result ≡ outcome
-          → (HasTurned holds used format told rose was setup (replay setup history) i turn (mid_of old i next acked) out' outcome → Ends holds used format told setup (replay setup history) i turn after outcome) → Goes holds used format told rose setup (replay setup history) event old after result
+          → (HasTurned holds used format told rose was setup (replay setup history) i turn (mid_of old i next acked) out' outcome → Ends holds used format told setup (replay setup history) i turn after outcome) → Goes holds used format told rose was setup (replay setup history) event old after result
       plain_goes event turn is after same stores taken result is_outcome ended = event_goes event turn (λ how. replay setup history) is after after (λ halted. ap (λ (x : Cluster S). x.servers.items) (same halted)) stores taken (λ answer so shows. shows) (λ e so shows. shows) result is_outcome ended

@@ -48,8 +48,9 @@ use Rattle.pf_cluster.proofs.Beginning.{its_condition}
 use Rattle.pf_cluster.proofs.Elections.{running_there}
 use Rattle.pf_cluster.proofs.Lists.{set_there}
 use Rattle.pf_cluster.proofs.Readings.{have_places}
-use Rattle.pf_cluster.proofs.Stores.{others_kept, stores_kept}
+use Rattle.pf_cluster.proofs.Stores.{stores_kept}
 use Rattle.pf_cluster.proofs.Taking.{stopped_idles, unformatted_idles}
+use Rattle.pf_cluster.proofs.Touching.{touches_kept}
 use Rattle.pf_cluster.specs.Keeping.{HavePlaces, with_answers}
 use Rattle.pf_cluster.specs.declared.kept.Reading.{Reading}
 use Rattle.std.specs.Global.{Vec}
@@ -72,7 +73,7 @@ pub record IsStill (o : Outcome) : Type 0 where
   pub packets : o.packets ≡ []
   pub acked : o.acked ≡ None
 
-module _ {S : Type 0} (holds : S → Durable → Durable → Type 0) (used format : S → ℕ) (told : S → Bool) (rose : S → S → Type 0) (setup : Setup) (history : History) (old : Cluster S) (reached : IsReached holds used format told setup history old) (i : ℕ) (me next : Server S) (low : i < 3) (here : slice_get old.servers.items i ≡ Some me) (seat : next.seat ≡ me.seat) (told_same : told next.store ≡ told me.store) where
+module _ {S : Type 0} (holds : S → Durable → Durable → Type 0) (used format : S → ℕ) (told : S → Bool) (rose : S → S → Type 0) (was : S → S → Durable → Durable → Type 0) (setup : Setup) (history : History) (old : Cluster S) (reached : IsReached holds used format told setup history old) (i : ℕ) (me next : Server S) (low : i < 3) (here : slice_get old.servers.items i ≡ Some me) (seat : next.seat ≡ me.seat) (told_same : told next.store ≡ told me.store) where
   abbrev g : Group
   g = replay setup history
 
@@ -174,12 +175,12 @@ stale : (s : ServerIs) (life slot : ℕ) → (life == s.life) ≡ false → (on_
 unfolding on_finish
 stale s life slot other = by_test (life == s.life) (λ c. c ≡ false → (if c then sends (applied_op s slot (FinMap.get s.in_hand slot)) [] else refused s (Refused (Stale s.life))).answer ≡ Refused (Stale s.life)) (λ _ is. absurd (true≢false is)) (λ _ is. refl) other
 
-module _ {S : Type 0} (holds : S → Durable → Durable → Type 0) (used format : S → ℕ) (told : S → Bool) (rose : S → S → Type 0) (setup : Setup) (history : History) (old : Cluster S) (reached : IsReached holds used format told setup history old) (i : ℕ) (me next : Server S) (low : i < 3) (here : slice_get old.servers.items i ≡ Some me) (seat : next.seat ≡ me.seat) (told_same : told next.store ≡ told me.store) (life slot : ℕ) where
+module _ {S : Type 0} (holds : S → Durable → Durable → Type 0) (used format : S → ℕ) (told : S → Bool) (rose : S → S → Type 0) (was : S → S → Durable → Durable → Type 0) (setup : Setup) (history : History) (old : Cluster S) (reached : IsReached holds used format told setup history old) (i : ℕ) (me next : Server S) (low : i < 3) (here : slice_get old.servers.items i ≡ Some me) (seat : next.seat ≡ me.seat) (told_same : told next.store ≡ told me.store) (life slot : ℕ) where
   abbrev grp : Group
   grp = replay setup history
 
   abbrev back_done : Answer → Type 0
-  back_done answer = JobDone holds used format told rose setup history old reached i me next low here seat told_same (λ s. on_give_back s life slot) answer
+  back_done answer = JobDone holds used format told rose was setup history old reached i me next low here seat told_same (λ s. on_give_back s life slot) answer
 
   -- a running server took a job back
   pub back_taken : runs me.state ≡ true → ((s : ServerIs) → Meets holds used format me.seat me.store me.state (RunningIs s) → ComesInMemory holds used format me.seat next.store next.state s None (on_give_back s life slot) Done) → back_done Done
@@ -199,11 +200,11 @@ module _ {S : Type 0} (holds : S → Durable → Durable → Type 0) (used forma
       by (StoppedIs its before after) there m = absurd (true≢false (sym running ∙ stopped_idles holds used format me.seat me.store me.state its before after m.meets))
       by UnformattedIs there m = absurd (true≢false (sym running ∙ unformatted_idles holds used format me.seat me.store me.state m.meets))
 
-  pub back_gone : (after : Cluster S) → KeepsStores old after → taken_of after ≡ taken_of old → Shows holds used format told setup after (at_server Whole grp i (λ s. on_give_back s life slot)) → HasGone holds used format told rose setup grp (GiveBack i life slot) old after Done
+  pub back_gone : (after : Cluster S) → KeepsStores old after → taken_of after ≡ taken_of old → Shows holds used format told setup after (at_server Whole grp i (λ s. on_give_back s life slot)) → HasGone holds used format told rose was setup grp (GiveBack i life slot) old after Done
   unfolding answer_to happens
-  back_gone after stores taken shows = record { answered = inl refl; shows = shows; cause = λ halted. absurd (done_apart halted); others = λ j own. stores j; taken = taken }
+  back_gone after stores taken shows = record { answered = inl refl; shows = shows; cause = λ halted. absurd (done_apart halted); crash = touches_kept was _ _ _ old after stores; others = λ j own. stores j; taken = taken }
 
-  pub back_idle : runs me.state ≡ false → HasGone holds used format told rose setup grp (GiveBack i life slot) old old Done
+  pub back_idle : runs me.state ≡ false → HasGone holds used format told rose was setup grp (GiveBack i life slot) old old Done
   back_idle idle =
       let m = its_condition holds used format told setup history old reached i me here in
       back_gone old (λ j. refl) refl (subst (Shows holds used format told setup old) (sym (ap (λ c. step_of Whole grp i c (λ s. on_give_back s life slot)) m.1 ∙ by m.0 m.2.meets)) reached.shows)
@@ -219,14 +220,14 @@ not_down is = cc
 not_stale : (life : ℕ) → Refused (Stale life) ≡ Refused Halted → ⊥
 not_stale life is = cc
 
-module _ {S : Type 0} (holds : S → Durable → Durable → Type 0) (used format : S → ℕ) (told : S → Bool) (rose : S → S → Type 0) (setup : Setup) (history : History) (old : Cluster S) (reached : IsReached holds used format told setup history old) (i : ℕ) (me next : Server S) (low : i < 3) (here : slice_get old.servers.items i ≡ Some me) (seat : next.seat ≡ me.seat) (told_same : told next.store ≡ told me.store) (life slot : ℕ) (answer : Answer)
+module _ {S : Type 0} (holds : S → Durable → Durable → Type 0) (used format : S → ℕ) (told : S → Bool) (rose : S → S → Type 0) (was : S → S → Durable → Durable → Type 0) (setup : Setup) (history : History) (old : Cluster S) (reached : IsReached holds used format told setup history old) (i : ℕ) (me next : Server S) (low : i < 3) (here : slice_get old.servers.items i ≡ Some me) (seat : next.seat ≡ me.seat) (told_same : told next.store ≡ told me.store) (life slot : ℕ) (answer : Answer)
     (step : (s : ServerIs) → Meets holds used format me.seat me.store me.state (RunningIs s) → ComesInMemory holds used format me.seat next.store next.state s (finish_refusal s life) (on_finish s life slot) answer)
     (stopped : (its : ℕ) (doubt : Doubt) → me.state ≡ Stopped its doubt → (answer ≡ Refused (Stale its)) × (next ≡ me)) (unformatted : me.state ≡ Unformatted → (answer ≡ Refused Down) × (next ≡ me)) where
   abbrev now : Group
   now = replay setup history
 
   abbrev done_so : Type 0
-  done_so = JobDone holds used format told rose setup history old reached i me next low here seat told_same (λ s. on_finish s life slot) answer
+  done_so = JobDone holds used format told rose was setup history old reached i me next low here seat told_same (λ s. on_finish s life slot) answer
 
   abbrev middle : Cluster S
   middle = record old { servers = with_item old.servers i next }
@@ -287,34 +288,39 @@ module _ {S : Type 0} (holds : S → Durable → Durable → Type 0) (used forma
   unfolding happens
   finish_comes how is = ap (λ h. at_server h now i (λ s. on_finish s life slot)) is
 
-  pub finish_gone : (done : done_so) → (after : Cluster S) → KeepsStores old after → taken_of after ≡ taken_of old → Shows holds used format told setup after (at_server Whole now i (λ s. on_finish s life slot)) → HasGone holds used format told rose setup now (Finish i life slot) old after answer
+  pub finish_gone : (done : done_so) → (after : Cluster S) → KeepsStores old after → taken_of after ≡ taken_of old → Shows holds used format told setup after (at_server Whole now i (λ s. on_finish s life slot)) → HasGone holds used format told rose was setup now (Finish i life slot) old after answer
   finish_gone done after stores taken shows =
       let is : answer ≡ Done = done.settles.answered ∙ done.still.answer in
       record {
         answered = inl (done.settles.answered ∙ sym (finish_answers (RunningIs done.s) done.there));
         shows = subst (Shows holds used format told setup after) (sym (finish_comes Whole (ap ending is))) shows;
         cause = λ halted. absurd (done_apart (sym is ∙ halted));
+        crash = touches_kept was _ _ _ old after stores;
         others = λ j own. stores j;
         taken = taken ∙ ap (taken_after (taken_of old)) (sym is);
       }
 
   -- it was refused
-  pub finish_refused : is_refused answer ≡ true → HasGone holds used format told rose setup now (Finish i life slot) old middle answer
-  finish_refused refused_so =
+  pub finish_refused : next.store ≡ me.store → is_refused answer ≡ true → HasGone holds used format told rose was setup now (Finish i life slot) old middle answer
+  finish_refused kept refused_so =
       let m = its_condition holds used format told setup history old reached i me here in
       by m.0 m.1 m.2
     where
-      gone : (c : Condition) → slice_get now.servers i ≡ Some c → IsMember holds used format told setup i next c → (right : Answer) → finish_answer (Some c) life slot ≡ right → answer ≡ right → (how : Ending) → ending right ≡ how → step_of how now i (Some c) (λ s. on_finish s life slot) ≡ now → (right ≡ Refused Halted → ⊥) → taken_after (taken_of old) right ≡ taken_of old → HasGone holds used format told rose setup now (Finish i life slot) old middle answer
+      stores : KeepsStores old middle
+      stores = stores_kept old middle i next refl me here kept
+
+      gone : (c : Condition) → slice_get now.servers i ≡ Some c → IsMember holds used format told setup i next c → (right : Answer) → finish_answer (Some c) life slot ≡ right → answer ≡ right → (how : Ending) → ending right ≡ how → step_of how now i (Some c) (λ s. on_finish s life slot) ≡ now → (right ≡ Refused Halted → ⊥) → taken_after (taken_of old) right ≡ taken_of old → HasGone holds used format told rose was setup now (Finish i life slot) old middle answer
       gone c there m right is same how ends idle apart quiet = record {
         answered = inl (same ∙ sym (finish_answers c there ∙ is));
         shows = subst (Shows holds used format told setup middle) (sym (finish_comes how (ap ending same ∙ ends) ∙ ap (λ x. step_of how now i x (λ s. on_finish s life slot)) there ∙ idle))
             (alone_still holds used format told setup now old reached.shows i next c there m);
         cause = λ halted. absurd (apart (sym same ∙ halted));
-        others = others_kept old middle i next refl;
+        crash = touches_kept was _ _ _ old middle stores;
+        others = λ j own. stores j;
         taken = sym (ap (taken_after (taken_of old)) same ∙ quiet);
       }
 
-      by : (c : Condition) → slice_get now.servers i ≡ Some c → IsMember holds used format told setup i me c → HasGone holds used format told rose setup now (Finish i life slot) old middle answer
+      by : (c : Condition) → slice_get now.servers i ≡ Some c → IsMember holds used format told setup i me c → HasGone holds used format told rose was setup now (Finish i life slot) old middle answer
       by (RunningIs s) there m = elim (at_running s m.meets) [
         | inl done ↦ absurd (false≢true (sym (ap is_refused (done.1.answered ∙ (finished s life slot done.0).answer)) ∙ refused_so))
         | inr other ↦ gone (RunningIs s) there (record { seat = seat ∙ m.seat; meets = subst (λ x. Meets holds used format x next.store next.state (RunningIs s)) (sym seat) other.2; tells = told_same ∙ m.tells }) (Refused (Stale s.life)) (stale s life slot other.0) other.1 Untouched refl refl (not_stale s.life) refl

@@ -1,6 +1,7 @@
 -- A server stops, and begins again.
 use Rattle.std.proofs.Common.{◌≡◌, ◌⊎◌, ℕ, suc, Bool, true, false, cond, inl, inr, Some, Result, Ok, Err, slice_get, slice_set, refl, sym, ap, subst, ◌∙◌}
 use Rattle.std.proofs.lemmas.Option.{slice_get_within}
+use Rattle.std.specs.Option.{option_map}
 use Rattle.std.specs.Vec.{with_item}
 use Rattle.pf_base.specs.declared.errors.NoMemory.{NoMemory}
 use Rattle.pf_entry.specs.Records.{Durable}
@@ -15,19 +16,20 @@ use Rattle.pf_protocol.specs.Histories.{History, replay}
 use Rattle.pf_protocol.specs.Answers.{answer_to, is_formatted, may_halt, restart_answer, stop_answer}
 use Rattle.pf_server.specs.declared.server.Server.{Server}
 use Rattle.pf_server.specs.Conditions.{IsKnown, Meets, runs}
-use Rattle.pf_server.specs.Turns.{Begins, BeginsAgain}
+use Rattle.pf_server.specs.Turns.{Begins, BeginsAgain, WasBegunIn}
 use Rattle.pf_cluster.specs.declared.cluster.Cluster.{Cluster}
-use Rattle.pf_cluster.specs.Going.{GoesBack, HasFault, HasGone, IsReached, KeepsOthers}
+use Rattle.pf_cluster.specs.Going.{GoesBack, HasFault, HasGone, IsReached, KeepsOthers, KeepsStores, Touches}
 use Rattle.pf_cluster.specs.Readings.{taken_after, taken_of}
 use Rattle.pf_cluster.specs.Showing.{IsMember, Shows}
 use Rattle.pf_cluster.proofs.Alone.{alone, alone_still}
 use Rattle.pf_cluster.proofs.Beginning.{its_condition}
 use Rattle.pf_cluster.proofs.Laws.{is_known}
 use Rattle.pf_cluster.proofs.Lists.{set_there}
-use Rattle.pf_cluster.proofs.Stores.{others_kept}
+use Rattle.pf_cluster.proofs.Stores.{others_kept, stores_kept}
 use Rattle.pf_cluster.proofs.Taking.{stopped_idles, unformatted_idles}
+use Rattle.pf_cluster.proofs.Touching.{begun_touches, touches_kept, touches_one}
 
-module _ {S : Type 0} (holds : S → Durable → Durable → Type 0) (used format : S → ℕ) (told : S → Bool) (rose : S → S → Type 0) (setup : Setup) (history : History) (old : Cluster S) (reached : IsReached holds used format told setup history old) (i : ℕ) (me next : Server S) (here : slice_get old.servers.items i ≡ Some me) (seat : next.seat ≡ me.seat) (told_same : told next.store ≡ told me.store) where
+module _ {S : Type 0} (holds : S → Durable → Durable → Type 0) (used format : S → ℕ) (told : S → Bool) (rose : S → S → Type 0) (was : S → S → Durable → Durable → Type 0) (setup : Setup) (history : History) (old : Cluster S) (reached : IsReached holds used format told setup history old) (i : ℕ) (me next : Server S) (here : slice_get old.servers.items i ≡ Some me) (seat : next.seat ≡ me.seat) (told_same : told next.store ≡ told me.store) where
   abbrev g : Group
   g = replay setup history
 
@@ -41,7 +43,10 @@ module _ {S : Type 0} (holds : S → Durable → Durable → Type 0) (used forma
   elsewhere = others_kept old new i next refl
 
   -- Stop
-  module _ (result : Answer) (step : (s : ServerIs) → Meets holds used format me.seat me.store me.state (RunningIs s) → (result ≡ Done) × Meets holds used format me.seat next.store next.state (StoppedIs (suc s.life) s.durable s.durable)) (down : runs me.state ≡ false → (result ≡ Refused Down) × (next ≡ me)) where
+  module _ (result : Answer) (step : (s : ServerIs) → Meets holds used format me.seat me.store me.state (RunningIs s) → (result ≡ Done) × Meets holds used format me.seat next.store next.state (StoppedIs (suc s.life) s.durable s.durable)) (down : runs me.state ≡ false → (result ≡ Refused Down) × (next ≡ me)) (kept : next.store ≡ me.store) where
+    stores : KeepsStores old new
+    stores = stores_kept old new i next refl me here kept
+
     -- what the event makes of the group
     comes : (c : Condition) → slice_get g.servers i ≡ Some c → (answer : Answer) → happens setup g (Stop i) (ending answer) ≡ only (ending answer) g (stopped g i (Some c))
     unfolding happens
@@ -51,12 +56,13 @@ module _ {S : Type 0} (holds : S → Durable → Durable → Type 0) (used forma
     unfolding answer_to
     answers c there = ap stop_answer there
 
-    stays : (c : Condition) → slice_get g.servers i ≡ Some c → IsMember holds used format told setup i me c → stop_answer (Some c) ≡ Refused Down → (result ≡ Refused Down) × (next ≡ me) → HasGone holds used format told rose setup g (Stop i) old new result
+    stays : (c : Condition) → slice_get g.servers i ≡ Some c → IsMember holds used format told setup i me c → stop_answer (Some c) ≡ Refused Down → (result ≡ Refused Down) × (next ≡ me) → HasGone holds used format told rose was setup g (Stop i) old new result
     stays c there m right d = record {
       answered = inl (d.0 ∙ sym (answers c there ∙ right));
       shows = subst (Shows holds used format told setup new) (sym (comes c there result ∙ ap (λ a. only (ending a) g (stopped g i (Some c))) d.0))
           (alone_still holds used format told setup g old reached.shows i next c there (subst (λ x. IsMember holds used format told setup i x c) (sym d.1) m));
       cause = λ halted. absurd (down_apart (sym d.0 ∙ halted));
+      crash = touches_kept was _ _ _ old new stores;
       others = elsewhere;
       taken = ap (taken_after (taken_of old)) (sym d.0);
     }
@@ -64,7 +70,7 @@ module _ {S : Type 0} (holds : S → Durable → Durable → Type 0) (used forma
         down_apart : Refused Down ≡ Refused Halted → ⊥
         down_apart is = cc
 
-    by_condition : (c : Condition) → slice_get g.servers i ≡ Some c → IsMember holds used format told setup i me c → HasGone holds used format told rose setup g (Stop i) old new result
+    by_condition : (c : Condition) → slice_get g.servers i ≡ Some c → IsMember holds used format told setup i me c → HasGone holds used format told rose was setup g (Stop i) old new result
     by_condition (RunningIs s) there m =
         let d = step s m.meets in
         record {
@@ -72,6 +78,7 @@ module _ {S : Type 0} (holds : S → Durable → Durable → Type 0) (used forma
           shows = subst (Shows holds used format told setup new) (sym (comes (RunningIs s) there result ∙ ap (λ a. only (ending a) g (stopped g i (Some (RunningIs s)))) d.0))
               (alone holds used format told setup g old reached.shows i next (RunningIs s) (StoppedIs (suc s.life) s.durable s.durable) there (member (RunningIs s) (StoppedIs (suc s.life) s.durable s.durable) m d.1));
           cause = λ halted. absurd (done_apart (sym d.0 ∙ halted));
+          crash = touches_kept was _ _ _ old new stores;
           others = elsewhere;
           taken = ap (taken_after (taken_of old)) (sym d.0);
         }
@@ -81,12 +88,16 @@ module _ {S : Type 0} (holds : S → Durable → Durable → Type 0) (used forma
     by_condition (StoppedIs life before after) there m = stays (StoppedIs life before after) there m refl (down (stopped_idles holds used format me.seat me.store me.state life before after m.meets))
     by_condition UnformattedIs there m = stays UnformattedIs there m refl (down (unformatted_idles holds used format me.seat me.store me.state m.meets))
 
-    pub stops : HasGone holds used format told rose setup g (Stop i) old new result
+    pub stops : HasGone holds used format told rose was setup g (Stop i) old new result
     stops = let m = its_condition holds used format told setup history old reached i me here in by_condition m.0 m.1 m.2
 
   -- Restart
   fault : rose me.store next.store → HasFault rose i old new
   fault risen = record { before = me; after = next; was = here; is = set_there old.servers.items i next (slice_get_within old.servers.items i me here); risen = risen }
+
+  touch : (later : Group) (c : Condition) → slice_get g.servers i ≡ Some c → WasBegunIn was me.store next.store c → Touches was g later (Some i) old new
+  touch later c there left = touches_one was g later i old new me next here
+      (ap (option_map (λ (x : Server S). x.store)) (set_there old.servers.items i next (slice_get_within old.servers.items i me here))) (begun_touches was g later i me.store next.store c there left)
 
   ways : (life : ℕ) (before after : Durable) (found : Bool) (answer : Answer) → Begins holds used format rose me.seat me.store next.store next.state life before after found answer
       → ((answer ≡ Done) × Meets holds used format me.seat next.store next.state (RunningIs (restarted me.seat.number (suc life) (renewed (cond found after before))))) ⊎ ((answer ≡ Refused Halted) × Meets holds used format me.seat next.store next.state (StoppedIs (suc life) before after) × rose me.store next.store)
@@ -106,8 +117,8 @@ module _ {S : Type 0} (holds : S → Durable → Durable → Type 0) (used forma
       → restart_answer (Some c) ≡ Done → is_formatted (Some c) ≡ true
       → restart (ending Done) g i found (Some c) ≡ record g { servers = slice_set g.servers i (RunningIs (restarted i (suc life) (renewed (cond found after before)))) }
       → restart (ending (Refused Halted)) g i found (Some c) ≡ record g { servers = slice_set g.servers i (StoppedIs (suc life) before after) }
-      → Begins holds used format rose me.seat me.store next.store next.state life before after found answer → HasGone holds used format told rose setup g (Restart i found) old new answer
-  begins c life before after found answer there m right formatted whole cut b = elim (ways life before after found answer b) [
+      → Begins holds used format rose me.seat me.store next.store next.state life before after found answer → WasBegunIn was me.store next.store c → HasGone holds used format told rose was setup g (Restart i found) old new answer
+  begins c life before after found answer there m right formatted whole cut b left = elim (ways life before after found answer b) [
     | inl done ↦ record {
       answered = inl (done.0 ∙ sym ((restart_answers c found there).0 ∙ right));
       shows = subst (Shows holds used format told setup new) (sym (restart_comes c found there answer Done done.0 ∙ whole))
@@ -115,6 +126,7 @@ module _ {S : Type 0} (holds : S → Durable → Durable → Type 0) (used forma
           (member c (RunningIs (restarted i (suc life) (renewed (cond found after before)))) m
           (subst (λ k. Meets holds used format me.seat next.store next.state (RunningIs (restarted k (suc life) (renewed (cond found after before))))) (ap (λ x. x.number) m.seat) done.1)));
       cause = λ halted. absurd (done_apart (sym done.0 ∙ halted));
+      crash = touch _ c there left;
       others = elsewhere;
       taken = ap (taken_after (taken_of old)) (sym done.0);
     }
@@ -123,6 +135,7 @@ module _ {S : Type 0} (holds : S → Durable → Durable → Type 0) (used forma
       shows = subst (Shows holds used format told setup new) (sym (restart_comes c found there answer (Refused Halted) halt.0 ∙ cut))
           (alone holds used format told setup g old reached.shows i next c (StoppedIs (suc life) before after) there (member c (StoppedIs (suc life) before after) m halt.1));
       cause = λ halted. (i, refl, fault halt.2);
+      crash = touch _ c there left;
       others = elsewhere;
       taken = ap (taken_after (taken_of old)) (sym halt.0);
     }
@@ -135,21 +148,22 @@ module _ {S : Type 0} (holds : S → Durable → Durable → Type 0) (used forma
   same_found true d = refl
   same_found false d = refl
 
-  restarts_at : (c : Condition) → slice_get g.servers i ≡ Some c → IsMember holds used format told setup i me c → (result : Result (Answer × Bool) NoMemory) → BeginsAgain holds used format rose me.seat me.store next.store next.state c result → GoesBack holds used format told rose setup g i old new result
-  restarts_at c there m (Err e) b = record { shows = alone_still holds used format told setup g old reached.shows i next c there (member c c m (again c b)); others = elsewhere; taken = refl }
+  restarts_at : (c : Condition) → slice_get g.servers i ≡ Some c → IsMember holds used format told setup i me c → (result : Result (Answer × Bool) NoMemory) → BeginsAgain holds used format rose me.seat me.store next.store next.state c result → WasBegunIn was me.store next.store c → GoesBack holds used format told rose was setup g i old new result
+  restarts_at c there m (Err e) b left = record { shows = alone_still holds used format told setup g old reached.shows i next c there (member c c m (again c b)); crash = touch g c there left; others = elsewhere; taken = refl }
     where
       again : (x : Condition) → BeginsAgain holds used format rose me.seat me.store next.store next.state x (Err e) → Meets holds used format me.seat next.store next.state x
       again (RunningIs s) is = is
       again (StoppedIs life before after) is = is
       again UnformattedIs is = is
-  restarts_at (RunningIs s) there m (Ok (answer, found)) b =
-      begins (RunningIs s) s.life s.durable s.durable found answer there m refl refl (ap (λ d. record g { servers = slice_set g.servers i (RunningIs (restarted i (suc s.life) (renewed d))) }) (sym (same_found found s.durable))) refl b
-  restarts_at (StoppedIs life before after) there m (Ok (answer, found)) b = begins (StoppedIs life before after) life before after found answer there m refl refl refl refl b
-  restarts_at UnformattedIs there m (Ok (answer, found)) b = record {
+  restarts_at (RunningIs s) there m (Ok (answer, found)) b left =
+      begins (RunningIs s) s.life s.durable s.durable found answer there m refl refl (ap (λ d. record g { servers = slice_set g.servers i (RunningIs (restarted i (suc s.life) (renewed d))) }) (sym (same_found found s.durable))) refl b left
+  restarts_at (StoppedIs life before after) there m (Ok (answer, found)) b left = begins (StoppedIs life before after) life before after found answer there m refl refl refl refl b left
+  restarts_at UnformattedIs there m (Ok (answer, found)) b left = record {
     answered = inl (b.0 ∙ sym (restart_answers UnformattedIs found there).0);
     shows = subst (Shows holds used format told setup new) (sym (restart_comes UnformattedIs found there answer (Refused NotOurs) b.0))
         (alone_still holds used format told setup g old reached.shows i next UnformattedIs there (member UnformattedIs UnformattedIs m b.1));
     cause = λ halted. absurd (ours_apart (sym b.0 ∙ halted));
+    crash = touch _ UnformattedIs there left;
     others = elsewhere;
     taken = ap (taken_after (taken_of old)) (sym b.0);
   }
@@ -157,7 +171,7 @@ module _ {S : Type 0} (holds : S → Durable → Durable → Type 0) (used forma
       ours_apart : Refused NotOurs ≡ Refused Halted → ⊥
       ours_apart is = cc
 
-  pub restarts : (result : Result (Answer × Bool) NoMemory) → ((c : Condition) → Meets holds used format me.seat me.store me.state c → IsKnown me.seat c → BeginsAgain holds used format rose me.seat me.store next.store next.state c result) → GoesBack holds used format told rose setup g i old new result
-  restarts result step =
+  pub restarts : (result : Result (Answer × Bool) NoMemory) → ((c : Condition) → Meets holds used format me.seat me.store me.state c → IsKnown me.seat c → BeginsAgain holds used format rose me.seat me.store next.store next.state c result) → ((c : Condition) → Meets holds used format me.seat me.store me.state c → WasBegunIn was me.store next.store c) → GoesBack holds used format told rose was setup g i old new result
+  restarts result step left =
       let m = its_condition holds used format told setup history old reached i me here in
-      restarts_at m.0 m.1 m.2 result (step m.0 m.2.meets (subst (λ s. IsKnown s m.0) (sym m.2.seat) (is_known setup history reached.legal reached.short i m.0 m.1)))
+      restarts_at m.0 m.1 m.2 result (step m.0 m.2.meets (subst (λ s. IsKnown s m.0) (sym m.2.seat) (is_known setup history reached.legal reached.short i m.0 m.1))) (left m.0 m.2.meets)

@@ -52,7 +52,7 @@ module _ {S : Type 0} (holds : S → Durable → Durable → Type 0) (used forma
   by_judged : (s : ServerIs) (outcome : Result Answer NoMemory) (j : Option Refusal) → reads_after reads (turn.rule s).answer ≡ reads → Comes holds used format rose was me.seat me.store next.store next.state s out out' j (turn.rule s) outcome → reads_with reads outcome ≡ reads
   by_judged s (Err e) j plain took = refl
   by_judged s (Ok answer) None plain took = elim took [ inl whole ↦ ap (reads_after reads) whole.settles.answered ∙ plain | inr cut ↦ ap (reads_after reads) cut.answered ]
-  by_judged s (Ok answer) (Some refusal) plain took = ap (reads_after reads) took.answered
+  by_judged s (Ok answer) (Some refusal) plain took = ap (reads_after reads) took.0.answered
 
   pub no_read : (outcome : Result Answer NoMemory) → ((s : ServerIs) → reads_after reads (turn.rule s).answer ≡ reads) → (c : Condition) → Took holds used format told rose was turn me next out out' outcome c → reads_with reads outcome ≡ reads
   no_read outcome plain (RunningIs s) took = by_judged s outcome (turn.refusal s) (plain s) took

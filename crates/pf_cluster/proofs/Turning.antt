@@ -100,7 +100,7 @@ module _ {S : Type 0} (holds : S → Durable → Durable → Type 0) (used forma
 
   by_judged : (s : ServerIs) (o : Option Refusal) → turn.refusal s ≡ o → Comes holds used format rose was t.me.seat t.me.store t.next.store t.next.state s (outbox_of cluster) out o (turn.rule s) (Ok answer) → Carried s ⊎ (Cut s ⊎ Denied s)
   by_judged s None free took = elim took [ inl whole ↦ inl (record { free = free; step = whole }) | inr cut ↦ inr (inl (record { free = free; step = cut })) ]
-  by_judged s (Some refusal) judged took = inr (inr (record { refusal = refusal; judged = judged; step = took }))
+  by_judged s (Some refusal) judged took = inr (inr (record { refusal = refusal; judged = judged; step = took.0 }))
 
   by_condition : (c : Condition) → t.c ≡ c → Took holds used format told rose was turn t.me t.next (outbox_of cluster) out (Ok answer) c → Ways
   by_condition (RunningIs s) is took = inl (s, is, by_judged s (turn.refusal s) refl took)

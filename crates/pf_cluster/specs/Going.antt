@@ -1,5 +1,5 @@
 -- One event of a cluster.
-use Rattle.std.specs.Prelude.{◌≡◌, ◌≢◌, ℕ, ◌<◌, ◌^◌, Bool, [], length, Option, Some, None, Result, Ok, Err, slice_get}
+use Rattle.std.specs.Prelude.{◌≡◌, ◌≢◌, ◌⊎◌, ℕ, ◌<◌, ◌^◌, Bool, [], length, Option, Some, None, Result, Ok, Err, slice_get}
 use Rattle.std.specs.Option.{option_map}
 use Rattle.pf_base.specs.declared.errors.NoMemory.{NoMemory}
 use Rattle.pf_base.specs.declared.filled.Filled.{Filled}
@@ -12,9 +12,11 @@ use Rattle.pf_protocol.specs.declared.answers.Refusal.TheVariants.{Halted}
 use Rattle.pf_protocol.specs.declared.events.Event.{Event}
 use Rattle.pf_protocol.specs.declared.events.Event.TheVariants.{Submit, Fetch, Deliver, Lose, Elect, Resend, Stop, Restart, Claim, Finish, GiveBack, Checkpoint}
 use Rattle.pf_protocol.specs.Servers.{Setup}
+use Rattle.pf_protocol.specs.Kept.{MayHold}
 use Rattle.pf_protocol.specs.Groups.{Group, Sent, ending, happens}
 use Rattle.pf_protocol.specs.Histories.{History, replay}
 use Rattle.pf_protocol.specs.Answers.{IsAnswer, IsLegal, claims_of}
+use Rattle.pf_server.specs.Turns.{IsOf}
 use Rattle.pf_server.specs.declared.server.Server.{Server}
 use Rattle.pf_cluster.specs.declared.cluster.Cluster.{Cluster}
 use Rattle.pf_cluster.specs.Readings.{taken_after, taken_of}
@@ -61,6 +63,31 @@ module _ {S : Type 0} (rose : S → S → Type 0) where
     pub is : slice_get new.servers.items i ≡ Some after
     pub risen : rose before.store after.store
 
+-- a state that server i may hold in one of two groups, perhaps saved anew
+pub record IsHeld (before after : Group) (i : ℕ) (x : Durable) : Type 0 where
+  pub state : Durable
+  pub held : MayHold before i state ⊎ MayHold after i state
+  pub is : IsOf state x
+
+module _ {S : Type 0} (was : S → S → Durable → Durable → Type 0) (before after : Group) where
+  -- a crash at any moment left server i in such a state
+  pub record Passes (i : ℕ) (old new : S) : Type 0 where
+    pub x : Durable
+    pub y : Durable
+    pub first : IsHeld before after i x
+    pub second : IsHeld before after i y
+    pub left : was old new x y
+
+  -- the disks of server i were not touched, or so; a restart may touch them twice
+  pub record WasTouched (i : ℕ) (old new : S) : Type 0 where
+    pub between : S
+    pub first : (between ≡ old) ⊎ Passes i old between
+    pub second : (new ≡ between) ⊎ Passes i between new
+
+  -- those of this server of a cluster
+  abbrev pub Touches : Option ℕ → (old new : Cluster S) → Type 0
+  Touches own old new = (i : ℕ) (server next : Server S) → own ≡ Some i → slice_get old.servers.items i ≡ Some server → slice_get new.servers.items i ≡ Some next → WasTouched i server.store next.store
+
 module _ {S : Type 0} (holds : S → Durable → Durable → Type 0) (used format : S → ℕ) (told : S → Bool) where
   -- the cluster stands for its group after a history that a group can have
   pub record IsReached (setup : Setup) (history : History) (cluster : Cluster S) : Type 0 where
@@ -72,19 +99,22 @@ module _ {S : Type 0} (holds : S → Durable → Durable → Type 0) (used forma
   abbrev pub HasHistory : Cluster S → Type 0
   HasHistory cluster = (setup : Setup) × ((history : History) × IsReached setup history cluster)
 
-  module _ (rose : S → S → Type 0) where
-    -- the event was answered as the rules say, and the cluster stands for the group after it. A step is cut off only where a disk of
-    -- its own server failed, no other server's disks are touched, and no answer of a read is handed out
+  module _ (rose : S → S → Type 0) (was : S → S → Durable → Durable → Type 0) where
+    -- The event was answered as the rules say, and the cluster stands for the group after it. A step is cut off only where a disk of
+    -- its own server failed; a crash inside it leaves what its server may hold before it or after it; no other server's disks are
+    -- touched, and no answer of a read is handed out.
     pub record HasGone (setup : Setup) (g : Group) (event : Event) (old new : Cluster S) (answer : Answer) : Type 0 where
       pub answered : IsAnswer setup g event answer
       pub shows : Shows holds used format told setup new (happens setup g event (ending answer))
       pub cause : answer ≡ Refused Halted → (i : ℕ) × (acts_at g event ≡ Some i) × HasFault rose i old new
+      pub crash : Touches was g (happens setup g event (ending answer)) (acts_at g event) old new
       pub others : KeepsOthers (acts_at g event) old new
       pub taken : taken_of new ≡ taken_after (taken_of old) answer
 
     -- or there was no memory for it: the cluster stands for the same group, and the disks of every server but this one are as they were
     pub record HasStayed (setup : Setup) (g : Group) (own : Option ℕ) (old new : Cluster S) : Type 0 where
       pub shows : Shows holds used format told setup new g
+      pub crash : Touches was g g own old new
       pub others : KeepsOthers own old new
       pub taken : taken_of new ≡ taken_of old
 

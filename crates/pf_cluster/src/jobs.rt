@@ -51,7 +51,7 @@ impl<S: Store> Cluster<S> {
     pub fn claim(&mut self, alloc: Global) -> Result<(Answer, Answer), NoMemory>
         requires { HasHistory S.holds S.used S.format S.told self.old }
         ensures twice { IfOk result (λ answers. answers.1 ≡ answers.0) }
-        ensures step { (setup : Setup) (history : History) → IsReached S.holds S.used S.format S.told setup history self.old → GoesTwice S.holds S.used S.format S.told S.rose setup (replay setup history) self.old self.new result }
+        ensures step { (setup : Setup) (history : History) → IsReached S.holds S.used S.format S.told setup history self.old → GoesTwice S.holds S.used S.format S.told S.rose S.was setup (replay setup history) self.old self.new result }
     {
         if let Some(claim) = self.claim_at(alloc, 0)? {
             return Ok(both_answers(claim));
@@ -73,7 +73,7 @@ impl<S: Store> Cluster<S> {
     pub fn finish(&mut self, filled: Filled) -> Answer
         requires server { filled.server < 3 }
         requires job { (setup : Setup) × ((history : History) × IsBroughtBack S.holds S.used S.format S.told setup history self.old filled) }
-        ensures { (setup : Setup) (history : History) → IsReached S.holds S.used S.format S.told setup history self.old → HasGone S.holds S.used S.format S.told S.rose setup (replay setup history) (Finish filled.server filled.life filled.slot) self.old self.new result }
+        ensures { (setup : Setup) (history : History) → IsReached S.holds S.used S.format S.told setup history self.old → HasGone S.holds S.used S.format S.told S.rose S.was setup (replay setup history) (Finish filled.server filled.life filled.slot) self.old self.new result }
     {
         let server = filled.server as usize;
         let answer = self.servers[server].finish(filled);
@@ -89,7 +89,7 @@ impl<S: Store> Cluster<S> {
     pub fn give_back(&mut self, server: Number, life: u64, slot: Slot) -> Answer
         requires server { server < 3 }
         requires reached { HasHistory S.holds S.used S.format S.told self.old }
-        ensures { (setup : Setup) (history : History) → IsReached S.holds S.used S.format S.told setup history self.old → HasGone S.holds S.used S.format S.told S.rose setup (replay setup history) (GiveBack server life slot) self.old self.new result }
+        ensures { (setup : Setup) (history : History) → IsReached S.holds S.used S.format S.told setup history self.old → HasGone S.holds S.used S.format S.told S.rose S.was setup (replay setup history) (GiveBack server life slot) self.old self.new result }
     {
         let server = server as usize;
         if !self.servers[server].is_running() {

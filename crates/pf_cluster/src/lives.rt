@@ -16,7 +16,7 @@ impl<S: Store> Cluster<S> {
     pub fn stop(&mut self, server: Number) -> Answer
         requires server { server < 3 }
         requires reached { HasHistory S.holds S.used S.format S.told self.old }
-        ensures { (setup : Setup) (history : History) → IsReached S.holds S.used S.format S.told setup history self.old → HasGone S.holds S.used S.format S.told S.rose setup (replay setup history) (Stop server) self.old self.new result }
+        ensures { (setup : Setup) (history : History) → IsReached S.holds S.used S.format S.told setup history self.old → HasGone S.holds S.used S.format S.told S.rose S.was setup (replay setup history) (Stop server) self.old self.new result }
     {
         self.servers[server as usize].stop()
     }
@@ -29,7 +29,7 @@ impl<S: Store> Cluster<S> {
     pub fn restart(&mut self, alloc: Global, server: Number) -> Result<(Answer, bool), NoMemory>
         requires server { server < 3 }
         requires reached { HasHistory S.holds S.used S.format S.told self.old }
-        ensures { (setup : Setup) (history : History) → IsReached S.holds S.used S.format S.told setup history self.old → GoesBack S.holds S.used S.format S.told S.rose setup (replay setup history) server self.old self.new result }
+        ensures { (setup : Setup) (history : History) → IsReached S.holds S.used S.format S.told setup history self.old → GoesBack S.holds S.used S.format S.told S.rose S.was setup (replay setup history) server self.old self.new result }
     {
         self.servers[server as usize].restart(alloc)
     }

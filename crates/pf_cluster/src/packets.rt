@@ -60,7 +60,7 @@ impl<S: Store> Cluster<S> {
     /// where a disk failed: both mark the packet as delivered.
     pub fn deliver(&mut self, alloc: Global, k: u32) -> Result<Answer, NoMemory>
         requires { HasHistory S.holds S.used S.format S.told self.old }
-        ensures { (setup : Setup) (history : History) → IsReached S.holds S.used S.format S.told setup history self.old → Goes S.holds S.used S.format S.told S.rose setup (replay setup history) (Deliver k) self.old self.new result }
+        ensures { (setup : Setup) (history : History) → IsReached S.holds S.used S.format S.told setup history self.old → Goes S.holds S.used S.format S.told S.rose S.was setup (replay setup history) (Deliver k) self.old self.new result }
     {
         let place = k as usize;
         if place >= self.packets.len() {
@@ -84,7 +84,7 @@ impl<S: Store> Cluster<S> {
     /// `NoPacket` (53) where there is none, and `LostPacket` (54) where it was lost before, leave the group as it was.
     pub fn lose(&mut self, k: u32) -> Answer
         requires { HasHistory S.holds S.used S.format S.told self.old }
-        ensures { (setup : Setup) (history : History) → IsReached S.holds S.used S.format S.told setup history self.old → HasGone S.holds S.used S.format S.told S.rose setup (replay setup history) (Lose k) self.old self.new result }
+        ensures { (setup : Setup) (history : History) → IsReached S.holds S.used S.format S.told setup history self.old → HasGone S.holds S.used S.format S.told S.rose S.was setup (replay setup history) (Lose k) self.old self.new result }
     {
         let place = k as usize;
         if place >= self.packets.len() {

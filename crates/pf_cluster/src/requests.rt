@@ -38,7 +38,7 @@ impl<S: Store> Cluster<S> {
         requires server { server < 3 }
         requires op { IsSubmitted op }
         requires reached { HasHistory S.holds S.used S.format S.told self.old }
-        ensures { (setup : Setup) (history : History) → IsReached S.holds S.used S.format S.told setup history self.old → Goes S.holds S.used S.format S.told S.rose setup (replay setup history) (Submit server op) self.old self.new result }
+        ensures { (setup : Setup) (history : History) → IsReached S.holds S.used S.format S.told setup history self.old → Goes S.holds S.used S.format S.told S.rose S.was setup (replay setup history) (Submit server op) self.old self.new result }
     {
         self.acked.reserve(1)?;
         let mut out = self.outbox(alloc);
@@ -54,7 +54,7 @@ impl<S: Store> Cluster<S> {
         requires server { server < 3 }
         requires range { IsWritable range.first range.count }
         requires reached { HasHistory S.holds S.used S.format S.told self.old }
-        ensures { (setup : Setup) (history : History) → IsReached S.holds S.used S.format S.told setup history self.old → Goes S.holds S.used S.format S.told S.rose setup (replay setup history) (Fetch server range) self.old self.new result }
+        ensures { (setup : Setup) (history : History) → IsReached S.holds S.used S.format S.told setup history self.old → Goes S.holds S.used S.format S.told S.rose S.was setup (replay setup history) (Fetch server range) self.old self.new result }
     {
         self.readings.reserve(1)?;
         self.acked.reserve(1)?;

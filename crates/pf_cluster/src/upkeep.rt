@@ -37,7 +37,7 @@ impl<S: Store> Cluster<S> {
     pub fn elect(&mut self, alloc: Global, server: Number) -> Result<Answer, NoMemory>
         requires server { server < 3 }
         requires reached { HasHistory S.holds S.used S.format S.told self.old }
-        ensures { (setup : Setup) (history : History) → IsReached S.holds S.used S.format S.told setup history self.old → Goes S.holds S.used S.format S.told S.rose setup (replay setup history) (Elect server) self.old self.new result }
+        ensures { (setup : Setup) (history : History) → IsReached S.holds S.used S.format S.told setup history self.old → Goes S.holds S.used S.format S.told S.rose S.was setup (replay setup history) (Elect server) self.old self.new result }
     {
         if !self.servers[server as usize].is_running() {
             return Ok(Answer::Refused(Refusal::Down));
@@ -59,7 +59,7 @@ impl<S: Store> Cluster<S> {
     pub fn resend(&mut self, alloc: Global, server: Number) -> Result<Answer, NoMemory>
         requires server { server < 3 }
         requires reached { HasHistory S.holds S.used S.format S.told self.old }
-        ensures { (setup : Setup) (history : History) → IsReached S.holds S.used S.format S.told setup history self.old → Goes S.holds S.used S.format S.told S.rose setup (replay setup history) (Resend server) self.old self.new result }
+        ensures { (setup : Setup) (history : History) → IsReached S.holds S.used S.format S.told setup history self.old → Goes S.holds S.used S.format S.told S.rose S.was setup (replay setup history) (Resend server) self.old self.new result }
     {
         self.acked.reserve(1)?;
         let mut out = self.outbox(alloc);
@@ -74,7 +74,7 @@ impl<S: Store> Cluster<S> {
     pub fn checkpoint(&mut self, alloc: Global, server: Number) -> Result<Answer, NoMemory>
         requires server { server < 3 }
         requires reached { HasHistory S.holds S.used S.format S.told self.old }
-        ensures { (setup : Setup) (history : History) → IsReached S.holds S.used S.format S.told setup history self.old → Goes S.holds S.used S.format S.told S.rose setup (replay setup history) (Checkpoint server) self.old self.new result }
+        ensures { (setup : Setup) (history : History) → IsReached S.holds S.used S.format S.told setup history self.old → Goes S.holds S.used S.format S.told S.rose S.was setup (replay setup history) (Checkpoint server) self.old self.new result }
     {
         self.acked.reserve(1)?;
         let mut out = self.outbox(alloc);

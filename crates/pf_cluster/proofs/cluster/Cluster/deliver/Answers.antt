@@ -14,14 +14,14 @@ use Rattle.pf_cluster.proofs.cluster.Cluster.deliver.Goals as goal
 
 pub returns-then-place-len : goal.returns-then-place-len
 returns-then-place-len g c setup history reached =
-    delivers_none g.S.Store.holds g.S.Store.used g.S.Store.format g.S.Store.told g.S.Store.rose setup history c.args.self.now reached c.args.k
+    delivers_none g.S.Store.holds g.S.Store.used g.S.Store.format g.S.Store.told g.S.Store.rose g.S.Store.was setup history c.args.self.now reached c.args.k
     (omega (arith, c.len.ensures, c.if-place-len.true, c.args.self.now.packets.ok))
 
 pub returns-then-index : goal.returns-then-index
 returns-then-index g c setup history reached =
     let packets = c.args.self.now.packets in
     let at = slice_get_read packets.items packets.len c.args.k c.index.result.now packets.ok.0 (omega (arith, c.len.ensures, c.if-place-len.false)) c.index.ensures in
-    delivers_lost g.S.Store.holds g.S.Store.used g.S.Store.format g.S.Store.told g.S.Store.rose setup history c.args.self.now reached c.args.k c.index.result.now at c.if-index.true
+    delivers_lost g.S.Store.holds g.S.Store.used g.S.Store.format g.S.Store.told g.S.Store.rose g.S.Store.was setup history c.args.self.now reached c.args.k c.index.result.now at c.if-index.true
 
 pub outbox-out-requires : goal.outbox-out-requires
 outbox-out-requires g c = few_parcels g.S.Store.holds g.S.Store.used g.S.Store.format g.S.Store.told c.requires.0 c.requires.1.0 c.args.self.now c.requires.1.1
@@ -33,8 +33,8 @@ index_mut-requires g c =
     let at = slice_get_read packets.items packets.len c.args.k parcel packets.ok.0 (omega (arith, c.len.ensures, c.if-place-len.false)) c.index.ensures in
     let packet = c.in_ok-packet.packet in
     let bytes = c.as_slice.ensures ∙ ap (λ (x : Parcel). x.bytes) (read_there packets.items c.args.k parcel c.index-2.result.now at c.index-2.ensures) in
-    let same = came g.S.Store.holds g.S.Store.used g.S.Store.format g.S.Store.told g.S.Store.rose c.requires.0 c.requires.1.0 c.args.self.now c.requires.1.1 c.args.k parcel at packet c.as_slice.result.now bytes c.in_ok-packet.ensures in
-    let low = to_member g.S.Store.holds g.S.Store.used g.S.Store.format g.S.Store.told g.S.Store.rose c.requires.0 c.requires.1.0 c.args.self.now c.requires.1.1 c.args.k parcel at packet same in
+    let same = came g.S.Store.holds g.S.Store.used g.S.Store.format g.S.Store.told g.S.Store.rose g.S.Store.was c.requires.0 c.requires.1.0 c.args.self.now c.requires.1.1 c.args.k parcel at packet c.as_slice.result.now bytes c.in_ok-packet.ensures in
+    let low = to_member g.S.Store.holds g.S.Store.used g.S.Store.format g.S.Store.told g.S.Store.rose g.S.Store.was c.requires.0 c.requires.1.0 c.args.self.now c.requires.1.1 c.args.k parcel at packet same in
     omega (arith, low, c.requires.1.1.shows.three, c.args.self.now.servers.ok)
 
 pub receive-outcome-requires-clause-order : goal.receive-outcome-requires-clause-order
@@ -44,8 +44,8 @@ receive-outcome-requires-clause-order g c =
     let at = slice_get_read packets.items packets.len c.args.k parcel packets.ok.0 (omega (arith, c.len.ensures, c.if-place-len.false)) c.index.ensures in
     let packet = c.in_ok-packet.packet in
     let bytes = c.as_slice.ensures ∙ ap (λ (x : Parcel). x.bytes) (read_there packets.items c.args.k parcel c.index-2.result.now at c.index-2.ensures) in
-    let same = came g.S.Store.holds g.S.Store.used g.S.Store.format g.S.Store.told g.S.Store.rose c.requires.0 c.requires.1.0 c.args.self.now c.requires.1.1 c.args.k parcel at packet c.as_slice.result.now bytes c.in_ok-packet.ensures in
-    let low = to_member g.S.Store.holds g.S.Store.used g.S.Store.format g.S.Store.told g.S.Store.rose c.requires.0 c.requires.1.0 c.args.self.now c.requires.1.1 c.args.k parcel at packet same in
+    let same = came g.S.Store.holds g.S.Store.used g.S.Store.format g.S.Store.told g.S.Store.rose g.S.Store.was c.requires.0 c.requires.1.0 c.args.self.now c.requires.1.1 c.args.k parcel at packet c.as_slice.result.now bytes c.in_ok-packet.ensures in
+    let low = to_member g.S.Store.holds g.S.Store.used g.S.Store.format g.S.Store.told g.S.Store.rose g.S.Store.was c.requires.0 c.requires.1.0 c.args.self.now c.requires.1.1 c.args.k parcel at packet same in
     let me = c.index_mut.result.now in
     let here = server_there g.S.Store.holds g.S.Store.used g.S.Store.format g.S.Store.told c.requires.0 c.requires.1.0 c.args.self.now c.requires.1.1 packet.to me low c.index_mut.ensures.value in
     let m = its_condition g.S.Store.holds g.S.Store.used g.S.Store.format g.S.Store.told c.requires.0 c.requires.1.0 c.args.self.now c.requires.1.1 packet.to me here in
@@ -58,12 +58,12 @@ receive-outcome-requires-clause-packet g c =
     let at = slice_get_read packets.items packets.len c.args.k parcel packets.ok.0 (omega (arith, c.len.ensures, c.if-place-len.false)) c.index.ensures in
     let packet = c.in_ok-packet.packet in
     let bytes = c.as_slice.ensures ∙ ap (λ (x : Parcel). x.bytes) (read_there packets.items c.args.k parcel c.index-2.result.now at c.index-2.ensures) in
-    let same = came g.S.Store.holds g.S.Store.used g.S.Store.format g.S.Store.told g.S.Store.rose c.requires.0 c.requires.1.0 c.args.self.now c.requires.1.1 c.args.k parcel at packet c.as_slice.result.now bytes c.in_ok-packet.ensures in
-    let low = to_member g.S.Store.holds g.S.Store.used g.S.Store.format g.S.Store.told g.S.Store.rose c.requires.0 c.requires.1.0 c.args.self.now c.requires.1.1 c.args.k parcel at packet same in
+    let same = came g.S.Store.holds g.S.Store.used g.S.Store.format g.S.Store.told g.S.Store.rose g.S.Store.was c.requires.0 c.requires.1.0 c.args.self.now c.requires.1.1 c.args.k parcel at packet c.as_slice.result.now bytes c.in_ok-packet.ensures in
+    let low = to_member g.S.Store.holds g.S.Store.used g.S.Store.format g.S.Store.told g.S.Store.rose g.S.Store.was c.requires.0 c.requires.1.0 c.args.self.now c.requires.1.1 c.args.k parcel at packet same in
     let me = c.index_mut.result.now in
     let here = server_there g.S.Store.holds g.S.Store.used g.S.Store.format g.S.Store.told c.requires.0 c.requires.1.0 c.args.self.now c.requires.1.1 packet.to me low c.index_mut.ensures.value in
     let m = its_condition g.S.Store.holds g.S.Store.used g.S.Store.format g.S.Store.told c.requires.0 c.requires.1.0 c.args.self.now c.requires.1.1 packet.to me here in
-    for_member g.S.Store.holds g.S.Store.used g.S.Store.format g.S.Store.told g.S.Store.rose c.requires.0 c.requires.1.0 c.args.self.now c.requires.1.1 c.args.k parcel at packet same me.seat m.2.seat
+    for_member g.S.Store.holds g.S.Store.used g.S.Store.format g.S.Store.told g.S.Store.rose g.S.Store.was c.requires.0 c.requires.1.0 c.args.self.now c.requires.1.1 c.args.k parcel at packet same me.seat m.2.seat
 
 pub end-outcome-requires : goal.end-outcome-requires
 end-outcome-requires g c =
@@ -72,8 +72,8 @@ end-outcome-requires g c =
     let at = slice_get_read packets.items packets.len c.args.k parcel packets.ok.0 (omega (arith, c.len.ensures, c.if-place-len.false)) c.index.ensures in
     let packet = c.in_ok-packet.packet in
     let bytes = c.as_slice.ensures ∙ ap (λ (x : Parcel). x.bytes) (read_there packets.items c.args.k parcel c.index-2.result.now at c.index-2.ensures) in
-    let same = came g.S.Store.holds g.S.Store.used g.S.Store.format g.S.Store.told g.S.Store.rose c.requires.0 c.requires.1.0 c.args.self.now c.requires.1.1 c.args.k parcel at packet c.as_slice.result.now bytes c.in_ok-packet.ensures in
-    let low = to_member g.S.Store.holds g.S.Store.used g.S.Store.format g.S.Store.told g.S.Store.rose c.requires.0 c.requires.1.0 c.args.self.now c.requires.1.1 c.args.k parcel at packet same in
+    let same = came g.S.Store.holds g.S.Store.used g.S.Store.format g.S.Store.told g.S.Store.rose g.S.Store.was c.requires.0 c.requires.1.0 c.args.self.now c.requires.1.1 c.args.k parcel at packet c.as_slice.result.now bytes c.in_ok-packet.ensures in
+    let low = to_member g.S.Store.holds g.S.Store.used g.S.Store.format g.S.Store.told g.S.Store.rose g.S.Store.was c.requires.0 c.requires.1.0 c.args.self.now c.requires.1.1 c.args.k parcel at packet same in
     let me = c.index_mut.result.now in
     let here = server_there g.S.Store.holds g.S.Store.used g.S.Store.format g.S.Store.told c.requires.0 c.requires.1.0 c.args.self.now c.requires.1.1 packet.to me low c.index_mut.ensures.value in
     let m = its_condition g.S.Store.holds g.S.Store.used g.S.Store.format g.S.Store.told c.requires.0 c.requires.1.0 c.args.self.now c.requires.1.1 packet.to me here in
@@ -81,9 +81,9 @@ end-outcome-requires g c =
     let outcome = c.receive-outcome in
     let grp = replay (c.requires.0) (c.requires.1.0) in
     let room = same_room_refusal g.S.Store.holds g.S.Store.used g.S.Store.format g.S.Store.told c.requires.0 c.requires.1.0 c.args.self.now c.requires.1.1 out c.outbox-out.ensures in
-    let sent = (sent_there g.S.Store.holds g.S.Store.used g.S.Store.format g.S.Store.told g.S.Store.rose c.requires.0 c.requires.1.0 c.args.self.now c.requires.1.1 c.args.k parcel at) in
+    let sent = (sent_there g.S.Store.holds g.S.Store.used g.S.Store.format g.S.Store.told g.S.Store.rose g.S.Store.was c.requires.0 c.requires.1.0 c.args.self.now c.requires.1.1 c.args.k parcel at) in
     let turn = deliver_turn (c.requires.0) grp sent.0 in
-    let is = comes g.S.Store.holds g.S.Store.used g.S.Store.format g.S.Store.told g.S.Store.rose c.requires.0 c.requires.1.0 c.args.self.now c.requires.1.1 c.args.k parcel at packet same c.if-index.false out room me.seat m.2.seat in (
+    let is = comes g.S.Store.holds g.S.Store.used g.S.Store.format g.S.Store.told g.S.Store.rose g.S.Store.was c.requires.0 c.requires.1.0 c.args.self.now c.requires.1.1 c.args.k parcel at packet same c.if-index.false out room me.seat m.2.seat in (
       c.requires.0,
       (
         grp,
@@ -112,8 +112,8 @@ returns g c setup history reached =
     let at = slice_get_read packets.items packets.len c.args.k parcel packets.ok.0 (omega (arith, c.len.ensures, c.if-place-len.false)) c.index.ensures in
     let packet = c.in_ok-packet.packet in
     let bytes = c.as_slice.ensures ∙ ap (λ (x : Parcel). x.bytes) (read_there packets.items c.args.k parcel c.index-2.result.now at c.index-2.ensures) in
-    let same = came g.S.Store.holds g.S.Store.used g.S.Store.format g.S.Store.told g.S.Store.rose setup history c.args.self.now reached c.args.k parcel at packet c.as_slice.result.now bytes c.in_ok-packet.ensures in
-    let low = to_member g.S.Store.holds g.S.Store.used g.S.Store.format g.S.Store.told g.S.Store.rose setup history c.args.self.now reached c.args.k parcel at packet same in
+    let same = came g.S.Store.holds g.S.Store.used g.S.Store.format g.S.Store.told g.S.Store.rose g.S.Store.was setup history c.args.self.now reached c.args.k parcel at packet c.as_slice.result.now bytes c.in_ok-packet.ensures in
+    let low = to_member g.S.Store.holds g.S.Store.used g.S.Store.format g.S.Store.told g.S.Store.rose g.S.Store.was setup history c.args.self.now reached c.args.k parcel at packet same in
     let me = c.index_mut.result.now in
     let here = server_there g.S.Store.holds g.S.Store.used g.S.Store.format g.S.Store.told setup history c.args.self.now reached packet.to me low c.index_mut.ensures.value in
     let m = its_condition g.S.Store.holds g.S.Store.used g.S.Store.format g.S.Store.told setup history c.args.self.now reached packet.to me here in
@@ -121,9 +121,9 @@ returns g c setup history reached =
     let outcome = c.receive-outcome in
     let grp = replay (setup) (history) in
     let room = same_room_refusal g.S.Store.holds g.S.Store.used g.S.Store.format g.S.Store.told setup history c.args.self.now reached out c.outbox-out.ensures in
-    let sent = (sent_there g.S.Store.holds g.S.Store.used g.S.Store.format g.S.Store.told g.S.Store.rose setup history c.args.self.now reached c.args.k parcel at) in
+    let sent = (sent_there g.S.Store.holds g.S.Store.used g.S.Store.format g.S.Store.told g.S.Store.rose g.S.Store.was setup history c.args.self.now reached c.args.k parcel at) in
     let turn = deliver_turn (setup) grp sent.0 in
-    let is = comes g.S.Store.holds g.S.Store.used g.S.Store.format g.S.Store.told g.S.Store.rose setup history c.args.self.now reached c.args.k parcel at packet same c.if-index.false out room me.seat m.2.seat in
+    let is = comes g.S.Store.holds g.S.Store.used g.S.Store.format g.S.Store.told g.S.Store.rose g.S.Store.was setup history c.args.self.now reached c.args.k parcel at packet same c.if-index.false out room me.seat m.2.seat in
     let end = c.end-outcome in
     let mark = c.mark_delivered in
     event_goes g.S.Store.holds g.S.Store.used g.S.Store.format g.S.Store.told g.S.Store.rose g.S.Store.was setup history c.args.self.now reached packet.to me outcome.new.self c.reserve.new.self out outcome.new.out _ _ outcome.result

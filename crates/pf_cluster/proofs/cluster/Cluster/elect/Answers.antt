@@ -12,12 +12,12 @@ use Rattle.pf_cluster.proofs.cluster.Cluster.elect.Goals as goal
 
 pub returns-then-not-is_running : goal.returns-then-not-is_running
 returns-then-not-is_running g c setup history reached =
-    elects_none g.S.Store.holds g.S.Store.used g.S.Store.format g.S.Store.told g.S.Store.rose setup history c.args.self.now reached c.args.server c.index.result.now (server_there g.S.Store.holds g.S.Store.used g.S.Store.format g.S.Store.told setup history c.args.self.now reached c.args.server c.index.result.now c.requires.server c.index.ensures)
+    elects_none g.S.Store.holds g.S.Store.used g.S.Store.format g.S.Store.told g.S.Store.rose g.S.Store.was setup history c.args.self.now reached c.args.server c.index.result.now (server_there g.S.Store.holds g.S.Store.used g.S.Store.format g.S.Store.told setup history c.args.self.now reached c.args.server c.index.result.now c.requires.server c.index.ensures)
     (sym c.is_running.ensures ∙ c.if-not-is_running.true)
 
 pub returns-then-self-ge-MOST_ELECTIONS : goal.returns-then-self-ge-MOST_ELECTIONS
 returns-then-self-ge-MOST_ELECTIONS g c setup history reached =
-    elects_full g.S.Store.holds g.S.Store.used g.S.Store.format g.S.Store.told g.S.Store.rose setup history c.args.self.now reached c.args.server c.index.result.now (server_there g.S.Store.holds g.S.Store.used g.S.Store.format g.S.Store.told setup history c.args.self.now reached c.args.server c.index.result.now c.requires.server c.index.ensures)
+    elects_full g.S.Store.holds g.S.Store.used g.S.Store.format g.S.Store.told g.S.Store.rose g.S.Store.was setup history c.args.self.now reached c.args.server c.index.result.now (server_there g.S.Store.holds g.S.Store.used g.S.Store.format g.S.Store.told setup history c.args.self.now reached c.args.server c.index.result.now c.requires.server c.index.ensures)
     (sym c.is_running.ensures ∙ c.if-not-is_running.false) c.if-self-ge-MOST_ELECTIONS.true
 
 pub outbox-out-requires : goal.outbox-out-requires

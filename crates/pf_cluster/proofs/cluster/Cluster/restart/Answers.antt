@@ -16,6 +16,6 @@ restart-requires-clause-order g c =
 
 pub returns : goal.returns
 returns g c setup history reached =
-    restarts g.S.Store.holds g.S.Store.used g.S.Store.format g.S.Store.told g.S.Store.rose setup history c.args.self.now reached c.args.server c.index_mut.result.now c.restart.new.self
+    restarts g.S.Store.holds g.S.Store.used g.S.Store.format g.S.Store.told g.S.Store.rose g.S.Store.was setup history c.args.self.now reached c.args.server c.index_mut.result.now c.restart.new.self
     (server_there g.S.Store.holds g.S.Store.used g.S.Store.format g.S.Store.told setup history c.args.self.now reached c.args.server c.index_mut.result.now c.requires.server c.index_mut.ensures.value)
-    c.restart.ensures.seat c.restart.ensures.told c.restart.result c.restart.ensures.step
+    c.restart.ensures.seat c.restart.ensures.told c.restart.result c.restart.ensures.step c.restart.ensures.any_moment
