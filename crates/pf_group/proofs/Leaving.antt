@@ -1,29 +1,32 @@
 -- What the stores of a group leave.
-use Rattle.std.proofs.Common.{◌≡◌, ℕ, ◌⊎◌, inl, inr, Bool, true, false, cond, List, [], ◌∷◌, ◌++◌, length, Option, Some, None, IfSome, IsTrue, slice_get, arith, refl, sym, ap, subst, ◌∙◌}
+use Rattle.std.proofs.Common.{◌≡◌, ℕ, ◌⊎◌, inl, inr, Bool, true, false, cond, List, [], ◌∷◌, ◌++◌, length, Option, Some, IfSome, IsTrue, slice_get, arith, refl, sym, ap, subst, ◌∙◌}
 use Rattle.std.proofs.lemmas.List.{length-append}
 use Rattle.pf_disk.specs.Crashes.{Images}
 use Rattle.pf_entry.specs.Records.{Durable}
 use Rattle.pf_kept.specs.Kept.{FindsState, LeavesStates}
-use Rattle.pf_protocol.specs.Servers.{Server as ServerIs, Condition, Running as RunningIs, Stopped as StoppedIs, Unformatted as UnformattedIs}
-use Rattle.pf_protocol.specs.Servers.{Setup}
-use Rattle.pf_protocol.specs.Histories.{History, replay}
+use Rattle.pf_protocol.specs.Servers.{Condition, Running as RunningIs, Stopped as StoppedIs, Unformatted as UnformattedIs}
+use Rattle.pf_protocol.specs.Histories.{replay}
+use Rattle.pf_kept.specs.declared.kept.Kept.{Kept}
+use Rattle.pf_opening.specs.Opening.{head_of}
 use Rattle.pf_server.specs.declared.server.Server.{Server}
-use Rattle.pf_cluster.specs.declared.cluster.Cluster.{Cluster}
-use Rattle.pf_cluster.specs.Going.{IsReached}
 use Rattle.pf_restart.specs.declared.seat.Seat.{Seat}
-use Rattle.pf_server.specs.Conditions.{HasEither, HasOne, Leaves, Meets}
+use Rattle.pf_server.specs.Conditions.{HasOne, Leaves, Meets}
 use Rattle.pf_server.specs.declared.state.Doubt.{Doubt}
 use Rattle.pf_server.specs.declared.state.Doubt.TheVariants.{Settled, Open, Read}
 use Rattle.pf_server.specs.declared.state.State.{State}
 use Rattle.pf_server.specs.declared.state.State.TheVariants.{Runs, Stopped, Unformatted}
-use Rattle.pf_group.specs.Leaving.{HasLeft, IsOf, LeavesOf, as_seen}
+use Rattle.pf_server.specs.Turns.{IsOf}
+use Rattle.pf_group.specs.declared.group.Group.TheInside.{Inside}
+use Rattle.pf_group.specs.Halves.{format_in, holds_in, told_in, used_in}
+use Rattle.pf_group.specs.Inside.{IsGroup, group_in, setup_in}
+use Rattle.pf_group.specs.Leaving.{HasLeft, LeavesIn, LeavesOf, as_seen}
 
 module _ {S : Type 0} (holds : S → Durable → Durable → Type 0) (used format : S → ℕ) (seat : Seat) (store : S) (head : List ℕ) (zero one : Images) (gives : (x y : Durable) → holds store x y → LeavesStates head zero one x y) where
   one_of : (d before after x : Durable) → (d ≡ before) ⊎ (d ≡ after) → IsOf d x → IsOf before x ⊎ IsOf after x
   one_of d before after x is of = elim is [ inl same ↦ inl (subst (λ z. IsOf z x) same of) | inr same ↦ inr (subst (λ z. IsOf z x) same of) ]
 
-  left_one : (d before after : Durable) → (d ≡ before) ⊎ (d ≡ after) → HasOne holds used format d store → HasLeft zero one before after
-  left_one d before after is h = record { head = head; x = h.x; y = h.y; left = gives h.x h.y h.has; first = one_of d before after h.x is h.first; second = one_of d before after h.y is h.second }
+  left_one : (d before after : Durable) → (d ≡ before) ⊎ (d ≡ after) → HasOne holds used format d store → HasLeft head zero one before after
+  left_one d before after is h = record { x = h.x; y = h.y; left = gives h.x h.y h.has; first = one_of d before after h.x is h.first; second = one_of d before after h.y is h.second }
 
   either_of : (before after x : Durable) → (x ≡ before) ⊎ (x ≡ after) → IsOf before x ⊎ IsOf after x
   either_of before after x is = elim is [ inl same ↦ inl (inl same) | inr same ↦ inr (inl same) ]
@@ -32,14 +35,14 @@ module _ {S : Type 0} (holds : S → Durable → Durable → Type 0) (used forma
   by_found true before after = inr refl
   by_found false before after = inl refl
 
-  by_doubt : (doubt : Doubt) (before after : Durable) → Leaves holds used format doubt before after store → HasLeft zero one before after
+  by_doubt : (doubt : Doubt) (before after : Durable) → Leaves holds used format doubt before after store → HasLeft head zero one before after
   by_doubt Settled before after is = left_one before before after (inl refl) is.1
-  by_doubt (Open bytes generation) before after is = record { head = head; x = is.x; y = is.y; left = gives is.x is.y is.has; first = either_of before after is.x is.first; second = either_of before after is.y is.second }
+  by_doubt (Open bytes generation) before after is = record { x = is.x; y = is.y; left = gives is.x is.y is.has; first = either_of before after is.x is.first; second = either_of before after is.y is.second }
   by_doubt (Read found) before after is = left_one (cond found after before) before after (by_found found before after) is
 
   -- what meets a condition leaves its states
-  pub leaves_of : (state : State) (c : Condition) → Meets holds used format seat store state c → LeavesOf (Some c) zero one
-  leaves_of (Runs me) (RunningIs s) is = record { head = head; x = s.durable; y = s.durable; left = gives s.durable s.durable is.stands.recorded; first = inl (inl refl); second = inl (inl refl) }
+  pub leaves_of : (state : State) (c : Condition) → Meets holds used format seat store state c → LeavesOf head (Some c) zero one
+  leaves_of (Runs me) (RunningIs s) is = record { x = s.durable; y = s.durable; left = gives s.durable s.durable is.stands.recorded; first = inl (inl refl); second = inl (inl refl) }
   leaves_of (Stopped life doubt) (StoppedIs there before after) is = by_doubt doubt before after is.left
   leaves_of Unformatted UnformattedIs is = tt
   leaves_of (Runs me) (StoppedIs there before after) is = absurd is
@@ -65,9 +68,10 @@ three_of xs rest a b c {ys} {zs} last middle first three =
     none_left [] is = refl
     none_left (y ∷ ys) is = absurd (omega arith)
 
--- a server of a group leaves what its condition says
-pub server_leaves : {S : Type 0} → (holds : S → Durable → Durable → Type 0) (used format : S → ℕ) (told : S → Bool) (setup : Setup) (history : History) (cluster : Cluster S) → IsReached holds used format told setup history cluster → (i : ℕ) (server : Server S) → slice_get cluster.servers.items i ≡ Some server
-    → (zero one : Images) → ((c : Condition) → Meets holds used format server.seat server.store server.state c → IsTrue (told server.store) → LeavesOf (Some c) zero one) → LeavesOf (slice_get (replay setup history).servers i) zero one
-server_leaves holds used format told setup history cluster reached i server there zero one leaves =
-    let m = reached.shows.members i server there in
-    subst (λ c. LeavesOf c zero one) (sym m.1) (leaves m.0 m.2.meets m.2.tells)
+-- a server of a group leaves what its condition says, for a restart that looks for its own head
+pub group_leaves : {D : Type 0} → (seen : D → Option (List ℕ)) (may_leave : D → Images) (faults : D → ℕ) (g : Inside D) → IsGroup seen may_leave g → (i : ℕ) (server : Server (Kept D)) → slice_get g.cluster.servers.items i ≡ Some server → (zero one : Images)
+    → ((c : Condition) → Meets (holds_in seen may_leave) used_in format_in server.seat server.store server.state c → IsTrue (told_in seen server.store) → LeavesOf server.store.pair.head (Some c) zero one) → LeavesIn (group_in faults g) i zero one
+group_leaves seen may_leave faults g is i server there zero one leaves =
+    let m = is.reached.shows.members i server there in
+    subst (λ head. LeavesOf head (slice_get (replay (setup_in g) g.past.happenings.items).servers i) zero one) (is.heads i server there ∙ ap (head_of g.number) m.2.seat)
+    (subst (λ c. LeavesOf server.store.pair.head c zero one) (sym m.1) (leaves m.0 m.2.meets m.2.tells))

@@ -1,31 +1,33 @@
 -- A new group stands for the opening state.
-use Rattle.std.proofs.Common.{◌≡◌, ℕ, zero, suc, ◌+◌, ◌<◌, ◌≤◌, ◌⊎◌, inl, inr, Bool, true, false, ◌&&◌, ◌==◌, if◌then◌else◌, List, [], ◌∷◌, ◌++◌, length, Option, Some, IsTrue, is_some, slice_get, vec_capacity, arith, refl, sym, ap, subst, ◌∙◌}
+use Rattle.std.proofs.Common.{◌≡◌, ℕ, zero, suc, ◌≤◌, ◌⊎◌, inl, inr, Bool, true, false, ◌==◌, if◌then◌else◌, List, [], ◌∷◌, ◌++◌, length, Some, slice_get, vec_capacity, arith, refl, sym, ap, subst, ◌∙◌}
 use Rattle.std.specs.List.{list_any}
 use Rattle.std.proofs.lemmas.Bool.{false≢true}
-use Rattle.std.proofs.lemmas.Option.{none-some, same_Some}
+use Rattle.std.proofs.lemmas.Option.{same_Some}
 use Rattle.pf_entry.specs.Lists.{Every}
+use Rattle.pf_entry.specs.Tables.{ascends}
 use Rattle.pf_entry.proofs.Lists.{every_append}
 use Rattle.pf_entry.specs.Records.{Durable}
 use Rattle.pf_protocol.specs.declared.answers.Answer.{Answer}
 use Rattle.pf_protocol.specs.declared.answers.Answer.TheVariants.{Done, Refused}
 use Rattle.pf_protocol.specs.declared.answers.Refusal.TheVariants.{Halted}
-use Rattle.pf_protocol.specs.Servers.{Setup, Server as ServerIs, Condition, Running as RunningIs, Unformatted as UnformattedIs}
+use Rattle.pf_protocol.specs.Servers.{Setup, Running as RunningIs, Unformatted as UnformattedIs}
 use Rattle.pf_protocol.specs.Groups.{opening, unless_failed}
 use Rattle.pf_protocol.specs.Histories.{History}
 use Rattle.pf_protocol.specs.Answers.{IsSetup}
 use Rattle.pf_restart.specs.declared.seat.Seat.{Seat}
 use Rattle.pf_server.specs.declared.server.Server.{Server}
-use Rattle.pf_server.specs.declared.state.State.{State}
 use Rattle.pf_server.specs.declared.state.State.TheVariants.{Unformatted}
 use Rattle.pf_server.specs.Conditions.{Meets}
-use Rattle.pf_opening.specs.Opening.{opening_server, seat_in}
+use Rattle.pf_kept.specs.declared.kept.Kept.{Kept}
+use Rattle.pf_opening.specs.Opening.{head_of, opening_server, seat_in}
 use Rattle.pf_opening.specs.Rooms.{Place}
 use Rattle.pf_opening.proofs.Opened.{opening_at}
 use Rattle.pf_cluster.specs.declared.cluster.Cluster.{Cluster}
 use Rattle.pf_cluster.specs.Going.{IsReached}
 use Rattle.pf_cluster.specs.Showing.{AreMembers, AreReadings, IsMember, Shows, seat_of}
-use Rattle.pf_group.specs.Making.{making_answer}
-use Rattle.pf_group.specs.Rooms.{halted_of, picked}
+use Rattle.pf_group.specs.Halves.{AreLater}
+use Rattle.pf_group.specs.Inside.{HaveHeads}
+use Rattle.pf_group.specs.Rooms.{halted_of, picked, place_at}
 
 -- the servers whose making was halted
 abbrev pub all_picked : (a b c : Bool) → List ℕ
@@ -60,6 +62,16 @@ picked_2 false true true = refl
 picked_2 false true false = refl
 picked_2 false false true = refl
 picked_2 false false false = refl
+
+pub picks_ascend : (a b c : Bool) → ascends (all_picked a b c) ≡ true
+picks_ascend true true true = refl
+picks_ascend true true false = refl
+picks_ascend true false true = refl
+picks_ascend true false false = refl
+picks_ascend false true true = refl
+picks_ascend false true false = refl
+picks_ascend false false true = refl
+picks_ascend false false false = refl
 
 one_picked : (P : ℕ → Type 0) (b : Bool) (i : ℕ) → (b ≡ true → P i) → Every P (picked b i)
 one_picked P true i has = (has refl, tt)
@@ -128,3 +140,31 @@ reached_opening holds used format told setup history cluster is empty shows = su
   short = omega arith;
   shows = shows;
 })
+
+-- the counts of three servers are later where those of each are
+pub three_later : (a b c x y z : ℕ × ℕ) → (a.0 ≤ x.0) × (a.1 ≤ x.1) → (b.0 ≤ y.0) × (b.1 ≤ y.1) → (c.0 ≤ z.0) × (c.1 ≤ z.1) → AreLater (a ∷ b ∷ c ∷ []) (x ∷ y ∷ z ∷ [])
+three_later a b c x y z first second third = record { servers = refl; each = each }
+  where
+    as_given : (a x was is : ℕ × ℕ) → Some a ≡ Some was → Some x ≡ Some is → (a.0 ≤ x.0) × (a.1 ≤ x.1) → (was.0 ≤ is.0) × (was.1 ≤ is.1)
+    as_given a x was is was_there is_there le = subst (λ p. (was.0 ≤ p.0) × (was.1 ≤ p.1)) (same_Some x is is_there) (subst (λ p. (p.0 ≤ x.0) × (p.1 ≤ x.1)) (same_Some a was was_there) le)
+
+    each : (i : ℕ) (was is : ℕ × ℕ) → slice_get (a ∷ b ∷ c ∷ []) i ≡ Some was → slice_get (x ∷ y ∷ z ∷ []) i ≡ Some is → (was.0 ≤ is.0) × (was.1 ≤ is.1)
+    each zero was is was_there is_there = as_given a x was is was_there is_there first
+    each (suc zero) was is was_there is_there = as_given b y was is was_there is_there second
+    each (suc (suc zero)) was is was_there is_there = as_given c z was is was_there is_there third
+    each (suc (suc (suc i))) was is was_there is_there = absurd (grind (arith, was_there))
+
+-- a server that was opened in its place has its own head
+pub own_head : (number sectors names format i : ℕ) (place : Place) → place ≡ place_at number sectors names format i → (seat : Seat) (head : List ℕ) → seat ≡ place.seat → head ≡ head_of place.group place.seat → head ≡ head_of number seat
+own_head number sectors names format i place is seat head seat_is head_is = head_is ∙ ap (λ (p : Place). head_of p.group place.seat) is ∙ ap (head_of number) (sym seat_is)
+
+-- three servers, of which each has its own
+pub three_heads : {D : Type 0} → (number : ℕ) (cluster : Cluster (Kept D)) (zero one two : Server (Kept D)) → cluster.servers.items ≡ zero ∷ one ∷ two ∷ [] → zero.store.pair.head ≡ head_of number zero.seat → one.store.pair.head ≡ head_of number one.seat
+    → two.store.pair.head ≡ head_of number two.seat → HaveHeads number cluster
+three_heads {D = D} number cluster a b c servers first second third = λ i server at. each i server (sym (ap (λ xs. slice_get xs i) servers) ∙ at)
+  where
+    each : (i : ℕ) (server : Server (Kept D)) → slice_get (a ∷ b ∷ c ∷ []) i ≡ Some server → server.store.pair.head ≡ head_of number server.seat
+    each zero server at = subst (λ (s : Server (Kept D)). s.store.pair.head ≡ head_of number s.seat) (same_Some a server at) first
+    each (suc zero) server at = subst (λ (s : Server (Kept D)). s.store.pair.head ≡ head_of number s.seat) (same_Some b server at) second
+    each (suc (suc zero)) server at = subst (λ (s : Server (Kept D)). s.store.pair.head ≡ head_of number s.seat) (same_Some c server at) third
+    each (suc (suc (suc i))) server at = absurd (grind (arith, at))

@@ -1,25 +1,23 @@
 -- Only a claim is answered by a job, and a job is of one of the three servers.
-use Rattle.std.proofs.Common.{◌≡◌, ℕ, ◌+◌, ◌<◌, ◌⊎◌, Bool, true, false, not, if◌then◌else◌, List, [], ◌∷◌, ◌==◌, ◌||◌, nat_lt, Option, Some, None, slice_get, arith, refl, sym, subst, inl, inr}
+use Rattle.std.proofs.Common.{◌≡◌, ℕ, ◌+◌, ◌<◌, Bool, true, false, not, if◌then◌else◌, List, [], ◌∷◌, ◌==◌, ◌||◌, nat_lt, Option, Some, None, slice_get, arith, sym, subst, inl, inr}
 use Rattle.std.proofs.lemmas.Bool.{false≢true}
 use Rattle.pf_base.specs.Span.{Span}
 use Rattle.pf_entry.specs.Lists.{Every}
 use Rattle.pf_entry.proofs.Lists.{every_filter, every_more}
 use Rattle.pf_entry.specs.declared.ops.Op.{Op}
 use Rattle.pf_protocol.specs.declared.answers.Answer.{Answer}
-use Rattle.pf_protocol.specs.declared.answers.Answer.TheVariants.{Done, Slot as SlotIs, Term as TermIs, Read as ReadIs, Base as BaseIs, Job as JobIs, Refused}
+use Rattle.pf_protocol.specs.declared.answers.Answer.TheVariants.{Done, Refused}
 use Rattle.pf_protocol.specs.declared.answers.Refusal.{Refusal}
-use Rattle.pf_protocol.specs.declared.answers.Refusal.TheVariants.{BadRange, WindowFull, LogFull, NotOurs, NotLeader, Down, Halted, NoPacket, LostPacket, PacketsFull, ElectionsFull, NoneFree, Stale, OldFormat}
+use Rattle.pf_protocol.specs.declared.answers.Refusal.TheVariants.{NotOurs, LostPacket}
 use Rattle.pf_protocol.specs.declared.events.Event.{Event}
 use Rattle.pf_protocol.specs.declared.events.Event.TheVariants.{Submit, Fetch, Deliver, Lose, Elect, Resend, Stop, Restart, Claim, Finish, GiveBack, Checkpoint}
-use Rattle.pf_protocol.specs.declared.events.Happening.{Happening}
 use Rattle.pf_protocol.specs.Servers.{Setup, Role, Follower, Candidate, Merging, Serving, Server, Condition, Running, Stopped, Unformatted, upto}
 use Rattle.pf_protocol.specs.Outcomes.{Outcome}
 use Rattle.pf_protocol.specs.Leading.{on_submit, on_fetch, on_elect, on_resend}
 use Rattle.pf_protocol.specs.Saving.{is_short_of, on_checkpoint, on_finish}
-use Rattle.pf_protocol.specs.Rows.{on_packet}
 use Rattle.pf_protocol.specs.Groups.{Group, Sent, claim_of, ending, happens, opening}
 use Rattle.pf_protocol.specs.Histories.{History}
-use Rattle.pf_protocol.specs.Answers.{Claimed, IsAnswer, IsLegal, IsLegalFrom, Turn, answer_at, answer_by, answer_to, claim_answer, claim_answer_at, claims_after, claims_of, claims_with, deliver_turn, delivery_answer, elect_turn, fetch_turn, finish_answer, is_claim, is_formatted, loss_answer, may_halt, plain, restart_answer, stop_answer, submit_turn}
+use Rattle.pf_protocol.specs.Answers.{Claimed, IsAnswer, IsLegal, IsLegalFrom, Turn, answer_at, answer_by, answer_to, claim_answer, claim_answer_at, claims_after, claims_of, claims_with, deliver_turn, delivery_answer, elect_turn, fetch_turn, finish_answer, is_claim, is_formatted, loss_answer, may_halt, plain, stop_answer, submit_turn}
 use Rattle.pf_cluster.proofs.Deliveries.{packet_done}
 use Rattle.pf_group.specs.Plain.{IsPlain}
 

@@ -1,12 +1,12 @@
 -- Two disks as the store of a server, and three such stores.
-use Rattle.std.specs.Prelude.{◌≡◌, ◌⊎◌, ℕ, Bool, List, map, Option, Some, slice_get}
+use Rattle.std.specs.Prelude.{◌≡◌, ◌⊎◌, ◌≤◌, ℕ, Bool, List, length, map, Option, Some, slice_get}
 use Rattle.pf_disk.specs.Crashes.{Images}
 use Rattle.pf_disk.specs.Causes.{Rose}
 use Rattle.pf_entry.specs.Records.{Durable}
 use Rattle.pf_image.specs.Pairs.{current_of, format_of}
 use Rattle.pf_kept.specs.declared.kept.Kept.{Kept}
 use Rattle.pf_kept.specs.Faults.{faults_of}
-use Rattle.pf_kept.specs.Kept.{IsKept, OneRose, tells}
+use Rattle.pf_kept.specs.Kept.{IsKept, OneRose, WentOn, tells}
 use Rattle.pf_server.specs.declared.server.Server.{Server}
 use Rattle.pf_cluster.specs.declared.cluster.Cluster.{Cluster}
 
@@ -27,6 +27,9 @@ module _ {D : Type 0} where
   abbrev pub rose_in : (D → ℕ) → Kept D → Kept D → Type 0
   rose_in faults old new = OneRose faults old.pair new.pair
 
+  abbrev pub was_in : (seen : D → Option (List ℕ)) (faults moment : D → ℕ) (left_since : D → ℕ → Images) (tells_moments : Bool) → Kept D → Kept D → Durable → Durable → Type 0
+  was_in seen faults moment left_since tells_moments old new before after = WentOn seen faults moment left_since tells_moments old.pair new.pair before after
+
   -- how often the disks of each have failed
   abbrev pub all_faults : (D → ℕ) → Cluster (Kept D) → List (ℕ × ℕ)
   all_faults faults cluster = map (λ (server : Server (Kept D)). faults_of faults server.store) cluster.servers.items
@@ -42,3 +45,8 @@ pub record HasRisen (i : ℕ) (before after : List (ℕ × ℕ)) : Type 0 where
   pub then_is : slice_get before i ≡ Some was
   pub now_is : slice_get after i ≡ Some is
   pub risen : EitherRose was is
+
+-- no count fell
+pub record AreLater (before after : List (ℕ × ℕ)) : Type 0 where
+  pub servers : length after ≡ length before
+  pub each : (i : ℕ) (was is : ℕ × ℕ) → slice_get before i ≡ Some was → slice_get after i ≡ Some is → (was.0 ≤ is.0) × (was.1 ≤ is.1)

@@ -1,13 +1,14 @@
 -- How a group is made.
-use Rattle.std.specs.Prelude.{◌≡◌, ℕ, Bool, IsTrue, List, [], ◌∷◌, Option, is_some}
+use Rattle.std.specs.Prelude.{◌≡◌, ℕ, true, IsTrue, List, [], ◌∷◌, Option, is_some}
 use Rattle.pf_entry.specs.Lists.{Every}
+use Rattle.pf_entry.specs.Tables.{ascends}
 use Rattle.pf_protocol.specs.declared.answers.Answer.{Answer}
 use Rattle.pf_protocol.specs.declared.answers.Answer.TheVariants.{Done, Refused}
 use Rattle.pf_protocol.specs.declared.answers.Refusal.TheVariants.{Halted}
 use Rattle.pf_protocol.specs.Servers.{Setup}
 use Rattle.pf_group.specs.declared.six.Six.{Six}
 use Rattle.pf_group.specs.GroupIs.{GroupIs}
-use Rattle.pf_group.specs.Halves.{HasRisen}
+use Rattle.pf_group.specs.Halves.{AreLater, HasRisen}
 
 -- what a group is made with, and the servers whose disks could not be formatted
 abbrev pub setup_with : (sectors names format : ℕ) → (failed : List ℕ) → Setup
@@ -36,5 +37,7 @@ making_answer (i ∷ is) = Refused Halted
 pub record IsMade (number sectors names format : ℕ) (before : List (ℕ × ℕ)) (g : GroupIs) (answer : Answer) : Type 0 where
   pub failed : List ℕ
   pub is : g ≡ record { number = number; setup = setup_with sectors names format failed; history = []; taken = []; faults = g.faults }
+  pub once : ascends failed ≡ true
   pub cause : Every (λ i. HasRisen i before g.faults) failed
+  pub later : AreLater before g.faults
   pub answered : answer ≡ making_answer failed

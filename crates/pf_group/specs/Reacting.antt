@@ -24,23 +24,23 @@ module _ {S : Type 0} (holds : S → Durable → Durable → Type 0) (used forma
   abbrev pub MayReact : Cluster S → GroupEvent → Type 0
   MayReact cluster event = (setup : Setup) × ((history : History) × IsReached holds used format told setup history cluster × MayAsk (claims_of [] history) event)
 
-  module _ (rose : S → S → Type 0) where
+  module _ (rose : S → S → Type 0) (was : S → S → Durable → Durable → Type 0) where
     -- the event was answered, and its answer is there once more
     pub record Answers (setup : Setup) (history : History) (event : Event) (old new : Cluster S) (r : Reaction) : Type 0 where
       pub event_is : r.event ≡ event
       pub twice : r.kept ≡ r.answer
-      pub gone : HasGone holds used format told rose setup (replay setup history) event old new r.answer
+      pub gone : HasGone holds used format told rose was setup (replay setup history) event old new r.answer
 
     -- or there was no memory for it
     abbrev pub Comes : Setup → History → Event → (old new : Cluster S) → Result Reaction NoMemory → Type 0
     Comes setup history event old new (Ok r) = Answers setup history event old new r
-    Comes setup history event old new (Err e) = HasStayed holds used format told rose setup (replay setup history) None old new
+    Comes setup history event old new (Err e) = HasStayed holds used format told rose was setup (replay setup history) None old new
 
     abbrev pub Reacts : Setup → History → GroupEvent → (old new : Cluster S) → Result Reaction NoMemory → Type 0
     Reacts setup history event old new (Ok r) = (found : Bool) × Answers setup history (event_of event found) old new r
-    Reacts setup history event old new (Err e) = HasStayed holds used format told rose setup (replay setup history) (own_of event) old new
+    Reacts setup history event old new (Err e) = HasStayed holds used format told rose was setup (replay setup history) (own_of event) old new
 
     -- a restart tells whether it found the record of a step that was cut off
     abbrev pub ComesBack : Setup → History → (i : ℕ) → (old new : Cluster S) → Result Reaction NoMemory → Type 0
     ComesBack setup history i old new (Ok r) = (found : Bool) × Answers setup history (Restart i found) old new r
-    ComesBack setup history i old new (Err e) = HasStayed holds used format told rose setup (replay setup history) (Some i) old new
+    ComesBack setup history i old new (Err e) = HasStayed holds used format told rose was setup (replay setup history) (Some i) old new

@@ -26,7 +26,7 @@ pub fn submit<S: Store>(
     requires server { server < 3 }
     requires op { IsSubmitted op }
     requires reached { HasHistory S.holds S.used S.format S.told cluster.old }
-    ensures { (setup : Setup) (history : History) → IsReached S.holds S.used S.format S.told setup history cluster.old → Comes S.holds S.used S.format S.told S.rose setup history (Submit server op) cluster.old cluster.new result }
+    ensures { (setup : Setup) (history : History) → IsReached S.holds S.used S.format S.told setup history cluster.old → Comes S.holds S.used S.format S.told S.rose S.was setup history (Submit server op) cluster.old cluster.new result }
 {
     let kept = op.try_clone()?;
     let answer = cluster.submit(alloc, server, op)?;
@@ -43,7 +43,7 @@ pub fn fetch<S: Store>(
     requires server { server < 3 }
     requires range { IsWritable range.first range.count }
     requires reached { HasHistory S.holds S.used S.format S.told cluster.old }
-    ensures { (setup : Setup) (history : History) → IsReached S.holds S.used S.format S.told setup history cluster.old → Comes S.holds S.used S.format S.told S.rose setup history (Fetch server range) cluster.old cluster.new result }
+    ensures { (setup : Setup) (history : History) → IsReached S.holds S.used S.format S.told setup history cluster.old → Comes S.holds S.used S.format S.told S.rose S.was setup history (Fetch server range) cluster.old cluster.new result }
 {
     let answer = cluster.fetch(alloc, server, range)?;
     Ok(Reaction::plain(Event::Fetch { server, range }, answer))
@@ -56,7 +56,7 @@ pub fn deliver<S: Store>(
     k: u32,
 ) -> Result<Reaction, NoMemory>
     requires { HasHistory S.holds S.used S.format S.told cluster.old }
-    ensures { (setup : Setup) (history : History) → IsReached S.holds S.used S.format S.told setup history cluster.old → Comes S.holds S.used S.format S.told S.rose setup history (Deliver k) cluster.old cluster.new result }
+    ensures { (setup : Setup) (history : History) → IsReached S.holds S.used S.format S.told setup history cluster.old → Comes S.holds S.used S.format S.told S.rose S.was setup history (Deliver k) cluster.old cluster.new result }
 {
     let answer = cluster.deliver(alloc, k)?;
     Ok(Reaction::plain(Event::Deliver(k), answer))
@@ -65,7 +65,7 @@ pub fn deliver<S: Store>(
 /// A packet is lost.
 pub fn lose<S: Store>(cluster: &mut Cluster<S>, k: u32) -> Reaction
     requires { HasHistory S.holds S.used S.format S.told cluster.old }
-    ensures { (setup : Setup) (history : History) → IsReached S.holds S.used S.format S.told setup history cluster.old → Answers S.holds S.used S.format S.told S.rose setup history (Lose k) cluster.old cluster.new result }
+    ensures { (setup : Setup) (history : History) → IsReached S.holds S.used S.format S.told setup history cluster.old → Answers S.holds S.used S.format S.told S.rose S.was setup history (Lose k) cluster.old cluster.new result }
 {
     let answer = cluster.lose(k);
     Reaction::plain(Event::Lose(k), answer)
@@ -79,7 +79,7 @@ pub fn elect<S: Store>(
 ) -> Result<Reaction, NoMemory>
     requires server { server < 3 }
     requires reached { HasHistory S.holds S.used S.format S.told cluster.old }
-    ensures { (setup : Setup) (history : History) → IsReached S.holds S.used S.format S.told setup history cluster.old → Comes S.holds S.used S.format S.told S.rose setup history (Elect server) cluster.old cluster.new result }
+    ensures { (setup : Setup) (history : History) → IsReached S.holds S.used S.format S.told setup history cluster.old → Comes S.holds S.used S.format S.told S.rose S.was setup history (Elect server) cluster.old cluster.new result }
 {
     let answer = cluster.elect(alloc, server)?;
     Ok(Reaction::plain(Event::Elect(server), answer))
@@ -93,7 +93,7 @@ pub fn resend<S: Store>(
 ) -> Result<Reaction, NoMemory>
     requires server { server < 3 }
     requires reached { HasHistory S.holds S.used S.format S.told cluster.old }
-    ensures { (setup : Setup) (history : History) → IsReached S.holds S.used S.format S.told setup history cluster.old → Comes S.holds S.used S.format S.told S.rose setup history (Resend server) cluster.old cluster.new result }
+    ensures { (setup : Setup) (history : History) → IsReached S.holds S.used S.format S.told setup history cluster.old → Comes S.holds S.used S.format S.told S.rose S.was setup history (Resend server) cluster.old cluster.new result }
 {
     let answer = cluster.resend(alloc, server)?;
     Ok(Reaction::plain(Event::Resend(server), answer))
@@ -103,7 +103,7 @@ pub fn resend<S: Store>(
 pub fn stop<S: Store>(cluster: &mut Cluster<S>, server: Server) -> Reaction
     requires server { server < 3 }
     requires reached { HasHistory S.holds S.used S.format S.told cluster.old }
-    ensures { (setup : Setup) (history : History) → IsReached S.holds S.used S.format S.told setup history cluster.old → Answers S.holds S.used S.format S.told S.rose setup history (Stop server) cluster.old cluster.new result }
+    ensures { (setup : Setup) (history : History) → IsReached S.holds S.used S.format S.told setup history cluster.old → Answers S.holds S.used S.format S.told S.rose S.was setup history (Stop server) cluster.old cluster.new result }
 {
     let answer = cluster.stop(server);
     Reaction::plain(Event::Stop(server), answer)
@@ -117,7 +117,7 @@ pub fn restart<S: Store>(
 ) -> Result<Reaction, NoMemory>
     requires server { server < 3 }
     requires reached { HasHistory S.holds S.used S.format S.told cluster.old }
-    ensures { (setup : Setup) (history : History) → IsReached S.holds S.used S.format S.told setup history cluster.old → ComesBack S.holds S.used S.format S.told S.rose setup history server cluster.old cluster.new result }
+    ensures { (setup : Setup) (history : History) → IsReached S.holds S.used S.format S.told setup history cluster.old → ComesBack S.holds S.used S.format S.told S.rose S.was setup history server cluster.old cluster.new result }
 {
     let (answer, found) = cluster.restart(alloc, server)?;
     Ok(Reaction::plain(Event::Restart { server, found }, answer))
@@ -126,7 +126,7 @@ pub fn restart<S: Store>(
 /// A job is claimed.
 pub fn claim<S: Store>(cluster: &mut Cluster<S>, alloc: Global) -> Result<Reaction, NoMemory>
     requires { HasHistory S.holds S.used S.format S.told cluster.old }
-    ensures { (setup : Setup) (history : History) → IsReached S.holds S.used S.format S.told setup history cluster.old → Comes S.holds S.used S.format S.told S.rose setup history Claim cluster.old cluster.new result }
+    ensures { (setup : Setup) (history : History) → IsReached S.holds S.used S.format S.told setup history cluster.old → Comes S.holds S.used S.format S.told S.rose S.was setup history Claim cluster.old cluster.new result }
 {
     let (answer, kept) = cluster.claim(alloc)?;
     Ok(Reaction {
@@ -140,7 +140,7 @@ pub fn claim<S: Store>(cluster: &mut Cluster<S>, alloc: Global) -> Result<Reacti
 pub fn finish<S: Store>(cluster: &mut Cluster<S>, filled: Filled) -> Reaction
     requires server { filled.server < 3 }
     requires job { (setup : Setup) × ((history : History) × IsBroughtBack S.holds S.used S.format S.told setup history cluster.old filled) }
-    ensures { (setup : Setup) (history : History) → IsReached S.holds S.used S.format S.told setup history cluster.old → Answers S.holds S.used S.format S.told S.rose setup history (Finish filled.server filled.life filled.slot) cluster.old cluster.new result }
+    ensures { (setup : Setup) (history : History) → IsReached S.holds S.used S.format S.told setup history cluster.old → Answers S.holds S.used S.format S.told S.rose S.was setup history (Finish filled.server filled.life filled.slot) cluster.old cluster.new result }
 {
     let event = Event::Finish {
         server: filled.server,
@@ -159,7 +159,7 @@ pub fn checkpoint<S: Store>(
 ) -> Result<Reaction, NoMemory>
     requires server { server < 3 }
     requires reached { HasHistory S.holds S.used S.format S.told cluster.old }
-    ensures { (setup : Setup) (history : History) → IsReached S.holds S.used S.format S.told setup history cluster.old → Comes S.holds S.used S.format S.told S.rose setup history (Checkpoint server) cluster.old cluster.new result }
+    ensures { (setup : Setup) (history : History) → IsReached S.holds S.used S.format S.told setup history cluster.old → Comes S.holds S.used S.format S.told S.rose S.was setup history (Checkpoint server) cluster.old cluster.new result }
 {
     let answer = cluster.checkpoint(alloc, server)?;
     Ok(Reaction::plain(Event::Checkpoint(server), answer))

@@ -20,7 +20,7 @@ pub fn react<S: Store>(
     event: GroupEvent,
 ) -> Result<Reaction, NoMemory>
     requires { MayReact S.holds S.used S.format S.told cluster.old event }
-    ensures step { (setup : Setup) (history : History) → IsReached S.holds S.used S.format S.told setup history cluster.old → Reacts S.holds S.used S.format S.told S.rose setup history event cluster.old cluster.new result }
+    ensures step { (setup : Setup) (history : History) → IsReached S.holds S.used S.format S.told setup history cluster.old → Reacts S.holds S.used S.format S.told S.rose S.was setup history event cluster.old cluster.new result }
     ensures sure { OnErr result (MayWant event) }
 {
     match event {

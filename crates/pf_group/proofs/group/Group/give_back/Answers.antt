@@ -1,17 +1,15 @@
-use Rattle.std.proofs.Common.{[], ◌∷◌, ◌++◌, ◌≤◌, ◌^◌, length, arith, refl, sym, ap, subst, ◌∙◌}
-use Rattle.pf_protocol.specs.declared.answers.Answer.{Answer}
+use Rattle.std.proofs.Common.{[], ◌≤◌, ◌^◌, length, arith, refl, sym, subst}
 use Rattle.pf_protocol.specs.declared.answers.Answer.TheVariants.{Done}
 use Rattle.pf_protocol.specs.declared.events.Event.{Event}
 use Rattle.pf_protocol.specs.declared.events.Event.TheVariants.{GiveBack}
 use Rattle.pf_protocol.specs.declared.events.Happening.{Happening}
 use Rattle.pf_protocol.specs.Histories.{replay}
 use Rattle.pf_protocol.specs.Answers.{MayHappen, claims_of}
-use Rattle.pf_cluster.specs.Going.{HasGone}
 use Rattle.pf_group.specs.GroupIs.{GroupIs}
-use Rattle.pf_group.specs.Halves.{format_in, holds_in, rose_in, told_in, used_in}
+use Rattle.pf_group.specs.Halves.{format_in, holds_in, rose_in, told_in, used_in, was_in}
 use Rattle.pf_group.specs.Inside.{group_of, setup_in}
 use Rattle.pf_group.specs.Steps.{Steps}
-use Rattle.pf_group.proofs.Going.{found_low, gave_done, reached_longer, steps_of}
+use Rattle.pf_group.proofs.Going.{Went, found_low, gave_done, heads_went, reached_longer, steps_of}
 use Rattle.pf_group.proofs.Sound.{sound}
 use Rattle.pf_group.proofs.group.Group.give_back.Goals as goal
 
@@ -25,12 +23,14 @@ invariant_of-self g c =
     let e : Event = GiveBack c.args.job.server c.args.job.life c.args.job.slot in
     let gone = c.give_back.ensures (setup_in c.self.inside) c.self.inside.past.happenings.items c.self.invariant.reached in
     let done = gave_done (setup_in c.self.inside) (replay (setup_in c.self.inside) c.self.inside.past.happenings.items) c.args.job.server c.args.job.life c.args.job.slot c.give_back.result gone.answered in
+    let went = subst (Went g.D.Disk.seen g.D.Disk.may_leave g.D.Disk.faults g.D.Disk.moment g.D.Disk.left_since g.D.Disk.tells_moments (setup_in c.self.inside) c.self.inside.past.happenings.items c.self.inside.cluster c.give_back.new.self e) done gone in
     let low : length c.keep.new.self.happenings.items ≤ 2 ^ 32 = omega (arith, c.keep.ensures.past.few, c.keep.new.self.happenings.ok.0) in
     record {
-      reached = reached_longer (holds_in g.D.Disk.seen g.D.Disk.may_leave) used_in format_in (told_in g.D.Disk.seen) (rose_in g.D.Disk.faults) (setup_in c.self.inside) c.self.inside.past.happenings.items c.self.inside.cluster c.give_back.new.self e Done c.keep.new.self.happenings.items
+      reached = reached_longer (holds_in g.D.Disk.seen g.D.Disk.may_leave) used_in format_in (told_in g.D.Disk.seen) (rose_in g.D.Disk.faults) (was_in g.D.Disk.seen g.D.Disk.faults g.D.Disk.moment g.D.Disk.left_since g.D.Disk.tells_moments) (setup_in c.self.inside) c.self.inside.past.happenings.items c.self.inside.cluster c.give_back.new.self e Done c.keep.new.self.happenings.items
           c.keep.ensures.items low c.self.invariant.reached
           (subst (λ (v : GroupIs). MayHappen (claims_of [] v.history) e) (sym c.self.view_is) c.requires)
-          (subst (λ a. HasGone (holds_in g.D.Disk.seen g.D.Disk.may_leave) used_in format_in (told_in g.D.Disk.seen) (rose_in g.D.Disk.faults) (setup_in c.self.inside) (replay (setup_in c.self.inside) c.self.inside.past.happenings.items) e c.self.inside.cluster c.give_back.new.self a) done gone);
+          went;
+      heads = heads_went g.D.Disk.seen g.D.Disk.may_leave g.D.Disk.faults g.D.Disk.moment g.D.Disk.left_since g.D.Disk.tells_moments (setup_in c.self.inside) c.self.inside.past.happenings.items c.self.inside.cluster c.give_back.new.self c.self.invariant.reached e Done went c.self.inside.number c.self.invariant.heads;
       past = c.keep.ensures.past;
     }
 
@@ -40,10 +40,11 @@ returns-clause-went g c =
     let h : Happening = record { event = e; answer = Done } in
     let gone = c.give_back.ensures (setup_in c.self.inside) c.self.inside.past.happenings.items c.self.invariant.reached in
     let done = gave_done (setup_in c.self.inside) (replay (setup_in c.self.inside) c.self.inside.past.happenings.items) c.args.job.server c.args.job.life c.args.job.slot c.give_back.result gone.answered in
+    let went = subst (Went g.D.Disk.seen g.D.Disk.may_leave g.D.Disk.faults g.D.Disk.moment g.D.Disk.left_since g.D.Disk.tells_moments (setup_in c.self.inside) c.self.inside.past.happenings.items c.self.inside.cluster c.give_back.new.self e) done gone in
     subst (λ (v : GroupIs). Steps v e Done (group_of g.D.Disk.faults c.self.inside.number (setup_in c.self.inside) c.keep.new.self.happenings.items c.give_back.new.self)) c.self.view_is
-    (steps_of g.D.Disk.seen g.D.Disk.may_leave g.D.Disk.faults c.self.inside.number (setup_in c.self.inside) c.self.inside.past.happenings.items c.keep.new.self.happenings.items c.self.inside.cluster c.give_back.new.self e Done h
+    (steps_of g.D.Disk.seen g.D.Disk.may_leave g.D.Disk.faults g.D.Disk.moment g.D.Disk.left_since g.D.Disk.tells_moments (setup_in c.self.inside) c.self.inside.past.happenings.items c.self.inside.cluster c.give_back.new.self c.self.invariant.reached c.self.inside.number c.keep.new.self.happenings.items e Done h
     c.keep.ensures.items refl refl (subst (λ (v : GroupIs). MayHappen (claims_of [] v.history) e) (sym c.self.view_is) c.requires)
-    (subst (λ a. HasGone (holds_in g.D.Disk.seen g.D.Disk.may_leave) used_in format_in (told_in g.D.Disk.seen) (rose_in g.D.Disk.faults) (setup_in c.self.inside) (replay (setup_in c.self.inside) c.self.inside.past.happenings.items) e c.self.inside.cluster c.give_back.new.self a) done gone))
+    went)
 
 pub returns-clause-sound : goal.returns-clause-sound
 returns-clause-sound g c = sound _ _

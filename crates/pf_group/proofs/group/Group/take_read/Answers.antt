@@ -1,9 +1,9 @@
-use Rattle.std.proofs.Common.{◌≡◌, IfNone, IfSome, length, ap, subst, ◌∙◌}
+use Rattle.std.proofs.Common.{◌≡◌, IfNone, IfSome, length, sym, ap, subst, ◌∙◌}
 use Rattle.std.proofs.lemmas.List.{length-map}
 use Rattle.pf_protocol.specs.Histories.{replay}
 use Rattle.pf_cluster.specs.Readings.{is_taken}
 use Rattle.pf_group.specs.GroupIs.{GroupIs, state_of}
-use Rattle.pf_group.specs.Inside.{group_of, setup_in}
+use Rattle.pf_group.specs.Inside.{HaveHeads, group_of, setup_in}
 use Rattle.pf_group.specs.Readers.{HasTaken, LacksAnswer}
 use Rattle.pf_group.proofs.Shown.{has_taken, if_none, lacks_answer}
 use Rattle.pf_group.proofs.group.Group.take_read.Goals as goal
@@ -15,6 +15,7 @@ invariant_of-self g c = record {
     short = c.self.invariant.reached.short;
     shows = c.take_read.ensures.shows (setup_in c.self.inside) (replay (setup_in c.self.inside) c.self.inside.past.happenings.items) c.self.invariant.reached.shows;
   };
+  heads = subst (HaveHeads c.self.inside.number) (sym c.take_read.ensures.same) c.self.invariant.heads;
   past = c.self.invariant.past;
 }
 

@@ -1,21 +1,20 @@
-use Rattle.std.proofs.Common.{◌≡◌, ℕ, [], ◌∷◌, ◌++◌, ◌==◌, map, slice_get, List, refl, sym, ap, subst, ◌∙◌}
+use Rattle.std.proofs.Common.{ℕ, [], ◌∷◌, ◌++◌, ◌==◌, map, slice_get, refl, sym, ap, subst, ◌∙◌}
 use Rattle.std.specs.List.{list_any}
 use Rattle.std.proofs.lemmas.Bool.{and_from}
 use Rattle.pf_entry.specs.Lists.{Every}
+use Rattle.pf_entry.specs.Tables.{ascends}
 use Rattle.pf_kept.specs.declared.kept.Kept.{Kept}
 use Rattle.pf_kept.specs.Faults.{faults_of}
 use Rattle.pf_opening.specs.Rooms.{Place}
 use Rattle.pf_protocol.specs.Servers.{Setup}
-use Rattle.pf_protocol.specs.Histories.{History}
 use Rattle.pf_server.specs.declared.server.Server.{Server}
 use Rattle.pf_cluster.specs.declared.cluster.Cluster.{Cluster}
-use Rattle.pf_cluster.specs.Going.{IsReached}
 use Rattle.pf_cluster.specs.Readings.{is_taken}
 use Rattle.pf_group.specs.GroupIs.{GroupIs}
-use Rattle.pf_group.specs.Halves.{HasRisen, all_faults, format_in, holds_in, told_in, used_in}
+use Rattle.pf_group.specs.Halves.{AreLater, HasRisen, format_in, holds_in, told_in, used_in}
 use Rattle.pf_group.specs.Making.{making_answer, setup_with, six_faults}
 use Rattle.pf_group.specs.Rooms.{halted_of, picked}
-use Rattle.pf_group.proofs.Made.{every_picked, opened_members, opened_there, picked_0, picked_1, picked_2, reached_opening, shows_opening, was_halted}
+use Rattle.pf_group.proofs.Made.{every_picked, opened_members, opened_there, own_head, picked_0, picked_1, picked_2, picks_ascend, reached_opening, shows_opening, three_heads, three_later, was_halted}
 use Rattle.pf_group.proofs.making.Plan.open.Goals as goal
 
 pub invariant_of-group : goal.invariant_of-group
@@ -40,6 +39,10 @@ invariant_of-group g c =
           (ap (list_any (λ j. j == 2)) failed ∙ picked_2 (halted_of c.open-zero.result.1) (halted_of c.open-one.result.1) (halted_of c.open-two.result.1)) c.open-two.ensures.outcome c.open-two.ensures.opened c.open-two.ensures.halted c.open-two.ensures.seat
           (c.open-two.ensures.told ∙ and_from _ _ c.requires.told.s2h0 c.requires.told.s2h1)))
           e.packets e.places e.bytes e.acked e.readings e.elections);
+      heads = three_heads p.number cluster c.open-zero.result.0 c.open-one.result.0 c.open-two.result.0 servers
+          (own_head p.number p.sectors p.names p.format 0 p.zero c.requires.plan.zero c.open-zero.result.0.seat c.open-zero.result.0.store.pair.head c.open-zero.ensures.seat c.open-zero.ensures.head)
+          (own_head p.number p.sectors p.names p.format 1 p.one c.requires.plan.one c.open-one.result.0.seat c.open-one.result.0.store.pair.head c.open-one.ensures.seat c.open-one.ensures.head)
+          (own_head p.number p.sectors p.names p.format 2 p.two c.requires.plan.two c.open-two.result.0.seat c.open-two.result.0.store.pair.head c.open-two.ensures.seat c.open-two.ensures.head);
       past = c.requires.plan.past;
     }
 
@@ -55,6 +58,7 @@ returns g c =
       failed = c.note-3.new.failed.items;
       is = ap (λ h. let v : GroupIs = record { number = p.number; setup = setup_with p.sectors p.names p.format c.note-3.new.failed.items; history = h; taken = map is_taken p.cluster.readings.items; faults = now } in v) c.requires.plan.history
           ∙ ap (λ r. let v : GroupIs = record { number = p.number; setup = setup_with p.sectors p.names p.format c.note-3.new.failed.items; history = []; taken = map is_taken r; faults = now } in v) c.requires.plan.cluster.readings;
+      once = ap ascends failed ∙ picks_ascend (halted_of c.open-zero.result.1) (halted_of c.open-one.result.1) (halted_of c.open-two.result.1);
       cause = subst (Every Risen) (sym failed) (every_picked Risen (halted_of c.open-zero.result.1) (halted_of c.open-one.result.1) (halted_of c.open-two.result.1)
           (λ is. record {
             was = (g.D.Disk.faults c.args.disks.s0h0, g.D.Disk.faults c.args.disks.s0h1);
@@ -77,5 +81,6 @@ returns g c =
             now_is = ap (λ xs. slice_get (map counts xs) 2) servers;
             risen = c.open-two.ensures.failed (was_halted c.open-two.result.1 c.open-two.ensures.outcome is);
           }));
+      later = subst (AreLater (six_faults g.D.Disk.faults c.args.disks)) (sym (ap (map counts) servers)) (three_later _ _ _ (counts c.open-zero.result.0) (counts c.open-one.result.0) (counts c.open-two.result.0) c.open-zero.ensures.later c.open-one.ensures.later c.open-two.ensures.later);
       answered = c.making_answer-answer.ensures ∙ ap making_answer c.deref.ensures.value;
     }
