@@ -1,11 +1,11 @@
 -- One event of a chunk is what the run makes of it.
-use Rattle.std.proofs.Common.{◌≡◌, ℕ, ◌<◌, inl, inr, Bool, true, false, IsSome, List, [], ◌∷◌, ◌++◌, Some, slice_get, arith, refl, sym, ap, subst, ◌∙◌, append_assoc}
+use Rattle.std.proofs.Common.{◌≡◌, ℕ, ◌<◌, inl, inr, Bool, true, false, IsSome, List, [], ◌∷◌, ◌++◌, Some, slice_get, arith, refl, sym, ap, subst, ◌∙◌}
 use Rattle.std.proofs.lemmas.List.{append-nil}
 use Rattle.pf_protocol.specs.declared.answers.Answer.{Answer}
 use Rattle.pf_protocol.specs.declared.events.Event.{Event}
 use Rattle.pf_protocol.specs.declared.events.Happening.{Happening}
 use Rattle.pf_protocol.specs.Groups.{Answered}
-use Rattle.pf_protocol.specs.Histories.{IsPrefix, replay}
+use Rattle.pf_protocol.specs.Histories.{replay}
 use Rattle.pf_protocol.specs.Answers.{IsLegal}
 use Rattle.pf_cluster.specs.Readings.{taken_after}
 use Rattle.pf_group.specs.declared.event.GroupEvent.{GroupEvent}
@@ -14,12 +14,13 @@ use Rattle.pf_group.specs.Events.{event_of}
 use Rattle.pf_group.specs.GroupIs.{GroupIs, state_of}
 use Rattle.pf_group.specs.Steps.{Steps}
 use Rattle.pf_report.specs.Texts.{answer_text}
-use Rattle.pf_rounds.specs.Agreeing.{HasGrown, TellsOfGroup, at_moment, chunk_of}
+use Rattle.pf_rounds.specs.Agreeing.{TellsOfGroup, at_moment, chunk_of}
+use Rattle.pf_rounds.specs.Growing.{HasGrown}
 use Rattle.pf_rounds.specs.Chunks.{Chunk, after, answered}
 use Rattle.pf_rounds.specs.Halts.{Halt}
 use Rattle.pf_rounds.specs.Rounds.{applied}
 use Rattle.pf_rounds.proofs.Following.{restart_answer_is, restart_is, step_is}
-use Rattle.pf_rounds.proofs.Growing.{grown_tells}
+use Rattle.pf_rounds.proofs.Growing.{grown_tells, grown_trans, later_tells, step_grows}
 use Rattle.pf_chunk.specs.Happenings.{Happened, happened, reads_text}
 use Rattle.pf_chunk.specs.Packets.{NoneComesBack, is_left_in}
 use Rattle.pf_chunk.specs.Steps.{HasFollowed, HasHappened}
@@ -66,7 +67,7 @@ run_happened halts c next event answer mid says goes ends =
 
 -- lists of halts look at no more than this
 tells_same : (halts : List Halt) (a b : GroupIs) → b.number ≡ a.number → b.setup ≡ a.setup → b.history ≡ a.history → TellsOfGroup halts b → TellsOfGroup halts a
-tells_same halts a b number setup history tells = grown_tells halts a b (record { number = number; setup = setup; later = record { rest = []; whole = append-nil a.history ∙ sym history } }) tells
+tells_same halts a b number setup history tells = later_tells halts a b number setup (record { rest = []; whole = append-nil a.history ∙ sym history }) tells
 
 module _ (old mid new : ChunkIs) (asked : GroupEvent) (found : Bool) (answer : Answer) (steps : Steps old.group (event_of asked found) answer mid.group) (out put : List ℕ) (f : HasFollowed mid out put new) (ready : IsReady old) where
   abbrev event : Event
@@ -93,14 +94,8 @@ module _ (old mid new : ChunkIs) (asked : GroupEvent) (found : Bool) (answer : A
   then_setup : f.then.setup ≡ old.group.setup
   then_setup = ap (λ (g : GroupIs). g.setup) f.adds.recorded ∙ mid_setup
 
-  then_number : f.then.number ≡ old.group.number
-  then_number = f.grown.number ∙ mid_number
-
-  longer : IsPrefix old.group.history f.then.history
-  longer = record { rest = h ∷ f.adds.more; whole = sym (append_assoc old.group.history (h ∷ []) f.adds.more) ∙ sym then_history }
-
   old_grown : HasGrown old.group f.then
-  old_grown = record { number = then_number; setup = then_setup; later = longer }
+  old_grown = grown_trans old.group mid.group f.then (step_grows old.group mid.group event answer steps) f.grown
 
   state_mid : replay old.group.setup (old.group.history ++ h ∷ []) ≡ state_of mid.group
   state_mid = ap (replay old.group.setup) (sym mid_history) ∙ ap (λ setup. replay setup mid.group.history) (sym mid_setup)
@@ -161,7 +156,7 @@ module _ (old mid new : ChunkIs) (asked : GroupEvent) (found : Bool) (answer : A
 
     pub has_happened : HasHappened (λ halts c. happened halts c (event_of asked false)) old out answer put new
     has_happened = record {
-      grown = subst (λ (c : ChunkIs). HasGrown old.group c.group) (sym f.is) (record { number = then_number; setup = then_setup; later = longer });
+      grown = subst (λ (c : ChunkIs). HasGrown old.group c.group) (sym f.is) (record { number = old_grown.number; setup = old_grown.setup; later = old_grown.later; paid = old_grown.paid });
       ready = ready_group;
       left = subst (λ (c : ChunkIs). NoneComesBack (state_of old.group) (state_of c.group)) (sym f.is) left_back;
       first = ap (λ (c : ChunkIs). c.first_left) f.is ∙ first;

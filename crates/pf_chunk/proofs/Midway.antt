@@ -1,7 +1,6 @@
 -- A chunk after an event, before what it made free is applied.
 use Rattle.std.proofs.Common.{◌≡◌, ◌≢◌, ℕ, ◌<◌, ◌⊎◌, inl, inr, Bool, false, IsSome, List, [], ◌∷◌, ◌++◌, Option, Some, None, slice_get, refl, sym, ap, subst, ◌∙◌, append-nil, arith}
 use Rattle.std.specs.Option.{option_to_list}
-use Rattle.pf_protocol.proofs.Origins.{prefix_of}
 use Rattle.pf_base.specs.Span.{Span}
 use Rattle.pf_protocol.specs.declared.answers.Answer.{Answer}
 use Rattle.pf_protocol.specs.declared.answers.Answer.TheVariants.{Done, Slot as SlotIs, Term as TermIs, Read as ReadIs, Base as BaseIs, Job as JobIs, Refused}
@@ -20,7 +19,8 @@ use Rattle.pf_group.specs.GroupIs.{GroupIs, state_of}
 use Rattle.pf_group.specs.Steps.{HasStepped, Steps}
 use Rattle.pf_group.proofs.Claims.{claims_more}
 use Rattle.pf_report.specs.Texts.{answer_text}
-use Rattle.pf_rounds.specs.Agreeing.{HasGrown}
+use Rattle.pf_rounds.specs.Growing.{HasGrown}
+use Rattle.pf_rounds.proofs.Growing.{grown_trans, step_grows}
 use Rattle.pf_chunk.specs.Events.{IsStep}
 use Rattle.pf_chunk.specs.Happenings.{happened}
 use Rattle.pf_chunk.specs.Steps.{HasFollowed, HasHappened, IsListed}
@@ -49,23 +49,9 @@ listed old asked answer mid is = record { ascending = is.awaited.ascending; serv
 pub comes_to : (old : ChunkIs) (asked : GroupEvent) (answer : Answer) (mid new : ChunkIs) (out put : List ℕ) → IsReady old → IsMidway old asked answer mid → HasFollowed mid out put new → HasHappened (λ halts c. happened halts c (event_of asked false)) old out answer put new
 comes_to old asked answer mid new out put ready is f = has_happened old mid new asked is.found answer is.steps out put f ready is.first is.awaited is.said
 
--- the history has one happening more
-step_grows : (old new : GroupIs) (event : Event) (answer : Answer) → Steps old event answer new → HasGrown old new
-step_grows old new event answer steps = record {
-  number = ap (λ (g : GroupIs). g.number) steps.recorded;
-  setup = ap (λ (g : GroupIs). g.setup) steps.recorded;
-  later = record { rest = record { event = event; answer = answer } ∷ []; whole = sym (ap (λ (g : GroupIs). g.history) steps.recorded) };
-}
-
-grows_on : (a b c : GroupIs) → HasGrown a b → HasGrown b c → HasGrown a c
-grows_on a b c first second = record {
-  number = second.number ∙ first.number;
-  setup = second.setup ∙ first.setup;
-  later = prefix_of a.history b.history c.history first.later second.later;
-}
-
-pub grown_from : (old : ChunkIs) (asked : GroupEvent) (answer : Answer) (mid new : ChunkIs) → IsMidway old asked answer mid → HasGrown mid.group new.group → HasGrown old.group new.group
-grown_from old asked answer mid new is grown = grows_on old.group mid.group new.group (step_grows old.group mid.group (event_of asked is.found) answer is.steps) grown
+-- more happened after an event
+pub went_on : (old mid new : GroupIs) (asked : GroupEvent) (answer : Answer) → HasStepped old asked answer mid → HasGrown mid new → HasGrown old new
+went_on old mid new asked answer stepped grown = grown_trans old mid new (step_grows old mid (event_of asked stepped.found) answer stepped.steps) grown
 
 module _ (old mid : ChunkIs) (event : Event) (answer : Answer) (steps : Steps old.group event answer mid.group) where
   state_mid : happens old.group.setup (state_of old.group) event (ending answer) ≡ state_of mid.group

@@ -9,12 +9,12 @@ use Rattle.pf_entry.specs.declared.ops.Op.TheVariants.{Write}
 use Rattle.pf_protocol.specs.declared.answers.Answer.{Answer}
 use Rattle.pf_protocol.specs.declared.events.Event.TheVariants as events
 use Rattle.pf_protocol.specs.Servers.{Condition, Running, Stopped, Unformatted}
-use Rattle.pf_protocol.proofs.Snapshots.{whole_prefix}
 use Rattle.pf_base.specs.declared.errors.NoMemory.{NoMemory}
 use Rattle.pf_group.specs.GroupIs.{state_of}
 use Rattle.pf_report.specs.Texts.{answer_text}
 use Rattle.pf_rounds.specs.Agreeing.{chunk_of}
 use Rattle.pf_rounds.specs.Halts.{Halt}
+use Rattle.pf_rounds.proofs.Growing.{grown_refl}
 use Rattle.pf_chunk.specs.Asking.{fetches, filled, is_range, no_range, no_range_answer, submits}
 use Rattle.pf_chunk.specs.Happenings.{Happened, happened}
 use Rattle.pf_chunk.specs.Steps.{Event as EventIs, HasHappened}
@@ -46,7 +46,7 @@ said_down None = refl
 -- no event happens
 nothing : (event : EventIs) (server : ℕ) (old : ChunkIs) (out : List ℕ) (answer : Answer) → IsReady old → answer ≡ no_range_answer (slice_get (state_of old.group).servers server) → ((halts : List Halt) → event halts (chunk_of old.group) ≡ no_range server (chunk_of old.group)) → HasHappened event old out answer out old
 nothing event server old out answer ready is none = record {
-  grown = record { number = refl; setup = refl; later = whole_prefix old.group.history };
+  grown = grown_refl old.group;
   ready = ready;
   left = λ k left. inl left;
   first = refl;

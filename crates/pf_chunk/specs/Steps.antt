@@ -10,7 +10,8 @@ use Rattle.pf_rounds.specs.Halts.{Halt}
 use Rattle.pf_rounds.specs.Chunks.{Chunk}
 use Rattle.pf_rounds.specs.Rounds.{IsApplied, applied}
 use Rattle.pf_rounds.specs.Adding.{Adds}
-use Rattle.pf_rounds.specs.Agreeing.{HasGrown, TellsOfGroup, chunk_of}
+use Rattle.pf_rounds.specs.Agreeing.{TellsOfGroup, chunk_of}
+use Rattle.pf_rounds.specs.Growing.{HasGrown}
 use Rattle.pf_chunk.specs.Happenings.{Happened}
 use Rattle.pf_chunk.specs.Packets.{NoneComesBack}
 use Rattle.pf_chunk.specs.Telling.{may_wait, now_taken, taken_all, told_of}

@@ -2,7 +2,7 @@
 ghost use Rattle.std.specs.Prelude.{◌≡◌, ◌≤◌, ◌<◌, ◌++◌, IfOk, OnErr, slice_get, vec_capacity, vec_len};
 ghost use Rattle.std.specs.Option.{option_to_list};
 ghost use Rattle.pf_group.specs.GroupIs.{state_of};
-ghost use Rattle.pf_rounds.specs.Agreeing.{HasGrown};
+ghost use Rattle.pf_rounds.specs.Growing.{HasGrown};
 ghost use Rattle.pf_chunk.specs.Asking.{fetches, no_range_answer, submits};
 ghost use Rattle.pf_chunk.specs.Steps.{HasHappened};
 ghost use Rattle.pf_chunk.specs.Telling.{read_of};

@@ -1,8 +1,7 @@
 //! A group, with what a report needs beside it.
-ghost use Rattle.std.specs.Prelude.{◌≡◌, [], IfErr, IfOk, Some, slice_get};
+ghost use Rattle.std.specs.Prelude.{◌≡◌, [], IfErr, IfOk};
 ghost use Rattle.pf_protocol.specs.Answers.{IsLegal, IsSetup};
-ghost use Rattle.pf_group.specs.GroupIs.{state_of};
-ghost use Rattle.pf_group.specs.Leaving.{LeavesOf, as_seen};
+ghost use Rattle.pf_group.specs.Leaving.{LeavesIn, as_seen};
 ghost use Rattle.pf_group.specs.Sound.{IsSound};
 ghost use Rattle.pf_group.specs.Making.{AreTold, IsMade, setup_with, six_faults};
 ghost use Rattle.pf_chunk.specs.Views.{IsReady};
@@ -81,12 +80,12 @@ impl<D: Disk + Drop> ChunkGroup<D> {
 
     /// Gives the disks back, with what the group left on them.
     pub fn into_disks(self) -> Six<D>
-        ensures left_0 { LeavesOf (slice_get (state_of self.group).servers 0) (D.may_leave result.s0h0) (D.may_leave result.s0h1) }
-        ensures left_1 { LeavesOf (slice_get (state_of self.group).servers 1) (D.may_leave result.s1h0) (D.may_leave result.s1h1) }
-        ensures left_2 { LeavesOf (slice_get (state_of self.group).servers 2) (D.may_leave result.s2h0) (D.may_leave result.s2h1) }
-        ensures seen_0 { LeavesOf (slice_get (state_of self.group).servers 0) (as_seen (D.seen result.s0h0)) (as_seen (D.seen result.s0h1)) }
-        ensures seen_1 { LeavesOf (slice_get (state_of self.group).servers 1) (as_seen (D.seen result.s1h0)) (as_seen (D.seen result.s1h1)) }
-        ensures seen_2 { LeavesOf (slice_get (state_of self.group).servers 2) (as_seen (D.seen result.s2h0)) (as_seen (D.seen result.s2h1)) }
+        ensures left_0 { LeavesIn self.group 0 (D.may_leave result.s0h0) (D.may_leave result.s0h1) }
+        ensures left_1 { LeavesIn self.group 1 (D.may_leave result.s1h0) (D.may_leave result.s1h1) }
+        ensures left_2 { LeavesIn self.group 2 (D.may_leave result.s2h0) (D.may_leave result.s2h1) }
+        ensures seen_0 { LeavesIn self.group 0 (as_seen (D.seen result.s0h0)) (as_seen (D.seen result.s0h1)) }
+        ensures seen_1 { LeavesIn self.group 1 (as_seen (D.seen result.s1h0)) (as_seen (D.seen result.s1h1)) }
+        ensures seen_2 { LeavesIn self.group 2 (as_seen (D.seen result.s2h0)) (as_seen (D.seen result.s2h1)) }
         ensures faults { six_faults D.faults result ≡ self.group.faults }
     {
         let ChunkGroup { group, .. } = self;

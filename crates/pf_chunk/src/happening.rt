@@ -2,7 +2,7 @@
 ghost use Rattle.std.specs.Prelude.{◌≡◌, ◌≤◌, [], IfOk, OnErr, OnOk, false};
 ghost use Rattle.pf_protocol.specs.Answers.{claims_of};
 ghost use Rattle.pf_group.specs.Events.{event_of};
-ghost use Rattle.pf_rounds.specs.Agreeing.{HasGrown};
+ghost use Rattle.pf_rounds.specs.Growing.{HasGrown};
 ghost use Rattle.pf_chunk.specs.Happenings.{happened};
 ghost use Rattle.pf_chunk.specs.Events.{IsStep};
 ghost use Rattle.pf_chunk.specs.Steps.{HasFollowed, HasHappened, IsListed};

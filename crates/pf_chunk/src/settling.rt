@@ -3,7 +3,7 @@ ghost use Rattle.std.specs.Prelude.{◌≡◌, ◌≤◌, ◌<◌, ◌+◌, IfOk
 ghost use Rattle.pf_group.specs.GroupIs.{state_of};
 ghost use Rattle.pf_protocol.specs.Answers.{most_packets};
 ghost use Rattle.pf_protocol.specs.declared.events.Event.TheVariants.{Deliver};
-ghost use Rattle.pf_rounds.specs.Agreeing.{HasGrown};
+ghost use Rattle.pf_rounds.specs.Growing.{HasGrown};
 ghost use Rattle.pf_chunk.specs.Happenings.{happened};
 ghost use Rattle.pf_chunk.specs.Packets.{IsFirstLeft, is_left_in, is_passed_over, least_from};
 ghost use Rattle.pf_chunk.specs.Settling.{HasTried};

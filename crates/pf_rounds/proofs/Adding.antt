@@ -7,9 +7,10 @@ use Rattle.pf_entry.proofs.Lists.{every_append}
 use Rattle.pf_protocol.specs.Histories.{History}
 use Rattle.pf_group.specs.GroupIs.{GroupIs}
 use Rattle.pf_rounds.specs.Adding.{Adds, Goes, with_more}
-use Rattle.pf_rounds.specs.Agreeing.{HasGrown}
+use Rattle.pf_rounds.specs.Growing.{HasGrown}
 use Rattle.pf_rounds.specs.Rounds.{finishes, finishes_since, is_finish}
 use Rattle.pf_rounds.specs.Jobs.{IsOfRound, is_job}
+use Rattle.pf_rounds.proofs.Paying.{pays_refl, pays_trans}
 
 nothing_more : (g : GroupIs) → g ≡ with_more g [] g
 nothing_more g = ap (λ (history : History). record g { history = history }) (sym (append-nil g.history))
@@ -20,31 +21,40 @@ both_more a b c x y first second =
     ∙ (ap (λ (g : GroupIs). with_more g y c) first ∙ ap (λ (history : History). record a { history = history; faults = c.faults }) (append_assoc a.history x y))
 
 pub goes_refl : (g : GroupIs) → Goes g g
-goes_refl g = record { more = []; recorded = nothing_more g }
+goes_refl g = record { more = []; recorded = nothing_more g; paid = pays_refl g }
 
 pub goes_trans : (a b c : GroupIs) → Goes a b → Goes b c → Goes a c
-goes_trans a b c first second = record { more = first.more ++ second.more; recorded = both_more a b c first.more second.more first.recorded second.recorded }
+goes_trans a b c first second = record {
+  more = first.more ++ second.more;
+  recorded = both_more a b c first.more second.more first.recorded second.recorded;
+  paid = pays_trans a b c first.paid second.paid;
+}
 
 pub adds_refl : (g : GroupIs) → Adds g g 0 0
-adds_refl g = record { more = []; recorded = nothing_more g; round = tt; jobs = refl; finished = refl }
+adds_refl g = record { more = []; recorded = nothing_more g; paid = pays_refl g; round = tt; jobs = refl; finished = refl }
 
 pub adds_trans : (a b c : GroupIs) (i j k l : ℕ) → Adds a b i j → Adds b c k l → Adds a c (i + k) (j + l)
 adds_trans a b c i j k l first second = record {
   more = first.more ++ second.more;
   recorded = both_more a b c first.more second.more first.recorded second.recorded;
+  paid = pays_trans a b c first.paid second.paid;
   round = every_append IsOfRound first.more second.more first.round second.round;
   jobs = sum_by-append (λ h. cond (is_job h.answer) 1 0) first.more second.more ∙ omega (arith, first.jobs, second.jobs);
   finished = sum_by-append (λ h. cond (is_finish h.event) 1 0) first.more second.more ∙ omega (arith, first.finished, second.finished);
 }
 
 pub adds_goes : (a b : GroupIs) (i j : ℕ) → Adds a b i j → Goes a b
-adds_goes a b i j adds = record { more = adds.more; recorded = adds.recorded }
+adds_goes a b i j adds = record { more = adds.more; recorded = adds.recorded; paid = adds.paid }
+
+pub goes_on : (a b c : GroupIs) (i j : ℕ) → Adds a b i j → Goes b c → Goes a c
+goes_on a b c i j adds goes = goes_trans a b c (adds_goes a b i j adds) goes
 
 pub grown : (a b : GroupIs) → Goes a b → HasGrown a b
 grown a b goes = record {
   number = ap (λ (g : GroupIs). g.number) goes.recorded;
   setup = ap (λ (g : GroupIs). g.setup) goes.recorded;
   later = record { rest = goes.more; whole = sym (ap (λ (g : GroupIs). g.history) goes.recorded) };
+  paid = goes.paid;
 }
 
 pub same_taken : (a b : GroupIs) → Goes a b → b.taken ≡ a.taken

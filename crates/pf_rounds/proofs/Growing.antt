@@ -1,20 +1,71 @@
--- What a list of halts tells of a group, it told before.
-use Rattle.std.proofs.Common.{ℕ, List, [], subst}
+-- More happens to a group: what a list of halts tells of it, it told before.
+use Rattle.std.proofs.Common.{◌≡◌, ℕ, List, [], ◌∷◌, refl, sym, ap, subst, ◌∙◌}
+use Rattle.pf_protocol.specs.declared.answers.Answer.{Answer}
+use Rattle.pf_protocol.specs.declared.events.Event.{Event}
 use Rattle.pf_protocol.specs.Servers.{Setup}
-use Rattle.pf_protocol.specs.Histories.{History}
+use Rattle.pf_protocol.specs.Histories.{History, IsPrefix}
+use Rattle.pf_protocol.proofs.Origins.{prefix_of}
+use Rattle.pf_protocol.proofs.Snapshots.{whole_prefix}
+use Rattle.pf_group.specs.declared.event.GroupEvent.{GroupEvent}
 use Rattle.pf_group.specs.GroupIs.{GroupIs}
+use Rattle.pf_group.specs.Steps.{IsLeft, Steps}
 use Rattle.pf_rounds.specs.Halts.{Halt}
-use Rattle.pf_rounds.specs.Agreeing.{HasGrown, TellsOfGroup}
+use Rattle.pf_rounds.specs.Agreeing.{TellsOfGroup}
+use Rattle.pf_rounds.specs.Growing.{HasGrown}
 use Rattle.pf_rounds.proofs.Following.{tells_before}
+use Rattle.pf_rounds.proofs.Paying.{left_pays, only_faults, pays_refl, pays_same, pays_trans, step_pays}
 
 -- nothing else of a group matters to a list of halts
 abbrev bare : ℕ → Setup → History → GroupIs
 bare number setup history = record { number = number; setup = setup; history = history; taken = []; faults = [] }
 
-pub grown_tells : (halts : List Halt) (was is : GroupIs) → HasGrown was is → TellsOfGroup halts is → TellsOfGroup halts was
-grown_tells halts was is grown tells =
-    let earlier = tells_before halts is was.history grown.later tells in
+-- the list tells of the group without its last events
+pub later_tells : (halts : List Halt) (was is : GroupIs) → is.number ≡ was.number → is.setup ≡ was.setup → IsPrefix was.history is.history → TellsOfGroup halts is → TellsOfGroup halts was
+later_tells halts was is number setup later tells =
+    let earlier = tells_before halts is was.history later tells in
     let plain : TellsOfGroup halts (bare is.number is.setup was.history) = record { making = earlier.making; events = earlier.events } in
-    let numbered = subst (λ n. TellsOfGroup halts (bare n is.setup was.history)) grown.number plain in
-    let same = subst (λ setup. TellsOfGroup halts (bare was.number setup was.history)) grown.setup numbered in
+    let numbered = subst (λ n. TellsOfGroup halts (bare n is.setup was.history)) number plain in
+    let same = subst (λ setup. TellsOfGroup halts (bare was.number setup was.history)) setup numbered in
     record { making = same.making; events = same.events }
+
+pub grown_tells : (halts : List Halt) (was is : GroupIs) → HasGrown was is → TellsOfGroup halts is → TellsOfGroup halts was
+grown_tells halts was is grown tells = later_tells halts was is grown.number grown.setup grown.later tells
+
+pub grown_refl : (g : GroupIs) → HasGrown g g
+grown_refl g = record { number = refl; setup = refl; later = whole_prefix g.history; paid = pays_refl g }
+
+pub grown_trans : (a b c : GroupIs) → HasGrown a b → HasGrown b c → HasGrown a c
+grown_trans a b c first second = record {
+  number = second.number ∙ first.number;
+  setup = second.setup ∙ first.setup;
+  later = prefix_of a.history b.history c.history first.later second.later;
+  paid = pays_trans a b c first.paid second.paid;
+}
+
+-- an event was answered
+pub step_grows : (old new : GroupIs) (event : Event) (answer : Answer) → Steps old event answer new → HasGrown old new
+step_grows old new event answer steps = record {
+  number = ap (λ (g : GroupIs). g.number) steps.recorded;
+  setup = ap (λ (g : GroupIs). g.setup) steps.recorded;
+  later = record { rest = record { event = event; answer = answer } ∷ []; whole = sym (ap (λ (g : GroupIs). g.history) steps.recorded) };
+  paid = step_pays old new event answer steps;
+}
+
+-- or there was no memory for it
+pub left_grows : (old : GroupIs) (event : GroupEvent) (new : GroupIs) → IsLeft old event new → HasGrown old new
+left_grows old event new left =
+    let is = (only_faults old event new left).0 in record {
+      number = ap (λ (g : GroupIs). g.number) is;
+      setup = ap (λ (g : GroupIs). g.setup) is;
+      later = subst (IsPrefix old.history) (sym (ap (λ (g : GroupIs). g.history) is)) (whole_prefix old.history);
+      paid = left_pays old event new left;
+    }
+
+-- answers of reads are handed out
+pub taken_grows : (old new : GroupIs) → new ≡ record old { taken = new.taken } → HasGrown old new
+taken_grows old new is = record {
+  number = ap (λ (g : GroupIs). g.number) is;
+  setup = ap (λ (g : GroupIs). g.setup) is;
+  later = subst (IsPrefix old.history) (sym (ap (λ (g : GroupIs). g.history) is)) (whole_prefix old.history);
+  paid = pays_same old new is;
+}

@@ -18,3 +18,4 @@ pub mod Placing
 pub mod Several
 pub mod Stopping
 pub mod Telling
+pub mod Paying

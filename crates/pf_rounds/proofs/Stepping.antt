@@ -25,19 +25,20 @@ use Rattle.pf_rounds.proofs.Adding.{adds_trans, goes_trans}
 use Rattle.pf_rounds.proofs.Bound.{answer_is}
 use Rattle.pf_rounds.proofs.Free.{claimed_is_free, none_is_free}
 use Rattle.pf_rounds.proofs.Opened.{finished_first, not_opened, opened, returned_first}
+use Rattle.pf_rounds.proofs.Paying.{step_pays}
 
 -- a claim that got this job
 pub got_job : (old new : GroupIs) (answer : Answer) (job : Job) → answer ≡ JobIs job → IsLegal old.setup old.history → HasStepped old asked.Claim answer new → HasClaimed old (Some job) new
 got_job old new answer job is legal stepped =
     let steps = subst (λ (a : Answer). Steps old Claim a new) is stepped.steps in
-    record { recorded = steps.recorded; answered = steps.legal.answered; free = claimed_is_free old.setup old.history job legal steps.legal.answered }
+    record { recorded = steps.recorded; answered = steps.legal.answered; paid = step_pays old new Claim (JobIs job) steps; free = claimed_is_free old.setup old.history job legal steps.legal.answered }
 
 -- a claim that got none
 pub got_none : (old new : GroupIs) (answer : Answer) → ((job : Job) → answer ≡ JobIs job → ⊥) → HasStepped old asked.Claim answer new → HasClaimed old None new
 got_none old new answer no_jobs stepped =
     let is = none_is_free old.setup (state_of old) answer stepped.steps.legal.answered no_jobs in
     let steps = subst (λ (a : Answer). Steps old Claim a new) is stepped.steps in
-    record { recorded = steps.recorded; answered = steps.legal.answered; free = tt }
+    record { recorded = steps.recorded; answered = steps.legal.answered; paid = step_pays old new Claim (Refused NoneFree) steps; free = tt }
 
 -- a finish is answered with no job, and begins no read
 record IsQuiet (answer : Answer) : Type 0 where
@@ -76,17 +77,18 @@ finished_job old new filled answer job is stepped =
       answer = answer;
       recorded = steps.recorded ∙ ap (λ taken. record old { history = old.history ++ record { event = finish_of job; answer = answer } ∷ []; taken = taken; faults = new.faults }) (q.no_read old.taken);
       answered = steps.legal.answered;
+      paid = step_pays old new (finish_of job) answer steps;
     }
 
 -- what a claim adds
 pub claim_adds : (old now new : GroupIs) (job : Job) (n : ℕ) → HasClaimed now (Some job) new → Adds old now n 0 → Adds old new (n + 1) 0
 claim_adds old now new job n claimed adds =
-    adds_trans old now new n 0 1 0 adds (record { more = record { event = Claim; answer = JobIs job } ∷ []; recorded = claimed.recorded; round = (tt, tt); jobs = refl; finished = refl })
+    adds_trans old now new n 0 1 0 adds (record { more = record { event = Claim; answer = JobIs job } ∷ []; recorded = claimed.recorded; paid = claimed.paid; round = (tt, tt); jobs = refl; finished = refl })
 
 pub none_adds : (old now new : GroupIs) (n : ℕ) → HasClaimed now None new → Adds old now n 0 → Adds old new n 0
 none_adds old now new n claimed adds =
     subst (λ m. Adds old new m 0) (add-zero n)
-    (adds_trans old now new n 0 0 0 adds (record { more = record { event = Claim; answer = Refused NoneFree } ∷ []; recorded = claimed.recorded; round = (tt, tt); jobs = refl; finished = refl }))
+    (adds_trans old now new n 0 0 0 adds (record { more = record { event = Claim; answer = Refused NoneFree } ∷ []; recorded = claimed.recorded; paid = claimed.paid; round = (tt, tt); jobs = refl; finished = refl }))
 
 -- what a finish adds
 pub finish_adds : (old now new : GroupIs) (job : Job) (n : ℕ) → HasFinished now job new → Adds old now 0 n → Adds old new 0 (n + 1)
@@ -95,6 +97,7 @@ finish_adds old now new job n done adds =
     adds_trans old now new 0 n 0 1 adds (record {
       more = record { event = finish_of job; answer = done.answer } ∷ [];
       recorded = done.recorded;
+      paid = done.paid;
       round = (tt, tt);
       jobs = ap (λ b. 0 + cond b 1 0) q.no_job;
       finished = refl;
@@ -119,7 +122,7 @@ Returns old job new = Steps old (GiveBack job.server job.life job.slot) Done new
 
 pub return_goes : (old now new : GroupIs) (job : Job) → Returns now job new → Goes old now → Goes old new
 return_goes old now new job returns goes =
-    goes_trans old now new goes (record { more = record { event = GiveBack job.server job.life job.slot; answer = Done } ∷ []; recorded = returns.recorded })
+    goes_trans old now new goes (record { more = record { event = GiveBack job.server job.life job.slot; answer = Done } ∷ []; recorded = returns.recorded; paid = step_pays now new (GiveBack job.server job.life job.slot) Done returns })
 
 pub return_closes : (now new : GroupIs) (job : Job) (jobs : List Job) → Returns now job new → AreOpen now.history (job ∷ jobs) → AreOpen new.history jobs
 return_closes now new job jobs returns are =

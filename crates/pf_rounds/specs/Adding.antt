@@ -10,6 +10,7 @@ use Rattle.pf_protocol.specs.declared.events.Event.TheVariants.{Claim, Finish}
 use Rattle.pf_protocol.specs.Histories.{History}
 use Rattle.pf_protocol.specs.Answers.{IsAnswer, claims_of, is_claim}
 use Rattle.pf_group.specs.GroupIs.{GroupIs, state_of}
+use Rattle.pf_rounds.specs.Growing.{Pays}
 use Rattle.pf_rounds.specs.Jobs.{IsOfRound, jobs_in}
 use Rattle.pf_rounds.specs.Rounds.{finishes}
 
@@ -20,11 +21,13 @@ with_more old more new = record old { history = old.history ++ more; faults = ne
 pub record Goes (old new : GroupIs) : Type 0 where
   pub more : History
   pub recorded : new ≡ with_more old more new
+  pub paid : Pays old new
 
 -- so many claims got a job, so many jobs were finished, and nothing else happened but claims for which none was free
 pub record Adds (old new : GroupIs) (got ended : ℕ) : Type 0 where
   pub more : History
   pub recorded : new ≡ with_more old more new
+  pub paid : Pays old new
   pub round : Every IsOfRound more
   pub jobs : jobs_in more ≡ got
   pub finished : finishes more ≡ ended
@@ -37,6 +40,7 @@ claim_answer_of None = Refused NoneFree
 pub record HasClaimed (old : GroupIs) (job : Option Job) (new : GroupIs) : Type 0 where
   pub recorded : new ≡ with_more old (record { event = Claim; answer = claim_answer_of job } ∷ []) new
   pub answered : IsAnswer old.setup (state_of old) Claim (claim_answer_of job)
+  pub paid : Pays old new
   pub free : IfSome job (λ j. Every (λ c. is_claim j.server j.life j.slot c ≡ false) (claims_of [] old.history))
 
 abbrev pub finish_of : Job → Event
@@ -47,3 +51,4 @@ pub record HasFinished (old : GroupIs) (job : Job) (new : GroupIs) : Type 0 wher
   pub answer : Answer
   pub recorded : new ≡ with_more old (record { event = finish_of job; answer = answer } ∷ []) new
   pub answered : IsAnswer old.setup (state_of old) (finish_of job) answer
+  pub paid : Pays old new

@@ -37,9 +37,3 @@ at_moment g earlier = chunk_of (record g { history = earlier })
 pub record TellsOfGroup (halts : List Halt) (g : GroupIs) : Type 0 where
   pub making : failed_by halts g.number ≡ g.setup.failed
   pub events : (earlier : History) (h : Happening) → IsPrefix (earlier ++ h ∷ []) g.history → TellsOf halts (at_moment g earlier) h
-
--- more happened to the group
-pub record HasGrown (old new : GroupIs) : Type 0 where
-  pub number : new.number ≡ old.number
-  pub setup : new.setup ≡ old.setup
-  pub later : IsPrefix old.history new.history

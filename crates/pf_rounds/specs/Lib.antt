@@ -8,3 +8,4 @@ pub mod Open
 pub mod Following
 pub mod Closed
 pub mod Telling
+pub mod Growing

@@ -1,8 +1,7 @@
 -- What lines ask of one chunk.
-use Rattle.std.proofs.Common.{◌≡◌, ℕ, ◌<◌, true, false, List, Option, Some, None, get_or, length, slice_get, slice_set, refl, sym, ap, subst, arith}
+use Rattle.std.proofs.Common.{◌≡◌, ℕ, ◌<◌, false, List, Some, None, get_or, length, slice_get, refl, sym, ap, subst, arith}
 use Rattle.std.proofs.lemmas.Bool.Decides.{nat_tests}
 use Rattle.std.proofs.lemmas.Option.{same_Some, slice_get_read}
-use Rattle.pf_script.specs.Lines.{fits}
 use Rattle.pf_script.specs.declared.command.Command.{Command}
 use Rattle.pf_script.specs.declared.command.Command.TheVariants as commands
 use Rattle.pf_protocol.specs.declared.answers.Answer.{Answer}
@@ -10,15 +9,14 @@ use Rattle.pf_group.specs.declared.event.GroupEvent.{GroupEvent}
 use Rattle.pf_group.specs.declared.event.GroupEvent.TheVariants as asked
 use Rattle.pf_group.specs.Events.{event_of}
 use Rattle.pf_rounds.specs.Halts.{Halt}
-use Rattle.pf_rounds.specs.Agreeing.{HasGrown}
-use Rattle.pf_chunk.specs.Asking.{fetches, submits}
+use Rattle.pf_rounds.specs.Growing.{HasGrown}
 use Rattle.pf_chunk.specs.Happenings.{happened}
 use Rattle.pf_chunk.specs.Steps.{Event, HasHappened}
 use Rattle.pf_chunk.specs.Views.{ChunkIs, IsReady}
 use Rattle.pf_world.specs.Worlds.{World, at_chunk}
 use Rattle.pf_world.specs.Lines.{line_told}
 use Rattle.pf_world.specs.Views.{IsWorld, WorldIs}
-use Rattle.pf_world.specs.Asked.{HasAsked, HasHappenedAt, asked_of}
+use Rattle.pf_world.specs.Asked.{HasAsked, asked_of}
 use Rattle.pf_world.specs.Steps.{Ends, GoesOn, MayRun}
 use Rattle.pf_world.proofs.Happening.{one_grew, with_chunk_at}
 

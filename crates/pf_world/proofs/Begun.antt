@@ -1,18 +1,17 @@
 -- How a volume is made, chunk by chunk.
-use Rattle.std.proofs.Common.{◌≡◌, ◌≢◌, ◌⊎◌, inl, inr, ℕ, zero, suc, ◌+◌, ◌*◌, ◌/◌, ◌%◌, ◌==◌, nat_le, ◌<◌, ◌≤◌, Bool, true, false, ◌&&◌, ◌||◌, List, [], ◌∷◌, ◌++◌, None, Some, drop, take, length, map, slice_get, refl, sym, ap, subst, ◌∙◌, add-one, arith}
+use Rattle.std.proofs.Common.{◌≡◌, ◌⊎◌, inl, inr, ℕ, suc, ◌+◌, ◌*◌, ◌/◌, ◌%◌, ◌==◌, nat_le, ◌<◌, ◌≤◌, Bool, true, false, ◌&&◌, ◌||◌, List, [], ◌∷◌, ◌++◌, None, Some, drop, take, length, map, slice_get, refl, sym, ap, subst, ◌∙◌, arith}
 use Rattle.std.specs.List.{flat_map, range_with_len}
-use Rattle.std.proofs.lemmas.Bool.{false≢true}
 use Rattle.std.proofs.lemmas.Bool.Decides.{nat_tests}
 use Rattle.std.proofs.lemmas.List.{append_assoc, append-nil, length-append, take-append-le}
 use Rattle.std.proofs.lemmas.Option.{slice_get_within}
 use Rattle.std.proofs.lemmas.Grind.{flat_map-append}
 use Rattle.std.proofs.Math.Seq.{take-length}
 use Rattle.pf_entry.specs.Lists.{Every}
+use Rattle.pf_entry.proofs.Lists.{every_more}
 use Rattle.pf_script.specs.Lines.{is_volume}
 use Rattle.pf_protocol.specs.Answers.{IsSetup}
 use Rattle.pf_protocol.specs.declared.answers.Answer.{Answer}
-use Rattle.pf_protocol.specs.declared.answers.Answer.TheVariants.{Done, Refused}
-use Rattle.pf_protocol.specs.declared.answers.Refusal.TheVariants.{Halted}
+use Rattle.pf_protocol.specs.declared.answers.Answer.TheVariants.{Done}
 use Rattle.pf_cluster.proofs.Lists.{at_end, at_front, end_cases}
 use Rattle.pf_group.specs.declared.six.Six.{Six}
 use Rattle.pf_group.specs.Halves.{HasRisen}
@@ -22,10 +21,10 @@ use Rattle.pf_group.specs.Making.{making_answer, setup_with}
 use Rattle.pf_rounds.specs.Halts.{Halt, failed_by}
 use Rattle.pf_rounds.specs.Chunks.{Chunk, made_chunk}
 use Rattle.pf_rounds.specs.Agreeing.{TellsOfGroup, chunk_of}
+use Rattle.pf_rounds.proofs.Paying.{made_paid}
 use Rattle.pf_chunk.specs.Views.{ChunkIs, IsReady}
 use Rattle.pf_world.specs.Worlds.{made, made_answer}
-use Rattle.pf_world.specs.Views.{IsChunkOf, IsWorld, WorldIs, WorldOn, stands_at}
-use Rattle.pf_world.specs.Agreeing.{Tells}
+use Rattle.pf_world.specs.Views.{IsChunkOf, WorldIs, WorldOn, stands_at}
 use Rattle.pf_world.specs.Disks.{six_list}
 use Rattle.pf_world.specs.Making.{AreNew, HasAdded, IsNew, unless_done}
 use Rattle.pf_world.specs.Steps.{IsMade}
@@ -197,7 +196,8 @@ module _ {D : Type 0} (faults : D → ℕ) where
           six = m.six;
           there = m.there;
           history = ap (λ (v : GroupIs). v.history) m.made.is;
-          cause = subst (Every (λ i. HasRisen i (groups.six_faults faults m.six) c.group.faults)) (sym failed) m.made.cause;
+          paid = made_paid k sectors names format (groups.six_faults faults m.six) c.group m.answer m.made;
+          few = subst (Every (λ i. i < 3)) (sym failed) (every_more (λ i. HasRisen i (groups.six_faults faults m.six) c.group.faults) (λ i. i < 3) (λ i risen. slice_get_within (groups.six_faults faults m.six) i risen.was risen.then_is) m.made.failed m.made.cause);
         }
 
     pub all_new : AreNew faults disks w.world

@@ -1,13 +1,14 @@
 -- Where no disk failed, the report is a function of the lines alone.
-use Rattle.std.proofs.Common.{◌≡◌, ℕ, ◌+◌, ◌-◌, ◌^◌, ◌<◌, ◌≤◌, ◌&&◌, ◌==◌, Bool, true, false, cond, List, [], ◌∷◌, refl, sym, ap, ◌∙◌, inl, inr, arith}
+use Rattle.std.proofs.Common.{◌≡◌, ℕ, ◌+◌, ◌*◌, ◌-◌, ◌^◌, ◌<◌, ◌≤◌, ◌&&◌, ◌==◌, Bool, true, false, cond, List, [], ◌∷◌, refl, sym, ap, subst, ◌∙◌, inl, inr, arith}
 use Rattle.std.specs.List.{fold}
 use Rattle.std.proofs.lemmas.Bool.{eq-eqb}
 use Rattle.std.proofs.lemmas.Bool.{false≢true}
 use Rattle.pf_rounds.specs.Halts.{Halt}
+use Rattle.pf_rounds.specs.Telling.{halts_at}
 use Rattle.pf_world.specs.declared.line.Line.{Line}
 use Rattle.pf_world.specs.Reports.{report_of}
 use Rattle.pf_world.specs.Views.{WorldIs}
-use Rattle.pf_world.specs.Headline.{AreCaused, AreFaultless, FailedTimes, IsRun, halts_of}
+use Rattle.pf_world.specs.Headline.{AreCaused, AreFaultless, AreHalts, FailedTimes, IsCaused, RunsTo}
 
 count_grows : (p : Halt → Bool) (n : ℕ) (hs : List Halt) → n ≤ fold (λ m x. m + cond (p x) 1 0) n hs
 count_grows p n [] = omega arith
@@ -18,24 +19,31 @@ both_same true true at bt = omega arith
 both_same true false at bt = absurd (false≢true bt)
 both_same false b at bt = absurd (false≢true at)
 
-counts_itself : (h : Halt) (hs : List Halt) → 1 ≤ halts_of (h ∷ hs) h.group h.server
+counts_itself : (h : Halt) (hs : List Halt) → 1 ≤ halts_at (h ∷ hs) h.group h.server
 counts_itself h hs =
     let first = both_same (h.group == h.group) (h.server == h.server) (eq-eqb h.group h.group refl) (eq-eqb h.server h.server refl) in
     let more = count_grows (λ x. x.group == h.group && x.server == h.server) (0 + cond (h.group == h.group && h.server == h.server) 1 0) hs in
     omega (arith, first, more)
 
-none_failed : (n : ℕ) (was is : ℕ × ℕ) → 1 ≤ n → FailedTimes n was is → is ≡ was → was.0 < 2 ^ 64 - 1 → was.1 < 2 ^ 64 - 1 → ⊥
-none_failed n was is some (inl failed) same low0 low1 = let zero = ap (λ p. p.0) same in let one = ap (λ p. p.1) same in omega (arith, zero, one, failed)
-none_failed n was is some (inr (inl last)) same low0 low1 = let zero = ap (λ p. p.0) same in omega (arith, zero, last)
-none_failed n was is some (inr (inr last)) same low0 low1 = let one = ap (λ p. p.1) same in omega (arith, one, last)
+none_failed : (n : ℕ) (was is : ℕ × ℕ) → 1 ≤ n → FailedTimes n was is → is.0 ≡ was.0 → is.1 ≡ was.1 → was.0 < 2 ^ 64 - 1 → was.1 < 2 ^ 64 - 1 → ⊥
+none_failed n was is some (inl failed) zero one low0 low1 = omega (arith, some, zero, one, failed)
+none_failed n was is some (inr (inl last)) zero one low0 low1 = omega (arith, zero, last, low0)
+none_failed n was is some (inr (inr last)) zero one low0 low1 = omega (arith, one, last, low1)
 
-pub no_halts : (halts : List Halt) (before : List (List (ℕ × ℕ))) (w : WorldIs) → AreCaused halts before w → AreFaultless before w → halts ≡ []
-no_halts [] before w caused faultless = refl
-no_halts (h ∷ hs) before w caused faultless =
-    let c = caused.0 in
-    let even = faultless h.group h.server c.counts c.chunk c.was c.is c.began c.stands c.was_is c.is_is in
-    absurd (none_failed (halts_of (h ∷ hs) h.group h.server) c.was c.is (counts_itself h hs) c.failed even.0 even.1 even.2)
+module _ {D : Type 0} (faults : D → ℕ) (before after : List D) (faultless : AreFaultless faults before after) where
+  not_caused : (halts : List Halt) (k i : ℕ) → 1 ≤ halts_at halts k i → IsCaused faults halts before after k i → ⊥
+  not_caused halts k i some c =
+      let was : ℕ × ℕ = (faults c.had.zero, faults c.had.one) in
+      let is : ℕ × ℕ = (faults c.have.zero, faults c.have.one) in
+      let failed = subst (λ x. FailedTimes (halts_at halts k i) x is) c.had.counts_are (subst (λ x. FailedTimes (halts_at halts k i) c.was x) c.have.counts_are c.failed) in
+      let zero = faultless (6 * k + 2 * i) c.had.zero c.have.zero c.had.zero_is c.have.zero_is in
+      let one = faultless (6 * k + 2 * i + 1) c.had.one c.have.one c.had.one_is c.have.one_is in
+      none_failed (halts_at halts k i) was is some failed zero.0 one.0 zero.1 one.1
 
-pub report_is : (lines : List Line) (before : List (List (ℕ × ℕ))) (text : List ℕ) (w : WorldIs) → IsRun lines before text w → AreFaultless before w → text ≡ report_of [] lines
-report_is lines before text w r faultless =
-    sym (ap (λ told. told.text) r.run) ∙ ap (λ halts. report_of halts lines) (no_halts r.halts before w r.causes faultless)
+  pub no_halts : (halts : List Halt) → AreCaused faults halts before after → halts ≡ []
+  no_halts [] caused = refl
+  no_halts (h ∷ hs) caused = absurd (not_caused (h ∷ hs) h.group h.server (counts_itself h hs) caused.0)
+
+  -- the text is that of the run without halts
+  pub report_is : (lines : List Line) (text : List ℕ) (w : WorldIs) (halts : List Halt) → RunsTo lines text w → AreHalts faults halts before after w → text ≡ report_of [] lines
+  report_is lines text w halts run told = sym (ap (λ r. r.text) (run halts told.tells)) ∙ ap (λ hs. report_of hs lines) (no_halts halts told.causes)

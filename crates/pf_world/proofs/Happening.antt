@@ -1,5 +1,5 @@
 -- What happens to one chunk of a world.
-use Rattle.std.proofs.Common.{◌≡◌, ◌≢◌, ◌⊎◌, inl, inr, ℕ, ◌<◌, true, IsSome, IfSome, List, [], ◌++◌, Option, Some, None, option_map, length, map, slice_get, slice_set, unwrap_or, refl, sym, ap, subst, ◌∙◌}
+use Rattle.std.proofs.Common.{◌≡◌, inl, inr, ℕ, IsSome, IfSome, List, [], ◌++◌, Option, Some, None, option_map, slice_get, slice_set, unwrap_or, refl, sym, ap, subst, ◌∙◌}
 use Rattle.std.proofs.lemmas.Bool.{false≢true}
 use Rattle.std.proofs.lemmas.List.{append_assoc}
 use Rattle.std.proofs.lemmas.Option.{same_Some, slice_get-map}
@@ -7,26 +7,22 @@ use Rattle.pf_entry.proofs.Lists.{set_cases, set_there}
 use Rattle.pf_script.specs.Lines.{is_volume}
 use Rattle.pf_script.specs.declared.command.Command.{Command}
 use Rattle.pf_protocol.specs.declared.answers.Answer.{Answer}
-use Rattle.pf_protocol.proofs.Snapshots.{whole_prefix}
 use Rattle.pf_cluster.proofs.Lists.{set_length, set_mapped}
-use Rattle.pf_group.specs.GroupIs.{GroupIs}
 use Rattle.pf_report.specs.Texts.{answer_text, line_of}
 use Rattle.pf_rounds.specs.Halts.{Halt}
 use Rattle.pf_rounds.specs.Chunks.{Chunk}
-use Rattle.pf_rounds.specs.Agreeing.{HasGrown, TellsOfGroup, chunk_of}
-use Rattle.pf_chunk.specs.Happenings.{Happened}
+use Rattle.pf_rounds.specs.Agreeing.{TellsOfGroup, chunk_of}
+use Rattle.pf_rounds.specs.Growing.{HasGrown}
+use Rattle.pf_rounds.proofs.Growing.{grown_refl}
 use Rattle.pf_chunk.specs.Saying.{answer_line}
 use Rattle.pf_chunk.specs.Steps.{Event, HasHappened}
 use Rattle.pf_chunk.specs.Views.{ChunkIs, IsReady}
-use Rattle.pf_world.specs.Worlds.{Told, World, at_chunk, told, told_of, with_chunk}
+use Rattle.pf_world.specs.Worlds.{World, at_chunk, told, told_of, with_chunk}
 use Rattle.pf_world.specs.Lines.{line_told, shown_of, shows}
 use Rattle.pf_world.specs.Views.{IsChunkOf, IsWorld, WorldIs, stands_at}
 use Rattle.pf_world.specs.Agreeing.{Tells}
 use Rattle.pf_world.specs.Asked.{HasHappenedAt}
 use Rattle.pf_world.specs.Steps.{Ends, GoesOn, HasRun}
-
-pub same_group : (g : GroupIs) → HasGrown g g
-same_group g = record { number = refl; setup = refl; later = whole_prefix g.history }
 
 pub same_world : (w : WorldIs) → GoesOn w w
 same_world w = record {
@@ -34,7 +30,7 @@ same_world w = record {
   names = refl;
   format = refl;
   chunks = refl;
-  grown = λ k was is there now. subst (λ (c : ChunkIs). HasGrown was.group c.group) (same_Some was is (sym there ∙ now)) (same_group was.group);
+  grown = λ k was is there now. subst (λ (c : ChunkIs). HasGrown was.group c.group) (same_Some was is (sym there ∙ now)) (grown_refl was.group);
 }
 
 -- a world with another chunk in one place
@@ -49,7 +45,7 @@ one_grew w k was is there grown = record {
   chunks = set_length w.chunks k is;
   grown = λ j old new before now. elim (set_cases w.chunks k is j new now) [
     | inl here ↦ at_k j old new before here.0 here.1
-    | inr other ↦ subst (λ (c : ChunkIs). HasGrown old.group c.group) (same_Some old new (sym before ∙ other.1)) (same_group old.group)
+    | inr other ↦ subst (λ (c : ChunkIs). HasGrown old.group c.group) (same_Some old new (sym before ∙ other.1)) (grown_refl old.group)
   ];
 } where
   at_k : (j : ℕ) (old new : ChunkIs) → slice_get w.chunks j ≡ Some old → j ≡ k → is ≡ new → HasGrown old.group new.group

@@ -6,6 +6,8 @@ pub mod Begun
 pub mod Happening
 pub mod Asking
 pub mod Told
+pub mod Servers
+pub mod Causes
 pub mod Lawful
 pub mod SettlingPackets
 pub mod SettlingTries

@@ -15,7 +15,8 @@ use Rattle.pf_world.specs.Views.{WorldIs, stands_at}
 use Rattle.pf_world.specs.Agreeing.{Tells}
 use Rattle.pf_world.specs.Steps.{GoesOn, IsMade, Runs}
 use Rattle.pf_world.specs.Headline.{RunsTo}
-use Rattle.pf_rounds.proofs.Growing.{grown_tells}
+use Rattle.pf_rounds.proofs.Growing.{grown_tells, grown_trans}
+use Rattle.pf_cluster.proofs.Lists.{something_there}
 
 -- a list that tells of a world told of it before
 pub tells_earlier : (halts : List Halt) (old new : WorldIs) → GoesOn old new → Tells halts new → Tells halts old
@@ -23,6 +24,18 @@ tells_earlier halts old new on tells k was there =
     let low : k < length new.chunks = subst (λ n. k < n) (sym on.chunks) (slice_get_within old.chunks k was there) in
     let now = slice_get-get_or new.chunks k was low in
     grown_tells halts was.group (get_or new.chunks k was).group (on.grown k was (get_or new.chunks k was) there now) (tells k (get_or new.chunks k was) now)
+
+pub goes_trans : (a b c : WorldIs) → GoesOn a b → GoesOn b c → GoesOn a c
+goes_trans a b c first second = record {
+  sectors = second.sectors ∙ first.sectors;
+  names = second.names ∙ first.names;
+  format = second.format ∙ first.format;
+  chunks = second.chunks ∙ first.chunks;
+  grown = λ k was is before after.
+      let low : k < length b.chunks = subst (λ n. k < n) (sym first.chunks) (slice_get_within a.chunks k was before) in
+      let mid = something_there b.chunks k low in
+      grown_trans was.group mid.0.group is.group (first.grown k was mid.0 before mid.1) (second.grown k mid.0 is mid.1 after);
+}
 
 -- one more line at the end
 followed_assoc : (first : Told) (more last : World → Told) → followed (followed first more) last ≡ followed first (λ w. followed (more w) last)

@@ -1,5 +1,5 @@
 -- A line that settles.
-use Rattle.std.proofs.Common.{◌≡◌, ℕ, Bool, List, ◌++◌, sym, ap, ◌∙◌}
+use Rattle.std.proofs.Common.{◌≡◌, ℕ, Bool, List, ◌++◌, ap, ◌∙◌}
 use Rattle.std.proofs.lemmas.List.{append_assoc}
 use Rattle.pf_script.specs.declared.command.Command.TheVariants.{Settle}
 use Rattle.pf_report.specs.Texts.{line_of, settle_text}

@@ -3,11 +3,11 @@ use Rattle.std.proofs.Common.{◌≡◌, ℕ, suc, ◌+◌, ◌<◌, ◌≤◌, 
 use Rattle.std.proofs.lemmas.Bool.{false≢true}
 use Rattle.std.proofs.lemmas.List.{append-nil}
 use Rattle.pf_protocol.specs.Answers.{most_packets}
-use Rattle.pf_protocol.proofs.Origins.{prefix_of}
-use Rattle.pf_protocol.proofs.Snapshots.{whole_prefix}
-use Rattle.pf_group.specs.GroupIs.{GroupIs, state_of}
+use Rattle.pf_group.specs.GroupIs.{state_of}
 use Rattle.pf_rounds.specs.Chunks.{Chunk}
-use Rattle.pf_rounds.specs.Agreeing.{HasGrown, chunk_of}
+use Rattle.pf_rounds.specs.Agreeing.{chunk_of}
+use Rattle.pf_rounds.specs.Growing.{HasGrown}
+use Rattle.pf_rounds.proofs.Growing.{grown_refl, grown_trans}
 use Rattle.pf_chunk.specs.declared.settling.Try.TheVariants.{Delivered, Passed}
 use Rattle.pf_chunk.specs.Packets.{is_left_in, least_from}
 use Rattle.pf_chunk.specs.Settling.{HasTried}
@@ -16,16 +16,6 @@ use Rattle.pf_world.specs.Settling.{Name, least_left}
 use Rattle.pf_world.specs.Settled.{HasSettledChunk, IsTurnOf, NoneOf, Tries, past}
 use Rattle.pf_world.proofs.SettlingPackets.{ArePassed, IsFound, least_found, least_here, least_is, none_passed, one_more_passed, passed_further, passed_later}
 use Rattle.pf_world.proofs.SettlingTries.{no_tries, one_more_try, try_delivered, try_passed}
-
-pub grown_none : (g : GroupIs) → HasGrown g g
-grown_none g = record { number = refl; setup = refl; later = whole_prefix g.history }
-
-pub grows_on : (a b c : GroupIs) → HasGrown a b → HasGrown b c → HasGrown a c
-grows_on a b c first second = record {
-  number = second.number ∙ first.number;
-  setup = second.setup ∙ first.setup;
-  later = prefix_of a.history b.history c.history first.later second.later;
-}
 
 nothing : (o : Option ℕ) → is_some o ≡ false → o ≡ None
 nothing None e = refl
@@ -59,7 +49,7 @@ pub record SoFar (limit : ℕ) (old : ChunkIs) (before : List ℕ) (left : ℕ) 
 
 begins_at : (limit : ℕ) (old : ChunkIs) (out : List ℕ) (n : ℕ) → IsReady (record old { first_left = n; next = n }) → SoFar limit old out limit out (record old { first_left = n; next = n })
 begins_at limit old out n ready = record {
-  grown = grown_none old.group;
+  grown = grown_refl old.group;
   ready = ready;
   tries = 0;
   by_next = omega arith;
@@ -76,7 +66,7 @@ begins limit old begun out ready is =
     subst (SoFar limit old out limit out) (sym is) (begins_at limit old out begun.next (subst IsReady is ready))
 
 pub begin_grows : (old begun : ChunkIs) → begun ≡ record old { first_left = begun.next; next = begun.next } → HasGrown old.group begun.group
-begin_grows old begun is = subst (HasGrown old.group) (sym (ap (λ (c : ChunkIs). c.group) is)) (grown_none old.group)
+begin_grows old begun is = subst (HasGrown old.group) (sym (ap (λ (c : ChunkIs). c.group) is)) (grown_refl old.group)
 
 -- the next packet, which was looked for
 pub record HasNext (limit : ℕ) (old : ChunkIs) (before : List ℕ) (left : ℕ) (after : List ℕ) (head now : ChunkIs) : Type 0 where
@@ -155,13 +145,13 @@ module _ (limit : ℕ) (old : ChunkIs) (before : List ℕ) (left : ℕ) (mid : L
       ∙ least_here (state_of now.group) now.next has.there has.sent
 
   pub tried_grows : HasTried now mid Passed after new → HasGrown old.group new.group
-  tried_grows t = grows_on old.group now.group new.group has.so_far.grown t.went.grown
+  tried_grows t = grown_trans old.group now.group new.group has.so_far.grown t.went.grown
 
   pub passed_one : HasTried now mid Passed after new → SoFar limit old before (suc left) after new
   passed_one t =
       let s = has.so_far in
       let next = t.moved.1 in
-      let grown = grows_on old.group now.group new.group s.grown t.went.grown in
+      let grown = grown_trans old.group now.group new.group s.grown t.went.grown in
       record {
         grown = grown;
         ready = t.went.ready;
@@ -180,7 +170,7 @@ module _ (limit : ℕ) (old : ChunkIs) (before : List ℕ) (left : ℕ) (mid : L
   delivered_one t =
       let s = has.so_far in
       let next = t.moved.1 in
-      let grown = grows_on old.group now.group new.group s.grown t.went.grown in
+      let grown = grown_trans old.group now.group new.group s.grown t.went.grown in
       record {
         grown = grown;
         ready = t.went.ready;

@@ -6,7 +6,8 @@ use Rattle.pf_protocol.specs.declared.events.Event.TheVariants.{Deliver}
 use Rattle.pf_group.specs.GroupIs.{GroupIs}
 use Rattle.pf_rounds.specs.Halts.{Halt}
 use Rattle.pf_rounds.specs.Chunks.{Chunk}
-use Rattle.pf_rounds.specs.Agreeing.{HasGrown, TellsOfGroup, chunk_of}
+use Rattle.pf_rounds.specs.Agreeing.{TellsOfGroup, chunk_of}
+use Rattle.pf_rounds.specs.Growing.{HasGrown}
 use Rattle.pf_rounds.proofs.Growing.{grown_tells}
 use Rattle.pf_chunk.specs.Happenings.{Happened, happened}
 use Rattle.pf_chunk.specs.Packets.{is_passed_over}

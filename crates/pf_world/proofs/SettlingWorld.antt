@@ -5,11 +5,13 @@ use Rattle.std.proofs.lemmas.List.{append-nil, length-map, map-append}
 use Rattle.std.proofs.lemmas.Option.{same_Some, slice_get-get_or, slice_get_within}
 use Rattle.pf_entry.specs.Lists.{Every}
 use Rattle.pf_entry.proofs.Lists.{every_map, set_cases, set_there}
-use Rattle.pf_cluster.proofs.Lists.{set_length, something_there}
+use Rattle.pf_cluster.proofs.Lists.{set_length}
 use Rattle.pf_protocol.specs.Answers.{most_packets}
 use Rattle.pf_rounds.specs.Halts.{Halt}
 use Rattle.pf_rounds.specs.Chunks.{Chunk}
-use Rattle.pf_rounds.specs.Agreeing.{HasGrown, chunk_of}
+use Rattle.pf_rounds.specs.Agreeing.{chunk_of}
+use Rattle.pf_rounds.specs.Growing.{HasGrown}
+use Rattle.pf_rounds.proofs.Growing.{grown_refl}
 use Rattle.pf_chunk.proofs.Members.{every_place}
 use Rattle.pf_chunk.specs.Views.{ChunkIs, IsReady}
 use Rattle.pf_script.specs.Lines.{is_volume}
@@ -19,8 +21,7 @@ use Rattle.pf_world.specs.Views.{IsChunkOf, IsWorld, WorldIs, stands_at}
 use Rattle.pf_world.specs.Agreeing.{Tells}
 use Rattle.pf_world.specs.Steps.{GoesOn}
 use Rattle.pf_world.specs.Settled.{HasSettled, HasSettledChunk, IsSettled, IsTurnOf, NoneOf, past, world_around}
-use Rattle.pf_world.proofs.Running.{tells_earlier}
-use Rattle.pf_world.proofs.SettlingChunk.{grown_none, grows_on}
+use Rattle.pf_world.proofs.Running.{goes_trans, tells_earlier}
 use Rattle.pf_world.proofs.SettlingPackets.{past_elsewhere, past_none}
 use Rattle.pf_world.proofs.SettlingTries.{next_is, set_middle, settle_suc, texts_join}
 
@@ -89,7 +90,7 @@ goes_nowhere w = record {
   names = refl;
   format = refl;
   chunks = refl;
-  grown = λ k was is there here. subst (λ (c : ChunkIs). HasGrown was.group c.group) (same_Some was is (sym there ∙ here)) (grown_none was.group);
+  grown = λ k was is there here. subst (λ (c : ChunkIs). HasGrown was.group c.group) (same_Some was is (sym there ∙ here)) (grown_refl was.group);
 }
 
 pub world_begins : (limit : ℕ) (w : WorldIs) (out : List ℕ) → IsWorld w → WorldSoFar limit w out 0 limit out w
@@ -113,7 +114,7 @@ module _ (old now : WorldIs) (on : GoesOn old now) (place : ℕ) (c new : ChunkI
     | inl here ↦
         let same : c ≡ was = same_Some c was (sym there ∙ ap (slice_get now.chunks) (sym here.0) ∙ before) in
         subst (λ (x : ChunkIs). HasGrown x.group is.group) same (subst (λ (x : ChunkIs). HasGrown c.group x.group) here.1 grown)
-    | inr elsewhere ↦ subst (λ (x : ChunkIs). HasGrown was.group x.group) (same_Some was is (sym before ∙ elsewhere.1)) (grown_none was.group)
+    | inr elsewhere ↦ subst (λ (x : ChunkIs). HasGrown was.group x.group) (same_Some was is (sym before ∙ elsewhere.1)) (grown_refl was.group)
   ]
 
   one_goes_on : GoesOn now (with_is now place new)
@@ -126,16 +127,7 @@ module _ (old now : WorldIs) (on : GoesOn old now) (place : ℕ) (c new : ChunkI
   }
 
   pub chunk_goes_on : GoesOn old (with_is now place new)
-  chunk_goes_on = record {
-    sectors = on.sectors;
-    names = on.names;
-    format = on.format;
-    chunks = set_length now.chunks place new ∙ on.chunks;
-    grown = λ k was is before after.
-        let low : k < length now.chunks = subst (λ n. k < n) (sym on.chunks) (slice_get_within old.chunks k was before) in
-        let mid = something_there now.chunks k low in
-        grows_on was.group mid.0.group is.group (on.grown k was mid.0 before mid.1) (grown_at k mid.0 is mid.1 after);
-  }
+  chunk_goes_on = goes_trans old now (with_is now place new) on one_goes_on
 
   still_world : IsWorld now → IsReady new → IsWorld (with_is now place new)
   still_world world ready = record {

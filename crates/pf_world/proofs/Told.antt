@@ -1,4 +1,4 @@
--- Some list of halts tells of every world.
+-- The halts of all groups of a world tell of it.
 use Rattle.std.proofs.Common.{◌≡◌, ℕ, List, map, Some, slice_get, sym, subst}
 use Rattle.std.specs.List.{flat_map}
 use Rattle.pf_cluster.proofs.Alone.{get_mapped}
@@ -13,8 +13,12 @@ use Rattle.pf_world.specs.Agreeing.{Tells}
 use Rattle.pf_world.specs.Headline.{IsSafeWorld, IsSoundWorld}
 use Rattle.pf_world.specs.Views.{IsWorld, WorldIs}
 
-abbrev groups_of : List ChunkIs → List GroupIs
+abbrev pub groups_of : List ChunkIs → List GroupIs
 groups_of chunks = map (λ c. c.group) chunks
+
+-- where the disks of a world failed
+abbrev pub world_halts : WorldIs → List Halt
+world_halts w = flat_map halts_of_group (groups_of w.chunks)
 
 abbrev Numbered : ℕ → GroupIs → Type 0
 Numbered k g = (g.number ≡ k) × IsLegal g.setup g.history
@@ -25,11 +29,8 @@ module _ (w : WorldIs) (is : IsWorld w) (sound : IsSoundWorld w) where
       let at = get_mapped (λ (c : ChunkIs). c.group) w.chunks k g there in
       subst (Numbered k) (sym at.2) ((is.each k at.0 at.1).number, (sound k at.0 at.1).legal)
 
-  pub some_tells : (halts : List Halt) × Tells halts w
-  some_tells = (
-    flat_map halts_of_group (groups_of w.chunks),
-    λ k c there. tells_of_all (groups_of w.chunks) numbered k c.group (mapped_get (λ (x : ChunkIs). x.group) w.chunks k c there),
-  )
+  pub all_tell : Tells (world_halts w) w
+  all_tell k c there = tells_of_all (groups_of w.chunks) numbered k c.group (mapped_get (λ (x : ChunkIs). x.group) w.chunks k c there)
 
 pub safe_world : (w : WorldIs) → IsSoundWorld w → IsSafeWorld w
 safe_world w sound k c there = (sound k c there).sound.safe

@@ -3,8 +3,7 @@ use Rattle.std.specs.Prelude.{◌≡◌, ℕ, ◌+◌, ◌*◌, ◌<◌, IsTrue,
 use Rattle.pf_entry.specs.Lists.{Every}
 use Rattle.pf_disk.specs.Crashes.{Images}
 use Rattle.pf_group.specs.declared.six.Six.{Six}
-use Rattle.pf_group.specs.GroupIs.{state_of}
-use Rattle.pf_group.specs.Leaving.{LeavesOf, as_seen}
+use Rattle.pf_group.specs.Leaving.{LeavesIn, as_seen}
 use Rattle.pf_chunk.specs.Views.{ChunkIs}
 
 -- six disks, server by server
@@ -16,15 +15,16 @@ module _ {D : Type 0} (seen : D → Option (List ℕ)) where
   abbrev pub AreTold : List D → Type 0
   AreTold disks = Every (λ disk. IsTrue (is_some (seen disk))) disks
 
-  module _ (may_leave : D → Images) where
-    -- the two halves of server i of chunk k hold what its group left there
+  module _ (may_leave : D → Images) (faults : D → ℕ) where
+    -- the two halves of server i of chunk k hold what its group left there, and have failed as often as it knows
     pub record AreHalvesOf (disks : List D) (c : ChunkIs) (k i : ℕ) : Type 0 where
       pub zero : D
       pub one : D
       pub zero_is : slice_get disks (6 * k + 2 * i) ≡ Some zero
       pub one_is : slice_get disks (6 * k + 2 * i + 1) ≡ Some one
-      pub left : LeavesOf (slice_get (state_of c.group).servers i) (may_leave zero) (may_leave one)
-      pub as_read : LeavesOf (slice_get (state_of c.group).servers i) (as_seen (seen zero)) (as_seen (seen one))
+      pub left : LeavesIn c.group i (may_leave zero) (may_leave one)
+      pub as_read : LeavesIn c.group i (as_seen (seen zero)) (as_seen (seen one))
+      pub counts : slice_get c.group.faults i ≡ Some (faults zero, faults one)
 
     -- these chunks left the first disks so, and all others are as they were
     pub record AreLeft (chunks : List ChunkIs) (before disks : List D) : Type 0 where

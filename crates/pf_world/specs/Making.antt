@@ -1,12 +1,12 @@
 -- How the chunks of a world are made.
-use Rattle.std.specs.Prelude.{◌≡◌, ℕ, ◌*◌, List, [], ◌∷◌, ◌++◌, Some, length, slice_get, take}
+use Rattle.std.specs.Prelude.{◌≡◌, ℕ, ◌*◌, ◌<◌, List, [], ◌∷◌, ◌++◌, Some, length, slice_get, take}
 use Rattle.std.specs.List.{flat_map}
 use Rattle.pf_entry.specs.Lists.{Every}
 use Rattle.pf_protocol.specs.declared.answers.Answer.{Answer}
 use Rattle.pf_protocol.specs.declared.answers.Answer.TheVariants.{Done}
 use Rattle.pf_group.specs.declared.six.Six.{Six}
-use Rattle.pf_group.specs.Halves.{HasRisen}
 use Rattle.pf_group.specs.Making as groups
+use Rattle.pf_rounds.specs.Growing.{IsPaidSince}
 use Rattle.pf_chunk.specs.Views.{ChunkIs, IsReady}
 use Rattle.pf_world.specs.Views.{WorldIs, WorldOn}
 use Rattle.pf_world.specs.Disks.{six_list}
@@ -26,12 +26,13 @@ module _ {D : Type 0} (faults : D → ℕ) where
     pub made : groups.IsMade (length old.world.chunks) old.world.sectors old.world.names old.world.format (groups.six_faults faults six) chunk.group answer
     pub ready : IsReady chunk
 
-  -- nothing has happened to chunk k yet, and each server that could not be formatted has a disk that failed
+  -- nothing has happened to chunk k yet, and each server that could not be formatted is one of its three, with a disk that failed meanwhile
   pub record IsNew (sixes : List (Six D)) (k : ℕ) (c : ChunkIs) : Type 0 where
     pub six : Six D
     pub there : slice_get sixes k ≡ Some six
     pub history : c.group.history ≡ []
-    pub cause : Every (λ i. HasRisen i (groups.six_faults faults six) c.group.faults) c.group.setup.failed
+    pub paid : IsPaidSince (groups.six_faults faults six) c.group
+    pub few : Every (λ i. i < 3) c.group.setup.failed
 
   -- the chunks are new, each on its six of these disks
   pub record AreNew (disks : List D) (w : WorldIs) : Type 0 where

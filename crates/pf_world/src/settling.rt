@@ -1,6 +1,6 @@
 //! Packets are delivered until none is left.
 ghost use Rattle.std.specs.Prelude.{◌≡◌, ◌≤◌, IfOk, OnErr};
-ghost use Rattle.pf_rounds.specs.Agreeing.{HasGrown};
+ghost use Rattle.pf_rounds.specs.Growing.{HasGrown};
 ghost use Rattle.pf_chunk.specs.Views.{IsReady};
 ghost use Rattle.pf_world.specs.Settled.{HasSettled, HasSettledChunk};
 ghost use Rattle.pf_world.specs.Steps.{GoesOn};

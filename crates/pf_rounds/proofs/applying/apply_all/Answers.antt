@@ -1,7 +1,7 @@
 use Rattle.std.proofs.Common.{◌≡◌, ◌+◌, ◌-◌, suc, subst, arith}
 use Rattle.pf_protocol.specs.Answers.{IsLegal}
 use Rattle.pf_group.specs.GroupIs.{GroupIs}
-use Rattle.pf_rounds.proofs.Adding.{adds_refl, adds_trans}
+use Rattle.pf_rounds.proofs.Adding.{adds_refl, adds_trans, goes_on, grown}
 use Rattle.pf_rounds.specs.Adding.{Adds}
 use Rattle.pf_rounds.proofs.Bound.{few_jobs}
 use Rattle.pf_rounds.proofs.Closing.{legal_closed}
@@ -10,6 +10,16 @@ use Rattle.pf_rounds.proofs.applying.apply_all.Goals as goal
 
 pub loop-init : goal.loop-init
 loop-init g c = record { adds = adds_refl c.args.group.now; none = c.requires.none; some = omega arith; few = omega arith; run = no_rounds c.args.group.now }
+
+pub returns-in_err-done-clause-grown : goal.returns-in_err-done-clause-grown
+returns-in_err-done-clause-grown g c =
+    let old = c.args.group.now in let new = c.round.new.group in
+    grown old new (goes_on old c.loop.group new _ _ c.loop.invariant.adds c.round.ensures.goes)
+
+pub returns-then-done-eq0-clause-grown : goal.returns-then-done-eq0-clause-grown
+returns-then-done-eq0-clause-grown g c =
+    let old = c.args.group.now in let new = c.round.new.group in
+    grown old new (goes_on old c.loop.group new _ _ c.loop.invariant.adds c.round.ensures.goes)
 
 pub returns-then-done-eq0-clause-run : goal.returns-then-done-eq0-clause-run
 returns-then-done-eq0-clause-run g c =

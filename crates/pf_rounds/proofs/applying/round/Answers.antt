@@ -5,10 +5,13 @@ use Rattle.pf_filling.specs.declared.work.Work.{Work}
 use Rattle.pf_rounds.specs.Adding.{Adds}
 use Rattle.pf_rounds.specs.Following.{IsFinished, IsRound}
 use Rattle.pf_rounds.specs.Open.{jobs_of}
-use Rattle.pf_rounds.proofs.Adding.{adds_goes, adds_trans}
+use Rattle.pf_rounds.proofs.Adding.{adds_goes, adds_trans, goes_on}
 use Rattle.pf_rounds.proofs.Opened.{none_left, same_count}
 use Rattle.pf_rounds.proofs.Rounding.{empty_round, one_round}
 use Rattle.pf_rounds.proofs.applying.round.Goals as goal
+
+pub returns-in-Err-clause-goes : goal.returns-in-Err-clause-goes
+returns-in-Err-clause-goes g c = goes_on c.args.group.now c.claim_all.new.group c.give_all_back.new.group _ 0 c.claim_all.ensures.adds c.give_all_back.ensures.goes
 
 pub returns-then-is_empty-clause-adds : goal.returns-then-is_empty-clause-adds
 returns-then-is_empty-clause-adds g c =
@@ -25,6 +28,15 @@ pub returns-then-is_empty-clause-applied : goal.returns-then-is_empty-clause-app
 returns-then-is_empty-clause-applied g c zero =
     let none = eqb-true (vec_len c.claim_all.new.works) 0 (sym c.is_empty.ensures ∙ c.if-is_empty.true) in
     c.in_default.ensures.applied (omega (arith, none))
+
+pub returns-in-Err-copy_all-clause-goes : goal.returns-in-Err-copy_all-clause-goes
+returns-in-Err-copy_all-clause-goes g c =
+    goes_on c.args.group.now c.claim_all.new.group c.give_all_back-in-Err-copy_all.new.group _ 0 c.claim_all.ensures.adds c.give_all_back-in-Err-copy_all.ensures.goes
+
+pub returns-clause-goes : goal.returns-clause-goes
+returns-clause-goes g c =
+    let mid = c.claim_all.new.group in let new = c.finish_all.new.group in
+    goes_on c.args.group.now mid new _ 0 c.claim_all.ensures.adds (adds_goes mid new 0 _ c.finish_all.ensures.adds)
 
 pub returns-clause-adds : goal.returns-clause-adds
 returns-clause-adds g c =

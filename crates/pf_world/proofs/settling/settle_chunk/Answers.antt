@@ -3,7 +3,9 @@ use Rattle.pf_protocol.specs.Answers.{most_packets}
 use Rattle.pf_chunk.specs.declared.settling.Try.{Try}
 use Rattle.pf_chunk.specs.declared.settling.Try.TheVariants.{Delivered, Passed}
 use Rattle.pf_chunk.specs.Settling.{HasTried}
-use Rattle.pf_world.proofs.SettlingChunk.{HasNext, SoFar, begins, delivered_one, looked, passed_one, quiet, stopped}
+use Rattle.pf_group.proofs.Going.{on_err}
+use Rattle.pf_rounds.proofs.Growing.{grown_trans}
+use Rattle.pf_world.proofs.SettlingChunk.{HasNext, SoFar, begins, delivered_one, look_grows, looked, passed_one, quiet, stopped}
 use Rattle.pf_world.proofs.settling.settle_chunk.Goals as goal
 
 pub loop-alloc-init : goal.loop-alloc-init
@@ -78,3 +80,9 @@ loop-alloc-smaller g c =
     let next = went.moved.1 in
     let few : c.next_left.new.self.next < most_packets = c.in_ok-settle_one.ensures.few in
     omega (arith, further, next, few)
+
+pub returns-in_err-settle_one-clause-err : goal.returns-in_err-settle_one-clause-err
+returns-in_err-settle_one-clause-err g c =
+    let grown = look_grows c.args.limit c.args.chunk.now c.args.out.now.items c.loop-alloc.left c.loop-alloc.out.items c.loop-alloc.chunk c.loop-alloc.invariant
+    c.next_left.new.self c.next_left.result c.next_left.ensures.least c.next_left.ensures.same in
+    on_err c.from_residual.result _ (grown_trans c.args.chunk.now.group c.next_left.new.self.group c.settle_one.new.self.group grown c.in_err-settle_one.ensures.err)

@@ -3,14 +3,27 @@ use Rattle.std.specs.Option.{option_to_list}
 use Rattle.pf_group.proofs.Going.{on_err}
 use Rattle.pf_group.specs.declared.event.GroupEvent.TheVariants as asked
 use Rattle.pf_group.specs.Steps.{HasStepped}
+use Rattle.pf_rounds.specs.Growing.{HasGrown}
+use Rattle.pf_rounds.proofs.Growing.{grown_refl, left_grows}
 use Rattle.pf_chunk.specs.Views.{ChunkIs}
-use Rattle.pf_chunk.proofs.Midway.{comes_to, grown_from, listed, midway_of_fetch}
+use Rattle.pf_chunk.proofs.Midway.{comes_to, listed, midway_of_fetch, went_on}
 use Rattle.pf_chunk.proofs.Ranges.{fetched_is, no_fetch_is}
 use Rattle.pf_chunk.proofs.chunk.ChunkGroup.fetch.Goals as goal
 
 pub returns-in_default-clause-went : goal.returns-in_default-clause-went
 returns-in_default-clause-went g c =
     no_fetch_is c.args.server c.args.sector c.args.count c.args.self.now c.args.out.now.items c.no_range.result c.requires.ready c.in_default.ensures.exact.1 c.no_range.ensures
+
+pub returns-in_err-reserve-clause-err : goal.returns-in_err-reserve-clause-err
+returns-in_err-reserve-clause-err g c =
+    let was = c.self.inside.group in
+    on_err c.from_residual.result _ (subst (λ (v : ChunkIs). HasGrown v.group was) c.self.view_is (grown_refl was))
+
+pub returns-in_err-answer-clause-err : goal.returns-in_err-answer-clause-err
+returns-in_err-answer-clause-err g c =
+    let event = asked.Fetch c.args.server c.in-Ok.range in
+    on_err c.from_residual-in_err-answer.result _ (subst (λ (v : ChunkIs). HasGrown v.group c.step.new.self) c.self.view_is
+    (left_grows c.self.inside.group event c.step.new.self c.in_err-answer.ensures.err))
 
 pub follow-requires-clause-none : goal.follow-requires-clause-none
 follow-requires-clause-none g c _ _ =
@@ -40,16 +53,9 @@ follow-requires-clause-listed g c _ _ =
 
 pub returns-in_err-follow-clause-err : goal.returns-in_err-follow-clause-err
 returns-in_err-follow-clause-err g c =
-    let now = c.args.self.now in
-    let answer = c.in_ok-answer.answer in
     let event = asked.Fetch c.args.server c.in-Ok.range in
-    let mid : ChunkIs = record { group = c.step.new.self; waiting = c.keep.new.waiting.items; first_left = c.self.inside.first_left; next = c.self.inside.next } in
-    let midway = midway_of_fetch now event c.args.server c.in-Ok.range answer mid (λ _. refl) c.requires.ready c.requires.server
-    (subst (λ (v : ChunkIs). HasStepped v.group event answer c.step.new.self) c.self.view_is c.in_ok-answer.ensures.went)
-    (ap (λ (v : ChunkIs). v.first_left) c.self.view_is)
-    (c.keep.ensures ∙ ap (λ items. items ++ option_to_list c.taken_up-read.result) (c.reserve.ensures.items ∙ ap (λ (v : ChunkIs). v.waiting) c.self.view_is)
-    ∙ ap (λ o. now.waiting ++ option_to_list o) c.taken_up-read.ensures) in
-    on_err c.from_residual-in_err-follow.result _ (grown_from now event answer mid c.follow.new.self midway c.in_err-follow.ensures.err)
+    on_err c.from_residual-in_err-follow.result _ (subst (λ (v : ChunkIs). HasGrown v.group c.follow.new.self.group) c.self.view_is
+    (went_on c.self.inside.group c.step.new.self c.follow.new.self.group event c.in_ok-answer.answer c.in_ok-answer.ensures.went c.in_err-follow.ensures.err))
 
 pub returns-clause-went : goal.returns-clause-went
 returns-clause-went g c =

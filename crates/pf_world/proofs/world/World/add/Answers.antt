@@ -1,6 +1,5 @@
-use Rattle.std.proofs.Common.{◌≡◌, ℕ, List, [], ◌∷◌, ◌++◌, length, reverse, arith, is_ok, if◌then◌else◌, refl, sym, ap, subst, ◌∙◌}
+use Rattle.std.proofs.Common.{◌≡◌, [], ◌∷◌, ◌++◌, length, reverse, arith, is_ok, if◌then◌else◌, sym, ap, subst, ◌∙◌}
 use Rattle.pf_group.specs.Making as groups
-use Rattle.pf_chunk.specs.Views.{ChunkIs}
 use Rattle.pf_world.specs.Views.{WorldIs, WorldOn}
 use Rattle.pf_world.specs.Making.{HasAdded}
 use Rattle.pf_world.proofs.Results.{pushed}

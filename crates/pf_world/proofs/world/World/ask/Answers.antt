@@ -1,10 +1,8 @@
-use Rattle.std.proofs.Common.{◌≡◌, length, rules, refl, sym, ap, subst, ◌∙◌}
-use Rattle.pf_script.specs.declared.command.Command.{Command}
+use Rattle.std.proofs.Common.{◌≡◌, length, rules, refl, sym, ap, subst}
 use Rattle.pf_script.specs.declared.command.Command.TheVariants as commands
 use Rattle.pf_group.proofs.Going.{on_err}
 use Rattle.pf_chunk.specs.Asking.{fetches, submits}
 use Rattle.pf_world.specs.Views.{WorldIs, WorldOn}
-use Rattle.pf_world.specs.Asked.{asked_of}
 use Rattle.pf_world.specs.Steps.{MayRun}
 use Rattle.pf_world.proofs.Asking.{asked_ends, asked_group, asked_there, asked_told, event_in, fetch_group, goes_on_there, ready_there, submit_group}
 use Rattle.pf_world.proofs.world.World.ask.Goals as goal

@@ -1,4 +1,4 @@
-use Rattle.std.proofs.Common.{◌≡◌, ◌<◌, List, Some, length, get_or, slice_get, arith, subst, rules}
+use Rattle.std.proofs.Common.{◌≡◌, List, Some, slice_get, arith, subst, rules}
 use Rattle.std.proofs.lemmas.Option.{slice_get_within}
 use Rattle.pf_chunk.specs.Views.{ChunkIs}
 use Rattle.pf_world.proofs.Lawful.{one_more}

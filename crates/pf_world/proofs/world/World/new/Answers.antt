@@ -1,11 +1,10 @@
-use Rattle.std.proofs.Common.{◌≡◌, ℕ, ◌+◌, ◌*◌, ◌<◌, ◌≤◌, List, [], reverse, length, length-append, drop, arith, refl, sym, ap, subst, ◌∙◌}
+use Rattle.std.proofs.Common.{◌≡◌, ◌+◌, [], reverse, length, length-append, arith, sym, ap, subst, ◌∙◌}
 use Rattle.std.specs.List.{flat_map}
 use Rattle.std.proofs.lemmas.List.{reverse-reverse}
 use Rattle.pf_protocol.specs.Answers.{IsSetup}
 use Rattle.pf_group.specs.Making.{setup_with}
-use Rattle.pf_chunk.specs.Views.{ChunkIs}
 use Rattle.pf_world.specs.Views.{WorldOn}
-use Rattle.pf_world.specs.Disks.{AreLeft, AreTold, six_list}
+use Rattle.pf_world.specs.Disks.{AreTold, six_list}
 use Rattle.pf_world.proofs.Sixes.{length_sixes, told_rest}
 use Rattle.pf_world.proofs.Begun.{Begun, all_made, all_new, begun_low, begun_more, begun_none, begun_rest, begun_spare, volume_setup}
 use Rattle.pf_world.proofs.world.World.new.Goals as goal

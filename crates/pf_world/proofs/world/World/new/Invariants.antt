@@ -1,5 +1,3 @@
-use Rattle.std.proofs.Common.{◌≡◌, ◌*◌, ◌≤◌, true, length}
-use Rattle.pf_script.specs.Lines.{is_volume}
 use Rattle.pf_world.proofs.Begun.{Begun}
 use Rattle.pf_world.proofs.world.World.new.Given as goal
 
