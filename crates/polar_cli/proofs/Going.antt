@@ -9,11 +9,11 @@ use Rattle.pf_world.specs.declared.line.Line.{Line}
 use Rattle.pf_world.specs.Headline.{IsSoundWorld, RunsTo}
 use Rattle.pf_world.specs.Steps.{GoesOn, HasRun, MayRun}
 use Rattle.pf_world.specs.Views.{IsWorld, WorldIs}
-use Rattle.pf_world.proofs.Running.{run_goes_on}
-use Rattle.pf_world.proofs.Told.{some_tells}
+use Rattle.pf_world.proofs.Happening.{same_world}
+use Rattle.pf_world.proofs.Running.{goes_trans, run_goes_on}
 use Rattle.polar_cli.specs.declared.status.Status.TheVariants as statuses
 use Rattle.polar_cli.specs.Ends.{AppendsFront}
-use Rattle.polar_cli.specs.Running.{HasGoneOn, IsTold}
+use Rattle.polar_cli.specs.Running.{HasGoneOn}
 use Rattle.polar_cli.proofs.Taken.{appends_both, front_after}
 
 abbrev pub no_line : Line
@@ -23,14 +23,13 @@ no_line = record { number = 0; command = Volume 0 0 0 0 }
 pub record HasGone (volume : Line) (done : List Line) (taken now : Option (List ℕ)) (old world : WorldIs) : Type 0 where
   pub text : List ℕ
   pub run : RunsTo (volume ∷ done) text world
-  pub told : IsTold world
   pub lawful : IsSoundWorld world
   pub is_world : IsWorld world
-  pub count : length world.chunks ≡ length old.chunks
+  pub goes_on : GoesOn old world
   pub written : Appends taken now text
 
 pub gone_none : (volume : Line) (text : List ℕ) (taken now : Option (List ℕ)) (w : WorldIs) → RunsTo (volume ∷ []) text w → IsWorld w → IsSoundWorld w → Appends taken now text → HasGone volume [] taken now w w
-gone_none volume text taken now w run is_world sound written = record { text = text; run = run; told = some_tells w is_world sound; lawful = sound; is_world = is_world; count = refl; written = written }
+gone_none volume text taken now w run is_world sound written = record { text = text; run = run; lawful = sound; is_world = is_world; goes_on = same_world w; written = written }
 
 -- one line more was run
 pub gone_more : (volume : Line) (lines : List Line) (i : ℕ) (taken now later : Option (List ℕ)) (old w new : WorldIs) (out : List ℕ) → i < length lines
@@ -42,10 +41,9 @@ gone_more volume lines i taken now later old w new out low gone ran sound put =
     record {
       text = gone.text ++ ran.text;
       run = subst (λ done. RunsTo (volume ∷ done) (gone.text ++ ran.text) new) (sym (take_more lines i no_line low)) run;
-      told = some_tells new ran.runs.is_world sound;
       lawful = sound;
       is_world = ran.runs.is_world;
-      count = ran.runs.goes_on.chunks ∙ gone.count;
+      goes_on = goes_trans old w new gone.goes_on ran.runs.goes_on;
       written = appends_both taken now later gone.text ran.text gone.written (subst (Appends now later) ran.put put);
     }
 
@@ -59,24 +57,26 @@ gone_short volume lines i taken now full old w new gone on = record {
   text = gone.text;
   world = w;
   run = gone.run;
-  told = gone.told;
+  is_world = gone.is_world;
+  goes_on = gone.goes_on;
   lawful = gone.lawful;
   leaves = on;
-  count = on.chunks ∙ gone.count;
+  count = on.chunks ∙ gone.goes_on.chunks;
   wrote = gone.written;
 }
 
 -- the sink failed at the text of the volume
-pub full_first : (volume : Line) (lines : List Line) (text : List ℕ) (taken now : Option (List ℕ)) (full : Type 0) (w : WorldIs) → RunsTo (volume ∷ []) text w → IsTold w → IsSoundWorld w → full → AppendsFront taken now text
+pub full_first : (volume : Line) (lines : List Line) (text : List ℕ) (taken now : Option (List ℕ)) (full : Type 0) (w : WorldIs) → RunsTo (volume ∷ []) text w → IsWorld w → IsSoundWorld w → full → AppendsFront taken now text
     → HasGoneOn statuses.WriteFault volume lines taken now full w w
-full_first volume lines text taken now full w run told sound rose front = record {
+full_first volume lines text taken now full w run is_world sound rose front = record {
   done = [];
   rest = lines;
   first = refl;
   text = text;
   world = w;
   run = run;
-  told = told;
+  is_world = is_world;
+  goes_on = same_world w;
   lawful = sound;
   leaves = refl;
   count = refl;
@@ -97,10 +97,11 @@ full_later volume lines i taken now later full old w new out low gone ran sound 
       text = gone.text ++ ran.text;
       world = new;
       run = subst (λ done. RunsTo (volume ∷ done) (gone.text ++ ran.text) new) (sym (take_more lines i no_line low)) run;
-      told = some_tells new ran.runs.is_world sound;
+      is_world = ran.runs.is_world;
+      goes_on = goes_trans old w new gone.goes_on ran.runs.goes_on;
       lawful = sound;
       leaves = refl;
-      count = ran.runs.goes_on.chunks ∙ gone.count;
+      count = ran.runs.goes_on.chunks ∙ gone.goes_on.chunks;
       wrote = (rose, front_after taken now later gone.text ran.text gone.written (subst (AppendsFront now later) ran.put front));
     }
 
@@ -114,10 +115,11 @@ gone_all volume lines i taken now full old w all gone = record {
   text = gone.text;
   world = w;
   run = gone.run;
-  told = gone.told;
+  is_world = gone.is_world;
+  goes_on = gone.goes_on;
   lawful = gone.lawful;
   leaves = refl;
-  count = gone.count;
+  count = gone.goes_on.chunks;
   wrote = (drop_of_length-le lines all, gone.written);
 }
 

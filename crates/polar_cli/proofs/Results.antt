@@ -43,15 +43,15 @@ unfolding a_script
 is_script None = tt
 is_script (Some bytes) = refl
 
-module _ {D : Type 0} (seen : D → Option (List ℕ)) (may_leave : D → Images) (words : List (List ℕ)) (left rest taken now : Option (List ℕ)) (failed full : Type 0) where
+module _ {D : Type 0} (seen : D → Option (List ℕ)) (may_leave : D → Images) (faults : D → ℕ) (words : List (List ℕ)) (left rest taken now : Option (List ℕ)) (failed full : Type 0) where
   -- the lines of an accepted script
-  pub ran : (status : Status) (lines : List Line) (before after : List D) → is_accepted words ≡ true → IsScript left rest lines → HasRunLines seen may_leave status lines taken now full before after → Outcome seen may_leave status words left rest failed taken now full before after
+  pub ran : (status : Status) (lines : List Line) (before after : List D) → is_accepted words ≡ true → IsScript left rest lines → HasRunLines seen may_leave faults status lines taken now full before after → Outcome seen may_leave faults status words left rest failed taken now full before after
   ran statuses.Ok lines before after good s w = record {
     script = s.script;
     source = s.source;
     behind = w.rest;
     text = w.text;
-    ran = subst (λ ls. HasRunTo seen may_leave statuses.Ok ls w.rest w.text before after) (lines_yes words s.script lines good s.accepted) w.ran;
+    ran = subst (λ ls. HasRunTo seen may_leave faults statuses.Ok ls w.rest w.text before after) (lines_yes words s.script lines good s.accepted) w.ran;
     ending = (good, ap is_ok s.accepted, s.whole, w.wrote.0, w.wrote.1);
   }
   ran statuses.NoMemory lines before after good s w = record {
@@ -59,7 +59,7 @@ module _ {D : Type 0} (seen : D → Option (List ℕ)) (may_leave : D → Images
     source = s.source;
     behind = w.rest;
     text = w.text;
-    ran = subst (λ ls. HasRunTo seen may_leave statuses.NoMemory ls w.rest w.text before after) (lines_yes words s.script lines good s.accepted) w.ran;
+    ran = subst (λ ls. HasRunTo seen may_leave faults statuses.NoMemory ls w.rest w.text before after) (lines_yes words s.script lines good s.accepted) w.ran;
     ending = (good, w.wrote);
   }
   ran statuses.WriteFault lines before after good s w = record {
@@ -67,7 +67,7 @@ module _ {D : Type 0} (seen : D → Option (List ℕ)) (may_leave : D → Images
     source = s.source;
     behind = w.rest;
     text = w.text;
-    ran = subst (λ ls. HasRunTo seen may_leave statuses.WriteFault ls w.rest w.text before after) (lines_yes words s.script lines good s.accepted) w.ran;
+    ran = subst (λ ls. HasRunTo seen may_leave faults statuses.WriteFault ls w.rest w.text before after) (lines_yes words s.script lines good s.accepted) w.ran;
     ending = (w.wrote.0, subst (AppendsFront taken now) (text_yes words s.script w.text (Ok lines) good s.accepted) w.wrote.1);
   }
   ran statuses.Usage lines before after good s w = absurd w.wrote
@@ -75,7 +75,7 @@ module _ {D : Type 0} (seen : D → Option (List ℕ)) (may_leave : D → Images
   ran statuses.ReadFault lines before after good s w = absurd w.wrote
 
   abbrev Unrun : Status → List D → Type 0
-  Unrun status disks = Outcome seen may_leave status words left rest failed taken now full disks disks
+  Unrun status disks = Outcome seen may_leave faults status words left rest failed taken now full disks disks
 
   -- the fault of a refused one
   pub refused : (status : Status) (disks : List D) (line : ℕ) (fault : LineFault) → is_accepted words ≡ true → IsRefused left line fault → Refuses status (fault_text line fault) taken now full → Unrun status disks
@@ -84,7 +84,7 @@ module _ {D : Type 0} (seen : D → Option (List ℕ)) (may_leave : D → Images
     source = s.source;
     behind = lines_for words s.script;
     text = [];
-    ran = untouched seen may_leave statuses.Script (lines_for words s.script) disks;
+    ran = untouched seen may_leave faults statuses.Script (lines_for words s.script) disks;
     ending = (good, ap is_err s.refused, subst (Appends taken now) (text_yes words s.script [] (Err (line, fault)) good s.refused) w, refl);
   }
   refused statuses.NoMemory disks line fault good s w = record {
@@ -92,7 +92,7 @@ module _ {D : Type 0} (seen : D → Option (List ℕ)) (may_leave : D → Images
     source = s.source;
     behind = lines_for words s.script;
     text = [];
-    ran = untouched seen may_leave statuses.NoMemory (lines_for words s.script) disks;
+    ran = untouched seen may_leave faults statuses.NoMemory (lines_for words s.script) disks;
     ending = (good, w);
   }
   refused statuses.WriteFault disks line fault good s w = record {
@@ -100,7 +100,7 @@ module _ {D : Type 0} (seen : D → Option (List ℕ)) (may_leave : D → Images
     source = s.source;
     behind = lines_for words s.script;
     text = [];
-    ran = untouched seen may_leave statuses.WriteFault (lines_for words s.script) disks;
+    ran = untouched seen may_leave faults statuses.WriteFault (lines_for words s.script) disks;
     ending = (w.0, subst (AppendsFront taken now) (text_yes words s.script [] (Err (line, fault)) good s.refused) w.1);
   }
   refused statuses.Usage disks line fault good s w = absurd w
@@ -114,7 +114,7 @@ module _ {D : Type 0} (seen : D → Option (List ℕ)) (may_leave : D → Images
     source = is_script left;
     behind = lines_for words (a_script left);
     text = [];
-    ran = untouched seen may_leave statuses.Usage (lines_for words (a_script left)) disks;
+    ran = untouched seen may_leave faults statuses.Usage (lines_for words (a_script left)) disks;
     ending = (bad, put, refl);
   }
 
@@ -124,28 +124,28 @@ module _ {D : Type 0} (seen : D → Option (List ℕ)) (may_leave : D → Images
     source = is_script left;
     behind = lines_for words (a_script left);
     text = [];
-    ran = untouched seen may_leave statuses.WriteFault (lines_for words (a_script left)) disks;
+    ran = untouched seen may_leave faults statuses.WriteFault (lines_for words (a_script left)) disks;
     ending = (rose, subst (AppendsFront taken now) (text_no words (a_script left) [] bad) front);
   }
 
-module _ {D : Type 0} (seen : D → Option (List ℕ)) (may_leave : D → Images) (words : List (List ℕ)) (left rest taken : Option (List ℕ)) (failed full : Type 0) (disks : List D) where
+module _ {D : Type 0} (seen : D → Option (List ℕ)) (may_leave : D → Images) (faults : D → ℕ) (words : List (List ℕ)) (left rest taken : Option (List ℕ)) (failed full : Type 0) (disks : List D) where
   -- the script was not read whole
-  pub unread : is_accepted words ≡ true → Outcome seen may_leave statuses.NoMemory words left rest failed taken taken full disks disks
+  pub unread : is_accepted words ≡ true → Outcome seen may_leave faults statuses.NoMemory words left rest failed taken taken full disks disks
   unread good = record {
     script = a_script left;
     source = is_script left;
     behind = lines_for words (a_script left);
     text = [];
-    ran = untouched seen may_leave statuses.NoMemory (lines_for words (a_script left)) disks;
+    ran = untouched seen may_leave faults statuses.NoMemory (lines_for words (a_script left)) disks;
     ending = (good, appends_none taken);
   }
 
-  pub unreadable : is_accepted words ≡ true → failed × IsUndecided left rest → Outcome seen may_leave statuses.ReadFault words left rest failed taken taken full disks disks
+  pub unreadable : is_accepted words ≡ true → failed × IsUndecided left rest → Outcome seen may_leave faults statuses.ReadFault words left rest failed taken taken full disks disks
   unreadable good cause = record {
     script = a_script left;
     source = is_script left;
     behind = lines_for words (a_script left);
     text = [];
-    ran = untouched seen may_leave statuses.ReadFault (lines_for words (a_script left)) disks;
+    ran = untouched seen may_leave faults statuses.ReadFault (lines_for words (a_script left)) disks;
     ending = (good, cause.0, cause.1, appends_none taken, refl);
   }

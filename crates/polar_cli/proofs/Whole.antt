@@ -12,8 +12,11 @@ use Rattle.pf_chunk.specs.Views.{ChunkIs}
 use Rattle.pf_world.specs.declared.line.Line.{Line}
 use Rattle.pf_world.specs.Disks.{AreLeft}
 use Rattle.pf_world.specs.Headline.{IsSafeWorld}
-use Rattle.pf_world.specs.Steps.{MayRun}
+use Rattle.pf_world.specs.Steps.{GoesOn, MayRun}
 use Rattle.pf_world.specs.Views.{WorldIs, WorldOn}
+use Rattle.pf_world.proofs.Causes.{HasPassed, are_halts}
+use Rattle.pf_world.proofs.Happening.{same_world}
+use Rattle.pf_world.proofs.Told.{world_halts}
 use Rattle.polar_cli.specs.declared.status.Status.{Status}
 use Rattle.polar_cli.specs.declared.status.Status.TheVariants as statuses
 use Rattle.polar_cli.specs.Placed.{ArePlaced, IsVolume, IsWhole}
@@ -71,18 +74,30 @@ leaves statuses.Script done was is same = ap (λ w. w.chunks) same
 leaves statuses.ReadFault done was is same = ap (λ w. w.chunks) same
 leaves statuses.WriteFault done was is same = ap (λ w. w.chunks) same
 
+-- more may have happened to what was left
+left_goes_on : (status : Status) (was is : WorldIs) → LeavesWorld status was is → GoesOn was is
+left_goes_on statuses.NoMemory was is on = on
+left_goes_on statuses.Ok was is same = subst (GoesOn was) (sym same) (same_world was)
+left_goes_on statuses.Usage was is same = subst (GoesOn was) (sym same) (same_world was)
+left_goes_on statuses.Script was is same = subst (GoesOn was) (sym same) (same_world was)
+left_goes_on statuses.ReadFault was is same = subst (GoesOn was) (sym same) (same_world was)
+left_goes_on statuses.WriteFault was is same = subst (GoesOn was) (sym same) (same_world was)
+
 no_such : (k : ℕ) (c : ChunkIs) → slice_get [] k ≡ Some c → ⊥
 no_such k c there = let low : k < 0 = slice_get_within [] k c there in absurd (omega arith)
 
-module _ {D : Type 0} (seen : D → Option (List ℕ)) (may_leave : D → Images) where
+module _ {D : Type 0} (seen : D → Option (List ℕ)) (may_leave : D → Images) (faults : D → ℕ) where
   -- the volume was made, lines were run, and the world was closed
   pub ran_lines : (status : Status) (lines : List Line) (d : Line) (text : List ℕ) (taken now : Option (List ℕ)) (full : Type 0) (before after : List D) (old new : WorldOn D) → 0 < length lines → 48 ≤ length before
-      → HasOpened (get_or lines 0 d) text before old → HasGoneOn status (get_or lines 0 d) (drop 1 lines) taken now full old.world new.world → new.spare ≡ old.spare
-      → ((given : List D) → drop (6 * length new.world.chunks) given ≡ new.spare → 6 * length new.world.chunks ≤ length given → AreLeft seen may_leave new.world.chunks given after)
-      → HasRunLines seen may_leave status lines taken now full before after
+      → HasOpened faults (get_or lines 0 d) text before old → HasGoneOn status (get_or lines 0 d) (drop 1 lines) taken now full old.world new.world → new.spare ≡ old.spare
+      → ((given : List D) → drop (6 * length new.world.chunks) given ≡ new.spare → 6 * length new.world.chunks ≤ length given → AreLeft seen may_leave faults new.world.chunks given after)
+      → HasRunLines seen may_leave faults status lines taken now full before after
   ran_lines status lines d text taken now full before after old new some enough opened gone spare closed =
       let small : length old.world.chunks ≤ 8 = volume_small (length old.world.chunks) old.world.sectors old.world.names old.world.format opened.is_world.volume in
       let count = gone.count in
+      let left = closed before (ap (λ n. drop (6 * n) before) count ∙ sym opened.spare ∙ sym spare) (omega arith) in
+      let more = left_goes_on status gone.world new.world gone.leaves in
+      let passed : HasPassed seen may_leave faults before after old.world gone.world new.world.chunks = record { is_world = gone.is_world; sound = gone.lawful; fresh = opened.fresh; goes_on = gone.goes_on; count = more.chunks; grown = more.grown; left = left } in
       record {
         rest = gone.rest;
         text = gone.text;
@@ -91,25 +106,27 @@ module _ {D : Type 0} (seen : D → Option (List ℕ)) (may_leave : D → Images
           first = ap (λ l. get_or lines 0 d ∷ l) gone.first ∙ sym (drop-cons lines 0 d some);
           world = gone.world;
           run = gone.run;
-          told = gone.told;
+          halts = world_halts gone.world;
+          told = are_halts seen may_leave faults before after old.world gone.world new.world.chunks passed;
           lawful = gone.lawful;
           safe = all_safe gone.world;
           none = λ none. absurd (cc none);
           chunks = new.world.chunks;
           leave = leaves status (get_or lines 0 d ∷ gone.done) gone.world new.world gone.leaves;
-          left = closed before (ap (λ n. drop (6 * n) before) count ∙ sym opened.spare ∙ sym spare) (omega arith);
+          left = left;
         };
         wrote = gone.wrote;
       }
 
   -- no line was run
-  none_ran : (status : Status) (lines : List Line) (before after : List D) (chunks : List ChunkIs) → Leave status [] [] chunks → AreLeft seen may_leave chunks before after → HasRunTo seen may_leave status lines lines [] before after
+  none_ran : (status : Status) (lines : List Line) (before after : List D) (chunks : List ChunkIs) → Leave status [] [] chunks → AreLeft seen may_leave faults chunks before after → HasRunTo seen may_leave faults status lines lines [] before after
   none_ran status lines before after chunks leave left = record {
     done = [];
     first = refl;
     world = record { sectors = 0; names = 0; format = 0; chunks = [] };
     run = λ halts tells. refl;
-    told = ([], λ k c there. absurd (no_such k c there));
+    halts = [];
+    told = record { tells = λ k c there. absurd (no_such k c there); causes = tt };
     lawful = λ k c there. absurd (no_such k c there);
     safe = all_safe (record { sectors = 0; names = 0; format = 0; chunks = [] });
     none = λ h. refl;
@@ -119,7 +136,7 @@ module _ {D : Type 0} (seen : D → Option (List ℕ)) (may_leave : D → Images
   }
 
   -- memory ran out as the volume was made
-  pub none_made : (lines : List Line) (taken : Option (List ℕ)) (full : Type 0) (before after : List D) → (made : List ChunkIs) × AreLeft seen may_leave made before after → HasRunLines seen may_leave statuses.NoMemory lines taken taken full before after
+  pub none_made : (lines : List Line) (taken : Option (List ℕ)) (full : Type 0) (before after : List D) → (made : List ChunkIs) × AreLeft seen may_leave faults made before after → HasRunLines seen may_leave faults statuses.NoMemory lines taken taken full before after
   none_made lines taken full before after back = record {
     rest = lines;
     text = [];
@@ -136,5 +153,5 @@ module _ {D : Type 0} (seen : D → Option (List ℕ)) (may_leave : D → Images
   leave_none statuses.WriteFault = refl
 
   -- nothing was run, and the disks are as they were
-  pub untouched : (status : Status) (lines : List Line) (disks : List D) → HasRunTo seen may_leave status lines lines [] disks disks
+  pub untouched : (status : Status) (lines : List Line) (disks : List D) → HasRunTo seen may_leave faults status lines lines [] disks disks
   untouched status lines disks = none_ran status lines disks disks [] (leave_none status) (record { halves = λ k i c there low. absurd (no_such k c there); rest = refl; count = refl })

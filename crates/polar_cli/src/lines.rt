@@ -33,8 +33,8 @@ fn open<D: Disk + Drop>(
     requires workers { (1 ≤ workers) × (workers ≤ 8) }
     requires disks { 48 ≤ length disks.items }
     requires told { AreTold D.seen disks.items }
-    ensures opened { IfOk result (λ opened. HasOpened line.now opened.1.items disks.items opened.0) }
-    ensures back { IfErr result (λ back. (made : List ChunkIs) × AreLeft D.seen D.may_leave made disks.items back.items) }
+    ensures opened { IfOk result (λ opened. HasOpened D.faults line.now opened.1.items disks.items opened.0) }
+    ensures back { IfErr result (λ back. (made : List ChunkIs) × AreLeft D.seen D.may_leave D.faults made disks.items back.items) }
 {
     let Command::Volume {
         chunks,
@@ -109,7 +109,7 @@ pub fn run_lines<K: Sink, D: Disk + Drop, R: Threads + Sync, G: Gate + Sync>(
     requires workers { (1 ≤ workers) × (workers ≤ 8) }
     requires disks { 48 ≤ length disks.old.items }
     requires told { AreTold D.seen disks.old.items }
-    ensures { HasRunLines D.seen D.may_leave result lines.now (K.taken sink.old) (K.taken sink.new) (Rose (K.faults sink.old) (K.faults sink.new)) disks.old.items disks.new.items }
+    ensures { HasRunLines D.seen D.may_leave D.faults result lines.now (K.taken sink.old) (K.taken sink.new) (Rose (K.faults sink.old) (K.faults sink.new)) disks.old.items disks.new.items }
 {
     let [volume, rest @ ..] = lines else {
         unreachable!()

@@ -3,7 +3,6 @@ use Rattle.std.specs.Io.KnownBytes.{Appends}
 use Rattle.pf_io.specs.Causes.{Rose}
 use Rattle.pf_world.specs.Headline.{IsSoundWorld}
 use Rattle.pf_world.specs.Steps.{GoesOn, HasRun}
-use Rattle.pf_world.proofs.Told.{some_tells}
 use Rattle.polar_cli.specs.Ends.{AppendsFront}
 use Rattle.polar_cli.proofs.Going.{full_first, full_later, gone_all, gone_more, gone_none, gone_short, no_line}
 use Rattle.polar_cli.proofs.Writing.{done_of, failed_of}
@@ -12,7 +11,7 @@ use Rattle.polar_cli.proofs.lines.go_on.Goals as goal
 pub returns-then-is_err-clause-gone : goal.returns-then-is_err-clause-gone
 returns-then-is_err-clause-gone g c =
     let taken = g.K.Sink.taken in
-    full_first c.args.volume.now c.args.lines.now c.args.opened.now (taken c.args.sink.now) (taken c.write_all.new.sink) (Rose (g.K.Sink.faults c.args.sink.now) (g.K.Sink.faults c.write_all.new.sink)) c.args.world.now.world c.requires.run (some_tells c.args.world.now.world c.requires.world c.requires.sound) c.requires.sound
+    full_first c.args.volume.now c.args.lines.now c.args.opened.now (taken c.args.sink.now) (taken c.write_all.new.sink) (Rose (g.K.Sink.faults c.args.sink.now) (g.K.Sink.faults c.write_all.new.sink)) c.args.world.now.world c.requires.run c.requires.world c.requires.sound
     (failed_of c.write_all.result (Rose (g.K.Sink.faults c.args.sink.now) (g.K.Sink.faults c.write_all.new.sink)) c.if-is_err.ensures.value c.write_all.ensures.cause)
     (failed_of c.write_all.result (AppendsFront (taken c.args.sink.now) (taken c.write_all.new.sink) c.args.opened.now) c.if-is_err.ensures.value c.write_all.ensures.front)
 

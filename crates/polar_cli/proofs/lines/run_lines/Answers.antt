@@ -20,15 +20,15 @@ returns-in-Ok g c =
     let taken = g.K.Sink.taken in
     let lines = c.args.lines.now in
     let disks = c.args.disks.now.items in
-    ran_lines g.D.Disk.seen g.D.Disk.may_leave c.go_on-status.result lines no_line c.in-Ok.text.items (taken c.args.sink.now) (taken c.go_on-status.new.sink) (Rose (g.K.Sink.faults c.args.sink.now) (g.K.Sink.faults c.go_on-status.new.sink))
+    ran_lines g.D.Disk.seen g.D.Disk.may_leave g.D.Disk.faults c.go_on-status.result lines no_line c.in-Ok.text.items (taken c.args.sink.now) (taken c.go_on-status.new.sink) (Rose (g.K.Sink.faults c.args.sink.now) (g.K.Sink.faults c.go_on-status.new.sink))
     disks c.close.result.items c.in-Ok.world c.go_on-status.new.world (omega (arith, c.in-len1-up.len_at_least)) c.requires.disks
-    (subst (λ given. HasOpened (get_or lines 0 no_line) c.in-Ok.text.items given c.in-Ok.world) (ap (λ v. v.items) c.replace.ensures.value) c.in-Ok.ensures.opened)
+    (subst (λ given. HasOpened g.D.Disk.faults (get_or lines 0 no_line) c.in-Ok.text.items given c.in-Ok.world) (ap (λ v. v.items) c.replace.ensures.value) c.in-Ok.ensures.opened)
     (subst (λ rest. HasGoneOn c.go_on-status.result (get_or lines 0 no_line) rest (taken c.args.sink.now) (taken c.go_on-status.new.sink) (Rose (g.K.Sink.faults c.args.sink.now) (g.K.Sink.faults c.go_on-status.new.sink)) c.in-Ok.world.world c.go_on-status.new.world.world)
     (take_rest lines 1) c.go_on-status.ensures.gone)
     c.go_on-status.ensures.spare c.close.ensures
 
 pub returns-in-Err : goal.returns-in-Err
 returns-in-Err g c =
-    let made : (made : List ChunkIs) × AreLeft g.D.Disk.seen g.D.Disk.may_leave made c.args.disks.now.items c.in-Err.back.items =
-    subst (λ given. (made : List ChunkIs) × AreLeft g.D.Disk.seen g.D.Disk.may_leave made given c.in-Err.back.items) (ap (λ v. v.items) c.replace.ensures.value) c.in-Err.ensures.back in
-    none_made g.D.Disk.seen g.D.Disk.may_leave c.args.lines.now (g.K.Sink.taken c.args.sink.now) (Rose (g.K.Sink.faults c.args.sink.now) (g.K.Sink.faults c.args.sink.now)) c.args.disks.now.items c.in-Err.back.items made
+    let made : (made : List ChunkIs) × AreLeft g.D.Disk.seen g.D.Disk.may_leave g.D.Disk.faults made c.args.disks.now.items c.in-Err.back.items =
+    subst (λ given. (made : List ChunkIs) × AreLeft g.D.Disk.seen g.D.Disk.may_leave g.D.Disk.faults made given c.in-Err.back.items) (ap (λ v. v.items) c.replace.ensures.value) c.in-Err.ensures.back in
+    none_made g.D.Disk.seen g.D.Disk.may_leave g.D.Disk.faults c.args.lines.now (g.K.Sink.taken c.args.sink.now) (Rose (g.K.Sink.faults c.args.sink.now) (g.K.Sink.faults c.args.sink.now)) c.args.disks.now.items c.in-Err.back.items made
