@@ -1,0 +1,113 @@
+-- How a port brings an ask to a leader.
+use Rattle.std.specs.Prelude.{◌≡◌, ℕ, ◌≤◌, ◌∷◌, Bool, true, false, cond, nat_le, nat_lt, List, [], Option, Some, None}
+use Rattle.std.specs.Option.{option_map}
+use Rattle.pf_base.specs.declared.asks.Ask.{Ask}
+use Rattle.pf_base.specs.declared.asks.Ask.TheVariants.{Write, Read}
+use Rattle.pf_base.specs.declared.asks.Reply.{Reply}
+use Rattle.pf_base.specs.declared.asks.Reply.TheVariants.{Written, Bytes}
+use Rattle.pf_asks.specs.declared.port.Sent.{Sent}
+use Rattle.pf_asks.specs.declared.port.Sent.TheVariants.{Slot, Number}
+use Rattle.pf_asks.specs.Desks.{Call, Led, Submitted, Fetched, WasAcked, Took}
+
+pub record PortIs : Type 0 where
+  pub ask : Option Ask  -- the one that is pending
+  pub sent : Option Sent  -- what tells its answer, where its last submission was taken up
+  pub last : ℕ  -- the term of the last leader to which it submitted, 0 where it never did
+
+abbrev pub new_port : PortIs
+new_port = record { ask = None; sent = None; last = 0 }
+
+-- A pending ask goes to the leader of this term: one that was not taken up where the term is not below the port's last, and one that
+-- was where it is above.
+abbrev pub goes_to : Option Sent → (last term : ℕ) → Bool
+goes_to None last term = nat_le last term
+goes_to (Some sent) last term = nat_lt last term
+
+-- the call that hands the ask to a server, and what tells its answer then
+abbrev pub Hands : Ask → (server : ℕ) → Call → Option Sent → Type 0
+Hands (Write chunk span sectors) server (Submitted i range payload slot) sent = (i ≡ server) × (range ≡ span) × (payload ≡ sectors) × (sent ≡ option_map Slot slot)
+Hands (Read chunk span) server (Fetched i range number) sent = (i ≡ server) × (range ≡ span) × (sent ≡ option_map Number number)
+Hands ask server call sent = ⊥
+
+-- handed to this server: where that was refused, it counts as not submitted
+pub record IsHanded (old : PortIs) (ask : Ask) (term server : ℕ) (calls : List Call) (new : PortIs) : Type 0 where
+  pub call : Call
+  pub once : calls ≡ call ∷ []
+  pub sent : Option Sent
+  pub hands : Hands ask server call sent
+  pub is : new ≡ record old { sent = sent; last = term }
+
+pub record Stays (old : PortIs) (calls : List Call) (new : PortIs) : Type 0 where
+  pub none : calls ≡ []
+  pub same : new ≡ old
+
+abbrev pub Goes : (old : PortIs) → Ask → Option (ℕ × ℕ) → List Call → (new : PortIs) → Type 0
+Goes old ask None calls new = Stays old calls new
+Goes old ask (Some (term, server)) calls new = cond (goes_to old.sent old.last term) (IsHanded old ask term server calls new) (Stays old calls new)
+
+-- an ask that is not answered: the leader is asked for, and it goes there or stays
+pub record IsLed (old : PortIs) (ask : Ask) (calls : List Call) (new : PortIs) : Type 0 where
+  pub leader : Option (ℕ × ℕ)
+  pub rest : List Call
+  pub asked : calls ≡ Led leader ∷ rest
+  pub goes : Goes old ask leader rest new
+
+abbrev pub reply_if : Bool → Option Reply
+reply_if true = Some Written
+reply_if false = None
+
+-- the call that looks for the answer, and what it gives
+abbrev pub LooksFor : Sent → (term : ℕ) → Call → Option Reply → Type 0
+LooksFor (Slot slot) term (WasAcked t s is) reply = (t ≡ term) × (s ≡ slot) × (reply ≡ reply_if is)
+LooksFor (Number number) term (Took n answer) reply = (n ≡ number) × (reply ≡ option_map Bytes answer)
+LooksFor sent term call reply = ⊥
+
+-- an answered ask is pending no more
+abbrev pub answered : PortIs → PortIs
+answered port = record port { ask = None; sent = None }
+
+abbrev pub GoesOn : Option Reply → (old : PortIs) → Ask → List Call → (new : PortIs) → Type 0
+GoesOn (Some reply) old ask calls new = (calls ≡ []) × (new ≡ answered old)
+GoesOn None old ask calls new = IsLed old ask calls new
+
+-- an ask that was taken up: its answer is looked for first
+pub record IsLooked (old : PortIs) (ask : Ask) (sent : Sent) (calls : List Call) (reply : Option Reply) (new : PortIs) : Type 0 where
+  pub look : Call
+  pub rest : List Call
+  pub asked : calls ≡ look ∷ rest
+  pub looks : LooksFor sent old.last look reply
+  pub goes : GoesOn reply old ask rest new
+
+abbrev pub DrivesFrom : Option Sent → (old : PortIs) → Ask → List Call → Option Reply → (new : PortIs) → Type 0
+DrivesFrom None old ask calls reply new = (reply ≡ None) × IsLed old ask calls new
+DrivesFrom (Some sent) old ask calls reply new = IsLooked old ask sent calls reply new
+
+-- one step of a port with a pending ask, by these calls of the desk
+abbrev pub Drives : (old : PortIs) → Ask → List Call → Option Reply → (new : PortIs) → Type 0
+Drives old ask calls reply new = DrivesFrom old.sent old ask calls reply new
+
+-- what tells the answer of a write is a slot, of a read a number
+abbrev pub IsSentOf : Option Ask → Option Sent → Type 0
+IsSentOf ask None = Unit {0}
+IsSentOf (Some (Write chunk span sectors)) (Some (Slot slot)) = Unit {0}
+IsSentOf (Some (Read chunk span)) (Some (Number number)) = Unit {0}
+IsSentOf ask sent = ⊥
+
+-- the reply is of the ask's kind
+abbrev pub IsOfKind : Ask → Reply → Type 0
+IsOfKind (Write chunk span sectors) Written = Unit {0}
+IsOfKind (Read chunk span) (Bytes sectors) = Unit {0}
+IsOfKind ask reply = ⊥
+
+-- this server was named as the leader of a term that is not below the last
+abbrev pub IsLedBy : Option (ℕ × ℕ) → (last server : ℕ) → Type 0
+IsLedBy None last server = ⊥
+IsLedBy (Some (term, leader)) last server = (server ≡ leader) × (last ≤ term)
+
+-- each submission among the calls goes to the leader that was named last before it, whose term is not below the last
+abbrev pub NeverLower : (last : ℕ) (leader : Option (ℕ × ℕ)) → List Call → Type 0
+NeverLower last leader [] = Unit {0}
+NeverLower last leader (Led now ∷ calls) = NeverLower last now calls
+NeverLower last leader (Submitted server range sectors slot ∷ calls) = IsLedBy leader last server × NeverLower last leader calls
+NeverLower last leader (Fetched server range number ∷ calls) = IsLedBy leader last server × NeverLower last leader calls
+NeverLower last leader (_ ∷ calls) = NeverLower last leader calls

@@ -1,0 +1,57 @@
+//! One group, as a host sees it.
+ghost use Rattle.std.specs.Prelude.{◌≡◌, ◌<◌, ◌++◌, ◌∷◌, [], List, IfOk, IfSome, OnErr, length};
+ghost use Rattle.pf_base.specs.Span.{IsWritable};
+ghost use Rattle.pf_asks.specs.Desks.{Call, Led, Submitted, Fetched, WasAcked, Took};
+
+use pf_base::{Data, NoMemory, Payload, Range, Server, Slot, Term};
+use std::alloc::Global;
+
+/// One group of servers. Others may use it between two calls, and each call is at most one event of the group. After `NoMemory` (1)
+/// nothing was asked.
+pub trait Desk {
+    /// All calls that were made, with what they answered, in order.
+    ghost log: { Self → List Call };
+
+    /// The greatest term in which a running server serves, and the number of that server. `None` exactly where no running server
+    /// serves.
+    fn leader(&mut self, alloc: Global) -> Result<Option<(Term, Server)>, NoMemory>
+        ensures ok { IfOk result (λ leader. log self.new ≡ log self.old ++ Led leader ∷ []) }
+        ensures server { IfOk result (λ leader. IfSome leader (λ one. one.1 < 3)) }
+        ensures err { OnErr result (log self.new ≡ log self.old) };
+
+    /// Hands a write to a server. The answer is its slot. `None` exactly where that was refused or halted.
+    fn submit(
+        &mut self,
+        alloc: Global,
+        server: Server,
+        range: Range,
+        payload: &Payload,
+    ) -> Result<Option<Slot>, NoMemory>
+        requires server { server < 3 }
+        requires range { IsWritable range.first range.count }
+        requires payload { length payload.now ≡ range.count }
+        ensures ok { IfOk result (λ slot. log self.new ≡ log self.old ++ Submitted server range payload.now slot ∷ []) }
+        ensures err { OnErr result (log self.new ≡ log self.old) };
+
+    /// Asks a server for the sectors of a range. The answer is the number of the read. `None` exactly where that was refused.
+    fn fetch(
+        &mut self,
+        alloc: Global,
+        server: Server,
+        range: Range,
+    ) -> Result<Option<u64>, NoMemory>
+        requires server { server < 3 }
+        requires range { IsWritable range.first range.count }
+        ensures ok { IfOk result (λ number. log self.new ≡ log self.old ++ Fetched server range number ∷ []) }
+        ensures err { OnErr result (log self.new ≡ log self.old) };
+
+    /// Whether the slot was acknowledged to hosts in this term.
+    fn acked(&mut self, alloc: Global, term: Term, slot: Slot) -> Result<bool, NoMemory>
+        ensures ok { IfOk result (λ is. log self.new ≡ log self.old ++ WasAcked term slot is ∷ []) }
+        ensures err { OnErr result (log self.new ≡ log self.old) };
+
+    /// Takes out the answer of a read. `None` exactly where the read is not answered or its answer was taken before.
+    fn take_read(&mut self, alloc: Global, number: u64) -> Result<Option<Data>, NoMemory>
+        ensures ok { IfOk result (λ answer. log self.new ≡ log self.old ++ Took number answer ∷ []) }
+        ensures err { OnErr result (log self.new ≡ log self.old) };
+}
