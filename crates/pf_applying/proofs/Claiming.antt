@@ -15,7 +15,6 @@ use Rattle.pf_entry.specs.declared.ops.Op.{Op}
 use Rattle.pf_entry.specs.declared.ops.Op.TheVariants.{Mark}
 use Rattle.pf_entry.proofs.Lists.{found_passes}
 use Rattle.pf_entry.proofs.Maps.{get_apart, get_inserted, insert_cases}
-use Rattle.pf_holes.specs.HoleLogs.{IsNext}
 use Rattle.pf_holes.specs.SlotSets.{SlotTable}
 use Rattle.pf_holes.specs.Windows.{IsNear, IsWithin}
 use Rattle.pf_look.proofs.Passing.{is_free-alike}
@@ -55,10 +54,10 @@ module _ (f : ℕ → Bool) where
         | inr fails ↦ let r = found_in n (a + 1) k (sym (cond-false (f a) _ _ fails) ∙ is) in (omega (arith, r.0), omega (arith, r.1))
       ]
 
-le_of : (a b : ℕ) → nat_le a b ≡ true → a ≤ b
+pub le_of : (a b : ℕ) → nat_le a b ≡ true → a ≤ b
 le_of a b is = grind (arith, nat_tests)
 
-lt_of : (a b : ℕ) → nat_le a b ≡ false → b < a
+pub lt_of : (a b : ℕ) → nat_le a b ≡ false → b < a
 lt_of a b is = grind (arith, nat_tests)
 
 -- whether a slot is applied
@@ -138,25 +137,6 @@ module _ (d : Durable) (me : Running) (cached : IsCached d me) where
   unfolding claimable
   claim_not_in_hand slot is = not_in_hand_if slot (FinMap.get (server_of d me).durable.log slot)
       (found_passes (λ q. is_claimable (server_of d me) (FinMap.get (server_of d me).durable.log q) q) (range_with_len (suc (server_of d me).durable.base) 4096) slot is)
-
-  -- along the slots that are held
-  next_none : (after slot : ℕ) → IsNext me.log.entries after slot → ((q : ℕ) → me.log.base < q → q ≤ after → can_claim d me q ≡ false) → can_claim d me slot ≡ false → (q : ℕ) → me.log.base < q → q ≤ slot → (x : Bool) → nat_le q after ≡ x → can_claim d me q ≡ false
-  next_none after slot next none here q low high true is = none q low (le_of q after is)
-  next_none after slot next none here q low high false is =
-      elim (cases_eq q slot) [
-        | inl same ↦ ap (can_claim d me) same ∙ here
-        | inr apart ↦ not_there q (next.first q (lt_of q after is) (omega (arith, high, apart)))
-      ]
-
-  pub none_upto_next : (after slot : ℕ) → IsNext me.log.entries after slot → ((q : ℕ) → me.log.base < q → q ≤ after → can_claim d me q ≡ false) → can_claim d me slot ≡ false → (q : ℕ) → me.log.base < q → q ≤ slot → can_claim d me q ≡ false
-  none_upto_next after slot next none here q low high = next_none after slot next none here q low high (nat_le q after) refl
-
-  pub none_before_next : (after slot : ℕ) → IsNext me.log.entries after slot → ((q : ℕ) → me.log.base < q → q ≤ after → can_claim d me q ≡ false) → (q : ℕ) → me.log.base < q → q < slot → can_claim d me q ≡ false
-  none_before_next after slot next none q low high = by (nat_le q after) refl
-    where
-      by : (x : Bool) → nat_le q after ≡ x → can_claim d me q ≡ false
-      by true is = none q low (le_of q after is)
-      by false is = not_there q (next.first q (lt_of q after is) high)
 
   pub none_after : (after : ℕ) → ((q : ℕ) → after < q → FinMap.contains_key me.log.entries q ≡ false) → ((q : ℕ) → me.log.base < q → q ≤ after → can_claim d me q ≡ false) → (q : ℕ) → me.log.base < q → can_claim d me q ≡ false
   none_after after absent none q low = by (nat_le q after) refl

@@ -35,7 +35,7 @@ use Rattle.pf_applying.specs.Fetching.{HasMoreRooms, IsTakenUp, fetch_refusal, i
 use Rattle.pf_applying.specs.Probing.{is_serving_here}
 use Rattle.pf_state.specs.Turns.{IsAfter}
 use Rattle.pf_applying.proofs.Answering.{is_lower, rest_ascends}
-use Rattle.pf_applying.proofs.Claiming.{applied_test}
+use Rattle.pf_applying.proofs.Claiming.{applied_test, le_of, lt_of}
 
 pub op_there : (me : Running) (slot : ℕ) (e : Entry) → FinMap.get me.log.entries slot ≡ Some e → op_at me.log.entries slot ≡ e.op
 unfolding op_at
@@ -104,32 +104,46 @@ module _ (test : ℕ → Bool) where
 tied : (x q : ℕ) → nat_cmp q x ≡ Equal → Equal ≡ nat_cmp x q
 tied x q t = grind (arith, nat_tests)
 
-in_window : (base q : ℕ) (b : Bool) → base < q → q ≤ base + 4096 → (b && (nat_le (base + 1) q && nat_lt q (base + 1 + 4096))) ≡ b
-in_window base q true low high = grind (arith, nat_tests)
-in_window base q false low high = refl
+in_window : (from n q : ℕ) (b : Bool) → from < q → q ≤ from + n → (b && (nat_le (from + 1) q && nat_lt q (from + 1 + n))) ≡ b
+in_window from n q true low high = grind (arith, nat_tests)
+in_window from n q false low high = refl
 
--- the slots that a read waits for
-module _ (d : Durable) (me : Running) (cached : IsCached d me) (range : Span) (within : IsWithin me.log.base me.log.entries) (held : (q : ℕ) → Sets.contains me.log.marks q ≡ true → FinMap.contains_key me.log.entries q ≡ true) where
+-- the slots that a read waits for, of those above a slot up to which all are applied, as far as one is held
+module _ (d : Durable) (me : Running) (cached : IsCached d me) (range : Span) (within : IsWithin me.log.base me.log.entries) (held : (q : ℕ) → Sets.contains me.log.marks q ≡ true → FinMap.contains_key me.log.entries q ≡ true) (from n : ℕ) (reached : (q : ℕ) → me.log.base < q → q ≤ from → Sets.contains me.applied.slots q ≡ true) (last : (q : ℕ) → FinMap.contains_key me.log.entries q ≡ true → q ≤ from + n) where
   abbrev here : ℕ → Bool
   here slot = Sets.contains me.log.marks slot && is_waited_for me range slot
 
   abbrev there : ℕ → Bool
   there slot = not (has_applied (server_of d me) slot) && overlaps (range_of (op_at d.log slot)) range
 
-  one_slot : (q : ℕ) (x : Bool) → Sets.contains me.log.marks q ≡ x → (here q && (nat_le (me.log.base + 1) q && nat_lt q (me.log.base + 1 + 4096))) ≡ (Sets.contains me.log.marks q && there q)
-  one_slot q true is =
-      let w = within q (held q is) in
-      in_window me.log.base q (here q) w.0 w.1
-      ∙ (λ i. Sets.contains me.log.marks q && (not (sym (applied_test d me q cached (omega (arith, w.0))) i) && overlaps (range_of (op_at (cached.log i) q)) range))
-  one_slot q false is =
-      ap (λ b. (b && is_waited_for me range q) && (nat_le (me.log.base + 1) q && nat_lt q (me.log.base + 1 + 4096))) is ∙ ap (λ b. b && there q) (sym is)
+  abbrev is_looked_at : ℕ → Bool
+  is_looked_at q = nat_le (from + 1) q && nat_lt q (from + 1 + n)
 
-  pub waits_is : (slots : List ℕ) → slots ≡ filter here (range_with_len (me.log.base + 1) 4096) → Sets.from_items slots ≡ waits_for (server_of d me) range
+  alike : (q : ℕ) → me.log.base < q → here q ≡ (Sets.contains me.log.marks q && there q)
+  alike q low = λ i. Sets.contains me.log.marks q && (not (sym (applied_test d me q cached (omega (arith, low))) i) && overlaps (range_of (op_at (cached.log i) q)) range)
+
+  not_here : (q : ℕ) → Sets.contains me.log.marks q ≡ true → Sets.contains me.applied.slots q ≡ true → here q ≡ false
+  not_here q is done = λ i. is i && (not (done i) && overlaps (range_of (op_at me.log.entries q)) range)
+
+  one_slot : (q : ℕ) (x : Bool) → Sets.contains me.log.marks q ≡ x → (here q && is_looked_at q) ≡ (Sets.contains me.log.marks q && there q)
+  one_slot q true is =
+      let low = (within q (held q is)).0 in
+      let high = last q (held q is) in
+      elim (cases_Bool (nat_le q from)) [
+        | inl below ↦
+            let none = not_here q is (reached q low (le_of q from below)) in
+            ap (λ b. b && is_looked_at q) none ∙ sym none ∙ alike q low
+        | inr above ↦ in_window from n q (here q) (lt_of q from above) high ∙ alike q low
+      ]
+  one_slot q false is =
+      ap (λ b. (b && is_waited_for me range q) && is_looked_at q) is ∙ ap (λ b. b && there q) (sym is)
+
+  pub waits_is : (slots : List ℕ) → slots ≡ filter here (range_with_len (from + 1) n) → Sets.from_items slots ≡ waits_for (server_of d me) range
   unfolding server_of
   waits_is slots is = ap Sets.from_items is ∙ same_set _ _ (λ q.
-      contains-items (Sets.from_items (filter here (range_with_len (me.log.base + 1) 4096))) q
-      ∙ ap (list_any (eq_by_cmp nat_cmp q)) (items_are (filter here (range_with_len (me.log.base + 1) 4096)) (filtered_ascends here me.log.base 4096))
-      ∙ in_filtered here 4096 (me.log.base + 1) q
+      contains-items (Sets.from_items (filter here (range_with_len (from + 1) n))) q
+      ∙ ap (list_any (eq_by_cmp nat_cmp q)) (items_are (filter here (range_with_len (from + 1) n)) (filtered_ascends here from n))
+      ∙ in_filtered here n (from + 1) q
       ∙ one_slot q (Sets.contains me.log.marks q) refl
       ∙ sym (contains-retain me.log.marks there q (λ x t. ap there (FinMap.nat_cmp-IsAntisymmetric x q (sym (tied x q t))))))
 

@@ -3,5 +3,6 @@ pub mod Changing
 pub mod Claiming
 pub mod Fetching
 pub mod Finishing
+pub mod Passing
 pub mod Probing
 pub mod Saving

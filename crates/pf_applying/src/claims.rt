@@ -39,16 +39,27 @@ fn claimable_at(me: &Running, slot: Slot) -> Option<&Entry>
 }
 
 /// The entry of the least slot that can be claimed, `None` exactly where there is none.
+///
+/// What can be claimed names each slot below it that is not applied, and an entry names few. So the walk ends once it has passed more
+/// slots that are not applied than an entry names.
 fn least_claimable(me: &Running) -> Option<&Entry>
-    requires { (d : Durable) × IsCached d me.now }
+    requires cached { (d : Durable) × IsCached d me.now }
+    requires bounded { IsBounded me.now }
     ensures { MatchOption result ((d : Durable) → IsCached d me.now → claimable 4096 (server_of d me.now) ≡ None) (λ e. IsLeast me.now e.now) }
 {
-    let mut after = me.log.base().max(me.applied.upto());
-    while let Some(slot) = me.log.next_after(after) {
+    let mut passed = 0;
+    let from = me.log.base().max(me.applied.upto());
+    for below in from..me.log.last() {
+        let slot = below + 1;
         if let Some(entry) = claimable_at(me, slot) {
             return Some(entry);
         }
-        after = slot;
+        if !me.applied.has(slot) {
+            if passed == me.names {
+                return None;
+            }
+            passed += 1;
+        }
     }
     None
 }
@@ -84,7 +95,8 @@ pub struct Plan {
 
 /// The job of the least slot that can be claimed, `None` exactly where there is none.
 fn prepare(alloc: Global, me: &Running) -> Result<Option<Plan>, NoMemory>
-    requires { (d : Durable) × IsCached d me.now }
+    requires cached { (d : Durable) × IsCached d me.now }
+    requires bounded { IsBounded me.now }
     ensures { IfOk result (λ planned. (d : Durable) → IsCached d me.now → Plans d me.now planned) }
 {
     let Some(entry) = least_claimable(me) else {

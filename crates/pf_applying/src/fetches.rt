@@ -30,15 +30,15 @@ fn is_waited_for(me: &Running, slot: Slot, range: &Range) -> bool
     }
 }
 
-/// The slots that a read of the range has to wait for.
+/// The slots that a read of the range has to wait for. It looks above the applied prefix, and as far as a slot is held.
 fn slots_before(alloc: Global, me: &Running, range: &Range) -> Result<Slots, NoMemory>
-    requires { IsBounded me.now }
     ensures { IfOk result (λ slots. (d : Durable) → IsCached d me.now → slots ≡ waits_for (server_of d me.now) range.now) }
 {
     let mut slots = Vec::new(alloc);
-    let base = me.log.base();
-    for passed in 0..4096 {
-        let slot = base + passed + 1;
+    let from = me.log.base().max(me.applied.upto());
+    let count = me.log.last().saturating_sub(from);
+    for passed in 0..count {
+        let slot = from + passed + 1;
         if is_waited_for(me, slot, range) {
             slots.push(slot)?;
         }

@@ -59,6 +59,13 @@ impl HoleLog {
         self.base
     }
 
+    /// A slot above which none is held.
+    pub fn last(&self) -> Slot
+        ensures { (q : ℕ) → map.contains_key self.now.entries q ≡ true → q ≤ result }
+    {
+        self.last
+    }
+
     /// Whether the slot may be put: `WindowFull` (30) exactly where it is more than 4,096 above the base.
     pub fn room(&self, slot: Slot) -> Result<(), WindowFull>
         ensures { IsErr result ↔ (self.now.base + 4096 < slot) }

@@ -1,5 +1,5 @@
 -- Writes of different ports: one that began after another was acknowledged is chosen after it.
-use Rattle.std.proofs.Common.{◌≡◌, ℕ, ◌<◌, ◌≤◌, ◌≢◌, ◌⊎◌, inl, inr, true, false, List, [], ◌∷◌, ◌++◌, Some, slice_get, arith, refl, sym, ap, subst, ◌∙◌, lt_of_le_of_lt}
+use Rattle.std.proofs.Common.{◌≡◌, ℕ, ◌<◌, ◌≤◌, ◌≢◌, ◌⊎◌, inl, inr, true, false, List, [], ◌∷◌, ◌++◌, Some, slice_get, arith, refl, sym, ap, subst, ◌∙◌, lt_of_le_of_lt, le_of_lt}
 use Rattle.std.specs.FinMap
 use Rattle.std.proofs.lemmas.Bool.{cases_lt, cases_eq, or_cases, false_from_ne_true, or_left, le-leb}
 use Rattle.std.proofs.lemmas.Option.{same_Some}
@@ -22,7 +22,7 @@ use Rattle.pf_protocol.specs.Saving.{restarted, claimed}
 use Rattle.pf_protocol.specs.Groups.{Acked, Group, ending, happens, opening, first_leader}
 use Rattle.pf_protocol.specs.Histories.{History, IsPrefix, replay, Runs, HasAccepted, IsProposal, IsChosen, IsTakenFrom, HasOrigin, Itself, Through}
 use Rattle.pf_protocol.specs.Kept.{Now}
-use Rattle.pf_protocol.specs.Ports.{Submission, submitting, FollowsRule, IsOrderedBetween}
+use Rattle.pf_protocol.specs.Ports.{Submission, submitting, HasEnded, FollowsRule, ComesFrom, IsOrderedBetween}
 use Rattle.pf_protocol.proofs.Ballots.{Cast, first_of, IsStart, Faithful, HasQuorum, IsPicked}
 use Rattle.pf_protocol.proofs.Law.{share, kept_at}
 use Rattle.pf_protocol.proofs.Knowing.{IsAcked}
@@ -36,7 +36,7 @@ use Rattle.pf_protocol.proofs.Stepping.{IsRule, BySubmit, ByFetch, ByPacket, ByE
 use Rattle.pf_protocol.proofs.Snapshots.{whole_prefix, by_events, opened, chosen_after}
 use Rattle.pf_protocol.proofs.Fetching.{told_on, runs_there, disk_term_low, term_low, Says, Granted, AckedBy, traced}
 use Rattle.pf_protocol.proofs.Fresh.{comparable, marks}
-use Rattle.pf_protocol.proofs.Ports.{NewChosen, acked_chosen, new_slot, chosen_below_first, merged_fields, not_above}
+use Rattle.pf_protocol.proofs.Ports.{NewChosen, acked_chosen, new_slot, chosen_below_first, merged_fields, not_from}
 
 -- what a candidate's own vote shows was accepted by it
 abbrev AllHeld : Setup → History → Type 0
@@ -370,17 +370,20 @@ module _ (setup : Setup) (history now : History) (p : IsPrefix now history) (n :
   no_origin _ _ (Itself d proposal is_new) same slot t op c is = not_chosen slot t op c (is ∙ same)
   no_origin _ _ (Through d from origin proposal k rest) same slot t op c is = through_never d from origin k rest same
 
--- every port and every submission of another
-pub ordered_between : (setup : Setup) (history : History) (port : List Submission) → FollowsRule setup history port → IsOrderedBetween setup history port
-ordered_between setup history port rule j a b low high at_j happened ended fb fa =
-    elim (cases_lt low high) [
-      | inl above ↦ elim (cases_lt fb.copy.target.server.durable.term ended.answered.acked.term) [
+-- every port and every submission of another, and no slot is of both
+pub strictly_between : (setup : Setup) (history : History) (port : List Submission) → FollowsRule setup history port → (j : ℕ) (a b : Submission) (low high : ℕ) → slice_get port j ≡ Some a → IsPrefix (b.before ++ submitting b ∷ []) history → HasEnded setup port b.before a.write → ComesFrom setup history low b → ComesFrom setup history high a → high < low
+strictly_between setup history port rule j a b low high at_j happened ended fb fa =
+    elim (cases_lt high low) [
+      | inl below ↦ below
+      | inr not_below ↦ elim (cases_lt fb.copy.target.server.durable.term ended.answered.acked.term) [
         | inl lower ↦
             let y = fb.copy.target in
             let fields = new_slot setup.names y.server y.leader b.op in
             absurd (no_origin setup history b.before (begins_with b.before history (submitting b) happened) ended.answered.k ended.answered.acked ended.answered.at b.server y.server y.leader y.runs y.serves lower fb.origin
             (ap (λ x. x.slot) fb.copy.is ∙ fields.0) (ap (λ x. x.term) fb.copy.is ∙ fields.1) fb.chosen.entry fb.origin fb.comes refl low fb.term fb.op fb.chosen refl)
-        | inr not_lower ↦ absurd (not_above setup history port rule j a b at_j happened ended low high fb fa (omega (arith, not_lower, ended.answered.in_term)) above)
+        | inr not_lower ↦ absurd (not_from setup history port rule j a b at_j happened ended low high fb fa (omega (arith, not_lower, ended.answered.in_term)) not_below)
       ]
-      | inr not_above_it ↦ not_above_it
     ]
+
+pub ordered_between : (setup : Setup) (history : History) (port : List Submission) → FollowsRule setup history port → IsOrderedBetween setup history port
+ordered_between setup history port rule j a b low high at_j happened ended fb fa = le_of_lt (strictly_between setup history port rule j a b low high at_j happened ended fb fa)

@@ -1,5 +1,5 @@
 -- A port's writes are chosen in the order in which it asked them.
-use Rattle.std.proofs.Common.{◌≡◌, ℕ, suc, ◌<◌, ◌≤◌, ◌≢◌, inl, inr, Bool, List, [], ◌∷◌, ◌++◌, Option, Some, None, slice_get, arith, refl, sym, ap, subst, ◌∙◌}
+use Rattle.std.proofs.Common.{◌≡◌, ℕ, suc, ◌<◌, ◌≤◌, ◌≢◌, inl, inr, Bool, List, [], ◌∷◌, ◌++◌, Option, Some, None, slice_get, arith, refl, sym, ap, subst, ◌∙◌, le_of_lt}
 use Rattle.std.proofs.lemmas.Bool.{cases_lt, cases_eq}
 use Rattle.std.proofs.lemmas.Option.{same_Some}
 use Rattle.std.proofs.lemmas.List.{append_assoc, append-nil}
@@ -175,19 +175,10 @@ took_cut CutOff took not_whole = refl
 took_cut Missed took not_whole = absurd took
 took_cut Untouched took not_whole = absurd took
 
-module _ (setup : Setup) (history : History) (port : List Submission) (rule : FollowsRule setup history port) (j : ℕ) (a b : Submission) (at_j : slice_get port j ≡ Some a) (happened : IsPrefix (b.before ++ submitting b ∷ []) history) (ended : HasEnded setup port b.before a.write) where
-  -- where and when the earlier write was acknowledged
-  told_slot : ℕ
-  told_slot = ended.answered.acked.slot
-
-  told_term : ℕ
-  told_term = ended.answered.acked.term
-
-  b_before : IsPrefix b.before history
-  b_before = begins_with b.before history (submitting b) happened
-
+module _ (setup : Setup) (history : History) (port : List Submission) (rule : FollowsRule setup history port) (j : ℕ) (a : Submission) (at_j : slice_get port j ≡ Some a) (now : History) (now_before : IsPrefix now history) (ended : HasEnded setup port now a.write) where
+  -- where the write was acknowledged
   picked : NewChosen setup history ended.answered.acked.slot ended.answered.acked.term
-  picked = new_chosen_after setup b.before history b_before ended.answered.acked.slot ended.answered.acked.term (acked_chosen setup b.before ended.answered.k ended.answered.acked ended.answered.at)
+  picked = new_chosen_after setup now history now_before ended.answered.acked.slot ended.answered.acked.term (acked_chosen setup now ended.answered.k ended.answered.acked ended.answered.at)
 
   -- its other copies are of lower terms
   copies_lower : (e : Entry) → IsCopy setup a e → e.slot ≢ ended.answered.acked.slot → e.term < ended.answered.acked.term
@@ -220,6 +211,24 @@ module _ (setup : Setup) (history : History) (port : List Submission) (rule : Fo
           let it : ended.final.server ≡ a.server = one_leader setup ended.final.before ended.final.before a.before ended.final.server a.server y.server x.server (whole_prefix ended.final.before) first y.runs x.runs (ap leads y.serves) (ap leads x.serves) (sym same_term) in
           never_again setup a.before ended.final.before a.server a.op a.answer x.server y.server y.leader x.runs cut p (ap (slice_get (replay setup ended.final.before).servers) (sym it) ∙ y.runs) (sym same_term) y.serves
 
+  -- no copy of an acknowledged write is chosen above the slot in which it was acknowledged
+  pub not_over : (high : ℕ) → ComesFrom setup history high a → ended.answered.acked.slot < high → ⊥
+  not_over high fa over =
+      let y = origin_proposal setup history fa.chosen.entry fa.origin fa.comes in
+      let lower = copies_lower fa.origin fa.copy (λ same. omega (arith, same, y.2, fa.chosen.in_slot, over)) in
+      let begins : picked.chosen.entry.first ≤ ended.answered.acked.slot = omega (arith, picked.is_new, picked.chosen.in_slot) in
+      elim (cases_lt fa.term ended.answered.acked.term) [
+        | inl before_it ↦ omega (arith, chosen_below_first setup history high fa.term fa.op fa.chosen picked.chosen.entry picked.chosen.proposed (omega (arith, before_it, picked.chosen.in_term)), begins, over)
+        | inr not_before ↦ no_older_origin setup history ended.answered.acked.slot ended.answered.acked.term picked fa.chosen.entry fa.origin fa.comes (omega (arith, not_before, fa.chosen.in_term)) lower (omega (arith, begins, over, fa.chosen.in_slot))
+      ]
+
+module _ (setup : Setup) (history : History) (port : List Submission) (rule : FollowsRule setup history port) (j : ℕ) (a b : Submission) (at_j : slice_get port j ≡ Some a) (happened : IsPrefix (b.before ++ submitting b ∷ []) history) (ended : HasEnded setup port b.before a.write) where
+  b_before : IsPrefix b.before history
+  b_before = begins_with b.before history (submitting b) happened
+
+  above : NewChosen setup history ended.answered.acked.slot ended.answered.acked.term
+  above = picked setup history port rule j a at_j b.before (begins_with b.before history (submitting b) happened) ended
+
   -- the later write's copies are above the acknowledged one
   later_above : (e : Entry) → IsProposal setup history e → IsNew e → (copy : IsCopy setup b e) → ended.answered.target.server.durable.term ≤ copy.target.server.durable.term → ended.answered.acked.slot < e.slot
   later_above e p new copy low =
@@ -228,25 +237,18 @@ module _ (setup : Setup) (history : History) (port : List Submission) (rule : Fo
       let e_slot : e.slot ≡ y.leader.next = ap (λ x. x.slot) copy.is ∙ fields.0 in
       let e_term : e.term ≡ y.server.durable.term = ap (λ x. x.term) copy.is ∙ fields.1 in
       elim (cases_lt ended.answered.acked.term e.term) [
-        | inl later ↦ omega (arith, chosen_below_first setup history ended.answered.acked.slot ended.answered.acked.term picked.op picked.chosen e p later, new)
+        | inl later ↦ omega (arith, chosen_below_first setup history ended.answered.acked.slot ended.answered.acked.term above.op above.chosen e p later, new)
         | inr not_later ↦
             let same : y.server.durable.term ≡ ended.answered.acked.term = omega (arith, not_later, e_term, ended.answered.in_term, low) in
             omega (arith, next_above setup b.before ended.answered.k ended.answered.acked b.server y.server y.leader ended.answered.at y.runs y.serves same, e_slot)
       ]
 
-  -- so no copy of the earlier write is chosen above a copy of the later one
-  pub not_above : (low high : ℕ) (fb : ComesFrom setup history low b) → ComesFrom setup history high a → ended.answered.target.server.durable.term ≤ fb.copy.target.server.durable.term → low < high → ⊥
-  not_above low high fb fa le above =
+  -- so no copy of the earlier write is chosen in the slot of a copy of the later one, or above it
+  pub not_from : (low high : ℕ) (fb : ComesFrom setup history low b) → ComesFrom setup history high a → ended.answered.target.server.durable.term ≤ fb.copy.target.server.durable.term → low ≤ high → ⊥
+  not_from low high fb fa le reaches =
       let x = origin_proposal setup history fb.chosen.entry fb.origin fb.comes in
-      let y = origin_proposal setup history fa.chosen.entry fa.origin fa.comes in
       let beyond = later_above fb.origin x.1 x.3 fb.copy le in
-      let over : ended.answered.acked.slot < high = omega (arith, beyond, x.2, fb.chosen.in_slot, above) in
-      let lower = copies_lower fa.origin fa.copy (λ same. omega (arith, same, y.2, fa.chosen.in_slot, over)) in
-      let begins : picked.chosen.entry.first ≤ ended.answered.acked.slot = omega (arith, picked.is_new, picked.chosen.in_slot) in
-      elim (cases_lt fa.term ended.answered.acked.term) [
-        | inl before_it ↦ omega (arith, chosen_below_first setup history high fa.term fa.op fa.chosen picked.chosen.entry picked.chosen.proposed (omega (arith, before_it, picked.chosen.in_term)), begins, over)
-        | inr not_before ↦ no_older_origin setup history ended.answered.acked.slot ended.answered.acked.term picked fa.chosen.entry fa.origin fa.comes (omega (arith, not_before, fa.chosen.in_term)) lower (omega (arith, begins, over, fa.chosen.in_slot))
-      ]
+      not_over setup history port rule j a at_j b.before b_before ended high fa (omega (arith, beyond, x.2, fb.chosen.in_slot, reaches))
 
 -- the write that was asked earlier had its last submission earlier
 final_first : (setup : Setup) (history : History) (port : List Submission) (rule : FollowsRule setup history port) (k : ℕ) (a b : Submission) → slice_get port k ≡ Some b → a.write < b.write → (ended : HasEnded setup port b.before a.write) → ended.m < k
@@ -259,12 +261,15 @@ final_first setup history port rule k a b at_k earlier ended =
       ]
     ]
 
--- every port
-pub ordered : (setup : Setup) (history : History) (port : List Submission) → FollowsRule setup history port → IsOrdered setup history port
-ordered setup history port rule j k a b low high at_j at_k earlier fb fa =
+-- every port, and no slot is of two of its writes
+pub strictly_ordered : (setup : Setup) (history : History) (port : List Submission) → FollowsRule setup history port → (j k : ℕ) (a b : Submission) (low high : ℕ) → slice_get port j ≡ Some a → slice_get port k ≡ Some b → a.write < b.write → ComesFrom setup history low b → ComesFrom setup history high a → high < low
+strictly_ordered setup history port rule j k a b low high at_j at_k earlier fb fa =
     let ended = rule.waits j k a b at_j at_k earlier in
     let le = rule.no_lower ended.m k ended.final b ended.at at_k (final_first setup history port rule k a b at_k earlier ended) ended.answered.target fb.copy.target in
-    elim (cases_lt low high) [
-      | inl above ↦ absurd (not_above setup history port rule j a b at_j (rule.happened k b at_k) ended low high fb fa le above)
-      | inr not_above_it ↦ not_above_it
+    elim (cases_lt high low) [
+      | inl below ↦ below
+      | inr not_below ↦ absurd (not_from setup history port rule j a b at_j (rule.happened k b at_k) ended low high fb fa le not_below)
     ]
+
+pub ordered : (setup : Setup) (history : History) (port : List Submission) → FollowsRule setup history port → IsOrdered setup history port
+ordered setup history port rule j k a b low high at_j at_k earlier fb fa = le_of_lt (strictly_ordered setup history port rule j k a b low high at_j at_k earlier fb fa)

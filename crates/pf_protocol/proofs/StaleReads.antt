@@ -504,6 +504,95 @@ module _ (first : Sector) where
   replayed_0 : run small_group g0 rest_0 ≡ g16
   replayed_0 = follows small_group g0 g1 g16 (so (Elect 1) (TermIs 2)) rest_1 e1 replayed_1
 
+  -- up to the read
+  abbrev until_13 : History
+  until_13 = []
+
+  abbrev until_12 : History
+  until_12 = so (Fetch 0 (record { first = 0; count = 1 })) (Refused NotLeader) ∷ until_13
+
+  abbrev until_11 : History
+  until_11 = so (Deliver 9) Done ∷ until_12
+
+  abbrev until_10 : History
+  until_10 = so (Deliver 8) Done ∷ until_11
+
+  abbrev until_9 : History
+  until_9 = so (Deliver 7) Done ∷ until_10
+
+  abbrev until_8 : History
+  until_8 = so (Fetch 0 (record { first = 0; count = 1 })) (ReadIs 0) ∷ until_9
+
+  abbrev until_7 : History
+  until_7 = so (Finish 1 0 1) Done ∷ until_8
+
+  abbrev until_6 : History
+  until_6 = so Claim (JobIs (record { server = 1; life = 0; slot = 1; op = write_at 0 first })) ∷ until_7
+
+  abbrev until_5 : History
+  until_5 = so (Deliver 5) Done ∷ until_6
+
+  abbrev until_4 : History
+  until_4 = so (Deliver 4) Done ∷ until_5
+
+  abbrev until_3 : History
+  until_3 = so (Submit 1 (write_at 0 first)) (SlotIs 1) ∷ until_4
+
+  abbrev until_2 : History
+  until_2 = so (Deliver 2) Done ∷ until_3
+
+  abbrev until_1 : History
+  until_1 = so (Deliver 1) Done ∷ until_2
+
+  abbrev until_0 : History
+  until_0 = so (Elect 1) (TermIs 2) ∷ until_1
+
+  reached_13 : run small_group g13 until_13 ≡ g13
+  reached_13 = refl
+
+  reached_12 : run small_group g12 until_12 ≡ g13
+  reached_12 = follows small_group g12 g13 g13 (so (Fetch 0 (record { first = 0; count = 1 })) (Refused NotLeader)) until_13 e13 reached_13
+
+  reached_11 : run small_group g11 until_11 ≡ g13
+  reached_11 = follows small_group g11 g12 g13 (so (Deliver 9) Done) until_12 e12 reached_12
+
+  reached_10 : run small_group g10 until_10 ≡ g13
+  reached_10 = follows small_group g10 g11 g13 (so (Deliver 8) Done) until_11 e11 reached_11
+
+  reached_9 : run small_group g9 until_9 ≡ g13
+  reached_9 = follows small_group g9 g10 g13 (so (Deliver 7) Done) until_10 e10 reached_10
+
+  reached_8 : run small_group g8 until_8 ≡ g13
+  reached_8 = follows small_group g8 g9 g13 (so (Fetch 0 (record { first = 0; count = 1 })) (ReadIs 0)) until_9 e9 reached_9
+
+  reached_7 : run small_group g7 until_7 ≡ g13
+  reached_7 = follows small_group g7 g8 g13 (so (Finish 1 0 1) Done) until_8 e8 reached_8
+
+  reached_6 : run small_group g6 until_6 ≡ g13
+  reached_6 = follows small_group g6 g7 g13 (so Claim (JobIs (record { server = 1; life = 0; slot = 1; op = write_at 0 first }))) until_7 e7 reached_7
+
+  reached_5 : run small_group g5 until_5 ≡ g13
+  reached_5 = follows small_group g5 g6 g13 (so (Deliver 5) Done) until_6 e6 reached_6
+
+  reached_4 : run small_group g4 until_4 ≡ g13
+  reached_4 = follows small_group g4 g5 g13 (so (Deliver 4) Done) until_5 e5 reached_5
+
+  reached_3 : run small_group g3 until_3 ≡ g13
+  reached_3 = follows small_group g3 g4 g13 (so (Submit 1 (write_at 0 first)) (SlotIs 1)) until_4 e4 reached_4
+
+  reached_2 : run small_group g2 until_2 ≡ g13
+  reached_2 = follows small_group g2 g3 g13 (so (Deliver 2) Done) until_3 e3 reached_3
+
+  reached_1 : run small_group g1 until_1 ≡ g13
+  reached_1 = follows small_group g1 g2 g13 (so (Deliver 1) Done) until_2 e2 reached_2
+
+  reached_0 : run small_group g0 until_0 ≡ g13
+  reached_0 = follows small_group g0 g1 g13 (so (Elect 1) (TermIs 2)) until_1 e1 reached_1
+
+  acked_13 : g13.acked ≡ record { term = 2; slot = 1 } ∷ []
+  unfolding opening first_leader acted settled restarted opening_disk stored on_elect renewed led
+  acked_13 = refl
+
   answer_16 : answer_to small_group g15 (Deliver 13) ≡ Done
   unfolding opening first_leader acted settled restarted opening_disk stored on_elect renewed led
   answer_16 = deliver_answer small_group g15 13 (packet 2 1 2 (ProbeOk 1 0)) false b6 _ refl refl rule_16 room_16
@@ -577,7 +666,7 @@ module _ (first : Sector) where
   answered_last = simp empty_rows
 
   pub shows : ReadsAtTheLeader first
-  shows = record { calm = ap (λ (g : Group). answer_to small_group g Claim) replayed_0 ∙ calm; acked = ap (λ (g : Group). g.acked) replayed_0 ∙ acked_last; answered = ap (λ (g : Group). g.answered) replayed_0 ∙ answered_last }
+  shows = record { acked_before = ap (λ (g : Group). g.acked) reached_0 ∙ acked_13; calm = ap (λ (g : Group). answer_to small_group g Claim) replayed_0 ∙ calm; acked = ap (λ (g : Group). g.acked) replayed_0 ∙ acked_last; answered = ap (λ (g : Group). g.answered) replayed_0 ∙ answered_last }
 
   -- with whole sectors the history is one that the group can have
   module _ (length_first : IsSector first) where

@@ -30,8 +30,27 @@ stale_read first =
     ∷ so (Deliver 13) Done
     ∷ []
 
+-- what happened before server 1 takes up its read
+abbrev pub before_read : (first : Sector) → History
+before_read first =
+    so (Elect 1) (TermIs 2)
+    ∷ so (Deliver 1) Done
+    ∷ so (Deliver 2) Done
+    ∷ so (Submit 1 (write_at 0 first)) (SlotIs 1)
+    ∷ so (Deliver 4) Done
+    ∷ so (Deliver 5) Done
+    ∷ so Claim (JobIs (record { server = 1; life = 0; slot = 1; op = write_at 0 first }))
+    ∷ so (Finish 1 0 1) Done
+    ∷ so (Fetch 0 (record { first = 0; count = 1 })) (ReadIs 0)
+    ∷ so (Deliver 7) Done
+    ∷ so (Deliver 8) Done
+    ∷ so (Deliver 9) Done
+    ∷ so (Fetch 0 (record { first = 0; count = 1 })) (Refused NotLeader)
+    ∷ []
+
 -- one read was answered, by the new leader, with what it wrote. Nothing more can be applied
 pub record ReadsAtTheLeader (first : Sector) : Type 0 where
   pub acked : (replay small_group (stale_read first)).acked ≡ record { term = 2; slot = 1 } ∷ []
+  pub acked_before : (replay small_group (before_read first)).acked ≡ record { term = 2; slot = 1 } ∷ []
   pub answered : (replay small_group (stale_read first)).answered ≡ record { number = 1; server = 1; term = 2; range = record { first = 0; count = 1 }; base = 0; applied = Sets.from_items (1 ∷ []); bytes = first ∷ [] } ∷ []
   pub calm : answer_to small_group (replay small_group (stale_read first)) Claim ≡ Refused NoneFree

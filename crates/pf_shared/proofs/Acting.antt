@@ -36,8 +36,8 @@ module _ (ds : List (Stamped Did)) (hs : History) (counted : steps_in ds ≡ len
   pub listed_on : woven es hs' ≡ woven ds hs ++ entry seat (Happened h) ∷ []
   listed_on = ap (λ l. woven l hs') grown ∙ (ap (λ l. woven (ds ++ did seat Acted ∷ []) l) longer ∙ woven-event seat h ds hs counted)
 
-  pub handed_on : (taken taken' : List Bool) → taken ≡ handed_out [] (woven ds hs) → taken' ≡ taken_after taken h.answer → taken' ≡ handed_out [] (woven es hs')
-  handed_on taken taken' was now = now ∙ (ap (λ t. taken_after t h.answer) was ∙ sym (ap (handed_out []) listed_on ∙ handed-append [] (woven ds hs) (entry seat (Happened h) ∷ [])))
+  pub handed_on : (from taken taken' : List Bool) → taken ≡ handed_out from (woven ds hs) → taken' ≡ taken_after taken h.answer → taken' ≡ handed_out from (woven es hs')
+  handed_on from taken taken' was now = now ∙ (ap (λ t. taken_after t h.answer) was ∙ sym (ap (handed_out from) listed_on ∙ handed-append from (woven ds hs) (entry seat (Happened h) ∷ [])))
 
   pub claims_on : claims_of [] hs' ≡ claims_after (claims_of [] hs) h.event h.answer
   claims_on = ap (claims_of []) longer ∙ claims_more hs [] h

@@ -24,6 +24,7 @@ use Rattle.pf_shared.specs.declared.moment.Moment.TheVariants.{Happened, Look}
 use Rattle.pf_shared.specs.declared.moment.Did.{Did}
 use Rattle.pf_shared.specs.Moments.{entry, happenings}
 use Rattle.pf_shared.specs.Woven.{steps_in, woven}
+use Rattle.pf_shared.proofs.Since.{claims-append}
 use Rattle.pf_shared.proofs.Weaving.{happenings-woven}
 use Rattle.pf_shared.specs.Hands.{Key, key, is_of, Hand, hand, hand_of, is_free, is_held_by, may_by, is_tidy}
 use Rattle.pf_shared.proofs.Owning.{hand_is_open, key_is, tidy_snoc}
@@ -74,22 +75,27 @@ nobody window g claims job open_now c (Some h) there = let t = there h refl in l
     let held : FinMap.get c.s.in_hand job.slot ≡ Some h.op = (is_open.running c.s c.runs).1 c.life in
     absurd (true≢false (sym (ap Rattle.std.specs.Prelude.is_some held) ∙ not_in_hand window c.s job.slot c.least))
 
-pub claimed_is_free : (setup : Setup) (list : List (Stamped Moment)) (job : Job) → IsLegal setup (happenings list) → IsAnswer setup (replay setup (happenings list)) Claim (JobIs job) → is_free (hand_of (key job.server job.life job.slot) None list) ≡ true
-claimed_is_free setup list job legal is = let k : Key = key job.server job.life job.slot in
-    nobody setup.window (replay setup (happenings list)) (claims_of [] (happenings list)) job (legal_open setup (happenings list) legal) (claims_now setup _ job is) (hand_of k None list) (λ h e. hand_is_open k h list e)
+-- what happened before the list left no claim open
+pub claimed_is_free : (setup : Setup) (past : History) (list : List (Stamped Moment)) (job : Job) → claims_of [] past ≡ [] → IsLegal setup (past ++ happenings list) → IsAnswer setup (replay setup (past ++ happenings list)) Claim (JobIs job)
+    → is_free (hand_of (key job.server job.life job.slot) None list) ≡ true
+claimed_is_free setup past list job bare legal is = let k : Key = key job.server job.life job.slot in let all : History = past ++ happenings list in
+    let claims : claims_of [] all ≡ claims_of [] (happenings list) = claims-append [] past (happenings list) ∙ ap (λ c. claims_of c (happenings list)) bare in
+    nobody setup.window (replay setup all) (claims_of [] all) job (legal_open setup all legal) (claims_now setup _ job is) (hand_of k None list)
+        (λ h e. let there = hand_is_open k h list e in (there.0, ap (λ c. slice_get c there.0) claims ∙ there.1))
 
 -- an entry of a claim keeps the list tidy
-may_claim : (setup : Setup) (list : List (Stamped Moment)) (k : Key) (seat : ℕ) (answer : Answer) → IsLegal setup (happenings list) → IsAnswer setup (replay setup (happenings list)) Claim answer → may_by k (hand_of k None list) seat Claim answer ≡ true
-may_claim setup list k seat (JobIs job) legal is = by (is_of k job.server job.life job.slot) refl
+may_claim : (setup : Setup) (past : History) (list : List (Stamped Moment)) (k : Key) (seat : ℕ) (answer : Answer) → claims_of [] past ≡ [] → IsLegal setup (past ++ happenings list) → IsAnswer setup (replay setup (past ++ happenings list)) Claim answer
+    → may_by k (hand_of k None list) seat Claim answer ≡ true
+may_claim setup past list k seat (JobIs job) bare legal is = by (is_of k job.server job.life job.slot) refl
   where
     by : (b : Bool) → is_of k job.server job.life job.slot ≡ b → cond b (is_free (hand_of k None list)) true ≡ true
-    by true e = let at = key_is k job.server job.life job.slot e in ap (λ q. is_free (hand_of q None list)) at ∙ claimed_is_free setup list job legal is
+    by true e = let at = key_is k job.server job.life job.slot e in ap (λ q. is_free (hand_of q None list)) at ∙ claimed_is_free setup past list job bare legal is
     by false e = refl
-may_claim setup list k seat _ legal is = refl
+may_claim setup past list k seat _ bare legal is = refl
 
-pub tidy_claim : (setup : Setup) (list : List (Stamped Moment)) (seat : ℕ) (answer : Answer) → IsLegal setup (happenings list) → IsAnswer setup (replay setup (happenings list)) Claim answer
+pub tidy_claim : (setup : Setup) (past : History) (list : List (Stamped Moment)) (seat : ℕ) (answer : Answer) → claims_of [] past ≡ [] → IsLegal setup (past ++ happenings list) → IsAnswer setup (replay setup (past ++ happenings list)) Claim answer
     → (k : Key) → is_tidy k None list ≡ true → is_tidy k None (list ++ entry seat (Happened (record { event = Claim; answer = answer })) ∷ []) ≡ true
-tidy_claim setup list seat answer legal is k tidy = tidy_snoc k None list _ tidy (may_claim setup list k seat answer legal is)
+tidy_claim setup past list seat answer bare legal is k tidy = tidy_snoc k None list _ tidy (may_claim setup past list k seat answer bare legal is)
 
 -- an end by the seat that has the job in hand keeps it so
 may_end : (k : Key) (seat server life slot : ℕ) (op : Op) (list : List (Stamped Moment)) → hand_of (key server life slot) None list ≡ Some (hand seat op) → cond (is_of k server life slot) (is_held_by seat (hand_of k None list)) true ≡ true

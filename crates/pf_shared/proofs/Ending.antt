@@ -11,36 +11,48 @@ use Rattle.pf_protocol.specs.declared.events.Event.{Event}
 use Rattle.pf_protocol.specs.declared.events.Happening.{Happening}
 use Rattle.pf_protocol.specs.Answers.{IsLegalNext, claims_of, is_claim}
 use Rattle.pf_group.specs.GroupIs.{GroupIs, state_of}
-use Rattle.pf_group.specs.Roots.{root_of}
 use Rattle.pf_group.specs.Steps.{Steps}
 use Rattle.pf_shared.specs.declared.moment.Moment.TheVariants.{Happened}
 use Rattle.pf_shared.specs.declared.moment.Did.{Did}
 use Rattle.pf_shared.specs.declared.moment.Did.TheVariants.{Acted}
 use Rattle.pf_shared.specs.declared.behind.Behind.{Behind}
 use Rattle.pf_shared.specs.Moments.{entry}
+use Rattle.pf_shared.specs.Since.{since, whole}
 use Rattle.pf_shared.specs.Woven.{steps_in, woven}
 use Rattle.pf_shared.specs.Hands.{hand, hand_of, key}
 use Rattle.pf_shared.specs.Behinds.{Acts, Stays, list_of}
-use Rattle.pf_shared.proofs.Weaving.{did}
+use Rattle.pf_shared.proofs.Since.{claims_since, since_more, since_same}
+use Rattle.pf_shared.proofs.Weaving.{did, happenings-woven}
 use Rattle.pf_shared.proofs.Acting.{is_itself, listed_on}
 use Rattle.pf_shared.proofs.Claiming.{open_claim}
 
-module _ {D : Type 0} {disk : Ghosts D} (old mid new : Behind D disk) (same_group : mid.group ≡ old.group) (same_turns : mid.turns.items ≡ old.turns.items) where
+module _ {D : Type 0} {disk : Ghosts D} (old mid new : Behind D disk) (same_group : (mid.group ≡ old.group) × (mid.start ≡ old.start)) (same_turns : mid.turns.items ≡ old.turns.items) where
   pub same_list : list_of mid ≡ list_of old
-  same_list = ap (λ l. woven l mid.group.history) same_turns ∙ ap (λ (x : GroupIs). woven old.turns.items x.history) same_group
+  same_list = ap (λ l. woven l (since mid.start mid.group)) same_turns ∙ (ap (λ (x : GroupIs). woven old.turns.items (since mid.start x)) same_group.0 ∙ ap (λ (x : GroupIs). woven old.turns.items (since x old.group)) same_group.1)
 
-  pub acts : (seat : ℕ) (event : Event) (answer : Answer) → new.turns.items ≡ mid.turns.items ++ did seat Acted ∷ [] → Steps mid.group event answer new.group → Acts seat event answer old new
-  acts seat event answer grown s = let h : Happening = record { event = event; answer = answer } in record {
-    listed = listed_on mid.turns.items mid.group.history mid.counted seat h new.turns.items grown new.group.history (ap (λ (x : GroupIs). x.history) s.recorded) ∙ ap (λ l. l ++ entry seat (Happened h) ∷ []) same_list;
-    legal = subst (λ (x : GroupIs). IsLegalNext x.setup (state_of x) (claims_of [] x.history) h) same_group s.legal;
-    root = ap root_of s.recorded ∙ ap root_of same_group;
+  pub acts : (seat : ℕ) (event : Event) (answer : Answer) → new.turns.items ≡ mid.turns.items ++ did seat Acted ∷ [] → new.start ≡ mid.start → Steps mid.group event answer new.group → Acts seat event answer old new
+  acts seat event answer grown same_start s = let h : Happening = record { event = event; answer = answer } in record {
+    listed = listed_on mid.turns.items (since mid.start mid.group) mid.counted seat h new.turns.items grown (since new.start new.group)
+        (ap (λ (x : GroupIs). since x new.group) same_start ∙ since_more mid.start mid.group mid.begun new.group h (ap (λ (x : GroupIs). x.history) s.recorded)) ∙ ap (λ l. l ++ entry seat (Happened h) ∷ []) same_list;
+    legal = subst (λ (x : GroupIs). IsLegalNext x.setup (state_of x) (claims_of [] x.history) h) same_group.0 s.legal;
+    root = same_start ∙ same_group.1;
   }
 
-  pub stays : new.turns.items ≡ mid.turns.items → new.group.history ≡ mid.group.history → root_of new.group ≡ root_of mid.group → Stays old new
-  stays same_items same_history same_root = record {
-    listed = ap (λ l. woven l new.group.history) same_items ∙ (ap (λ l. woven mid.turns.items l) same_history ∙ same_list);
-    root = same_root ∙ ap root_of same_group;
+  pub stays : new.turns.items ≡ mid.turns.items → new.group.history ≡ mid.group.history → new.start ≡ mid.start → Stays old new
+  stays same_items same_history same_start = record {
+    listed = ap (λ l. woven l (since new.start new.group)) same_items
+        ∙ (ap (λ l. woven mid.turns.items l) (ap (λ (x : GroupIs). since x new.group) same_start ∙ since_same mid.start mid.group mid.begun new.group same_history) ∙ same_list);
+    root = same_start ∙ same_group.1;
   }
+
+-- the whole history is that before the first turn, and then what the list tells
+module _ {D : Type 0} {disk : Ghosts D} (b : Behind D disk) where
+  pub whole_is : whole b.start (list_of b) ≡ b.group.history
+  whole_is = ap (λ l. b.start.history ++ l) (happenings-woven b.turns.items (since b.start b.group) b.counted) ∙ b.begun
+
+  -- an open claim since the first turn is one of all
+  pub all_claims : claims_of [] b.group.history ≡ claims_of [] (since b.start b.group)
+  all_claims = claims_since b.start b.group b.begun b.none_open
 
 -- an element that passes is one of some
 pub any_at : {X : Type 0} → (f : X → Bool) (xs : List X) (j : ℕ) (x : X) → slice_get xs j ≡ Some x → f x ≡ true → list_any f xs ≡ true

@@ -1,3 +1,4 @@
+pub mod Since
 pub mod Weaving
 pub mod Owning
 pub mod Claiming

@@ -11,7 +11,7 @@ use Rattle.pf_protocol.specs.Histories.{History, replay}
 use Rattle.pf_group.specs.declared.errors.Down.{Down}
 use Rattle.pf_group.specs.GroupIs.{GroupIs, state_of}
 use Rattle.pf_group.specs.Readers.{HasTaken, LacksAnswer, TellsOf}
-use Rattle.pf_group.specs.Roots.{RootIs, root_of}
+use Rattle.pf_group.specs.Roots.{root_of}
 use Rattle.pf_shared.specs.declared.errors.LookFault.{LookFault}
 use Rattle.pf_shared.specs.declared.moment.Moment.{Moment}
 use Rattle.pf_shared.specs.declared.moment.Moment.TheVariants.{Look}
@@ -22,13 +22,15 @@ use Rattle.pf_shared.specs.Behinds.{HasLooked, Stays, list_of}
 use Rattle.pf_shared.specs.Calls.{Finds}
 use Rattle.pf_shared.specs.Hands.{Key, is_tidy}
 use Rattle.pf_shared.specs.Looks.{HandsOut, Looks, LooksAt, TakesRead, read_of, told_of}
-use Rattle.pf_shared.specs.Moments.{entry, handed_out, happenings, taken_with}
+use Rattle.pf_shared.specs.Moments.{entry, handed_out, taken_with}
+use Rattle.pf_shared.specs.Since.{since, state_at, whole}
 use Rattle.pf_shared.specs.Woven.{steps_in, woven}
 use Rattle.pf_shared.proofs.Acting.{handed-append}
 use Rattle.pf_shared.proofs.Claiming.{tidy_look}
-use Rattle.pf_shared.proofs.Ending.{same_list}
+use Rattle.pf_shared.proofs.Ending.{same_list, whole_is}
 use Rattle.pf_shared.proofs.Taking.{adds_of, grew_by, grew_none}
-use Rattle.pf_shared.proofs.Weaving.{did, happenings-woven, steps-append, woven-look}
+use Rattle.pf_shared.proofs.Since.{since_same}
+use Rattle.pf_shared.proofs.Weaving.{did, steps-append, woven-look}
 use Rattle.pf_turn.specs.Lists.{GrewBy}
 
 -- what was before, and one more look of a seat, to which nothing happened
@@ -39,17 +41,17 @@ module _ (ds : List (Stamped Did)) (hs : History) (counted : steps_in ds ≡ len
   pub looked_listed : woven es hs' ≡ woven ds hs ++ entry seat (Look read) ∷ []
   looked_listed = ap (λ l. woven l hs') grown ∙ (ap (λ l. woven (ds ++ did seat (Looked read) ∷ []) l) same ∙ woven-look seat (Looked read) ds hs refl)
 
-  pub looked_handed : (taken taken' : List Bool) → taken ≡ handed_out [] (woven ds hs) → taken' ≡ taken_with taken (Look read) → taken' ≡ handed_out [] (woven es hs')
-  looked_handed taken taken' was now = now ∙ (ap (λ t. taken_with t (Look read)) was ∙ sym (ap (handed_out []) looked_listed ∙ handed-append [] (woven ds hs) (entry seat (Look read) ∷ [])))
+  pub looked_handed : (from taken taken' : List Bool) → taken ≡ handed_out from (woven ds hs) → taken' ≡ taken_with taken (Look read) → taken' ≡ handed_out from (woven es hs')
+  looked_handed from taken taken' was now = now ∙ (ap (λ t. taken_with t (Look read)) was ∙ sym (ap (handed_out from) looked_listed ∙ handed-append from (woven ds hs) (entry seat (Look read) ∷ [])))
 
   pub looked_tidy : (k : Key) → is_tidy k None (woven ds hs) ≡ true → is_tidy k None (woven es hs') ≡ true
   looked_tidy k tidy = ap (is_tidy k None) looked_listed ∙ tidy_look seat read (woven ds hs) k tidy
 
-module _ {D : Type 0} {disk : Ghosts D} (old mid new : Behind D disk) (same_group : mid.group ≡ old.group) (same_turns : mid.turns.items ≡ old.turns.items) where
-  pub has_looked : (seat : ℕ) (read : Option ℕ) → new.turns.items ≡ mid.turns.items ++ did seat (Looked read) ∷ [] → new.group.history ≡ mid.group.history → root_of new.group ≡ root_of mid.group → HasLooked seat read old new
-  has_looked seat read grown same_history same_root = record {
-    listed = looked_listed mid.turns.items mid.group.history mid.counted seat read new.turns.items grown new.group.history same_history ∙ ap (λ l. l ++ entry seat (Look read) ∷ []) (same_list old mid new same_group same_turns);
-    root = same_root ∙ ap root_of same_group;
+module _ {D : Type 0} {disk : Ghosts D} (old mid new : Behind D disk) (same_group : (mid.group ≡ old.group) × (mid.start ≡ old.start)) (same_turns : mid.turns.items ≡ old.turns.items) where
+  pub has_looked : (seat : ℕ) (read : Option ℕ) → new.turns.items ≡ mid.turns.items ++ did seat (Looked read) ∷ [] → new.group.history ≡ mid.group.history → new.start ≡ mid.start → HasLooked seat read old new
+  has_looked seat read grown same_history same_start = record {
+    listed = looked_listed mid.turns.items (since mid.start mid.group) mid.counted seat read new.turns.items grown (since new.start new.group) (ap (λ (x : GroupIs). since x new.group) same_start ∙ since_same mid.start mid.group mid.begun new.group same_history) ∙ ap (λ l. l ++ entry seat (Look read) ∷ []) (same_list old mid new same_group same_turns);
+    root = same_start ∙ same_group.1;
   }
 
 -- the number of a read that was taken
@@ -79,13 +81,19 @@ took number None old new has lacks same = record {
 }
 
 -- a look by seat n, which found the list of b
-module _ {D : Type 0} {disk : Ghosts D} (root : RootIs) (n m : ℕ) (number_is : m ≡ n) (alone : Type 0) (seen : List (Stamped Moment)) (b : Behind D disk) (rooted : root_of b.group ≡ root) (finds : Finds n alone seen (list_of b)) (new : List (Stamped Moment)) where
-  happenings_are : b.group.history ≡ happenings (list_of b)
-  happenings_are = sym (happenings-woven b.turns.items b.group.history b.counted)
+module _ {D : Type 0} {disk : Ghosts D} (root : GroupIs) (n m : ℕ) (number_is : m ≡ n) (alone : Type 0) (seen : List (Stamped Moment)) (b : Behind D disk) (rooted : b.start ≡ root) (finds : Finds n alone seen (list_of b)) (new : List (Stamped Moment)) where
+  history_is : b.group.history ≡ whole root (list_of b)
+  history_is = sym (whole_is b) ∙ ap (λ (x : GroupIs). whole x (list_of b)) rooted
+
+  setup_is : b.group.setup ≡ root.setup
+  setup_is = ap (λ r. r.setup) b.same_root ∙ ap (λ (x : GroupIs). x.setup) rooted
+
+  handed_is : b.group.taken ≡ handed_out root.taken (list_of b)
+  handed_is = b.handed ∙ ap (λ (x : GroupIs). handed_out x.taken (list_of b)) rooted
 
   -- the group behind the turn is that of the list
-  group_is : state_of b.group ≡ replay root.setup (happenings (list_of b))
-  group_is = ap (λ l. replay b.group.setup l) happenings_are ∙ ap (λ r. replay r.setup (happenings (list_of b))) rooted
+  group_is : state_of b.group ≡ state_at root (list_of b)
+  group_is = ap (λ l. replay b.group.setup l) history_is ∙ ap (λ s. replay s (whole root (list_of b))) setup_is
 
   look : (P : Group → Type 0) → P (state_of b.group) → new ≡ list_of b ++ entry m (Look None) ∷ [] → Looks root n alone seen P new
   unfolding adds_of
@@ -119,8 +127,8 @@ module _ {D : Type 0} {disk : Ghosts D} (root : RootIs) (n m : ℕ) (number_is :
   unfolding adds_of
   take_ok number (Ok answer) after new_is looked handed numbered = record {
     adds = adds_of n m alone seen (list_of b) new (Look (read_of number answer)) number_is finds (new_is ∙ looked.listed);
-    numbered = subst (λ (g : Group). length (handed_out [] (list_of b)) ≡ g.reads) group_is (subst (λ (l : List Bool). length l ≡ (state_of b.group).reads) b.handed numbered);
-    handed = subst (λ (g : Group). HandsOut g (handed_out [] (list_of b)) number answer) group_is (subst (λ (l : List Bool). HandsOut (state_of b.group) l number answer) b.handed handed);
+    numbered = subst (λ (g : Group). length (handed_out root.taken (list_of b)) ≡ g.reads) group_is (subst (λ (l : List Bool). length l ≡ (state_of b.group).reads) handed_is numbered);
+    handed = subst (λ (g : Group). HandsOut g (handed_out root.taken (list_of b)) number answer) group_is (subst (λ (l : List Bool). HandsOut (state_of b.group) l number answer) handed_is handed);
   }
   take_ok number (Err e) after new_is looked handed numbered = tt
 

@@ -1,5 +1,5 @@
 -- What a call of a seat says, from what its turn found and did.
-use Rattle.std.proofs.Common.{◌≡◌, ℕ, true, cond, eq-eqb, List, [], ◌∷◌, ◌++◌, Some, None, Result, Ok, Err, IfOk, OnErr, sym, refl, ap, ◌∙◌, subst, append-nil}
+use Rattle.std.proofs.Common.{◌≡◌, ℕ, true, cond, eq-eqb, List, [], ◌∷◌, ◌++◌, Some, None, Result, Ok, Err, IfOk, OnErr, sym, refl, ap, ◌∙◌, subst, append-nil, append_assoc}
 use Rattle.std.proofs.lemmas.Bool.{and_from}
 use Rattle.pf_base.specs.declared.errors.NoMemory.{NoMemory}
 use Rattle.pf_base.specs.declared.filled.Filled.{Filled}
@@ -17,7 +17,7 @@ use Rattle.pf_protocol.specs.declared.events.Happening.{Happening}
 use Rattle.pf_protocol.specs.Histories.{History, replay}
 use Rattle.pf_protocol.specs.Answers.{IsLegal, IsLegalNext, claims_of}
 use Rattle.pf_protocol.proofs.Claiming.{legal_before}
-use Rattle.pf_group.specs.Roots.{RootIs, root_of}
+use Rattle.pf_group.specs.GroupIs.{GroupIs}
 use Rattle.pf_group.specs.Sound.{IsSound}
 use Rattle.pf_shared.specs.declared.moment.Moment.{Moment}
 use Rattle.pf_shared.specs.declared.moment.Moment.TheVariants.{Happened, Look}
@@ -26,15 +26,16 @@ use Rattle.pf_shared.specs.Moments.{entry, happenings, with_moment}
 use Rattle.pf_shared.specs.Hands.{HasInHand, Key, hand, hand_of, is_of, is_tidy, key}
 use Rattle.pf_shared.specs.Behinds.{Acts, BringsBack, Stays, list_of}
 use Rattle.pf_shared.specs.Calls.{Adds, Finds, HasClaimed, IsHistory, IsTaken, OnJob, Steps}
-use Rattle.pf_shared.proofs.Weaving.{happenings-woven}
+use Rattle.pf_shared.specs.Since.{whole}
+use Rattle.pf_shared.proofs.Ending.{whole_is}
 use Rattle.pf_shared.proofs.Owning.{free_is_none, hand-append, in_hand, mine, own_hand}
 use Rattle.pf_shared.proofs.Claiming.{claimed_is_free}
 
 -- the list is a history
-pub history_is : (root : RootIs) (setup : Setup) (list : List (Stamped Moment)) (history : History) → setup ≡ root.setup → happenings list ≡ history → IsLegal setup history → IsSound setup history → IsHistory root list
+pub history_is : (root : GroupIs) (setup : Setup) (list : List (Stamped Moment)) (history : History) → setup ≡ root.setup → whole root list ≡ history → IsLegal setup history → IsSound setup history → IsHistory root list
 history_is root setup list history same is legal sound = record {
-  legal = subst (λ s. IsLegal s (happenings list)) same (subst (IsLegal setup) (sym is) legal);
-  sound = subst (λ s. IsSound s (happenings list)) same (subst (IsSound setup) (sym is) sound);
+  legal = subst (λ s. IsLegal s (whole root list)) same (subst (IsLegal setup) (sym is) legal);
+  sound = subst (λ s. IsSound s (whole root list)) same (subst (IsSound setup) (sym is) sound);
 }
 
 -- a seat's own entry is one of its own
@@ -55,18 +56,18 @@ grew_by n m seen old new what same seen_is is = (entry m what ∷ [], ap (λ l. 
 pub grew_none : (n : ℕ) (seen old new : List (Stamped Moment)) → seen ≡ old → new ≡ old → GrewBy n seen new
 grew_none n seen old new seen_is is = ([], append-nil seen ∙ (seen_is ∙ sym is), tt)
 
-module _ {D : Type 0} {disk : Ghosts D} (root : RootIs) (n m : ℕ) (same : m ≡ n) (alone : Type 0) (seen : List (Stamped Moment)) (old new : Behind D disk) (rooted : root_of old.group ≡ root) (finds : Finds n alone seen (list_of old)) where
+module _ {D : Type 0} {disk : Ghosts D} (root : GroupIs) (n m : ℕ) (same : m ≡ n) (alone : Type 0) (seen : List (Stamped Moment)) (old new : Behind D disk) (rooted : old.start ≡ root) (finds : Finds n alone seen (list_of old)) where
   pub steps_of : (event : Event) (answer : Answer) (after : List (Stamped Moment)) → Acts m event answer old new → after ≡ list_of new → Steps root n alone seen event answer after
   unfolding adds_of
   steps_of event answer after acts is = let h : Happening = record { event = event; answer = answer } in record {
     adds = adds_of n m alone seen (list_of old) after (Happened h) same finds (is ∙ acts.listed);
-    legal = subst (λ (s : Setup). IsLegalNext s (replay s (happenings (list_of old))) (claims_of [] (happenings (list_of old))) h) (ap (λ r. r.setup) rooted)
-        (subst (λ (l : History). IsLegalNext old.group.setup (replay old.group.setup l) (claims_of [] l) h) (sym (happenings-woven old.turns.items old.group.history old.counted)) acts.legal);
+    legal = subst (λ (s : Setup). IsLegalNext s (replay s (whole root (list_of old))) (claims_of [] (whole root (list_of old))) h) (ap (λ r. r.setup) old.same_root ∙ ap (λ (x : GroupIs). x.setup) rooted)
+        (subst (λ (l : History). IsLegalNext old.group.setup (replay old.group.setup l) (claims_of [] l) h) (sym (whole_is old) ∙ ap (λ (x : GroupIs). whole x (list_of old)) rooted) acts.legal);
   }
 
   -- a turn that answers an event, or has no memory for it
   module _ (Does : Answer → Type 0) (act : (a : Answer) → Does a → (e : Event) × Acts m e a old new) where
-    pub turn_root : (r : Result Answer NoMemory) → IfOk r Does → OnErr r (Stays old new) → root_of new.group ≡ root
+    pub turn_root : (r : Result Answer NoMemory) → IfOk r Does → OnErr r (Stays old new) → new.start ≡ root
     turn_root (Ok a) does stays = (act a does).1.root ∙ rooted
     turn_root (Err e) does stays = stays.root ∙ rooted
 
@@ -107,9 +108,10 @@ module _ {D : Type 0} {disk : Ghosts D} (root : RootIs) (n m : ℕ) (same : m �
 
   taken_now : (a : Answer) (after : List (Stamped Moment)) → IsHistory root after → (s : Steps root n alone seen Claim a after) → ((k : Key) → is_tidy k None s.adds.found ≡ true) → OnJob a (IsTaken n seen after)
   taken_now (JobIs job) after history s tidy = let k : Key = key job.server job.life job.slot in let h : Happening = record { event = Claim; answer = JobIs job } in
-      let longer : happenings after ≡ happenings s.adds.found ++ h ∷ [] = ap happenings s.adds.listed ∙ happenings-snoc s.adds.found h n in
-      let legal : IsLegal root.setup (happenings s.adds.found) = legal_before root.setup (happenings s.adds.found) (happenings after) (record { rest = h ∷ []; whole = sym longer }) history.legal in
-      let nobody : hand_of k None s.adds.found ≡ None = free_is_none (hand_of k None s.adds.found) (claimed_is_free root.setup s.adds.found job legal s.legal.answered) in
+      let longer : whole root after ≡ whole root s.adds.found ++ h ∷ [] = ap (whole root) s.adds.listed ∙ (ap (λ l. root.history ++ l) (happenings-snoc s.adds.found h n) ∙ sym (append_assoc root.history (happenings s.adds.found) (h ∷ []))) in
+      let legal : IsLegal root.setup (whole root s.adds.found) = legal_before root.setup (whole root s.adds.found) (whole root after) (record { rest = h ∷ []; whole = sym longer }) history.legal in
+      let bare : claims_of [] root.history ≡ [] = ap (λ (x : GroupIs). claims_of [] x.history) (sym rooted) ∙ old.none_open in
+      let nobody : hand_of k None s.adds.found ≡ None = free_is_none (hand_of k None s.adds.found) (claimed_is_free root.setup root.history s.adds.found job bare legal s.legal.answered) in
       let free : hand_of k None (entries_of n seen) ≡ None = ap (hand_of k None) (sym s.adds.finds.own) ∙ (own_hand k n None s.adds.found (tidy k) ∙ ap (mine n) nobody) in record {
         free = free;
         in_hand = ap (hand_of k None) s.adds.own ∙ (hand-append k None (entries_of n seen) (entry n (Happened h) ∷ []) ∙ ap (λ b. cond b (Some (hand n job.op)) (hand_of k None (entries_of n seen))) (is_key job.server job.life job.slot));

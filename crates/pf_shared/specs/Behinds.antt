@@ -11,11 +11,11 @@ use Rattle.pf_protocol.specs.Answers.{IsLegalNext, claims_of}
 use Rattle.pf_group.specs.declared.event.GroupEvent.{GroupEvent}
 use Rattle.pf_group.specs.Events.{event_of}
 use Rattle.pf_group.specs.GroupIs.{state_of}
-use Rattle.pf_group.specs.Roots.{root_of}
 use Rattle.pf_shared.specs.declared.moment.Moment.{Moment}
 use Rattle.pf_shared.specs.declared.moment.Moment.TheVariants.{Happened, Look}
 use Rattle.pf_shared.specs.declared.behind.Behind.{Behind}
 use Rattle.pf_shared.specs.Moments.{entry}
+use Rattle.pf_shared.specs.Since.{since}
 use Rattle.pf_shared.specs.Woven.{woven}
 use Rattle.pf_shared.specs.Hands.{key, hand, hand_of}
 
@@ -27,13 +27,13 @@ pub record BringsBack (seat : ℕ) (list : List (Stamped Moment)) (filled : Fill
 
 module _ {D : Type 0} {disk : Ghosts D} where
   abbrev pub list_of : Behind D disk → List (Stamped Moment)
-  list_of b = woven b.turns.items b.group.history
+  list_of b = woven b.turns.items (since b.start b.group)
 
   -- the event was answered as the rules say, and is one more entry of this seat
   pub record Acts (seat : ℕ) (event : Event) (answer : Answer) (old new : Behind D disk) : Type 0 where
     pub listed : list_of new ≡ list_of old ++ entry seat (Happened (record { event = event; answer = answer })) ∷ []
     pub legal : IsLegalNext old.group.setup (state_of old.group) (claims_of [] old.group.history) (record { event = event; answer = answer })
-    pub root : root_of new.group ≡ root_of old.group
+    pub root : new.start ≡ old.start
 
   pub record ActsAs (seat : ℕ) (event : GroupEvent) (answer : Answer) (old new : Behind D disk) : Type 0 where
     pub found : Bool
@@ -42,9 +42,9 @@ module _ {D : Type 0} {disk : Ghosts D} where
   -- nothing that the list tells changed
   pub record Stays (old new : Behind D disk) : Type 0 where
     pub listed : list_of new ≡ list_of old
-    pub root : root_of new.group ≡ root_of old.group
+    pub root : new.start ≡ old.start
 
   -- nothing happened to the group, and one more entry of this seat is a look
   pub record HasLooked (seat : ℕ) (read : Option ℕ) (old new : Behind D disk) : Type 0 where
     pub listed : list_of new ≡ list_of old ++ entry seat (Look read) ∷ []
-    pub root : root_of new.group ≡ root_of old.group
+    pub root : new.start ≡ old.start

@@ -9,21 +9,21 @@ use Rattle.pf_applying.specs.Jobs.{IsFilledFor}
 use Rattle.pf_protocol.specs.declared.answers.Answer.{Answer}
 use Rattle.pf_protocol.specs.declared.answers.Answer.TheVariants.{Job as JobIs}
 use Rattle.pf_protocol.specs.declared.events.Event.{Event}
-use Rattle.pf_protocol.specs.Histories.{replay}
 use Rattle.pf_protocol.specs.Answers.{IsLegal, IsLegalNext, claims_of}
 use Rattle.pf_group.specs.declared.event.GroupEvent.{GroupEvent}
 use Rattle.pf_group.specs.Events.{event_of}
-use Rattle.pf_group.specs.Roots.{RootIs}
+use Rattle.pf_group.specs.GroupIs.{GroupIs}
 use Rattle.pf_group.specs.Sound.{IsSound}
 use Rattle.pf_shared.specs.declared.moment.Moment.{Moment}
 use Rattle.pf_shared.specs.declared.moment.Moment.TheVariants.{Happened}
-use Rattle.pf_shared.specs.Moments.{entry, happenings}
+use Rattle.pf_shared.specs.Moments.{entry}
+use Rattle.pf_shared.specs.Since.{state_at, whole}
 use Rattle.pf_shared.specs.Hands.{HasInHand, hand_of, key}
 
 -- what happened is one legal history of the group, and the laws hold of it
-pub record IsHistory (root : RootIs) (list : List (Stamped Moment)) : Type 0 where
-  pub legal : IsLegal root.setup (happenings list)
-  pub sound : IsSound root.setup (happenings list)
+pub record IsHistory (root : GroupIs) (list : List (Stamped Moment)) : Type 0 where
+  pub legal : IsLegal root.setup (whole root list)
+  pub sound : IsSound root.setup (whole root list)
 
 -- the list that seat n finds: others may have added entries, but none of its own; none did where it is alone
 pub record Finds (n : ℕ) (alone : Type 0) (seen found : List (Stamped Moment)) : Type 0 where
@@ -39,12 +39,12 @@ pub record Adds (n : ℕ) (alone : Type 0) (seen : List (Stamped Moment)) (what 
   pub own : entries_of n new ≡ entries_of n seen ++ entry n what ∷ []
 
 -- the event was answered as the rules say, where it stands in the list
-pub record Steps (root : RootIs) (n : ℕ) (alone : Type 0) (seen : List (Stamped Moment)) (event : Event) (answer : Answer) (new : List (Stamped Moment)) : Type 0 where
+pub record Steps (root : GroupIs) (n : ℕ) (alone : Type 0) (seen : List (Stamped Moment)) (event : Event) (answer : Answer) (new : List (Stamped Moment)) : Type 0 where
   pub adds : Adds n alone seen (Happened (record { event = event; answer = answer })) new
-  pub legal : IsLegalNext root.setup (replay root.setup (happenings adds.found)) (claims_of [] (happenings adds.found)) (record { event = event; answer = answer })
+  pub legal : IsLegalNext root.setup (state_at root adds.found) (claims_of [] (whole root adds.found)) (record { event = event; answer = answer })
 
 -- where a server begins again, it finds the record of a step that was cut off, or not
-pub record HasStepped (root : RootIs) (n : ℕ) (alone : Type 0) (seen : List (Stamped Moment)) (event : GroupEvent) (answer : Answer) (new : List (Stamped Moment)) : Type 0 where
+pub record HasStepped (root : GroupIs) (n : ℕ) (alone : Type 0) (seen : List (Stamped Moment)) (event : GroupEvent) (answer : Answer) (new : List (Stamped Moment)) : Type 0 where
   pub found : Bool
   pub steps : Steps root n alone seen (event_of event found) answer new
 

@@ -1,4 +1,5 @@
 pub mod Moments
+pub mod Since
 pub mod Woven
 pub mod Hands
 pub mod Events

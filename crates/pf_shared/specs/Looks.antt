@@ -6,25 +6,25 @@ use Rattle.pf_entry.specs.Lists.{Every}
 use Rattle.pf_entry.specs.Ops.{Sector}
 use Rattle.pf_protocol.specs.Servers.{Server}
 use Rattle.pf_protocol.specs.Groups.{Group}
-use Rattle.pf_protocol.specs.Histories.{replay}
 use Rattle.pf_cluster.specs.Showing.{HasAnswer}
 use Rattle.pf_group.specs.declared.errors.Down.{Down}
 use Rattle.pf_group.specs.Readers.{IsDown, OfRunning}
-use Rattle.pf_group.specs.Roots.{RootIs}
+use Rattle.pf_group.specs.GroupIs.{GroupIs}
 use Rattle.pf_shared.specs.declared.errors.LookFault.{LookFault}
 use Rattle.pf_shared.specs.declared.errors.LookFault.TheVariants as faults
 use Rattle.pf_shared.specs.declared.moment.Moment.{Moment}
 use Rattle.pf_shared.specs.declared.moment.Moment.TheVariants.{Look}
 use Rattle.pf_shared.specs.Calls.{Adds, Finds}
-use Rattle.pf_shared.specs.Moments.{handed_out, happenings}
+use Rattle.pf_shared.specs.Moments.{handed_out}
+use Rattle.pf_shared.specs.Since.{state_at}
 
 -- the seat added one look, which took no answer, and this was so of the group where it stands in the list
-pub record Looks (root : RootIs) (n : ℕ) (alone : Type 0) (seen : List (Stamped Moment)) (P : Group → Type 0) (new : List (Stamped Moment)) : Type 0 where
+pub record Looks (root : GroupIs) (n : ℕ) (alone : Type 0) (seen : List (Stamped Moment)) (P : Group → Type 0) (new : List (Stamped Moment)) : Type 0 where
   pub adds : Adds n alone seen (Look None) new
-  pub shown : P (replay root.setup (happenings adds.found))
+  pub shown : P (state_at root adds.found)
 
 -- what is told of server i is so of its state where the look stands, or it does not run there; where memory ran out there is no look
-abbrev pub LooksAt : {A : Type 0} → (root : RootIs) (n : ℕ) (alone : Type 0) (seen : List (Stamped Moment)) (i : ℕ) → Result A LookFault → (A → Server → Type 0) → (new : List (Stamped Moment)) → Type 0
+abbrev pub LooksAt : {A : Type 0} → (root : GroupIs) (n : ℕ) (alone : Type 0) (seen : List (Stamped Moment)) (i : ℕ) → Result A LookFault → (A → Server → Type 0) → (new : List (Stamped Moment)) → Type 0
 LooksAt root n alone seen i (Ok told) P new = Looks root n alone seen (λ g. OfRunning g i (P told)) new
 LooksAt root n alone seen i (Err faults.Down) P new = Looks root n alone seen (λ g. IsDown g i) new
 LooksAt root n alone seen i (Err faults.NoMemory) P new = Finds n alone seen new
@@ -46,7 +46,7 @@ HandsOut g taken number (Some bytes) = (slice_get taken number ≡ Some false) �
 HandsOut g taken number None = slice_get taken number ≡ Some false → Every (λ a. a.number ≢ number) g.answered
 
 -- the seat added one look, with the number of the read whose answer it took
-pub record TakesRead (root : RootIs) (n : ℕ) (alone : Type 0) (seen : List (Stamped Moment)) (number : ℕ) (answer : Option (List Sector)) (new : List (Stamped Moment)) : Type 0 where
+pub record TakesRead (root : GroupIs) (n : ℕ) (alone : Type 0) (seen : List (Stamped Moment)) (number : ℕ) (answer : Option (List Sector)) (new : List (Stamped Moment)) : Type 0 where
   pub adds : Adds n alone seen (Look (read_of number answer)) new
-  pub numbered : length (handed_out [] adds.found) ≡ (replay root.setup (happenings adds.found)).reads
-  pub handed : HandsOut (replay root.setup (happenings adds.found)) (handed_out [] adds.found) number answer
+  pub numbered : length (handed_out root.taken adds.found) ≡ (state_at root adds.found).reads
+  pub handed : HandsOut (state_at root adds.found) (handed_out root.taken adds.found) number answer

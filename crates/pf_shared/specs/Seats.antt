@@ -3,14 +3,14 @@ use Rattle.std.specs.Prelude.{◌≡◌, ℕ, List}
 use Rattle.pf_turn.specs.declared.log.Stamped.{Stamped}
 use Rattle.pf_disk.specs.declared.disk.Disk.{Ghosts}
 use Rattle.pf_turn.specs.Seats as turns
-use Rattle.pf_group.specs.Roots.{RootIs}
+use Rattle.pf_group.specs.GroupIs.{GroupIs}
 use Rattle.pf_shared.specs.declared.moment.Moment.{Moment}
 use Rattle.pf_shared.specs.declared.parts.SharedGroup.{SharedGroup}
 use Rattle.pf_shared.specs.declared.parts.GroupSeat.{GroupSeat}
 
 module _ {D : Type 0} {disk : Ghosts D} where
-  -- what never changes of the group
-  abbrev pub root_in : SharedGroup D disk → RootIs
+  -- the group as it was before its first turn
+  abbrev pub root_in : SharedGroup D disk → GroupIs
   root_in shared = turns.root_in shared.lock
 
   -- the first seat has number 0
@@ -24,6 +24,10 @@ module _ {D : Type 0} {disk : Ghosts D} where
   -- a seat of this group, outside of any call
   abbrev pub IsSeatOf : SharedGroup D disk → GroupSeat D disk → Type 0
   IsSeatOf shared seat = turns.IsSeatOf shared.lock seat.seat × turns.HasNoTurn seat.seat
+
+  -- the numbers of the seats that the first one took in, the last one first
+  abbrev pub gone_of : GroupSeat D disk → List ℕ
+  gone_of seat = turns.gone_of seat.seat
 
   abbrev pub IsFirst : GroupSeat D disk → Type 0
   IsFirst seat = turns.IsFirst seat.seat

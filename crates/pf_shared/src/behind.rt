@@ -1,17 +1,19 @@
 //! What lies behind the turn.
-ghost use Rattle.std.specs.Prelude.{◌≡◌, ◌+◌, ◌<◌, ◌≤◌, ◌^◌, ℕ, [], length, None, Ok, Some, true, vec_capacity, vec_len, IfOk, OnErr, OnOk, slice_get};
+ghost use Rattle.std.specs.Prelude.{◌≡◌, ◌+◌, ◌++◌, ◌<◌, ◌≤◌, ◌^◌, ℕ, [], length, None, Ok, Some, true, vec_capacity, vec_len, IfOk, OnErr, OnOk, slice_get};
 ghost use Rattle.pf_protocol.specs.Answers.{IsLegal, claims_of};
 ghost use Rattle.pf_protocol.specs.declared.answers.Answer.TheVariants.{Done};
 ghost use Rattle.pf_protocol.specs.declared.events.Event.TheVariants.{Claim, Finish, GiveBack};
 ghost use Rattle.pf_group.specs.GroupIs.{state_of};
 ghost use Rattle.pf_group.specs.Sound.{IsSound};
 ghost use Rattle.pf_shared.specs.Events.{IsStep};
+ghost use Rattle.pf_group.specs.Roots.{root_of};
+ghost use Rattle.pf_shared.specs.Since.{since};
 ghost use Rattle.pf_shared.specs.Woven.{steps_in, woven};
 ghost use Rattle.pf_shared.specs.Moments.{handed_out};
 ghost use Rattle.pf_shared.specs.Looks.{HandsOut, read_of};
 ghost use Rattle.pf_shared.specs.Hands.{Key, ends_after, hand, hand_of, is_tidy, key};
 
-use crate::Did;
+use crate::{Did, Start};
 use pf_base::{Data, Filled, NoMemory};
 use pf_disk::Disk;
 use pf_entry::Job;
@@ -24,23 +26,26 @@ use std::alloc::Global;
 #[derive(Drop)]
 pub struct Behind<D: Disk> {
     pub(crate) group: Group<D>,
+    /// The group before its first turn.
+    pub(crate) start: Start<D>,
     pub(crate) turns: Vec<Stamped<Did>>,
     /// At least the number of claims that were neither finished nor given back. There is room for an entry of the end of each.
     pub(crate) open_ends: usize,
     pub(crate) alloc: Global,
-    ghost counted: { steps_in turns.items ≡ length group.history },
-    ghost tidy: { (k : Key) → is_tidy k None (woven turns.items group.history) ≡ true },
-    ghost handed: { group.taken ≡ handed_out [] (woven turns.items group.history) },
-    ghost ends: { length (claims_of [] group.history) ≤ open_ends },
+    ghost begun: { start.history ++ since start group ≡ group.history },
+    ghost same_root: { root_of group ≡ root_of start },
+    ghost none_open: { claims_of [] start.history ≡ [] },
+    ghost counted: { steps_in turns.items ≡ length (since start group) },
+    ghost tidy: { (k : Key) → is_tidy k None (woven turns.items (since start group)) ≡ true },
+    ghost handed: { group.taken ≡ handed_out start.taken (woven turns.items (since start group)) },
+    ghost ends: { length (claims_of [] (since start group)) ≤ open_ends },
     ghost room: { vec_len turns + open_ends ≤ vec_capacity turns },
 }
 
-impl<D: Disk> Logged<crate::Moment, pf_group::Root> for Behind<D> {
-    ghost use Rattle.pf_group.specs.Roots.{root_of};
+impl<D: Disk> Logged<crate::Moment, Start<D>> for Behind<D> {
+    ghost log = { λ b. woven b.turns.items (since b.start b.group) };
 
-    ghost log = { λ b. woven b.turns.items b.group.history };
-
-    ghost root = { λ b. root_of b.group };
+    ghost root = { λ b. b.start };
 }
 
 /// How many claims may be open after one was answered.
@@ -55,17 +60,18 @@ fn ends_after(ends: usize, answer: &Answer) -> usize
 }
 
 impl<D: Disk + Drop> Behind<D> {
-    ghost use Rattle.pf_group.specs.Roots.{root_of};
     ghost use Rattle.pf_shared.specs.Behinds.{Acts, ActsAs, BringsBack, HasLooked, Stays, list_of};
 
-    /// A new group, before its first turn.
+    /// A group, before its first turn. No claim is open in its history.
     pub(crate) fn new(alloc: Global, group: Group<D>) -> Behind<D>
-        requires { (group.history ≡ []) × (group.taken ≡ []) }
+        requires { claims_of [] group.history ≡ [] }
         ensures list { list_of result ≡ [] }
-        ensures group { result.group ≡ group }
+        ensures group { (result.group ≡ group) × (result.start ≡ group) }
     {
+        let start = Start::of(&group);
         Behind {
             group,
+            start,
             turns: Vec::new(alloc),
             open_ends: 0,
             alloc,
@@ -78,6 +84,7 @@ impl<D: Disk + Drop> Behind<D> {
     {
         let Behind {
             group,
+            start: _,
             turns: _,
             open_ends: _,
             alloc: _,
@@ -96,7 +103,7 @@ impl<D: Disk + Drop> Behind<D> {
 
     /// Makes room for one more entry, and for the end of what it claims.
     fn make_room(&mut self) -> Result<(), NoMemory>
-        ensures group { self.new.group ≡ self.old.group }
+        ensures group { (self.new.group ≡ self.old.group) × (self.new.start ≡ self.old.start) }
         ensures turns { self.new.turns.items ≡ self.old.turns.items }
         ensures ends { self.new.open_ends ≡ self.old.open_ends }
         ensures fits { OnOk result (self.new.open_ends + 2 < 2 ^ 64) }

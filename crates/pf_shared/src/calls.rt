@@ -1,18 +1,20 @@
 //! The calls, each in one turn.
-ghost use Rattle.std.specs.Prelude.{◌≡◌, ◌≢◌, ℕ, ◌+◌, ◌<◌, ◌^◌, [], IfErr, IfOk, OnErr};
+ghost use Rattle.std.specs.Prelude.{◌≡◌, ◌≢◌, ℕ, ◌+◌, ◌<◌, ◌^◌, [], ◌∷◌, IfErr, IfOk, OnErr};
+ghost use Rattle.pf_protocol.specs.Answers.{claims_of};
 ghost use Rattle.pf_protocol.specs.declared.answers.Answer.TheVariants.{Done};
 ghost use Rattle.pf_protocol.specs.declared.events.Event.TheVariants.{Claim, Finish, GiveBack};
-ghost use Rattle.pf_turn.specs.Lists.{Begins, GrewBy, entries_of, longer};
+ghost use Rattle.pf_turn.specs.Lists.{Begins, Every, GrewBy, SameOf, entries_of, longer};
 ghost use Rattle.pf_turn.specs.Seats as turns;
 ghost use Rattle.pf_group.specs.Roots.{root_of};
 ghost use Rattle.pf_shared.specs.Behinds.{list_of};
 ghost use Rattle.pf_shared.specs.Calls.{Finds, HasClaimed, HasStepped, IsHistory, IsTaken, OnJob, Steps};
 ghost use Rattle.pf_shared.specs.Events.{IsStep};
 ghost use Rattle.pf_shared.specs.Hands.{HasInHand, key};
-ghost use Rattle.pf_shared.specs.Moments.{handed_out, happenings};
-ghost use Rattle.pf_shared.specs.Seats.{IsAlone, IsFirst, IsSameSeat, IsSeatOf, number_of, out_of, root_in, seen_by, splits_of};
+ghost use Rattle.pf_shared.specs.Moments.{handed_out};
+ghost use Rattle.pf_shared.specs.Since.{whole};
+ghost use Rattle.pf_shared.specs.Seats.{IsAlone, IsFirst, IsSameSeat, IsSeatOf, gone_of, number_of, out_of, root_in, seen_by, splits_of};
 
-use crate::{Behind, GroupSeat, SharedGroup};
+use crate::{Behind, GroupSeat, SharedGroup, Start};
 use pf_base::{Filled, NoMemory};
 use pf_disk::Disk;
 use pf_entry::Job;
@@ -23,23 +25,21 @@ use std::alloc::Global;
 use std::sync::Wait;
 
 impl<D: Disk + Drop> SharedGroup<D> {
-    /// A new group behind a turn, and its first seat. Where memory runs out (`NoMemory`, 1) the group comes back.
+    /// A group behind a turn, and its first seat. No claim is open in the group's history, which becomes the root of the lock: the list
+    /// behind the turn is what happens from then on. Where memory runs out (`NoMemory`, 1) the group comes back.
     pub fn new(
         alloc: Global,
         group: Group<D>,
     ) -> Result<(SharedGroup<D>, GroupSeat<D>), (Group<D>, NoMemory)>
-        requires { (group.history ≡ []) × (group.taken ≡ []) }
+        requires { claims_of [] group.history ≡ [] }
         ensures seat { IfOk result (λ made. IsSeatOf made.0 made.1) }
-        ensures first { IfOk result (λ made. IsFirst made.1 × (splits_of made.1 ≡ 0) × (out_of made.1 ≡ 0)) }
+        ensures first { IfOk result (λ made. IsFirst made.1 × (splits_of made.1 ≡ 0) × (out_of made.1 ≡ 0) × (gone_of made.1 ≡ [])) }
         ensures list { IfOk result (λ made. seen_by made.1 ≡ []) }
-        ensures root { IfOk result (λ made. root_in made.0 ≡ root_of group) }
+        ensures root { IfOk result (λ made. root_in made.0 ≡ group) }
         ensures back { IfErr result (λ back. back.0 ≡ group) }
     {
-        let root = match group.root() {
-            Ok(root) => root,
-            Err(NoMemory) => return Err((group, NoMemory)),
-        };
-        match TurnLock::new(alloc, Behind::new(alloc, group), &root) {
+        let start = Start::of(&group);
+        match TurnLock::new(alloc, Behind::new(alloc, group), &start) {
             Ok((lock, seat)) => Ok((SharedGroup { lock }, GroupSeat { seat })),
             Err((behind, NoMemory)) => Err((behind.into_group(), NoMemory)),
         }
@@ -51,7 +51,7 @@ impl<D: Disk + Drop> SharedGroup<D> {
         requires seat { IsSeatOf self.now seat.old }
         requires first { IsFirst seat.old × (splits_of seat.old < 2 ^ 32) }
         ensures seat { IsSeatOf self.now seat.new × IsFirst seat.new }
-        ensures counts { (splits_of seat.new ≡ splits_of seat.old + 1) × (out_of seat.new ≡ out_of seat.old + 1) }
+        ensures counts { (splits_of seat.new ≡ splits_of seat.old + 1) × (out_of seat.new ≡ out_of seat.old + 1) × (gone_of seat.new ≡ gone_of seat.old) }
         ensures seen { (seen_by seat.new ≡ seen_by seat.old) × (seen_by result ≡ seen_by seat.old) }
         ensures given { IsSeatOf self.now result × (number_of result ≡ splits_of seat.old + 1) }
         ensures none_made { entries_of (number_of result) (seen_by result) ≡ [] }
@@ -66,9 +66,10 @@ impl<D: Disk + Drop> SharedGroup<D> {
         requires seat { IsSeatOf self.now seat.old × IsFirst seat.old }
         requires other { IsSeatOf self.now other × (number_of other ≢ 0) }
         ensures seat { IsSeatOf self.now seat.new × IsFirst seat.new }
-        ensures counts { (splits_of seat.new ≡ splits_of seat.old) × (out_of seat.new + 1 ≡ out_of seat.old) }
+        ensures counts { (splits_of seat.new ≡ splits_of seat.old) × (out_of seat.new + 1 ≡ out_of seat.old) × (gone_of seat.new ≡ number_of other ∷ gone_of seat.old) }
         ensures seen { (seen_by seat.new ≡ longer (seen_by seat.old) (seen_by other)) × Begins (seen_by seat.old) (seen_by seat.new) × Begins (seen_by other) (seen_by seat.new) }
         ensures own { entries_of 0 (seen_by seat.new) ≡ entries_of 0 (seen_by seat.old) }
+        ensures gone { Every (SameOf (seen_by seat.new) (seen_by seat.old)) (gone_of seat.old) }
         ensures brought { entries_of (number_of other) (seen_by seat.new) ≡ entries_of (number_of other) (seen_by other) }
     {
         let GroupSeat { seat: other } = other;
@@ -78,7 +79,7 @@ impl<D: Disk + Drop> SharedGroup<D> {
     /// Ends a turn. What the list holds then is one legal history, and the laws hold of it.
     pub(crate) fn end(&self, seat: &mut GroupSeat<D>, turn: Turn<Behind<D>>)
         requires seat { turns.IsSeatOf self.now.lock seat.old.seat × turns.HasTurn seat.old.seat }
-        requires root { root_of turn.value.group ≡ root_in self.now }
+        requires root { turn.value.start ≡ root_in self.now }
         requires grew { GrewBy (number_of seat.old) (seen_by seat.old) (list_of turn.value) }
         ensures seat { IsSeatOf self.now seat.new × IsSameSeat seat.old seat.new }
         ensures seen { seen_by seat.new ≡ list_of turn.value }
@@ -164,13 +165,15 @@ impl<D: Disk + Drop> SharedGroup<D> {
         self.end(seat, turn);
     }
 
-    /// The group, once every seat has been joined: its history is what the first seat has seen, without looks.
+    /// The group, once every seat has been joined: its history is that before the first turn, and then what the first seat has seen,
+    /// without looks.
     pub fn close(self, seat: GroupSeat<D>) -> Group<D>
         requires seat { IsSeatOf self seat }
         requires first { IsAlone seat }
-        ensures root { root_of result ≡ root_in self }
-        ensures history { result.history ≡ happenings (seen_by seat) }
-        ensures taken { result.taken ≡ handed_out [] (seen_by seat) }
+        ensures root { root_of result ≡ root_of (root_in self) }
+        ensures history { result.history ≡ whole (root_in self) (seen_by seat) }
+        ensures strangers { (n : ℕ) → splits_of seat < n → entries_of n (seen_by seat) ≡ [] }
+        ensures taken { result.taken ≡ handed_out (root_in self).taken (seen_by seat) }
     {
         let SharedGroup { lock } = self;
         let GroupSeat { seat } = seat;

@@ -11,6 +11,7 @@ mod errors;
 mod looks;
 mod moment;
 mod parts;
+mod start;
 #[cfg(test)]
 mod tests;
 
@@ -18,3 +19,4 @@ pub use behind::Behind;
 pub use errors::LookFault;
 pub use moment::{Did, Moment};
 pub use parts::{GroupSeat, SharedGroup};
+pub use start::Start;

@@ -9,7 +9,6 @@ ghost use Rattle.pf_entry.specs.Sets as set;
 ghost use Rattle.pf_cluster.specs.Showing.{acked_of};
 ghost use Rattle.pf_cluster.specs.Shown.{IsLeader};
 ghost use Rattle.pf_group.specs.Readers.{IsAppliedOf, is_left, snapshot_in};
-ghost use Rattle.pf_group.specs.Roots.{root_of};
 ghost use Rattle.pf_turn.specs.Seats as turns;
 ghost use Rattle.pf_shared.specs.declared.moment.Moment.TheVariants.{Look};
 ghost use Rattle.pf_shared.specs.Behinds.{list_of};
@@ -45,7 +44,7 @@ impl<D: Disk + Drop> SharedGroup<D> {
         told: Result<T, NoMemory>,
     ) -> Result<T, NoMemory>
         requires seat { turns.IsSeatOf self.now.lock seat.old.seat × turns.HasTurn seat.old.seat }
-        requires root { root_of turn.value.group ≡ root_in self.now }
+        requires root { turn.value.start ≡ root_in self.now }
         requires found { seen_by seat.old ≡ list_of turn.value }
         ensures seat { IsSeatOf self.now seat.new × IsSameSeat seat.old seat.new }
         ensures told { IfOk result (λ it. told ≡ Ok it) }

@@ -1,11 +1,13 @@
 //! Text that is put at the end of what is written.
 //!
 //! The vector keeps its allocator, so these calls take none. `NoMemory` leaves its bytes unchanged.
-ghost use Rattle.std.specs.Prelude.{◌≡◌, ◌<◌, ◌++◌, ◌∷◌, IfOk, OnOk, OnErr};
+ghost use Rattle.std.specs.Prelude.{◌≡◌, ℕ, ◌+◌, ◌<◌, ◌≤◌, ◌==◌, ◌++◌, drop, length, slice_index, IfOk, IsTrue, OnOk, OnErr};
 ghost use Rattle.std.specs.Char.{digit_char};
 ghost use Rattle.std.specs.Fmt.{decimal};
+ghost use Rattle.std.specs.List.{prefix_len};
 ghost use Rattle.pf_text.specs.Runs.{stretch_text, joined_text, runs_of, runs_text};
 
+use itoa::Buffer;
 use pf_base::NoMemory;
 use std::alloc::Global;
 
@@ -23,9 +25,8 @@ pub fn put_decimal(out: &mut Vec<u8>, n: u64) -> Result<(), NoMemory>
     ensures ok { OnOk result (out.new.items ≡ out.old.items ++ decimal n) }
     ensures err { OnErr result (out.new.items ≡ out.old.items) }
 {
-    let alloc = *out.allocator();
-    let digits = n.to_string(alloc)?;
-    put_text(out, digits.as_bytes())
+    let mut digits = Buffer::new();
+    put_text(out, digits.format(n).as_bytes())
 }
 
 /// The hexadecimal digit of a number, in lower case.
@@ -48,23 +49,47 @@ fn put_run(out: &mut Vec<u8>, byte: u8, count: usize) -> Result<(), NoMemory>
     put_decimal(out, count as u64)
 }
 
-/// The text of the maximal runs of equal bytes, of which there is at least one.
-fn text_of_runs(alloc: Global, first: u8, rest: &[u8]) -> Result<Vec<u8>, NoMemory>
-    ensures { IfOk result (λ text. text.items ≡ joined_text (runs_of (first ∷ rest.now))) }
+/// Whether the 64 bytes from a place on are all this one. They are compared many at a time.
+fn is_block(byte: u8, bytes: &[u8], at: usize) -> bool
+    requires { at + 64 ≤ length bytes.now }
+    ensures { IsTrue result → (k : ℕ) → k < 64 → slice_index bytes.now (at + k) ≡ byte }
+{
+    match bytes[at..].first_chunk::<64>() {
+        Some(block) => *block == [byte; 64],
+        None => false,
+    }
+}
+
+/// Where the run of equal bytes that begins at a place ends.
+fn run_end(bytes: &[u8], at: usize) -> usize
+    requires { at < length bytes.now }
+    ensures { result ≡ at + prefix_len (λ b. slice_index bytes.now at == b) (drop at bytes.now) }
+{
+    let byte = bytes[at];
+    let mut end = at;
+    while bytes.len() - end >= 64 && is_block(byte, bytes, end) {
+        end += 64;
+    }
+    while end < bytes.len() && bytes[end] == byte {
+        end += 1;
+    }
+    end
+}
+
+/// The text of the maximal runs of equal bytes.
+fn text_of_runs(alloc: Global, bytes: &[u8]) -> Result<Vec<u8>, NoMemory>
+    ensures { IfOk result (λ text. text.items ≡ joined_text (runs_of bytes.now)) }
 {
     let mut out = Vec::new(alloc);
-    let mut current = first;
-    let mut count = 1usize;
-    for byte in rest {
-        if *byte != current {
-            put_run(&mut out, current, count)?;
+    let mut at = 0;
+    while at < bytes.len() {
+        let end = run_end(bytes, at);
+        put_run(&mut out, bytes[at], end - at)?;
+        if end < bytes.len() {
             put_text(&mut out, b" ")?;
-            current = *byte;
-            count = 0;
         }
-        count += 1;
+        at = end;
     }
-    put_run(&mut out, current, count)?;
     Ok(out)
 }
 
@@ -74,10 +99,10 @@ pub fn put_runs(out: &mut Vec<u8>, bytes: &[u8]) -> Result<(), NoMemory>
     ensures ok { OnOk result (out.new.items ≡ out.old.items ++ runs_text bytes.now) }
     ensures err { OnErr result (out.new.items ≡ out.old.items) }
 {
-    let [first, rest @ ..] = bytes else {
+    if bytes.is_empty() {
         return put_text(out, b"none");
-    };
+    }
     let alloc = *out.allocator();
-    let text = text_of_runs(alloc, *first, rest)?;
+    let text = text_of_runs(alloc, bytes)?;
     put_text(out, &text)
 }

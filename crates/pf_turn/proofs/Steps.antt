@@ -12,9 +12,9 @@ use Rattle.pf_turn.specs.declared.log.Stamped.{Stamped}
 use Rattle.pf_turn.specs.declared.sight.Sight.{Sight}
 use Rattle.pf_turn.specs.declared.sight.Stage.{Stage}
 use Rattle.pf_turn.specs.declared.sight.Stage.TheVariants.{Idle, Waiting, Called}
-use Rattle.pf_turn.specs.Lists.{Begins, tally, Unique, entries_of, GrewBy}
-use Rattle.pf_turn.specs.Rule.{ticket_in, weight, opener, spent, ticket_of, number_of, has_ticket, is_live, Staged, Knows, IsCalled, IsSeen, Kept, Ruled, staged_at, holding, drawing, cut_left, cut_right, glued, drew, numbered, told, AreRooted, Found, looked, served_next}
-use Rattle.pf_turn.proofs.Lists.{begins_refl, begins_trans, longer_begins, begins_antisym, none_begun, entries_between, entries_stay}
+use Rattle.pf_turn.specs.Lists.{Begins, Every, SameOf, tally, Unique, entries_of, GrewBy}
+use Rattle.pf_turn.specs.Rule.{ticket_in, weight, opener, spent, ticket_of, number_of, has_ticket, is_live, Staged, Knows, IsCalled, IsSeen, Kept, Ruled, staged_at, holding, drawing, cut_left, cut_right, glued, drew, numbered, told, AreApart, AreRooted, IsGone, Found, looked, served_next}
+use Rattle.pf_turn.proofs.Lists.{begins_refl, begins_trans, longer_begins, begins_antisym, none_begun, entries_between, entries_stay, each_map, each_both, each_is}
 use Rattle.pf_turn.proofs.Views.{same_at, at_inside, set_at, each_set, tally-set, tally-snoc, tally_le, tally_two, unique_set, unique_same, unique_none, unique_snoc}
 
 number_is : (b : Bool) (m n : ℕ) → cond b (some m) none ≡ some n → (b ≡ true) × (m ≡ n)
@@ -74,6 +74,25 @@ module _ {X E K : Type 0} (log : X → List (Stamped E)) (root : X → K) (about
   rooted_set : (s : St) (r : Rule s) (id : ℕ) (v w : V) → get_elem? s.views id ≡ some v → v.live ≡ w.live → v.root ≡ w.root → AreRooted about (set s.views id w)
   rooted_set s r id v w at lives roots = each_set (λ (u : V). u.live ≡ true → u.root ≡ Some about) s.views id w (λ l. sym roots ∙ r.rooted id v at (lives ∙ l)) (λ j d _ e. r.rooted j d e)
 
+  -- a view was there before, perhaps in another stage
+  from_set : (s : St) (id : ℕ) (v w : V) → get_elem? s.views id ≡ some v → v.live ≡ w.live → v.number ≡ w.number → (j : ℕ) (d : V) → get_elem? (set s.views id w) j ≡ some d
+      → (x : V) × (get_elem? s.views j ≡ some x) × (x.live ≡ d.live) × (x.number ≡ d.number)
+  from_set s id v w at lives numbers j d e = ⊎_elim
+      (λ (t : (j ≡ id) × (w ≡ d)). (v, subst (λ i. get_elem? s.views i ≡ some v) (sym t.0) at, lives ∙ ap (λ (z : V). z.live) t.1, numbers ∙ ap (λ (z : V). z.number) t.1))
+      (λ (t : (j ≢ id) × (get_elem? s.views j ≡ some d)). (d, t.1, refl, refl)) (at_set s.views id j w d e)
+
+  -- what a live seat had taken in before, where the seat that changes takes in none
+  gone_set : (s : St) (id : ℕ) (v w : V) → get_elem? s.views id ≡ some v → v.live ≡ w.live → v.gone ≡ w.gone → (j : ℕ) (d : V) → get_elem? (set s.views id w) j ≡ some d
+      → (x : V) × (get_elem? s.views j ≡ some x) × (x.live ≡ d.live) × (x.gone ≡ d.gone)
+  gone_set s id v w at lives goes j d e = ⊎_elim
+      (λ (t : (j ≡ id) × (w ≡ d)). (v, subst (λ i. get_elem? s.views i ≡ some v) (sym t.0) at, lives ∙ ap (λ (z : V). z.live) t.1, goes ∙ ap (λ (z : V). z.gone) t.1))
+      (λ (t : (j ≢ id) × (get_elem? s.views j ≡ some d)). (d, t.1, refl, refl)) (at_set s.views id j w d e)
+
+  apart_set : (s : St) (r : Rule s) (id : ℕ) (v w : V) → get_elem? s.views id ≡ some v → v.live ≡ w.live → v.number ≡ w.number → v.gone ≡ w.gone → AreApart (set s.views id w)
+  apart_set s r id v w at lives numbers goes i j u d e e' l l' = let x = gone_set s id v w at lives goes i u e in let y = from_set s id v w at lives numbers j d e' in
+      let was : Every (λ n. y.0.number ≢ n) x.0.gone = r.apart i j x.0 y.0 x.1 y.1 (x.2 ∙ l) (y.2 ∙ l') in
+      subst (λ g. Every (λ n. d.number ≢ n) g) x.3 (subst (λ m. Every (λ n. m ≢ n) x.0.gone) y.3 was)
+
   -- fewer tickets are out than the words can tell apart
   few_tickets : (s : St) (r : Rule s) → r.next < r.served + 2 ^ 64
   few_tickets s r = let a : tally has_ticket s.views ≤ length s.views = tally_le has_ticket (λ v. weight_one (ticket_of v)) s.views in let b = r.tickets_count in let c = r.seats_count in let d : r.splits ≤ 2 ^ 32 = r.few.1 in omega arith
@@ -102,9 +121,10 @@ module _ {X E K : Type 0} (log : X → List (Stamped E)) (root : X → K) (about
           kept = ⊎_elim (λ h. inl h) (λ h. inr (h.0, called_set s.views id v w at (λ c is. absurd (some-ne-none c (sym (ap ticket_in is) ∙ ap ticket_in idle))) h.1)) r.kept;
           seen = seen_set s.views id v w r.history at (λ l h. (l, h)) r.seen;
           each = each_set (Knows (r.next + 1) r.served r.drawn r.splits r.out r.history) s.views id w
-              record { staged = (omega arith, omega arith, live); lives = λ l. record { begins = (k.lives l).begins; numbered = (k.lives l).numbered; own = (k.lives l).own; before = (k.lives l).before; brought = (k.lives l).brought; own_before = (k.lives l).own_before; own_brought = (k.lives l).own_brought; counts = (k.lives l).counts; one_more = (k.lives l).one_more } }
+              record { staged = (omega arith, omega arith, live); lives = λ l. record { begins = (k.lives l).begins; numbered = (k.lives l).numbered; own = (k.lives l).own; before = (k.lives l).before; brought = (k.lives l).brought; own_before = (k.lives l).own_before; own_brought = (k.lives l).own_brought; counts = (k.lives l).counts; one_more = (k.lives l).one_more; gone = (k.lives l).gone; was_gone = (k.lives l).was_gone } }
               (λ j d _ e. let o = r.each j d e in record { staged = later r.next r.served r.history d d.stage o.staged; lives = o.lives });
           rooted = rooted_set s r id v w at refl refl;
+          apart = apart_set s r id v w at refl refl refl;
           numbers = unique_same number_of s.views id v w at r.numbers refl;
           tickets = unique_set ticket_of s.views id w r.tickets (λ j n u _ e p q. let b = ticket_below r.next r.served r.history u u.stage n (r.each j u e).staged p in let same : t ≡ n = some-injective t n q in omega arith);
         },
@@ -172,10 +192,13 @@ module _ {X E K : Type 0} (log : X → List (Stamped E)) (root : X → K) (about
                 own_brought = refl;
                 counts = o.counts;
                 one_more = o.one_more;
+                gone = each_map (IsGone r.splits r.history v.seen) (IsGone r.splits r.history (log y)) v.gone (λ n p. record { below = p.below; own = ap (entries_of n) (sym logs) }) o.gone;
+                was_gone = each_is (SameOf (log y) (log y)) v.was_gone (λ n. refl);
               };
             }
             (λ j d _ e. r.each j d e);
         rooted = rooted_set s r id v w at refl refl;
+        apart = apart_set s r id v w at refl refl refl;
         numbers = unique_same number_of s.views id v w at r.numbers refl;
         tickets = unique_same ticket_of s.views id v w at r.tickets (sym (ap ticket_in is));
       }
@@ -237,7 +260,7 @@ module _ {X E K : Type 0} (log : X → List (Stamped E)) (root : X → K) (about
           each = each_set (Knows r.next (r.served + 1) r.drawn r.splits r.out h) s.views id w
               record {
                 staged = tt;
-                lives = λ _. record { begins = begins_refl h; numbered = mine.numbered; own = refl; before = begins_refl h; brought = begins_refl h; own_before = refl; own_brought = refl; counts = mine.counts; one_more = mine.one_more };
+                lives = λ _. record { begins = begins_refl h; numbered = mine.numbered; own = refl; before = begins_refl h; brought = begins_refl h; own_before = refl; own_brought = refl; counts = mine.counts; one_more = mine.one_more; gone = each_map (IsGone r.splits r.history v.seen) (IsGone r.splits h h) v.gone (λ n p. record { below = p.below; own = refl }) mine.gone; was_gone = each_is (SameOf h h) v.was_gone (λ n. refl) };
               }
               (λ j d other e. let o = r.each j d e in record {
                 staged = others d j other e d.stage refl o.staged;
@@ -251,9 +274,13 @@ module _ {X E K : Type 0} (log : X → List (Stamped E)) (root : X → K) (about
                   own_brought = p.own_brought;
                   counts = p.counts;
                   one_more = p.one_more;
+                  gone = each_both (IsGone r.splits r.history d.seen) (λ n. v.number ≢ n) (IsGone r.splits h d.seen) d.gone
+                      (λ n q far. record { below = q.below; own = entries_stay v.number n r.history h grown (λ is. far (sym is)) ∙ q.own }) p.gone (r.apart j id d v e at l live);
+                  was_gone = p.was_gone;
                 };
               });
           rooted = rooted_set s r id v w at refl refl;
+          apart = apart_set s r id v w at refl refl refl;
           numbers = unique_same number_of s.views id v w at r.numbers refl;
           tickets = unique_none ticket_of s.views id w r.tickets refl;
         },
@@ -307,7 +334,7 @@ module _ {X E K : Type 0} (log : X → List (Stamped E)) (root : X → K) (about
           each = each_set (Knows r.next r.served (r.drawn + 1) r.splits r.out r.history) s.views id w
               record {
                 staged = restaged v.stage k.staged;
-                lives = λ l. record { begins = mine.begins; numbered = mine.numbered; own = mine.own; before = mine.before; brought = mine.brought; own_before = mine.own_before; own_brought = mine.own_brought; counts = λ z. (ap (λ n. n + 1) same, (mine.counts z).1, (mine.counts z).2); one_more = mine.one_more };
+                lives = λ l. record { begins = mine.begins; numbered = mine.numbered; own = mine.own; before = mine.before; brought = mine.brought; own_before = mine.own_before; own_brought = mine.own_brought; counts = λ z. (ap (λ n. n + 1) same, (mine.counts z).1, (mine.counts z).2); one_more = mine.one_more; gone = mine.gone; was_gone = mine.was_gone };
               }
               (λ j d other e. let o = r.each j d e in record {
                 staged = o.staged;
@@ -321,9 +348,12 @@ module _ {X E K : Type 0} (log : X → List (Stamped E)) (root : X → K) (about
                   own_brought = p.own_brought;
                   counts = λ z. absurd (not_first s r id j v d at e live l first other z);
                   one_more = p.one_more;
+                  gone = p.gone;
+                  was_gone = p.was_gone;
                 };
               });
           rooted = rooted_set s r id v w at refl refl;
+          apart = apart_set s r id v w at refl refl refl;
           numbers = unique_same number_of s.views id v w at r.numbers refl;
           tickets = unique_same ticket_of s.views id v w at r.tickets refl;
         },
@@ -344,7 +374,7 @@ module _ {X E K : Type 0} (log : X → List (Stamped E)) (root : X → K) (about
   pub splits_off : (id : ℕ) (v : V) → v.live ≡ true → v.number ≡ 0 → v.stage ≡ Idle → v.drawn ≡ v.splits + 1 → Splits Rule id v (cut_left v) (cut_right v)
   splits_off id v live first idle drew s r at = let a : V = cut_left v in let b : V = cut_right v in let vs : List V = set s.views id a in let k = r.each id v at in let mine = k.lives live in
       let same : v.drawn ≡ r.drawn = (mine.counts first).0 in let split : v.splits ≡ r.splits = (mine.counts first).1 in let outs : v.out ≡ r.out = (mine.counts first).2 in
-      let number : v.drawn ≡ r.splits + 1 = omega arith in let top : r.drawn ≤ 2 ^ 32 = r.few.0 in
+      let number : v.drawn ≡ r.splits + 1 = omega arith in let wider : (n : ℕ) → n ≤ r.splits → n ≤ v.drawn = λ n low. omega arith in let top : r.drawn ≤ 2 ^ 32 = r.few.0 in
       let th : tally has_ticket vs + has_ticket v ≡ tally has_ticket s.views + has_ticket v = tally-set has_ticket s.views id v a at in
       let tl : tally is_live vs + is_live v ≡ tally is_live s.views + is_live v = tally-set is_live s.views id v a at in
       let sh : tally has_ticket (vs ++ b ∷ []) ≡ tally has_ticket vs + 0 = tally-snoc has_ticket vs b in
@@ -354,7 +384,7 @@ module _ {X E K : Type 0} (log : X → List (Stamped E)) (root : X → K) (about
       let older : (j : ℕ) (d : V) → get_elem? vs j ≡ some d → K d = each_set K s.views id a
       record {
         staged = subst (Staged r.next r.served r.history a) (sym idle) tt;
-        lives = λ l. record { begins = mine.begins; numbered = omega arith; own = mine.own; before = mine.before; brought = mine.brought; own_before = mine.own_before; own_brought = mine.own_brought; counts = λ z. (same, refl, ap (λ n. n + 1) outs); one_more = ap (λ n. n + 1) mine.one_more };
+        lives = λ l. record { begins = mine.begins; numbered = omega arith; own = mine.own; before = mine.before; brought = mine.brought; own_before = mine.own_before; own_brought = mine.own_brought; counts = λ z. (same, refl, ap (λ n. n + 1) outs); one_more = ap (λ n. n + 1) mine.one_more; gone = each_map (IsGone r.splits r.history v.seen) (IsGone v.drawn r.history v.seen) v.gone (λ n p. record { below = wider n p.below; own = p.own }) mine.gone; was_gone = mine.was_gone };
       }
       (λ j d other e. let o = r.each j d e in record {
         staged = o.staged;
@@ -368,6 +398,8 @@ module _ {X E K : Type 0} (log : X → List (Stamped E)) (root : X → K) (about
           own_brought = p.own_brought;
           counts = λ z. absurd (not_first s r id j v d at e live l first other z);
           one_more = p.one_more;
+          gone = each_map (IsGone r.splits r.history d.seen) (IsGone v.drawn r.history d.seen) d.gone (λ n p. record { below = wider n p.below; own = p.own }) p.gone;
+          was_gone = p.was_gone;
         };
       }) in
       let numbers : Unique number_of vs = unique_same number_of s.views id v a at r.numbers refl in
@@ -398,10 +430,18 @@ module _ {X E K : Type 0} (log : X → List (Stamped E)) (root : X → K) (about
             own_brought = refl;
             counts = λ z. absurd (omega arith);
             one_more = refl;
+            gone = tt;
+            was_gone = tt;
           };
         }) (at_snoc vs b d j e);
         rooted = λ j d e l. ⊎_elim (λ (z : get_elem? vs j ≡ some d). rooted_set s r id v a at refl refl j d z l)
             (λ (z : b ≡ d). ap (λ (x : V). x.root) (sym z) ∙ r.rooted id v at live) (at_snoc vs b d j e);
+        apart = λ i j x y e e' l l'. ⊎_elim
+            (λ (p : get_elem? vs i ≡ some x). ⊎_elim (λ (q : get_elem? vs j ≡ some y). apart_set s r id v a at refl refl refl i j x y p q l l')
+            (λ (q : b ≡ y). let z = gone_set s id v a at refl refl i x p in let low = ((r.each i z.0 z.1).lives (z.2 ∙ l)).gone in
+            let far : Every (λ n. v.drawn ≢ n) z.0.gone = each_map (IsGone r.splits r.history z.0.seen) (λ n. v.drawn ≢ n) z.0.gone (λ n g is. let low : n ≤ r.splits = g.below in omega arith) low in
+            subst (λ g. Every (λ n. y.number ≢ n) g) z.3 (subst (λ (c : V). Every (λ n. c.number ≢ n) z.0.gone) q far)) (at_snoc vs b y j e'))
+            (λ (p : b ≡ x). subst (λ (c : V). Every (λ n. y.number ≢ n) c.gone) p tt) (at_snoc vs b x i e);
         numbers = unique_snoc number_of vs b numbers (λ j n u e p q. let there = older j u e in let same_n : v.drawn ≡ n = some-injective v.drawn n q in too_low j n u e p same_n);
         tickets = unique_snoc ticket_of vs b tickets (λ j n u e p q. some-ne-none n (sym q));
       }
@@ -446,6 +486,12 @@ module _ {X E K : Type 0} (log : X → List (Stamped E)) (root : X → K) (about
           own_brought = sym (entries_between u.number u.seen w.seen r.history both.1 both.2 yours.own) ∙ yours.own;
           counts = λ z. ((mine.counts z).0, (mine.counts z).1, ap (λ n. n - 1) outs);
           one_more = omega arith;
+          gone = (
+            record { below = yours.numbered; own = entries_between u.number u.seen w.seen r.history both.1 both.2 yours.own },
+            each_map (IsGone r.splits r.history v.seen) (IsGone r.splits r.history w.seen) v.gone
+                (λ n p. record { below = p.below; own = entries_between n v.seen w.seen r.history both.0 both.2 p.own }) mine.gone,
+          );
+          was_gone = each_map (IsGone r.splits r.history v.seen) (SameOf w.seen v.seen) v.gone (λ n p. sym (entries_between n v.seen w.seen r.history both.0 both.2 p.own) ∙ p.own) mine.gone;
         };
       }
       (λ j d not_me e. let o = r.each j d e in record {
@@ -460,6 +506,8 @@ module _ {X E K : Type 0} (log : X → List (Stamped E)) (root : X → K) (about
           own_brought = p.own_brought;
           counts = λ z. absurd (not_first s r id j v d at e live l first not_me z);
           one_more = p.one_more;
+          gone = p.gone;
+          was_gone = p.was_gone;
         };
       }) in record {
         next = r.next;
@@ -479,12 +527,20 @@ module _ {X E K : Type 0} (log : X → List (Stamped E)) (root : X → K) (about
         seen = whole;
         each = each_set K vs other spent record { staged = tt; lives = λ l. absurd (true≢false (sym l)) } (λ j d _ e. met j d e);
         rooted = each_set (λ (x : V). x.live ≡ true → x.root ≡ Some about) vs other spent (λ l. absurd (true≢false (sym l))) (λ j d _ e. rooted_set s r id v w at refl refl j d e);
+        apart = λ i j x y e e' l l'. let p = not_spent vs other i x e l in let q = not_spent vs other j y e' l' in let from = from_set s id v w at refl refl j y q.1 in
+            let gone_from : (x : V) → Every (λ n. from.0.number ≢ n) x.gone → Every (λ n. y.number ≢ n) x.gone = λ x h. subst (λ m. Every (λ n. m ≢ n) x.gone) from.3 h in ⊎_elim
+            (λ (t : (i ≡ id) × (w ≡ x)). subst (λ (c : V). Every (λ n. y.number ≢ n) c.gone) t.1
+            ((λ is. q.0 (same_number s.views j other from.0 u r.numbers from.1 was (from.2 ∙ l') live' (from.3 ∙ is))), gone_from v (r.apart id j v from.0 at from.1 live (from.2 ∙ l'))))
+            (λ (t : (i ≢ id) × (get_elem? s.views i ≡ some x)). gone_from x (r.apart i j x from.0 t.1 from.1 l (from.2 ∙ l'))) (at_set s.views id i w x p.1);
         numbers = unique_none number_of vs other spent (unique_same number_of s.views id v w at r.numbers refl) refl;
         tickets = unique_none ticket_of vs other spent (unique_same ticket_of s.views id v w at r.tickets refl) refl;
       }
+    where
+      not_spent : (vs : List V) (other i : ℕ) (x : V) → get_elem? (set vs other spent) i ≡ some x → x.live ≡ true → (i ≢ other) × (get_elem? vs i ≡ some x)
+      not_spent vs other i x e l = ⊎_elim (λ (t : (i ≡ other) × (spent ≡ x)). absurd (true≢false (sym l ∙ ap (λ (z : V). z.live) (sym t.1)))) (λ (t : (i ≢ other) × (get_elem? vs i ≡ some x)). t) (at_set vs other i spent x e)
 
   pub tells : (slots id : ℕ) (me : M) → me.0.live ≡ true → Allows Rule slots id me 1 (λ n. n) (told (step slots 1 0 0 none) me)
-  tells slots id me live s r _ at _ = let l = (r.each id me.0 at).lives live in (me.0, keeps, tt, stays s r 1 id me at, (refl, refl, l.before, l.brought, l.own_before, l.own_brought, l.one_more))
+  tells slots id me live s r _ at _ = let l = (r.each id me.0 at).lives live in (me.0, keeps, tt, stays s r 1 id me at, (refl, refl, l.before, l.brought, l.own_before, l.own_brought, l.was_gone, l.one_more))
 
   -- a new lock
   pub opens : (y : X) → log y ≡ [] → root y ≡ about → Rule (opening (0 ∷ 0 ∷ 1 ∷ []) (Some y ∷ []) (opener about))
@@ -503,8 +559,9 @@ module _ {X E K : Type 0} (log : X → List (Stamped E)) (root : X → K) (about
     fresh = λ n _. refl;
     kept = inl (y, refl, bare, roots);
     seen = (0, opener about, refl, refl, refl);
-    each = λ j v e. let is : opener about ≡ v = only j v e in subst (Knows 0 0 0 0 0 []) is record { staged = tt; lives = λ _. record { begins = begins_refl []; numbered = omega arith; own = refl; before = begins_refl []; brought = begins_refl []; own_before = refl; own_brought = refl; counts = λ _. (refl, refl, refl); one_more = refl } };
+    each = λ j v e. let is : opener about ≡ v = only j v e in subst (Knows 0 0 0 0 0 []) is record { staged = tt; lives = λ _. record { begins = begins_refl []; numbered = omega arith; own = refl; before = begins_refl []; brought = begins_refl []; own_before = refl; own_brought = refl; counts = λ _. (refl, refl, refl); one_more = refl; gone = tt; was_gone = tt } };
     rooted = λ j v e _. ap (λ (z : V). z.root) (sym (only j v e));
+    apart = λ i j u v e e' l l'. subst (λ (z : V). Every (λ n. v.number ≢ n) z.gone) (only i u e) tt;
     numbers = λ i j n u v p q _ _. alone i u p ∙ sym (alone j v q);
     tickets = λ i j n u v p q _ _. alone i u p ∙ sym (alone j v q);
   }

@@ -7,7 +7,7 @@ use Rattle.pf_turn.specs.declared.log.Stamped.{Stamped}
 use Rattle.pf_turn.specs.declared.sight.Sight.{Sight}
 use Rattle.pf_turn.specs.declared.sight.Stage.{Stage}
 use Rattle.pf_turn.specs.declared.sight.Stage.TheVariants.{Idle, Waiting, Called}
-use Rattle.pf_turn.specs.Lists.{Begins, longer, tally, Unique, entries_of}
+use Rattle.pf_turn.specs.Lists.{Begins, Every, SameOf, longer, tally, Unique, entries_of}
 
 abbrev pub ticket_in : Stage → Option ℕ
 ticket_in Idle = none
@@ -18,16 +18,22 @@ abbrev pub weight : Option ℕ → ℕ
 weight none = 0
 weight (some n) = 1
 
+module _ {E : Type 0} where
+  -- seat n was taken in before: it adds no entry
+  pub record IsGone (splits : ℕ) (history seen : List (Stamped E)) (n : ℕ) : Type 0 where
+    pub below : n ≤ splits
+    pub own : entries_of n history ≡ entries_of n seen
+
 module _ {E K : Type 0} where
   abbrev pub opener : K → Sight E K
-  opener k = record { number = 0; live = true; root = Some k; stage = Idle; seen = []; before = []; brought = []; brought_by = 0; drawn = 0; splits = 0; out = 0; was_out = 1 }
+  opener k = record { number = 0; live = true; root = Some k; stage = Idle; seen = []; before = []; brought = []; brought_by = 0; gone = []; was_gone = []; drawn = 0; splits = 0; out = 0; was_out = 1 }
 
   -- a joined seat
   abbrev pub spent : Sight E K
-  spent = record { number = 0; live = false; root = None; stage = Idle; seen = []; before = []; brought = []; brought_by = 0; drawn = 0; splits = 0; out = 0; was_out = 1 }
+  spent = record { number = 0; live = false; root = None; stage = Idle; seen = []; before = []; brought = []; brought_by = 0; gone = []; was_gone = []; drawn = 0; splits = 0; out = 0; was_out = 1 }
 
   abbrev pub newcomer : ℕ → Maybe K → List (Stamped E) → Sight E K
-  newcomer n root seen = record { number = n; live = true; root = root; stage = Idle; seen = seen; before = seen; brought = seen; brought_by = n; drawn = 0; splits = 0; out = 0; was_out = 1 }
+  newcomer n root seen = record { number = n; live = true; root = root; stage = Idle; seen = seen; before = seen; brought = seen; brought_by = n; gone = []; was_gone = []; drawn = 0; splits = 0; out = 0; was_out = 1 }
 
   abbrev pub ticket_of : Sight E K → Option ℕ
   ticket_of v = ticket_in v.stage
@@ -57,6 +63,8 @@ module _ {E K : Type 0} where
     pub own_brought : entries_of v.brought_by v.seen ≡ entries_of v.brought_by v.brought
     pub counts : v.number ≡ 0 → (v.drawn ≡ drawn) × (v.splits ≡ splits) × (v.out ≡ out)
     pub one_more : v.was_out ≡ v.out + 1
+    pub gone : Every (IsGone splits history v.seen) v.gone
+    pub was_gone : Every (SameOf v.seen v.before) v.was_gone
 
   pub record Knows (next served drawn splits out : ℕ) (history : List (Stamped E)) (v : Sight E K) : Type 0 where
     pub staged : Staged next served history v v.stage
@@ -72,6 +80,11 @@ module _ {E K : Type 0} where
   -- each live seat has the root
   abbrev pub AreRooted : K → List (Sight E K) → Type 0
   AreRooted k views = (j : ℕ) (v : Sight E K) → get_elem? views j ≡ some v → v.live ≡ true → v.root ≡ Some k
+
+module _ {E K : Type 0} where
+  -- no live seat has the number of one that was taken in
+  abbrev pub AreApart : List (Sight E K) → Type 0
+  AreApart views = (i j : ℕ) (u v : Sight E K) → get_elem? views i ≡ some u → get_elem? views j ≡ some v → u.live ≡ true → v.live ≡ true → Every (λ n. v.number ≢ n) u.gone
 
 module _ {X E K : Type 0} (log : X → List (Stamped E)) (root : X → K) where
   -- the value is at home, with its root, or out with the seat that is called
@@ -95,6 +108,7 @@ module _ {X E K : Type 0} (log : X → List (Stamped E)) (root : X → K) where
     pub seen : IsSeen s.views history
     pub each : (j : ℕ) (v : Sight E K) → get_elem? s.views j ≡ some v → Knows next served drawn splits out history v
     pub rooted : AreRooted k s.views
+    pub apart : AreApart s.views
     pub numbers : Unique number_of s.views
     pub tickets : Unique ticket_of s.views
 
@@ -119,7 +133,7 @@ module _ {E K : Type 0} where
   cut_right v = newcomer v.drawn v.root v.seen
 
   abbrev pub glued : Sight E K → Sight E K → Sight E K
-  glued v w = record v { seen = longer v.seen w.seen; before = v.seen; brought = w.seen; brought_by = w.number; out = v.out - 1; was_out = v.out }
+  glued v w = record v { seen = longer v.seen w.seen; before = v.seen; brought = w.seen; brought_by = w.number; gone = w.number ∷ v.gone; was_gone = v.gone; out = v.out - 1; was_out = v.out }
 
 module _ {X E K : Type 0} where
   abbrev pub drew : Step (Maybe X) → Sat X E K → ℕ → Sat X E K → Type 0
@@ -130,7 +144,7 @@ module _ {X E K : Type 0} where
 
   abbrev pub told : Step (Maybe X) → Sat X E K → ℕ → Sat X E K → Type 0
   told st m r m' = (m'.0 ≡ m.0) × (m'.1 ≡ m.1) × Begins m.0.before m.0.seen × Begins m.0.brought m.0.seen
-      × (entries_of m.0.number m.0.seen ≡ entries_of m.0.number m.0.before) × (entries_of m.0.brought_by m.0.seen ≡ entries_of m.0.brought_by m.0.brought) × (m.0.was_out ≡ m.0.out + 1)
+      × (entries_of m.0.number m.0.seen ≡ entries_of m.0.number m.0.before) × (entries_of m.0.brought_by m.0.seen ≡ entries_of m.0.brought_by m.0.brought) × Every (SameOf m.0.seen m.0.before) m.0.was_gone × (m.0.was_out ≡ m.0.out + 1)
 
 module _ {X E K : Type 0} (log : X → List (Stamped E)) (root : X → K) where
   -- the value that the seat takes begins with all that it has seen, has the seat's own entries and no others of its number, is

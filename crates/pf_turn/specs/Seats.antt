@@ -25,6 +25,10 @@ module _ {E K V : Type 0} where
   abbrev pub out_of : TurnSeat E K V → ℕ
   out_of s = s.seat.me.0.out
 
+  -- the numbers of the seats that the first seat took in, the last one first
+  abbrev pub gone_of : TurnSeat E K V → List ℕ
+  gone_of s = s.seat.me.0.gone
+
   abbrev pub IsFirst : TurnSeat E K V → Type 0
   IsFirst s = number_of s ≡ 0
 
@@ -41,4 +45,4 @@ module _ {E K V : Type 0} where
 
   -- nothing changes but what the seat has seen, and whether it holds a turn
   abbrev pub IsSameSeat : TurnSeat E K V → TurnSeat E K V → Type 0
-  IsSameSeat s s' = (number_of s' ≡ number_of s) × (splits_of s' ≡ splits_of s) × (out_of s' ≡ out_of s)
+  IsSameSeat s s' = (number_of s' ≡ number_of s) × (splits_of s' ≡ splits_of s) × (out_of s' ≡ out_of s) × (gone_of s' ≡ gone_of s)

@@ -1,7 +1,7 @@
 //! What the lock does.
-ghost use Rattle.std.specs.Prelude.{◌≡◌, ◌≢◌, ℕ, ◌+◌, ◌^◌, ◌<◌, [], IfOk, IfErr};
-ghost use Rattle.pf_turn.specs.Lists.{Begins, longer, entries_of, GrewBy};
-ghost use Rattle.pf_turn.specs.Seats.{number_of, root_in, seen_by, splits_of, out_of, IsFirst, IsSeatOf, HasNoTurn, HasTurn, IsSameSeat};
+ghost use Rattle.std.specs.Prelude.{◌≡◌, ◌≢◌, ℕ, ◌+◌, ◌^◌, ◌<◌, [], ◌∷◌, IfOk, IfErr};
+ghost use Rattle.pf_turn.specs.Lists.{Begins, Every, SameOf, longer, entries_of, GrewBy};
+ghost use Rattle.pf_turn.specs.Seats.{number_of, gone_of, root_in, seen_by, splits_of, out_of, IsFirst, IsSeatOf, HasNoTurn, HasTurn, IsSameSeat};
 
 use crate::log::Logged;
 use crate::parts::{Turn, TurnLock, TurnSeat};
@@ -32,7 +32,7 @@ impl<E, K, V: Logged<E, K>> TurnLock<E, K, V> {
         requires bare { V.log value ≡ [] }
         requires root { V.root value ≡ root.now }
         ensures seat { IfOk result (λ made. IsSeatOf made.0 made.1 × HasNoTurn made.1) }
-        ensures first { IfOk result (λ made. IsFirst made.1 × (splits_of made.1 ≡ 0) × (out_of made.1 ≡ 0) × (seen_by made.1 ≡ [])) }
+        ensures first { IfOk result (λ made. IsFirst made.1 × (splits_of made.1 ≡ 0) × (out_of made.1 ≡ 0) × (seen_by made.1 ≡ []) × (gone_of made.1 ≡ [])) }
         ensures root { IfOk result (λ made. root_in made.0 ≡ root.now) }
         ensures refused { IfErr result (λ back. back.0 ≡ value) }
     {
@@ -65,7 +65,7 @@ impl<E, K, V: Logged<E, K>> TurnLock<E, K, V> {
         requires seat { IsSeatOf self.now seat.old × HasNoTurn seat.old }
         requires first { IsFirst seat.old × (splits_of seat.old < 2 ^ 32) }
         ensures seat { IsSeatOf self.now seat.new × HasNoTurn seat.new × IsFirst seat.new }
-        ensures counts { (splits_of seat.new ≡ splits_of seat.old + 1) × (out_of seat.new ≡ out_of seat.old + 1) }
+        ensures counts { (splits_of seat.new ≡ splits_of seat.old + 1) × (out_of seat.new ≡ out_of seat.old + 1) × (gone_of seat.new ≡ gone_of seat.old) }
         ensures seen { (seen_by seat.new ≡ seen_by seat.old) × (seen_by result ≡ seen_by seat.old) }
         ensures given { IsSeatOf self.now result × HasNoTurn result × (number_of result ≡ splits_of seat.old + 1) }
         ensures none_made { entries_of (number_of result) (seen_by result) ≡ [] }
@@ -121,9 +121,10 @@ impl<E, K, V: Logged<E, K>> TurnLock<E, K, V> {
         requires seat { IsSeatOf self.now seat.old × HasNoTurn seat.old × IsFirst seat.old }
         requires other { IsSeatOf self.now other × HasNoTurn other × (number_of other ≢ 0) }
         ensures seat { IsSeatOf self.now seat.new × HasNoTurn seat.new × IsFirst seat.new }
-        ensures counts { (splits_of seat.new ≡ splits_of seat.old) × (out_of seat.new + 1 ≡ out_of seat.old) }
+        ensures counts { (splits_of seat.new ≡ splits_of seat.old) × (out_of seat.new + 1 ≡ out_of seat.old) × (gone_of seat.new ≡ number_of other ∷ gone_of seat.old) }
         ensures seen { (seen_by seat.new ≡ longer (seen_by seat.old) (seen_by other)) × Begins (seen_by seat.old) (seen_by seat.new) × Begins (seen_by other) (seen_by seat.new) }
         ensures own { entries_of 0 (seen_by seat.new) ≡ entries_of 0 (seen_by seat.old) }
+        ensures gone { Every (SameOf (seen_by seat.new) (seen_by seat.old)) (gone_of seat.old) }
         ensures brought { entries_of (number_of other) (seen_by seat.new) ≡ entries_of (number_of other) (seen_by other) }
     {
         let TurnSeat {

@@ -25,6 +25,10 @@ pub struct Sight<E, K> {
     pub before: LinkedList<Stamped<E>>,
     pub brought: LinkedList<Stamped<E>>,
     pub brought_by: u64,
+    /// Of the first seat: the numbers of the seats that it took in.
+    pub gone: LinkedList<u64>,
+    /// Those that it had taken in before the last one.
+    pub was_gone: LinkedList<u64>,
     /// Of the first seat: how many numbers it drew, how many seats were split from it, and how many of these are out.
     pub drawn: u64,
     pub splits: u64,

@@ -1,26 +1,29 @@
-use Rattle.std.proofs.Common.{ap, ◌∙◌, arith}
-use Rattle.pf_text.proofs.Stretches.{same, other}
-use Rattle.pf_text.proofs.put.text_of_runs.Goals.{then-byte-current+in_ok-put_run+in_ok-put_text, else-byte-current}
+use Rattle.std.proofs.Common.{◌≡◌, ◌+◌, ◌-◌, arith, drop, get_or, refl}
+use Rattle.std.specs.List.{prefix_len}
+use Rattle.pf_text.proofs.Stretches.{at_end, is_byte, more_left, run_within}
 use Rattle.pf_text.proofs.put.text_of_runs.Goals as goal
 
-pub loop-byte-preserved : goal.loop-byte-preserved
-loop-byte-preserved c =
-    let before = c.loop-byte.invariant in
-    elim c.if-byte-current.branch [
-      | then-byte-current+in_ok-put_run+in_ok-put_text w ↦
-          let none = w.count-is in
-          record {
-            text = other _ _ _ _ _ c.loop-byte.byte-index c.loop-byte.current _ c.loop-byte.count _ c.loop-byte-test.true w.if-byte-current.true
-                w.in_ok-put_run.ensures (ap (λ out. out.items) w.out-is ∙ w.in_ok-put_text.ensures.ok) w.current-is none before.text;
-            some = omega arith;
-            few = omega arith;
-          }
-      | else-byte-current w ↦
-          let kept = w.count-is in
-          record {
-            text = same _ _ _ _ c.loop-byte.byte-index c.loop-byte.current _ c.loop-byte.count _ c.loop-byte-test.true w.if-byte-current.false
-                (ap (λ out. out.items) w.out-is) w.current-is kept before.text;
-            some = omega arith;
-            few = omega arith;
-          }
-    ]
+pub loop-at-preserved-in_ok-put_text : goal.loop-at-preserved-in_ok-put_text
+loop-at-preserved-in_ok-put_text c =
+    let bytes = c.args.bytes.now in
+    let at = c.loop-at.at in
+    let end = c.run_end-end.result in
+    let counted : end - at ≡ prefix_len (is_byte (get_or bytes at 0)) (drop at bytes) = omega (arith, c.run_end-end.ensures) in
+    let there : end ≡ at + (end - at) = omega (arith, c.run_end-end.ensures) in
+    record {
+      within = omega (arith, c.if-end-bytes.true);
+      text = more_left bytes c.loop-at.out.items c.put_run.new.out.items c.put_text.new.out.items _ at (get_or bytes at 0) (end - at) c.loop-at-test.true refl counted c.in_ok-put_run.ensures c.loop-at.invariant.text end there c.if-end-bytes.true c.in_ok-put_text.ensures.ok;
+    }
+
+pub loop-at-preserved : goal.loop-at-preserved
+loop-at-preserved c =
+    let bytes = c.args.bytes.now in
+    let at = c.loop-at.at in
+    let end = c.run_end-end.result in
+    let counted : end - at ≡ prefix_len (is_byte (get_or bytes at 0)) (drop at bytes) = omega (arith, c.run_end-end.ensures) in
+    let there : end ≡ at + (end - at) = omega (arith, c.run_end-end.ensures) in
+    let within = run_within bytes at (end - at) (get_or bytes at 0) c.loop-at-test.true counted in
+    record {
+      within = omega (arith, within, there);
+      text = at_end bytes c.loop-at.out.items c.put_run.new.out.items c.put_run.new.out.items _ at (get_or bytes at 0) (end - at) c.loop-at-test.true refl counted c.in_ok-put_run.ensures c.loop-at.invariant.text end there c.if-end-bytes.false refl;
+    }

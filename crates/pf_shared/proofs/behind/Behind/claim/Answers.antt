@@ -1,30 +1,36 @@
-use Rattle.std.proofs.Common.{◌≡◌, [], ◌∷◌, ◌++◌, ap, length, rules, arith, sym, subst}
+use Rattle.std.proofs.Common.{◌≡◌, [], ◌∷◌, ◌++◌, ap, ◌∙◌, length, refl, rules, arith, sym, subst}
 use Rattle.pf_protocol.specs.Histories.{History, replay}
 use Rattle.pf_protocol.specs.declared.events.Event.TheVariants.{Claim}
 use Rattle.pf_protocol.specs.declared.events.Happening.{Happening}
 use Rattle.pf_protocol.specs.Answers.{IsAnswer, IsLegal, claims_of}
 use Rattle.pf_shared.specs.declared.moment.Did.TheVariants.{Acted}
-use Rattle.pf_shared.specs.Moments.{happenings}
+use Rattle.pf_group.specs.Roots.{root_of}
+use Rattle.pf_shared.specs.Since.{since, whole}
 use Rattle.pf_shared.specs.Woven.{woven}
-use Rattle.pf_shared.proofs.Weaving.{did, happenings-woven}
+use Rattle.pf_shared.proofs.Since.{begun_more, since_more}
+use Rattle.pf_shared.proofs.Weaving.{did}
 use Rattle.pf_shared.proofs.Acting.{claims_on, counted_on, ends_within, handed_on, more_claims, tidy_on}
 use Rattle.pf_shared.proofs.Claiming.{tidy_claim}
-use Rattle.pf_shared.proofs.Ending.{acts}
+use Rattle.pf_shared.proofs.Ending.{acts, whole_is}
 use Rattle.pf_shared.proofs.behind.Behind.claim.Goals as goal
 
 pub invariant_of-self-2 : goal.invariant_of-self-2
-invariant_of-self-2 g c = let s = c.in_ok-answer.ensures.went in let b = c.make_room.new.self in let ds = b.turns.items in let hs = b.group.history in let answer = c.in_ok-answer.answer in
+invariant_of-self-2 g c = let s = c.in_ok-answer.ensures.went in let b = c.make_room.new.self in let ds = b.turns.items in let hs = since b.start b.group in let answer = c.in_ok-answer.answer in
     let h : Happening = record { event = Claim; answer = answer } in
     let grown : c.push.new.self.items ≡ ds ++ did c.args.seat Acted ∷ [] = search rules in
-    let longer : c.step.new.self.history ≡ hs ++ h ∷ [] = ap (λ x. x.history) s.steps.recorded in
-    let same : happenings (woven ds hs) ≡ hs = happenings-woven ds hs b.counted in
+    let more : c.step.new.self.history ≡ b.group.history ++ h ∷ [] = ap (λ x. x.history) s.steps.recorded in
+    let next = since b.start c.step.new.self in let longer : next ≡ hs ++ h ∷ [] = since_more b.start b.group b.begun c.step.new.self h more in
+    let same : whole b.start (woven ds hs) ≡ b.group.history = whole_is b in
     let legal = subst (IsLegal b.group.setup) (sym same) c.history-legal.ensures.legal in
     let answered = subst (λ (l : History). IsAnswer b.group.setup (replay b.group.setup l) Claim answer) (sym same) s.steps.legal.answered in
-    let claims = claims_on ds hs b.counted c.args.seat h c.push.new.self.items grown c.step.new.self.history longer in
+    let claims = claims_on ds hs b.counted c.args.seat h c.push.new.self.items grown next longer in
     let few = more_claims (claims_of [] hs) b.open_ends answer b.ends in let within = ends_within b.open_ends answer in record {
-      counted = counted_on ds hs b.counted c.args.seat h c.push.new.self.items grown c.step.new.self.history longer;
-      tidy = λ k. tidy_on ds hs b.counted c.args.seat h c.push.new.self.items grown c.step.new.self.history longer k (tidy_claim b.group.setup (woven ds hs) c.args.seat answer legal answered k (b.tidy k));
-      handed = handed_on ds hs b.counted c.args.seat h c.push.new.self.items grown c.step.new.self.history longer b.group.taken c.step.new.self.taken b.handed (ap (λ x. x.taken) s.steps.recorded);
+      begun = begun_more b.start b.group b.begun c.step.new.self h more;
+      same_root = ap root_of s.steps.recorded ∙ b.same_root;
+      none_open = b.none_open;
+      counted = counted_on ds hs b.counted c.args.seat h c.push.new.self.items grown next longer;
+      tidy = λ k. tidy_on ds hs b.counted c.args.seat h c.push.new.self.items grown next longer k (tidy_claim b.group.setup b.start.history (woven ds hs) c.args.seat answer b.none_open legal answered k (b.tidy k));
+      handed = handed_on ds hs b.counted c.args.seat h c.push.new.self.items grown next longer b.start.taken b.group.taken c.step.new.self.taken b.handed (ap (λ x. x.taken) s.steps.recorded);
       ends = let e = ap length claims in let n = c.ends_after-self.ensures in omega arith;
       room = let n = c.ends_after-self.ensures in search rules;
     }
@@ -32,4 +38,4 @@ invariant_of-self-2 g c = let s = c.in_ok-answer.ensures.went in let b = c.make_
 pub returns-clause-ok : goal.returns-clause-ok
 returns-clause-ok g c = let s = c.in_ok-answer.ensures.went in let b = c.make_room.new.self in
     let grown : c.push.new.self.items ≡ b.turns.items ++ did c.args.seat Acted ∷ [] = search rules in
-    acts c.args.self.now b _ c.make_room.ensures.group c.make_room.ensures.turns c.args.seat Claim c.in_ok-answer.answer grown s.steps
+    acts c.args.self.now b _ c.make_room.ensures.group c.make_room.ensures.turns c.args.seat Claim c.in_ok-answer.answer grown refl s.steps

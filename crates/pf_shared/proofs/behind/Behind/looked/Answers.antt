@@ -1,15 +1,19 @@
 use Rattle.std.proofs.Common.{◌≡◌, [], ◌∷◌, ◌++◌, None, refl, rules}
 use Rattle.pf_shared.specs.declared.moment.Did.TheVariants.{Looked}
 use Rattle.pf_shared.proofs.Looking.{has_looked, looked_counted, looked_handed, looked_tidy}
+use Rattle.pf_shared.specs.Since.{since}
 use Rattle.pf_shared.proofs.Weaving.{did}
 use Rattle.pf_shared.proofs.behind.Behind.looked.Goals as goal
 
 pub invariant_of-self : goal.invariant_of-self
-invariant_of-self g c = let b = c.make_room.new.self in let ds = b.turns.items in let hs = b.group.history in
+invariant_of-self g c = let b = c.make_room.new.self in let ds = b.turns.items in let hs = since b.start b.group in
     let grown : c.push.new.self.items ≡ ds ++ did c.args.seat (Looked None) ∷ [] = search rules in record {
+      begun = b.begun;
+      same_root = b.same_root;
+      none_open = b.none_open;
       counted = looked_counted ds hs b.counted c.args.seat None c.push.new.self.items grown hs refl;
       tidy = λ k. looked_tidy ds hs b.counted c.args.seat None c.push.new.self.items grown hs refl k (b.tidy k);
-      handed = looked_handed ds hs b.counted c.args.seat None c.push.new.self.items grown hs refl b.group.taken b.group.taken b.handed refl;
+      handed = looked_handed ds hs b.counted c.args.seat None c.push.new.self.items grown hs refl b.start.taken b.group.taken b.group.taken b.handed refl;
       ends = b.ends;
       room = search rules;
     }

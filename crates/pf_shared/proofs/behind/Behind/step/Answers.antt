@@ -1,23 +1,30 @@
-use Rattle.std.proofs.Common.{◌≡◌, [], ◌∷◌, ◌++◌, ap, ◌∙◌, length, rules, arith}
+use Rattle.std.proofs.Common.{◌≡◌, [], ◌∷◌, ◌++◌, ap, ◌∙◌, length, refl, rules, arith}
 use Rattle.pf_protocol.specs.declared.events.Happening.{Happening}
 use Rattle.pf_protocol.specs.Answers.{claims_of}
 use Rattle.pf_group.specs.Events.{event_of}
 use Rattle.pf_shared.specs.declared.moment.Did.TheVariants.{Acted}
+use Rattle.pf_group.specs.Roots.{root_of}
+use Rattle.pf_shared.specs.Since.{since}
 use Rattle.pf_shared.specs.Woven.{woven}
+use Rattle.pf_shared.proofs.Since.{begun_more, since_more}
 use Rattle.pf_shared.proofs.Weaving.{did}
 use Rattle.pf_shared.proofs.Acting.{claims_on, counted_on, handed_on, step_claims, tidy_on, tidy_step}
 use Rattle.pf_shared.proofs.Ending.{acts}
 use Rattle.pf_shared.proofs.behind.Behind.step.Goals as goal
 
 pub invariant_of-self-2 : goal.invariant_of-self-2
-invariant_of-self-2 g c = let s = c.in_ok-answer.ensures.went in let b = c.make_room.new.self in let ds = b.turns.items in let hs = b.group.history in
+invariant_of-self-2 g c = let s = c.in_ok-answer.ensures.went in let b = c.make_room.new.self in let ds = b.turns.items in let hs = since b.start b.group in
     let h : Happening = record { event = event_of c.args.event s.found; answer = c.in_ok-answer.answer } in
     let grown : c.push.new.self.items ≡ ds ++ did c.args.seat Acted ∷ [] = search rules in
-    let longer : c.step.new.self.history ≡ hs ++ h ∷ [] = ap (λ x. x.history) s.steps.recorded in
-    let claims = claims_on ds hs b.counted c.args.seat h c.push.new.self.items grown c.step.new.self.history longer ∙ step_claims c.args.event s.found c.in_ok-answer.answer (claims_of [] hs) c.requires in record {
-      counted = counted_on ds hs b.counted c.args.seat h c.push.new.self.items grown c.step.new.self.history longer;
-      tidy = λ k. tidy_on ds hs b.counted c.args.seat h c.push.new.self.items grown c.step.new.self.history longer k (tidy_step c.args.event s.found c.in_ok-answer.answer c.args.seat (woven ds hs) c.requires k (b.tidy k));
-      handed = handed_on ds hs b.counted c.args.seat h c.push.new.self.items grown c.step.new.self.history longer b.group.taken c.step.new.self.taken b.handed (ap (λ x. x.taken) s.steps.recorded);
+    let more : c.step.new.self.history ≡ b.group.history ++ h ∷ [] = ap (λ x. x.history) s.steps.recorded in
+    let next = since b.start c.step.new.self in let longer : next ≡ hs ++ h ∷ [] = since_more b.start b.group b.begun c.step.new.self h more in
+    let claims = claims_on ds hs b.counted c.args.seat h c.push.new.self.items grown next longer ∙ step_claims c.args.event s.found c.in_ok-answer.answer (claims_of [] hs) c.requires in record {
+      begun = begun_more b.start b.group b.begun c.step.new.self h more;
+      same_root = ap root_of s.steps.recorded ∙ b.same_root;
+      none_open = b.none_open;
+      counted = counted_on ds hs b.counted c.args.seat h c.push.new.self.items grown next longer;
+      tidy = λ k. tidy_on ds hs b.counted c.args.seat h c.push.new.self.items grown next longer k (tidy_step c.args.event s.found c.in_ok-answer.answer c.args.seat (woven ds hs) c.requires k (b.tidy k));
+      handed = handed_on ds hs b.counted c.args.seat h c.push.new.self.items grown next longer b.start.taken b.group.taken c.step.new.self.taken b.handed (ap (λ x. x.taken) s.steps.recorded);
       ends = let e = ap length claims in let was = b.ends in omega arith;
       room = search rules;
     }
@@ -26,5 +33,5 @@ pub returns-clause-ok : goal.returns-clause-ok
 returns-clause-ok g c = let s = c.in_ok-answer.ensures.went in let b = c.make_room.new.self in
     let grown : c.push.new.self.items ≡ b.turns.items ++ did c.args.seat Acted ∷ [] = search rules in record {
       found = s.found;
-      acts = acts c.args.self.now b _ c.make_room.ensures.group c.make_room.ensures.turns c.args.seat (event_of c.args.event s.found) c.in_ok-answer.answer grown s.steps;
+      acts = acts c.args.self.now b _ c.make_room.ensures.group c.make_room.ensures.turns c.args.seat (event_of c.args.event s.found) c.in_ok-answer.answer grown refl s.steps;
     }

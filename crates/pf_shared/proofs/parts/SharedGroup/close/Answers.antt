@@ -1,8 +1,24 @@
 use Rattle.std.proofs.Common.{ap, ◌∙◌, sym}
-use Rattle.pf_shared.specs.Moments.{happenings}
-use Rattle.pf_shared.proofs.Weaving.{happenings-woven}
+use Rattle.pf_turn.specs.Lists.{entries_of}
+use Rattle.pf_group.specs.GroupIs.{GroupIs}
+use Rattle.pf_group.specs.Roots.{root_of}
+use Rattle.pf_shared.specs.Behinds.{list_of}
+use Rattle.pf_shared.specs.Seats.{root_in}
+use Rattle.pf_shared.specs.Moments.{handed_out}
+use Rattle.pf_shared.specs.Since.{whole}
+use Rattle.pf_shared.proofs.Ending.{whole_is}
 use Rattle.pf_shared.proofs.parts.SharedGroup.close.Goals as goal
+
+pub returns-clause-root : goal.returns-clause-root
+returns-clause-root g c = let b = c.close.result in ap root_of c.into_group.ensures ∙ (b.same_root ∙ ap root_of c.close.ensures.root)
 
 pub returns-clause-history : goal.returns-clause-history
 returns-clause-history g c = let b = c.close.result in
-    ap (λ x. x.history) c.into_group.ensures ∙ (sym (happenings-woven b.turns.items b.group.history b.counted) ∙ ap happenings c.close.ensures.seen)
+    ap (λ x. x.history) c.into_group.ensures ∙ (sym (whole_is b) ∙ (ap (λ (x : GroupIs). whole x (list_of b)) c.close.ensures.root ∙ ap (whole (root_in c.args.self)) c.close.ensures.seen))
+
+pub returns-clause-taken : goal.returns-clause-taken
+returns-clause-taken g c = let b = c.close.result in
+    ap (λ x. x.taken) c.into_group.ensures ∙ (b.handed ∙ (ap (λ (x : GroupIs). handed_out x.taken (list_of b)) c.close.ensures.root ∙ ap (handed_out (root_in c.args.self).taken) c.close.ensures.seen))
+
+pub returns-clause-strangers : goal.returns-clause-strangers
+returns-clause-strangers g c n above = ap (entries_of n) (sym c.close.ensures.seen) ∙ c.close.ensures.strangers n above

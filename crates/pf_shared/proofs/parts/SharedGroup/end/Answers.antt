@@ -1,9 +1,13 @@
-use Rattle.std.proofs.Common.{ap, ◌∙◌}
-use Rattle.pf_shared.specs.Moments.{happenings}
-use Rattle.pf_shared.proofs.Weaving.{happenings-woven}
+use Rattle.std.proofs.Common.{ap, ◌∙◌, sym}
+use Rattle.pf_group.specs.GroupIs.{GroupIs}
+use Rattle.pf_shared.specs.Behinds.{list_of}
+use Rattle.pf_shared.specs.Seats.{root_in, seen_by}
+use Rattle.pf_shared.specs.Since.{whole}
+use Rattle.pf_shared.proofs.Ending.{whole_is}
 use Rattle.pf_shared.proofs.Taking.{history_is}
 use Rattle.pf_shared.proofs.parts.SharedGroup.end.Goals as goal
 
 pub returns-clause-history : goal.returns-clause-history
-returns-clause-history g c = let b = c.args.turn.value in
-    history_is _ b.group.setup _ b.group.history (ap (λ r. r.setup) c.requires.root) (ap happenings c.give.ensures.seen ∙ happenings-woven b.turns.items b.group.history b.counted) c.happenings-happenings.ensures.legal c.happenings-happenings.ensures.sound
+returns-clause-history g c = let b = c.args.turn.value in let root : GroupIs = root_in c.args.self.now in
+    history_is root b.group.setup (seen_by record { seat = c.give.new.seat }) b.group.history (ap (λ r. r.setup) b.same_root ∙ ap (λ (x : GroupIs). x.setup) c.requires.root)
+        (ap (whole root) c.give.ensures.seen ∙ (ap (λ (x : GroupIs). whole x (list_of b)) (sym c.requires.root) ∙ whole_is b)) c.happenings-happenings.ensures.legal c.happenings-happenings.ensures.sound

@@ -1,0 +1,14 @@
+pub mod Turning
+pub mod Answers
+pub mod Ruling
+pub mod Taking
+pub mod Linking
+pub mod Beginning
+pub mod Epochs
+pub mod Blocks
+pub mod Copied
+pub mod Volumes
+pub mod Worked
+pub mod Replaying
+pub mod ZeroRead
+pub mod Carried

@@ -1,0 +1,182 @@
+-- Where a fetch of a legal history is answered with a number, it took up the read of this number.
+use Rattle.std.proofs.Common.{◌≡◌, ℕ, zero, suc, inl, inr, List, [], ◌∷◌, ◌++◌, take, Option, Some, None, slice_get, refl, sym, ap, subst, ◌∙◌, nat_lt, ◌+◌, Bool, true, false, if◌then◌else◌}
+use Rattle.std.proofs.lemmas.Option.{same_Some, none-some}
+use Rattle.std.proofs.lemmas.List.{append_assoc}
+use Rattle.pf_base.specs.Span.{Span}
+use Rattle.pf_protocol.specs.declared.answers.Answer.{Answer}
+use Rattle.pf_protocol.specs.declared.answers.Answer.TheVariants.{Read as ReadIs, Slot as SlotIs, Refused}
+use Rattle.pf_protocol.specs.declared.answers.Refusal.{Refusal}
+use Rattle.pf_protocol.specs.declared.answers.Refusal.TheVariants.{WindowFull, NotLeader, Down, Halted}
+use Rattle.pf_protocol.specs.declared.events.Event.TheVariants.{Fetch, Submit}
+use Rattle.pf_protocol.specs.declared.events.Happening.{Happening}
+use Rattle.pf_protocol.specs.Servers.{Setup, Role, Follower, Candidate, Merging, Serving, Server, Condition, Running, Stopped, Unformatted, Leader}
+use Rattle.pf_protocol.specs.Leading.{on_fetch, on_submit}
+use Rattle.pf_protocol.specs.Groups.{Group, Whole, ending, Answered, reads_after, acted, step_of, happens, opening}
+use Rattle.pf_protocol.specs.Histories.{History, run, replay, Runs, IsPrefix}
+use Rattle.pf_protocol.specs.Answers.{answer_at, answer_by, fetch_turn, fetch_refusal, submit_turn, submit_refusal, answer_to, IsAnswer, Claimed, IsLegalFrom, IsLegal, claims_after}
+use Rattle.pf_protocol.specs.Outcomes.{Outcome}
+use Rattle.pf_protocol.specs.Ports.{Submission, submitting, IsTarget, IsAnswered}
+use Rattle.pf_entry.specs.declared.ops.Op.{Op}
+use Rattle.pf_protocol.specs.Fresh.{IsFetch}
+use Rattle.pf_protocol.proofs.Making.{run_longer}
+use Rattle.pf_protocol.proofs.Fresh.{fresh}
+use Rattle.pf_registers.proofs.Fetches.{same_fetch}
+
+-- an event of a legal history has its answer
+legal_at : (setup : Setup) (g : Group) (claims : List Claimed) (before : History) (h : Happening) (rest : History) → IsLegalFrom setup g claims (before ++ h ∷ rest) → IsAnswer setup (run setup g before) h.event h.answer
+legal_at setup g claims [] h rest is = is.0.answered
+legal_at setup g claims (x ∷ xs) h rest is = legal_at setup (happens setup g x.event (ending x.answer)) (claims_after claims x.event x.answer) xs h rest is.1
+
+number_apart : (number : ℕ) (refusal : Refusal) → ReadIs number ≡ Refused refusal → ⊥
+number_apart number refusal e = cc
+
+same_number : (a b : ℕ) → ReadIs a ≡ ReadIs b → a ≡ b
+same_number a b e = cc
+
+module _ (setup : Setup) (g : Group) (i number : ℕ) (range : Span) where
+  -- the server serves, and the number is the next one
+  record TakesUp : Type 0 where
+    server : Server
+    runs : Runs g i server
+    is_next : number ≡ g.reads
+    takes : (on_fetch server range g.reads server.role).answer ≡ ReadIs g.reads
+
+  by_role : (s : Server) → Runs g i s → (role : Role) → s.role ≡ role → ReadIs number ≡ (on_fetch s range g.reads role).answer → TakesUp
+  unfolding on_fetch
+  by_role s runs Follower is answer = absurd (number_apart number NotLeader answer)
+  by_role s runs (Candidate own) is answer = absurd (number_apart number NotLeader answer)
+  by_role s runs (Merging l) is answer = absurd (number_apart number NotLeader answer)
+  by_role s runs (Serving l) is answer = record { server = s; runs = runs; is_next = same_number number g.reads answer; takes = ap (λ r. (on_fetch s range g.reads r).answer) is }
+
+  by_refusal : (s : Server) → Runs g i s → (r : Option Refusal) → ReadIs number ≡ answer_by r (on_fetch s range g.reads s.role).answer → TakesUp
+  by_refusal s runs None answer = by_role s runs s.role refl answer
+  by_refusal s runs (Some refusal) answer = absurd (number_apart number refusal answer)
+
+  by_condition : (c : Option Condition) → slice_get g.servers i ≡ c → ReadIs number ≡ answer_at c (fetch_turn setup g range) → TakesUp
+  by_condition (Some (Running s)) is answer = by_refusal s is (fetch_refusal setup g range s) answer
+  by_condition (Some (Stopped life before after)) is answer = absurd (number_apart number Down answer)
+  by_condition (Some Unformatted) is answer = absurd (number_apart number Down answer)
+  by_condition None is answer = absurd (number_apart number Down answer)
+
+  takes_up : IsAnswer setup g (Fetch i range) (ReadIs number) → TakesUp
+  unfolding answer_to
+  takes_up answer = elim answer [
+    | inl is ↦ by_condition (slice_get g.servers i) refl is
+    | inr halted ↦ absurd (number_apart number Halted halted.1)
+  ]
+
+  counts : (t : TakesUp) → (happens setup g (Fetch i range) Whole).reads ≡ suc number
+  unfolding happens acted
+  counts t =
+      ap (λ c. (step_of Whole g i c (λ z. on_fetch z range g.reads z.role)).reads) t.runs
+      ∙ ap (reads_after g.reads) t.takes ∙ ap suc (sym t.is_next)
+
+split_at : {X : Type 0} → (xs : List X) (n : ℕ) (x : X) → slice_get xs n ≡ Some x → (rest : List X) × (take n xs ++ x ∷ rest ≡ xs)
+split_at [] n x at = absurd (none-some x at)
+split_at (y ∷ ys) zero x at = (ys, ap (λ z. z ∷ ys) (sym (same_Some y x at)))
+split_at (y ∷ ys) (suc n) x at = let r = split_at ys n x at in (r.0, ap (λ zs. y ∷ zs) r.1)
+
+pub taken_up : (setup : Setup) (history : History) (place i number : ℕ) (range : Span) → IsLegal setup history → slice_get history place ≡ Some (record { event = Fetch i range; answer = ReadIs number }) → IsFetch setup history number i range (take place history)
+taken_up setup history place i number range legal at =
+    let h : Happening = record { event = Fetch i range; answer = ReadIs number } in
+    let parts = split_at history place (record { event = Fetch i range; answer = ReadIs number }) at in
+    let answer = legal_at setup (opening setup) [] (take place history) (record { event = Fetch i range; answer = ReadIs number }) parts.0 (subst (IsLegalFrom setup (opening setup) []) (sym parts.1) legal.legal) in
+    let t = takes_up setup (replay setup (take place history)) i number range answer in
+    record {
+      fetch = record { event = Fetch i range; answer = ReadIs number };
+      is_part = record { rest = parts.0; whole = append_assoc (take place history) (record { event = Fetch i range; answer = ReadIs number } ∷ []) parts.0 ∙ parts.1 };
+      event = refl;
+      is_next = t.is_next;
+      counts = ap (λ g. g.reads) (run_longer setup (opening setup) (take place history) (record { event = Fetch i range; answer = ReadIs number })) ∙ counts setup (replay setup (take place history)) i number range t;
+    }
+
+same_next : {X : Type 0} → (a : List X) (x y : X) (r s : List X) → a ++ x ∷ r ≡ a ++ y ∷ s → x ≡ y
+same_next [] x y r s is = cc
+same_next (z ∷ zs) x y r s is =
+    let p : z ∷ (zs ++ x ∷ r) ≡ z ∷ (zs ++ y ∷ s) = is in
+    let tail : zs ++ x ∷ r ≡ zs ++ y ∷ s = cc in
+    same_next zs x y r s tail
+
+-- an answered read of this number is the one that was taken up there, of this range
+pub record IsTakenUp (setup : Setup) (history : History) (place : ℕ) (range : Span) (a : Answered) : Type 0 where
+  pub took_up : IsFetch setup history a.number a.server a.range (take place history)
+  pub same_range : a.range ≡ range
+
+pub answered_taken_up : (setup : Setup) (history : History) (place i k : ℕ) (range : Span) (a : Answered) → IsLegal setup history → slice_get history place ≡ Some (record { event = Fetch i range; answer = ReadIs a.number }) → slice_get (replay setup history).answered k ≡ Some a → IsTakenUp setup history place range a
+answered_taken_up setup history place i k range a legal at there =
+    let own = taken_up setup history place i a.number range legal at in
+    let f = fresh setup history k a there in
+    let same = same_fetch setup history a.number a.server i a.range range f.before (take place history) f.fetched own in
+    let its = subst (λ z. IsFetch setup history a.number a.server a.range z) same f.fetched in
+    let one = same_next (take place history) its.fetch own.fetch its.is_part.rest own.is_part.rest
+    (sym (append_assoc (take place history) (its.fetch ∷ []) its.is_part.rest) ∙ its.is_part.whole ∙ sym own.is_part.whole ∙ append_assoc (take place history) (own.fetch ∷ []) own.is_part.rest) in
+    let events : Fetch a.server a.range ≡ Fetch i range = sym its.event ∙ ap (λ (h : Happening). h.event) one ∙ own.event in
+    record { took_up = its; same_range = cc }
+
+slot_apart : (slot : ℕ) (refusal : Refusal) → SlotIs slot ≡ Refused refusal → ⊥
+slot_apart slot refusal e = cc
+
+same_slot : (a b : ℕ) → SlotIs a ≡ SlotIs b → a ≡ b
+same_slot a b e = cc
+
+-- an answer that one of two outcomes does not give
+other_one : (answer : Answer) (c : Bool) (x y : Outcome) → answer ≡ (if c then x else y).answer → (answer ≡ x.answer → ⊥) → answer ≡ y.answer
+other_one answer true x y is differs = absurd (differs is)
+other_one answer false x y is differs = is
+
+module _ (setup : Setup) (g : Group) (i slot : ℕ) (op : Op) where
+  -- the server serves, and the slot is its next one
+  record TakesSlot : Type 0 where
+    server : Server
+    leader : Leader
+    runs : Runs g i server
+    serves : server.role ≡ Serving leader
+    next : slot ≡ leader.next
+
+  slot_by_role : (s : Server) → Runs g i s → (role : Role) → s.role ≡ role → SlotIs slot ≡ (on_submit setup s op role).answer → TakesSlot
+  unfolding on_submit
+  slot_by_role s runs Follower is answer = absurd (slot_apart slot NotLeader answer)
+  slot_by_role s runs (Candidate own) is answer = absurd (slot_apart slot NotLeader answer)
+  slot_by_role s runs (Merging l) is answer = absurd (slot_apart slot NotLeader answer)
+  slot_by_role s runs (Serving l) is answer =
+      record { server = s; leader = l; runs = runs; serves = is; next = same_slot slot l.next (other_one (SlotIs slot) (nat_lt (s.durable.base + setup.window) l.next) _ _ answer (slot_apart slot WindowFull)) }
+
+  slot_by_refusal : (s : Server) → Runs g i s → (r : Option Refusal) → SlotIs slot ≡ answer_by r (on_submit setup s op s.role).answer → TakesSlot
+  slot_by_refusal s runs None answer = slot_by_role s runs s.role refl answer
+  slot_by_refusal s runs (Some refusal) answer = absurd (slot_apart slot refusal answer)
+
+  slot_by_condition : (c : Option Condition) → slice_get g.servers i ≡ c → SlotIs slot ≡ answer_at c (submit_turn setup g op) → TakesSlot
+  slot_by_condition (Some (Running s)) is answer = slot_by_refusal s is (submit_refusal setup g op s) answer
+  slot_by_condition (Some (Stopped life before after)) is answer = absurd (slot_apart slot Down answer)
+  slot_by_condition (Some Unformatted) is answer = absurd (slot_apart slot Down answer)
+  slot_by_condition None is answer = absurd (slot_apart slot Down answer)
+
+  takes_slot : IsAnswer setup g (Submit i op) (SlotIs slot) → TakesSlot
+  unfolding answer_to
+  takes_slot answer = elim answer [
+    | inl is ↦ slot_by_condition (slice_get g.servers i) refl is
+    | inr halted ↦ absurd (slot_apart slot Halted halted.1)
+  ]
+
+-- it is answered, by the acknowledgement of this slot
+pub record IsSlotAcked (setup : Setup) (now : History) (a : Submission) (slot : ℕ) : Type 0 where
+  pub answered : IsAnswered setup now a
+  pub in_slot : answered.acked.slot ≡ slot
+
+-- a submission that was answered with a slot is answered once the leader of its term acknowledged the slot
+pub slot_acked : (setup : Setup) (history now : History) (a : Submission) (slot term n : ℕ) → IsLegal setup history → IsPrefix (a.before ++ submitting a ∷ []) history → a.answer ≡ SlotIs slot → ((x : IsTarget setup a) → x.server.durable.term ≡ term) → slice_get (replay setup now).acked n ≡ Some (record { term = term; slot = slot }) → IsSlotAcked setup now a slot
+slot_acked setup history now a slot term n legal made answer in_term acked =
+    let whole = sym (append_assoc a.before (submitting a ∷ []) made.rest) ∙ made.whole in
+    let its = legal_at setup (opening setup) [] a.before (submitting a) made.rest (subst (IsLegalFrom setup (opening setup) []) (sym whole) legal.legal) in
+    let t = takes_slot setup (replay setup a.before) a.server slot a.op (subst (IsAnswer setup (replay setup a.before) (Submit a.server a.op)) answer its) in
+    record {
+      answered = record {
+        target = record { server = t.server; leader = t.leader; runs = t.runs; serves = t.serves };
+        k = n;
+        acked = record { term = term; slot = slot };
+        at = acked;
+        in_term = sym (in_term (record { server = t.server; leader = t.leader; runs = t.runs; serves = t.serves }));
+        in_slot = t.next;
+      };
+      in_slot = refl;
+    }

@@ -1,0 +1,27 @@
+-- Where the positions of a journal lie in a volume, and what all of its positions are to the deeds.
+use Rattle.std.specs.Prelude.{◌≡◌, ℕ, ◌+◌, ◌*◌, ◌/◌, ◌%◌, List, length, Some, slice_get}
+use Rattle.pf_entry.specs.Ops.{Sector}
+use Rattle.pf_paxos.specs.declared.block.Block.{Block}
+use Rattle.pf_paxos.specs.Runs.{turn_of}
+use Rattle.pf_paxos.specs.Journals.{Doing, journal_before, event_at}
+use Rattle.pf_hosted.specs.Deeds.{Groups, Deed}
+use Rattle.pf_hosted.specs.Homes.{Home, turn_in}
+use Rattle.pf_hosted.specs.Hosted.{IsHosted}
+
+-- sector 0 of a volume is its superblock, and the blocks of the positions begin at sector 8
+abbrev pub half_at : (position half : ℕ) → ℕ
+half_at position half = 8 * (1 + 2 * position + half)
+
+-- the sectors of a volume are numbered through its chunks, each of so many
+abbrev pub home_of : (sectors position : ℕ) → Home
+home_of sectors position = record { chunk = λ half. half_at position half / sectors; first = λ half. half_at position half % sectors }
+
+-- at each moment the doing of a journal is, in each position, the turn of the deed
+pub record IsSameJournal (read : Sector → Block) (sectors : ℕ) (deeds : List Deed) (doings : List Doing) : Type 0 where
+  pub as_many : length doings ≡ length deeds
+  pub same : (position moment : ℕ) (doing : Doing) (deed : Deed) → slice_get doings moment ≡ Some doing → slice_get deeds moment ≡ Some deed → turn_of ((journal_before doings moment).proposers position) (event_at position (journal_before doings moment) doing) ≡ turn_in read (home_of sectors position) deed
+
+-- the doings of a journal are what the ports did, and each position lies in chunks
+pub record IsHostedJournal (groups : Groups) (read : Sector → Block) (sectors : ℕ) (deeds : List Deed) (doings : List Doing) : Type 0 where
+  pub hosted : (position : ℕ) → IsHosted groups read (home_of sectors position) deeds
+  pub same : IsSameJournal read sectors deeds doings

@@ -1,0 +1,37 @@
+//! What the workers of a live line share.
+use pf_disk::Disk;
+use pf_shared::SharedGroup;
+use std::alloc::Global;
+use std::sync::atomic::{AtomicBool, AtomicU64, Ordering};
+
+/// What the workers share: the group, the gate that is called round each step, and two signs that decide nothing but when to look.
+pub struct Line<D: Disk, G> {
+    pub(crate) group: SharedGroup<D>,
+    pub(crate) gate: G,
+    pub(crate) alloc: Global,
+    /// How often the group was changed. A worker that found nothing to do waits until it was changed again.
+    pub(crate) moves: AtomicU64,
+    /// Whether all are to end.
+    pub(crate) stops: AtomicBool,
+}
+
+impl<D: Disk, G> Line<D, G> {
+    /// The group was changed.
+    pub(crate) fn moved(&self) {
+        self.moves.fetch_add(1, Ordering::SeqCst);
+    }
+
+    /// How often it was changed.
+    pub(crate) fn count(&self) -> u64 {
+        self.moves.load(Ordering::SeqCst)
+    }
+
+    /// All are to end.
+    pub(crate) fn stop(&self) {
+        self.stops.store(true, Ordering::SeqCst);
+    }
+
+    pub(crate) fn is_stopping(&self) -> bool {
+        self.stops.load(Ordering::SeqCst)
+    }
+}

@@ -1,0 +1,296 @@
+//! The changes of a call.
+ghost use Rattle.std.specs.Prelude.{◌≡◌, ◌+◌, ◌-◌, ◌≤◌, ◌==◌, ◌++◌, ◌∷◌, [], IfOk, OnOk, cond, is_some, length, nat_le, nat_lt, not};
+ghost use Rattle.std.specs.List.{position_or_len};
+ghost use Rattle.std.specs.Option.{is_none};
+ghost use Rattle.pf_tree.specs.Tables.{changes, freed, given, has_none, makes, node_at, removes, renames, tables_sight, unlinks, walk};
+ghost use Rattle.pf_tree.specs.Trees.{block_count, dir_refusal, file_refusal, first_of, goes_on, place_refusal, refusal, walk_refusal, when, written_size};
+ghost use Rattle.pf_tree.specs.Paths.{below, is_same};
+ghost use Rattle.pf_tree.specs.Shelves.{HasRoot, IsWhole, data_of, lists_of, size_changes, tables_of, untagged_from};
+ghost use Rattle.pf_tree.specs.Faults.{PlansTo};
+ghost use Rattle.pf_tree.specs.declared.calls.FileCall.TheVariants.{Truncate, Write};
+ghost use Rattle.pf_tree.specs.declared.changes.Change.TheVariants.{AddEntry, DeleteEntry, SetInode};
+
+use crate::look::{blocks_of, dir_at, file_at, free_blocks, is_empty_dir, least_free, place_at, walk_to};
+use crate::rows::Rows;
+use crate::tree::{MAX_SIZE, copy_name};
+use crate::{Change, Inode, Tag, TreeFault};
+use pf_base::{Bytes, NoMemory};
+use std::alloc::Global;
+
+/// The changes that make a directory (kind 2) or an empty file (kind 1).
+pub(crate) fn plan_make(alloc: Global, inodes: &[Option<Inode>], directories: &[Rows], tags: &[Option<Tag>], path: &[Bytes], kind: u8) -> Result<Vec<Change>, TreeFault>
+    requires { length inodes.now ≤ 1024 }
+    ensures { PlansTo (first_of (place_refusal (node_at (tables_of inodes.now directories.now tags.now)) path.now) (when 87 (nat_le (length inodes.now) (position_or_len is_none inodes.now)))) (makes (tables_of inodes.now directories.now tags.now) kind path.now) result }
+{
+    let directory = place_at(inodes, directories, tags, path)?;
+    let inode = least_free(inodes)?;
+    let Some(name) = path.first() else {
+        return Err(TreeFault::Exists);
+    };
+    let changes = make_changes(alloc, kind, directory, inode, name)?;
+    Ok(changes)
+}
+
+fn make_changes(alloc: Global, kind: u8, directory: u16, inode: u16, name: &Bytes) -> Result<Vec<Change>, NoMemory>
+    ensures { IfOk result (λ v. v.items ≡ SetInode inode kind 0 ∷ AddEntry directory inode name.now ∷ []) }
+{
+    let name = copy_name(alloc, name)?;
+    let mut changes = Vec::new(alloc);
+    changes.push(Change::SetInode {
+        inode,
+        kind,
+        size: 0,
+    })?;
+    changes.push(Change::AddEntry {
+        directory,
+        inode,
+        name,
+    })?;
+    Ok(changes)
+}
+
+/// The changes that remove an empty directory.
+pub(crate) fn plan_rmdir(alloc: Global, inodes: &[Option<Inode>], directories: &[Rows], tags: &[Option<Tag>], path: &[Bytes]) -> Result<Vec<Change>, TreeFault>
+    ensures { PlansTo (first_of (dir_refusal (node_at (tables_of inodes.now directories.now tags.now)) path.now) (when 86 (not (has_none (lists_of directories.now) (walk (lists_of directories.now) path.now))))) (removes (tables_of inodes.now directories.now tags.now) path.now) result }
+{
+    let inode = dir_at(inodes, directories, tags, path)?;
+    if !is_empty_dir(directories, inode) {
+        return Err(TreeFault::NotEmpty);
+    }
+    let Some((name, rest)) = path.split_first() else {
+        return Ok(Vec::new(alloc));
+    };
+    let directory = walk_to(inodes, directories, tags, rest).unwrap_or(0);
+    let changes = remove_changes(alloc, directory, inode, name)?;
+    Ok(changes)
+}
+
+fn remove_changes(alloc: Global, directory: u16, inode: u16, name: &Bytes) -> Result<Vec<Change>, NoMemory>
+    ensures { IfOk result (λ v. v.items ≡ DeleteEntry directory name.now ∷ SetInode inode 0 0 ∷ []) }
+{
+    let name = copy_name(alloc, name)?;
+    let mut changes = Vec::new(alloc);
+    changes.push(Change::DeleteEntry { directory, name })?;
+    changes.push(Change::SetInode {
+        inode,
+        kind: 0,
+        size: 0,
+    })?;
+    Ok(changes)
+}
+
+/// The changes that remove a file.
+pub(crate) fn plan_unlink(alloc: Global, inodes: &[Option<Inode>], directories: &[Rows], tags: &[Option<Tag>], path: &[Bytes]) -> Result<Vec<Change>, TreeFault>
+    requires { length tags.now ≤ 4096 }
+    ensures { HasRoot (tables_of inodes.now directories.now tags.now) → PlansTo (file_refusal (node_at (tables_of inodes.now directories.now tags.now)) path.now) (unlinks (tables_of inodes.now directories.now tags.now) path.now) result }
+{
+    let (inode, size) = file_at(inodes, directories, tags, path)?;
+    let Some((name, rest)) = path.split_first() else {
+        return Err(TreeFault::IsDir);
+    };
+    let directory = walk_to(inodes, directories, tags, rest).unwrap_or(0);
+    let blocks = blocks_of(alloc, tags, inode, count_blocks(size))?;
+    let changes = unlink_changes(alloc, directory, inode, name, &blocks)?;
+    Ok(changes)
+}
+
+/// How many blocks a file of this size has.
+pub(crate) fn count_blocks(size: u32) -> u32
+    ensures { result ≡ block_count size }
+{
+    ((size as u64 + 4095) / 4096) as u32
+}
+
+fn unlink_changes(alloc: Global, directory: u16, inode: u16, name: &Bytes, blocks: &[u16]) -> Result<Vec<Change>, NoMemory>
+    ensures { IfOk result (λ v. v.items ≡ DeleteEntry directory name.now ∷ (freed blocks.now ++ SetInode inode 0 0 ∷ [])) }
+{
+    let name = copy_name(alloc, name)?;
+    let mut changes = Vec::new(alloc);
+    changes.push(Change::DeleteEntry { directory, name })?;
+    push_freed(&mut changes, blocks)?;
+    changes.push(Change::SetInode {
+        inode,
+        kind: 0,
+        size: 0,
+    })?;
+    Ok(changes)
+}
+
+/// Adds the changes that free blocks.
+fn push_freed(changes: &mut Vec<Change>, blocks: &[u16]) -> Result<(), NoMemory>
+    ensures { OnOk result (changes.new.items ≡ changes.old.items ++ freed blocks.now) }
+{
+    for block in blocks {
+        changes.push(Change::SetTag {
+            block: *block,
+            inode: 65535,
+            index: 0,
+        })?;
+    }
+    Ok(())
+}
+
+/// The changes that give a file or a directory another path.
+pub(crate) fn plan_rename(alloc: Global, inodes: &[Option<Inode>], directories: &[Rows], tags: &[Option<Tag>], from: &[Bytes], to: &[Bytes]) -> Result<Vec<Change>, TreeFault>
+    ensures { PlansTo (first_of (walk_refusal (node_at (tables_of inodes.now directories.now tags.now)) from.now) (first_of (when 89 (goes_on (below from.now to.now))) (place_refusal (node_at (tables_of inodes.now directories.now tags.now)) to.now))) (renames (tables_of inodes.now directories.now tags.now) from.now to.now) result }
+{
+    let inode = walk_to(inodes, directories, tags, from)?;
+    if is_below(from, to) {
+        return Err(TreeFault::IntoItself);
+    }
+    let place = place_at(inodes, directories, tags, to)?;
+    let Some((name, rest)) = from.split_first() else {
+        return Ok(Vec::new(alloc));
+    };
+    let Some(new_name) = to.first() else {
+        return Err(TreeFault::Exists);
+    };
+    let directory = walk_to(inodes, directories, tags, rest).unwrap_or(0);
+    let changes = rename_changes(alloc, directory, name, place, inode, new_name)?;
+    Ok(changes)
+}
+
+fn rename_changes(alloc: Global, directory: u16, name: &Bytes, place: u16, inode: u16, new_name: &Bytes) -> Result<Vec<Change>, NoMemory>
+    ensures { IfOk result (λ v. v.items ≡ DeleteEntry directory name.now ∷ AddEntry place inode new_name.now ∷ []) }
+{
+    let name = copy_name(alloc, name)?;
+    let new_name = copy_name(alloc, new_name)?;
+    let mut changes = Vec::new(alloc);
+    changes.push(Change::DeleteEntry { directory, name })?;
+    changes.push(Change::AddEntry {
+        directory: place,
+        inode,
+        name: new_name,
+    })?;
+    Ok(changes)
+}
+
+/// Whether a path goes on below another.
+pub(crate) fn is_below(top: &[Bytes], path: &[Bytes]) -> bool
+    ensures { result ≡ goes_on (below top.now path.now) }
+{
+    let Some((_, rest)) = path.split_first() else {
+        return false;
+    };
+    if same_paths(path, top) {
+        return false;
+    }
+    reaches(top, rest)
+}
+
+/// Whether a path is another one or goes on below it.
+fn reaches(top: &[Bytes], path: &[Bytes]) -> bool
+    ensures { result ≡ is_some (below top.now path.now) }
+{
+    if same_paths(path, top) {
+        return true;
+    }
+    let Some((_, rest)) = path.split_first() else {
+        return false;
+    };
+    reaches(top, rest)
+}
+
+/// Whether two paths are the same.
+fn same_paths(path: &[Bytes], other: &[Bytes]) -> bool
+    ensures { result ≡ is_same path.now other.now }
+{
+    let Some((name, rest)) = path.split_first() else {
+        return other.is_empty();
+    };
+    let Some((other_name, other_rest)) = other.split_first() else {
+        return false;
+    };
+    if name.as_slice() != other_name.as_slice() {
+        return false;
+    }
+    same_paths(rest, other_rest)
+}
+
+/// The changes that give a file another size; none where it has it.
+pub(crate) fn plan_size(alloc: Global, tags: &[Option<Tag>], first: u32, inode: u16, old: u32, size: u32) -> Result<Vec<Change>, TreeFault>
+    requires tags { length tags.now ≤ 4096 }
+    requires old { old ≤ 196608 }
+    requires size { size ≤ 196608 }
+    ensures { PlansTo (when 87 (nat_lt (block_count old + length (untagged_from first tags.now)) (block_count size))) (cond (size == old) [] (size_changes first tags.now inode old size)) result }
+{
+    if size == old {
+        return Ok(Vec::new(alloc));
+    }
+    let have = count_blocks(old);
+    let want = count_blocks(size);
+    let more = want.saturating_sub(have) as usize;
+    let fresh = free_blocks(alloc, tags, first, more)?;
+    if fresh.len() < more {
+        return Err(TreeFault::NoSpace);
+    }
+    let blocks = blocks_of(alloc, tags, inode, have)?;
+    let keep = (want as usize).min(blocks.len());
+    let changes = resize_changes(alloc, inode, size, &blocks[keep..], have as u8, &fresh)?;
+    Ok(changes)
+}
+
+fn resize_changes(alloc: Global, inode: u16, size: u32, dropped: &[u16], have: u8, fresh: &[u16]) -> Result<Vec<Change>, NoMemory>
+    requires { have + length fresh.now ≤ 255 }
+    ensures { IfOk result (λ v. v.items ≡ SetInode inode 1 size ∷ (freed dropped.now ++ given inode have fresh.now)) }
+{
+    let mut changes = Vec::new(alloc);
+    changes.push(Change::SetInode {
+        inode,
+        kind: 1,
+        size,
+    })?;
+    push_freed(&mut changes, dropped)?;
+    push_given(&mut changes, inode, have, fresh)?;
+    Ok(changes)
+}
+
+/// Adds the changes that give blocks to a file, from an index on.
+fn push_given(changes: &mut Vec<Change>, inode: u16, index: u8, blocks: &[u16]) -> Result<(), NoMemory>
+    requires { index + length blocks.now ≤ 255 }
+    ensures { OnOk result (changes.new.items ≡ changes.old.items ++ given inode index blocks.now) }
+{
+    let Some((block, rest)) = blocks.split_first() else {
+        return Ok(());
+    };
+    changes.push(Change::SetTag {
+        block: *block,
+        inode,
+        index,
+    })?;
+    push_given(changes, inode, index + 1, rest)
+}
+
+/// The changes that cut or grow a file to a size.
+pub(crate) fn plan_truncate(alloc: Global, inodes: &[Option<Inode>], directories: &[Rows], tags: &[Option<Tag>], first: u32, path: &[Bytes], size: u32) -> Result<Vec<Change>, TreeFault>
+    requires { length tags.now ≤ 4096 }
+    ensures { IsWhole (tables_of inodes.now directories.now tags.now) → PlansTo (refusal (tables_sight (data_of first (tables_of inodes.now directories.now tags.now)) (tables_of inodes.now directories.now tags.now)) (Truncate path.now size)) (changes (data_of first (tables_of inodes.now directories.now tags.now)) (tables_of inodes.now directories.now tags.now) (Truncate path.now size)) result }
+{
+    let (inode, old) = file_at(inodes, directories, tags, path)?;
+    if size > MAX_SIZE || old > MAX_SIZE {
+        return Err(TreeFault::TooLarge);
+    }
+    plan_size(alloc, tags, first, inode, old, size)
+}
+
+/// The changes of a write of so many bytes from an offset on.
+pub(crate) fn plan_write(alloc: Global, inodes: &[Option<Inode>], directories: &[Rows], tags: &[Option<Tag>], first: u32, path: &[Bytes], offset: u32, count: u32) -> Result<Vec<Change>, TreeFault>
+    requires { length tags.now ≤ 4096 }
+    ensures { IsWhole (tables_of inodes.now directories.now tags.now) → PlansTo (refusal (tables_sight (data_of first (tables_of inodes.now directories.now tags.now)) (tables_of inodes.now directories.now tags.now)) (Write path.now offset count)) (changes (data_of first (tables_of inodes.now directories.now tags.now)) (tables_of inodes.now directories.now tags.now) (Write path.now offset count)) result }
+{
+    let (inode, old) = file_at(inodes, directories, tags, path)?;
+    let end = offset as u64 + count as u64;
+    if end > MAX_SIZE as u64 || old > MAX_SIZE {
+        return Err(TreeFault::TooLarge);
+    }
+    let size = written(old, end as u32, count);
+    plan_size(alloc, tags, first, inode, old, size)
+}
+
+/// The size after a write that ends at `end`.
+fn written(old: u32, end: u32, count: u32) -> u32
+    requires { count ≤ end }
+    ensures { result ≡ written_size old (end - count) count }
+{
+    if count == 0 { old } else { old.max(end) }
+}
