@@ -4,10 +4,12 @@ use Rattle.pf_protocol.specs.Histories.{History}
 use Rattle.pf_protocol.proofs.Histories.{one_leader, safe}
 use Rattle.pf_protocol.proofs.Making.{accepted_proposed}
 use Rattle.pf_protocol.proofs.Origins.{source_of}
-use Rattle.pf_protocol.proofs.Facts.{accepted_is_kept, acks_are_true, commits_are_true, disks_covered, images_covered, jobs_are_apart, marks_stand, servers_covered, start_is_kept, votes_were_held}
+use Rattle.pf_protocol.proofs.Facts.{accepted_is_kept, acks_are_true, commits_are_true, disks_covered, held_is_within, images_covered, jobs_are_apart, marks_stand, servers_covered, start_is_kept}
 use Rattle.pf_protocol.proofs.Fresh.{fresh}
 use Rattle.pf_protocol.proofs.Snapshots.{snapshot_is}
-use Rattle.pf_protocol.proofs.LastWriters.{disks_hold, servers_hold}
+use Rattle.pf_protocol.proofs.LastWriters.{disks_hold, images_hold, servers_hold}
+use Rattle.pf_protocol.proofs.Legal.{legal_fits}
+use Rattle.pf_protocol.proofs.Voting.{votes_are_true}
 use Rattle.pf_group.specs.Sound.{IsSound}
 
 pub sound : (setup : Setup) (history : History) → IsSound setup history
@@ -16,10 +18,11 @@ sound setup history = record {
   leaders = one_leader setup history;
   fresh = fresh setup history;
   snapshots = snapshot_is setup history;
-  entries = record { made = accepted_proposed setup history; source = source_of setup history; kept = accepted_is_kept setup history; starts = start_is_kept setup history };
+  entries = record { made = accepted_proposed setup history; source = source_of setup history; kept = accepted_is_kept setup history; starts = start_is_kept setup history; within = held_is_within setup history };
   marks = marks_stand setup history;
   applied = record { servers = servers_covered setup history; disks = disks_covered setup history; images = images_covered setup history };
-  written = record { servers = servers_hold setup history; disks = disks_hold setup history };
+  written = record { servers = servers_hold setup history; disks = disks_hold setup history; images = images_hold setup history };
   jobs = jobs_are_apart setup history;
-  packets = record { votes = votes_were_held setup history; acks = acks_are_true setup history; commits = commits_are_true setup history };
+  bounded = legal_fits setup history;
+  packets = record { votes = votes_are_true setup history; acks = acks_are_true setup history; commits = commits_are_true setup history };
 }

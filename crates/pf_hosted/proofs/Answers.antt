@@ -1,5 +1,5 @@
 -- What an answered read of a group gives, and which moments of its history come first.
-use Rattle.std.proofs.Common.{◌≡◌, ℕ, ◌+◌, ◌-◌, ◌≤◌, List, ◌++◌, length, take, drop, Some, slice_get, slice_range, arith, refl, sym, ap, ◌∙◌}
+use Rattle.std.proofs.Common.{◌≡◌, ℕ, ◌+◌, ◌-◌, ◌≤◌, List, [], ◌∷◌, ◌++◌, length, take, drop, Some, slice_get, slice_range, arith, refl, sym, ap, ◌∙◌}
 use Rattle.std.proofs.lemmas.List.{length-take, length-drop, length-append, take-append-drop, take-take, take_at}
 use Rattle.pf_protocol.specs.Servers.{Setup, Running}
 use Rattle.pf_protocol.specs.Groups.{Answered}
@@ -26,7 +26,7 @@ length_range xs i n le = omega (arith, length-take ((i + n) - i) (drop i xs), le
 pub eight_given : (setup : Setup) (history : History) (k : ℕ) (a : Answered) → IsLegal setup history → slice_get (replay setup history).answered k ≡ Some a → a.range.first + a.range.count ≤ setup.chunk → length a.bytes ≡ a.range.count
 eight_given setup history k a legal at inside =
     let f = fresh setup history k a at in
-    let fits = (legal_fits setup f.answering (legal_before setup f.answering history f.is_earlier legal)).servers a.server (Running f.server) f.runs in
+    let fits = (legal_fits setup (f.answering ++ f.answering_event ∷ []) (legal_before setup (f.answering ++ f.answering_event ∷ []) history f.is_part legal)).servers a.server (Running f.server) f.runs in
     ap length f.bytes ∙ length_range f.server.sectors a.range.first a.range.count (omega (arith, fits.1.sectors.0, inside))
 
 -- a moment is so many first events

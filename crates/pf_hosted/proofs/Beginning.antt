@@ -15,7 +15,8 @@ use Rattle.pf_registers.specs.Firsts.{IsFirst, ComeFirst}
 use Rattle.pf_registers.specs.Alone.{IsWriteAckedBefore, HasBytes, IsWriteAskedBefore}
 use Rattle.pf_registers.specs.Moved.{IsWriteEndedBefore, IsMove}
 use Rattle.pf_registers.proofs.Lists.{something_there, length_mapped, left_at, left_there}
-use Rattle.pf_registers.proofs.Asking.{comes_op, comes_after, source}
+use Rattle.pf_protocol.proofs.Submitting.{comes_op, comes_after}
+use Rattle.pf_registers.proofs.Asking.{source}
 use Rattle.pf_registers.proofs.Owned.{ports_own}
 use Rattle.pf_registers.proofs.Owning.{IsByOne}
 use Rattle.pf_registers.proofs.Sectors.{in_order_between, sector_register}

@@ -1,31 +1,24 @@
 -- Where a fetch of a legal history is answered with a number, it took up the read of this number.
-use Rattle.std.proofs.Common.{◌≡◌, ℕ, zero, suc, inl, inr, List, [], ◌∷◌, ◌++◌, take, Option, Some, None, slice_get, refl, sym, ap, subst, ◌∙◌, nat_lt, ◌+◌, Bool, true, false, if◌then◌else◌}
+use Rattle.std.proofs.Common.{◌≡◌, ℕ, zero, suc, inl, inr, List, [], ◌∷◌, ◌++◌, take, Option, Some, None, slice_get, refl, sym, ap, subst, ◌∙◌}
 use Rattle.std.proofs.lemmas.Option.{same_Some, none-some}
 use Rattle.std.proofs.lemmas.List.{append_assoc}
 use Rattle.pf_base.specs.Span.{Span}
-use Rattle.pf_protocol.specs.declared.answers.Answer.{Answer}
 use Rattle.pf_protocol.specs.declared.answers.Answer.TheVariants.{Read as ReadIs, Slot as SlotIs, Refused}
 use Rattle.pf_protocol.specs.declared.answers.Refusal.{Refusal}
-use Rattle.pf_protocol.specs.declared.answers.Refusal.TheVariants.{WindowFull, NotLeader, Down, Halted}
-use Rattle.pf_protocol.specs.declared.events.Event.TheVariants.{Fetch, Submit}
+use Rattle.pf_protocol.specs.declared.answers.Refusal.TheVariants.{NotLeader, Down, Halted}
+use Rattle.pf_protocol.specs.declared.events.Event.TheVariants.{Fetch}
 use Rattle.pf_protocol.specs.declared.events.Happening.{Happening}
-use Rattle.pf_protocol.specs.Servers.{Setup, Role, Follower, Candidate, Merging, Serving, Server, Condition, Running, Stopped, Unformatted, Leader}
-use Rattle.pf_protocol.specs.Leading.{on_fetch, on_submit}
-use Rattle.pf_protocol.specs.Groups.{Group, Whole, ending, Answered, reads_after, acted, step_of, happens, opening}
-use Rattle.pf_protocol.specs.Histories.{History, run, replay, Runs, IsPrefix}
-use Rattle.pf_protocol.specs.Answers.{answer_at, answer_by, fetch_turn, fetch_refusal, submit_turn, submit_refusal, answer_to, IsAnswer, Claimed, IsLegalFrom, IsLegal, claims_after}
-use Rattle.pf_protocol.specs.Outcomes.{Outcome}
+use Rattle.pf_protocol.specs.Servers.{Setup, Role, Follower, Candidate, Merging, Serving, Server, Condition, Running, Stopped, Unformatted}
+use Rattle.pf_protocol.specs.Leading.{on_fetch}
+use Rattle.pf_protocol.specs.Groups.{Group, Whole, TookPlace, ending, Answered, reads_after, acted, step_of, happens, opening}
+use Rattle.pf_protocol.specs.Histories.{History, replay, Runs, IsPrefix}
+use Rattle.pf_protocol.specs.Answers.{answer_at, answer_by, fetch_turn, fetch_refusal, answer_to, IsAnswer, IsLegalFrom, IsLegal}
 use Rattle.pf_protocol.specs.Ports.{Submission, submitting, IsTarget, IsAnswered}
-use Rattle.pf_entry.specs.declared.ops.Op.{Op}
 use Rattle.pf_protocol.specs.Fresh.{IsFetch}
 use Rattle.pf_protocol.proofs.Making.{run_longer}
 use Rattle.pf_protocol.proofs.Fresh.{fresh}
+use Rattle.pf_protocol.proofs.Placing.{legal_at, given_slot}
 use Rattle.pf_registers.proofs.Fetches.{same_fetch}
-
--- an event of a legal history has its answer
-legal_at : (setup : Setup) (g : Group) (claims : List Claimed) (before : History) (h : Happening) (rest : History) → IsLegalFrom setup g claims (before ++ h ∷ rest) → IsAnswer setup (run setup g before) h.event h.answer
-legal_at setup g claims [] h rest is = is.0.answered
-legal_at setup g claims (x ∷ xs) h rest is = legal_at setup (happens setup g x.event (ending x.answer)) (claims_after claims x.event x.answer) xs h rest is.1
 
 number_apart : (number : ℕ) (refusal : Refusal) → ReadIs number ≡ Refused refusal → ⊥
 number_apart number refusal e = cc
@@ -113,50 +106,8 @@ answered_taken_up setup history place i k range a legal at there =
     let events : Fetch a.server a.range ≡ Fetch i range = sym its.event ∙ ap (λ (h : Happening). h.event) one ∙ own.event in
     record { took_up = its; same_range = cc }
 
-slot_apart : (slot : ℕ) (refusal : Refusal) → SlotIs slot ≡ Refused refusal → ⊥
-slot_apart slot refusal e = cc
-
 same_slot : (a b : ℕ) → SlotIs a ≡ SlotIs b → a ≡ b
 same_slot a b e = cc
-
--- an answer that one of two outcomes does not give
-other_one : (answer : Answer) (c : Bool) (x y : Outcome) → answer ≡ (if c then x else y).answer → (answer ≡ x.answer → ⊥) → answer ≡ y.answer
-other_one answer true x y is differs = absurd (differs is)
-other_one answer false x y is differs = is
-
-module _ (setup : Setup) (g : Group) (i slot : ℕ) (op : Op) where
-  -- the server serves, and the slot is its next one
-  record TakesSlot : Type 0 where
-    server : Server
-    leader : Leader
-    runs : Runs g i server
-    serves : server.role ≡ Serving leader
-    next : slot ≡ leader.next
-
-  slot_by_role : (s : Server) → Runs g i s → (role : Role) → s.role ≡ role → SlotIs slot ≡ (on_submit setup s op role).answer → TakesSlot
-  unfolding on_submit
-  slot_by_role s runs Follower is answer = absurd (slot_apart slot NotLeader answer)
-  slot_by_role s runs (Candidate own) is answer = absurd (slot_apart slot NotLeader answer)
-  slot_by_role s runs (Merging l) is answer = absurd (slot_apart slot NotLeader answer)
-  slot_by_role s runs (Serving l) is answer =
-      record { server = s; leader = l; runs = runs; serves = is; next = same_slot slot l.next (other_one (SlotIs slot) (nat_lt (s.durable.base + setup.window) l.next) _ _ answer (slot_apart slot WindowFull)) }
-
-  slot_by_refusal : (s : Server) → Runs g i s → (r : Option Refusal) → SlotIs slot ≡ answer_by r (on_submit setup s op s.role).answer → TakesSlot
-  slot_by_refusal s runs None answer = slot_by_role s runs s.role refl answer
-  slot_by_refusal s runs (Some refusal) answer = absurd (slot_apart slot refusal answer)
-
-  slot_by_condition : (c : Option Condition) → slice_get g.servers i ≡ c → SlotIs slot ≡ answer_at c (submit_turn setup g op) → TakesSlot
-  slot_by_condition (Some (Running s)) is answer = slot_by_refusal s is (submit_refusal setup g op s) answer
-  slot_by_condition (Some (Stopped life before after)) is answer = absurd (slot_apart slot Down answer)
-  slot_by_condition (Some Unformatted) is answer = absurd (slot_apart slot Down answer)
-  slot_by_condition None is answer = absurd (slot_apart slot Down answer)
-
-  takes_slot : IsAnswer setup g (Submit i op) (SlotIs slot) → TakesSlot
-  unfolding answer_to
-  takes_slot answer = elim answer [
-    | inl is ↦ slot_by_condition (slice_get g.servers i) refl is
-    | inr halted ↦ absurd (slot_apart slot Halted halted.1)
-  ]
 
 -- it is answered, by the acknowledgement of this slot
 pub record IsSlotAcked (setup : Setup) (now : History) (a : Submission) (slot : ℕ) : Type 0 where
@@ -166,17 +117,16 @@ pub record IsSlotAcked (setup : Setup) (now : History) (a : Submission) (slot : 
 -- a submission that was answered with a slot is answered once the leader of its term acknowledged the slot
 pub slot_acked : (setup : Setup) (history now : History) (a : Submission) (slot term n : ℕ) → IsLegal setup history → IsPrefix (a.before ++ submitting a ∷ []) history → a.answer ≡ SlotIs slot → ((x : IsTarget setup a) → x.server.durable.term ≡ term) → slice_get (replay setup now).acked n ≡ Some (record { term = term; slot = slot }) → IsSlotAcked setup now a slot
 slot_acked setup history now a slot term n legal made answer in_term acked =
-    let whole = sym (append_assoc a.before (submitting a ∷ []) made.rest) ∙ made.whole in
-    let its = legal_at setup (opening setup) [] a.before (submitting a) made.rest (subst (IsLegalFrom setup (opening setup) []) (sym whole) legal.legal) in
-    let t = takes_slot setup (replay setup a.before) a.server slot a.op (subst (IsAnswer setup (replay setup a.before) (Submit a.server a.op)) answer its) in
+    let t = given_slot setup history a legal made (ap ending answer) in
     record {
       answered = record {
         target = record { server = t.server; leader = t.leader; runs = t.runs; serves = t.serves };
+        took_place = subst (λ z. TookPlace (ending z)) (sym answer) tt;
         k = n;
         acked = record { term = term; slot = slot };
         at = acked;
         in_term = sym (in_term (record { server = t.server; leader = t.leader; runs = t.runs; serves = t.serves }));
-        in_slot = t.next;
+        in_slot = same_slot slot t.leader.next (sym answer ∙ t.gives);
       };
       in_slot = refl;
     }

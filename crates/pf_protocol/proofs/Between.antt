@@ -1,5 +1,5 @@
 -- Writes of different ports: one that began after another was acknowledged is chosen after it.
-use Rattle.std.proofs.Common.{◌≡◌, ℕ, ◌<◌, ◌≤◌, ◌≢◌, ◌⊎◌, inl, inr, true, false, List, [], ◌∷◌, ◌++◌, Some, slice_get, arith, refl, sym, ap, subst, ◌∙◌, lt_of_le_of_lt, le_of_lt}
+use Rattle.std.proofs.Common.{◌≡◌, ℕ, ◌<◌, ◌≤◌, ◌≢◌, ◌⊎◌, inl, inr, true, false, List, [], ◌∷◌, ◌++◌, Some, slice_get, arith, refl, sym, ap, subst, ◌∙◌, lt_of_le_of_lt}
 use Rattle.std.specs.FinMap
 use Rattle.std.proofs.lemmas.Bool.{cases_lt, cases_eq, or_cases, false_from_ne_true, or_left, le-leb}
 use Rattle.std.proofs.lemmas.Option.{same_Some}
@@ -22,14 +22,15 @@ use Rattle.pf_protocol.specs.Saving.{restarted, claimed}
 use Rattle.pf_protocol.specs.Groups.{Acked, Group, ending, happens, opening, first_leader}
 use Rattle.pf_protocol.specs.Histories.{History, IsPrefix, replay, Runs, HasAccepted, IsProposal, IsChosen, IsTakenFrom, HasOrigin, Itself, Through}
 use Rattle.pf_protocol.specs.Kept.{Now}
-use Rattle.pf_protocol.specs.Ports.{Submission, submitting, HasEnded, FollowsRule, ComesFrom, IsOrderedBetween}
+use Rattle.pf_protocol.specs.Ports.{Submission, submitting, FollowsRule, IsOrderedBetween}
 use Rattle.pf_protocol.proofs.Ballots.{Cast, first_of, IsStart, Faithful, HasQuorum, IsPicked}
 use Rattle.pf_protocol.proofs.Law.{share, kept_at}
 use Rattle.pf_protocol.proofs.Knowing.{IsAcked}
 use Rattle.pf_protocol.proofs.Follows.{IsCandidate, IsLeader, RoleIs}
 use Rattle.pf_protocol.proofs.Making.{Stems, IsKeyed, VoteFrom, backs_all, submit_stems, fetch_stems, elect_stems, resend_stems, checkpoint_stems, finish_stems, give_back_stems, message_stems, accepted_longer, run_longer}
 use Rattle.pf_protocol.proofs.Histories.{told, Stands, held_at_end, chosen_at_end}
-use Rattle.pf_protocol.proofs.Facts.{servers_covered, marks_stand, held_is_within, votes_were_held}
+use Rattle.pf_protocol.proofs.Facts.{servers_covered, marks_stand, held_is_within}
+use Rattle.pf_protocol.proofs.Voting.{votes_are_true}
 use Rattle.pf_protocol.proofs.Origins.{prefix_of, begins_with, accepted_after, taken_is_proposal}
 use Rattle.pf_protocol.proofs.Naming.{nothing_old}
 use Rattle.pf_protocol.proofs.Stepping.{IsRule, BySubmit, ByFetch, ByPacket, ByElect, ByResend, ByFinish, ByGiveBack, ByCheckpoint, Came, Stays, Stepped, Begins, Claims, goes}
@@ -335,8 +336,8 @@ module _ (setup : Setup) (history now : History) (p : IsPrefix now history) (n :
               | inr is ↦ own_stand d k is low
             ]
         | inr other ↦
-            let w = votes_were_held setup k.earlier k.k k.sent k.other k.merge.was_sent k.merge.is_vote in
-            let held : HasAccepted setup k.earlier k.sent.packet.from e = record { earlier = w.earlier; is_earlier = w.is_earlier; holds = record { server = w.server; runs = w.runs; held = ap (FinMap.get w.server.durable.log) same ∙ ap (λ v. FinMap.get v.log d.slot) (sym w.holds) ∙ other } } in
+            let w = votes_are_true setup k.earlier k.k k.sent k.other k.merge.was_sent k.merge.is_vote in
+            let held : HasAccepted setup k.earlier k.sent.packet.from e = record { earlier = w.earlier; is_earlier = begins_with w.earlier k.earlier w.voting w.is_part; holds = record { server = w.server; runs = w.runs; held = ap (FinMap.get w.server.durable.log) same ∙ ap (λ v. FinMap.get v.log d.slot) (sym w.holds) ∙ other } } in
             elim (who k.sent.packet.from (other_faithful setup history d e k).0) [
               | inl pair ↦ pair_silent k.sent.packet.from pair (accepted_after setup k.earlier history first k.sent.packet.from e held)
               | inr is ↦ elim (comparable k.earlier _ now p.rest (first.whole ∙ sym p.whole)) [
@@ -371,19 +372,16 @@ module _ (setup : Setup) (history now : History) (p : IsPrefix now history) (n :
   no_origin _ _ (Through d from origin proposal k rest) same slot t op c is = through_never d from origin k rest same
 
 -- every port and every submission of another, and no slot is of both
-pub strictly_between : (setup : Setup) (history : History) (port : List Submission) → FollowsRule setup history port → (j : ℕ) (a b : Submission) (low high : ℕ) → slice_get port j ≡ Some a → IsPrefix (b.before ++ submitting b ∷ []) history → HasEnded setup port b.before a.write → ComesFrom setup history low b → ComesFrom setup history high a → high < low
-strictly_between setup history port rule j a b low high at_j happened ended fb fa =
-    elim (cases_lt high low) [
+pub ordered_between : (setup : Setup) (history : History) (port : List Submission) → FollowsRule setup history port → IsOrderedBetween setup history port
+ordered_between setup history port rule j a b first second at_j happened ended fa fb =
+    elim (cases_lt first second) [
       | inl below ↦ below
       | inr not_below ↦ elim (cases_lt fb.copy.target.server.durable.term ended.answered.acked.term) [
         | inl lower ↦
             let y = fb.copy.target in
             let fields = new_slot setup.names y.server y.leader b.op in
             absurd (no_origin setup history b.before (begins_with b.before history (submitting b) happened) ended.answered.k ended.answered.acked ended.answered.at b.server y.server y.leader y.runs y.serves lower fb.origin
-            (ap (λ x. x.slot) fb.copy.is ∙ fields.0) (ap (λ x. x.term) fb.copy.is ∙ fields.1) fb.chosen.entry fb.origin fb.comes refl low fb.term fb.op fb.chosen refl)
-        | inr not_lower ↦ absurd (not_from setup history port rule j a b at_j happened ended low high fb fa (omega (arith, not_lower, ended.answered.in_term)) not_below)
+            (ap (λ x. x.slot) fb.copy.is ∙ fields.0) (ap (λ x. x.term) fb.copy.is ∙ fields.1) fb.chosen.entry fb.origin fb.comes refl second fb.term fb.op fb.chosen refl)
+        | inr not_lower ↦ absurd (not_from setup history port rule j a b at_j happened ended second first fb fa (omega (arith, not_lower, ended.answered.in_term)) not_below)
       ]
     ]
-
-pub ordered_between : (setup : Setup) (history : History) (port : List Submission) → FollowsRule setup history port → IsOrderedBetween setup history port
-ordered_between setup history port rule j a b low high at_j happened ended fb fa = le_of_lt (strictly_between setup history port rule j a b low high at_j happened ended fb fa)

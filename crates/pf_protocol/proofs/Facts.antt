@@ -12,9 +12,8 @@ use Rattle.pf_entry.specs.Voids.{IsVoid}
 use Rattle.pf_entry.proofs.Lists.{every_get}
 use Rattle.pf_entry.specs.declared.ops.Op.{Op}
 use Rattle.pf_entry.specs.declared.entries.Entry.{Entry}
-use Rattle.pf_entry.specs.declared.entries.VoteLog.{VoteLog}
 use Rattle.pf_entry.specs.declared.packets.Body.{Body}
-use Rattle.pf_entry.specs.declared.packets.Body.TheVariants.{Vote, Ack, Commit, Image}
+use Rattle.pf_entry.specs.declared.packets.Body.TheVariants.{Ack, Commit, Image}
 use Rattle.pf_entry.specs.Entries.{IsNew}
 use Rattle.pf_entry.specs.Records.{Durable, vote_of}
 use Rattle.pf_entry.specs.Applying.{passes, is_applied}
@@ -29,10 +28,10 @@ use Rattle.pf_protocol.proofs.Follows.{IsLeader, RoleIs, BodyIs, PacketIs}
 use Rattle.pf_protocol.proofs.Opening.{opening_ballots}
 use Rattle.pf_protocol.specs.Servers.{Setup, Leader, Server, Running, Stopped, has_applied}
 use Rattle.pf_protocol.specs.Groups.{Sent, opening}
-use Rattle.pf_protocol.specs.Histories.{History, IsPrefix, replay, Runs, HasAccepted, IsProposal, IsChosen, WasHeld}
-use Rattle.pf_protocol.specs.Kept.{MayHold, Now, Without, With, IsKeptIn, IsChosenIn, HasChosen, Respects, Leads, IsMarked, IsPassed, IsCovered, IsInHand, HasAcked}
+use Rattle.pf_protocol.specs.Histories.{History, IsPrefix, replay, Runs, HasAccepted, IsProposal, IsChosen}
+use Rattle.pf_protocol.specs.Kept.{MayHold, Now, Without, With, IsKeptIn, IsChosenIn, HasChosen, Respects, Leads, IsMarked, IsPassed, IsCovered, IsInHand, HasAcked, HasCommitted}
 use Rattle.pf_protocol.proofs.Serving.{IsPassed as PassedIn}
-use Rattle.pf_protocol.proofs.Making.{IsSaid, backs_all, accepted_proposed}
+use Rattle.pf_protocol.proofs.Making.{accepted_proposed}
 use Rattle.pf_protocol.proofs.Origins.{accepted_after}
 use Rattle.pf_protocol.proofs.Histories.{Told, told, held_at_end, accepted_in_history, chosen_at_end, chosen_in_history, chosen_entry, known_in_history}
 
@@ -186,10 +185,6 @@ module _ (setup : Setup) (history : History) where
       turned x y is = grind (arith, nat_tests, is)
 
   -- packets
-  pub votes_were_held : (k : ℕ) (sent : Sent) (v : VoteLog) → slice_get (replay setup history).packets k ≡ Some sent → sent.packet.body ≡ Vote v → WasHeld setup history sent.packet.from sent.packet.term v
-  votes_were_held k sent v at is =
-      (subst (IsSaid setup history sent.packet.from sent.packet.term) is (every_get (λ p. IsSaid setup history p.packet.from p.packet.term p.packet.body) (replay setup history).packets k sent (backs_all setup history).packets at)).1
-
   pub acks_are_true : (k : ℕ) (sent : Sent) (slot upto : ℕ) → slice_get (replay setup history).packets k ≡ Some sent → sent.packet.body ≡ Ack slot upto → 0 < slot → HasAcked setup history sent.packet.from slot sent.packet.term
   acks_are_true k sent slot upto at is above =
       let z = told setup history in
@@ -201,14 +196,12 @@ module _ (setup : Setup) (history : History) where
         | inr knows ↦ inr (λ p p_above low. known_of p sent.packet.term (knows p p_above low))
       ]
 
-  pub commits_are_true : (k : ℕ) (sent : Sent) (slot : ℕ) (e : Entry) → slice_get (replay setup history).packets k ≡ Some sent → sent.packet.body ≡ Commit slot → IsProposal setup history e → e.slot ≡ slot → e.term ≡ sent.packet.term → IsChosenIn setup history slot sent.packet.term e.op
-  commits_are_true k sent slot e at is proposal in_slot in_term =
-      let z = told setup history in
-      let known = packet_is k sent (Commit slot) at is in
-      let h = held_at_end setup history proposal.leader e proposal.recorded in
-      let proposed : z.ballots.proposal slot sent.packet.term ≡ Some e = ap (λ s. z.ballots.proposal s sent.packet.term) (sym in_slot) ∙ ap (z.ballots.proposal e.slot) (sym in_term) ∙ h.proposed in
-      let same = proposal_agrees z.ballots z.sound slot sent.packet.term sent.packet.term known.op e known.chosen (le_refl _) proposed in
-      subst (IsChosenIn setup history slot sent.packet.term) (sym same) (chosen_of slot sent.packet.term known.op known.chosen)
+  pub commits_are_true : (k : ℕ) (sent : Sent) (slot : ℕ) → slice_get (replay setup history).packets k ≡ Some sent → sent.packet.body ≡ Commit slot → HasCommitted setup history slot sent.packet.term
+  commits_are_true k sent slot at is =
+      let c = packet_is k sent (Commit slot) at is in
+      let made = (told setup history).sound.made slot sent.packet.term c.entry c.is in
+      let accepted = accepted_in_history setup history sent.packet.from slot sent.packet.term c.entry c.own c.is in
+      (c.entry, accepted_proposed setup history sent.packet.from c.entry accepted, made.in_slot, made.in_term, chosen_of slot sent.packet.term c.entry.op c.chosen)
 
   -- a leader of a later term, also one that has proposed nothing
   own_proposal : (earlier : History) → IsPrefix earlier history → (i : ℕ) (s : Server) (l : Leader) → Runs (replay setup earlier) i s → Leads s l → (slot : ℕ) → l.b0 < slot → slot < l.first → (e : Entry) × IsProposal setup history e × (e.slot ≡ slot) × (e.term ≡ s.durable.term)

@@ -1,8 +1,8 @@
 -- Reads that wait, from the moment at which they were taken up.
-use Rattle.std.proofs.Common.{◌≡◌, ℕ, suc, ◌+◌, ◌<◌, ◌≤◌, ◌≢◌, inl, inr, Bool, true, false, not, ◌==◌, if◌then◌else◌, List, [], ◌∷◌, ◌++◌, map, Some, slice_get, slice_range, arith, refl, sym, ap, subst, ◌∙◌, le_refl}
+use Rattle.std.proofs.Common.{◌≡◌, ℕ, suc, ◌+◌, ◌<◌, ◌≤◌, ◌≢◌, inl, inr, Bool, true, false, not, ◌==◌, if◌then◌else◌, List, [], ◌∷◌, ◌++◌, length, map, Some, slice_get, slice_range, arith, refl, sym, ap, subst, ◌∙◌, le_refl}
 use Rattle.std.specs.List.{filter}
 use Rattle.std.proofs.lemmas.Bool.{eqb-true, false≢true}
-use Rattle.std.proofs.lemmas.Option.{same_Some}
+use Rattle.std.proofs.lemmas.Option.{same_Some, none-some}
 use Rattle.pf_entry.specs.Lists.{Every}
 use Rattle.pf_entry.proofs.Lists.{every_append, every_more, every_map, every_filter, every_get}
 use Rattle.pf_entry.specs.Applying.{is_applied}
@@ -14,7 +14,7 @@ use Rattle.pf_protocol.specs.declared.events.Event.TheVariants.{Fetch}
 use Rattle.pf_protocol.specs.declared.events.Happening.{Happening}
 use Rattle.pf_protocol.specs.Servers.{Setup, Leader, Role, Follower, Candidate, Merging, Serving, Read, Server, Running, has_applied}
 use Rattle.pf_protocol.specs.Outcomes.{Outcome}
-use Rattle.pf_protocol.specs.Leading.{has_acked, confirm}
+use Rattle.pf_protocol.specs.Leading.{has_acked, is_own, confirm}
 use Rattle.pf_protocol.specs.Rows.{is_ready, ready_reads, settled}
 use Rattle.pf_protocol.specs.Saving.{restarted, claimed}
 use Rattle.pf_protocol.specs.Groups.{Acked, Answered, Sent, Group, answer_of, reads_after, ending, happens, opening, first_leader}
@@ -22,7 +22,7 @@ use Rattle.pf_protocol.specs.Histories.{History, IsPrefix, run, replay, Runs}
 use Rattle.pf_protocol.proofs.Making.{longer, run_longer}
 use Rattle.pf_protocol.proofs.Histories.{Told, told, tell}
 use Rattle.pf_protocol.proofs.Follows.{PacketIs}
-use Rattle.pf_protocol.proofs.Stepping.{Steps, Came, Stays, Stepped, Begins, Claims, Goes, goes}
+use Rattle.pf_protocol.proofs.Stepping.{Steps, Came, Stays, Stepped, Begins, Claims, answers_of, adds_at, packets_every, acked_every, Goes, goes}
 use Rattle.pf_protocol.proofs.Snapshots.{whole_prefix, by_events, opened}
 use Rattle.pf_protocol.proofs.Moving.{More, AcksGrow, RoleStep, RoleReads, IsReadless, new_read, Speaks, Plainly, Asks, AsksAgain, Replies, Requests, Grants, ReadsFrom, NoReads, SameReads, Takes, Confirms, Does, does}
 
@@ -60,7 +60,8 @@ term_low setup earlier history p i x s before at =
 -- another server answered for the read's leader while its own term was not above the leader's
 pub record Confirmed (setup : Setup) (history : History) (i term number : ℕ) : Type 0 where
   pub earlier : History
-  pub is_earlier : IsPrefix earlier history
+  pub reply : Happening
+  pub is_part : IsPrefix (earlier ++ reply ∷ []) history
   pub other : ℕ
   pub apart : other ≢ i
   pub server : Server
@@ -132,16 +133,20 @@ pub record AckedBy (setup : Setup) (history : History) (a : Acked) : Type 0 wher
   pub runs : Runs (replay setup earlier) i server
   pub serves : server.role ≡ Serving leader
   pub in_term : server.durable.term ≡ a.term
+  pub own : is_own leader a.slot ≡ true
   pub stays : (z : Server) → Runs (replay setup history) i z → z.durable.term ≡ a.term → StaysIn (HeardOf i a.slot) (has_applied z) z.role
 
--- the moment at which a read was answered
-pub record WasRead (setup : Setup) (history : History) (a : Answered) : Type 0 where
+-- the event at which a read was answered, and what its server had then. Its answer stands in place k
+pub record WasRead (setup : Setup) (history : History) (k : ℕ) (a : Answered) : Type 0 where
   pub earlier : History
-  pub is_earlier : IsPrefix earlier history
+  pub answering : Happening
+  pub is_part : IsPrefix (earlier ++ answering ∷ []) history
+  pub not_yet : length (replay setup earlier).answered ≤ k
+  pub there : slice_get (replay setup (earlier ++ answering ∷ [])).answered k ≡ Some a
   pub server : Server
   pub read : Read
-  pub runs : Runs (replay setup earlier) a.server server
-  pub waits : Waits setup earlier a.server server read
+  pub runs : Runs (replay setup (earlier ++ answering ∷ [])) a.server server
+  pub waits : Waits setup (earlier ++ answering ∷ []) a.server server read
   pub ready : is_ready server read ≡ true
   pub number : a.number ≡ read.number
   pub range : a.range ≡ read.range
@@ -156,7 +161,7 @@ pub record Traced (setup : Setup) (history : History) : Type 0 where
   pub idle : (i : ℕ) (s : Server) → Runs (replay setup history) i s → RoleReads s.role s.reads
   pub says : Every (λ p. Says setup history p.packet.from p.packet.to p.packet.term p.packet.body) (replay setup history).packets
   pub acked : Every (AckedBy setup history) (replay setup history).acked
-  pub answered : Every (WasRead setup history) (replay setup history).answered
+  pub answered : (k : ℕ) (a : Answered) → slice_get (replay setup history).answered k ≡ Some a → WasRead setup history k a
 
 readless_says : (setup : Setup) (history : History) (from to term : ℕ) (body : Body) → IsReadless body → Says setup history from to term body
 readless_says setup history from to term (RequestVote base) is = absurd is
@@ -229,7 +234,7 @@ module _ (setup : Setup) (history : History) (h : Happening) (t : Traced setup h
   counted i s o step is = ap (λ g. g.reads) same ∙ step.counts ∙ ap (reads_after (replay setup history).reads) is
 
   confirmed_longer : (i term number : ℕ) → Confirmed setup history i term number → Confirmed setup next i term number
-  confirmed_longer i term number c = record { earlier = c.earlier; is_earlier = longer setup history h c.earlier c.is_earlier; other = c.other; apart = c.apart; server = c.server; runs = c.runs; low = c.low; asked = c.asked }
+  confirmed_longer i term number c = record { earlier = c.earlier; reply = c.reply; is_part = longer setup history h (c.earlier ++ c.reply ∷ []) c.is_part; other = c.other; apart = c.apart; server = c.server; runs = c.runs; low = c.low; asked = c.asked }
 
   -- a read waits on
   waits_on : (i : ℕ) (s z : Server) → z.durable.term ≡ s.durable.term → More s z → (r : Read) → Waits setup history i s r → Waits setup next i z r
@@ -362,7 +367,8 @@ module _ (setup : Setup) (history : History) (h : Happening) (t : Traced setup h
   speaks i s o step p (AsksAgain n body low) = subst (Says setup next p.from p.to p.term) (sym body) (omega (arith, low, reads_now))
   speaks i s o step p (Replies k sent n upto_there at to_it probe body to term low) = subst (Says setup next p.from p.to p.term) (sym body) (record {
     earlier = history;
-    is_earlier = one_more;
+    reply = h;
+    is_part = whole_prefix next;
     other = i;
     apart = λ is. apart_packet k sent at (sym to ∙ sym is ∙ sym to_it);
     server = s;
@@ -371,7 +377,7 @@ module _ (setup : Setup) (history : History) (h : Happening) (t : Traced setup h
     asked = said k sent (Probe n) at probe;
   })
   speaks i s o step p (Requests base body from le) = subst (Says setup next p.from p.to p.term) (sym body) (rose_now i s o step p.from p.term (from ∙ stepper_number i s step.runs) le)
-  speaks i s o step p (Grants k sent base v at to_it request body from to term lower) = subst (Says setup next p.from p.to p.term) (sym body) (record {
+  speaks i s o step p (Grants k sent base at to_it request body from to term lower) = subst (Says setup next p.from p.to p.term) (sym body) (record {
     earlier = history;
     is_earlier = one_more;
     server = s;
@@ -381,7 +387,7 @@ module _ (setup : Setup) (history : History) (h : Happening) (t : Traced setup h
   })
 
   next_says : Every (λ p. Says setup next p.packet.from p.packet.to p.packet.term p.packet.body) now.packets
-  next_says = gone.packets (λ p. Says setup next p.from p.to p.term p.body)
+  next_says = packets_every setup (replay setup history) h.event now gone (λ p. Says setup next p.from p.to p.term p.body)
       (every_more (λ p. Says setup history p.packet.from p.packet.to p.packet.term p.packet.body) (λ p. Says setup next p.packet.from p.packet.to p.packet.term p.packet.body) (λ p is. says_longer p.packet.from p.packet.to p.packet.term p.packet.body is) (replay setup history).packets t.says)
       (λ i s o step. every_more (Speaks (λ n. n < (replay setup history).reads) (replay setup history) i s h.event o.answer o.server.durable.term) (λ p. Says setup next p.from p.to p.term p.body) (speaks i s o step) o.packets
       ((step_does i s o step).packets (λ n. n < (replay setup history).reads) (numbers_low i s step.runs)))
@@ -407,6 +413,7 @@ module _ (setup : Setup) (history : History) (h : Happening) (t : Traced setup h
     runs = x.runs;
     serves = x.serves;
     in_term = x.in_term;
+    own = x.own;
     stays = λ z at. came_stays (HeardOf x.i a.slot) (heard_grows x.i a.slot) x.i a.term (λ s runs. omega (arith, term_low setup x.earlier history x.is_earlier x.i x.server s x.runs runs, x.in_term)) x.stays z (gone.servers x.i z (to_now x.i z at));
   }
 
@@ -429,17 +436,21 @@ module _ (setup : Setup) (history : History) (h : Happening) (t : Traced setup h
         runs = step.runs;
         serves = by.tells.served;
         in_term = sym by.tells.same_term;
+        own = by.tells.own;
         stays = λ z at in_term. subst (λ x. StaysIn (HeardOf i slot) (has_applied x) x.role) (same_server i (settled o.server) z step.runs_on (to_now i z at))
             (subst (StaysIn (HeardOf i slot) (has_applied o.server)) (sym by.tells.serves) (by.sent.packet.from, (λ from. apart_packet by.k by.sent by.at (from ∙ sym by.to_it)), by.tells.counts));
       }
 
   next_acked : Every (AckedBy setup next) now.acked
-  next_acked = gone.acked (AckedBy setup next) (every_more (AckedBy setup history) (AckedBy setup next) acked_on (replay setup history).acked t.acked) acked_new
+  next_acked = acked_every setup (replay setup history) h.event now gone (AckedBy setup next) (every_more (AckedBy setup history) (AckedBy setup next) acked_on (replay setup history).acked t.acked) acked_new
 
-  read_on : (a : Answered) → WasRead setup history a → WasRead setup next a
-  read_on a x = record {
+  read_on : (k : ℕ) (a : Answered) → WasRead setup history k a → WasRead setup next k a
+  read_on k a x = record {
     earlier = x.earlier;
-    is_earlier = longer setup history h x.earlier x.is_earlier;
+    answering = x.answering;
+    is_part = longer setup history h (x.earlier ++ x.answering ∷ []) x.is_part;
+    not_yet = x.not_yet;
+    there = x.there;
     server = x.server;
     read = x.read;
     runs = x.runs;
@@ -451,20 +462,27 @@ module _ (setup : Setup) (history : History) (h : Happening) (t : Traced setup h
     base = x.base;
     applied = x.applied;
     bytes = x.bytes;
-    stays = λ z at. came_stays (HasAll (is_applied a.base a.applied)) (all_grows (is_applied a.base a.applied)) a.server a.term (λ s runs. omega (arith, term_low setup x.earlier history x.is_earlier a.server x.server s x.runs runs, x.term)) x.stays z (gone.servers a.server z (to_now a.server z at));
+    stays = λ z at. came_stays (HasAll (is_applied a.base a.applied)) (all_grows (is_applied a.base a.applied)) a.server a.term (λ s runs. omega (arith, term_low setup (x.earlier ++ x.answering ∷ []) history x.is_part a.server x.server s x.runs runs, x.term)) x.stays z (gone.servers a.server z (to_now a.server z at));
   }
 
   number_is : (i : ℕ) (s : Server) (o : Outcome) → Steps setup (replay setup history) h.event now i s o → o.server.number ≡ i
   unfolding settled
   number_is i s o step = ((told setup next).follows.servers i (Running (settled o.server)) (from_now i (settled o.server) step.runs_on)).1.number
 
-  read_new : (i : ℕ) (s : Server) (o : Outcome) → Steps setup (replay setup history) h.event now i s o → (l : Leader) → o.server.role ≡ Serving l → (r : Read) → is_ready o.server r ≡ true → Waits setup next i (settled o.server) r → WasRead setup next (answer_of o.server r)
+  -- the answer, in the next place
+  abbrev IsNew : ℕ → Answered → Type 0
+  IsNew k a = (length (replay setup history).answered ≤ k) × (slice_get now.answered k ≡ Some a)
+
+  read_new : (k i : ℕ) (s : Server) (o : Outcome) → Steps setup (replay setup history) h.event now i s o → (l : Leader) → o.server.role ≡ Serving l → (r : Read) → is_ready o.server r ≡ true → Waits setup next i (settled o.server) r → IsNew k (answer_of o.server r) → WasRead setup next k (answer_of o.server r)
   unfolding settled
-  read_new i s o step l serves r ready w =
+  read_new k i s o step l serves r ready w new =
       let number = number_is i s o step in
       record {
-        earlier = next;
-        is_earlier = whole_prefix next;
+        earlier = history;
+        answering = h;
+        is_part = whole_prefix next;
+        not_yet = new.0;
+        there = ap (λ g. slice_get g.answered k) same ∙ new.1;
         server = settled o.server;
         read = r;
         runs = from_now o.server.number (settled o.server) (subst (λ k. Runs now k (settled o.server)) (sym number) step.runs_on);
@@ -480,22 +498,29 @@ module _ (setup : Setup) (history : History) (h : Happening) (t : Traced setup h
             (subst (StaysIn (HasAll (has_applied o.server)) (has_applied o.server)) (sym serves) (λ slot is. is));
       }
 
-  reads_new : (i : ℕ) (s : Server) (o : Outcome) → Steps setup (replay setup history) h.event now i s o → Every (WasRead setup next) (map (answer_of o.server) (ready_reads o.server))
-  reads_new i s o step = by_role o.server.role refl ((step_does i s o step).moves.idle (t.idle i s step.runs))
-    where
-      none : o.server.reads ≡ [] → Every (WasRead setup next) (map (answer_of o.server) (ready_reads o.server))
-      none is = subst (λ rs. Every (WasRead setup next) (map (answer_of o.server) (filter (is_ready o.server) rs))) (sym is) tt
+  abbrev NewlyRead : ℕ → Answered → Type 0
+  NewlyRead k a = IsNew k a → WasRead setup next k a
 
-      by_role : (role : Role) → o.server.role ≡ role → RoleReads role o.server.reads → Every (WasRead setup next) (map (answer_of o.server) (ready_reads o.server))
+  reads_new : (k i : ℕ) (s : Server) (o : Outcome) → Steps setup (replay setup history) h.event now i s o → Every (NewlyRead k) (answers_of o)
+  reads_new k i s o step = by_role o.server.role refl ((step_does i s o step).moves.idle (t.idle i s step.runs))
+    where
+      none : o.server.reads ≡ [] → Every (NewlyRead k) (answers_of o)
+      none is = subst (λ rs. Every (NewlyRead k) (map (answer_of o.server) (filter (is_ready o.server) rs))) (sym is) tt
+
+      by_role : (role : Role) → o.server.role ≡ role → RoleReads role o.server.reads → Every (NewlyRead k) (answers_of o)
       by_role Follower serves is = none is
       by_role (Candidate own) serves is = none is
       by_role (Merging l) serves is = none is
-      by_role (Serving l) serves is = every_map (WasRead setup next) (answer_of o.server) (ready_reads o.server)
-          (every_filter (λ r. WasRead setup next (answer_of o.server r)) (is_ready o.server) o.server.reads
-          (every_more (Waits setup next i (settled o.server)) (λ r. is_ready o.server r ≡ true → WasRead setup next (answer_of o.server r)) (λ r w ready. read_new i s o step l serves r ready w) o.server.reads (settled_waits i o.server o.server.reads (stepped_waits i s o step))))
+      by_role (Serving l) serves is = every_map (NewlyRead k) (answer_of o.server) (ready_reads o.server)
+          (every_filter (λ r. NewlyRead k (answer_of o.server r)) (is_ready o.server) o.server.reads
+          (every_more (Waits setup next i (settled o.server)) (λ r. is_ready o.server r ≡ true → NewlyRead k (answer_of o.server r)) (λ r w ready. read_new k i s o step l serves r ready w) o.server.reads (settled_waits i o.server o.server.reads (stepped_waits i s o step))))
 
-  next_answered : Every (WasRead setup next) now.answered
-  next_answered = gone.answered (WasRead setup next) (every_more (WasRead setup history) (WasRead setup next) read_on (replay setup history).answered t.answered) reads_new
+  next_answered : (k : ℕ) (a : Answered) → slice_get now.answered k ≡ Some a → WasRead setup next k a
+  next_answered k a at =
+      elim (adds_at setup (replay setup history) h.event now answers_of (replay setup history).answered now.answered k a at gone.answered) [
+        | inl old ↦ read_on k a (t.answered k a old)
+        | inr new ↦ every_get (NewlyRead k) (answers_of new.outcome) new.place a (reads_new k new.i new.server new.outcome new.step) new.there (new.behind, at)
+      ]
 
   next_traced : Traced setup next
   next_traced = record {
@@ -503,7 +528,7 @@ module _ (setup : Setup) (history : History) (h : Happening) (t : Traced setup h
     idle = λ i z at. came_idle i z (gone.servers i z (to_now i z at));
     says = subst (λ g. Every (λ p. Says setup next p.packet.from p.packet.to p.packet.term p.packet.body) g.packets) (sym same) next_says;
     acked = subst (λ g. Every (AckedBy setup next) g.acked) (sym same) next_acked;
-    answered = subst (λ g. Every (WasRead setup next) g.answered) (sym same) next_answered;
+    answered = λ k a at. next_answered k a (ap (λ g. slice_get g.answered k) (sym same) ∙ at);
   }
 
 opening_reads : (setup : Setup) (i : ℕ) (s : Server) → Runs (opening setup) i s → (s.reads ≡ []) × RoleReads s.role s.reads
@@ -517,7 +542,7 @@ none_traced setup = record {
   idle = λ i s at. (opening_reads setup i s at).1;
   says = tt;
   acked = tt;
-  answered = tt;
+  answered = λ k a at. absurd (none-some a at);
 }
 
 pub traced : (setup : Setup) (history : History) → Traced setup history

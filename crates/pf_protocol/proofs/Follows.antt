@@ -1,5 +1,6 @@
 -- How a group and the ballots of its history go together.
 use Rattle.std.proofs.Common.{◌≡◌, ℕ, ◌<◌, ◌≤◌, ◌≢◌, ◌⊎◌, inl, inr, true, Option, Some, slice_get, sym, ◌∙◌}
+use Rattle.pf_entry.specs.declared.entries.Entry.{Entry}
 use Rattle.pf_entry.specs.declared.entries.VoteLog.{VoteLog}
 use Rattle.pf_entry.specs.declared.packets.Packet.{Packet}
 use Rattle.pf_entry.specs.declared.packets.Body.{Body}
@@ -11,7 +12,8 @@ use Rattle.pf_protocol.specs.Servers.{Leader, Role, Follower, Candidate, Merging
 use Rattle.pf_protocol.specs.Outcomes.{Outcome}
 use Rattle.pf_protocol.specs.Groups.{Group}
 use Rattle.pf_entry.specs.Lists.{Every}
-use Rattle.pf_protocol.proofs.Serving.{IsKnown, known_there, Served}
+use Rattle.pf_protocol.proofs.Law.{IsChosenBy}
+use Rattle.pf_protocol.proofs.Serving.{chosen_there, Served}
 use Rattle.pf_entry.specs.Applying.{is_applied}
 use Rattle.pf_protocol.proofs.Knowing.{IsAcked, AppliedKnown, AckIs, ServerKnows, applied_there, ack_there, knows_there}
 
@@ -55,11 +57,18 @@ ConditionIs b i (Running s) = ServerIs b i s
 ConditionIs b i (Stopped life before after) = StoppedIs b i before after
 ConditionIs b i Unformatted = Unit {0}
 
+-- the sender accepted the proposal of this slot and term, and its op is chosen
+pub record CommitIs (b : Ballots) (from slot term : ℕ) : Type 0 where
+  pub entry : Entry
+  pub is : b.proposal slot term ≡ Some entry
+  pub own : b.accepted from slot term ≡ true
+  pub chosen : IsChosenBy b slot term entry.op
+
 abbrev pub BodyIs : Ballots → (from to term : ℕ) → Body → Type 0
 BodyIs b from to term (Vote v) = b.vote from term ≡ Some (record { to = to; log = v })
 BodyIs b from to term (Accept e) = b.proposal e.slot e.term ≡ Some e
 BodyIs b from to term (Ack slot upto_there) = 0 < slot → AckIs b from slot term
-BodyIs b from to term (Commit slot) = IsKnown b slot term
+BodyIs b from to term (Commit slot) = CommitIs b from slot term
 BodyIs b from to term (Image base applied sectors) = AppliedKnown b term base applied sectors
 BodyIs b from to term _ = Unit {0}
 
@@ -93,13 +102,16 @@ pub record Row (b : Ballots) (i : ℕ) (s : Server) (o : Outcome) : Type 0 where
   pub acked : (slot : ℕ) → o.acked ≡ Some slot → IsAcked done o.server.durable.term slot
 
 -- what others know stays so
+pub commit_there : (i : ℕ) (b after : Ballots) → Extends i b after → (from slot term : ℕ) → CommitIs b from slot term → CommitIs after from slot term
+commit_there i b after x from slot term c = record { entry = c.entry; is = x.proposals slot term c.entry c.is; own = x.accepted from slot term c.own; chosen = chosen_there i b after x slot term c.entry.op c.chosen }
+
 pub body_stays : (i : ℕ) (b after : Ballots) → Extends i b after → Sound after → (from to term : ℕ) (body : Body) → BodyIs b from to term body → BodyIs after from to term body
 body_stays i b after x sound from to term (Vote v) h = x.votes from term _ h
 body_stays i b after x sound from to term (Accept e) h = x.proposals e.slot e.term e h
 body_stays i b after x sound from to term (RequestVote base) h = h
 body_stays i b after x sound from to term (Ack slot upto_there) h = λ above. ack_there i b after x from slot term (h above)
 body_stays i b after x sound from to term Nack h = h
-body_stays i b after x sound from to term (Commit slot) h = known_there i b after x slot term h
+body_stays i b after x sound from to term (Commit slot) h = commit_there i b after x from slot term h
 body_stays i b after x sound from to term (Probe number) h = h
 body_stays i b after x sound from to term (ProbeOk number upto_there) h = h
 body_stays i b after x sound from to term (Image base applied sectors) h = applied_there i b after x sound term (is_applied base applied) sectors h

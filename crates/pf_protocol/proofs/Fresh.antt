@@ -1,11 +1,12 @@
 -- Reads are fresh.
-use Rattle.std.proofs.Common.{◌≡◌, ℕ, suc, ◌+◌, ◌<◌, ◌≤◌, ◌≢◌, ◌⊎◌, inl, inr, Bool, true, not, ◌&&◌, List, [], ◌∷◌, ◌++◌, Some, slice_get, slice_range, arith, refl, sym, ap, subst, ◌∙◌}
+use Rattle.std.proofs.Common.{◌≡◌, ℕ, suc, ◌+◌, ◌<◌, ◌≤◌, ◌≢◌, ◌⊎◌, inl, inr, Bool, true, not, ◌&&◌, List, [], ◌∷◌, ◌++◌, length, Some, slice_get, slice_range, arith, refl, sym, ap, subst, ◌∙◌}
 use Rattle.std.specs.FinMap
 use Rattle.std.specs.FinMap.{nat_cmp-IsAntisymmetric}
 use Rattle.std.specs.Ordering.{nat_cmp, eq_by_cmp}
 use Rattle.std.specs.List.{list_all, list_any}
 use Rattle.std.proofs.lemmas.Bool.Decides.{nat_tests}
 use Rattle.std.proofs.lemmas.Bool.{cases_Bool, cases_lt, or_cases, or_left, le-leb, and_parts, and_from, false≢true}
+use Rattle.std.proofs.lemmas.List.{append_assoc, append-nil, length-append}
 use Rattle.pf_base.specs.Span.{overlaps}
 use Rattle.pf_entry.specs.Sets
 use Rattle.pf_entry.proofs.Sets.{contains-retain, contains-items}
@@ -15,6 +16,7 @@ use Rattle.pf_entry.specs.Applying.{is_applied}
 use Rattle.pf_entry.specs.declared.ops.Op.{Op}
 use Rattle.pf_entry.specs.declared.entries.Entry.{Entry}
 use Rattle.pf_protocol.specs.declared.events.Event.TheVariants.{Fetch}
+use Rattle.pf_protocol.specs.declared.events.Happening.{Happening}
 use Rattle.pf_protocol.specs.Safety.{leads}
 use Rattle.pf_protocol.specs.Servers.{Setup, Leader, Serving, Read, Server, Running, has_applied}
 use Rattle.pf_protocol.specs.Leading.{op_of, op_at, has_acked}
@@ -46,6 +48,37 @@ comparable (x ∷ a) rest (y ∷ b) other is =
       | inr second ↦ inr (record { rest = second.rest; whole = ap (λ z. z ∷ (b ++ second.rest)) (sym head) ∙ ap (λ hs. x ∷ hs) second.whole })
     ]
 
+-- a part of a history with one more event is part of it, or ends in this event
+last_or_before : (a : History) (f : Happening) (rest b : History) (y : Happening) → (a ++ f ∷ []) ++ rest ≡ b ++ y ∷ [] → IsPrefix (a ++ f ∷ []) b ⊎ (a ≡ b)
+last_or_before [] f rest [] y is = inr refl
+last_or_before [] f rest (w ∷ b) y is =
+    let p : f ∷ rest ≡ w ∷ (b ++ y ∷ []) = is in
+    let head : f ≡ w = cc in
+    inl (record { rest = b; whole = ap (λ z. z ∷ b) head })
+last_or_before (x ∷ a) f rest [] y is =
+    let p : x ∷ ((a ++ f ∷ []) ++ rest) ≡ y ∷ [] = is in
+    let tail : (a ++ f ∷ []) ++ rest ≡ [] = cc in
+    absurd (omega (arith, ap length tail, length-append (a ++ f ∷ []) rest, length-append a (f ∷ [])))
+last_or_before (x ∷ a) f rest (w ∷ b) y is =
+    let p : x ∷ ((a ++ f ∷ []) ++ rest) ≡ w ∷ (b ++ y ∷ []) = is in
+    let head : x ≡ w = cc in
+    let tail : (a ++ f ∷ []) ++ rest ≡ b ++ y ∷ [] = cc in
+    elim (last_or_before a f rest b y tail) [
+      | inl before ↦ inl (record { rest = before.rest; whole = ap (λ z. z ∷ ((a ++ f ∷ []) ++ before.rest)) head ∙ ap (λ hs. w ∷ hs) before.whole })
+      | inr same ↦ inr (ap (λ z. z ∷ a) head ∙ ap (λ hs. w ∷ hs) same)
+    ]
+
+-- of a moment and one event after another, the moment comes before the event or the event before the moment
+pub before_or_after : (a b : History) (h : Happening) → IsPrefix a (b ++ h ∷ []) → IsPrefix a b ⊎ IsPrefix (b ++ h ∷ []) a
+before_or_after a b h p = by_rest p.rest p.whole
+  where
+    by_rest : (rest : History) → a ++ rest ≡ b ++ h ∷ [] → IsPrefix a b ⊎ IsPrefix (b ++ h ∷ []) a
+    by_rest [] is = inr (record { rest = []; whole = append-nil (b ++ h ∷ []) ∙ sym is ∙ append-nil a })
+    by_rest (z ∷ zs) is = inl (elim (last_or_before a z zs b h (append_assoc a (z ∷ []) zs ∙ is)) [
+      | inl before ↦ begins_with a b z before
+      | inr same ↦ subst (IsPrefix a) same (whole_prefix a)
+    ])
+
 -- a moment with fewer reads comes first
 sooner : (setup : Setup) (a b history : History) → IsPrefix a history → IsPrefix b history → (replay setup a).reads < (replay setup b).reads → IsPrefix a b
 sooner setup a b history p q less =
@@ -65,14 +98,14 @@ no_higher setup history i term number z c runs in_term x p low k w l led serves 
     contradiction : term < w.durable.term → ⊥
     contradiction higher =
         let t = told setup c.earlier in
-        let first = sooner setup x c.earlier history p c.is_earlier (omega (arith, low, c.asked)) in
+        let first = sooner setup x c.earlier history p (begins_with c.earlier history c.reply c.is_part) (omega (arith, low, c.asked)) in
         let by = (t.stood x first.rest first.whole).leads k w l led (inr serves) in
         let q = t.sound.quorums w.durable.term by.merge by.is in
         let own = t.sound.vote_terms by.merge.leader w.durable.term _ q.own_vote in
         let theirs = t.sound.vote_terms by.merge.other w.durable.term _ q.other_vote in
         let other = t.follows.servers c.other (Running c.server) c.runs in
         let other_term : (t.ballots.disk c.other).term ≤ term = omega (arith, ap (λ d. d.term) other.1.disk, c.low) in
-        let mine : (t.ballots.disk i).term ≤ term = omega (arith, disk_term_low setup c.earlier history c.is_earlier i z runs, in_term) in
+        let mine : (t.ballots.disk i).term ≤ term = omega (arith, disk_term_low setup c.earlier history (begins_with c.earlier history c.reply c.is_part) i z runs, in_term) in
         let below = ((told setup history).follows.servers i (Running z) runs).0 in
         elim (share i c.other by.merge.leader by.merge.other (λ same. c.apart (sym same)) q.apart below other.0 q.leader_below q.other_below) [
           | inl me ↦ elim me [
@@ -134,16 +167,16 @@ module _ (setup : Setup) (before history : History) (p : IsPrefix before history
       ]
 
   -- what an earlier answer of a term not above this one had applied
-  read_knows : (a : Answered) → (x : WasRead setup before a) → a.term ≤ z.durable.term → (slot : ℕ) → 0 < slot → shows a slot ≡ true → (t : ℕ) (op : Op) → IsChosen setup history slot t op → Knows z slot op
-  read_knows a x le slot above shown t op c =
-      let cover = servers_covered setup x.earlier a.server x.server x.runs in
+  read_knows : (k : ℕ) (a : Answered) → (x : WasRead setup before k a) → a.term ≤ z.durable.term → (slot : ℕ) → 0 < slot → shows a slot ≡ true → (t : ℕ) (op : Op) → IsChosen setup history slot t op → Knows z slot op
+  read_knows k a x le slot above shown t op c =
+      let cover = servers_covered setup (x.earlier ++ x.answering ∷ []) a.server x.server x.runs in
       let had = cover.chosen slot above (subst (λ n. is_applied n x.server.applied slot ≡ true) x.base (subst (λ set. is_applied a.base set slot ≡ true) x.applied shown)) in
       elim (cases_lt had.1.0 z.durable.term) [
-        | inl lower ↦ lower_knows slot had.1.0 had.0 (chosen_after setup x.earlier before x.is_earlier slot had.1.0 had.0 had.1.2) lower t op c
+        | inl lower ↦ lower_knows slot had.1.0 had.0 (chosen_after setup (x.earlier ++ x.answering ∷ []) before x.is_part slot had.1.0 had.0 had.1.2) lower t op c
         | inr not_lower ↦
             let same : a.term ≡ z.durable.term = omega (arith, le, not_lower, had.1.1, x.term) in
             let y = x.waits in
-            let first = prefix_of y.earlier x.earlier before (begins_with y.earlier x.earlier y.fetch y.is_earlier) x.is_earlier in
+            let first = prefix_of y.earlier (x.earlier ++ x.answering ∷ []) before (begins_with y.earlier (x.earlier ++ x.answering ∷ []) y.fetch y.is_earlier) x.is_part in
             let it : a.server ≡ i = one_leader setup before y.earlier before a.server i y.server z first (whole_prefix before) y.runs runs (ap leads y.serves) (ap leads serves) (sym y.same_term ∙ sym x.term ∙ same) in
             let all : HasAll (is_applied a.base a.applied) (has_applied z) l = subst (StaysIn (HasAll (is_applied a.base a.applied)) (has_applied z)) serves (x.stays z (ap (slice_get (replay setup before).servers) it ∙ runs) (sym same)) in
             inl (all slot shown)
@@ -199,28 +232,47 @@ cover_after setup earlier history p term done sectors x = record {
       (c.0, o.1 ∙ ap Some (one_chosen_op setup history slot o.2.0 c.1.0 o.0 c.0 o.2.1 (chosen_after setup earlier history p slot c.1.0 c.0 c.1.2)), (c.1.0, c.1.2)));
 }
 
-module _ (setup : Setup) (history : History) (a : Answered) (x : WasRead setup history a) where
-  -- the moment at which the read was taken up
+module _ (setup : Setup) (history : History) (k : ℕ) (a : Answered) (x : WasRead setup history k a) where
+  -- the moment at which the read was taken up, and the one after its answer
   abbrev before : History
   before = x.waits.earlier
 
-  before_answer : IsPrefix x.waits.earlier x.earlier
-  before_answer = begins_with x.waits.earlier x.earlier x.waits.fetch x.waits.is_earlier
+  abbrev after : History
+  after = x.earlier ++ x.answering ∷ []
+
+  before_answer : IsPrefix x.waits.earlier after
+  before_answer = begins_with x.waits.earlier after x.waits.fetch x.waits.is_earlier
 
   before_end : IsPrefix x.waits.earlier history
-  before_end = prefix_of x.waits.earlier x.earlier history before_answer x.is_earlier
+  before_end = prefix_of x.waits.earlier after history before_answer x.is_part
 
-  sure : Confirmed setup x.earlier a.server x.server.durable.term x.read.number
+  sure : Confirmed setup after a.server x.server.durable.term x.read.number
   sure = x.waits.sure (and_parts x.read.confirmed _ x.ready).0
 
+  -- another server replied in between
+  was_asked : x.read.number < (replay setup x.earlier).reads
+  was_asked =
+      let replied : IsPrefix sure.earlier x.earlier = elim (last_or_before sure.earlier sure.reply sure.is_part.rest x.earlier x.answering sure.is_part.whole) [
+        | inl is ↦ begins_with sure.earlier x.earlier sure.reply is
+        | inr same ↦ subst (IsPrefix sure.earlier) same (whole_prefix sure.earlier)
+      ] in
+      omega (arith, sure.asked, reads_before setup sure.earlier x.earlier replied)
+
+  fetched_before : IsPrefix (x.waits.earlier ++ x.waits.fetch ∷ []) x.earlier
+  fetched_before =
+      elim (last_or_before x.waits.earlier x.waits.fetch x.waits.is_earlier.rest x.earlier x.answering x.waits.is_earlier.whole) [
+        | inl is ↦ is
+        | inr same ↦ absurd (omega (arith, was_asked, x.waits.number, ap (λ hs. (replay setup hs).reads) same))
+      ]
+
   -- no leader by then was of a higher term
-  leader_low : (y : History) → IsPrefix y before → (k : ℕ) (w : Server) (l : Leader) → Runs (replay setup y) k w → w.role ≡ Serving l → w.durable.term ≤ x.waits.server.durable.term
-  leader_low y p k w l led serves =
+  leader_low : (y : History) → IsPrefix y before → (j : ℕ) (w : Server) (l : Leader) → Runs (replay setup y) j w → w.role ≡ Serving l → w.durable.term ≤ x.waits.server.durable.term
+  leader_low y p j w l led serves =
       omega (
         arith,
         x.waits.same_term,
-        no_higher setup x.earlier a.server x.server.durable.term x.read.number x.server sure x.runs refl y (prefix_of y x.waits.earlier x.earlier p before_answer)
-            (omega (arith, reads_before setup y x.waits.earlier p, x.waits.number)) k w l led serves,
+        no_higher setup after a.server x.server.durable.term x.read.number x.server sure x.runs refl y (prefix_of y x.waits.earlier after p before_answer)
+            (omega (arith, reads_before setup y x.waits.earlier p, x.waits.number)) j w l led serves,
       )
 
   same_set : (slot : ℕ) → has_applied x.server slot ≡ shows a slot
@@ -228,25 +280,25 @@ module _ (setup : Setup) (history : History) (a : Answered) (x : WasRead setup h
 
   shown : (slot : ℕ) (op : Op) → Knows x.waits.server slot op → overlaps (range_of op) a.range ≡ true → shows a slot ≡ true
   shown slot op knows touches =
-      sym (same_set slot) ∙ known_shown setup x.earlier a.server x.server x.read x.waits x.ready slot op knows (ap (overlaps (range_of op)) (sym x.range) ∙ touches)
+      sym (same_set slot) ∙ known_shown setup after a.server x.server x.read x.waits x.ready slot op knows (ap (overlaps (range_of op)) (sym x.range) ∙ touches)
 
-  acked_shown : (k : ℕ) (b : Acked) → slice_get (replay setup before).acked k ≡ Some b → HasIfOverlaps setup history a b.slot
-  acked_shown k b at t op c touches =
-      let y = every_get (AckedBy setup before) (replay setup before).acked k b (traced setup before).acked at in
-      let own = (keeps_acknowledged setup before).chosen k b at in
+  acked_shown : (j : ℕ) (b : Acked) → slice_get (replay setup before).acked j ≡ Some b → HasIfOverlaps setup history a b.slot
+  acked_shown j b at t op c touches =
+      let y = every_get (AckedBy setup before) (replay setup before).acked j b (traced setup before).acked at in
+      let own = (keeps_acknowledged setup before).chosen j b at in
       let le : b.term ≤ x.waits.server.durable.term = omega (arith, y.in_term, leader_low y.earlier y.is_earlier y.i y.server y.leader y.runs y.serves) in
       shown b.slot op (acked_knows setup before history before_end a.server x.waits.server x.waits.leader x.waits.runs x.waits.serves b y le own.0 own.1 t op c) touches
 
-  answered_shown : (k : ℕ) (b : Answered) (slot : ℕ) → slice_get (replay setup before).answered k ≡ Some b → 0 < slot → shows b slot ≡ true → HasIfOverlaps setup history a slot
-  answered_shown k b slot at above had t op c touches =
-      let y = every_get (WasRead setup before) (replay setup before).answered k b (traced setup before).answered at in
-      let first = prefix_of y.waits.earlier y.earlier before (begins_with y.waits.earlier y.earlier y.waits.fetch y.waits.is_earlier) y.is_earlier in
+  answered_shown : (j : ℕ) (b : Answered) (slot : ℕ) → slice_get (replay setup before).answered j ≡ Some b → 0 < slot → shows b slot ≡ true → HasIfOverlaps setup history a slot
+  answered_shown j b slot at above had t op c touches =
+      let y = (traced setup before).answered j b at in
+      let first = prefix_of y.waits.earlier (y.earlier ++ y.answering ∷ []) before (begins_with y.waits.earlier (y.earlier ++ y.answering ∷ []) y.waits.fetch y.waits.is_earlier) y.is_part in
       let le : b.term ≤ x.waits.server.durable.term = omega (arith, y.term, y.waits.same_term, leader_low y.waits.earlier first b.server y.waits.server y.waits.leader y.waits.runs y.waits.serves) in
-      shown slot op (read_knows setup before history before_end a.server x.waits.server x.waits.leader x.waits.runs x.waits.serves b y le slot above had t op c) touches
+      shown slot op (read_knows setup before history before_end a.server x.waits.server x.waits.leader x.waits.runs x.waits.serves j b y le slot above had t op c) touches
 
   covered : IsCovered setup history a.term (shows a) x.server.sectors
   covered =
-      let there = cover_after setup x.earlier history x.is_earlier x.server.durable.term (has_applied x.server) x.server.sectors (servers_covered setup x.earlier a.server x.server x.runs) in
+      let there = cover_after setup after history x.is_part x.server.durable.term (has_applied x.server) x.server.sectors (servers_covered setup after a.server x.server x.runs) in
       subst (λ set. IsCovered setup history a.term (is_applied a.base set) x.server.sectors) (sym x.applied)
       (subst (λ n. IsCovered setup history a.term (is_applied n x.server.applied) x.server.sectors) (sym x.base)
       (subst (λ u. IsCovered setup history u (has_applied x.server) x.server.sectors) (sym x.term) there))
@@ -256,16 +308,22 @@ module _ (setup : Setup) (history : History) (a : Answered) (x : WasRead setup h
     before = before;
     fetched = record {
       fetch = x.waits.fetch;
-      is_part = prefix_of (x.waits.earlier ++ x.waits.fetch ∷ []) x.earlier history x.waits.is_earlier x.is_earlier;
+      is_part = prefix_of (x.waits.earlier ++ x.waits.fetch ∷ []) after history x.waits.is_earlier x.is_part;
       event = x.waits.event ∙ ap (Fetch a.server) (sym x.range);
       is_next = x.number ∙ x.waits.number;
       counts = x.waits.counts ∙ ap suc (sym x.number);
     };
     answering = x.earlier;
-    is_earlier = x.is_earlier;
+    answering_event = x.answering;
+    is_part = x.is_part;
+    asked_before = fetched_before;
+    place = k;
+    not_yet = x.not_yet;
+    answered_then = x.there;
     server = x.server;
     runs = x.runs;
     bytes = x.bytes ∙ ap (λ r. slice_range x.server.sectors r.first (r.first + r.count)) (sym x.range);
+    applied = λ slot. sym (same_set slot);
     covered = covered;
     acknowledged = acked_shown;
     answered = answered_shown;
@@ -273,6 +331,4 @@ module _ (setup : Setup) (history : History) (a : Answered) (x : WasRead setup h
 
 -- every answered read
 pub fresh : (setup : Setup) (history : History) (k : ℕ) (a : Answered) → slice_get (replay setup history).answered k ≡ Some a → IsFresh setup history a
-fresh setup history k a at =
-    let x = every_get (WasRead setup history) (replay setup history).answered k a (traced setup history).answered at in
-    fresh_read setup history a x
+fresh setup history k a at = fresh_read setup history k a ((traced setup history).answered k a at)

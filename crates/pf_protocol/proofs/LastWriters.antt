@@ -16,7 +16,7 @@ use Rattle.pf_protocol.specs.Kept.{MayHold, IsCovered}
 use Rattle.pf_protocol.specs.LastWriters.{bytes_for, HoldLastWrites}
 use Rattle.pf_protocol.proofs.Histories.{one_chosen_op}
 use Rattle.pf_protocol.proofs.Facts.{servers_covered, disks_covered, images_covered}
-use Rattle.pf_protocol.proofs.Snapshots.{applied_bound, fold_above}
+use Rattle.pf_protocol.proofs.Folds.{applied_bound, fold_above}
 
 found_there : (xs : List Sector) (k : ℕ) (x old : Sector) → slice_get xs k ≡ Some x → slice_index_or xs k old ≡ x
 found_there [] k x old is = absurd (none-some x is)
@@ -33,7 +33,7 @@ wrote Mark x its old is = absurd (none-some its is)
 last_slot : (ops : ℕ → Option Op) (done : ℕ → Bool) (x : ℕ) (zeros its : Sector) (slot n : ℕ) (op : Op) → 0 < slot → slot ≤ n → done slot ≡ true → ops slot ≡ Some op → writes op x ≡ true → bytes_for op x ≡ Some its → ((a : ℕ) → slot < a → done a ≡ true → (other : Op) → ops a ≡ Some other → writes other x ≡ false) → fold_to ops done x zeros n ≡ its
 last_slot ops done x zeros its zero n op above low did is does has quiet = absurd (omega (arith, above))
 last_slot ops done x zeros its (suc k) n op above low did is does has quiet =
-    fold_above ops done done x zeros (suc k) quiet n low
+    fold_above ops done x zeros (suc k) quiet n low
     ∙ cond-true (done (suc k)) _ _ did
     ∙ ap (λ o. after_op o x (fold_to ops done x zeros k)) is
     ∙ cond-true (writes op x) _ _ does
@@ -78,7 +78,7 @@ module _ (setup : Setup) (history : History) (term : ℕ) (done : ℕ → Bool) 
         ∙ last_slot ops done x zero_sector its slot bound op w.above (bounded slot w.applied) w.applied (op_is slot w.chosen.0 op w.above w.applied w.chosen.1) w.writes_it has
         (λ a later did other is. let o = are_chosen a (omega (arith, later)) did in w.is_last a o.2.0 other later did (subst (IsChosen setup history a o.2.0) (same_Some o.0 other (sym o.1 ∙ is)) o.2.1));
     untouched = λ x bytes at none. folded x bytes at
-        ∙ fold_above ops done done x zero_sector 0 (λ a above did other is. let o = are_chosen a above did in none a o.2.0 other above did (subst (IsChosen setup history a o.2.0) (same_Some o.0 other (sym o.1 ∙ is)) o.2.1)) bound (omega arith);
+        ∙ fold_above ops done x zero_sector 0 (λ a above did other is. let o = are_chosen a above did in none a o.2.0 other above did (subst (IsChosen setup history a o.2.0) (same_Some o.0 other (sym o.1 ∙ is)) o.2.1)) bound (omega arith);
   }
 
 module _ (setup : Setup) (history : History) where

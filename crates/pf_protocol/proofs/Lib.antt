@@ -20,12 +20,16 @@ pub mod Facts
 pub mod Naming
 pub mod Claiming
 pub mod Stepping
+pub mod Folds
+pub mod LastWriters
 pub mod Snapshots
 pub mod Moving
+pub mod Voting
 pub mod Fetching
 pub mod Fresh
 pub mod Ports
-pub mod LastWriters
+pub mod Submitting
+pub mod Placing
 pub mod Between
 pub mod Asked
 pub mod Room

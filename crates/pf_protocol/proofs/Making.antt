@@ -4,7 +4,7 @@ use Rattle.std.specs.List.{range_with_len, flat_map, filter, list_all, list_any}
 use Rattle.std.specs.FinMap
 use Rattle.std.specs.FinMap.{get-empty}
 use Rattle.std.specs.Ordering.{nat_cmp}
-use Rattle.std.proofs.lemmas.Bool.{leb-true, leb-false, or_parts, eqb-true, and_parts}
+use Rattle.std.proofs.lemmas.Bool.{leb-true, eqb-true, and_parts}
 use Rattle.std.proofs.lemmas.Option.{same_Some, none-some}
 use Rattle.std.proofs.lemmas.List.{append_assoc, append-nil}
 use Rattle.pf_entry.specs.Maps.{Map, Numbers}
@@ -34,7 +34,7 @@ use Rattle.pf_protocol.specs.declared.events.Event.{Event}
 use Rattle.pf_protocol.specs.declared.events.Event.TheVariants.{Submit, Fetch, Deliver, Lose, Elect, Resend, Stop, Restart, Claim, Finish, GiveBack, Checkpoint}
 use Rattle.pf_protocol.specs.declared.events.Happening.{Happening}
 use Rattle.pf_protocol.specs.Groups.{Sent, Group, Ending, Whole, CutOff, Missed, Untouched, TookPlace, send, acted, cut_off, ended, step_of, at_server, with_sent, marked_in, delivered, lost, stopped, begun, restart, claim_of, claim_at, claim_or, first_claim, only, counted_election, ending, happens, opening, unless_failed, first_leader, opening_disk}
-use Rattle.pf_protocol.specs.Histories.{History, IsPrefix, run, replay, Runs, HasAccepted, WasHeld, Made, Makes, BySubmit, ByMerge, IsProposal}
+use Rattle.pf_protocol.specs.Histories.{History, IsPrefix, run, replay, Runs, HasAccepted, Made, Makes, BySubmit, ByMerge, IsProposal}
 
 -- what is in a log after a step was there, or is new
 abbrev pub From : Map Entry → (Entry → Type 0) → Map Entry → Type 0
@@ -45,10 +45,10 @@ abbrev pub IsKeyed : Map Entry → Type 0
 IsKeyed log = (slot : ℕ) (e : Entry) → FinMap.get log slot ≡ Some e → e.slot ≡ slot
 
 -- an entry that is sent is in the log after the step, and a vote shows the log before it
-abbrev pub Carries : Server → (log : Map Entry) → (from term : ℕ) → Body → Type 0
-Carries s log from term (Accept e) = FinMap.get log e.slot ≡ Some e
-Carries s log from term (Vote v) = (v ≡ vote_of s.durable) × (from ≡ s.number) × (s.durable.term < term)
-Carries s log from term _ = Unit {0}
+abbrev pub Carries : Server → (log : Map Entry) → Body → Type 0
+Carries s log (Accept e) = FinMap.get log e.slot ≡ Some e
+Carries s log (Vote v) = v ≡ vote_of s.durable
+Carries s log _ = Unit {0}
 
 -- a candidate's own vote is kept, or is the log before the step
 abbrev pub VoteFrom : Role → Map Entry → Role → Type 0
@@ -60,7 +60,7 @@ pub record Stems (s : Server) (more : Entry → Type 0) (o : Outcome) : Type 0 w
   pub number : o.server.number ≡ s.number
   pub from : From s.durable.log more o.server.durable.log
   pub role : VoteFrom s.role s.durable.log o.server.role
-  pub packets : Every (λ p. Carries s o.server.durable.log p.from p.term p.body) o.packets
+  pub packets : Every (λ p. Carries s o.server.durable.log p.body) o.packets
 
 same_role : (log : Map Entry) (role : Role) → VoteFrom role log role
 same_role log Follower = tt
@@ -83,8 +83,8 @@ either_when : (s : Server) (more : Entry → Type 0) (c : Bool) (x y : Outcome) 
 either_when s more true x y f g = f refl
 either_when s more false x y f g = g refl
 
-to_others_carry : (s z : Server) (log : Map Entry) (body : Body) → Carries s log z.number z.durable.term body → Every (λ p. Carries s log p.from p.term p.body) (to_others z body)
-to_others_carry s z log body is = every_map (λ p. Carries s log p.from p.term p.body) (λ i. to_one z i body) (others z.number) (every_of_all (λ _. Carries s log z.number z.durable.term body) (others z.number) (λ _. is))
+to_others_carry : (s z : Server) (log : Map Entry) (body : Body) → Carries s log body → Every (λ p. Carries s log p.body) (to_others z body)
+to_others_carry s z log body is = every_map (λ p. Carries s log p.body) (λ i. to_one z i body) (others z.number) (every_of_all (λ _. Carries s log body) (others z.number) (λ _. is))
 
 -- a message brings new entries by a proposal, or by a vote to a candidate
 pub record Brings (s : Server) (more : Entry → Type 0) (term : ℕ) (body : Body) : Type 0 where
@@ -92,7 +92,7 @@ pub record Brings (s : Server) (more : Entry → Type 0) (term : ℕ) (body : Bo
   pub by_vote : (own vote : VoteLog) → body ≡ Vote vote → s.role ≡ Candidate own → term ≡ s.durable.term → vote.base ≤ s.durable.base → (slot : ℕ) → s.durable.base < slot → slot < merged_first s.durable.base own vote → more (merged_entry s.durable.term s.durable.base own vote slot)
 
 module _ (s : Server) (keyed : IsKeyed s.durable.log) (more : Entry → Type 0) where
-  same : (o : Outcome) → o.server.number ≡ s.number → o.server.durable.log ≡ s.durable.log → VoteFrom s.role s.durable.log o.server.role → Every (λ p. Carries s o.server.durable.log p.from p.term p.body) o.packets → Stems s more o
+  same : (o : Outcome) → o.server.number ≡ s.number → o.server.durable.log ≡ s.durable.log → VoteFrom s.role s.durable.log o.server.role → Every (λ p. Carries s o.server.durable.log p.body) o.packets → Stems s more o
   same o number is role packets = record { number = number; from = same_log s.durable.log more o.server.durable.log is; role = role; packets = packets }
 
   kept : VoteFrom s.role s.durable.log s.role
@@ -148,22 +148,22 @@ module _ (s : Server) (keyed : IsKeyed s.durable.log) (more : Entry → Type 0) 
   unfolding on_elect stored
   elect_stems = same _ refl refl (inr refl) (to_others_carry s (on_elect s).server s.durable.log (RequestVote s.durable.base) tt)
 
-  resent_carry : (l : Leader) (to slot : ℕ) (o : Option Entry) → FinMap.get s.durable.log slot ≡ o → Every (λ p. Carries s s.durable.log p.from p.term p.body) (resent_entry s l to o slot)
+  resent_carry : (l : Leader) (to slot : ℕ) (o : Option Entry) → FinMap.get s.durable.log slot ≡ o → Every (λ p. Carries s s.durable.log p.body) (resent_entry s l to o slot)
   resent_carry l to slot None at = tt
   resent_carry l to slot (Some e) at =
-      by_test (not (has_acked l to slot)) (λ c. Every (λ p. Carries s s.durable.log p.from p.term p.body) (if c then to_one s to (Accept e) ∷ [] else (if nat_lt (knows l to) slot then to_one s to (Commit slot) ∷ [] else [])))
+      by_test (not (has_acked l to slot)) (λ c. Every (λ p. Carries s s.durable.log p.body) (if c then to_one s to (Accept e) ∷ [] else (if nat_lt (knows l to) slot then to_one s to (Commit slot) ∷ [] else [])))
       (λ _. (ap (FinMap.get s.durable.log) (keyed slot e at) ∙ at, tt))
-      (λ _. by_test (nat_lt (knows l to) slot) (λ c. Every (λ p. Carries s s.durable.log p.from p.term p.body) (if c then to_one s to (Commit slot) ∷ [] else [])) (λ _. (tt, tt)) (λ _. tt))
+      (λ _. by_test (nat_lt (knows l to) slot) (λ c. Every (λ p. Carries s s.durable.log p.body) (if c then to_one s to (Commit slot) ∷ [] else [])) (λ _. (tt, tt)) (λ _. tt))
 
-  resent_stems : (l : Leader) (to : ℕ) → Every (λ p. Carries s s.durable.log p.from p.term p.body) (resent s l to)
+  resent_stems : (l : Leader) (to : ℕ) → Every (λ p. Carries s s.durable.log p.body) (resent s l to)
   unfolding resent
   resent_stems l to =
-      let P : Packet → Type 0 = λ p. Carries s s.durable.log p.from p.term p.body in
+      let P : Packet → Type 0 = λ p. Carries s s.durable.log p.body in
       every_append P _ _
       (every_append P (if nat_lt (knows l to) s.durable.base then to_one s to (Image s.durable.base s.applied s.sectors) ∷ [] else []) _
       (by_test (nat_lt (knows l to) s.durable.base) (λ c. Every P (if c then to_one s to (Image s.durable.base s.applied s.sectors) ∷ [] else [])) (λ _. (tt, tt)) (λ _. tt))
       (every_flat_map P (λ slot. resent_entry s l to (FinMap.get s.durable.log slot) slot) (range_with_len (suc s.durable.base) (l.next - suc s.durable.base)) (λ slot. resent_carry l to slot (FinMap.get s.durable.log slot) refl)))
-      (every_map P (λ r. to_one s to (Probe r.number)) (filter (λ r. not r.confirmed) s.reads) (every_of_all (λ r. Carries s s.durable.log s.number s.durable.term (Probe r.number)) (filter (λ r. not r.confirmed) s.reads) (λ r. tt)))
+      (every_map P (λ r. to_one s to (Probe r.number)) (filter (λ r. not r.confirmed) s.reads) (every_of_all (λ r. Carries s s.durable.log (Probe r.number)) (filter (λ r. not r.confirmed) s.reads) (λ r. tt)))
 
   pub resend_stems : (role : Role) → Stems s more (on_resend s role)
   unfolding on_resend
@@ -207,7 +207,7 @@ module _ (s : Server) (keyed : IsKeyed s.durable.log) (more : Entry → Type 0) 
           | inr here ↦ inr (ap (λ x. x.slot) (sym here.2) ∙ in_its_slot own vote slot, subst more here.2 (new slot (omega (arith, here.0)) (omega (arith, here.0, here.1))))
         ];
         role = by_test (nat_lt (suc base) first) (λ c. VoteFrom s.role s.durable.log (if c then Merging (led base first first s.number) else Serving (led base first first s.number))) (λ _. tt) (λ _. tt);
-        packets = every_flat_map_from (λ e. FinMap.get after e.slot ≡ Some e) (λ p. Carries s after p.from p.term p.body) (λ e. to_others s (Accept e)) (map f (range_with_len (suc base) (first - suc base)))
+        packets = every_flat_map_from (λ e. FinMap.get after e.slot ≡ Some e) (λ p. Carries s after p.body) (λ e. to_others s (Accept e)) (map f (range_with_len (suc base) (first - suc base)))
             (λ e is. to_others_carry s s after (Accept e) is)
             (every_map (λ e. FinMap.get after e.slot ≡ Some e) f (range_with_len (suc base) (first - suc base))
             (every_range (λ k. FinMap.get after (f k).slot ≡ Some (f k)) (first - suc base) (suc base) (λ k low high.
@@ -242,8 +242,7 @@ module _ (s : Server) (keyed : IsKeyed s.durable.log) (more : Entry → Type 0) 
 
   request_vote_stems : (from term base : ℕ) → Stems s more (on_request_vote s from term base)
   unfolding on_request_vote stored
-  request_vote_stems from term base = either_when s more (nat_le term s.durable.term || nat_lt base s.durable.base) _ _ (λ _. nack_stems from) (λ grants.
-      same (sends (raise_term s term) (to_one (raise_term s term) from (Vote (vote_of s.durable)) ∷ [])) refl refl tt ((refl, refl, leb-false term s.durable.term (or_parts _ _ grants).0), tt))
+  request_vote_stems from term base = either_stems s more (nat_le term s.durable.term || nat_lt base s.durable.base) _ _ (nack_stems from) (same (sends (raise_term s term) (to_one (raise_term s term) from (Vote (vote_of s.durable)) ∷ [])) refl refl tt (refl, tt))
 
   ack_stems : (from term slot upto_there : ℕ) (role : Role) → Stems s more (on_ack s from term slot upto_there role)
   unfolding on_ack marked
@@ -251,15 +250,15 @@ module _ (s : Server) (keyed : IsKeyed s.durable.log) (more : Entry → Type 0) 
   ack_stems from term slot upto_there (Candidate own) = nothing_stems
   ack_stems from term slot upto_there (Merging l) = either_stems s more (term == s.durable.term) _ _ (same _ refl refl (stands (counted l from slot upto_there)) (commit_carries l)) nothing_stems
     where
-      commit_carries : (l : Leader) → Every (λ p. Carries s s.durable.log p.from p.term p.body) (commit_to s l from slot)
-      commit_carries l = by_test (is_own l slot) (λ c. Every (λ p. Carries s s.durable.log p.from p.term p.body) (if c then to_one s from (Commit slot) ∷ [] else [])) (λ _. (tt, tt)) (λ _. tt)
+      commit_carries : (l : Leader) → Every (λ p. Carries s s.durable.log p.body) (commit_to s l from slot)
+      commit_carries l = by_test (is_own l slot) (λ c. Every (λ p. Carries s s.durable.log p.body) (if c then to_one s from (Commit slot) ∷ [] else [])) (λ _. (tt, tt)) (λ _. tt)
 
       stands : (l : Leader) → VoteFrom s.role s.durable.log (still_merging s l)
       stands l = by_test (list_all (other_acked l s.number) (range_with_len (suc l.b0) (l.first - suc l.b0))) (λ c. VoteFrom s.role s.durable.log (if c then Serving l else Merging l)) (λ _. tt) (λ _. tt)
   ack_stems from term slot upto_there (Serving l) = either_stems s more (term == s.durable.term) _ _ (same _ refl refl tt (commit_carries l)) nothing_stems
     where
-      commit_carries : (l : Leader) → Every (λ p. Carries s s.durable.log p.from p.term p.body) (commit_to s l from slot)
-      commit_carries l = by_test (is_own l slot) (λ c. Every (λ p. Carries s s.durable.log p.from p.term p.body) (if c then to_one s from (Commit slot) ∷ [] else [])) (λ _. (tt, tt)) (λ _. tt)
+      commit_carries : (l : Leader) → Every (λ p. Carries s s.durable.log p.body) (commit_to s l from slot)
+      commit_carries l = by_test (is_own l slot) (λ c. Every (λ p. Carries s s.durable.log p.body) (if c then to_one s from (Commit slot) ∷ [] else [])) (λ _. (tt, tt)) (λ _. tt)
 
   nack_received : (term : ℕ) → Stems s more (on_nack s term)
   unfolding on_nack
@@ -316,9 +315,6 @@ pub run_longer : (setup : Setup) (g : Group) (history : History) (h : Happening)
 run_longer setup g [] h = refl
 run_longer setup g (x ∷ xs) h = run_longer setup (happens setup g x.event (ending x.answer)) xs h
 
-held_longer : (setup : Setup) (history : History) (h : Happening) (i term : ℕ) (v : VoteLog) → WasHeld setup history i term v → WasHeld setup (history ++ h ∷ []) i term v
-held_longer setup history h i term v w = record { earlier = w.earlier; is_earlier = longer setup history h w.earlier w.is_earlier; server = w.server; runs = w.runs; holds = w.holds; lower = w.lower }
-
 -- a log of entries that stand under their slots and have a property
 pub record Has (P : Entry → Type 0) (log : Map Entry) : Type 0 where
   pub keyed : IsKeyed log
@@ -350,25 +346,25 @@ IsBacked setup history i (Running s) = Has (IsProposal setup history) s.durable.
 IsBacked setup history i (Stopped life before after) = Has (IsProposal setup history) before.log × Has (Doubtful setup history i) after.log
 IsBacked setup history i Unformatted = Unit {0}
 
-abbrev pub IsSaid : Setup → History → (from term : ℕ) → Body → Type 0
-IsSaid setup history from term (Accept e) = IsProposal setup history e
-IsSaid setup history from term (Vote v) = Has (IsProposal setup history) v.log × WasHeld setup history from term v
-IsSaid setup history from term _ = Unit {0}
+abbrev pub IsSaid : Setup → History → Body → Type 0
+IsSaid setup history (Accept e) = IsProposal setup history e
+IsSaid setup history (Vote v) = Has (IsProposal setup history) v.log
+IsSaid setup history _ = Unit {0}
 
 pub record Backs (setup : Setup) (history : History) (g : Group) : Type 0 where
   pub servers : (i : ℕ) (c : Condition) → slice_get g.servers i ≡ Some c → IsBacked setup history i c
-  pub packets : Every (λ sent. IsSaid setup history sent.packet.from sent.packet.term sent.packet.body) g.packets
+  pub packets : Every (λ sent. IsSaid setup history sent.packet.body) g.packets
 
-said_longer : (setup : Setup) (history : History) (h : Happening) (from term : ℕ) (body : Body) → IsSaid setup history from term body → IsSaid setup (history ++ h ∷ []) from term body
-said_longer setup history h from term (RequestVote base) is = tt
-said_longer setup history h from term (Vote v) is = (has_more _ _ v.log (proposal_longer setup history h) is.0, held_longer setup history h from term v is.1)
-said_longer setup history h from term (Accept e) is = proposal_longer setup history h e is
-said_longer setup history h from term (Ack slot upto_there) is = tt
-said_longer setup history h from term Nack is = tt
-said_longer setup history h from term (Commit slot) is = tt
-said_longer setup history h from term (Probe number) is = tt
-said_longer setup history h from term (ProbeOk number upto_there) is = tt
-said_longer setup history h from term (Image base applied sectors) is = tt
+said_longer : (setup : Setup) (history : History) (h : Happening) (body : Body) → IsSaid setup history body → IsSaid setup (history ++ h ∷ []) body
+said_longer setup history h (RequestVote base) is = tt
+said_longer setup history h (Vote v) is = has_more _ _ v.log (proposal_longer setup history h) is
+said_longer setup history h (Accept e) is = proposal_longer setup history h e is
+said_longer setup history h (Ack slot upto_there) is = tt
+said_longer setup history h Nack is = tt
+said_longer setup history h (Commit slot) is = tt
+said_longer setup history h (Probe number) is = tt
+said_longer setup history h (ProbeOk number upto_there) is = tt
+said_longer setup history h (Image base applied sectors) is = tt
 
 vote_longer : (setup : Setup) (history : History) (h : Happening) (role : Role) → OwnVote setup history role → OwnVote setup (history ++ h ∷ []) role
 vote_longer setup history h Follower is = tt
@@ -393,8 +389,8 @@ module _ (setup : Setup) (history : History) (h : Happening) (g : Group) (same_s
   older : (i : ℕ) (c : Condition) → slice_get g.servers i ≡ Some c → IsBacked setup (history ++ h ∷ []) i c
   older i c at = backed_longer setup history h i c (backs.servers i c at)
 
-  old_packets : Every (λ sent. IsSaid setup (history ++ h ∷ []) sent.packet.from sent.packet.term sent.packet.body) g.packets
-  old_packets = every_more (λ sent. IsSaid setup history sent.packet.from sent.packet.term sent.packet.body) (λ sent. IsSaid setup (history ++ h ∷ []) sent.packet.from sent.packet.term sent.packet.body) (λ sent is. said_longer setup history h sent.packet.from sent.packet.term sent.packet.body is) g.packets backs.packets
+  old_packets : Every (λ sent. IsSaid setup (history ++ h ∷ []) sent.packet.body) g.packets
+  old_packets = every_more (λ sent. IsSaid setup history sent.packet.body) (λ sent. IsSaid setup (history ++ h ∷ []) sent.packet.body) (λ sent is. said_longer setup history h sent.packet.body is) g.packets backs.packets
 
   unchanged : Backs setup (history ++ h ∷ []) g
   unchanged = record { servers = older; packets = old_packets }
@@ -435,27 +431,16 @@ module _ (setup : Setup) (history : History) (h : Happening) (g : Group) (same_s
   }
 
   -- what a step sends
-  said_now : (i : ℕ) (s : Server) → slice_get g.servers i ≡ Some (Running s) → (log : Map Entry) → Has (IsProposal setup (history ++ h ∷ [])) log → (from term : ℕ) (body : Body) → Carries s log from term body → IsSaid setup (history ++ h ∷ []) from term body
-  said_now i s at log has from term (RequestVote base) is = tt
-  said_now i s at log has from term (Vote v) is =
-      let had = backs.servers i (Running s) at in (
-        subst (λ x. Has (IsProposal setup (history ++ h ∷ [])) x.log) (sym is.0) (has_more _ _ s.durable.log (proposal_longer setup history h) had.0),
-        record {
-          earlier = history;
-          is_earlier = record { rest = h ∷ []; whole = refl };
-          server = s;
-          runs = ap (slice_get (replay setup history).servers) (is.1 ∙ had.2) ∙ ap (λ x. slice_get x i) (sym same_servers) ∙ at;
-          holds = is.0;
-          lower = is.2;
-        },
-      )
-  said_now i s at log has from term (Accept e) is = has.each e.slot e is
-  said_now i s at log has from term (Ack slot upto_there) is = tt
-  said_now i s at log has from term Nack is = tt
-  said_now i s at log has from term (Commit slot) is = tt
-  said_now i s at log has from term (Probe number) is = tt
-  said_now i s at log has from term (ProbeOk number upto_there) is = tt
-  said_now i s at log has from term (Image base applied sectors) is = tt
+  said_now : (i : ℕ) (s : Server) → slice_get g.servers i ≡ Some (Running s) → (log : Map Entry) → Has (IsProposal setup (history ++ h ∷ [])) log → (body : Body) → Carries s log body → IsSaid setup (history ++ h ∷ []) body
+  said_now i s at log has (RequestVote base) is = tt
+  said_now i s at log has (Vote v) is = subst (λ x. Has (IsProposal setup (history ++ h ∷ [])) x.log) (sym is) (has_more _ _ s.durable.log (proposal_longer setup history h) (backs.servers i (Running s) at).0)
+  said_now i s at log has (Accept e) is = has.each e.slot e is
+  said_now i s at log has (Ack slot upto_there) is = tt
+  said_now i s at log has Nack is = tt
+  said_now i s at log has (Commit slot) is = tt
+  said_now i s at log has (Probe number) is = tt
+  said_now i s at log has (ProbeOk number upto_there) is = tt
+  said_now i s at log has (Image base applied sectors) is = tt
 
   own_now : (i : ℕ) (s : Server) → IsBacked setup history i (Running s) → (role : Role) → VoteFrom s.role s.durable.log role → OwnVote setup (history ++ h ∷ []) role
   own_now i s had Follower from = tt
@@ -474,10 +459,10 @@ module _ (setup : Setup) (history : History) (h : Happening) (g : Group) (same_s
       let has = has_now (acted g i o) now i (settled o.server) s.durable.log (set_there g.servers i (Running s) (Running (settled o.server)) at) had.0 stems.from in
       record {
         servers = changed_server i (Running (settled o.server)) (has, own_now i s had o.server.role stems.role, stems.number ∙ had.2);
-        packets = every_append (λ sent. IsSaid setup (history ++ h ∷ []) sent.packet.from sent.packet.term sent.packet.body) g.packets (send o.packets) old_packets
-            (every_map (λ sent. IsSaid setup (history ++ h ∷ []) sent.packet.from sent.packet.term sent.packet.body) _ o.packets
-            (every_more (λ p. Carries s o.server.durable.log p.from p.term p.body) (λ p. IsSaid setup (history ++ h ∷ []) p.from p.term p.body)
-            (λ p is. said_now i s at o.server.durable.log has p.from p.term p.body is) o.packets stems.packets));
+        packets = every_append (λ sent. IsSaid setup (history ++ h ∷ []) sent.packet.body) g.packets (send o.packets) old_packets
+            (every_map (λ sent. IsSaid setup (history ++ h ∷ []) sent.packet.body) _ o.packets
+            (every_more (λ p. Carries s o.server.durable.log p.body) (λ p. IsSaid setup (history ++ h ∷ []) p.body)
+            (λ p is. said_now i s at o.server.durable.log has p.body is) o.packets stems.packets));
       }
 
   cut_off_backs : (i : ℕ) (s : Server) (o : Outcome) → slice_get g.servers i ≡ Some (Running s) → Stems s (Newly i) o → Backs setup (history ++ h ∷ []) (cut_off g i s o)
@@ -569,8 +554,8 @@ module _ (setup : Setup) (history : History) (h : Happening) (g : Group) (same_s
 marked_backs : (setup : Setup) (history : History) (g : Group) → Backs setup history g → (k : ℕ) (p q : Sent) → slice_get g.packets k ≡ Some p → q.packet ≡ p.packet → Backs setup history (with_sent g k q)
 marked_backs setup history g backs k p q at same = record {
   servers = backs.servers;
-  packets = every_set (λ sent. IsSaid setup history sent.packet.from sent.packet.term sent.packet.body) g.packets k q backs.packets
-      (subst (λ x. IsSaid setup history x.from x.term x.body) (sym same) (every_get (λ sent. IsSaid setup history sent.packet.from sent.packet.term sent.packet.body) g.packets k p backs.packets at));
+  packets = every_set (λ sent. IsSaid setup history sent.packet.body) g.packets k q backs.packets
+      (subst (λ x. IsSaid setup history x.body) (sym same) (every_get (λ sent. IsSaid setup history sent.packet.body) g.packets k p backs.packets at));
 }
 
 lost_backs : (setup : Setup) (history : History) (g : Group) → Backs setup history g → (k : ℕ) (o : Option Sent) → slice_get g.packets k ≡ o → Backs setup history (lost g k o)
@@ -621,9 +606,9 @@ submit_now : (setup : Setup) (history : History) (g : Group) → g ≡ replay se
 submit_now setup history g is i op answer done s at l role =
     inr (made_now setup history (record { event = Submit i op; answer = answer }) done i _ s (ap (λ x. slice_get x.servers i) (sym is) ∙ at) (BySubmit op l role))
 
-packet_brings : (setup : Setup) (history : History) (g : Group) → g ≡ replay setup history → (k : ℕ) (p : Sent) (answer : Answer) → TookPlace (ending answer) → slice_get g.packets k ≡ Some p → p.lost ≡ false → IsSaid setup history p.packet.from p.packet.term p.packet.body → (s : Server) → slice_get g.servers p.packet.to ≡ Some (Running s) → Brings s (Doubtful setup (history ++ record { event = Deliver k; answer = answer } ∷ []) p.packet.to) p.packet.term p.packet.body
+packet_brings : (setup : Setup) (history : History) (g : Group) → g ≡ replay setup history → (k : ℕ) (p : Sent) (answer : Answer) → TookPlace (ending answer) → slice_get g.packets k ≡ Some p → p.lost ≡ false → IsSaid setup history p.packet.body → (s : Server) → slice_get g.servers p.packet.to ≡ Some (Running s) → Brings s (Doubtful setup (history ++ record { event = Deliver k; answer = answer } ∷ []) p.packet.to) p.packet.term p.packet.body
 packet_brings setup history g is k p answer done at not_lost said s runs = record {
-  by_accept = λ e body. inl (proposal_longer setup history _ e (subst (IsSaid setup history p.packet.from p.packet.term) body said));
+  by_accept = λ e body. inl (proposal_longer setup history _ e (subst (IsSaid setup history) body said));
   by_vote = λ own vote body role term low slot above below.
       inr (made_now setup history (record { event = Deliver k; answer = answer }) done p.packet.to _ s (ap (λ x. slice_get x.servers p.packet.to) (sym is) ∙ runs) (ByMerge k p own vote slot (record {
         stands = role;
@@ -648,7 +633,7 @@ deliver_backs setup history g is backs k answer (Some p) at now =
     (λ _ _ _. unchanged setup history h g (ap (λ x. x.servers) is) backs)
     (λ _ kept after. at_server_backs setup history h more (marked_servers how g k p ∙ ap (λ x. x.servers) is) (marked_in_backs setup history g backs how k p at) how p.packet.to (λ s. on_packet setup s p.packet) after
     (λ s runs keyed done. message_stems s keyed (Doubtful setup (history ++ h ∷ []) p.packet.to) setup p.packet.from p.packet.term p.packet.body
-    (packet_brings setup history g is k p answer done at kept (every_get (λ sent. IsSaid setup history sent.packet.from sent.packet.term sent.packet.body) g.packets k p backs.packets at) s (ap (λ x. slice_get x p.packet.to) (sym (marked_servers how g k p)) ∙ runs)))) refl now
+    (packet_brings setup history g is k p answer done at kept (every_get (λ sent. IsSaid setup history sent.packet.body) g.packets k p backs.packets at) s (ap (λ x. slice_get x p.packet.to) (sym (marked_servers how g k p)) ∙ runs)))) refl now
 
 -- every event
 happens_backs : (setup : Setup) (history : History) (g : Group) → g ≡ replay setup history → Backs setup history g → (event : Event) (answer : Answer) → happens setup g event (ending answer) ≡ replay setup (history ++ record { event = event; answer = answer } ∷ []) → Backs setup (history ++ record { event = event; answer = answer } ∷ []) (happens setup g event (ending answer))

@@ -329,6 +329,7 @@ module _ (s : Server) where
   pub record Tells (z : Server) (from slot : ℕ) : Type 0 where
     pub leader : Leader
     pub served : s.role ≡ Serving leader
+    pub own : is_own leader slot ≡ true
     pub later : Leader
     pub serves : z.role ≡ Serving later
     pub same_term : z.durable.term ≡ s.durable.term
@@ -363,6 +364,7 @@ module _ (s : Server) where
           record {
             leader = l;
             served = is;
+            own = subst (λ k. is_own l k ≡ true) x.1 mine;
             later = counted l from slot upto_there;
             serves = refl;
             same_term = refl;
@@ -400,7 +402,7 @@ pub data Speaks (B : ℕ → Type 0) (g : Group) (i : ℕ) (s : Server) (event :
   AsksAgain : (n : ℕ) → p.body ≡ Probe n → B n → Speaks B g i s event answer after p
   Replies : (k : ℕ) (sent : Sent) (n upto_there : ℕ) → slice_get g.packets k ≡ Some sent → sent.packet.to ≡ i → sent.packet.body ≡ Probe n → p.body ≡ ProbeOk n upto_there → p.to ≡ sent.packet.from → p.term ≡ sent.packet.term → s.durable.term ≤ sent.packet.term → Speaks B g i s event answer after p
   Requests : (base : ℕ) → p.body ≡ RequestVote base → p.from ≡ s.number → p.term ≤ after → Speaks B g i s event answer after p
-  Grants : (k : ℕ) (sent : Sent) (base : ℕ) (v : VoteLog) → slice_get g.packets k ≡ Some sent → sent.packet.to ≡ i → sent.packet.body ≡ RequestVote base → p.body ≡ Vote v → p.from ≡ s.number → p.to ≡ sent.packet.from → p.term ≡ sent.packet.term → s.durable.term < p.term → Speaks B g i s event answer after p
+  Grants : (k : ℕ) (sent : Sent) (base : ℕ) → slice_get g.packets k ≡ Some sent → sent.packet.to ≡ i → sent.packet.body ≡ RequestVote base → p.body ≡ Vote (vote_of s.durable) → p.from ≡ s.number → p.to ≡ sent.packet.from → p.term ≡ sent.packet.term → s.durable.term < p.term → Speaks B g i s event answer after p
 
 -- where the reads that wait after a step come from
 pub data ReadsFrom (g : Group) (i : ℕ) (s : Server) (event : Event) (o : Outcome) : Type 0 where
@@ -535,7 +537,7 @@ module _ (g : Group) (i : ℕ) (s : Server) (event : Event) where
             record {
               moves = falls_back s (raise_term s sent.packet.term) refl refl (omega (arith, higher));
               reads = NoReads refl;
-              packets = λ B each. (Grants k sent base (vote_of s.durable) at to_it is refl refl refl refl higher, tt);
+              packets = λ B each. (Grants k sent base at to_it is refl refl refl refl higher, tt);
               acked = λ slot told. absurd (none-some slot told);
             }
 

@@ -89,7 +89,7 @@ pub taken_is_proposal : (setup : Setup) (earlier : History) (i k : ℕ) (s : Ser
 taken_is_proposal setup earlier i k s sent own other slot x runs merge is =
     let backs = backs_all setup earlier in
     let mine : Has (IsProposal setup earlier) own.log = subst (OwnVote setup earlier) merge.stands (backs.servers i (Running s) runs).1 in
-    let said : Has (IsProposal setup earlier) other.log = (subst (IsSaid setup earlier sent.packet.from sent.packet.term) merge.is_vote (every_get (λ p. IsSaid setup earlier p.packet.from p.packet.term p.packet.body) (replay setup earlier).packets k sent backs.packets merge.was_sent)).0 in
+    let said : Has (IsProposal setup earlier) other.log = subst (IsSaid setup earlier) merge.is_vote (every_get (λ p. IsSaid setup earlier p.packet.body) (replay setup earlier).packets k sent backs.packets merge.was_sent) in
     elim (was_taken s.durable.base own other slot x is).stood [
       | inl at ↦ (mine.keyed slot x at, mine.each slot x at)
       | inr at ↦ (said.keyed slot x at, said.each slot x at)

@@ -1,5 +1,5 @@
 -- A port's writes are chosen in the order in which it asked them.
-use Rattle.std.proofs.Common.{◌≡◌, ℕ, suc, ◌<◌, ◌≤◌, ◌≢◌, inl, inr, Bool, List, [], ◌∷◌, ◌++◌, Option, Some, None, slice_get, arith, refl, sym, ap, subst, ◌∙◌, le_of_lt}
+use Rattle.std.proofs.Common.{◌≡◌, ℕ, suc, ◌<◌, ◌≤◌, ◌≢◌, inl, inr, Bool, List, [], ◌∷◌, ◌++◌, Option, Some, None, slice_get, arith, refl, sym, ap, subst, ◌∙◌}
 use Rattle.std.proofs.lemmas.Bool.{cases_lt, cases_eq}
 use Rattle.std.proofs.lemmas.Option.{same_Some}
 use Rattle.std.proofs.lemmas.List.{append_assoc, append-nil}
@@ -66,7 +66,7 @@ module _ (setup : Setup) (first : History) (i : ℕ) (x : Server) (runs : Runs (
   silent done (h ∷ hs) p is =
       subst Silent (append_assoc done (h ∷ []) hs) (silent (done ++ h ∷ []) hs (prefix_of first done (done ++ h ∷ []) p (record { rest = h ∷ []; whole = refl })) (silent_next done h p is))
 
-never_again : (setup : Setup) (first later : History) (i : ℕ) (op : Op) (answer : Answer) (x z : Server) (l : Leader) → Runs (replay setup first) i x → ending answer ≡ CutOff → IsPrefix (first ++ record { event = Submit i op; answer = answer } ∷ []) later → Runs (replay setup later) i z → z.durable.term ≡ x.durable.term → z.role ≡ Serving l → ⊥
+pub never_again : (setup : Setup) (first later : History) (i : ℕ) (op : Op) (answer : Answer) (x z : Server) (l : Leader) → Runs (replay setup first) i x → ending answer ≡ CutOff → IsPrefix (first ++ record { event = Submit i op; answer = answer } ∷ []) later → Runs (replay setup later) i z → z.durable.term ≡ x.durable.term → z.role ≡ Serving l → ⊥
 never_again setup first later i op answer x z l runs cut p at in_term serves =
     let h : Happening = record { event = Submit i op; answer = answer } in
     let begin : Silent setup first i x runs (first ++ record { event = Submit i op; answer = answer } ∷ []) = λ y there same. absurd (cut_stops setup (replay setup first) i op x y runs
@@ -157,7 +157,7 @@ next_above setup now k a i z l at runs serves same =
     omega (arith, made.is_below, lead.has_next, ap t.ballots.next same)
 
 -- a submission has one target
-same_next_of : (setup : Setup) (a : Submission) (x y : IsTarget setup a) → x.leader.next ≡ y.leader.next
+pub same_next_of : (setup : Setup) (a : Submission) (x y : IsTarget setup a) → x.leader.next ≡ y.leader.next
 same_next_of setup a x y = ap (λ l. l.next) (same_leader x.leader y.leader (sym x.serves ∙ ap (λ s. s.role) (same_server x.server y.server (same_Some _ _ (sym x.runs ∙ y.runs))) ∙ y.serves))
   where
     same_server : (s z : Server) → Running s ≡ Running z → s ≡ z
@@ -262,14 +262,11 @@ final_first setup history port rule k a b at_k earlier ended =
     ]
 
 -- every port, and no slot is of two of its writes
-pub strictly_ordered : (setup : Setup) (history : History) (port : List Submission) → FollowsRule setup history port → (j k : ℕ) (a b : Submission) (low high : ℕ) → slice_get port j ≡ Some a → slice_get port k ≡ Some b → a.write < b.write → ComesFrom setup history low b → ComesFrom setup history high a → high < low
-strictly_ordered setup history port rule j k a b low high at_j at_k earlier fb fa =
+pub ordered : (setup : Setup) (history : History) (port : List Submission) → FollowsRule setup history port → IsOrdered setup history port
+ordered setup history port rule j k a b first second at_j at_k earlier fa fb =
     let ended = rule.waits j k a b at_j at_k earlier in
     let le = rule.no_lower ended.m k ended.final b ended.at at_k (final_first setup history port rule k a b at_k earlier ended) ended.answered.target fb.copy.target in
-    elim (cases_lt high low) [
+    elim (cases_lt first second) [
       | inl below ↦ below
-      | inr not_below ↦ absurd (not_from setup history port rule j a b at_j (rule.happened k b at_k) ended low high fb fa le not_below)
+      | inr not_below ↦ absurd (not_from setup history port rule j a b at_j (rule.happened k b at_k) ended second first fb fa le not_below)
     ]
-
-pub ordered : (setup : Setup) (history : History) (port : List Submission) → FollowsRule setup history port → IsOrdered setup history port
-ordered setup history port rule j k a b low high at_j at_k earlier fb fa = le_of_lt (strictly_ordered setup history port rule j k a b low high at_j at_k earlier fb fa)

@@ -55,7 +55,7 @@ use Rattle.std.proofs.lemmas.Bool.{lt-leb, false≢true}
 use Rattle.pf_protocol.specs.Servers.{has_applied}
 use Rattle.pf_protocol.specs.Saving.{is_claimable, changed}
 use Rattle.pf_protocol.specs.Leading.{look_behind}
-use Rattle.pf_protocol.proofs.Follows.{IsCandidate, IsLeader, RoleIs, ServerIs, BodyIs, PacketIs, Row, grows_stays}
+use Rattle.pf_protocol.proofs.Follows.{IsCandidate, IsLeader, RoleIs, ServerIs, CommitIs, BodyIs, PacketIs, Row, commit_there, grows_stays}
 
 -- a rule by a test
 either : (b : Ballots) (i : ℕ) (s : Server) (c : Bool) (x y : Outcome) → (c ≡ true → Row b i s x) → (c ≡ false → Row b i s y) → Row b i s (if c then x else y)
@@ -910,10 +910,15 @@ module _ (b : Ballots) (sound : Sound b) (served : Served b) (i : ℕ) (below : 
       (λ _. nothing_row)
 
   -- Ack
-  own_chosen : (l : Leader) → IsLeader b.ballot b.next i s.durable l → LeaderKnows b i s.durable.term l → (from slot : ℕ) → from ≢ i → l.b0 < slot → slot < l.next → AckIs b from slot s.durable.term → IsKnown b slot s.durable.term
+  own_chosen : (l : Leader) → IsLeader b.ballot b.next i s.durable l → LeaderKnows b i s.durable.term l → (from slot : ℕ) → from ≢ i → l.b0 < slot → slot < l.next → AckIs b from slot s.durable.term → CommitIs b s.number slot s.durable.term
   own_chosen l h lead from slot apart low high a =
       let e = sound.complete s.durable.term h.merge slot h.is (omega (arith, h.has_base, low)) (omega (arith, h.has_next, high)) in
-      record { op = e.0.op; chosen = ack_chooses b sound i from slot s.durable.term e.0 e.1 (λ same. apart (sym same)) (lead.own slot low high) a }
+      record {
+        entry = e.0;
+        is = e.1;
+        own = ap (λ n. b.accepted n slot s.durable.term) is_server.number ∙ lead.own slot low high;
+        chosen = ack_chooses b sound i from slot s.durable.term e.0 e.1 (λ same. apart (sym same)) (lead.own slot low high) a;
+      }
 
   own_slot : (l : Leader) (slot : ℕ) → is_own l slot ≡ true → (l.b0 < slot) × (slot < l.next)
   own_slot l slot is = let p = and_parts _ _ is in (ltb-true _ _ p.0, ltb-true _ _ p.1)
@@ -922,7 +927,7 @@ module _ (b : Ballots) (sound : Sound b) (served : Served b) (i : ℕ) (below : 
   commit_sent z l h lead from slot apart a =
       by_test (is_own l slot) (λ c. is_own l slot ≡ c → Every (PacketIs z.ballots) (if c then to_one s from (Commit slot) ∷ [] else []))
       (λ _ own. let o = own_slot l slot own in
-      reply z.ballots s from (Commit slot) refl apart (known_there i b z.ballots z.extends slot s.durable.term (own_chosen l h lead from slot apart o.0 o.1 (a (omega (arith, o.0))))))
+      reply z.ballots s from (Commit slot) refl apart (commit_there i b z.ballots z.extends s.number slot s.durable.term (own_chosen l h lead from slot apart o.0 o.1 (a (omega (arith, o.0))))))
       (λ _ _. tt) refl
 
   counted_knows : (z : Later b i s.durable) (l : Leader) → LeaderKnows b i s.durable.term l → (from slot upto_there : ℕ) → (0 < slot → AckIs b from slot s.durable.term) → LeaderKnows z.ballots i s.durable.term (counted l from slot upto_there)
@@ -1092,7 +1097,7 @@ module _ (b : Ballots) (sound : Sound b) (served : Served b) (i : ℕ) (below : 
   resent_entry_sent z l h lead to slot (Some e) low high is apart =
       by_test (has_acked l to slot) (λ c. has_acked l to slot ≡ c → Every (PacketIs z.ballots) (if not c then to_one s to (Accept e) ∷ [] else (if nat_lt (knows l to) slot then to_one s to (Commit slot) ∷ [] else [])))
       (λ _ acked. by_test (nat_lt (knows l to) slot) (λ c. Every (PacketIs z.ballots) (if c then to_one s to (Commit slot) ∷ [] else []))
-      (λ _. reply z.ballots s to (Commit slot) refl apart (known_there i b z.ballots z.extends slot s.durable.term
+      (λ _. reply z.ballots s to (Commit slot) refl apart (commit_there i b z.ballots z.extends s.number slot s.durable.term
       (own_chosen l h lead to slot apart (omega (arith, h.has_base, h.base_low, low)) high (lead.acks to slot acked (omega (arith, low)))))) (λ _. tt))
       (λ _ _. reply z.ballots s to (Accept e) refl apart (z.extends.proposals e.slot e.term e (holds_proposal slot e is)))
       refl
@@ -1127,7 +1132,7 @@ module _ (b : Ballots) (sound : Sound b) (served : Served b) (i : ℕ) (below : 
   on_message_row setup from term (Accept e) from_below apart is = on_accept_row setup from e apart is
   on_message_row setup from term (Ack slot upto_there) from_below apart is = on_ack_row from term slot upto_there s.role apart is refl
   on_message_row setup from term Nack from_below apart is = on_nack_row term
-  on_message_row setup from term (Commit slot) from_below apart is = on_commit_row from term slot is
+  on_message_row setup from term (Commit slot) from_below apart is = on_commit_row from term slot (record { op = is.entry.op; chosen = is.chosen })
   on_message_row setup from term (Probe number) from_below apart is = on_probe_row from term number apart
   on_message_row setup from term (ProbeOk number upto_there) from_below apart is = on_probe_ok_row from term number upto_there s.role refl
   on_message_row setup from term (Image base applied sectors) from_below apart is = on_image_row from term base applied sectors apart is

@@ -1,21 +1,19 @@
--- A snapshot is what all slots up to its mark leave.
-use Rattle.std.proofs.Common.{◌≡◌, ℕ, zero, suc, ◌+◌, ◌<◌, ◌≤◌, ◌⊎◌, inl, inr, Bool, true, false, cond, ◌&&◌, ◌||◌, ◌==◌, if◌then◌else◌, List, [], ◌∷◌, ◌++◌, Option, Some, None, nat_lt, nat_le, slice_get, arith, refl, sym, ap, subst, ◌∙◌, le_refl}
+-- A snapshot holds the last writes of all slots up to its mark.
+use Rattle.std.proofs.Common.{◌≡◌, ℕ, zero, suc, ◌+◌, ◌<◌, ◌≤◌, ◌⊎◌, inl, inr, Bool, true, false, ◌&&◌, ◌||◌, ◌==◌, if◌then◌else◌, List, [], ◌∷◌, ◌++◌, Option, Some, None, nat_lt, nat_le, slice_get, arith, refl, sym, ap, subst, ◌∙◌}
 use Rattle.std.specs.FinMap
 use Rattle.std.specs.FinMap.{get-empty}
-use Rattle.std.specs.Ordering.{nat_cmp, eq_by_cmp}
+use Rattle.std.specs.Ordering.{nat_cmp}
 use Rattle.std.specs.List.{list_any}
 use Rattle.std.proofs.lemmas.Bool.Decides.{nat_tests}
-use Rattle.std.proofs.lemmas.Bool.{cases_Bool, cases_lt, cond-true, cond-false, false≢true, or_cases, leb-true}
+use Rattle.std.proofs.lemmas.Bool.{cases_Bool, cases_lt, false≢true, leb-true, le-leb}
 use Rattle.std.proofs.lemmas.Option.{same_Some, none-some}
 use Rattle.std.proofs.lemmas.List.{append_assoc, append-nil}
 use Rattle.pf_base.specs.Span.{Span, is_in, whole, overlaps}
 use Rattle.pf_base.proofs.Spans.{shares}
-use Rattle.pf_entry.specs.Maps.{Map, Numbers}
-use Rattle.pf_entry.specs.Sets
-use Rattle.pf_entry.proofs.Sets.{contains-items}
+use Rattle.pf_entry.specs.Maps.{Map}
 use Rattle.pf_entry.proofs.Maps.{insert_cases, remove_cases}
-use Rattle.pf_entry.specs.Ops.{Sector, range_of, zero_sector, writes}
-use Rattle.pf_entry.specs.Applying.{passes, is_applied, after_op, fold_to}
+use Rattle.pf_entry.specs.Ops.{Sector, range_of, writes}
+use Rattle.pf_entry.specs.Applying.{passes}
 use Rattle.pf_entry.specs.declared.ops.Op.{Op}
 use Rattle.pf_entry.specs.declared.ops.Op.TheVariants.{Write, Noop, Mark}
 use Rattle.pf_entry.specs.declared.entries.Entry.{Entry}
@@ -34,14 +32,16 @@ use Rattle.pf_protocol.specs.Rows.{on_message, on_packet, settled}
 use Rattle.pf_protocol.specs.Saving.{restarted, is_short_of, trimmed, on_checkpoint, claimed, without_least, four_greatest, snapshots_after, applied_op, on_finish, on_give_back}
 use Rattle.pf_protocol.specs.Groups.{Group, ending, happens, opening, unless_failed, first_leader, opening_disk}
 use Rattle.pf_protocol.specs.Histories.{History, IsPrefix, replay, Runs, IsChosen}
-use Rattle.pf_protocol.specs.Kept.{IsPassed, IsCovered, IsInHand}
-use Rattle.pf_protocol.specs.Snapshots.{AreChosen, every_slot, IsSnapshot}
+use Rattle.pf_protocol.specs.Kept.{HasChosen, IsPassed, IsCovered, IsInHand}
+use Rattle.pf_protocol.specs.LastWriters.{IsLastWriter, HoldLastWrites}
+use Rattle.pf_protocol.specs.Snapshots.{IsSnapshot}
 use Rattle.pf_protocol.proofs.Making.{run_longer}
 use Rattle.pf_protocol.proofs.Origins.{prefix_of, accepted_after, proposal_after}
 use Rattle.pf_protocol.proofs.Serving.{passed_apart}
 use Rattle.pf_protocol.proofs.Serving.{IsPassed as PassedIn}
-use Rattle.pf_protocol.proofs.Histories.{told, chosen_at_end}
+use Rattle.pf_protocol.proofs.Histories.{told, chosen_at_end, one_chosen_op}
 use Rattle.pf_protocol.proofs.Facts.{chosen_by, servers_covered, jobs_are_apart}
+use Rattle.pf_protocol.proofs.LastWriters.{servers_hold}
 use Rattle.pf_protocol.proofs.Stepping.{IsRule, BySubmit, ByFetch, ByPacket, ByElect, ByResend, ByFinish, ByGiveBack, ByCheckpoint, Came, Stays, Stepped, Begins, Claims, goes}
 
 -- a snapshot after a step was there before, or is of a mark in hand and has the sectors as they were
@@ -260,71 +260,6 @@ none_taken setup i s mark sectors runs at =
 all_taken : (setup : Setup) (history : History) → AllTaken setup history
 all_taken setup = by_events (AllTaken setup) (none_taken setup) (next_taken setup)
 
--- a number that no applied slot is above
-list_bound : (xs : List ℕ) → (n : ℕ) × ((slot : ℕ) → list_any (eq_by_cmp nat_cmp slot) xs ≡ true → slot ≤ n)
-list_bound [] = (0, λ slot is. absurd (false≢true is))
-list_bound (x ∷ xs) =
-    let rest = list_bound xs in (
-      rest.0 + x,
-      λ slot is. elim (or_cases (eq_by_cmp nat_cmp slot x) (list_any (eq_by_cmp nat_cmp slot) xs) is) [
-        | inl here ↦ omega (arith, tied slot x here)
-        | inr later ↦ omega (arith, rest.1 slot later)
-      ],
-    )
-  where
-    tied : (q k : ℕ) → eq_by_cmp nat_cmp q k ≡ true → q ≡ k
-    tied q k = grind (arith, nat_tests)
-
-pub applied_bound : (base : ℕ) (applied : Numbers) → (n : ℕ) × ((slot : ℕ) → is_applied base applied slot ≡ true → slot ≤ n)
-applied_bound base applied =
-    let set = list_bound (Sets.items applied) in (
-      set.0 + base,
-      λ slot is. elim (or_cases (nat_le slot base) (Sets.contains applied slot) is) [
-        | inl low ↦ omega (arith, leb-true slot base low)
-        | inr has ↦ omega (arith, set.1 slot (sym (contains-items applied slot) ∙ has))
-      ],
-    )
-
--- an op that writes nothing
-abbrev Quiet : (ℕ → Option Op) → (x slot : ℕ) → Type 0
-Quiet ops x slot = (op : Op) → ops slot ≡ Some op → writes op x ≡ false
-
-stays_quiet : (o : Option Op) (x : ℕ) (old : Sector) → ((op : Op) → o ≡ Some op → writes op x ≡ false) → after_op o x old ≡ old
-stays_quiet None x old quiet = refl
-stays_quiet (Some op) x old quiet = cond-false _ _ _ (quiet op refl)
-
-quiet_or_not : (c : Bool) (o : Option Op) (x : ℕ) (old : Sector) → ((op : Op) → o ≡ Some op → writes op x ≡ false) → cond c (after_op o x old) old ≡ old
-quiet_or_not true o x old quiet = stays_quiet o x old quiet
-quiet_or_not false o x old quiet = refl
-
--- slots that write nothing may be left out
-module _ (ops : ℕ → Option Op) (done more : ℕ → Bool) (x : ℕ) (zeros : Sector) where
-  at_last : (m n : ℕ) → n ≡ m → fold_to ops done x zeros n ≡ fold_to ops done x zeros m
-  at_last m n same = ap (fold_to ops done x zeros) same
-
-  pub fold_above : (m : ℕ) → ((a : ℕ) → m < a → done a ≡ true → Quiet ops x a) → (n : ℕ) → m ≤ n → fold_to ops done x zeros n ≡ fold_to ops done x zeros m
-  fold_above m quiet zero le = at_last m zero (omega (arith, le))
-  fold_above m quiet (suc n) le =
-      elim (cases_lt m (suc n)) [
-        | inl low ↦ above (fold_above m quiet n (omega (arith, low))) (cases_Bool (done (suc n))) low
-        | inr high ↦ at_last m (suc n) (omega (arith, high, le))
-      ]
-    where
-      above : fold_to ops done x zeros n ≡ fold_to ops done x zeros m → (done (suc n) ≡ true) ⊎ (done (suc n) ≡ false) → m < suc n → fold_to ops done x zeros (suc n) ≡ fold_to ops done x zeros m
-      above before does low = elim does [
-        | inl did ↦ cond-true _ _ _ did ∙ stays_quiet (ops (suc n)) x (fold_to ops done x zeros n) (quiet (suc n) low did) ∙ before
-        | inr not_did ↦ cond-false _ _ _ not_did ∙ before
-      ]
-
-  fold_quiet : (n : ℕ) → ((p : ℕ) → 0 < p → p ≤ n → (done p ≡ more p) ⊎ Quiet ops x p) → fold_to ops done x zeros n ≡ fold_to ops more x zeros n
-  fold_quiet zero same = refl
-  fold_quiet (suc n) same =
-      let before = fold_quiet n (λ p above low. same p above (omega (arith, low))) in
-      elim (same (suc n) (omega arith) (le_refl _)) [
-        | inl alike ↦ ap (λ c. cond c (after_op (ops (suc n)) x (fold_to ops done x zeros n)) (fold_to ops done x zeros n)) alike ∙ ap (λ old. cond (more (suc n)) (after_op (ops (suc n)) x old) old) before
-        | inr quiet ↦ quiet_or_not (done (suc n)) (ops (suc n)) x (fold_to ops done x zeros n) quiet ∙ before ∙ sym (quiet_or_not (more (suc n)) (ops (suc n)) x (fold_to ops more x zeros n) quiet)
-      ]
-
 -- an op that shares no sector with a mark
 quiet_by_mark : (op : Op) (x : ℕ) → overlaps (range_of op) (range_of Mark) ≡ false → writes op x ≡ false
 unfolding range_of writes
@@ -358,7 +293,7 @@ chosen_after setup earlier history p slot term op c = record {
 }
 
 -- what is chosen in a slot that could be passed shares no sector with the op that passed it, then and later
-passed_apart_later : (setup : Setup) (earlier history : History) → IsPrefix earlier history → (a p t u : ℕ) (op other : Op) → IsPassed setup earlier a p → IsChosen setup history a t op → IsChosen setup history p u other → overlaps (range_of other) (range_of op) ≡ false
+pub passed_apart_later : (setup : Setup) (earlier history : History) → IsPrefix earlier history → (a p t u : ℕ) (op other : Op) → IsPassed setup earlier a p → IsChosen setup history a t op → IsChosen setup history p u other → overlaps (range_of other) (range_of op) ≡ false
 unfolding chosen_after
 passed_apart_later setup earlier history q a p t u op other passed c d =
     let z = told setup history in
@@ -371,6 +306,13 @@ passed_apart_later setup earlier history q a p t u op other passed c d =
     } in
     passed_apart z.ballots z.sound z.served a p t u op other is (chosen_by setup history a t op c) (chosen_by setup history p u other d)
 
+pub above_zero : (setup : Setup) (history : History) (slot t : ℕ) (op : Op) → IsChosen setup history slot t op → 0 < slot
+above_zero setup history slot t op c =
+    let z = told setup history in
+    let picked = chosen_at_end setup history slot t op c in
+    let made = z.sound.made slot t c.entry picked.is in
+    omega (arith, made.is_above)
+
 module _ (setup : Setup) (history : History) (m : ℕ) (sectors : List Sector) (w : WasTaken setup history m sectors) where
   cover : IsCovered setup w.earlier w.server.durable.term (has_applied w.server) w.server.sectors
   cover = servers_covered setup w.earlier w.i w.server w.runs
@@ -381,53 +323,62 @@ module _ (setup : Setup) (history : History) (m : ℕ) (sectors : List Sector) (
   mark_chosen : IsChosen setup history m in_hand.chosen.0 Mark
   mark_chosen = chosen_after setup w.earlier history w.is_earlier m in_hand.chosen.0 Mark in_hand.chosen.2
 
-  module _ (ops : ℕ → Option Op) (are : AreChosen setup history ops) (x : ℕ) where
-    quiet_at : Quiet ops x m
-    quiet_at op is = subst (λ o. writes o x ≡ false) (same_Some Mark op (sym (are.chosen m in_hand.chosen.0 Mark mark_chosen) ∙ is)) (mark_quiet x)
+  -- what is ever chosen up to the mark in a slot that the server had not applied writes nothing
+  quiet_below : (p t : ℕ) (op : Op) (x : ℕ) → IsChosen setup history p t op → p ≤ m → has_applied w.server p ≡ false → writes op x ≡ false
+  quiet_below p t op x c low isnt =
+      elim (cases_lt p m) [
+        | inl below ↦ quiet_by_mark op x (passed_apart_later setup w.earlier history w.is_earlier m p in_hand.chosen.0 t Mark op (in_hand.passed p (above_zero setup history p t op c) below isnt) mark_chosen c)
+        | inr reaches ↦
+            let here : IsChosen setup history m t op = subst (λ q. IsChosen setup history q t op) (omega (arith, reaches, low)) c in
+            subst (λ o. writes o x ≡ false) (one_chosen_op setup history m in_hand.chosen.0 t Mark op mark_chosen here) (mark_quiet x)
+      ]
 
-    quiet_below : (p : ℕ) → 0 < p → p < m → has_applied w.server p ≡ false → Quiet ops x p
-    quiet_below p above low isnt op is =
-        let c = are.only p op is in
-        quiet_by_mark op x (passed_apart_later setup w.earlier history w.is_earlier m p in_hand.chosen.0 c.0 Mark op (in_hand.passed p above low isnt) mark_chosen c.1)
+  -- so does what it had applied above the mark
+  quiet_above : (a t : ℕ) (op : Op) (x : ℕ) → IsChosen setup history a t op → m < a → has_applied w.server a ≡ true → writes op x ≡ false
+  quiet_above a t op x c above did =
+      let positive = above_zero setup history m in_hand.chosen.0 Mark mark_chosen in
+      quiet_by_mark op x (turned (range_of Mark) (range_of op) (passed_apart_later setup w.earlier history w.is_earlier a m t in_hand.chosen.0 op Mark (cover.passed a m positive above did in_hand.unapplied) c mark_chosen))
 
-    above_mark : 0 < m → (a : ℕ) → m < a → has_applied w.server a ≡ true → Quiet ops x a
-    above_mark positive a above did op is =
-        let c = are.only a op is in
-        quiet_by_mark op x (turned (range_of Mark) (range_of op) (passed_apart_later setup w.earlier history w.is_earlier a m c.0 in_hand.chosen.0 op Mark (cover.passed a m positive above did in_hand.unapplied) c.1 mark_chosen))
+  -- so a slot that the server had applied writes only up to the mark
+  quiet_then : (a t : ℕ) (op : Op) (x : ℕ) → IsChosen setup w.earlier a t op → has_applied w.server a ≡ true → (IsChosen setup history a t op → nat_le a m ≡ true → writes op x ≡ false) → writes op x ≡ false
+  quiet_then a t op x c did within =
+      let later = chosen_after setup w.earlier history w.is_earlier a t op c in
+      elim (cases_lt m a) [
+        | inl above ↦ quiet_above a t op x later above did
+        | inr low ↦ within later (le-leb a m low)
+      ]
 
-    ops_applied : (slot : ℕ) → 0 < slot → has_applied w.server slot ≡ true → (op : Op) × (ops slot ≡ Some op) × ((t : ℕ) × IsChosen setup w.earlier slot t op)
-    ops_applied slot above did =
-        let c = cover.chosen slot above did in
-        (c.0, are.chosen slot c.1.0 c.0 (chosen_after setup w.earlier history w.is_earlier slot c.1.0 c.0 c.1.2), (c.1.0, c.1.2))
+  last_then : (x slot : ℕ) (op : Op) → IsLastWriter setup history (λ q. nat_le q m) x slot op → IsLastWriter setup w.earlier (has_applied w.server) x slot op
+  last_then x slot op last = record {
+    above = last.above;
+    applied = did;
+    chosen = (had.1.0, subst (IsChosen setup w.earlier slot had.1.0) same had.1.2);
+    writes_it = last.writes_it;
+    is_last = λ other t its after is c. quiet_then other t its x c is (λ later within. last.is_last other t its after within later);
+  }
+    where
+      did : has_applied w.server slot ≡ true
+      did = elim (cases_Bool (has_applied w.server slot)) [
+        | inl is ↦ is
+        | inr isnt ↦ absurd (false≢true (sym (quiet_below slot last.chosen.0 op x last.chosen.1 (leb-true slot m last.applied) isnt) ∙ last.writes_it))
+      ]
 
-    one_or_other : 0 < m → (p : ℕ) → 0 < p → p ≤ m → (has_applied w.server p ≡ every_slot p) ⊎ Quiet ops x p
-    one_or_other positive p above low =
-        elim (cases_Bool (has_applied w.server p)) [
-          | inl did ↦ inl did
-          | inr not_did ↦ elim (cases_lt p m) [
-            | inl below ↦ inr (quiet_below p above below not_did)
-            | inr reaches ↦ inr (subst (Quiet ops x) (omega (arith, reaches, low)) quiet_at)
-          ]
-        ]
+      had : HasChosen setup w.earlier slot w.server.durable.term
+      had = cover.chosen slot last.above did
 
-    folded : 0 < m → (bytes : Sector) → slice_get sectors x ≡ Some bytes → bytes ≡ fold_to ops every_slot x zero_sector m
-    folded positive bytes at =
-        let bound = applied_bound w.server.durable.base w.server.applied in
-        cover.folded x (bound.0 + m) bytes ops (ap (λ l. slice_get l x) w.is ∙ at) (λ slot did. omega (arith, bound.1 slot did)) ops_applied
-        ∙ fold_above ops (has_applied w.server) every_slot x zero_sector m (above_mark positive) (bound.0 + m) (omega arith)
-        ∙ fold_quiet ops (has_applied w.server) every_slot x zero_sector m (one_or_other positive)
+      same : had.0 ≡ op
+      same = one_chosen_op setup history slot had.1.0 last.chosen.0 had.0 op (chosen_after setup w.earlier history w.is_earlier slot had.1.0 had.0 had.1.2) last.chosen.1
 
-above_zero : (setup : Setup) (history : History) (slot t : ℕ) (op : Op) → IsChosen setup history slot t op → 0 < slot
-above_zero setup history slot t op c =
-    let z = told setup history in
-    let picked = chosen_at_end setup history slot t op c in
-    let made = z.sound.made slot t c.entry picked.is in
-    omega (arith, made.is_above)
+  held : HoldLastWrites setup history (λ slot. nat_le slot m) sectors
+  held =
+      let now = servers_hold setup w.earlier w.i w.server w.runs in
+      record {
+        written = λ x slot op bytes its at last has. now.written x slot op bytes its (ap (λ l. slice_get l x) w.is ∙ at) (last_then x slot op last) has;
+        untouched = λ x bytes at nobody. now.untouched x bytes (ap (λ l. slice_get l x) w.is ∙ at) (λ slot t op above is c. quiet_then slot t op x c is (λ later within. nobody slot t op above within later));
+      }
 
 -- the snapshot of a mark, when it is taken and ever after
 pub snapshot_is : (setup : Setup) (history earlier : History) (i : ℕ) (s : Server) (m : ℕ) (sectors : List Sector) → IsPrefix earlier history → Runs (replay setup earlier) i s → FinMap.get s.snapshots m ≡ Some sectors → IsSnapshot setup history m sectors
 snapshot_is setup history earlier i s m sectors p runs at =
     let w = taken_after setup earlier history p m sectors (all_taken setup earlier i s m sectors runs at) in
-    let c = mark_chosen setup history m sectors w in
-    let positive = above_zero setup history m (in_hand setup history m sectors w).chosen.0 Mark c in
-    record { is_mark = ((in_hand setup history m sectors w).chosen.0, c); folded = λ x bytes ops has are. folded setup history m sectors w ops are x positive bytes has }
+    record { is_mark = ((in_hand setup history m sectors w).chosen.0, mark_chosen setup history m sectors w); holds = held setup history m sectors w }

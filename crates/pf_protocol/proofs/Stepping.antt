@@ -1,9 +1,11 @@
 -- What one event changes: one server by its rule, or one that begins again, or nothing.
-use Rattle.std.proofs.Common.{◌≡◌, ℕ, suc, ◌≤◌, inl, inr, Bool, true, false, cond, if◌then◌else◌, List, [], ◌∷◌, map, Option, Some, None, slice_get, slice_set, arith, refl, sym, ap, subst, ◌∙◌, le_refl}
+use Rattle.std.proofs.Common.{◌≡◌, ℕ, zero, suc, ◌≤◌, ◌⊎◌, inl, inr, Bool, true, false, cond, if◌then◌else◌, List, [], ◌∷◌, ◌++◌, length, map, Option, Some, None, slice_get, slice_set, arith, refl, sym, ap, subst, ◌∙◌, le_refl}
 use Rattle.std.specs.Option.{option_to_list}
+use Rattle.std.proofs.lemmas.Option.{same_Some, none-some}
+use Rattle.std.proofs.lemmas.List.{map-append}
 use Rattle.pf_base.specs.Span.{Span}
 use Rattle.pf_entry.specs.Lists.{Every}
-use Rattle.pf_entry.proofs.Lists.{every_append, every_map, every_set, every_get, set_cases, set_there}
+use Rattle.pf_entry.proofs.Lists.{every_append, every_map, set_cases, set_there}
 use Rattle.pf_entry.specs.declared.ops.Op.{Op}
 use Rattle.pf_entry.specs.declared.packets.Packet.{Packet}
 use Rattle.pf_entry.specs.Records.{Durable}
@@ -44,12 +46,80 @@ pub data Came (setup : Setup) (g : Group) (event : Event) (after : Group) (i : �
   Begins : (life : ℕ) (d : Durable) → Came setup g event after i (restarted i life d)
   Claims : (s : Server) (slot : ℕ) → Runs g i s → Came setup g event after i (claimed s slot)
 
-pub record Goes (setup : Setup) (g : Group) (event : Event) (after : Group) : Type 1 where
+-- what an event adds at the end of a list of the group: nothing, or what a step of a server gives
+pub data Adds {X : Type 0} (setup : Setup) (g : Group) (event : Event) (after : Group) (gives : Outcome → List X) (old new : List X) : Type 0 where
+  Nothing : new ≡ old → Adds setup g event after gives old new
+  Gives : (i : ℕ) (s : Server) (o : Outcome) → Steps setup g event after i s o → new ≡ old ++ gives o → Adds setup g event after gives old new
+
+-- without their marks
+abbrev pub packets_of : List Sent → List Packet
+packets_of sent = map (λ one. one.packet) sent
+
+abbrev pub acks_of : Outcome → List Acked
+acks_of o = map (λ slot. record { term = o.server.durable.term; slot = slot }) (option_to_list o.acked)
+
+abbrev pub answers_of : Outcome → List Answered
+answers_of o = map (answer_of o.server) (ready_reads o.server)
+
+pub record Goes (setup : Setup) (g : Group) (event : Event) (after : Group) : Type 0 where
   pub servers : (i : ℕ) (z : Server) → Runs after i z → Came setup g event after i z
-  pub packets : (P : Packet → Type 0) → Every (λ p. P p.packet) g.packets → ((i : ℕ) (s : Server) (o : Outcome) → Steps setup g event after i s o → Every P o.packets) → Every (λ p. P p.packet) after.packets
-  pub acked : (P : Acked → Type 0) → Every P g.acked → ((i : ℕ) (s : Server) (o : Outcome) (slot : ℕ) → Steps setup g event after i s o → o.acked ≡ Some slot → P (record { term = o.server.durable.term; slot = slot })) → Every P after.acked
-  pub answered : (P : Answered → Type 0) → Every P g.answered → ((i : ℕ) (s : Server) (o : Outcome) → Steps setup g event after i s o → Every P (map (answer_of o.server) (ready_reads o.server))) → Every P after.answered
+  pub packets : Adds setup g event after (λ o. o.packets) (packets_of g.packets) (packets_of after.packets)
+  pub acked : Adds setup g event after acks_of g.acked after.acked
+  pub answered : Adds setup g event after answers_of g.answered after.answered
   pub reads : g.reads ≤ after.reads
+
+pub at_front : {X : Type 0} → (xs ys : List X) (k : ℕ) (x : X) → slice_get xs k ≡ Some x → slice_get (xs ++ ys) k ≡ Some x
+at_front [] ys k x is = absurd (none-some x is)
+at_front (z ∷ zs) ys zero x is = is
+at_front (z ∷ zs) ys (suc k) x is = at_front zs ys k x is
+
+-- an element of two lists in a row is of the first one, or of the second one behind it
+front_or_after : {X : Type 0} → (xs ys : List X) (k : ℕ) (x : X) → slice_get (xs ++ ys) k ≡ Some x → (slice_get xs k ≡ Some x) ⊎ ((length xs ≤ k) × ((j : ℕ) × (slice_get ys j ≡ Some x)))
+front_or_after [] ys k x is = inr (omega arith, (k, is))
+front_or_after (z ∷ zs) ys zero x is = inl is
+front_or_after (z ∷ zs) ys (suc k) x is = elim (front_or_after zs ys k x is) [ inl before ↦ inl before | inr behind ↦ inr (omega (arith, behind.0), behind.1) ]
+
+every_unmapped : {X Y : Type 0} → (P : Y → Type 0) (f : X → Y) (xs : List X) → Every P (map f xs) → Every (λ x. P (f x)) xs
+every_unmapped P f [] is = tt
+every_unmapped P f (x ∷ xs) is = (is.0, every_unmapped P f xs is.1)
+
+-- a step of this event gave the element, behind the old ones
+pub record IsGiven {X : Type 0} (setup : Setup) (g : Group) (event : Event) (after : Group) (gives : Outcome → List X) (old : List X) (k : ℕ) (x : X) : Type 0 where
+  pub behind : length old ≤ k
+  pub i : ℕ
+  pub server : Server
+  pub outcome : Outcome
+  pub step : Steps setup g event after i server outcome
+  pub place : ℕ
+  pub there : slice_get (gives outcome) place ≡ Some x
+
+module _ {X : Type 0} (setup : Setup) (g : Group) (event : Event) (after : Group) (gives : Outcome → List X) (old new : List X) where
+  pub adds_every : (P : X → Type 0) → Every P old → ((i : ℕ) (s : Server) (o : Outcome) → Steps setup g event after i s o → Every P (gives o)) → Adds setup g event after gives old new → Every P new
+  adds_every P had each (Nothing is) = subst (Every P) (sym is) had
+  adds_every P had each (Gives i s o step is) = subst (Every P) (sym is) (every_append P old (gives o) had (each i s o step))
+
+  pub adds_at : (k : ℕ) (x : X) → slice_get new k ≡ Some x → Adds setup g event after gives old new → (slice_get old k ≡ Some x) ⊎ IsGiven setup g event after gives old k x
+  adds_at k x at (Nothing is) = inl (ap (λ xs. slice_get xs k) (sym is) ∙ at)
+  adds_at k x at (Gives i s o step is) =
+      elim (front_or_after old (gives o) k x (ap (λ xs. slice_get xs k) (sym is) ∙ at)) [
+        | inl before ↦ inl before
+        | inr behind ↦ inr (record { behind = behind.0; i = i; server = s; outcome = o; step = step; place = behind.1.0; there = behind.1.1 })
+      ]
+
+  pub adds_stay : (k : ℕ) (x : X) → slice_get old k ≡ Some x → Adds setup g event after gives old new → slice_get new k ≡ Some x
+  adds_stay k x at (Nothing is) = ap (λ xs. slice_get xs k) is ∙ at
+  adds_stay k x at (Gives i s o step is) = ap (λ xs. slice_get xs k) is ∙ at_front old (gives o) k x at
+
+pub packets_every : (setup : Setup) (g : Group) (event : Event) (after : Group) → Goes setup g event after → (P : Packet → Type 0) → Every (λ p. P p.packet) g.packets → ((i : ℕ) (s : Server) (o : Outcome) → Steps setup g event after i s o → Every P o.packets) → Every (λ p. P p.packet) after.packets
+packets_every setup g event after goes P had each =
+    every_unmapped P (λ one. one.packet) after.packets (adds_every setup g event after (λ o. o.packets) (packets_of g.packets) (packets_of after.packets) P (every_map P (λ one. one.packet) g.packets had) each goes.packets)
+
+pub acked_every : (setup : Setup) (g : Group) (event : Event) (after : Group) → Goes setup g event after → (P : Acked → Type 0) → Every P g.acked → ((i : ℕ) (s : Server) (o : Outcome) (slot : ℕ) → Steps setup g event after i s o → o.acked ≡ Some slot → P (record { term = o.server.durable.term; slot = slot })) → Every P after.acked
+acked_every setup g event after goes P had each = adds_every setup g event after acks_of g.acked after.acked P had (λ i s o step. now o.server.durable.term o.acked (λ slot has. each i s o slot step has)) goes.acked
+  where
+    now : (term : ℕ) (o : Option ℕ) → ((slot : ℕ) → o ≡ Some slot → P (record { term = term; slot = slot })) → Every P (map (λ slot. record { term = term; slot = slot }) (option_to_list o))
+    now term None h = tt
+    now term (Some slot) h = (h slot refl, tt)
 
 rises : (n : ℕ) (answer : Answer) → n ≤ reads_after n answer
 rises n (ReadIs number) = omega arith
@@ -61,23 +131,23 @@ rises n (JobIs job) = le_refl _
 rises n (Refused refusal) = le_refl _
 
 -- two groups that differ in marks of packets and in the count of elections at most
-pub record Alike (g mid : Group) : Type 1 where
+pub record Alike (g mid : Group) : Type 0 where
   pub servers : mid.servers ≡ g.servers
-  pub packets : (P : Packet → Type 0) → Every (λ p. P p.packet) g.packets → Every (λ p. P p.packet) mid.packets
+  pub packets : packets_of mid.packets ≡ packets_of g.packets
   pub acked : mid.acked ≡ g.acked
   pub answered : mid.answered ≡ g.answered
   pub reads : mid.reads ≡ g.reads
 
 itself : (g : Group) → Alike g g
-itself g = record { servers = refl; packets = λ P is. is; acked = refl; answered = refl; reads = refl }
+itself g = record { servers = refl; packets = refl; acked = refl; answered = refl; reads = refl }
 
 module _ (setup : Setup) (g : Group) (event : Event) where
   still : (mid : Group) → Alike g mid → Goes setup g event mid
   still mid a = record {
     servers = λ i z at. Stays z (ap (λ x. slice_get x i) (sym a.servers) ∙ at);
-    packets = λ P is new. a.packets P is;
-    acked = λ P is new. subst (Every P) (sym a.acked) is;
-    answered = λ P is new. subst (Every P) (sym a.answered) is;
+    packets = Nothing a.packets;
+    acked = Nothing a.acked;
+    answered = Nothing a.answered;
     reads = omega (arith, a.reads);
   }
 
@@ -91,18 +161,14 @@ module _ (setup : Setup) (g : Group) (event : Event) where
   changed : (mid : Group) → Alike g mid → (i : ℕ) (c : Condition) → ((z : Server) → c ≡ Running z → Came setup g event (record mid { servers = slice_set mid.servers i c }) i z) → Goes setup g event (record mid { servers = slice_set mid.servers i c })
   changed mid a i c here = record {
     servers = came_set mid (record mid { servers = slice_set mid.servers i c }) a i c here;
-    packets = λ P is new. a.packets P is;
-    acked = λ P is new. subst (Every P) (sym a.acked) is;
-    answered = λ P is new. subst (Every P) (sym a.answered) is;
+    packets = Nothing a.packets;
+    acked = Nothing a.acked;
+    answered = Nothing a.answered;
     reads = omega (arith, a.reads);
   }
 
   same_running : (x y : Server) → Running x ≡ Running y → x ≡ y
   same_running x y e = cc
-
-  acked_now : (P : Acked → Type 0) (term : ℕ) (o : Option ℕ) → ((slot : ℕ) → o ≡ Some slot → P (record { term = term; slot = slot })) → Every P (map (λ slot. record { term = term; slot = slot }) (option_to_list o))
-  acked_now P term None h = tt
-  acked_now P term (Some slot) h = (h slot refl, tt)
 
   step_at : (mid : Group) → Alike g mid → (i : ℕ) (s : Server) (o : Outcome) → Runs g i s → IsRule setup g i s event o → Steps setup g event (acted mid i o) i s o
   unfolding acted
@@ -113,13 +179,17 @@ module _ (setup : Setup) (g : Group) (event : Event) where
     counts = ap (λ n. reads_after n o.answer) a.reads;
   }
 
+  unsent : (packets : List Packet) → packets_of (send packets) ≡ packets
+  unsent [] = refl
+  unsent (p ∷ ps) = ap (λ rest. p ∷ rest) (unsent ps)
+
   acts_by : (mid : Group) → Alike g mid → (i : ℕ) (s : Server) (o : Outcome) → Steps setup g event (acted mid i o) i s o → Goes setup g event (acted mid i o)
   unfolding acted
   acts_by mid a i s o step = record {
     servers = came_set mid (acted mid i o) a i (Running (settled o.server)) (λ z same. subst (Came setup g event (acted mid i o) i) (same_running (settled o.server) z same) (Stepped s o step));
-    packets = λ P is new. every_append (λ p. P p.packet) mid.packets (send o.packets) (a.packets P is) (every_map (λ p. P p.packet) _ o.packets (new i s o step));
-    acked = λ P is new. every_append P mid.acked _ (subst (Every P) (sym a.acked) is) (acked_now P o.server.durable.term o.acked (λ slot has. new i s o slot step has));
-    answered = λ P is new. every_append P mid.answered _ (subst (Every P) (sym a.answered) is) (new i s o step);
+    packets = Gives i s o step (map-append (λ (one : Sent). one.packet) mid.packets (send o.packets) ∙ ap (λ ps. ps ++ packets_of (send o.packets)) a.packets ∙ ap (λ ps. packets_of g.packets ++ ps) (unsent o.packets));
+    acked = Gives i s o step (ap (λ xs. xs ++ acks_of o) a.acked);
+    answered = Gives i s o step (ap (λ xs. xs ++ answers_of o) a.answered);
     reads = subst (λ n. n ≤ reads_after mid.reads o.answer) a.reads (rises mid.reads o.answer);
   }
 
@@ -183,10 +253,15 @@ module _ (setup : Setup) (g : Group) (event : Event) where
   claims window [] = still g (itself g)
   claims window (i ∷ is) = claims_or i (claim_of window (slice_get g.servers i)) (first_claim window g is) (claims window is)
 
+  same_packets : (packets : List Sent) (k : ℕ) (p q : Sent) → slice_get packets k ≡ Some p → q.packet ≡ p.packet → packets_of (slice_set packets k q) ≡ packets_of packets
+  same_packets [] k p q at same = refl
+  same_packets (x ∷ xs) zero p q at same = ap (λ one. one ∷ packets_of xs) (same ∙ ap (λ one. one.packet) (sym (same_Some x p at)))
+  same_packets (x ∷ xs) (suc k) p q at same = ap (λ rest. x.packet ∷ rest) (same_packets xs k p q at same)
+
   marks_alike : (k : ℕ) (p q : Sent) → slice_get g.packets k ≡ Some p → q.packet ≡ p.packet → Alike g (with_sent g k q)
   marks_alike k p q at same = record {
     servers = refl;
-    packets = λ P is. every_set (λ p. P p.packet) g.packets k q is (subst P (sym same) (every_get (λ p. P p.packet) g.packets k p is at));
+    packets = same_packets g.packets k p q at same;
     acked = refl;
     answered = refl;
     reads = refl;
@@ -203,8 +278,8 @@ module _ (setup : Setup) (g : Group) (event : Event) where
   loses k (Some p) at = still _ (marks_alike k p _ at refl)
 
   elections_alike : (how : Ending) → Alike g (counted_election how g)
-  elections_alike Whole = record { servers = refl; packets = λ P is. is; acked = refl; answered = refl; reads = refl }
-  elections_alike CutOff = record { servers = refl; packets = λ P is. is; acked = refl; answered = refl; reads = refl }
+  elections_alike Whole = record { servers = refl; packets = refl; acked = refl; answered = refl; reads = refl }
+  elections_alike CutOff = record { servers = refl; packets = refl; acked = refl; answered = refl; reads = refl }
   elections_alike Missed = itself g
   elections_alike Untouched = itself g
 

@@ -1,5 +1,5 @@
 -- Histories of a group, and what was proposed, accepted and chosen in them.
-use Rattle.std.specs.Prelude.{◌≡◌, ℕ, ◌<◌, ◌≤◌, ◌≢◌, ◌⊎◌, false, List, [], ◌∷◌, ◌++◌, Some, slice_get}
+use Rattle.std.specs.Prelude.{◌≡◌, ℕ, ◌<◌, ◌≤◌, ◌≢◌, ◌⊎◌, false, List, [], ◌∷◌, ◌++◌, length, Some, slice_get}
 use Rattle.std.specs.FinMap
 use Rattle.pf_entry.specs.declared.ops.Op.{Op}
 use Rattle.pf_entry.specs.declared.ops.Op.TheVariants.{Noop}
@@ -64,10 +64,14 @@ pub data Makes (setup : Setup) (g : Group) (i : ℕ) (s : Server) : Event → En
   BySubmit : (op : Op) (l : Leader) → s.role ≡ Serving l → Makes setup g i s (Submit i op) (new_entry setup.names s l op)
   ByMerge : (k : ℕ) (sent : Sent) (own other : VoteLog) (slot : ℕ) → IsMerge g i s k sent own other → s.durable.base < slot → slot < merged_first s.durable.base own other → Makes setup g i s (Deliver k) (merged_entry s.durable.term s.durable.base own other slot)
 
--- at an earlier moment the server ran in a lower term, with this checkpoint, these starts and this log
-pub record WasHeld (setup : Setup) (history : History) (i term : ℕ) (v : VoteLog) : Type 0 where
+-- the event that sent packet k, and what its sender held as it voted: it ran in a lower term, with this checkpoint, these starts and
+-- this log
+pub record HasVoted (setup : Setup) (history : History) (k i term : ℕ) (v : VoteLog) : Type 0 where
   pub earlier : History
-  pub is_earlier : IsPrefix earlier history
+  pub voting : Happening
+  pub is_part : IsPrefix (earlier ++ voting ∷ []) history
+  pub unsent : length (replay setup earlier).packets ≤ k
+  pub was_sent : k < length (replay setup (earlier ++ voting ∷ [])).packets
   pub server : Server
   pub runs : Runs (replay setup earlier) i server
   pub holds : v ≡ vote_of server.durable

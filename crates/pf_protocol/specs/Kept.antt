@@ -81,3 +81,7 @@ abbrev pub HasAcked : Setup → History → (i slot term : ℕ) → Type 0
 HasAcked setup history i slot term =
     ((e : Entry) × HasAccepted setup history i e × (e.slot ≡ slot) × (e.term ≡ term))
     ⊎ ((p : ℕ) → 0 < p → p ≤ slot → HasChosen setup history p term)
+
+-- the slot was proposed in this term, and the proposal's op is chosen by then
+abbrev pub HasCommitted : Setup → History → (slot term : ℕ) → Type 0
+HasCommitted setup history slot term = (e : Entry) × IsProposal setup history e × (e.slot ≡ slot) × (e.term ≡ term) × IsChosenIn setup history slot term e.op

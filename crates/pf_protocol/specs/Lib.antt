@@ -9,10 +9,10 @@ pub mod Groups
 pub mod Histories
 pub mod Safety
 pub mod Kept
-pub mod Snapshots
 pub mod Fresh
 pub mod Ports
 pub mod LastWriters
+pub mod Snapshots
 pub mod Answers
 pub mod Fitting
 pub mod Asked

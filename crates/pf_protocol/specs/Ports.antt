@@ -34,9 +34,10 @@ pub record IsCopy (setup : Setup) (a : Submission) (e : Entry) : Type 0 where
   pub took_place : TookPlace (ending a.answer)
   pub is : e ≡ new_entry setup.names target.server target.leader a.op
 
--- the copy was acknowledged by now
+-- it took place, and the slot that it was given was acknowledged by now
 pub record IsAnswered (setup : Setup) (now : History) (a : Submission) : Type 0 where
   pub target : IsTarget setup a
+  pub took_place : TookPlace (ending a.answer)
   pub k : ℕ
   pub acked : Acked
   pub at : slice_get (replay setup now).acked k ≡ Some acked
@@ -72,11 +73,18 @@ pub record ComesFrom (setup : Setup) (history : History) (slot : ℕ) (a : Submi
   pub comes : HasOrigin setup history chosen.entry origin
   pub copy : IsCopy setup a origin
 
--- where a write of the port is chosen, no write that it asked earlier is chosen in a higher slot
-abbrev pub IsOrdered : Setup → History → List Submission → Type 0
-IsOrdered setup history port = (j k : ℕ) (a b : Submission) (low high : ℕ) → slice_get port j ≡ Some a → slice_get port k ≡ Some b → a.write < b.write → ComesFrom setup history low b → ComesFrom setup history high a → high ≤ low
+-- the op that is chosen is that of a submission, and comes from it
+pub record WasSubmitted (setup : Setup) (history : History) (slot : ℕ) (op : Op) : Type 0 where
+  pub submission : Submission
+  pub made : IsPrefix (submission.before ++ submitting submission ∷ []) history
+  pub comes : ComesFrom setup history slot submission
+  pub same_op : submission.op ≡ op
 
--- where a write of the port was acknowledged before another port handed on a write of its own, no copy of the first is chosen above one
+-- each copy of a write of the port is chosen below each copy of a write that the port asked later
+abbrev pub IsOrdered : Setup → History → List Submission → Type 0
+IsOrdered setup history port = (j k : ℕ) (a b : Submission) (first second : ℕ) → slice_get port j ≡ Some a → slice_get port k ≡ Some b → a.write < b.write → ComesFrom setup history first a → ComesFrom setup history second b → first < second
+
+-- where a write of the port was acknowledged before another port handed on a write of its own, each copy of the first is chosen below each
 -- of the second
 abbrev pub IsOrderedBetween : Setup → History → List Submission → Type 0
-IsOrderedBetween setup history port = (j : ℕ) (a b : Submission) (low high : ℕ) → slice_get port j ≡ Some a → IsPrefix (b.before ++ submitting b ∷ []) history → HasEnded setup port b.before a.write → ComesFrom setup history low b → ComesFrom setup history high a → high ≤ low
+IsOrderedBetween setup history port = (j : ℕ) (a b : Submission) (first second : ℕ) → slice_get port j ≡ Some a → IsPrefix (b.before ++ submitting b ∷ []) history → HasEnded setup port b.before a.write → ComesFrom setup history first a → ComesFrom setup history second b → first < second

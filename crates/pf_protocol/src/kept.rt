@@ -16,8 +16,8 @@ ghost use Rattle.pf_entry.specs.declared.packets.Body.TheVariants.{Vote, Ack, Co
 ghost use Rattle.pf_protocol.specs.Servers.{Setup, Server, has_applied};
 ghost use Rattle.pf_protocol.specs.Groups.{Sent, ending, happens};
 ghost use Rattle.pf_protocol.specs.declared.events.Happening.{Happening};
-ghost use Rattle.pf_protocol.specs.Histories.{History, IsPrefix, replay, Runs, HasAccepted, IsProposal, HasSource, WasHeld};
-ghost use Rattle.pf_protocol.specs.Kept.{MayHold, IsKeptIn, IsMarked, IsCovered, IsInHand, IsChosenIn, HasAcked};
+ghost use Rattle.pf_protocol.specs.Histories.{History, IsPrefix, replay, Runs, HasAccepted, IsProposal, HasSource, HasVoted};
+ghost use Rattle.pf_protocol.specs.Kept.{MayHold, IsKeptIn, IsMarked, IsCovered, IsInHand, IsChosenIn, HasAcked, HasCommitted};
 ghost use Rattle.pf_protocol.specs.Answers.{IsLegalNext, IsLegal, IsOpen, claims_of, most_packets, most_packet_bytes};
 ghost use Rattle.pf_protocol.specs.Fitting.{GroupFits};
 ghost use Rattle.pf_protocol.specs.Asked.{Asks};
@@ -58,13 +58,13 @@ pub fn jobs_in_hand_are_apart()
     ensures { (setup : Setup) (history : History) (i : ℕ) (s : Server) (slot : ℕ) (op : Op) → Runs (replay setup history) i s → finite.get s.in_hand slot ≡ Some op → IsInHand setup history s slot op }
 {}
 
-/// A vote shows what its sender held as it voted. An acknowledgement says that its sender accepted the proposal of that
-/// slot and term, or that each slot up to it has an op that is chosen in a term not above this one. A commit says that the
-/// proposal's op is chosen so.
+/// A vote shows what its sender held before the event that sent it, in a lower term. An acknowledgement says that its sender
+/// accepted the proposal of that slot and term, or that each slot up to it has an op that is chosen in a term not above this
+/// one. A commit says that the slot was proposed in this term, and that the proposal's op is chosen so.
 pub fn packets_tell_the_truth()
-    ensures votes { (setup : Setup) (history : History) (k : ℕ) (sent : Sent) (v : VoteLog) → slice_get (replay setup history).packets k ≡ Some sent → sent.packet.body ≡ Vote v → WasHeld setup history sent.packet.from sent.packet.term v }
+    ensures votes { (setup : Setup) (history : History) (k : ℕ) (sent : Sent) (v : VoteLog) → slice_get (replay setup history).packets k ≡ Some sent → sent.packet.body ≡ Vote v → HasVoted setup history k sent.packet.from sent.packet.term v }
     ensures acks { (setup : Setup) (history : History) (k : ℕ) (sent : Sent) (slot upto : ℕ) → slice_get (replay setup history).packets k ≡ Some sent → sent.packet.body ≡ Ack slot upto → 0 < slot → HasAcked setup history sent.packet.from slot sent.packet.term }
-    ensures commits { (setup : Setup) (history : History) (k : ℕ) (sent : Sent) (slot : ℕ) (e : Entry) → slice_get (replay setup history).packets k ≡ Some sent → sent.packet.body ≡ Commit slot → IsProposal setup history e → e.slot ≡ slot → e.term ≡ sent.packet.term → IsChosenIn setup history slot sent.packet.term e.op }
+    ensures commits { (setup : Setup) (history : History) (k : ℕ) (sent : Sent) (slot : ℕ) → slice_get (replay setup history).packets k ≡ Some sent → sent.packet.body ≡ Commit slot → HasCommitted setup history slot sent.packet.term }
 {}
 
 /// In a legal history every entry fits the chunk and lies in the window above its checkpoint; no slot, life, generation

@@ -1,8 +1,9 @@
 //! Laws of every history of a group: what was chosen stays, and the group is safe.
-ghost use Rattle.std.specs.Prelude.{◌≡◌, ℕ, ◌<◌, ◌≤◌, List, Some, slice_get};
+ghost use Rattle.std.specs.Prelude.{◌≡◌, ℕ, ◌<◌, ◌≤◌, ◌≢◌, List, [], ◌∷◌, ◌++◌, Some, slice_get};
 ghost use Rattle.std.specs.FinMap as finite;
 ghost use Rattle.pf_entry.specs.Ops.{Sector};
 ghost use Rattle.pf_entry.specs.declared.ops.Op.{Op};
+ghost use Rattle.pf_entry.specs.declared.ops.Op.TheVariants.{Noop};
 ghost use Rattle.pf_entry.specs.declared.entries.Entry.{Entry};
 ghost use Rattle.pf_entry.specs.declared.entries.Named.{Named};
 ghost use Rattle.pf_entry.specs.Entries.{IsNew};
@@ -15,7 +16,8 @@ ghost use Rattle.pf_protocol.specs.Safety.{OneLeader, IsSafe};
 ghost use Rattle.pf_protocol.specs.Groups.{Answered};
 ghost use Rattle.pf_protocol.specs.Snapshots.{IsSnapshot};
 ghost use Rattle.pf_protocol.specs.Fresh.{IsFresh};
-ghost use Rattle.pf_protocol.specs.Ports.{Submission, FollowsRule, IsOrdered, IsOrderedBetween};
+ghost use Rattle.pf_protocol.specs.Ports.{Submission, submitting, IsAnswered, FollowsRule, ComesFrom, WasSubmitted, IsOrdered, IsOrderedBetween};
+ghost use Rattle.pf_protocol.specs.Answers.{IsLegal};
 
 /// In each term at most one server ever merges or serves.
 pub fn one_leader_to_a_term()
@@ -56,29 +58,41 @@ pub fn every_history_is_safe()
     ensures { (setup : Setup) (history : History) → IsSafe setup history }
 {}
 
-/// A server's snapshot of a mark holds what all slots up to the mark write, in the order of the slots, when it is taken and
-/// ever after: also where an op is chosen only later in a slot that the mark passed. The mark was chosen. (The sectors of one
-/// point of the log, as in PolarFS; that a mark may pass a slot rests on the ranges of the look-behind list.)
+/// A server's snapshot of a mark has in each sector what the greatest slot up to the mark that writes it wrote, and zeros
+/// where none does, when it is taken and ever after: also where an op is chosen only later in a slot that the mark passed. The
+/// mark was chosen. (The sectors of one point of the log, as in PolarFS; that a mark may pass a slot rests on the ranges of the
+/// look-behind list.)
 pub fn snapshots_hold_all_slots()
     ensures { (setup : Setup) (history earlier : History) (i : ℕ) (s : Server) (mark : ℕ) (sectors : List Sector) → IsPrefix earlier history → Runs (replay setup earlier) i s → finite.get s.snapshots mark ≡ Some sectors → IsSnapshot setup history mark sectors }
 {}
 
-/// Reads are fresh. The answer of a read has each slot that overlaps its range and was acknowledged before the read was
-/// taken up, and each such slot of every answer given by then; its bytes are what the applied ops leave in the order of their
-/// slots. (A leader asks whether it still leads before it answers, as a read index in Raft does.)
+/// Reads are fresh. A read is answered by an event after the one that took it up. The answer shows the slots that its server
+/// has applied after that event, and the range of the sectors that it has then: what these slots leave in their order. It has
+/// each slot that overlaps its range and was acknowledged before the read was taken up, and each such slot of every answer
+/// given by then. (A leader asks whether it still leads before it answers, as a read index in Raft does.)
 pub fn reads_are_fresh()
     ensures { (setup : Setup) (history : History) (k : ℕ) (a : Answered) → slice_get (replay setup history).answered k ≡ Some a → IsFresh setup history a }
 {}
 
-/// The writes of a port that follows its rule are chosen in the order in which it asked them: where a copy of a write is
-/// chosen, no copy of a write that this port asked earlier is ever chosen in a higher slot, though a write may have been handed to
+/// The writes of a port that follows its rule are chosen in the order in which it asked them: each copy of a write is chosen
+/// below each copy of one that this port asked later, so no slot is of two writes, though a write may have been handed to
 /// several leaders and each of its copies may turn up. A copy whose step was cut off counts where a restart finds its record.
 pub fn ports_are_ordered()
     ensures { (setup : Setup) (history : History) (port : List Submission) → FollowsRule setup history port → IsOrdered setup history port }
 {}
 
-/// Where a write of a port was acknowledged before another port handed on a write of its own, no copy of the first is ever
-/// chosen in a higher slot than a copy of the second, to whatever leader the second port handed it.
+/// Where a write of a port was acknowledged before another port handed on a write of its own, each copy of the first is chosen
+/// below each copy of the second, to whatever leader the second port handed it.
 pub fn ports_follow_each_other()
     ensures { (setup : Setup) (history : History) (port : List Submission) → FollowsRule setup history port → IsOrderedBetween setup history port }
+{}
+
+/// In a legal history what is chosen in the slot of an acknowledged submission comes from this submission.
+pub fn acknowledged_writes_are_copies()
+    ensures { (setup : Setup) (history : History) (a : Submission) → IsLegal setup history → IsPrefix (a.before ++ submitting a ∷ []) history → (x : IsAnswered setup history a) → ComesFrom setup history x.target.leader.next a }
+{}
+
+/// Each chosen op but a no-op is that of some submission, and comes from it. So each slot that an answered read shows is one.
+pub fn chosen_writes_were_submitted()
+    ensures { (setup : Setup) (history : History) (slot term : ℕ) (op : Op) → IsChosen setup history slot term op → op ≢ Noop → WasSubmitted setup history slot op }
 {}

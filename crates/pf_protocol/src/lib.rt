@@ -24,9 +24,11 @@ pub use examples::{
 pub use kept::{
     applied_slots_are_covered, held_entries_are_proposals, histories_go_on, jobs_in_hand_are_apart,
     legal_histories_fit, marks_stand_on_chosen_ops, open_claims_are_in_hand, packets_have_room,
-    packets_tell_the_truth, starts_are_kept, waiting_reads_are_asked,
+    packets_tell_the_truth, sectors_hold_last_writes, starts_are_kept, waiting_reads_are_asked,
 };
 pub use laws::{
-    chosen_ops_persist, every_history_is_safe, merged_slots_were_chosen, named_slots_keep_their_op,
-    nothing_old_is_taken, one_leader_to_a_term,
+    acknowledged_writes_are_copies, chosen_ops_persist, chosen_writes_were_submitted,
+    every_history_is_safe, merged_slots_were_chosen, named_slots_keep_their_op,
+    nothing_old_is_taken, one_leader_to_a_term, ports_are_ordered, ports_follow_each_other,
+    reads_are_fresh, snapshots_hold_all_slots,
 };
