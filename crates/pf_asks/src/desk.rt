@@ -1,7 +1,7 @@
 //! One group, as a host sees it.
 ghost use Rattle.std.specs.Prelude.{◌≡◌, ◌<◌, ◌++◌, ◌∷◌, [], List, IfOk, IfSome, OnErr, length};
 ghost use Rattle.pf_base.specs.Span.{IsWritable};
-ghost use Rattle.pf_asks.specs.Desks.{Call, Led, Submitted, Fetched, WasAcked, Took};
+ghost use Rattle.pf_asks.specs.Desks.{Call, IsOfItsRange, Led, Submitted, Fetched, WasAcked, Took};
 
 use pf_base::{Data, NoMemory, Payload, Range, Server, Slot, Term};
 use std::alloc::Global;
@@ -50,8 +50,10 @@ pub trait Desk {
         ensures ok { IfOk result (λ is. log self.new ≡ log self.old ++ WasAcked term slot is ∷ []) }
         ensures err { OnErr result (log self.new ≡ log self.old) };
 
-    /// Takes out the answer of a read. `None` exactly where the read is not answered or its answer was taken before.
+    /// Takes out the answer of a read: as many sectors as were asked for. `None` exactly where the read is not answered or its answer was
+    /// taken before.
     fn take_read(&mut self, alloc: Global, number: u64) -> Result<Option<Data>, NoMemory>
+        ensures whole { IfOk result (λ answer. IsOfItsRange (log self.old) number answer) }
         ensures ok { IfOk result (λ answer. log self.new ≡ log self.old ++ Took number answer ∷ []) }
         ensures err { OnErr result (log self.new ≡ log self.old) };
 }

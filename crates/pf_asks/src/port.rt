@@ -1,10 +1,10 @@
 //! A port of a host into one group.
 ghost use Rattle.std.specs.Prelude.{◌≡◌, ◌↔◌, ◌<◌, ◌≤◌, ◌++◌, ◌∷◌, [], List, None, Some, IsSome, IsTrue, IfOk, IfSome, OnErr};
 ghost use Rattle.pf_entry.specs.Lists.{Every};
-ghost use Rattle.pf_base.specs.Asks.{IsValid};
+ghost use Rattle.pf_base.specs.Asks.{Answers, IsValid};
 ghost use Rattle.pf_base.specs.declared.asks.Ask.{Ask as AskIs};
 ghost use Rattle.pf_asks.specs.Desks.{Call, IsLook};
-ghost use Rattle.pf_asks.specs.Ports.{Drives, Hands, IsLed, IsOfKind, IsSentOf, LooksFor, NeverLower, goes_to, new_port};
+ghost use Rattle.pf_asks.specs.Ports.{Drives, Hands, IsFetchedIn, IsLed, IsOfKind, IsSentOf, LooksFor, NeverLower, goes_to, new_port};
 
 use crate::Desk;
 use pf_base::{Ask, NoMemory, Reply, Server, Slot, Term};
@@ -77,6 +77,9 @@ impl Port {
         requires pending { (ask : AskIs) × (self.old.ask ≡ Some ask) }
         ensures drove { IfOk result (λ reply. (ask : AskIs) → self.old.ask ≡ Some ask → (calls : List Call) × (K.log desk.new ≡ K.log desk.old ++ calls) × Drives self.old ask calls reply self.new) }
         ensures kind { IfOk result (λ reply. IfSome reply (λ r. (ask : AskIs) → self.old.ask ≡ Some ask → IsOfKind ask r)) }
+        // The bytes of a read are as many sectors as its range has, at a desk that was asked for it.
+        ensures whole { IsFetchedIn self.old.sent self.old.ask (K.log desk.old) → IfOk result (λ reply. IfSome reply (λ r. (ask : AskIs) → self.old.ask ≡ Some ask → Answers ask r)) }
+        ensures fetched { IsFetchedIn self.old.sent self.old.ask (K.log desk.old) → IsFetchedIn self.new.sent self.new.ask (K.log desk.new) }
         ensures never_lower { IfOk result (λ _. (calls : List Call) × (K.log desk.new ≡ K.log desk.old ++ calls) × NeverLower self.old.last None calls) }
         ensures rises { IfOk result (λ _. self.old.last ≤ self.new.last) }
         ensures err { OnErr result ((self.new ≡ self.old) × ((calls : List Call) × (K.log desk.new ≡ K.log desk.old ++ calls) × Every IsLook calls)) }
@@ -95,6 +98,7 @@ impl Port {
 
     /// Hands the pending ask to the leader, if it goes there.
     fn lead<K: Desk>(&mut self, alloc: Global, desk: &mut K) -> Result<(), NoMemory>
+        ensures fetched { IsFetchedIn self.old.sent self.old.ask (K.log desk.old) → IsFetchedIn self.new.sent self.new.ask (K.log desk.new) }
         ensures led { IfOk result (λ _. (ask : AskIs) → self.old.ask ≡ Some ask → (calls : List Call) × (K.log desk.new ≡ K.log desk.old ++ calls) × IsLed self.old ask calls self.new) }
         ensures rises { IfOk result (λ _. self.old.last ≤ self.new.last) }
         ensures err { OnErr result ((self.new ≡ self.old) × ((calls : List Call) × (K.log desk.new ≡ K.log desk.old ++ calls) × Every IsLook calls)) }
@@ -134,6 +138,7 @@ fn hand<K: Desk>(
     requires valid { IsValid ask.now }
     ensures handed { IfOk result (λ sent. (call : Call) × (K.log desk.new ≡ K.log desk.old ++ call ∷ []) × Hands ask.now server call sent) }
     ensures kind { IfOk result (λ sent. IsSentOf (Some ask.now) sent) }
+    ensures fetched { IfOk result (λ sent. IsFetchedIn sent (Some ask.now) (K.log desk.new)) }
     ensures err { OnErr result (K.log desk.new ≡ K.log desk.old) }
 {
     match ask {
@@ -155,6 +160,7 @@ fn answer_of<K: Desk>(
     sent: Sent,
     term: Term,
 ) -> Result<Option<Reply>, NoMemory>
+    ensures whole { IfOk result (λ reply. IfSome reply (λ r. (ask : AskIs) → IsSentOf (Some ask) (Some sent) → IsFetchedIn (Some sent) (Some ask) (K.log desk.old) → Answers ask r)) }
     ensures looked { IfOk result (λ reply. (look : Call) × (K.log desk.new ≡ K.log desk.old ++ look ∷ []) × LooksFor sent term look reply) }
     ensures err { OnErr result (K.log desk.new ≡ K.log desk.old) }
 {

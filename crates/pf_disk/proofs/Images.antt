@@ -190,8 +190,8 @@ pub settled_keeps : (s : State) (file c : List ℕ) → IsImage s file → IsIma
 settled_keeps s file c image left = subst (λ (l : List ℕ). IsImage s l) (sym (only_file file c left)) image
 
 -- other bytes where something was written
-pub scrambled : (s : State) (file new : List ℕ) → IsImage s file → length new ≡ length file → ((k : ℕ) → is_touched s.touched k ≡ false → get_or new k 0 ≡ get_or file k 0) → IsImage s new
-scrambled s file new image size keeps = record {
+pub scrambled_image : (s : State) (file new : List ℕ) → IsImage s file → length new ≡ length file → ((k : ℕ) → is_touched s.touched k ≡ false → get_or new k 0 ≡ get_or file k 0) → IsImage s new
+scrambled_image s file new image size keeps = record {
   no_shorter = omega (arith, size, image.no_shorter);
   no_longer = omega (arith, size, image.no_longer);
   same = λ k lt lt' none. keeps k none ∙ image.same k (omega (arith, lt, size)) lt' none;

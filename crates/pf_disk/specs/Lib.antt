@@ -2,5 +2,6 @@ pub mod Causes
 pub mod Files
 pub mod Crashes
 pub mod Recorded
+pub mod Scrambles
 pub mod Tapes
 pub mod Laws

@@ -1,7 +1,8 @@
 //! Writes and cuts of a file's bytes in memory, within room that was taken before.
-ghost use Rattle.std.specs.Prelude.{◌≡◌, ◌+◌, ◌-◌, ◌≤◌, ◌<◌, ◌^◌, ◌++◌, ℕ, false, slice_index, drop, length, max, min, take, vec_capacity, vec_len};
+ghost use Rattle.std.specs.Prelude.{◌≡◌, ◌≤◌, ◌<◌, ◌^◌, length, min, take, vec_capacity};
 ghost use Rattle.pf_disk.specs.Recorded.{is_touched};
 ghost use Rattle.pf_disk.specs.Files.{grown, overwritten, resized, reach};
+ghost use Rattle.pf_disk.specs.Scrambles.{next_number, scrambled};
 
 /// Copies a front of `from` that fits into `to`, and answers its length.
 pub fn copy_front(from: &[u8], to: &mut [u8]) -> usize
@@ -67,7 +68,9 @@ fn is_marked(ranges: &[(usize, usize)], place: usize) -> bool
 }
 
 /// The next number of the generator x -> x * 6364136223846793005 + 1442695040888963407 mod 2^64.
-fn next_number(number: u64) -> u64 {
+fn next_number(number: u64) -> u64
+    ensures { result ≡ next_number number }
+{
     number
         .wrapping_mul(6_364_136_223_846_793_005)
         .wrapping_add(1_442_695_040_888_963_407)
@@ -75,7 +78,7 @@ fn next_number(number: u64) -> u64 {
 
 /// Puts the top bytes of the generator's numbers, started at `seed`, into all places that one of the ranges holds.
 pub fn scramble(bytes: &mut [u8], ranges: &[(usize, usize)], seed: u64)
-    ensures { (k : ℕ) → is_touched ranges.now k ≡ false → slice_index bytes.new k ≡ slice_index bytes.old k }
+    ensures { bytes.new ≡ scrambled ranges.now 0 seed bytes.old }
 {
     let mut number = seed;
     for place in 0..bytes.len() {

@@ -4,6 +4,7 @@ ghost use Rattle.pf_disk.specs.Causes.{HasCause, Rose};
 ghost use Rattle.pf_disk.specs.Crashes.{Cut, Elapses, Follows, Keeps, Only, Torn};
 ghost use Rattle.pf_disk.specs.Files.{IsRead, overwritten, reach, resized};
 ghost use Rattle.pf_disk.specs.Recorded.{IsImage, LeftSince, after_cut, after_failed_cut, after_failed_write, after_write, is_listed, next_call, settled};
+ghost use Rattle.pf_disk.specs.Scrambles.{crashed};
 ghost use Rattle.pf_disk.specs.Tapes.{fits_cut, fits_write, has_place, state_of};
 
 use crate::files::copy_front;
@@ -58,6 +59,7 @@ impl MemDisk {
     /// the generator x -> x * 6364136223846793005 + 1442695040888963407 mod 2^64, started at `seed`. The file ends where
     /// it did. The records begin anew, so that all room is free but that of the bytes.
     pub fn crash(&mut self, seed: u64)
+        ensures bytes { self.new.tape.bytes.items ≡ crashed (state_of self.old.tape) seed }
         ensures image { ⟦<MemDisk as Disk>⟧.may_leave self.old self.new.tape.bytes.items }
         ensures only { Only self.new.tape.bytes.items (⟦<MemDisk as Disk>⟧.may_leave self.new) }
         ensures room { self.new.tape.room ≡ self.old.tape.room }

@@ -2,6 +2,7 @@
 ghost use Rattle.std.specs.Prelude.{◌≡◌, ◌+◌, ◌≤◌, ◌<◌, ◌&&◌, ◌++◌, [], ◌∷◌, IfOk, IsTrue, length, min, nat_le, nat_lt, vec_capacity, vec_len};
 ghost use Rattle.pf_disk.specs.Files.{overwritten, reach, resized};
 ghost use Rattle.pf_disk.specs.Recorded.{IsImage, after_cut, after_failed_cut, after_failed_write, after_write, count_written, replayed, settled};
+ghost use Rattle.pf_disk.specs.Scrambles.{crashed};
 
 use crate::files::{end_of, overwrite, resize, scramble};
 use std::alloc::{AllocError, Global};
@@ -156,6 +157,7 @@ impl Tape {
     /// Crashes: each byte that may change becomes the next of a generator started at `seed`, and the file ends where it
     /// did. What is then there is durable, and the records begin anew.
     pub fn crash(&mut self, seed: u64)
+        ensures bytes { self.new.bytes.items ≡ crashed (state_of self.old) seed }
         ensures image { IsImage (state_of self.old) self.new.bytes.items }
         ensures state { state_of self.new ≡ settled self.new.bytes.items }
         ensures room { self.new.room ≡ self.old.room }

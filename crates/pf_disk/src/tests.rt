@@ -1,4 +1,4 @@
-//! Disks in memory: what a read gives, which calls fail, and what a crash leaves.
+//! Disks in memory: what a read gives, and which calls fail.
 use crate::{Disk, Failed, MemDisk, RamDisk};
 use std::test::Fail;
 
@@ -22,22 +22,6 @@ fn a_disk_in_memory(rt: HostRuntime) -> Result<(), Fail> {
     assert_eq!(rt; disk.bytes(), b"ab".as_slice());
     assert_eq!(rt; disk.cut(4), Ok(()));
     assert_eq!(rt; disk.bytes(), b"ab\0\0".as_slice());
-    Ok(())
-}
-
-/// A failed write counts as made: its byte may change in a crash, and after the crash no byte may.
-#[test]
-fn a_crash(rt: HostRuntime) -> Result<(), Fail> {
-    for (seed, changed) in [(0, 0x14), (1, 0x6c), (2, 0xc4)] {
-        let mut disk = MemDisk::new(rt.alloc(), 100, 10, vec![in rt.alloc(); 2]?)?;
-        disk.write_at(0, b"abc")?;
-        disk.sync()?;
-        let _ = disk.write_at(1, b"X");
-        disk.crash(seed);
-        assert_eq!(rt; disk.bytes(), [97, changed, 99].as_slice(), "{seed}");
-        disk.crash(seed + 1);
-        assert_eq!(rt; disk.bytes(), [97, changed, 99].as_slice(), "{seed}");
-    }
     Ok(())
 }
 

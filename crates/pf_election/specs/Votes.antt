@@ -7,8 +7,9 @@ use Rattle.pf_entry.specs.EntryMaps.{entry_code}
 use Rattle.pf_entry.specs.declared.entries.Entry.{Entry}
 use Rattle.pf_entry.specs.declared.entries.VoteLog.{VoteLog}
 
--- the candidate's own vote, and that of another server
+-- the candidate's number, its own vote, and that of another server
 pub record Votes : Type 0 where
+  pub number : ℕ
   pub own : VoteLog
   pub other : Option VoteLog
 
@@ -22,7 +23,7 @@ vote_code =
 
 abbrev pub votes_code : Coded Votes
 votes_code =
-    code_by (VoteLog × Option VoteLog) (coded× vote_code (coded_option vote_code))
-    (λ v. (v.own, v.other))
-    (λ p. record { own = p.0; other = p.1 })
+    code_by (ℕ × (VoteLog × Option VoteLog)) (coded× coded_ℕ (coded× vote_code (coded_option vote_code)))
+    (λ v. (v.number, (v.own, v.other)))
+    (λ p. record { number = p.0; own = p.1.0; other = p.1.1 })
     (λ _. refl)

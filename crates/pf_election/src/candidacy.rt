@@ -1,14 +1,15 @@
 //! The votes of an election.
-ghost use Rattle.std.specs.Prelude.{◌≡◌, ◌<◌, MatchOption, None, Some, is_some, not, if◌then◌else◌};
+ghost use Rattle.std.specs.Prelude.{◌≡◌, ◌<◌, ◌==◌, ◌&&◌, MatchOption, None, Some, is_some, not, if◌then◌else◌};
 
 use pf_base::Server;
 use pf_entry::VoteLog;
 use std::marker::Model;
 
-/// The votes that a candidate holds: its own, and that of one other server. With three servers in a group these two
-/// are a majority.
+/// The votes that the candidate of this number holds: its own, and that of one other server. With three servers in a
+/// group these two are a majority.
 #[derive(Drop)]
 pub struct Candidacy {
+    number: Server,
     own: VoteLog,
     other: Option<VoteLog>,
 }
@@ -20,25 +21,30 @@ impl Model for Candidacy {
 
     ghost coded = { votes_code };
 
-    ghost view = { λ a. record { own = a.own; other = a.other } };
+    ghost view = { λ a. record { number = a.number; own = a.own; other = a.other } };
 }
 
 impl Candidacy {
-    /// A candidacy with the own vote alone.
-    pub fn new(own: VoteLog) -> Candidacy
-        ensures { result ≡ record { own = own; other = None } }
+    /// A candidacy of this server with the own vote alone.
+    pub fn new(number: Server, own: VoteLog) -> Candidacy
+        requires { number < 3 }
+        ensures { result ≡ record { number = number; own = own; other = None } }
     {
-        Candidacy { own, other: None }
+        Candidacy {
+            number,
+            own,
+            other: None,
+        }
     }
 
-    /// Takes the vote of another server. The first one makes a majority, and is kept; it answers true at that one
-    /// exactly. A later one is dropped.
+    /// Takes a vote. The first one of another server makes a majority, and is kept; it answers true at that one
+    /// exactly. A later one, and the candidate's own, is dropped.
     pub fn add(&mut self, from: Server, vote: VoteLog) -> bool
         requires { from < 3 }
-        ensures first { result ≡ not (is_some self.old.other) }
+        ensures first { result ≡ (not (from == self.old.number) && not (is_some self.old.other)) }
         ensures kept { self.new ≡ record self.old { other = if result then Some vote else self.old.other } }
     {
-        let is_first = self.other.is_none();
+        let is_first = from != self.number && self.other.is_none();
         if is_first {
             self.other = Some(vote);
         }

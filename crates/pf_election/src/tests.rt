@@ -26,11 +26,12 @@ fn set_of(alloc: Global, slots: &[u64]) -> Result<SlotSet, Fail> {
 #[test]
 fn keeps_the_first_vote(rt: HostRuntime) -> Result<(), Fail> {
     let alloc = rt.alloc();
-    let mut candidacy = Candidacy::new(vote(alloc, 5));
+    let mut candidacy = Candidacy::new(0, vote(alloc, 5));
     assert!(rt; candidacy.other().is_none());
-    for (from, base, first) in [(1, 3, true), (2, 4, false), (1, 2, false)] {
+    for (from, base, first) in [(0, 6, false), (1, 3, true), (2, 4, false), (0, 2, false)] {
         assert_eq!(rt; candidacy.add(from, vote(alloc, base)), first);
-        assert_eq!(rt; candidacy.other().map(|other| other.base), Some(3));
+        let held = if base == 6 { None } else { Some(3) };
+        assert_eq!(rt; candidacy.other().map(|other| other.base), held);
     }
     assert_eq!(rt; candidacy.own().base, 5);
     Ok(())

@@ -169,7 +169,8 @@ impl<D: Disk> Pair<D> {
     /// head, and appends the first record, the body of an Image record of generation 0 in that format. Once it has
     /// answered Ok, every crash before the next `append` or `save` leaves this record alone in half 0, and half 1 empty.
     ///
-    /// `DiskFault` (40) only where one of the disks has failed in this call.
+    /// `DiskFault` (40) only where one of the disks has failed in this call. Wherever the calls of the disks end, that of half 0 is
+    /// untouched, or half 1 is empty after every crash: no older half 1 comes to stand beside a new half 0.
     pub fn new(a: D, b: D, head: [u8; 7], first: &[u8]) -> Result<Pair<D>, (D, D, DiskFault)>
         requires body { (raw : Raw) × (first.now ≡ body_of raw) }
         requires fits { 9 + length first.now ≤ 67108864 }
@@ -183,6 +184,7 @@ impl<D: Disk> Pair<D> {
         ensures used { IfOk result (λ pair. (current_of pair).used ≡ 9 + length first.now) }
         ensures ready { IfOk result (λ pair. IsReady D.seen D.may_leave (current_of pair)) }
         ensures told { IfOk result (λ pair. (is_some (D.seen pair.zero.disk) ≡ is_some (D.seen a)) × (is_some (D.seen pair.one.disk) ≡ is_some (D.seen b))) }
+        ensures order { IfErr result (λ given. (given.0 ≡ a) ⊎ IfSome (D.seen b) (λ _. Only [] (D.may_leave given.1))) }
         ensures told_err { IfErr result (λ given. (is_some (D.seen given.0) ≡ is_some (D.seen a)) × (is_some (D.seen given.1) ≡ is_some (D.seen b))) }
         ensures later { IfOk result (λ pair. (D.faults a ≤ D.faults pair.zero.disk) × (D.faults b ≤ D.faults pair.one.disk)) }
         ensures later_err { IfErr result (λ given. (D.faults a ≤ D.faults given.0) × (D.faults b ≤ D.faults given.1)) }
@@ -286,6 +288,7 @@ impl<D: Disk> Pair<D> {
         ensures begun { (raw : Raw) → first.now ≡ body_of raw → IfSome (D.seen self.old.zero.disk) (λ _. OnOk result (IfSome (D.seen self.new.zero.disk) (IsAtRest head self.new.zero.used (D.may_leave self.new.zero.disk) (raw ∷ [])))) }
         ensures length { IfSome (D.seen self.old.zero.disk) (λ _. OnOk result (IfSome (D.seen self.new.zero.disk) (λ file. length file ≡ 9 + length first.now))) }
         ensures empty { IfSome (D.seen self.old.one.disk) (λ _. OnOk result (Only [] (D.may_leave self.new.one.disk))) }
+        ensures order { OnErr result ((self.new.zero.disk ≡ self.old.zero.disk) ⊎ IfSome (D.seen self.old.one.disk) (λ _. Only [] (D.may_leave self.new.one.disk))) }
         ensures told_zero { is_some (D.seen self.new.zero.disk) ≡ is_some (D.seen self.old.zero.disk) }
         ensures told_one { is_some (D.seen self.new.one.disk) ≡ is_some (D.seen self.old.one.disk) }
         ensures log { OnOk result (self.new.zero.head ≡ head) }

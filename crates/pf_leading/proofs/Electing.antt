@@ -14,7 +14,7 @@ use Rattle.pf_leading.specs.Electing.{candidate, elected}
 use Rattle.pf_state.proofs.Ending.{IsAdded, IsFollowed}
 
 abbrev pub with_candidacy : Running → ℕ → VoteLog → Running
-with_candidacy me term vote = record me { term = term; role = CandidateHere (record { own = vote; other = None }); reads = [] }
+with_candidacy me term vote = record me { term = term; role = CandidateHere (record { number = me.number; own = vote; other = None }); reads = [] }
 
 pub stood_added : (d : Durable) (me : Running) (term : ℕ) → IsAdded d (TermRecord term) (elected (server_of d me) term).server.durable
 unfolding server_of stored
@@ -37,7 +37,7 @@ stood_here d me term vote cached own = record {
     log = cached.log;
     format = cached.format;
     prefix = cached.prefix;
-    role = refl;
+    role = (refl, refl);
     jobs = cached.jobs;
     places = cached.places;
     rooms = cached.rooms;

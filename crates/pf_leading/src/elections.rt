@@ -1,5 +1,5 @@
 //! An election is called.
-ghost use Rattle.std.specs.Prelude.{◌≡◌, [], None};
+ghost use Rattle.std.specs.Prelude.{◌≡◌, ◌<◌, [], None};
 ghost use Rattle.pf_entry.specs.Records.{Durable, vote_of};
 ghost use Rattle.pf_protocol.specs.Leading.{on_elect};
 ghost use Rattle.pf_state.specs.Outgoing.{Outgoing};
@@ -16,10 +16,11 @@ use std::alloc::Global;
 
 /// Takes over a term, as a candidate with its own vote. A candidate has no reads.
 fn run(alloc: Global, me: &mut Running, term: Term, vote: VoteLog)
-    ensures { me.new ≡ record me.old { term = term; role = Role.Candidate (record { own = vote; other = None }); reads = [] } }
+    requires { me.old.number < 3 }
+    ensures { me.new ≡ record me.old { term = term; role = Role.Candidate (record { number = me.old.number; own = vote; other = None }); reads = [] } }
 {
     me.term = term;
-    me.role = Role::Candidate(Candidacy::new(vote));
+    me.role = Role::Candidate(Candidacy::new(me.number, vote));
     me.reads = Probes::new(alloc);
 }
 

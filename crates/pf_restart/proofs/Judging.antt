@@ -20,7 +20,7 @@ use Rattle.pf_spelling.proofs.MapLaws.{every_of_gets, get_of_every}
 use Rattle.pf_protocol.specs.Servers.{Setup}
 use Rattle.pf_restart.specs.Beginning.{HasBegun, MayBegin, setup_at}
 use Rattle.pf_restart.specs.Recovering.{HasWindow, IsPlaced}
-use Rattle.pf_restart.specs.Testing.{AreApplied, AreInPlace, AreNumbers, AreStarts, IsContent, IsInPlace, IsLow, IsSoundAt, Judges}
+use Rattle.pf_restart.specs.Testing.{AreApplied, AreInPlace, AreNumbers, AreStarts, IsContent, IsFit, IsInPlace, IsLow, IsSoundAt, Judges}
 use Rattle.pf_restart.specs.declared.seat.Seat.{Seat}
 
 -- slots of a list
@@ -163,13 +163,13 @@ module _ (seat : Seat) (d : Durable) where
   }
 
   pub passed : (b : Bool) → AreNumbers setup d → IsContent setup d → IsTrue b ↔ AreStarts d.starts → Judges setup d b
-  passed b numbers content starts = record { fits = λ is. (begun numbers content (starts.0 is), numbers.generation); ours = λ may. starts.1 (starts_of may) }
+  passed b numbers content starts = record { fits = λ is. (begun numbers content (starts.0 is), numbers.generation); ours = λ may. starts.1 (starts_of may); unfit = λ fails fit. false≢true (sym fails ∙ starts.1 fit.starts) }
 
   pub not_numbers : (AreNumbers setup d → ⊥) → Judges setup d false
-  not_numbers none = record { fits = λ is. absurd (false≢true is); ours = λ may. absurd (none (numbers_of may)) }
+  not_numbers none = record { fits = λ is. absurd (false≢true is); ours = λ may. absurd (none (numbers_of may)); unfit = λ _ fit. none fit.numbers }
 
   pub not_content : (IsContent setup d → ⊥) → Judges setup d false
-  not_content none = record { fits = λ is. absurd (false≢true is); ours = λ may. absurd (none (content_of may)) }
+  not_content none = record { fits = λ is. absurd (false≢true is); ours = λ may. absurd (none (content_of may)); unfit = λ _ fit. none fit.content }
 
   pub all_judged : {E : Type 0} → (r : Result Bool E) → AreNumbers setup d → IsContent setup d → IfOk r (λ b. IsTrue b ↔ AreStarts d.starts) → IfOk r (Judges setup d)
   all_judged (Ok b) numbers content starts = passed b numbers content starts
@@ -211,3 +211,11 @@ may_window seat d may q has = by (FinMap.get d.log q) refl has
     by : (o : Option Entry) → FinMap.get d.log q ≡ o → is_some o ≡ true → IsPlaced d.base q
     by None at has = absurd (false≢true has)
     by (Some e) at has = let x = may.fits.vote.log q e at in (x.is_above, x.within)
+
+-- each entry of a state that passes has a place
+pub fit_window : (volume : Setup) (d : Durable) → IsFit volume d → HasWindow d
+fit_window volume d fit q has = by (FinMap.get d.log q) refl has
+  where
+    by : (o : Option Entry) → FinMap.get d.log q ≡ o → is_some o ≡ true → IsPlaced d.base q
+    by None at has = absurd (false≢true has)
+    by (Some e) at has = (fit.content.log q e at).placed

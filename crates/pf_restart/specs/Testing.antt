@@ -1,5 +1,5 @@
 -- What is tested of the state that was read.
-use Rattle.std.specs.Prelude.{◌≡◌, ℕ, ◌<◌, ◌≤◌, ◌^◌, ◌⊎◌, Bool, true, List, [], Option, Some, None, length, map}
+use Rattle.std.specs.Prelude.{◌≡◌, ℕ, ◌<◌, ◌≤◌, ◌^◌, ◌⊎◌, Bool, true, false, List, [], Option, Some, None, length, map}
 use Rattle.std.specs.FinMap
 use Rattle.pf_entry.specs.Lists.{Every}
 use Rattle.pf_entry.specs.Maps.{Map, Numbers}
@@ -69,7 +69,21 @@ pub record IsContent (setup : Setup) (d : Durable) : Type 0 where
   pub saved : AreApplied d.base d.saved
   pub sectors : SectorsFit setup d.sectors
 
--- a server may begin from the state, and no state fails from which it may
+-- a state that passes
+pub record IsFit (setup : Setup) (d : Durable) : Type 0 where
+  pub numbers : AreNumbers setup d
+  pub content : IsContent setup d
+  pub starts : AreStarts d.starts
+
+-- the store has one of the two states, which does not pass
+pub record HasUnfit {S : Type 0} (holds : S → Durable → Durable → Type 0) (setup : Setup) (before after : Durable) (store : S) : Type 0 where
+  pub d : Durable
+  pub either : (d ≡ before) ⊎ (d ≡ after)
+  pub there : holds store d d
+  pub unfit : IsFit setup d → ⊥
+
+-- a server may begin from the state, and no state fails from which it may, nor one that passes
 pub record Judges (setup : Setup) (d : Durable) (passes : Bool) : Type 0 where
   pub fits : passes ≡ true → HasBegun setup d × (d.generation < 2 ^ 63)
   pub ours : MayBegin setup d → passes ≡ true
+  pub unfit : passes ≡ false → IsFit setup d → ⊥

@@ -7,6 +7,7 @@ ghost use Rattle.pf_restart.specs.Beginning.{HasBegun, IsSeat, MayBegin, setup_a
 ghost use Rattle.pf_restart.specs.Faults.{IsHalt};
 ghost use Rattle.pf_restart.specs.Recovering.{state_in};
 ghost use Rattle.pf_restart.specs.Reviving.{IsRevived};
+ghost use Rattle.pf_restart.specs.Testing.{IsFit};
 
 use crate::fitting::fits;
 use crate::recovery::{Recovered, recover};
@@ -65,6 +66,7 @@ pub fn revive(alloc: Global, seat: &Seat, life: u64, found: Found) -> Result<Run
     requires stands { (d : Durable) × StandsFor found d }
     ensures begun { IfOk result (λ me. (d : Durable) → StandsFor found d → IsRevived d me seat.now life × (d.generation < 2 ^ 63)) }
     ensures ours { IsErrOf result RestartFault.NotOurs → (d : Durable) → StandsFor found d → MayBegin (setup_at seat.now) d → ⊥ }
+    ensures unfit { IsErrOf result RestartFault.NotOurs → (d : Durable) → StandsFor found d → IsFit (setup_at seat.now) d → ⊥ }
     ensures moving { IfErr result (λ fault. IsHalt fault → ⊥) }
 {
     let Some(tables) = recover(alloc, found)? else {

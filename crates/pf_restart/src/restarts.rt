@@ -4,6 +4,7 @@ ghost use Rattle.pf_entry.specs.Records.{Durable};
 ghost use Rattle.pf_protocol.specs.Saving.{renewed};
 ghost use Rattle.pf_restart.specs.Beginning.{setup_at, IsSeat, MayBegin, IsBegun, IsRead, HasSome, IsThere, WasBegun};
 ghost use Rattle.pf_restart.specs.Faults.{IsHalt};
+ghost use Rattle.pf_restart.specs.Testing.{HasUnfit};
 ghost use Rattle.pf_restart.specs.declared.reading.Reading.{Reading as ReadingIs};
 
 use crate::halves::renew;
@@ -34,6 +35,8 @@ pub fn restart<S: Store>(
     ensures no_memory { IsErrOf result RestartFault.NoMemory → IsTrue (S.told store.old) → (before after : Durable) → S.holds store.old before after → HasSome S.holds before after store.new }
     ensures same { IsErrOf result RestartFault.NoMemory → IsTrue (S.told store.old) → (d : Durable) → IsThere S.holds S.used S.format d store.old → IsThere S.holds S.used S.format d store.new }
     ensures ours { IsTrue (S.told store.old) → (before after : Durable) → S.holds store.old before after → MayBegin (setup_at seat.now) before → MayBegin (setup_at seat.now) after → result ≢ Err RestartFault.NotOurs }
+    // Only where the state that is there does not pass the tests.
+    ensures unfit { IsErrOf result RestartFault.NotOurs → IsTrue (S.told store.old) → (before after : Durable) → S.holds store.old before after → HasUnfit S.holds (setup_at seat.now) before after store.new }
     ensures any_moment { IsTrue (S.told store.old) → (before after : Durable) → S.holds store.old before after → WasBegun S.was before after store.old store.new }
     ensures told { S.told store.new ≡ S.told store.old }
     ensures cause { IfErr result (λ fault. IsHalt fault → S.rose store.old store.new) }

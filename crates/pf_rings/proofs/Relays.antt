@@ -1,12 +1,12 @@
 -- Each move keeps the rule of a ring.
-use Rattle.std.proofs.Common.{◌≡◌, ◌≢◌, ℕ, zero, suc, ◌≤◌, true, false, true≢false, List, [], ◌∷◌, ◌++◌, length, length-append, set, sym, refl, ap, ◌∙◌, subst, ⊎_elim, append_assoc, append-nil, arith}
+use Rattle.std.proofs.Common.{◌≡◌, ◌≢◌, ◌⊎◌, inl, inr, ℕ, zero, suc, ◌≤◌, true, false, true≢false, List, [], ◌∷◌, ◌++◌, length, length-append, set, sym, refl, ap, ◌∙◌, subst, ⊎_elim, append_assoc, append-nil, arith}
 use mathlib.Core.Option.{some, some-injective, some-ne-none}
 use lib.ListN.{get_elem?}
 use Rattle.crossbeam_queue.specs.Fifo.{Pushes, Pops, Forks, Merges, Learns}
 use Rattle.atomic_table.proofs.Lists.{at_set, at_snoc}
 use Rattle.pf_rings.specs.declared.view.Request.{Request}
 use Rattle.pf_rings.specs.declared.view.View.{View}
-use Rattle.pf_rings.specs.Relayed.{view_of, Begins, Fits, Relayed, Waits, Comes, Meets}
+use Rattle.pf_rings.specs.Relayed.{view_of, Begins, Fits, HasPut, HasTaken, Relayed, Meets}
 
 abbrev Rs : Type 0
 Rs = List Request
@@ -23,6 +23,27 @@ begins_refl xs = ([], append-nil xs)
 begins_more : (xs ys zs : Rs) → Begins xs ys → Begins xs (ys ++ zs)
 begins_more xs ys zs p = (p.0 ++ zs, sym (append_assoc xs p.0 zs) ∙ ap (λ l. l ++ zs) p.1)
 
+-- of two beginnings of one list one begins the other
+pub begins_either : (xs ys zs : Rs) → Begins xs zs → Begins ys zs → Begins xs ys ⊎ Begins ys xs
+begins_either [] ys zs p q = inl (ys, refl)
+begins_either (x ∷ xs) [] zs p q = inr (x ∷ xs, refl)
+begins_either (x ∷ xs) (y ∷ ys) [] (r, e) q = absurd (cc e)
+begins_either (x ∷ xs) (y ∷ ys) (z ∷ zs) (r, e) (r', e') =
+    let first : x ≡ z = cc e in
+    let second : y ≡ z = cc e' in
+    let rest : xs ++ r ≡ zs = cc e in
+    let rest' : ys ++ r' ≡ zs = cc e' in
+    elim (begins_either xs ys zs (r, rest) (r', rest')) [
+      | inl b ↦ inl (b.0, λ i. (first ∙ sym second) i ∷ b.1 i)
+      | inr b ↦ inr (b.0, λ i. (second ∙ sym first) i ∷ b.1 i)
+    ]
+
+-- of two lists, of which one begins the other, the one that is not longer does
+pub longest_begins : (xs ys : Rs) → Begins xs ys ⊎ Begins ys xs → length xs ≤ length ys → Begins xs ys
+longest_begins xs ys (inl b) le = b
+longest_begins xs ys (inr ([], e)) le = ([], append-nil xs ∙ sym e ∙ append-nil ys)
+longest_begins xs ys (inr (z ∷ zs, e)) le = let n = length-append ys (z ∷ zs) in let m = ap length e in absurd (omega arith)
+
 abbrev Each : (ℕ → View → Type 0) → List View → Type 0
 Each F views = (j : ℕ) (v : View) → get_elem? views j ≡ some v → F j v
 
@@ -37,7 +58,7 @@ starts = (0, 0, [], [], refl, omega arith, only)
     only zero v e = subst (Fits 0 0 [] [] 0) (some-injective (view_of true true [] []) v e) ((λ _. (refl, refl, begins_refl [])), λ _. (refl, refl, begins_refl []))
     only (suc j) v e = absurd (some-ne-none v (sym e))
 
-pub puts : (n j : ℕ) (v : View) (x : Request) → n ≡ 8 → v.puts ≡ true → Pushes Relayed n j v x (λ w. w ≡ view_of v.puts v.takes (v.sent ++ x ∷ []) v.got)
+pub puts : (n j : ℕ) (v : View) (x : Request) → n ≡ 8 → v.puts ≡ true → Pushes Relayed n j v x (HasPut v x)
 puts n j v x eight may items views room h at = let w : View = view_of v.puts v.takes (v.sent ++ x ∷ []) v.got in let mine = h.6 j v at in let sent : Rs = h.2 ++ x ∷ [] in let own = mine.0 may in (
   w,
   (
@@ -54,7 +75,7 @@ puts n j v x eight may items views room h at = let w : View = view_of v.puts v.t
   refl,
 )
 
-pub takes_one : (j : ℕ) (v : View) → v.takes ≡ true → Pops Relayed j v (λ x w. w ≡ view_of v.puts v.takes v.sent (v.got ++ x ∷ []))
+pub takes_one : (j : ℕ) (v : View) → v.takes ≡ true → Pops Relayed j v (HasTaken v)
 takes_one j v may x items views h at = let w : View = view_of v.puts v.takes v.sent (v.got ++ x ∷ []) in let mine = h.6 j v at in let got : Rs = h.3 ++ x ∷ [] in let own = mine.1 may in (
   w,
   (
@@ -68,7 +89,7 @@ takes_one j v may x items views h at = let w : View = view_of v.puts v.takes v.s
         ((λ p. let m = mine.0 p in (m.0, m.1, subst (λ l. Begins l got) (sym (ap (λ l. l ++ x ∷ []) own.1)) (begins_refl got))), λ _. (own.0, ap (λ l. l ++ x ∷ []) own.1, own.2))
         (λ i u other e. let theirs = h.6 i u e in ((λ p. let m = theirs.0 p in (m.0, m.1, begins_more u.got h.3 (x ∷ []) m.2)), λ t. absurd (other ((theirs.1 t).0 ∙ sym own.0)))),
   ),
-  refl,
+  (refl, begins_either v.sent (v.got ++ x ∷ []) h.2 own.2 (items, append_assoc v.got (x ∷ []) items ∙ ap (λ l. l ++ x ∷ items) own.1 ∙ sym h.4)),
 )
 
 pub forks : (j : ℕ) (v : View) → v.puts ≡ true → v.takes ≡ true → Forks Relayed j v (view_of true false v.sent v.got) (view_of false true v.sent v.got)
@@ -98,11 +119,9 @@ merges j v other u a b items views h at apart there = let both : View = view_of 
     (λ i y _ e two. let k = h.6 i y e in (k.0, λ t. absurd (two ((k.1 t).0 ∙ sym theirs.0)))) in
     (h.0, j, h.2, h.3, h.4, h.5, each_set F vs other (view_of false false [] []) ((λ p. absurd (true≢false (sym p))), λ p. absurd (true≢false (sym p))) (λ i y two e. now i y e two))
 
-pub waits : (j : ℕ) (v : View) → v.puts ≡ true → Learns Relayed j v (Waits v)
-waits j v may items views h at = let m = (h.6 j v at).0 may in (h.3, m.1 ∙ h.4, m.2)
-
-pub comes : (j : ℕ) (v : View) → v.takes ≡ true → Learns Relayed j v (Comes v)
-comes j v may items views h at = let m = (h.6 j v at).1 may in (h.2, h.4 ∙ ap (λ l. l ++ items) (sym m.1), m.2)
+-- nothing is asked of the content
+pub untold : (j : ℕ) (v : View) → Learns Relayed j v (λ _. Unit {0})
+untold j v items views h at = tt
 
 pub meets : (j : ℕ) (v : View) → v.puts ≡ true → v.takes ≡ true → Learns Relayed j v (Meets v)
 meets j v a b items views h at = let p = (h.6 j v at).0 a in let t = (h.6 j v at).1 b in (p.1 ∙ (h.4 ∙ ap (λ l. l ++ items) (sym t.1)), h.5)

@@ -1,6 +1,6 @@
 -- What was put is what was taken and then what the ring holds, eight at most. One pass at most puts, and it has the list of what was
 -- put; one at most takes, and it has the list of what was taken. Each knows a beginning of the other's list.
-use Rattle.std.specs.Prelude.{◌≡◌, ℕ, ◌≤◌, Bool, true, List, ◌++◌, length}
+use Rattle.std.specs.Prelude.{◌≡◌, ◌⊎◌, ℕ, ◌≤◌, Bool, true, List, [], ◌∷◌, ◌++◌, length}
 use mathlib.Core.Option.{some}
 use lib.ListN.{get_elem?}
 use Rattle.pf_rings.specs.declared.view.Request.{Request}
@@ -20,13 +20,13 @@ abbrev pub Relayed : List Request → List View → Type 0
 Relayed items views = (writer : ℕ) × (reader : ℕ) × (sent : List Request) × (got : List Request) × (sent ≡ got ++ items) × (length items ≤ 8)
     × ((j : ℕ) (v : View) → get_elem? views j ≡ some v → Fits writer reader sent got j v)
 
--- the ring holds what of the host's list was not taken, and what the host knows to be taken was
-abbrev pub Waits : View → List Request → Type 0
-Waits v items = (got : List Request) × (v.sent ≡ got ++ items) × Begins v.got got
+-- one request more was put
+abbrev pub HasPut : View → Request → View → Type 0
+HasPut v x w = w ≡ view_of v.puts v.takes (v.sent ++ x ∷ []) v.got
 
--- the ring holds what was put and is not in the server thread's list, and what that knows to be put was
-abbrev pub Comes : View → List Request → Type 0
-Comes v items = (sent : List Request) × (sent ≡ v.got ++ items) × Begins v.sent sent
+-- one request more was taken. Of it and what was put one list begins the other
+abbrev pub HasTaken : View → Request → View → Type 0
+HasTaken v x w = (w ≡ view_of v.puts v.takes v.sent (v.got ++ x ∷ [])) × (Begins w.sent w.got ⊎ Begins w.got w.sent)
 
 abbrev pub Meets : View → List Request → Type 0
 Meets v items = (v.sent ≡ v.got ++ items) × (length items ≤ 8)

@@ -2,8 +2,11 @@
 ghost use Rattle.std.specs.Prelude.{◌≡◌};
 ghost use Rattle.crossbeam_queue.specs.Passes.{ruled_capacity};
 
+use crate::count::{Counting, Sight};
 use crate::view::{InOrder, Request, View};
+use atomic_table::{Seat, Table};
 use crossbeam_queue::{Pass, RuledArrayQueue};
+use std::alloc::Global;
 
 /// Requests that one host put and the server thread has not taken yet. Eight places.
 #[derive(Drop)]
@@ -11,11 +14,15 @@ pub struct Ring {
     /// The host whose requests these are.
     pub host: u32,
     pub(crate) queue: RuledArrayQueue<Request, View, InOrder>,
+    /// How many stand. A refused call of the queue leaves no trace in what a pass knows, and one that looks here does.
+    pub(crate) count: Table<(), Sight, (), Counting, Global>,
     ghost room: { ruled_capacity queue ≡ 8 },
+    ghost shape: { count.shared.table_id.words ≡ 1 },
 }
 
 /// The host's right to put, or the server thread's to take.
 #[derive(Drop)]
 pub struct RingPass {
     pub(crate) pass: Pass<Request, View>,
+    pub(crate) seat: Seat<(), Sight>,
 }

@@ -61,9 +61,10 @@ pub record IsLeaderKept (number : ℕ) (l : LeaderHere) : Type 0 where
   pub high : l.settled < l.first
   pub heard : (slot : ℕ) → l.acks.base < slot → slot ≤ l.settled → (i : ℕ) × (i ≢ number) × (i < 3) × (Sets.contains (members (FinMap.get l.acks.acks slot)) i ≡ true)
 
+-- a candidate's votes name the server itself as the candidate, and none came from another server yet
 abbrev pub IsRoleKept : ℕ → RoleHere → Type 0
 IsRoleKept number FollowerHere = Unit {0}
-IsRoleKept number (CandidateHere c) = c.other ≡ None
+IsRoleKept number (CandidateHere c) = (c.number ≡ number) × (c.other ≡ None)
 IsRoleKept number (MergingHere l) = IsLeaderKept number l
 IsRoleKept number (ServingHere l) = IsLeaderKept number l
 

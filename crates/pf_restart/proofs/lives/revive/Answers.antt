@@ -3,7 +3,8 @@ use Rattle.std.proofs.lemmas.Bool.{false≢true}
 use Rattle.pf_restart.specs.Beginning.{MayBegin, setup_at}
 use Rattle.pf_restart.specs.Recovering.{Recovers}
 use Rattle.pf_restart.specs.Reviving.{IsRevived}
-use Rattle.pf_restart.proofs.Judging.{may_window}
+use Rattle.pf_restart.specs.Testing.{IsFit}
+use Rattle.pf_restart.proofs.Judging.{fit_window, may_window}
 use Rattle.pf_restart.proofs.lives.revive.Goals as goal
 
 pub recover-requires : goal.recover-requires
@@ -11,6 +12,14 @@ recover-requires c = c.requires.stands.1.image
 
 pub returns-in_default-clause-ours : goal.returns-in_default-clause-ours
 returns-in_default-clause-ours c = λ _ d stands may. subst (Recovers c.args.found) c.in_default.is c.in_ok-tables.ensures d stands (may_window c.args.seat.now d may)
+
+pub returns-in_default-clause-unfit : goal.returns-in_default-clause-unfit
+returns-in_default-clause-unfit c = λ _ d stands fit. subst (Recovers c.args.found) c.in_default.is c.in_ok-tables.ensures d stands (fit_window (setup_at c.args.seat.now) d fit)
+
+pub returns-then-not-branch-clause-unfit : goal.returns-then-not-branch-clause-unfit
+returns-then-not-branch-clause-unfit c = λ _ d stands fit.
+    let read : Recovers c.args.found (Some c.in-Some.tables) = subst (Recovers c.args.found) c.in-Some.is c.in_ok-tables.ensures in
+    c.in_ok-fits.ensures.unfit c.if-not-branch.true (subst (IsFit (setup_at c.args.seat.now)) (sym (read d stands).state) fit)
 
 pub begin-requires-clause-unmarked : goal.begin-requires-clause-unmarked
 begin-requires-clause-unmarked c = let read : Recovers c.args.found (Some c.in-Some.tables) = subst (Recovers c.args.found) c.in-Some.is c.in_ok-tables.ensures in (read c.requires.stands.0 c.requires.stands.1).unmarked

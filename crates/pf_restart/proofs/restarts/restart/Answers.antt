@@ -31,6 +31,12 @@ returns-in_err-me-clause-ours g c = λ told before after has first second is.
     let came = passed_on c.from_residual-in_err-me.result NotOurs c.in_err-me.field-0.0 (err_from_is_err_and c.from_residual-in_err-me.result c.from_residual-in_err-me.ensures.1) is in
     c.in_err-me.ensures.ours came f.0 f.2 (may_either (setup_at c.args.seat.now) before after f.0 f.1 first second)
 
+pub returns-in_err-me-clause-unfit : goal.returns-in_err-me-clause-unfit
+returns-in_err-me-clause-unfit g c = λ is told before after has.
+    let f = c.in_ok-found.ensures.found told before after has in
+    let came = passed_on c.from_residual-in_err-me.result NotOurs c.in_err-me.field-0.0 (err_from_is_err_and c.from_residual-in_err-me.result c.from_residual-in_err-me.ensures.1) is in
+    record { d = f.0; either = f.1; there = f.3; unfit = c.in_err-me.ensures.unfit came f.0 f.2 }
+
 pub renew-requires-clause-lives : goal.renew-requires-clause-lives
 renew-requires-clause-lives g c =
     let w = c.in_ok-found.ensures.whole in

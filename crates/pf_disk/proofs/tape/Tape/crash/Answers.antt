@@ -2,8 +2,10 @@ use Rattle.std.proofs.Common.{◌≡◌, ◌++◌, ℕ, List, length, take, drop
 use Rattle.std.proofs.lemmas.List.{take_at}
 use Rattle.pf_disk.specs.declared.tape.Record.{Record}
 use Rattle.pf_disk.specs.Recorded.{IsImage, is_touched, replayed, settled, count_written}
+use Rattle.pf_disk.specs.Scrambles.{scrambled}
 use Rattle.pf_disk.specs.Tapes.{state_of}
-use Rattle.pf_disk.proofs.Images.{image_of, scrambled}
+use Rattle.pf_disk.proofs.Images.{image_of, scrambled_image}
+use Rattle.pf_disk.proofs.Scrambling.{kept}
 use Rattle.pf_disk.proofs.Writes.{if_ok}
 use Rattle.pf_disk.proofs.tape.Tape.crash.Goals as goal
 
@@ -14,8 +16,17 @@ returns-clause-image c =
     let size : length bytes ≡ t.bytes.len = omega (arith, c.scramble.auto.bytes, ap length c.deref_mut.ensures.value, t.bytes.ok) in
     let back : take t.bytes.len (bytes ++ drop (length bytes) t.bytes.items) ≡ bytes = take_at bytes (drop (length bytes) t.bytes.items) t.bytes.len size in
     subst (λ (l : List ℕ). IsImage (state_of t) l) (sym back)
-    (scrambled (state_of t) t.bytes.items bytes t.image (omega (arith, size, t.bytes.ok))
-    (λ k none. c.scramble.ensures k (ap (λ r. is_touched r k) (c.deref.ensures.value ∙ sym t.marks) ∙ none) ∙ ap (λ (l : List ℕ). get_or l k 0) c.deref_mut.ensures.value))
+    (scrambled_image (state_of t) t.bytes.items bytes t.image (omega (arith, size, t.bytes.ok))
+    (λ k none. ap (λ (l : List ℕ). get_or l k 0) c.scramble.ensures ∙ kept c.deref.result.now c.args.seed c.deref_mut.result.now k (ap (λ r. is_touched r k) (c.deref.ensures.value ∙ sym t.marks) ∙ none)
+    ∙ ap (λ (l : List ℕ). get_or l k 0) c.deref_mut.ensures.value))
+
+pub returns-clause-bytes : goal.returns-clause-bytes
+returns-clause-bytes c =
+    let t = c.args.self.now in
+    let bytes = c.scramble.new.bytes in
+    let size : length bytes ≡ t.bytes.len = omega (arith, c.scramble.auto.bytes, ap length c.deref_mut.ensures.value, t.bytes.ok) in
+    let back : take t.bytes.len (bytes ++ drop (length bytes) t.bytes.items) ≡ bytes = take_at bytes (drop (length bytes) t.bytes.items) t.bytes.len size in
+    back ∙ c.scramble.ensures ∙ (λ i. scrambled ((c.deref.ensures.value ∙ sym t.marks) i) 0 c.args.seed ((c.deref_mut.ensures.value ∙ sym t.reads) i))
 
 pub invariant_of-self : goal.invariant_of-self
 invariant_of-self c =
