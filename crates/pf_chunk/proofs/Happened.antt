@@ -14,7 +14,7 @@ use Rattle.pf_group.specs.Events.{event_of}
 use Rattle.pf_group.specs.GroupIs.{GroupIs, state_of}
 use Rattle.pf_group.specs.Steps.{Steps}
 use Rattle.pf_report.specs.Texts.{answer_text}
-use Rattle.pf_rounds.specs.Agreeing.{TellsOfGroup, at_moment, chunk_of}
+use Rattle.pf_rounds.specs.Agreeing.{TellsOfGroup, chunk_of}
 use Rattle.pf_rounds.specs.Growing.{HasGrown}
 use Rattle.pf_rounds.specs.Chunks.{Chunk, after, answered}
 use Rattle.pf_rounds.specs.Halts.{Halt}
@@ -69,6 +69,18 @@ run_happened halts c next event answer mid says goes ends =
 tells_same : (halts : List Halt) (a b : GroupIs) → b.number ≡ a.number → b.setup ≡ a.setup → b.history ≡ a.history → TellsOfGroup halts b → TellsOfGroup halts a
 tells_same halts a b number setup history tells = later_tells halts a b number setup (record { rest = []; whole = append-nil a.history ∙ sym history }) tells
 
+-- the run gives the event its answer, and comes to the group after it
+pub event_is : (old mid : GroupIs) (asked : GroupEvent) (found : Bool) (answer : Answer) → Steps old (event_of asked found) answer mid → (halts : List Halt) → TellsOfGroup halts mid
+    → (answered halts (chunk_of halts old) (event_of asked false) ≡ answer) × (after halts (chunk_of halts old) (event_of asked false) ≡ chunk_of halts mid)
+event_is old mid asked found answer steps halts tells =
+    let c = chunk_of halts old in
+    let h : Happening = record { event = event_of asked found; answer = answer } in
+    let longer = tells_same halts (record old { history = old.history ++ h ∷ [] }) mid (ap (λ (g : GroupIs). g.number) steps.recorded) (ap (λ (g : GroupIs). g.setup) steps.recorded) (ap (λ (g : GroupIs). g.history) steps.recorded) tells in
+    let one = step_is halts old h steps.legal.answered longer in (
+      sym (same_answer halts c asked found) ∙ one.0,
+      sym (same_after halts c asked found) ∙ one.1 ∙ ap (chunk_of halts) (sym steps.recorded),
+    )
+
 module _ (old mid new : ChunkIs) (asked : GroupEvent) (found : Bool) (answer : Answer) (steps : Steps old.group (event_of asked found) answer mid.group) (out put : List ℕ) (f : HasFollowed mid out put new) (ready : IsReady old) where
   abbrev event : Event
   event = event_of asked found
@@ -111,17 +123,10 @@ module _ (old mid new : ChunkIs) (asked : GroupEvent) (found : Bool) (answer : A
       (follows old.group.setup old.group.history event answer f.adds.more legal f.adds.round steps.legal.answered))
 
   -- the run
-  run_is : (halts : List Halt) → TellsOfGroup halts f.then → happened halts (chunk_of old.group) (event_of asked false) ≡ record { chunk = chunk_of f.then; answer = answer; text = reads_text old.group.number (state_of old.group) (state_of f.then) }
+  run_is : (halts : List Halt) → TellsOfGroup halts f.then → happened halts (chunk_of halts old.group) (event_of asked false) ≡ record { chunk = chunk_of halts f.then; answer = answer; text = reads_text old.group.number (state_of old.group) (state_of f.then) }
   run_is halts tells =
-      let c = chunk_of old.group in
-      let mid_tells = grown_tells halts mid.group f.then f.grown tells in
-      let one = step_is halts old.group h steps.legal.answered (tells_same halts (record old.group { history = old.group.history ++ h ∷ [] }) mid.group mid_number mid_setup mid_history mid_tells) in
-      let there : at_moment old.group (old.group.history ++ h ∷ []) ≡ chunk_of mid.group =
-      ap (λ (g : GroupIs). chunk_of g) (sym steps.recorded) in
-      run_happened halts c (chunk_of f.then) (event_of asked false) answer (chunk_of mid.group)
-      (sym (same_answer halts c asked found) ∙ one.0)
-      (sym (same_after halts c asked found) ∙ one.1 ∙ there)
-      (f.run halts tells)
+      let one = event_is old.group mid.group asked found answer steps halts (grown_tells halts mid.group f.then f.grown tells) in
+      run_happened halts (chunk_of halts old.group) (chunk_of halts f.then) (event_of asked false) answer (chunk_of halts mid.group) one.0 one.1 (f.run halts tells)
 
   module _ (first : mid.first_left ≡ old.first_left) (a : IsAwaited (state_of old.group) (state_of mid.group) mid.group.taken mid.waiting) (said : IsSome (answer_text answer)) where
     left_back : NoneComesBack (state_of old.group) (state_of f.then)
@@ -167,5 +172,5 @@ module _ (old mid new : ChunkIs) (asked : GroupEvent) (found : Bool) (answer : A
           ∙ text_is (state_of old.group) event answer (state_of mid.group) (state_of f.then) they_follow mid.group.taken mid.waiting a old.group.number);
       run = λ halts tells.
           run_is halts (tells_same halts f.then new.group (ap (λ (c : ChunkIs). c.group.number) f.is) (ap (λ (c : ChunkIs). c.group.setup) f.is) (ap (λ (c : ChunkIs). c.group.history) f.is) tells)
-          ∙ ap (λ (c : ChunkIs). let x : Happened = record { chunk = chunk_of c.group; answer = answer; text = reads_text old.group.number (state_of old.group) (state_of f.then) } in x) (sym f.is);
+          ∙ ap (λ (c : ChunkIs). let x : Happened = record { chunk = chunk_of halts c.group; answer = answer; text = reads_text old.group.number (state_of old.group) (state_of f.then) } in x) (sym f.is);
     }

@@ -14,6 +14,7 @@ pub mod Following
 pub mod Ready
 pub mod Lines
 pub mod Happened
+pub mod Begun
 pub mod Midway
 pub mod Leasts
 pub mod Made

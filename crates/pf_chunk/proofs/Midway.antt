@@ -19,8 +19,6 @@ use Rattle.pf_group.specs.GroupIs.{GroupIs, state_of}
 use Rattle.pf_group.specs.Steps.{HasStepped, Steps}
 use Rattle.pf_group.proofs.Claims.{claims_more}
 use Rattle.pf_report.specs.Texts.{answer_text}
-use Rattle.pf_rounds.specs.Growing.{HasGrown}
-use Rattle.pf_rounds.proofs.Growing.{grown_trans, step_grows}
 use Rattle.pf_chunk.specs.Events.{IsStep}
 use Rattle.pf_chunk.specs.Happenings.{happened}
 use Rattle.pf_chunk.specs.Steps.{HasFollowed, HasHappened, IsListed}
@@ -48,10 +46,6 @@ listed old asked answer mid is = record { ascending = is.awaited.ascending; serv
 
 pub comes_to : (old : ChunkIs) (asked : GroupEvent) (answer : Answer) (mid new : ChunkIs) (out put : List ℕ) → IsReady old → IsMidway old asked answer mid → HasFollowed mid out put new → HasHappened (λ halts c. happened halts c (event_of asked false)) old out answer put new
 comes_to old asked answer mid new out put ready is f = has_happened old mid new asked is.found answer is.steps out put f ready is.first is.awaited is.said
-
--- more happened after an event
-pub went_on : (old mid new : GroupIs) (asked : GroupEvent) (answer : Answer) → HasStepped old asked answer mid → HasGrown mid new → HasGrown old new
-went_on old mid new asked answer stepped grown = grown_trans old mid new (step_grows old mid (event_of asked stepped.found) answer stepped.steps) grown
 
 module _ (old mid : ChunkIs) (event : Event) (answer : Answer) (steps : Steps old.group event answer mid.group) where
   state_mid : happens old.group.setup (state_of old.group) event (ending answer) ≡ state_of mid.group

@@ -3,11 +3,11 @@ use Rattle.std.specs.Prelude.{ℕ, List, map, Option, Some, None, slice_get}
 use Rattle.std.specs.FinMap
 use Rattle.pf_entry.specs.Ops.{Sector}
 use Rattle.pf_protocol.specs.Servers.{Condition, Running, Server}
+use Rattle.pf_protocol.specs.Groups.{Group}
 use Rattle.pf_protocol.specs.Shown.{log_of}
 use Rattle.pf_protocol.specs.declared.answers.Answer.TheVariants.{Refused}
 use Rattle.pf_protocol.specs.declared.answers.Refusal.TheVariants.{Down}
 use Rattle.pf_report.specs.Texts.{acked_text, applied_text, log_text, no_snapshot_text, sectors_text, snapshot_text}
-use Rattle.pf_rounds.specs.Chunks.{Chunk}
 use Rattle.pf_chunk.specs.Saying.{said}
 
 -- a server that does not run is down
@@ -15,8 +15,8 @@ abbrev pub if_runs : Option Condition → (Server → List ℕ) → List ℕ
 if_runs (Some (Running s)) text = text s
 if_runs c text = said (Refused Down)
 
-abbrev pub of_server : Chunk → (server : ℕ) → (Server → List ℕ) → List ℕ
-of_server c server text = if_runs (slice_get c.state.servers server) text
+abbrev pub of_server : Group → (server : ℕ) → (Server → List ℕ) → List ℕ
+of_server g server text = if_runs (slice_get g.servers server) text
 
 abbrev pub log_shown : Server → List ℕ
 log_shown s = log_text s.durable.term s.durable.base (log_of s)
@@ -34,5 +34,5 @@ snapshot_shown slot (Some sectors) = snapshot_text slot sectors
 abbrev pub mark_shown : (slot : ℕ) → Server → List ℕ
 mark_shown slot s = snapshot_shown slot (FinMap.get s.snapshots slot)
 
-abbrev pub acked_shown : Chunk → List ℕ
-acked_shown c = acked_text (map (λ a. a.slot) c.state.acked)
+abbrev pub acked_shown : Group → List ℕ
+acked_shown g = acked_text (map (λ a. a.slot) g.acked)

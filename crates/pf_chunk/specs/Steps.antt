@@ -11,6 +11,7 @@ use Rattle.pf_rounds.specs.Chunks.{Chunk}
 use Rattle.pf_rounds.specs.Rounds.{IsApplied, applied}
 use Rattle.pf_rounds.specs.Adding.{Adds}
 use Rattle.pf_rounds.specs.Agreeing.{TellsOfGroup, chunk_of}
+use Rattle.pf_rounds.specs.Begun.{HasBegun}
 use Rattle.pf_rounds.specs.Growing.{HasGrown}
 use Rattle.pf_chunk.specs.Happenings.{Happened}
 use Rattle.pf_chunk.specs.Packets.{NoneComesBack}
@@ -30,8 +31,8 @@ pub record HasFollowed (old : ChunkIs) (before after : List ℕ) (new : ChunkIs)
   pub grown : HasGrown old.group then
   pub taken : then.taken ≡ old.group.taken
   pub none : claims_of [] then.history ≡ []
-  pub run : (halts : List Halt) → TellsOfGroup halts then → applied halts (chunk_of old.group) ≡ chunk_of then
-  pub applied_all : IsApplied (chunk_of then)
+  pub run : (halts : List Halt) → TellsOfGroup halts then → applied halts (chunk_of halts old.group) ≡ chunk_of halts then
+  pub applied_all : IsApplied then.setup (state_of then)
   pub adds : Adds old.group then count count
   pub legal : IsLegal then.setup then.history
   pub is : new ≡ record old {
@@ -54,4 +55,14 @@ pub record HasHappened (event : Event) (old : ChunkIs) (before : List ℕ) (answ
   pub said : IsSome (answer_text answer)
   pub text : List ℕ
   pub put : after ≡ before ++ text
-  pub run : (halts : List Halt) → TellsOfGroup halts new.group → event halts (chunk_of old.group) ≡ record { chunk = chunk_of new.group; answer = answer; text = text }
+  pub run : (halts : List Halt) → TellsOfGroup halts new.group → event halts (chunk_of halts old.group) ≡ record { chunk = chunk_of halts new.group; answer = answer; text = text }
+
+-- there was no memory for all that follows on an event: a beginning of the rounds of applying, perhaps with all of them
+pub record HasNotFollowed (old new : GroupIs) : Type 0 where
+  pub grown : HasGrown old new
+  pub begun : (halts : List Halt) → TellsOfGroup halts new → HasBegun halts old (applied halts (chunk_of halts old)) new
+
+-- there was no memory for the whole of it: under every list of halts that tells of the group, this is a beginning of what it would have done
+pub record HasFailed (event : Event) (old new : GroupIs) : Type 0 where
+  pub grown : HasGrown old new
+  pub begun : (halts : List Halt) → TellsOfGroup halts new → HasBegun halts old (event halts (chunk_of halts old)).chunk new

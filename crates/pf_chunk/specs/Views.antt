@@ -5,7 +5,6 @@ use Rattle.pf_entry.specs.Tables.{ascends}
 use Rattle.pf_protocol.specs.Groups.{Answered, Group}
 use Rattle.pf_protocol.specs.Answers.{claims_of}
 use Rattle.pf_group.specs.GroupIs.{GroupIs, state_of}
-use Rattle.pf_rounds.specs.Agreeing.{chunk_of}
 use Rattle.pf_rounds.specs.Rounds.{IsApplied}
 use Rattle.pf_chunk.specs.declared.waiting.Waiting.{Waiting}
 use Rattle.pf_chunk.specs.Waiting.{WaitsAt}
@@ -32,7 +31,7 @@ pub record AreWaiting (waiting : List Waiting) (g : Group) : Type 0 where
 -- between two events: no job is in hand, what can be applied is applied, and each answer of a read was told
 pub record IsReady (c : ChunkIs) : Type 0 where
   pub claims : claims_of [] c.group.history ≡ []
-  pub applied : IsApplied (chunk_of c.group)
+  pub applied : IsApplied c.group.setup (state_of c.group)
   pub shown : AreShown c.group
   pub numbered : length c.group.taken ≡ (state_of c.group).reads
   pub waiting : AreWaiting c.waiting (state_of c.group)

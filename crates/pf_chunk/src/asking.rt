@@ -2,9 +2,8 @@
 ghost use Rattle.std.specs.Prelude.{◌≡◌, ◌≤◌, ◌<◌, ◌++◌, IfOk, OnErr, slice_get, vec_capacity, vec_len};
 ghost use Rattle.std.specs.Option.{option_to_list};
 ghost use Rattle.pf_group.specs.GroupIs.{state_of};
-ghost use Rattle.pf_rounds.specs.Growing.{HasGrown};
 ghost use Rattle.pf_chunk.specs.Asking.{fetches, no_range_answer, submits};
-ghost use Rattle.pf_chunk.specs.Steps.{HasHappened};
+ghost use Rattle.pf_chunk.specs.Steps.{HasFailed, HasHappened};
 ghost use Rattle.pf_chunk.specs.Telling.{read_of};
 ghost use Rattle.pf_chunk.specs.Views.{IsReady};
 
@@ -76,7 +75,7 @@ impl<D: Disk + Drop> ChunkGroup<D> {
         requires ready { IsReady self.old }
         requires server { server < 3 }
         ensures went { IfOk result (λ answer. HasHappened (λ halts c. submits halts server sector byte count c) self.old out.old.items answer out.new.items self.new) }
-        ensures err { OnErr result (HasGrown self.old.group self.new.group) }
+        ensures err { OnErr result (HasFailed (λ halts c. submits halts server sector byte count c) self.old.group self.new.group) }
     {
         let Ok(range) = Range::new(sector, count) else {
             return Ok(self.no_range(server));
@@ -107,7 +106,7 @@ impl<D: Disk + Drop> ChunkGroup<D> {
         requires ready { IsReady self.old }
         requires server { server < 3 }
         ensures went { IfOk result (λ answer. HasHappened (λ halts c. fetches halts server sector count c) self.old out.old.items answer out.new.items self.new) }
-        ensures err { OnErr result (HasGrown self.old.group self.new.group) }
+        ensures err { OnErr result (HasFailed (λ halts c. fetches halts server sector count c) self.old.group self.new.group) }
     {
         let Ok(range) = Range::new(sector, count) else {
             return Ok(self.no_range(server));

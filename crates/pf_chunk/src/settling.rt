@@ -3,10 +3,10 @@ ghost use Rattle.std.specs.Prelude.{◌≡◌, ◌≤◌, ◌<◌, ◌+◌, IfOk
 ghost use Rattle.pf_group.specs.GroupIs.{state_of};
 ghost use Rattle.pf_protocol.specs.Answers.{most_packets};
 ghost use Rattle.pf_protocol.specs.declared.events.Event.TheVariants.{Deliver};
-ghost use Rattle.pf_rounds.specs.Growing.{HasGrown};
 ghost use Rattle.pf_chunk.specs.Happenings.{happened};
 ghost use Rattle.pf_chunk.specs.Packets.{IsFirstLeft, is_left_in, is_passed_over, least_from};
 ghost use Rattle.pf_chunk.specs.Settling.{HasTried};
+ghost use Rattle.pf_chunk.specs.Steps.{HasFailed};
 ghost use Rattle.pf_chunk.specs.Views.{IsReady};
 
 use crate::ChunkGroup;
@@ -88,7 +88,7 @@ impl<D: Disk + Drop> ChunkGroup<D> {
         requires left { is_left_in (state_of self.old.group) self.old.next ≡ true }
         ensures went { IfOk result (λ tried. HasTried self.old out.old.items tried out.new.items self.new) }
         ensures few { OnOk result (self.old.next < most_packets) }
-        ensures err { OnErr result (HasGrown self.old.group self.new.group) }
+        ensures err { OnErr result (HasFailed (λ halts c. happened halts c (Deliver self.old.next)) self.old.group self.new.group) }
     {
         let k = self.next;
         // That the history is legal is asked of the proof alone.

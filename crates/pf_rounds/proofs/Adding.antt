@@ -12,10 +12,10 @@ use Rattle.pf_rounds.specs.Rounds.{finishes, finishes_since, is_finish}
 use Rattle.pf_rounds.specs.Jobs.{IsOfRound, is_job}
 use Rattle.pf_rounds.proofs.Paying.{pays_refl, pays_trans}
 
-nothing_more : (g : GroupIs) → g ≡ with_more g [] g
+pub nothing_more : (g : GroupIs) → g ≡ with_more g [] g
 nothing_more g = ap (λ (history : History). record g { history = history }) (sym (append-nil g.history))
 
-both_more : (a b c : GroupIs) (x y : History) → b ≡ with_more a x b → c ≡ with_more b y c → c ≡ with_more a (x ++ y) c
+pub both_more : (a b c : GroupIs) (x y : History) → b ≡ with_more a x b → c ≡ with_more b y c → c ≡ with_more a (x ++ y) c
 both_more a b c x y first second =
     second
     ∙ (ap (λ (g : GroupIs). with_more g y c) first ∙ ap (λ (history : History). record a { history = history; faults = c.faults }) (append_assoc a.history x y))

@@ -240,7 +240,7 @@ three_left window (a ∷ b ∷ []) few = omega (arith, left_low window a, left_l
 three_left window (a ∷ b ∷ c ∷ []) few = omega (arith, left_low window a, left_low window b, left_low window c)
 three_left window (a ∷ b ∷ c ∷ d ∷ rest) few = absurd (omega (arith, few 3 d refl))
 
-legal_rest : (setup : Setup) (history more : History) (g : Group) (claims : List Claimed) → IsLegalFrom setup g claims (history ++ more) → IsLegalFrom setup (run setup g history) (claims_of claims history) more
+pub legal_rest : (setup : Setup) (history more : History) (g : Group) (claims : List Claimed) → IsLegalFrom setup g claims (history ++ more) → IsLegalFrom setup (run setup g history) (claims_of claims history) more
 legal_rest setup [] more g claims legal = legal
 legal_rest setup (h ∷ hs) more g claims legal = legal_rest setup hs more (happens setup g h.event (ending h.answer)) (claims_after claims h.event h.answer) legal.1
 

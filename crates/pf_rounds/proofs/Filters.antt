@@ -20,6 +20,16 @@ module _ {X : Type 0} where
   any_none p [] none = refl
   any_none p (x ∷ xs) none = ap (λ b. b || list_any p xs) none.0 ∙ any_none p xs none.1
 
+  module _ (outer : X → Bool) where
+    every_by : (P : X → Type 0) (b : Bool) (x : X) (xs : List X) → outer x ≡ b → ((y : X) → outer y ≡ false → P y) → (Every P (filter outer xs) → Every P xs) → Every P (cond b (x ∷ filter outer xs) (filter outer xs)) → Every P (x ∷ xs)
+    every_by P true x xs is others rest all = (all.0, rest all.1)
+    every_by P false x xs is others rest all = (others x is, rest all)
+
+    -- what holds of those that pass, and of all others, holds of each
+    pub every_within : (P : X → Type 0) → ((x : X) → outer x ≡ false → P x) → (xs : List X) → Every P (filter outer xs) → Every P xs
+    every_within P others [] all = tt
+    every_within P others (x ∷ xs) all = every_by P (outer x) x xs refl others (every_within P others xs) all
+
   -- what passes the second test passes the first
   module _ (outer inner : X → Bool) (within : (x : X) → outer x ≡ false → inner x ≡ false) where
     filter_by : (b : Bool) (x : X) (xs : List X) → outer x ≡ b → filter inner (filter outer xs) ≡ filter inner xs → filter inner (cond b (x ∷ filter outer xs) (filter outer xs)) ≡ filter inner (x ∷ xs)

@@ -11,7 +11,7 @@ use Rattle.pf_protocol.specs.declared.answers.Answer.TheVariants as answers
 use Rattle.pf_protocol.specs.declared.answers.Refusal.{Refusal}
 use Rattle.pf_protocol.specs.declared.answers.Refusal.TheVariants as refusals
 use Rattle.pf_protocol.specs.declared.events.Event.{Event}
-use Rattle.pf_protocol.specs.declared.events.Event.TheVariants.{Submit, Fetch, Deliver, Lose, Elect, Resend, Stop, Restart, Claim, Finish, GiveBack, Checkpoint}
+use Rattle.pf_protocol.specs.declared.events.Event.TheVariants.{Restart}
 use Rattle.pf_protocol.specs.declared.events.Happening.{Happening}
 use Rattle.pf_protocol.specs.Servers.{Setup, Server, Condition, Running, Stopped, Unformatted}
 use Rattle.pf_protocol.specs.Groups.{Group, Ending, Whole, CutOff, Missed, Untouched, begun, ending, ending_of, happens, opening, restart}
@@ -19,7 +19,7 @@ use Rattle.pf_protocol.specs.Histories.{History, run, replay}
 use Rattle.pf_protocol.specs.Answers.{IsAnswer, answer_to, restart_answer}
 use Rattle.pf_protocol.proofs.Keeping.{by_test}
 use Rattle.pf_rounds.specs.Halts.{Halt, is_before, last_halt, tells_found}
-use Rattle.pf_rounds.specs.Chunks.{Chunk, listed}
+use Rattle.pf_rounds.specs.Chunks.{listed_at}
 use Rattle.pf_rounds.specs.Agreeing.{is_halt, is_halted}
 use Rattle.pf_rounds.specs.Telling.{found_in, halts_from, halts_of_event, making_halts, next_found, server_at}
 use Rattle.pf_rounds.proofs.Filters.{filter_none, last_or_append}
@@ -180,16 +180,10 @@ module _ (setup : Setup) (g : Group) (i : ℕ) where
       at_condition None at = refl
 
 -- an event comes to the same state with what the list tells
-pub listed_same : (halts : List Halt) (c : Chunk) (event : Event) (answer : Answer) (rest : History) → IsAnswer c.setup c.state event answer → ((i : ℕ) → Agrees i c.state (last_halt halts c.number c.events i) (record { event = event; answer = answer } ∷ rest)) → happens c.setup c.state (listed halts c event) (ending answer) ≡ happens c.setup c.state event (ending answer)
-listed_same halts c (Restart i found) answer rest is agrees = restart_same c.setup c.state i found answer (last_halt halts c.number c.events i) rest is (agrees i)
-listed_same halts c (Submit i op) answer rest is agrees = refl
-listed_same halts c (Fetch i range) answer rest is agrees = refl
-listed_same halts c (Deliver k) answer rest is agrees = refl
-listed_same halts c (Lose k) answer rest is agrees = refl
-listed_same halts c (Elect i) answer rest is agrees = refl
-listed_same halts c (Resend i) answer rest is agrees = refl
-listed_same halts c (Stop i) answer rest is agrees = refl
-listed_same halts c Claim answer rest is agrees = refl
-listed_same halts c (Finish i life slot) answer rest is agrees = refl
-listed_same halts c (GiveBack i life slot) answer rest is agrees = refl
-listed_same halts c (Checkpoint i) answer rest is agrees = refl
+module _ (halts : List Halt) (setup : Setup) (number n : ℕ) (g : Group) (answer : Answer) (rest : History) where
+  abbrev AllAgree : Event → Type 0
+  AllAgree event = (i : ℕ) → Agrees i g (last_halt halts number n i) (record { event = event; answer = answer } ∷ rest)
+
+  pub listed_same : (event : Event) → IsAnswer setup g event answer → AllAgree event → happens setup g (listed_at halts number n event) (ending answer) ≡ happens setup g event (ending answer)
+  listed_same (Restart i found) is agrees = restart_same setup g i found answer (last_halt halts number n i) rest is (agrees i)
+  listed_same event is agrees = refl

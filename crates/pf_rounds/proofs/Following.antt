@@ -1,7 +1,6 @@
 -- A run follows a history that its list of halts tells of: it gives each event the answer that it had, and comes to the same group.
-use Rattle.std.proofs.Common.{◌≡◌, ℕ, suc, ◌⊎◌, Bool, true, false, ◌&&◌, if◌then◌else◌, List, [], ◌∷◌, ◌++◌, length, refl, sym, ap, ◌∙◌, inl, inr, arith}
+use Rattle.std.proofs.Common.{◌≡◌, ℕ, ◌+◌, ◌⊎◌, Bool, true, false, ◌&&◌, if◌then◌else◌, List, [], ◌∷◌, ◌++◌, length, refl, sym, ap, ◌∙◌, inl, inr, arith}
 use Rattle.std.proofs.lemmas.Bool.{false≢true}
-use Rattle.std.proofs.lemmas.List.{length-append}
 use Rattle.pf_protocol.specs.Groups.{ending, happens}
 use Rattle.pf_protocol.specs.Histories.{History, IsPrefix, replay}
 use Rattle.pf_protocol.proofs.Claiming.{replay_goes_on}
@@ -16,8 +15,9 @@ use Rattle.pf_protocol.specs.declared.answers.Refusal.TheVariants as refusals
 use Rattle.pf_protocol.specs.declared.events.Event.TheVariants as events
 use Rattle.pf_protocol.specs.declared.events.Happening.{Happening}
 use Rattle.pf_rounds.specs.Halts.{Halt, is_cut}
-use Rattle.pf_rounds.specs.Chunks.{Chunk, after, answered, listed}
-use Rattle.pf_rounds.specs.Agreeing.{TellsOf, TellsOfGroup, at_moment, chunk_of, is_halt, is_halted}
+use Rattle.pf_rounds.specs.Chunks.{Chunk, after, answered, listed, listed_at}
+use Rattle.pf_rounds.specs.Agreeing.{TellsOf, TellsOfGroup, at_moment, chunk_of, is_halt, is_halted, told_history}
+use Rattle.pf_rounds.proofs.Told.{told_length, told_longer}
 
 -- an answer that the list calls halted
 pub halt_is : (refusal : Refusal) → is_halt refusal ≡ true → refusal ≡ refusals.Halted
@@ -54,12 +54,15 @@ answer_by_cases false may given answer cut (inr is) = absurd (false≢true (cut 
 
 -- the run gives the event the answer that it had
 pub answered_is : (halts : List Halt) (c : Chunk) (h : Happening) → TellsOf halts c h → IsAnswer c.setup c.state h.event h.answer → answered halts c h.event ≡ h.answer
-answered_is halts c h tells is = answer_by_cases (is_cut halts c.number c.events) (may_halt c.setup c.state h.event) (answer_to c.setup c.state h.event) h.answer tells.cut is
+answered_is halts c h tells is = answer_by_cases (is_cut halts c.number (length c.history)) (may_halt c.setup c.state h.event) (answer_to c.setup c.state h.event) h.answer tells.cut is
 
 -- and comes to the same group
-pub after_is : (halts : List Halt) (c : Chunk) (h : Happening) → TellsOf halts c h → IsAnswer c.setup c.state h.event h.answer → after halts c h.event ≡ record c { state = happens c.setup c.state h.event (ending h.answer); events = suc c.events }
+pub after_is : (halts : List Halt) (c : Chunk) (h : Happening) → TellsOf halts c h → IsAnswer c.setup c.state h.event h.answer → after halts c h.event ≡ record c { state = happens c.setup c.state h.event (ending h.answer); history = c.history ++ record { event = listed halts c h.event; answer = h.answer } ∷ [] }
 unfolding after
-after_is halts c h tells is = ap (λ state. record c { state = state; events = suc c.events }) (ap (λ answer. happens c.setup c.state (listed halts c h.event) (ending answer)) (answered_is halts c h tells is) ∙ tells.found)
+after_is halts c h tells is =
+    let event = listed halts c h.event in
+    ap (λ answer. record c { state = happens c.setup c.state event (ending answer); history = c.history ++ record { event = event; answer = answer } ∷ [] }) (answered_is halts c h tells is)
+    ∙ ap (λ state. record c { state = state; history = c.history ++ record { event = event; answer = h.answer } ∷ [] }) tells.found
 
 -- what stands in the history of what a restart found is not asked: the list tells
 pub restart_answer_is : (halts : List Halt) (c : Chunk) (i : ℕ) (found : Bool) → answered halts c (events.Restart i found) ≡ answered halts c (events.Restart i false)
@@ -74,16 +77,23 @@ restart_is halts c i found = refl
 pub tells_before : (halts : List Halt) (g : GroupIs) (earlier : History) → IsPrefix earlier g.history → TellsOfGroup halts g → TellsOfGroup halts (record g { history = earlier })
 tells_before halts g earlier before tells = record {
   making = tells.making;
+  few = tells.few;
   events = λ first h is. tells.events first h (prefix_of (first ++ h ∷ []) earlier g.history is before);
 }
 
+-- the run has one more event, with what the list tells of it
+told_more : (halts : List Halt) (g : GroupIs) (h : Happening) → told_history halts g ++ record h { event = listed halts (chunk_of halts g) h.event } ∷ [] ≡ told_history halts (record g { history = g.history ++ h ∷ [] })
+told_more halts g h =
+    let same : length (told_history halts g) ≡ 0 + length g.history = told_length halts g.number 0 g.history ∙ omega arith in
+    ap (λ n. told_history halts g ++ record h { event = listed_at halts g.number n h.event } ∷ []) same ∙ sym (told_longer halts g.number 0 g.history (h ∷ []))
+
 -- where one more event is answered, the run gives it this answer and comes to this group
-pub step_is : (halts : List Halt) (g : GroupIs) (h : Happening) → IsAnswer g.setup (replay g.setup g.history) h.event h.answer → TellsOfGroup halts (record g { history = g.history ++ h ∷ [] }) → (answered halts (chunk_of g) h.event ≡ h.answer) × (after halts (chunk_of g) h.event ≡ at_moment g (g.history ++ h ∷ []))
+pub step_is : (halts : List Halt) (g : GroupIs) (h : Happening) → IsAnswer g.setup (replay g.setup g.history) h.event h.answer → TellsOfGroup halts (record g { history = g.history ++ h ∷ [] }) → (answered halts (chunk_of halts g) h.event ≡ h.answer) × (after halts (chunk_of halts g) h.event ≡ at_moment halts g (g.history ++ h ∷ []))
 step_is halts g h is tells =
-    let here = tells.events g.history h (whole_prefix (g.history ++ h ∷ [])) in
-    let more : suc (length g.history) ≡ length (g.history ++ h ∷ []) = omega (arith, length-append g.history (h ∷ [])) in (
-      answered_is halts (chunk_of g) h here is,
-      after_is halts (chunk_of g) h here is
-          ∙ ap (λ state. record (chunk_of g) { state = state; events = suc (length g.history) }) (sym (replay_goes_on g.setup g.history h))
-          ∙ ap (λ n. record (chunk_of g) { state = replay g.setup (g.history ++ h ∷ []); events = n }) more,
+    let c = chunk_of halts g in
+    let here = tells.events g.history h (whole_prefix (g.history ++ h ∷ [])) in (
+      answered_is halts c h here is,
+      after_is halts c h here is
+          ∙ ap (λ state. record c { state = state; history = c.history ++ record h { event = listed halts c h.event } ∷ [] }) (sym (replay_goes_on g.setup g.history h))
+          ∙ ap (λ history. record c { state = replay g.setup (g.history ++ h ∷ []); history = history }) (told_more halts g h),
     )

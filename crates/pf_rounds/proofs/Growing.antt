@@ -23,10 +23,10 @@ bare number setup history = record { number = number; setup = setup; history = h
 pub later_tells : (halts : List Halt) (was is : GroupIs) → is.number ≡ was.number → is.setup ≡ was.setup → IsPrefix was.history is.history → TellsOfGroup halts is → TellsOfGroup halts was
 later_tells halts was is number setup later tells =
     let earlier = tells_before halts is was.history later tells in
-    let plain : TellsOfGroup halts (bare is.number is.setup was.history) = record { making = earlier.making; events = earlier.events } in
+    let plain : TellsOfGroup halts (bare is.number is.setup was.history) = record { making = earlier.making; few = earlier.few; events = earlier.events } in
     let numbered = subst (λ n. TellsOfGroup halts (bare n is.setup was.history)) number plain in
     let same = subst (λ setup. TellsOfGroup halts (bare was.number setup was.history)) setup numbered in
-    record { making = same.making; events = same.events }
+    record { making = same.making; few = same.few; events = same.events }
 
 pub grown_tells : (halts : List Halt) (was is : GroupIs) → HasGrown was is → TellsOfGroup halts is → TellsOfGroup halts was
 grown_tells halts was is grown tells = later_tells halts was is grown.number grown.setup grown.later tells

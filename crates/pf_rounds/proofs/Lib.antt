@@ -1,3 +1,5 @@
+pub mod Told
+pub mod Extending
 pub mod Following
 pub mod Opening
 pub mod Growing
@@ -19,3 +21,5 @@ pub mod Several
 pub mod Stopping
 pub mod Telling
 pub mod Paying
+pub mod Undone
+pub mod Begun

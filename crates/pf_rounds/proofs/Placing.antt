@@ -1,7 +1,7 @@
 -- Where the halts of a history stand.
-use Rattle.std.proofs.Common.{◌≡◌, ℕ, suc, ◌+◌, ◌<◌, ◌≤◌, Bool, true, false, ◌&&◌, ◌||◌, ◌==◌, if◌then◌else◌, List, [], ◌∷◌, ◌++◌, length, map, filter, arith, refl, ap, ◌∙◌}
+use Rattle.std.proofs.Common.{◌≡◌, ℕ, suc, ◌+◌, ◌<◌, ◌≤◌, Bool, true, false, ◌&&◌, ◌||◌, ◌==◌, if◌then◌else◌, List, [], ◌∷◌, ◌++◌, length, map, filter, arith, refl, sym, ap, ◌∙◌}
 use Rattle.std.specs.List.{list_any}
-use Rattle.std.proofs.lemmas.Bool.{eq-eqb, ne_eqb}
+use Rattle.std.proofs.lemmas.Bool.{eq-eqb, false≢true, ne_eqb}
 use Rattle.std.proofs.lemmas.List.{append-nil}
 use Rattle.std.proofs.lemmas.List.Elements.{filter-append}
 use Rattle.std.proofs.lemmas.List.Folds.{list_any-append}
@@ -10,7 +10,7 @@ use Rattle.pf_entry.proofs.Lists.{every_append, every_map, every_of_all}
 use Rattle.pf_protocol.specs.declared.events.Happening.{Happening}
 use Rattle.pf_protocol.specs.Servers.{Setup}
 use Rattle.pf_protocol.specs.Groups.{Group, ending, happens, opening}
-use Rattle.pf_protocol.specs.Histories.{History}
+use Rattle.pf_protocol.specs.Histories.{History, run}
 use Rattle.pf_rounds.specs.Halts.{At, Halt, Making, failed_by, is_at, is_cut, is_making}
 use Rattle.pf_rounds.specs.Agreeing.{is_halted}
 use Rattle.pf_rounds.specs.Telling.{halts_from, halts_of_event, making_halts, next_found, server_at}
@@ -80,6 +80,36 @@ module _ (number : ℕ) (setup : Setup) where
       list_any-append (is_cut_at n) (making_halts number setup.failed) _
       ∙ ap (λ b. b || list_any (is_cut_at n) (halts_from number setup (opening setup) 0 (earlier ++ h ∷ rest))) (any_none (is_cut_at n) _ (made (λ h. is_cut_at n h ≡ false) (λ server. and_false (number == number) false refl) setup.failed))
       ∙ cut_from n 0 earlier rest h (opening setup) (omega arith)
+
+  -- it is cut off by halts at the server at which it takes place
+  module _ (P : ℕ → Type 0) where
+    abbrev IsAt : ℕ → Halt → Type 0
+    IsAt n x = is_cut_at n x ≡ true → P x.server
+
+    not_at : (k n : ℕ) → (k == n) ≡ false → (number == number && k == n) ≡ true → ⊥
+    not_at k n apart cut = false≢true (sym (and_false (number == number) (k == n) apart) ∙ cut)
+
+    own_from : (n m : ℕ) (earlier rest : History) (h : Happening) (g : Group) → n ≡ m + length earlier → (is_halted h.answer ≡ true → P (server_at (run setup g earlier) h.event)) → Every (IsAt n) (halts_from number setup g m (earlier ++ h ∷ rest))
+    own_from n m [] rest h g is at =
+        every_append (IsAt n) (halts_of_event number g m h rest) _ (here (is_halted h.answer) at)
+        (placed (IsAt n) (suc m) (λ k server found le cut. absurd (not_at k n (ne_eqb k n (λ e. omega arith)) cut)) rest (next_of g h))
+      where
+        here : (b : Bool) → (b ≡ true → P (server_at g h.event)) → Every (IsAt n) (if b then halt_of g m h rest ∷ [] else [])
+        here true its = (λ cut. its refl, tt)
+        here false its = tt
+    own_from n m (x ∷ xs) rest h g is at =
+        every_append (IsAt n) (halts_of_event number g m x (xs ++ h ∷ rest)) _ (before (is_halted x.answer)) (own_from n (suc m) xs rest h (next_of g x) (omega arith) at)
+      where
+        before : (b : Bool) → Every (IsAt n) (if b then halt_of g m x (xs ++ h ∷ rest) ∷ [] else [])
+        before true = (λ cut. absurd (not_at m n (ne_eqb m n (λ e. omega arith)) cut), tt)
+        before false = tt
+
+    pub own_in : (earlier rest : History) (h : Happening) → (is_halted h.answer ≡ true → P (server_at (run setup (opening setup) earlier) h.event)) → Every (IsAt (length earlier)) (making_halts number setup.failed ++ halts_from number setup (opening setup) 0 (earlier ++ h ∷ rest))
+    own_in earlier rest h at =
+        let n = length earlier in
+        every_append (IsAt n) (making_halts number setup.failed) _
+        (made (IsAt n) (λ server cut. absurd (false≢true (sym (and_false (number == number) false refl) ∙ cut))) setup.failed)
+        (own_from n 0 earlier rest h (opening setup) (omega arith) at)
 
   abbrev is_made : Halt → Bool
   is_made h = h.group == number && is_making h.place

@@ -27,17 +27,17 @@ use Rattle.pf_rounds.proofs.Free.{none_is_answer}
 
 -- the list tells of the group without the counts of faults
 told : (halts : List Halt) (a b : GroupIs) (more : _) → b ≡ with_more a more b → TellsOfGroup halts b → TellsOfGroup halts (record a { history = a.history ++ more })
-told halts a b more recorded tells = let t = subst (TellsOfGroup halts) recorded tells in record { making = t.making; events = t.events }
+told halts a b more recorded tells = let t = subst (TellsOfGroup halts) recorded tells in record { making = t.making; few = t.few; events = t.events }
 
 -- and of it at an earlier moment
 told_before : (halts : List Halt) (a b : GroupIs) → Goes a b → TellsOfGroup halts b → TellsOfGroup halts a
 told_before halts a b goes tells = grown_tells halts a b (grown a b goes) tells
 
 -- one more event of both
-one_more : (halts : List Halt) (a b : GroupIs) (h : Happening) → b ≡ with_more a (h ∷ []) b → IsAnswer a.setup (state_of a) h.event h.answer → TellsOfGroup halts b → (answered halts (chunk_of a) h.event ≡ h.answer) × (after halts (chunk_of a) h.event ≡ chunk_of b)
+one_more : (halts : List Halt) (a b : GroupIs) (h : Happening) → b ≡ with_more a (h ∷ []) b → IsAnswer a.setup (state_of a) h.event h.answer → TellsOfGroup halts b → (answered halts (chunk_of halts a) h.event ≡ h.answer) × (after halts (chunk_of halts a) h.event ≡ chunk_of halts b)
 one_more halts a b h recorded is tells =
     let step = step_is halts a h is (told halts a b (h ∷ []) recorded tells) in
-    (step.0, step.1 ∙ sym (ap chunk_of recorded))
+    (step.0, step.1 ∙ sym (ap (chunk_of halts) recorded))
 
 -- claims after these
 abbrev pub with_jobs : List Job → Claims → Claims
@@ -45,7 +45,7 @@ with_jobs jobs claims = record claims { jobs = jobs ++ claims.jobs }
 
 -- the claims so far, with as many tries to come
 abbrev pub ClaimsSoFar : (old new : GroupIs) → List Job → (left : ℕ) → Type 0
-ClaimsSoFar old new jobs left = (halts : List Halt) → TellsOfGroup halts new → claims_to enough halts (chunk_of old) ≡ with_jobs jobs (claims_to left halts (chunk_of new))
+ClaimsSoFar old new jobs left = (halts : List Halt) → TellsOfGroup halts new → claims_to enough halts (chunk_of halts old) ≡ with_jobs jobs (claims_to left halts (chunk_of halts new))
 
 next_claim : (n : ℕ) (halts : List Halt) (c d : Chunk) (answer : Answer) → answered halts c Claim ≡ answer → after halts c Claim ≡ d → claims_to (suc n) halts c ≡ claim_on answer d (claims_to n halts)
 unfolding claims_to
@@ -59,9 +59,9 @@ pub one_claim : (old now new : GroupIs) (jobs : List Job) (job : Job) (left : �
 one_claim old now new jobs job left claimed so_far halts tells =
     let h : Happening = record { event = Claim; answer = JobIs job } in
     let step = one_more halts now new h claimed.recorded claimed.answered tells in
-    let rest = claims_to left halts (chunk_of new) in
+    let rest = claims_to left halts (chunk_of halts new) in
     so_far halts (told_before halts now new (record { more = h ∷ []; recorded = claimed.recorded; paid = claimed.paid }) tells)
-    ∙ (ap (with_jobs jobs) (next_claim left halts (chunk_of now) (chunk_of new) (JobIs job) step.0 step.1)
+    ∙ (ap (with_jobs jobs) (next_claim left halts (chunk_of halts now) (chunk_of halts new) (JobIs job) step.0 step.1)
     ∙ ap (λ js. record rest { jobs = js }) (sym (append_assoc jobs (job ∷ []) rest.jobs)))
 
 -- none is free
@@ -70,16 +70,16 @@ last_claim old now new jobs left claimed so_far halts tells =
     let h : Happening = record { event = Claim; answer = Refused NoneFree } in
     let step = one_more halts now new h claimed.recorded claimed.answered tells in
     so_far halts (told_before halts now new (record { more = h ∷ []; recorded = claimed.recorded; paid = claimed.paid }) tells)
-    ∙ (ap (with_jobs jobs) (next_claim left halts (chunk_of now) (chunk_of new) (Refused NoneFree) step.0 step.1)
-    ∙ ap (λ js. record (no_jobs (chunk_of new)) { jobs = js }) (append-nil jobs))
+    ∙ (ap (with_jobs jobs) (next_claim left halts (chunk_of halts now) (chunk_of halts new) (Refused NoneFree) step.0 step.1)
+    ∙ ap (λ js. record (no_jobs (chunk_of halts new)) { jobs = js }) (append-nil jobs))
 
 -- no try is left
 pub all_claims : (old now : GroupIs) (jobs : List Job) → ClaimsSoFar old now jobs 0 → IsClaimed old now jobs
 unfolding claims_to
-all_claims old now jobs so_far halts tells = so_far halts tells ∙ ap (λ js. record (no_jobs (chunk_of now)) { jobs = js }) (append-nil jobs)
+all_claims old now jobs so_far halts tells = so_far halts tells ∙ ap (λ js. record (no_jobs (chunk_of halts now)) { jobs = js }) (append-nil jobs)
 
 -- a claim for which none was free changes nothing
-pub still_none : (now new : GroupIs) → HasClaimed now None new → IsApplied (chunk_of new)
+pub still_none : (now new : GroupIs) → HasClaimed now None new → IsApplied new.setup (state_of new)
 unfolding happens
 still_none now new claimed =
     let h : Happening = record { event = Claim; answer = Refused NoneFree } in
@@ -89,7 +89,7 @@ still_none now new claimed =
 
 -- the finishes so far, with these jobs to come
 abbrev pub FinishesSoFar : (old new : GroupIs) → (all rest : List Job) → Type 0
-FinishesSoFar old new all rest = (halts : List Halt) → TellsOfGroup halts new → fold (finished halts) (chunk_of old) all ≡ fold (finished halts) (chunk_of new) rest
+FinishesSoFar old new all rest = (halts : List Halt) → TellsOfGroup halts new → fold (finished halts) (chunk_of halts old) all ≡ fold (finished halts) (chunk_of halts new) rest
 
 pub one_finish : (old now new : GroupIs) (all : List Job) (job : Job) (rest : List Job) → HasFinished now job new → FinishesSoFar old now all (job ∷ rest) → FinishesSoFar old new all rest
 one_finish old now new all job rest done so_far halts tells =
@@ -102,33 +102,33 @@ pub one_round : (old claimed new : GroupIs) (jobs : List Job) → IsClaimed old 
 one_round old claimed new jobs claims goes ends halts more tells =
     ap (λ (c : Claims). round halts c more) (claims halts (told_before halts claimed new goes tells)) ∙ by jobs (ends halts tells)
   where
-    by : (js : List Job) → fold (finished halts) (chunk_of claimed) js ≡ chunk_of new → round halts (record { chunk = chunk_of claimed; jobs = js }) more ≡ (if length js == 0 then chunk_of new else more (chunk_of new))
+    by : (js : List Job) → fold (finished halts) (chunk_of halts claimed) js ≡ chunk_of halts new → round halts (record { chunk = chunk_of halts claimed; jobs = js }) more ≡ (if length js == 0 then chunk_of halts new else more (chunk_of halts new))
     by [] is = is
-    by (j ∷ js) is = ap more is ∙ sym (ap (λ b. if b then chunk_of new else more (chunk_of new)) (ne_eqb (suc (length js)) 0 (λ e. omega arith)))
+    by (j ∷ js) is = ap more is ∙ sym (ap (λ b. if b then chunk_of halts new else more (chunk_of halts new)) (ne_eqb (suc (length js)) 0 (λ e. omega arith)))
 
 -- a round that claims nothing
 pub empty_round : (old new : GroupIs) (jobs : List Job) → jobs ≡ [] → IsClaimed old new jobs → IsRound old new 0
 empty_round old new jobs none claims halts more tells =
-    ap (λ (c : Claims). round halts c more) (claims halts tells) ∙ ap (λ js. round halts (record { chunk = chunk_of new; jobs = js }) more) none
+    ap (λ (c : Claims). round halts c more) (claims halts tells) ∙ ap (λ js. round halts (record { chunk = chunk_of halts new; jobs = js }) more) none
 
 -- the rounds so far, with as many to come
 abbrev pub RoundsSoFar : (old new : GroupIs) → (left : ℕ) → Type 0
-RoundsSoFar old new left = (halts : List Halt) → TellsOfGroup halts new → applied halts (chunk_of old) ≡ rounds_to left halts (chunk_of new)
+RoundsSoFar old new left = (halts : List Halt) → TellsOfGroup halts new → applied halts (chunk_of halts old) ≡ rounds_to left halts (chunk_of halts new)
 
 pub no_rounds : (g : GroupIs) → RoundsSoFar g g enough
 unfolding applied
 no_rounds g halts tells = refl
 
-round_next : (old now new : GroupIs) (left count : ℕ) → IsRound now new count → Goes now new → RoundsSoFar old now (suc left) → (halts : List Halt) → TellsOfGroup halts new → applied halts (chunk_of old) ≡ (if count == 0 then chunk_of new else rounds_to left halts (chunk_of new))
+round_next : (old now new : GroupIs) (left count : ℕ) → IsRound now new count → Goes now new → RoundsSoFar old now (suc left) → (halts : List Halt) → TellsOfGroup halts new → applied halts (chunk_of halts old) ≡ (if count == 0 then chunk_of halts new else rounds_to left halts (chunk_of halts new))
 unfolding rounds_to
 round_next old now new left count is goes so_far halts tells = so_far halts (told_before halts now new goes tells) ∙ is halts (rounds_to left halts) tells
 
 pub more_rounds : (old now new : GroupIs) (left count : ℕ) → count ≢ 0 → IsRound now new count → Goes now new → RoundsSoFar old now (suc left) → RoundsSoFar old new left
 more_rounds old now new left count some is goes so_far halts tells =
     round_next old now new left count is goes so_far halts tells
-    ∙ ap (λ b. if b then chunk_of new else rounds_to left halts (chunk_of new)) (ne_eqb count 0 some)
+    ∙ ap (λ b. if b then chunk_of halts new else rounds_to left halts (chunk_of halts new)) (ne_eqb count 0 some)
 
-pub last_round : (old now new : GroupIs) (left count : ℕ) → count ≡ 0 → IsRound now new count → Goes now new → RoundsSoFar old now (suc left) → (halts : List Halt) → TellsOfGroup halts new → applied halts (chunk_of old) ≡ chunk_of new
+pub last_round : (old now new : GroupIs) (left count : ℕ) → count ≡ 0 → IsRound now new count → Goes now new → RoundsSoFar old now (suc left) → (halts : List Halt) → TellsOfGroup halts new → applied halts (chunk_of halts old) ≡ chunk_of halts new
 last_round old now new left count none is goes so_far halts tells =
     round_next old now new left count is goes so_far halts tells
-    ∙ ap (λ n. if n == 0 then chunk_of new else rounds_to left halts (chunk_of new)) none
+    ∙ ap (λ n. if n == 0 then chunk_of halts new else rounds_to left halts (chunk_of halts new)) none

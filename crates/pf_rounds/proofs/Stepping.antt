@@ -18,10 +18,10 @@ use Rattle.pf_group.specs.declared.event.GroupEvent.TheVariants as asked
 use Rattle.pf_group.specs.GroupIs.{GroupIs, state_of}
 use Rattle.pf_group.specs.Steps.{HasStepped, Steps}
 use Rattle.pf_filling.specs.Filling.{filled_of}
-use Rattle.pf_rounds.specs.Adding.{Adds, Goes, HasClaimed, HasFinished, finish_of}
+use Rattle.pf_rounds.specs.Adding.{Adds, HasClaimed, HasFinished, finish_of}
 use Rattle.pf_rounds.specs.Jobs.{is_job}
 use Rattle.pf_rounds.specs.Open.{AreOpen}
-use Rattle.pf_rounds.proofs.Adding.{adds_trans, goes_trans}
+use Rattle.pf_rounds.proofs.Adding.{adds_trans}
 use Rattle.pf_rounds.proofs.Bound.{answer_is}
 use Rattle.pf_rounds.proofs.Free.{claimed_is_free, none_is_free}
 use Rattle.pf_rounds.proofs.Opened.{finished_first, not_opened, opened, returned_first}
@@ -119,10 +119,6 @@ finish_closes now new job jobs done are =
 -- a job comes back undone
 abbrev Returns : (old : GroupIs) → Job → (new : GroupIs) → Type 0
 Returns old job new = Steps old (GiveBack job.server job.life job.slot) Done new
-
-pub return_goes : (old now new : GroupIs) (job : Job) → Returns now job new → Goes old now → Goes old new
-return_goes old now new job returns goes =
-    goes_trans old now new goes (record { more = record { event = GiveBack job.server job.life job.slot; answer = Done } ∷ []; recorded = returns.recorded; paid = step_pays now new (GiveBack job.server job.life job.slot) Done returns })
 
 pub return_closes : (now new : GroupIs) (job : Job) (jobs : List Job) → Returns now job new → AreOpen now.history (job ∷ jobs) → AreOpen new.history jobs
 return_closes now new job jobs returns are =

@@ -10,6 +10,7 @@ use Rattle.pf_protocol.specs.declared.events.Event.TheVariants.{Claim, Finish}
 use Rattle.pf_protocol.specs.Histories.{History}
 use Rattle.pf_protocol.specs.Answers.{IsAnswer, claims_of, is_claim}
 use Rattle.pf_group.specs.GroupIs.{GroupIs, state_of}
+use Rattle.pf_rounds.specs.Begun.{IsClaimOrReturn}
 use Rattle.pf_rounds.specs.Growing.{Pays}
 use Rattle.pf_rounds.specs.Jobs.{IsOfRound, jobs_in}
 use Rattle.pf_rounds.specs.Rounds.{finishes}
@@ -31,6 +32,13 @@ pub record Adds (old new : GroupIs) (got ended : ℕ) : Type 0 where
   pub round : Every IsOfRound more
   pub jobs : jobs_in more ≡ got
   pub finished : finishes more ≡ ended
+
+-- jobs were claimed, or given back, and nothing else happened
+pub record HasReturned (old new : GroupIs) : Type 0 where
+  pub more : History
+  pub recorded : new ≡ with_more old more new
+  pub paid : Pays old new
+  pub returned : Every (λ h. IsClaimOrReturn h.event) more
 
 abbrev pub claim_answer_of : Option Job → Answer
 claim_answer_of (Some job) = JobIs job

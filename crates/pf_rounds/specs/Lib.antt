@@ -9,3 +9,4 @@ pub mod Following
 pub mod Closed
 pub mod Telling
 pub mod Growing
+pub mod Begun

@@ -7,6 +7,8 @@ use Rattle.pf_protocol.specs.declared.answers.Answer.TheVariants.{Job as JobIs, 
 use Rattle.pf_protocol.specs.declared.answers.Refusal.TheVariants.{NoneFree}
 use Rattle.pf_protocol.specs.declared.events.Event.{Event}
 use Rattle.pf_protocol.specs.declared.events.Event.TheVariants.{Claim, Finish}
+use Rattle.pf_protocol.specs.Servers.{Setup}
+use Rattle.pf_protocol.specs.Groups.{Group}
 use Rattle.pf_protocol.specs.Histories.{History}
 use Rattle.pf_protocol.specs.Answers.{answer_to}
 use Rattle.pf_rounds.specs.Halts.{Halt}
@@ -58,8 +60,8 @@ unfoldable pub applied : List Halt → Chunk → Chunk
 applied halts c = rounds_to enough halts c
 
 -- nothing is left to apply
-abbrev pub IsApplied : Chunk → Type 0
-IsApplied c = answer_to c.setup c.state Claim ≡ Refused NoneFree
+abbrev pub IsApplied : Setup → Group → Type 0
+IsApplied setup g = answer_to setup g Claim ≡ Refused NoneFree
 
 abbrev pub is_finish : Event → Bool
 is_finish (Finish server life slot) = true

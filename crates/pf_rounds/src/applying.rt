@@ -1,12 +1,13 @@
 //! Rounds of claims and finishes.
-ghost use Rattle.std.specs.Prelude.{◌≡◌, ◌≤◌, ℕ, List, [], IfOk, OnOk, is_some};
+ghost use Rattle.std.specs.Prelude.{◌≡◌, ◌≤◌, ℕ, List, [], IfOk, OnErr, OnOk, is_some};
 ghost use Rattle.std.specs.List.{list_all};
 ghost use Rattle.pf_protocol.specs.Answers.{claims_of};
 ghost use Rattle.pf_protocol.specs.Histories.{Runs};
 ghost use Rattle.pf_protocol.specs.Servers.{Server};
 ghost use Rattle.pf_group.specs.GroupIs.{state_of};
-ghost use Rattle.pf_rounds.specs.Adding.{Adds, Goes};
+ghost use Rattle.pf_rounds.specs.Adding.{Adds, Goes, HasReturned};
 ghost use Rattle.pf_rounds.specs.Agreeing.{TellsOfGroup, chunk_of};
+ghost use Rattle.pf_rounds.specs.Begun.{HasBegun};
 ghost use Rattle.pf_rounds.specs.Growing.{HasGrown};
 ghost use Rattle.pf_rounds.specs.Closed.{IsClosed};
 ghost use Rattle.pf_rounds.specs.Following.{IsRound};
@@ -66,7 +67,8 @@ fn round<D: Disk + Drop, R: Threads + Sync, G: Gate + Sync>(
     ensures adds { IfOk result (λ count. Adds group.old group.new count count) }
     ensures few { IfOk result (λ count. count ≤ ENOUGH) }
     ensures run { IfOk result (λ count. IsRound group.old group.new count) }
-    ensures applied { IfOk result (λ count. count ≡ 0 → IsApplied (chunk_of group.new)) }
+    ensures applied { IfOk result (λ count. count ≡ 0 → IsApplied group.new.setup (state_of group.new)) }
+    ensures returned { OnErr result (HasReturned group.old group.new) }
 {
     let mut works = Vec::new(alloc);
     if let Err(NoMemory) = claim_all(alloc, group, &mut works) {
@@ -89,7 +91,8 @@ fn round<D: Disk + Drop, R: Threads + Sync, G: Gate + Sync>(
 /// `workers` threads, and they are finished in the order of their claims, until a round claims nothing. Each running server has then
 /// applied all that its look-behind lists allow. The answer is how many jobs were finished.
 ///
-/// Where memory runs out (`NoMemory`, 1) all jobs of that round are given back, and the rounds before it stand.
+/// Where memory runs out (`NoMemory`, 1) all jobs of that round are given back, and the rounds before it stand: a beginning of what it
+/// would have done.
 pub fn apply_all<D: Disk + Drop, R: Threads + Sync, G: Gate + Sync>(
     rt: &R,
     alloc: Global,
@@ -102,15 +105,20 @@ pub fn apply_all<D: Disk + Drop, R: Threads + Sync, G: Gate + Sync>(
     ensures grown { HasGrown group.old group.new }
     ensures taken { group.new.taken ≡ group.old.taken }
     ensures none { claims_of [] group.new.history ≡ [] }
-    ensures run { OnOk result ((halts : List Halt) → TellsOfGroup halts group.new → applied halts (chunk_of group.old) ≡ chunk_of group.new) }
-    ensures applied { OnOk result (IsApplied (chunk_of group.new)) }
+    ensures run { OnOk result ((halts : List Halt) → TellsOfGroup halts group.new → applied halts (chunk_of halts group.old) ≡ chunk_of halts group.new) }
+    ensures applied { OnOk result (IsApplied group.new.setup (state_of group.new)) }
+    ensures begun { OnErr result ((halts : List Halt) → TellsOfGroup halts group.new → HasBegun halts group.old (applied halts (chunk_of halts group.old)) group.new) }
     ensures closed { OnOk result ((i : ℕ) (s : Server) → Runs (state_of group.new) i s → IsClosed s) }
     ensures adds { IfOk result (λ count. Adds group.old group.new count count) }
     ensures count { IfOk result (λ count. count ≡ finishes_since group.old.history group.new.history) }
 {
     let mut count: u64 = 0;
     for _ in 0..ENOUGH {
-        let done = round(rt, alloc, group, workers, gate)?;
+        let Ok(done) = round(rt, alloc, group, workers, gate) else {
+            // In a legal history jobs that were claimed and given back leave the group as it was.
+            let _legal = group.history();
+            return Err(NoMemory);
+        };
         if done == 0 {
             // In a legal history, where nothing is in hand and nothing is free, what can be applied is applied.
             let _legal = group.history();

@@ -2,7 +2,7 @@
 ghost use Rattle.std.specs.Prelude.{◌≡◌, [], Some, vec_len};
 ghost use Rattle.pf_protocol.specs.Answers.{claims_of};
 ghost use Rattle.pf_filling.specs.Filling.{filled_of};
-ghost use Rattle.pf_rounds.specs.Adding.{Adds, Goes, HasFinished};
+ghost use Rattle.pf_rounds.specs.Adding.{Adds, HasFinished, HasReturned};
 ghost use Rattle.pf_rounds.specs.Following.{IsFinished};
 ghost use Rattle.pf_rounds.specs.Open.{AreFilled, AreOpen, IsOpen, jobs_of};
 
@@ -40,7 +40,7 @@ pub(crate) fn finish_all<D: Disk + Drop>(alloc: Global, group: &mut Group<D>, wo
 /// Gives all these jobs back. It takes no memory.
 pub(crate) fn give_all_back<D: Disk + Drop>(group: &mut Group<D>, works: Vec<Work>)
     requires { AreOpen group.old.history (jobs_of works.items) }
-    ensures goes { Goes group.old group.new }
+    ensures returned { HasReturned group.old group.new }
     ensures none { claims_of [] group.new.history ≡ [] }
 {
     for work in works {

@@ -9,16 +9,18 @@ use Rattle.pf_group.specs.declared.event.GroupEvent.{GroupEvent}
 use Rattle.pf_group.specs.declared.event.GroupEvent.TheVariants as asked
 use Rattle.pf_group.specs.Events.{event_of}
 use Rattle.pf_rounds.specs.Halts.{Halt}
-use Rattle.pf_rounds.specs.Growing.{HasGrown}
+use Rattle.pf_rounds.specs.Chunks.{Chunk}
+use Rattle.pf_rounds.proofs.Extending.{Extends}
 use Rattle.pf_chunk.specs.Happenings.{happened}
-use Rattle.pf_chunk.specs.Steps.{Event, HasHappened}
+use Rattle.pf_chunk.specs.Steps.{Event, HasFailed as HasFailedAt, HasHappened}
 use Rattle.pf_chunk.specs.Views.{ChunkIs, IsReady}
 use Rattle.pf_world.specs.Worlds.{World, at_chunk}
 use Rattle.pf_world.specs.Lines.{line_told}
 use Rattle.pf_world.specs.Views.{IsWorld, WorldIs}
 use Rattle.pf_world.specs.Asked.{HasAsked, asked_of}
-use Rattle.pf_world.specs.Steps.{Ends, GoesOn, MayRun}
-use Rattle.pf_world.proofs.Happening.{one_grew, with_chunk_at}
+use Rattle.pf_world.specs.Steps.{Ends, HasFailed, MayRun}
+use Rattle.pf_world.proofs.FailingLines.{chunk_failed}
+use Rattle.pf_world.proofs.Happening.{with_chunk_at}
 
 -- the event of a line that is one event of a group
 abbrev pub event_in : GroupEvent → Event
@@ -93,8 +95,11 @@ module _ (v w : WorldIs) (same : v ≡ w) (world : IsWorld w) (k : ℕ) (was : C
   ready_there = ((subst IsWorld (sym same) world).each k was there).ready
 
   module _ (is : ChunkIs) where
-    pub goes_on_there : HasGrown was.group is.group → GoesOn w (with_chunk_at v k is)
-    goes_on_there grown = subst (λ x. GoesOn x (with_chunk_at v k is)) same (one_grew v k was is there grown)
+    pub failed_there : (command other : Command) (event : Event) → command ≡ other → ((halts : List Halt) (x : World) (number : ℕ) → line_told halts x number other ≡ at_chunk x number k (event halts)) → ((halts : List Halt) (c : Chunk) → Extends c (event halts c).chunk) → HasFailedAt event was.group is.group → (number : ℕ) → HasFailed w number command (with_chunk_at v k is)
+    failed_there command other event is_other asks longer f number =
+        subst (λ (c : Command). HasFailed w number c (with_chunk_at v k is)) (sym is_other)
+        (subst (λ (x : WorldIs). HasFailed x number other (with_chunk_at v k is)) same
+        (chunk_failed v (subst IsWorld (sym same) world) other event k was is there asks longer f number))
 
     pub asked_there : (command other : Command) (event : Event) (before : List ℕ) (answer : Answer) (after : List ℕ) → command ≡ other → ((halts : List Halt) (x : World) (number : ℕ) → line_told halts x number other ≡ at_chunk x number k (event halts)) → ((halts : List Halt) (x : World) → Ends halts x other) → HasHappened event was before answer after is → HasAsked command w before answer after (with_chunk_at v k is)
     asked_there command other event before answer after is_other asks ends went =

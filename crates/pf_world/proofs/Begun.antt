@@ -23,10 +23,10 @@ use Rattle.pf_rounds.specs.Chunks.{Chunk, made_chunk}
 use Rattle.pf_rounds.specs.Agreeing.{TellsOfGroup, chunk_of}
 use Rattle.pf_rounds.proofs.Paying.{made_paid}
 use Rattle.pf_chunk.specs.Views.{ChunkIs, IsReady}
-use Rattle.pf_world.specs.Worlds.{made, made_answer}
-use Rattle.pf_world.specs.Views.{IsChunkOf, WorldIs, WorldOn, stands_at}
+use Rattle.pf_world.specs.Worlds.{made}
+use Rattle.pf_world.specs.Views.{IsChunkOf, WorldIs, WorldOn}
 use Rattle.pf_world.specs.Disks.{six_list}
-use Rattle.pf_world.specs.Making.{AreNew, HasAdded, IsNew, unless_done}
+use Rattle.pf_world.specs.Making.{AreBegun, AreNew, HasAdded, IsNew, unless_done}
 use Rattle.pf_world.specs.Steps.{IsMade}
 use Rattle.pf_world.proofs.Sixes.{drop_sixes, length_sixes}
 
@@ -58,26 +58,26 @@ answered_more [] (i ∷ is) answer other was new = ap (unless_done answer) new
 answered_more (x ∷ xs) (i ∷ is) answer other was new = ap (unless_done answer) new
 
 -- a list that tells of a new group makes it
-made_is : (halts : List Halt) (sectors names format k : ℕ) (before : List (ℕ × ℕ)) (g : GroupIs) (answer : Answer) → groups.IsMade k sectors names format before g answer → TellsOfGroup halts g → made_chunk halts sectors names format k ≡ chunk_of g
+made_is : (halts : List Halt) (sectors names format k : ℕ) (before : List (ℕ × ℕ)) (g : GroupIs) (answer : Answer) → groups.IsMade k sectors names format before g answer → TellsOfGroup halts g → made_chunk halts sectors names format k ≡ chunk_of halts g
 made_is halts sectors names format k before g answer is tells =
     let number : g.number ≡ k = ap (λ (v : GroupIs). v.number) is.is in
     let setup : g.setup ≡ setup_with sectors names format is.failed = ap (λ (v : GroupIs). v.setup) is.is in
     let failed : failed_by halts k ≡ is.failed = ap (failed_by halts) (sym number) ∙ tells.making ∙ ap (λ s. s.failed) setup in
     let new : GroupIs = record { number = k; setup = setup_with sectors names format is.failed; history = []; taken = []; faults = g.faults } in
-    made_with failed ∙ ap chunk_of (sym is.is) where
-      made_with : failed_by halts k ≡ is.failed → made_chunk halts sectors names format k ≡ chunk_of (record { number = k; setup = setup_with sectors names format is.failed; history = []; taken = []; faults = g.faults })
-      made_with failed = ap (λ fs. chunk_of (record { number = k; setup = setup_with sectors names format fs; history = []; taken = []; faults = g.faults })) failed
+    made_with failed ∙ ap (chunk_of halts) (sym is.is) where
+      made_with : failed_by halts k ≡ is.failed → made_chunk halts sectors names format k ≡ chunk_of halts (record { number = k; setup = setup_with sectors names format is.failed; history = []; taken = []; faults = g.faults })
+      made_with failed = ap (λ fs. chunk_of halts (record { number = k; setup = setup_with sectors names format fs; history = []; taken = []; faults = g.faults })) failed
 
-mapped : (f : ℕ → Chunk) (first : ℕ) (cs : List ChunkIs) → ((k : ℕ) (c : ChunkIs) → slice_get cs k ≡ Some c → f (first + k) ≡ chunk_of c.group) → map f (range_with_len first (length cs)) ≡ map (λ c. chunk_of c.group) cs
-mapped f first [] each = refl
-mapped f first (c ∷ cs) each =
-    let here : f first ≡ chunk_of c.group = ap f (omega arith) ∙ each 0 c refl in
-    let later = mapped f (first + 1) cs (λ k d there. ap f (omega arith) ∙ each (suc k) d there) in
+mapped : (halts : List Halt) (f : ℕ → Chunk) (first : ℕ) (cs : List ChunkIs) → ((k : ℕ) (c : ChunkIs) → slice_get cs k ≡ Some c → f (first + k) ≡ chunk_of halts c.group) → map f (range_with_len first (length cs)) ≡ map (λ c. chunk_of halts c.group) cs
+mapped halts f first [] each = refl
+mapped halts f first (c ∷ cs) each =
+    let here : f first ≡ chunk_of halts c.group = ap f (omega arith) ∙ each 0 c refl in
+    let later = mapped halts f (first + 1) cs (λ k d there. ap f (omega arith) ∙ each (suc k) d there) in
     cc
 
 -- the servers of all these chunks that could not be formatted
 abbrev failed_in : List ChunkIs → List ℕ
-failed_in cs = flat_map (λ c. c.setup.failed) (map (λ c. chunk_of c.group) cs)
+failed_in cs = flat_map (λ c. c.group.setup.failed) cs
 
 failed_more : (cs : List ChunkIs) (c : ChunkIs) → failed_in (cs ++ c ∷ []) ≡ failed_in cs ++ c.group.setup.failed
 failed_more [] c = append-nil c.group.setup.failed
@@ -102,7 +102,7 @@ module _ {D : Type 0} (faults : D → ℕ) where
     pub many : length sixes ≡ number
     pub given : disks ≡ flat_map six_list sixes ++ w.spare
     pub each : (k : ℕ) (c : ChunkIs) → slice_get w.world.chunks k ≡ Some c → IsMadeOn sectors names format sixes k c
-    pub answered : answer ≡ made_answer (stands_at w.world)
+    pub answered : answer ≡ making_answer (failed_in w.world.chunks)
 
   pub begun_none : (disks spare : List D) (sectors names format : ℕ) (chunks : List ChunkIs) → chunks ≡ [] → spare ≡ disks → Begun disks sectors names format 0 (record { world = record { sectors = sectors; names = names; format = format; chunks = chunks }; spare = spare }) Done
   begun_none disks spare sectors names format chunks none all = record {
@@ -183,7 +183,7 @@ module _ {D : Type 0} (faults : D → ℕ) where
       numbers = (b.sectors_are, b.names_are, b.format_is);
       run = λ halts tells. ap (λ cs. record { chunks = cs }) (
           ap (λ n. map (made_chunk halts sectors names format) (range_with_len 0 n)) (sym b.count)
-          ∙ mapped (made_chunk halts sectors names format) 0 w.world.chunks (λ k c there.
+          ∙ mapped halts (made_chunk halts sectors names format) 0 w.world.chunks (λ k c there.
           let m = b.each k c there in
           ap (made_chunk halts sectors names format) (omega arith) ∙ made_is halts sectors names format k (groups.six_faults faults m.six) c.group m.answer m.made (tells k c there)));
       answered = b.answered;
@@ -209,3 +209,17 @@ module _ {D : Type 0} (faults : D → ℕ) where
               ∙ take-append-le (length (flat_map six_list b.sixes)) (flat_map six_list b.sixes) w.spare (omega arith) ∙ take-length (flat_map six_list b.sixes);
           each = λ k c there. new_chunk k c (b.each k c there);
         }
+
+    -- the first of so many
+    pub are_begun : (all : ℕ) → chunks ≤ all → AreBegun faults all sectors names format disks w.world.chunks
+    are_begun all few = record {
+      few = omega (arith, b.count, few);
+      sixes = all_new.sixes;
+      given = all_new.given;
+      each = all_new.each;
+      numbers = λ k c there.
+          let m = b.each k c there in (
+            ap (λ (v : GroupIs). v.number) m.made.is,
+            ap (λ (v : GroupIs). v.setup) m.made.is ∙ ap (λ (v : GroupIs). setup_with sectors names format v.setup.failed) (sym m.made.is),
+          );
+    }

@@ -18,13 +18,13 @@ use Rattle.pf_rounds.proofs.Paying.{since_grown}
 use Rattle.pf_chunk.proofs.Members.{every_place}
 use Rattle.pf_chunk.specs.Views.{ChunkIs}
 use Rattle.pf_world.specs.Disks.{AreLeft, six_list}
-use Rattle.pf_world.specs.Headline.{AreCaused, AreHalts, FailedTimes, IsCaused, IsSoundWorld}
+use Rattle.pf_world.specs.Headline.{AreCaused, AreHalts, FailedTimes, IsCaused, IsPlaceOf, IsSoundWorld, StandsIn}
 use Rattle.pf_world.specs.Making.{AreNew}
 use Rattle.pf_world.specs.Steps.{GoesOn}
-use Rattle.pf_world.specs.Views.{IsWorld, WorldIs}
-use Rattle.pf_world.proofs.Servers.{IsOwn, halts_own}
+use Rattle.pf_world.specs.Views.{WorldIs}
+use Rattle.pf_world.proofs.Servers.{IsOwn, halts_own, halts_placed}
 use Rattle.pf_world.proofs.Sixes.{six_there}
-use Rattle.pf_world.proofs.Told.{all_tell, groups_of, world_halts}
+use Rattle.pf_world.proofs.Told.{AreNumbered, all_tell, groups_of, world_halts}
 
 -- each halt of these groups is of one of the three servers of the group of its number
 abbrev AreOwn : List GroupIs → Type 0
@@ -79,42 +79,39 @@ failed_times n x y z paid le0 le1 = elim paid.enough [
   | inr last ↦ inr (elim last [ inl first ↦ inl (omega (arith, first, le0)) | inr second ↦ inr (omega (arith, second, le1)) ])
 ]
 
-module _ {D : Type 0} (seen : D → Option (List ℕ)) (may_leave : D → Images) (faults : D → ℕ) (disks after : List D) (first w : WorldIs) (last : List ChunkIs) where
-  -- a world that was made on these disks, whose chunks left them so, perhaps after more had happened to them
+module _ {D : Type 0} (seen : D → Option (List ℕ)) (may_leave : D → Images) (faults : D → ℕ) (disks after : List D) (first w : WorldIs) where
+  -- a world that was made on these disks, perhaps in part, after more had happened to its chunks, which left the disks so
   pub record HasPassed : Type 0 where
-    pub is_world : IsWorld w
+    pub numbers : (k : ℕ) (c : ChunkIs) → slice_get first.chunks k ≡ Some c → c.group.number ≡ k
     pub sound : IsSoundWorld w
     pub fresh : AreNew faults disks first
     pub goes_on : GoesOn first w
-    pub count : length last ≡ length w.chunks
-    pub grown : (k : ℕ) (c d : ChunkIs) → slice_get w.chunks k ≡ Some c → slice_get last k ≡ Some d → HasGrown c.group d.group
-    pub left : AreLeft seen may_leave faults last disks after
+    pub left : AreLeft seen may_leave faults w.chunks disks after
 
   module _ (p : HasPassed) where
-    -- a chunk, as it was when it was made, and as it left its disks
+    -- a chunk, as it was when it was made
     record Lives (k : ℕ) (c : ChunkIs) : Type 0 where
       made : ChunkIs
-      end : ChunkIs
       made_there : slice_get first.chunks k ≡ Some made
-      end_there : slice_get last k ≡ Some end
       before : HasGrown made.group c.group
-      since : HasGrown c.group end.group
 
     lives : (k : ℕ) (c : ChunkIs) → slice_get w.chunks k ≡ Some c → Lives k c
     lives k c at =
         let low = slice_get_within w.chunks k c at in
         let made = something_there first.chunks k (omega (arith, low, p.goes_on.chunks)) in
-        let end = something_there last k (omega (arith, low, p.count)) in
-        record { made = made.0; end = end.0; made_there = made.1; end_there = end.1; before = p.goes_on.grown k made.0 c made.1 at; since = p.grown k c end.0 at end.1 }
+        record { made = made.0; made_there = made.1; before = p.goes_on.grown k made.0 c made.1 at }
+
+    are_numbered : AreNumbered w
+    are_numbered k c there =
+        let life = lives k c there in
+        (life.before.number ∙ p.numbers k life.made life.made_there, subst (λ setup. Every (λ i. i < 3) setup.failed) (sym life.before.setup) (p.fresh.each k life.made life.made_there).few)
 
     own : AreOwn (groups_of w.chunks)
     own k g there =
         let at = get_mapped (λ (c : ChunkIs). c.group) w.chunks k g there in
-        let life = lives k at.0 at.1 in
-        let few = subst (λ setup. Every (λ i. i < 3) setup.failed) (sym life.before.setup) (p.fresh.each k life.made life.made_there).few in
-        let number = (p.is_world.each k at.0 at.1).number in
+        let is = are_numbered k at.0 at.1 in
         subst (λ (x : GroupIs). (x.number ≡ k) × Every (IsOwn k) (halts_of_group x)) (sym at.2)
-        (number, subst (λ n. Every (IsOwn n) (halts_of_group at.0.group)) number (halts_own at.0.group (p.sound k at.0 at.1).legal few))
+        (is.0, subst (λ n. Every (IsOwn n) (halts_of_group at.0.group)) is.0 (halts_own at.0.group (p.sound k at.0 at.1).legal is.1))
 
     disks_are : flat_map six_list p.fresh.sixes ++ drop (6 * length first.chunks) disks ≡ disks
     disks_are = ap (λ ds. ds ++ drop (6 * length first.chunks) disks) (sym p.fresh.given) ∙ take-append-drop (6 * length first.chunks) disks
@@ -127,10 +124,8 @@ module _ {D : Type 0} (seen : D → Option (List ℕ)) (may_leave : D → Images
         let new = p.fresh.each k life.made life.made_there in
         let six = six_there faults p.fresh.sixes (drop (6 * length first.chunks) disks) k i new.six new.there low in
         let paid = since_grown (six_faults faults new.six) life.made.group at.0.group new.paid life.before in
-        let mid = something_there at.0.group.faults i (omega (arith, low, paid.servers)) in
-        let halves = p.left.halves k i life.end life.end_there low in
-        let later = life.since.paid.each i mid.0 (faults halves.zero, faults halves.one) mid.1 halves.counts in
-        let times = failed_times (halts_at (halts_of_group at.0.group) at.0.group.number i) (faults six.zero, faults six.one) mid.0 (faults halves.zero, faults halves.one) (paid.each i (faults six.zero, faults six.one) mid.0 six.counts mid.1) later.zero later.one in
+        let halves = p.left.halves k i at.0 at.1 low in
+        let times = failed_times (halts_at (halts_of_group at.0.group) at.0.group.number i) (faults six.zero, faults six.one) (faults halves.zero, faults halves.one) (faults halves.zero, faults halves.one) (paid.each i (faults six.zero, faults six.one) (faults halves.zero, faults halves.one) six.counts halves.counts) (omega arith) (omega arith) in
         let all = counted (groups_of w.chunks) own k i g there ∙ ap (λ (x : GroupIs). halts_at (halts_of_group x) x.number i) at.2 in
         record {
           was = (faults six.zero, faults six.one);
@@ -149,5 +144,19 @@ module _ {D : Type 0} (seen : D → Option (List ℕ)) (may_leave : D → Images
         (every_place (λ g. Every HasCause (halts_of_group g)) (groups_of w.chunks)
         (λ k g there. every_more (IsOwn k) HasCause (λ h its. subst (λ n. IsCaused faults (world_halts w) disks after n h.server) (sym its.0) (caused_at k h.server g there its.1)) (halts_of_group g) (own k g there).1))
 
+    -- each is of a group of the world
+    stands_in : (k : ℕ) (c : ChunkIs) → slice_get w.chunks k ≡ Some c → (h : Halt) → (h.group ≡ k) × IsPlaceOf c.group h.place → StandsIn w h
+    stands_in k c there h its = record { chunk = c; there = subst (λ n. slice_get w.chunks n ≡ Some c) (sym its.0) there; place = its.1 }
+
+    pub all_within : Every (StandsIn w) (world_halts w)
+    all_within =
+        every_flat_map_from (λ g. Every (StandsIn w) (halts_of_group g)) (StandsIn w) halts_of_group (groups_of w.chunks) (λ g all. all)
+        (every_place (λ g. Every (StandsIn w) (halts_of_group g)) (groups_of w.chunks)
+        (λ k g there.
+        let at = get_mapped (λ (c : ChunkIs). c.group) w.chunks k g there in
+        subst (λ (x : GroupIs). Every (StandsIn w) (halts_of_group x)) (sym at.2)
+        (every_more (λ h. (h.group ≡ k) × IsPlaceOf at.0.group h.place) (StandsIn w) (stands_in k at.0 at.1) (halts_of_group at.0.group)
+        (subst (λ n. Every (λ h. (h.group ≡ n) × IsPlaceOf at.0.group h.place) (halts_of_group at.0.group)) (are_numbered k at.0 at.1).0 (halts_placed at.0.group)))))
+
     pub are_halts : AreHalts faults (world_halts w) disks after w
-    are_halts = record { tells = all_tell w p.is_world p.sound; causes = all_caused }
+    are_halts = record { tells = all_tell w are_numbered p.sound; within = all_within; causes = all_caused }

@@ -10,7 +10,8 @@ use Rattle.pf_protocol.specs.declared.answers.Answer.{Answer}
 use Rattle.pf_cluster.proofs.Lists.{set_length, set_mapped}
 use Rattle.pf_report.specs.Texts.{answer_text, line_of}
 use Rattle.pf_rounds.specs.Halts.{Halt}
-use Rattle.pf_rounds.specs.Chunks.{Chunk}
+use Rattle.pf_protocol.specs.Groups.{Group}
+use Rattle.pf_group.specs.GroupIs.{state_of}
 use Rattle.pf_rounds.specs.Agreeing.{TellsOfGroup, chunk_of}
 use Rattle.pf_rounds.specs.Growing.{HasGrown}
 use Rattle.pf_rounds.proofs.Growing.{grown_refl}
@@ -67,20 +68,20 @@ still_world w k was is world there grown ready = record {
       record { number = grown.number ∙ was_is.number ∙ sym same; failed = was_is.failed; setup = grown.setup ∙ was_is.setup; ready = ready }
 
 -- the run goes to the same chunk
-stands_there : (w : WorldIs) (k : ℕ) (c : ChunkIs) → slice_get w.chunks k ≡ Some c → slice_get (stands_at w).chunks k ≡ Some (chunk_of c.group)
-stands_there w k c there = slice_get-map (λ (d : ChunkIs). chunk_of d.group) w.chunks k ∙ ap (option_map (λ (d : ChunkIs). chunk_of d.group)) there
+pub stands_there : (halts : List Halt) (w : WorldIs) (k : ℕ) (c : ChunkIs) → slice_get w.chunks k ≡ Some c → slice_get (stands_at halts w).chunks k ≡ Some (chunk_of halts c.group)
+stands_there halts w k c there = slice_get-map (λ (d : ChunkIs). chunk_of halts d.group) w.chunks k ∙ ap (option_map (λ (d : ChunkIs). chunk_of halts d.group)) there
 
-pub stands_with : (w : WorldIs) (k : ℕ) (is : ChunkIs) → is.group.number ≡ k → with_chunk (stands_at w) (chunk_of is.group) ≡ stands_at (with_chunk_at w k is)
-stands_with w k is number = ap (λ cs. record { chunks = cs }) (ap (λ n. slice_set (stands_at w).chunks n (chunk_of is.group)) number ∙ set_mapped (λ (d : ChunkIs). chunk_of d.group) w.chunks k is)
+pub stands_with : (halts : List Halt) (w : WorldIs) (k : ℕ) (is : ChunkIs) → is.group.number ≡ k → with_chunk (stands_at halts w) (chunk_of halts is.group) ≡ stands_at halts (with_chunk_at w k is)
+stands_with halts w k is number = ap (λ cs. record { chunks = cs }) (ap (λ n. slice_set (stands_at halts w).chunks n (chunk_of halts is.group)) number ∙ set_mapped (λ (d : ChunkIs). chunk_of halts d.group) w.chunks k is)
 
 pub tells_there : (halts : List Halt) (w : WorldIs) (k : ℕ) (was is : ChunkIs) → slice_get w.chunks k ≡ Some was → Tells halts (with_chunk_at w k is) → TellsOfGroup halts is.group
 tells_there halts w k was is there tells = tells k is (set_there w.chunks k was is there)
 
-told_at : (event : Event) (k : ℕ) (old : WorldIs) (before : List ℕ) (answer : Answer) (after : List ℕ) (number : ℕ) (was is : ChunkIs) (there : slice_get old.chunks k ≡ Some was) (went : HasHappened event was before answer after is) → is.group.number ≡ k → (halts : List Halt) → Tells halts (with_chunk_at old k is) → at_chunk (stands_at old) number k (event halts) ≡ record { world = stands_at (with_chunk_at old k is); text = went.text ++ answer_line number answer }
+pub told_at : (event : Event) (k : ℕ) (old : WorldIs) (before : List ℕ) (answer : Answer) (after : List ℕ) (number : ℕ) (was is : ChunkIs) (there : slice_get old.chunks k ≡ Some was) (went : HasHappened event was before answer after is) → is.group.number ≡ k → (halts : List Halt) → Tells halts (with_chunk_at old k is) → at_chunk (stands_at halts old) number k (event halts) ≡ record { world = stands_at halts (with_chunk_at old k is); text = went.text ++ answer_line number answer }
 told_at event k old before answer after number was is there went numbered halts tells =
-    ap (λ c. told_of (stands_at old) number c (event halts)) (stands_there old k was there)
-    ∙ ap (told (stands_at old) number) (went.run halts (tells_there halts old k was is there tells))
-    ∙ ap (λ w. record { world = w; text = went.text ++ answer_line number answer }) (stands_with old k is numbered)
+    ap (λ c. told_of (stands_at halts old) number c (event halts)) (stands_there halts old k was there)
+    ∙ ap (told (stands_at halts old) number) (went.run halts (tells_there halts old k was is there tells))
+    ∙ ap (λ w. record { world = w; text = went.text ++ answer_line number answer }) (stands_with halts old k is numbered)
 
 answer_put : (o : Option (List ℕ)) (number : ℕ) (middle after : List ℕ) → IsSome o → IfSome o (λ text. after ≡ middle ++ line_of number text) → after ≡ middle ++ line_of number (unwrap_or o [])
 answer_put (Some text) number middle after said put = put
@@ -95,23 +96,20 @@ happened_runs old number command event k before middle after answer new world h 
       runs = record {
         is_world = still_world old k h.was h.is world h.there h.went.grown h.went.ready;
         goes_on = one_grew old k h.was h.is h.there h.went.grown;
-        run = λ halts tells. asks halts (stands_at old) ∙ told_at event k old before answer middle number h.was h.is h.there h.went (h.went.grown.number ∙ (world.each k h.was h.there).number) halts tells;
-        ends = λ halts tells. ends halts (stands_at old);
+        run = λ halts tells. asks halts (stands_at halts old) ∙ told_at event k old before answer middle number h.was h.is h.there h.went (h.went.grown.number ∙ (world.each k h.was h.there).number) halts tells;
+        ends = λ halts tells. ends halts (stands_at halts old);
       };
     })
 
-pub happened_goes_on : (event : Event) (k : ℕ) (old : WorldIs) (before : List ℕ) (answer : Answer) (after : List ℕ) (new : WorldIs) → HasHappenedAt event k old before answer after new → GoesOn old new
-happened_goes_on event k old before answer after new h = subst (GoesOn old) (sym h.world) (one_grew old k h.was h.is h.there h.went.grown)
-
 -- a chunk was shown
-pub shown_runs : (w : WorldIs) (number : ℕ) (command : Command) (k : ℕ) (c : ChunkIs) (text : Chunk → List ℕ) (before after : List ℕ) → IsWorld w → slice_get w.chunks k ≡ Some c → after ≡ before ++ line_of number (text (chunk_of c.group)) → ((halts : List Halt) (v : World) → line_told halts v number command ≡ shows v number k text) → ((halts : List Halt) (v : World) → Ends halts v command) → HasRun w number command before after w
+pub shown_runs : (w : WorldIs) (number : ℕ) (command : Command) (k : ℕ) (c : ChunkIs) (text : Group → List ℕ) (before after : List ℕ) → IsWorld w → slice_get w.chunks k ≡ Some c → after ≡ before ++ line_of number (text (state_of c.group)) → ((halts : List Halt) (v : World) → line_told halts v number command ≡ shows v number k (λ d. text d.state)) → ((halts : List Halt) (v : World) → Ends halts v command) → HasRun w number command before after w
 shown_runs w number command k c text before after world there put shown ends = record {
-  text = line_of number (text (chunk_of c.group));
+  text = line_of number (text (state_of c.group));
   put = put;
   runs = record {
     is_world = world;
     goes_on = same_world w;
-    run = λ halts tells. shown halts (stands_at w) ∙ ap (λ d. shown_of (stands_at w) number d text) (stands_there w k c there);
-    ends = λ halts tells. ends halts (stands_at w);
+    run = λ halts tells. shown halts (stands_at halts w) ∙ ap (λ d. shown_of (stands_at halts w) number d (λ x. text x.state)) (stands_there halts w k c there);
+    ends = λ halts tells. ends halts (stands_at halts w);
   };
 }

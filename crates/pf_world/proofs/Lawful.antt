@@ -3,20 +3,20 @@ use Rattle.std.proofs.Common.{◌≡◌, ℕ, suc, ◌+◌, ◌<◌, ◌≤◌, 
 use Rattle.std.proofs.Math.Nat.{le-suc_iff}
 use Rattle.std.proofs.lemmas.Option.{same_Some, slice_get_read}
 use Rattle.pf_chunk.specs.Views.{ChunkIs}
-use Rattle.pf_world.specs.Headline.{IsLawful}
+use Rattle.pf_world.specs.Headline.{IsLawfulGroup}
 
 abbrev pub LawfulBelow : ℕ → List ChunkIs → Type 0
-LawfulBelow i chunks = (k : ℕ) (c : ChunkIs) → k < i → slice_get chunks k ≡ Some c → IsLawful c
+LawfulBelow i chunks = (k : ℕ) (c : ChunkIs) → k < i → slice_get chunks k ≡ Some c → IsLawfulGroup c.group
 
-module _ (chunks : List ChunkIs) (i : ℕ) (x : ChunkIs) (is : x ≡ get_or chunks i x) (low : i < length chunks) (law : IsLawful x) (before : LawfulBelow i chunks) where
+module _ (chunks : List ChunkIs) (i : ℕ) (x : ChunkIs) (is : x ≡ get_or chunks i x) (low : i < length chunks) (law : IsLawfulGroup x.group) (before : LawfulBelow i chunks) where
   here : slice_get chunks i ≡ Some x
   here = slice_get_read chunks (length chunks) i x refl low is
 
-  at_most : (k : ℕ) (c : ChunkIs) → (suc k ≤ i) ⊎ (suc k ≡ suc i) → slice_get chunks k ≡ Some c → IsLawful c
+  at_most : (k : ℕ) (c : ChunkIs) → (suc k ≤ i) ⊎ (suc k ≡ suc i) → slice_get chunks k ≡ Some c → IsLawfulGroup c.group
   at_most k c (inl lt) there = before k c lt there
   at_most k c (inr same) there =
       let k_is : k ≡ i = omega (arith, same) in
-      subst IsLawful (same_Some x c (sym here ∙ subst (λ n. slice_get chunks n ≡ Some c) k_is there)) law
+      subst (λ (d : ChunkIs). IsLawfulGroup d.group) (same_Some x c (sym here ∙ subst (λ n. slice_get chunks n ≡ Some c) k_is there)) law
 
   pub one_more : LawfulBelow (i + 1) chunks
   one_more k c lt there =

@@ -11,6 +11,10 @@ pub mod Causes
 pub mod Lawful
 pub mod SettlingPackets
 pub mod SettlingTries
+pub mod Extending
 pub mod SettlingChunk
+pub mod Failing
+pub mod FailingLines
 pub mod SettlingWorld
+pub mod FailingWorld
 pub mod Settles

@@ -1,5 +1,6 @@
 -- Lines that were run one after another are a run: what the making of a world and each line say is enough for a whole script.
-use Rattle.std.proofs.Common.{◌≡◌, ℕ, ◌<◌, List, [], ◌∷◌, ◌++◌, length, get_or, sym, ap, subst, ◌∙◌}
+use Rattle.std.proofs.Common.{◌≡◌, ℕ, ◌<◌, List, [], ◌∷◌, ◌++◌, length, map, get_or, refl, sym, ap, subst, ◌∙◌}
+use Rattle.std.specs.List.{flat_map}
 use Rattle.std.proofs.lemmas.List.{append_assoc, append-nil}
 use Rattle.std.proofs.lemmas.Option.{slice_get-get_or, slice_get_within}
 use Rattle.pf_script.specs.declared.command.Command.{Command}
@@ -7,16 +8,27 @@ use Rattle.pf_script.specs.declared.command.Command.TheVariants as commands
 use Rattle.pf_protocol.specs.declared.answers.Answer.{Answer}
 use Rattle.pf_rounds.specs.Halts.{Halt}
 use Rattle.pf_chunk.specs.Saying.{answer_line}
-use Rattle.pf_world.specs.Worlds.{Told, World, no_world}
+use Rattle.pf_group.specs.Making.{making_answer}
+use Rattle.pf_rounds.specs.Chunks.{Chunk}
+use Rattle.pf_rounds.specs.Agreeing.{chunk_of}
+use Rattle.pf_chunk.specs.Views.{ChunkIs}
+use Rattle.pf_world.specs.Worlds.{Told, World, made_answer, no_world}
 use Rattle.pf_world.specs.Lines.{line_told, volume_told}
 use Rattle.pf_world.specs.declared.line.Line.{Line}
 use Rattle.pf_world.specs.Reports.{followed, run_from}
 use Rattle.pf_world.specs.Views.{WorldIs, stands_at}
 use Rattle.pf_world.specs.Agreeing.{Tells}
-use Rattle.pf_world.specs.Steps.{GoesOn, IsMade, Runs}
-use Rattle.pf_world.specs.Headline.{RunsTo}
+use Rattle.pf_world.specs.Steps.{Ends, GoesOn, IsMade, Runs}
+use Rattle.pf_world.specs.Headline.{EndEach, RunsTo}
 use Rattle.pf_rounds.proofs.Growing.{grown_tells, grown_trans}
 use Rattle.pf_cluster.proofs.Lists.{something_there}
+
+-- the making is halted where some server could not be formatted
+made_says : (halts : List Halt) (w : WorldIs) → made_answer (stands_at halts w) ≡ making_answer (flat_map (λ c. c.group.setup.failed) w.chunks)
+made_says halts w = ap making_answer (flat_mapped w.chunks) where
+  flat_mapped : (cs : List ChunkIs) → flat_map (λ (c : Chunk). c.setup.failed) (map (λ c. chunk_of halts c.group) cs) ≡ flat_map (λ c. c.group.setup.failed) cs
+  flat_mapped [] = refl
+  flat_mapped (c ∷ cs) = ap (λ fs. c.group.setup.failed ++ fs) (flat_mapped cs)
 
 -- a list that tells of a world told of it before
 pub tells_earlier : (halts : List Halt) (old new : WorldIs) → GoesOn old new → Tells halts new → Tells halts old
@@ -50,16 +62,28 @@ run_snoc halts w (first ∷ lines) line =
     ap (λ rest. record { world = rest.world; text = (line_told halts w first.number first.command).text ++ rest.text }) (run_snoc halts (line_told halts w first.number first.command).world lines line)
     ∙ sym (followed_assoc (line_told halts w first.number first.command) (λ next. run_from halts next lines) (λ next. line_told halts next line.number line.command))
 
+-- a run of no line, but for its end
+ends_one : (halts : List Halt) (lines : List Line) (w : World) (line : Line) → EndEach halts w lines → Ends halts (run_from halts w lines).world line.command → EndEach halts w (lines ++ line ∷ [])
+ends_one halts [] w line each last = (last, tt)
+ends_one halts (first ∷ lines) w line each last = (each.0, ends_one halts lines (line_told halts w first.number first.command).world line each.1 last)
+
 -- the volume is the first line
 pub run_begins : (chunks sectors names format number : ℕ) (w : WorldIs) (answer : Answer) → IsMade chunks sectors names format w answer → RunsTo (record { number = number; command = commands.Volume chunks sectors names format } ∷ []) (answer_line number answer) w
-run_begins chunks sectors names format number w answer made halts tells =
-    run_one halts no_world (record { number = number; command = commands.Volume chunks sectors names format })
-    ∙ ap (volume_told number) (made.run halts tells)
-    ∙ ap (λ a. record { world = stands_at w; text = answer_line number a }) (sym made.answered)
+run_begins chunks sectors names format number w answer made halts tells = record {
+  run = run_one halts no_world (record { number = number; command = commands.Volume chunks sectors names format })
+      ∙ ap (volume_told number) (made.run halts tells)
+      ∙ ap (λ a. record { world = stands_at halts w; text = answer_line number a }) (made_says halts w ∙ sym made.answered);
+  ends = (tt, tt);
+}
 
 -- and each line that was run goes on with it
 pub run_goes_on : (lines : List Line) (text : List ℕ) (old : WorldIs) (number : ℕ) (command : Command) (more : List ℕ) (new : WorldIs) → RunsTo lines text old → Runs old number command more new → RunsTo (lines ++ record { number = number; command = command } ∷ []) (text ++ more) new
 run_goes_on lines text old number command more new before runs halts tells =
-    run_snoc halts no_world lines (record { number = number; command = command })
-    ∙ ap (λ told. followed told (λ next. line_told halts next number command)) (before halts (tells_earlier halts old new runs.goes_on tells))
-    ∙ ap (λ told. record { world = told.world; text = text ++ told.text }) (runs.run halts tells)
+    let line : Line = record { number = number; command = command } in
+    let was = before halts (tells_earlier halts old new runs.goes_on tells) in
+    record {
+      run = run_snoc halts no_world lines line
+          ∙ ap (λ told. followed told (λ next. line_told halts next number command)) was.run
+          ∙ ap (λ told. record { world = told.world; text = text ++ told.text }) (runs.run halts tells);
+      ends = ends_one halts lines no_world line was.ends (subst (λ (t : Told). Ends halts t.world command) (sym was.run) (runs.ends halts tells));
+    }

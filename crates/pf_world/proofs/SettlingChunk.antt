@@ -4,6 +4,7 @@ use Rattle.std.proofs.lemmas.Bool.{false≢true}
 use Rattle.std.proofs.lemmas.List.{append-nil}
 use Rattle.pf_protocol.specs.Answers.{most_packets}
 use Rattle.pf_group.specs.GroupIs.{state_of}
+use Rattle.pf_rounds.specs.Halts.{Halt}
 use Rattle.pf_rounds.specs.Chunks.{Chunk}
 use Rattle.pf_rounds.specs.Agreeing.{chunk_of}
 use Rattle.pf_rounds.specs.Growing.{HasGrown}
@@ -65,9 +66,6 @@ pub begins : (limit : ℕ) (old begun : ChunkIs) (out : List ℕ) → IsReady be
 begins limit old begun out ready is =
     subst (SoFar limit old out limit out) (sym is) (begins_at limit old out begun.next (subst IsReady is ready))
 
-pub begin_grows : (old begun : ChunkIs) → begun ≡ record old { first_left = begun.next; next = begun.next } → HasGrown old.group begun.group
-begin_grows old begun is = subst (HasGrown old.group) (sym (ap (λ (c : ChunkIs). c.group) is)) (grown_refl old.group)
-
 -- the next packet, which was looked for
 pub record HasNext (limit : ℕ) (old : ChunkIs) (before : List ℕ) (left : ℕ) (after : List ℕ) (head now : ChunkIs) : Type 0 where
   pub so_far : SoFar limit old before left after now
@@ -104,11 +102,8 @@ module _ (limit : ℕ) (old : ChunkIs) (before : List ℕ) (left : ℕ) (after :
     pub looked : MatchOption r (now.next ≡ now.next) (λ k. now.next ≡ k) → is_some r ≡ true → HasNext limit old before left after head now
     looked found some = subst (HasNext limit old before left after head) (sym same) (at_found r now.next is found some)
 
-    pub look_grows : HasGrown old.group now.group
-    look_grows = subst (λ (c : ChunkIs). HasGrown old.group c.group) (sym same) so_far.grown
-
-    least : (passed : List Name) → NoneOf old.group.number passed → least_left (past old.group.number so_far.packets passed) (chunk_of head.group) ≡ r
-    least passed none = least_is (chunk_of head.group) old.group.number head.next so_far.packets passed so_far.grown.number so_far.passed none ∙ sym is
+    least : (halts : List Halt) (passed : List Name) → NoneOf old.group.number passed → least_left (past old.group.number so_far.packets passed) (chunk_of halts head.group) ≡ r
+    least halts passed none = least_is (chunk_of halts head.group) old.group.number head.next so_far.packets passed so_far.grown.number so_far.passed none ∙ sym is
 
     -- no packet is left
     pub quiet : is_some r ≡ false → HasSettledChunk limit old before (Some left) after now
@@ -121,7 +116,7 @@ module _ (limit : ℕ) (old : ChunkIs) (before : List ℕ) (left : ℕ) (after :
       put = so_far.put;
       packets = so_far.packets;
       run = so_far.run;
-      ends = λ passed free. least passed free ∙ nothing r none;
+      ends = λ halts passed free. least halts passed free ∙ nothing r none;
     })
 
     -- no delivery is left
@@ -135,52 +130,50 @@ module _ (limit : ℕ) (old : ChunkIs) (before : List ℕ) (left : ℕ) (after :
       put = so_far.put;
       packets = so_far.packets;
       run = subst (λ n. Tries so_far.tries limit old.group so_far.text n so_far.packets head.group) none so_far.run;
-      ends = λ passed free. ap (λ (o : Option ℕ). is_some o) (least passed free) ∙ some;
+      ends = λ halts passed free. ap (λ (o : Option ℕ). is_some o) (least halts passed free) ∙ some;
     })
 
-module _ (limit : ℕ) (old : ChunkIs) (before : List ℕ) (left : ℕ) (mid : List ℕ) (head now : ChunkIs) (has : HasNext limit old before (suc left) mid head now) (after : List ℕ) (new : ChunkIs) (few : now.next < most_packets) where
-  is_least : (passed : List Name) (chunks : List Chunk) → IsTurnOf old.group.number passed chunks → least_left (past old.group.number has.so_far.packets passed) (chunk_of now.group) ≡ Some now.next
-  is_least passed chunks turn =
-      least_is (chunk_of now.group) old.group.number now.next has.so_far.packets passed has.so_far.grown.number has.so_far.passed turn.none
+module _ (limit : ℕ) (old : ChunkIs) (before : List ℕ) (left : ℕ) (mid : List ℕ) (head now : ChunkIs) (has : HasNext limit old before (suc left) mid head now) where
+  pub is_least : (halts : List Halt) (passed : List Name) (chunks : List Chunk) → IsTurnOf old.group.number passed chunks → least_left (past old.group.number has.so_far.packets passed) (chunk_of halts now.group) ≡ Some now.next
+  is_least halts passed chunks turn =
+      least_is (chunk_of halts now.group) old.group.number now.next has.so_far.packets passed has.so_far.grown.number has.so_far.passed turn.none
       ∙ least_here (state_of now.group) now.next has.there has.sent
 
-  pub tried_grows : HasTried now mid Passed after new → HasGrown old.group new.group
-  tried_grows t = grown_trans old.group now.group new.group has.so_far.grown t.went.grown
+  module _ (after : List ℕ) (new : ChunkIs) (few : now.next < most_packets) where
+    pub passed_one : HasTried now mid Passed after new → SoFar limit old before (suc left) after new
+    passed_one t =
+        let s = has.so_far in
+        let next = t.moved.1 in
+        let grown = grown_trans old.group now.group new.group s.grown t.went.grown in
+        record {
+          grown = grown;
+          ready = t.went.ready;
+          tries = s.tries + 1;
+          by_next = omega (arith, s.by_next, next);
+          few = omega (arith, s.by_next, few);
+          text = s.text ++ t.went.text;
+          put = t.went.put ∙ ap (λ xs. xs ++ t.went.text) s.put ∙ append_assoc before s.text t.went.text;
+          packets = now.next ∷ s.packets;
+          passed = subst (λ n. ArePassed (state_of new.group) n (now.next ∷ s.packets)) (sym next) (one_more_passed (state_of now.group) (state_of new.group) now.next s.packets t.went.left has.sent s.passed);
+          run = one_more_try s.tries limit old.group now.group new.group s.text t.went.text (suc left) (suc left) s.packets (now.next ∷ s.packets) t.went.grown s.run
+              (try_passed old.group.number s.packets now new mid t.answer after t.went grown.number is_least left t.moved.0);
+        }
 
-  pub passed_one : HasTried now mid Passed after new → SoFar limit old before (suc left) after new
-  passed_one t =
-      let s = has.so_far in
-      let next = t.moved.1 in
-      let grown = grown_trans old.group now.group new.group s.grown t.went.grown in
-      record {
-        grown = grown;
-        ready = t.went.ready;
-        tries = s.tries + 1;
-        by_next = omega (arith, s.by_next, next);
-        few = omega (arith, s.by_next, few);
-        text = s.text ++ t.went.text;
-        put = t.went.put ∙ ap (λ xs. xs ++ t.went.text) s.put ∙ append_assoc before s.text t.went.text;
-        packets = now.next ∷ s.packets;
-        passed = subst (λ n. ArePassed (state_of new.group) n (now.next ∷ s.packets)) (sym next) (one_more_passed (state_of now.group) (state_of new.group) now.next s.packets t.went.left has.sent s.passed);
-        run = one_more_try s.tries limit old.group now.group new.group s.text t.went.text (suc left) (suc left) s.packets (now.next ∷ s.packets) t.went.grown s.run
-            (try_passed old.group.number s.packets now new mid t.answer after t.went grown.number is_least left t.moved.0);
-      }
-
-  pub delivered_one : HasTried now mid Delivered after new → SoFar limit old before left after new
-  delivered_one t =
-      let s = has.so_far in
-      let next = t.moved.1 in
-      let grown = grown_trans old.group now.group new.group s.grown t.went.grown in
-      record {
-        grown = grown;
-        ready = t.went.ready;
-        tries = s.tries + 1;
-        by_next = omega (arith, s.by_next, next);
-        few = omega (arith, s.few);
-        text = s.text ++ t.went.text;
-        put = t.went.put ∙ ap (λ xs. xs ++ t.went.text) s.put ∙ append_assoc before s.text t.went.text;
-        packets = s.packets;
-        passed = subst (λ n. ArePassed (state_of new.group) n s.packets) (sym next) (passed_later (state_of now.group) (state_of new.group) now.next s.packets t.went.left has.sent s.passed);
-        run = one_more_try s.tries limit old.group now.group new.group s.text t.went.text (suc left) left s.packets s.packets t.went.grown s.run
-            (try_delivered old.group.number s.packets now new mid t.answer after t.went grown.number is_least left t.moved.0);
-      }
+    pub delivered_one : HasTried now mid Delivered after new → SoFar limit old before left after new
+    delivered_one t =
+        let s = has.so_far in
+        let next = t.moved.1 in
+        let grown = grown_trans old.group now.group new.group s.grown t.went.grown in
+        record {
+          grown = grown;
+          ready = t.went.ready;
+          tries = s.tries + 1;
+          by_next = omega (arith, s.by_next, next);
+          few = omega (arith, s.few);
+          text = s.text ++ t.went.text;
+          put = t.went.put ∙ ap (λ xs. xs ++ t.went.text) s.put ∙ append_assoc before s.text t.went.text;
+          packets = s.packets;
+          passed = subst (λ n. ArePassed (state_of new.group) n s.packets) (sym next) (passed_later (state_of now.group) (state_of new.group) now.next s.packets t.went.left has.sent s.passed);
+          run = one_more_try s.tries limit old.group now.group new.group s.text t.went.text (suc left) left s.packets s.packets t.went.grown s.run
+              (try_delivered old.group.number s.packets now new mid t.answer after t.went grown.number is_least left t.moved.0);
+        }

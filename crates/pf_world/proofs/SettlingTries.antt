@@ -30,7 +30,7 @@ next_after passed [] cs quiet = refl
 next_after passed (c ∷ before) cs quiet =
     ap (λ o. next_in c o (next_of passed (before ++ cs))) quiet.0 ∙ next_after passed before cs quiet.1
 
-still_quiet : (n : ℕ) (packets : List ℕ) (passed : List Name) (before : List Chunk) → Every (λ c. (c.number ≢ n) × (least_left passed c ≡ None)) before → Every (λ c. least_left (past n packets passed) c ≡ None) before
+pub still_quiet : (n : ℕ) (packets : List ℕ) (passed : List Name) (before : List Chunk) → Every (λ c. (c.number ≢ n) × (least_left passed c ≡ None)) before → Every (λ c. least_left (past n packets passed) c ≡ None) before
 still_quiet n packets passed [] quiet = tt
 still_quiet n packets passed (c ∷ before) quiet =
     (past_elsewhere n packets passed c quiet.0.0 ∙ quiet.0.1, still_quiet n packets passed before quiet.1)
@@ -49,35 +49,35 @@ settle_suc m halts limit passed w = refl
 abbrev pub OneTry : (chunk left : ℕ) → (packets : List ℕ) → (now : GroupIs) → (text : List ℕ) → (left' : ℕ) → (packets' : List ℕ) → (new : GroupIs) → Type 0
 OneTry chunk left packets now text left' packets' new =
     (halts : List Halt) → TellsOfGroup halts new → (passed : List Name) (before after : List Chunk) → IsTurnOf chunk passed before → (m : ℕ) →
-    settle_to (suc m) halts left (past chunk packets passed) (world_around before (chunk_of now) after)
-    ≡ after_text text (settle_to m halts left' (past chunk packets' passed) (world_around before (chunk_of new) after))
+    settle_to (suc m) halts left (past chunk packets passed) (world_around before (chunk_of halts now) after)
+    ≡ after_text text (settle_to m halts left' (past chunk packets' passed) (world_around before (chunk_of halts new) after))
 
 module _ (chunk : ℕ) (packets : List ℕ) (now new : ChunkIs) (out : List ℕ) (answer : Answer) (put : List ℕ)
     (went : HasHappened (λ halts c. happened halts c (Deliver now.next)) now out answer put new)
     (number : new.group.number ≡ chunk)
-    (least : (passed : List Name) (before : List Chunk) → IsTurnOf chunk passed before → least_left (past chunk packets passed) (chunk_of now.group) ≡ Some now.next) where
+    (least : (halts : List Halt) (passed : List Name) (before : List Chunk) → IsTurnOf chunk passed before → least_left (past chunk packets passed) (chunk_of halts now.group) ≡ Some now.next) where
   delivery : (left : ℕ) (halts : List Halt) → TellsOfGroup halts new.group → (passed : List Name) (before after : List Chunk) → IsTurnOf chunk passed before → (m : ℕ) →
-      settle_to (suc m) halts (suc left) (past chunk packets passed) (world_around before (chunk_of now.group) after)
-      ≡ after_text went.text (goes_on (is_passed_over answer) (record { chunk = chunk; packet = now.next }) left (past chunk packets passed) (world_around before (chunk_of new.group) after) (settle_to m halts))
+      settle_to (suc m) halts (suc left) (past chunk packets passed) (world_around before (chunk_of halts now.group) after)
+      ≡ after_text went.text (goes_on (is_passed_over answer) (record { chunk = chunk; packet = now.next }) left (past chunk packets passed) (world_around before (chunk_of halts new.group) after) (settle_to m halts))
   delivery left halts tells passed before after turn m =
-      let w = world_around before (chunk_of now.group) after in
+      let w = world_around before (chunk_of halts now.group) after in
       let over = past chunk packets passed in
       let more : Goes = settle_to m halts in
       settle_suc m halts (suc left) over w
-      ∙ ap (λ o. settle_next halts o more (suc left) over w) (next_is chunk packets passed before after (chunk_of now.group) now.next turn (least passed before turn))
+      ∙ ap (λ o. settle_next halts o more (suc left) over w) (next_is chunk packets passed before after (chunk_of halts now.group) now.next turn (least halts passed before turn))
       ∙ ap (λ (h : Happened). tried h now.next left over w more) (went.run halts tells)
-      ∙ ap (λ n. after_text went.text (goes_on (is_passed_over answer) (record { chunk = n; packet = now.next }) left over (record { chunks = slice_set (before ++ chunk_of now.group ∷ after) n (chunk_of new.group) }) more)) number
-      ∙ ap (λ cs. after_text went.text (goes_on (is_passed_over answer) (record { chunk = chunk; packet = now.next }) left over (record { chunks = cs }) more)) (set_middle before (chunk_of now.group) (chunk_of new.group) after chunk turn.place)
+      ∙ ap (λ n. after_text went.text (goes_on (is_passed_over answer) (record { chunk = n; packet = now.next }) left over (record { chunks = slice_set (before ++ chunk_of halts now.group ∷ after) n (chunk_of halts new.group) }) more)) number
+      ∙ ap (λ cs. after_text went.text (goes_on (is_passed_over answer) (record { chunk = chunk; packet = now.next }) left over (record { chunks = cs }) more)) (set_middle before (chunk_of halts now.group) (chunk_of halts new.group) after chunk turn.place)
 
   pub try_passed : (left : ℕ) → is_passed_over answer ≡ true → OneTry chunk (suc left) packets now.group went.text (suc left) (now.next ∷ packets) new.group
   try_passed left is halts tells passed before after turn m =
       delivery left halts tells passed before after turn m
-      ∙ ap (λ b. after_text went.text (goes_on b (record { chunk = chunk; packet = now.next }) left (past chunk packets passed) (world_around before (chunk_of new.group) after) (settle_to m halts))) is
+      ∙ ap (λ b. after_text went.text (goes_on b (record { chunk = chunk; packet = now.next }) left (past chunk packets passed) (world_around before (chunk_of halts new.group) after) (settle_to m halts))) is
 
   pub try_delivered : (left : ℕ) → is_passed_over answer ≡ false → OneTry chunk (suc left) packets now.group went.text left packets new.group
   try_delivered left is halts tells passed before after turn m =
       delivery left halts tells passed before after turn m
-      ∙ ap (λ b. after_text went.text (goes_on b (record { chunk = chunk; packet = now.next }) left (past chunk packets passed) (world_around before (chunk_of new.group) after) (settle_to m halts))) is
+      ∙ ap (λ b. after_text went.text (goes_on b (record { chunk = chunk; packet = now.next }) left (past chunk packets passed) (world_around before (chunk_of halts new.group) after) (settle_to m halts))) is
 
 pub texts_join : (a b : List ℕ) (s : Settled) → after_text a (after_text b s) ≡ after_text (a ++ b) s
 texts_join a b s = ap (λ text. record s { text = text }) (sym (append_assoc a b s.text))
@@ -85,13 +85,13 @@ texts_join a b s = ap (λ text. record s { text = text }) (sym (append_assoc a b
 pub no_tries : (limit : ℕ) (g : GroupIs) → Tries 0 limit g [] limit [] g
 no_tries limit g halts tells passed before after turn more =
     let none : 0 + more ≡ more = omega arith in
-    ap (λ n. settle_to n halts limit passed (world_around before (chunk_of g) after)) none
+    ap (λ n. settle_to n halts limit passed (world_around before (chunk_of halts g) after)) none
 
 -- one more try
 pub one_more_try : (tries limit : ℕ) (old now new : GroupIs) (text more : List ℕ) (left left' : ℕ) (packets packets' : List ℕ) → HasGrown now new → Tries tries limit old text left packets now → OneTry old.number left packets now more left' packets' new → Tries (tries + 1) limit old (text ++ more) left' packets' new
 one_more_try tries limit old now new text more left left' packets packets' grown so_far next halts tells passed before after turn m =
     let count : (tries + 1) + m ≡ tries + suc m = omega arith in
-    ap (λ n. settle_to n halts limit passed (world_around before (chunk_of old) after)) count
+    ap (λ n. settle_to n halts limit passed (world_around before (chunk_of halts old) after)) count
     ∙ so_far halts (grown_tells halts now new grown tells) passed before after turn (suc m)
     ∙ ap (after_text text) (next halts tells passed before after turn m)
-    ∙ texts_join text more (settle_to m halts left' (past old.number packets' passed) (world_around before (chunk_of new) after))
+    ∙ texts_join text more (settle_to m halts left' (past old.number packets' passed) (world_around before (chunk_of halts new) after))

@@ -5,7 +5,7 @@ use Rattle.std.proofs.lemmas.List.{append-nil, length-map, map-append}
 use Rattle.std.proofs.lemmas.Option.{same_Some, slice_get-get_or, slice_get_within}
 use Rattle.pf_entry.specs.Lists.{Every}
 use Rattle.pf_entry.proofs.Lists.{every_map, set_cases, set_there}
-use Rattle.pf_cluster.proofs.Lists.{set_length}
+use Rattle.pf_cluster.proofs.Lists.{set_elsewhere, set_length}
 use Rattle.pf_protocol.specs.Answers.{most_packets}
 use Rattle.pf_rounds.specs.Halts.{Halt}
 use Rattle.pf_rounds.specs.Chunks.{Chunk}
@@ -39,18 +39,18 @@ at_err (Err e) P is = is
 abbrev pub with_is : WorldIs → (k : ℕ) → ChunkIs → WorldIs
 with_is w k c = record w { chunks = slice_set w.chunks k c }
 
-run_of : ChunkIs → Chunk
-run_of c = chunk_of c.group
+unfoldable pub run_of : List Halt → ChunkIs → Chunk
+run_of halts c = chunk_of halts c.group
 
 -- a list around one place
-record IsAround {X : Type 0} (xs : List X) (k : ℕ) (x : X) : Type 0 where
-  before : List X
-  after : List X
-  whole : xs ≡ before ++ x ∷ after
-  place : length before ≡ k
-  first : (j : ℕ) (y : X) → slice_get before j ≡ Some y → slice_get xs j ≡ Some y
+pub record IsAround {X : Type 0} (xs : List X) (k : ℕ) (x : X) : Type 0 where
+  pub before : List X
+  pub after : List X
+  pub whole : xs ≡ before ++ x ∷ after
+  pub place : length before ≡ k
+  pub first : (j : ℕ) (y : X) → slice_get before j ≡ Some y → slice_get xs j ≡ Some y
 
-around : {X : Type 0} → (xs : List X) (k : ℕ) (x : X) → slice_get xs k ≡ Some x → IsAround xs k x
+pub around : {X : Type 0} → (xs : List X) (k : ℕ) (x : X) → slice_get xs k ≡ Some x → IsAround xs k x
 around [] k x there = absurd (cc)
 around (y ∷ xs) zero x there = record { before = []; after = xs; whole = ap (λ z. z ∷ xs) (same_Some y x there); place = refl; first = λ j z is. absurd (cc) }
 around (y ∷ xs) (suc k) x there =
@@ -67,11 +67,11 @@ around (y ∷ xs) (suc k) x there =
     by before f zero z is = is
     by before f (suc j) z is = f j z is
 
-most_is : most_packets ≡ 65536
+pub most_is : most_packets ≡ 65536
 unfolding most_packets
 most_is = refl
 
--- so far: the chunks below this one are quiet
+-- so far: the chunks below this one are quiet, and the others were not touched
 pub record WorldSoFar (limit : ℕ) (old : WorldIs) (before : List ℕ) (place left : ℕ) (after : List ℕ) (now : WorldIs) : Type 0 where
   pub is_world : IsWorld now
   pub goes_on : GoesOn old now
@@ -81,8 +81,9 @@ pub record WorldSoFar (limit : ℕ) (old : WorldIs) (before : List ℕ) (place l
   pub tries : ℕ
   pub few : tries + left ≤ limit + place * 65536
   pub none : (k : ℕ) → place ≤ k → NoneOf k passed
-  pub quiet : (k : ℕ) (c : ChunkIs) → k < place → slice_get now.chunks k ≡ Some c → least_left passed (chunk_of c.group) ≡ None
-  pub run : (halts : List Halt) → Tells halts now → (more : ℕ) → settle_to (tries + more) halts limit [] (stands_at old) ≡ after_text text (settle_to more halts left passed (stands_at now))
+  pub rest : (k : ℕ) → place ≤ k → slice_get now.chunks k ≡ slice_get old.chunks k
+  pub quiet : (halts : List Halt) (k : ℕ) (c : ChunkIs) → k < place → slice_get now.chunks k ≡ Some c → least_left passed (chunk_of halts c.group) ≡ None
+  pub run : (halts : List Halt) → Tells halts now → (more : ℕ) → settle_to (tries + more) halts limit [] (stands_at halts old) ≡ after_text text (settle_to more halts left passed (stands_at halts now))
 
 goes_nowhere : (w : WorldIs) → GoesOn w w
 goes_nowhere w = record {
@@ -103,8 +104,9 @@ world_begins limit w out is = record {
   tries = 0;
   few = omega arith;
   none = λ k low j. refl;
-  quiet = λ k c low there. absurd (omega arith);
-  run = λ halts tells more. let none : 0 + more ≡ more = omega arith in ap (λ n. settle_to n halts limit [] (stands_at w)) none;
+  rest = λ k low. refl;
+  quiet = λ halts k c low there. absurd (omega arith);
+  run = λ halts tells more. let none : 0 + more ≡ more = omega arith in ap (λ n. settle_to n halts limit [] (stands_at halts w)) none;
 }
 
 -- one chunk grew
@@ -117,7 +119,7 @@ module _ (old now : WorldIs) (on : GoesOn old now) (place : ℕ) (c new : ChunkI
     | inr elsewhere ↦ subst (λ (x : ChunkIs). HasGrown was.group x.group) (same_Some was is (sym before ∙ elsewhere.1)) (grown_refl was.group)
   ]
 
-  one_goes_on : GoesOn now (with_is now place new)
+  pub one_goes_on : GoesOn now (with_is now place new)
   one_goes_on = record {
     sectors = refl;
     names = refl;
@@ -154,45 +156,45 @@ module _ (limit : ℕ) (old : WorldIs) (before : List ℕ) (place left : ℕ) (o
   numbered : c.group.number ≡ place
   numbered = (so_far.is_world.each place c there).number
 
-  turn : (a : IsAround now.chunks place c) → IsTurnOf c.group.number so_far.passed (map run_of a.before)
+  pub turn : (halts : List Halt) (a : IsAround now.chunks place c) → IsTurnOf c.group.number so_far.passed (map (run_of halts) a.before)
   unfolding run_of
-  turn a = record {
-    place = length-map a.before run_of ∙ a.place ∙ sym numbered;
+  turn halts a = record {
+    place = length-map a.before (run_of halts) ∙ a.place ∙ sym numbered;
     none = so_far.none c.group.number (omega (arith, numbered));
-    quiet = every_map (λ (x : Chunk). (x.number ≢ c.group.number) × (least_left so_far.passed x ≡ None)) run_of a.before
-        (every_place (λ (x : ChunkIs). (x.group.number ≢ c.group.number) × (least_left so_far.passed (chunk_of x.group) ≡ None)) a.before (λ j x at.
+    quiet = every_map (λ (x : Chunk). (x.number ≢ c.group.number) × (least_left so_far.passed x ≡ None)) (run_of halts) a.before
+        (every_place (λ (x : ChunkIs). (x.group.number ≢ c.group.number) × (least_left so_far.passed (chunk_of halts x.group) ≡ None)) a.before (λ j x at.
         let low : j < length a.before = slice_get_within a.before j x at in
         let is = so_far.is_world.each j x (a.first j x at) in
-        (λ e. absurd (omega (arith, low, a.place, is.number, numbered, e)), so_far.quiet j x (omega (arith, low, a.place)) (a.first j x at))));
+        (λ e. absurd (omega (arith, low, a.place, is.number, numbered, e)), so_far.quiet halts j x (omega (arith, low, a.place)) (a.first j x at))));
   }
 
   -- the run's world is around the chunk
-  stands_around : (a : IsAround now.chunks place c) (x : ChunkIs) → stands_at (with_is now place x) ≡ world_around (map run_of a.before) (chunk_of x.group) (map run_of a.after)
+  stands_around : (halts : List Halt) (a : IsAround now.chunks place c) (x : ChunkIs) → stands_at halts (with_is now place x) ≡ world_around (map (run_of halts) a.before) (chunk_of halts x.group) (map (run_of halts) a.after)
   unfolding run_of
-  stands_around a x =
-      ap (λ xs. record { chunks = map run_of (slice_set xs place x) }) a.whole
-      ∙ ap (λ xs. record { chunks = map run_of xs }) (set_middle a.before c x a.after place a.place)
-      ∙ ap (λ cs. record { chunks = cs }) (map-append run_of a.before (x ∷ a.after))
+  stands_around halts a x =
+      ap (λ xs. record { chunks = map (run_of halts) (slice_set xs place x) }) a.whole
+      ∙ ap (λ xs. record { chunks = map (run_of halts) xs }) (set_middle a.before c x a.after place a.place)
+      ∙ ap (λ cs. record { chunks = cs }) (map-append (run_of halts) a.before (x ∷ a.after))
 
-  stood_around : (a : IsAround now.chunks place c) → stands_at now ≡ world_around (map run_of a.before) (chunk_of c.group) (map run_of a.after)
+  pub stood_around : (halts : List Halt) (a : IsAround now.chunks place c) → stands_at halts now ≡ world_around (map (run_of halts) a.before) (chunk_of halts c.group) (map (run_of halts) a.after)
   unfolding run_of
-  stood_around a =
-      ap (λ xs. record { chunks = map run_of xs }) a.whole
-      ∙ ap (λ cs. record { chunks = cs }) (map-append run_of a.before (c ∷ a.after))
+  stood_around halts a =
+      ap (λ xs. record { chunks = map (run_of halts) xs }) a.whole
+      ∙ ap (λ cs. record { chunks = cs }) (map-append (run_of halts) a.before (c ∷ a.after))
 
   module _ (rest : Option ℕ) (put : List ℕ) (new : ChunkIs) (h : HasSettledChunk left c out rest put new) where
-    along : (halts : List Halt) → Tells halts (with_is now place new) → (more : ℕ) → settle_to ((so_far.tries + h.tries) + more) halts limit [] (stands_at old) ≡ after_text (so_far.text ++ h.text) (settle_to more halts (unwrap_or rest 0) (past c.group.number h.packets so_far.passed) (stands_at (with_is now place new)))
+    along : (halts : List Halt) → Tells halts (with_is now place new) → (more : ℕ) → settle_to ((so_far.tries + h.tries) + more) halts limit [] (stands_at halts old) ≡ after_text (so_far.text ++ h.text) (settle_to more halts (unwrap_or rest 0) (past c.group.number h.packets so_far.passed) (stands_at halts (with_is now place new)))
     along halts tells more =
         let a = around now.chunks place c there in
-        let first = map run_of a.before in
-        let last = map run_of a.after in
+        let first = map (run_of halts) a.before in
+        let last = map (run_of halts) a.after in
         let count : (so_far.tries + h.tries) + more ≡ so_far.tries + (h.tries + more) = omega arith in
-        ap (λ n. settle_to n halts limit [] (stands_at old)) count
+        ap (λ n. settle_to n halts limit [] (stands_at halts old)) count
         ∙ so_far.run halts (tells_earlier halts now (with_is now place new) (one_goes_on old now so_far.goes_on place c new there h.grown) tells) (h.tries + more)
-        ∙ ap (λ w. after_text so_far.text (settle_to (h.tries + more) halts left so_far.passed w)) (stood_around a)
-        ∙ ap (after_text so_far.text) (h.run halts (tells place new (set_there now.chunks place c new there)) so_far.passed first last (turn a) more)
-        ∙ texts_join so_far.text h.text (settle_to more halts (unwrap_or rest 0) (past c.group.number h.packets so_far.passed) (world_around first (chunk_of new.group) last))
-        ∙ ap (λ w. after_text (so_far.text ++ h.text) (settle_to more halts (unwrap_or rest 0) (past c.group.number h.packets so_far.passed) w)) (sym (stands_around a new))
+        ∙ ap (λ w. after_text so_far.text (settle_to (h.tries + more) halts left so_far.passed w)) (stood_around halts a)
+        ∙ ap (after_text so_far.text) (h.run halts (tells place new (set_there now.chunks place c new there)) so_far.passed first last (turn halts a) more)
+        ∙ texts_join so_far.text h.text (settle_to more halts (unwrap_or rest 0) (past c.group.number h.packets so_far.passed) (world_around first (chunk_of halts new.group) last))
+        ∙ ap (λ w. after_text (so_far.text ++ h.text) (settle_to more halts (unwrap_or rest 0) (past c.group.number h.packets so_far.passed) w)) (sym (stands_around halts a new))
 
     put_all : put ≡ before ++ (so_far.text ++ h.text)
     put_all = h.put ∙ ap (λ xs. xs ++ h.text) so_far.put ∙ append_assoc before so_far.text h.text
@@ -211,13 +213,14 @@ world_quiet limit old before place left out now so_far c there n put new h = rec
   tries = so_far.tries + h.tries;
   few = omega (arith, so_far.few, h.few, most_is);
   none = λ k low. past_none c.group.number k h.packets so_far.passed (λ e. absurd (omega (arith, low, e, number))) (so_far.none k (omega (arith, low)));
-  quiet = λ k x low at. elim (set_cases now.chunks place new k x at) [
-    | inl here ↦ subst (λ (y : ChunkIs). least_left (past c.group.number h.packets so_far.passed) (chunk_of y.group) ≡ None) here.1
-        (h.ends so_far.passed (none_own limit old before place left out now so_far c there (Some n) put new h))
+  rest = λ k low. set_elsewhere now.chunks place k new (λ e. omega (arith, low, e)) ∙ so_far.rest k (omega (arith, low));
+  quiet = λ halts k x low at. elim (set_cases now.chunks place new k x at) [
+    | inl here ↦ subst (λ (y : ChunkIs). least_left (past c.group.number h.packets so_far.passed) (chunk_of halts y.group) ≡ None) here.1
+        (h.ends halts so_far.passed (none_own limit old before place left out now so_far c there (Some n) put new h))
     | inr elsewhere ↦
         let is = so_far.is_world.each k x elsewhere.1 in
-        past_elsewhere c.group.number h.packets so_far.passed (chunk_of x.group) (λ e. elsewhere.0 (sym is.number ∙ e ∙ number))
-        ∙ so_far.quiet k x (omega (arith, low, elsewhere.0)) elsewhere.1
+        past_elsewhere c.group.number h.packets so_far.passed (chunk_of halts x.group) (λ e. elsewhere.0 (sym is.number ∙ e ∙ number))
+        ∙ so_far.quiet halts k x (omega (arith, low, elsewhere.0)) elsewhere.1
   ];
   run = along limit old before place left out now so_far c there (Some n) put new h;
 }
@@ -226,18 +229,18 @@ world_quiet limit old before place left out now so_far c there n put new h = rec
     number = numbered limit old before place left out now so_far c there
 
 -- the end of the run's settling
-settled_is : (halts : List Halt) (limit : ℕ) (w : World) → settled halts limit w ≡ settle_to (enough_tries limit) halts limit [] w
+pub settled_is : (halts : List Halt) (limit : ℕ) (w : World) → settled halts limit w ≡ settle_to (enough_tries limit) halts limit [] w
 unfolding settled
 settled_is halts limit w = refl
 
-few_chunks : (w : WorldIs) → IsWorld w → length w.chunks ≤ 8
+pub few_chunks : (w : WorldIs) → IsWorld w → length w.chunks ≤ 8
 few_chunks w is = leb-true (length w.chunks) 8 (and_parts _ _ (and_parts _ _ (and_parts _ _ (and_parts _ _ (and_parts _ _ (and_parts _ _ is.volume).0).0).0).0).0).1
 
 at_end : (halts : List Halt) (limit : ℕ) (old new : WorldIs) (text : List ℕ) (tries left : ℕ) (passed : List Name) (stopped : Bool) (next : Option Next) →
     tries ≤ limit + 8 * 65536 →
-    ((more : ℕ) → settle_to (tries + more) halts limit [] (stands_at old) ≡ after_text text (settle_to more halts left passed (stands_at new))) →
-    next_of passed (stands_at new).chunks ≡ next →
-    ((more : _) → settle_next halts next more left passed (stands_at new) ≡ ends stopped left passed (stands_at new)) →
+    ((more : ℕ) → settle_to (tries + more) halts limit [] (stands_at halts old) ≡ after_text text (settle_to more halts left passed (stands_at halts new))) →
+    next_of passed (stands_at halts new).chunks ≡ next →
+    ((more : _) → settle_next halts next more left passed (stands_at halts new) ≡ ends stopped left passed (stands_at halts new)) →
     IsEnd stopped left next →
     IsSettled halts limit old stopped text new
 at_end halts limit old new text tries left passed stopped next few run is ending end = record {
@@ -250,18 +253,18 @@ at_end halts limit old new text tries left passed stopped next few run is ending
     count : enough_tries limit ≡ tries + suc ((limit + 8 * most_packets) - tries)
     count = omega (arith, few, most_is)
 
-    whole : settled halts limit (stands_at old) ≡ record { world = stands_at new; text = text; stopped = stopped; spare = left; passed = passed }
+    whole : settled halts limit (stands_at halts old) ≡ record { world = stands_at halts new; text = text; stopped = stopped; spare = left; passed = passed }
     whole =
         let m = (limit + 8 * most_packets) - tries in
-        settled_is halts limit (stands_at old)
-        ∙ ap (λ n. settle_to n halts limit [] (stands_at old)) count
+        settled_is halts limit (stands_at halts old)
+        ∙ ap (λ n. settle_to n halts limit [] (stands_at halts old)) count
         ∙ run (suc m)
-        ∙ ap (after_text text) (settle_suc m halts left passed (stands_at new) ∙ ap (λ o. settle_next halts o (settle_to m halts) left passed (stands_at new)) is ∙ ending (settle_to m halts))
-        ∙ ap (λ t. record (ends stopped left passed (stands_at new)) { text = t }) (append-nil text)
+        ∙ ap (after_text text) (settle_suc m halts left passed (stands_at halts new) ∙ ap (λ o. settle_next halts o (settle_to m halts) left passed (stands_at halts new)) is ∙ ending (settle_to m halts))
+        ∙ ap (λ t. record (ends stopped left passed (stands_at halts new)) { text = t }) (append-nil text)
 
-none_next : (passed : List Name) (cs : List ChunkIs) → Every (λ c. least_left passed (chunk_of c.group) ≡ None) cs → next_of passed (map (λ c. chunk_of c.group) cs) ≡ None
-none_next passed [] quiet = refl
-none_next passed (c ∷ cs) quiet = ap (λ o. next_in (chunk_of c.group) o (next_of passed (map (λ c. chunk_of c.group) cs))) quiet.0 ∙ none_next passed cs quiet.1
+none_next : (halts : List Halt) (passed : List Name) (cs : List ChunkIs) → Every (λ c. least_left passed (chunk_of halts c.group) ≡ None) cs → next_of passed (map (λ c. chunk_of halts c.group) cs) ≡ None
+none_next halts passed [] quiet = refl
+none_next halts passed (c ∷ cs) quiet = ap (λ o. next_in (chunk_of halts c.group) o (next_of passed (map (λ c. chunk_of halts c.group) cs))) quiet.0 ∙ none_next halts passed cs quiet.1
 
 -- every chunk is quiet
 pub all_quiet : (limit : ℕ) (old : WorldIs) (before : List ℕ) (place left : ℕ) (out : List ℕ) (now : WorldIs) → WorldSoFar limit old before place left out now → length now.chunks ≤ place → place ≤ length now.chunks → HasSettled limit old before false out now
@@ -271,7 +274,7 @@ all_quiet limit old before place left out now so_far all within = record {
   text = so_far.text;
   put = so_far.put;
   run = λ halts tells. at_end halts limit old now so_far.text so_far.tries left so_far.passed false None (omega (arith, so_far.few, within, few_chunks now so_far.is_world)) (so_far.run halts tells)
-      (none_next so_far.passed now.chunks (every_place (λ (c : ChunkIs). least_left so_far.passed (chunk_of c.group) ≡ None) now.chunks (λ k c there. so_far.quiet k c (omega (arith, all, slice_get_within now.chunks k c there)) there)))
+      (none_next halts so_far.passed now.chunks (every_place (λ (c : ChunkIs). least_left so_far.passed (chunk_of halts c.group) ≡ None) now.chunks (λ k c there. so_far.quiet halts k c (omega (arith, all, slice_get_within now.chunks k c there)) there)))
       (λ more. refl) tt;
 }
 
@@ -286,16 +289,16 @@ world_stopped limit old before place left out now so_far c there put new h = rec
   goes_on = chunk_goes_on old now so_far.goes_on place c new there h.grown;
   text = so_far.text ++ h.text;
   put = put_all limit old before place left out now so_far c there None put new h;
-  run = λ halts tells. at_end halts limit old (with_is now place new) (so_far.text ++ h.text) (so_far.tries + h.tries) 0 (past c.group.number h.packets so_far.passed) true (Some (record { chunk = chunk_of new.group; packet = packet.0 }))
+  run = λ halts tells. at_end halts limit old (with_is now place new) (so_far.text ++ h.text) (so_far.tries + h.tries) 0 (past c.group.number h.packets so_far.passed) true (Some (record { chunk = chunk_of halts new.group; packet = (packet halts).0 }))
       (omega (arith, so_far.few, h.few, most_is, slice_get_within now.chunks place c there, few_chunks now so_far.is_world))
       (along limit old before place left out now so_far c there None put new h halts tells)
-      (ap (λ (w : World). next_of (past c.group.number h.packets so_far.passed) w.chunks) (stands_around limit old before place left out now so_far c there around_it new)
-      ∙ next_is c.group.number h.packets so_far.passed (map run_of around_it.before) (map run_of around_it.after) (chunk_of new.group) packet.0 (turn limit old before place left out now so_far c there around_it) packet.1)
+      (ap (λ (w : World). next_of (past c.group.number h.packets so_far.passed) w.chunks) (stands_around limit old before place left out now so_far c there halts around_it new)
+      ∙ next_is c.group.number h.packets so_far.passed (map (run_of halts) around_it.before) (map (run_of halts) around_it.after) (chunk_of halts new.group) (packet halts).0 (turn limit old before place left out now so_far c there halts around_it) (packet halts).1)
       (λ more. refl) refl;
 }
   where
     around_it : IsAround now.chunks place c
     around_it = around now.chunks place c there
 
-    packet : (k : ℕ) × (least_left (past c.group.number h.packets so_far.passed) (chunk_of new.group) ≡ Some k)
-    packet = something _ (h.ends so_far.passed (none_own limit old before place left out now so_far c there None put new h))
+    packet : (halts : List Halt) → (k : ℕ) × (least_left (past c.group.number h.packets so_far.passed) (chunk_of halts new.group) ≡ Some k)
+    packet halts = something _ (h.ends halts so_far.passed (none_own limit old before place left out now so_far c there None put new h))

@@ -1,17 +1,21 @@
--- The halts of all groups of a world tell of it.
-use Rattle.std.proofs.Common.{◌≡◌, ℕ, List, map, Some, slice_get, sym, subst}
+-- The halts of all groups of a world tell of it, and every run that leads to it is lawful.
+use Rattle.std.proofs.Common.{◌≡◌, ℕ, ◌<◌, List, map, Some, slice_get, sym, subst}
 use Rattle.std.specs.List.{flat_map}
+use Rattle.pf_entry.specs.Lists.{Every}
 use Rattle.pf_cluster.proofs.Alone.{get_mapped}
 use Rattle.pf_chunk.proofs.Members.{mapped_get}
 use Rattle.pf_protocol.specs.Answers.{IsLegal}
 use Rattle.pf_group.specs.GroupIs.{GroupIs}
+use Rattle.pf_group.proofs.Sound.{sound}
 use Rattle.pf_rounds.specs.Halts.{Halt}
+use Rattle.pf_rounds.specs.Agreeing.{chunk_of, told_history}
 use Rattle.pf_rounds.specs.Telling.{halts_of_group}
 use Rattle.pf_rounds.proofs.Several.{tells_of_all}
+use Rattle.pf_rounds.proofs.Told.{told_legal, told_replays}
 use Rattle.pf_chunk.specs.Views.{ChunkIs}
 use Rattle.pf_world.specs.Agreeing.{Tells}
-use Rattle.pf_world.specs.Headline.{IsSafeWorld, IsSoundWorld}
-use Rattle.pf_world.specs.Views.{IsWorld, WorldIs}
+use Rattle.pf_world.specs.Headline.{IsLawful, IsLawfulRun, IsSafeRun, IsSoundWorld}
+use Rattle.pf_world.specs.Views.{WorldIs, stands_at}
 
 abbrev pub groups_of : List ChunkIs → List GroupIs
 groups_of chunks = map (λ c. c.group) chunks
@@ -20,17 +24,35 @@ groups_of chunks = map (λ c. c.group) chunks
 abbrev pub world_halts : WorldIs → List Halt
 world_halts w = flat_map halts_of_group (groups_of w.chunks)
 
-abbrev Numbered : ℕ → GroupIs → Type 0
-Numbered k g = (g.number ≡ k) × IsLegal g.setup g.history
+-- the groups have their own numbers, and could be formatted but for some of three servers
+abbrev pub AreNumbered : WorldIs → Type 0
+AreNumbered w = (k : ℕ) (c : ChunkIs) → slice_get w.chunks k ≡ Some c → (c.group.number ≡ k) × Every (λ i. i < 3) c.group.setup.failed
 
-module _ (w : WorldIs) (is : IsWorld w) (sound : IsSoundWorld w) where
+abbrev Numbered : ℕ → GroupIs → Type 0
+Numbered k g = (g.number ≡ k) × Every (λ i. i < 3) g.setup.failed × IsLegal g.setup g.history
+
+module _ (w : WorldIs) (is : AreNumbered w) (legal : IsSoundWorld w) where
   numbered : (k : ℕ) (g : GroupIs) → slice_get (groups_of w.chunks) k ≡ Some g → Numbered k g
   numbered k g there =
       let at = get_mapped (λ (c : ChunkIs). c.group) w.chunks k g there in
-      subst (Numbered k) (sym at.2) ((is.each k at.0 at.1).number, (sound k at.0 at.1).legal)
+      let own = is k at.0 at.1 in
+      subst (Numbered k) (sym at.2) (own.0, own.1, (legal k at.0 at.1).legal)
 
   pub all_tell : Tells (world_halts w) w
   all_tell k c there = tells_of_all (groups_of w.chunks) numbered k c.group (mapped_get (λ (x : ChunkIs). x.group) w.chunks k c there)
 
-pub safe_world : (w : WorldIs) → IsSoundWorld w → IsSafeWorld w
-safe_world w sound k c there = (sound k c there).sound.safe
+-- the histories of a run are those of the groups, but for what a restart finds where there is nothing to be found
+module _ (halts : List Halt) (w : WorldIs) (tells : Tells halts w) (legal : IsSoundWorld w) where
+  pub lawful_run : IsLawfulRun (stands_at halts w)
+  lawful_run k c there =
+      let at = get_mapped (λ (d : ChunkIs). chunk_of halts d.group) w.chunks k c there in
+      let g = at.0.group in
+      let told = tells k at.0 at.1 in
+      subst IsLawful (sym at.2) (record {
+        stands = sym (told_replays halts g told);
+        legal = told_legal halts g told (legal k at.0 at.1).legal;
+        sound = sound g.setup (told_history halts g);
+      })
+
+  pub safe_run : IsSafeRun (stands_at halts w)
+  safe_run k c there = (lawful_run k c there).sound.safe

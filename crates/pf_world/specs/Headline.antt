@@ -1,31 +1,46 @@
 -- What holds of every world that a script leads to.
-use Rattle.std.specs.Prelude.{◌≡◌, ◌⊎◌, ℕ, ◌+◌, ◌-◌, ◌*◌, ◌^◌, ◌<◌, ◌≤◌, List, Some, slice_get}
+use Rattle.std.specs.Prelude.{◌≡◌, ◌⊎◌, ℕ, ◌+◌, ◌-◌, ◌*◌, ◌^◌, ◌<◌, ◌≤◌, List, [], ◌∷◌, length, Some, slice_get}
 use Rattle.pf_entry.specs.Lists.{Every}
 use Rattle.pf_protocol.specs.Answers.{IsLegal}
 use Rattle.pf_protocol.specs.Safety.{IsSafe}
+use Rattle.pf_protocol.specs.Histories.{replay}
+use Rattle.pf_group.specs.GroupIs.{GroupIs}
 use Rattle.pf_group.specs.Sound.{IsSound}
-use Rattle.pf_rounds.specs.Halts.{Halt}
+use Rattle.pf_rounds.specs.Halts.{At, Halt, Making, Place}
+use Rattle.pf_rounds.specs.Chunks.{Chunk}
 use Rattle.pf_rounds.specs.Growing.{IsLast}
 use Rattle.pf_rounds.specs.Telling.{halts_at}
 use Rattle.pf_chunk.specs.Views.{ChunkIs}
 use Rattle.pf_world.specs.declared.line.Line.{Line}
+use Rattle.pf_world.specs.Worlds.{World, no_world}
+use Rattle.pf_world.specs.Lines.{line_told}
+use Rattle.pf_world.specs.Steps.{Ends}
 use Rattle.pf_world.specs.Reports.{world_run}
 use Rattle.pf_world.specs.Views.{WorldIs, stands_at}
 use Rattle.pf_world.specs.Agreeing.{Tells}
 
--- At every moment of every group: no two servers hold different committed ops in one slot; each server's sectors are its applied ops in
--- the order of their slots; and each acknowledged write is committed in the log of each later leader, or under its checkpoint.
-abbrev pub IsSafeWorld : WorldIs → Type 0
-IsSafeWorld w = (k : ℕ) (c : ChunkIs) → slice_get w.chunks k ≡ Some c → IsSafe c.group.setup c.group.history
+-- At every moment of every group of the run: no two servers hold different committed ops in one slot; each server's sectors are its applied
+-- ops in the order of their slots; and each acknowledged write is committed in the log of each later leader, or under its checkpoint.
+abbrev pub IsSafeRun : World → Type 0
+IsSafeRun w = (k : ℕ) (c : Chunk) → slice_get w.chunks k ≡ Some c → IsSafe c.setup c.history
 
--- a legal history, of which every law holds
-pub record IsLawful (c : ChunkIs) : Type 0 where
-  pub legal : IsLegal c.group.setup c.group.history
-  pub sound : IsSound c.group.setup c.group.history
+-- the group of a run stands where its history leads; the history is legal, and every law holds of it
+pub record IsLawful (c : Chunk) : Type 0 where
+  pub stands : c.state ≡ replay c.setup c.history
+  pub legal : IsLegal c.setup c.history
+  pub sound : IsSound c.setup c.history
+
+abbrev pub IsLawfulRun : World → Type 0
+IsLawfulRun w = (k : ℕ) (c : Chunk) → slice_get w.chunks k ≡ Some c → IsLawful c
+
+-- the same of the histories that the groups of a world keep
+pub record IsLawfulGroup (g : GroupIs) : Type 0 where
+  pub legal : IsLegal g.setup g.history
+  pub sound : IsSound g.setup g.history
 
 -- which a world keeps from line to line
 abbrev pub IsSoundWorld : WorldIs → Type 0
-IsSoundWorld w = (k : ℕ) (c : ChunkIs) → slice_get w.chunks k ≡ Some c → IsLawful c
+IsSoundWorld w = (k : ℕ) (c : ChunkIs) → slice_get w.chunks k ≡ Some c → IsLawfulGroup c.group
 
 -- two disks failed at least so often
 abbrev pub FailedTimes : (n : ℕ) → (was is : ℕ × ℕ) → Type 0
@@ -56,12 +71,34 @@ module _ {D : Type 0} (faults : D → ℕ) where
   abbrev pub AreFaultless : (before after : List D) → Type 0
   AreFaultless before after = (place : ℕ) (was is : D) → slice_get before place ≡ Some was → slice_get after place ≡ Some is → (faults is ≡ faults was) × (faults was < 2 ^ 64 - 1)
 
--- under every list of halts that tells of the world, the run of these lines leads to it and writes this text
-abbrev pub RunsTo : List Line → (text : List ℕ) → WorldIs → Type 0
-RunsTo lines text w = (halts : List Halt) → Tells halts w → world_run halts lines ≡ record { world = stands_at w; text = text }
+-- each settling of these lines ends by itself, and not since its tries were counted
+abbrev pub EndEach : List Halt → World → List Line → Type 0
+EndEach halts w [] = Unit {0}
+EndEach halts w (line ∷ lines) = Ends halts w line.command × EndEach halts (line_told halts w line.number line.command).world lines
 
--- A list of halts that tells of the world, each of which has its cause. Where no disk failed it is empty, and the run is a function of the
--- lines alone.
+-- the run of these lines leads to the world and writes this text
+pub record IsRunTo (halts : List Halt) (lines : List Line) (text : List ℕ) (w : WorldIs) : Type 0 where
+  pub run : world_run halts lines ≡ record { world = stands_at halts w; text = text }
+  pub ends : EndEach halts no_world lines
+
+-- under every list of halts that tells of the world
+abbrev pub RunsTo : List Line → (text : List ℕ) → WorldIs → Type 0
+RunsTo lines text w = (halts : List Halt) → Tells halts w → IsRunTo halts lines text w
+
+-- the making of the group, or an event of its history
+abbrev pub IsPlaceOf : GroupIs → Place → Type 0
+IsPlaceOf g Making = Unit {0}
+IsPlaceOf g (At place) = place < length g.history
+
+-- the halt is of a group of the world
+pub record StandsIn (w : WorldIs) (h : Halt) : Type 0 where
+  pub chunk : ChunkIs
+  pub there : slice_get w.chunks h.group ≡ Some chunk
+  pub place : IsPlaceOf chunk.group h.place
+
+-- A list of halts that tells of the world and has none of anything else; each has its cause. Where no disk failed it is empty, and the run
+-- is a function of the lines alone.
 pub record AreHalts {D : Type 0} (faults : D → ℕ) (halts : List Halt) (before after : List D) (w : WorldIs) : Type 0 where
   pub tells : Tells halts w
+  pub within : Every (StandsIn w) halts
   pub causes : AreCaused faults halts before after

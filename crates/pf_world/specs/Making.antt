@@ -1,5 +1,5 @@
 -- How the chunks of a world are made.
-use Rattle.std.specs.Prelude.{◌≡◌, ℕ, ◌*◌, ◌<◌, List, [], ◌∷◌, ◌++◌, Some, length, slice_get, take}
+use Rattle.std.specs.Prelude.{◌≡◌, ℕ, ◌*◌, ◌<◌, ◌≤◌, List, [], ◌∷◌, ◌++◌, Some, length, slice_get, take}
 use Rattle.std.specs.List.{flat_map}
 use Rattle.pf_entry.specs.Lists.{Every}
 use Rattle.pf_protocol.specs.declared.answers.Answer.{Answer}
@@ -33,6 +33,14 @@ module _ {D : Type 0} (faults : D → ℕ) where
     pub history : c.group.history ≡ []
     pub paid : IsPaidSince (groups.six_faults faults six) c.group
     pub few : Every (λ i. i < 3) c.group.setup.failed
+
+  -- Some first chunks of a volume were made, each on its six of these disks, with their own numbers and those of the volume.
+  pub record AreBegun (chunks sectors names format : ℕ) (disks : List D) (made : List ChunkIs) : Type 0 where
+    pub few : length made ≤ chunks
+    pub sixes : List (Six D)
+    pub given : take (6 * length made) disks ≡ flat_map six_list sixes
+    pub each : (k : ℕ) (c : ChunkIs) → slice_get made k ≡ Some c → IsNew sixes k c
+    pub numbers : (k : ℕ) (c : ChunkIs) → slice_get made k ≡ Some c → (c.group.number ≡ k) × (c.group.setup ≡ groups.setup_with sectors names format c.group.setup.failed)
 
   -- the chunks are new, each on its six of these disks
   pub record AreNew (disks : List D) (w : WorldIs) : Type 0 where

@@ -1,11 +1,12 @@
 -- What the settling of a world comes to, and that of one of its chunks.
-use Rattle.std.specs.Prelude.{◌≡◌, ◌≢◌, ℕ, ◌+◌, ◌≤◌, Bool, false, IsSome, List, [], ◌∷◌, ◌++◌, length, Option, Some, None, unwrap_or}
+use Rattle.std.specs.Prelude.{◌≡◌, ◌≢◌, ℕ, suc, ◌+◌, ◌≤◌, Bool, false, IsSome, List, [], ◌∷◌, ◌++◌, length, Option, Some, None, unwrap_or}
 use Rattle.pf_entry.specs.Lists.{Every}
 use Rattle.pf_protocol.specs.Answers.{most_packets}
 use Rattle.pf_group.specs.GroupIs.{GroupIs}
 use Rattle.pf_rounds.specs.Halts.{Halt}
 use Rattle.pf_rounds.specs.Chunks.{Chunk}
 use Rattle.pf_rounds.specs.Agreeing.{TellsOfGroup, chunk_of}
+use Rattle.pf_rounds.specs.Begun.{HasBegun}
 use Rattle.pf_rounds.specs.Growing.{HasGrown}
 use Rattle.pf_chunk.specs.Views.{ChunkIs, IsReady}
 use Rattle.pf_world.specs.Worlds.{World}
@@ -18,8 +19,8 @@ use Rattle.pf_world.specs.Steps.{GoesOn}
 pub record IsSettled (halts : List Halt) (limit : ℕ) (old : WorldIs) (stopped : Bool) (text : List ℕ) (new : WorldIs) : Type 0 where
   pub spare : ℕ
   pub passed : List Name
-  pub run : settled halts limit (stands_at old) ≡ record { world = stands_at new; text = text; stopped = stopped; spare = spare; passed = passed }
-  pub ended : HasEnded (settled halts limit (stands_at old))
+  pub run : settled halts limit (stands_at halts old) ≡ record { world = stands_at halts new; text = text; stopped = stopped; spare = spare; passed = passed }
+  pub ended : HasEnded (settled halts limit (stands_at halts old))
 
 -- the settling of the run, under every list of halts that tells of the world afterwards
 pub record HasSettled (limit : ℕ) (old : WorldIs) (before : List ℕ) (stopped : Bool) (after : List ℕ) (new : WorldIs) : Type 0 where
@@ -53,8 +54,8 @@ pub record IsTurnOf (chunk : ℕ) (passed : List Name) (before : List Chunk) : T
 abbrev pub Tries : (tries limit : ℕ) → (old : GroupIs) → (text : List ℕ) → (left : ℕ) → (packets : List ℕ) → (new : GroupIs) → Type 0
 Tries tries limit old text left packets new =
     (halts : List Halt) → TellsOfGroup halts new → (passed : List Name) (before after : List Chunk) → IsTurnOf old.number passed before → (more : ℕ) →
-    settle_to (tries + more) halts limit passed (world_around before (chunk_of old) after)
-    ≡ after_text text (settle_to more halts left (past old.number packets passed) (world_around before (chunk_of new) after))
+    settle_to (tries + more) halts limit passed (world_around before (chunk_of halts old) after)
+    ≡ after_text text (settle_to more halts left (past old.number packets passed) (world_around before (chunk_of halts new) after))
 
 -- quiet with so many deliveries left, or none where one is and a packet too
 abbrev pub IsLeast : (left : Option ℕ) → Option ℕ → Type 0
@@ -71,4 +72,24 @@ pub record HasSettledChunk (limit : ℕ) (old : ChunkIs) (before : List ℕ) (le
   pub put : after ≡ before ++ text
   pub packets : List ℕ
   pub run : Tries tries limit old.group text (unwrap_or left 0) packets new.group
-  pub ends : (passed : List Name) → NoneOf old.group.number passed → IsLeast left (least_left (past old.group.number packets passed) (chunk_of new.group))
+  pub ends : (halts : List Halt) (passed : List Name) → NoneOf old.group.number passed → IsLeast left (least_left (past old.group.number packets passed) (chunk_of halts new.group))
+
+-- the chunks have the numbers of their places, from n on
+abbrev pub AreInPlace : ℕ → List Chunk → Type 0
+AreInPlace n [] = Unit {0}
+AreInPlace n (c ∷ cs) = (c.number ≡ n) × AreInPlace (suc n) cs
+
+-- behind the first of these chunks of a run stands one of which the group has a beginning
+pub record HasBegunBehind (halts : List Halt) (old : GroupIs) (before chunks : List Chunk) (new : GroupIs) : Type 0 where
+  pub chunk : Chunk
+  pub rest : List Chunk
+  pub whole : chunks ≡ before ++ chunk ∷ rest
+  pub begun : HasBegun halts old chunk new
+
+-- there was no memory for the whole of it: in its turn the chunk stands at a beginning of so many tries and one more, whatever follows
+pub record HasFailedChunk (limit : ℕ) (old new : GroupIs) : Type 0 where
+  pub grown : HasGrown old new
+  pub tries : ℕ
+  pub few : tries ≤ limit + most_packets
+  pub begun : (halts : List Halt) → TellsOfGroup halts new → (passed : List Name) (before after : List Chunk) → IsTurnOf old.number passed before → AreInPlace (length before) (chunk_of halts old ∷ after) → (more : ℕ)
+      → HasBegunBehind halts old before (settle_to (tries + suc more) halts limit passed (world_around before (chunk_of halts old) after)).world.chunks new

@@ -2,6 +2,7 @@
 use Rattle.std.specs.Prelude.{◌≡◌, ℕ, true, List, length, map, Some, slice_get}
 use Rattle.pf_script.specs.Lines.{is_volume}
 use Rattle.pf_group.specs.Making.{setup_with}
+use Rattle.pf_rounds.specs.Halts.{Halt}
 use Rattle.pf_rounds.specs.Agreeing.{chunk_of}
 use Rattle.pf_chunk.specs.Views.{ChunkIs, IsReady}
 use Rattle.pf_world.specs.Worlds.{World}
@@ -14,8 +15,8 @@ pub record WorldIs : Type 0 where
   pub chunks : List ChunkIs
 
 -- where a run stands that came to this world
-abbrev pub stands_at : WorldIs → World
-stands_at w = record { chunks = map (λ c. chunk_of c.group) w.chunks }
+abbrev pub stands_at : List Halt → WorldIs → World
+stands_at halts w = record { chunks = map (λ c. chunk_of halts c.group) w.chunks }
 
 -- chunk k between two lines is of this volume
 pub record IsChunkOf (w : WorldIs) (k : ℕ) (c : ChunkIs) : Type 0 where

@@ -1,9 +1,9 @@
 //! The lines of a script.
-ghost use Rattle.std.specs.Prelude.{◌≡◌, ◌<◌, ◌≤◌, IfOk, OnErr, OnOk, Some, length, slice_get};
+ghost use Rattle.std.specs.Prelude.{◌≡◌, ◌<◌, ◌≤◌, ℕ, IfOk, OnErr, OnOk, Some, length, slice_get};
 ghost use Rattle.pf_script.specs.declared.command.Command.TheVariants.{Settle};
 ghost use Rattle.pf_world.specs.Asked.{Asked, IsShow, asked_of};
 ghost use Rattle.pf_world.specs.Headline.{IsSoundWorld};
-ghost use Rattle.pf_world.specs.Steps.{GoesOn, HasRun, MayRun};
+ghost use Rattle.pf_world.specs.Steps.{HasFailed, HasRun, MayRun};
 ghost use Rattle.pf_world.specs.Views.{IsWorld};
 
 use crate::World;
@@ -39,8 +39,8 @@ impl<D: Disk + Drop> World<D> {
     /// One line of a script, with its number and its command, which is no volume and whose numbers are in their ranges. A line for each
     /// read that it answered, and then its own line, are put at the end of `out`.
     ///
-    /// A packet that a settling passed over is left again from the next line on. After `NoMemory` (1) the world stands after its last
-    /// whole step, and only `close` may be called.
+    /// A packet that a settling passed over is left again from the next line on. After `NoMemory` (1) the world stands in the middle of
+    /// the line, and only `close` may be called.
     pub fn line<R: Threads + Sync, G: Gate + Sync>(
         &mut self,
         rt: &R,
@@ -53,13 +53,13 @@ impl<D: Disk + Drop> World<D> {
         requires world { IsWorld self.old.world }
         requires command { MayRun (length self.old.world.chunks) command.now }
         ensures ran { OnOk result (HasRun self.old.world number command.now out.old.items out.new.items self.new.world) }
-        ensures err { OnErr result (GoesOn self.old.world self.new.world) }
+        ensures err { OnErr result (HasFailed self.old.world number command.now self.new.world) }
         ensures spare { self.new.spare ≡ self.old.spare }
-        ensures sound { OnOk result (IsSoundWorld self.new.world) }
+        ensures sound { IsSoundWorld self.new.world }
     {
-        self.run(rt, alloc, number, command, gate, out)?;
+        let done = self.run(rt, alloc, number, command, gate, out);
         self.laws();
-        Ok(())
+        done
     }
 
     /// The same, but for the laws.
@@ -75,7 +75,7 @@ impl<D: Disk + Drop> World<D> {
         requires world { IsWorld self.old.world }
         requires command { MayRun (length self.old.world.chunks) command.now }
         ensures ran { OnOk result (HasRun self.old.world number command.now out.old.items out.new.items self.new.world) }
-        ensures err { OnErr result (GoesOn self.old.world self.new.world) }
+        ensures err { OnErr result (HasFailed self.old.world number command.now self.new.world) }
         ensures spare { self.new.spare ≡ self.old.spare }
     {
         match self.ask(rt, alloc, *command, gate, out)? {
@@ -100,7 +100,7 @@ impl<D: Disk + Drop> World<D> {
         requires world { IsWorld self.old.world }
         requires limit { limit ≤ 1000000 }
         ensures ran { OnOk result (HasRun self.old.world number (Settle limit) out.old.items out.new.items self.new.world) }
-        ensures err { OnErr result (GoesOn self.old.world self.new.world) }
+        ensures err { OnErr result (HasFailed self.old.world number (Settle limit) self.new.world) }
         ensures spare { self.new.spare ≡ self.old.spare }
     {
         let stopped = self.settle(rt, alloc, limit, gate, out)?;
@@ -119,7 +119,7 @@ impl<D: Disk + Drop> World<D> {
         requires world { IsWorld self.old.world }
         requires command { MayRun (length self.old.world.chunks) command }
         ensures asked { IfOk result (λ answer. Asked command self.old.world out.old.items answer out.new.items self.new.world) }
-        ensures err { OnErr result (GoesOn self.old.world self.new.world) }
+        ensures err { OnErr result ((number : ℕ) → HasFailed self.old.world number command self.new.world) }
         ensures spare { self.new.spare ≡ self.old.spare }
     {
         let workers = self.workers;
@@ -163,7 +163,8 @@ impl<D: Disk + Drop> World<D> {
         requires world { IsWorld self.now.world }
         requires command { MayRun (length self.now.world.chunks) command }
         requires shows { IsShow command }
-        ensures { OnOk result (HasRun self.now.world number command out.old.items out.new.items self.now.world) }
+        ensures ran { OnOk result (HasRun self.now.world number command out.old.items out.new.items self.now.world) }
+        ensures err { OnErr result (HasFailed self.now.world number command self.now.world) }
     {
         match command {
             Command::ShowLog { group, server } => self.chunk(group).show_log(number, server, out),

@@ -5,7 +5,7 @@ ghost use Rattle.pf_protocol.specs.Answers.{IsSetup};
 ghost use Rattle.pf_group.specs.Making.{setup_with};
 ghost use Rattle.pf_chunk.specs.Views.{ChunkIs};
 ghost use Rattle.pf_world.specs.Disks.{AreLeft, AreTold};
-ghost use Rattle.pf_world.specs.Making.{AreNew, HasAdded, unless_done};
+ghost use Rattle.pf_world.specs.Making.{AreBegun, AreNew, HasAdded, unless_done};
 ghost use Rattle.pf_world.specs.Headline.{IsSoundWorld};
 ghost use Rattle.pf_world.specs.Steps.{IsMade};
 
@@ -32,7 +32,8 @@ impl<D: Disk + Drop> World<D> {
     /// disks of the given format. Disk 6g + 2i + h is half h of server i of chunk g; there are enough, and each tells its content. Sectors are copied on at
     /// most `workers` threads, 1 to 8. `Done`, or `Halted` (52) where a disk failed while it was formatted.
     ///
-    /// `NoMemory` (1) gives the disks back in their order, those of the chunks that were made with what these left on them.
+    /// `NoMemory` (1) gives the disks back in their order, those of the first chunks, which were made, with what these left on them, and the
+    /// others as they were.
     pub fn new(
         alloc: Global,
         chunks: u32,
@@ -50,7 +51,7 @@ impl<D: Disk + Drop> World<D> {
         ensures sound { IfOk result (λ made. IsSoundWorld made.0.world) }
         ensures fresh { IfOk result (λ made. AreNew D.faults disks.items made.0.world) }
         ensures spare { IfOk result (λ made. made.0.spare ≡ drop (6 * chunks) disks.items) }
-        ensures back { IfErr result (λ back. (made : List ChunkIs) × AreLeft D.seen D.may_leave D.faults made disks.items back.0.items) }
+        ensures back { IfErr result (λ back. (made : List ChunkIs) × AreBegun D.faults chunks sectors names format disks.items made × AreLeft D.seen D.may_leave D.faults made disks.items back.0.items) }
     {
         let mut spare = disks;
         spare.reverse();

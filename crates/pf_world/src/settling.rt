@@ -1,9 +1,9 @@
 //! Packets are delivered until none is left.
-ghost use Rattle.std.specs.Prelude.{◌≡◌, ◌≤◌, IfOk, OnErr};
-ghost use Rattle.pf_rounds.specs.Growing.{HasGrown};
+ghost use Rattle.std.specs.Prelude.{◌≡◌, ◌≤◌, ℕ, IfOk, OnErr};
+ghost use Rattle.pf_script.specs.declared.command.Command.TheVariants.{Settle};
 ghost use Rattle.pf_chunk.specs.Views.{IsReady};
-ghost use Rattle.pf_world.specs.Settled.{HasSettled, HasSettledChunk};
-ghost use Rattle.pf_world.specs.Steps.{GoesOn};
+ghost use Rattle.pf_world.specs.Settled.{HasFailedChunk, HasSettled, HasSettledChunk};
+ghost use Rattle.pf_world.specs.Steps.{HasFailed};
 ghost use Rattle.pf_world.specs.Views.{IsWorld};
 
 use crate::World;
@@ -28,7 +28,7 @@ fn settle_chunk<D: Disk + Drop, R: Threads + Sync, G: Gate + Sync>(
     requires workers { (1 ≤ workers) × (workers ≤ 8) }
     requires ready { IsReady chunk.old }
     ensures settled { IfOk result (λ left. HasSettledChunk limit chunk.old out.old.items left out.new.items chunk.new) }
-    ensures err { OnErr result (HasGrown chunk.old.group chunk.new.group) }
+    ensures err { OnErr result (HasFailedChunk limit chunk.old.group chunk.new.group) }
 {
     chunk.begin_settling();
     let mut left = limit;
@@ -50,7 +50,7 @@ impl<D: Disk + Drop> World<D> {
     ///
     /// No delivery in one group sends a packet in another, so the groups are settled one after another.
     ///
-    /// After `NoMemory` (1) each group stands after its last whole step.
+    /// After `NoMemory` (1) the groups below one are settled, that one stands after its last whole step, and those above it are as they were.
     pub(crate) fn settle<R: Threads + Sync, G: Gate + Sync>(
         &mut self,
         rt: &R,
@@ -62,7 +62,7 @@ impl<D: Disk + Drop> World<D> {
         requires world { IsWorld self.old.world }
         requires limit { limit ≤ 1000000 }
         ensures settled { IfOk result (λ stopped. HasSettled limit self.old.world out.old.items stopped out.new.items self.new.world) }
-        ensures err { OnErr result (GoesOn self.old.world self.new.world) }
+        ensures err { OnErr result ((number : ℕ) → HasFailed self.old.world number (Settle limit) self.new.world) }
         ensures spare { self.new.spare ≡ self.old.spare }
     {
         let workers = self.workers;

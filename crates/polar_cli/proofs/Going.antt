@@ -1,5 +1,5 @@
 -- Lines that are run one after another.
-use Rattle.std.proofs.Common.{◌≡◌, ℕ, zero, suc, ◌+◌, ◌<◌, ◌≤◌, List, [], ◌∷◌, ◌++◌, length, take, drop, get_or, Option, refl, sym, subst, ◌∙◌, arith}
+use Rattle.std.proofs.Common.{◌≡◌, ℕ, zero, suc, ◌+◌, ◌<◌, ◌≤◌, List, [], ◌∷◌, ◌++◌, length, take, drop, get_or, Option, refl, sym, ap, subst, drop-cons, ◌∙◌, arith}
 use Rattle.std.specs.Io.KnownBytes.{Appends}
 use Rattle.std.proofs.lemmas.List.{take-append-drop, take_more}
 use Rattle.std.proofs.Math.ListN.{drop_of_length-le}
@@ -7,7 +7,7 @@ use Rattle.pf_entry.specs.Lists.{Every}
 use Rattle.pf_script.specs.declared.command.Command.TheVariants.{Volume}
 use Rattle.pf_world.specs.declared.line.Line.{Line}
 use Rattle.pf_world.specs.Headline.{IsSoundWorld, RunsTo}
-use Rattle.pf_world.specs.Steps.{GoesOn, HasRun, MayRun}
+use Rattle.pf_world.specs.Steps.{GoesOn, HasFailed, HasRun, MayRun}
 use Rattle.pf_world.specs.Views.{IsWorld, WorldIs}
 use Rattle.pf_world.proofs.Happening.{same_world}
 use Rattle.pf_world.proofs.Running.{goes_trans, run_goes_on}
@@ -48,20 +48,21 @@ gone_more volume lines i taken now later old w new out low gone ran sound put =
     }
 
 -- memory ran out in the next line
-pub gone_short : (volume : Line) (lines : List Line) (i : ℕ) (taken now : Option (List ℕ)) (full : Type 0) (old w new : WorldIs)
-    → HasGone volume (take i lines) taken now old w → GoesOn w new → HasGoneOn statuses.NoMemory volume lines taken now full old new
-gone_short volume lines i taken now full old w new gone on = record {
+pub gone_short : (volume : Line) (lines : List Line) (i : ℕ) (taken now : Option (List ℕ)) (full : Type 0) (old w new : WorldIs) → i < length lines
+    → HasGone volume (take i lines) taken now old w → HasFailed w (get_or lines i no_line).number (get_or lines i no_line).command new → IsSoundWorld new → HasGoneOn statuses.NoMemory volume lines taken now full old new
+gone_short volume lines i taken now full old w new low gone failed sound = record {
   done = take i lines;
-  rest = drop i lines;
-  first = take-append-drop i lines;
+  rest = get_or lines i no_line ∷ drop (suc i) lines;
+  first = ap (λ behind. take i lines ++ behind) (sym (drop-cons lines i no_line low)) ∙ take-append-drop i lines;
   text = gone.text;
   world = w;
   run = gone.run;
   is_world = gone.is_world;
   goes_on = gone.goes_on;
   lawful = gone.lawful;
-  leaves = on;
-  count = on.chunks ∙ gone.goes_on.chunks;
+  leaves = failed;
+  lawful_left = sound;
+  count = failed.goes_on.chunks ∙ gone.goes_on.chunks;
   wrote = gone.written;
 }
 
@@ -79,6 +80,7 @@ full_first volume lines text taken now full w run is_world sound rose front = re
   goes_on = same_world w;
   lawful = sound;
   leaves = refl;
+  lawful_left = sound;
   count = refl;
   wrote = (rose, front);
 }
@@ -101,6 +103,7 @@ full_later volume lines i taken now later full old w new out low gone ran sound 
       goes_on = goes_trans old w new gone.goes_on ran.runs.goes_on;
       lawful = sound;
       leaves = refl;
+      lawful_left = sound;
       count = ran.runs.goes_on.chunks ∙ gone.goes_on.chunks;
       wrote = (rose, front_after taken now later gone.text ran.text gone.written (subst (AppendsFront now later) ran.put front));
     }
@@ -119,6 +122,7 @@ gone_all volume lines i taken now full old w all gone = record {
   goes_on = gone.goes_on;
   lawful = gone.lawful;
   leaves = refl;
+  lawful_left = gone.lawful;
   count = gone.goes_on.chunks;
   wrote = (drop_of_length-le lines all, gone.written);
 }

@@ -1,5 +1,5 @@
 -- How each end of a run is told.
-use Rattle.std.proofs.Common.{◌≡◌, ℕ, true, false, cond, List, [], Option, Some, None, Ok, Err, is_ok, refl, ap, sym, subst, ◌∙◌}
+use Rattle.std.proofs.Common.{◌≡◌, ℕ, Bool, true, false, cond, List, [], ◌∷◌, Option, Some, None, Ok, Err, is_ok, refl, ap, sym, subst, ◌∙◌}
 use Rattle.std.specs.Prelude.{is_err, is_some}
 use Rattle.std.specs.Io.KnownBytes.{Appends}
 use Rattle.pf_disk.specs.Crashes.{Images}
@@ -14,8 +14,10 @@ use Rattle.polar_cli.specs.Ends.{AppendsFront}
 use Rattle.polar_cli.specs.Reports.{fault_text, judged_lines, judged_text, lines_for, usage_text, written_for}
 use Rattle.polar_cli.specs.Running.{HasRunLines, HasRunTo}
 use Rattle.polar_cli.specs.Outcomes.{Outcome, Refuses}
+use Rattle.polar_cli.specs.Placed.{IsWhole}
+use Rattle.polar_cli.proofs.Placing.{whole_script}
 use Rattle.polar_cli.proofs.Taken.{appends_none}
-use Rattle.polar_cli.proofs.Whole.{untouched}
+use Rattle.polar_cli.proofs.Whole.{Begins, first_is_volume, untouched}
 
 pub accepts : (words : List (List ℕ)) (workers : ℕ) → Some workers ≡ workers_of words → is_accepted words ≡ true
 accepts words workers is = sym (ap is_some is)
@@ -32,6 +34,16 @@ text_no words script text h = sym (ap (λ b. cond b (judged_text (script_of scri
 
 pub lines_yes : (words : List (List ℕ)) (script : List ℕ) (lines : List Line) → is_accepted words ≡ true → script_of script ≡ Ok lines → lines ≡ lines_for words script
 lines_yes words script lines good is = sym (ap (λ b. cond b (judged_lines (script_of script)) []) good ∙ ap judged_lines is)
+
+begin : (accepted : Bool) (judged : Judged) → ((lines : List Line) → judged ≡ Ok lines → IsWhole lines) → Begins (cond accepted (judged_lines judged) [])
+begin true (Ok []) whole = tt
+begin true (Ok (line ∷ lines)) whole = first_is_volume (line ∷ lines) line (whole (line ∷ lines) refl)
+begin true (Err refused) whole = tt
+begin false judged whole = tt
+
+-- the first line is a volume
+lines_begin : (words : List (List ℕ)) (script : List ℕ) → Begins (lines_for words script)
+lines_begin words script = begin (is_accepted words) (script_of script) (whole_script script)
 
 -- the script of a source, or any where it does not tell its bytes
 a_script : Option (List ℕ) → List ℕ
@@ -84,7 +96,7 @@ module _ {D : Type 0} (seen : D → Option (List ℕ)) (may_leave : D → Images
     source = s.source;
     behind = lines_for words s.script;
     text = [];
-    ran = untouched seen may_leave faults statuses.Script (lines_for words s.script) disks;
+    ran = untouched seen may_leave faults statuses.Script (lines_for words s.script) disks (lines_begin words s.script);
     ending = (good, ap is_err s.refused, subst (Appends taken now) (text_yes words s.script [] (Err (line, fault)) good s.refused) w, refl);
   }
   refused statuses.NoMemory disks line fault good s w = record {
@@ -92,7 +104,7 @@ module _ {D : Type 0} (seen : D → Option (List ℕ)) (may_leave : D → Images
     source = s.source;
     behind = lines_for words s.script;
     text = [];
-    ran = untouched seen may_leave faults statuses.NoMemory (lines_for words s.script) disks;
+    ran = untouched seen may_leave faults statuses.NoMemory (lines_for words s.script) disks (lines_begin words s.script);
     ending = (good, w);
   }
   refused statuses.WriteFault disks line fault good s w = record {
@@ -100,7 +112,7 @@ module _ {D : Type 0} (seen : D → Option (List ℕ)) (may_leave : D → Images
     source = s.source;
     behind = lines_for words s.script;
     text = [];
-    ran = untouched seen may_leave faults statuses.WriteFault (lines_for words s.script) disks;
+    ran = untouched seen may_leave faults statuses.WriteFault (lines_for words s.script) disks (lines_begin words s.script);
     ending = (w.0, subst (AppendsFront taken now) (text_yes words s.script [] (Err (line, fault)) good s.refused) w.1);
   }
   refused statuses.Usage disks line fault good s w = absurd w
@@ -114,7 +126,7 @@ module _ {D : Type 0} (seen : D → Option (List ℕ)) (may_leave : D → Images
     source = is_script left;
     behind = lines_for words (a_script left);
     text = [];
-    ran = untouched seen may_leave faults statuses.Usage (lines_for words (a_script left)) disks;
+    ran = untouched seen may_leave faults statuses.Usage (lines_for words (a_script left)) disks (lines_begin words (a_script left));
     ending = (bad, put, refl);
   }
 
@@ -124,7 +136,7 @@ module _ {D : Type 0} (seen : D → Option (List ℕ)) (may_leave : D → Images
     source = is_script left;
     behind = lines_for words (a_script left);
     text = [];
-    ran = untouched seen may_leave faults statuses.WriteFault (lines_for words (a_script left)) disks;
+    ran = untouched seen may_leave faults statuses.WriteFault (lines_for words (a_script left)) disks (lines_begin words (a_script left));
     ending = (rose, subst (AppendsFront taken now) (text_no words (a_script left) [] bad) front);
   }
 
@@ -136,7 +148,7 @@ module _ {D : Type 0} (seen : D → Option (List ℕ)) (may_leave : D → Images
     source = is_script left;
     behind = lines_for words (a_script left);
     text = [];
-    ran = untouched seen may_leave faults statuses.NoMemory (lines_for words (a_script left)) disks;
+    ran = untouched seen may_leave faults statuses.NoMemory (lines_for words (a_script left)) disks (lines_begin words (a_script left));
     ending = (good, appends_none taken);
   }
 
@@ -146,6 +158,6 @@ module _ {D : Type 0} (seen : D → Option (List ℕ)) (may_leave : D → Images
     source = is_script left;
     behind = lines_for words (a_script left);
     text = [];
-    ran = untouched seen may_leave faults statuses.ReadFault (lines_for words (a_script left)) disks;
+    ran = untouched seen may_leave faults statuses.ReadFault (lines_for words (a_script left)) disks (lines_begin words (a_script left));
     ending = (good, cause.0, cause.1, appends_none taken, refl);
   }

@@ -1,35 +1,30 @@
 -- The lines of a script are run on disks.
-use Rattle.std.proofs.Common.{◌≡◌, ℕ, ◌*◌, ◌<◌, ◌≤◌, true, List, [], ◌∷◌, length, drop, get_or, Option, Some, slice_get, refl, ap, sym, subst, ◌∙◌, arith, inl, inr, drop-cons}
-use Rattle.std.proofs.lemmas.Bool.Decides.{nat_tests}
+use Rattle.std.proofs.Common.{◌≡◌, ℕ, ◌*◌, ◌<◌, ◌≤◌, List, [], ◌∷◌, ◌++◌, length, drop, get_or, Option, Some, slice_get, refl, ap, sym, subst, ◌∙◌, arith, drop-cons}
 use Rattle.std.proofs.lemmas.Option.{slice_get_within}
 use Rattle.pf_disk.specs.Crashes.{Images}
 use Rattle.pf_entry.specs.Lists.{Every}
 use Rattle.pf_script.specs.declared.command.Command.{Command}
 use Rattle.pf_script.specs.declared.command.Command.TheVariants as commands
-use Rattle.pf_script.specs.Lines.{is_volume}
-use Rattle.pf_group.proofs.Sound.{sound}
+use Rattle.pf_rounds.specs.Halts.{Halt}
 use Rattle.pf_chunk.specs.Views.{ChunkIs}
 use Rattle.pf_world.specs.declared.line.Line.{Line}
+use Rattle.pf_world.specs.Agreeing.{Tells}
 use Rattle.pf_world.specs.Disks.{AreLeft}
-use Rattle.pf_world.specs.Headline.{IsSafeWorld}
+use Rattle.pf_world.specs.Headline.{AreHalts, IsLawfulRun, IsSafeRun, IsSoundWorld, RunsTo}
+use Rattle.pf_world.specs.Reports.{world_run}
 use Rattle.pf_world.specs.Steps.{GoesOn, MayRun}
-use Rattle.pf_world.specs.Views.{WorldIs, WorldOn}
+use Rattle.pf_world.specs.Views.{WorldIs, WorldOn, stands_at}
+use Rattle.pf_world.proofs.Begun.{some_chunks}
 use Rattle.pf_world.proofs.Causes.{HasPassed, are_halts}
 use Rattle.pf_world.proofs.Happening.{same_world}
-use Rattle.pf_world.proofs.Told.{world_halts}
+use Rattle.pf_world.proofs.Running.{goes_trans, tells_earlier}
+use Rattle.pf_world.proofs.Told.{lawful_run, safe_run, world_halts}
 use Rattle.polar_cli.specs.declared.status.Status.{Status}
 use Rattle.polar_cli.specs.declared.status.Status.TheVariants as statuses
 use Rattle.polar_cli.specs.Placed.{ArePlaced, IsVolume, IsWhole}
-use Rattle.polar_cli.specs.Running.{HasGoneOn, HasOpened, HasRunLines, HasRunTo, Leave, LeavesWorld}
+use Rattle.polar_cli.specs.Running.{HasGoneOn, HasNotOpened, HasOpened, HasRunLines, HasRunTo, LeavesWorld, Stops}
+use Rattle.polar_cli.proofs.Opening.{begun_passed, begun_sound, none_begun, volume_of}
 use Rattle.polar_cli.proofs.Taken.{appends_none}
-
--- every history is safe
-all_safe : (w : WorldIs) → IsSafeWorld w
-all_safe w k c there = (sound c.group.setup c.group.history).safe
-
--- a volume has at most eight chunks
-volume_small : (chunks sectors names format : ℕ) → is_volume chunks sectors names format ≡ true → chunks ≤ 8
-volume_small chunks sectors names format fits = grind (arith, nat_tests)
 
 one_count : (m n : ℕ) (command : Command) → IsVolume m command → IsVolume n command → m ≡ n
 one_count m n (commands.Volume c s names f) first second = sym first.0 ∙ second.0
@@ -66,92 +61,124 @@ first_placed (first ∷ lines) d chunks placed = placed.0
 pub first_is_volume : (lines : List Line) (d : Line) → IsWhole lines → (chunks : ℕ) × IsVolume chunks (get_or lines 0 d).command
 first_is_volume lines d whole = (whole.chunks, first_placed lines d whole.chunks whole.placed)
 
-leaves : (status : Status) (done : List Line) (was is : WorldIs) → LeavesWorld status was is → Leave status done was.chunks is.chunks
-leaves statuses.NoMemory done was is on = record { each = λ k c d a b. on.grown k c d a b; count = inr on.chunks }
-leaves statuses.Ok done was is same = ap (λ w. w.chunks) same
-leaves statuses.Usage done was is same = ap (λ w. w.chunks) same
-leaves statuses.Script done was is same = ap (λ w. w.chunks) same
-leaves statuses.ReadFault done was is same = ap (λ w. w.chunks) same
-leaves statuses.WriteFault done was is same = ap (λ w. w.chunks) same
+-- the world that is left is that of the lines, or the next line stopped in its middle
+stopped : {D : Type 0} (faults : D → ℕ) (before : List D) (status : Status) (first : Line) (done rest : List Line) (was is : WorldIs) → LeavesWorld status rest was is → Stops faults status before (first ∷ done) rest was is
+stopped faults before statuses.NoMemory first done [] was is left = absurd left
+stopped faults before statuses.NoMemory first done (line ∷ rest) was is failed = failed
+stopped faults before statuses.Ok first done rest was is same = same
+stopped faults before statuses.Usage first done rest was is same = same
+stopped faults before statuses.Script first done rest was is same = same
+stopped faults before statuses.ReadFault first done rest was is same = same
+stopped faults before statuses.WriteFault first done rest was is same = same
 
 -- more may have happened to what was left
-left_goes_on : (status : Status) (was is : WorldIs) → LeavesWorld status was is → GoesOn was is
-left_goes_on statuses.NoMemory was is on = on
-left_goes_on statuses.Ok was is same = subst (GoesOn was) (sym same) (same_world was)
-left_goes_on statuses.Usage was is same = subst (GoesOn was) (sym same) (same_world was)
-left_goes_on statuses.Script was is same = subst (GoesOn was) (sym same) (same_world was)
-left_goes_on statuses.ReadFault was is same = subst (GoesOn was) (sym same) (same_world was)
-left_goes_on statuses.WriteFault was is same = subst (GoesOn was) (sym same) (same_world was)
+left_goes_on : (status : Status) (rest : List Line) (was is : WorldIs) → LeavesWorld status rest was is → GoesOn was is
+left_goes_on statuses.NoMemory [] was is left = absurd left
+left_goes_on statuses.NoMemory (line ∷ rest) was is failed = failed.goes_on
+left_goes_on statuses.Ok rest was is same = subst (GoesOn was) (sym same) (same_world was)
+left_goes_on statuses.Usage rest was is same = subst (GoesOn was) (sym same) (same_world was)
+left_goes_on statuses.Script rest was is same = subst (GoesOn was) (sym same) (same_world was)
+left_goes_on statuses.ReadFault rest was is same = subst (GoesOn was) (sym same) (same_world was)
+left_goes_on statuses.WriteFault rest was is same = subst (GoesOn was) (sym same) (same_world was)
+
+-- no line, or first a volume
+abbrev pub Begins : List Line → Type 0
+Begins [] = Unit {0}
+Begins (line ∷ rest) = (chunks : ℕ) × IsVolume chunks line.command
+
+-- a world without chunks
+abbrev bare : (sectors names format : ℕ) → WorldIs
+bare sectors names format = record { sectors = sectors; names = names; format = format; chunks = [] }
 
 no_such : (k : ℕ) (c : ChunkIs) → slice_get [] k ≡ Some c → ⊥
 no_such k c there = let low : k < 0 = slice_get_within [] k c there in absurd (omega arith)
 
 module _ {D : Type 0} (seen : D → Option (List ℕ)) (may_leave : D → Images) (faults : D → ℕ) where
+  -- what a list of halts that tells of the world that is left says of the run
+  has_run : (status : Status) (lines done rest : List Line) (text : List ℕ) (before after : List D) (world left : WorldIs) (halts : List Halt) → done ++ rest ≡ lines → RunsTo done text world → (done ≡ [] → world.chunks ≡ []) → IsSoundWorld world → IsSoundWorld left
+      → Tells halts world → AreHalts faults halts before after left → Stops faults status before done rest world left → AreLeft seen may_leave faults left.chunks before after → HasRunTo seen may_leave faults status lines rest text before after
+  has_run status lines done rest text before after world left halts first run none sound sound_left tells told stops disks =
+      let same : stands_at halts world ≡ (world_run halts done).world = sym (ap (λ t. t.world) (run halts tells).run) in
+      record {
+        done = done;
+        first = first;
+        world = world;
+        run = run;
+        none = none;
+        left = left;
+        halts = halts;
+        told = told;
+        ran = run halts tells;
+        stops = stops;
+        safe = subst IsSafeRun same (safe_run halts world tells sound);
+        lawful = subst IsLawfulRun same (lawful_run halts world tells sound);
+        safe_left = safe_run halts left told.tells sound_left;
+        lawful_left = lawful_run halts left told.tells sound_left;
+        disks = disks;
+      }
+
   -- the volume was made, lines were run, and the world was closed
   pub ran_lines : (status : Status) (lines : List Line) (d : Line) (text : List ℕ) (taken now : Option (List ℕ)) (full : Type 0) (before after : List D) (old new : WorldOn D) → 0 < length lines → 48 ≤ length before
       → HasOpened faults (get_or lines 0 d) text before old → HasGoneOn status (get_or lines 0 d) (drop 1 lines) taken now full old.world new.world → new.spare ≡ old.spare
       → ((given : List D) → drop (6 * length new.world.chunks) given ≡ new.spare → 6 * length new.world.chunks ≤ length given → AreLeft seen may_leave faults new.world.chunks given after)
       → HasRunLines seen may_leave faults status lines taken now full before after
   ran_lines status lines d text taken now full before after old new some enough opened gone spare closed =
-      let small : length old.world.chunks ≤ 8 = volume_small (length old.world.chunks) old.world.sectors old.world.names old.world.format opened.is_world.volume in
+      let small : length old.world.chunks ≤ 8 = some_chunks (length old.world.chunks) old.world.sectors old.world.names old.world.format opened.is_world.volume in
       let count = gone.count in
-      let left = closed before (ap (λ n. drop (6 * n) before) count ∙ sym opened.spare ∙ sym spare) (omega arith) in
-      let more = left_goes_on status gone.world new.world gone.leaves in
-      let passed : HasPassed seen may_leave faults before after old.world gone.world new.world.chunks = record { is_world = gone.is_world; sound = gone.lawful; fresh = opened.fresh; goes_on = gone.goes_on; count = more.chunks; grown = more.grown; left = left } in
+      let left = closed before (ap (λ n. drop (6 * n) before) count ∙ sym opened.spare ∙ sym spare) (omega (arith, count, small, enough)) in
+      let more : GoesOn gone.world new.world = left_goes_on status gone.rest gone.world new.world gone.leaves in
+      let passed : HasPassed seen may_leave faults before after old.world new.world = record {
+        numbers = λ k c there. (opened.is_world.each k c there).number;
+        sound = gone.lawful_left;
+        fresh = opened.fresh;
+        goes_on = goes_trans old.world gone.world new.world gone.goes_on more;
+        left = left;
+      } in
+      let halts = world_halts new.world in
+      let told : AreHalts faults halts before after new.world = are_halts seen may_leave faults before after old.world new.world passed in
       record {
         rest = gone.rest;
         text = gone.text;
-        ran = record {
-          done = get_or lines 0 d ∷ gone.done;
-          first = ap (λ l. get_or lines 0 d ∷ l) gone.first ∙ sym (drop-cons lines 0 d some);
-          world = gone.world;
-          run = gone.run;
-          halts = world_halts gone.world;
-          told = are_halts seen may_leave faults before after old.world gone.world new.world.chunks passed;
-          lawful = gone.lawful;
-          safe = all_safe gone.world;
-          none = λ none. absurd (cc none);
-          chunks = new.world.chunks;
-          leave = leaves status (get_or lines 0 d ∷ gone.done) gone.world new.world gone.leaves;
-          left = left;
-        };
+        ran = has_run status lines (get_or lines 0 d ∷ gone.done) gone.rest gone.text before after gone.world new.world halts
+            (ap (λ l. get_or lines 0 d ∷ l) gone.first ∙ sym (drop-cons lines 0 d some)) gone.run (λ none. absurd (cc none)) gone.lawful gone.lawful_left
+            (tells_earlier halts gone.world new.world more told.tells) told (stopped faults before status (get_or lines 0 d) gone.done gone.rest gone.world new.world gone.leaves) left;
         wrote = gone.wrote;
       }
 
   -- no line was run
-  none_ran : (status : Status) (lines : List Line) (before after : List D) (chunks : List ChunkIs) → Leave status [] [] chunks → AreLeft seen may_leave faults chunks before after → HasRunTo seen may_leave faults status lines lines [] before after
-  none_ran status lines before after chunks leave left = record {
-    done = [];
-    first = refl;
-    world = record { sectors = 0; names = 0; format = 0; chunks = [] };
-    run = λ halts tells. refl;
-    halts = [];
-    told = record { tells = λ k c there. absurd (no_such k c there); causes = tt };
-    lawful = λ k c there. absurd (no_such k c there);
-    safe = all_safe (record { sectors = 0; names = 0; format = 0; chunks = [] });
-    none = λ h. refl;
-    chunks = chunks;
-    leave = leave;
-    left = left;
-  }
+  none_ran : (status : Status) (lines : List Line) (before after : List D) (sectors names format : ℕ) (left : WorldIs) (halts : List Halt) → IsSoundWorld left → AreHalts faults halts before after left → Stops faults status before [] lines (bare sectors names format) left → AreLeft seen may_leave faults left.chunks before after
+      → HasRunTo seen may_leave faults status lines lines [] before after
+  none_ran status lines before after sectors names format left halts sound told stops disks =
+      has_run status lines [] lines [] before after (bare sectors names format) left halts refl (λ hs tells. record { run = refl; ends = tt }) (λ none. refl) (λ k c there. absurd (no_such k c there)) sound (λ k c there. absurd (no_such k c there)) told stops disks
 
   -- memory ran out as the volume was made
-  pub none_made : (lines : List Line) (taken : Option (List ℕ)) (full : Type 0) (before after : List D) → (made : List ChunkIs) × AreLeft seen may_leave faults made before after → HasRunLines seen may_leave faults statuses.NoMemory lines taken taken full before after
-  none_made lines taken full before after back = record {
-    rest = lines;
-    text = [];
-    ran = none_ran statuses.NoMemory lines before after back.0 (record { each = λ k c d there now. absurd (no_such k c there); count = inl refl }) back.1;
-    wrote = appends_none taken;
-  }
+  pub none_made : (lines : List Line) (d : Line) (taken : Option (List ℕ)) (full : Type 0) (before after : List D) → IsWhole lines → HasNotOpened seen may_leave faults (get_or lines 0 d) before after → HasRunLines seen may_leave faults statuses.NoMemory lines taken taken full before after
+  none_made [] d taken full before after whole not = absurd whole.placed
+  none_made (line ∷ lines) d taken full before after whole not =
+      let volume = volume_of whole.chunks line.command whole.placed.0 in
+      let sound = begun_sound faults line.command before not.made volume not.begun in
+      let told = are_halts seen may_leave faults before after not.made not.made (begun_passed faults line.command before not.made volume not.begun seen may_leave after not.left) in
+      record {
+        rest = line ∷ lines;
+        text = [];
+        ran = none_ran statuses.NoMemory (line ∷ lines) before after 0 0 0 not.made (world_halts not.made) sound told not.begun not.left;
+        wrote = appends_none taken;
+      }
 
-  leave_none : (status : Status) → Leave status [] [] []
-  leave_none statuses.NoMemory = record { each = λ k c d there now. absurd (no_such k c there); count = inl refl }
-  leave_none statuses.Ok = refl
-  leave_none statuses.Usage = refl
-  leave_none statuses.Script = refl
-  leave_none statuses.ReadFault = refl
-  leave_none statuses.WriteFault = refl
+  -- a world without chunks, where a run stops that has no line
+  untouched_in : (status : Status) (lines : List Line) (disks : List D) (sectors names format : ℕ) → Stops faults status disks [] lines (bare sectors names format) (bare sectors names format) → HasRunTo seen may_leave faults status lines lines [] disks disks
+  untouched_in status lines disks sectors names format stops =
+      none_ran status lines disks disks sectors names format (bare sectors names format) [] (λ k c there. absurd (no_such k c there)) (record { tells = λ k c there. absurd (no_such k c there); within = tt; causes = tt }) stops
+      (record { halves = λ k i c there low. absurd (no_such k c there); rest = refl; count = refl })
 
   -- nothing was run, and the disks are as they were
-  pub untouched : (status : Status) (lines : List Line) (disks : List D) → HasRunTo seen may_leave faults status lines lines [] disks disks
-  untouched status lines disks = none_ran status lines disks disks [] (leave_none status) (record { halves = λ k i c there low. absurd (no_such k c there); rest = refl; count = refl })
+  pub untouched : (status : Status) (lines : List Line) (disks : List D) → Begins lines → HasRunTo seen may_leave faults status lines lines [] disks disks
+  untouched statuses.NoMemory [] disks begins = untouched_in statuses.NoMemory [] disks 0 0 0 refl
+  untouched statuses.NoMemory (line ∷ lines) disks begins =
+      let volume = volume_of begins.0 line.command begins.1 in
+      untouched_in statuses.NoMemory (line ∷ lines) disks volume.sectors volume.names volume.format (none_begun faults line.command disks volume)
+  untouched statuses.Ok lines disks begins = untouched_in statuses.Ok lines disks 0 0 0 refl
+  untouched statuses.Usage lines disks begins = untouched_in statuses.Usage lines disks 0 0 0 refl
+  untouched statuses.Script lines disks begins = untouched_in statuses.Script lines disks 0 0 0 refl
+  untouched statuses.ReadFault lines disks begins = untouched_in statuses.ReadFault lines disks 0 0 0 refl
+  untouched statuses.WriteFault lines disks begins = untouched_in statuses.WriteFault lines disks 0 0 0 refl

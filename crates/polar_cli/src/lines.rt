@@ -1,14 +1,13 @@
 //! The lines of a script, run over a world on disks.
 ghost use Rattle.std.specs.Prelude.{◌≡◌, ◌≤◌, ℕ, List, [], ◌∷◌, IfErr, IfOk, length};
 ghost use Rattle.pf_io.specs.Causes.{Rose};
-ghost use Rattle.pf_chunk.specs.Views.{ChunkIs};
 ghost use Rattle.pf_entry.specs.Lists.{Every};
-ghost use Rattle.pf_world.specs.Disks.{AreLeft, AreTold};
+ghost use Rattle.pf_world.specs.Disks.{AreTold};
 ghost use Rattle.pf_world.specs.Headline.{IsSoundWorld, RunsTo};
 ghost use Rattle.pf_world.specs.Steps.{MayRun};
 ghost use Rattle.pf_world.specs.Views.{IsWorld};
 ghost use Rattle.polar_cli.specs.Placed.{IsVolume, IsWhole};
-ghost use Rattle.polar_cli.specs.Running.{HasGoneOn, HasOpened, HasRunLines};
+ghost use Rattle.polar_cli.specs.Running.{HasGoneOn, HasNotOpened, HasOpened, HasRunLines};
 
 use crate::ends::write_all;
 use crate::status::Status;
@@ -34,7 +33,7 @@ fn open<D: Disk + Drop>(
     requires disks { 48 ≤ length disks.items }
     requires told { AreTold D.seen disks.items }
     ensures opened { IfOk result (λ opened. HasOpened D.faults line.now opened.1.items disks.items opened.0) }
-    ensures back { IfErr result (λ back. (made : List ChunkIs) × AreLeft D.seen D.may_leave D.faults made disks.items back.items) }
+    ensures back { IfErr result (λ back. HasNotOpened D.seen D.may_leave D.faults line.now disks.items back.items) }
 {
     let Command::Volume {
         chunks,

@@ -6,12 +6,16 @@ use Rattle.pf_rounds.specs.Adding.{Adds}
 use Rattle.pf_rounds.specs.Following.{IsFinished, IsRound}
 use Rattle.pf_rounds.specs.Open.{jobs_of}
 use Rattle.pf_rounds.proofs.Adding.{adds_goes, adds_trans, goes_on}
+use Rattle.pf_rounds.proofs.Begun.{claims_returned, returned_goes}
 use Rattle.pf_rounds.proofs.Opened.{none_left, same_count}
 use Rattle.pf_rounds.proofs.Rounding.{empty_round, one_round}
 use Rattle.pf_rounds.proofs.applying.round.Goals as goal
 
 pub returns-in-Err-clause-goes : goal.returns-in-Err-clause-goes
-returns-in-Err-clause-goes g c = goes_on c.args.group.now c.claim_all.new.group c.give_all_back.new.group _ 0 c.claim_all.ensures.adds c.give_all_back.ensures.goes
+returns-in-Err-clause-goes g c = goes_on c.args.group.now c.claim_all.new.group c.give_all_back.new.group _ 0 c.claim_all.ensures.adds (returned_goes c.claim_all.new.group c.give_all_back.new.group c.give_all_back.ensures.returned)
+
+pub returns-in-Err-clause-returned : goal.returns-in-Err-clause-returned
+returns-in-Err-clause-returned g c = claims_returned c.args.group.now c.claim_all.new.group c.give_all_back.new.group _ c.claim_all.ensures.adds c.give_all_back.ensures.returned
 
 pub returns-then-is_empty-clause-adds : goal.returns-then-is_empty-clause-adds
 returns-then-is_empty-clause-adds g c =
@@ -31,7 +35,12 @@ returns-then-is_empty-clause-applied g c zero =
 
 pub returns-in-Err-copy_all-clause-goes : goal.returns-in-Err-copy_all-clause-goes
 returns-in-Err-copy_all-clause-goes g c =
-    goes_on c.args.group.now c.claim_all.new.group c.give_all_back-in-Err-copy_all.new.group _ 0 c.claim_all.ensures.adds c.give_all_back-in-Err-copy_all.ensures.goes
+    let mid = c.claim_all.new.group in let new = c.give_all_back-in-Err-copy_all.new.group in
+    goes_on c.args.group.now mid new _ 0 c.claim_all.ensures.adds (returned_goes mid new c.give_all_back-in-Err-copy_all.ensures.returned)
+
+pub returns-in-Err-copy_all-clause-returned : goal.returns-in-Err-copy_all-clause-returned
+returns-in-Err-copy_all-clause-returned g c =
+    claims_returned c.args.group.now c.claim_all.new.group c.give_all_back-in-Err-copy_all.new.group _ c.claim_all.ensures.adds c.give_all_back-in-Err-copy_all.ensures.returned
 
 pub returns-clause-goes : goal.returns-clause-goes
 returns-clause-goes g c =

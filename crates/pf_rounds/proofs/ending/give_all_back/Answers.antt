@@ -3,7 +3,8 @@ use Rattle.std.specs.Vec.Iter.{into_iter_items, into_iter_len}
 use Rattle.pf_filling.specs.declared.work.Work.{Work}
 use Rattle.pf_rounds.specs.Open.{AreOpen, jobs_of}
 use Rattle.pf_rounds.proofs.Opened.{first_may_return, none_left}
-use Rattle.pf_rounds.proofs.Stepping.{return_closes, return_goes}
+use Rattle.pf_rounds.proofs.Begun.{one_returned}
+use Rattle.pf_rounds.proofs.Stepping.{return_closes}
 use Rattle.pf_rounds.proofs.ending.give_all_back.Goals as goal
 
 pub give_back-requires : goal.give_back-requires
@@ -16,7 +17,7 @@ loop-work-preserved-in-Some g c =
     let old = c.args.group.now in let now = c.loop-work.group in let new = c.give_back.new.self in let w = c.in-Some.work in let rest = into_iter_items c.next.new.self in
     let i = c.loop-work.invariant in let next = c.in-Some.ensures.steps.0 in
     record {
-      goes = return_goes old now new w.job c.give_back.ensures.went i.goes;
+      returned = one_returned old now new w.job c.give_back.ensures.went i.returned;
       hand = return_closes now new w.job (jobs_of rest) c.give_back.ensures.went (subst (λ (l : List Work). AreOpen now.history (jobs_of l)) next i.hand);
       left = omega (arith, i.left, ap length next, c.in-Some.ensures.steps.1);
     }
@@ -26,7 +27,7 @@ loop-work-preserved g c =
     let old = c.args.group.now in let now = c.loop-work.group in let new = c.give_back.new.self in let w = c.in-Some.work in let rest = into_iter_items c.next.new.self in
     let i = c.loop-work.invariant in let next = c.in-Some.ensures.steps.0 in
     record {
-      goes = return_goes old now new w.job c.give_back.ensures.went i.goes;
+      returned = one_returned old now new w.job c.give_back.ensures.went i.returned;
       hand = return_closes now new w.job (jobs_of rest) c.give_back.ensures.went (subst (λ (l : List Work). AreOpen now.history (jobs_of l)) next i.hand);
       left = omega (arith, i.left, ap length next, c.in-Some.ensures.steps.1);
     }

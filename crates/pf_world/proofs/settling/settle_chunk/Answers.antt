@@ -4,8 +4,8 @@ use Rattle.pf_chunk.specs.declared.settling.Try.{Try}
 use Rattle.pf_chunk.specs.declared.settling.Try.TheVariants.{Delivered, Passed}
 use Rattle.pf_chunk.specs.Settling.{HasTried}
 use Rattle.pf_group.proofs.Going.{on_err}
-use Rattle.pf_rounds.proofs.Growing.{grown_trans}
-use Rattle.pf_world.proofs.SettlingChunk.{HasNext, SoFar, begins, delivered_one, look_grows, looked, passed_one, quiet, stopped}
+use Rattle.pf_world.proofs.Failing.{failed_one}
+use Rattle.pf_world.proofs.SettlingChunk.{HasNext, SoFar, begins, delivered_one, looked, passed_one, quiet, stopped}
 use Rattle.pf_world.proofs.settling.settle_chunk.Goals as goal
 
 pub loop-alloc-init : goal.loop-alloc-init
@@ -83,6 +83,9 @@ loop-alloc-smaller g c =
 
 pub returns-in_err-settle_one-clause-err : goal.returns-in_err-settle_one-clause-err
 returns-in_err-settle_one-clause-err g c =
-    let grown = look_grows c.args.limit c.args.chunk.now c.args.out.now.items c.loop-alloc.left c.loop-alloc.out.items c.loop-alloc.chunk c.loop-alloc.invariant
-    c.next_left.new.self c.next_left.result c.next_left.ensures.least c.next_left.ensures.same in
-    on_err c.from_residual.result _ (grown_trans c.args.chunk.now.group c.next_left.new.self.group c.settle_one.new.self.group grown c.in_err-settle_one.ensures.err)
+    let limit = c.args.limit in let old = c.args.chunk.now in let out = c.args.out.now.items in
+    let mid = c.loop-alloc.out.items in let now = c.next_left.new.self in
+    let some : is_some c.next_left.result ≡ true = cc in
+    let has = looked limit old out c.loop-alloc.left mid c.loop-alloc.chunk c.loop-alloc.invariant now c.next_left.result c.next_left.ensures.least c.next_left.ensures.same c.next_left.ensures.found some in
+    let left : c.loop-alloc.left ≡ suc (c.loop-alloc.left - 1) = omega (arith, c.if-left-eq0.false) in
+    on_err c.from_residual.result _ (failed_one limit old out (c.loop-alloc.left - 1) mid c.loop-alloc.chunk now (subst (λ n. HasNext limit old out n mid c.loop-alloc.chunk now) left has) c.settle_one.new.self c.in_err-settle_one.ensures.err)

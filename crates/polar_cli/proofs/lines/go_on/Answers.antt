@@ -1,8 +1,7 @@
 use Rattle.std.proofs.Common.{[], arith, get_or, refl, subst, ◌∙◌}
 use Rattle.std.specs.Io.KnownBytes.{Appends}
 use Rattle.pf_io.specs.Causes.{Rose}
-use Rattle.pf_world.specs.Headline.{IsSoundWorld}
-use Rattle.pf_world.specs.Steps.{GoesOn, HasRun}
+use Rattle.pf_world.specs.Steps.{HasFailed, HasRun}
 use Rattle.polar_cli.specs.Ends.{AppendsFront}
 use Rattle.polar_cli.proofs.Going.{full_first, full_later, gone_all, gone_more, gone_none, gone_short, no_line}
 use Rattle.polar_cli.proofs.Writing.{done_of, failed_of}
@@ -18,8 +17,9 @@ returns-then-is_err-clause-gone g c =
 pub returns-then-is_err-2-clause-gone : goal.returns-then-is_err-2-clause-gone
 returns-then-is_err-2-clause-gone g c =
     let taken = g.K.Sink.taken in
-    gone_short c.args.volume.now c.args.lines.now c.loop-line.line-index (taken c.args.sink.now) (taken c.loop-line.sink) (Rose (g.K.Sink.faults c.args.sink.now) (g.K.Sink.faults c.loop-line.sink)) c.args.world.now.world c.loop-line.world.world c.line.new.self.world c.loop-line.invariant.gone
-    (failed_of c.line.result (GoesOn c.loop-line.world.world c.line.new.self.world) c.if-is_err-2.ensures.value c.line.ensures.err)
+    gone_short c.args.volume.now c.args.lines.now c.loop-line.line-index (taken c.args.sink.now) (taken c.loop-line.sink) (Rose (g.K.Sink.faults c.args.sink.now) (g.K.Sink.faults c.loop-line.sink)) c.args.world.now.world c.loop-line.world.world c.line.new.self.world c.loop-line-test.true c.loop-line.invariant.gone
+    (failed_of c.line.result (HasFailed c.loop-line.world.world (get_or c.args.lines.now c.loop-line.line-index no_line).number (get_or c.args.lines.now c.loop-line.line-index no_line).command c.line.new.self.world) c.if-is_err-2.ensures.value c.line.ensures.err)
+    c.line.ensures.sound
 
 pub returns-then-is_err-3-clause-gone : goal.returns-then-is_err-3-clause-gone
 returns-then-is_err-3-clause-gone g c =
@@ -36,7 +36,7 @@ returns-then-is_err-3-clause-gone g c =
     failed_of c.write_all-in-loop-line.result (AppendsFront (taken c.loop-line.sink) (taken c.write_all-in-loop-line.new.sink) c.deref.result.now) c.if-is_err-3.ensures.value c.write_all-in-loop-line.ensures.front in
     full_later c.args.volume.now c.args.lines.now i (taken c.args.sink.now) (taken c.loop-line.sink) (taken c.write_all-in-loop-line.new.sink) (Rose (g.K.Sink.faults c.args.sink.now) (g.K.Sink.faults c.write_all-in-loop-line.new.sink))
     c.args.world.now.world c.loop-line.world.world c.line.new.self.world out c.loop-line-test.true c.loop-line.invariant.gone ran
-    (done_of c.line.result (IsSoundWorld c.line.new.self.world) c.if-is_err-2.ensures.value c.line.ensures.sound) (omega (arith, rose, c.loop-line.invariant.later))
+    c.line.ensures.sound (omega (arith, rose, c.loop-line.invariant.later))
     (subst (AppendsFront (taken c.loop-line.sink) (taken c.write_all-in-loop-line.new.sink)) c.deref.ensures.value front)
 
 pub loop-line-preserved : goal.loop-line-preserved
@@ -52,7 +52,7 @@ loop-line-preserved g c =
     done_of c.write_all-in-loop-line.result (Appends (taken c.loop-line.sink) (taken c.write_all-in-loop-line.new.sink) c.deref.result.now) c.if-is_err-3.ensures.value c.write_all-in-loop-line.ensures.ok in
     record {
       gone = gone_more c.args.volume.now c.args.lines.now i (taken c.args.sink.now) (taken c.loop-line.sink) (taken c.write_all-in-loop-line.new.sink)
-          c.args.world.now.world c.loop-line.world.world c.line.new.self.world out c.loop-line-test.true c.loop-line.invariant.gone ran (done_of c.line.result (IsSoundWorld c.line.new.self.world) c.if-is_err-2.ensures.value c.line.ensures.sound)
+          c.args.world.now.world c.loop-line.world.world c.line.new.self.world out c.loop-line-test.true c.loop-line.invariant.gone ran c.line.ensures.sound
           (subst (Appends (taken c.loop-line.sink) (taken c.write_all-in-loop-line.new.sink)) c.deref.ensures.value put);
       later = omega (arith, c.loop-line.invariant.later, c.write_all-in-loop-line.ensures.later);
       spare = c.line.ensures.spare ∙ c.loop-line.invariant.spare;

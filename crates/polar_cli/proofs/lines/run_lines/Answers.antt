@@ -1,11 +1,9 @@
-use Rattle.std.proofs.Common.{List, arith, length, get_or, subst, sym, ap}
+use Rattle.std.proofs.Common.{arith, length, get_or, subst, sym, ap}
 use Rattle.std.proofs.lemmas.List.{take_rest}
 use Rattle.pf_entry.specs.Lists.{Every}
 use Rattle.pf_io.specs.Causes.{Rose}
-use Rattle.pf_chunk.specs.Views.{ChunkIs}
-use Rattle.pf_world.specs.Disks.{AreLeft}
 use Rattle.pf_world.specs.Steps.{MayRun}
-use Rattle.polar_cli.specs.Running.{HasGoneOn, HasOpened}
+use Rattle.polar_cli.specs.Running.{HasGoneOn, HasNotOpened, HasOpened}
 use Rattle.polar_cli.proofs.Going.{no_line}
 use Rattle.polar_cli.proofs.Whole.{none_made, ran_lines, rest_may_run}
 use Rattle.polar_cli.proofs.lines.run_lines.Goals as goal
@@ -29,6 +27,6 @@ returns-in-Ok g c =
 
 pub returns-in-Err : goal.returns-in-Err
 returns-in-Err g c =
-    let made : (made : List ChunkIs) × AreLeft g.D.Disk.seen g.D.Disk.may_leave g.D.Disk.faults made c.args.disks.now.items c.in-Err.back.items =
-    subst (λ given. (made : List ChunkIs) × AreLeft g.D.Disk.seen g.D.Disk.may_leave g.D.Disk.faults made given c.in-Err.back.items) (ap (λ v. v.items) c.replace.ensures.value) c.in-Err.ensures.back in
-    none_made g.D.Disk.seen g.D.Disk.may_leave g.D.Disk.faults c.args.lines.now (g.K.Sink.taken c.args.sink.now) (Rose (g.K.Sink.faults c.args.sink.now) (g.K.Sink.faults c.args.sink.now)) c.args.disks.now.items c.in-Err.back.items made
+    let lines = c.args.lines.now in
+    none_made g.D.Disk.seen g.D.Disk.may_leave g.D.Disk.faults lines no_line (g.K.Sink.taken c.args.sink.now) (Rose (g.K.Sink.faults c.args.sink.now) (g.K.Sink.faults c.args.sink.now)) c.args.disks.now.items c.in-Err.back.items c.requires.lines
+    (subst (λ given. HasNotOpened g.D.Disk.seen g.D.Disk.may_leave g.D.Disk.faults (get_or lines 0 no_line) given c.in-Err.back.items) (ap (λ v. v.items) c.replace.ensures.value) c.in-Err.ensures.back)

@@ -3,11 +3,12 @@ use Rattle.std.specs.Option.{option_to_list}
 use Rattle.pf_group.proofs.Going.{on_err}
 use Rattle.pf_group.specs.declared.event.GroupEvent.TheVariants as asked
 use Rattle.pf_group.specs.Steps.{HasStepped}
-use Rattle.pf_rounds.specs.Growing.{HasGrown}
-use Rattle.pf_rounds.proofs.Growing.{grown_refl, left_grows}
+use Rattle.pf_chunk.specs.Asking.{fetches}
+use Rattle.pf_chunk.specs.Steps.{Event as EventIs, HasFailed}
 use Rattle.pf_chunk.specs.Views.{ChunkIs}
-use Rattle.pf_chunk.proofs.Midway.{comes_to, listed, midway_of_fetch, went_on}
-use Rattle.pf_chunk.proofs.Ranges.{fetched_is, no_fetch_is}
+use Rattle.pf_chunk.proofs.Begun.{fetches_extend, left_so, not_followed, nothing_failed}
+use Rattle.pf_chunk.proofs.Midway.{comes_to, listed, midway_of_fetch}
+use Rattle.pf_chunk.proofs.Ranges.{fetch_failed, fetched_is, no_fetch_is}
 use Rattle.pf_chunk.proofs.chunk.ChunkGroup.fetch.Goals as goal
 
 pub returns-in_default-clause-went : goal.returns-in_default-clause-went
@@ -17,13 +18,15 @@ returns-in_default-clause-went g c =
 pub returns-in_err-reserve-clause-err : goal.returns-in_err-reserve-clause-err
 returns-in_err-reserve-clause-err g c =
     let was = c.self.inside.group in
-    on_err c.from_residual.result _ (subst (λ (v : ChunkIs). HasGrown v.group was) c.self.view_is (grown_refl was))
+    let event : EventIs = λ halts k. fetches halts c.args.server c.args.sector c.args.count k in
+    on_err c.from_residual.result _ (subst (λ (v : ChunkIs). HasFailed event v.group was) c.self.view_is
+    (nothing_failed event was (λ halts k. fetches_extend halts k c.args.server c.args.sector c.args.count)))
 
 pub returns-in_err-answer-clause-err : goal.returns-in_err-answer-clause-err
 returns-in_err-answer-clause-err g c =
-    let event = asked.Fetch c.args.server c.in-Ok.range in
-    on_err c.from_residual-in_err-answer.result _ (subst (λ (v : ChunkIs). HasGrown v.group c.step.new.self) c.self.view_is
-    (left_grows c.self.inside.group event c.step.new.self c.in_err-answer.ensures.err))
+    let event : EventIs = λ halts k. fetches halts c.args.server c.args.sector c.args.count k in
+    on_err c.from_residual-in_err-answer.result _ (subst (λ (v : ChunkIs). HasFailed event v.group c.step.new.self) c.self.view_is
+    (left_so event c.self.inside.group c.step.new.self (λ halts k. fetches_extend halts k c.args.server c.args.sector c.args.count) (asked.Fetch c.args.server c.in-Ok.range) c.in_err-answer.ensures.err))
 
 pub follow-requires-clause-none : goal.follow-requires-clause-none
 follow-requires-clause-none g c _ _ =
@@ -53,9 +56,10 @@ follow-requires-clause-listed g c _ _ =
 
 pub returns-in_err-follow-clause-err : goal.returns-in_err-follow-clause-err
 returns-in_err-follow-clause-err g c =
-    let event = asked.Fetch c.args.server c.in-Ok.range in
-    on_err c.from_residual-in_err-follow.result _ (subst (λ (v : ChunkIs). HasGrown v.group c.follow.new.self.group) c.self.view_is
-    (went_on c.self.inside.group c.step.new.self c.follow.new.self.group event c.in_ok-answer.answer c.in_ok-answer.ensures.went c.in_err-follow.ensures.err))
+    let event : EventIs = λ halts k. fetches halts c.args.server c.args.sector c.args.count k in
+    on_err c.from_residual-in_err-follow.result _ (subst (λ (v : ChunkIs). HasFailed event v.group c.follow.new.self.group) c.self.view_is
+    (fetch_failed c.args.server c.args.sector c.args.count c.in-Ok.range (c.in-Ok.ensures.exact.0 refl) c.in-Ok.ensures.range c.self.inside.group c.follow.new.self.group
+    (not_followed c.self.inside.group c.step.new.self c.follow.new.self.group (asked.Fetch c.args.server c.in-Ok.range) c.in_ok-answer.answer c.in_ok-answer.ensures.went c.in_err-follow.ensures.err)))
 
 pub returns-clause-went : goal.returns-clause-went
 returns-clause-went g c =
@@ -68,5 +72,5 @@ returns-clause-went g c =
     (ap (λ (v : ChunkIs). v.first_left) c.self.view_is)
     (c.keep.ensures ∙ ap (λ items. items ++ option_to_list c.taken_up-read.result) (c.reserve.ensures.items ∙ ap (λ (v : ChunkIs). v.waiting) c.self.view_is)
     ∙ ap (λ o. now.waiting ++ option_to_list o) c.taken_up-read.ensures) in
-    fetched_is c.args.server c.args.sector c.args.count now c.args.out.now.items answer c.follow.new.out.items c.follow.new.self c.in-Ok.range (c.in-Ok.ensures.exact.0 refl) c.in-Ok.ensures.range
+    fetched_is c.args.server c.args.sector c.args.count c.in-Ok.range (c.in-Ok.ensures.exact.0 refl) c.in-Ok.ensures.range now c.args.out.now.items answer c.follow.new.out.items c.follow.new.self
     (comes_to now event answer mid c.follow.new.self c.args.out.now.items c.follow.new.out.items c.requires.ready midway c.in_ok-follow.ensures.went)

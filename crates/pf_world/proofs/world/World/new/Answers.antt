@@ -6,7 +6,7 @@ use Rattle.pf_group.specs.Making.{setup_with}
 use Rattle.pf_world.specs.Views.{WorldOn}
 use Rattle.pf_world.specs.Disks.{AreTold, six_list}
 use Rattle.pf_world.proofs.Sixes.{length_sixes, told_rest}
-use Rattle.pf_world.proofs.Begun.{Begun, all_made, all_new, begun_low, begun_more, begun_none, begun_rest, begun_spare, volume_setup}
+use Rattle.pf_world.proofs.Begun.{Begun, all_made, all_new, are_begun, begun_low, begun_more, begun_none, begun_rest, begun_spare, volume_setup}
 use Rattle.pf_world.proofs.world.World.new.Goals as goal
 
 pub loop-number-init : goal.loop-number-init
@@ -37,6 +37,7 @@ returns-in-Err-clause-back g c =
     let b : Begun g.D.Disk.faults c.args.disks.items c.args.sectors c.args.names c.args.format c.loop-number.number c.add.new.self c.loop-number.answer =
     subst (λ (w : WorldOn g.row.D.Denot). Begun g.D.Disk.faults c.args.disks.items c.args.sectors c.args.names c.args.format c.loop-number.number w c.loop-number.answer) (sym c.in-Err.ensures.err) c.loop-number.invariant in (
       c.add.new.self.world.chunks,
+      are_begun g.D.Disk.faults c.args.disks.items c.loop-number.number c.args.sectors c.args.names c.args.format c.add.new.self c.loop-number.answer b c.args.chunks (omega (arith, c.loop-number-test.true)),
       c.close.ensures c.args.disks.items
           (begun_rest g.D.Disk.faults c.args.disks.items c.loop-number.number c.args.sectors c.args.names c.args.format c.add.new.self c.loop-number.answer b)
           (begun_low g.D.Disk.faults c.args.disks.items c.loop-number.number c.args.sectors c.args.names c.args.format c.add.new.self c.loop-number.answer b),

@@ -1,7 +1,8 @@
 use Rattle.std.proofs.Common.{◌≡◌, ◌≤◌, Option, ℕ, length, arith, refl, sym, ap, subst}
 use Rattle.pf_world.specs.Settled.{HasSettledChunk}
 use Rattle.pf_world.specs.Views.{IsWorld, WorldIs, WorldOn}
-use Rattle.pf_world.proofs.SettlingWorld.{WorldSoFar, all_quiet, at_err, chunk_goes_on, chunk_there, world_begins, world_quiet, world_stopped}
+use Rattle.pf_world.proofs.FailingWorld.{world_failed}
+use Rattle.pf_world.proofs.SettlingWorld.{WorldSoFar, all_quiet, at_err, chunk_there, world_begins, world_quiet, world_stopped}
 use Rattle.pf_world.proofs.world.World.settle.Goals as goal
 
 pub loop-place-init : goal.loop-place-init
@@ -31,7 +32,7 @@ returns-in_err-rest-clause-err g c =
     let now : WorldIs = record { sectors = inside.sectors; names = inside.names; format = inside.format; chunks = inside.chunks.items } in
     let count : c.len-place-end.result ≡ length old.chunks = omega (arith, c.len-place-end.ensures, ap (λ (v : WorldOn _). length v.world.chunks) c.self.view_is, c.self.inside.chunks.ok.0) in
     let there = chunk_there old now so_far.goes_on place c.len-place-end.result chunk count c.loop-place-test.true c.index_mut.ensures.value in
-    at_err c.from_residual.result _ (chunk_goes_on old now so_far.goes_on place chunk c.settle_chunk.new.chunk there c.in_err-rest.ensures.err)
+    at_err c.from_residual.result _ (world_failed c.args.limit old c.args.out.now.items place c.loop-place.left c.loop-place.out.items now so_far chunk there c.settle_chunk.new.chunk c.in_err-rest.ensures.err)
 
 pub returns-in-None-clause-settled : goal.returns-in-None-clause-settled
 returns-in-None-clause-settled g c =

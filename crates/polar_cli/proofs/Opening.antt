@@ -1,0 +1,148 @@
+-- A volume is made on disks, or its first chunks are.
+use Rattle.std.proofs.Common.{◌≡◌, ℕ, ◌*◌, ◌≤◌, true, List, [], ◌∷◌, ◌++◌, IfSome, Option, drop, length, Some, flat_map, slice_get, refl, ap, sym, subst, ◌∙◌, arith}
+use Rattle.std.proofs.lemmas.Option.{slice_get_within}
+use Rattle.pf_disk.specs.Crashes.{Images}
+use Rattle.pf_script.specs.declared.command.Command.{Command}
+use Rattle.pf_script.specs.declared.command.Command.TheVariants as commands
+use Rattle.pf_script.specs.Lines.{is_volume}
+use Rattle.pf_protocol.specs.declared.answers.Answer.{Answer}
+use Rattle.pf_protocol.specs.Answers.{IsLegal, IsSetup}
+use Rattle.pf_protocol.specs.Servers.{Setup}
+use Rattle.pf_group.specs.Making.{making_answer, setup_with}
+use Rattle.pf_group.proofs.Sound.{sound}
+use Rattle.pf_report.specs.Texts.{answer_text, line_of}
+use Rattle.pf_chunk.specs.Saying.{answer_line}
+use Rattle.pf_chunk.specs.Views.{ChunkIs}
+use Rattle.pf_world.specs.declared.line.Line.{Line}
+use Rattle.pf_world.specs.Disks.{AreLeft}
+use Rattle.pf_world.specs.Headline.{IsSoundWorld, RunsTo}
+use Rattle.pf_world.specs.Making.{AreBegun, AreNew}
+use Rattle.pf_world.specs.Steps.{IsMade}
+use Rattle.pf_world.specs.Views.{WorldIs, WorldOn}
+use Rattle.pf_world.proofs.Begun.{some_chunks, volume_setup}
+use Rattle.pf_world.proofs.Causes.{HasPassed}
+use Rattle.pf_world.proofs.Happening.{same_world}
+use Rattle.pf_world.proofs.Running.{run_begins}
+use Rattle.polar_cli.specs.Placed.{IsVolume}
+use Rattle.polar_cli.specs.Running.{HasBegunVolume, HasNotOpened, HasOpened}
+
+-- a command that is a volume, with its numbers
+pub record VolumeOf (command : Command) : Type 0 where
+  pub chunks : ℕ
+  pub sectors : ℕ
+  pub names : ℕ
+  pub format : ℕ
+  pub is : command ≡ commands.Volume chunks sectors names format
+  pub fits : is_volume chunks sectors names format ≡ true
+
+pub volume_of : (n : ℕ) (command : Command) → IsVolume n command → VolumeOf command
+volume_of n (commands.Volume c s names f) volume = record { chunks = c; sectors = s; names = names; format = f; is = refl; fits = volume.1 }
+volume_of n (commands.Elect g i) volume = absurd volume
+volume_of n (commands.Resend g i) volume = absurd volume
+volume_of n (commands.Stop g i) volume = absurd volume
+volume_of n (commands.Restart g i) volume = absurd volume
+volume_of n (commands.Checkpoint g i) volume = absurd volume
+volume_of n (commands.Deliver g k) volume = absurd volume
+volume_of n (commands.Lose g k) volume = absurd volume
+volume_of n (commands.Submit g i s byte c) volume = absurd volume
+volume_of n (commands.Fetch g i s c) volume = absurd volume
+volume_of n (commands.Mark g i) volume = absurd volume
+volume_of n (commands.Settle limit) volume = absurd volume
+volume_of n (commands.ShowLog g i) volume = absurd volume
+volume_of n (commands.ShowApplied g i) volume = absurd volume
+volume_of n (commands.ShowSectors g i) volume = absurd volume
+volume_of n (commands.ShowAcked g) volume = absurd volume
+volume_of n (commands.ShowMark g i s) volume = absurd volume
+
+-- the text of a volume that was made
+made_says : (failed : List ℕ) (number : ℕ) (out : List ℕ) (answer : Answer) → answer ≡ making_answer failed → IfSome (answer_text answer) (λ text. out ≡ [] ++ line_of number text) → out ≡ answer_line number answer
+made_says [] number out answer is put =
+    let at = subst (λ a. IfSome (answer_text a) (λ text. out ≡ [] ++ line_of number text)) is put in
+    at ∙ ap (answer_line number) (sym is)
+made_says (i ∷ others) number out answer is put =
+    let at = subst (λ a. IfSome (answer_text a) (λ text. out ≡ [] ++ line_of number text)) is put in
+    at ∙ ap (answer_line number) (sym is)
+
+-- a group to which nothing has happened has a legal history
+new_legal : (setup : Setup) (sectors names format : ℕ) → IsSetup (setup_with sectors names format []) → setup ≡ setup_with sectors names format setup.failed → IsLegal setup []
+new_legal setup sectors names format good is =
+    let own : IsSetup (setup_with sectors names format setup.failed) = record { few_names = good.few_names; some_sectors = good.some_sectors; few_sectors = good.few_sectors; blocks = good.blocks; format = good.format; window = good.window } in
+    record { is_setup = subst IsSetup (sym is) own; legal = tt }
+
+none_at : (k : ℕ) (c : ChunkIs) → slice_get [] k ≡ Some c → ⊥
+none_at k c there = absurd (omega (arith, slice_get_within [] k c there))
+
+module _ {D : Type 0} (faults : D → ℕ) (command : Command) (before : List D) where
+  -- no chunk of the volume was made yet
+  pub none_begun : (v : VolumeOf command) → HasBegunVolume faults command before (record { sectors = v.sectors; names = v.names; format = v.format; chunks = [] })
+  none_begun v =
+      let left : WorldIs = record { sectors = v.sectors; names = v.names; format = v.format; chunks = [] } in
+      subst (λ c. HasBegunVolume faults c before left) (sym v.is)
+      (refl, refl, refl, record { few = omega arith; sixes = []; given = refl; each = λ k c there. absurd (none_at k c there); numbers = λ k c there. absurd (none_at k c there) })
+
+  module _ (made : WorldIs) (v : VolumeOf command) (begun : HasBegunVolume faults command before made) where
+    chunks_begun : AreBegun faults v.chunks v.sectors v.names v.format before made.chunks
+    chunks_begun = (subst (λ c. HasBegunVolume faults c before made) v.is begun).3
+
+    -- the histories of the first chunks are empty, and legal
+    pub begun_sound : IsSoundWorld made
+    begun_sound k c there = record {
+      legal = subst (λ history. IsLegal c.group.setup history) (sym (chunks_begun.each k c there).history)
+          (new_legal c.group.setup v.sectors v.names v.format (volume_setup v.chunks v.sectors v.names v.format v.fits) (chunks_begun.numbers k c there).1);
+      sound = sound c.group.setup c.group.history;
+    }
+
+    pub begun_passed : (seen : D → Option (List ℕ)) (may_leave : D → Images) (after : List D) → AreLeft seen may_leave faults made.chunks before after → HasPassed seen may_leave faults before after made made
+    begun_passed seen may_leave after left = record {
+      numbers = λ k c there. (chunks_begun.numbers k c there).0;
+      sound = begun_sound;
+      fresh = record { sixes = chunks_begun.sixes; given = chunks_begun.given; each = chunks_begun.each };
+      goes_on = same_world made;
+      left = left;
+    }
+
+module _ {D : Type 0} (seen : D → Option (List ℕ)) (may_leave : D → Images) (faults : D → ℕ) (line : Line) (chunks sectors names format : ℕ) (is : line.command ≡ commands.Volume chunks sectors names format) (requires : (n : ℕ) × IsVolume n line.command) where
+  fits : is_volume chunks sectors names format ≡ true
+  fits = (subst (λ (c : Command). (n : ℕ) × IsVolume n c) is requires).1.1
+
+  -- all chunks were made
+  pub opened : (text : List ℕ) (answer : Answer) (disks : List D) (on : WorldOn D) → IsMade chunks sectors names format on.world answer → IsSoundWorld on.world → AreNew faults disks on.world → on.spare ≡ drop (6 * chunks) disks → IfSome (answer_text answer) (λ out. text ≡ [] ++ line_of line.number out)
+      → HasOpened faults line text disks on
+  opened text answer disks on made sound fresh spare put =
+      subst (λ (c : Command). HasOpened faults (record { number = line.number; command = c }) text disks on) (sym is) (record {
+        is_world = made.is_world;
+        sound = sound;
+        run = subst (λ t. RunsTo (record { number = line.number; command = commands.Volume chunks sectors names format } ∷ []) t on.world) (sym (made_says (flat_map (λ c. c.group.setup.failed) on.world.chunks) line.number text answer made.answered put))
+            (run_begins chunks sectors names format line.number on.world answer made);
+        fresh = fresh;
+        volume = (sym made.count, fits);
+        spare = spare ∙ ap (λ n. drop (6 * n) disks) (sym made.count);
+      })
+
+  -- only the first were
+  pub not_opened : (before after : List D) → (made : List ChunkIs) × AreBegun faults chunks sectors names format before made × AreLeft seen may_leave faults made before after → HasNotOpened seen may_leave faults line before after
+  not_opened before after back =
+      let made : WorldIs = record { sectors = sectors; names = names; format = format; chunks = back.0 } in
+      record { made = made; begun = subst (λ c. HasBegunVolume faults c before made) (sym is) (refl, refl, refl, back.1); left = back.2 }
+
+  -- all were, but there was no memory for the text
+  pub untold : (answer : Answer) (on : WorldOn D) (before after : List D) → IsMade chunks sectors names format on.world answer → AreNew faults before on.world → on.spare ≡ drop (6 * chunks) before → 48 ≤ length before
+      → ((given : List D) → drop (6 * length on.world.chunks) given ≡ on.spare → 6 * length on.world.chunks ≤ length given → AreLeft seen may_leave faults on.world.chunks given after) → HasNotOpened seen may_leave faults line before after
+  untold answer on before after made fresh spare enough closed =
+      let begun : AreBegun faults chunks sectors names format before on.world.chunks = record {
+        few = omega (arith, made.count);
+        sixes = fresh.sixes;
+        given = fresh.given;
+        each = fresh.each;
+        numbers = λ k c there.
+            let its = made.is_world.each k c there in (
+              its.number,
+              its.setup ∙ ap (λ s. setup_with s on.world.names on.world.format its.failed) made.numbers.0 ∙ ap (λ n. setup_with sectors n on.world.format its.failed) made.numbers.1 ∙ ap (λ f. setup_with sectors names f its.failed) made.numbers.2
+                  ∙ ap (λ (s : Setup). setup_with sectors names format s.failed) (sym its.setup),
+            );
+      } in
+      record {
+        made = on.world;
+        begun = subst (λ c. HasBegunVolume faults c before on.world) (sym is) (made.numbers.0, made.numbers.1, made.numbers.2, begun);
+        left = closed before (ap (λ n. drop (6 * n) before) made.count ∙ sym spare) (omega (arith, made.count, some_chunks chunks sectors names format fits, enough));
+      }
