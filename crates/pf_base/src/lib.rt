@@ -31,6 +31,3 @@ pub type Term = u64;
 
 /// The bytes of a sector.
 pub type Sector = [u8; 512];
-
-#[cfg(test)]
-mod tests;

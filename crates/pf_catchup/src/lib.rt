@@ -3,8 +3,6 @@
 
 mod choice;
 mod kinds;
-#[cfg(test)]
-mod tests;
 
 pub use choice::plan;
 pub use kinds::Plan;

@@ -9,8 +9,6 @@ mod ops;
 mod packets;
 mod records;
 mod tables;
-#[cfg(test)]
-mod tests;
 
 pub use entries::{Entries, Entry, EntryMap, Look, Named, VoteLog};
 pub use ops::{Job, Op};

@@ -1,5 +1,5 @@
 //! Copies that are made beside each other.
-use crate::{Gate, OpenGate, Work, bring_all};
+use crate::{Gate, Work, bring_all};
 use pf_base::{Data, Payload, Range};
 use pf_entry::{Job, Op};
 use std::alloc::Global;
@@ -66,25 +66,5 @@ fn a_second_worker_begins_before_the_first_has_ended(rt: HostRuntime) -> Result<
     let mut works = two(rt.alloc())?;
     bring_all(&rt, rt.alloc(), works.as_mut_slice(), 2, &gate);
     assert_eq!(rt; gate.met.load(Ordering::SeqCst), 1);
-    Ok(())
-}
-
-/// The slot of a job's sectors, where they begin, and the first byte of the first of them.
-fn told(work: &Work) -> Option<(u64, u32, u8)> {
-    let filled = work.filled.as_ref()?;
-    let sector = filled.sectors.as_slice().first()?;
-    Some((filled.slot, filled.range.first(), sector[0]))
-}
-
-#[test]
-fn each_job_gets_its_sectors(rt: HostRuntime) -> Result<(), Fail> {
-    for workers in [1, 2, 8] {
-        let mut works = two(rt.alloc())?;
-        bring_all(&rt, rt.alloc(), works.as_mut_slice(), workers, &OpenGate);
-        let first = works.as_slice().first().and_then(told);
-        let last = works.as_slice().last().and_then(told);
-        assert_eq!(rt; first, Some((1, 0, 0x41)), "{workers}");
-        assert_eq!(rt; last, Some((2, 3, 0x42)), "{workers}");
-    }
     Ok(())
 }

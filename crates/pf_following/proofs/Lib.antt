@@ -4,4 +4,3 @@ pub mod Cases
 pub mod Marking
 pub mod Imaging
 pub mod Saving
-pub mod Trying

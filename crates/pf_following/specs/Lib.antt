@@ -1,4 +1,3 @@
 pub mod Accepting
 pub mod Halves
 pub mod Images
-pub mod Formatted

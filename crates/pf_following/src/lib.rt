@@ -11,8 +11,6 @@ mod images;
 mod probes;
 mod replies;
 mod terms;
-#[cfg(test)]
-mod tests;
 mod votes;
 
 pub use accepts::accept;

@@ -5,8 +5,6 @@ mod errors;
 mod log;
 mod ring;
 mod slots;
-#[cfg(test)]
-mod tests;
 
 pub use errors::WindowFull;
 pub use log::HoleLog;

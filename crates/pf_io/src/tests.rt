@@ -1,5 +1,5 @@
-//! The ends in memory, with a failure in mid-stream.
-use crate::{Failed, MemSink, MemSource, Sink, Source, SureSource};
+//! Sources in memory, with a failure in mid-stream.
+use crate::{Failed, MemSource, Source, SureSource};
 use std::test::Fail;
 
 #[test]
@@ -19,22 +19,6 @@ fn sources(rt: HostRuntime) -> Result<(), Fail> {
     }
     for answer in [3, 2, 0] {
         assert_eq!(rt; sure.read(&mut buf), Ok(answer));
-    }
-    Ok(())
-}
-
-#[test]
-fn sinks(rt: HostRuntime) -> Result<(), Fail> {
-    let mut sink = MemSink::new(rt.alloc(), 5, vec![in rt.alloc(); 1]?)?;
-    for (piece, answer, after) in [
-        ("abc", Ok(3), "abc"),
-        ("de", Err(Failed), "abc"),
-        ("def", Ok(2), "abcde"),
-        ("", Ok(0), "abcde"),
-        ("f", Err(Failed), "abcde"),
-    ] {
-        assert_eq!(rt; sink.write(piece.as_bytes()), answer, "{piece}");
-        assert_eq!(rt; sink.bytes(), after.as_bytes(), "{piece}");
     }
     Ok(())
 }

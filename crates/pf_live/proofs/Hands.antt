@@ -100,7 +100,7 @@ module _ {D : Type 0} {disk : Ghosts D} (group : SharedGroup D disk) (n : ℕ) (
     pub finds_nothing : (answer : Answer) → IsApplier group a → Steps root n alone (seen_by a.seat) Claim answer (seen_by b.seat) → ((job : Job) → answer ≡ JobIs job → ⊥) → b.ended ≡ false → HasNothing group b
     finds_nothing answer is s no_job on = let none : answer ≡ Refused NoneFree = none_is_free root.setup _ answer s.legal.answered no_job in
         let own : entries_of (number_of b.seat) (seen_by b.seat) ≡ entries_of n (seen_by a.seat) ++ nothing_free (number_of b.seat) ∷ [] =
-          own_is _ s.adds.own ∙ (ap (λ x. entries_of n (seen_by a.seat) ++ entry n (Happened (record { event = Claim; answer = x })) ∷ []) none ∙ ap (λ m. entries_of n (seen_by a.seat) ++ nothing_free m ∷ []) (sym same)) in record {
+        own_is _ s.adds.own ∙ (ap (λ x. entries_of n (seen_by a.seat) ++ entry n (Happened (record { event = Claim; answer = x })) ∷ []) none ∙ ap (λ m. entries_of n (seen_by a.seat) ++ nothing_free m ∷ []) (sym same)) in record {
           is = record {
             seat = at;
             steps = kept_steps (each_adds n Applies alone (seen_by a.seat) (seen_by b.seat) _ s.adds (subst (λ m. EachOf m Applies (seen_by a.seat)) was is.steps) refl);

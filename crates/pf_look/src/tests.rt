@@ -1,5 +1,5 @@
-//! What is named, free and reached, at small logs.
-use crate::{closure, is_free, look_for};
+//! What is reached in a small log.
+use crate::closure;
 use pf_base::{Data, Payload, Range, Slot};
 use pf_entry::{Entry, Look, Named, Op};
 use pf_holes::SlotSet;
@@ -47,44 +47,6 @@ fn set_of(rt: &HostRuntime, slots: &[Slot]) -> Result<SlotSet, Fail> {
         set.add(*slot);
     }
     Ok(set)
-}
-
-#[test]
-fn names_the_slots_before(rt: HostRuntime) -> Result<(), Fail> {
-    let alloc = rt.alloc();
-    let before = named(alloc, &[(1, 0), (2, 1), (3, 2), (4, 3)])?;
-    for (base, names, first, count) in [(0, 16, 1, 4), (2, 16, 3, 2), (0, 2, 3, 2), (3, 2, 4, 1)] {
-        let look = look_for(alloc, 5, base, &before, names)?;
-        assert_eq!(rt; look.as_slice().len(), count, "base {base}, names {names}");
-        assert_eq!(rt;
-            look.as_slice().first().map(|n| n.slot),
-            Some(first),
-            "base {base}, names {names}"
-        );
-    }
-    assert_eq!(rt; look_for(alloc, 5, 0, &before, 0)?.as_slice().len(), 0);
-    Ok(())
-}
-
-#[test]
-fn passes_what_is_named_apart(rt: HostRuntime) -> Result<(), Fail> {
-    let alloc = rt.alloc();
-    let none = set_of(&rt, &[])?;
-    let two = set_of(&rt, &[2])?;
-    let apart = entry_of(alloc, 3, &[(1, 0), (2, 1)], write_to(alloc, 5)?)?;
-    let unnamed = entry_of(alloc, 3, &[(1, 0)], write_to(alloc, 5)?)?;
-    let shared = entry_of(alloc, 3, &[(1, 0), (2, 5)], write_to(alloc, 5)?)?;
-    let mark = entry_of(alloc, 3, &[(1, 0), (2, 1)], Op::Mark)?;
-    for (applied, frees) in [
-        (&none, [true, false, false, false]),
-        (&two, [true, true, true, false]),
-    ] {
-        for (entry, free) in [&apart, &unnamed, &shared, &mark].iter().zip(frees.iter()) {
-            assert_eq!(rt; is_free(entry, applied), *free);
-        }
-    }
-    assert!(rt; is_free(&mark, &set_of(&rt, &[2, 1])?));
-    Ok(())
 }
 
 #[test]

@@ -132,12 +132,3 @@ one_made base own other slot mine theirs more less ops made op m le is_mine is_t
       ∙ sym (map-range_with_len_more (merged_op base own other) (base + 1) (slot - base) (slot + 1) (omega arith))
       ∙ ap (λ n. map (merged_op base own other) (range_with_len (base + 1) n)) (let z : slot - base + 1 ≡ slot + 1 - base = omega arith in z);
 }
-
--- a list of numbered slots makes such a log
-pub numbered : (rows : List Entry) → Every (λ e. e.slot < 2 ^ 64 - 1) rows → AreNumbered (log_of rows)
-unfolding log_of
-numbered rows each slot has =
-    let (e, there) = some_of (FinMap.get (log_of rows) slot) has in
-    let (row, (k, lt, at), keyed, _) = listed (λ e. e.slot) (λ e. e) rows slot e (sym (get-from_entries nat_cmp_total (entry_rows rows) slot) ∙ there) in
-    let (x, same, low) = every_at (λ e. e.slot) (λ e. e) (λ e. e.slot < 2 ^ 64 - 1) rows k row each lt at in
-    subst (λ n. n < 2 ^ 64 - 1) (ap (λ y. y.slot) same ∙ keyed) low

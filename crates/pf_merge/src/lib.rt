@@ -6,8 +6,6 @@ mod lasts;
 mod merging;
 mod ops;
 mod staying;
-#[cfg(test)]
-mod tests;
 
 pub use merging::{Merged, merge};
 pub use ops::Ops;

@@ -4,9 +4,9 @@ ghost use Rattle.pf_restart.specs.Beginning.{IsSeat};
 
 use crate::ServerRoom;
 use pf_base::NoMemory;
-use pf_disk::{Disk, MemDisk, RamDisk};
+use pf_disk::{Disk, RamDisk};
 use pf_kept::Kept;
-use pf_protocol::{Answer, Refusal};
+use pf_protocol::Answer;
 use pf_restart::Seat;
 use pf_server::{Server, State};
 use pf_state::Role;
@@ -44,26 +44,9 @@ fn opened(
     Ok(ServerRoom::new(alloc, 7, seat)?.open(a, b))
 }
 
-/// A server on two disks, whose calls of these numbers fail.
-fn opened_on(
-    alloc: Global,
-    failing: (u64, u64),
-) -> Result<(Server<Kept<MemDisk>>, Answer), NoMemory> {
-    let a = MemDisk::new(alloc, 20_000, 40, vec![in alloc; failing.0]?)?;
-    let b = MemDisk::new(alloc, 20_000, 40, vec![in alloc; failing.1]?)?;
-    Ok(ServerRoom::new(alloc, 7, seat(1, 2))?.open(a, b))
-}
-
 fn is_done(answer: &Answer) -> bool {
     match answer {
         Answer::Done => true,
-        _ => false,
-    }
-}
-
-fn is_halted(answer: &Answer) -> bool {
-    match answer {
-        Answer::Refused(Refusal::Halted) => true,
         _ => false,
     }
 }
@@ -104,24 +87,5 @@ fn servers_open(rt: HostRuntime) -> Result<(), Fail> {
     assert!(rt; is_opened(alloc, seat(0, 2), true, b"")?);
     assert!(rt; is_opened(alloc, seat(1, 1), false, b"")?);
     assert!(rt; is_opened(alloc, seat(2, 2), false, b"PFCL was here")?);
-    Ok(())
-}
-
-#[test]
-fn a_disk_fails(rt: HostRuntime) -> Result<(), Fail> {
-    for (failing, halts) in [
-        ((99, 0), true),
-        ((99, 1), true),
-        ((99, 2), false),
-        ((0, 99), true),
-        ((1, 99), true),
-        ((6, 99), true),
-        ((99, 99), false),
-    ] {
-        let (server, answer) = opened_on(rt.alloc(), failing)?;
-        assert_eq!(rt; is_halted(&answer), halts, "{failing:?}");
-        assert_eq!(rt; is_done(&answer), !halts, "{failing:?}");
-        assert_eq!(rt; server.is_running(), !halts, "{failing:?}");
-    }
     Ok(())
 }

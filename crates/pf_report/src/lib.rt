@@ -11,6 +11,3 @@ mod sectors;
 pub use answers::{put_answer, put_refusal, put_settle};
 pub use logs::{put_acked, put_applied, put_log};
 pub use sectors::{put_mark, put_read, put_sectors};
-
-#[cfg(test)]
-mod tests;

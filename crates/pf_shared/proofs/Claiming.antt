@@ -81,7 +81,7 @@ pub claimed_is_free : (setup : Setup) (past : History) (list : List (Stamped Mom
 claimed_is_free setup past list job bare legal is = let k : Key = key job.server job.life job.slot in let all : History = past ++ happenings list in
     let claims : claims_of [] all ≡ claims_of [] (happenings list) = claims-append [] past (happenings list) ∙ ap (λ c. claims_of c (happenings list)) bare in
     nobody setup.window (replay setup all) (claims_of [] all) job (legal_open setup all legal) (claims_now setup _ job is) (hand_of k None list)
-        (λ h e. let there = hand_is_open k h list e in (there.0, ap (λ c. slice_get c there.0) claims ∙ there.1))
+    (λ h e. let there = hand_is_open k h list e in (there.0, ap (λ c. slice_get c there.0) claims ∙ there.1))
 
 -- an entry of a claim keeps the list tidy
 may_claim : (setup : Setup) (past : History) (list : List (Stamped Moment)) (k : Key) (seat : ℕ) (answer : Answer) → claims_of [] past ≡ [] → IsLegal setup (past ++ happenings list) → IsAnswer setup (replay setup (past ++ happenings list)) Claim answer

@@ -3,8 +3,8 @@ ghost use Rattle.std.specs.Prelude.{IfOk};
 ghost use Rattle.pf_group.specs.Making.{AreTold};
 ghost use Rattle.pf_shared.specs.Seats.{IsSeatOf};
 
-use crate::{GroupSeat, LookFault, SharedGroup};
-use pf_base::{NoMemory, Range};
+use crate::{GroupSeat, SharedGroup};
+use pf_base::NoMemory;
 use pf_disk::{Disk, RamDisk};
 use pf_group::{Group, GroupEvent, Six};
 use std::alloc::Global;
@@ -39,70 +39,19 @@ fn new_shared(alloc: Global) -> Result<(SharedGroup<RamDisk>, GroupSeat<RamDisk>
 }
 
 #[test]
-fn a_look_tells_of_the_group(rt: HostRuntime) -> Result<(), Fail> {
+fn looks_tell_of_the_group(rt: HostRuntime) -> Result<(), Fail> {
     let alloc = rt.alloc();
     let (shared, mut seat) = new_shared(alloc)?;
     shared.step(&rt, alloc, &mut seat, GroupEvent::Mark(0))?;
-    shared.step(&rt, alloc, &mut seat, GroupEvent::Lose(1))?;
-    let packets = shared.packets(&rt, alloc, &mut seat)?;
-    assert_eq!(rt; packets, 2);
-    let first = shared.is_left(&rt, alloc, &mut seat, 0)?;
-    let second = shared.is_left(&rt, alloc, &mut seat, 1)?;
-    assert_eq!(rt; (first, second), (true, false));
-    let leader = shared.leader(&rt, alloc, &mut seat)?;
-    assert_eq!(rt; leader, Some((1, 0)));
-    let acked = shared.acked(&rt, alloc, &mut seat)?;
-    assert!(rt; acked.is_empty());
-    Ok(())
-}
-
-#[test]
-fn a_look_tells_of_a_server(rt: HostRuntime) -> Result<(), Fail> {
-    let alloc = rt.alloc();
-    let (shared, mut seat) = new_shared(alloc)?;
-    shared.step(&rt, alloc, &mut seat, GroupEvent::Mark(0))?;
-    shared.step(&rt, alloc, &mut seat, GroupEvent::Stop(2))?;
     let entry = shared.entry_of(&rt, alloc, &mut seat, 0, 1)?;
     assert!(rt; entry.is_some_and(|entry| entry.slot == 1));
-    let is_committed = shared.is_committed_of(&rt, alloc, &mut seat, 0, 1)?;
-    assert!(rt; !is_committed);
     let applied = shared.applied_of(&rt, alloc, &mut seat, 0)?;
     assert_eq!(rt; applied.upto(), 0);
     let sectors = shared.sectors_of(&rt, alloc, &mut seat, 0)?;
     assert_eq!(rt; sectors.as_slice().len(), 16);
     let snapshot = shared.snapshot(&rt, alloc, &mut seat, 0, 1)?;
     assert!(rt; snapshot.is_none());
-    let term = shared.term_of(&rt, alloc, &mut seat, 0);
-    assert_eq!(rt; term, Ok(1));
-    let base = shared.base_of(&rt, alloc, &mut seat, 0);
-    assert_eq!(rt; base, Ok(0));
-    let term = shared.term_of(&rt, alloc, &mut seat, 2);
-    assert_eq!(rt; term, Err(LookFault::Down));
-    let applied = shared.applied_of(&rt, alloc, &mut seat, 2);
-    assert!(rt; applied.is_err_and(|fault| fault.number() == 51));
-    Ok(())
-}
-
-#[test]
-fn an_answer_is_taken_once(rt: HostRuntime) -> Result<(), Fail> {
-    let alloc = rt.alloc();
-    let (shared, mut seat) = new_shared(alloc)?;
-    let Ok(range) = Range::new(3, 2) else {
-        return Ok(());
-    };
-    shared.step(
-        &rt,
-        alloc,
-        &mut seat,
-        GroupEvent::Fetch { server: 0, range },
-    )?;
-    shared.step(&rt, alloc, &mut seat, GroupEvent::Deliver(0))?;
-    let early = shared.take_read(&rt, alloc, &mut seat, 0)?;
-    assert!(rt; early.is_none());
-    shared.step(&rt, alloc, &mut seat, GroupEvent::Deliver(2))?;
-    let taken = shared.take_read(&rt, alloc, &mut seat, 0)?;
-    assert!(rt; taken.is_some_and(|data| data.as_slice() == &[[0; 512]; 2][..]));
-    let again = shared.take_read(&rt, alloc, &mut seat, 0)?;
-    assert!(rt; again.is_none());
+    let acked = shared.acked(&rt, alloc, &mut seat)?;
+    assert!(rt; acked.is_empty());
     Ok(())
 }

@@ -1,6 +1,5 @@
-//! Records as bytes: the body of a term, a record of each kind there and back, and payloads that are none.
+//! Records as bytes: a record of each kind there and back, and payloads that are none.
 use crate::{read_record, spell_record};
-use pf_entry::Record;
 use std::alloc::Global;
 use std::test::Fail;
 
@@ -61,21 +60,6 @@ fn comes_back(alloc: Global, kind: u8, payload: &[u8]) -> Result<bool, Fail> {
     Ok(body.as_slice() == expected.as_slice())
 }
 
-/// Whether a payload is that of a record.
-fn is_read(alloc: Global, format: u8, kind: u8, payload: &[u8]) -> Result<bool, Fail> {
-    Ok(read_record(alloc, format, kind, payload)?.is_some())
-}
-
-#[test]
-fn the_body_of_a_term(rt: HostRuntime) -> Result<(), Fail> {
-    let body = spell_record(rt.alloc(), &Record::Term(2))?;
-    assert_eq!(rt;
-        body.as_slice(),
-        [2, 0, 0, 0, 8, 0, 0, 0, 0, 0, 0, 0, 2, 0].as_slice()
-    );
-    Ok(())
-}
-
 #[test]
 fn each_kind_comes_back(rt: HostRuntime) -> Result<(), Fail> {
     let alloc = rt.alloc();
@@ -83,51 +67,5 @@ fn each_kind_comes_back(rt: HostRuntime) -> Result<(), Fail> {
     assert!(rt; comes_back(alloc, 2, &[0, 0, 0, 0, 0, 0, 1, 0])?);
     assert!(rt; comes_back(alloc, 3, &write(alloc)?)?);
     assert!(rt; comes_back(alloc, 4, &merged(alloc)?)?);
-    Ok(())
-}
-
-/// A no-op with other bytes at one place.
-fn changed(alloc: Global, at: usize, byte: u8) -> Result<Vec<u8>, Fail> {
-    let mut bytes = Vec::from_slice(alloc, &NOOP)?;
-    if let Some(place) = bytes.get_mut(at) {
-        *place = byte;
-    }
-    Ok(bytes)
-}
-
-#[test]
-fn payloads_that_are_none(rt: HostRuntime) -> Result<(), Fail> {
-    let alloc = rt.alloc();
-    for (format, at, byte, expected) in [
-        (1, 7, 2, true),
-        (2, 7, 2, true),
-        (2, 25, 2, true),
-        // the first format has no marks
-        (1, 25, 2, false),
-        (2, 25, 3, false),
-        // slot, term and first are at least 1
-        (2, 7, 0, false),
-        (2, 15, 0, false),
-        (2, 23, 0, false),
-        // a merged entry names no slot
-        (2, 24, 1, false),
-    ] {
-        assert_eq!(rt;
-            is_read(alloc, format, 3, &changed(alloc, at, byte)?)?,
-            expected
-        );
-    }
-    for (kind, payload, expected) in [
-        (2, [0; 8].as_slice(), true),
-        (2, &[0; 7], false),
-        (2, &[0; 9], false),
-        (0, &[0; 8], false),
-        (5, &[0; 8], false),
-    ] {
-        assert_eq!(rt; is_read(alloc, 2, kind, payload)?, expected);
-    }
-    for (sectors, expected) in [(8, false), (16, true), (20, false), (24, true)] {
-        assert_eq!(rt; is_read(alloc, 2, 1, &image(alloc, sectors)?)?, expected);
-    }
     Ok(())
 }

@@ -6,8 +6,6 @@ mod acks;
 mod known;
 mod snapshots;
 mod starts;
-#[cfg(test)]
-mod tests;
 
 pub use acks::Acks;
 pub use known::Known;

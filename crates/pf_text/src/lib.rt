@@ -6,6 +6,3 @@ mod read;
 
 pub use put::{put_decimal, put_runs, put_text};
 pub use read::{decimal, hex_byte};
-
-#[cfg(test)]
-mod tests;

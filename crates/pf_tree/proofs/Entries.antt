@@ -110,8 +110,8 @@ pub named_other : (es : Entries) (d i : ℕ) (n : Name) (e : ℕ) (m : Name) →
 named_other es d i n e m apart =
     let row : Entry = record { inode = i; name = n } in
     kept_name es d (others (names_in es d) n ++ row ∷ []) e m (λ is.
-      before_last (others (names_in es d) n) row m (false_from_ne_true _ (λ h. apart is (sym (is_name row m h))))
-      ∙ others_other (names_in es d) n m (apart is))
+    before_last (others (names_in es d) n) row m (false_from_ne_true _ (λ h. apart is (sym (is_name row m h))))
+    ∙ others_other (names_in es d) n m (apart is))
 
 pub no_names : (es : Entries) (d : ℕ) (n : Name) → has_names es d ≡ false → entry_at es d n ≡ None
 no_names es d n e = none_in (names_in es d) e

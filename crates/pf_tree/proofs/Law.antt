@@ -158,8 +158,8 @@ module _ (d : Data) (tables : Tables) (tree : Tree) (s : StandsFor d tables tree
       let i_low : nat_lt i (length (set tables.inodes i (Some x))) ≡ true = ap (nat_lt i) (length-set tables.inodes i (Some x)) ∙ lt-ltb i (length tables.inodes) low in
       follows_change _ _ _ (put tree (n ∷ p) node)
       (ap (λ (o : Option Inode). after o (found tables p) (nat_lt i (length (set tables.inodes i o)))) is
-        ∙ ap (λ (dir : ℕ). after (Some x) dir (nat_lt i (length (set tables.inodes i (Some x))))) at_p
-        ∙ ap (λ (b : Bool). after (Some x) place.dir.inode b) i_low)
+      ∙ ap (λ (dir : ℕ). after (Some x) dir (nat_lt i (length (set tables.inodes i (Some x))))) at_p
+      ∙ ap (λ (b : Bool). after (Some x) place.dir.inode b) i_low)
       (stands_made d tables tree s n p place.dir.inode i x node place.dir.leads place.dir.is place.absent low free empty (shown i))
 
   -- write and truncate
@@ -173,30 +173,30 @@ module _ (d : Data) (tables : Tables) (tree : Tree) (s : StandsFor d tables tree
       let as_many : length fresh ≡ want - have = length-take-le (want - have) (untagged d tables.tags) (omega (arith, room)) in
       let all : (b : ℕ) → has fresh b ≡ true → has (untagged d tables.tags) b ≡ true = λ b e. has_take (want - have) (untagged d tables.tags) b e in
       let unused : (b : ℕ) → has fresh b ≡ true → tag_at tables.tags b ≡ None =
-          λ b e. let u = kept_of_range _ d.first (d.blocks - d.first) b (all b e) in is_none_of (tag_at tables.tags b) (not-true _ u.passes) in
+      λ b e. let u = kept_of_range _ d.first (d.blocks - d.first) b (all b e) in is_none_of (tag_at tables.tags b) (not-true _ u.passes) in
       let inside : (b : ℕ) → has fresh b ≡ true → b < length tables.tags =
-          λ b e. let u = kept_of_range _ d.first (d.blocks - d.first) b (all b e) in let l = u.low in let h = u.high in let z = s.blocks in omega (arith, l, h, z) in
+      λ b e. let u = kept_of_range _ d.first (d.blocks - d.first) b (all b e) in let l = u.low in let h = u.high in let z = s.blocks in omega (arith, l, h, z) in
       let apart : Distinct fresh = distinct_take (want - have) (untagged d tables.tags) (distinct_range _ d.first (d.blocks - d.first)) in
       let tags2 : List (Option Tag) = give_all (free_all tables.tags (drop want old)) i have fresh in
       let i_low : i < 1024 = (let l = used_within tables.inodes i (ap is_some f.is) in let z = s.places in omega (arith, l, z)) in
       let short : have + length fresh ≤ 48 =
-          (let a = few_blocks size few in let b = few_blocks f.size (s.sizes i f.size f.is) in omega (arith, a, b, as_many)) in
+      (let a = few_blocks size few in let b = few_blocks f.size (s.sizes i f.size f.is) in omega (arith, a, b, as_many)) in
       let set_first : Tables = record tables { inodes = set tables.inodes i (Some (OfFile size)) } in
       let done : applied tables (resizes d tables i (Some (File f.size old)) size) ≡ record { inodes = set tables.inodes i (Some (OfFile size)); entries = tables.entries; tags = tags2 } =
-          ap (λ (b : Bool). applied (record tables { inodes = cond b (set tables.inodes i (Some (OfFile size))) tables.inodes }) (freed (drop want old) ++ given i have fresh)) (le-leb size 196608 few)
-          ∙ applied_append set_first (freed (drop want old)) (given i have fresh)
-          ∙ ap (λ (t : Tables). applied t (given i have fresh)) (applied_freed set_first (drop want old))
-          ∙ applied_given (record set_first { tags = free_all tables.tags (drop want old) }) i have fresh (length-set tables.inodes i (Some (OfFile size)) ∙ s.places) i_low short in
+      ap (λ (b : Bool). applied (record tables { inodes = cond b (set tables.inodes i (Some (OfFile size))) tables.inodes }) (freed (drop want old) ++ given i have fresh)) (le-leb size 196608 few)
+      ∙ applied_append set_first (freed (drop want old)) (given i have fresh)
+      ∙ ap (λ (t : Tables). applied t (given i have fresh)) (applied_freed set_first (drop want old))
+      ∙ applied_given (record set_first { tags = free_all tables.tags (drop want old) }) i have fresh (length-set tables.inodes i (Some (OfFile size)) ∙ s.places) i_low short in
       follows_by _ (resizes d tables i (Some (File f.size old)) size) _ (Some (replaced tree p (File size (take want old ++ fresh))))
       (ap (λ (j : ℕ). resizes d tables j (node_at tables p) size) (found_is p i f.leads) ∙ ap (λ (o : Option Node). resizes d tables i o size) f.in_tables)
       (ap (λ (o : Option Node). Some (replaced tree p (File size (sized_blocks (blocks_at o) (unlisted d tree) (block_count (size_at o)) (block_count size))))) f.in_tree
-        ∙ ap (λ (free : List ℕ). Some (replaced tree p (File size (take want old ++ take (want - have) free)))) (sym (free_same d tables tree s)))
+      ∙ ap (λ (free : List ℕ). Some (replaced tree p (File size (take want old ++ take (want - have) free)))) (sym (free_same d tables tree s)))
       (follows_change _ _ _ _ done
-        (stands_resized d tables tree s p i f.size size tags2 (take want old ++ fresh) f.leads f.is
-          (sizing.resized (inode_at tables) tables.tags s.tags i f.size f.is want fresh as_many apart inside unused)
-          (sizing.length_sized (inode_at tables) tables.tags s.tags i f.size f.is want fresh as_many apart inside unused)
-          few
-          (length_given (free_all tables.tags (drop want old)) i have fresh ∙ length_freed tables.tags (drop want old))))
+      (stands_resized d tables tree s p i f.size size tags2 (take want old ++ fresh) f.leads f.is
+      (sizing.resized (inode_at tables) tables.tags s.tags i f.size f.is want fresh as_many apart inside unused)
+      (sizing.length_sized (inode_at tables) tables.tags s.tags i f.size f.is want fresh as_many apart inside unused)
+      few
+      (length_given (free_all tables.tags (drop want old)) i have fresh ∙ length_freed tables.tags (drop want old))))
 
   sized_by : (p : Path) (size : ℕ) (f : FileAt p) → size ≤ 196608 → size_refusal (tree_sight d tree) p size ≡ None → Follows d tables (sizes d tables p size) tree (sized d tree p size)
   sized_by p size f few fits =
@@ -204,7 +204,7 @@ module _ (d : Data) (tables : Tables) (tree : Tree) (s : StandsFor d tables tree
       let in_tree : size_at (at tree p) ≡ f.size = ap size_at f.in_tree in
       let in_tables : size_at (node_at tables p) ≡ f.size = ap size_at f.in_tables in
       let room : block_count size ≤ block_count f.size + length (untagged d tables.tags) =
-          subst (λ n. block_count size ≤ n) (ap (λ n. block_count n + length (unlisted d tree)) in_tree ∙ ap (λ (bs : List ℕ). block_count f.size + length bs) (sym (free_same d tables tree s))) low in
+      subst (λ n. block_count size ≤ n) (ap (λ n. block_count n + length (unlisted d tree)) in_tree ∙ ap (λ (bs : List ℕ). block_count f.size + length bs) (sym (free_same d tables tree s))) low in
       elim (cases_Bool (size == f.size)) [
         | inl same ↦
             follows_by _ [] _ None
@@ -224,19 +224,19 @@ module _ (d : Data) (tables : Tables) (tree : Tree) (s : StandsFor d tables tree
       let old : List ℕ = blocks_of tables.tags i (block_count f.size) in
       let named_off : Tables = record tables { entries = unnamed tables.entries w.directory n } in
       let done : applied tables (DeleteEntry w.directory n ∷ (freed old ++ SetInode i 0 0 ∷ [])) ≡ record { inodes = set tables.inodes i None; entries = unnamed tables.entries w.directory n; tags = free_all tables.tags old } =
-          applied_append named_off (freed old) (SetInode i 0 0 ∷ [])
-          ∙ ap (λ (t : Tables). applied t (SetInode i 0 0 ∷ [])) (applied_freed named_off old) in
+      applied_append named_off (freed old) (SetInode i 0 0 ∷ [])
+      ∙ ap (λ (t : Tables). applied t (SetInode i 0 0 ∷ [])) (applied_freed named_off old) in
       let none : (b : ℕ) → has [] b ≡ true → ⊥ = λ b h. false≢true h in
       follows_by _ (DeleteEntry w.directory n ∷ (freed old ++ SetInode i 0 0 ∷ [])) _ (Some (without tree (n ∷ p)))
       (ap (λ (dir : ℕ). DeleteEntry dir n ∷ (freed (blocks_at (node_at tables (n ∷ p))) ++ SetInode (found tables (n ∷ p)) 0 0 ∷ [])) (found_is p w.directory w.before)
-        ∙ ap (λ (o : Option Node). DeleteEntry w.directory n ∷ (freed (blocks_at o) ++ SetInode (found tables (n ∷ p)) 0 0 ∷ [])) f.in_tables
-        ∙ ap (λ (j : ℕ). DeleteEntry w.directory n ∷ (freed old ++ SetInode j 0 0 ∷ [])) (found_is (n ∷ p) i f.leads))
+      ∙ ap (λ (o : Option Node). DeleteEntry w.directory n ∷ (freed (blocks_at o) ++ SetInode (found tables (n ∷ p)) 0 0 ∷ [])) f.in_tables
+      ∙ ap (λ (j : ℕ). DeleteEntry w.directory n ∷ (freed old ++ SetInode j 0 0 ∷ [])) (found_is (n ∷ p) i f.leads))
       refl
       (follows_change _ _ _ _ done
-        (stands_removed d tables tree s n p w.directory i (free_all tables.tags old) w.before w.last
-          (λ m. leads_nowhere (inode_at tables) tables.entries s.names i m (λ h. true≢false (ap is_dir (ap (node_in tables.tags i) (sym h ∙ f.is)))))
-          (sizing.resized (inode_at tables) tables.tags s.tags i f.size f.is 0 [] (omega arith) tt (λ b h. absurd (none b h)) (λ b h. absurd (none b h)))
-          (length_freed tables.tags old)))
+      (stands_removed d tables tree s n p w.directory i (free_all tables.tags old) w.before w.last
+      (λ m. leads_nowhere (inode_at tables) tables.entries s.names i m (λ h. true≢false (ap is_dir (ap (node_in tables.tags i) (sym h ∙ f.is)))))
+      (sizing.resized (inode_at tables) tables.tags s.tags i f.size f.is 0 [] (omega arith) tt (λ b h. absurd (none b h)) (λ b h. absurd (none b h)))
+      (length_freed tables.tags old)))
 
   -- rmdir
   removed : (n : Name) (p : Path) → dir_refusal (at tree) (n ∷ p) ≡ None → is_bare tree (n ∷ p) ≡ true → Follows d tables (changes d tables (Rmdir (n ∷ p))) tree (Some (without tree (n ∷ p)))
@@ -248,14 +248,14 @@ module _ (d : Data) (tables : Tables) (tree : Tree) (s : StandsFor d tables tree
       let empty : has_names tables.entries i ≡ false = not-true _ (sym (ap (has_none tables.entries) a.leads) ∙ bare_same d tables tree s (n ∷ p) ∙ bare) in
       follows_by _ (DeleteEntry w.directory n ∷ SetInode i 0 0 ∷ []) _ (Some (without tree (n ∷ p)))
       (ap (λ (dir : ℕ). DeleteEntry dir n ∷ SetInode (found tables (n ∷ p)) 0 0 ∷ []) (found_is p w.directory w.before)
-        ∙ ap (λ (j : ℕ). DeleteEntry w.directory n ∷ SetInode j 0 0 ∷ []) (found_is (n ∷ p) i a.leads))
+      ∙ ap (λ (j : ℕ). DeleteEntry w.directory n ∷ SetInode j 0 0 ∷ []) (found_is (n ∷ p) i a.leads))
       refl
       (follows_change _ _ _ _ refl
-        (stands_removed d tables tree s n p w.directory i tables.tags w.before w.last (λ m. no_names tables.entries i m empty)
-          (untouched tables.tags i (λ b t there same.
-            let f = s.tags.of_file b t there in
-            false≢true (ap is_dir (ap (node_in tables.tags i) (sym f.1 ∙ ap (inode_at tables) same ∙ a.is)))))
-          refl))
+      (stands_removed d tables tree s n p w.directory i tables.tags w.before w.last (λ m. no_names tables.entries i m empty)
+      (untouched tables.tags i (λ b t there same.
+      let f = s.tags.of_file b t there in
+      false≢true (ap is_dir (ap (node_in tables.tags i) (sym f.1 ∙ ap (inode_at tables) same ∙ a.is)))))
+      refl))
 
   -- rename
   outside_of : (from to : Path) → goes_on (below from to) ≡ false → at tree to ≡ None → is_some (at tree from) ≡ true → below from to ≡ None
@@ -279,13 +279,13 @@ module _ (d : Data) (tables : Tables) (tree : Tree) (s : StandsFor d tables tree
       let tests : nat_lt i (length tables.inodes) ≡ true = within i (s.names.in_use w.directory n i w.last) in
       follows_by _ (DeleteEntry w.directory n ∷ AddEntry to i m ∷ []) _ (Some (with_moved tree (n ∷ p) (m ∷ q)))
       (ap (λ (dir : ℕ). DeleteEntry dir n ∷ AddEntry (found tables q) (found tables (n ∷ p)) m ∷ []) (found_is p w.directory w.before)
-        ∙ ap (λ (dir : ℕ). DeleteEntry w.directory n ∷ AddEntry dir (found tables (n ∷ p)) m ∷ []) (found_is q to place.dir.leads)
-        ∙ ap (λ (j : ℕ). DeleteEntry w.directory n ∷ AddEntry to j m ∷ []) (found_is (n ∷ p) i a.leads))
+      ∙ ap (λ (dir : ℕ). DeleteEntry w.directory n ∷ AddEntry dir (found tables (n ∷ p)) m ∷ []) (found_is q to place.dir.leads)
+      ∙ ap (λ (j : ℕ). DeleteEntry w.directory n ∷ AddEntry to j m ∷ []) (found_is (n ∷ p) i a.leads))
       refl
       (follows_change _ _ _ _
-        (ap (λ (b : Bool). after (unnamed tables.entries w.directory n) (cond b (named (unnamed tables.entries w.directory n) to i m) (unnamed tables.entries w.directory n))) tests)
-        (stands_moved d tables tree s n m p q w.directory to i w.before place.dir.leads place.dir.is w.last place.absent
-          (outside_of (n ∷ p) (m ∷ q) not_into absent there)))
+      (ap (λ (b : Bool). after (unnamed tables.entries w.directory n) (cond b (named (unnamed tables.entries w.directory n) to i m) (unnamed tables.entries w.directory n))) tests)
+      (stands_moved d tables tree s n m p q w.directory to i w.before place.dir.leads place.dir.is w.last place.absent
+      (outside_of (n ∷ p) (m ∷ q) not_into absent there)))
     where
       after : Entries → Entries → Tables
       after before rows = record tables { entries = rows }

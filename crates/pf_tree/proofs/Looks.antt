@@ -69,17 +69,17 @@ pub free_more : (n first b : ℕ) (in_use : ℕ → Bool) → first ≤ b → co
 free_more n first b in_use low =
     let xs : List ℕ = unused first b in_use in
     sym (ap (take n) (unused_more first b in_use low)
-      ∙ elim (cases_Bool (in_use b)) [
-        | inl used ↦
-            ap (λ ys. take n (xs ++ ys)) (cond-false (not (in_use b)) (b ∷ []) [] (not_from_true (in_use b) used)) ∙ ap (take n) (append-nil xs)
-            ∙ sym (cond-false _ _ _ (and_left _ _ (not_from_true (in_use b) used)))
-        | inr free ↦
-            ap (λ ys. take n (xs ++ ys)) (cond-true (not (in_use b)) (b ∷ []) [] (not_from_false (in_use b) free))
-            ∙ elim (cases_lt (length (take n xs)) n) [
-              | inl room ↦ taken_more n xs b room ∙ sym (cond-true _ _ _ (and_from _ _ (not_from_false (in_use b) free) (lt-ltb (length (take n xs)) n room)))
-              | inr enough ↦ taken_all n xs b enough ∙ sym (cond-false _ _ _ (and_right _ _ (le-ltb (length (take n xs)) n enough)))
-            ]
-      ])
+    ∙ elim (cases_Bool (in_use b)) [
+      | inl used ↦
+          ap (λ ys. take n (xs ++ ys)) (cond-false (not (in_use b)) (b ∷ []) [] (not_from_true (in_use b) used)) ∙ ap (take n) (append-nil xs)
+          ∙ sym (cond-false _ _ _ (and_left _ _ (not_from_true (in_use b) used)))
+      | inr free ↦
+          ap (λ ys. take n (xs ++ ys)) (cond-true (not (in_use b)) (b ∷ []) [] (not_from_false (in_use b) free))
+          ∙ elim (cases_lt (length (take n xs)) n) [
+            | inl room ↦ taken_more n xs b room ∙ sym (cond-true _ _ _ (and_from _ _ (not_from_false (in_use b) free) (lt-ltb (length (take n xs)) n room)))
+            | inr enough ↦ taken_all n xs b enough ∙ sym (cond-false _ _ _ (and_right _ _ (le-ltb (length (take n xs)) n enough)))
+          ]
+    ])
 
 unused_none : (first b : ℕ) (in_use : ℕ → Bool) → b ≤ first → unused first b in_use ≡ []
 unused_none first b in_use low =

@@ -84,4 +84,4 @@ pub same_map : (f g : ℕ → ℕ) (n : ℕ) → ((k : ℕ) → k < n → f k �
 same_map f g n same =
     same_lists _ _ (length-map-range_with_len f 0 n ∙ sym (length-map-range_with_len g 0 n))
     (λ k d low. let h : k < n = subst (λ m. k < m) (length-map-range_with_len f 0 n) low in
-      get_or-map-range_with_len f 0 n k k d h (omega arith) ∙ same k h ∙ sym (get_or-map-range_with_len g 0 n k k d h (omega arith)))
+    get_or-map-range_with_len f 0 n k k d h (omega arith) ∙ same k h ∙ sym (get_or-map-range_with_len g 0 n k k d h (omega arith)))

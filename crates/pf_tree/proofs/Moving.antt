@@ -99,15 +99,15 @@ map_moved [] from to clear m = tt
 map_moved (row ∷ rows) from to clear m =
     let rest = rest_clear row rows to clear in
     let absent : at (with_moved rows from to) (moved from to row.0) ≡ None =
-        elim (cases_option (below from row.0)) [
-          | inl (z, is) ↦
-              ap (at (with_moved rows from to)) (moved_below from to row.0 z is)
-              ∙ at_new from to (z ++ to) rows z rest (below_of to z) ∙ ap (at rows) (sym (below_is from row.0 z is)) ∙ m.0
-          | inr none ↦
-              ap (at (with_moved rows from to)) (moved_apart from to row.0 none)
-              ∙ elim (cases_option (below to row.0)) [
-                | inl (y, is) ↦ absurd (row_apart row rows to y clear (sym (below_is to row.0 y is)))
-                | inr none2 ↦ at_other from to row.0 rows none2 none ∙ m.0
-              ]
-        ] in
+    elim (cases_option (below from row.0)) [
+      | inl (z, is) ↦
+          ap (at (with_moved rows from to)) (moved_below from to row.0 z is)
+          ∙ at_new from to (z ++ to) rows z rest (below_of to z) ∙ ap (at rows) (sym (below_is from row.0 z is)) ∙ m.0
+      | inr none ↦
+          ap (at (with_moved rows from to)) (moved_apart from to row.0 none)
+          ∙ elim (cases_option (below to row.0)) [
+            | inl (y, is) ↦ absurd (row_apart row rows to y clear (sym (below_is to row.0 y is)))
+            | inr none2 ↦ at_other from to row.0 rows none2 none ∙ m.0
+          ]
+    ] in
     (absent, map_moved rows from to rest m.1)

@@ -123,14 +123,13 @@ module _ (inodes inodes2 : ℕ → Option Inode) (es : Entries) (names : IsNamed
       no_root = λ e m j is. names.no_root e m j (was e m j is).0;
       once = λ e f m o j is1 is2. names.once e f m o j (was e m j is1).0 (was f o j is2).0;
       reached = λ j is.
-        let apart : j ≢ i = λ same. not_none (inodes2 j) (ap inodes2 same ∙ gone) is in
-        let r = names.reached j (ap is_some (sym (others j apart)) ∙ is) in
-        (r.0, walk_removed r.0 ∙ cond-false _ _ _ (is_same_false r.0 (n ∷ p) (λ e. apart (same_Some j i (sym r.1 ∙ ap (walk es) e ∙ walk_on es n p d here ∙ old)))) ∙ r.1);
+          let apart : j ≢ i = λ same. not_none (inodes2 j) (ap inodes2 same ∙ gone) is in
+          let r = names.reached j (ap is_some (sym (others j apart)) ∙ is) in
+          (r.0, walk_removed r.0 ∙ cond-false _ _ _ (is_same_false r.0 (n ∷ p) (λ e. apart (same_Some j i (sym r.1 ∙ ap (walk es) e ∙ walk_on es n p d here ∙ old)))) ∙ r.1);
     }
 
   -- a name moves
   module _ (e : ℕ) (m : Name) (q : Path) (inside : e < length es) (old : entry_at es d n ≡ Some i) (there : walk es q ≡ Some e) (dir : inodes e ≡ Some Directory) (free : entry_at es e m ≡ None) (outside : below (n ∷ p) (m ∷ q) ≡ None) where
-
     inside2 : e < length (unnamed es d n)
     inside2 = subst (λ k. e < k) (sym (length-set es d (others (names_in es d) n))) inside
 
@@ -181,16 +180,18 @@ module _ (inodes inodes2 : ℕ → Option Inode) (es : Entries) (names : IsNamed
         ]
       ];
       reached = λ j is.
-        let r = names.reached j is in
-        elim (cases_option (below (n ∷ p) r.0)) [
-          | inl (y, under) ↦
-              (y ++ m ∷ q, walk_renamed (y ++ m ∷ q) ∙ ap (λ z. back (walk es) (n ∷ p) z (below (n ∷ p) (y ++ m ∷ q)) (y ++ m ∷ q)) (below_of (m ∷ q) y)
-                ∙ ap (walk es) (sym (below_is (n ∷ p) r.0 y under)) ∙ r.1)
-          | inr none ↦
-              elim (cases_option (below (m ∷ q) r.0)) [
-                | inl (y, under) ↦ absurd (none-some j (sym (walk_clear es (m ∷ q) y (walk_on es m q e there ∙ free)) ∙ ap (walk es) (sym (below_is (m ∷ q) r.0 y under)) ∙ r.1))
-                | inr none2 ↦
-                    (r.0, walk_renamed r.0 ∙ ap (λ z. back (walk es) (n ∷ p) z (below (n ∷ p) r.0) r.0) none2 ∙ ap (λ z. back (walk es) (n ∷ p) None z r.0) none ∙ r.1)
-              ]
-        ];
+          let r = names.reached j is in
+          elim (cases_option (below (n ∷ p) r.0)) [
+            | inl (y, under) ↦ (
+              y ++ m ∷ q,
+              walk_renamed (y ++ m ∷ q) ∙ ap (λ z. back (walk es) (n ∷ p) z (below (n ∷ p) (y ++ m ∷ q)) (y ++ m ∷ q)) (below_of (m ∷ q) y)
+                  ∙ ap (walk es) (sym (below_is (n ∷ p) r.0 y under)) ∙ r.1,
+            )
+            | inr none ↦
+                elim (cases_option (below (m ∷ q) r.0)) [
+                  | inl (y, under) ↦ absurd (none-some j (sym (walk_clear es (m ∷ q) y (walk_on es m q e there ∙ free)) ∙ ap (walk es) (sym (below_is (m ∷ q) r.0 y under)) ∙ r.1))
+                  | inr none2 ↦
+                      (r.0, walk_renamed r.0 ∙ ap (λ z. back (walk es) (n ∷ p) z (below (n ∷ p) r.0) r.0) none2 ∙ ap (λ z. back (walk es) (n ∷ p) None z r.0) none ∙ r.1)
+                ]
+          ];
     }

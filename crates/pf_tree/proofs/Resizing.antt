@@ -63,9 +63,11 @@ module _ (inodes : ℕ → Option Inode) (tags : List (Option Tag)) (tagged : Is
       let m = member (drop want old) b e in
       let l = length-drop want old in
       let lo = length_old in
-      let w = m.within in
-      (want + m.index, omega arith,
-        ap (tag_at tags) (sym m.is ∙ get_or-drop want old m.index 0) ∙ old_tag (want + m.index) (omega (arith, l, lo, w)))
+      let w = m.within in (
+        want + m.index,
+        omega arith,
+        ap (tag_at tags) (sym m.is ∙ get_or-drop want old m.index 0) ∙ old_tag (want + m.index) (omega (arith, l, lo, w)),
+      )
 
   not_fresh : (b : ℕ) (t : Tag) → tag_at tags b ≡ Some t → has fresh b ≡ false
   not_fresh b t e = false_from_ne_true _ (λ h. none-some t (sym (free b h) ∙ e))
@@ -87,9 +89,9 @@ module _ (inodes : ℕ → Option Inode) (tags : List (Option Tag)) (tagged : Is
             let low2 : k < want = omega (arith, l, low) in
             ap (tag_at tags2) (kept_at k low2 there)
             ∙ through (get_or old k 0) (tag i k) (old_tag k there)
-              (false_from_ne_true _ (λ e. let x = dropped_tag (get_or old k 0) e in
-                let same = same_index (tag i k) (tag i x.0) (sym (old_tag k there) ∙ x.2) in
-                let far = x.1 in absurd (omega (arith, same, far, low2))))
+            (false_from_ne_true _ (λ e. let x = dropped_tag (get_or old k 0) e in
+            let same = same_index (tag i k) (tag i x.0) (sym (old_tag k there) ∙ x.2) in
+            let far = x.1 in absurd (omega (arith, same, far, low2))))
         | inr past ↦
             let j : ℕ = k - block_count size in
             let eq : block_count size + j ≡ k = omega arith in
@@ -106,8 +108,11 @@ module _ (inodes : ℕ → Option Inode) (tags : List (Option Tag)) (tagged : Is
             let tagged2 : tag_at tags2 b ≡ Some (tag i (block_count size + m.index)) = ap (tag_at tags2) (sym m.is) ∙ fresh_tag m.index w in
             let ix : t.index ≡ block_count size + m.index = same_index t (tag i (block_count size + m.index)) (sym e ∙ tagged2) in
             let l = length_sized in
-            inl (same_inode t (tag i (block_count size + m.index)) (sym e ∙ tagged2), omega (arith, l, as_many, ix, w),
-              sym (ap (λ n. get_or blocks n 0) ix ∙ new_at m.index w ∙ m.is))
+            inl (
+              same_inode t (tag i (block_count size + m.index)) (sym e ∙ tagged2),
+              omega (arith, l, as_many, ix, w),
+              sym (ap (λ n. get_or blocks n 0) ix ∙ new_at m.index w ∙ m.is),
+            )
         | inr not_new ↦
             let e1 : tag_at tags1 b ≡ Some t = sym (given_out tags1 i (block_count size) fresh b not_new) ∙ e in
             elim (cases_Bool (has (drop want old) b)) [
@@ -121,18 +126,18 @@ module _ (inodes : ℕ → Option Inode) (tags : List (Option Tag)) (tagged : Is
                         let z : f.0 ≡ size = ap size_of (same_Some (OfFile f.0) (OfFile size) (sym f.1 ∙ ap inodes same ∙ file)) in
                         let low : t.index < block_count size = subst (λ n. t.index < block_count n) z f.2 in
                         let here : get_or old t.index 0 ≡ b =
-                            get_block tags i (block_count size) t.index 0 low
-                            ∙ block_is inodes tags tagged i t.index b (e0 ∙ ap (λ n. Some (tag n t.index)) same) in
+                        get_block tags i (block_count size) t.index 0 low
+                        ∙ block_is inodes tags tagged i t.index b (e0 ∙ ap (λ n. Some (tag n t.index)) same) in
                         let low2 : t.index < want =
-                            elim (cases_lt t.index want) [
-                              | inl lower ↦ lower
-                              | inr higher ↦
-                                  let l = length-drop want old in
-                                  let lo = length_old in
-                                  let at_b : get_or (drop want old) (t.index - want) 0 ≡ b =
-                                      get_or-drop want old (t.index - want) 0 ∙ ap (λ n. get_or old n 0) (omega (arith, higher)) ∙ here in
-                                  absurd (false≢true (sym stays ∙ ap (has (drop want old)) (sym at_b) ∙ has_at (drop want old) (t.index - want) (omega (arith, l, lo, low, higher))))
-                            ] in
+                        elim (cases_lt t.index want) [
+                          | inl lower ↦ lower
+                          | inr higher ↦
+                              let l = length-drop want old in
+                              let lo = length_old in
+                              let at_b : get_or (drop want old) (t.index - want) 0 ≡ b =
+                              get_or-drop want old (t.index - want) 0 ∙ ap (λ n. get_or old n 0) (omega (arith, higher)) ∙ here in
+                              absurd (false≢true (sym stays ∙ ap (has (drop want old)) (sym at_b) ∙ has_at (drop want old) (t.index - want) (omega (arith, l, lo, low, higher))))
+                        ] in
                         let l = length_sized in
                         inl (same, omega (arith, l, low2), sym (kept_at t.index low2 low ∙ here))
                   ]
@@ -144,5 +149,5 @@ module _ (inodes : ℕ → Option Inode) (tags : List (Option Tag)) (tagged : Is
     mine = mine;
     cases = cases_of;
     others = λ b t other e. through b t e (false_from_ne_true _ (λ h. let x = dropped_tag b h in
-      other (same_inode t (tag i x.0) (sym e ∙ x.2))));
+        other (same_inode t (tag i x.0) (sym e ∙ x.2))));
   }

@@ -50,29 +50,36 @@ room_more shelves cs k n c low e has here d inside any =
     ]
 
 tables_length : (t : Tables) (c : Change) → (length (after_change t c).inodes ≡ length t.inodes) × (length (after_change t c).entries ≡ length t.entries) × (length (after_change t c).tags ≡ length t.tags)
-tables_length t (SetInode i kind size) =
-    (elim (cases_Bool (nat_le size 196608)) [
-      | inl small ↦ ap length (cond-true (nat_le size 196608) (set t.inodes i (inode_with kind size)) t.inodes small) ∙ length-set t.inodes i (inode_with kind size)
-      | inr large ↦ ap length (cond-false (nat_le size 196608) (set t.inodes i (inode_with kind size)) t.inodes large)
-    ], refl, refl)
-tables_length t (AddEntry d i n) =
-    (refl,
-      elim (cases_Bool (nat_lt i (length t.inodes))) [
-        | inl low ↦ ap length (cond-true (nat_lt i (length t.inodes)) (named t.entries d i n) t.entries low) ∙ length-set t.entries d (others (names_in t.entries d) n ++ record { inode = i; name = n } ∷ [])
-        | inr high ↦ ap length (cond-false (nat_lt i (length t.inodes)) (named t.entries d i n) t.entries high)
-      ], refl)
+tables_length t (SetInode i kind size) = (
+  elim (cases_Bool (nat_le size 196608)) [
+    | inl small ↦ ap length (cond-true (nat_le size 196608) (set t.inodes i (inode_with kind size)) t.inodes small) ∙ length-set t.inodes i (inode_with kind size)
+    | inr large ↦ ap length (cond-false (nat_le size 196608) (set t.inodes i (inode_with kind size)) t.inodes large)
+  ],
+  refl,
+  refl,
+)
+tables_length t (AddEntry d i n) = (
+  refl,
+  elim (cases_Bool (nat_lt i (length t.inodes))) [
+    | inl low ↦ ap length (cond-true (nat_lt i (length t.inodes)) (named t.entries d i n) t.entries low) ∙ length-set t.entries d (others (names_in t.entries d) n ++ record { inode = i; name = n } ∷ [])
+    | inr high ↦ ap length (cond-false (nat_lt i (length t.inodes)) (named t.entries d i n) t.entries high)
+  ],
+  refl,
+)
 tables_length t (DeleteEntry d n) = (refl, length-set t.entries d (others (names_in t.entries d) n), refl)
-tables_length t (SetTag b i k) =
-    (refl, refl,
-      elim (cases_Bool (i == 65535)) [
-        | inl none ↦ ap length (cond-true (i == 65535) (set t.tags b None) _ none) ∙ length-set t.tags b None
-        | inr some ↦
-            ap length (cond-false (i == 65535) (set t.tags b None) _ some)
-            ∙ elim (cases_Bool (nat_lt i (length t.inodes) && nat_lt k 48)) [
-              | inl fits ↦ ap length (cond-true (nat_lt i (length t.inodes) && nat_lt k 48) (set t.tags b (Some (record { inode = i; index = k }))) t.tags fits) ∙ length-set t.tags b (Some (record { inode = i; index = k }))
-              | inr past ↦ ap length (cond-false (nat_lt i (length t.inodes) && nat_lt k 48) (set t.tags b (Some (record { inode = i; index = k }))) t.tags past)
-            ]
-      ])
+tables_length t (SetTag b i k) = (
+  refl,
+  refl,
+  elim (cases_Bool (i == 65535)) [
+    | inl none ↦ ap length (cond-true (i == 65535) (set t.tags b None) _ none) ∙ length-set t.tags b None
+    | inr some ↦
+        ap length (cond-false (i == 65535) (set t.tags b None) _ some)
+        ∙ elim (cases_Bool (nat_lt i (length t.inodes) && nat_lt k 48)) [
+          | inl fits ↦ ap length (cond-true (nat_lt i (length t.inodes) && nat_lt k 48) (set t.tags b (Some (record { inode = i; index = k }))) t.tags fits) ∙ length-set t.tags b (Some (record { inode = i; index = k }))
+          | inr past ↦ ap length (cond-false (nat_lt i (length t.inodes) && nat_lt k 48) (set t.tags b (Some (record { inode = i; index = k }))) t.tags past)
+        ]
+  ],
+)
 
 pub applied_length : (t : Tables) (cs : List Change) → (length (applied t cs).inodes ≡ length t.inodes) × (length (applied t cs).entries ≡ length t.entries) × (length (applied t cs).tags ≡ length t.tags)
 applied_length t [] = (refl, refl, refl)

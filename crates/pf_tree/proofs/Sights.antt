@@ -87,11 +87,14 @@ module _ (d : Data) (tables : Tables) (tree : Tree) (s : StandsFor d tables tree
       let r = row_of_any tree (λ (row : Path × Node). is_right_below p row.0) s.once e in
       let b = right_below p r.path r.passes in
       let at_b = stands_at tables (b.0 ∷ p) r.node (sym (s.nodes (b.0 ∷ p)) ∙ ap (at tree) (sym b.1) ∙ r.stands) in
-      let w = walk_parts tables.entries b.0 p at_b.inode at_b.leads in
-      (w.directory, w.before, elim (cases_Bool (has_names tables.entries w.directory)) [
-        | inl is ↦ is
-        | inr isnt ↦ absurd (none-some at_b.inode (sym (no_names tables.entries w.directory b.0 isnt) ∙ w.last))
-      ])
+      let w = walk_parts tables.entries b.0 p at_b.inode at_b.leads in (
+        w.directory,
+        w.before,
+        elim (cases_Bool (has_names tables.entries w.directory)) [
+          | inl is ↦ is
+          | inr isnt ↦ absurd (none-some at_b.inode (sym (no_names tables.entries w.directory b.0 isnt) ∙ w.last))
+        ],
+      )
 
   below_of_names : (p : Path) (i : ℕ) → walk tables.entries p ≡ Some i → has_names tables.entries i ≡ true → list_any (λ (row : Path × Node). is_right_below p row.0) tree ≡ true
   below_of_names p i w e =
@@ -106,8 +109,8 @@ module _ (d : Data) (tables : Tables) (tree : Tree) (s : StandsFor d tables tree
       ap not (false_from_ne_true _ (λ e. let b = names_below p e in none-some b.0 (sym w ∙ b.1)))
   bare_for p (Some i) w =
       ap not (same_bool _ _
-        (λ e. let b = names_below p e in ap (has_names tables.entries) (same_Some i b.0 (sym w ∙ b.1)) ∙ b.2)
-        (λ e. below_of_names p i w e))
+      (λ e. let b = names_below p e in ap (has_names tables.entries) (same_Some i b.0 (sym w ∙ b.1)) ∙ b.2)
+      (λ e. below_of_names p i w e))
 
   pub bare_same : (p : Path) → has_none tables.entries (walk tables.entries p) ≡ is_bare tree p
   bare_same p = sym (bare_for p (walk tables.entries p) refl)

@@ -82,13 +82,13 @@ module _ (d : Data) (tables : Tables) (tree : Tree) (s : StandsFor d tables tree
           | inl same ↦
               cond-true (is_same q (n ∷ p)) (Some node) (at tree q) (is_same_true q (n ∷ p) same)
               ∙ sym (ap (option_and_then (node_of tables2)) (walks q ∙ cond-true (is_same q (n ∷ p)) (Some i) (walk tables.entries q) (is_same_true q (n ∷ p) same))
-                ∙ ap (node_in tables.tags i) new_inode ∙ shown)
+              ∙ ap (node_in tables.tags i) new_inode ∙ shown)
           | inr apart ↦
               cond-false (is_same q (n ∷ p)) (Some node) (at tree q) (is_same_false q (n ∷ p) apart) ∙ s.nodes q
               ∙ sym (ap (option_and_then (node_of tables2)) (walks q ∙ cond-false (is_same q (n ∷ p)) (Some i) (walk tables.entries q) (is_same_false q (n ∷ p) apart))
-                ∙ nodes_kept tables tables2 (walk tables.entries q) (λ j at_j. node_kept tables tables2 j
-                  (other_inodes j (λ e. not_none (inode_at tables j) (ap (inode_at tables) e ∙ free) (walk_in_use (inode_at tables) tables.entries s.names q j at_j)))
-                  (λ size e. refl)))
+              ∙ nodes_kept tables tables2 (walk tables.entries q) (λ j at_j. node_kept tables tables2 j
+              (other_inodes j (λ e. not_none (inode_at tables j) (ap (inode_at tables) e ∙ free) (walk_in_use (inode_at tables) tables.entries s.names q j at_j)))
+              (λ size e. refl)))
         ]
 
     no_size : (size : ℕ) → inode_at tables2 i ≡ Some (OfFile size) → size ≡ 0
@@ -101,10 +101,10 @@ module _ (d : Data) (tables : Tables) (tree : Tree) (s : StandsFor d tables tree
       blocks = s.blocks;
       names = names_made (inode_at tables) (inode_at tables2) tables.entries s.names i dir n p here inside free is_dir absent (ap is_some new_inode) other_inodes;
       tags =
-        retagged (inode_at tables) (inode_at tables2) tables.tags tables.tags s.tags i []
-        (untouched tables.tags i (λ b t e same. let f = s.tags.of_file b t e in none-some (OfFile f.0) (sym free ∙ ap (inode_at tables) (sym same) ∙ f.1)))
-        other_inodes (λ k few. absurd (omega arith))
-        (λ size e. subst (λ z. block_count z ≤ 0) (sym (no_size size e)) (omega arith));
+          retagged (inode_at tables) (inode_at tables2) tables.tags tables.tags s.tags i []
+          (untouched tables.tags i (λ b t e same. let f = s.tags.of_file b t e in none-some (OfFile f.0) (sym free ∙ ap (inode_at tables) (sym same) ∙ f.1)))
+          other_inodes (λ k few. absurd (omega arith))
+          (λ size e. subst (λ z. block_count z ≤ 0) (sym (no_size size e)) (omega arith));
       sizes = λ j size e. elim (cases_eq j i) [
         | inl same ↦ let z = no_size size (ap (inode_at tables2) (sym same) ∙ e) in omega (arith, z)
         | inr apart ↦ s.sizes j size (sym (other_inodes j apart) ∙ e)
@@ -112,10 +112,10 @@ module _ (d : Data) (tables : Tables) (tree : Tree) (s : StandsFor d tables tree
       nodes = nodes_after;
       once = (was_absent, s.once);
       count =
-        let c = count_set tables.inodes i (Some x) low in
-        let f : one_if (is_some (get_or tables.inodes i None)) ≡ 0 = ap (λ o. one_if (is_some o)) free in
-        let k = s.count in
-        omega (arith, c, f, k);
+          let c = count_set tables.inodes i (Some x) low in
+          let f : one_if (is_some (get_or tables.inodes i None)) ≡ 0 = ap (λ o. one_if (is_some o)) free in
+          let k = s.count in
+          omega (arith, c, f, k);
     }
 
   -- a name removed under which nothing stands, its inode and its blocks freed
@@ -152,10 +152,10 @@ module _ (d : Data) (tables : Tables) (tree : Tree) (s : StandsFor d tables tree
           | inr apart ↦
               without_other tree (n ∷ p) q apart ∙ s.nodes q
               ∙ sym (ap (option_and_then (node_of tables3)) (walks_on q ∙ cond-false (is_same q (n ∷ p)) None (walk tables.entries q) (is_same_false q (n ∷ p) apart))
-                ∙ nodes_kept tables tables3 (walk tables.entries q) (λ j at_j.
-                  let other : j ≢ i = λ e. apart (walk_once (inode_at tables) tables.entries s.names q (n ∷ p) i (at_j ∙ ap Some e) led) in
-                  node_kept tables tables3 j (kept_inodes j other)
-                  (λ size e. blocks_stay (inode_at tables) (inode_at tables3) tables.tags tags2 s.tags i [] re j size other e)))
+              ∙ nodes_kept tables tables3 (walk tables.entries q) (λ j at_j.
+              let other : j ≢ i = λ e. apart (walk_once (inode_at tables) tables.entries s.names q (n ∷ p) i (at_j ∙ ap Some e) led) in
+              node_kept tables tables3 j (kept_inodes j other)
+              (λ size e. blocks_stay (inode_at tables) (inode_at tables3) tables.tags tags2 s.tags i [] re j size other e)))
         ]
 
     pub stands_removed : StandsFor d tables3 (without tree (n ∷ p))
@@ -165,8 +165,8 @@ module _ (d : Data) (tables : Tables) (tree : Tree) (s : StandsFor d tables tree
       blocks = as_many ∙ s.blocks;
       names = names_removed (inode_at tables) (inode_at tables3) tables.entries s.names i dir n p here old bare gone_inode kept_inodes;
       tags =
-        retagged (inode_at tables) (inode_at tables3) tables.tags tags2 s.tags i [] re kept_inodes (λ k few. absurd (omega arith))
-        (λ size e. absurd (none-some (OfFile size) (sym gone_inode ∙ e)));
+          retagged (inode_at tables) (inode_at tables3) tables.tags tags2 s.tags i [] re kept_inodes (λ k few. absurd (omega arith))
+          (λ size e. absurd (none-some (OfFile size) (sym gone_inode ∙ e)));
       sizes = λ j size e. elim (cases_eq j i) [
         | inl same ↦ absurd (none-some (OfFile size) (sym gone_inode ∙ ap (inode_at tables3) (sym same) ∙ e))
         | inr apart ↦ s.sizes j size (sym (kept_inodes j apart) ∙ e)
@@ -174,11 +174,11 @@ module _ (d : Data) (tables : Tables) (tree : Tree) (s : StandsFor d tables tree
       nodes = nodes_left;
       once = map_without tree (n ∷ p) s.once;
       count =
-        let c = count_set tables.inodes i None (used_within tables.inodes i was_used) in
-        let f : one_if (is_some (get_or tables.inodes i None)) ≡ 1 = ap one_if was_used in
-        let k = s.count in
-        let l = length_without tree (n ∷ p) s.once was_there in
-        omega (arith, c, f, k, l);
+          let c = count_set tables.inodes i None (used_within tables.inodes i was_used) in
+          let f : one_if (is_some (get_or tables.inodes i None)) ≡ 1 = ap one_if was_used in
+          let k = s.count in
+          let l = length_without tree (n ∷ p) s.once was_there in
+          omega (arith, c, f, k, l);
     }
 
   -- a file of another size
@@ -209,13 +209,13 @@ module _ (d : Data) (tables : Tables) (tree : Tree) (s : StandsFor d tables tree
               ap (at (replaced tree p (File size blocks))) same
               ∙ replaced_same tree p (File size blocks) (ap is_some (s.nodes p ∙ node_from tables p i leads ∙ x.1))
               ∙ sym (ap (node_at tables4) same ∙ node_from tables4 p i leads ∙ ap (node_in tags2 i) sized_inode
-                ∙ ap (λ bs. Some (File size bs)) (ap (blocks_of tags2 i) (sym as_long) ∙ blocks_are (inode_at tables) (inode_at tables4) tables.tags tags2 s.tags i blocks re))
+              ∙ ap (λ bs. Some (File size bs)) (ap (blocks_of tags2 i) (sym as_long) ∙ blocks_are (inode_at tables) (inode_at tables4) tables.tags tags2 s.tags i blocks re))
           | inr apart ↦
               replaced_other tree p (File size blocks) q apart ∙ s.nodes q
               ∙ sym (nodes_kept tables tables4 (walk tables.entries q) (λ j at_j.
-                let other : j ≢ i = λ e. apart (walk_once (inode_at tables) tables.entries s.names q p i (at_j ∙ ap Some e) leads) in
-                node_kept tables tables4 j (same_inodes j other)
-                (λ z2 e. blocks_stay (inode_at tables) (inode_at tables4) tables.tags tags2 s.tags i blocks re j z2 other e)))
+              let other : j ≢ i = λ e. apart (walk_once (inode_at tables) tables.entries s.names q p i (at_j ∙ ap Some e) leads) in
+              node_kept tables tables4 j (same_inodes j other)
+              (λ z2 e. blocks_stay (inode_at tables) (inode_at tables4) tables.tags tags2 s.tags i blocks re j z2 other e)))
         ]
 
     pub stands_resized : StandsFor d tables4 (replaced tree p (File size blocks))
@@ -224,15 +224,15 @@ module _ (d : Data) (tables : Tables) (tree : Tree) (s : StandsFor d tables tree
       dirs = s.dirs;
       blocks = as_many ∙ s.blocks;
       names =
-        names_kept (inode_at tables) (inode_at tables4) tables.entries s.names
-        (λ j. elim (cases_eq j i) [
-          | inl same ↦ ap (λ k. is_some (inode_at tables4 k)) same ∙ ap is_some sized_inode ∙ sym (ap (λ k. is_some (inode_at tables k)) same ∙ ap is_some file)
-          | inr apart ↦ ap is_some (same_inodes j apart)
-        ])
-        (λ j e. elim (cases_eq j i) [
-          | inl same ↦ absurd (false≢true (ap is_directory (sym file ∙ ap (inode_at tables) (sym same) ∙ e)))
-          | inr apart ↦ same_inodes j apart ∙ e
-        ]);
+          names_kept (inode_at tables) (inode_at tables4) tables.entries s.names
+          (λ j. elim (cases_eq j i) [
+            | inl same ↦ ap (λ k. is_some (inode_at tables4 k)) same ∙ ap is_some sized_inode ∙ sym (ap (λ k. is_some (inode_at tables k)) same ∙ ap is_some file)
+            | inr apart ↦ ap is_some (same_inodes j apart)
+          ])
+          (λ j e. elim (cases_eq j i) [
+            | inl same ↦ absurd (false≢true (ap is_directory (sym file ∙ ap (inode_at tables) (sym same) ∙ e)))
+            | inr apart ↦ same_inodes j apart ∙ e
+          ]);
       tags = tags_after;
       sizes = λ j z2 e. elim (cases_eq j i) [
         | inl same ↦ let k = same_size z2 (ap (inode_at tables4) (sym same) ∙ e) in omega (arith, k, few)
@@ -241,11 +241,11 @@ module _ (d : Data) (tables : Tables) (tree : Tree) (s : StandsFor d tables tree
       nodes = nodes_sized;
       once = map_replaced tree p (File size blocks) s.once;
       count =
-        let c = count_set tables.inodes i (Some (OfFile size)) (used_within tables.inodes i (ap is_some file)) in
-        let f : one_if (is_some (get_or tables.inodes i None)) ≡ 1 = ap (λ o. one_if (is_some o)) file in
-        let k = s.count in
-        let l = length_replaced tree p (File size blocks) in
-        omega (arith, c, f, k, l);
+          let c = count_set tables.inodes i (Some (OfFile size)) (used_within tables.inodes i (ap is_some file)) in
+          let f : one_if (is_some (get_or tables.inodes i None)) ≡ 1 = ap (λ o. one_if (is_some o)) file in
+          let k = s.count in
+          let l = length_replaced tree p (File size blocks) in
+          omega (arith, c, f, k, l);
     }
 
   -- another place
@@ -276,9 +276,9 @@ module _ (d : Data) (tables : Tables) (tree : Tree) (s : StandsFor d tables tree
       tags = s.tags;
       sizes = s.sizes;
       nodes = λ r.
-        at_moved tree (n ∷ p) (m ∷ q) r is_clear
-        ∙ looked_back (below (m ∷ q) r) (below (n ∷ p) r) r
-        ∙ ap (option_and_then (node_of tables)) (sym (walk_renamed (inode_at tables) (inode_at tables) tables.entries s.names i dir n p here to m q to_inside old there is_dir absent outside r));
+          at_moved tree (n ∷ p) (m ∷ q) r is_clear
+          ∙ looked_back (below (m ∷ q) r) (below (n ∷ p) r) r
+          ∙ ap (option_and_then (node_of tables)) (sym (walk_renamed (inode_at tables) (inode_at tables) tables.entries s.names i dir n p here to m q to_inside old there is_dir absent outside r));
       once = map_moved tree (n ∷ p) (m ∷ q) is_clear s.once;
       count = length-map tree (λ (row : Path × Node). (moved (n ∷ p) (m ∷ q) row.0, row.1)) ∙ s.count;
     }

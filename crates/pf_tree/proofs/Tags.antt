@@ -99,18 +99,18 @@ module _ (inodes inodes2 : ℕ → Option Inode) (tags tags2 : List (Option Tag)
   blocks_stay j size other is =
       same_map (block_of tags2 j) (block_of tags j) (block_count size)
       (λ k low. let t = tagged.there j size k is low in
-        let e : tag_at tags2 t.0 ≡ Some (tag j k) = re.others t.0 (tag j k) other t.1 in
-        block_of_is tags2 j k t.0 (λ c h. once2 c t.0 (tag j k) h e) e ∙ sym (block_is inodes tags tagged j k t.0 t.1))
+      let e : tag_at tags2 t.0 ≡ Some (tag j k) = re.others t.0 (tag j k) other t.1 in
+      block_of_is tags2 j k t.0 (λ c h. once2 c t.0 (tag j k) h e) e ∙ sym (block_is inodes tags tagged j k t.0 t.1))
 
   pub blocks_are : blocks_of tags2 i (length blocks) ≡ blocks
   blocks_are =
       same_lists _ _ (length_blocks tags2 i (length blocks))
       (λ k d low.
-        let low2 : k < length blocks = subst (λ n. k < n) (length_blocks tags2 i (length blocks)) low in
-        let e : tag_at tags2 (get_or blocks k 0) ≡ Some (tag i k) = re.mine k low2 in
-        get_block tags2 i (length blocks) k d low2
-        ∙ block_of_is tags2 i k (get_or blocks k 0) (λ c h. once2 c (get_or blocks k 0) (tag i k) h e) e
-        ∙ get_or_default blocks k 0 d low2)
+      let low2 : k < length blocks = subst (λ n. k < n) (length_blocks tags2 i (length blocks)) low in
+      let e : tag_at tags2 (get_or blocks k 0) ≡ Some (tag i k) = re.mine k low2 in
+      get_block tags2 i (length blocks) k d low2
+      ∙ block_of_is tags2 i k (get_or blocks k 0) (λ c h. once2 c (get_or blocks k 0) (tag i k) h e) e
+      ∙ get_or_default blocks k 0 d low2)
 
 -- where no tag is of the inode, it has no blocks
 pub untouched : (tags : List (Option Tag)) (i : ℕ) → ((b : ℕ) (t : Tag) → tag_at tags b ≡ Some t → t.inode ≢ i) → Retagged tags tags i []

@@ -85,7 +85,7 @@ length_without (row ∷ rows) p m there =
     elim (cases_path p row.0) [
       | inl same ↦
           ap (λ (t : Tree). suc (length t)) (cond-true (is_same p row.0) (without rows p) (row ∷ without rows p) (is_same_true p row.0 same)
-            ∙ without_absent rows p (ap (at rows) same ∙ m.0))
+          ∙ without_absent rows p (ap (at rows) same ∙ m.0))
       | inr apart ↦
           ap (λ (t : Tree). suc (length t)) (cond-false (is_same p row.0) (without rows p) (row ∷ without rows p) (is_same_false p row.0 apart))
           ∙ ap suc (length_without rows p m.1 (ap is_some (sym (at_past row rows p apart)) ∙ there))
@@ -127,7 +127,7 @@ any_at (row ∷ rows) f p node e is =
     elim (cases_path p row.0) [
       | inl here ↦
           or_left _ _ (ap f (let e2 = same_Some row.1 node (sym (at_here row rows p here) ∙ e) in
-            ap (λ (q : Path). (q, row.1)) (sym here) ∙ ap (λ (v : Node). (p, v)) e2) ∙ is)
+          ap (λ (q : Path). (q, row.1)) (sym here) ∙ ap (λ (v : Node). (p, v)) e2) ∙ is)
       | inr past ↦ or_right _ _ (any_at rows f p node (sym (at_past row rows p past) ∙ e) is)
     ]
 

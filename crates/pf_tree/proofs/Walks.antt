@@ -89,7 +89,7 @@ module _ (inodes : ℕ → Option Inode) (es : Entries) (names : IsNamed inodes 
           | inl same ↦
               let parts = cons_parts m n r p same in
               let before : walk es2 r ≡ Some d =
-                  walk_changed r ∙ cond-false _ _ _ (is_same_false r (n ∷ p) (too_long r parts.1)) ∙ ap (walk es) parts.1 ∙ here in
+              walk_changed r ∙ cond-false _ _ _ (is_same_false r (n ∷ p) (too_long r parts.1)) ∙ ap (walk es) parts.1 ∙ here in
               walk_on es2 m r d before ∙ ap (entry_at es2 d) parts.0 ∙ is ∙ sym (cond-true _ _ _ (is_same_true (m ∷ r) (n ∷ p) same))
           | inr apart ↦
               sym (cond-false (is_same (m ∷ r) (n ∷ p)) x (walk es (m ∷ r)) (is_same_false (m ∷ r) (n ∷ p) apart)
@@ -99,14 +99,13 @@ module _ (inodes : ℕ → Option Inode) (es : Entries) (names : IsNamed inodes 
                     ∙ sym (ap (option_and_then (λ j. entry_at es2 j m)) (walk_changed r ∙ cond-true _ _ _ (is_same_true r (n ∷ p) under)) ∙ new_ends m)
                 | inr other ↦
                     sym (ap (option_and_then (λ j. entry_at es2 j m)) (walk_changed r ∙ cond-false _ _ _ (is_same_false r (n ∷ p) other))
-                      ∙ step_same es2 m (walk es r) (λ e at_e. others e m (λ same_d same_n.
-                        apart (cons_same m n r p same_n (walk_once r p d (at_e ∙ ap Some same_d) here)))))
+                    ∙ step_same es2 m (walk es r) (λ e at_e. others e m (λ same_d same_n.
+                    apart (cons_same m n r p same_n (walk_once r p d (at_e ∙ ap Some same_d) here)))))
               ])
         ]
 
   -- a name moved
   module _ (es2 : Entries) (d e : ℕ) (n m : Name) (p q : Path) (i : ℕ) (old_dir : walk es p ≡ Some d) (new_dir : walk es q ≡ Some e) (old : entry_at es d n ≡ Some i) (free : entry_at es e m ≡ None) (outside : below (n ∷ p) (m ∷ q) ≡ None) (is : entry_at es2 e m ≡ Some i) (gone : AreApart e m d n → entry_at es2 d n ≡ None) (others : (f : ℕ) (o : Name) → AreApart d n f o → AreApart e m f o → entry_at es2 f o ≡ entry_at es f o) where
-
     shorter : (x : Path) (o : Name) (s : Path) → x ++ o ∷ s ≢ s
     shorter x o s h = let k = ap length h in let j = length-append x (o ∷ s) in omega (arith, k, j)
 
@@ -120,14 +119,13 @@ module _ (inodes : ℕ → Option Inode) (es : Entries) (names : IsNamed inodes 
           | inr none ↦ none
         ]
 
-
     pub walk_moved : (s : Path) → walk es2 s ≡ back (walk es) (n ∷ p) (below (m ∷ q) s) (below (n ∷ p) s) s
     walk_moved [] = refl
     walk_moved (o ∷ r) =
         let going : (a b : Option Path) → below (m ∷ q) r ≡ a → below (n ∷ p) r ≡ b → walk es2 r ≡ back (walk es) (n ∷ p) a b r =
-            λ a b e1 e2. walk_moved r ∙ ap (λ z. back (walk es) (n ∷ p) z (below (n ∷ p) r) r) e1 ∙ ap (λ z. back (walk es) (n ∷ p) a z r) e2 in
+        λ a b e1 e2. walk_moved r ∙ ap (λ z. back (walk es) (n ∷ p) z (below (n ∷ p) r) r) e1 ∙ ap (λ z. back (walk es) (n ∷ p) a z r) e2 in
         let told : (a b : Option Path) → below (m ∷ q) (o ∷ r) ≡ a → below (n ∷ p) (o ∷ r) ≡ b → back (walk es) (n ∷ p) (below (m ∷ q) (o ∷ r)) (below (n ∷ p) (o ∷ r)) (o ∷ r) ≡ back (walk es) (n ∷ p) a b (o ∷ r) =
-            λ a b e1 e2. ap (λ z. back (walk es) (n ∷ p) z (below (n ∷ p) (o ∷ r)) (o ∷ r)) e1 ∙ ap (λ z. back (walk es) (n ∷ p) a z (o ∷ r)) e2 in
+        λ a b e1 e2. ap (λ z. back (walk es) (n ∷ p) z (below (n ∷ p) (o ∷ r)) (o ∷ r)) e1 ∙ ap (λ z. back (walk es) (n ∷ p) a z (o ∷ r)) e2 in
         elim (cases_path (o ∷ r) (m ∷ q)) [
           | inl at_to ↦
               let parts = cons_parts o m r q at_to in
@@ -141,8 +139,8 @@ module _ (inodes : ℕ → Option Inode) (es : Entries) (names : IsNamed inodes 
                 | inl (x, under) ↦
                     ap (option_and_then (λ j. entry_at es2 j o)) (going (Some x) (below (n ∷ p) r) under refl)
                     ∙ step_same es2 o (walk es (x ++ n ∷ p)) (λ f at_f. others f o
-                      (λ same_d same_n. shorter x n p (walk_once (x ++ n ∷ p) p d (at_f ∙ ap Some same_d) old_dir))
-                      (λ same_e same_m. not_into x (walk_once (x ++ n ∷ p) q e (at_f ∙ ap Some same_e) new_dir)))
+                    (λ same_d same_n. shorter x n p (walk_once (x ++ n ∷ p) p d (at_f ∙ ap Some same_d) old_dir))
+                    (λ same_e same_m. not_into x (walk_once (x ++ n ∷ p) q e (at_f ∙ ap Some same_e) new_dir)))
                     ∙ sym (told (Some (o ∷ x)) (below (n ∷ p) (o ∷ r)) (below_step (m ∷ q) r o past_to ∙ ap (option_map (λ z. o ∷ z)) under) refl)
                 | inr not_under ↦
                     let off_to : below (m ∷ q) (o ∷ r) ≡ None = below_step (m ∷ q) r o past_to ∙ ap (option_map (λ z. o ∷ z)) not_under in
@@ -162,8 +160,8 @@ module _ (inodes : ℕ → Option Inode) (es : Entries) (names : IsNamed inodes 
                             | inr not_from ↦
                                 ap (option_and_then (λ j. entry_at es2 j o)) (going None None not_under not_from)
                                 ∙ step_same es2 o (walk es r) (λ f at_f. others f o
-                                  (λ same_d same_n. past_from (cons_same o n r p same_n (walk_once r p d (at_f ∙ ap Some same_d) old_dir)))
-                                  (λ same_e same_m. past_to (cons_same o m r q same_m (walk_once r q e (at_f ∙ ap Some same_e) new_dir))))
+                                (λ same_d same_n. past_from (cons_same o n r p same_n (walk_once r p d (at_f ∙ ap Some same_d) old_dir)))
+                                (λ same_e same_m. past_to (cons_same o m r q same_m (walk_once r q e (at_f ∙ ap Some same_e) new_dir))))
                                 ∙ sym (told None None off_to (below_step (n ∷ p) r o past_from ∙ ap (option_map (λ z. o ∷ z)) not_from))
                           ]
                     ]

@@ -70,7 +70,7 @@ abbrev pub size_changes : ℕ → List (Option Tag) → (inode old size : ℕ) �
 size_changes first tags i old size =
     SetInode i 1 size
     ∷ (freed (drop (block_count size) (blocks_of tags i (block_count old)))
-      ++ given i (block_count old) (take (block_count size - block_count old) (untagged_from first tags)))
+    ++ given i (block_count old) (take (block_count size - block_count old) (untagged_from first tags)))
 
 -- the data blocks of tables, by their first one
 abbrev pub data_of : ℕ → Tables → Data

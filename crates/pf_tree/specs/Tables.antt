@@ -147,7 +147,7 @@ abbrev pub resizes : Data → Tables → ℕ → Option Node → ℕ → List Ch
 resizes d tables i node size =
     SetInode i 1 size
     ∷ (freed (drop (block_count size) (blocks_at node))
-      ++ given i (block_count (size_at node)) (take (block_count size - block_count (size_at node)) (untagged d tables.tags)))
+    ++ given i (block_count (size_at node)) (take (block_count size - block_count (size_at node)) (untagged d tables.tags)))
 
 -- no change where the size stays
 abbrev pub sizes : Data → Tables → Path → ℕ → List Change

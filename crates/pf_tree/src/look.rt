@@ -13,7 +13,12 @@ use pf_base::{Bytes, NoMemory};
 use std::alloc::Global;
 
 /// The inode at a path, and what it is.
-pub(crate) fn walk_to(inodes: &[Option<Inode>], directories: &[Rows], tags: &[Option<Tag>], path: &[Bytes]) -> Result<u16, TreeFault>
+pub(crate) fn walk_to(
+    inodes: &[Option<Inode>],
+    directories: &[Rows],
+    tags: &[Option<Tag>],
+    path: &[Bytes],
+) -> Result<u16, TreeFault>
     ensures { Refuses (walk_refusal (node_at (tables_of inodes.now directories.now tags.now)) path.now) result (λ i. walk (lists_of directories.now) path.now ≡ Some i) }
 {
     let Some((name, rest)) = path.split_first() else {
@@ -24,7 +29,13 @@ pub(crate) fn walk_to(inodes: &[Option<Inode>], directories: &[Rows], tags: &[Op
 }
 
 /// One name further.
-fn step(inodes: &[Option<Inode>], directories: &[Rows], tags: &[Option<Tag>], directory: u16, name: &Bytes) -> Result<u16, TreeFault>
+fn step(
+    inodes: &[Option<Inode>],
+    directories: &[Rows],
+    tags: &[Option<Tag>],
+    directory: u16,
+    name: &Bytes,
+) -> Result<u16, TreeFault>
     ensures { Refuses (step_of (tables_of inodes.now directories.now tags.now) directory name.now) result (λ i. entry_at (lists_of directories.now) directory name.now ≡ Some i) }
 {
     if let Some(Inode::File { .. }) = inode_of(inodes, directory) {
@@ -53,7 +64,13 @@ pub(crate) fn inode_of(inodes: &[Option<Inode>], inode: u16) -> Option<Inode>
 }
 
 /// Whether something stands at a name of a directory.
-fn is_taken(inodes: &[Option<Inode>], directories: &[Rows], tags: &[Option<Tag>], directory: u16, name: &Bytes) -> bool
+fn is_taken(
+    inodes: &[Option<Inode>],
+    directories: &[Rows],
+    tags: &[Option<Tag>],
+    directory: u16,
+    name: &Bytes,
+) -> bool
     ensures { result ≡ is_some (option_and_then (node_of (tables_of inodes.now directories.now tags.now)) (entry_at (lists_of directories.now) directory name.now)) }
 {
     let Some(rows) = directories.get(directory as usize) else {
@@ -66,7 +83,12 @@ fn is_taken(inodes: &[Option<Inode>], directories: &[Rows], tags: &[Option<Tag>]
 }
 
 /// The directory of a place where nothing stands yet.
-pub(crate) fn place_at(inodes: &[Option<Inode>], directories: &[Rows], tags: &[Option<Tag>], path: &[Bytes]) -> Result<u16, TreeFault>
+pub(crate) fn place_at(
+    inodes: &[Option<Inode>],
+    directories: &[Rows],
+    tags: &[Option<Tag>],
+    path: &[Bytes],
+) -> Result<u16, TreeFault>
     ensures { Refuses (place_refusal (node_at (tables_of inodes.now directories.now tags.now)) path.now) result (IsParent (lists_of directories.now) path.now) }
 {
     let Some((name, rest)) = path.split_first() else {
@@ -83,7 +105,12 @@ pub(crate) fn place_at(inodes: &[Option<Inode>], directories: &[Rows], tags: &[O
 }
 
 /// The inode and the size of the file at a path.
-pub(crate) fn file_at(inodes: &[Option<Inode>], directories: &[Rows], tags: &[Option<Tag>], path: &[Bytes]) -> Result<(u16, u32), TreeFault>
+pub(crate) fn file_at(
+    inodes: &[Option<Inode>],
+    directories: &[Rows],
+    tags: &[Option<Tag>],
+    path: &[Bytes],
+) -> Result<(u16, u32), TreeFault>
     ensures { HasRoot (tables_of inodes.now directories.now tags.now) → Refuses (file_refusal (node_at (tables_of inodes.now directories.now tags.now)) path.now) result (λ x. IsFileAt (tables_of inodes.now directories.now tags.now) path.now x.0 x.1) }
 {
     let inode = walk_to(inodes, directories, tags, path)?;
@@ -95,7 +122,12 @@ pub(crate) fn file_at(inodes: &[Option<Inode>], directories: &[Rows], tags: &[Op
 }
 
 /// The inode of the directory at a path.
-pub(crate) fn dir_at(inodes: &[Option<Inode>], directories: &[Rows], tags: &[Option<Tag>], path: &[Bytes]) -> Result<u16, TreeFault>
+pub(crate) fn dir_at(
+    inodes: &[Option<Inode>],
+    directories: &[Rows],
+    tags: &[Option<Tag>],
+    path: &[Bytes],
+) -> Result<u16, TreeFault>
     ensures { Refuses (dir_refusal (node_at (tables_of inodes.now directories.now tags.now)) path.now) result (λ i. walk (lists_of directories.now) path.now ≡ Some i) }
 {
     let inode = walk_to(inodes, directories, tags, path)?;
@@ -129,7 +161,12 @@ pub(crate) fn is_empty_dir(directories: &[Rows], directory: u16) -> bool
 }
 
 /// The blocks of a file in the order of their indices.
-pub(crate) fn blocks_of(alloc: Global, tags: &[Option<Tag>], inode: u16, count: u32) -> Result<Vec<u16>, NoMemory>
+pub(crate) fn blocks_of(
+    alloc: Global,
+    tags: &[Option<Tag>],
+    inode: u16,
+    count: u32,
+) -> Result<Vec<u16>, NoMemory>
     requires { length tags.now ≤ 4096 }
     ensures { IfOk result (λ v. v.items ≡ blocks_of tags.now inode count) }
 {
@@ -164,7 +201,12 @@ fn is_tag(tag: &Option<Tag>, inode: u16, index: u32) -> bool
 }
 
 /// The least blocks from the first one on that have no tag, up to so many.
-pub(crate) fn free_blocks(alloc: Global, tags: &[Option<Tag>], first: u32, count: usize) -> Result<Vec<u16>, NoMemory>
+pub(crate) fn free_blocks(
+    alloc: Global,
+    tags: &[Option<Tag>],
+    first: u32,
+    count: usize,
+) -> Result<Vec<u16>, NoMemory>
     requires { length tags.now ≤ 4096 }
     ensures { IfOk result (λ v. v.items ≡ take count (unused first (length tags.now) (λ b. is_some (tag_at tags.now b)))) }
 {

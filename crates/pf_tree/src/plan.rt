@@ -10,7 +10,9 @@ ghost use Rattle.pf_tree.specs.Faults.{PlansTo};
 ghost use Rattle.pf_tree.specs.declared.calls.FileCall.TheVariants.{Truncate, Write};
 ghost use Rattle.pf_tree.specs.declared.changes.Change.TheVariants.{AddEntry, DeleteEntry, SetInode};
 
-use crate::look::{blocks_of, dir_at, file_at, free_blocks, is_empty_dir, least_free, place_at, walk_to};
+use crate::look::{
+    blocks_of, dir_at, file_at, free_blocks, is_empty_dir, least_free, place_at, walk_to,
+};
 use crate::rows::Rows;
 use crate::tree::{MAX_SIZE, copy_name};
 use crate::{Change, Inode, Tag, TreeFault};
@@ -18,7 +20,14 @@ use pf_base::{Bytes, NoMemory};
 use std::alloc::Global;
 
 /// The changes that make a directory (kind 2) or an empty file (kind 1).
-pub(crate) fn plan_make(alloc: Global, inodes: &[Option<Inode>], directories: &[Rows], tags: &[Option<Tag>], path: &[Bytes], kind: u8) -> Result<Vec<Change>, TreeFault>
+pub(crate) fn plan_make(
+    alloc: Global,
+    inodes: &[Option<Inode>],
+    directories: &[Rows],
+    tags: &[Option<Tag>],
+    path: &[Bytes],
+    kind: u8,
+) -> Result<Vec<Change>, TreeFault>
     requires { length inodes.now ≤ 1024 }
     ensures { PlansTo (first_of (place_refusal (node_at (tables_of inodes.now directories.now tags.now)) path.now) (when 87 (nat_le (length inodes.now) (position_or_len is_none inodes.now)))) (makes (tables_of inodes.now directories.now tags.now) kind path.now) result }
 {
@@ -31,7 +40,13 @@ pub(crate) fn plan_make(alloc: Global, inodes: &[Option<Inode>], directories: &[
     Ok(changes)
 }
 
-fn make_changes(alloc: Global, kind: u8, directory: u16, inode: u16, name: &Bytes) -> Result<Vec<Change>, NoMemory>
+fn make_changes(
+    alloc: Global,
+    kind: u8,
+    directory: u16,
+    inode: u16,
+    name: &Bytes,
+) -> Result<Vec<Change>, NoMemory>
     ensures { IfOk result (λ v. v.items ≡ SetInode inode kind 0 ∷ AddEntry directory inode name.now ∷ []) }
 {
     let name = copy_name(alloc, name)?;
@@ -50,7 +65,13 @@ fn make_changes(alloc: Global, kind: u8, directory: u16, inode: u16, name: &Byte
 }
 
 /// The changes that remove an empty directory.
-pub(crate) fn plan_rmdir(alloc: Global, inodes: &[Option<Inode>], directories: &[Rows], tags: &[Option<Tag>], path: &[Bytes]) -> Result<Vec<Change>, TreeFault>
+pub(crate) fn plan_rmdir(
+    alloc: Global,
+    inodes: &[Option<Inode>],
+    directories: &[Rows],
+    tags: &[Option<Tag>],
+    path: &[Bytes],
+) -> Result<Vec<Change>, TreeFault>
     ensures { PlansTo (first_of (dir_refusal (node_at (tables_of inodes.now directories.now tags.now)) path.now) (when 86 (not (has_none (lists_of directories.now) (walk (lists_of directories.now) path.now))))) (removes (tables_of inodes.now directories.now tags.now) path.now) result }
 {
     let inode = dir_at(inodes, directories, tags, path)?;
@@ -65,7 +86,12 @@ pub(crate) fn plan_rmdir(alloc: Global, inodes: &[Option<Inode>], directories: &
     Ok(changes)
 }
 
-fn remove_changes(alloc: Global, directory: u16, inode: u16, name: &Bytes) -> Result<Vec<Change>, NoMemory>
+fn remove_changes(
+    alloc: Global,
+    directory: u16,
+    inode: u16,
+    name: &Bytes,
+) -> Result<Vec<Change>, NoMemory>
     ensures { IfOk result (λ v. v.items ≡ DeleteEntry directory name.now ∷ SetInode inode 0 0 ∷ []) }
 {
     let name = copy_name(alloc, name)?;
@@ -80,7 +106,13 @@ fn remove_changes(alloc: Global, directory: u16, inode: u16, name: &Bytes) -> Re
 }
 
 /// The changes that remove a file.
-pub(crate) fn plan_unlink(alloc: Global, inodes: &[Option<Inode>], directories: &[Rows], tags: &[Option<Tag>], path: &[Bytes]) -> Result<Vec<Change>, TreeFault>
+pub(crate) fn plan_unlink(
+    alloc: Global,
+    inodes: &[Option<Inode>],
+    directories: &[Rows],
+    tags: &[Option<Tag>],
+    path: &[Bytes],
+) -> Result<Vec<Change>, TreeFault>
     requires { length tags.now ≤ 4096 }
     ensures { HasRoot (tables_of inodes.now directories.now tags.now) → PlansTo (file_refusal (node_at (tables_of inodes.now directories.now tags.now)) path.now) (unlinks (tables_of inodes.now directories.now tags.now) path.now) result }
 {
@@ -101,7 +133,13 @@ pub(crate) fn count_blocks(size: u32) -> u32
     ((size as u64 + 4095) / 4096) as u32
 }
 
-fn unlink_changes(alloc: Global, directory: u16, inode: u16, name: &Bytes, blocks: &[u16]) -> Result<Vec<Change>, NoMemory>
+fn unlink_changes(
+    alloc: Global,
+    directory: u16,
+    inode: u16,
+    name: &Bytes,
+    blocks: &[u16],
+) -> Result<Vec<Change>, NoMemory>
     ensures { IfOk result (λ v. v.items ≡ DeleteEntry directory name.now ∷ (freed blocks.now ++ SetInode inode 0 0 ∷ [])) }
 {
     let name = copy_name(alloc, name)?;
@@ -131,7 +169,14 @@ fn push_freed(changes: &mut Vec<Change>, blocks: &[u16]) -> Result<(), NoMemory>
 }
 
 /// The changes that give a file or a directory another path.
-pub(crate) fn plan_rename(alloc: Global, inodes: &[Option<Inode>], directories: &[Rows], tags: &[Option<Tag>], from: &[Bytes], to: &[Bytes]) -> Result<Vec<Change>, TreeFault>
+pub(crate) fn plan_rename(
+    alloc: Global,
+    inodes: &[Option<Inode>],
+    directories: &[Rows],
+    tags: &[Option<Tag>],
+    from: &[Bytes],
+    to: &[Bytes],
+) -> Result<Vec<Change>, TreeFault>
     ensures { PlansTo (first_of (walk_refusal (node_at (tables_of inodes.now directories.now tags.now)) from.now) (first_of (when 89 (goes_on (below from.now to.now))) (place_refusal (node_at (tables_of inodes.now directories.now tags.now)) to.now))) (renames (tables_of inodes.now directories.now tags.now) from.now to.now) result }
 {
     let inode = walk_to(inodes, directories, tags, from)?;
@@ -150,7 +195,14 @@ pub(crate) fn plan_rename(alloc: Global, inodes: &[Option<Inode>], directories: 
     Ok(changes)
 }
 
-fn rename_changes(alloc: Global, directory: u16, name: &Bytes, place: u16, inode: u16, new_name: &Bytes) -> Result<Vec<Change>, NoMemory>
+fn rename_changes(
+    alloc: Global,
+    directory: u16,
+    name: &Bytes,
+    place: u16,
+    inode: u16,
+    new_name: &Bytes,
+) -> Result<Vec<Change>, NoMemory>
     ensures { IfOk result (λ v. v.items ≡ DeleteEntry directory name.now ∷ AddEntry place inode new_name.now ∷ []) }
 {
     let name = copy_name(alloc, name)?;
@@ -208,7 +260,14 @@ fn same_paths(path: &[Bytes], other: &[Bytes]) -> bool
 }
 
 /// The changes that give a file another size; none where it has it.
-pub(crate) fn plan_size(alloc: Global, tags: &[Option<Tag>], first: u32, inode: u16, old: u32, size: u32) -> Result<Vec<Change>, TreeFault>
+pub(crate) fn plan_size(
+    alloc: Global,
+    tags: &[Option<Tag>],
+    first: u32,
+    inode: u16,
+    old: u32,
+    size: u32,
+) -> Result<Vec<Change>, TreeFault>
     requires tags { length tags.now ≤ 4096 }
     requires old { old ≤ 196608 }
     requires size { size ≤ 196608 }
@@ -230,7 +289,14 @@ pub(crate) fn plan_size(alloc: Global, tags: &[Option<Tag>], first: u32, inode: 
     Ok(changes)
 }
 
-fn resize_changes(alloc: Global, inode: u16, size: u32, dropped: &[u16], have: u8, fresh: &[u16]) -> Result<Vec<Change>, NoMemory>
+fn resize_changes(
+    alloc: Global,
+    inode: u16,
+    size: u32,
+    dropped: &[u16],
+    have: u8,
+    fresh: &[u16],
+) -> Result<Vec<Change>, NoMemory>
     requires { have + length fresh.now ≤ 255 }
     ensures { IfOk result (λ v. v.items ≡ SetInode inode 1 size ∷ (freed dropped.now ++ given inode have fresh.now)) }
 {
@@ -246,7 +312,12 @@ fn resize_changes(alloc: Global, inode: u16, size: u32, dropped: &[u16], have: u
 }
 
 /// Adds the changes that give blocks to a file, from an index on.
-fn push_given(changes: &mut Vec<Change>, inode: u16, index: u8, blocks: &[u16]) -> Result<(), NoMemory>
+fn push_given(
+    changes: &mut Vec<Change>,
+    inode: u16,
+    index: u8,
+    blocks: &[u16],
+) -> Result<(), NoMemory>
     requires { index + length blocks.now ≤ 255 }
     ensures { OnOk result (changes.new.items ≡ changes.old.items ++ given inode index blocks.now) }
 {
@@ -262,7 +333,15 @@ fn push_given(changes: &mut Vec<Change>, inode: u16, index: u8, blocks: &[u16]) 
 }
 
 /// The changes that cut or grow a file to a size.
-pub(crate) fn plan_truncate(alloc: Global, inodes: &[Option<Inode>], directories: &[Rows], tags: &[Option<Tag>], first: u32, path: &[Bytes], size: u32) -> Result<Vec<Change>, TreeFault>
+pub(crate) fn plan_truncate(
+    alloc: Global,
+    inodes: &[Option<Inode>],
+    directories: &[Rows],
+    tags: &[Option<Tag>],
+    first: u32,
+    path: &[Bytes],
+    size: u32,
+) -> Result<Vec<Change>, TreeFault>
     requires { length tags.now ≤ 4096 }
     ensures { IsWhole (tables_of inodes.now directories.now tags.now) → PlansTo (refusal (tables_sight (data_of first (tables_of inodes.now directories.now tags.now)) (tables_of inodes.now directories.now tags.now)) (Truncate path.now size)) (changes (data_of first (tables_of inodes.now directories.now tags.now)) (tables_of inodes.now directories.now tags.now) (Truncate path.now size)) result }
 {
@@ -274,7 +353,16 @@ pub(crate) fn plan_truncate(alloc: Global, inodes: &[Option<Inode>], directories
 }
 
 /// The changes of a write of so many bytes from an offset on.
-pub(crate) fn plan_write(alloc: Global, inodes: &[Option<Inode>], directories: &[Rows], tags: &[Option<Tag>], first: u32, path: &[Bytes], offset: u32, count: u32) -> Result<Vec<Change>, TreeFault>
+pub(crate) fn plan_write(
+    alloc: Global,
+    inodes: &[Option<Inode>],
+    directories: &[Rows],
+    tags: &[Option<Tag>],
+    first: u32,
+    path: &[Bytes],
+    offset: u32,
+    count: u32,
+) -> Result<Vec<Change>, TreeFault>
     requires { length tags.now ≤ 4096 }
     ensures { IsWhole (tables_of inodes.now directories.now tags.now) → PlansTo (refusal (tables_sight (data_of first (tables_of inodes.now directories.now tags.now)) (tables_of inodes.now directories.now tags.now)) (Write path.now offset count)) (changes (data_of first (tables_of inodes.now directories.now tags.now)) (tables_of inodes.now directories.now tags.now) (Write path.now offset count)) result }
 {

@@ -5,9 +5,7 @@ use pf_base::Bytes;
 /// An inode in use.
 #[derive(Clone, Copy, Debug, PartialEq, Eq)]
 pub enum Inode {
-    File {
-        size: u32,
-    },
+    File { size: u32 },
     Directory,
 }
 

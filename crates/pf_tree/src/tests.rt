@@ -1,5 +1,5 @@
 //! The worked rows of refused calls, over plans that are carried out.
-use crate::{Changes, FileCall, Tree, TreeFault, Txn};
+use crate::{Changes, FileCall, Tree, Txn};
 use pf_base::{Bytes, Names, NoMemory};
 use std::alloc::Global;
 use std::test::Fail;
@@ -29,83 +29,53 @@ fn run(alloc: Global, tree: &mut Tree, call: FileCall) -> Result<u32, NoMemory> 
     }
 }
 
+/// The call of this word. A write has an offset and a count, and a rename a path of its own.
+fn call_of(word: &str, path: Names, to: Names, offset: u32, count: u32) -> FileCall {
+    match word {
+        "mkdir" => FileCall::Mkdir { path },
+        "create" => FileCall::Create { path },
+        "write" => FileCall::Write {
+            path,
+            offset,
+            count,
+        },
+        "rename" => FileCall::Rename { from: path, to },
+        "rmdir" => FileCall::Rmdir { path },
+        "unlink" => FileCall::Unlink { path },
+        _ => FileCall::Stat { path },
+    }
+}
+
+/// Calls with the numbers of their refusals. A path has its last name first.
+const CALLS: [(&str, &[&[u8]], &[&[u8]], u32, u32, u32); 15] = [
+    ("create", &[b"b", b"a"], &[], 0, 0, 82),
+    ("mkdir", &[b"d"], &[], 0, 0, 0),
+    ("rename", &[b"d"], &[b"e", b"d"], 0, 0, 89),
+    ("create", &[b"d"], &[], 0, 0, 83),
+    ("write", &[b"d"], &[], 0, 1, 85),
+    ("create", &[b"f"], &[], 0, 0, 0),
+    ("mkdir", &[b"x", b"f"], &[], 0, 0, 84),
+    ("write", &[b"f"], &[], 196600, 9, 88),
+    ("mkdir", &[b"x", b"d"], &[], 0, 0, 0),
+    ("rmdir", &[b"d"], &[], 0, 0, 86),
+    ("write", &[b"f"], &[], 0, 12289, 87),
+    ("write", &[b"f"], &[], 0, 12288, 0),
+    ("unlink", &[b"f"], &[], 0, 0, 0),
+    ("rename", &[b"d"], &[b"g"], 0, 0, 0),
+    ("stat", &[b"x", b"g"], &[], 0, 0, 0),
+];
+
 #[test]
 fn refused_calls(rt: HostRuntime) -> Result<(), Fail> {
     let alloc = rt.alloc();
     let mut tree = Tree::new(alloc, 516)?;
-    let t = &mut tree;
-    let none: &[u8] = b"";
-    assert!(rt; none.is_empty());
-    assert!(rt; TreeFault::NoMemory.number() == 1);
-    let call = FileCall::Create {
-        path: path(alloc, &[b"b", b"a"])?,
-    };
-    assert!(rt; run(alloc, t, call)? == 82);
-    let call = FileCall::Mkdir {
-        path: path(alloc, &[b"d"])?,
-    };
-    assert!(rt; run(alloc, t, call)? == 0);
-    let call = FileCall::Rename {
-        from: path(alloc, &[b"d"])?,
-        to: path(alloc, &[b"e", b"d"])?,
-    };
-    assert!(rt; run(alloc, t, call)? == 89);
-    let call = FileCall::Create {
-        path: path(alloc, &[b"d"])?,
-    };
-    assert!(rt; run(alloc, t, call)? == 83);
-    let call = FileCall::Write {
-        path: path(alloc, &[b"d"])?,
-        offset: 0,
-        count: 1,
-    };
-    assert!(rt; run(alloc, t, call)? == 85);
-    let call = FileCall::Create {
-        path: path(alloc, &[b"f"])?,
-    };
-    assert!(rt; run(alloc, t, call)? == 0);
-    let call = FileCall::Mkdir {
-        path: path(alloc, &[b"x", b"f"])?,
-    };
-    assert!(rt; run(alloc, t, call)? == 84);
-    let call = FileCall::Write {
-        path: path(alloc, &[b"f"])?,
-        offset: 196600,
-        count: 9,
-    };
-    assert!(rt; run(alloc, t, call)? == 88);
-    let call = FileCall::Mkdir {
-        path: path(alloc, &[b"x", b"d"])?,
-    };
-    assert!(rt; run(alloc, t, call)? == 0);
-    let call = FileCall::Rmdir {
-        path: path(alloc, &[b"d"])?,
-    };
-    assert!(rt; run(alloc, t, call)? == 86);
-    let call = FileCall::Write {
-        path: path(alloc, &[b"f"])?,
-        offset: 0,
-        count: 12289,
-    };
-    assert!(rt; run(alloc, t, call)? == 87);
-    let call = FileCall::Write {
-        path: path(alloc, &[b"f"])?,
-        offset: 0,
-        count: 12288,
-    };
-    assert!(rt; run(alloc, t, call)? == 0);
-    let call = FileCall::Unlink {
-        path: path(alloc, &[b"f"])?,
-    };
-    assert!(rt; run(alloc, t, call)? == 0);
-    let call = FileCall::Rename {
-        from: path(alloc, &[b"d"])?,
-        to: path(alloc, &[b"g"])?,
-    };
-    assert!(rt; run(alloc, t, call)? == 0);
-    let call = FileCall::Stat {
-        path: path(alloc, &[b"x", b"g"])?,
-    };
-    assert!(rt; run(alloc, t, call)? == 0);
+    for (word, from, to, offset, count, number) in CALLS {
+        let call = call_of(word, path(alloc, from)?, path(alloc, to)?, offset, count);
+        assert_eq!(rt;
+            run(alloc, &mut tree, call)?,
+            number,
+            "{word} {offset} {count}"
+        );
+    }
     Ok(())
 }

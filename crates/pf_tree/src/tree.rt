@@ -78,7 +78,12 @@ impl Tree {
     {
         let changes = copy_changes(alloc, txn.changes.as_slice())?;
         make_room(&mut self.directories, &changes)?;
-        carry_out(&mut self.inodes, &mut self.directories, &mut self.tags, changes);
+        carry_out(
+            &mut self.inodes,
+            &mut self.directories,
+            &mut self.tags,
+            changes,
+        );
         Ok(())
     }
 
@@ -86,26 +91,71 @@ impl Tree {
     pub fn plan_call(&self, alloc: Global, call: &FileCall) -> Result<Vec<Change>, TreeFault>
         ensures { IsWhole self.now.tables → PlansTo (refusal (tables_sight (data_of self.now.first self.now.tables) self.now.tables) call.now) (changes (data_of self.now.first self.now.tables) self.now.tables call.now) result }
     {
-        plan_all(alloc, &self.inodes, &self.directories, &self.tags, self.first, call)
+        plan_all(
+            alloc,
+            &self.inodes,
+            &self.directories,
+            &self.tags,
+            self.first,
+            call,
+        )
     }
 }
 
 /// The changes of a call on these tables.
-fn plan_all(alloc: Global, inodes: &[Option<Inode>], directories: &[Rows], tags: &[Option<Tag>], first: u32, call: &FileCall) -> Result<Vec<Change>, TreeFault>
+fn plan_all(
+    alloc: Global,
+    inodes: &[Option<Inode>],
+    directories: &[Rows],
+    tags: &[Option<Tag>],
+    first: u32,
+    call: &FileCall,
+) -> Result<Vec<Change>, TreeFault>
     requires inodes { length inodes.now ≤ 1024 }
     requires tags { length tags.now ≤ 4096 }
     ensures { IsWhole (tables_of inodes.now directories.now tags.now) → PlansTo (refusal (tables_sight (data_of first (tables_of inodes.now directories.now tags.now)) (tables_of inodes.now directories.now tags.now)) call.now) (changes (data_of first (tables_of inodes.now directories.now tags.now)) (tables_of inodes.now directories.now tags.now) call.now) result }
 {
     match call {
         FileCall::Mkdir { path } => plan_make(alloc, inodes, directories, tags, path.as_slice(), 2),
-        FileCall::Create { path } => plan_make(alloc, inodes, directories, tags, path.as_slice(), 1),
+        FileCall::Create { path } => plan_make(
+            alloc,
+            inodes,
+            directories,
+            tags,
+            path.as_slice(),
+            1,
+        ),
         FileCall::Write {
             path,
             offset,
             count,
-        } => plan_write(alloc, inodes, directories, tags, first, path.as_slice(), *offset, *count),
-        FileCall::Truncate { path, size } => plan_truncate(alloc, inodes, directories, tags, first, path.as_slice(), *size),
-        FileCall::Rename { from, to } => plan_rename(alloc, inodes, directories, tags, from.as_slice(), to.as_slice()),
+        } => plan_write(
+            alloc,
+            inodes,
+            directories,
+            tags,
+            first,
+            path.as_slice(),
+            *offset,
+            *count,
+        ),
+        FileCall::Truncate { path, size } => plan_truncate(
+            alloc,
+            inodes,
+            directories,
+            tags,
+            first,
+            path.as_slice(),
+            *size,
+        ),
+        FileCall::Rename { from, to } => plan_rename(
+            alloc,
+            inodes,
+            directories,
+            tags,
+            from.as_slice(),
+            to.as_slice(),
+        ),
         FileCall::Unlink { path } => plan_unlink(alloc, inodes, directories, tags, path.as_slice()),
         FileCall::Rmdir { path } => plan_rmdir(alloc, inodes, directories, tags, path.as_slice()),
         FileCall::Read { path } => {
@@ -255,7 +305,12 @@ fn reserve_in(directories: &mut Vec<Rows>, directory: u16, count: usize) -> Resu
 }
 
 /// Carries out changes, one by one.
-fn carry_out(inodes: &mut Vec<Option<Inode>>, directories: &mut Vec<Rows>, tags: &mut Vec<Option<Tag>>, changes: Vec<Change>)
+fn carry_out(
+    inodes: &mut Vec<Option<Inode>>,
+    directories: &mut Vec<Rows>,
+    tags: &mut Vec<Option<Tag>>,
+    changes: Vec<Change>,
+)
     requires { HasRoom directories.old.items changes.items (length changes.items) }
     ensures { tables_of inodes.new.items directories.new.items tags.new.items ≡ applied (tables_of inodes.old.items directories.old.items tags.old.items) changes.items }
 {
@@ -265,7 +320,12 @@ fn carry_out(inodes: &mut Vec<Option<Inode>>, directories: &mut Vec<Rows>, tags:
 }
 
 /// Carries out one change.
-fn change_one(inodes: &mut Vec<Option<Inode>>, directories: &mut Vec<Rows>, tags: &mut Vec<Option<Tag>>, change: Change)
+fn change_one(
+    inodes: &mut Vec<Option<Inode>>,
+    directories: &mut Vec<Rows>,
+    tags: &mut Vec<Option<Tag>>,
+    change: Change,
+)
     requires { HasRoom directories.old.items (change ∷ []) 1 }
     ensures tables { tables_of inodes.new.items directories.new.items tags.new.items ≡ after_change (tables_of inodes.old.items directories.old.items tags.old.items) change }
     ensures room { (d : ℕ) → room_in directories.old.items d ≤ room_in directories.new.items d + 1 }

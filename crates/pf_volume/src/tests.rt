@@ -1,7 +1,7 @@
 //! Sectors of a volume of two chunks.
 ghost use Rattle.std.specs.Prelude.{◌≡◌};
 
-use crate::{OutsideVolume, Place, SplitFault, Volume};
+use crate::{OutsideVolume, SplitFault, Volume};
 use std::test::Fail;
 
 fn two_chunks() -> Volume {
@@ -9,23 +9,10 @@ fn two_chunks() -> Volume {
 }
 
 #[test]
-fn sectors_have_their_places(rt: HostRuntime) -> Result<(), Fail> {
-    let volume = two_chunks();
-    for (number, chunk, sector) in [(0, 0, 0), (15, 0, 15), (16, 1, 0), (31, 1, 15)] {
-        assert!(rt;
-            volume.locate(number) == Ok(Place { chunk, sector }),
-            "{number}"
-        );
-    }
-    assert!(rt; volume.locate(32) == Err(OutsideVolume));
-    assert!(rt; volume.locate(4_294_967_295) == Err(OutsideVolume));
-    Ok(())
-}
-
-#[test]
 fn runs_are_split(rt: HostRuntime) -> Result<(), Fail> {
     let alloc = rt.alloc();
     let volume = two_chunks();
+    assert!(rt; volume.locate(32) == Err(OutsideVolume));
     let places = volume.split(alloc, 14, 4)?;
     let chunks = [(0, 14), (0, 15), (1, 0), (1, 1)];
     assert!(rt;

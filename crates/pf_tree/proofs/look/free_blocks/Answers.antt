@@ -9,12 +9,13 @@ loop-block-preserved c =
     let b = c.loop-block.block in
     let f : c.is_none-is_free.result ≡ not (is_some (tag_at c.args.tags.now b)) = grind (arith, common_steps) in
     let low = c.loop-block.auto.block in
-    let t = c.loop-block-test.true in
-    (c.in_ok-push_free.ensures
-      ∙ ap (λ (free : Bool). cond (free && nat_lt (length c.loop-block.blocks.items) c.args.count) (c.loop-block.blocks.items ++ b ∷ []) c.loop-block.blocks.items) f
-      ∙ ap (λ (xs : List ℕ). cond (not (is_some (tag_at c.args.tags.now b)) && nat_lt (length xs) c.args.count) (xs ++ b ∷ []) xs) c.loop-block.invariant.0
-      ∙ free_more c.args.count c.args.first b (λ b. is_some (tag_at c.args.tags.now b)) low,
-      λ h. absurd (omega (arith, low, t, h)))
+    let t = c.loop-block-test.true in (
+      c.in_ok-push_free.ensures
+          ∙ ap (λ (free : Bool). cond (free && nat_lt (length c.loop-block.blocks.items) c.args.count) (c.loop-block.blocks.items ++ b ∷ []) c.loop-block.blocks.items) f
+          ∙ ap (λ (xs : List ℕ). cond (not (is_some (tag_at c.args.tags.now b)) && nat_lt (length xs) c.args.count) (xs ++ b ∷ []) xs) c.loop-block.invariant.0
+          ∙ free_more c.args.count c.args.first b (λ b. is_some (tag_at c.args.tags.now b)) low,
+      λ h. absurd (omega (arith, low, t, h)),
+    )
 
 pub returns : goal.returns
 returns c =

@@ -9,7 +9,7 @@ pub returns-then-is_none : goal.returns-then-is_none
 returns-then-is_none c =
     let low : c.loop-place.place < length c.args.inodes.now = omega arith in
     let e : c.loop-place.place ≡ position_or_len is_none c.args.inodes.now =
-        first_place is_none c.args.inodes.now c.loop-place.place low c.loop-place.invariant (grind (arith, common_steps)) in
+    first_place is_none c.args.inodes.now c.loop-place.place low c.loop-place.invariant (grind (arith, common_steps)) in
     (not_full (length c.args.inodes.now) _ (omega (arith, e, low)), e)
 
 pub returns : goal.returns

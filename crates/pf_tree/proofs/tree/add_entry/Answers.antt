@@ -11,5 +11,5 @@ returns-then-place-len-clause-lists c =
     let row : Entry = record { inode = c.args.inode; name = c.args.name } in
     written c.args.directories.now.items c.args.directory c.add.new.self _
     (c.add.ensures.list ∙ ap (λ (rs : List Entry). rs ++ row ∷ []) (c.forget.ensures.list
-      ∙ ap (λ (n : Name). others c.index_mut-rows.result.now.list n) c.as_slice.ensures
-      ∙ ap (λ (rs : List Entry). others rs c.args.name) (sym (list_at c.args.directories.now.items c.args.directory c.index_mut-rows.result.now low c.index_mut-rows.ensures.value))))
+    ∙ ap (λ (n : Name). others c.index_mut-rows.result.now.list n) c.as_slice.ensures
+    ∙ ap (λ (rs : List Entry). others rs c.args.name) (sym (list_at c.args.directories.now.items c.args.directory c.index_mut-rows.result.now low c.index_mut-rows.ensures.value))))

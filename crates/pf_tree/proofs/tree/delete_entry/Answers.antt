@@ -10,5 +10,5 @@ returns-then-place-len-clause-lists c =
     let low : c.args.directory < length c.args.directories.now.items = grind arith in
     written c.args.directories.now.items c.args.directory c.forget.new.self _
     (c.forget.ensures.list
-      ∙ ap (λ (n : Name). others c.index_mut-rows.result.now.list n) c.as_slice.ensures
-      ∙ ap (λ (rs : List Entry). others rs c.args.name.now) (sym (list_at c.args.directories.now.items c.args.directory c.index_mut-rows.result.now low c.index_mut-rows.ensures.value)))
+    ∙ ap (λ (n : Name). others c.index_mut-rows.result.now.list n) c.as_slice.ensures
+    ∙ ap (λ (rs : List Entry). others rs c.args.name.now) (sym (list_at c.args.directories.now.items c.args.directory c.index_mut-rows.result.now low c.index_mut-rows.ensures.value)))

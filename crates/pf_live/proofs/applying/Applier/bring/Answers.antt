@@ -18,4 +18,4 @@ give_up-requires g c = let a = c.args.self.now in let group = c.args.line.now.gr
 pub returns-in-Ok-clause-is : goal.returns-in-Ok-clause-is
 returns-in-Ok-clause-is g c = let a = c.args.self.now in let group = c.args.line.now.group in let e = c.finish.ensures in
     ends_job group (number_of a.seat) a _ refl e.seat.1.0 e.seat.0 (IsAlone a.seat) (root_in group) c.args.job c.finish.result c.requires
-        (subst (λ f. Steps (root_in group) (number_of a.seat) (IsAlone a.seat) (seen_by a.seat) (Finish f.server f.life f.slot) c.finish.result (seen_by c.finish.new.seat)) c.in-Ok.ensures.filled e.step) c.requires.on
+    (subst (λ f. Steps (root_in group) (number_of a.seat) (IsAlone a.seat) (seen_by a.seat) (Finish f.server f.life f.slot) c.finish.result (seen_by c.finish.new.seat)) c.in-Ok.ensures.filled e.step) c.requires.on

@@ -11,9 +11,9 @@ invariant_of-self-2 c =
     let e = c.carry_out.ensures in
     let a = applied_length (tables_of c.self.inside.inodes.items c.make_room.new.directories.items c.self.inside.tags.items) c.in_ok-changes.changes.items in
     let dirs : length c.make_room.new.directories.items ≡ length c.self.inside.directories.items =
-        sym (length-map c.make_room.new.directories.items (λ (s : Shelf). s.list))
-        ∙ ap (λ (es : List (List Entry)). length es) c.in_ok-make_room.ensures.lists
-        ∙ length-map c.self.inside.directories.items (λ (s : Shelf). s.list) in
+    sym (length-map c.make_room.new.directories.items (λ (s : Shelf). s.list))
+    ∙ ap (λ (es : List (List Entry)). length es) c.in_ok-make_room.ensures.lists
+    ∙ length-map c.self.inside.directories.items (λ (s : Shelf). s.list) in
     let i = ap (λ (t : Tables). length t.inodes) e ∙ a.0 in
     let d = sym (length-map c.carry_out.new.directories.items (λ (s : Shelf). s.list)) ∙ ap (λ (t : Tables). length t.entries) e ∙ a.1 ∙ length-map c.make_room.new.directories.items (λ (s : Shelf). s.list) in
     let t = ap (λ (t : Tables). length t.tags) e ∙ a.2 in

@@ -10,10 +10,10 @@ use Rattle.pf_tree.proofs.tree.Tree.plan_call.Goals as goal
 pub returns : goal.returns
 returns c =
     let P : Held → Type 0 = λ h.
-        IsWhole h.tables → PlansTo (refusal (tables_sight (data_of h.first h.tables) h.tables) c.args.call.now) (changes (data_of h.first h.tables) h.tables c.args.call.now) c.plan_all.result in
+    IsWhole h.tables → PlansTo (refusal (tables_sight (data_of h.first h.tables) h.tables) c.args.call.now) (changes (data_of h.first h.tables) h.tables c.args.call.now) c.plan_all.result in
     subst P
     (ap (λ (x : List (Option Inode)). held c.self.inside.first x (lists_of c.deref-2.result.now) c.deref-3.result.now) c.deref.ensures.value
-      ∙ ap (λ (x : List Shelf). held c.self.inside.first c.self.inside.inodes.items (lists_of x) c.deref-3.result.now) c.deref-2.ensures.value
-      ∙ ap (λ (x : List (Option Tag)). held c.self.inside.first c.self.inside.inodes.items (lists_of c.self.inside.directories.items) x) c.deref-3.ensures.value
-      ∙ c.self.view_is)
+    ∙ ap (λ (x : List Shelf). held c.self.inside.first c.self.inside.inodes.items (lists_of x) c.deref-3.result.now) c.deref-2.ensures.value
+    ∙ ap (λ (x : List (Option Tag)). held c.self.inside.first c.self.inside.inodes.items (lists_of c.self.inside.directories.items) x) c.deref-3.ensures.value
+    ∙ c.self.view_is)
     c.plan_all.ensures
