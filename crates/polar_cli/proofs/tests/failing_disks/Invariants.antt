@@ -1,9 +1,0 @@
-use Rattle.std.proofs.Common.{◌≡◌, Some, length}
-use Rattle.pf_world.specs.Disks.{AreTold}
-use Rattle.polar_cli.proofs.tests.failing_disks.Given as goal
-
-abbrev pub invariant-loop-number : goal.invariant-loop-number
-invariant-loop-number l = record {
-  count : length l.disks.items ≡ l.number;
-  told : AreTold (λ d. Some d.tape.bytes.items) l.disks.items;
-}
