@@ -18,7 +18,7 @@ use Rattle.pf_protocol.specs.declared.answers.Answer.TheVariants.{Job as JobIs, 
 use Rattle.pf_protocol.specs.declared.answers.Refusal.TheVariants.{NoneFree}
 use Rattle.pf_protocol.specs.declared.events.Event.TheVariants.{Claim, Finish, GiveBack}
 use Rattle.pf_protocol.specs.Answers.{Claimed, IsAnswer, IsLegal, IsOpen, answer_to, claim_answer, claim_answer_at, claims_of, may_halt}
-use Rattle.pf_protocol.proofs.Claiming.{legal_open}
+use Rattle.pf_protocol.proofs.ForHistories.{legal_open}
 use Rattle.pf_shared.specs.declared.moment.Moment.{Moment}
 use Rattle.pf_shared.specs.declared.moment.Moment.TheVariants.{Happened, Look}
 use Rattle.pf_shared.specs.declared.moment.Did.{Did}

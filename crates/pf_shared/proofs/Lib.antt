@@ -6,3 +6,4 @@ pub mod Acting
 pub mod Ending
 pub mod Taking
 pub mod Looking
+pub mod Growing

@@ -12,6 +12,8 @@ use Rattle.pf_group.specs.declared.errors.Down.{Down}
 use Rattle.pf_group.specs.GroupIs.{GroupIs, state_of}
 use Rattle.pf_group.specs.Readers.{HasTaken, LacksAnswer, TellsOf}
 use Rattle.pf_group.specs.Roots.{root_of}
+use Rattle.pf_rounds.specs.Growing.{Pays}
+use Rattle.pf_rounds.proofs.Paying.{pays_refl, pays_same}
 use Rattle.pf_shared.specs.declared.errors.LookFault.{LookFault}
 use Rattle.pf_shared.specs.declared.moment.Moment.{Moment}
 use Rattle.pf_shared.specs.declared.moment.Moment.TheVariants.{Look}
@@ -65,6 +67,7 @@ pub record Took (number : ℕ) (answer : Option (List Sector)) (old new : GroupI
   pub root : root_of new ≡ root_of old
   pub taken : new.taken ≡ taken_with old.taken (Look (read_of number answer))
   pub handed : HandsOut (state_of old) old.taken number answer
+  pub pays : Pays old new
 
 pub took : (number : ℕ) (answer : Option (List Sector)) (old new : GroupIs) → IfSome answer (λ bytes. HasTaken old number bytes new) → IfNone answer (LacksAnswer old number) → IfNone answer (new ≡ old) → Took number answer old new
 took number (Some bytes) old new has lacks same = record {
@@ -72,12 +75,14 @@ took number (Some bytes) old new has lacks same = record {
   root = ap root_of has.is;
   taken = ap (λ x. x.taken) has.is;
   handed = (has.first, has.answer);
+  pays = pays_same old new (has.is ∙ ap (λ (g : GroupIs). record old { taken = g.taken }) (sym has.is));
 }
 took number None old new has lacks same = record {
   history = ap (λ x. x.history) same;
   root = ap root_of same;
   taken = ap (λ x. x.taken) same;
   handed = lacks;
+  pays = subst (Pays old) (sym same) (pays_refl old);
 }
 
 -- a look by seat n, which found the list of b

@@ -16,7 +16,7 @@ use Rattle.pf_protocol.specs.declared.events.Event.TheVariants.{Claim}
 use Rattle.pf_protocol.specs.declared.events.Happening.{Happening}
 use Rattle.pf_protocol.specs.Histories.{History, replay}
 use Rattle.pf_protocol.specs.Answers.{IsLegal, IsLegalNext, claims_of}
-use Rattle.pf_protocol.proofs.Claiming.{legal_before}
+use Rattle.pf_protocol.proofs.ForMoments.{legal_before}
 use Rattle.pf_group.specs.GroupIs.{GroupIs}
 use Rattle.pf_group.specs.Sound.{IsSound}
 use Rattle.pf_shared.specs.declared.moment.Moment.{Moment}

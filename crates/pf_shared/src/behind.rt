@@ -7,6 +7,7 @@ ghost use Rattle.pf_group.specs.GroupIs.{state_of};
 ghost use Rattle.pf_group.specs.Sound.{IsSound};
 ghost use Rattle.pf_shared.specs.Events.{IsStep};
 ghost use Rattle.pf_group.specs.Roots.{root_of};
+ghost use Rattle.pf_rounds.specs.Growing.{Pays};
 ghost use Rattle.pf_shared.specs.Since.{since};
 ghost use Rattle.pf_shared.specs.Woven.{steps_in, woven};
 ghost use Rattle.pf_shared.specs.Moments.{handed_out};
@@ -34,6 +35,7 @@ pub struct Behind<D: Disk> {
     pub(crate) alloc: Global,
     ghost begun: { start.history ++ since start group ≡ group.history },
     ghost same_root: { root_of group ≡ root_of start },
+    ghost paid: { ∥ Pays start group ∥₁ },
     ghost none_open: { claims_of [] start.history ≡ [] },
     ghost counted: { steps_in turns.items ≡ length (since start group) },
     ghost tidy: { (k : Key) → is_tidy k None (woven turns.items (since start group)) ≡ true },

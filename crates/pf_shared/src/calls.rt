@@ -6,6 +6,7 @@ ghost use Rattle.pf_protocol.specs.declared.events.Event.TheVariants.{Claim, Fin
 ghost use Rattle.pf_turn.specs.Lists.{Begins, Every, GrewBy, SameOf, entries_of, longer};
 ghost use Rattle.pf_turn.specs.Seats as turns;
 ghost use Rattle.pf_group.specs.Roots.{root_of};
+ghost use Rattle.pf_rounds.specs.Growing.{HasGrown};
 ghost use Rattle.pf_shared.specs.Behinds.{list_of};
 ghost use Rattle.pf_shared.specs.Calls.{Finds, HasClaimed, HasStepped, IsHistory, IsTaken, OnJob, Steps};
 ghost use Rattle.pf_shared.specs.Events.{IsStep};
@@ -166,7 +167,8 @@ impl<D: Disk + Drop> SharedGroup<D> {
     }
 
     /// The group, once every seat has been joined: its history is that before the first turn, and then what the first seat has seen,
-    /// without looks.
+    /// without looks. The disks of a server failed at least as often since then as steps of it were halted, unless a count stands at
+    /// its last value.
     pub fn close(self, seat: GroupSeat<D>) -> Group<D>
         requires seat { IsSeatOf self seat }
         requires first { IsAlone seat }
@@ -174,6 +176,7 @@ impl<D: Disk + Drop> SharedGroup<D> {
         ensures history { result.history ≡ whole (root_in self) (seen_by seat) }
         ensures strangers { (n : ℕ) → splits_of seat < n → entries_of n (seen_by seat) ≡ [] }
         ensures taken { result.taken ≡ handed_out (root_in self).taken (seen_by seat) }
+        ensures grown { HasGrown (root_in self) result }
     {
         let SharedGroup { lock } = self;
         let GroupSeat { seat } = seat;

@@ -1,9 +1,11 @@
 use Rattle.std.proofs.Common.{◌≡◌, [], ◌∷◌, ◌++◌, ap, ◌∙◌, slice_get, length, refl, rules, arith}
+use Rattle.std.proofs.Math.Logic.{∥∥₁_map}
 use Rattle.pf_protocol.specs.declared.events.Event.TheVariants.{Finish}
 use Rattle.pf_protocol.specs.declared.events.Happening.{Happening}
 use Rattle.pf_protocol.specs.Answers.{claims_of}
 use Rattle.pf_shared.specs.declared.moment.Did.TheVariants.{Acted}
 use Rattle.pf_group.specs.Roots.{root_of}
+use Rattle.pf_rounds.proofs.Paying.{pays_trans, step_pays}
 use Rattle.pf_shared.specs.Since.{since}
 use Rattle.pf_shared.specs.Woven.{woven}
 use Rattle.pf_shared.proofs.Since.{begun_more, since_more}
@@ -28,6 +30,7 @@ invariant_of-self g c = let s = c.in-Ok.ensures.went in let b = c.args.self.now 
     let claims = claims_on ds hs b.counted c.args.seat h c.push.new.self.items grown next longer in record {
       begun = begun_more b.start b.group b.begun c.step.new.self h more;
       same_root = ap root_of s.steps.recorded ∙ b.same_root;
+      paid = ∥∥₁_map b.paid (λ p. pays_trans b.start b.group c.step.new.self p (step_pays b.group c.step.new.self (Finish f.server f.life f.slot) c.in-Ok.answer s.steps));
       none_open = b.none_open;
       counted = counted_on ds hs b.counted c.args.seat h c.push.new.self.items grown next longer;
       tidy = λ k. tidy_on ds hs b.counted c.args.seat h c.push.new.self.items grown next longer k (tidy_finish c.args.seat f.server f.life f.slot r.op c.in-Ok.answer (woven ds hs) r.in_hand k (b.tidy k));

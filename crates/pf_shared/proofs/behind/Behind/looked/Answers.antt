@@ -10,6 +10,7 @@ invariant_of-self g c = let b = c.make_room.new.self in let ds = b.turns.items i
     let grown : c.push.new.self.items ≡ ds ++ did c.args.seat (Looked None) ∷ [] = search rules in record {
       begun = b.begun;
       same_root = b.same_root;
+      paid = b.paid;
       none_open = b.none_open;
       counted = looked_counted ds hs b.counted c.args.seat None c.push.new.self.items grown hs refl;
       tidy = λ k. looked_tidy ds hs b.counted c.args.seat None c.push.new.self.items grown hs refl k (b.tidy k);

@@ -1,6 +1,8 @@
-use Rattle.std.proofs.Common.{◌≡◌, ◌≤◌, ◌∙◌, ◌++◌, [], None, ap, append-nil, length, refl, sym, subst, arith, rules}
+use Rattle.std.proofs.Common.{◌≡◌, ◌≤◌, ◌∙◌, ◌++◌, [], None, ap, append-nil, length, sym, subst, arith, rules}
 use Rattle.pf_group.specs.GroupIs.{GroupIs}
 use Rattle.pf_group.specs.Roots.{root_of}
+use Rattle.pf_rounds.specs.Growing.{Pays}
+use Rattle.pf_rounds.proofs.Paying.{pays_refl}
 use Rattle.pf_protocol.specs.Answers.{claims_of}
 use Rattle.pf_shared.specs.Since.{since}
 use Rattle.pf_shared.specs.Woven.{steps_in, woven}
@@ -13,6 +15,7 @@ pub invariant_of-result : goal.invariant_of-result
 invariant_of-result g c = let b : GroupIs = c.args.group in let e = c.of-start.ensures in let none_since : since b b ≡ [] = nothing_since b.history in let bare = c.new.ensures.items in record {
   begun = subst (λ (s : GroupIs). s.history ++ since s b ≡ b.history) (sym e) (ap (λ l. b.history ++ l) none_since ∙ append-nil b.history);
   same_root = ap root_of (sym e);
+  paid = subst (λ (s : GroupIs). ∥ Pays s b ∥₁) (sym e) ∣ pays_refl b ∣₁;
   none_open = subst (λ (s : GroupIs). claims_of [] s.history ≡ []) (sym e) c.requires;
   counted = subst (λ (s : GroupIs). steps_in c.new.result.items ≡ length (since s b)) (sym e) (ap steps_in bare ∙ sym (ap length none_since));
   tidy = λ k. ap (λ l. is_tidy k None (woven l (since c.of-start.result b))) bare;

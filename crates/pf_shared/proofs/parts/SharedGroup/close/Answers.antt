@@ -1,12 +1,14 @@
-use Rattle.std.proofs.Common.{ap, ◌∙◌, sym}
+use Rattle.std.proofs.Common.{ap, ◌∙◌, subst, sym}
 use Rattle.pf_turn.specs.Lists.{entries_of}
 use Rattle.pf_group.specs.GroupIs.{GroupIs}
 use Rattle.pf_group.specs.Roots.{root_of}
+use Rattle.pf_rounds.specs.Growing.{HasGrown}
 use Rattle.pf_shared.specs.Behinds.{list_of}
 use Rattle.pf_shared.specs.Seats.{root_in}
 use Rattle.pf_shared.specs.Moments.{handed_out}
 use Rattle.pf_shared.specs.Since.{whole}
 use Rattle.pf_shared.proofs.Ending.{whole_is}
+use Rattle.pf_shared.proofs.Growing.{has_grown}
 use Rattle.pf_shared.proofs.parts.SharedGroup.close.Goals as goal
 
 pub returns-clause-root : goal.returns-clause-root
@@ -22,3 +24,7 @@ returns-clause-taken g c = let b = c.close.result in
 
 pub returns-clause-strangers : goal.returns-clause-strangers
 returns-clause-strangers g c n above = ap (entries_of n) (sym c.close.ensures.seen) ∙ c.close.ensures.strangers n above
+
+pub returns-clause-grown : goal.returns-clause-grown
+returns-clause-grown g c = let b = c.close.result in
+    subst (HasGrown (root_in c.args.self)) (sym c.into_group.ensures) (subst (λ (x : GroupIs). HasGrown x b.group) c.close.ensures.root (has_grown b))
