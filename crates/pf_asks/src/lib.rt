@@ -7,6 +7,3 @@ mod port;
 
 pub use desk::Desk;
 pub use port::Port;
-
-#[cfg(test)]
-mod tests;

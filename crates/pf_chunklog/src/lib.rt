@@ -9,6 +9,3 @@ mod records;
 pub use errors::{AppendFault, DiskFault, OpenFault};
 pub use log::ChunkLog;
 pub use records::{Opened, RawRecords};
-
-#[cfg(test)]
-mod tests;

@@ -5,8 +5,6 @@
 #![tactic(auto)]
 
 mod crew;
-#[cfg(test)]
-mod tests;
 mod works;
 
 pub use crew::run_all;

@@ -10,6 +10,3 @@ mod tape;
 pub use disk::{Disk, Failed};
 pub use memory::MemDisk;
 pub use ram::RamDisk;
-
-#[cfg(test)]
-mod tests;

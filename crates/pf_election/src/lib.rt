@@ -3,8 +3,6 @@
 
 mod candidacy;
 mod probes;
-#[cfg(test)]
-mod tests;
 
 pub use candidacy::Candidacy;
 pub use probes::{Probes, Read};

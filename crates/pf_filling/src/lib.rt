@@ -12,6 +12,3 @@ pub use bringing::bring_all;
 pub use filling::fill;
 pub use gate::{Gate, OpenGate};
 pub use work::Work;
-
-#[cfg(test)]
-mod tests;

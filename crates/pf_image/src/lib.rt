@@ -7,6 +7,3 @@ mod recovery;
 
 pub use halves::Half;
 pub use pair::Pair;
-
-#[cfg(test)]
-mod tests;

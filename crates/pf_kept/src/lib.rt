@@ -5,6 +5,3 @@ mod kept;
 mod reading;
 
 pub use kept::Kept;
-
-#[cfg(test)]
-mod tests;

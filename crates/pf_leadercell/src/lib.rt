@@ -6,8 +6,6 @@
 
 mod calls;
 mod cell;
-#[cfg(test)]
-mod tests;
 mod view;
 
 pub use cell::{LeaderCell, LeaderPass};

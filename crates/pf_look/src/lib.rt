@@ -4,8 +4,6 @@
 mod closures;
 mod freedom;
 mod looks;
-#[cfg(test)]
-mod tests;
 
 pub use closures::closure;
 pub use freedom::is_free;

@@ -5,6 +5,3 @@ mod fresh;
 mod room;
 
 pub use room::ServerRoom;
-
-#[cfg(test)]
-mod tests;

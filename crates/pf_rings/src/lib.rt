@@ -9,8 +9,6 @@ mod calls;
 mod count;
 mod errors;
 mod ring;
-#[cfg(test)]
-mod tests;
 mod view;
 
 pub use errors::{Empty, Full};

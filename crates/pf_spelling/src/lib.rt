@@ -26,6 +26,3 @@ pub use tables::{read_sectors, read_slots};
 pub use votes::read_vote;
 pub use writer::Writer;
 pub use writing::{spell_record, write_entry, write_sectors, write_slots, write_vote};
-
-#[cfg(test)]
-mod tests;

@@ -10,8 +10,6 @@ mod log;
 mod parts;
 mod plays;
 mod sight;
-#[cfg(test)]
-mod tests;
 
 pub use log::{Logged, Stamped};
 pub use parts::{Turn, TurnLock, TurnSeat};

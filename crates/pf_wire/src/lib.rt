@@ -12,6 +12,3 @@ pub use laws::{packets_have_their_sizes, packets_tell_themselves};
 pub use reading::decode;
 pub use sizes::length_of;
 pub use writing::encode;
-
-#[cfg(test)]
-mod tests;
