@@ -1,1 +1,3 @@
 pub mod Supers
+pub mod Faults
+pub mod Paths

@@ -1,7 +1,7 @@
 -- The superblock of a volume.
 use Rattle.std.specs.Prelude.{◌≡◌, ◌≢◌, ℕ, Bool, true, false, List, ◌∷◌, ◌++◌, replicate, Result, Ok, Err}
 use Rattle.std.specs.Int.{w16, to_be_bytes}
-use Rattle.pf_layout.specs.declared.BadSuper.{BadSuper}
+use Rattle.pf_layout.specs.declared.supers.BadSuper.{BadSuper}
 
 -- PFSB, the format, the count of chunks, the count of sectors of a chunk, and zeros
 abbrev pub super_block : (chunks sectors : ℕ) → List ℕ

@@ -310,7 +310,7 @@ module _ (d : Data) (tables : Tables) (tree : Tree) (s : StandsFor d tables tree
   follows (Create (n ∷ p)) is e =
       let f = full_is _ e in
       made 1 (OfFile 0) (File 0 []) n p refl (λ size h. sym (ap sizing.size_of h)) (λ i. refl) f.0 f.1
-  follows (Write p offset count) is e =
+  follows (Write p offset byte count) is e =
       let f = first_none (file_refusal (at tree) p) _ e in
       let g = first_none (when 88 (nat_lt 196608 (offset + count))) _ f.1 in
       let a = file_at p f.0 in
@@ -337,7 +337,7 @@ module _ (d : Data) (tables : Tables) (tree : Tree) (s : StandsFor d tables tree
   follows (Rmdir (n ∷ p)) is e =
       let f = first_none (dir_refusal (at tree) (n ∷ p)) _ e in
       removed n p f.0 (not-false _ (when_none 86 _ f.1))
-  follows (Read p) is e = refl
+  follows (Read p offset count) is e = refl
   follows (Stat p) is e = refl
   follows (Listing p) is e = refl
 

@@ -32,7 +32,7 @@ abbrev t3 : Tree
 t3 = next t2 (Mkdir ((120 ∷ []) ∷ in_root 100))
 
 abbrev t4 : Tree
-t4 = next t3 (Write (in_root 102) 5000 4000)
+t4 = next t3 (Write (in_root 102) 5000 65 4000)
 
 abbrev s1 : Tables
 unfolding new_inodes new_entries
@@ -45,7 +45,7 @@ abbrev s3 : Tables
 s3 = then s2 (Mkdir ((120 ∷ []) ∷ in_root 100))
 
 abbrev s4 : Tables
-s4 = then s3 (Write (in_root 102) 5000 4000)
+s4 = then s3 (Write (in_root 102) 5000 65 4000)
 
 row1 : refusal (tree_sight d new_tree) (Create ((98 ∷ []) ∷ in_root 97)) ≡ Some 82
 row1 = refl
@@ -56,22 +56,22 @@ row2 = refl
 row3 : refusal (tree_sight d t1) (Create (in_root 100)) ≡ Some 83
 row3 = refl
 
-row4 : refusal (tree_sight d t1) (Write (in_root 100) 0 1) ≡ Some 85
+row4 : refusal (tree_sight d t1) (Write (in_root 100) 0 65 1) ≡ Some 85
 row4 = refl
 
 row5 : refusal (tree_sight d t2) (Mkdir ((120 ∷ []) ∷ in_root 102)) ≡ Some 84
 row5 = refl
 
-row6 : refusal (tree_sight d t2) (Write (in_root 102) 196600 9) ≡ Some 88
+row6 : refusal (tree_sight d t2) (Write (in_root 102) 196600 65 9) ≡ Some 88
 row6 = refl
 
 row7 : refusal (tree_sight d t3) (Rmdir (in_root 100)) ≡ Some 86
 row7 = refl
 
-row8 : refusal (tree_sight d t3) (Write (in_root 102) 0 12289) ≡ Some 87
+row8 : refusal (tree_sight d t3) (Write (in_root 102) 0 65 12289) ≡ Some 87
 row8 = refl
 
-row9 : refusal (tree_sight d t3) (Write (in_root 102) 0 12288) ≡ None
+row9 : refusal (tree_sight d t3) (Write (in_root 102) 0 65 12288) ≡ None
 row9 = refl
 
 row10 : at t4 (in_root 102) ≡ Some (File 9000 (513 ∷ 514 ∷ 515 ∷ []))
@@ -84,7 +84,7 @@ row12 : at (next t4 (Truncate (in_root 102) 4097)) (in_root 102) ≡ Some (File 
 row12 = refl
 
 -- the same on the tables
-same4 : refusal (tables_sight d s1) (Write (in_root 100) 0 1) ≡ Some 85
+same4 : refusal (tables_sight d s1) (Write (in_root 100) 0 65 1) ≡ Some 85
 unfolding new_inodes new_entries
 same4 = refl
 
@@ -92,7 +92,7 @@ same7 : refusal (tables_sight d s3) (Rmdir (in_root 100)) ≡ Some 86
 unfolding new_inodes new_entries
 same7 = refl
 
-same8 : refusal (tables_sight d s3) (Write (in_root 102) 0 12289) ≡ Some 87
+same8 : refusal (tables_sight d s3) (Write (in_root 102) 0 65 12289) ≡ Some 87
 unfolding new_inodes new_entries
 same8 = refl
 

@@ -171,12 +171,12 @@ renames tables (n ∷ p) (m ∷ q) = DeleteEntry (found tables p) n ∷ AddEntry
 abbrev pub changes : Data → Tables → FileCall → List Change
 changes d tables (Mkdir p) = makes tables 2 p
 changes d tables (Create p) = makes tables 1 p
-changes d tables (Write p offset count) = sizes d tables p (written_size (size_at (node_at tables p)) offset count)
+changes d tables (Write p offset byte count) = sizes d tables p (written_size (size_at (node_at tables p)) offset count)
 changes d tables (Truncate p size) = sizes d tables p size
 changes d tables (Rename from to) = renames tables from to
 changes d tables (Unlink p) = unlinks tables p
 changes d tables (Rmdir p) = removes tables p
-changes d tables (Read p) = []
+changes d tables (Read p offset count) = []
 changes d tables (Stat p) = []
 changes d tables (Listing p) = []
 

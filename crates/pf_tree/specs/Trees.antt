@@ -95,6 +95,12 @@ size_at (Some Dir) = 0
 size_at (Some (File size blocks)) = size
 size_at None = 0
 
+-- the size of a file, if it is one
+abbrev pub file_size : Option Node → Option ℕ
+file_size (Some Dir) = None
+file_size (Some (File size blocks)) = Some size
+file_size None = None
+
 abbrev pub blocks_at : Option Node → List ℕ
 blocks_at (Some Dir) = []
 blocks_at (Some (File size blocks)) = blocks
@@ -130,9 +136,9 @@ goes_on (Some (n ∷ x)) = true
 abbrev pub refusal : Sight → FileCall → Option ℕ
 refusal s (Mkdir p) = first_of (place_refusal s.look p) (when 87 s.is_full)
 refusal s (Create p) = first_of (place_refusal s.look p) (when 87 s.is_full)
-refusal s (Write p offset count) =
+refusal s (Write p offset byte count) =
     first_of (file_refusal s.look p) (first_of (when 88 (nat_lt 196608 (offset + count))) (size_refusal s p (written_size (size_at (s.look p)) offset count)))
-refusal s (Read p) = file_refusal s.look p
+refusal s (Read p offset count) = file_refusal s.look p
 refusal s (Truncate p size) = first_of (file_refusal s.look p) (first_of (when 88 (nat_lt 196608 size)) (size_refusal s p size))
 refusal s (Rename from to) = first_of (walk_refusal s.look from) (first_of (when 89 (goes_on (below from to))) (place_refusal s.look to))
 refusal s (Unlink p) = file_refusal s.look p
@@ -176,12 +182,12 @@ sized d tree p size = cond (size == size_at (at tree p)) None (Some (resized d t
 abbrev pub changed : Data → Tree → FileCall → Option Tree
 changed d tree (Mkdir p) = Some (put tree p Dir)
 changed d tree (Create p) = Some (put tree p (File 0 []))
-changed d tree (Write p offset count) = sized d tree p (written_size (size_at (at tree p)) offset count)
+changed d tree (Write p offset byte count) = sized d tree p (written_size (size_at (at tree p)) offset count)
 changed d tree (Truncate p size) = sized d tree p size
 changed d tree (Rename from to) = Some (with_moved tree from to)
 changed d tree (Unlink p) = Some (without tree p)
 changed d tree (Rmdir p) = Some (without tree p)
-changed d tree (Read p) = None
+changed d tree (Read p offset count) = None
 changed d tree (Stat p) = None
 changed d tree (Listing p) = None
 

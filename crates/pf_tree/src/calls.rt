@@ -11,13 +11,18 @@ pub enum FileCall {
     Create {
         path: Names,
     },
+    /// Writes `count` bytes `byte` from `offset` on.
     Write {
         path: Names,
         offset: u32,
+        byte: u8,
         count: u32,
     },
+    /// Reads up to `count` bytes from `offset` on.
     Read {
         path: Names,
+        offset: u32,
+        count: u32,
     },
     Truncate {
         path: Names,

@@ -15,6 +15,3 @@ pub use changes::{Change, Changes, Txn};
 pub use faults::TreeFault;
 pub use tables::{Entry, Inode, Tag};
 pub use tree::Tree;
-
-#[cfg(test)]
-mod tests;

@@ -1,14 +1,16 @@
 //! Look-ups along paths. A path is a list of names, the last one first.
-ghost use Rattle.std.specs.Prelude.{◌≡◌, ◌≤◌, ◌&&◌, ◌++◌, ◌∷◌, [], Some, None, IfOk, OnOk, cond, get_or, is_some, length, nat_le, nat_lt, not, take};
+ghost use Rattle.std.specs.Prelude.{◌≡◌, ◌≤◌, ◌&&◌, ◌++◌, ◌∷◌, [], Some, None, IfOk, OnOk, cond, get_or, is_some, length, map, nat_le, nat_lt, not, take};
 ghost use Rattle.std.specs.List.{position_or_len};
 ghost use Rattle.std.specs.Option.{is_none, option_and_then};
-ghost use Rattle.pf_tree.specs.Tables.{block_of, blocks_of, entry_at, has_names, is_tag, node_at, node_of, tag_at, walk};
-ghost use Rattle.pf_tree.specs.Trees.{dir_refusal, file_refusal, place_refusal, unused, walk_refusal, when};
+ghost use Rattle.pf_tree.specs.Tables.{block_of, blocks_of, entry_at, has_names, is_tag, names_in, node_at, node_of, tag_at, walk};
+ghost use Rattle.pf_tree.specs.Trees.{dir_refusal, file_refusal, file_size, place_refusal, unused, walk_refusal, when};
 ghost use Rattle.pf_tree.specs.Shelves.{HasRoot, IsFileAt, IsParent, lists_of, step_of, tables_of};
 ghost use Rattle.pf_tree.specs.Faults.{Refuses};
+ghost use Rattle.pf_tree.specs.declared.tables.Entry.{Entry as EntryIs};
 
 use crate::rows::Rows;
-use crate::{Inode, Tag, TreeFault};
+use crate::tree::copy_name;
+use crate::{Entry, Inode, Tag, TreeFault};
 use pf_base::{Bytes, NoMemory};
 use std::alloc::Global;
 
@@ -26,6 +28,60 @@ pub(crate) fn walk_to(
     };
     let directory = walk_to(inodes, directories, tags, rest)?;
     step(inodes, directories, tags, directory, name)
+}
+
+/// The inode to which the names of a path lead, if they lead to one.
+pub(crate) fn lead(directories: &[Rows], path: &[Bytes]) -> Option<u16>
+    ensures { result ≡ walk (lists_of directories.now) path.now }
+{
+    let Some((name, rest)) = path.split_first() else {
+        return Some(0);
+    };
+    let directory = lead(directories, rest)?;
+    let rows = directories.get(directory as usize)?;
+    rows.find(name.as_slice())
+}
+
+/// The size of the file at a path, if it is one.
+pub(crate) fn size_of_file(
+    inodes: &[Option<Inode>],
+    directories: &[Rows],
+    tags: &[Option<Tag>],
+    path: &[Bytes],
+) -> Option<u32>
+    ensures { result ≡ file_size (node_at (tables_of inodes.now directories.now tags.now) path.now) }
+{
+    let inode = lead(directories, path)?;
+    match inode_of(inodes, inode) {
+        Some(Inode::File { size }) => Some(size),
+        _ => None,
+    }
+}
+
+/// The names in a directory.
+pub(crate) fn names_in(
+    alloc: Global,
+    directories: &[Rows],
+    directory: u16,
+) -> Result<Vec<Bytes>, NoMemory>
+    ensures { IfOk result (λ names. names.items ≡ map (λ (row : EntryIs). row.name) (names_in (lists_of directories.now) directory)) }
+{
+    match directories.get(directory as usize) {
+        Some(rows) => copy_names(alloc, rows.as_slice()),
+        None => Ok(Vec::new(alloc)),
+    }
+}
+
+/// Copies of the names of rows.
+fn copy_names(alloc: Global, rows: &[Entry]) -> Result<Vec<Bytes>, NoMemory>
+    ensures { IfOk result (λ names. names.items ≡ map (λ (row : EntryIs). row.name) rows.now) }
+{
+    let mut names = Vec::with_capacity(alloc, rows.len())?;
+    for row in rows {
+        let name = copy_name(alloc, &row.name)?;
+        names.push(name)?;
+    }
+    Ok(names)
 }
 
 /// One name further.
@@ -178,7 +234,7 @@ pub(crate) fn blocks_of(
 }
 
 /// The block of an index of a file; the count of blocks where there is none.
-fn block_of(tags: &[Option<Tag>], inode: u16, index: u32) -> u16
+pub(crate) fn block_of(tags: &[Option<Tag>], inode: u16, index: u32) -> u16
     requires { length tags.now ≤ 4096 }
     ensures { result ≡ block_of tags.now inode index }
 {

@@ -364,7 +364,7 @@ pub(crate) fn plan_write(
     count: u32,
 ) -> Result<Vec<Change>, TreeFault>
     requires { length tags.now ≤ 4096 }
-    ensures { IsWhole (tables_of inodes.now directories.now tags.now) → PlansTo (refusal (tables_sight (data_of first (tables_of inodes.now directories.now tags.now)) (tables_of inodes.now directories.now tags.now)) (Write path.now offset count)) (changes (data_of first (tables_of inodes.now directories.now tags.now)) (tables_of inodes.now directories.now tags.now) (Write path.now offset count)) result }
+    ensures { IsWhole (tables_of inodes.now directories.now tags.now) → PlansTo (refusal (tables_sight (data_of first (tables_of inodes.now directories.now tags.now)) (tables_of inodes.now directories.now tags.now)) (Write path.now offset 0 count)) (changes (data_of first (tables_of inodes.now directories.now tags.now)) (tables_of inodes.now directories.now tags.now) (Write path.now offset 0 count)) result }
 {
     let (inode, old) = file_at(inodes, directories, tags, path)?;
     let end = offset as u64 + count as u64;

@@ -1,8 +1,9 @@
 //! The names of one directory.
-ghost use Rattle.std.specs.Prelude.{◌≡◌, ◌+◌, ◌≤◌, ◌++◌, ◌∷◌, [], OnOk};
+ghost use Rattle.std.specs.Prelude.{◌≡◌, ◌+◌, ◌≤◌, ◌++◌, ◌∷◌, [], IfOk, OnOk};
 ghost use Rattle.pf_tree.specs.Tables.{found_in, is_nil, others};
 
 use crate::Entry;
+use crate::tree::copy_name;
 use pf_base::NoMemory;
 use std::alloc::Global;
 use std::marker::Model;
@@ -30,6 +31,14 @@ impl Rows {
         Rows {
             rows: Vec::new(alloc),
         }
+    }
+
+    /// A copy.
+    pub(crate) fn copied(&self, alloc: Global) -> Result<Rows, NoMemory>
+        ensures { IfOk result (λ rows. rows.list ≡ self.now.list) }
+    {
+        let rows = copy_rows(alloc, &self.rows)?;
+        Ok(Rows { rows })
     }
 
     /// Takes room for `count` more names.
@@ -93,4 +102,19 @@ fn find_in(rows: &[Entry], name: &[u8]) -> Option<u16>
         }
     }
     None
+}
+
+/// Copies of rows.
+fn copy_rows(alloc: Global, rows: &[Entry]) -> Result<Vec<Entry>, NoMemory>
+    ensures { IfOk result (λ v. v.items ≡ rows.now) }
+{
+    let mut copies = Vec::with_capacity(alloc, rows.len())?;
+    for row in rows {
+        let name = copy_name(alloc, &row.name)?;
+        copies.push(Entry {
+            inode: row.inode,
+            name,
+        })?;
+    }
+    Ok(copies)
 }

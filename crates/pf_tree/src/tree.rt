@@ -1,15 +1,16 @@
 //! The tables of a mount.
-ghost use Rattle.std.specs.Prelude.{◌≡◌, ℕ, ◌+◌, ◌<◌, ◌≤◌, ◌∷◌, [], IfOk, OnOk, OnErr, cond, length, nat_le, replicate, set};
-ghost use Rattle.pf_tree.specs.Tables.{after_change, applied, changes, inode_with, named, new_tables, tables_sight, unnamed};
+ghost use Rattle.std.specs.Prelude.{◌≡◌, ℕ, ◌+◌, ◌<◌, ◌≤◌, ◌∷◌, [], IfOk, OnOk, OnErr, cond, length, map, nat_le, replicate, set};
+ghost use Rattle.pf_tree.specs.Tables.{after_change, applied, block_of, changes, found, inode_with, named, names_in, new_tables, node_at, tables_sight, unnamed};
 ghost use Rattle.pf_tree.specs.Shelves.{HasRoom, Held, IsWhole, data_of, lists_of, room_in, tables_of};
 ghost use Rattle.pf_tree.specs.Faults.{PlansTo};
-ghost use Rattle.pf_tree.specs.Trees.{refusal};
+ghost use Rattle.pf_tree.specs.Trees.{file_size, refusal};
+ghost use Rattle.pf_tree.specs.declared.tables.Entry.{Entry as EntryIs};
 
-use crate::look::{dir_at, file_at, walk_to};
+use crate::look::{block_of, dir_at, file_at, lead, names_in, size_of_file, walk_to};
 use crate::plan::{plan_make, plan_rename, plan_rmdir, plan_truncate, plan_unlink, plan_write};
 use crate::rows::Rows;
 use crate::{Change, Entry, FileCall, Inode, Tag, TreeFault, Txn};
-use pf_base::{Bytes, NoMemory};
+use pf_base::{Bytes, Names, NoMemory};
 use std::alloc::Global;
 use std::marker::Model;
 
@@ -59,12 +60,27 @@ impl Tree {
         requires { blocks ≤ 4096 }
         ensures { IfOk result (λ tree. tree ≡ record { first = first; tables = new_tables blocks }) }
     {
-        let mut inodes = free_inodes(alloc, INODES)?;
+        let mut inodes = free_places(alloc, INODES)?;
         inodes[0] = Some(Inode::Directory);
         let directories = no_names(alloc, INODES)?;
-        let tags = free_tags(alloc, blocks as usize)?;
+        let tags = free_places(alloc, blocks as usize)?;
         Ok(Tree {
             first,
+            inodes,
+            directories,
+            tags,
+        })
+    }
+
+    /// A copy.
+    pub fn copied(&self, alloc: Global) -> Result<Tree, NoMemory>
+        ensures { IfOk result (λ tree. tree ≡ self.now) }
+    {
+        let inodes = Vec::from_slice(alloc, &self.inodes)?;
+        let directories = copy_directories(alloc, &self.directories)?;
+        let tags = Vec::from_slice(alloc, &self.tags)?;
+        Ok(Tree {
+            first: self.first,
             inodes,
             directories,
             tags,
@@ -85,6 +101,44 @@ impl Tree {
             changes,
         );
         Ok(())
+    }
+
+    /// The count of the volume's blocks.
+    pub fn blocks(&self) -> u32
+        ensures count { result ≡ length self.now.tables.tags }
+        ensures few { result ≤ 4096 }
+    {
+        self.tags.len() as u32
+    }
+
+    /// The inode at a path; 0 where its names lead to none.
+    pub fn inode_at(&self, path: &Names) -> u16
+        ensures { result ≡ found self.now.tables path.now }
+    {
+        lead(&self.directories, path.as_slice()).unwrap_or(0)
+    }
+
+    /// The size of the file at a path; `None` exactly where no file stands there.
+    pub fn size_at(&self, path: &Names) -> Option<u32>
+        ensures { result ≡ file_size (node_at self.now.tables path.now) }
+    {
+        size_of_file(&self.inodes, &self.directories, &self.tags, path.as_slice())
+    }
+
+    /// The block of an index of the file with an inode; the count of blocks where it has none.
+    pub fn block_at(&self, inode: u16, index: u32) -> u16
+        ensures block { result ≡ block_of self.now.tables.tags inode index }
+        ensures low { result ≤ length self.now.tables.tags }
+    {
+        block_of(&self.tags, inode, index)
+    }
+
+    /// The names in the directory at a path, in the order of its rows.
+    pub fn names_at(&self, alloc: Global, path: &Names) -> Result<Names, NoMemory>
+        ensures { IfOk result (λ names. names ≡ map (λ (row : EntryIs). row.name) (names_in self.now.tables.entries (found self.now.tables path.now))) }
+    {
+        let names = names_in(alloc, &self.directories, self.inode_at(path))?;
+        Ok(Names::new(names))
     }
 
     /// The changes of a call, in order; none where the tree stays.
@@ -129,6 +183,7 @@ fn plan_all(
             path,
             offset,
             count,
+            ..
         } => plan_write(
             alloc,
             inodes,
@@ -158,7 +213,7 @@ fn plan_all(
         ),
         FileCall::Unlink { path } => plan_unlink(alloc, inodes, directories, tags, path.as_slice()),
         FileCall::Rmdir { path } => plan_rmdir(alloc, inodes, directories, tags, path.as_slice()),
-        FileCall::Read { path } => {
+        FileCall::Read { path, .. } => {
             file_at(inodes, directories, tags, path.as_slice())?;
             Ok(Vec::new(alloc))
         }
@@ -173,19 +228,8 @@ fn plan_all(
     }
 }
 
-/// So many free inodes.
-fn free_inodes(alloc: Global, count: usize) -> Result<Vec<Option<Inode>>, NoMemory>
-    ensures { IfOk result (λ v. v.items ≡ replicate count None) }
-{
-    let mut places = Vec::with_capacity(alloc, count)?;
-    for made in 0..count {
-        places.push(None)?;
-    }
-    Ok(places)
-}
-
-/// So many free blocks.
-fn free_tags(alloc: Global, count: usize) -> Result<Vec<Option<Tag>>, NoMemory>
+/// So many free places.
+fn free_places<T: Drop>(alloc: Global, count: usize) -> Result<Vec<Option<T>>, NoMemory>
     ensures { IfOk result (λ v. v.items ≡ replicate count None) }
 {
     let mut places = Vec::with_capacity(alloc, count)?;
@@ -206,12 +250,24 @@ fn no_names(alloc: Global, count: usize) -> Result<Vec<Rows>, NoMemory>
     Ok(directories)
 }
 
+/// Copies of the names of directories.
+fn copy_directories(alloc: Global, directories: &[Rows]) -> Result<Vec<Rows>, NoMemory>
+    ensures lists { IfOk result (λ v. lists_of v.items ≡ lists_of directories.now) }
+    ensures count { IfOk result (λ v. length v.items ≡ length directories.now) }
+{
+    let mut copies = Vec::with_capacity(alloc, directories.len())?;
+    for rows in directories {
+        let copy = rows.copied(alloc)?;
+        copies.push(copy)?;
+    }
+    Ok(copies)
+}
+
 /// A copy of a name.
 pub(crate) fn copy_name(alloc: Global, name: &Bytes) -> Result<Bytes, NoMemory>
     ensures { IfOk result (λ n. n ≡ name.now) }
 {
-    let bytes = Vec::from_slice(alloc, name.as_slice())?;
-    Ok(Bytes::new(bytes))
+    Ok(Bytes::new(Vec::from_slice(alloc, name.as_slice())?))
 }
 
 /// A copy of a change.
@@ -298,8 +354,7 @@ fn reserve_in(directories: &mut Vec<Rows>, directory: u16, count: usize) -> Resu
 {
     let place = directory as usize;
     if place < directories.len() {
-        let rows = &mut directories[place];
-        return rows.reserve(count);
+        return directories[place].reserve(count);
     }
     Ok(())
 }

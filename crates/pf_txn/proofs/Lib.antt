@@ -1,2 +1,4 @@
 pub mod Sizes
 pub mod Planned
+pub mod ChangeLaws
+pub mod TxnLaws

@@ -101,7 +101,7 @@ module _ (d : Data) (t : Tables) (tree : Tree) (s : StandsFor d t tree) where
   pub changes_few : (call : FileCall) → IsShortCall call → refusal (tree_sight d tree) call ≡ None → Few (changes d t call)
   changes_few (Mkdir p) short e = makes_few t 2 p (omega arith) short
   changes_few (Create p) short e = makes_few t 1 p (omega arith) short
-  changes_few (Write p offset count) short e =
+  changes_few (Write p offset byte count) short e =
       let f = first_none (file_refusal (at tree) p) _ e in
       let g = first_none (when 88 (nat_lt 196608 (offset + count))) _ f.1 in
       let w = at_walk (walk t.entries p) in
@@ -113,7 +113,7 @@ module _ (d : Data) (t : Tables) (tree : Tree) (s : StandsFor d t tree) where
   changes_few (Rename from to) short e = renames_few t from to short.0 short.1
   changes_few (Unlink p) short e = unlinks_few p short
   changes_few (Rmdir p) short e = removes_few t p short
-  changes_few (Read p) short e = nothing
+  changes_few (Read p offset count) short e = nothing
   changes_few (Stat p) short e = nothing
   changes_few (Listing p) short e = nothing
 

@@ -10,6 +10,3 @@ pub use faults::{OutsideVolume, SplitFault};
 pub use laws::places_are_apart;
 pub use places::{Place, Places};
 pub use volume::Volume;
-
-#[cfg(test)]
-mod tests;

@@ -43,9 +43,10 @@ impl Volume {
         self.chunks
     }
 
-    /// How many sectors each chunk has.
+    /// How many sectors each chunk has: 16 to 4,096, a multiple of 8.
     pub fn sectors(&self) -> u32
-        ensures { result ≡ self.now.sectors }
+        ensures count { result ≡ self.now.sectors }
+        ensures form { IsVolume self.now }
     {
         self.sectors
     }

@@ -1,0 +1,17 @@
+-- The count of blocks stays.
+use Rattle.std.proofs.Common.{◌≡◌, Option, Some, None, sym, subst, ◌∙◌}
+use Rattle.pf_volume.specs.Volumes.{Extent}
+use Rattle.pf_tree.specs.declared.changes.Txn.{Txn}
+use Rattle.pf_tree.specs.Shelves.{Held}
+use Rattle.pf_tree.specs.Tables.{Tables}
+use Rattle.pf_tree.proofs.Shelves.{applied_length}
+use Rattle.pf_files.specs.Moving.{IsTreeOf}
+use Rattle.pf_files.specs.Calls.{applied_in}
+
+tree_with : (v : Extent) (t : Tables) (txn : Option Txn) → IsTreeOf v t → IsTreeOf v (applied_in t txn)
+tree_with v t None is = is
+tree_with v t (Some txn) is = (applied_length t txn.changes).2 ∙ is
+
+pub tree_after : (v : Extent) (before after : Held) (txn : Option Txn) → IsTreeOf v before.tables → after ≡ record before { tables = applied_in before.tables txn } → IsTreeOf v after.tables
+tree_after v before after txn is e =
+    let P : Held → Type 0 = λ h. IsTreeOf v h.tables in subst P (sym e) (tree_with v before.tables txn is)

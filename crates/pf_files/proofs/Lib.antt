@@ -1,0 +1,8 @@
+pub mod Fitting
+pub mod Cut
+pub mod Filled
+pub mod Steps
+pub mod Kept
+pub mod Sorted
+pub mod Proposed
+pub mod Insides

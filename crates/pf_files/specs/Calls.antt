@@ -1,0 +1,80 @@
+-- A call on the tables: it is refused, it has changes to propose, or it goes on to its data at once.
+use Rattle.std.specs.Prelude.{ℕ, Bool, false, ◌&&◌, ◌==◌, List, [], ◌∷◌, length, Option, Some, None}
+use Rattle.pf_volume.specs.Volumes.{Extent}
+use Rattle.pf_tree.specs.declared.calls.FileCall.{FileCall}
+use Rattle.pf_tree.specs.declared.calls.FileCall.TheVariants.{Write, Read, Truncate}
+use Rattle.pf_tree.specs.declared.changes.Change.{Change}
+use Rattle.pf_tree.specs.declared.changes.Txn.{Txn}
+use Rattle.pf_tree.specs.Paths.{Path}
+use Rattle.pf_tree.specs.Trees.{Data, Tree, refusal, size_at}
+use Rattle.pf_tree.specs.Standing.{StandsFor}
+use Rattle.pf_tree.specs.Tables.{Tables, applied, changes, node_at, tables_sight}
+use Rattle.pf_files.specs.declared.calls.Pending.{Pending}
+use Rattle.pf_files.specs.declared.calls.Planned.{Planned}
+use Rattle.pf_files.specs.declared.calls.Planned.TheVariants.{Refuses, Proposes, Goes}
+use Rattle.pf_files.specs.declared.moving.Moved.{Moved}
+use Rattle.pf_files.specs.Faults.{fault_of}
+use Rattle.pf_files.specs.Moving.{moves}
+
+-- the file of a call
+abbrev pub file_of : FileCall → Path
+file_of (Write p offset byte count) = p
+file_of (Read p offset count) = p
+file_of (Truncate p size) = p
+file_of call = []
+
+-- the size of the call's file
+abbrev pub size_in : Tables → FileCall → ℕ
+size_in tables call = size_at (node_at tables (file_of call))
+
+abbrev pub planned_with : (mount : ℕ) → Extent → Tables → Pending → List Change → Planned
+planned_with mount v tables p [] = Goes (moves v tables (size_in tables p.call) p.call)
+planned_with mount v tables p (c ∷ cs) = Proposes (record { mount = mount; number = p.number; changes = c ∷ cs })
+
+abbrev pub planned_by : (mount : ℕ) → Extent → Data → Tables → Pending → Option ℕ → Planned
+planned_by mount v d tables p (Some refused) = Refuses (fault_of refused)
+planned_by mount v d tables p None = planned_with mount v tables p (changes d tables p.call)
+
+-- the call is planned on the tables as they stand
+abbrev pub planned : (mount : ℕ) → Extent → Data → Tables → Pending → Planned
+planned mount v d tables p = planned_by mount v d tables p (refusal (tables_sight d tables) p.call)
+
+-- a decided value that is no transaction changes nothing
+abbrev pub applied_in : Tables → Option Txn → Tables
+applied_in tables None = tables
+applied_in tables (Some txn) = applied tables txn.changes
+
+-- the transaction is that of this call
+abbrev pub is_of : (mount number : ℕ) → Option Txn → Bool
+is_of mount number None = false
+is_of mount number (Some txn) = (txn.mount == mount) && (txn.number == number)
+
+-- what is the same for every mount: the tables, the calls, and the one that is pending
+pub record WorkIs : Type 0 where
+  pub mount : ℕ
+  pub volume : Extent
+  pub tables : Tables
+  pub calls : ℕ  -- how many were started
+  pub pending : Option Pending  -- the call that has not ended
+
+-- file data begin at block 513
+abbrev pub data_of : Tables → Data
+data_of tables = record { first = 513; blocks = length tables.tags }
+
+-- the tables stand for some tree
+abbrev pub AreSound : Tables → Type 0
+AreSound tables = (tree : Tree) × StandsFor (data_of tables) tables tree
+
+abbrev pub plan_of : (mount : ℕ) → Extent → Tables → Option Pending → Option Planned
+plan_of mount v tables None = None
+plan_of mount v tables (Some p) = Some (planned mount v (data_of tables) tables p)
+
+-- the first step of the pending call's data, on the tables with its changes
+abbrev pub go_of : Extent → (before after : Tables) → Option Pending → Option Moved
+go_of v before after None = None
+go_of v before after (Some p) = Some (moves v after (size_in before p.call) p.call)
+
+-- the transaction is that of the pending call
+abbrev pub is_own : (mount : ℕ) → Option Txn → Option Pending → Bool
+is_own mount txn None = false
+is_own mount txn (Some p) = is_of mount p.number txn

@@ -1,0 +1,6 @@
+pub mod Blocks
+pub mod Filling
+pub mod Faults
+pub mod Moving
+pub mod Calls
+pub mod Ascending

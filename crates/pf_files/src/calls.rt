@@ -1,0 +1,169 @@
+//! The calls of a mount on its tables, one at a time.
+ghost use Rattle.std.specs.Prelude.{◌≡◌, ◌+◌, ◌/◌, ◌<◌, ◌^◌, IfOk, None, OnErr, OnOk, Some, suc};
+ghost use Rattle.pf_volume.specs.Volumes.{size_of};
+ghost use Rattle.pf_tree.specs.Shelves.{IsWhole};
+ghost use Rattle.pf_tree.specs.Tables.{new_tables, node_at};
+ghost use Rattle.pf_tree.specs.Trees.{size_at};
+ghost use Rattle.pf_txn.specs.Reading.{txn_in};
+ghost use Rattle.pf_files.specs.Moving.{IsTreeOf};
+ghost use Rattle.pf_files.specs.Calls.{applied_in, data_of, go_of, is_of, is_own, plan_of, planned, planned_with, size_in};
+
+use crate::answers::{CallFault, refused};
+use crate::moving::{Moved, moves};
+use pf_base::{Names, NoMemory, Value};
+use pf_tree::{Change, Changes, FileCall, Tree, Txn};
+use pf_txn::read_txn;
+use pf_volume::Volume;
+use std::alloc::Global;
+use std::marker::Model;
+
+/// The first block of file data.
+const FIRST: u32 = 513;
+
+/// A call that has not ended, with its number.
+#[derive(Debug, Drop)]
+pub struct Pending {
+    pub number: u32,
+    pub call: FileCall,
+}
+
+/// What is planned for a call.
+#[derive(Drop)]
+pub enum Planned {
+    /// It is refused.
+    Refuses(CallFault),
+    /// This transaction is to be decided.
+    Proposes(Txn),
+    /// It changes no metadata, or they stand. It goes on to its data, or ends.
+    Goes(Moved),
+}
+
+/// The size of a call's file; 0 where there is none.
+fn size_in(alloc: Global, tree: &Tree, call: &FileCall) -> u32
+    ensures { result ≡ size_in tree.now.tables call.now }
+{
+    match call {
+        FileCall::Write { path, .. } => size_at(tree, path),
+        FileCall::Read { path, .. } => size_at(tree, path),
+        FileCall::Truncate { path, .. } => size_at(tree, path),
+        _ => size_at(tree, &Names::new(Vec::new(alloc))),
+    }
+}
+
+/// The size of the file at a path; 0 where there is none.
+fn size_at(tree: &Tree, path: &Names) -> u32
+    ensures { result ≡ size_at (node_at tree.now.tables path.now) }
+{
+    tree.size_at(path).unwrap_or(0)
+}
+
+/// Plans a call on the tables of a tree. The one error is `NoMemory` (1).
+pub fn plan(
+    alloc: Global,
+    mount: u8,
+    volume: &Volume,
+    tree: &Tree,
+    pending: &Pending,
+) -> Result<Planned, NoMemory>
+    requires tree { IsTreeOf volume.now tree.now.tables }
+    requires data { tree.now.first ≡ 513 }
+    ensures { IsWhole tree.now.tables → IfOk result (λ p. p ≡ planned mount volume.now (data_of tree.now.tables) tree.now.tables pending.now) }
+{
+    match tree.plan_call(alloc, &pending.call) {
+        Ok(changes) => plan_with(alloc, mount, volume, tree, pending, changes),
+        Err(fault) => Ok(Planned::Refuses(refused(fault)?)),
+    }
+}
+
+/// What follows of the changes of a call that is not refused.
+fn plan_with(
+    alloc: Global,
+    mount: u8,
+    volume: &Volume,
+    tree: &Tree,
+    pending: &Pending,
+    changes: Vec<Change>,
+) -> Result<Planned, NoMemory>
+    requires { IsTreeOf volume.now tree.now.tables }
+    ensures { IfOk result (λ p. p ≡ planned_with mount volume.now tree.now.tables pending.now changes.items) }
+{
+    if changes.is_empty() {
+        let size = size_in(alloc, tree, &pending.call);
+        let step = moves(alloc, volume, tree, size, &pending.call)?;
+        return Ok(Planned::Goes(step));
+    }
+    Ok(Planned::Proposes(Txn {
+        mount,
+        number: pending.number,
+        changes: Changes::new(changes),
+    }))
+}
+
+/// Plans the pending call, if there is one.
+pub(crate) fn plan_pending(
+    alloc: Global,
+    mount: u8,
+    volume: &Volume,
+    tree: &Tree,
+    pending: &Option<Pending>,
+) -> Result<Option<Planned>, NoMemory>
+    requires tree { IsTreeOf volume.now tree.now.tables }
+    requires data { tree.now.first ≡ 513 }
+    ensures { IsWhole tree.now.tables → IfOk result (λ p. p ≡ plan_of mount volume.now tree.now.tables pending.now) }
+{
+    let Some(pending) = pending else {
+        return Ok(None);
+    };
+    let planned = plan(alloc, mount, volume, tree, pending)?;
+    Ok(Some(planned))
+}
+
+/// The first step of the pending call's data, if there is one, on the tables with its changes.
+pub(crate) fn go_pending(
+    alloc: Global,
+    volume: &Volume,
+    before: &Tree,
+    after: &Tree,
+    pending: &Option<Pending>,
+) -> Result<Option<Moved>, NoMemory>
+    requires { IsTreeOf volume.now after.now.tables }
+    ensures { IfOk result (λ step. step ≡ go_of volume.now before.now.tables after.now.tables pending.now) }
+{
+    let Some(pending) = pending else {
+        return Ok(None);
+    };
+    let size = size_in(alloc, before, &pending.call);
+    let step = moves(alloc, volume, after, size, &pending.call)?;
+    Ok(Some(step))
+}
+
+/// Whether a transaction is that of the pending call.
+pub(crate) fn is_own(mount: u8, txn: &Option<Txn>, pending: &Option<Pending>) -> bool
+    ensures { result ≡ is_own mount txn.now pending.now }
+{
+    match pending {
+        Some(pending) => is_of(mount, pending.number, txn),
+        None => false,
+    }
+}
+
+/// Whether a transaction is that of a call.
+fn is_of(mount: u8, number: u32, txn: &Option<Txn>) -> bool
+    ensures { result ≡ is_of mount number txn.now }
+{
+    match txn {
+        Some(txn) => txn.mount == mount && txn.number == number,
+        None => false,
+    }
+}
+
+/// A copy of a tree, with the changes of a transaction, if there is one.
+pub(crate) fn applied_in(alloc: Global, tree: &Tree, txn: &Option<Txn>) -> Result<Tree, NoMemory>
+    ensures { IfOk result (λ after. after ≡ record tree.now { tables = applied_in tree.now.tables txn.now }) }
+{
+    let mut after = tree.copied(alloc)?;
+    if let Some(txn) = txn {
+        after.apply(alloc, txn)?;
+    }
+    Ok(after)
+}

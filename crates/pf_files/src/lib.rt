@@ -1,0 +1,22 @@
+//! The file data of calls: what a call makes of the tables, the blocks that it fetches and stores one after another, and its answer.
+#![tactic(auto)]
+
+mod answers;
+mod blocks;
+mod bytes;
+mod calls;
+mod filling;
+mod laws;
+mod moving;
+mod names;
+mod spelled;
+mod work;
+
+pub use answers::{CallAnswer, CallFault};
+pub use blocks::{reads, writes};
+pub use calls::{Pending, Planned, plan};
+pub use filling::Fill;
+pub use laws::{blocks_are_asked_inside, data_are_asked_inside, planned_calls_follow_the_tree};
+pub use moving::{Moved, Moving, moves, moves_on};
+pub use spelled::spell_input;
+pub use work::CallWork;
