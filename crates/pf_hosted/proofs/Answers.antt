@@ -5,9 +5,8 @@ use Rattle.pf_protocol.specs.Servers.{Setup, Running}
 use Rattle.pf_protocol.specs.Groups.{Answered}
 use Rattle.pf_protocol.specs.Histories.{History, IsPrefix, replay}
 use Rattle.pf_protocol.specs.Answers.{IsLegal}
-use Rattle.pf_protocol.proofs.Claiming.{legal_before}
-use Rattle.pf_protocol.proofs.Fresh.{fresh}
-use Rattle.pf_protocol.proofs.Legal.{legal_fits}
+use Rattle.pf_protocol.proofs.ForMoments.{legal_before}
+use Rattle.pf_protocol.proofs.ForHistories.{fresh, legal_fits}
 
 pub prefix_taken : (n : ℕ) (history : History) → IsPrefix (take n history) history
 prefix_taken n history = record { rest = drop n history; whole = take-append-drop n history }

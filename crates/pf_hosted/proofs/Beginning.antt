@@ -7,7 +7,7 @@ use Rattle.pf_protocol.specs.Servers.{Setup}
 use Rattle.pf_protocol.specs.Groups.{Answered}
 use Rattle.pf_protocol.specs.Histories.{History}
 use Rattle.pf_protocol.specs.Ports.{Submission, submitting, HasEnded, FollowsRule, ComesFrom}
-use Rattle.pf_protocol.proofs.Origins.{prefix_of}
+use Rattle.pf_protocol.proofs.ForMoments.{prefix_of}
 use Rattle.pf_registers.specs.Registers.{left_by, IsAtLeast, IsNotBelow}
 use Rattle.pf_registers.specs.Orders.{Member, given, values_of}
 use Rattle.pf_registers.specs.Sectors.{Gives, IsAnsweredBefore, IsAckedBefore, IsAskedBefore, SectorRegister, IsCopyAt}
@@ -15,7 +15,7 @@ use Rattle.pf_registers.specs.Firsts.{IsFirst, ComeFirst}
 use Rattle.pf_registers.specs.Alone.{IsWriteAckedBefore, HasBytes, IsWriteAskedBefore}
 use Rattle.pf_registers.specs.Moved.{IsWriteEndedBefore, IsMove}
 use Rattle.pf_registers.proofs.Lists.{something_there, length_mapped, left_at, left_there}
-use Rattle.pf_protocol.proofs.Submitting.{comes_op, comes_after}
+use Rattle.pf_protocol.proofs.ForPorts.{comes_op, comes_after}
 use Rattle.pf_registers.proofs.Asking.{source}
 use Rattle.pf_registers.proofs.Owned.{ports_own}
 use Rattle.pf_registers.proofs.Owning.{IsByOne}

@@ -8,8 +8,7 @@ use Rattle.pf_protocol.specs.Groups.{Answered}
 use Rattle.pf_protocol.specs.Histories.{History, IsPrefix}
 use Rattle.pf_protocol.specs.Fresh.{IsFetch}
 use Rattle.pf_protocol.specs.Ports.{Submission, submitting, HasEnded, FollowsRule, ComesFrom}
-use Rattle.pf_protocol.proofs.Origins.{begins_with}
-use Rattle.pf_protocol.proofs.Snapshots.{whole_prefix}
+use Rattle.pf_protocol.proofs.ForMoments.{begins_with, whole_prefix}
 use Rattle.pf_registers.specs.Registers.{IsAtLeast, IsNotBelow}
 use Rattle.pf_registers.specs.Orders.{given}
 use Rattle.pf_registers.specs.Sectors.{Gives, IsAnsweredBefore}

@@ -8,9 +8,9 @@ use Rattle.pf_protocol.specs.Groups.{Whole, ending}
 use Rattle.pf_protocol.specs.Histories.{History, IsPrefix}
 use Rattle.pf_protocol.specs.Ports.{Submission, submitting, HasEnded, FollowsRule}
 use Rattle.pf_protocol.specs.Answers.{IsLegal}
-use Rattle.pf_protocol.proofs.Fresh.{comparable}
-use Rattle.pf_protocol.proofs.Origins.{begins_with}
-use Rattle.pf_registers.proofs.Lists.{something_there, decide_below}
+use Rattle.pf_protocol.proofs.ForMoments.{comparable, begins_with}
+use Rattle.pf_entry.proofs.Searching.{decide_below}
+use Rattle.pf_registers.proofs.Lists.{something_there}
 use Rattle.pf_registers.proofs.Staying.{acked_stays}
 use Rattle.pf_hosted.specs.Deeds.{PortAsk, Puts, PortReply, Put, Deed, Takes, Submits, Acks, Hands, Brings, Groups, IsPending, IsHanded, IsPort, WasPut, Fits}
 use Rattle.pf_hosted.proofs.Taking.{slot_acked}

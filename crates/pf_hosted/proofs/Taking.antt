@@ -15,9 +15,9 @@ use Rattle.pf_protocol.specs.Histories.{History, replay, Runs, IsPrefix}
 use Rattle.pf_protocol.specs.Answers.{answer_at, answer_by, fetch_turn, fetch_refusal, answer_to, IsAnswer, IsLegalFrom, IsLegal}
 use Rattle.pf_protocol.specs.Ports.{Submission, submitting, IsTarget, IsAnswered}
 use Rattle.pf_protocol.specs.Fresh.{IsFetch}
-use Rattle.pf_protocol.proofs.Making.{run_longer}
-use Rattle.pf_protocol.proofs.Fresh.{fresh}
-use Rattle.pf_protocol.proofs.Placing.{legal_at, given_slot}
+use Rattle.pf_protocol.proofs.ForMoments.{replay_goes_on, legal_at}
+use Rattle.pf_protocol.proofs.ForHistories.{fresh}
+use Rattle.pf_protocol.proofs.ForPorts.{given_slot}
 use Rattle.pf_registers.proofs.Fetches.{same_fetch}
 
 number_apart : (number : ℕ) (refusal : Refusal) → ReadIs number ≡ Refused refusal → ⊥
@@ -80,7 +80,7 @@ taken_up setup history place i number range legal at =
       is_part = record { rest = parts.0; whole = append_assoc (take place history) (record { event = Fetch i range; answer = ReadIs number } ∷ []) parts.0 ∙ parts.1 };
       event = refl;
       is_next = t.is_next;
-      counts = ap (λ g. g.reads) (run_longer setup (opening setup) (take place history) (record { event = Fetch i range; answer = ReadIs number })) ∙ counts setup (replay setup (take place history)) i number range t;
+      counts = ap (λ g. g.reads) (replay_goes_on setup (take place history) (record { event = Fetch i range; answer = ReadIs number })) ∙ counts setup (replay setup (take place history)) i number range t;
     }
 
 same_next : {X : Type 0} → (a : List X) (x y : X) (r s : List X) → a ++ x ∷ r ≡ a ++ y ∷ s → x ≡ y

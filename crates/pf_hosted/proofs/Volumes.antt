@@ -6,14 +6,14 @@ use Rattle.pf_entry.specs.Ops.{Sector, writes}
 use Rattle.pf_protocol.specs.LastWriters.{bytes_for}
 use Rattle.pf_registers.specs.Orders.{given}
 use Rattle.pf_paxos.specs.declared.block.Block.{Block}
-use Rattle.pf_paxos.specs.Registers.{AsksRead, AsksWrite, AreRegisters}
+use Rattle.pf_paxos.specs.Registers.{AsksRead, AsksWrite, Turn, AreRegisters, HasRead}
 use Rattle.pf_paxos.specs.Journals.{Doing, new_journal, journal_before, event_at, events_at, turns_at, AreAllRegisters}
 use Rattle.pf_paxos.proofs.Moments.{turn_at, turn_past}
 use Rattle.pf_paxos.proofs.Standing.{position_run, position_event, position_past}
 use Rattle.pf_registers.proofs.Lists.{something_there, length_mapped}
 use Rattle.std.specs.Option.{option_map}
 use Rattle.std.proofs.lemmas.Option.{same_Some, none-some, slice_get-map, slice_get_within, slice_get_past}
-use Rattle.pf_paxos.specs.Runs.{Event, opening, turn_of, turns_of}
+use Rattle.pf_paxos.specs.Runs.{Event, idle_turn, opening, turn_of, turns_of}
 use Rattle.pf_paxos.specs.Deciding.{Decides}
 use Rattle.pf_paxos.proofs.Deciding.{one_decision}
 use Rattle.pf_hosted.specs.Deeds.{Puts, Gets, Groups, Deed}
@@ -33,13 +33,13 @@ same_lists (x ∷ xs) (y ∷ ys) same =
     let head = same_Some x y (same 0) in
     ap (λ z. z ∷ xs) head ∙ ap (λ zs. y ∷ zs) rest
 
-module _ (read : Sector → Block) (sectors : ℕ) (deeds : List Deed) (doings : List Doing) (is : IsSameJournal read sectors deeds doings) (position : ℕ) where
+module _ (read : Sector → Block) (sectors count : ℕ) (deeds : List Deed) (doings : List Doing) (is : IsSameJournal read sectors count deeds doings) (position : ℕ) (low : position < count) where
   turn_there : (k : ℕ) (doing : Doing) → slice_get doings k ≡ Some doing → slice_get (turns_at position doings) k ≡ slice_get (turns_in read (home_of sectors position) deeds) k
   turn_there k doing at =
       let d = something_there deeds k (omega (arith, is.as_many, slice_get_within doings k doing at)) in
       turn_at opening k (events_at position doings) (event_at position (journal_before doings k) doing) (position_event position k new_journal doings doing at)
       ∙ ap (λ ps. Some (turn_of ps (event_at position (journal_before doings k) doing))) (position_run position k new_journal doings)
-      ∙ ap (λ t. Some t) (is.same position k doing d.0 at d.1)
+      ∙ ap (λ t. Some t) (is.same position k doing d.0 low at d.1)
       ∙ sym (slice_get-map (λ deed. turn_in read (home_of sectors position) deed) deeds k ∙ ap (option_map (λ deed. turn_in read (home_of sectors position) deed)) d.1)
 
   none_there : (k : ℕ) → slice_get doings k ≡ None → slice_get (turns_at position doings) k ≡ slice_get (turns_in read (home_of sectors position) deeds) k
@@ -63,11 +63,44 @@ module _ (read : Sector → Block) (sectors : ℕ) (deeds : List Deed) (doings :
           by None at = none_there k at
           by (Some doing) at = turn_there k doing at
 
-pub turns_told : (read : Sector → Block) (sectors : ℕ) (deeds : List Deed) (doings : List Doing) → IsSameJournal read sectors deeds doings → (position : ℕ) → turns_at position doings ≡ turns_in read (home_of sectors position) deeds
-turns_told read sectors deeds doings is position = told read sectors deeds doings is position
+pub turns_told : (read : Sector → Block) (sectors count : ℕ) (deeds : List Deed) (doings : List Doing) → IsSameJournal read sectors count deeds doings → (position : ℕ) → position < count → turns_at position doings ≡ turns_in read (home_of sectors position) deeds
+turns_told read sectors count deeds doings is position low = told read sectors count deeds doings is position low
 
-pub journal : (groups : Groups) (read : Sector → Block) (sectors : ℕ) (deeds : List Deed) (doings : List Doing) → IsHostedJournal groups read sectors deeds doings → AreAllRegisters doings
-journal groups read sectors deeds doings j position = subst AreRegisters (sym (told read sectors deeds doings j.same position)) (registers groups read (home_of sectors position) deeds (j.hosted position))
+-- past the last position all turns are nobody's
+module _ (read : Sector → Block) (sectors count : ℕ) (deeds : List Deed) (doings : List Doing) (is : IsSameJournal read sectors count deeds doings) (position : ℕ) (past : count ≤ position) where
+  idle_there : (k : ℕ) (doing : Doing) → slice_get doings k ≡ Some doing → slice_get (turns_at position doings) k ≡ Some idle_turn
+  idle_there k doing at =
+      turn_at opening k (events_at position doings) (event_at position (journal_before doings k) doing) (position_event position k new_journal doings doing at)
+      ∙ ap (λ ps. Some (turn_of ps (event_at position (journal_before doings k) doing))) (position_run position k new_journal doings)
+      ∙ ap (λ t. Some t) (is.none position k doing past at)
+
+  all_idle : (k : ℕ) (turn : Turn) → slice_get (turns_at position doings) k ≡ Some turn → turn ≡ idle_turn
+  all_idle k turn at = by (slice_get doings k) refl
+    where
+      by : (o : Option Doing) → slice_get doings k ≡ o → turn ≡ idle_turn
+      by None none = absurd (none-some turn (sym (turn_past opening k (events_at position doings) (position_past position k new_journal doings none)) ∙ at))
+      by (Some doing) there = sym (same_Some idle_turn turn (sym (idle_there k doing there) ∙ at))
+
+-- who is never asked nor answered is a register
+module _ (history : List Turn) (idle : (k : ℕ) (turn : Turn) → slice_get history k ≡ Some turn → turn ≡ idle_turn) where
+  no_read : (client half asked answered : ℕ) (blocks : List Block) → HasRead history client half asked answered blocks → ⊥
+  no_read client half asked answered blocks r = none-some (AsksRead half) (sym (ap (λ (t : Turn). t.ask) (idle asked r.turn r.at)) ∙ r.asks)
+
+  idle_registers : AreRegisters history
+  idle_registers = record {
+    seen = λ moment client. 0;
+    whole = λ client half asked answered blocks r. absurd (no_read client half asked answered blocks r);
+    gives = λ client half asked answered place blocks r. absurd (no_read client half asked answered blocks r);
+    not_late = λ client half asked answered place blocks r. absurd (no_read client half asked answered blocks r);
+    fresh = λ client half asked answered place blocks r. absurd (no_read client half asked answered blocks r);
+    rising = λ client half asked answered place blocks r. absurd (no_read client half asked answered blocks r);
+  }
+
+pub journal : (groups : Groups) (read : Sector → Block) (sectors count : ℕ) (deeds : List Deed) (doings : List Doing) → IsHostedJournal groups read sectors count deeds doings → AreAllRegisters doings
+journal groups read sectors count deeds doings j position = elim (cases_lt position count) [
+  | inl low ↦ subst AreRegisters (sym (told read sectors count deeds doings j.same position low)) (registers groups read (home_of sectors position) deeds (j.hosted position low))
+  | inr past ↦ idle_registers (turns_at position doings) (all_idle read sectors count deeds doings j.same position past)
+]
 
 -- eights in eights
 eights : (n k : ℕ) → 0 < k → (8 * n) % (8 * k) ≡ 8 * (n % k)

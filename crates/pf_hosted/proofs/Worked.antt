@@ -20,10 +20,9 @@ use Rattle.pf_protocol.specs.Ports.{Submission, submitting, IsTarget}
 use Rattle.pf_protocol.specs.Answers.{IsLegal}
 use Rattle.pf_protocol.specs.Shown.{small_group, write_at, so}
 use Rattle.pf_protocol.specs.StaleReads.{stale_read, ReadsAtTheLeader}
-use Rattle.pf_protocol.proofs.Ports.{acked_chosen, new_slot}
+use Rattle.pf_protocol.proofs.ForPorts.{acked_chosen, new_slot, submitted}
 use Rattle.pf_registers.specs.Orders.{given}
 use Rattle.pf_registers.specs.Worked.{before_it, one_port, its_read}
-use Rattle.pf_protocol.proofs.Submitting.{submitted}
 use Rattle.pf_paxos.specs.declared.block.Block.{Block}
 use Rattle.pf_paxos.specs.Blocks.{zero_block}
 use Rattle.pf_hosted.specs.Deeds.{PortAsk, Puts, Gets, PortReply, Put, Got, Deed, Takes, Submits, IsPending, BringsBy, Acks, Reads, IsOfEpoch, Hands, Brings, IsHanded, IsPort, WasPut, WasGot, Fits}

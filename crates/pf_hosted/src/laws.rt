@@ -38,12 +38,12 @@ pub fn hosted_positions_have_one_value()
 
 /// Where the doings of a journal are what the ports did, moment by moment, the turns of each position are those of the deeds.
 pub fn turns_are_told()
-    ensures { (read : Sector → Block) (sectors : ℕ) (deeds : List Deed) (doings : List Doing) → IsSameJournal read sectors deeds doings → (position : ℕ) → turns_at position doings ≡ turns_in read (home_of sectors position) deeds }
+    ensures { (read : Sector → Block) (sectors count : ℕ) (deeds : List Deed) (doings : List Doing) → IsSameJournal read sectors count deeds doings → (position : ℕ) → position < count → turns_at position doings ≡ turns_in read (home_of sectors position) deeds }
 {}
 
 /// The positions of a journal in a volume are registers.
 pub fn hosted_journals_are_registers()
-    ensures { (groups : Groups) (read : Sector → Block) (sectors : ℕ) (deeds : List Deed) (doings : List Doing) → IsHostedJournal groups read sectors deeds doings → AreAllRegisters doings }
+    ensures { (groups : Groups) (read : Sector → Block) (sectors count : ℕ) (deeds : List Deed) (doings : List Doing) → IsHostedJournal groups read sectors count deeds doings → AreAllRegisters doings }
 {}
 
 /// Each half of a position lies in one chunk, and the two lie apart.

@@ -1,0 +1,5 @@
+use Rattle.pf_journal.proofs.Spelled.{one_block}
+use Rattle.pf_journal.proofs.laws.spellings_are_apart.Goals as goal
+
+pub returns : goal.returns
+returns c = one_block

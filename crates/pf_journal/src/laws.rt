@@ -1,0 +1,46 @@
+//! Laws of places and of spellings.
+ghost use Rattle.std.specs.Prelude.{◌≡◌, ℕ, ◌*◌, ◌/◌, ◌%◌, ◌<◌, ◌≤◌, List};
+ghost use Rattle.pf_entry.specs.Ops.{Sector, zero_sector};
+ghost use Rattle.pf_paxos.specs.declared.block.Block.{Block};
+ghost use Rattle.pf_paxos.specs.Blocks.{IsBlock, zero_block};
+ghost use Rattle.pf_paxos.specs.Deciding.{Decides};
+ghost use Rattle.pf_paxos.specs.Journals.{Doing, Begins, IsTransactionList, journal_before, turns_at};
+ghost use Rattle.pf_hosted.specs.Deeds.{Deed, Groups};
+ghost use Rattle.pf_hosted.specs.Homes.{chunk_of, sector_of};
+ghost use Rattle.pf_hosted.specs.Volumes.{IsHostedJournal, home_of};
+ghost use Rattle.pf_journal.specs.Places.{place_of};
+ghost use Rattle.pf_journal.specs.Sectors.{HasSpelling, IsSpelling, block_bytes, block_in};
+
+/// No two blocks of a journal have one place, and each place lies past the superblock's block, and before the file data.
+pub fn places_are_apart()
+    ensures apart { (position mount other its : ℕ) → mount < 16 → its < 16 → place_of position mount ≡ place_of other its → (position ≡ other) × (mount ≡ its) }
+    ensures past_super { (position mount : ℕ) → 8 ≤ place_of position mount }
+    ensures before_data { (position mount : ℕ) → position < 256 → mount < 16 → place_of position mount < 4104 }
+{}
+
+/// In a volume of chunks of so many sectors, the place of a block is where the position's home has it.
+pub fn places_are_homes()
+    ensures chunk { (sectors blocks position mount : ℕ) → sectors ≡ 8 * blocks → 0 < blocks → chunk_of (home_of sectors position) mount ≡ place_of position mount / sectors }
+    ensures sector { (sectors blocks position mount : ℕ) → sectors ≡ 8 * blocks → 0 < blocks → sector_of (home_of sectors position) mount ≡ place_of position mount % sectors }
+{}
+
+/// What is read of a block's spelling is the block, of a sector of zeros the block of zeros, and so it is of a sector that is the
+/// spelling of none. Whatever the sector, it has the form of a block.
+pub fn spelled_blocks_are_read()
+    ensures spelled { (b : Block) → HasSpelling b → block_in (block_bytes b) ≡ b }
+    ensures zeros { block_in zero_sector ≡ zero_block }
+    ensures other { (sector : Sector) → ((b : Block) → IsSpelling b sector → ⊥) → block_in sector ≡ zero_block }
+    ensures form { (sector : Sector) → IsBlock (block_in sector) }
+{}
+
+/// No two blocks have one spelling.
+pub fn spellings_are_apart()
+    ensures { (b c : Block) → HasSpelling b → HasSpelling c → block_bytes b ≡ block_bytes c → b ≡ c }
+{}
+
+/// A journal whose blocks lie in chunks as these bytes has one list, over whatever legal histories of the chunks' groups: no position is
+/// decided with two values, and what each mount has at any moment begins the transaction list.
+pub fn journals_in_chunks_have_one_list()
+    ensures agree { (groups : Groups) (sectors : ℕ) (deeds : List Deed) (doings : List Doing) → IsHostedJournal groups block_in sectors 256 deeds doings → (position a b : ℕ) (v w : List ℕ) → Decides (turns_at position doings) a v → Decides (turns_at position doings) b w → v ≡ w }
+    ensures list { (groups : Groups) (sectors : ℕ) (deeds : List Deed) (doings : List Doing) → IsHostedJournal groups block_in sectors 256 deeds doings → (list : List (List ℕ)) × IsTransactionList doings list × ((mount moment : ℕ) → Begins ((journal_before doings moment).list mount) list) }
+{}

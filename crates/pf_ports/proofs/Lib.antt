@@ -1,0 +1,7 @@
+pub mod Growing
+pub mod Ruling
+pub mod Rising
+pub mod Standing
+pub mod Replying
+pub mod Stepping
+pub mod Worked

@@ -1,0 +1,5 @@
+pub mod Calls
+pub mod Driven
+pub mod Replies
+pub mod Rising
+pub mod Worked

@@ -1,0 +1,36 @@
+//! Laws of every port and its group.
+ghost use Rattle.std.specs.Prelude.{◌≡◌, List, Some};
+ghost use Rattle.pf_base.specs.declared.asks.Ask.{Ask as AskIs};
+ghost use Rattle.pf_base.specs.declared.asks.Reply.{Reply as ReplyIs};
+ghost use Rattle.pf_entry.specs.Lists.{Every};
+ghost use Rattle.pf_protocol.specs.Answers.{IsLegal};
+ghost use Rattle.pf_protocol.specs.Ports.{FollowsRule};
+ghost use Rattle.pf_protocol.specs.Servers.{Setup};
+ghost use Rattle.pf_asks.specs.Desks.{Call, IsLook};
+ghost use Rattle.pf_asks.specs.Ports.{PortIs};
+ghost use Rattle.pf_ports.specs.Calls.{Past, SayInTurn};
+ghost use Rattle.pf_ports.specs.Driven.{IsDriven, IsStep};
+ghost use Rattle.pf_ports.specs.Replies.{IsReplied};
+ghost use Rattle.pf_ports.specs.Rising.{IsRising};
+
+/// A port whose steps find no event of anybody else between their calls follows the rule of ports, in every legal history of its group.
+pub fn driven_ports_follow_the_rule()
+    ensures { (setup : Setup) (past : Past) (port : PortIs) → IsDriven setup past port → IsLegal setup past.history → FollowsRule setup past.history past.writes }
+{}
+
+/// Each write that it handed on went to a server that served as a leader then: none to a lower term than one before, and the same write
+/// to a higher one where the one before was answered whole.
+pub fn driven_ports_hand_writes_to_leaders()
+    ensures { (setup : Setup) (past : Past) (port : PortIs) → IsDriven setup past port → IsLegal setup past.history → IsRising setup past.writes }
+{}
+
+/// And what a step of it replies is the group's answer to the last time that it handed on the ask: a write was acknowledged, a read was
+/// answered with these sectors.
+pub fn replies_answer_the_last_submission()
+    ensures { (setup : Setup) (old new : Past) (port next : PortIs) (ask : AskIs) (reply : ReplyIs) → IsDriven setup old port → IsStep setup old port ask (Some reply) new next → IsLegal setup new.history → IsReplied setup new ask reply }
+{}
+
+/// Where a step ends for want of memory its calls are looks alone, and so nothing has happened.
+pub fn looks_do_nothing()
+    ensures { (setup : Setup) (old new : Past) (calls : List Call) → Every IsLook calls → SayInTurn setup old calls new → new ≡ old }
+{}
