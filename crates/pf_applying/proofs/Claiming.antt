@@ -24,7 +24,7 @@ use Rattle.pf_protocol.specs.Saving.{claimable, claimed, is_claimable}
 use Rattle.pf_state.proofs.Applied.{is_applied_here}
 use Rattle.pf_state.specs.declared.running.Running.{Running}
 use Rattle.pf_state.specs.Standing.{bare, server_of, setup_of, IsBounded, IsCached}
-use Rattle.pf_protocol.proofs.Counting.{few_keys}
+use Rattle.pf_entry.proofs.Counting.{few_keys}
 use Rattle.pf_protocol.specs.Fitting.{ServerFits}
 use Rattle.pf_applying.specs.declared.claims.Plan.{Plan}
 use Rattle.pf_applying.specs.Claims.{can_claim, can_claim_here, with_room, IsPlan}

@@ -6,8 +6,8 @@ use Rattle.std.proofs.lemmas.Option.{same_Some}
 use Rattle.pf_entry.specs.Lists.{Every}
 use Rattle.pf_entry.specs.Tables.{ascends, ascends_from}
 use Rattle.pf_entry.proofs.Lists.{every_more}
-use Rattle.pf_protocol.proofs.Asked.{from_lower, rest_ascends}
-use Rattle.pf_protocol.proofs.Keeping.{by_test}
+use Rattle.pf_entry.proofs.Ascents.{from_lower, rest_ascends}
+use Rattle.pf_entry.proofs.Cases.{by_test}
 use Rattle.pf_chunk.specs.declared.waiting.Waiting.{Waiting}
 use Rattle.pf_chunk.proofs.Told.{numbers_of}
 

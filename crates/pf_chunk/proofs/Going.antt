@@ -17,9 +17,9 @@ use Rattle.pf_protocol.specs.Rows.{on_packet, settled, ready_reads}
 use Rattle.pf_protocol.specs.Groups.{Sent, Group, Ending, Whole, CutOff, Missed, Untouched, answer_of, reads_after, acted, cut_off, ended, ending, ending_of, step_of, at_server, with_sent, marked_in, delivered, lost, stopped, begun, restart, claim_of, claim_at, claim_or, first_claim, only, counted_election, happens}
 use Rattle.pf_protocol.specs.Histories.{Runs}
 use Rattle.pf_protocol.specs.Answers.{Turn, submit_turn, fetch_turn, elect_turn, deliver_turn, plain, answer_by, answer_at, delivery_answer, loss_answer, stop_answer, is_formatted, restart_answer, claim_answer_at, claim_answer, finish_answer, answer_to, IsAnswer}
-use Rattle.pf_protocol.proofs.Keeping.{by_test}
+use Rattle.pf_entry.proofs.Cases.{by_test}
 use Rattle.pf_chunk.proofs.Numbering.{NoRead, refused_reads, done_reads}
-use Rattle.pf_protocol.proofs.Stepping.{IsRule, BySubmit, ByFetch, ByPacket, ByElect, ByResend, ByFinish, ByGiveBack, ByCheckpoint}
+use Rattle.pf_protocol.proofs.ForMoments.{IsRule, BySubmit, ByFetch, ByPacket, ByElect, ByResend, ByFinish, ByGiveBack, ByCheckpoint}
 
 -- one server took its step
 pub record Acted (setup : Setup) (g : Group) (event : Event) (answer : Answer) (after : Group) (i : ℕ) (s : Server) (o : Outcome) : Type 0 where

@@ -8,8 +8,8 @@ use Rattle.pf_entry.specs.Tables.{ascends, ascends_from}
 use Rattle.pf_entry.proofs.Lists.{every_append, every_get, every_map, every_filter, every_more}
 use Rattle.pf_protocol.specs.Servers.{Read}
 use Rattle.pf_protocol.specs.Leading.{confirm}
-use Rattle.pf_protocol.proofs.Asked.{from_lower, rest_ascends}
-use Rattle.pf_protocol.proofs.Keeping.{by_test}
+use Rattle.pf_entry.proofs.Ascents.{from_lower, rest_ascends}
+use Rattle.pf_entry.proofs.Cases.{by_test}
 use Rattle.pf_chunk.specs.Waiting.{HasRead}
 
 abbrev pub numbers : List Read → List ℕ

@@ -10,7 +10,7 @@ use Rattle.pf_protocol.specs.Servers.{Condition, Running, Server, Stopped, Unfor
 use Rattle.pf_protocol.specs.Groups.{ending, happens}
 use Rattle.pf_protocol.specs.Histories.{Runs}
 use Rattle.pf_protocol.specs.Answers.{claims_after, claims_of}
-use Rattle.pf_protocol.proofs.Claiming.{replay_goes_on}
+use Rattle.pf_protocol.proofs.ForMoments.{replay_goes_on}
 use Rattle.pf_cluster.specs.Readings.{taken_after}
 use Rattle.pf_group.specs.declared.event.GroupEvent.{GroupEvent}
 use Rattle.pf_group.specs.declared.event.GroupEvent.TheVariants as asked

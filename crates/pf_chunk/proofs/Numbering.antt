@@ -19,7 +19,7 @@ use Rattle.pf_protocol.specs.Following.{on_request_vote, on_accept, on_nack, on_
 use Rattle.pf_protocol.specs.Saving.{is_short_of, on_checkpoint, on_finish, on_give_back}
 use Rattle.pf_protocol.specs.Rows.{on_message, on_packet}
 use Rattle.pf_protocol.specs.Groups.{Group}
-use Rattle.pf_protocol.proofs.Stepping.{IsRule, BySubmit, ByFetch, ByPacket, ByElect, ByResend, ByFinish, ByGiveBack, ByCheckpoint}
+use Rattle.pf_protocol.proofs.ForMoments.{IsRule, BySubmit, ByFetch, ByPacket, ByElect, ByResend, ByFinish, ByGiveBack, ByCheckpoint}
 
 -- the answer takes up no read
 abbrev pub NoRead : Answer → Type 0

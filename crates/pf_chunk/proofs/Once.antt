@@ -15,9 +15,8 @@ use Rattle.pf_protocol.specs.Rows.{is_ready, ready_reads, settled}
 use Rattle.pf_protocol.specs.Groups.{Answered, Group, answer_of, ending, happens, opening, first_leader}
 use Rattle.pf_protocol.specs.Histories.{History, Runs, replay}
 use Rattle.pf_protocol.specs.Answers.{IsAnswer, IsLegal}
-use Rattle.pf_protocol.proofs.Moving.{does}
-use Rattle.pf_protocol.proofs.Asked.{legal_keeps}
-use Rattle.pf_protocol.proofs.Snapshots.{opened}
+use Rattle.pf_protocol.proofs.ForRows.{does}
+use Rattle.pf_protocol.proofs.ForMoments.{legal_keeps, opened}
 use Rattle.pf_chunk.specs.Waiting.{HasRead, WaitsAt, IsAnsweredIn, ReadsWaitOnce, StepsReads}
 use Rattle.pf_chunk.proofs.Members.{numbers, every_place, each_of, none_has, fewer_ascend, AreApart, apart_of, apart_append, same_place, apart_by_place, mapped_get, got_mapped, same_read, passed}
 use Rattle.pf_chunk.proofs.Numbering.{NoRead}

@@ -14,7 +14,7 @@ use Rattle.pf_protocol.specs.Saving.{on_checkpoint, on_finish, on_give_back}
 use Rattle.pf_protocol.specs.Rows.{on_packet}
 use Rattle.pf_protocol.specs.Groups.{Sent, Group, Ending, Whole, CutOff, Missed, Untouched, send, acted, cut_off, ended, ending, step_of, at_server, marked_in, delivered, lost, stopped, begun, restart, claim_of, claim_at, claim_or, first_claim, only, counted_election, happens}
 use Rattle.pf_protocol.specs.Histories.{History, run}
-use Rattle.pf_protocol.proofs.Keeping.{by_test}
+use Rattle.pf_entry.proofs.Cases.{by_test}
 use Rattle.pf_group.specs.Readers.{is_left}
 
 -- packets are only sent and marked

@@ -15,8 +15,8 @@ use Rattle.pf_protocol.specs.Rows.{is_ready, ready_reads, settled}
 use Rattle.pf_protocol.specs.Groups.{Group, answer_of, reads_after, ending, happens}
 use Rattle.pf_protocol.specs.Histories.{History, Runs, run}
 use Rattle.pf_protocol.specs.Answers.{Claimed, IsAnswer, IsLegalFrom, claims_after}
-use Rattle.pf_protocol.proofs.Stepping.{IsRule}
-use Rattle.pf_protocol.proofs.Moving.{new_read, ReadsFrom, NoReads, SameReads, Takes, Confirms, does}
+use Rattle.pf_protocol.proofs.ForMoments.{IsRule}
+use Rattle.pf_protocol.proofs.ForRows.{new_read, ReadsFrom, NoReads, SameReads, Takes, Confirms, does}
 use Rattle.pf_chunk.specs.Waiting.{HasRead, WaitsAt, Waits, IsAnsweredIn, AddsAnswers, TookUp, StepsReads, GoesQuietly, GoesOn, IsDropped}
 use Rattle.pf_chunk.proofs.Members.{numbers, every_place, of_each, none_has, one_more_has, fewer_have, same_numbers, confirmed_have, last_ascends}
 use Rattle.pf_chunk.proofs.Numbering.{NoRead, rule_number}

@@ -11,7 +11,7 @@ use Rattle.std.proofs.lemmas.Option.{get_or_from_slice_get, same_Some, slice_get
 use Rattle.pf_entry.specs.Lists.{Every}
 use Rattle.pf_cluster.proofs.Lists.{set_elsewhere, set_there}
 use Rattle.pf_protocol.specs.Groups.{Group}
-use Rattle.pf_protocol.proofs.Keeping.{by_test}
+use Rattle.pf_entry.proofs.Cases.{by_test}
 use Rattle.pf_group.specs.GroupIs.{GroupIs, state_of}
 use Rattle.pf_chunk.specs.declared.waiting.Waiting.{Waiting}
 use Rattle.pf_chunk.specs.Telling.{is_answered, lines_of, may_wait, now_taken, taken_all, taken_with, told_of}

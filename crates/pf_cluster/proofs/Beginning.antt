@@ -9,7 +9,7 @@ use Rattle.pf_protocol.specs.Outcomes.{Outcome}
 use Rattle.pf_protocol.specs.Answers.{most_packets, room_refusal as group_room_refusal}
 use Rattle.pf_state.specs.Outgoing.{Outgoing}
 use Rattle.pf_state.specs.Standing.{room_refusal}
-use Rattle.pf_protocol.proofs.Room.{legal_room}
+use Rattle.pf_protocol.proofs.ForHistories.{legal_room}
 use Rattle.pf_restart.specs.Beginning.{IsSeat}
 use Rattle.pf_server.specs.declared.server.Server.{Server}
 use Rattle.pf_server.specs.Conditions.{IsInOrder, IsKnown}

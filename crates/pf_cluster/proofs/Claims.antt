@@ -25,7 +25,7 @@ use Rattle.pf_cluster.specs.Readings.{taken_of}
 use Rattle.pf_cluster.specs.Showing.{IsMember, Shows}
 use Rattle.pf_cluster.proofs.Alone.{alone, alone_still}
 use Rattle.pf_cluster.proofs.Beginning.{its_condition}
-use Rattle.pf_cluster.proofs.Laws.{its_number}
+use Rattle.pf_protocol.proofs.ForHistories.{its_number}
 use Rattle.pf_cluster.proofs.Taking.{stopped_idles, unformatted_idles}
 use Rattle.pf_cluster.proofs.Touching.{touches_kept}
 

@@ -3,7 +3,7 @@ use Rattle.std.proofs.Common.{◌≡◌, inl, ℕ, zero, suc, ◌+◌, ◌<◌, 
 use Rattle.std.specs.Global.{Vec}
 use Rattle.std.proofs.lemmas.Option.{same_Some, slice_get_past, slice_get_within}
 use Rattle.pf_base.specs.declared.errors.NoMemory.{NoMemory}
-use Rattle.pf_entry.specs.Records.{Durable}
+use Rattle.pf_entry.specs.Records.{Durable, holds}
 use Rattle.pf_entry.specs.declared.packets.Packet.{Packet}
 use Rattle.pf_entry.specs.declared.packets.Body.{Body}
 use Rattle.pf_entry.specs.declared.packets.Body.TheVariants.{RequestVote, Vote, Accept, Ack, Nack, Commit, Probe, ProbeOk, Image}
@@ -12,7 +12,6 @@ use Rattle.pf_protocol.specs.declared.answers.Answer.TheVariants.{Done, Refused}
 use Rattle.pf_protocol.specs.declared.answers.Refusal.TheVariants.{Halted, LostPacket, NoPacket}
 use Rattle.pf_protocol.specs.declared.events.Event.TheVariants.{Deliver, Lose}
 use Rattle.pf_entry.specs.declared.entries.VoteLog.{VoteLog}
-use Rattle.pf_entry.specs.Records.{holds}
 use Rattle.pf_protocol.specs.Servers.{upto, Setup, Role, Follower, Candidate, Merging, Serving, Server as ServerIs, Condition, Running as RunningIs, Stopped as StoppedIs, Unformatted as UnformattedIs}
 use Rattle.pf_protocol.specs.Outcomes.{Outcome}
 use Rattle.pf_protocol.specs.Leading.{on_ack, on_probe_ok, on_vote}
@@ -21,8 +20,8 @@ use Rattle.pf_protocol.specs.Rows.{on_message, on_packet}
 use Rattle.pf_protocol.specs.Groups.{Group, Sent, Ending, Whole, CutOff, Missed, Untouched, acted, at_server, cut_off, delivered, ending, happens, lost, marked_in, reads_after, send, step_of, with_sent}
 use Rattle.pf_protocol.specs.Histories.{History, replay}
 use Rattle.pf_protocol.specs.Answers.{IsLegal, answer_at, answer_to, deliver_turn, delivery_answer, delivery_halts, halts_at, loss_answer, may_halt, room_refusal as group_room_refusal}
-use Rattle.pf_protocol.proofs.Asked.{legal_asks, packet_asks}
-use Rattle.pf_protocol.proofs.Legal.{room_silent}
+use Rattle.pf_protocol.proofs.ForHistories.{legal_asks, legal_packets, legal_fits}
+use Rattle.pf_protocol.proofs.ForRows.{packet_asks, room_silent}
 use Rattle.pf_state.specs.Outgoing.{Outgoing}
 use Rattle.pf_state.specs.Standing.{room_refusal}
 use Rattle.pf_restart.specs.Beginning.{setup_at}
@@ -43,8 +42,6 @@ use Rattle.pf_entry.specs.Canonical.{IsCanonicalPacket}
 use Rattle.pf_entry.proofs.Lists.{every_get}
 use Rattle.pf_wire.specs.Packets.{packet_bytes, PacketFits as HasWords}
 use Rattle.pf_protocol.specs.Fitting.{PacketFits}
-use Rattle.pf_protocol.proofs.Counting.{legal_packets}
-use Rattle.pf_protocol.proofs.Legal.{legal_fits}
 use Rattle.pf_server.specs.Conditions.{IsFor}
 use Rattle.pf_cluster.proofs.Rules.{below_after, leaves_all, packets_fit, same_setup}
 use Rattle.pf_cluster.proofs.Touching.{touches_kept}

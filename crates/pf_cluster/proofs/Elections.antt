@@ -14,8 +14,8 @@ use Rattle.pf_protocol.specs.Leading.{on_elect}
 use Rattle.pf_protocol.specs.Groups.{Group, Ending, Whole, CutOff, Missed, Untouched, acted, at_server, counted_election, cut_off, ending, happens, reads_after, step_of}
 use Rattle.pf_protocol.specs.Histories.{History, replay}
 use Rattle.pf_protocol.specs.Answers.{IsLegal, answer_at, answer_by, answer_to, elect_refusal, elect_turn, may_halt, most_elections, refuse, room_refusal as group_room_refusal}
-use Rattle.pf_protocol.proofs.Asked.{elect_asks, legal_asks}
-use Rattle.pf_protocol.proofs.Legal.{elect_silent}
+use Rattle.pf_protocol.proofs.ForRows.{elect_asks, elect_silent}
+use Rattle.pf_protocol.proofs.ForHistories.{legal_asks}
 use Rattle.pf_state.specs.Outgoing.{Outgoing}
 use Rattle.pf_state.specs.Standing.{room_refusal}
 use Rattle.pf_server.specs.declared.server.Server.{Server}

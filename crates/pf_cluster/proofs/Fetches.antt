@@ -16,9 +16,9 @@ use Rattle.pf_protocol.specs.Outcomes.{Outcome}
 use Rattle.pf_protocol.specs.Leading.{on_fetch}
 use Rattle.pf_protocol.specs.Groups.{Group, Whole, at_server, ending, happens, reads_after}
 use Rattle.pf_protocol.specs.Histories.{History, Runs, replay}
-use Rattle.pf_protocol.specs.Answers.{IsLegal, answer_to, fetch_refusal as group_fetch_refusal, fetch_turn, is_serving, may_halt, refuse, room_refusal as group_room_refusal}
-use Rattle.pf_protocol.proofs.Asked.{fetch_asks, fetch_silent, legal_asks}
-use Rattle.pf_protocol.proofs.Legal.{refuse_none}
+use Rattle.pf_protocol.specs.Answers.{IsLegal, answer_to, fetch_refusal as group_fetch_refusal, fetch_turn, is_serving, may_halt, refuse, room_refusal as group_room_refusal, Turn}
+use Rattle.pf_protocol.proofs.ForRows.{fetch_asks, fetch_silent, refuse_none}
+use Rattle.pf_protocol.proofs.ForHistories.{legal_asks}
 use Rattle.pf_state.specs.Outgoing.{Outgoing}
 use Rattle.pf_state.specs.Standing.{room_refusal}
 use Rattle.pf_applying.specs.Fetching.{fetch_refusal}
@@ -31,7 +31,6 @@ use Rattle.pf_cluster.specs.declared.kept.Reading.{Reading}
 use Rattle.pf_cluster.specs.declared.kept.Reading.TheVariants.{Waiting}
 use Rattle.pf_entry.specs.Lists.{Every}
 use Rattle.pf_protocol.specs.Asked.{AreBelow}
-use Rattle.pf_protocol.specs.Answers.{Turn}
 use Rattle.pf_cluster.specs.Going.{Goes, HasFault, IsReached, KeepsStores, Touches}
 use Rattle.pf_cluster.specs.Readings.{is_taken, readings_after, readings_with, taken_of}
 use Rattle.pf_cluster.specs.Showing.{AreReadings, HasTraffic, Shows, seat_of}

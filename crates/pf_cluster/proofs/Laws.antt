@@ -15,16 +15,9 @@ use Rattle.pf_protocol.specs.Answers.{IsLegal, IsLegalNext, MayHappen, answer_to
 use Rattle.pf_protocol.specs.declared.events.Event.{Event}
 use Rattle.pf_protocol.specs.declared.events.Happening.{Happening}
 use Rattle.pf_protocol.specs.Fitting.{DurableFits, PacketFits}
-use Rattle.pf_protocol.proofs.Claiming.{legal_goes_on, replay_goes_on}
-use Rattle.pf_protocol.proofs.Counting.{few_starts, legal_packets, legal_starts}
-use Rattle.pf_protocol.proofs.Fetching.{reads_before}
-use Rattle.pf_protocol.proofs.Follows.{IsLeader, RoleIs}
-use Rattle.pf_protocol.proofs.Fresh.{fresh}
-use Rattle.pf_protocol.proofs.Histories.{told}
-use Rattle.pf_protocol.proofs.Knowing.{LeaderKnows, RoleKnows}
-use Rattle.pf_protocol.proofs.Legal.{legal_fits}
-use Rattle.pf_protocol.proofs.Asked.{legal_asks}
-use Rattle.pf_protocol.proofs.Rows.{own_entry}
+use Rattle.pf_protocol.proofs.ForMoments.{legal_goes_on, replay_goes_on, reads_before}
+use Rattle.pf_protocol.proofs.ForRows.{few_starts}
+use Rattle.pf_protocol.proofs.ForHistories.{legal_packets, legal_starts, fresh, legal_fits, legal_asks, its_number, own_entries}
 use Rattle.pf_server.specs.Conditions.{IsFit, IsFor, IsKnown, IsSound}
 use Rattle.pf_cluster.specs.Showing.{seat_of}
 use Rattle.pf_cluster.proofs.Fits.{durable_fits, packet_fits, server_fits}
@@ -35,23 +28,6 @@ every_there P [] f = tt
 every_there P (x ∷ xs) f = (f 0 x refl, every_there P xs (λ k y at. f (suc k) y at))
 
 module _ (setup : Setup) (history : History) where
-  -- what a leader holds above its checkpoint and below its next slot is its own
-  own_entries : (i : ℕ) (s : Server) (l : Leader) → Runs (replay setup history) i s → (s.role ≡ Merging l) ⊎ (s.role ≡ Serving l) → (slot : ℕ) (e : Entry) → s.durable.base < slot → slot < l.next → FinMap.get s.durable.log slot ≡ Some e → e.term ≡ s.durable.term
-  own_entries i s l at role slot e low high held =
-      let z = told setup history in
-      let b = z.ballots in
-      let h = z.follows.servers i (Running s) at in
-      let lead : IsLeader b.ballot b.next i s.durable l × LeaderKnows b i s.durable.term l = elim role [
-        | inl is ↦ (subst (RoleIs b.vote b.ballot b.next i s.durable) is h.1.role, subst (RoleKnows b i s.durable.term) is h.1.knows.role)
-        | inr is ↦ (subst (RoleIs b.vote b.ballot b.next i s.durable) is h.1.role, (subst (RoleKnows b i s.durable.term) is h.1.knows.role).0)
-      ] in
-      let y = own_entry b z.sound z.served i h.0 s h.1 l lead.0 lead.1 slot low high in
-      let same : y.0 ≡ e = same_Some y.0 e (sym y.1 ∙ held) in
-      subst (λ x. x.term ≡ s.durable.term) same (z.sound.made slot s.durable.term y.0 y.2).in_term
-
-  pub its_number : (i : ℕ) (s : Server) → Runs (replay setup history) i s → s.number ≡ i
-  its_number i s at = ((told setup history).follows.servers i (Running s) at).1.number
-
   -- an answered read was taken up
   pub answered_below : Every (λ a. a.number < (replay setup history).reads) (replay setup history).answered
   answered_below = every_there (λ a. a.number < (replay setup history).reads) (replay setup history).answered (λ k a at.
@@ -74,7 +50,7 @@ module _ (setup : Setup) (history : History) where
 
     is_sound : (i : ℕ) (s : Server) → Runs (replay setup history) i s → IsSound (seat_of setup i) s
     is_sound i s at = record {
-      number = its_number i s at;
+      number = its_number setup history i s at;
       n = length history;
       t = suc (replay setup history).elections;
       low = omega (arith, short);
@@ -83,7 +59,7 @@ module _ (setup : Setup) (history : History) where
       few = legal_starts setup history legal i s at;
       next = (replay setup history).reads;
       asks = legal_asks setup history legal i s at;
-      own = λ l. own_entries i s l at;
+      own = λ l. own_entries setup history i s l at;
     }
 
     -- what a server needs of its condition

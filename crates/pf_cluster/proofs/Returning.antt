@@ -21,23 +21,20 @@ use Rattle.pf_protocol.specs.Asked.{AreBelow}
 use Rattle.pf_protocol.specs.Rows.{settled}
 use Rattle.pf_protocol.specs.Groups.{Group, Ending, Whole, Missed, Untouched, at_server, ending, happens, reads_after, step_of}
 use Rattle.pf_protocol.specs.Histories.{History, replay}
-use Rattle.pf_protocol.specs.Answers.{answer_to, finish_answer, most_packet_bytes, most_packets, packets_full, refuse}
-use Rattle.pf_protocol.proofs.Asked.{finish_asks, give_back_asks, legal_asks}
-use Rattle.pf_protocol.proofs.Keeping.{by_test}
-use Rattle.pf_protocol.proofs.Room.{legal_room}
+use Rattle.pf_protocol.specs.Answers.{answer_to, finish_answer, most_packet_bytes, most_packets, packets_full, refuse, Claimed, IsOpen, claims_of}
+use Rattle.pf_protocol.proofs.ForRows.{finish_asks, give_back_asks}
+use Rattle.pf_protocol.proofs.ForHistories.{legal_asks, legal_room, legal_open}
+use Rattle.pf_entry.proofs.Cases.{by_test}
 use Rattle.pf_state.specs.Outgoing.{Outgoing}
 use Rattle.pf_server.specs.declared.server.Server.{Server}
 use Rattle.pf_server.specs.declared.state.State.{State}
 use Rattle.pf_server.specs.declared.state.State.TheVariants.{Runs, Stopped, Unformatted}
 use Rattle.pf_server.specs.declared.state.Doubt.{Doubt}
-use Rattle.pf_server.specs.Conditions.{AreSized, Meets, answers_of, runs}
+use Rattle.pf_server.specs.Conditions.{AreSized, Meets, answers_of, runs, BringsBack}
 use Rattle.pf_server.specs.Turns.{ComesInMemory, IsSettled, finish_refusal}
 use Rattle.pf_cluster.specs.declared.cluster.Cluster.{Cluster}
 use Rattle.pf_base.specs.declared.filled.Filled.{Filled}
 use Rattle.pf_entry.proofs.Lists.{every_get}
-use Rattle.pf_protocol.specs.Answers.{Claimed, IsOpen, claims_of}
-use Rattle.pf_protocol.proofs.Claiming.{legal_open}
-use Rattle.pf_server.specs.Conditions.{BringsBack}
 use Rattle.pf_cluster.specs.Going.{HasGone, IsBroughtBack, IsReached, KeepsStores}
 use Rattle.pf_cluster.specs.Readings.{taken_after, taken_of}
 use Rattle.pf_cluster.specs.Showing.{HasTraffic, IsMember, Shows}

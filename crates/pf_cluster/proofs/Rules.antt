@@ -10,7 +10,7 @@ use Rattle.pf_protocol.specs.Outcomes.{Outcome}
 use Rattle.pf_protocol.specs.Asked.{AreBelow}
 use Rattle.pf_protocol.specs.Groups.{Group, reads_after}
 use Rattle.pf_protocol.specs.Answers.{half_size, packets_full, refuse, room_refusal}
-use Rattle.pf_protocol.proofs.Legal.{IsSilent, refuse_none}
+use Rattle.pf_protocol.proofs.ForRows.{IsSilent, refuse_none}
 use Rattle.pf_restart.specs.Beginning.{setup_at}
 use Rattle.pf_cluster.specs.Showing.{seat_of}
 use Rattle.pf_cluster.specs.Turned.{LeavesAll}

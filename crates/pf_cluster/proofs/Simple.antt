@@ -13,9 +13,9 @@ use Rattle.pf_protocol.specs.Asked.{Asks}
 use Rattle.pf_protocol.specs.Groups.{Group, Whole, ending, happens, reads_after}
 use Rattle.pf_protocol.specs.Histories.{History, Runs, replay}
 use Rattle.pf_protocol.specs.Answers.{IsLegal, MayHappen, Turn, answer_to, claims_of, halts_at, has_stored, may_halt, plain, room_refusal as group_room_refusal}
-use Rattle.pf_protocol.proofs.Asked.{checkpoint_asks, legal_asks, resend_asks}
-use Rattle.pf_protocol.proofs.Keeping.{by_test}
-use Rattle.pf_protocol.proofs.Legal.{room_silent}
+use Rattle.pf_protocol.proofs.ForRows.{checkpoint_asks, resend_asks, room_silent}
+use Rattle.pf_protocol.proofs.ForHistories.{legal_asks}
+use Rattle.pf_entry.proofs.Cases.{by_test}
 use Rattle.pf_state.specs.Outgoing.{Outgoing}
 use Rattle.pf_state.specs.Standing.{room_refusal}
 use Rattle.pf_cluster.specs.Turned.{IsTurnOf}

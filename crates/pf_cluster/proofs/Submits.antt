@@ -15,9 +15,9 @@ use Rattle.pf_protocol.specs.Leading.{new_entry, on_submit, submitted}
 use Rattle.pf_protocol.specs.Groups.{Group, Whole, ending, happens, reads_after}
 use Rattle.pf_protocol.specs.Histories.{History, Runs, replay}
 use Rattle.pf_protocol.specs.Answers.{IsLegal, IsSubmitted, answer_to, is_mark, is_serving, may_halt, refuse, room_refusal as group_room_refusal, submit_refusal as group_submit_refusal, submit_turn, window_full}
-use Rattle.pf_protocol.proofs.Asked.{legal_asks, submit_asks}
-use Rattle.pf_protocol.proofs.Keeping.{by_test}
-use Rattle.pf_protocol.proofs.Legal.{refuse_none, submit_silent}
+use Rattle.pf_protocol.proofs.ForHistories.{legal_asks}
+use Rattle.pf_protocol.proofs.ForRows.{submit_asks, refuse_none, submit_silent}
+use Rattle.pf_entry.proofs.Cases.{by_test}
 use Rattle.pf_state.specs.Outgoing.{Outgoing}
 use Rattle.pf_state.specs.Standing.{room_refusal}
 use Rattle.pf_leading.specs.Submitting.{refused_first, submit_refusal}

@@ -1,6 +1,12 @@
+pub mod Cases
+pub mod Searching
 pub mod Maps
+pub mod Counting
+pub mod Ranges
 pub mod Sets
+pub mod Ascents
 pub mod Ascending
 pub mod Merging
 pub mod Folding
+pub mod Folds
 pub mod Lists

@@ -12,7 +12,7 @@ use Rattle.pf_entry.specs.Ops.{Sector}
 use Rattle.pf_protocol.specs.Servers.{Server, upto}
 use Rattle.pf_protocol.specs.Outcomes.{Outcome, sends, nothing, raise_term}
 use Rattle.pf_protocol.specs.Following.{meets_term, ack, nack, accepted, on_accept, on_request_vote, on_nack, on_probe, installed, on_image}
-use Rattle.pf_protocol.proofs.Rows.{base_below_upto}
+use Rattle.pf_protocol.proofs.ForRows.{base_below_upto}
 use Rattle.pf_state.specs.declared.running.Running.{Running}
 use Rattle.pf_state.specs.Packets.{packet}
 use Rattle.pf_state.specs.Standing.{server_of, setup_of, bare, IsCached}

@@ -17,7 +17,7 @@ use Rattle.pf_protocol.specs.Answers.{Claimed, IsAnswer, IsLegal, MayHappen, ans
 use Rattle.pf_protocol.specs.Groups.{Group, ending, happens}
 use Rattle.pf_protocol.specs.declared.answers.Answer.TheVariants.{Done}
 use Rattle.pf_protocol.specs.declared.events.Event.TheVariants.{GiveBack}
-use Rattle.pf_protocol.proofs.Claiming.{legal_goes_on, replay_goes_on}
+use Rattle.pf_protocol.proofs.ForMoments.{legal_goes_on, replay_goes_on}
 use Rattle.pf_kept.specs.declared.kept.Kept.{Kept}
 use Rattle.pf_cluster.specs.declared.cluster.Cluster.{Cluster}
 use Rattle.pf_cluster.specs.Going.{HasGone, HasStayed, IsReached, acts_at}

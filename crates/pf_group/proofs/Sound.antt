@@ -1,15 +1,7 @@
 -- Every history of a group is sound.
 use Rattle.pf_protocol.specs.Servers.{Setup}
 use Rattle.pf_protocol.specs.Histories.{History}
-use Rattle.pf_protocol.proofs.Histories.{one_leader, safe}
-use Rattle.pf_protocol.proofs.Making.{accepted_proposed}
-use Rattle.pf_protocol.proofs.Origins.{source_of}
-use Rattle.pf_protocol.proofs.Facts.{accepted_is_kept, acks_are_true, commits_are_true, disks_covered, held_is_within, images_covered, jobs_are_apart, marks_stand, servers_covered, start_is_kept}
-use Rattle.pf_protocol.proofs.Fresh.{fresh}
-use Rattle.pf_protocol.proofs.Snapshots.{snapshot_is}
-use Rattle.pf_protocol.proofs.LastWriters.{disks_hold, images_hold, servers_hold}
-use Rattle.pf_protocol.proofs.Legal.{legal_fits}
-use Rattle.pf_protocol.proofs.Voting.{votes_are_true}
+use Rattle.pf_protocol.proofs.ForHistories.{one_leader, safe, accepted_proposed, source_of, accepted_is_kept, acks_are_true, commits_are_true, disks_covered, held_is_within, images_covered, jobs_are_apart, marks_stand, servers_covered, start_is_kept, fresh, snapshot_is, disks_hold, images_hold, servers_hold, legal_fits, votes_are_true}
 use Rattle.pf_group.specs.Sound.{IsSound}
 
 pub sound : (setup : Setup) (history : History) → IsSound setup history

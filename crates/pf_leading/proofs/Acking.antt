@@ -1,13 +1,12 @@
 -- Who acknowledged what is merged.
-use Rattle.std.proofs.Common.{◌≡◌, ◌≢◌, ◌⊎◌, inl, inr, ℕ, zero, suc, ◌+◌, ◌-◌, ◌<◌, ◌≤◌, Bool, true, false, not, cond, ◌==◌, List, [], ◌∷◌, nat_le, arith, refl, sym, ap, subst, ◌∙◌}
+use Rattle.std.proofs.Common.{◌≡◌, ◌≢◌, ◌⊎◌, inl, inr, ℕ, zero, suc, ◌+◌, ◌-◌, ◌<◌, ◌≤◌, Bool, true, false, not, cond, ◌==◌, List, [], ◌∷◌, nat_le, arith, refl, sym, ap, subst, ◌∙◌, lit<}
 use Rattle.std.specs.List.{filter, list_any, list_all, range_with_len}
 use Rattle.std.specs.FinMap
-use Rattle.std.proofs.Common.{lit<}
 use Rattle.std.proofs.lemmas.Bool.{leb-true, leb-false, cases_eq, false≢true, or_cases, or_left, or_right, and_from, and_parts, ne_eqb, eq-eqb, cond-true, cond-false}
 use Rattle.pf_entry.specs.Sets
 use Rattle.pf_entry.specs.Lists.{Every}
-use Rattle.pf_protocol.proofs.Keeping.{by_test}
-use Rattle.pf_protocol.proofs.Knowing.{acknowledged_more}
+use Rattle.pf_entry.proofs.Cases.{by_test}
+use Rattle.pf_protocol.proofs.ForRows.{acknowledged_more}
 use Rattle.pf_protocol.specs.Servers.{Serving, Merging}
 use Rattle.pf_protocol.specs.Outcomes.{others}
 use Rattle.pf_protocol.specs.Leading.{members, counted, is_own, other_acked, acknowledged}

@@ -18,7 +18,7 @@ use Rattle.pf_protocol.specs.Leading.{new_entry, on_submit, submitted}
 use Rattle.pf_protocol.specs.Fitting.{OpFits, EntryFits, StandsIn, LeaderFits, RoleFits}
 use Rattle.pf_protocol.specs.Outcomes.{Outcome}
 use Rattle.pf_protocol.specs.declared.answers.Answer.{Answer}
-use Rattle.pf_protocol.proofs.Fitting.{Fits, submit_fits}
+use Rattle.pf_protocol.proofs.ForRows.{Fits, submit_fits}
 use Rattle.pf_state.specs.declared.faults.StepFault.{StepFault}
 use Rattle.pf_state.specs.declared.faults.StepFault.TheVariants.{NoMemory, Refused, Halted}
 use Rattle.pf_state.specs.declared.running.Leader.{Leader as LeaderHere}

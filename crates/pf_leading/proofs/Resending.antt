@@ -1,9 +1,8 @@
 -- Packets that are sent one after another.
-use Rattle.std.proofs.Common.{◌≡◌, ℕ, zero, suc, ◌+◌, ◌-◌, ◌<◌, ◌≤◌, true, false, not, cond, List, [], ◌∷◌, ◌++◌, Some, None, map, append_assoc, append-nil, nat_lt, arith, refl, sym, ap, ◌∙◌}
+use Rattle.std.proofs.Common.{◌≡◌, ℕ, zero, suc, ◌+◌, ◌-◌, ◌<◌, ◌≤◌, true, false, not, cond, List, [], ◌∷◌, ◌++◌, Some, None, map, append_assoc, append-nil, nat_lt, arith, refl, sym, ap, ◌∙◌, if◌then◌else◌, get_or, take, drop, length}
 use Rattle.std.specs.List.{filter, flat_map, range_with_len}
 use Rattle.std.specs.FinMap
 use Rattle.pf_entry.specs.declared.packets.Packet.{Packet}
-use Rattle.std.proofs.Common.{if◌then◌else◌, get_or, take, drop, length}
 use Rattle.std.proofs.lemmas.Bool.{cond-true, cond-false}
 use Rattle.std.proofs.lemmas.List.{map-append, take-append-drop}
 use Rattle.std.proofs.lemmas.List.Elements.{filter-append}
@@ -15,7 +14,7 @@ use Rattle.pf_tables.specs.AckTables.{has_acked}
 use Rattle.pf_entry.specs.declared.packets.Body.TheVariants.{Probe, Image, Accept, Commit}
 use Rattle.pf_election.specs.declared.probes.Read.{Read as Asked}
 use Rattle.pf_protocol.specs.Leading.{knows, resent, resent_entry}
-use Rattle.pf_protocol.proofs.Keeping.{by_test}
+use Rattle.pf_entry.proofs.Cases.{by_test}
 use Rattle.pf_state.specs.declared.running.Leader.{Leader as LeaderHere}
 use Rattle.pf_state.specs.declared.running.Running.{Running}
 use Rattle.pf_state.specs.Packets.{packet}

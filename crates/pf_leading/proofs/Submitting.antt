@@ -1,18 +1,15 @@
 -- A leader that proposes an op.
-use Rattle.std.proofs.Common.{◌≡◌, ℕ, suc, ◌+◌, ◌<◌, ◌≤◌, Bool, true, false, not, ◌&&◌, ◌==◌, Option, Some, nat_lt, length, arith, refl, sym, ap, subst, ◌∙◌}
+use Rattle.std.proofs.Common.{◌≡◌, ℕ, suc, ◌+◌, ◌<◌, ◌≤◌, Bool, true, false, not, ◌&&◌, ◌==◌, Option, Some, nat_lt, length, arith, refl, sym, ap, subst, ◌∙◌, List}
 use Rattle.std.proofs.lemmas.Bool.{cond-false}
 use Rattle.std.proofs.lemmas.Bool.Decides.{nat_tests}
 use Rattle.pf_entry.specs.Sets
-use Rattle.pf_protocol.specs.Leading.{members}
-use Rattle.pf_base.specs.Span.{Span}
-use Rattle.pf_entry.specs.Ops.{Sector}
-use Rattle.std.proofs.Common.{List}
+use Rattle.pf_protocol.specs.Leading.{members, new_entry, look_behind, submitted, on_submit, acknowledged}
+use Rattle.pf_base.specs.Span.{Span, fits_in}
+use Rattle.pf_entry.specs.Ops.{Sector, range_of}
 use Rattle.pf_entry.specs.declared.entries.Named.{Named}
-use Rattle.pf_leading.specs.Submitting.{look_in, IsPlan, IsRoomierRole}
+use Rattle.pf_leading.specs.Submitting.{look_in, IsPlan, IsRoomierRole, refused_first, HasBegun, IsNext, IsRoomier, IsRoomierLeader, MayPropose, proposed}
 use Rattle.pf_tables.specs.AckTables.{AckTable}
 use Rattle.std.specs.FinMap
-use Rattle.pf_base.specs.Span.{fits_in}
-use Rattle.pf_entry.specs.Ops.{range_of}
 use Rattle.pf_entry.specs.Records.{Durable, stored, add_start, put_entry}
 use Rattle.pf_entry.specs.declared.ops.Op.{Op}
 use Rattle.pf_entry.specs.declared.entries.Entry.{Entry}
@@ -21,18 +18,16 @@ use Rattle.pf_entry.specs.declared.records.Record.TheVariants.{Entry as EntryRec
 use Rattle.pf_tables.specs.StartTables.{StartRoom}
 use Rattle.pf_protocol.specs.Servers.{Setup, Leader, Role, Follower, Candidate, Merging, Serving, Server}
 use Rattle.pf_protocol.specs.Outcomes.{to_others}
-use Rattle.pf_protocol.specs.Leading.{new_entry, look_behind, submitted, on_submit, acknowledged}
 use Rattle.pf_protocol.specs.Answers.{refuse, is_mark, is_serving, window_full}
 use Rattle.pf_protocol.specs.declared.answers.Refusal.{Refusal}
 use Rattle.pf_protocol.specs.declared.answers.Refusal.TheVariants.{OldFormat, BadRange, NotLeader, WindowFull}
-use Rattle.pf_protocol.proofs.Knowing.{acknowledged_more}
+use Rattle.pf_protocol.proofs.ForRows.{acknowledged_more}
 use Rattle.pf_state.specs.declared.running.Leader.{Leader as LeaderHere}
 use Rattle.pf_state.specs.declared.running.Role.{Role as RoleHere}
 use Rattle.pf_state.specs.declared.running.Role.TheVariants.{Follower as FollowerHere, Candidate as CandidateHere, Merging as MergingHere, Serving as ServingHere}
 use Rattle.pf_state.specs.declared.running.Running.{Running}
 use Rattle.pf_state.specs.Packets.{packets_to}
 use Rattle.pf_state.specs.Standing.{server_of, setup_of, bare, role_of, leader_of, IsCached, IsLeaderKept, IsRoleKept, Stands}
-use Rattle.pf_leading.specs.Submitting.{refused_first, HasBegun, IsNext, IsRoomier, IsRoomierLeader, MayPropose, proposed}
 use Rattle.pf_state.specs.Turns.{IsAfter}
 use Rattle.pf_state.proofs.Ending.{IsAdded, IsFollowed, stands_after}
 

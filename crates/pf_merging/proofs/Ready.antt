@@ -21,8 +21,8 @@ use Rattle.pf_protocol.specs.Servers.{Setup}
 use Rattle.pf_protocol.specs.Leading.{merged}
 use Rattle.pf_protocol.specs.Rows.{on_message}
 use Rattle.pf_protocol.specs.Fitting.{EntryFits, StandsIn, VoteFits, RoleFits, ServerFits}
-use Rattle.pf_protocol.proofs.Fitting.{Fits, message_fits, server_more, vote_more}
-use Rattle.pf_protocol.proofs.Growing.{range_has}
+use Rattle.pf_protocol.proofs.ForRows.{Fits, message_fits, server_more, vote_more}
+use Rattle.pf_entry.proofs.Ranges.{range_has}
 use Rattle.pf_state.specs.declared.running.Running.{Running}
 use Rattle.pf_state.specs.Coming.{IsComing}
 use Rattle.pf_state.specs.Packets.{AreCanonical, packet}

@@ -14,7 +14,7 @@ use Rattle.pf_election.specs.Votes.{Votes}
 use Rattle.pf_protocol.specs.Servers.{Candidate, Merging, Serving, Server}
 use Rattle.pf_protocol.specs.Outcomes.{nothing}
 use Rattle.pf_protocol.specs.Leading.{all_acknowledged, led, merged, on_vote}
-use Rattle.pf_protocol.proofs.Keeping.{by_test}
+use Rattle.pf_entry.proofs.Cases.{by_test}
 use Rattle.pf_tables.specs.AckTables.{AckTable}
 use Rattle.pf_tables.specs.StartTables.{StartRoom}
 use Rattle.pf_state.specs.declared.running.Role.{Role as RoleHere}

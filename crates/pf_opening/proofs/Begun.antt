@@ -33,7 +33,7 @@ use Rattle.pf_protocol.specs.Servers.{Setup, Server, Running as RunningIs}
 use Rattle.pf_protocol.specs.Saving.{restarted}
 use Rattle.pf_protocol.specs.Groups.{first_leader, opening, opening_disk}
 use Rattle.pf_protocol.specs.Fitting.{DurableFits}
-use Rattle.pf_protocol.proofs.Legal.{legal_fits}
+use Rattle.pf_protocol.proofs.ForHistories.{legal_fits}
 use Rattle.pf_state.specs.declared.running.Role.{Role}
 use Rattle.pf_state.specs.declared.running.Running.{Running}
 use Rattle.pf_state.specs.Replying.{Replying}

@@ -27,22 +27,12 @@ use Rattle.pf_protocol.specs.Groups.{Sent, Group, Untouched, reads_after, step_o
 use Rattle.pf_protocol.specs.Histories.{History, run, replay, Runs}
 use Rattle.pf_protocol.specs.Answers.{refuse, fetch_refusal, is_serving, room_refusal, fetch_turn, answer_at, answer_to, may_halt, MayHappen, IsAnswer, Claimed, claims_after, IsLegalNext, IsLegalFrom, IsLegal}
 use Rattle.pf_protocol.specs.Asked.{IsAsked, AreAsked, AreBelow, Asks}
-use Rattle.pf_protocol.proofs.Keeping.{by_test}
+use Rattle.pf_entry.proofs.Cases.{by_test}
 use Rattle.pf_protocol.proofs.Legal.{IsSilent, refuse_silent, room_silent, refuse_none, stands_or_silent, reads_low}
 use Rattle.pf_protocol.proofs.Stepping.{IsRule, BySubmit, ByPacket, ByElect, ByResend, ByFinish, ByGiveBack, ByCheckpoint, Steps, Came, Stays, Stepped, Begins, Claims, goes}
 use Rattle.pf_protocol.proofs.Moving.{new_read, TakesUp, ReadsFrom, NoReads, SameReads, Takes, Confirms, does}
-use Rattle.pf_protocol.proofs.Snapshots.{opened}
-
--- lists that ascend
-pub from_lower : (n m : ℕ) (ms : List ℕ) → n ≤ m → ascends_from m ms ≡ true → ascends_from n ms ≡ true
-from_lower n m [] le is = refl
-from_lower n m (k ∷ ks) le is =
-    let parts = and_parts (nat_lt m k) (ascends_from k ks) is in
-    and_from _ _ (lt-ltb n k (omega (arith, le, ltb-true m k parts.0))) parts.1
-
-pub rest_ascends : (n : ℕ) (ms : List ℕ) → ascends_from n ms ≡ true → ascends ms ≡ true
-rest_ascends n [] is = refl
-rest_ascends n (m ∷ ms) is = (and_parts (nat_lt n m) (ascends_from m ms) is).1
+use Rattle.pf_protocol.proofs.Moments.{opened, legal_keeps}
+use Rattle.pf_entry.proofs.Ascents.{from_lower, rest_ascends}
 
 abbrev numbers : List Read → List ℕ
 numbers reads = map (λ r. r.number) reads
@@ -204,12 +194,6 @@ module _ (setup : Setup) (chunk next : ℕ) (s : Server) (asks : Asks chunk next
 
   pub fetch_asks_next : (range : Span) → IsWritable range.first range.count → fits_in range chunk ≡ true → Asks chunk (suc next) (on_fetch s range next s.role).server
   fetch_asks_next range writable fits = fetched_asks range writable fits (suc next) s.role (reads_low next next (on_fetch s range next s.role).answer (le_refl next))
-
--- what each legal event keeps holds after a legal history
-pub legal_keeps : (setup : Setup) (P : Group → Type 0) → ((g : Group) (claims : List Claimed) (h : Happening) → IsLegalNext setup g claims h → P g → P (happens setup g h.event (ending h.answer))) → (history : History) (g : Group) (claims : List Claimed) → IsLegalFrom setup g claims history → P g → P (run setup g history)
-legal_keeps setup P next [] g claims legal now = now
-legal_keeps setup P next (h ∷ hs) g claims legal now =
-    legal_keeps setup P next hs (happens setup g h.event (ending h.answer)) (claims_after claims h.event h.answer) legal.1 (next g claims h legal.0 now)
 
 pub fetch_silent : (setup : Setup) (g : Group) (range : Span) (s : Server) → IsSilent (fetch_refusal setup g range s)
 unfolding fetch_refusal

@@ -27,16 +27,17 @@ use Rattle.pf_protocol.proofs.Ballots.{Cast, first_of, IsStart, Faithful, HasQuo
 use Rattle.pf_protocol.proofs.Law.{share, kept_at}
 use Rattle.pf_protocol.proofs.Knowing.{IsAcked}
 use Rattle.pf_protocol.proofs.Follows.{IsCandidate, IsLeader, RoleIs}
-use Rattle.pf_protocol.proofs.Making.{Stems, IsKeyed, VoteFrom, backs_all, submit_stems, fetch_stems, elect_stems, resend_stems, checkpoint_stems, finish_stems, give_back_stems, message_stems, accepted_longer, run_longer}
+use Rattle.pf_protocol.proofs.Moments.{run_longer, prefix_of, begins_with, whole_prefix, by_events, opened, comparable}
+use Rattle.pf_protocol.proofs.Making.{Stems, IsKeyed, VoteFrom, backs_all, submit_stems, fetch_stems, elect_stems, resend_stems, checkpoint_stems, finish_stems, give_back_stems, message_stems, accepted_longer}
 use Rattle.pf_protocol.proofs.Histories.{told, Stands, held_at_end, chosen_at_end}
 use Rattle.pf_protocol.proofs.Facts.{servers_covered, marks_stand, held_is_within}
 use Rattle.pf_protocol.proofs.Voting.{votes_are_true}
-use Rattle.pf_protocol.proofs.Origins.{prefix_of, begins_with, accepted_after, taken_is_proposal}
+use Rattle.pf_protocol.proofs.Origins.{accepted_after, taken_is_proposal}
 use Rattle.pf_protocol.proofs.Naming.{nothing_old}
 use Rattle.pf_protocol.proofs.Stepping.{IsRule, BySubmit, ByFetch, ByPacket, ByElect, ByResend, ByFinish, ByGiveBack, ByCheckpoint, Came, Stays, Stepped, Begins, Claims, goes}
-use Rattle.pf_protocol.proofs.Snapshots.{whole_prefix, by_events, opened, chosen_after}
+use Rattle.pf_protocol.proofs.Snapshots.{chosen_after}
 use Rattle.pf_protocol.proofs.Fetching.{told_on, runs_there, disk_term_low, term_low, Says, Granted, AckedBy, traced}
-use Rattle.pf_protocol.proofs.Fresh.{comparable, marks}
+use Rattle.pf_protocol.proofs.Fresh.{marks}
 use Rattle.pf_protocol.proofs.Ports.{NewChosen, acked_chosen, new_slot, chosen_below_first, merged_fields, not_from}
 
 -- what a candidate's own vote shows was accepted by it

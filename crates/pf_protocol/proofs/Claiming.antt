@@ -19,7 +19,7 @@ use Rattle.pf_entry.specs.declared.entries.VoteLog.{VoteLog}
 use Rattle.pf_entry.specs.declared.packets.Body.{Body}
 use Rattle.pf_entry.specs.declared.packets.Body.TheVariants.{RequestVote, Vote, Accept, Ack, Nack, Commit, Probe, ProbeOk, Image}
 use Rattle.pf_entry.specs.Records.{Durable, holds}
-use Rattle.pf_protocol.proofs.Keeping.{by_test}
+use Rattle.pf_entry.proofs.Cases.{by_test}
 use Rattle.pf_protocol.specs.declared.answers.Answer.{Answer}
 use Rattle.pf_protocol.specs.declared.answers.Answer.TheVariants.{Refused}
 use Rattle.pf_protocol.specs.declared.answers.Refusal.TheVariants.{Stale}
@@ -34,7 +34,7 @@ use Rattle.pf_protocol.specs.Rows.{on_message, on_packet, settled}
 use Rattle.pf_protocol.specs.Saving.{renewed, restarted, is_short_of, trimmed, on_checkpoint, claimed, claimable, is_claimable, applied_op, on_finish, on_give_back}
 use Rattle.pf_protocol.specs.Groups.{Sent, Group, Ending, Whole, CutOff, Missed, Untouched, acted, cut_off, ended, step_of, at_server, marked_in, delivered, lost, stopped, begun, restart, claim_of, claim_at, claim_or, first_claim, only, counted_election, ending, happens, opening}
 use Rattle.pf_protocol.specs.Histories.{History, IsPrefix, run, replay}
-use Rattle.pf_protocol.proofs.Making.{run_longer}
+use Rattle.pf_protocol.proofs.Moments.{run_longer}
 use Rattle.pf_protocol.specs.Answers.{Claimed, is_claim, claims_with, claims_without, claims_after, claims_of, IsOpen, claim_answer, claim_answer_at, answer_to, may_halt, IsAnswer, IsLegalNext, IsLegalFrom, IsLegal}
 
 -- a step keeps the jobs in hand, or begins another life
@@ -394,21 +394,3 @@ open_from setup (h ∷ hs) g claims open_now legal =
 -- in every legal history
 pub legal_open : (setup : Setup) (history : History) → IsLegal setup history → Every (IsOpen (replay setup history).servers) (claims_of [] history)
 legal_open setup history is = open_from setup history (opening setup) [] tt is.legal
-
--- one more legal event
-legal_from_longer : (setup : Setup) (history : History) (g : Group) (claims : List Claimed) (h : Happening) → IsLegalFrom setup g claims history → IsLegalNext setup (run setup g history) (claims_of claims history) h → IsLegalFrom setup g claims (history ++ h ∷ [])
-legal_from_longer setup [] g claims h legal next = (next, tt)
-legal_from_longer setup (x ∷ xs) g claims h legal next = (legal.0, legal_from_longer setup xs (happens setup g x.event (ending x.answer)) (claims_after claims x.event x.answer) h legal.1 next)
-
-pub legal_goes_on : (setup : Setup) (history : History) (h : Happening) → IsLegal setup history → IsLegalNext setup (replay setup history) (claims_of [] history) h → IsLegal setup (history ++ h ∷ [])
-legal_goes_on setup history h is next = record { is_setup = is.is_setup; legal = legal_from_longer setup history (opening setup) [] h is.legal next }
-
-legal_from_part : (setup : Setup) (earlier rest : History) (g : Group) (claims : List Claimed) → IsLegalFrom setup g claims (earlier ++ rest) → IsLegalFrom setup g claims earlier
-legal_from_part setup [] rest g claims legal = tt
-legal_from_part setup (x ∷ xs) rest g claims legal = (legal.0, legal_from_part setup xs rest (happens setup g x.event (ending x.answer)) (claims_after claims x.event x.answer) legal.1)
-
-pub legal_before : (setup : Setup) (earlier history : History) → IsPrefix earlier history → IsLegal setup history → IsLegal setup earlier
-legal_before setup earlier history p is = record { is_setup = is.is_setup; legal = legal_from_part setup earlier p.rest (opening setup) [] (subst (IsLegalFrom setup (opening setup) []) (sym p.whole) is.legal) }
-
-pub replay_goes_on : (setup : Setup) (history : History) (h : Happening) → replay setup (history ++ h ∷ []) ≡ happens setup (replay setup history) h.event (ending h.answer)
-replay_goes_on setup history h = run_longer setup (opening setup) history h

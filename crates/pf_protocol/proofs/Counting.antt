@@ -23,30 +23,7 @@ use Rattle.pf_protocol.specs.Histories.{History, replay, Runs}
 use Rattle.pf_protocol.specs.Answers.{IsSetup, IsLegal}
 use Rattle.pf_protocol.specs.Fitting.{OpFits, NameFits, EntryFits, StartFits, VoteFits, SlotsFit, SectorsFit, BodyFits, PacketFits}
 use Rattle.pf_protocol.proofs.Legal.{legal_fits}
-
-nothing_there : {X : Type 0} → (m : Map X) → ((q : ℕ) (x : X) → FinMap.get m q ≡ Some x → ⊥) → FinMap.len m ≡ 0
-nothing_there {X = X} m none = ap FinMap.len (same_map nat_cmp_total nat_cmp-IsAntisymmetric m FinMap.empty (λ q. nowhere (FinMap.get m q) q refl ∙ sym (get-empty nat_cmp q))) ∙ len-empty nat_cmp X
-  where
-    nowhere : (o : Option X) (q : ℕ) → (FinMap.get m q ≡ o) → FinMap.get m q ≡ None
-    nowhere None q is = is
-    nowhere (Some x) q is = absurd (none q x is)
-
-one_more : (b : Bool) (len less k : ℕ) → less ≡ cond b (len - 1) len → less ≤ k → len ≤ suc k
-one_more true len less k is low = omega arith
-one_more false len less k is low = omega arith
-
-pub few_keys : {X : Type 0} → (k a : ℕ) (m : Map X) → ((q : ℕ) (x : X) → FinMap.get m q ≡ Some x → (a < q) × (q ≤ a + k)) → FinMap.len m ≤ k
-few_keys zero a m within = omega (arith, nothing_there m (λ q x at. let w = within q x at in omega (arith, w.0, w.1)))
-few_keys (suc k) a m within =
-    let less = FinMap.remove m (a + suc k) in
-    one_more (FinMap.contains_key m (a + suc k)) (FinMap.len m) (FinMap.len less) k (len-remove nat_cmp_total m (a + suc k))
-    (few_keys k a less (λ q x at.
-    let was = remove_cases m (a + suc k) q x at in
-    let w = within q x was.1 in
-    (w.0, below q w.1 was.0)))
-  where
-    below : (q : ℕ) → q ≤ a + suc k → (q ≡ a + suc k → ⊥) → q ≤ a + k
-    below q low apart = omega (arith, low, apart)
+use Rattle.pf_entry.proofs.Counting.{few_keys}
 
 -- no more starts than terms
 pub few_starts : (n t : ℕ) (starts : Map ℕ) → ((term first : ℕ) → FinMap.get starts term ≡ Some first → StartFits n t term first) → FinMap.len starts ≤ t

@@ -6,7 +6,8 @@ use Rattle.pf_entry.specs.declared.entries.Entry.{Entry}
 use Rattle.pf_entry.specs.Records.{Durable, holds}
 use Rattle.pf_protocol.proofs.Ballots.{Cast, Ballot, Ballots, Sound}
 use Rattle.pf_protocol.proofs.Changes.{grown, voted, merged, proposed, Extends}
-use Rattle.pf_protocol.proofs.Keeping.{by_test, put_cases, vote_stays, ballot_stays, proposal_stays, proposals_stay}
+use Rattle.pf_entry.proofs.Cases.{by_test}
+use Rattle.pf_protocol.proofs.Keeping.{put_cases, vote_stays, ballot_stays, proposal_stays, proposals_stay}
 
 pub extends_self : (i : ℕ) (b : Ballots) → Extends i b b
 extends_self i b = record {

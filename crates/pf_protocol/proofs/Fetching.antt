@@ -19,24 +19,12 @@ use Rattle.pf_protocol.specs.Rows.{is_ready, ready_reads, settled}
 use Rattle.pf_protocol.specs.Saving.{restarted, claimed}
 use Rattle.pf_protocol.specs.Groups.{Acked, Answered, Sent, Group, answer_of, reads_after, ending, happens, opening, first_leader}
 use Rattle.pf_protocol.specs.Histories.{History, IsPrefix, run, replay, Runs}
-use Rattle.pf_protocol.proofs.Making.{longer, run_longer}
+use Rattle.pf_protocol.proofs.Moments.{run_longer, whole_prefix, by_events, opened, run_parts, reads_before}
+use Rattle.pf_protocol.proofs.Making.{longer}
 use Rattle.pf_protocol.proofs.Histories.{Told, told, tell}
 use Rattle.pf_protocol.proofs.Follows.{PacketIs}
 use Rattle.pf_protocol.proofs.Stepping.{Steps, Came, Stays, Stepped, Begins, Claims, answers_of, adds_at, packets_every, acked_every, Goes, goes}
-use Rattle.pf_protocol.proofs.Snapshots.{whole_prefix, by_events, opened}
 use Rattle.pf_protocol.proofs.Moving.{More, AcksGrow, RoleStep, RoleReads, IsReadless, new_read, Speaks, Plainly, Asks, AsksAgain, Replies, Requests, Grants, ReadsFrom, NoReads, SameReads, Takes, Confirms, Does, does}
-
--- a history in two parts
-pub run_parts : (setup : Setup) (g : Group) (earlier rest : History) → run setup g (earlier ++ rest) ≡ run setup (run setup g earlier) rest
-run_parts setup g [] rest = refl
-run_parts setup g (h ∷ hs) rest = run_parts setup (happens setup g h.event (ending h.answer)) hs rest
-
-reads_rise : (setup : Setup) (g : Group) (rest : History) → g.reads ≤ (run setup g rest).reads
-reads_rise setup g [] = le_refl _
-reads_rise setup g (h ∷ hs) = omega (arith, (goes setup g h.event (ending h.answer)).reads, reads_rise setup (happens setup g h.event (ending h.answer)) hs)
-
-pub reads_before : (setup : Setup) (earlier history : History) → IsPrefix earlier history → (replay setup earlier).reads ≤ (replay setup history).reads
-reads_before setup earlier history p = subst (λ g. (replay setup earlier).reads ≤ g.reads) (sym (run_parts setup (opening setup) earlier p.rest) ∙ ap (replay setup) p.whole) (reads_rise setup (replay setup earlier) p.rest)
 
 -- the ballots of a moment go on to those of a later one
 pub told_on : (setup : Setup) (earlier history : History) (p : IsPrefix earlier history) → Told setup (replay setup earlier) (told setup earlier).ballots p.rest

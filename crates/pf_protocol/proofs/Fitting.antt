@@ -26,8 +26,8 @@ use Rattle.pf_entry.proofs.Maps.{insert_cases, remove_cases, get_above}
 use Rattle.pf_entry.specs.Records.{Durable, stored, put_entry, add_start, add_merged_start, above, vote_of, holds}
 use Rattle.pf_entry.specs.Merging.{taken, greatest, merged_first, merged_op, merged_entry, merged_entries, op_or_noop}
 use Rattle.pf_entry.proofs.Merging.{was_taken, base_below_first}
-use Rattle.pf_protocol.proofs.Keeping.{by_test}
-use Rattle.pf_protocol.proofs.Growing.{range_cases}
+use Rattle.pf_entry.proofs.Cases.{by_test}
+use Rattle.pf_entry.proofs.Ranges.{range_cases}
 use Rattle.pf_protocol.specs.Servers.{Setup, Leader, Role, Follower, Candidate, Merging, Serving, Server, Condition, Running, Stopped, Unformatted, Read, upto, climb, has_applied}
 use Rattle.pf_protocol.specs.Outcomes.{Outcome, to_one, to_others, others, sends, nothing, refused, raise_term}
 use Rattle.pf_protocol.specs.Saving.{changed, is_short_of, trimmed, on_checkpoint, applied_op, on_finish, on_give_back}

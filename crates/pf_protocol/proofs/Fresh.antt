@@ -30,23 +30,10 @@ use Rattle.pf_protocol.proofs.Knowing.{AckMarks, AllAcked, RoleMarks}
 use Rattle.pf_protocol.proofs.Follows.{IsLeader, RoleIs}
 use Rattle.pf_protocol.proofs.Histories.{told, chosen_at_end, one_chosen_op, agrees, keeps_acknowledged, one_leader}
 use Rattle.pf_protocol.proofs.Facts.{servers_covered}
-use Rattle.pf_protocol.proofs.Origins.{prefix_of, begins_with}
-use Rattle.pf_protocol.proofs.Snapshots.{whole_prefix, chosen_after}
+use Rattle.pf_protocol.proofs.Moments.{prefix_of, begins_with, whole_prefix, reads_before, comparable}
+use Rattle.pf_protocol.proofs.Snapshots.{chosen_after}
 use Rattle.pf_protocol.proofs.Moving.{new_read}
-use Rattle.pf_protocol.proofs.Fetching.{disk_term_low, reads_before, Confirmed, Waits, StaysIn, HeardOf, HasAll, AckedBy, WasRead, traced}
-
--- of two moments of a history one comes first
-pub comparable : (a rest b other : History) → a ++ rest ≡ b ++ other → IsPrefix a b ⊎ IsPrefix b a
-comparable [] rest b other is = inl (record { rest = b; whole = refl })
-comparable (x ∷ a) rest [] other is = inr (record { rest = x ∷ a; whole = refl })
-comparable (x ∷ a) rest (y ∷ b) other is =
-    let p : x ∷ (a ++ rest) ≡ y ∷ (b ++ other) = is in
-    let head : x ≡ y = cc in
-    let tail : a ++ rest ≡ b ++ other = cc in
-    elim (comparable a rest b other tail) [
-      | inl first ↦ inl (record { rest = first.rest; whole = ap (λ z. z ∷ (a ++ first.rest)) head ∙ ap (λ hs. y ∷ hs) first.whole })
-      | inr second ↦ inr (record { rest = second.rest; whole = ap (λ z. z ∷ (b ++ second.rest)) (sym head) ∙ ap (λ hs. x ∷ hs) second.whole })
-    ]
+use Rattle.pf_protocol.proofs.Fetching.{disk_term_low, Confirmed, Waits, StaysIn, HeardOf, HasAll, AckedBy, WasRead, traced}
 
 -- a part of a history with one more event is part of it, or ends in this event
 last_or_before : (a : History) (f : Happening) (rest b : History) (y : Happening) → (a ++ f ∷ []) ++ rest ≡ b ++ y ∷ [] → IsPrefix (a ++ f ∷ []) b ⊎ (a ≡ b)

@@ -11,6 +11,7 @@ use Rattle.pf_entry.specs.Merging.{merged_entry, merged_entries}
 use Rattle.pf_entry.proofs.Maps.{get_inserted, get_apart, insert_cases, get_above}
 use Rattle.pf_protocol.proofs.Ballots.{Ballot, first_of, HasFrom, IsStart}
 use Rattle.pf_protocol.proofs.Changes.{IsNews, Grows}
+use Rattle.pf_entry.proofs.Ranges.{range_cases, range_has}
 
 -- every entry's term is at most the disk's
 abbrev pub WithinTerm : Durable → Type 0
@@ -93,18 +94,6 @@ module _ (proposal : ℕ → ℕ → Option Entry) (ballot : ℕ → Option Ball
 
 -- the entries of a range of slots, put into a log
 module _ (f : ℕ → Entry) (in_slot : (s : ℕ) → (f s).slot ≡ s) where
-  pub range_cases : (n a : ℕ) (log : Map Entry) (s : ℕ) (x : Entry) → FinMap.get (put_entries log (map f (range_with_len a n))) s ≡ Some x → (FinMap.get log s ≡ Some x) ⊎ ((a ≤ s) × (s < a + n) × (f s ≡ x))
-  unfolding put_entries put_entry
-  range_cases zero a log s x is = inl is
-  range_cases (suc n) a log s x is =
-      elim (range_cases n (a + 1) (FinMap.insert log (f a).slot (f a)) s x is) [
-        | inl before ↦ elim (insert_cases log (f a).slot (f a) s x before) [
-          | inl here ↦ let same : s ≡ a = here.0 ∙ in_slot a in inr (omega arith, omega arith, ap f same ∙ here.1)
-          | inr there ↦ inl there.1
-        ]
-        | inr in_rest ↦ inr (omega (arith, in_rest.0), omega (arith, in_rest.1), in_rest.2)
-      ]
-
   pub range_keeps : (n a : ℕ) (log : Map Entry) (s term : ℕ) → ((k : ℕ) → term ≤ (f k).term) → HasFrom log s term → HasFrom (put_entries log (map f (range_with_len a n))) s term
   unfolding put_entries put_entry
   range_keeps zero a log s term high has = has
@@ -112,20 +101,6 @@ module _ (f : ℕ → Entry) (in_slot : (s : ℕ) → (f s).slot ≡ s) where
     | inl same ↦ record { entry = f a; held = ap (FinMap.get (FinMap.insert log (f a).slot (f a))) same ∙ get_inserted log (f a).slot (f a); no_lower = high a }
     | inr apart ↦ record { entry = has.entry; held = get_apart log (f a).slot (f a) s apart ∙ has.held; no_lower = has.no_lower }
   ])
-
-  put_apart : (n a : ℕ) (log : Map Entry) (s : ℕ) → s < a → FinMap.get (put_entries log (map f (range_with_len a n))) s ≡ FinMap.get log s
-  unfolding put_entries put_entry
-  put_apart zero a log s low = refl
-  put_apart (suc n) a log s low = put_apart n (a + 1) (FinMap.insert log (f a).slot (f a)) s (omega arith) ∙ get_apart log (f a).slot (f a) s (λ same. omega (arith, same, in_slot a))
-
-  pub range_has : (n a : ℕ) (log : Map Entry) (s : ℕ) → a ≤ s → s < a + n → FinMap.get (put_entries log (map f (range_with_len a n))) s ≡ Some (f s)
-  unfolding put_entries put_entry
-  range_has zero a log s low high = absurd (omega arith)
-  range_has (suc n) a log s low high =
-      elim (cases_eq s a) [
-        | inl same ↦ put_apart n (a + 1) (FinMap.insert log (f a).slot (f a)) s (omega arith) ∙ ap (FinMap.get (FinMap.insert log (f a).slot (f a))) (same ∙ sym (in_slot a)) ∙ get_inserted log (f a).slot (f a) ∙ ap (λ k. Some (f k)) (sym same)
-        | inr apart ↦ range_has n (a + 1) (FinMap.insert log (f a).slot (f a)) s (omega arith) (omega arith)
-      ]
 
 -- a merge's record
 module _ (proposal : ℕ → ℕ → Option Entry) (ballot : ℕ → Option Ballot) (d : Durable) (within : WithinTerm d) (m : Ballot) (leads : ballot d.term ≡ Some m) (proposes : (s : ℕ) → m.base < s → s < first_of m → proposal s d.term ≡ Some (merged_entry d.term m.base m.own m.theirs s)) where

@@ -10,10 +10,7 @@ use Rattle.pf_entry.specs.Merging.{merged_entry}
 use Rattle.pf_entry.proofs.Merging.{base_below_first}
 use Rattle.pf_protocol.proofs.Ballots.{Cast, Ballot, first_of, Ballots, HasFrom, IsStart, HasQuorum, IsMade, Faithful, Sound}
 use Rattle.pf_protocol.proofs.Changes.{put, grown, IsNews, Grows, voted, merged_proposal, merged, proposed}
-
-pub by_test : (c : Bool) (P : Bool → Type 0) → (c ≡ true → P true) → (c ≡ false → P false) → P c
-by_test true P yes_case no_case = yes_case refl
-by_test false P yes_case no_case = no_case refl
+use Rattle.pf_entry.proofs.Cases.{by_test}
 
 -- what a place has after a change: the new value, or what it had
 pub put_cases : {X : Type 0} → (f : ℕ → X) (i : ℕ) (x : X) (j : ℕ) → ((j ≡ i) × (put f i x j ≡ x)) ⊎ ((j ≢ i) × (put f i x j ≡ f j))

@@ -6,15 +6,14 @@ use Rattle.std.proofs.lemmas.Bool.{or_cases, or_left, or_right, le-leb, cases_lt
 use Rattle.std.proofs.lemmas.Option.{same_Some}
 use Rattle.pf_entry.specs.Maps.{Map, Numbers}
 use Rattle.pf_entry.specs.declared.ops.Op.{Op}
-use Rattle.pf_entry.specs.Ops.{Sector}
-use Rattle.pf_entry.specs.Ops.{zero_sector, writes, written}
+use Rattle.pf_entry.specs.Ops.{Sector, zero_sector, writes, written}
 use Rattle.pf_entry.specs.declared.entries.Entry.{Entry}
 use Rattle.pf_entry.specs.Records.{Durable}
 use Rattle.pf_entry.specs.Applying.{is_applied, after_op, fold_to}
 use Rattle.pf_protocol.proofs.Ballots.{Ballot, first_of, Ballots, Sound, IsPicked}
 use Rattle.pf_protocol.proofs.Changes.{Extends, Grows}
 use Rattle.pf_protocol.proofs.Law.{IsChosenBy, proposal_agrees, chosen_agree}
-use Rattle.pf_protocol.proofs.Keeping.{by_test}
+use Rattle.pf_entry.proofs.Cases.{by_test}
 use Rattle.pf_protocol.proofs.Serving.{IsKnown, chosen_there, known_there, IsPassed, passed_apart, Served}
 use Rattle.pf_entry.proofs.Folding.{with_slot, fold_same, fold_insert, writes_apart}
 use Rattle.std.specs.List.{enumerate_from}

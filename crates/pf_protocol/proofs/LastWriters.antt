@@ -16,7 +16,7 @@ use Rattle.pf_protocol.specs.Kept.{MayHold, IsCovered}
 use Rattle.pf_protocol.specs.LastWriters.{bytes_for, HoldLastWrites}
 use Rattle.pf_protocol.proofs.Histories.{one_chosen_op}
 use Rattle.pf_protocol.proofs.Facts.{servers_covered, disks_covered, images_covered}
-use Rattle.pf_protocol.proofs.Folds.{applied_bound, fold_above}
+use Rattle.pf_entry.proofs.Folds.{applied_bound, fold_above}
 
 found_there : (xs : List Sector) (k : ℕ) (x old : Sector) → slice_get xs k ≡ Some x → slice_index_or xs k old ≡ x
 found_there [] k x old is = absurd (none-some x is)

@@ -32,14 +32,14 @@ use Rattle.pf_protocol.specs.Groups.{Sent, Group, Ending, Whole, CutOff, Missed,
 use Rattle.pf_protocol.specs.Histories.{History, replay}
 use Rattle.pf_protocol.specs.Answers.{refuse, room_refusal, half_size, most_elections, is_serving, window_full, is_mark, submit_refusal, elect_refusal, Turn, submit_turn, elect_turn, answer_by, answer_at, halts_at, answer_to, may_halt, IsAnswer, Claimed, claims_after, IsSubmitted, MayHappen, IsLegalFrom, IsSetup, IsLegal}
 use Rattle.pf_protocol.specs.Fitting.{OpFits, SlotFits, DurableFits, ServerFits, ConditionFits, PacketFits, GroupFits}
-use Rattle.pf_protocol.proofs.Keeping.{by_test}
+use Rattle.pf_entry.proofs.Cases.{by_test}
 use Rattle.pf_protocol.proofs.Fitting.{Fits, durable_more, condition_more, packet_more, submit_fits, fetch_fits, elect_fits, resend_fits, checkpoint_fits, finish_fits, give_back_fits, message_fits}
 use Rattle.pf_protocol.proofs.Follows.{IsLeader, RoleIs}
 use Rattle.pf_protocol.proofs.Knowing.{LeaderKnows, RoleKnows}
 use Rattle.pf_protocol.proofs.Histories.{Told, told}
 use Rattle.pf_protocol.proofs.Opening.{opening_ballots}
 use Rattle.pf_protocol.proofs.Rows.{own_entry}
-use Rattle.pf_protocol.proofs.Making.{run_longer}
+use Rattle.pf_protocol.proofs.Moments.{run_longer}
 
 -- a refusal of a step leaves the group as it was
 abbrev pub IsSilent : Option Refusal → Type 0

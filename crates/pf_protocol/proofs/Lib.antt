@@ -1,39 +1,45 @@
-pub mod Ballots
-pub mod Changes
-pub mod Law
-pub mod Keeping
-pub mod Growing
-pub mod Extending
-pub mod Serving
-pub mod Knowing
-pub mod Follows
-pub mod Rows
-pub mod Steps
-pub mod Opening
-pub mod Making
-pub mod Histories
-pub mod Origins
-pub mod Fitting
-pub mod Legal
-pub mod Counting
-pub mod Facts
-pub mod Naming
-pub mod Claiming
-pub mod Stepping
-pub mod Folds
-pub mod LastWriters
-pub mod Snapshots
-pub mod Moving
-pub mod Voting
-pub mod Fetching
-pub mod Fresh
-pub mod Ports
-pub mod Submitting
-pub mod Placing
-pub mod Between
-pub mod Asked
-pub mod Room
-pub mod Worked
+pub mod ForMoments
+pub mod ForRows
+pub mod ForHistories
+pub mod ForPorts
+mod Ballots
+mod Changes
+mod Law
+mod Keeping
+mod Growing
+mod Extending
+mod Serving
+mod Knowing
+mod Follows
+mod Rows
+mod Steps
+mod Opening
+mod Stepping
+mod Moments
+mod Making
+mod Histories
+mod Members
+mod Choosing
+mod Origins
+mod Fitting
+mod Legal
+mod Counting
+mod Facts
+mod Naming
+mod Claiming
+mod LastWriters
+mod Snapshots
+mod Moving
+mod Voting
+mod Fetching
+mod Fresh
+mod Ports
+mod Submitting
+mod Placing
+mod Between
+mod Asked
+mod Room
+mod Worked
 mod Replays
 mod EarlyApply
 mod Answering

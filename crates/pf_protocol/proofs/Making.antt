@@ -21,8 +21,8 @@ use Rattle.pf_entry.proofs.Lists.{every_append, every_more, every_map, every_fla
 use Rattle.pf_entry.proofs.Maps.{get_inserted, insert_cases, get_above}
 use Rattle.pf_entry.specs.Records.{Durable, image_of, stored, put_entry, put_entries, above, holds, vote_of}
 use Rattle.pf_entry.specs.Merging.{merged_first, merged_entry, merged_entries}
-use Rattle.pf_protocol.proofs.Keeping.{by_test}
-use Rattle.pf_protocol.proofs.Growing.{range_cases, range_has}
+use Rattle.pf_entry.proofs.Cases.{by_test}
+use Rattle.pf_entry.proofs.Ranges.{range_cases, range_has}
 use Rattle.pf_protocol.specs.Servers.{Setup, Leader, Role, Follower, Candidate, Merging, Serving, Server, Condition, Running, Stopped, Unformatted, upto}
 use Rattle.pf_protocol.specs.Outcomes.{Outcome, to_one, to_others, others, sends, nothing, refused, raise_term}
 use Rattle.pf_protocol.specs.Leading.{new_entry, submitted, on_submit, on_fetch, on_elect, resent_entry, resent, on_resend, merged, led, still_merging, other_acked, on_vote, has_acked, knows, is_own, commit_to, counted, marked, mark, on_ack, on_probe_ok}
@@ -35,6 +35,7 @@ use Rattle.pf_protocol.specs.declared.events.Event.TheVariants.{Submit, Fetch, D
 use Rattle.pf_protocol.specs.declared.events.Happening.{Happening}
 use Rattle.pf_protocol.specs.Groups.{Sent, Group, Ending, Whole, CutOff, Missed, Untouched, TookPlace, send, acted, cut_off, ended, step_of, at_server, with_sent, marked_in, delivered, lost, stopped, begun, restart, claim_of, claim_at, claim_or, first_claim, only, counted_election, ending, happens, opening, unless_failed, first_leader, opening_disk}
 use Rattle.pf_protocol.specs.Histories.{History, IsPrefix, run, replay, Runs, HasAccepted, Made, Makes, BySubmit, ByMerge, IsProposal}
+use Rattle.pf_protocol.proofs.Moments.{run_longer}
 
 -- what is in a log after a step was there, or is new
 abbrev pub From : Map Entry → (Entry → Type 0) → Map Entry → Type 0
@@ -310,10 +311,6 @@ module _ (setup : Setup) (history : History) (h : Happening) where
 
   pub proposal_longer : (e : Entry) → IsProposal setup history e → IsProposal setup (history ++ h ∷ []) e
   proposal_longer e p = record { leader = p.leader; made = made_longer p.leader e p.made; recorded = accepted_longer p.leader e p.recorded }
-
-pub run_longer : (setup : Setup) (g : Group) (history : History) (h : Happening) → run setup g (history ++ h ∷ []) ≡ happens setup (run setup g history) h.event (ending h.answer)
-run_longer setup g [] h = refl
-run_longer setup g (x ∷ xs) h = run_longer setup (happens setup g x.event (ending x.answer)) xs h
 
 -- a log of entries that stand under their slots and have a property
 pub record Has (P : Entry → Type 0) (log : Map Entry) : Type 0 where

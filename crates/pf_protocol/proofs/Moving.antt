@@ -23,7 +23,7 @@ use Rattle.pf_entry.specs.declared.packets.Body.{Body}
 use Rattle.pf_entry.specs.declared.packets.Body.TheVariants.{RequestVote, Vote, Accept, Ack, Nack, Commit, Probe, ProbeOk, Image}
 use Rattle.pf_entry.specs.Records.{stored, holds, vote_of}
 use Rattle.pf_entry.specs.Merging.{merged_first, merged_entries}
-use Rattle.pf_protocol.proofs.Keeping.{by_test}
+use Rattle.pf_entry.proofs.Cases.{by_test}
 use Rattle.pf_protocol.proofs.Knowing.{acked_in, acknowledged_more}
 use Rattle.pf_protocol.specs.declared.answers.Answer.{Answer}
 use Rattle.pf_protocol.specs.declared.answers.Answer.TheVariants.{Done, Read as ReadIs, Base as BaseIs}

@@ -28,7 +28,8 @@ use Rattle.pf_protocol.specs.declared.events.Event.TheVariants.{Deliver}
 use Rattle.pf_protocol.specs.Histories.{History, replay, Runs, HasAccepted, Makes, BySubmit, ByMerge, IsChosen, IsTakenFrom}
 use Rattle.pf_protocol.specs.Kept.{KeepsName}
 use Rattle.pf_protocol.proofs.Making.{accepted_proposed}
-use Rattle.pf_protocol.proofs.Origins.{accepted_after, begins_with}
+use Rattle.pf_protocol.proofs.Moments.{begins_with}
+use Rattle.pf_protocol.proofs.Origins.{accepted_after}
 use Rattle.pf_protocol.proofs.Histories.{told, Stands, held_at_end, chosen_at_end}
 use Rattle.pf_protocol.proofs.Facts.{chosen_by}
 

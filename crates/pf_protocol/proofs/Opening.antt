@@ -4,7 +4,7 @@ use Rattle.std.specs.List.{filter, list_any}
 use Rattle.std.specs.Ordering.{nat_cmp}
 use Rattle.std.specs.FinMap
 use Rattle.std.specs.FinMap.{get-empty}
-use Rattle.std.proofs.lemmas.Bool.{cond-true, cond-false, eqb-true, false≢true}
+use Rattle.std.proofs.lemmas.Bool.{cond-true, cond-false, eqb-true, false≢true, lt-leb}
 use Rattle.std.proofs.lemmas.Option.{same_Some, cond_some, none-some}
 use Rattle.pf_entry.specs.declared.entries.Entry.{Entry}
 use Rattle.pf_entry.specs.declared.entries.VoteLog.{VoteLog}
@@ -15,16 +15,14 @@ use Rattle.pf_protocol.specs.Saving.{restarted}
 use Rattle.pf_protocol.specs.Groups.{opening_disk, first_leader, unless_failed, opening}
 use Rattle.pf_entry.specs.Maps.{Map}
 use Rattle.pf_entry.specs.declared.ops.Op.{Op}
-use Rattle.pf_entry.specs.Ops.{Sector}
-use Rattle.pf_entry.specs.Ops.{zero_sector}
+use Rattle.pf_entry.specs.Ops.{Sector, zero_sector}
 use Rattle.pf_entry.specs.Sets
 use Rattle.pf_entry.proofs.Sets.{contains-empty}
-use Rattle.std.proofs.lemmas.Bool.{lt-leb}
 use Rattle.pf_protocol.proofs.Knowing.{AppliedKnown, JobIs, IsCommitted, nobody_acked}
 use Rattle.pf_protocol.proofs.Serving.{Served}
 use Rattle.pf_entry.specs.Applying.{is_applied, fold_to}
 use Rattle.pf_protocol.proofs.Follows.{ServerIs, ConditionIs, Follows}
-use Rattle.pf_protocol.proofs.Keeping.{by_test}
+use Rattle.pf_entry.proofs.Cases.{by_test}
 
 nothing_held : VoteLog
 nothing_held = record { base = 0; starts = FinMap.empty; log = FinMap.empty }

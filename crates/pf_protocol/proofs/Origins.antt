@@ -19,9 +19,7 @@ use Rattle.pf_protocol.specs.Histories.{History, IsPrefix, replay, Runs, HasAcce
 use Rattle.pf_protocol.proofs.Follows.{IsLeader, RoleIs}
 use Rattle.pf_protocol.proofs.Making.{Has, IsSaid, OwnVote, backs_all}
 use Rattle.pf_protocol.proofs.Histories.{told}
-
-pub prefix_of : (a b c : History) → IsPrefix a b → IsPrefix b c → IsPrefix a c
-prefix_of a b c p q = record { rest = p.rest ++ q.rest; whole = sym (append_assoc a p.rest q.rest) ∙ ap (λ hs. hs ++ q.rest) p.whole ∙ q.whole }
+use Rattle.pf_protocol.proofs.Moments.{prefix_of, begins_with}
 
 module _ (setup : Setup) (earlier history : History) (p : IsPrefix earlier history) where
   pub accepted_after : (i : ℕ) (e : Entry) → HasAccepted setup earlier i e → HasAccepted setup history i e
@@ -72,9 +70,6 @@ source_after setup earlier history p e source =
 
 shorter : (earlier history : History) (h : Happening) → IsPrefix (earlier ++ h ∷ []) history → length earlier < length history
 shorter earlier history h p = omega (arith, sym (length-append (earlier ++ h ∷ []) p.rest) ∙ ap length p.whole, length-append earlier (h ∷ []))
-
-pub begins_with : (earlier history : History) (h : Happening) → IsPrefix (earlier ++ h ∷ []) history → IsPrefix earlier history
-begins_with earlier history h p = prefix_of earlier (earlier ++ h ∷ []) history (record { rest = h ∷ []; whole = refl }) p
 
 -- a leader's next slot is not below its first
 new_of_leader : (setup : Setup) (earlier : History) (i : ℕ) (s : Server) (l : Leader) → Runs (replay setup earlier) i s → s.role ≡ Serving l → l.first ≤ l.next

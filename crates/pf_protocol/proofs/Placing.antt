@@ -26,18 +26,12 @@ use Rattle.pf_protocol.specs.Answers.{answer_at, answer_by, submit_turn, submit_
 use Rattle.pf_protocol.specs.Ports.{Submission, submitting, IsAnswered, ComesFrom}
 use Rattle.pf_protocol.proofs.Knowing.{LeaderKnows, RoleKnows}
 use Rattle.pf_protocol.proofs.Follows.{IsLeader, RoleIs}
-use Rattle.pf_protocol.proofs.Making.{run_longer}
+use Rattle.pf_protocol.proofs.Moments.{run_longer, begins_with, whole_prefix, comparable, legal_at}
 use Rattle.pf_protocol.proofs.Histories.{told, held_at_end, accepted_in_history, one_entry, one_leader}
-use Rattle.pf_protocol.proofs.Origins.{begins_with, accepted_after}
-use Rattle.pf_protocol.proofs.Snapshots.{whole_prefix}
+use Rattle.pf_protocol.proofs.Origins.{accepted_after}
 use Rattle.pf_protocol.proofs.Fetching.{AckedBy, traced}
-use Rattle.pf_protocol.proofs.Fresh.{comparable, before_or_after}
+use Rattle.pf_protocol.proofs.Fresh.{before_or_after}
 use Rattle.pf_protocol.proofs.Ports.{acked_chosen, new_slot, never_again}
-
--- an event of a legal history has its answer
-pub legal_at : (setup : Setup) (g : Group) (claims : List Claimed) (before : History) (h : Happening) (rest : History) → IsLegalFrom setup g claims (before ++ h ∷ rest) → IsAnswer setup (run setup g before) h.event h.answer
-legal_at setup g claims [] h rest is = is.0.answered
-legal_at setup g claims (x ∷ xs) h rest is = legal_at setup (happens setup g x.event (ending x.answer)) (claims_after claims x.event x.answer) xs h rest is.1
 
 -- the server serves, its next slot lies in its window, and it gives this slot
 pub record Takes (setup : Setup) (g : Group) (i : ℕ) (answer : Answer) : Type 0 where

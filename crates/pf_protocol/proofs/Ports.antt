@@ -25,11 +25,11 @@ use Rattle.pf_protocol.proofs.Ballots.{first_of}
 use Rattle.pf_protocol.proofs.Law.{kept_at}
 use Rattle.pf_protocol.proofs.Knowing.{IsAcked}
 use Rattle.pf_protocol.proofs.Follows.{IsLeader, RoleIs}
-use Rattle.pf_protocol.proofs.Making.{run_longer}
+use Rattle.pf_protocol.proofs.Moments.{run_longer, prefix_of, begins_with, whole_prefix}
 use Rattle.pf_protocol.proofs.Histories.{told, held_at_end, chosen_at_end, chosen_in_history, chosen_entry, one_leader}
-use Rattle.pf_protocol.proofs.Origins.{prefix_of, begins_with, taken_is_proposal}
+use Rattle.pf_protocol.proofs.Origins.{taken_is_proposal}
 use Rattle.pf_protocol.proofs.Naming.{nothing_old}
-use Rattle.pf_protocol.proofs.Snapshots.{whole_prefix, chosen_after}
+use Rattle.pf_protocol.proofs.Snapshots.{chosen_after}
 use Rattle.pf_protocol.proofs.Fetching.{term_low, StaysIn, came_stays, gone, to_now, traced}
 
 -- a server that was cut off does not run

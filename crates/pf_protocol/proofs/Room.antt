@@ -23,9 +23,10 @@ use Rattle.pf_protocol.specs.Saving.{on_checkpoint, applied_op, on_finish, on_gi
 use Rattle.pf_protocol.specs.Groups.{Sent, Group, Ending, Whole, CutOff, Missed, Untouched, send, acted, cut_off, ended, step_of, at_server, with_sent, marked_in, delivered, lost, stopped, begun, restart, claim_of, claim_at, claim_or, first_claim, only, counted_election, ending, happens, opening}
 use Rattle.pf_protocol.specs.Histories.{History, replay}
 use Rattle.pf_protocol.specs.Answers.{most_packets, most_packet_bytes, most_elections, packets_full, is_mark, is_serving, window_full, delivery_answer, delivery_halts, room_refusal, submit_refusal, fetch_refusal, elect_refusal, Turn, plain, submit_turn, fetch_turn, elect_turn, deliver_turn, answer_at, halts_at, answer_to, may_halt, IsAnswer, IsLegal}
-use Rattle.pf_protocol.proofs.Keeping.{by_test}
+use Rattle.pf_entry.proofs.Cases.{by_test}
 use Rattle.pf_protocol.proofs.Legal.{IsSilent, room_silent, submit_silent, elect_silent, refuse_none, stands_or_silent}
-use Rattle.pf_protocol.proofs.Asked.{fetch_silent, legal_keeps}
+use Rattle.pf_protocol.proofs.Moments.{legal_keeps}
+use Rattle.pf_protocol.proofs.Asked.{fetch_silent}
 
 abbrev pub bytes_of : List Sent → ℕ
 bytes_of packets = sum_by (λ sent. packet_size sent.packet) packets

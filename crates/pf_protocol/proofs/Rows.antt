@@ -3,12 +3,12 @@ use Rattle.std.proofs.Common.{◌≡◌, ℕ, zero, suc, ◌+◌, ◌-◌, ◌<�
 use Rattle.std.specs.List.{range_with_len, flat_map, list_all}
 use Rattle.std.specs.FinMap
 use Rattle.pf_entry.specs.Sets
-use Rattle.std.proofs.lemmas.Bool.{cond-true, eq-eqb, ne_eqb, eqb-true, eqb-false, ltb-true, ltb-false, leb-true, leb-false, and_from, or_parts, not-true, lt-ltb, cases_lt}
-use Rattle.std.proofs.lemmas.Option.{same_Some, cond_some}
+use Rattle.std.proofs.lemmas.Bool.{cond-true, eq-eqb, ne_eqb, eqb-true, eqb-false, ltb-true, ltb-false, leb-true, leb-false, and_from, or_parts, not-true, lt-ltb, cases_lt, or_cases, or_left, or_right, le-leb, and_parts, lt-leb, false≢true}
+use Rattle.std.proofs.lemmas.Option.{same_Some, cond_some, none-some}
 use Rattle.pf_entry.specs.Maps.{Numbers}
 use Rattle.pf_entry.specs.declared.ops.Op.{Op}
-use Rattle.pf_entry.specs.Ops.{Sector}
-use Rattle.pf_base.specs.Span.{Span}
+use Rattle.pf_entry.specs.Ops.{Sector, range_of}
+use Rattle.pf_base.specs.Span.{Span, overlaps}
 use Rattle.pf_entry.specs.declared.entries.Entry.{Entry}
 use Rattle.pf_entry.specs.declared.entries.VoteLog.{VoteLog}
 use Rattle.pf_entry.specs.declared.packets.Packet.{Packet}
@@ -20,41 +20,30 @@ use Rattle.pf_entry.specs.Merging.{merged_first, merged_entry, merged_entries}
 use Rattle.pf_entry.proofs.Merging.{base_below_first}
 use Rattle.pf_protocol.proofs.Ballots.{Cast, Ballot, first_of, Ballots, IsPicked, HasQuorum, Faithful, Sound}
 use Rattle.pf_protocol.proofs.Changes.{put, grown, Grows, voted, merged_proposal, merged as merged_ballots, proposed, Extends}
-use Rattle.pf_protocol.proofs.Keeping.{by_test, grown_sound, voted_sound, merged_sound, proposed_sound, holds_is, holds_from}
+use Rattle.pf_entry.proofs.Cases.{by_test}
+use Rattle.pf_protocol.proofs.Keeping.{grown_sound, voted_sound, merged_sound, proposed_sound, holds_is, holds_from}
 use Rattle.pf_protocol.proofs.Law.{share, IsChosenBy, proposal_agrees}
 use Rattle.std.specs.Ordering.{nat_cmp, eq_by_cmp}
 use Rattle.pf_entry.proofs.Sets.{contains-insert, contains-retain}
 use Rattle.std.proofs.lemmas.Bool.Decides.{nat_tests}
-use Rattle.std.proofs.lemmas.Bool.{or_cases}
 use Rattle.pf_entry.proofs.Maps.{get_inserted, insert_cases, remove_cases}
-use Rattle.std.specs.FinMap.{get-empty}
-use Rattle.std.proofs.lemmas.Option.{none-some}
-use Rattle.std.proofs.lemmas.Bool.{or_left, or_right, le-leb, and_parts}
+use Rattle.std.specs.FinMap.{get-empty, nat_cmp-IsAntisymmetric}
 use Rattle.pf_protocol.proofs.Growing.{WithinTerm, unchanged_grows, term_grows, entry_grows, trim_grows, merge_grows, merge_holds}
 use Rattle.pf_protocol.proofs.Extending.{extends_self, extends_both, extends_grown, extends_voted, extends_merged, extends_proposed, grown_accepted}
-use Rattle.pf_protocol.specs.Servers.{Setup, Leader, Role, Follower, Candidate, Merging, Serving, Server, upto, climb}
+use Rattle.pf_protocol.specs.Servers.{Setup, Leader, Role, Follower, Candidate, Merging, Serving, Server, upto, climb, has_applied}
 use Rattle.pf_protocol.specs.Outcomes.{Outcome, to_one, to_others, others, sends, nothing, refused, raise_term}
 use Rattle.pf_protocol.specs.declared.answers.Answer.{Answer}
-use Rattle.pf_protocol.specs.Leading.{new_entry, submitted, on_submit, on_fetch, on_elect, resent_entry, resent, on_resend, led, merged, on_vote, has_acked, knows, acknowledged, other_acked, counted, mark, marked, is_own, commit_to, on_ack, on_probe_ok}
+use Rattle.pf_protocol.specs.Leading.{new_entry, submitted, on_submit, on_fetch, on_elect, resent_entry, resent, on_resend, led, merged, on_vote, has_acked, knows, acknowledged, other_acked, counted, mark, marked, is_own, commit_to, on_ack, on_probe_ok, op_of, op_at, look_behind}
 use Rattle.pf_protocol.specs.Following.{meets_term, ack, nack, on_request_vote, accepted, on_accept, on_nack, on_commit, on_probe, installed, on_image}
 use Rattle.pf_protocol.specs.Rows.{on_message}
 use Rattle.pf_protocol.specs.declared.answers.Answer.TheVariants.{Base as BaseIs, Slot as SlotIs}
-use Rattle.pf_protocol.specs.Leading.{op_of, op_at}
-use Rattle.pf_protocol.specs.Saving.{claimed, is_short_of, trimmed, on_checkpoint, applied_op, on_finish, on_give_back}
+use Rattle.pf_protocol.specs.Saving.{claimed, is_short_of, trimmed, on_checkpoint, applied_op, on_finish, on_give_back, is_claimable, changed}
 use Rattle.pf_entry.specs.Lists.{Every}
 use Rattle.pf_entry.proofs.Lists.{every_append, every_more, every_map, every_filter, every_flat_map_from, every_range, every_of_all, all_in_range, some_of_any}
-use Rattle.pf_protocol.proofs.Serving.{IsKnown, known_there}
+use Rattle.pf_protocol.proofs.Serving.{IsKnown, known_there, Served, IsListed, grown_served, voted_served, merged_served, proposed_served, new_is_chosen}
 use Rattle.pf_protocol.proofs.Knowing.{AckMarks, AllAcked, RoleMarks, marks_more, IsAcked, acked_there, acknowledged_more, AppliedKnown, AckIs, IsCommitted, LeaderKnows, MergedKnown, RoleKnows, ServerKnows, Later, applied_there, ack_there, committed_there, leader_there, knows_there, chosen_later, known_later, committed_grows, ack_chooses, applied_to_upto, acked_in, acknowledged_cases, all_acknowledged_cases, nobody_acked, retained, JobIs, applied_later, job_later, applied_same, job_same, applied_more}
 use Rattle.pf_entry.proofs.Folding.{with_slot}
 use Rattle.pf_entry.specs.Applying.{is_applied, is_free, passes}
-use Rattle.pf_entry.specs.Ops.{range_of}
-use Rattle.pf_base.specs.Span.{overlaps}
-use Rattle.pf_protocol.proofs.Serving.{Served, IsListed, grown_served, voted_served, merged_served, proposed_served, new_is_chosen}
-use Rattle.std.specs.FinMap.{nat_cmp-IsAntisymmetric}
-use Rattle.std.proofs.lemmas.Bool.{lt-leb, false≢true}
-use Rattle.pf_protocol.specs.Servers.{has_applied}
-use Rattle.pf_protocol.specs.Saving.{is_claimable, changed}
-use Rattle.pf_protocol.specs.Leading.{look_behind}
 use Rattle.pf_protocol.proofs.Follows.{IsCandidate, IsLeader, RoleIs, ServerIs, CommitIs, BodyIs, PacketIs, Row, commit_there, grows_stays}
 
 -- a rule by a test

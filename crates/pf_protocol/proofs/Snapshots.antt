@@ -21,7 +21,7 @@ use Rattle.pf_entry.specs.declared.entries.VoteLog.{VoteLog}
 use Rattle.pf_entry.specs.declared.packets.Body.{Body}
 use Rattle.pf_entry.specs.declared.packets.Body.TheVariants.{RequestVote, Vote, Accept, Ack, Nack, Commit, Probe, ProbeOk, Image}
 use Rattle.pf_entry.specs.Records.{Durable, holds}
-use Rattle.pf_protocol.proofs.Keeping.{by_test}
+use Rattle.pf_entry.proofs.Cases.{by_test}
 use Rattle.pf_protocol.specs.declared.events.Event.{Event}
 use Rattle.pf_protocol.specs.declared.events.Happening.{Happening}
 use Rattle.pf_protocol.specs.Servers.{Setup, Role, Follower, Candidate, Merging, Serving, Server, Running, Unformatted, upto, has_applied}
@@ -35,10 +35,9 @@ use Rattle.pf_protocol.specs.Histories.{History, IsPrefix, replay, Runs, IsChose
 use Rattle.pf_protocol.specs.Kept.{HasChosen, IsPassed, IsCovered, IsInHand}
 use Rattle.pf_protocol.specs.LastWriters.{IsLastWriter, HoldLastWrites}
 use Rattle.pf_protocol.specs.Snapshots.{IsSnapshot}
-use Rattle.pf_protocol.proofs.Making.{run_longer}
-use Rattle.pf_protocol.proofs.Origins.{prefix_of, accepted_after, proposal_after}
-use Rattle.pf_protocol.proofs.Serving.{passed_apart}
-use Rattle.pf_protocol.proofs.Serving.{IsPassed as PassedIn}
+use Rattle.pf_protocol.proofs.Moments.{run_longer, prefix_of, by_events, opened, next_prefix}
+use Rattle.pf_protocol.proofs.Origins.{accepted_after, proposal_after}
+use Rattle.pf_protocol.proofs.Serving.{passed_apart, IsPassed as PassedIn}
 use Rattle.pf_protocol.proofs.Histories.{told, chosen_at_end, one_chosen_op}
 use Rattle.pf_protocol.proofs.Facts.{chosen_by, servers_covered, jobs_are_apart}
 use Rattle.pf_protocol.proofs.LastWriters.{servers_hold}
@@ -186,12 +185,6 @@ taken_after setup earlier history p mark sectors w = record { earlier = w.earlie
 abbrev AllTaken : Setup → History → Type 0
 AllTaken setup history = (i : ℕ) (s : Server) (mark : ℕ) (sectors : List Sector) → Runs (replay setup history) i s → FinMap.get s.snapshots mark ≡ Some sectors → WasTaken setup history mark sectors
 
-pub whole_prefix : (history : History) → IsPrefix history history
-whole_prefix history = record { rest = []; whole = append-nil history }
-
-next_prefix : (history : History) (h : Happening) → IsPrefix history (history ++ h ∷ [])
-next_prefix history h = record { rest = h ∷ []; whole = refl }
-
 no_snapshots : (i : ℕ) (d : Durable) (life mark : ℕ) (sectors : List Sector) → FinMap.get (restarted i life d).snapshots mark ≡ Some sectors → ⊥
 unfolding restarted
 no_snapshots i d life mark sectors at = none-some sectors (sym (get-empty nat_cmp mark) ∙ at)
@@ -218,34 +211,6 @@ module _ (setup : Setup) (history : History) (h : Happening) (all : AllTaken set
   next_taken : AllTaken setup (history ++ h ∷ [])
   next_taken i z mark sectors runs at =
       came_taken i z mark sectors ((goes setup (replay setup history) h.event (ending h.answer)).servers i z (ap (λ g. slice_get g.servers i) (sym (run_longer setup (opening setup) history h)) ∙ runs)) at
-
--- a property of histories that begins, and goes on by each event
-pub by_events : (P : History → Type 0) → P [] → ((history : History) (h : Happening) → P history → P (history ++ h ∷ [])) → (history : History) → P history
-by_events P start next history = go [] history start
-  where
-    go : (done rest : History) → P done → P (done ++ rest)
-    go done [] is = subst P (sym (append-nil done)) is
-    go done (h ∷ hs) is = subst P (append_assoc done (h ∷ []) hs) (go (done ++ h ∷ []) hs (next done h is))
-
--- the servers that run at the beginning
-pub opened : (setup : Setup) (P : Server → Type 0) → P (first_leader setup) → ((i : ℕ) → P (restarted i 0 (opening_disk setup))) → (i : ℕ) (s : Server) → Runs (opening setup) i s → P s
-unfolding opening
-opened setup P first others i s runs = at_place i runs
-  where
-    of_running : (x y : Server) → Some (Running x) ≡ Some (Running y) → P x → P y
-    of_running x y e is = subst P (same_server (same_Some (Running x) (Running y) e)) is
-      where
-        same_server : Running x ≡ Running y → x ≡ y
-        same_server e = cc
-
-    formatted : (k : ℕ) (x : Server) → P x → Some (unless_failed setup k x) ≡ Some (Running s) → P s
-    formatted k x is = by_test (list_any (λ j. j == k) setup.failed) (λ c. Some (if c then Unformatted else Running x) ≡ Some (Running s) → P s) (λ _ e. absurd (grind (arith, e))) (λ _ e. of_running x s e is)
-
-    at_place : (i : ℕ) → Runs (opening setup) i s → P s
-    at_place zero at = formatted 0 (first_leader setup) first at
-    at_place (suc zero) at = formatted 1 (restarted 1 0 (opening_disk setup)) (others 1) at
-    at_place (suc (suc zero)) at = formatted 2 (restarted 2 0 (opening_disk setup)) (others 2) at
-    at_place (suc (suc (suc i))) at = absurd (none-some (Running s) at)
 
 first_snapshots : (setup : Setup) → (first_leader setup).snapshots ≡ FinMap.empty
 unfolding first_leader restarted

@@ -2,13 +2,14 @@
 use Rattle.std.proofs.Common.{◌≡◌, ℕ, suc, ◌<◌, ◌≤◌, ◌⊎◌, inl, inr, Bool, true, false, cond, ◌==◌, if◌then◌else◌, List, [], ◌∷◌, map, Option, Some, None, slice_get, slice_set, arith, refl, sym, ap, subst, ◌∙◌, le_refl, le_of_eq}
 use Rattle.std.specs.FinMap
 use Rattle.std.specs.List.{range_with_len}
-use Rattle.std.proofs.lemmas.Bool.{cases_eq, cond-true, eq-eqb}
+use Rattle.std.proofs.lemmas.Bool.{cases_eq, cond-true, eq-eqb, false≢true}
 use Rattle.pf_entry.specs.declared.entries.Entry.{Entry}
 use Rattle.pf_entry.specs.declared.packets.Packet.{Packet}
 use Rattle.pf_entry.specs.Records.{Durable, image_of, stored, holds}
 use Rattle.pf_protocol.proofs.Ballots.{Cast, Ballot, Ballots, Sound}
 use Rattle.pf_protocol.proofs.Changes.{grown, Grows, Extends}
-use Rattle.pf_protocol.proofs.Keeping.{grown_sound, by_test, holds_is}
+use Rattle.pf_entry.proofs.Cases.{by_test}
+use Rattle.pf_protocol.proofs.Keeping.{grown_sound, holds_is}
 use Rattle.pf_protocol.proofs.Growing.{WithinTerm, unchanged_grows}
 use Rattle.pf_protocol.proofs.Extending.{extends_grown, extends_self, grown_accepted}
 use Rattle.pf_protocol.specs.Servers.{Setup, Server, Condition, Running, Stopped, Unformatted}
@@ -29,7 +30,6 @@ use Rattle.pf_entry.specs.Applying.{is_applied}
 use Rattle.pf_entry.proofs.Sets.{contains-empty}
 use Rattle.std.specs.FinMap.{get-empty}
 use Rattle.std.specs.Ordering.{nat_cmp}
-use Rattle.std.proofs.lemmas.Bool.{false≢true}
 use Rattle.std.proofs.lemmas.Option.{none-some}
 
 -- a running server has an entry of the slot and term

@@ -14,10 +14,10 @@ use Rattle.pf_protocol.specs.declared.events.Happening.{Happening}
 use Rattle.pf_protocol.specs.Servers.{Setup, Server, Running}
 use Rattle.pf_protocol.specs.Groups.{Group, Sent, ending, happens, opening}
 use Rattle.pf_protocol.specs.Histories.{History, replay, HasVoted}
-use Rattle.pf_protocol.proofs.Making.{longer, run_longer}
+use Rattle.pf_protocol.proofs.Moments.{run_longer, whole_prefix, by_events}
+use Rattle.pf_protocol.proofs.Making.{longer}
 use Rattle.pf_protocol.proofs.Histories.{told}
 use Rattle.pf_protocol.proofs.Stepping.{packets_of, IsGiven, adds_at, goes}
-use Rattle.pf_protocol.proofs.Snapshots.{whole_prefix, by_events}
 use Rattle.pf_protocol.proofs.Moving.{IsReadless, Speaks, Plainly, Asks, AsksAgain, Replies, Requests, Grants, does}
 
 -- a vote among what a step sends is its server's own

@@ -10,8 +10,6 @@ mod events;
 mod examples;
 mod kept;
 mod laws;
-#[cfg(test)]
-mod tests;
 
 pub use answers::{Answer, Refusal};
 pub use events::{Event, Happening};

@@ -23,7 +23,7 @@ use Rattle.pf_protocol.specs.Servers.{Server, Setup}
 use Rattle.pf_protocol.specs.Answers.{IsSetup}
 use Rattle.pf_protocol.specs.Fitting.{EntryFits, NameFits}
 use Rattle.pf_protocol.specs.Saving.{renewed, restarted}
-use Rattle.pf_protocol.proofs.Counting.{few_keys}
+use Rattle.pf_entry.proofs.Counting.{few_keys}
 use Rattle.pf_state.specs.declared.running.Running.{Running}
 use Rattle.pf_state.specs.Standing.{bare, server_of, setup_of, IsCached}
 use Rattle.pf_state.proofs.Canonicals.{image_is, short_entries, vote_is}

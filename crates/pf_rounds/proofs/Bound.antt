@@ -31,9 +31,9 @@ use Rattle.pf_protocol.specs.Saving.{claimable, claimed, is_claimable, applied_o
 use Rattle.pf_protocol.specs.Groups.{Group, Ending, Whole, CutOff, Missed, Untouched, acted, cut_off, step_of, claim_of, claim_at, claim_or, first_claim, only, ending, happens, opening}
 use Rattle.pf_protocol.specs.Histories.{History, run, replay}
 use Rattle.pf_protocol.specs.Answers.{Claimed, claims_after, claims_of, claim_answer, claim_answer_at, finish_answer, answer_to, may_halt, IsAnswer, IsLegalFrom, IsLegal}
-use Rattle.pf_protocol.proofs.Keeping.{by_test}
-use Rattle.pf_protocol.proofs.Legal.{legal_fits}
-use Rattle.pf_protocol.proofs.Claiming.{legal_before}
+use Rattle.pf_entry.proofs.Cases.{by_test}
+use Rattle.pf_protocol.proofs.ForHistories.{legal_fits}
+use Rattle.pf_protocol.proofs.ForMoments.{legal_before}
 use Rattle.pf_rounds.specs.Jobs.{IsClaimOrFinish, IsOfRound, is_job, jobs_in}
 
 module _ {X : Type 0} (before after : X → Bool) (fewer : (x : X) → after x ≡ true → before x ≡ true) where

@@ -18,7 +18,7 @@ use Rattle.pf_protocol.specs.Saving.{claimable, is_claimable}
 use Rattle.pf_protocol.specs.Groups.{Group, claim_of}
 use Rattle.pf_protocol.specs.Histories.{History, Runs, replay}
 use Rattle.pf_protocol.specs.Answers.{claims_of, claim_answer, claim_answer_at, answer_to, IsLegal}
-use Rattle.pf_protocol.proofs.Legal.{legal_fits}
+use Rattle.pf_protocol.proofs.ForHistories.{legal_fits}
 use Rattle.pf_rounds.specs.Closed.{IsClosed}
 use Rattle.pf_rounds.proofs.InHand.{none_in_hand}
 

@@ -7,8 +7,7 @@ use Rattle.pf_protocol.specs.declared.answers.Answer.TheVariants as answers
 use Rattle.pf_protocol.specs.declared.events.Event.{Event}
 use Rattle.pf_protocol.specs.declared.events.Event.TheVariants.{Claim, Finish}
 use Rattle.pf_protocol.specs.Histories.{IsPrefix}
-use Rattle.pf_protocol.proofs.Origins.{prefix_of}
-use Rattle.pf_protocol.proofs.Snapshots.{whole_prefix}
+use Rattle.pf_protocol.proofs.ForMoments.{prefix_of, whole_prefix}
 use Rattle.pf_rounds.specs.Halts.{Halt}
 use Rattle.pf_rounds.specs.Chunks.{Chunk, after, answered, listed}
 use Rattle.pf_rounds.specs.Rounds.{Claims, applied, claim_on, claims_to, enough, finished, round, rounds_to}

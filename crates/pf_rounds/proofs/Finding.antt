@@ -17,7 +17,7 @@ use Rattle.pf_protocol.specs.Servers.{Setup, Server, Condition, Running, Stopped
 use Rattle.pf_protocol.specs.Groups.{Group, Ending, Whole, CutOff, Missed, Untouched, begun, ending, ending_of, happens, opening, restart}
 use Rattle.pf_protocol.specs.Histories.{History, run, replay}
 use Rattle.pf_protocol.specs.Answers.{IsAnswer, answer_to, restart_answer}
-use Rattle.pf_protocol.proofs.Keeping.{by_test}
+use Rattle.pf_entry.proofs.Cases.{by_test}
 use Rattle.pf_rounds.specs.Halts.{Halt, is_before, last_halt, tells_found}
 use Rattle.pf_rounds.specs.Chunks.{listed_at}
 use Rattle.pf_rounds.specs.Agreeing.{is_halt, is_halted}

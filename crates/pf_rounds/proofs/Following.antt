@@ -3,9 +3,7 @@ use Rattle.std.proofs.Common.{◌≡◌, ℕ, ◌+◌, ◌⊎◌, Bool, true, fa
 use Rattle.std.proofs.lemmas.Bool.{false≢true}
 use Rattle.pf_protocol.specs.Groups.{ending, happens}
 use Rattle.pf_protocol.specs.Histories.{History, IsPrefix, replay}
-use Rattle.pf_protocol.proofs.Claiming.{replay_goes_on}
-use Rattle.pf_protocol.proofs.Origins.{prefix_of}
-use Rattle.pf_protocol.proofs.Snapshots.{whole_prefix}
+use Rattle.pf_protocol.proofs.ForMoments.{replay_goes_on, prefix_of, whole_prefix}
 use Rattle.pf_group.specs.GroupIs.{GroupIs}
 use Rattle.pf_protocol.specs.Answers.{IsAnswer, answer_to, may_halt}
 use Rattle.pf_protocol.specs.declared.answers.Answer.{Answer}

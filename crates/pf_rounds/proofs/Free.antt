@@ -16,7 +16,7 @@ use Rattle.pf_protocol.specs.declared.answers.Answer.TheVariants.{Job as JobIs, 
 use Rattle.pf_protocol.specs.declared.answers.Refusal.TheVariants.{NoneFree}
 use Rattle.pf_protocol.specs.declared.events.Event.TheVariants.{Claim}
 use Rattle.pf_protocol.specs.Answers.{Claimed, IsAnswer, IsLegal, IsOpen, answer_to, claim_answer, claim_answer_at, claims_of, is_claim, may_halt}
-use Rattle.pf_protocol.proofs.Claiming.{legal_open}
+use Rattle.pf_protocol.proofs.ForHistories.{legal_open}
 
 -- a slot that can be claimed has no job in hand
 not_in_hand : (window : ℕ) (s : Server) (slot : ℕ) → claimable window s ≡ Some slot → FinMap.contains_key s.in_hand slot ≡ false

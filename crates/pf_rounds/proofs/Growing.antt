@@ -4,8 +4,7 @@ use Rattle.pf_protocol.specs.declared.answers.Answer.{Answer}
 use Rattle.pf_protocol.specs.declared.events.Event.{Event}
 use Rattle.pf_protocol.specs.Servers.{Setup}
 use Rattle.pf_protocol.specs.Histories.{History, IsPrefix}
-use Rattle.pf_protocol.proofs.Origins.{prefix_of}
-use Rattle.pf_protocol.proofs.Snapshots.{whole_prefix}
+use Rattle.pf_protocol.proofs.ForMoments.{prefix_of, whole_prefix}
 use Rattle.pf_group.specs.declared.event.GroupEvent.{GroupEvent}
 use Rattle.pf_group.specs.GroupIs.{GroupIs}
 use Rattle.pf_group.specs.Steps.{IsLeft, Steps}

@@ -29,7 +29,7 @@ use Rattle.pf_protocol.specs.Saving.{renewed, restarted, is_short_of, trimmed, o
 use Rattle.pf_protocol.specs.Groups.{Sent, Group, Ending, Whole, CutOff, Missed, Untouched, acted, cut_off, step_of, at_server, marked_in, delivered, lost, stopped, begun, restart, claim_of, claim_at, claim_or, first_claim, only, counted_election, ending, happens, opening, first_leader, opening_disk}
 use Rattle.pf_protocol.specs.Histories.{History, Runs, run, replay}
 use Rattle.pf_protocol.specs.Answers.{Claimed, is_claim, claims_with, claims_without, claims_after, claims_of, claim_answer, claim_answer_at, finish_answer, answer_to, may_halt, IsAnswer, IsLegalFrom, IsLegal}
-use Rattle.pf_protocol.proofs.Keeping.{by_test}
+use Rattle.pf_entry.proofs.Cases.{by_test}
 use Rattle.pf_rounds.proofs.Bound.{answer_is}
 
 -- a step keeps the life and the jobs in hand, or leaves none in hand

@@ -12,7 +12,7 @@ use Rattle.pf_protocol.specs.declared.events.Happening.{Happening}
 use Rattle.pf_protocol.specs.Servers.{Setup}
 use Rattle.pf_protocol.specs.Groups.{Group, happens}
 use Rattle.pf_protocol.specs.Answers.{IsAnswer, answer_to}
-use Rattle.pf_protocol.proofs.Claiming.{replay_goes_on}
+use Rattle.pf_protocol.proofs.ForMoments.{replay_goes_on}
 use Rattle.pf_group.specs.GroupIs.{GroupIs, state_of}
 use Rattle.pf_rounds.specs.Adding.{Goes, HasClaimed, HasFinished, finish_of, with_more}
 use Rattle.pf_rounds.specs.Agreeing.{TellsOfGroup, chunk_of}

@@ -10,8 +10,8 @@ use Rattle.pf_protocol.specs.Servers.{Setup}
 use Rattle.pf_protocol.specs.declared.events.Event.{Event}
 use Rattle.pf_protocol.specs.declared.events.Event.TheVariants.{Restart}
 use Rattle.pf_protocol.specs.declared.events.Happening.{Happening}
-use Rattle.pf_protocol.proofs.Claiming.{legal_before}
-use Rattle.pf_protocol.proofs.Legal.{legal_fits}
+use Rattle.pf_protocol.proofs.ForMoments.{legal_before}
+use Rattle.pf_protocol.proofs.ForHistories.{legal_fits}
 use Rattle.pf_cluster.specs.Going.{acts_at}
 use Rattle.pf_group.specs.GroupIs.{GroupIs}
 use Rattle.pf_rounds.specs.Halts.{Halt, failed_by, found_by, is_at, is_before, is_cut, is_making, tells_found}

@@ -8,7 +8,7 @@ use Rattle.pf_protocol.specs.Servers.{Setup}
 use Rattle.pf_protocol.specs.Groups.{Group, ending, happens, opening}
 use Rattle.pf_protocol.specs.Histories.{History, replay, run}
 use Rattle.pf_protocol.specs.Answers.{Claimed, IsAnswer, IsLegal, IsLegalFrom, MayHappen, answer_to, claims_after, may_halt}
-use Rattle.pf_protocol.proofs.Claiming.{replay_goes_on}
+use Rattle.pf_protocol.proofs.ForMoments.{replay_goes_on}
 use Rattle.pf_group.specs.GroupIs.{GroupIs, state_of}
 use Rattle.pf_rounds.specs.Halts.{Halt}
 use Rattle.pf_rounds.specs.Chunks.{listed_at}

@@ -23,10 +23,7 @@ use Rattle.pf_protocol.specs.Saving.{claimed, on_give_back, restarted}
 use Rattle.pf_protocol.specs.Groups.{Group, Ending, Whole, CutOff, Missed, Untouched, acted, answer_of, claim_at, claim_of, claim_or, ending, first_claim, first_leader, happens, only, opening, step_of}
 use Rattle.pf_protocol.specs.Histories.{History, Runs, replay, run}
 use Rattle.pf_protocol.specs.Answers.{Claimed, IsAnswer, IsLegal, IsLegalFrom, answer_to, claims_after, claims_of, may_halt}
-use Rattle.pf_protocol.proofs.Stepping.{Came, Stays, Stepped, Begins, Claims, goes}
-use Rattle.pf_protocol.proofs.Snapshots.{opened}
-use Rattle.pf_protocol.proofs.Fetching.{run_parts}
-use Rattle.pf_protocol.proofs.Claiming.{legal_before}
+use Rattle.pf_protocol.proofs.ForMoments.{Came, Stays, Stepped, Begins, Claims, goes, opened, run_parts, legal_before}
 use Rattle.pf_rounds.specs.Begun.{IsClaimOrReturn}
 use Rattle.pf_rounds.proofs.Filters.{filter_all, filter_none}
 use Rattle.pf_rounds.proofs.Bound.{answer_is, legal_rest}

@@ -15,7 +15,7 @@ use Rattle.pf_protocol.specs.declared.answers.Answer.{Answer}
 use Rattle.pf_protocol.specs.declared.answers.Answer.TheVariants.{Refused}
 use Rattle.pf_protocol.specs.declared.answers.Refusal.{Refusal}
 use Rattle.pf_protocol.specs.declared.answers.Refusal.TheVariants.{BadRange, Halted, NotLeader, OldFormat, WindowFull}
-use Rattle.pf_protocol.proofs.Legal.{refuse_none}
+use Rattle.pf_protocol.proofs.ForRows.{refuse_none}
 use Rattle.pf_state.specs.declared.faults.StepFault.{StepFault}
 use Rattle.pf_state.specs.declared.faults.StepFault.TheVariants.{NoMemory as WantsMemory, Refused as IsRefused, Halted as IsHalted}
 use Rattle.pf_state.specs.declared.running.Running.{Running}

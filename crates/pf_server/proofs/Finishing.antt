@@ -10,7 +10,7 @@ use Rattle.pf_protocol.specs.Servers.{Server}
 use Rattle.pf_protocol.specs.declared.answers.Answer.{Answer}
 use Rattle.pf_protocol.specs.declared.answers.Answer.TheVariants.{Done, Refused}
 use Rattle.pf_protocol.specs.declared.answers.Refusal.TheVariants.{Stale}
-use Rattle.pf_protocol.proofs.Keeping.{by_test}
+use Rattle.pf_entry.proofs.Cases.{by_test}
 use Rattle.pf_state.specs.declared.running.Running.{Running}
 use Rattle.pf_state.specs.Standing.{server_of, IsCached}
 use Rattle.pf_restart.specs.declared.seat.Seat.{Seat}

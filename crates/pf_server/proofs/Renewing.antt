@@ -14,9 +14,9 @@ use Rattle.pf_protocol.specs.Answers.{IsSetup, has_stored}
 use Rattle.pf_protocol.specs.Fitting.{DurableFits, EntryFits}
 use Rattle.pf_protocol.specs.Saving.{renewed}
 use Rattle.pf_protocol.specs.Servers.{Setup}
-use Rattle.pf_protocol.proofs.Counting.{few_keys}
-use Rattle.pf_protocol.proofs.Fitting.{durable_more}
-use Rattle.pf_protocol.proofs.Keeping.{by_test}
+use Rattle.pf_entry.proofs.Counting.{few_keys}
+use Rattle.pf_protocol.proofs.ForRows.{durable_more}
+use Rattle.pf_entry.proofs.Cases.{by_test}
 use Rattle.pf_state.proofs.Canonicals.{short_entries}
 use Rattle.pf_restart.specs.Beginning.{IsRead, IsSeat, MayBegin, setup_at}
 use Rattle.pf_restart.specs.declared.reading.Reading.{Reading}

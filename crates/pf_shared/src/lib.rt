@@ -12,8 +12,6 @@ mod looks;
 mod moment;
 mod parts;
 mod start;
-#[cfg(test)]
-mod tests;
 
 pub use behind::Behind;
 pub use errors::LookFault;

@@ -22,7 +22,7 @@ use Rattle.pf_store.specs.Stores.{IsSpelledAs}
 use Rattle.pf_protocol.specs.Servers.{Setup}
 use Rattle.pf_protocol.specs.Answers.{IsSetup}
 use Rattle.pf_protocol.specs.Fitting.{OpFits, NameFits, EntryFits, VoteFits, SlotsFit, SectorsFit, BodyFits, PacketFits}
-use Rattle.pf_protocol.proofs.Counting.{few_keys}
+use Rattle.pf_entry.proofs.Counting.{few_keys}
 
 -- one or two, and the half has the volume's format or the second
 abbrev pub IsFormat : Setup → ℕ → Type 0

@@ -19,7 +19,7 @@ use Rattle.pf_entry.specs.Records.{above, image_of}
 use Rattle.pf_spelling.specs.Fitting.{RecordFits, EntryFits as HasWords}
 use Rattle.pf_spelling.proofs.MapLaws.{every_of_gets}
 use Rattle.pf_protocol.specs.Fitting.{EntryFits, SlotsFit, SectorsFit, StandsIn}
-use Rattle.pf_protocol.proofs.Counting.{few_keys}
+use Rattle.pf_entry.proofs.Counting.{few_keys}
 use Rattle.pf_state.specs.declared.running.Running.{Running}
 use Rattle.pf_state.specs.Standing.{server_of, setup_of, IsBounded}
 use Rattle.pf_state.specs.Images.{imaged}

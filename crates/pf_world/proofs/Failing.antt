@@ -1,7 +1,7 @@
 -- Where there was no memory for all of a chunk's settling, a beginning of it happened.
 use Rattle.std.proofs.Common.{◌≡◌, ℕ, suc, ◌+◌, List, [], ◌∷◌, ◌++◌, length, slice_set, arith, sym, ap, subst, ◌∙◌}
 use Rattle.pf_protocol.specs.declared.events.Event.TheVariants.{Deliver}
-use Rattle.pf_protocol.proofs.Origins.{prefix_of}
+use Rattle.pf_protocol.proofs.ForMoments.{prefix_of}
 use Rattle.pf_group.specs.GroupIs.{GroupIs}
 use Rattle.pf_rounds.specs.Halts.{Halt}
 use Rattle.pf_rounds.specs.Chunks.{Chunk}

@@ -7,8 +7,8 @@ use Rattle.pf_protocol.specs.Servers.{Setup}
 use Rattle.pf_protocol.specs.Groups.{Group, ending, happens, opening}
 use Rattle.pf_protocol.specs.Histories.{History, replay}
 use Rattle.pf_protocol.specs.Answers.{Claimed, IsAnswer, IsLegal, IsLegalFrom, claims_after}
-use Rattle.pf_protocol.proofs.Claiming.{replay_goes_on}
-use Rattle.pf_protocol.proofs.Histories.{told}
+use Rattle.pf_protocol.proofs.ForMoments.{replay_goes_on}
+use Rattle.pf_protocol.proofs.ForHistories.{is_member}
 use Rattle.pf_group.specs.GroupIs.{GroupIs}
 use Rattle.pf_rounds.specs.Halts.{At, Halt}
 use Rattle.pf_rounds.specs.Agreeing.{is_halted}
@@ -29,7 +29,7 @@ module _ (number : ℕ) (setup : Setup) where
   server_low earlier h is cut =
       let g = replay setup earlier in
       let acts = halted_there setup g h.event (subst (IsAnswer setup g h.event) (halted_is h.answer cut) is) in
-      subst (λ o. unwrap_or o 0 < 3) (sym acts.1) ((told setup earlier).follows.servers acts.0 acts.2.0 acts.2.1).0
+      subst (λ o. unwrap_or o 0 < 3) (sym acts.1) (is_member setup earlier acts.0 acts.2.0 acts.2.1)
 
   event_own : (earlier rest : History) (n : ℕ) (h : Happening) → IsAnswer setup (replay setup earlier) h.event h.answer → Every (IsOwn number) (halts_of_event number (replay setup earlier) n h rest)
   event_own earlier rest n h is = by (is_halted h.answer) refl

@@ -1,4 +1,4 @@
-use Rattle.pf_protocol.proofs.Claiming.{legal_goes_on, legal_before, replay_goes_on}
+use Rattle.pf_protocol.proofs.Moments.{legal_goes_on, legal_before, replay_goes_on}
 use Rattle.pf_protocol.proofs.kept.histories_go_on.Goals as goal
 
 pub returns : goal.returns

@@ -2,7 +2,7 @@ use Rattle.std.proofs.Common.{◌<◌, ◌^◌, sym, subst}
 use Rattle.pf_restart.specs.Beginning.{setup_at}
 use Rattle.pf_applying.specs.Fetching.{fetch_refusal}
 use Rattle.pf_protocol.specs.Leading.{on_fetch}
-use Rattle.pf_protocol.proofs.Asked.{fetch_asks_next}
+use Rattle.pf_protocol.proofs.ForRows.{fetch_asks_next}
 use Rattle.pf_server.specs.declared.ends.Before.{Before}
 use Rattle.pf_server.proofs.Bounds.{bounded_here, low_life}
 use Rattle.pf_server.proofs.Coming.{fetch_fits, fetch_roomy, row_comes, row_ends, row_told}

@@ -1,5 +1,5 @@
 use Rattle.std.proofs.Common.{◌<◌, ◌^◌, sym, subst}
-use Rattle.pf_protocol.proofs.Asked.{packet_asks}
+use Rattle.pf_protocol.proofs.ForRows.{packet_asks}
 use Rattle.pf_protocol.specs.Rows.{on_packet}
 use Rattle.pf_restart.specs.Beginning.{setup_at}
 use Rattle.pf_state.specs.Standing.{room_refusal}

@@ -2,7 +2,7 @@ use Rattle.std.proofs.Common.{◌<◌, ◌^◌, sym, subst}
 use Rattle.pf_restart.specs.Beginning.{setup_at}
 use Rattle.pf_state.specs.Standing.{room_refusal}
 use Rattle.pf_protocol.specs.Leading.{on_resend}
-use Rattle.pf_protocol.proofs.Asked.{resend_asks}
+use Rattle.pf_protocol.proofs.ForRows.{resend_asks}
 use Rattle.pf_server.specs.declared.ends.Before.{Before}
 use Rattle.pf_server.proofs.Bounds.{bounded_here, low_life, own_here}
 use Rattle.pf_server.proofs.Coming.{room_roomy, row_comes, row_ends, row_told}

@@ -2,7 +2,7 @@ use Rattle.std.proofs.Common.{◌<◌, ◌^◌, sym, subst}
 use Rattle.pf_restart.specs.Beginning.{setup_at}
 use Rattle.pf_leading.specs.Submitting.{submit_refusal}
 use Rattle.pf_protocol.specs.Leading.{on_submit}
-use Rattle.pf_protocol.proofs.Asked.{submit_asks}
+use Rattle.pf_protocol.proofs.ForRows.{submit_asks}
 use Rattle.pf_server.specs.declared.ends.Before.{Before}
 use Rattle.pf_server.proofs.Bounds.{bounded_here, low_life}
 use Rattle.pf_server.proofs.Coming.{row_comes, row_ends, row_told, submit_roomy}
