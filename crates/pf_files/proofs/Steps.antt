@@ -30,17 +30,8 @@ fills_first v t f first is = ap (λ n. fills v t f n) is
 pub fills_more : (v : Extent) (t : Tables) (f : Fill) (index : ℕ) → fills v t f (index + 1) ≡ fills v t f (suc index)
 fills_more v t f index = ap (λ n. fills v t f n) (add-one index)
 
--- past the end there is nothing to fill
-pub fills_none : (v : Extent) (t : Tables) (f : Fill) (index : ℕ) → end_of f ≤ index → Ends Fine ≡ fills v t f (suc index)
-fills_none v t f index past =
-    sym (ap (λ b. if b then fills_block v (block_at t f.inode (suc index)) f (suc index) else Ends Fine) (le-ltb _ _ (omega (arith, past))))
-
 pub gathers_more : (v : Extent) (t : Tables) (inode offset to index : ℕ) (bytes : List ℕ) → gathers v t inode offset to (index + 1) bytes ≡ gathers v t inode offset to (suc index) bytes
 gathers_more v t inode offset to index bytes = ap (λ n. gathers v t inode offset to n bytes) (add-one index)
-
-pub gathers_none : (v : Extent) (t : Tables) (inode offset to index : ℕ) (bytes : List ℕ) → block_count to ≤ index → Ends (BytesRead (wanted offset to bytes)) ≡ gathers v t inode offset to (suc index) bytes
-gathers_none v t inode offset to index bytes past =
-    sym (ap (λ b. if b then Asks (reads_block v (block_at t inode (suc index))) (Gathers inode offset to (suc index) bytes) else Ends (BytesRead (wanted offset to bytes))) (le-ltb _ _ (omega (arith, past))))
 
 -- a write of some bytes, and a truncate that grows
 pub write_moves : (v : Extent) (t : Tables) (size : ℕ) (p : Path) (offset byte count inode : ℕ) → 0 < count → inode ≡ found t p → fills_file v t (record { inode = inode; size = size; start = offset; byte = byte; count = count }) ≡ moves v t size (Write p offset byte count)

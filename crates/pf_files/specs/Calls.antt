@@ -6,8 +6,7 @@ use Rattle.pf_tree.specs.declared.calls.FileCall.TheVariants.{Write, Read, Trunc
 use Rattle.pf_tree.specs.declared.changes.Change.{Change}
 use Rattle.pf_tree.specs.declared.changes.Txn.{Txn}
 use Rattle.pf_tree.specs.Paths.{Path}
-use Rattle.pf_tree.specs.Trees.{Data, Tree, refusal, size_at}
-use Rattle.pf_tree.specs.Standing.{StandsFor}
+use Rattle.pf_tree.specs.Trees.{Data, refusal, size_at}
 use Rattle.pf_tree.specs.Tables.{Tables, applied, changes, node_at, tables_sight}
 use Rattle.pf_files.specs.declared.calls.Pending.{Pending}
 use Rattle.pf_files.specs.declared.calls.Planned.{Planned}
@@ -60,10 +59,6 @@ pub record WorkIs : Type 0 where
 -- file data begin at block 513
 abbrev pub data_of : Tables → Data
 data_of tables = record { first = 513; blocks = length tables.tags }
-
--- the tables stand for some tree
-abbrev pub AreSound : Tables → Type 0
-AreSound tables = (tree : Tree) × StandsFor (data_of tables) tables tree
 
 abbrev pub plan_of : (mount : ℕ) → Extent → Tables → Option Pending → Option Planned
 plan_of mount v tables None = None

@@ -17,9 +17,6 @@ use pf_volume::Volume;
 use std::alloc::Global;
 use std::marker::Model;
 
-/// The first block of file data.
-const FIRST: u32 = 513;
-
 /// A call that has not ended, with its number.
 #[derive(Debug, Drop)]
 pub struct Pending {

@@ -103,31 +103,15 @@ fn fills(
     volume: &Volume,
     tree: &Tree,
     fill: Fill,
-    index: u32,
+    index: u64,
 ) -> Result<Moved, NoMemory>
     requires { IsTreeOf volume.now tree.now.tables }
     ensures { IfOk result (λ step. step ≡ fills volume.now tree.now.tables fill index) }
 {
-    if (index as u64) < end_of(&fill) {
+    if index < end_of(&fill) {
+        let index = index as u32;
         let block = block_at(volume, tree, fill.inode, index);
         return fills_block(alloc, volume, block, fill, index);
-    }
-    Ok(Moved::Ends(CallAnswer::Fine))
-}
-
-/// Fills the blocks past this index.
-fn fills_next(
-    alloc: Global,
-    volume: &Volume,
-    tree: &Tree,
-    fill: Fill,
-    index: u32,
-) -> Result<Moved, NoMemory>
-    requires { IsTreeOf volume.now tree.now.tables }
-    ensures { IfOk result (λ step. step ≡ fills volume.now tree.now.tables fill (suc index)) }
-{
-    if (index as u64) < end_of(&fill) {
-        return fills(alloc, volume, tree, fill, index + 1);
     }
     Ok(Moved::Ends(CallAnswer::Fine))
 }
@@ -140,13 +124,14 @@ fn gathers(
     inode: u16,
     offset: u32,
     to: u32,
-    index: u32,
+    index: u64,
     bytes: Vec<u8>,
 ) -> Result<Moved, NoMemory>
     requires { IsTreeOf volume.now tree.now.tables }
     ensures { IfOk result (λ step. step ≡ gathers volume.now tree.now.tables inode offset to index bytes.items) }
 {
-    if (index as u64) < count_blocks(to as u64) {
+    if index < count_blocks(to as u64) {
+        let index = index as u32;
         let ask = reads_block(volume, block_at(volume, tree, inode, index));
         let moving = Moving::Gathers {
             inode,
@@ -156,26 +141,6 @@ fn gathers(
             bytes: Bytes::new(bytes),
         };
         return Ok(Moved::Asks(ask, moving));
-    }
-    gives(alloc, offset, to, &bytes)
-}
-
-/// Reads the blocks past this index, up to the end of what is wanted.
-fn gathers_next(
-    alloc: Global,
-    volume: &Volume,
-    tree: &Tree,
-    inode: u16,
-    offset: u32,
-    to: u32,
-    index: u32,
-    bytes: Vec<u8>,
-) -> Result<Moved, NoMemory>
-    requires { IsTreeOf volume.now tree.now.tables }
-    ensures { IfOk result (λ step. step ≡ gathers volume.now tree.now.tables inode offset to (suc index) bytes.items) }
-{
-    if (index as u64) < count_blocks(to as u64) {
-        return gathers(alloc, volume, tree, inode, offset, to, index + 1, bytes);
     }
     gives(alloc, offset, to, &bytes)
 }
@@ -194,7 +159,7 @@ fn fills_file(alloc: Global, volume: &Volume, tree: &Tree, fill: Fill) -> Result
     ensures { IfOk result (λ step. step ≡ fills_file volume.now tree.now.tables fill) }
 {
     let first = first_of(&fill);
-    fills(alloc, volume, tree, fill, first)
+    fills(alloc, volume, tree, fill, first as u64)
 }
 
 /// Reads a file from one place up to another.
@@ -211,7 +176,16 @@ fn reads_file(
 {
     let none = Vec::new(alloc);
     if offset < to {
-        return gathers(alloc, volume, tree, inode, offset, to, offset / 4096, none);
+        return gathers(
+            alloc,
+            volume,
+            tree,
+            inode,
+            offset,
+            to,
+            (offset / 4096) as u64,
+            none,
+        );
     }
     Ok(Moved::Ends(CallAnswer::Bytes(Bytes::new(none))))
 }
@@ -312,7 +286,7 @@ fn goes_on(alloc: Global, volume: &Volume, tree: &Tree, moving: &Moving) -> Resu
     ensures { IfOk result (λ step. step ≡ moves_on volume.now tree.now.tables moving.now Reply.Written) }
 {
     match moving {
-        Moving::Stores { fill, index } => fills_next(alloc, volume, tree, *fill, *index),
+        Moving::Stores { fill, index } => fills(alloc, volume, tree, *fill, *index as u64 + 1),
         _ => Ok(Moved::Ends(CallAnswer::Fine)),
     }
 }
@@ -344,7 +318,16 @@ fn takes(
             bytes,
         } => {
             let all = joined(alloc, bytes.as_slice(), sectors.as_slice())?;
-            gathers_next(alloc, volume, tree, *inode, *offset, *to, *index, all)
+            gathers(
+                alloc,
+                volume,
+                tree,
+                *inode,
+                *offset,
+                *to,
+                *index as u64 + 1,
+                all,
+            )
         }
         Moving::Stores { .. } => Ok(Moved::Ends(CallAnswer::Fine)),
     }

@@ -1,9 +1,9 @@
-use Rattle.std.proofs.Common.{ℕ, suc, List, ◌++◌, sym, ap, ◌∙◌}
+use Rattle.std.proofs.Common.{ℕ, suc, ◌+◌, List, ◌++◌, sym, ap, ◌∙◌}
 use Rattle.pf_base.specs.declared.asks.Reply.TheVariants.{Bytes}
 use Rattle.pf_files.specs.declared.moving.Moving.{Moving}
 use Rattle.pf_files.specs.Blocks.{bytes_of}
 use Rattle.pf_files.specs.Moving.{block_at, gathers, moves_on, stores}
-use Rattle.pf_files.proofs.Steps.{ok_along}
+use Rattle.pf_files.proofs.Steps.{ok_along, gathers_more}
 use Rattle.pf_files.proofs.moving.takes.Goals as goal
 
 pub returns-in_ok-bytes-in-Fetches : goal.returns-in_ok-bytes-in-Fetches
@@ -30,12 +30,12 @@ returns-in_ok-all-in-Gathers c =
     let t = c.args.tree.now.tables in
     let g = c.in-Gathers in
     let sectors = c.args.sectors.now in
-    ok_along c.gathers_next.result
-    (gathers v t g.inode g.offset g.to (suc g.index) c.in_ok-all-in-Gathers.all.items)
+    ok_along c.gathers.result
+    (gathers v t g.inode g.offset g.to (g.index + 1) c.in_ok-all-in-Gathers.all.items)
     (moves_on v t c.args.moving.now (Bytes sectors))
     (
-    ap (λ (bytes : List ℕ). gathers v t g.inode g.offset g.to (suc g.index) bytes)
+    gathers_more v t g.inode g.offset g.to g.index c.in_ok-all-in-Gathers.all.items ∙ ap (λ (bytes : List ℕ). gathers v t g.inode g.offset g.to (suc g.index) bytes)
     (c.in_ok-all-in-Gathers.ensures.bytes ∙ ap (λ (bytes : List ℕ). bytes ++ bytes_of c.as_slice-in-Gathers-2.result.now) c.as_slice-in-Gathers.ensures ∙ ap (λ (s : List (List ℕ)). g.bytes ++ bytes_of s) c.as_slice-in-Gathers-2.ensures)
     ∙ ap (λ (m : Moving). moves_on v t m (Bytes sectors)) (sym g.is)
     )
-    c.gathers_next.ensures
+    c.gathers.ensures
