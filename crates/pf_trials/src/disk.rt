@@ -1,5 +1,5 @@
 //! Disks in memory: what a read gives, and which calls fail.
-use pf_disk::{Disk, Failed, MemDisk, RamDisk};
+use pf_disk::{Disk, Failed, MemDisk};
 use std::test::Fail;
 
 #[test]
@@ -22,21 +22,5 @@ fn a_disk_in_memory(rt: HostRuntime) -> Result<(), Fail> {
     assert_eq!(rt; disk.bytes(), b"ab".as_slice());
     assert_eq!(rt; disk.cut(4), Ok(()));
     assert_eq!(rt; disk.bytes(), b"ab\0\0".as_slice());
-    Ok(())
-}
-
-#[test]
-fn a_disk_that_never_crashes(rt: HostRuntime) -> Result<(), Fail> {
-    let mut disk = RamDisk::new(rt.alloc(), 10)?;
-    assert_eq!(rt; disk.write_at(8, b"abc"), Err(Failed));
-    assert_eq!(rt; disk.write_at(7, b"abc"), Ok(()));
-    assert_eq!(rt; disk.cut(9), Ok(()));
-    assert_eq!(rt; disk.cut(11), Err(Failed));
-    assert_eq!(rt; disk.sync(), Ok(()));
-    assert_eq!(rt; disk.len(), Ok(9));
-    let mut buf = [1u8; 3];
-    assert_eq!(rt; disk.read(6, &mut buf), Ok(3));
-    assert_eq!(rt; buf, [0, 97, 98]);
-    assert_eq!(rt; disk.bytes(), b"\0\0\0\0\0\0\0ab".as_slice());
     Ok(())
 }

@@ -10,16 +10,6 @@ mod crew;
 #[cfg(test)]
 mod disk;
 #[cfg(test)]
-mod filling;
-#[cfg(test)]
-mod image;
-#[cfg(test)]
-mod kept;
-#[cfg(test)]
-mod leadercell;
-#[cfg(test)]
-mod opening;
-#[cfg(test)]
 mod rings;
 #[cfg(test)]
 mod shared;

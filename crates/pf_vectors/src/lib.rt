@@ -4,30 +4,14 @@
 #![tactic(auto)]
 
 #[cfg(test)]
-mod asks;
-#[cfg(test)]
-mod election;
-#[cfg(test)]
-mod io;
-#[cfg(test)]
 mod journal;
 #[cfg(test)]
 mod layout;
-#[cfg(test)]
-mod look;
-#[cfg(test)]
-mod paxos;
-#[cfg(test)]
-mod protocol;
-#[cfg(test)]
-mod script;
 #[cfg(test)]
 mod spelling;
 #[cfg(test)]
 mod tree;
 #[cfg(test)]
 mod txn;
-#[cfg(test)]
-mod volume;
 #[cfg(test)]
 mod wire;
