@@ -1,5 +1,7 @@
 //! A server of a new group, in memory.
-ghost use Rattle.std.specs.Prelude.{◌≡◌, IfOk};
+ghost use Rattle.std.specs.Prelude.{◌≡◌, IfOk, replicate};
+ghost use Rattle.std.specs.FinMap as map;
+ghost use Rattle.pf_entry.specs.Sets as set;
 ghost use Rattle.pf_entry.specs.Records.{image_of};
 ghost use Rattle.pf_spelling.specs.Spelling.{body_bytes};
 ghost use Rattle.pf_protocol.specs.Groups.{opening_disk};
@@ -12,12 +14,12 @@ ghost use Rattle.pf_opening.specs.Rooms.{IsFresh};
 use pf_base::{NoMemory, Server};
 use pf_election::Probes;
 use pf_entry::Record;
-use pf_holes::{HoleLog, Ring, SlotSet};
+use pf_holes::{HoleLog, SlotSet};
 use pf_restart::Seat;
 use pf_sectors::SectorTable;
 use pf_spelling::spell_record;
-use pf_state::{Leader, Replies, Role, Running, vote_of};
-use pf_tables::{Acks, Known, Snapshots, StartTable};
+use pf_state::{Idle, Leader, Replies, Role, Running, vote_of};
+use pf_tables::{Acks, Known, StartTable};
 use std::alloc::Global;
 
 /// The first term of a group.
@@ -48,7 +50,23 @@ pub fn fresh(alloc: Global, seat: &Seat) -> Result<Running, NoMemory>
     requires { IsSeat seat.now }
     ensures { IfOk result (IsFresh seat.now) }
 {
-    Ok(Running {
+    let log = HoleLog::new(alloc)?;
+    let sectors = SectorTable::open(alloc, seat.sectors)?;
+    let idle = Idle::new(alloc)?;
+    Ok(first_life(alloc, seat, log, sectors, idle))
+}
+
+/// The same, with its memory.
+fn first_life(alloc: Global, seat: &Seat, log: HoleLog, sectors: SectorTable, idle: Idle) -> Running
+    requires seat { IsSeat seat.now }
+    requires log { log ≡ record { base = 0; entries = map.empty; marks = set.empty } }
+    requires sectors { sectors ≡ replicate seat.now.sectors (replicate 512 0) }
+    requires in_hand { idle.in_hand ≡ map.empty }
+    requires rooms { idle.rooms ≡ map.empty }
+    requires snapshots { idle.snapshots ≡ map.empty }
+    ensures { IsFresh seat.now result }
+{
+    Running {
         number: seat.number,
         life: 0,
         names: seat.names,
@@ -56,17 +74,17 @@ pub fn fresh(alloc: Global, seat: &Seat) -> Result<Running, NoMemory>
         term: FIRST_TERM,
         generation: 0,
         starts: StartTable::new(alloc),
-        log: HoleLog::new(alloc)?,
+        log,
         role: opening_role(alloc, seat.number),
         applied: SlotSet::new(alloc),
-        sectors: SectorTable::open(alloc, seat.sectors)?,
-        in_hand: Ring::new(alloc)?,
+        sectors,
+        in_hand: idle.in_hand,
         jobs: 0,
-        rooms: Ring::new(alloc)?,
+        rooms: idle.rooms,
         reads: Probes::new(alloc),
         replies: Replies::new(alloc),
-        snapshots: Snapshots::new(alloc)?,
-    })
+        snapshots: idle.snapshots,
+    }
 }
 
 /// The body of the image with which the records of such a server begin. `NoMemory` (1) where there is none for it.

@@ -1,5 +1,6 @@
 //! A new life.
 ghost use Rattle.std.specs.Prelude.{◌≡◌, ◌<◌, ◌^◌, ℕ, IfErr, IfOk, IsErrOf};
+ghost use Rattle.std.specs.FinMap as map;
 ghost use Rattle.pf_entry.specs.Records.{Durable};
 ghost use Rattle.pf_entry.specs.Sets as set;
 ghost use Rattle.pf_store.specs.Stores.{StandsFor};
@@ -14,11 +15,10 @@ use crate::recovery::{Recovered, recover};
 use crate::{RestartFault, Seat};
 use pf_base::NoMemory;
 use pf_election::Probes;
-use pf_holes::{Ring, SlotSet};
+use pf_holes::SlotSet;
 use pf_sectors::SectorTable;
-use pf_state::{Replies, Role, Running};
+use pf_state::{Idle, Replies, Role, Running};
 use pf_store::Found;
-use pf_tables::Snapshots;
 use std::alloc::Global;
 
 /// Begins a life over what was read, as a follower without committed slots, jobs or reads.
@@ -28,35 +28,40 @@ fn begin(alloc: Global, seat: &Seat, life: u64, tables: Recovered) -> Result<Run
     requires unmarked { tables.log.marks ≡ set.empty }
     ensures { IfOk result (λ me. IsRevived (state_in tables) me seat.now life) }
 {
-    let Recovered {
-        format: _,
-        used: _,
-        generation,
-        term,
-        starts,
-        log,
-        applied,
-        sectors,
-    } = tables;
-    Ok(Running {
+    let idle = Idle::new(alloc)?;
+    Ok(seated(alloc, seat, life, tables, idle))
+}
+
+/// The same, with its memory.
+fn seated(alloc: Global, seat: &Seat, life: u64, tables: Recovered, idle: Idle) -> Running
+    requires seat { IsSeat seat.now }
+    requires begun { HasBegun (setup_at seat.now) (state_in tables) }
+    requires unmarked { tables.log.marks ≡ set.empty }
+    requires in_hand { idle.in_hand ≡ map.empty }
+    requires rooms { idle.rooms ≡ map.empty }
+    requires snapshots { idle.snapshots ≡ map.empty }
+    ensures { IsRevived (state_in tables) result seat.now life }
+{
+    let base = tables.log.base();
+    Running {
         number: seat.number,
         life,
         names: seat.names,
         format: seat.format,
-        term,
-        generation,
-        starts,
-        applied: SlotSet::with_prefix(log.base(), applied),
-        log,
+        term: tables.term,
+        generation: tables.generation,
+        starts: tables.starts,
+        applied: SlotSet::with_prefix(base, tables.applied),
+        log: tables.log,
         role: Role::Follower,
-        sectors: SectorTable::from_sectors(sectors),
-        in_hand: Ring::new(alloc)?,
+        sectors: SectorTable::from_sectors(tables.sectors),
+        in_hand: idle.in_hand,
         jobs: 0,
-        rooms: Ring::new(alloc)?,
+        rooms: idle.rooms,
         reads: Probes::new(alloc),
         replies: Replies::new(alloc),
-        snapshots: Snapshots::new(alloc)?,
-    })
+        snapshots: idle.snapshots,
+    }
 }
 
 /// Begins a life over the records that were found. `NoMemory` (1) where there is no memory for it, and `NotOurs` (42) where

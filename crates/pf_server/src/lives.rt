@@ -1,10 +1,11 @@
 //! A server stops, and begins again.
-ghost use Rattle.std.specs.Prelude.{◌≡◌, ◌<◌, ◌^◌, suc, [], IsTrue, MatchOption, false};
+ghost use Rattle.std.specs.Prelude.{◌≡◌, ◌<◌, ◌^◌, suc, [], Err, IsTrue, MatchOption, false};
 ghost use Rattle.pf_protocol.specs.Servers.{Condition, Server as ServerIs, Running as RunningIs, Stopped as StoppedIs};
 ghost use Rattle.pf_server.specs.Beginning.{IsLast, Restarts, doubt_after, found_by};
+ghost use Rattle.pf_server.specs.Ending.{quieted};
 ghost use Rattle.pf_server.specs.Conditions.{IsInOrder, IsKnown, Meets, answers_of, runs};
 ghost use Rattle.pf_server.specs.Turns.{BeginsAgain, WasBegunIn};
-ghost use Rattle.pf_server.specs.declared.state.State.TheVariants.{Unformatted as UnformattedState};
+ghost use Rattle.pf_server.specs.declared.state.State.TheVariants.{Runs as RunsState, Unformatted as UnformattedState};
 
 use crate::ends::forget;
 use crate::{Doubt, Server, State};
@@ -53,6 +54,21 @@ fn known_after(doubt: Doubt, read: Reading) -> Doubt
     }
 }
 
+/// Takes another state. (Apart, since the old one is let go here, whatever it was.)
+fn take_state(state: &mut State, next: State)
+    ensures { state.new ≡ next }
+{
+    *state = next;
+}
+
+/// The state of a server that runs. Answers that nobody took are dropped.
+fn as_running(mut me: Running) -> State
+    ensures { result ≡ RunsState (quieted me) }
+{
+    forget(&mut me.replies);
+    State::Runs(me)
+}
+
 /// What comes of a restart after this life.
 fn begin(
     state: &mut State,
@@ -64,28 +80,39 @@ fn begin(
     ensures { Restarts life doubt state.old state.new begun result }
 {
     match begun {
-        Ok((mut me, read)) => {
-            forget(&mut me.replies);
-            *state = State::Runs(me);
+        Ok((me, read)) => {
+            take_state(state, as_running(me));
             Ok((Answer::Done, is_found(doubt, read)))
         }
-        Err(RestartFault::NoMemory) => Err(NoMemory),
-        Err(RestartFault::ReadHalted) => {
-            *state = State::Stopped {
-                life: life + 1,
-                doubt,
-            };
+        Err(fault) => stay(state, life, doubt, fault),
+    }
+}
+
+/// What comes of a restart after this life that failed.
+fn stay(
+    state: &mut State,
+    life: u64,
+    doubt: Doubt,
+    fault: RestartFault,
+) -> Result<(Answer, bool), NoMemory>
+    requires { life < 2 ^ 63 }
+    ensures { Restarts life doubt state.old state.new (Err fault) result }
+{
+    match fault {
+        RestartFault::NoMemory => Err(NoMemory),
+        RestartFault::ReadHalted => {
+            let life = life + 1;
+            take_state(state, State::Stopped { life, doubt });
             Ok((Answer::Refused(Refusal::Halted), false))
         }
-        Err(RestartFault::SaveHalted(read)) => {
-            *state = State::Stopped {
-                life: life + 1,
-                doubt: known_after(doubt, read),
-            };
+        RestartFault::SaveHalted(read) => {
+            let life = life + 1;
+            let known = known_after(doubt, read);
+            take_state(state, State::Stopped { life, doubt: known });
             Ok((Answer::Refused(Refusal::Halted), is_found(doubt, read)))
         }
-        Err(RestartFault::NotOurs) => {
-            *state = State::Stopped { life, doubt };
+        RestartFault::NotOurs => {
+            take_state(state, State::Stopped { life, doubt });
             Ok((Answer::Refused(Refusal::NotOurs), false))
         }
     }

@@ -7,6 +7,7 @@
 mod adding;
 mod copies;
 mod faults;
+mod idle;
 mod outbox;
 mod replies;
 mod running;
@@ -15,6 +16,7 @@ mod sending;
 pub use adding::{add, save};
 pub use copies::{copied_above, vote_of};
 pub use faults::StepFault;
+pub use idle::Idle;
 pub use outbox::Outbox;
 pub use replies::Replies;
 pub use running::{Leader, Role, Running};
