@@ -37,6 +37,30 @@ pub struct Plan<D: Disk> {
     past: Past,
 }
 
+/// The memory of one server with this number. `NoMemory` (1) where there is none for it.
+fn room_of(alloc: Global, group: u8, seat: Seat, number: Number) -> Result<ServerRoom, NoMemory>
+    requires setup { IsSetup (setup_at seat) }
+    requires number { number < 3 }
+    ensures { IfOk result (λ room. room ≡ record { group = group; seat = record seat { number = number } }) }
+{
+    ServerRoom::new(alloc, group, Seat { number, ..seat })
+}
+
+/// The memory of servers 1 and 2. `NoMemory` (1) where there is none for it.
+fn two_rooms(alloc: Global, group: u8, seat: Seat) -> Result<(ServerRoom, ServerRoom), NoMemory>
+    requires { IsSetup (setup_at seat) }
+    ensures { IfOk result (λ made. (made.0 ≡ record { group = group; seat = record seat { number = 1 } }) × (made.1 ≡ record { group = group; seat = record seat { number = 2 } })) }
+{
+    let one = room_of(alloc, group, seat, 1)?;
+    match room_of(alloc, group, seat, 2) {
+        Ok(two) => Ok((one, two)),
+        Err(fault) => {
+            drop(one);
+            Err(fault)
+        }
+    }
+}
+
 /// The memory of the three servers. `NoMemory` (1) where there is none for it.
 fn rooms(
     alloc: Global,
@@ -46,10 +70,14 @@ fn rooms(
     requires { IsSetup (setup_at seat) }
     ensures { IfOk result (λ made. (made.0 ≡ record { group = number; seat = record seat { number = 0 } }) × (made.1 ≡ record { group = number; seat = record seat { number = 1 } }) × (made.2 ≡ record { group = number; seat = record seat { number = 2 } })) }
 {
-    let zero = ServerRoom::new(alloc, number, Seat { number: 0, ..seat })?;
-    let one = ServerRoom::new(alloc, number, Seat { number: 1, ..seat })?;
-    let two = ServerRoom::new(alloc, number, Seat { number: 2, ..seat })?;
-    Ok((zero, one, two))
+    let zero = room_of(alloc, number, seat, 0)?;
+    match two_rooms(alloc, number, seat) {
+        Ok((one, two)) => Ok((zero, one, two)),
+        Err(fault) => {
+            drop(zero);
+            Err(fault)
+        }
+    }
 }
 
 /// A cluster without servers. `NoMemory` (1) where there is none for it.
