@@ -25,6 +25,9 @@ pub trait Disk {
     /// disk does not tell.
     ghost left_since: { Self → ℕ → List ℕ → Type 0 };
 
+    /// Whether disks of this type tell their content.
+    ghost tells: { Bool };
+
     /// Whether it tells what a crash inside a call leaves.
     ghost tells_moments: { Bool };
 
@@ -72,6 +75,9 @@ pub trait Disk {
         ensures crash { Keeps (may_leave self.old) (may_leave self.new) }
         ensures time { Elapses (moment self.old) (moment self.new) (left_since self.old) (left_since self.new) (may_leave self.new) }
         ensures cause { HasCause (faults self.old) (faults self.new) result };
+
+    /// Where disks of this type tell their content, each does.
+    ghost told: { IsTrue tells → (disk : Self) → IsTrue (is_some (seen disk)) };
 
     /// What it reads is among what a crash now may leave.
     ghost among: { (disk : Self) → IfSome (seen disk) (may_leave disk) };

@@ -98,6 +98,7 @@ impl MemDisk {
 }
 
 impl Disk for MemDisk {
+    ghost use Rattle.std.specs.Prelude.{refl};
     ghost use Rattle.pf_disk.specs.Laws.{no_other, now};
 
     ghost seen = { λ d. Some d.tape.bytes.items };
@@ -108,6 +109,8 @@ impl Disk for MemDisk {
 
     ghost left_since = { λ d. LeftSince d.tape.base.items d.tape.records.items d.tape.written.items };
 
+    ghost tells = { true };
+
     ghost tells_moments = { true };
 
     ghost faults = { λ d. d.faults };
@@ -115,6 +118,8 @@ impl Disk for MemDisk {
     ghost among = { λ d. d.tape.image };
 
     ghost counts_now = { λ d t c le image. now d.tape.base.items d.tape.records.items d.tape.written.items t c le image };
+
+    ghost told = { λ tells disk. refl };
 
     ghost only_now = { λ told d c left. no_other d.tape.base.items d.tape.records.items d.tape.written.items c left };
 

@@ -1,5 +1,5 @@
 //! A file in memory of which a crash leaves what it reads.
-ghost use Rattle.std.specs.Prelude.{◌≡◌, ◌⊎◌, ◌+◌, ◌≤◌, ◌<◌, ◌↔◌, [], false, min, is_some, IfOk, IsErr, IsOk, OnErr, OnOk, Some, length, vec_capacity, vec_len};
+ghost use Rattle.std.specs.Prelude.{◌≡◌, ◌⊎◌, ◌+◌, ◌≤◌, ◌<◌, ◌↔◌, [], false, true, min, is_some, IfOk, IsErr, IsOk, OnErr, OnOk, Some, length, vec_capacity, vec_len};
 ghost use Rattle.pf_disk.specs.Crashes.{Cut, Elapses, Follows, Keeps, Only, Torn};
 ghost use Rattle.pf_disk.specs.Files.{IsRead, overwritten, reach, resized};
 ghost use Rattle.pf_disk.specs.Causes.{HasCause, Rose};
@@ -65,6 +65,8 @@ impl Disk for RamDisk {
 
     ghost left_since = { λ _ _ _. Unit {0} };
 
+    ghost tells = { true };
+
     ghost tells_moments = { false };
 
     ghost faults = { λ d. d.faults };
@@ -72,6 +74,8 @@ impl Disk for RamDisk {
     ghost among = { λ d. refl };
 
     ghost counts_now = { λ d t c le left. tt };
+
+    ghost told = { λ tells disk. refl };
 
     ghost only_now = { λ told. Prim.cc told };
 

@@ -1,0 +1,6 @@
+//! Disks over real files.
+#![tactic(auto)]
+
+mod file;
+
+pub use file::FileDisk;
