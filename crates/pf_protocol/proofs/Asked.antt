@@ -4,6 +4,7 @@ use Rattle.std.specs.FinMap.{nat_cmp-IsAntisymmetric}
 use Rattle.std.specs.List.{filter}
 use Rattle.std.proofs.lemmas.Bool.{and_parts, and_from, or_left, ltb-true, lt-ltb, le-leb, not-false, false≢true}
 use Rattle.pf_base.specs.Span.{Span, fits_in, overlaps, IsWritable}
+use Rattle.pf_entry.specs.Lists.{Every}
 use Rattle.pf_entry.proofs.Lists.{every_append, every_more, every_map, every_filter}
 use Rattle.pf_entry.specs.Sets
 use Rattle.pf_entry.proofs.Sets.{contains-retain}
@@ -22,14 +23,14 @@ use Rattle.pf_protocol.specs.Servers.{Setup, Role, Follower, Candidate, Merging,
 use Rattle.pf_protocol.specs.Outcomes.{Outcome}
 use Rattle.pf_protocol.specs.Leading.{op_at, on_submit, on_fetch, on_elect, on_resend, confirm}
 use Rattle.pf_protocol.specs.Saving.{restarted, claimed, on_checkpoint, on_finish, on_give_back}
-use Rattle.pf_protocol.specs.Rows.{on_message, on_packet, is_ready, settled}
-use Rattle.pf_protocol.specs.Groups.{Sent, Group, Untouched, reads_after, step_of, at_server, ending, happens, opening, first_leader, opening_disk}
-use Rattle.pf_protocol.specs.Histories.{History, run, replay, Runs}
-use Rattle.pf_protocol.specs.Answers.{refuse, fetch_refusal, is_serving, room_refusal, fetch_turn, answer_at, answer_to, may_halt, MayHappen, IsAnswer, Claimed, claims_after, IsLegalNext, IsLegalFrom, IsLegal}
+use Rattle.pf_protocol.specs.Rows.{on_message, on_packet, is_ready, ready_reads, settled}
+use Rattle.pf_protocol.specs.Groups.{Sent, Answered, Group, Untouched, answer_of, reads_after, step_of, at_server, ending, happens, opening, first_leader, opening_disk}
+use Rattle.pf_protocol.specs.Histories.{History, replay, Runs}
+use Rattle.pf_protocol.specs.Answers.{refuse, fetch_refusal, is_serving, room_refusal, fetch_turn, answer_at, answer_to, may_halt, MayHappen, IsAnswer, Claimed, IsLegalNext, IsLegal}
 use Rattle.pf_protocol.specs.Asked.{IsAsked, AreAsked, AreBelow, Asks}
 use Rattle.pf_entry.proofs.Cases.{by_test}
 use Rattle.pf_protocol.proofs.Legal.{IsSilent, refuse_silent, room_silent, refuse_none, stands_or_silent, reads_low}
-use Rattle.pf_protocol.proofs.Stepping.{IsRule, BySubmit, ByPacket, ByElect, ByResend, ByFinish, ByGiveBack, ByCheckpoint, Steps, Came, Stays, Stepped, Begins, Claims, goes}
+use Rattle.pf_protocol.proofs.Stepping.{IsRule, BySubmit, ByPacket, ByElect, ByResend, ByFinish, ByGiveBack, ByCheckpoint, Steps, Came, Stays, Stepped, Begins, Claims, goes, adds_every, answers_of}
 use Rattle.pf_protocol.proofs.Moving.{new_read, TakesUp, ReadsFrom, NoReads, SameReads, Takes, Confirms, does}
 use Rattle.pf_protocol.proofs.Moments.{opened, legal_keeps}
 use Rattle.pf_entry.proofs.Ascents.{from_lower, rest_ascends}
@@ -228,7 +229,7 @@ module _ (setup : Setup) (g : Group) where
     counted_fits i range answer s (subst (λ e. IsAnswer setup g e answer) is legal) at (ap (λ e. (happens setup g e (ending answer)).reads) (sym is) ∙ counts),
   )
 
-abbrev AllAsk : Setup → Group → Type 0
+abbrev pub AllAsk : Setup → Group → Type 0
 AllAsk setup g = (i : ℕ) (s : Server) → Runs g i s → Asks setup.chunk g.reads s
 
 module _ (setup : Setup) (g : Group) (claims : List Claimed) (h : Happening) (legal : IsLegalNext setup g claims h) (all : AllAsk setup g) where
@@ -251,10 +252,21 @@ module _ (setup : Setup) (g : Group) (claims : List Claimed) (h : Happening) (le
   came_asks i _ (Begins life d) = restarted_asks setup.chunk after.reads i life d
   came_asks i _ (Claims s slot runs) = claimed_asks setup.chunk after.reads s slot (more_ask setup.chunk g.reads after.reads reads_rise s (all i s runs))
 
-  next_asks : AllAsk setup after
+  pub next_asks : AllAsk setup after
   next_asks i z at = came_asks i z ((goes setup g h.event (ending h.answer)).servers i z at)
 
-opening_asks : (setup : Setup) → AllAsk setup (opening setup)
+  -- a read that is answered was taken up
+  pub next_answered : Every (λ a. a.number < g.reads) g.answered → Every (λ a. a.number < after.reads) after.answered
+  next_answered below =
+      let low = λ (a : Answered). a.number < after.reads in
+      adds_every setup g h.event after answers_of g.answered after.answered low
+      (every_more (λ a. a.number < g.reads) low (λ a is. omega (arith, is, reads_rise)) g.answered below)
+      (λ i s o step.
+      let asks = step_asks setup.chunk g i s h.event o after.reads reads_rise (taken i s o step) (does setup g i s h.event o step.rule).reads (all i s step.runs) in
+      every_map low (answer_of o.server) (ready_reads o.server) (every_filter (λ r. low (answer_of o.server r)) (is_ready o.server) o.server.reads (every_more (λ r. r.number < after.reads) _ (λ r is _. is) o.server.reads asks.below)))
+      (goes setup g h.event (ending h.answer)).answered
+
+pub opening_asks : (setup : Setup) → AllAsk setup (opening setup)
 unfolding first_leader restarted
 opening_asks setup = opened setup (Asks setup.chunk (opening setup).reads)
     (none_ask setup.chunk (opening setup).reads (first_leader setup) refl)

@@ -1,5 +1,5 @@
 -- Open claims are in hand.
-use Rattle.std.proofs.Common.{◌≡◌, ℕ, suc, ◌+◌, ◌<◌, ◌≤◌, ◌≢◌, ◌⊎◌, inl, inr, Bool, true, false, cond, not, ◌&&◌, ◌||◌, ◌==◌, if◌then◌else◌, List, [], ◌∷◌, ◌++◌, Option, Some, None, is_some, nat_lt, nat_le, slice_get, slice_set, arith, refl, sym, ap, subst, ◌∙◌}
+use Rattle.std.proofs.Common.{◌≡◌, ℕ, suc, ◌+◌, ◌<◌, ◌≤◌, ◌≢◌, ◌⊎◌, inl, inr, Bool, true, false, cond, not, ◌&&◌, ◌||◌, ◌==◌, if◌then◌else◌, List, [], ◌∷◌, Option, Some, None, is_some, nat_lt, nat_le, slice_get, slice_set, arith, refl, sym, ap, subst, ◌∙◌}
 use Rattle.std.specs.List.{range_with_len}
 use Rattle.std.specs.FinMap
 use Rattle.std.specs.FinMap.{get-remove}
@@ -25,7 +25,6 @@ use Rattle.pf_protocol.specs.declared.answers.Answer.TheVariants.{Refused}
 use Rattle.pf_protocol.specs.declared.answers.Refusal.TheVariants.{Stale}
 use Rattle.pf_protocol.specs.declared.events.Event.{Event}
 use Rattle.pf_protocol.specs.declared.events.Event.TheVariants.{Submit, Fetch, Deliver, Lose, Elect, Resend, Stop, Restart, Claim, Finish, GiveBack, Checkpoint}
-use Rattle.pf_protocol.specs.declared.events.Happening.{Happening}
 use Rattle.pf_protocol.specs.Servers.{Setup, Role, Follower, Candidate, Merging, Serving, Server, Condition, Running, Stopped, Unformatted, upto}
 use Rattle.pf_protocol.specs.Outcomes.{Outcome, sends, refused, raise_term}
 use Rattle.pf_protocol.specs.Leading.{submitted, on_submit, on_fetch, on_elect, on_resend, merged, on_vote, marked, mark, on_ack, on_probe_ok, op_at}
@@ -33,9 +32,8 @@ use Rattle.pf_protocol.specs.Following.{meets_term, on_request_vote, accepted, o
 use Rattle.pf_protocol.specs.Rows.{on_message, on_packet, settled}
 use Rattle.pf_protocol.specs.Saving.{renewed, restarted, is_short_of, trimmed, on_checkpoint, claimed, claimable, is_claimable, applied_op, on_finish, on_give_back}
 use Rattle.pf_protocol.specs.Groups.{Sent, Group, Ending, Whole, CutOff, Missed, Untouched, acted, cut_off, ended, step_of, at_server, marked_in, delivered, lost, stopped, begun, restart, claim_of, claim_at, claim_or, first_claim, only, counted_election, ending, happens, opening}
-use Rattle.pf_protocol.specs.Histories.{History, IsPrefix, run, replay}
-use Rattle.pf_protocol.proofs.Moments.{run_longer}
-use Rattle.pf_protocol.specs.Answers.{Claimed, is_claim, claims_with, claims_without, claims_after, claims_of, IsOpen, claim_answer, claim_answer_at, answer_to, may_halt, IsAnswer, IsLegalNext, IsLegalFrom, IsLegal}
+use Rattle.pf_protocol.specs.Histories.{History, run, replay}
+use Rattle.pf_protocol.specs.Answers.{Claimed, is_claim, claims_with, claims_without, claims_after, claims_of, IsOpen, claim_answer, claim_answer_at, answer_to, may_halt, IsAnswer, IsLegalFrom, IsLegal}
 
 -- a step keeps the jobs in hand, or begins another life
 abbrev Keeps : Server → Server → Type 0
@@ -191,7 +189,7 @@ module _ (servers : List Condition) (claims : List Claimed) (open_now : Every (I
   server_open : (how : Ending) (g : Group) (i : ℕ) (rule : Server → Outcome) → g.servers ≡ servers → ((s : Server) → Keeps s (rule s).server) → Every (IsOpen (at_server how g i rule).servers) claims
   server_open how g i rule same keeps = step_open how g i (slice_get g.servers i) rule same (ap (λ x. slice_get x i) (sym same)) keeps
 
-  begun_open : (how : Ending) (g : Group) (i life : ℕ) (d before after : Durable) → g.servers ≡ servers → ((c : Claimed) → IsOpen servers c → c.server ≡ i → c.life ≤ life) → Every (IsOpen (begun how g i life d before after).servers) claims
+  pub begun_open : (how : Ending) (g : Group) (i life : ℕ) (d before after : Durable) → g.servers ≡ servers → ((c : Claimed) → IsOpen servers c → c.server ≡ i → c.life ≤ life) → Every (IsOpen (begun how g i life d before after).servers) claims
   unfolding restarted
   begun_open Whole g i life d before after same low =
       subst (λ x. Every (IsOpen (slice_set x i (Running (restarted i (suc life) (renewed d))))) claims) (sym same)
@@ -202,6 +200,15 @@ module _ (servers : List Condition) (claims : List Claimed) (open_now : Every (I
       subst (λ x. Every (IsOpen (slice_set x i (Stopped (suc life) before after))) claims) (sym same) (all_stop i (suc life) before after (λ c is same_server. let le = low c is same_server in omega (arith, le)))
   begun_open Missed g i life d before after same low = subst (λ x. Every (IsOpen x) claims) (sym same) open_now
   begun_open Untouched g i life d before after same low = subst (λ x. Every (IsOpen x) claims) (sym same) open_now
+
+  -- over any state
+  pub over_open : (g : Group) (i life : ℕ) (d : Durable) → g.servers ≡ servers → ((c : Claimed) → IsOpen servers c → c.server ≡ i → c.life ≤ life) → Every (IsOpen (slice_set g.servers i (Running (restarted i (suc life) d)))) claims
+  unfolding restarted
+  over_open g i life d same low =
+      subst (λ x. Every (IsOpen (slice_set x i (Running (restarted i (suc life) d)))) claims) (sym same)
+      (every_more (IsOpen servers) (IsOpen (slice_set servers i (Running (restarted i (suc life) d)))) (λ c is. runs_on i (restarted i (suc life) d) c is (λ same_server.
+      let le = low c is same_server in
+      (omega (arith, le), λ now. absurd (omega (arith, le, now))))) claims open_now)
 
   restart_open : (how : Ending) (g : Group) (i : ℕ) (found : Bool) (c : Option Condition) → g.servers ≡ servers → slice_get servers i ≡ c → Every (IsOpen (restart how g i found c).servers) claims
   restart_open how g i found (Some (Running s)) same at = begun_open how g i s.life s.durable s.durable s.durable same (λ c is same_server. (open_at i s c at is same_server).0)
@@ -367,7 +374,7 @@ deliver_open setup g claims open_now how k (Some p) =
     (λ _. server_open g.servers claims open_now how (marked_in how g k p) p.packet.to (λ s. on_packet setup s p.packet) (marked_servers how g k p) (λ s. message_keeps s setup p.packet.from p.packet.term p.packet.body))
 
 -- every event
-happens_open : (setup : Setup) (g : Group) (claims : List Claimed) → Every (IsOpen g.servers) claims → (event : Event) (answer : Answer) → IsAnswer setup g event answer → Every (IsOpen (happens setup g event (ending answer)).servers) (claims_after claims event answer)
+pub happens_open : (setup : Setup) (g : Group) (claims : List Claimed) → Every (IsOpen g.servers) claims → (event : Event) (answer : Answer) → IsAnswer setup g event answer → Every (IsOpen (happens setup g event (ending answer)).servers) (claims_after claims event answer)
 unfolding happens answer_to may_halt
 happens_open setup g claims open_now (Submit i op) answer legal = server_open g.servers claims open_now (ending answer) g i _ refl (λ s. submit_keeps s setup op s.role)
 happens_open setup g claims open_now (Fetch i range) answer legal = server_open g.servers claims open_now (ending answer) g i _ refl (λ s. fetch_keeps s range g.reads s.role)

@@ -32,3 +32,7 @@ pub use Rattle.pf_protocol.proofs.Asked.{legal_asks}
 pub use Rattle.pf_protocol.proofs.Room.{legal_room, HasRoom}
 -- a group has three servers, each runs under its number, and what a leader holds above its checkpoint and below its next slot is of its term
 pub use Rattle.pf_protocol.proofs.Members.{is_member, its_number, own_entries}
+-- also where a restart may have begun from any state that fits: a new group is viable, and each legal event and each such restart leaves a viable
+-- group, whose packets have spellings and whose servers have few starts
+pub use Rattle.pf_protocol.proofs.Elected.{terms_after}
+pub use Rattle.pf_protocol.proofs.Staying.{viable_opening, viable_goes, viable_begins, viable_over, viable_packets, viable_starts}

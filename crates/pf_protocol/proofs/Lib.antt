@@ -40,6 +40,8 @@ mod Between
 mod Asked
 mod Room
 mod Worked
+mod Elected
+mod Staying
 mod Replays
 mod EarlyApply
 mod Answering

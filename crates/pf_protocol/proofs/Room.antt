@@ -146,7 +146,7 @@ module _ (g : Group) (room : HasRoom g) where
   stopped_room i (Some Unformatted) = room
   stopped_room i None = room
 
-  begun_room : (how : Ending) (i life : ℕ) (d before after : Durable) → HasRoom (begun how g i life d before after)
+  pub begun_room : (how : Ending) (i life : ℕ) (d before after : Durable) → HasRoom (begun how g i life d before after)
   begun_room Whole i life d before after = record { count = room.count; bytes = room.bytes }
   begun_room CutOff i life d before after = record { count = room.count; bytes = room.bytes }
   begun_room Missed i life d before after = room
@@ -218,7 +218,7 @@ deliver_room setup g room k (Some p) answer at legal =
     legal
 
 -- every event
-happens_room : (setup : Setup) (g : Group) → HasRoom g → (event : Event) (answer : Answer) → IsAnswer setup g event answer → HasRoom (happens setup g event (ending answer))
+pub happens_room : (setup : Setup) (g : Group) → HasRoom g → (event : Event) (answer : Answer) → IsAnswer setup g event answer → HasRoom (happens setup g event (ending answer))
 unfolding happens answer_to may_halt
 happens_room setup g room (Submit i op) answer legal = turn_room g g (itself g) room i (submit_turn setup g op) answer (submit_silent setup g op) (submit_judged setup g op) legal
 happens_room setup g room (Fetch i range) answer legal = turn_room g g (itself g) room i (fetch_turn setup g range) answer (fetch_silent setup g range) (fetch_judged setup g range) (inl (unhalted answer _ legal))
@@ -233,7 +233,7 @@ happens_room setup g room (Finish i life slot) answer legal = without_packets g 
 happens_room setup g room (GiveBack i life slot) answer legal = without_packets g room (ending answer) i (λ s. on_give_back s life slot) (give_back_packets life slot)
 happens_room setup g room (Checkpoint i) answer legal = turn_room g g (itself g) room i (plain g on_checkpoint) answer (λ s. room_silent g (on_checkpoint s)) (λ s none. none) legal
 
-opening_room : (setup : Setup) → HasRoom (opening setup)
+pub opening_room : (setup : Setup) → HasRoom (opening setup)
 unfolding opening most_packets most_packet_bytes
 opening_room setup = record { count = omega arith; bytes = omega arith }
 

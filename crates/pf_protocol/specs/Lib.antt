@@ -16,6 +16,8 @@ pub mod Snapshots
 pub mod Answers
 pub mod Fitting
 pub mod Asked
+pub mod Elected
+pub mod Viable
 pub mod Shown
 pub mod EarlyApply
 pub mod PastTheNames

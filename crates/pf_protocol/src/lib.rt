@@ -10,6 +10,7 @@ mod events;
 mod examples;
 mod kept;
 mod laws;
+mod viable;
 
 pub use answers::{Answer, Refusal};
 pub use events::{Event, Happening};
@@ -30,3 +31,4 @@ pub use laws::{
     nothing_old_is_taken, one_leader_to_a_term, ports_are_ordered, ports_follow_each_other,
     reads_are_fresh, snapshots_hold_all_slots,
 };
+pub use viable::{groups_stay_viable, starts_stay_few};
