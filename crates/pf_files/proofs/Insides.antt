@@ -7,7 +7,8 @@ use Rattle.pf_base.specs.declared.asks.Reply.TheVariants.{Written, Bytes}
 use Rattle.pf_volume.specs.Volumes.{Extent, IsVolume, size_of}
 use Rattle.pf_tree.specs.declared.calls.FileCall.{FileCall}
 use Rattle.pf_tree.specs.declared.calls.FileCall.TheVariants.{Mkdir, Create, Write, Read, Truncate, Rename, Unlink, Rmdir, Stat, Listing}
-use Rattle.pf_tree.specs.Tables.{Tables, block_of, found}
+use Rattle.pf_inodes.specs.Tables.{Tables, block_of}
+use Rattle.pf_tree.specs.Plans.{found}
 use Rattle.pf_tree.specs.Trees.{block_count}
 use Rattle.pf_files.specs.declared.answers.CallAnswer.TheVariants.{Fine, Bytes as BytesRead}
 use Rattle.pf_files.specs.declared.filling.Fill.{Fill}

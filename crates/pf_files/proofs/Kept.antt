@@ -1,10 +1,10 @@
 -- The count of blocks stays.
 use Rattle.std.proofs.Common.{◌≡◌, Option, Some, None, sym, subst, ◌∙◌}
 use Rattle.pf_volume.specs.Volumes.{Extent}
-use Rattle.pf_tree.specs.declared.changes.Txn.{Txn}
-use Rattle.pf_tree.specs.Shelves.{Held}
-use Rattle.pf_tree.specs.Tables.{Tables}
-use Rattle.pf_tree.proofs.Shelves.{applied_length}
+use Rattle.pf_inodes.specs.declared.changes.Txn.{Txn}
+use Rattle.pf_tree.specs.Held.{Held}
+use Rattle.pf_inodes.specs.Tables.{Tables}
+use Rattle.pf_inodes.proofs.Shelves.{applied_length}
 use Rattle.pf_files.specs.Moving.{IsTreeOf}
 use Rattle.pf_files.specs.Calls.{applied_in}
 

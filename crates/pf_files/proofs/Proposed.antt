@@ -1,10 +1,11 @@
 -- What a planned call proposes.
 use Rattle.std.proofs.Common.{◌≡◌, ℕ, List, [], ◌∷◌, Option, Some, None, refl, sym, ap, subst, ◌∙◌}
 use Rattle.pf_volume.specs.Volumes.{Extent}
-use Rattle.pf_tree.specs.declared.changes.Change.{Change}
-use Rattle.pf_tree.specs.declared.changes.Txn.{Txn}
+use Rattle.pf_inodes.specs.declared.changes.Change.{Change}
+use Rattle.pf_inodes.specs.declared.changes.Txn.{Txn}
 use Rattle.pf_tree.specs.Trees.{Data, Tree, changed, refusal, tree_sight}
-use Rattle.pf_tree.specs.Tables.{Tables, changes, tables_sight}
+use Rattle.pf_inodes.specs.Tables.{Tables}
+use Rattle.pf_tree.specs.Plans.{changes, tables_sight}
 use Rattle.pf_tree.specs.Standing.{Follows, IsCall, StandsFor}
 use Rattle.pf_tree.proofs.Law.{follows}
 use Rattle.pf_tree.proofs.Sights.{same_refusal}

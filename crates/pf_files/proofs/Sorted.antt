@@ -1,7 +1,7 @@
 -- One more name in order.
 use Rattle.std.proofs.Common.{◌≡◌, ℕ, zero, suc, ◌+◌, ◌<◌, List, [], ◌∷◌, length, take, get_or, refl, sym, ap, ◌∙◌, add-one, arith}
 use Rattle.std.specs.List.{insert, position_or_len}
-use Rattle.pf_tree.specs.Paths.{Name}
+use Rattle.pf_inodes.specs.Names.{Name}
 use Rattle.pf_files.specs.Ascending.{ascending, is_before, put_name, put_names}
 
 put_more : (done names : List Name) (i : ℕ) → i < length names → put_names done (take (suc i) names) ≡ put_name (put_names done (take i names)) (get_or names i [])

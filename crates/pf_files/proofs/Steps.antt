@@ -3,9 +3,10 @@ use Rattle.std.proofs.Common.{◌≡◌, ℕ, suc, ◌+◌, ◌<◌, ◌≤◌, 
 use Rattle.std.proofs.lemmas.Bool.{lt-ltb, le-ltb, ne_eqb}
 use Rattle.pf_volume.specs.Volumes.{Extent}
 use Rattle.pf_tree.specs.declared.calls.FileCall.TheVariants.{Write, Truncate}
-use Rattle.pf_tree.specs.Paths.{Path}
+use Rattle.pf_inodes.specs.Names.{Path}
 use Rattle.pf_tree.specs.Trees.{block_count}
-use Rattle.pf_tree.specs.Tables.{Tables, found}
+use Rattle.pf_inodes.specs.Tables.{Tables}
+use Rattle.pf_tree.specs.Plans.{found}
 use Rattle.pf_files.specs.declared.answers.CallAnswer.TheVariants.{Fine, Bytes as BytesRead}
 use Rattle.pf_files.specs.declared.filling.Fill.{Fill}
 use Rattle.pf_files.specs.declared.moving.Moved.TheVariants.{Asks, Ends}

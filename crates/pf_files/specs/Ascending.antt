@@ -1,7 +1,7 @@
 -- Names in ascending order.
 use Rattle.std.specs.Prelude.{Bool, true, false, nat_lt, if◌then◌else◌, List, [], ◌∷◌}
 use Rattle.std.specs.List.{insert, position_or_len}
-use Rattle.pf_tree.specs.Paths.{Name}
+use Rattle.pf_inodes.specs.Names.{Name}
 
 -- at the first byte in which they differ its own is less, or it ends there
 abbrev pub is_before : (name other : Name) → Bool

@@ -3,11 +3,12 @@ use Rattle.std.specs.Prelude.{ℕ, Bool, false, ◌&&◌, ◌==◌, List, [], �
 use Rattle.pf_volume.specs.Volumes.{Extent}
 use Rattle.pf_tree.specs.declared.calls.FileCall.{FileCall}
 use Rattle.pf_tree.specs.declared.calls.FileCall.TheVariants.{Write, Read, Truncate}
-use Rattle.pf_tree.specs.declared.changes.Change.{Change}
-use Rattle.pf_tree.specs.declared.changes.Txn.{Txn}
-use Rattle.pf_tree.specs.Paths.{Path}
+use Rattle.pf_inodes.specs.declared.changes.Change.{Change}
+use Rattle.pf_inodes.specs.declared.changes.Txn.{Txn}
+use Rattle.pf_inodes.specs.Names.{Path}
 use Rattle.pf_tree.specs.Trees.{Data, refusal, size_at}
-use Rattle.pf_tree.specs.Tables.{Tables, applied, changes, node_at, tables_sight}
+use Rattle.pf_inodes.specs.Tables.{Tables, applied}
+use Rattle.pf_tree.specs.Plans.{changes, node_at, tables_sight}
 use Rattle.pf_files.specs.declared.calls.Pending.{Pending}
 use Rattle.pf_files.specs.declared.calls.Planned.{Planned}
 use Rattle.pf_files.specs.declared.calls.Planned.TheVariants.{Refuses, Proposes, Goes}

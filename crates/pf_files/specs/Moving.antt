@@ -5,10 +5,11 @@ use Rattle.pf_base.specs.declared.asks.Reply.TheVariants.{Written, Bytes}
 use Rattle.pf_volume.specs.Volumes.{Extent, size_of}
 use Rattle.pf_tree.specs.declared.calls.FileCall.{FileCall}
 use Rattle.pf_tree.specs.declared.calls.FileCall.TheVariants.{Write, Read, Truncate, Stat, Listing}
-use Rattle.pf_tree.specs.declared.tables.Entry.{Entry}
-use Rattle.pf_tree.specs.Paths.{Path}
+use Rattle.pf_inodes.specs.declared.tables.Entry.{Entry}
+use Rattle.pf_inodes.specs.Names.{Path}
 use Rattle.pf_tree.specs.Trees.{Node, File, block_count}
-use Rattle.pf_tree.specs.Tables.{Tables, block_of, found, names_in, node_at}
+use Rattle.pf_inodes.specs.Tables.{Tables, block_of, names_in}
+use Rattle.pf_tree.specs.Plans.{found, node_at}
 use Rattle.pf_files.specs.declared.answers.CallAnswer.{CallAnswer}
 use Rattle.pf_files.specs.declared.answers.CallAnswer.TheVariants.{Fine, Bytes as BytesRead, Directory, File as OfFile, Names}
 use Rattle.pf_files.specs.declared.filling.Fill.{Fill}

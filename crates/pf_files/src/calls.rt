@@ -1,8 +1,9 @@
 //! The calls of a mount on its tables, one at a time.
 ghost use Rattle.std.specs.Prelude.{◌≡◌, ◌+◌, ◌/◌, ◌<◌, ◌^◌, IfOk, None, OnErr, OnOk, Some, suc};
 ghost use Rattle.pf_volume.specs.Volumes.{size_of};
-ghost use Rattle.pf_tree.specs.Shelves.{IsWhole};
-ghost use Rattle.pf_tree.specs.Tables.{new_tables, node_at};
+ghost use Rattle.pf_tree.specs.Held.{IsWhole};
+ghost use Rattle.pf_inodes.specs.Tables.{new_tables};
+ghost use Rattle.pf_tree.specs.Plans.{node_at};
 ghost use Rattle.pf_tree.specs.Trees.{size_at};
 ghost use Rattle.pf_txn.specs.Reading.{txn_in};
 ghost use Rattle.pf_files.specs.Moving.{IsTreeOf};

@@ -3,11 +3,11 @@ ghost use Rattle.std.specs.Prelude.{◌≡◌, ℕ, ◌/◌, ◌<◌, List, Some
 ghost use Rattle.pf_volume.specs.Volumes.{Extent, IsVolume, size_of};
 ghost use Rattle.pf_base.specs.declared.asks.Reply.{Reply};
 ghost use Rattle.pf_tree.specs.declared.calls.FileCall.{FileCall};
-ghost use Rattle.pf_tree.specs.declared.changes.Txn.{Txn};
-ghost use Rattle.pf_tree.specs.Tables.{Tables};
+ghost use Rattle.pf_inodes.specs.declared.changes.Txn.{Txn};
+ghost use Rattle.pf_inodes.specs.Tables.{Tables};
 ghost use Rattle.pf_tree.specs.Trees.{Data, Tree, changed, refusal, tree_sight};
 ghost use Rattle.pf_tree.specs.Standing.{Follows, IsCall, StandsFor};
-ghost use Rattle.pf_tree.specs.Shelves.{IsWhole};
+ghost use Rattle.pf_tree.specs.Held.{IsWhole};
 ghost use Rattle.pf_txn.specs.Spelling.{CanSpell, IsShortCall};
 ghost use Rattle.pf_files.specs.declared.calls.Pending.{Pending};
 ghost use Rattle.pf_files.specs.declared.calls.Planned.TheVariants.{Proposes, Refuses};

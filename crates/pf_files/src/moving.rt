@@ -5,7 +5,7 @@ ghost use Rattle.pf_files.specs.Moving.{HasBlock, IsTreeOf, block_at, fills, fil
 ghost use Rattle.pf_files.specs.Filling.{read_end, wanted};
 ghost use Rattle.pf_files.specs.declared.moving.Moved.TheVariants.{Ends};
 ghost use Rattle.pf_files.specs.declared.answers.CallAnswer.TheVariants.{Bytes as BytesRead};
-ghost use Rattle.pf_tree.specs.Tables.{node_at};
+ghost use Rattle.pf_tree.specs.Plans.{node_at};
 
 use crate::CallAnswer;
 use crate::blocks::{reads_block, writes_block};

@@ -1,8 +1,8 @@
 //! The tables of a mount and its pending call.
 ghost use Rattle.std.specs.Prelude.{◌≡◌, ◌+◌, ◌/◌, ◌<◌, ◌^◌, IfOk, None, Some, is_some, suc};
 ghost use Rattle.pf_volume.specs.Volumes.{size_of};
-ghost use Rattle.pf_tree.specs.Shelves.{IsWhole};
-ghost use Rattle.pf_tree.specs.Tables.{new_tables};
+ghost use Rattle.pf_tree.specs.Held.{IsWhole};
+ghost use Rattle.pf_inodes.specs.Tables.{new_tables};
 ghost use Rattle.pf_txn.specs.Reading.{txn_in};
 ghost use Rattle.pf_files.specs.Moving.{HasBlock, IsTreeOf, moves_on};
 ghost use Rattle.pf_files.specs.Calls.{WorkIs, applied_in, go_of, is_own, plan_of};

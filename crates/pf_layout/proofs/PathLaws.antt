@@ -3,7 +3,8 @@ use Rattle.std.proofs.Common.{◌≡◌, ◌≢◌, ◌⊎◌, ℕ, ◌≤◌, I
 use Rattle.std.specs.List.{AllByRecursion}
 use Rattle.std.proofs.lemmas.List.{append-nil}
 use Rattle.std.proofs.lemmas.Bool.{cases_eq, false≢true}
-use Rattle.pf_tree.specs.Paths.{Name, Path, below}
+use Rattle.pf_inodes.specs.Names.{Name, Path}
+use Rattle.pf_tree.specs.Paths.{below}
 use Rattle.pf_tree.specs.Trees.{goes_on}
 use Rattle.pf_tree.proofs.Paths.{below_of, below_is}
 use Rattle.pf_layout.specs.Paths.{IsName, IsPath, is_name_byte, names_bytes, path_bytes}

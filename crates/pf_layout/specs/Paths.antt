@@ -1,7 +1,7 @@
 -- Paths as words. A path lists its names from the last to the first.
 use Rattle.std.specs.Prelude.{◌≡◌, ◌≢◌, ℕ, ◌≤◌, Bool, ◌&&◌, ◌||◌, ◌==◌, nat_le, IsTrue, List, [], ◌∷◌, ◌++◌, length, codes, Result, Ok, Err}
 use Rattle.std.specs.List.{AllByRecursion}
-use Rattle.pf_tree.specs.Paths.{Name, Path}
+use Rattle.pf_inodes.specs.Names.{Name, Path}
 use Rattle.pf_layout.specs.declared.faults.PathFault.{PathFault}
 use Rattle.pf_layout.specs.declared.faults.PathFault.TheVariants.{NoMemory, BadName}
 

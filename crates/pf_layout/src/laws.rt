@@ -1,6 +1,7 @@
 //! Laws of paths as words.
 ghost use Rattle.std.specs.Prelude.{◌≡◌, ◌≢◌, ◌↔◌, ℕ, List, [], ◌∷◌, ◌++◌, IsTrue};
-ghost use Rattle.pf_tree.specs.Paths.{Path, below};
+ghost use Rattle.pf_inodes.specs.Names.{Path};
+ghost use Rattle.pf_tree.specs.Paths.{below};
 ghost use Rattle.pf_tree.specs.Trees.{goes_on};
 ghost use Rattle.pf_layout.specs.Paths.{IsPath, path_bytes};
 

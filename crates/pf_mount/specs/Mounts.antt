@@ -10,9 +10,9 @@ use Rattle.pf_entry.specs.Ops.{Sector}
 use Rattle.pf_volume.specs.Volumes.{Extent, size_of}
 use Rattle.pf_layout.specs.Supers.{super_block}
 use Rattle.pf_tree.specs.declared.calls.FileCall.{FileCall}
-use Rattle.pf_tree.specs.declared.changes.Txn.{Txn}
+use Rattle.pf_inodes.specs.declared.changes.Txn.{Txn}
 use Rattle.pf_tree.specs.Trees.{Data}
-use Rattle.pf_tree.specs.Tables.{Tables, new_tables}
+use Rattle.pf_inodes.specs.Tables.{Tables, new_tables}
 use Rattle.pf_txn.specs.Spelling.{spell_txn}
 use Rattle.pf_txn.specs.Reading.{txn_in}
 use Rattle.pf_paxos.specs.declared.block.Block.{Block}

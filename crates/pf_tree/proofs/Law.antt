@@ -6,23 +6,26 @@ use Rattle.std.proofs.lemmas.Bool.{cases_Bool, cond-true, cond-false, false≢tr
 use Rattle.std.proofs.lemmas.Option.{none-some}
 use Rattle.std.proofs.lemmas.List.{length-set, length-take-le, append-nil}
 use Rattle.std.proofs.lemmas.List.Sums.{passes_at_first}
-use Rattle.pf_tree.specs.declared.changes.Change.{Change}
-use Rattle.pf_tree.specs.declared.changes.Change.TheVariants.{SetInode, AddEntry, DeleteEntry}
-use Rattle.pf_tree.specs.declared.tables.Inode.{Inode}
-use Rattle.pf_tree.specs.declared.tables.Inode.TheVariants.{File as OfFile, Directory}
-use Rattle.pf_tree.specs.declared.tables.Tag.{Tag}
-use Rattle.pf_tree.specs.Paths.{Name, Path, below}
+use Rattle.pf_inodes.specs.declared.changes.Change.{Change}
+use Rattle.pf_inodes.specs.declared.changes.Change.TheVariants.{SetInode, AddEntry, DeleteEntry}
+use Rattle.pf_inodes.specs.declared.tables.Inode.{Inode}
+use Rattle.pf_inodes.specs.declared.tables.Inode.TheVariants.{File as OfFile, Directory}
+use Rattle.pf_inodes.specs.declared.tables.Tag.{Tag}
+use Rattle.pf_inodes.specs.Names.{Name, Path}
+use Rattle.pf_tree.specs.Paths.{below}
 use Rattle.pf_tree.specs.declared.calls.FileCall.{FileCall}
 use Rattle.pf_tree.specs.declared.calls.FileCall.TheVariants.{Mkdir, Create, Write, Read, Truncate, Rename, Unlink, Rmdir, Stat, Listing}
 use Rattle.pf_tree.specs.Trees.{Node, Dir, File, Tree, at, put, without, with_moved, Sight, Data, block_count, first_of, when, step_refusal, walk_refusal, place_refusal, file_refusal, dir_refusal, size_refusal, is_dir, is_bare, goes_on, size_at, blocks_at, written_size, sized_blocks, resized, sized, replaced, unlisted, refusal, tree_sight, changed}
-use Rattle.pf_tree.specs.Tables.{Tables, Entries, inode_at, inode_with, tag_at, entry_at, has_names, has_none, unnamed, named, walk, blocks_of, node_in, node_of, node_at, applied, least_free, untagged, found, freed, given, makes, resizes, sizes, changes}
+use Rattle.pf_inodes.specs.Tables.{Tables, Entries, inode_at, inode_with, tag_at, entry_at, has_names, unnamed, named, walk, blocks_of, applied, least_free}
+use Rattle.pf_tree.specs.Plans.{has_none, node_in, node_of, node_at, untagged, found, freed, given, makes, resizes, sizes, changes}
 use Rattle.pf_tree.specs.Standing.{StandsFor, Follows, IsCall, PlansAs}
 use Rattle.pf_tree.proofs.Paths.{below_of, below_is}
 use Rattle.pf_tree.proofs.Moving.{cases_option}
-use Rattle.pf_tree.proofs.Entries.{no_names}
+use Rattle.pf_inodes.proofs.Entries.{no_names}
 use Rattle.pf_tree.proofs.Walks.{walk_parts, walk_on, leads_nowhere}
 use Rattle.pf_tree.proofs.Members.{has, Distinct, kept_of_range, distinct_range, distinct_take, has_take}
-use Rattle.pf_tree.proofs.Tags.{untouched, free_all, give_all, applied_freed, applied_append, applied_given, length_freed, length_given}
+use Rattle.pf_inodes.proofs.Shelves.{applied_append}
+use Rattle.pf_tree.proofs.Tags.{untouched, free_all, give_all, applied_freed, applied_given, length_freed, length_given}
 use Rattle.pf_tree.proofs.Sights.{stands_at, node_from, node_in_some, file_parts, dir_part, bare_same, free_same, same_sight, same_refusal}
 use Rattle.pf_tree.proofs.Resizing as sizing
 use Rattle.pf_tree.proofs.Steps.{used_within, stands_made, stands_removed, stands_resized, stands_moved}

@@ -2,7 +2,6 @@ pub mod Refused
 pub mod Paths
 pub mod Trees
 pub mod Moving
-pub mod Entries
 pub mod Walks
 pub mod Names
 pub mod Members
@@ -11,7 +10,6 @@ pub mod Sights
 pub mod Resizing
 pub mod Steps
 pub mod Law
-pub mod Shelves
 pub mod New
 pub mod Looks
 pub mod Plans

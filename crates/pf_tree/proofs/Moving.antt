@@ -3,7 +3,8 @@ use Rattle.std.proofs.Common.{◌≡◌, ◌≢◌, ◌⊎◌, inl, inr, [], ◌
 use Rattle.std.proofs.lemmas.Bool.{cond-true, cond-false}
 use Rattle.std.proofs.lemmas.Option.{none-some}
 use Rattle.std.proofs.lemmas.List.{append_cancel_right}
-use Rattle.pf_tree.specs.Paths.{Path, below}
+use Rattle.pf_inodes.specs.Names.{Path}
+use Rattle.pf_tree.specs.Paths.{below}
 use Rattle.pf_tree.specs.Trees.{Node, Tree, at, moved, moved_to, with_moved}
 use Rattle.pf_tree.specs.Standing.{IsMap}
 use Rattle.pf_tree.proofs.Paths.{cases_path, is_same_true, is_same_false, below_of, below_is}

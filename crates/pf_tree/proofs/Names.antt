@@ -3,14 +3,15 @@ use Rattle.std.proofs.Common.{◌≡◌, ◌≢◌, ℕ, ◌<◌, ◌⊎◌, inl
 use Rattle.std.proofs.lemmas.Bool.{cond-true, cond-false, false≢true, cases_eq}
 use Rattle.std.proofs.lemmas.Option.{none-some, same_Some}
 use Rattle.std.proofs.lemmas.List.{length-set}
-use Rattle.pf_tree.specs.declared.tables.Inode.{Inode}
-use Rattle.pf_tree.specs.declared.tables.Inode.TheVariants.{Directory}
-use Rattle.pf_tree.specs.Paths.{Name, Path, is_same, below}
-use Rattle.pf_tree.specs.Tables.{Entries, names_in, others, entry_at, unnamed, named, walk}
+use Rattle.pf_inodes.specs.declared.tables.Inode.{Inode}
+use Rattle.pf_inodes.specs.declared.tables.Inode.TheVariants.{Directory}
+use Rattle.pf_inodes.specs.Names.{Name, Path}
+use Rattle.pf_tree.specs.Paths.{is_same, below}
+use Rattle.pf_inodes.specs.Tables.{Entries, names_in, others, entry_at, unnamed, named, walk}
 use Rattle.pf_tree.specs.Standing.{IsNamed}
 use Rattle.pf_tree.proofs.Paths.{is_same_true, is_same_false, below_of, below_is}
 use Rattle.pf_tree.proofs.Moving.{back, cases_option}
-use Rattle.pf_tree.proofs.Entries.{AreApart, unnamed_same, unnamed_other, named_same, named_other}
+use Rattle.pf_inodes.proofs.Entries.{AreApart, unnamed_same, unnamed_other, named_same, named_other}
 use Rattle.pf_tree.proofs.Walks.{cases_apart, walk_on, walk_off, walk_clear, leads_nowhere, walk_changed, walk_moved}
 
 pub not_none : {X : Type 0} → (o : Option X) → o ≡ None → is_some o ≡ true → ⊥

@@ -5,13 +5,14 @@ use Rattle.std.specs.List.{count_by}
 use Rattle.std.proofs.lemmas.Bool.{cases_eq, cases_lt, false≢true}
 use Rattle.std.proofs.lemmas.Option.{none-some}
 use Rattle.std.proofs.lemmas.List.{get_or-replicate, get_or_past, get_or-set_same, get_or-set_other, length-set, length-replicate}
-use Rattle.pf_tree.specs.declared.tables.Inode.{Inode}
-use Rattle.pf_tree.specs.declared.tables.Inode.TheVariants.{File as OfFile, Directory}
-use Rattle.pf_tree.specs.declared.tables.Tag.{Tag}
-use Rattle.pf_tree.specs.declared.tables.Entry.{Entry}
-use Rattle.pf_tree.specs.Paths.{Name, Path}
+use Rattle.pf_inodes.specs.declared.tables.Inode.{Inode}
+use Rattle.pf_inodes.specs.declared.tables.Inode.TheVariants.{File as OfFile, Directory}
+use Rattle.pf_inodes.specs.declared.tables.Tag.{Tag}
+use Rattle.pf_inodes.specs.declared.tables.Entry.{Entry}
+use Rattle.pf_inodes.specs.Names.{Name, Path}
 use Rattle.pf_tree.specs.Trees.{at, new_tree}
-use Rattle.pf_tree.specs.Tables.{found_in, entry_at, walk, node_in, node_of, node_at, new_inodes, new_entries, new_tables}
+use Rattle.pf_inodes.specs.Tables.{found_in, entry_at, walk, new_inodes, new_entries, new_tables}
+use Rattle.pf_tree.specs.Plans.{node_in, node_of, node_at}
 use Rattle.pf_tree.specs.Standing.{StandsFor}
 use Rattle.pf_tree.proofs.Steps.{one_if, count_set}
 

@@ -2,12 +2,14 @@
 use Rattle.std.proofs.Common.{◌≡◌, ℕ, ◌+◌, Bool, true, false, cond, ◌==◌, nat_lt, List, [], ◌∷◌, length, Option, Some, None, is_some, Result, Vec, Global, sym, ap, ◌∙◌, subst}
 use Rattle.std.specs.Option.{option_and_then, unwrap_or, option_map}
 use Rattle.std.proofs.lemmas.Bool.{cond-true}
-use Rattle.pf_tree.specs.declared.changes.Change.{Change}
+use Rattle.pf_inodes.specs.declared.changes.Change.{Change}
 use Rattle.pf_tree.specs.declared.faults.TreeFault.{TreeFault}
-use Rattle.pf_tree.specs.Paths.{Path, is_same, below}
+use Rattle.pf_inodes.specs.Names.{Path}
+use Rattle.pf_tree.specs.Paths.{is_same, below}
 use Rattle.pf_tree.specs.Trees.{Node, File, first_of, when, file_refusal, size_refusal, block_count, size_at}
-use Rattle.pf_tree.specs.Tables.{Tables, node_at, node_of, node_in, blocks_of, found, sizes, resizes, tables_sight}
-use Rattle.pf_tree.specs.Shelves.{IsFileAt, data_of, untagged_from, size_changes}
+use Rattle.pf_inodes.specs.Tables.{Tables, blocks_of, untagged_from}
+use Rattle.pf_tree.specs.Plans.{node_at, node_of, node_in, found, sizes, resizes, tables_sight}
+use Rattle.pf_tree.specs.Held.{IsFileAt, data_of, size_changes}
 use Rattle.pf_tree.specs.Faults.{PlansTo}
 
 pub reached : (top p : Path) → is_same p top ≡ true → true ≡ is_some (below top p)

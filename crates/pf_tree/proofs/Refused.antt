@@ -4,8 +4,9 @@ use Rattle.std.specs.Option.{unwrap_or}
 use Rattle.pf_tree.specs.declared.calls.FileCall.{FileCall}
 use Rattle.pf_tree.specs.declared.calls.FileCall.TheVariants.{Mkdir, Create, Write, Truncate, Rename, Rmdir}
 use Rattle.pf_tree.specs.Trees.{Dir, File, Tree, at, Data, refusal, tree_sight, changed, new_tree}
-use Rattle.pf_tree.specs.Tables.{Tables, node_at, applied, tables_sight, changes, new_tables, new_inodes, new_entries}
-use Rattle.pf_tree.specs.Paths.{Path}
+use Rattle.pf_inodes.specs.Tables.{Tables, applied, new_tables, new_inodes, new_entries}
+use Rattle.pf_tree.specs.Plans.{node_at, tables_sight, changes}
+use Rattle.pf_inodes.specs.Names.{Path}
 
 abbrev d : Data
 d = record { first = 513; blocks = 516 }

@@ -3,11 +3,11 @@ use Rattle.std.proofs.Common.{◌≡◌, ◌≢◌, ℕ, ◌+◌, ◌-◌, ◌<�
 use Rattle.std.proofs.lemmas.Bool.{cases_Bool, false≢true, cases_eq, cases_lt, false_from_ne_true}
 use Rattle.std.proofs.lemmas.Option.{none-some, same_Some}
 use Rattle.std.proofs.lemmas.List.{length-take, length-drop, length-append, get_or-take, get_or-drop, get_or_append_left, get_or-append_right}
-use Rattle.pf_tree.specs.declared.tables.Inode.{Inode}
-use Rattle.pf_tree.specs.declared.tables.Inode.TheVariants.{File as OfFile, Directory}
-use Rattle.pf_tree.specs.declared.tables.Tag.{Tag}
+use Rattle.pf_inodes.specs.declared.tables.Inode.{Inode}
+use Rattle.pf_inodes.specs.declared.tables.Inode.TheVariants.{File as OfFile, Directory}
+use Rattle.pf_inodes.specs.declared.tables.Tag.{Tag}
 use Rattle.pf_tree.specs.Trees.{block_count}
-use Rattle.pf_tree.specs.Tables.{tag_at, blocks_of}
+use Rattle.pf_inodes.specs.Tables.{tag_at, blocks_of}
 use Rattle.pf_tree.specs.Standing.{IsTagged}
 use Rattle.pf_tree.proofs.Members.{has, member, has_at, Distinct}
 use Rattle.pf_tree.proofs.Tags.{tag, length_blocks, get_block, block_is, tag_in_list, Retagged, free_all, give_all, freed_in, freed_out, given_in, given_out, length_freed}

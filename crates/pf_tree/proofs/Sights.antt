@@ -6,18 +6,19 @@ use Rattle.std.specs.List.{list_any, count_by, position_or_len}
 use Rattle.std.proofs.lemmas.Bool.{cases_Bool, false≢true, true≢false, leb-true, le-leb, false_from_ne_true}
 use Rattle.std.proofs.lemmas.Option.{none-some, same_Some}
 use Rattle.std.proofs.lemmas.List.Sums.{count_by-le-length, sum_by-cons}
-use Rattle.pf_tree.specs.declared.tables.Inode.{Inode}
-use Rattle.pf_tree.specs.declared.tables.Inode.TheVariants.{File as OfFile, Directory}
-use Rattle.pf_tree.specs.declared.tables.Tag.{Tag}
-use Rattle.pf_tree.specs.Paths.{Name, Path}
+use Rattle.pf_inodes.specs.declared.tables.Inode.{Inode}
+use Rattle.pf_inodes.specs.declared.tables.Inode.TheVariants.{File as OfFile, Directory}
+use Rattle.pf_inodes.specs.declared.tables.Tag.{Tag}
+use Rattle.pf_inodes.specs.Names.{Name, Path}
 use Rattle.pf_tree.specs.declared.calls.FileCall.{FileCall}
 use Rattle.pf_tree.specs.Trees.{Node, Dir, File, Tree, at, Sight, Data, block_count, is_bare, is_right_below, is_listed, lists_block, is_dir, size_at, blocks_at, unlisted, refusal, tree_sight}
-use Rattle.pf_tree.specs.Tables.{Tables, inode_at, tag_at, has_names, walk, blocks_of, node_in, node_of, node_at, has_none, least_free, untagged, tables_sight}
+use Rattle.pf_inodes.specs.Tables.{Tables, inode_at, tag_at, has_names, walk, blocks_of, least_free}
+use Rattle.pf_tree.specs.Plans.{node_in, node_of, node_at, has_none, untagged, tables_sight}
 use Rattle.pf_tree.specs.Standing.{StandsFor}
 use Rattle.pf_tree.proofs.Paths.{same_decides, is_same_true}
 use Rattle.pf_tree.proofs.Trees.{any_at, row_of_any}
 use Rattle.pf_tree.proofs.Moving.{cases_option}
-use Rattle.pf_tree.proofs.Entries.{no_names, some_name}
+use Rattle.pf_inodes.proofs.Entries.{no_names, some_name}
 use Rattle.pf_tree.proofs.Walks.{walk_parts, walk_on}
 use Rattle.pf_tree.proofs.Members.{has, member, has_at, same_filter}
 use Rattle.pf_tree.proofs.Tags.{length_blocks, get_block, block_is, tag_in_list}

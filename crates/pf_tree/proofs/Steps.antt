@@ -6,12 +6,14 @@ use Rattle.std.proofs.lemmas.Bool.{cond-true, cond-false, false≢true, cases_eq
 use Rattle.std.proofs.lemmas.Option.{none-some, same_Some}
 use Rattle.std.proofs.lemmas.List.{get_or_past, get_or-set_same, get_or-set_other, length-set, length-map}
 use Rattle.std.proofs.lemmas.List.Sums.{sum_by-set}
-use Rattle.pf_tree.specs.declared.tables.Inode.{Inode}
-use Rattle.pf_tree.specs.declared.tables.Inode.TheVariants.{File as OfFile, Directory}
-use Rattle.pf_tree.specs.declared.tables.Tag.{Tag}
-use Rattle.pf_tree.specs.Paths.{Name, Path, is_same, below}
+use Rattle.pf_inodes.specs.declared.tables.Inode.{Inode}
+use Rattle.pf_inodes.specs.declared.tables.Inode.TheVariants.{File as OfFile, Directory}
+use Rattle.pf_inodes.specs.declared.tables.Tag.{Tag}
+use Rattle.pf_inodes.specs.Names.{Name, Path}
+use Rattle.pf_tree.specs.Paths.{is_same, below}
 use Rattle.pf_tree.specs.Trees.{Node, File, Tree, at, put, without, replaced, with_moved, moved, Data, block_count}
-use Rattle.pf_tree.specs.Tables.{Tables, inode_at, entry_at, names_in, others, unnamed, named, walk, blocks_of, node_in, node_of, node_at}
+use Rattle.pf_inodes.specs.Tables.{Tables, inode_at, entry_at, names_in, others, unnamed, named, walk, blocks_of}
+use Rattle.pf_tree.specs.Plans.{node_in, node_of, node_at}
 use Rattle.pf_tree.specs.Standing.{StandsFor, IsTagged}
 use Rattle.pf_tree.proofs.Paths.{cases_path, is_same_true, is_same_false}
 use Rattle.pf_tree.proofs.Trees.{without_same, without_other, replaced_same, replaced_other, length_replaced, length_without, map_without, map_replaced}

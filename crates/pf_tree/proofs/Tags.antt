@@ -1,16 +1,16 @@
 -- Tags, and the blocks of files.
-use Rattle.std.proofs.Common.{◌≡◌, ◌≢◌, ℕ, zero, suc, ◌+◌, ◌<◌, ◌≤◌, ◌⊎◌, inl, inr, true, false, ◌&&◌, ◌==◌, nat_lt, List, [], ◌∷◌, ◌++◌, length, get_or, set, Option, Some, None, refl, sym, ap, ◌∙◌, subst, arith, le_of_lt}
+use Rattle.std.proofs.Common.{◌≡◌, ◌≢◌, ℕ, zero, suc, ◌+◌, ◌<◌, ◌≤◌, ◌⊎◌, inl, inr, true, false, ◌&&◌, ◌==◌, nat_lt, List, [], ◌∷◌, length, get_or, set, Option, Some, None, refl, sym, ap, ◌∙◌, subst, arith, le_of_lt}
 use Rattle.std.proofs.lemmas.Bool.{cond-true, cond-false, false≢true, and_parts, and_from, or_parts, eqb-true, eqb-false, eq-eqb, ne_eqb, cases_eq, cases_lt, false_from_ne_true, lt-ltb, or_cases, or_right}
 use Rattle.std.proofs.lemmas.Option.{none-some}
 use Rattle.std.proofs.lemmas.List.{get_or_past, get_or-set_same, get_or-set_other, set_past, length-set, same_lists, get_or_default}
 use Rattle.std.proofs.lemmas.List.Sums.{position_or_len_is}
 use Rattle.std.proofs.lemmas.List.FromFn.{length-map-range_with_len, get_or-map-range_with_len}
-use Rattle.pf_tree.specs.declared.changes.Change.{Change}
-use Rattle.pf_tree.specs.declared.tables.Inode.{Inode}
-use Rattle.pf_tree.specs.declared.tables.Inode.TheVariants.{File as OfFile}
-use Rattle.pf_tree.specs.declared.tables.Tag.{Tag}
+use Rattle.pf_inodes.specs.declared.tables.Inode.{Inode}
+use Rattle.pf_inodes.specs.declared.tables.Inode.TheVariants.{File as OfFile}
+use Rattle.pf_inodes.specs.declared.tables.Tag.{Tag}
 use Rattle.pf_tree.specs.Trees.{block_count}
-use Rattle.pf_tree.specs.Tables.{Tables, tag_at, is_tag, block_of, blocks_of, applied, freed, given, after_change, tag_with}
+use Rattle.pf_inodes.specs.Tables.{Tables, tag_at, is_tag, block_of, blocks_of, applied, tag_with}
+use Rattle.pf_tree.specs.Plans.{freed, given}
 use Rattle.pf_tree.specs.Standing.{IsTagged}
 use Rattle.pf_tree.proofs.Members.{has, has_at, Distinct, same_map}
 
@@ -132,10 +132,6 @@ give_all tags i k (b ∷ bs) = give_all (set tags b (Some (tag i k))) i (suc k) 
 pub applied_freed : (tables : Tables) (bs : List ℕ) → applied tables (freed bs) ≡ record tables { tags = free_all tables.tags bs }
 applied_freed tables [] = refl
 applied_freed tables (b ∷ bs) = applied_freed (record tables { tags = set tables.tags b None }) bs
-
-pub applied_append : (tables : Tables) (cs ds : List Change) → applied tables (cs ++ ds) ≡ applied (applied tables cs) ds
-applied_append tables [] ds = refl
-applied_append tables (c ∷ cs) ds = applied_append (after_change tables c) cs ds
 
 give_one : (tables : Tables) (i k b : ℕ) → length tables.inodes ≡ 1024 → i < 1024 → k < 48 → tag_with tables i k tables.tags b ≡ set tables.tags b (Some (tag i k))
 give_one tables i k b places low few =

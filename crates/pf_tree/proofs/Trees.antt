@@ -3,7 +3,8 @@ use Rattle.std.proofs.Common.{◌≡◌, ◌≢◌, suc, inl, inr, Bool, true, c
 use Rattle.std.specs.List.{list_any}
 use Rattle.std.proofs.lemmas.Bool.{cases_Bool, cond-true, cond-false, false≢true, or_cases, or_left, or_right}
 use Rattle.std.proofs.lemmas.Option.{none-some, same_Some}
-use Rattle.pf_tree.specs.Paths.{Path, is_same}
+use Rattle.pf_inodes.specs.Names.{Path}
+use Rattle.pf_tree.specs.Paths.{is_same}
 use Rattle.pf_tree.specs.Trees.{Node, Tree, at, put, replaced, without}
 use Rattle.pf_tree.specs.Standing.{IsMap}
 use Rattle.pf_tree.proofs.Paths.{cases_path, is_same_true, is_same_false}

@@ -4,14 +4,15 @@ use Rattle.std.specs.Option.{option_and_then, option_map}
 use Rattle.std.proofs.lemmas.Bool.{cond-true, cond-false, cases_eq}
 use Rattle.std.proofs.lemmas.Option.{none-some, same_Some}
 use Rattle.std.proofs.lemmas.List.{length-append}
-use Rattle.pf_tree.specs.declared.tables.Inode.{Inode}
-use Rattle.pf_tree.specs.declared.tables.Inode.TheVariants.{Directory}
-use Rattle.pf_tree.specs.Paths.{Name, Path, is_same, below}
-use Rattle.pf_tree.specs.Tables.{Entries, entry_at, walk}
+use Rattle.pf_inodes.specs.declared.tables.Inode.{Inode}
+use Rattle.pf_inodes.specs.declared.tables.Inode.TheVariants.{Directory}
+use Rattle.pf_inodes.specs.Names.{Name, Path}
+use Rattle.pf_tree.specs.Paths.{is_same, below}
+use Rattle.pf_inodes.specs.Tables.{Entries, entry_at, walk}
 use Rattle.pf_tree.specs.Standing.{IsNamed}
 use Rattle.pf_tree.proofs.Paths.{cases_path, cases_name, is_same_true, is_same_false, below_itself, below_of, below_is, below_step}
 use Rattle.pf_tree.proofs.Moving.{back, cases_option}
-use Rattle.pf_tree.proofs.Entries.{AreApart}
+use Rattle.pf_inodes.proofs.Entries.{AreApart}
 
 pub cons_parts : (n m : Name) (p q : Path) → n ∷ p ≡ m ∷ q → (n ≡ m) × (p ≡ q)
 cons_parts n m p q e = (cc, cc)

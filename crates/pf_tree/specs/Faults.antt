@@ -1,7 +1,7 @@
 -- The numbers of the refusals, and what an answer with one says.
 use Rattle.std.specs.Prelude.{◌≡◌, ◌⊎◌, ℕ, List, Option, Some, None, Result, Ok, Err, Vec}
 use Rattle.std.specs.Global.{Global}
-use Rattle.pf_tree.specs.declared.changes.Change.{Change}
+use Rattle.pf_inodes.specs.declared.changes.Change.{Change}
 use Rattle.pf_tree.specs.declared.faults.TreeFault.{TreeFault}
 use Rattle.pf_tree.specs.declared.faults.TreeFault.TheVariants.{NoMemory, NoEntry, Exists, NotDir, IsDir, NotEmpty, NoSpace, TooLarge, IntoItself}
 

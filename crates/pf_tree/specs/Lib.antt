@@ -1,6 +1,6 @@
 pub mod Paths
 pub mod Trees
-pub mod Tables
-pub mod Shelves
+pub mod Plans
+pub mod Held
 pub mod Standing
 pub mod Faults

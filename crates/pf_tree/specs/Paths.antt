@@ -1,14 +1,9 @@
--- Paths of the tree. A path lists its names from the last to the first, so the rest of a path is that of its directory.
-use Rattle.std.specs.Prelude.{ℕ, Bool, cond, List, [], ◌∷◌, Option, Some, None}
+-- Paths that are the same, and paths that go on below another.
+use Rattle.std.specs.Prelude.{Bool, cond, [], ◌∷◌, Option, Some, None}
 use Rattle.std.specs.Option.{option_map}
 use Rattle.std.specs.Str.{bytes_eq}
 use Rattle.std.specs.Cmp.Lexicographic.{pointwise}
-
-abbrev pub Name : Type 0
-Name = List ℕ
-
-abbrev pub Path : Type 0
-Path = List Name
+use Rattle.pf_inodes.specs.Names.{Path}
 
 abbrev pub is_same : Path → Path → Bool
 is_same p q = pointwise bytes_eq p q

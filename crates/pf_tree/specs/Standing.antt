@@ -1,14 +1,15 @@
 -- When tables stand for a tree.
 use Rattle.std.specs.Prelude.{◌≡◌, ◌≢◌, true, ℕ, ◌<◌, ◌≤◌, List, [], ◌∷◌, length, count_by, Option, Some, None, is_some}
-use Rattle.pf_tree.specs.declared.changes.Change.{Change}
-use Rattle.pf_tree.specs.declared.tables.Inode.{Inode}
-use Rattle.pf_tree.specs.declared.tables.Inode.TheVariants.{File as OfFile, Directory}
-use Rattle.pf_tree.specs.declared.tables.Tag.{Tag}
-use Rattle.pf_tree.specs.Paths.{Name, Path}
+use Rattle.pf_inodes.specs.declared.changes.Change.{Change}
+use Rattle.pf_inodes.specs.declared.tables.Inode.{Inode}
+use Rattle.pf_inodes.specs.declared.tables.Inode.TheVariants.{File as OfFile, Directory}
+use Rattle.pf_inodes.specs.declared.tables.Tag.{Tag}
+use Rattle.pf_inodes.specs.Names.{Name, Path}
 use Rattle.pf_tree.specs.declared.calls.FileCall.{FileCall}
 use Rattle.pf_tree.specs.declared.calls.FileCall.TheVariants.{Rmdir}
 use Rattle.pf_tree.specs.Trees.{Tree, at, Data, block_count, refusal, tree_sight, changed}
-use Rattle.pf_tree.specs.Tables.{Tables, Entries, inode_at, tag_at, entry_at, walk, node_at, applied, tables_sight, changes}
+use Rattle.pf_inodes.specs.Tables.{Tables, Entries, inode_at, tag_at, entry_at, walk, applied}
+use Rattle.pf_tree.specs.Plans.{node_at, tables_sight, changes}
 
 -- each path stands in one row at most
 abbrev pub IsMap : Tree → Type 0

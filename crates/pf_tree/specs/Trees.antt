@@ -1,10 +1,12 @@
 -- The user's tree: a finite map from paths to directories and files. For each call of the file system the refusal, or the tree
 -- afterwards.
 use Rattle.std.specs.Prelude.{ℕ, ◌+◌, ◌-◌, ◌/◌, Bool, true, false, cond, not, ◌==◌, nat_lt, nat_le, max, List, [], ◌∷◌, ◌++◌, map, length, take, Option, Some, None, is_some}
-use Rattle.std.specs.List.{filter, list_any, range_with_len}
+use Rattle.std.specs.List.{list_any}
 use Rattle.pf_tree.specs.declared.calls.FileCall.{FileCall}
 use Rattle.pf_tree.specs.declared.calls.FileCall.TheVariants.{Mkdir, Create, Write, Read, Truncate, Rename, Unlink, Rmdir, Stat, Listing}
-use Rattle.pf_tree.specs.Paths.{Path, is_same, below}
+use Rattle.pf_inodes.specs.Names.{Path}
+use Rattle.pf_inodes.specs.Tables.{unused}
+use Rattle.pf_tree.specs.Paths.{is_same, below}
 
 -- a directory, or a file with its size and its blocks in order
 pub data Node : Type 0 where
@@ -145,10 +147,6 @@ refusal s (Unlink p) = file_refusal s.look p
 refusal s (Rmdir p) = first_of (dir_refusal s.look p) (when 86 (not (s.is_empty p)))
 refusal s (Stat p) = walk_refusal s.look p
 refusal s (Listing p) = dir_refusal s.look p
-
--- the least blocks from the first one on that are not in use
-abbrev pub unused : (first blocks : ℕ) → (ℕ → Bool) → List ℕ
-unused first blocks in_use = filter (λ b. not (in_use b)) (range_with_len first (blocks - first))
 
 -- the data blocks of a volume are those from the first one to the last
 pub record Data : Type 0 where

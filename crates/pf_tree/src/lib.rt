@@ -1,17 +1,13 @@
-//! The tree of files: tables of inodes, entries and tags, what a transaction changes in them, and the plan of a call.
+//! The tree of files: what each call makes of it, what it changes in the tables, and that the two agree.
 #![tactic(auto)]
 
 mod calls;
-mod changes;
 mod faults;
 mod look;
 mod plan;
-mod rows;
-mod tables;
 mod tree;
 
 pub use calls::FileCall;
-pub use changes::{Change, Changes, Txn};
 pub use faults::TreeFault;
-pub use tables::{Entry, Inode, Tag};
+pub use pf_inodes::{Change, Changes, Entry, Inode, Tag, Txn};
 pub use tree::Tree;

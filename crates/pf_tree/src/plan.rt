@@ -1,38 +1,34 @@
 //! The changes of a call.
 ghost use Rattle.std.specs.Prelude.{◌≡◌, ◌+◌, ◌-◌, ◌≤◌, ◌==◌, ◌++◌, ◌∷◌, [], IfOk, OnOk, cond, is_some, length, nat_le, nat_lt, not};
-ghost use Rattle.std.specs.List.{position_or_len};
-ghost use Rattle.std.specs.Option.{is_none};
-ghost use Rattle.pf_tree.specs.Tables.{changes, freed, given, has_none, makes, node_at, removes, renames, tables_sight, unlinks, walk};
+ghost use Rattle.pf_inodes.specs.Tables.{least_free, untagged_from, walk};
+ghost use Rattle.pf_inodes.specs.declared.changes.Change.TheVariants.{AddEntry, DeleteEntry, SetInode};
+ghost use Rattle.pf_tree.specs.Plans.{changes, freed, given, has_none, makes, node_at, removes, renames, tables_sight, unlinks};
 ghost use Rattle.pf_tree.specs.Trees.{block_count, dir_refusal, file_refusal, first_of, goes_on, place_refusal, refusal, walk_refusal, when, written_size};
 ghost use Rattle.pf_tree.specs.Paths.{below, is_same};
-ghost use Rattle.pf_tree.specs.Shelves.{HasRoot, IsWhole, data_of, lists_of, size_changes, tables_of, untagged_from};
+ghost use Rattle.pf_tree.specs.Held.{HasRoot, IsWhole, data_of, size_changes};
 ghost use Rattle.pf_tree.specs.Faults.{PlansTo};
 ghost use Rattle.pf_tree.specs.declared.calls.FileCall.TheVariants.{Truncate, Write};
-ghost use Rattle.pf_tree.specs.declared.changes.Change.TheVariants.{AddEntry, DeleteEntry, SetInode};
 
-use crate::look::{
-    blocks_of, dir_at, file_at, free_blocks, is_empty_dir, least_free, place_at, walk_to,
-};
-use crate::rows::Rows;
-use crate::tree::{MAX_SIZE, copy_name};
-use crate::{Change, Inode, Tag, TreeFault};
+use crate::TreeFault;
+use crate::look::{dir_at, file_at, least_free, place_at, walk_to};
 use pf_base::{Bytes, NoMemory};
+use pf_inodes::{Change, FileTables, copy_name};
 use std::alloc::Global;
+
+/// The greatest size of a file.
+const MAX_SIZE: u32 = 196608;
 
 /// The changes that make a directory (kind 2) or an empty file (kind 1).
 pub(crate) fn plan_make(
     alloc: Global,
-    inodes: &[Option<Inode>],
-    directories: &[Rows],
-    tags: &[Option<Tag>],
+    tables: &FileTables,
     path: &[Bytes],
     kind: u8,
 ) -> Result<Vec<Change>, TreeFault>
-    requires { length inodes.now ≤ 1024 }
-    ensures { PlansTo (first_of (place_refusal (node_at (tables_of inodes.now directories.now tags.now)) path.now) (when 87 (nat_le (length inodes.now) (position_or_len is_none inodes.now)))) (makes (tables_of inodes.now directories.now tags.now) kind path.now) result }
+    ensures { PlansTo (first_of (place_refusal (node_at tables.now) path.now) (when 87 (nat_le (length tables.now.inodes) (least_free tables.now)))) (makes tables.now kind path.now) result }
 {
-    let directory = place_at(inodes, directories, tags, path)?;
-    let inode = least_free(inodes)?;
+    let directory = place_at(tables, path)?;
+    let inode = least_free(tables)?;
     let Some(name) = path.first() else {
         return Err(TreeFault::Exists);
     };
@@ -67,21 +63,19 @@ fn make_changes(
 /// The changes that remove an empty directory.
 pub(crate) fn plan_rmdir(
     alloc: Global,
-    inodes: &[Option<Inode>],
-    directories: &[Rows],
-    tags: &[Option<Tag>],
+    tables: &FileTables,
     path: &[Bytes],
 ) -> Result<Vec<Change>, TreeFault>
-    ensures { PlansTo (first_of (dir_refusal (node_at (tables_of inodes.now directories.now tags.now)) path.now) (when 86 (not (has_none (lists_of directories.now) (walk (lists_of directories.now) path.now))))) (removes (tables_of inodes.now directories.now tags.now) path.now) result }
+    ensures { PlansTo (first_of (dir_refusal (node_at tables.now) path.now) (when 86 (not (has_none tables.now.entries (walk tables.now.entries path.now))))) (removes tables.now path.now) result }
 {
-    let inode = dir_at(inodes, directories, tags, path)?;
-    if !is_empty_dir(directories, inode) {
+    let inode = dir_at(tables, path)?;
+    if tables.has_names(inode) {
         return Err(TreeFault::NotEmpty);
     }
     let Some((name, rest)) = path.split_first() else {
         return Ok(Vec::new(alloc));
     };
-    let directory = walk_to(inodes, directories, tags, rest).unwrap_or(0);
+    let directory = walk_to(tables, rest).unwrap_or(0);
     let changes = remove_changes(alloc, directory, inode, name)?;
     Ok(changes)
 }
@@ -108,20 +102,17 @@ fn remove_changes(
 /// The changes that remove a file.
 pub(crate) fn plan_unlink(
     alloc: Global,
-    inodes: &[Option<Inode>],
-    directories: &[Rows],
-    tags: &[Option<Tag>],
+    tables: &FileTables,
     path: &[Bytes],
 ) -> Result<Vec<Change>, TreeFault>
-    requires { length tags.now ≤ 4096 }
-    ensures { HasRoot (tables_of inodes.now directories.now tags.now) → PlansTo (file_refusal (node_at (tables_of inodes.now directories.now tags.now)) path.now) (unlinks (tables_of inodes.now directories.now tags.now) path.now) result }
+    ensures { HasRoot tables.now → PlansTo (file_refusal (node_at tables.now) path.now) (unlinks tables.now path.now) result }
 {
-    let (inode, size) = file_at(inodes, directories, tags, path)?;
+    let (inode, size) = file_at(tables, path)?;
     let Some((name, rest)) = path.split_first() else {
         return Err(TreeFault::IsDir);
     };
-    let directory = walk_to(inodes, directories, tags, rest).unwrap_or(0);
-    let blocks = blocks_of(alloc, tags, inode, count_blocks(size))?;
+    let directory = walk_to(tables, rest).unwrap_or(0);
+    let blocks = tables.blocks_of(alloc, inode, count_blocks(size))?;
     let changes = unlink_changes(alloc, directory, inode, name, &blocks)?;
     Ok(changes)
 }
@@ -171,26 +162,24 @@ fn push_freed(changes: &mut Vec<Change>, blocks: &[u16]) -> Result<(), NoMemory>
 /// The changes that give a file or a directory another path.
 pub(crate) fn plan_rename(
     alloc: Global,
-    inodes: &[Option<Inode>],
-    directories: &[Rows],
-    tags: &[Option<Tag>],
+    tables: &FileTables,
     from: &[Bytes],
     to: &[Bytes],
 ) -> Result<Vec<Change>, TreeFault>
-    ensures { PlansTo (first_of (walk_refusal (node_at (tables_of inodes.now directories.now tags.now)) from.now) (first_of (when 89 (goes_on (below from.now to.now))) (place_refusal (node_at (tables_of inodes.now directories.now tags.now)) to.now))) (renames (tables_of inodes.now directories.now tags.now) from.now to.now) result }
+    ensures { PlansTo (first_of (walk_refusal (node_at tables.now) from.now) (first_of (when 89 (goes_on (below from.now to.now))) (place_refusal (node_at tables.now) to.now))) (renames tables.now from.now to.now) result }
 {
-    let inode = walk_to(inodes, directories, tags, from)?;
+    let inode = walk_to(tables, from)?;
     if is_below(from, to) {
         return Err(TreeFault::IntoItself);
     }
-    let place = place_at(inodes, directories, tags, to)?;
+    let place = place_at(tables, to)?;
     let Some((name, rest)) = from.split_first() else {
         return Ok(Vec::new(alloc));
     };
     let Some(new_name) = to.first() else {
         return Err(TreeFault::Exists);
     };
-    let directory = walk_to(inodes, directories, tags, rest).unwrap_or(0);
+    let directory = walk_to(tables, rest).unwrap_or(0);
     let changes = rename_changes(alloc, directory, name, place, inode, new_name)?;
     Ok(changes)
 }
@@ -262,16 +251,15 @@ fn same_paths(path: &[Bytes], other: &[Bytes]) -> bool
 /// The changes that give a file another size; none where it has it.
 pub(crate) fn plan_size(
     alloc: Global,
-    tags: &[Option<Tag>],
+    tables: &FileTables,
     first: u32,
     inode: u16,
     old: u32,
     size: u32,
 ) -> Result<Vec<Change>, TreeFault>
-    requires tags { length tags.now ≤ 4096 }
     requires old { old ≤ 196608 }
     requires size { size ≤ 196608 }
-    ensures { PlansTo (when 87 (nat_lt (block_count old + length (untagged_from first tags.now)) (block_count size))) (cond (size == old) [] (size_changes first tags.now inode old size)) result }
+    ensures { PlansTo (when 87 (nat_lt (block_count old + length (untagged_from first tables.now.tags)) (block_count size))) (cond (size == old) [] (size_changes first tables.now.tags inode old size)) result }
 {
     if size == old {
         return Ok(Vec::new(alloc));
@@ -279,11 +267,11 @@ pub(crate) fn plan_size(
     let have = count_blocks(old);
     let want = count_blocks(size);
     let more = want.saturating_sub(have) as usize;
-    let fresh = free_blocks(alloc, tags, first, more)?;
+    let fresh = tables.free_blocks(alloc, first, more)?;
     if fresh.len() < more {
         return Err(TreeFault::NoSpace);
     }
-    let blocks = blocks_of(alloc, tags, inode, have)?;
+    let blocks = tables.blocks_of(alloc, inode, have)?;
     let keep = (want as usize).min(blocks.len());
     let changes = resize_changes(alloc, inode, size, &blocks[keep..], have as u8, &fresh)?;
     Ok(changes)
@@ -335,44 +323,38 @@ fn push_given(
 /// The changes that cut or grow a file to a size.
 pub(crate) fn plan_truncate(
     alloc: Global,
-    inodes: &[Option<Inode>],
-    directories: &[Rows],
-    tags: &[Option<Tag>],
+    tables: &FileTables,
     first: u32,
     path: &[Bytes],
     size: u32,
 ) -> Result<Vec<Change>, TreeFault>
-    requires { length tags.now ≤ 4096 }
-    ensures { IsWhole (tables_of inodes.now directories.now tags.now) → PlansTo (refusal (tables_sight (data_of first (tables_of inodes.now directories.now tags.now)) (tables_of inodes.now directories.now tags.now)) (Truncate path.now size)) (changes (data_of first (tables_of inodes.now directories.now tags.now)) (tables_of inodes.now directories.now tags.now) (Truncate path.now size)) result }
+    ensures { IsWhole tables.now → PlansTo (refusal (tables_sight (data_of first tables.now) tables.now) (Truncate path.now size)) (changes (data_of first tables.now) tables.now (Truncate path.now size)) result }
 {
-    let (inode, old) = file_at(inodes, directories, tags, path)?;
+    let (inode, old) = file_at(tables, path)?;
     if size > MAX_SIZE || old > MAX_SIZE {
         return Err(TreeFault::TooLarge);
     }
-    plan_size(alloc, tags, first, inode, old, size)
+    plan_size(alloc, tables, first, inode, old, size)
 }
 
 /// The changes of a write of so many bytes from an offset on.
 pub(crate) fn plan_write(
     alloc: Global,
-    inodes: &[Option<Inode>],
-    directories: &[Rows],
-    tags: &[Option<Tag>],
+    tables: &FileTables,
     first: u32,
     path: &[Bytes],
     offset: u32,
     count: u32,
 ) -> Result<Vec<Change>, TreeFault>
-    requires { length tags.now ≤ 4096 }
-    ensures { IsWhole (tables_of inodes.now directories.now tags.now) → PlansTo (refusal (tables_sight (data_of first (tables_of inodes.now directories.now tags.now)) (tables_of inodes.now directories.now tags.now)) (Write path.now offset 0 count)) (changes (data_of first (tables_of inodes.now directories.now tags.now)) (tables_of inodes.now directories.now tags.now) (Write path.now offset 0 count)) result }
+    ensures { IsWhole tables.now → PlansTo (refusal (tables_sight (data_of first tables.now) tables.now) (Write path.now offset 0 count)) (changes (data_of first tables.now) tables.now (Write path.now offset 0 count)) result }
 {
-    let (inode, old) = file_at(inodes, directories, tags, path)?;
+    let (inode, old) = file_at(tables, path)?;
     let end = offset as u64 + count as u64;
     if end > MAX_SIZE as u64 || old > MAX_SIZE {
         return Err(TreeFault::TooLarge);
     }
     let size = written(old, end as u32, count);
-    plan_size(alloc, tags, first, inode, old, size)
+    plan_size(alloc, tables, first, inode, old, size)
 }
 
 /// The size after a write that ends at `end`.

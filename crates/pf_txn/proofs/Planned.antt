@@ -5,19 +5,20 @@ use Rattle.std.proofs.lemmas.Bool.{cases_Bool, cond-true, cond-false, ltb-false}
 use Rattle.std.proofs.lemmas.List.{length-append, length-take, length-drop}
 use Rattle.pf_tree.specs.declared.calls.FileCall.{FileCall}
 use Rattle.pf_tree.specs.declared.calls.FileCall.TheVariants.{Mkdir, Create, Write, Read, Truncate, Rename, Unlink, Rmdir, Stat, Listing}
-use Rattle.pf_tree.specs.declared.changes.Change.{Change}
-use Rattle.pf_tree.specs.declared.changes.Change.TheVariants.{SetInode, AddEntry, DeleteEntry, SetTag}
-use Rattle.pf_tree.specs.declared.tables.Inode.{Inode}
-use Rattle.pf_tree.specs.declared.tables.Inode.TheVariants.{File as OfFile, Directory}
-use Rattle.pf_tree.specs.Paths.{Path}
+use Rattle.pf_inodes.specs.declared.changes.Change.{Change}
+use Rattle.pf_inodes.specs.declared.changes.Change.TheVariants.{SetInode, AddEntry, DeleteEntry, SetTag}
+use Rattle.pf_inodes.specs.declared.tables.Inode.{Inode}
+use Rattle.pf_inodes.specs.declared.tables.Inode.TheVariants.{File as OfFile, Directory}
+use Rattle.pf_inodes.specs.Names.{Path}
 use Rattle.pf_tree.specs.Trees.{Node, Tree, Data, at, block_count, size_at, blocks_at, written_size, file_refusal, when, refusal, tree_sight}
-use Rattle.pf_tree.specs.Tables.{Tables, inode_at, node_in, node_of, node_at, walk, found, untagged, freed, given, makes, sizes, resizes, unlinks, removes, renames, changes}
+use Rattle.pf_inodes.specs.Tables.{Tables, inode_at, walk}
+use Rattle.pf_tree.specs.Plans.{node_in, node_of, node_at, found, untagged, freed, given, makes, sizes, resizes, unlinks, removes, renames, changes}
 use Rattle.pf_tree.specs.Standing.{StandsFor}
 use Rattle.pf_tree.proofs.Walks.{walk_in_use}
 use Rattle.pf_tree.proofs.Tags.{length_blocks}
 use Rattle.pf_tree.proofs.Steps.{used_within}
 use Rattle.pf_tree.proofs.Law.{first_none, when_none, few_blocks, written_few}
-use Rattle.pf_tree.specs.declared.changes.Txn.{Txn}
+use Rattle.pf_inodes.specs.declared.changes.Txn.{Txn}
 use Rattle.pf_txn.specs.Spelling.{FitChanges, IsShort, IsShortCall, CanSpell, four, spell_changes, spell_txn}
 use Rattle.pf_txn.proofs.Sizes.{costs, costs_append, costs_freed, costs_given, fit_append, fit_freed, fit_given, length_changes}
 

@@ -1,10 +1,10 @@
 -- A planned transaction has a spelling of at most 330 bytes.
 use Rattle.std.proofs.Common.{◌≡◌, ◌≢◌, ℕ, suc, ◌+◌, ◌*◌, List, [], ◌∷◌, ◌++◌, length, refl, ◌∙◌, arith}
 use Rattle.std.proofs.lemmas.List.{length-append}
-use Rattle.pf_tree.specs.declared.changes.Change.{Change}
-use Rattle.pf_tree.specs.declared.changes.Change.TheVariants.{SetInode, AddEntry, DeleteEntry, SetTag}
+use Rattle.pf_inodes.specs.declared.changes.Change.{Change}
+use Rattle.pf_inodes.specs.declared.changes.Change.TheVariants.{SetInode, AddEntry, DeleteEntry, SetTag}
 use Rattle.pf_txn.specs.Spelling.{two, four, spell_change, spell_changes, FitChanges}
-use Rattle.pf_tree.specs.Tables.{freed, given}
+use Rattle.pf_tree.specs.Plans.{freed, given}
 
 -- how many bytes a change has
 abbrev pub cost : Change → ℕ

@@ -7,9 +7,9 @@ use Rattle.std.proofs.lemmas.List.{append-nil, nil_from_length}
 use Rattle.std.proofs.lemmas.Option.{cond_some, none-some, same_Some}
 use Rattle.pf_entry.specs.Lists.{Every}
 use Rattle.pf_entry.proofs.Lists.{every_append, every_more}
-use Rattle.pf_tree.specs.declared.changes.Change.{Change}
-use Rattle.pf_tree.specs.declared.changes.Change.TheVariants.{SetInode, AddEntry, DeleteEntry, SetTag}
-use Rattle.pf_tree.specs.declared.changes.Txn.{Txn}
+use Rattle.pf_inodes.specs.declared.changes.Change.{Change}
+use Rattle.pf_inodes.specs.declared.changes.Change.TheVariants.{SetInode, AddEntry, DeleteEntry, SetTag}
+use Rattle.pf_inodes.specs.declared.changes.Txn.{Txn}
 use Rattle.pf_spelling.specs.Parsers.{AreBytes, IsExact, and_then}
 use Rattle.pf_spelling.specs.Spelling.{number, byte}
 use Rattle.pf_spelling.proofs.Exact.{bind_ok, then_exact, last_exact, checked_exact, respelled, row_exact, u32_exact}

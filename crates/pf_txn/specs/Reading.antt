@@ -3,9 +3,9 @@ use Rattle.std.specs.Prelude.{◌≡◌, ℕ, Bool, true, ◌&&◌, ◌||◌, no
 use Rattle.std.specs.Int.{w16, w32}
 use Rattle.std.specs.List.{list_all}
 use Rattle.pf_spelling.specs.Parsers.{Parser, and_then, ◌>>=◌, checked, byte_at, number_at, row_at}
-use Rattle.pf_tree.specs.declared.changes.Change.{Change}
-use Rattle.pf_tree.specs.declared.changes.Change.TheVariants.{SetInode, AddEntry, DeleteEntry, SetTag}
-use Rattle.pf_tree.specs.declared.changes.Txn.{Txn}
+use Rattle.pf_inodes.specs.declared.changes.Change.{Change}
+use Rattle.pf_inodes.specs.declared.changes.Change.TheVariants.{SetInode, AddEntry, DeleteEntry, SetTag}
+use Rattle.pf_inodes.specs.declared.changes.Txn.{Txn}
 use Rattle.pf_txn.specs.Spelling.{CanSpell, spell_txn}
 use Rattle.pf_txn.specs.Fields.{IsTyped}
 

@@ -1,6 +1,6 @@
 //! Laws of transactions as bytes.
 ghost use Rattle.std.specs.Prelude.{◌≡◌, ℕ, List, Some};
-ghost use Rattle.pf_tree.specs.declared.changes.Txn.{Txn};
+ghost use Rattle.pf_inodes.specs.declared.changes.Txn.{Txn};
 ghost use Rattle.pf_txn.specs.Spelling.{CanSpell, spell_txn};
 ghost use Rattle.pf_txn.specs.Fields.{IsTyped};
 ghost use Rattle.pf_txn.specs.Reading.{IsSpelling, ReadsTxn, txn_in};

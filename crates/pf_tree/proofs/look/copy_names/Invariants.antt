@@ -1,5 +1,5 @@
 use Rattle.std.proofs.Common.{◌≡◌, map, take}
-use Rattle.pf_tree.specs.declared.tables.Entry.{Entry}
+use Rattle.pf_inodes.specs.declared.tables.Entry.{Entry}
 use Rattle.pf_tree.proofs.look.copy_names.Given as goal
 
 abbrev pub invariant-loop-row : goal.invariant-loop-row

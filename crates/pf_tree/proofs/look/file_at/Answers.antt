@@ -1,8 +1,7 @@
 use Rattle.std.proofs.Common.{sym, ◌∙◌}
-use Rattle.pf_tree.specs.Shelves.{tables_of}
 use Rattle.pf_tree.proofs.Looks.{led_in_use}
 use Rattle.pf_tree.proofs.look.file_at.Goals as goal
 
 pub returns-in-None : goal.returns-in-None
 returns-in-None c = λ root.
-    absurd (led_in_use (tables_of c.args.inodes.now c.args.directories.now c.args.tags.now) c.args.path.now c.in_ok-inode.inode root c.in_ok-inode.ensures.0 c.in_ok-inode.ensures.1 (sym c.inode_of.ensures ∙ c.in-None.is))
+    absurd (led_in_use c.args.tables.now c.args.path.now c.in_ok-inode.inode root c.in_ok-inode.ensures.0 c.in_ok-inode.ensures.1 (sym c.inode.ensures ∙ c.in-None.is))

@@ -1,5 +1,5 @@
 use Rattle.std.proofs.Common.{◌≡◌, ◌++◌, take}
-use Rattle.pf_tree.specs.Tables.{freed}
+use Rattle.pf_tree.specs.Plans.{freed}
 use Rattle.pf_tree.proofs.plan.push_freed.Given as goal
 
 abbrev pub invariant-loop-block : goal.invariant-loop-block

@@ -1,0 +1,134 @@
+-- Look-ups among entries after a change.
+use Rattle.std.proofs.Common.{◌≡◌, ◌≢◌, ℕ, ◌<◌, inl, inr, true, false, not, List, [], ◌∷◌, ◌++◌, length, set, Some, None, refl, sym, ap, ◌∙◌}
+use Rattle.std.specs.Str.{bytes_eq}
+use Rattle.std.proofs.lemmas.Bool.{cases_Bool, cond-true, cond-false, false≢true, true≢false, false_from_ne_true, not_from_true, not_from_false, cases_eq, cases_lt}
+use Rattle.std.proofs.lemmas.Slice.Eq.{bytes_eq-Decides}
+use Rattle.std.proofs.lemmas.Option.{none-some}
+use Rattle.std.proofs.lemmas.List.{get_or_past, get_or-set_same, get_or-set_other, set_past}
+use Rattle.pf_inodes.specs.declared.tables.Entry.{Entry}
+use Rattle.pf_inodes.specs.Names.{Name}
+use Rattle.pf_inodes.specs.Tables.{Entries, names_in, found_in, entry_at, others, unnamed, named, is_nil, has_names}
+
+-- another directory or another name
+abbrev pub AreApart : (d : ℕ) (n : Name) (e : ℕ) (m : Name) → Type 0
+AreApart d n e m = e ≡ d → m ≡ n → ⊥
+
+same_name : (row : Entry) (n : Name) → row.name ≡ n → bytes_eq row.name n ≡ true
+same_name row n e = (bytes_eq-Decides row.name n).1 e
+
+is_name : (row : Entry) (n : Name) → bytes_eq row.name n ≡ true → row.name ≡ n
+is_name row n e = (bytes_eq-Decides row.name n).0 e
+
+here : (n : Name) (row : Entry) (rows : List Entry) → bytes_eq row.name n ≡ true → found_in (row ∷ rows) n ≡ Some row.inode
+here n row rows e = cond-true _ _ _ e
+
+past : (n : Name) (row : Entry) (rows : List Entry) → bytes_eq row.name n ≡ false → found_in (row ∷ rows) n ≡ found_in rows n
+past n row rows e = cond-false _ _ _ e
+
+kept : (n : Name) (row : Entry) (rows : List Entry) → bytes_eq row.name n ≡ false → others (row ∷ rows) n ≡ row ∷ others rows n
+kept n row rows e = cond-true _ _ _ (not_from_false _ e)
+
+dropped : (n : Name) (row : Entry) (rows : List Entry) → bytes_eq row.name n ≡ true → others (row ∷ rows) n ≡ others rows n
+dropped n row rows e = cond-false _ _ _ (not_from_true _ e)
+
+others_same : (rows : List Entry) (n : Name) → found_in (others rows n) n ≡ None
+others_same [] n = refl
+others_same (row ∷ rows) n =
+    elim (cases_Bool (bytes_eq row.name n)) [
+      | inl is ↦ ap (λ rs. found_in rs n) (dropped n row rows is) ∙ others_same rows n
+      | inr isnt ↦ ap (λ rs. found_in rs n) (kept n row rows isnt) ∙ past n row (others rows n) isnt ∙ others_same rows n
+    ]
+
+others_other : (rows : List Entry) (n m : Name) → m ≢ n → found_in (others rows n) m ≡ found_in rows m
+others_other [] n m apart = refl
+others_other (row ∷ rows) n m apart =
+    elim (cases_Bool (bytes_eq row.name n)) [
+      | inl is ↦
+          let gone : bytes_eq row.name m ≡ false = false_from_ne_true _ (λ h. apart (sym (is_name row m h) ∙ is_name row n is)) in
+          ap (λ rs. found_in rs m) (dropped n row rows is) ∙ others_other rows n m apart ∙ sym (past m row rows gone)
+      | inr isnt ↦
+          ap (λ rs. found_in rs m) (kept n row rows isnt)
+          ∙ elim (cases_Bool (bytes_eq row.name m)) [
+            | inl is ↦ here m row (others rows n) is ∙ sym (here m row rows is)
+            | inr gone ↦ past m row (others rows n) gone ∙ others_other rows n m apart ∙ sym (past m row rows gone)
+          ]
+    ]
+
+last_after : (rows : List Entry) (row : Entry) (m : Name) → found_in rows m ≡ None → found_in (rows ++ row ∷ []) m ≡ found_in (row ∷ []) m
+last_after [] row m none = refl
+last_after (r ∷ rows) row m none =
+    elim (cases_Bool (bytes_eq r.name m)) [
+      | inl is ↦ absurd (none-some r.inode (sym none ∙ here m r rows is))
+      | inr gone ↦ past m r (rows ++ row ∷ []) gone ∙ last_after rows row m (sym (past m r rows gone) ∙ none)
+    ]
+
+before_last : (rows : List Entry) (row : Entry) (m : Name) → bytes_eq row.name m ≡ false → found_in (rows ++ row ∷ []) m ≡ found_in rows m
+before_last [] row m gone = past m row [] gone
+before_last (r ∷ rows) row m gone =
+    elim (cases_Bool (bytes_eq r.name m)) [
+      | inl is ↦ here m r (rows ++ row ∷ []) is ∙ sym (here m r rows is)
+      | inr gone2 ↦ past m r (rows ++ row ∷ []) gone2 ∙ before_last rows row m gone ∙ sym (past m r rows gone2)
+    ]
+
+-- a write of one directory's names
+written_other : (es : Entries) (d e : ℕ) (rows : List Entry) → e ≢ d → names_in (set es d rows) e ≡ names_in es e
+written_other es d e rows apart = get_or-set_other es d e rows [] apart
+
+-- a change that leaves a name alone
+kept_name : (es : Entries) (d : ℕ) (rows : List Entry) (e : ℕ) (m : Name) → (e ≡ d → found_in rows m ≡ found_in (names_in es d) m) → entry_at (set es d rows) e m ≡ entry_at es e m
+kept_name es d rows e m same =
+    elim (cases_eq e d) [
+      | inl is ↦
+          elim (cases_lt d (length es)) [
+            | inl low ↦
+                ap (λ f. found_in (names_in (set es d rows) f) m) is ∙ ap (λ rs. found_in rs m) (get_or-set_same es d rows [] low) ∙ same is
+                ∙ ap (λ f. found_in (names_in es f) m) (sym is)
+            | inr far ↦ ap (λ (es : Entries). found_in (names_in es e) m) (set_past es d rows far)
+          ]
+      | inr apart ↦ ap (λ rs. found_in rs m) (written_other es d e rows apart)
+    ]
+
+pub unnamed_same : (es : Entries) (d : ℕ) (n : Name) → entry_at (unnamed es d n) d n ≡ None
+unnamed_same es d n =
+    elim (cases_lt d (length es)) [
+      | inl low ↦ ap (λ rs. found_in rs n) (get_or-set_same es d (others (names_in es d) n) [] low) ∙ others_same (names_in es d) n
+      | inr far ↦
+          ap (λ (es : Entries). found_in (names_in es d) n) (set_past es d (others (names_in es d) n) far) ∙ ap (λ rs. found_in rs n) (get_or_past es d [] far)
+    ]
+
+pub unnamed_other : (es : Entries) (d : ℕ) (n : Name) (e : ℕ) (m : Name) → AreApart d n e m → entry_at (unnamed es d n) e m ≡ entry_at es e m
+unnamed_other es d n e m apart =
+    kept_name es d (others (names_in es d) n) e m (λ is. others_other (names_in es d) n m (apart is))
+
+pub named_same : (es : Entries) (d i : ℕ) (n : Name) → d < length es → entry_at (named es d i n) d n ≡ Some i
+named_same es d i n low =
+    let row : Entry = record { inode = i; name = n } in
+    ap (λ rs. found_in rs n) (get_or-set_same es d (others (names_in es d) n ++ row ∷ []) [] low)
+    ∙ last_after (others (names_in es d) n) row n (others_same (names_in es d) n) ∙ here n row [] (same_name row n refl)
+
+pub named_other : (es : Entries) (d i : ℕ) (n : Name) (e : ℕ) (m : Name) → AreApart d n e m → entry_at (named es d i n) e m ≡ entry_at es e m
+named_other es d i n e m apart =
+    let row : Entry = record { inode = i; name = n } in
+    kept_name es d (others (names_in es d) n ++ row ∷ []) e m (λ is.
+    before_last (others (names_in es d) n) row m (false_from_ne_true _ (λ h. apart is (sym (is_name row m h))))
+    ∙ others_other (names_in es d) n m (apart is))
+
+pub no_names : (es : Entries) (d : ℕ) (n : Name) → has_names es d ≡ false → entry_at es d n ≡ None
+no_names es d n e = none_in (names_in es d) e
+  where
+    none_in : (rows : List Entry) → not (is_nil rows) ≡ false → found_in rows n ≡ None
+    none_in [] h = refl
+    none_in (row ∷ rows) h = absurd (true≢false h)
+
+pub record Named (es : Entries) (d : ℕ) : Type 0 where
+  pub name : Name
+  pub inode : ℕ
+  pub stands : entry_at es d name ≡ Some inode
+
+pub some_name : (es : Entries) (d : ℕ) → has_names es d ≡ true → Named es d
+some_name es d e = some_in (names_in es d) refl e
+  where
+    some_in : (rows : List Entry) → names_in es d ≡ rows → not (is_nil rows) ≡ true → Named es d
+    some_in [] is h = absurd (false≢true h)
+    some_in (row ∷ rows) is h =
+        record { name = row.name; inode = row.inode; stands = ap (λ rs. found_in rs row.name) is ∙ here row.name row rows (same_name row row.name refl) }

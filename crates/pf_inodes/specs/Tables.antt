@@ -1,0 +1,117 @@
+-- The tables: inodes and tags by their numbers, entries by directory and name. What is found in them, and what a change does to them.
+use Rattle.std.specs.Prelude.{ℕ, ◌-◌, Bool, true, false, cond, not, ◌&&◌, ◌==◌, nat_lt, nat_le, List, [], ◌∷◌, ◌++◌, map, length, replicate, set, get_or, Option, Some, None, is_some}
+use Rattle.std.specs.List.{filter, range_with_len, position_or_len}
+use Rattle.std.specs.Option.{option_and_then, is_none}
+use Rattle.std.specs.Str.{bytes_eq}
+use Rattle.pf_inodes.specs.declared.changes.Change.{Change}
+use Rattle.pf_inodes.specs.declared.changes.Change.TheVariants.{SetInode, AddEntry, DeleteEntry, SetTag}
+use Rattle.pf_inodes.specs.declared.tables.Inode.{Inode}
+use Rattle.pf_inodes.specs.declared.tables.Inode.TheVariants.{File as OfFile, Directory}
+use Rattle.pf_inodes.specs.declared.tables.Entry.{Entry}
+use Rattle.pf_inodes.specs.declared.tables.Tag.{Tag}
+use Rattle.pf_inodes.specs.Names.{Name, Path}
+
+-- the names of each directory, by its inode
+abbrev pub Entries : Type 0
+Entries = List (List Entry)
+
+-- a place for each inode and each block: None where it is free
+pub record Tables : Type 0 where
+  pub inodes : List (Option Inode)
+  pub entries : Entries
+  pub tags : List (Option Tag)
+
+abbrev pub inode_at : Tables → ℕ → Option Inode
+inode_at tables i = get_or tables.inodes i None
+
+abbrev pub tag_at : List (Option Tag) → ℕ → Option Tag
+tag_at tags b = get_or tags b None
+
+abbrev pub names_in : Entries → ℕ → List Entry
+names_in entries directory = get_or entries directory []
+
+abbrev pub found_in : List Entry → Name → Option ℕ
+found_in [] name = None
+found_in (row ∷ rows) name = cond (bytes_eq row.name name) (Some row.inode) (found_in rows name)
+
+-- the inode of a name in a directory
+abbrev pub entry_at : Entries → ℕ → Name → Option ℕ
+entry_at entries directory name = found_in (names_in entries directory) name
+
+abbrev pub others : List Entry → Name → List Entry
+others rows name = filter (λ row. not (bytes_eq row.name name)) rows
+
+abbrev pub unnamed : Entries → ℕ → Name → Entries
+unnamed entries directory name = set entries directory (others (names_in entries directory) name)
+
+abbrev pub named : Entries → (directory inode : ℕ) → Name → Entries
+named entries directory inode name =
+    set entries directory (others (names_in entries directory) name ++ record { inode = inode; name = name } ∷ [])
+
+abbrev pub is_nil : List Entry → Bool
+is_nil [] = true
+is_nil (row ∷ rows) = false
+
+abbrev pub has_names : Entries → ℕ → Bool
+has_names entries directory = not (is_nil (names_in entries directory))
+
+-- a walk of names from inode 0
+abbrev pub walk : Entries → Path → Option ℕ
+walk entries [] = Some 0
+walk entries (n ∷ p) = option_and_then (λ i. entry_at entries i n) (walk entries p)
+
+abbrev pub is_tag : (inode index : ℕ) → Option Tag → Bool
+is_tag inode index None = false
+is_tag inode index (Some tag) = (tag.inode == inode) && (tag.index == index)
+
+-- the block of an index of a file
+abbrev pub block_of : List (Option Tag) → (inode index : ℕ) → ℕ
+block_of tags inode index = position_or_len (is_tag inode index) tags
+
+-- the blocks of a file in the order of their indices
+abbrev pub blocks_of : List (Option Tag) → (inode count : ℕ) → List ℕ
+blocks_of tags inode count = map (block_of tags inode) (range_with_len 0 count)
+
+-- what a change does: it is passed over where it names an inode or a block that the tables lack, an index past 47 or a size above
+-- the greatest
+abbrev pub inode_with : (kind size : ℕ) → Option Inode
+inode_with kind size = cond (kind == 0) None (cond (kind == 1) (Some (OfFile size)) (Some Directory))
+
+abbrev pub tag_with : Tables → (inode index : ℕ) → List (Option Tag) → ℕ → List (Option Tag)
+tag_with tables i k tags b =
+    cond (i == 65535) (set tags b None)
+    (cond (nat_lt i (length tables.inodes) && nat_lt k 48) (set tags b (Some (record { inode = i; index = k }))) tags)
+
+abbrev pub after_change : Tables → Change → Tables
+after_change tables (SetInode i kind size) =
+    record tables { inodes = cond (nat_le size 196608) (set tables.inodes i (inode_with kind size)) tables.inodes }
+after_change tables (AddEntry d i n) =
+    record tables { entries = cond (nat_lt i (length tables.inodes)) (named tables.entries d i n) tables.entries }
+after_change tables (DeleteEntry d n) = record tables { entries = unnamed tables.entries d n }
+after_change tables (SetTag b i k) = record tables { tags = tag_with tables i k tables.tags b }
+
+abbrev pub applied : Tables → List Change → Tables
+applied tables [] = tables
+applied tables (c ∷ cs) = applied (after_change tables c) cs
+
+-- the least free inode; their count where none is free
+abbrev pub least_free : Tables → ℕ
+least_free tables = position_or_len is_none tables.inodes
+
+-- the numbers from the first one on, below a bound, that are not in use
+abbrev pub unused : (first blocks : ℕ) → (ℕ → Bool) → List ℕ
+unused first blocks in_use = filter (λ b. not (in_use b)) (range_with_len first (blocks - first))
+
+-- the free blocks from the first one on
+abbrev pub untagged_from : ℕ → List (Option Tag) → List ℕ
+untagged_from first tags = unused first (length tags) (λ b. is_some (tag_at tags b))
+
+-- the tables of a new volume with so many blocks
+unfoldable pub new_inodes : List (Option Inode)
+new_inodes = set (replicate 1024 None) 0 (Some Directory)
+
+unfoldable pub new_entries : Entries
+new_entries = replicate 1024 []
+
+abbrev pub new_tables : ℕ → Tables
+new_tables blocks = record { inodes = new_inodes; entries = new_entries; tags = replicate blocks None }

@@ -1,0 +1,161 @@
+//! What the changes of a transaction do to the tables.
+ghost use Rattle.std.specs.Prelude.{◌≡◌, ℕ, ◌+◌, ◌<◌, ◌≤◌, ◌∷◌, [], OnOk, cond, length, nat_le, set};
+ghost use Rattle.pf_inodes.specs.Tables.{after_change, applied, inode_with, named, unnamed};
+ghost use Rattle.pf_inodes.specs.Shelves.{HasRoom, lists_of, room_in, tables_of};
+
+use crate::rows::Rows;
+use crate::{Change, Entry, Inode, Tag};
+use pf_base::{Bytes, NoMemory};
+use std::alloc::Global;
+
+/// The greatest size of a file.
+const MAX_SIZE: u32 = 196608;
+
+/// The greatest count of blocks of a file.
+const MAX_BLOCKS: u8 = 48;
+
+/// The inode of a tag that frees its block.
+const NO_INODE: u16 = 65535;
+
+/// Takes the room for the names that the changes add.
+pub(crate) fn make_room(directories: &mut Vec<Rows>, changes: &[Change]) -> Result<(), NoMemory>
+    ensures lists { lists_of directories.new.items ≡ lists_of directories.old.items }
+    ensures room { OnOk result (HasRoom directories.new.items changes.now (length changes.now)) }
+{
+    for change in changes {
+        room_for(directories, change, changes.len())?;
+    }
+    Ok(())
+}
+
+/// Takes room for so many names in the directory to which a change adds one.
+fn room_for(directories: &mut Vec<Rows>, change: &Change, count: usize) -> Result<(), NoMemory>
+    ensures lists { lists_of directories.new.items ≡ lists_of directories.old.items }
+    ensures kept { (d : ℕ) → room_in directories.old.items d ≤ room_in directories.new.items d }
+    ensures room { OnOk result (HasRoom directories.new.items (change.now ∷ []) count) }
+{
+    if let Change::AddEntry { directory, .. } = change {
+        return reserve_in(directories, *directory, count);
+    }
+    Ok(())
+}
+
+/// Takes room for so many names in a directory.
+fn reserve_in(directories: &mut Vec<Rows>, directory: u16, count: usize) -> Result<(), NoMemory>
+    ensures lists { lists_of directories.new.items ≡ lists_of directories.old.items }
+    ensures kept { (d : ℕ) → room_in directories.old.items d ≤ room_in directories.new.items d }
+    ensures room { OnOk result (directory < length directories.new.items → count ≤ room_in directories.new.items directory) }
+{
+    let place = directory as usize;
+    if place < directories.len() {
+        return directories[place].reserve(count);
+    }
+    Ok(())
+}
+
+/// Carries out changes, one by one.
+pub(crate) fn carry_out(
+    inodes: &mut Vec<Option<Inode>>,
+    directories: &mut Vec<Rows>,
+    tags: &mut Vec<Option<Tag>>,
+    changes: Vec<Change>,
+)
+    requires { HasRoom directories.old.items changes.items (length changes.items) }
+    ensures { tables_of inodes.new.items directories.new.items tags.new.items ≡ applied (tables_of inodes.old.items directories.old.items tags.old.items) changes.items }
+{
+    for change in changes {
+        change_one(inodes, directories, tags, change);
+    }
+}
+
+/// Carries out one change.
+fn change_one(
+    inodes: &mut Vec<Option<Inode>>,
+    directories: &mut Vec<Rows>,
+    tags: &mut Vec<Option<Tag>>,
+    change: Change,
+)
+    requires { HasRoom directories.old.items (change ∷ []) 1 }
+    ensures tables { tables_of inodes.new.items directories.new.items tags.new.items ≡ after_change (tables_of inodes.old.items directories.old.items tags.old.items) change }
+    ensures room { (d : ℕ) → room_in directories.old.items d ≤ room_in directories.new.items d + 1 }
+    ensures count { length directories.new.items ≡ length directories.old.items }
+{
+    match change {
+        Change::SetInode { inode, kind, size } => set_inode(inodes, inode, kind, size),
+        Change::AddEntry {
+            directory,
+            inode,
+            name,
+        } => {
+            if (inode as usize) < inodes.len() {
+                add_entry(directories, directory, inode, name);
+            }
+        }
+        Change::DeleteEntry { directory, name } => delete_entry(directories, directory, &name),
+        Change::SetTag {
+            block,
+            inode,
+            index,
+        } => {
+            if inode == NO_INODE {
+                set_tag(tags, block, None);
+            } else if (inode as usize) < inodes.len() && index < MAX_BLOCKS {
+                set_tag(tags, block, Some(Tag { inode, index }));
+            }
+        }
+    }
+}
+
+/// Sets an inode, or frees it.
+fn set_inode(inodes: &mut Vec<Option<Inode>>, inode: u16, kind: u8, size: u32)
+    ensures { inodes.new.items ≡ cond (nat_le size 196608) (set inodes.old.items inode (inode_with kind size)) inodes.old.items }
+{
+    let place = inode as usize;
+    if size <= MAX_SIZE && place < inodes.len() {
+        inodes[place] = if kind == 0 {
+            None
+        } else if kind == 1 {
+            Some(Inode::File { size })
+        } else {
+            Some(Inode::Directory)
+        };
+    }
+}
+
+/// Gives a name in a directory to an inode.
+fn add_entry(directories: &mut Vec<Rows>, directory: u16, inode: u16, name: Bytes)
+    requires { directory < length directories.old.items → 1 ≤ room_in directories.old.items directory }
+    ensures lists { lists_of directories.new.items ≡ named (lists_of directories.old.items) directory inode name }
+    ensures room { (d : ℕ) → room_in directories.old.items d ≤ room_in directories.new.items d + 1 }
+    ensures count { length directories.new.items ≡ length directories.old.items }
+{
+    let place = directory as usize;
+    if place < directories.len() {
+        let rows = &mut directories[place];
+        rows.forget(name.as_slice());
+        rows.add(Entry { inode, name });
+    }
+}
+
+/// Takes a name out of a directory.
+fn delete_entry(directories: &mut Vec<Rows>, directory: u16, name: &Bytes)
+    ensures lists { lists_of directories.new.items ≡ unnamed (lists_of directories.old.items) directory name.now }
+    ensures room { (d : ℕ) → room_in directories.old.items d ≤ room_in directories.new.items d }
+    ensures count { length directories.new.items ≡ length directories.old.items }
+{
+    let place = directory as usize;
+    if place < directories.len() {
+        let rows = &mut directories[place];
+        rows.forget(name.as_slice());
+    }
+}
+
+/// Sets the tag of a block.
+fn set_tag(tags: &mut Vec<Option<Tag>>, block: u16, tag: Option<Tag>)
+    ensures { tags.new.items ≡ set tags.old.items block tag }
+{
+    let place = block as usize;
+    if place < tags.len() {
+        tags[place] = tag;
+    }
+}

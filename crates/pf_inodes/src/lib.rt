@@ -1,0 +1,15 @@
+//! The tables of a file system: inodes, the names in directories, the tags of blocks, and what a transaction changes in them.
+#![tactic(auto)]
+
+mod changes;
+mod copies;
+mod edits;
+mod file_tables;
+mod look;
+mod rows;
+mod tables;
+
+pub use changes::{Change, Changes, Txn};
+pub use copies::copy_name;
+pub use file_tables::FileTables;
+pub use tables::{Entry, Inode, Tag};

@@ -1,0 +1,48 @@
+-- What a mount holds: tables, and the first of its data blocks. The words of its look-ups.
+use Rattle.std.specs.Prelude.{◌≡◌, ℕ, ◌≤◌, List, [], length, ◌∷◌, ◌++◌, ◌-◌, take, drop, Option, Some}
+use Rattle.std.specs.Option.{option_and_then}
+use Rattle.pf_inodes.specs.declared.changes.Change.{Change}
+use Rattle.pf_inodes.specs.declared.changes.Change.TheVariants.{SetInode}
+use Rattle.pf_inodes.specs.declared.tables.Inode.TheVariants.{File as OfFile, Directory}
+use Rattle.pf_inodes.specs.declared.tables.Tag.{Tag}
+use Rattle.pf_inodes.specs.Names.{Name, Path}
+use Rattle.pf_inodes.specs.Tables.{Tables, Entries, inode_at, entry_at, walk, blocks_of, untagged_from}
+use Rattle.pf_tree.specs.Trees.{Data, step_refusal, block_count}
+use Rattle.pf_tree.specs.Plans.{node_of, freed, given}
+
+-- the tables of a mount, and the first of its data blocks
+pub record Held : Type 0 where
+  pub first : ℕ
+  pub tables : Tables
+
+-- the refusal of one name further
+abbrev pub step_of : Tables → ℕ → Name → Option ℕ
+step_of tables d n = step_refusal (node_of tables d) (option_and_then (node_of tables) (entry_at tables.entries d n))
+
+-- where the path's directory is
+abbrev pub IsParent : Entries → Path → ℕ → Type 0
+IsParent entries [] d = ⊥
+IsParent entries (n ∷ p) d = walk entries p ≡ Some d
+
+abbrev pub HasRoot : Tables → Type 0
+HasRoot tables = inode_at tables 0 ≡ Some Directory
+
+pub record IsFileAt (tables : Tables) (p : Path) (i size : ℕ) : Type 0 where
+  pub leads : walk tables.entries p ≡ Some i
+  pub is : inode_at tables i ≡ Some (OfFile size)
+
+-- the changes that give a file another size
+abbrev pub size_changes : ℕ → List (Option Tag) → (inode old size : ℕ) → List Change
+size_changes first tags i old size =
+    SetInode i 1 size
+    ∷ (freed (drop (block_count size) (blocks_of tags i (block_count old)))
+    ++ given i (block_count old) (take (block_count size - block_count old) (untagged_from first tags)))
+
+-- the data blocks of tables, by their first one
+abbrev pub data_of : ℕ → Tables → Data
+data_of first t = record { first = first; blocks = length t.tags }
+
+-- what tables that stand for a tree have, and planning rests on
+pub record IsWhole (t : Tables) : Type 0 where
+  pub root : HasRoot t
+  pub sizes : (i size : ℕ) → inode_at t i ≡ Some (OfFile size) → size ≤ 196608
