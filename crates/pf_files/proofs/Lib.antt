@@ -3,6 +3,5 @@ pub mod Cut
 pub mod Filled
 pub mod Steps
 pub mod Kept
-pub mod Sorted
 pub mod Proposed
 pub mod Insides

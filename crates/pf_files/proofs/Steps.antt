@@ -1,19 +1,18 @@
 -- Steps of file data, as the code takes them.
-use Rattle.std.proofs.Common.{◌≡◌, ℕ, suc, ◌+◌, ◌<◌, ◌≤◌, true, if◌then◌else◌, List, Result, Ok, Err, IfOk, replicate, sym, ap, ◌∙◌, add-one, arith}
-use Rattle.std.proofs.lemmas.Bool.{lt-ltb, le-ltb, ne_eqb}
+use Rattle.std.proofs.Common.{◌≡◌, ℕ, suc, ◌+◌, ◌<◌, true, if◌then◌else◌, List, Result, Ok, Err, IfOk, replicate, sym, ap, ◌∙◌, add-one, arith}
+use Rattle.std.proofs.lemmas.Bool.{lt-ltb, ne_eqb}
 use Rattle.pf_volume.specs.Volumes.{Extent}
 use Rattle.pf_tree.specs.declared.calls.FileCall.TheVariants.{Write, Truncate}
 use Rattle.pf_inodes.specs.Names.{Path}
-use Rattle.pf_tree.specs.Trees.{block_count}
 use Rattle.pf_inodes.specs.Tables.{Tables}
 use Rattle.pf_tree.specs.Plans.{found}
-use Rattle.pf_files.specs.declared.answers.CallAnswer.TheVariants.{Fine, Bytes as BytesRead}
+use Rattle.pf_files.specs.declared.answers.CallAnswer.TheVariants.{Fine}
 use Rattle.pf_files.specs.declared.filling.Fill.{Fill}
 use Rattle.pf_files.specs.declared.moving.Moved.TheVariants.{Asks, Ends}
-use Rattle.pf_files.specs.declared.moving.Moving.TheVariants.{Fetches, Gathers}
+use Rattle.pf_files.specs.declared.moving.Moving.TheVariants.{Fetches}
 use Rattle.pf_files.specs.Blocks.{reads_block}
-use Rattle.pf_files.specs.Filling.{end_of, first_of, is_new, wanted}
-use Rattle.pf_files.specs.Moving.{block_at, stores, fills_block, fills, fills_file, gathers, moves}
+use Rattle.pf_files.specs.Filling.{first_of, is_new}
+use Rattle.pf_files.specs.Moving.{stores, fills_block, fills, fills_file, gathers, moves}
 
 -- what is equal to one thing is equal to another
 pub ok_along : {A E : Type 0} (result : Result A E) (x y : A) → x ≡ y → IfOk result (λ a. a ≡ x) → IfOk result (λ a. a ≡ y)

@@ -17,7 +17,6 @@ use Rattle.pf_files.specs.declared.moving.Moving.{Moving}
 use Rattle.pf_files.specs.declared.moving.Moving.TheVariants.{Fetches, Stores, Gathers}
 use Rattle.pf_files.specs.declared.moving.Moved.{Moved}
 use Rattle.pf_files.specs.declared.moving.Moved.TheVariants.{Asks, Ends}
-use Rattle.pf_files.specs.Ascending.{ascending}
 use Rattle.pf_files.specs.Blocks.{IsInside, reads_block, writes_block, bytes_of}
 use Rattle.pf_files.specs.Filling.{filled, first_of, end_of, is_new, read_end, wanted}
 
@@ -64,9 +63,9 @@ abbrev pub stat_of : Option Node → CallAnswer
 stat_of (Some (File size blocks)) = OfFile size
 stat_of _ = Directory
 
--- a list tells the names in the directory, which ascend
+-- a list tells the names in the directory, which stand there in the order of their bytes
 abbrev pub names_of : Tables → Path → List (List ℕ)
-names_of tables p = ascending (map (λ (row : Entry). row.name) (names_in tables.entries (found tables p)))
+names_of tables p = map (λ (row : Entry). row.name) (names_in tables.entries (found tables p))
 
 abbrev pub fills_file : Extent → Tables → Fill → Moved
 fills_file v tables f = fills v tables f (first_of f)

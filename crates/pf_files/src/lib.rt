@@ -8,7 +8,6 @@ mod calls;
 mod filling;
 mod laws;
 mod moving;
-mod names;
 mod spelled;
 mod work;
 

@@ -11,7 +11,6 @@ use crate::CallAnswer;
 use crate::blocks::{reads_block, writes_block};
 use crate::bytes::{joined, zeros};
 use crate::filling::{Fill, count_blocks, end_of, filled, first_of, is_new, wanted};
-use crate::names::ascending;
 use pf_base::{Ask, Bytes, Data, Names, NoMemory, Reply};
 use pf_tree::{FileCall, Tree};
 use pf_volume::Volume;
@@ -255,8 +254,7 @@ pub fn moves(
         FileCall::Stat { path } => Ok(Moved::Ends(stat_of(tree, path))),
         FileCall::Listing { path } => {
             let names = tree.names_at(alloc, path)?;
-            let sorted = ascending(alloc, names.as_slice())?;
-            Ok(Moved::Ends(CallAnswer::Names(Names::new(sorted))))
+            Ok(Moved::Ends(CallAnswer::Names(names)))
         }
         _ => Ok(Moved::Ends(CallAnswer::Fine)),
     }

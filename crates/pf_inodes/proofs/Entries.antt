@@ -1,37 +1,38 @@
 -- Look-ups among entries after a change.
-use Rattle.std.proofs.Common.{◌≡◌, ◌≢◌, ℕ, ◌<◌, inl, inr, true, false, not, List, [], ◌∷◌, ◌++◌, length, set, Some, None, refl, sym, ap, ◌∙◌}
+use Rattle.std.proofs.Common.{◌≡◌, ◌≢◌, ℕ, zero, suc, ◌<◌, inl, inr, true, false, not, List, [], ◌∷◌, length, set, Some, None, refl, sym, ap, ◌∙◌}
+use Rattle.std.specs.List.{insert}
 use Rattle.std.specs.Str.{bytes_eq}
 use Rattle.std.proofs.lemmas.Bool.{cases_Bool, cond-true, cond-false, false≢true, true≢false, false_from_ne_true, not_from_true, not_from_false, cases_eq, cases_lt}
 use Rattle.std.proofs.lemmas.Slice.Eq.{bytes_eq-Decides}
 use Rattle.std.proofs.lemmas.Option.{none-some}
-use Rattle.std.proofs.lemmas.List.{get_or_past, get_or-set_same, get_or-set_other, set_past}
+use Rattle.std.proofs.lemmas.List.{get_or_past, get_or-set_same, get_or-set_other, set_past, length-set}
 use Rattle.pf_inodes.specs.declared.tables.Entry.{Entry}
 use Rattle.pf_inodes.specs.Names.{Name}
-use Rattle.pf_inodes.specs.Tables.{Entries, names_in, found_in, entry_at, others, unnamed, named, is_nil, has_names}
+use Rattle.pf_inodes.specs.Tables.{Entries, names_in, found_in, entry_at, others, put_entry, unnamed, named, is_nil, has_names}
 
 -- another directory or another name
 abbrev pub AreApart : (d : ℕ) (n : Name) (e : ℕ) (m : Name) → Type 0
 AreApart d n e m = e ≡ d → m ≡ n → ⊥
 
-same_name : (row : Entry) (n : Name) → row.name ≡ n → bytes_eq row.name n ≡ true
+pub same_name : (row : Entry) (n : Name) → row.name ≡ n → bytes_eq row.name n ≡ true
 same_name row n e = (bytes_eq-Decides row.name n).1 e
 
-is_name : (row : Entry) (n : Name) → bytes_eq row.name n ≡ true → row.name ≡ n
+pub is_name : (row : Entry) (n : Name) → bytes_eq row.name n ≡ true → row.name ≡ n
 is_name row n e = (bytes_eq-Decides row.name n).0 e
 
-here : (n : Name) (row : Entry) (rows : List Entry) → bytes_eq row.name n ≡ true → found_in (row ∷ rows) n ≡ Some row.inode
+pub here : (n : Name) (row : Entry) (rows : List Entry) → bytes_eq row.name n ≡ true → found_in (row ∷ rows) n ≡ Some row.inode
 here n row rows e = cond-true _ _ _ e
 
-past : (n : Name) (row : Entry) (rows : List Entry) → bytes_eq row.name n ≡ false → found_in (row ∷ rows) n ≡ found_in rows n
+pub past : (n : Name) (row : Entry) (rows : List Entry) → bytes_eq row.name n ≡ false → found_in (row ∷ rows) n ≡ found_in rows n
 past n row rows e = cond-false _ _ _ e
 
-kept : (n : Name) (row : Entry) (rows : List Entry) → bytes_eq row.name n ≡ false → others (row ∷ rows) n ≡ row ∷ others rows n
+pub kept : (n : Name) (row : Entry) (rows : List Entry) → bytes_eq row.name n ≡ false → others (row ∷ rows) n ≡ row ∷ others rows n
 kept n row rows e = cond-true _ _ _ (not_from_false _ e)
 
-dropped : (n : Name) (row : Entry) (rows : List Entry) → bytes_eq row.name n ≡ true → others (row ∷ rows) n ≡ others rows n
+pub dropped : (n : Name) (row : Entry) (rows : List Entry) → bytes_eq row.name n ≡ true → others (row ∷ rows) n ≡ others rows n
 dropped n row rows e = cond-false _ _ _ (not_from_true _ e)
 
-others_same : (rows : List Entry) (n : Name) → found_in (others rows n) n ≡ None
+pub others_same : (rows : List Entry) (n : Name) → found_in (others rows n) n ≡ None
 others_same [] n = refl
 others_same (row ∷ rows) n =
     elim (cases_Bool (bytes_eq row.name n)) [
@@ -54,20 +55,25 @@ others_other (row ∷ rows) n m apart =
           ]
     ]
 
-last_after : (rows : List Entry) (row : Entry) (m : Name) → found_in rows m ≡ None → found_in (rows ++ row ∷ []) m ≡ found_in (row ∷ []) m
-last_after [] row m none = refl
-last_after (r ∷ rows) row m none =
+-- one entry more, wherever it stands
+put_same : (rows : List Entry) (p : ℕ) (row : Entry) (m : Name) → found_in rows m ≡ None → bytes_eq row.name m ≡ true → found_in (insert rows p row) m ≡ Some row.inode
+put_same [] zero row m none is = here m row [] is
+put_same [] (suc p) row m none is = here m row [] is
+put_same (r ∷ rows) zero row m none is = here m row (r ∷ rows) is
+put_same (r ∷ rows) (suc p) row m none is =
     elim (cases_Bool (bytes_eq r.name m)) [
-      | inl is ↦ absurd (none-some r.inode (sym none ∙ here m r rows is))
-      | inr gone ↦ past m r (rows ++ row ∷ []) gone ∙ last_after rows row m (sym (past m r rows gone) ∙ none)
+      | inl found ↦ absurd (none-some r.inode (sym none ∙ here m r rows found))
+      | inr gone ↦ past m r (insert rows p row) gone ∙ put_same rows p row m (sym (past m r rows gone) ∙ none) is
     ]
 
-before_last : (rows : List Entry) (row : Entry) (m : Name) → bytes_eq row.name m ≡ false → found_in (rows ++ row ∷ []) m ≡ found_in rows m
-before_last [] row m gone = past m row [] gone
-before_last (r ∷ rows) row m gone =
+put_other : (rows : List Entry) (p : ℕ) (row : Entry) (m : Name) → bytes_eq row.name m ≡ false → found_in (insert rows p row) m ≡ found_in rows m
+put_other [] zero row m gone = past m row [] gone
+put_other [] (suc p) row m gone = past m row [] gone
+put_other (r ∷ rows) zero row m gone = past m row (r ∷ rows) gone
+put_other (r ∷ rows) (suc p) row m gone =
     elim (cases_Bool (bytes_eq r.name m)) [
-      | inl is ↦ here m r (rows ++ row ∷ []) is ∙ sym (here m r rows is)
-      | inr gone2 ↦ past m r (rows ++ row ∷ []) gone2 ∙ before_last rows row m gone ∙ sym (past m r rows gone2)
+      | inl is ↦ here m r (insert rows p row) is ∙ sym (here m r rows is)
+      | inr gone2 ↦ past m r (insert rows p row) gone2 ∙ put_other rows p row m gone ∙ sym (past m r rows gone2)
     ]
 
 -- a write of one directory's names
@@ -103,14 +109,14 @@ unnamed_other es d n e m apart =
 pub named_same : (es : Entries) (d i : ℕ) (n : Name) → d < length es → entry_at (named es d i n) d n ≡ Some i
 named_same es d i n low =
     let row : Entry = record { inode = i; name = n } in
-    ap (λ rs. found_in rs n) (get_or-set_same es d (others (names_in es d) n ++ row ∷ []) [] low)
-    ∙ last_after (others (names_in es d) n) row n (others_same (names_in es d) n) ∙ here n row [] (same_name row n refl)
+    ap (λ rs. found_in rs n) (get_or-set_same es d (put_entry (others (names_in es d) n) row) [] low)
+    ∙ put_same (others (names_in es d) n) _ row n (others_same (names_in es d) n) (same_name row n refl)
 
 pub named_other : (es : Entries) (d i : ℕ) (n : Name) (e : ℕ) (m : Name) → AreApart d n e m → entry_at (named es d i n) e m ≡ entry_at es e m
 named_other es d i n e m apart =
     let row : Entry = record { inode = i; name = n } in
-    kept_name es d (others (names_in es d) n ++ row ∷ []) e m (λ is.
-    before_last (others (names_in es d) n) row m (false_from_ne_true _ (λ h. apart is (sym (is_name row m h))))
+    kept_name es d (put_entry (others (names_in es d) n) row) e m (λ is.
+    put_other (others (names_in es d) n) _ row m (false_from_ne_true _ (λ h. apart is (sym (is_name row m h))))
     ∙ others_other (names_in es d) n m (apart is))
 
 pub no_names : (es : Entries) (d : ℕ) (n : Name) → has_names es d ≡ false → entry_at es d n ≡ None
@@ -132,3 +138,9 @@ some_name es d e = some_in (names_in es d) refl e
     some_in [] is h = absurd (false≢true h)
     some_in (row ∷ rows) is h =
         record { name = row.name; inode = row.inode; stands = ap (λ rs. found_in rs row.name) is ∙ here row.name row rows (same_name row row.name refl) }
+
+pub length_unnamed : (es : Entries) (d : ℕ) (n : Name) → length (unnamed es d n) ≡ length es
+length_unnamed es d n = length-set es d (others (names_in es d) n)
+
+pub length_named : (es : Entries) (d i : ℕ) (n : Name) → length (named es d i n) ≡ length es
+length_named es d i n = length-set es d (put_entry (others (names_in es d) n) (record { inode = i; name = n }))

@@ -1,3 +1,4 @@
 pub mod Entries
+pub mod Ascending
 pub mod Shelves
 pub mod Looks

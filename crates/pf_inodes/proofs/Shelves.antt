@@ -6,7 +6,7 @@ use Rattle.std.proofs.lemmas.List.Folds.{list_any_more}
 use Rattle.pf_inodes.specs.declared.changes.Change.{Change}
 use Rattle.pf_inodes.specs.declared.changes.Change.TheVariants.{SetInode, AddEntry, DeleteEntry, SetTag}
 use Rattle.pf_inodes.specs.declared.tables.Entry.{Entry}
-use Rattle.pf_inodes.specs.Tables.{Tables, names_in, after_change, applied, others, named, inode_with}
+use Rattle.pf_inodes.specs.Tables.{Tables, names_in, after_change, applied, others, put_entry, named, inode_with}
 use Rattle.pf_inodes.specs.Shelves.{Shelf, no_shelf, lists_of, room_in, adds_to, HasRoom}
 
 pub written : (shelves : List Shelf) (d : ℕ) (s : Shelf) (rows : List Entry) → s.list ≡ rows → lists_of (set shelves d s) ≡ set (lists_of shelves) d rows
@@ -60,7 +60,7 @@ tables_length t (SetInode i kind size) = (
 tables_length t (AddEntry d i n) = (
   refl,
   elim (cases_Bool (nat_lt i (length t.inodes))) [
-    | inl low ↦ ap length (cond-true (nat_lt i (length t.inodes)) (named t.entries d i n) t.entries low) ∙ length-set t.entries d (others (names_in t.entries d) n ++ record { inode = i; name = n } ∷ [])
+    | inl low ↦ ap length (cond-true (nat_lt i (length t.inodes)) (named t.entries d i n) t.entries low) ∙ length-set t.entries d (put_entry (others (names_in t.entries d) n) (record { inode = i; name = n }))
     | inr high ↦ ap length (cond-false (nat_lt i (length t.inodes)) (named t.entries d i n) t.entries high)
   ],
   refl,

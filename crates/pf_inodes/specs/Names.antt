@@ -1,8 +1,19 @@
--- Names, and paths of names. A path lists its names from the last to the first, so the rest of a path is that of its directory.
-use Rattle.std.specs.Prelude.{ℕ, List}
+-- Names in the order of their bytes, and paths of names. A path lists its names from the last to the first, so the rest of a path is
+-- that of its directory.
+use Rattle.std.specs.Prelude.{AllPairs, IsTrue, ℕ, Bool, List}
+use Rattle.std.specs.Cmp.Lexicographic.{slice_cmp}
+use Rattle.std.specs.Ordering.{is_lt, nat_cmp}
 
 abbrev pub Name : Type 0
 Name = List ℕ
 
 abbrev pub Path : Type 0
 Path = List Name
+
+-- at the first byte in which they differ its own is less, or it ends there
+abbrev pub is_before : (name other : Name) → Bool
+is_before name other = is_lt (slice_cmp nat_cmp name other)
+
+-- each name comes before all later ones
+abbrev pub IsInOrder : List Name → Type 0
+IsInOrder names = AllPairs (λ name later. IsTrue (is_before name later)) names

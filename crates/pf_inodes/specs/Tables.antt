@@ -1,6 +1,7 @@
 -- The tables: inodes and tags by their numbers, entries by directory and name. What is found in them, and what a change does to them.
-use Rattle.std.specs.Prelude.{ℕ, ◌-◌, Bool, true, false, cond, not, ◌&&◌, ◌==◌, nat_lt, nat_le, List, [], ◌∷◌, ◌++◌, map, length, replicate, set, get_or, Option, Some, None, is_some}
-use Rattle.std.specs.List.{filter, range_with_len, position_or_len}
+use Rattle.std.specs.Prelude.{◌≡◌, ◌<◌, ◌≤◌, AllPairs, IsTrue, ℕ, ◌-◌, Bool, true, false, cond, not, ◌&&◌, ◌==◌, nat_lt, nat_le, List, [], ◌∷◌, map, length, replicate, set, get_or, Option, Some, None, is_some}
+use Rattle.std.specs.List.{HoldsAt, filter, insert, range_with_len, position_or_len}
+use Rattle.std.specs.List.Sorted.{IsPartitionPoint}
 use Rattle.std.specs.Option.{option_and_then, is_none}
 use Rattle.std.specs.Str.{bytes_eq}
 use Rattle.pf_inodes.specs.declared.changes.Change.{Change}
@@ -9,7 +10,7 @@ use Rattle.pf_inodes.specs.declared.tables.Inode.{Inode}
 use Rattle.pf_inodes.specs.declared.tables.Inode.TheVariants.{File as OfFile, Directory}
 use Rattle.pf_inodes.specs.declared.tables.Entry.{Entry}
 use Rattle.pf_inodes.specs.declared.tables.Tag.{Tag}
-use Rattle.pf_inodes.specs.Names.{Name, Path}
+use Rattle.pf_inodes.specs.Names.{Name, Path, is_before}
 
 -- the names of each directory, by its inode
 abbrev pub Entries : Type 0
@@ -44,9 +45,26 @@ others rows name = filter (λ row. not (bytes_eq row.name name)) rows
 abbrev pub unnamed : Entries → ℕ → Name → Entries
 unnamed entries directory name = set entries directory (others (names_in entries directory) name)
 
+-- an entry more, before the first one whose name comes after its own
+abbrev pub put_entry : List Entry → Entry → List Entry
+put_entry rows row = insert rows (position_or_len (λ other. is_before row.name other.name) rows) row
+
 abbrev pub named : Entries → (directory inode : ℕ) → Name → Entries
 named entries directory inode name =
-    set entries directory (others (names_in entries directory) name ++ record { inode = inode; name = name } ∷ [])
+    set entries directory (put_entry (others (names_in entries directory) name) (record { inode = inode; name = name }))
+
+-- each name comes before all later ones
+abbrev pub IsAscending : List Entry → Type 0
+IsAscending rows = AllPairs (λ row later. IsTrue (is_before row.name later.name)) rows
+
+-- the name stands at a place
+abbrev pub IsThere : List Entry → Name → ℕ → Type 0
+IsThere rows name place = (place < length rows) × HoldsAt (λ row. row.name ≡ name) rows place
+
+-- the place lies between the names before this one and those after it
+abbrev pub IsGap : List Entry → Name → ℕ → Type 0
+IsGap rows name place =
+    (place ≤ length rows) × IsPartitionPoint (λ row. IsTrue (is_before row.name name)) (λ row. IsTrue (is_before name row.name)) rows place
 
 abbrev pub is_nil : List Entry → Bool
 is_nil [] = true

@@ -1,6 +1,6 @@
 //! The tables of a file system.
 ghost use Rattle.std.specs.Prelude.{◌≡◌, ◌<◌, ◌≤◌, IfOk, MatchOption, OnOk, OnErr, length, take};
-ghost use Rattle.pf_inodes.specs.Tables.{applied, block_of, blocks_of, entry_at, has_names, inode_at, least_free, names_in, new_tables, untagged_from};
+ghost use Rattle.pf_inodes.specs.Tables.{IsAscending, applied, block_of, blocks_of, entry_at, has_names, inode_at, least_free, names_in, new_tables, untagged_from};
 
 use crate::copies::{copy_changes, copy_directories, free_places, no_names};
 use crate::edits::{carry_out, make_room};
@@ -116,9 +116,10 @@ impl FileTables {
         }
     }
 
-    /// The names in a directory.
+    /// The names in a directory, in ascending byte order.
     pub fn names_in(&self, directory: u16) -> &[Entry]
-        ensures { result.now ≡ names_in self.now.entries directory }
+        ensures names { result.now ≡ names_in self.now.entries directory }
+        ensures ascending { IsAscending result.now }
     {
         match self.directories.get(directory as usize) {
             Some(rows) => rows.as_slice(),

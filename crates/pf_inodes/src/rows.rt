@@ -1,14 +1,17 @@
 //! The names of one directory.
-ghost use Rattle.std.specs.Prelude.{◌≡◌, ◌+◌, ◌≤◌, ◌++◌, ◌∷◌, [], IfOk, OnOk};
-ghost use Rattle.pf_inodes.specs.Tables.{found_in, is_nil, others};
+ghost use Rattle.std.specs.Prelude.{◌≡◌, ◌+◌, ◌≤◌, [], None, IfOk, MatchResult, OnOk};
+ghost use Rattle.std.specs.Cmp.Lexicographic.{slice_cmp};
+ghost use Rattle.std.specs.Ordering.{nat_cmp};
+ghost use Rattle.pf_inodes.specs.Tables.{IsAscending, IsGap, IsThere, found_in, is_nil, others, put_entry};
 
 use crate::Entry;
 use crate::copies::copy_name;
 use pf_base::NoMemory;
 use std::alloc::Global;
+use std::cmp::Ordering;
 use std::marker::Model;
 
-/// The names of one directory, seen as a list with room for so many more.
+/// The names of one directory, which ascend, seen as a list with room for so many more.
 #[derive(Drop)]
 pub(crate) struct Rows {
     rows: Vec<Entry>,
@@ -21,6 +24,10 @@ impl Model for Rows {
     ghost Value = { Shelf };
 
     ghost view = { λ r. record { list = r.rows.items; room = vec_capacity r.rows - vec_len r.rows } };
+
+    ghost use Rattle.pf_inodes.specs.Tables.{IsAscending};
+
+    ghost invariant = { λ r. IsAscending r.rows.items };
 }
 
 impl Rows {
@@ -56,17 +63,28 @@ impl Rows {
         ensures list { self.new.list ≡ others self.old.list name.now }
         ensures room { self.old.room ≤ self.new.room }
     {
-        self.rows.retain(|row| row.name.as_slice() != name);
+        match place_of(&self.rows, name) {
+            Ok(place) => {
+                self.rows.remove(place);
+            }
+            Err(_) => {}
+        }
     }
 
-    /// Adds a name, for which there is room.
+    /// Adds a name that is not there, for which there is room.
     pub(crate) fn add(&mut self, entry: Entry)
-        requires { 1 ≤ self.old.room }
-        ensures list { self.new.list ≡ self.old.list ++ entry ∷ [] }
+        requires room { 1 ≤ self.old.room }
+        requires fresh { found_in self.old.list entry.name ≡ None }
+        ensures list { self.new.list ≡ put_entry self.old.list entry }
         ensures room { self.old.room ≤ self.new.room + 1 }
     {
-        if let Err(_) = self.rows.push(entry) {
-            unreachable!();
+        match place_of(&self.rows, entry.name.as_slice()) {
+            Ok(_) => unreachable!(),
+            Err(place) => {
+                if let Err(_) = self.rows.insert(place, entry) {
+                    unreachable!();
+                }
+            }
         }
     }
 
@@ -74,7 +92,10 @@ impl Rows {
     pub(crate) fn find(&self, name: &[u8]) -> Option<u16>
         ensures { result ≡ found_in self.now.list name.now }
     {
-        find_in(&self.rows, name)
+        match place_of(&self.rows, name) {
+            Ok(place) => Some(self.rows[place].inode),
+            Err(_) => None,
+        }
     }
 
     /// Whether there are no names.
@@ -84,24 +105,28 @@ impl Rows {
         self.rows.is_empty()
     }
 
-    /// The names.
+    /// The names, which ascend.
     pub(crate) fn as_slice(&self) -> &[Entry]
-        ensures { result.now ≡ self.now.list }
+        ensures list { result.now ≡ self.now.list }
+        ensures ascending { IsAscending result.now }
     {
         &self.rows
     }
 }
 
-/// The inode of a name among others.
-fn find_in(rows: &[Entry], name: &[u8]) -> Option<u16>
-    ensures { result ≡ found_in rows.now name.now }
+/// The place of a name among ascending ones, or the place where it would stand.
+fn place_of(rows: &[Entry], name: &[u8]) -> Result<usize, usize>
+    requires { IsAscending rows.now }
+    ensures { MatchResult result (IsThere rows.now name.now) (IsGap rows.now name.now) }
 {
-    for row in rows {
-        if row.name.as_slice() == name {
-            return Some(row.inode);
-        }
-    }
-    None
+    rows.binary_search_by(|row| compare(row, name))
+}
+
+/// How the name of a row and another follow each other.
+fn compare(row: &Entry, name: &[u8]) -> Ordering
+    ensures { result ≡ slice_cmp nat_cmp row.now.name name.now }
+{
+    row.name.as_slice().cmp(name)
 }
 
 /// Copies of rows.

@@ -12,9 +12,10 @@ use Rattle.pf_inodes.specs.declared.tables.Tag.{Tag}
 use Rattle.pf_inodes.specs.Names.{Name, Path}
 use Rattle.pf_tree.specs.Paths.{is_same, below}
 use Rattle.pf_tree.specs.Trees.{Node, File, Tree, at, put, without, replaced, with_moved, moved, Data, block_count}
-use Rattle.pf_inodes.specs.Tables.{Tables, inode_at, entry_at, names_in, others, unnamed, named, walk, blocks_of}
+use Rattle.pf_inodes.specs.Tables.{Tables, inode_at, entry_at, unnamed, named, walk, blocks_of}
 use Rattle.pf_tree.specs.Plans.{node_in, node_of, node_at}
 use Rattle.pf_tree.specs.Standing.{StandsFor, IsTagged}
+use Rattle.pf_inodes.proofs.Entries.{length_named, length_unnamed}
 use Rattle.pf_tree.proofs.Paths.{cases_path, is_same_true, is_same_false}
 use Rattle.pf_tree.proofs.Trees.{without_same, without_other, replaced_same, replaced_other, length_replaced, length_without, map_without, map_replaced}
 use Rattle.pf_tree.proofs.Moving.{back, at_moved, map_moved}
@@ -99,7 +100,7 @@ module _ (d : Data) (tables : Tables) (tree : Tree) (s : StandsFor d tables tree
     pub stands_made : StandsFor d tables2 (put tree (n ∷ p) node)
     stands_made = record {
       places = length-set tables.inodes i (Some x) ∙ s.places;
-      dirs = length-set tables.entries dir (others (names_in tables.entries dir) n ++ record { inode = i; name = n } ∷ []) ∙ s.dirs;
+      dirs = length_named tables.entries dir i n ∙ s.dirs;
       blocks = s.blocks;
       names = names_made (inode_at tables) (inode_at tables2) tables.entries s.names i dir n p here inside free is_dir absent (ap is_some new_inode) other_inodes;
       tags =
@@ -163,7 +164,7 @@ module _ (d : Data) (tables : Tables) (tree : Tree) (s : StandsFor d tables tree
     pub stands_removed : StandsFor d tables3 (without tree (n ∷ p))
     stands_removed = record {
       places = length-set tables.inodes i None ∙ s.places;
-      dirs = length-set tables.entries dir (others (names_in tables.entries dir) n) ∙ s.dirs;
+      dirs = length_unnamed tables.entries dir n ∙ s.dirs;
       blocks = as_many ∙ s.blocks;
       names = names_removed (inode_at tables) (inode_at tables3) tables.entries s.names i dir n p here old bare gone_inode kept_inodes;
       tags =
@@ -272,7 +273,7 @@ module _ (d : Data) (tables : Tables) (tree : Tree) (s : StandsFor d tables tree
     pub stands_moved : StandsFor d tables5 (with_moved tree (n ∷ p) (m ∷ q))
     stands_moved = record {
       places = s.places;
-      dirs = length-set (unnamed tables.entries dir n) to (others (names_in (unnamed tables.entries dir n) to) m ++ record { inode = i; name = m } ∷ []) ∙ length-set tables.entries dir (others (names_in tables.entries dir) n) ∙ s.dirs;
+      dirs = length_named (unnamed tables.entries dir n) to i m ∙ length_unnamed tables.entries dir n ∙ s.dirs;
       blocks = s.blocks;
       names = names_moved (inode_at tables) (inode_at tables) tables.entries s.names i dir n p here to m q to_inside old there is_dir absent outside;
       tags = s.tags;

@@ -1,5 +1,6 @@
 //! The tables of a mount.
 ghost use Rattle.std.specs.Prelude.{◌≡◌, ◌≤◌, IfOk, OnOk, OnErr, length, map};
+ghost use Rattle.pf_inodes.specs.Names.{IsInOrder};
 ghost use Rattle.pf_inodes.specs.Tables.{applied, block_of, names_in, new_tables};
 ghost use Rattle.pf_inodes.specs.declared.tables.Entry.{Entry as EntryIs};
 ghost use Rattle.pf_tree.specs.Plans.{changes, found, node_at, tables_sight};
@@ -97,9 +98,10 @@ impl Tree {
         self.tables.block_of(inode, index)
     }
 
-    /// The names in the directory at a path, in the order of its rows.
+    /// The names in the directory at a path, in ascending byte order; none where no directory stands there. The one error is `NoMemory` (1).
     pub fn names_at(&self, alloc: Global, path: &Names) -> Result<Names, NoMemory>
-        ensures { IfOk result (λ names. names ≡ map (λ (row : EntryIs). row.name) (names_in self.now.tables.entries (found self.now.tables path.now))) }
+        ensures order { IfOk result (λ names. IsInOrder names) }
+        ensures names { IfOk result (λ names. names ≡ map (λ (row : EntryIs). row.name) (names_in self.now.tables.entries (found self.now.tables path.now))) }
     {
         let rows = self.tables.names_in(self.inode_at(path));
         let names = copy_names(alloc, rows)?;

@@ -1,15 +1,22 @@
-use Rattle.std.proofs.Common.{◌<◌, length, ◌++◌, ◌∷◌, [], ◌∙◌, sym, ap, List, arith}
+use Rattle.std.proofs.Common.{◌<◌, length, ◌∙◌, sym, ap, List, arith}
 use Rattle.pf_inodes.specs.declared.tables.Entry.{Entry}
 use Rattle.pf_inodes.specs.Names.{Name}
-use Rattle.pf_inodes.specs.Tables.{others}
+use Rattle.pf_inodes.specs.Tables.{found_in, others, put_entry}
+use Rattle.pf_inodes.proofs.Entries.{others_same}
 use Rattle.pf_inodes.proofs.Shelves.{written, list_at}
 use Rattle.pf_inodes.proofs.edits.add_entry.Goals as goal
+
+pub add-requires-clause-fresh : goal.add-requires-clause-fresh
+add-requires-clause-fresh c =
+    ap (λ (rs : List Entry). found_in rs c.args.name) (c.forget.ensures.list
+    ∙ ap (λ (n : Name). others c.index_mut-rows.result.now.list n) c.as_slice.ensures)
+    ∙ others_same c.index_mut-rows.result.now.list c.args.name
 
 pub returns-then-place-len-clause-lists : goal.returns-then-place-len-clause-lists
 returns-then-place-len-clause-lists c =
     let low : c.args.directory < length c.args.directories.now.items = grind arith in
     let row : Entry = record { inode = c.args.inode; name = c.args.name } in
     written c.args.directories.now.items c.args.directory c.add.new.self _
-    (c.add.ensures.list ∙ ap (λ (rs : List Entry). rs ++ row ∷ []) (c.forget.ensures.list
+    (c.add.ensures.list ∙ ap (λ (rs : List Entry). put_entry rs row) (c.forget.ensures.list
     ∙ ap (λ (n : Name). others c.index_mut-rows.result.now.list n) c.as_slice.ensures
     ∙ ap (λ (rs : List Entry). others rs c.args.name) (sym (list_at c.args.directories.now.items c.args.directory c.index_mut-rows.result.now low c.index_mut-rows.ensures.value))))

@@ -1,12 +1,20 @@
-use Rattle.std.proofs.Common.{rules, ◌∙◌, ap, not}
-use Rattle.std.specs.Str.{bytes_eq}
-use Rattle.std.proofs.lemmas.Fn.{filter_same}
+use Rattle.std.proofs.Common.{sym, ap, subst}
 use Rattle.pf_inodes.specs.Shelves.{Shelf}
-use Rattle.pf_inodes.specs.declared.tables.Entry.{Entry}
-use Rattle.pf_inodes.specs.Tables.{others}
+use Rattle.pf_inodes.specs.Tables.{IsAscending}
+use Rattle.pf_inodes.proofs.Ascending.{others_here, others_gap}
 use Rattle.pf_inodes.proofs.rows.Rows.forget.Goals as goal
 
-pub returns-clause-list : goal.returns-clause-list
-returns-clause-list c =
-    filter_same _ (λ (row : Entry). not (bytes_eq row.name c.args.name.now)) _ (λ x b f' k. search rules) _ _ c.retain.ensures.filtered
-    ∙ ap (λ (s : Shelf). others s.list c.args.name.now) c.self.view_is
+pub returns-in-Ok-clause-list : goal.returns-in-Ok-clause-list
+returns-in-Ok-clause-list c =
+    let rows = c.deref.ensures.value in
+    let list = ap (λ (s : Shelf). s.list) c.self.view_is in
+    let left = others_here c.deref.result.now c.args.name.now c.in-Ok.place (subst IsAscending (sym rows) c.self.invariant) c.in-Ok.ensures in
+    let items = c.remove.ensures.items in
+    cc
+
+pub returns-in-Err-clause-list : goal.returns-in-Err-clause-list
+returns-in-Err-clause-list c =
+    let rows = c.deref.ensures.value in
+    let list = ap (λ (s : Shelf). s.list) c.self.view_is in
+    let left = others_gap c.deref.result.now c.args.name.now c.in-Err.field-0 c.in-Err.ensures in
+    cc
