@@ -1,5 +1,5 @@
 -- What a planned call proposes.
-use Rattle.std.proofs.Common.{◌≡◌, ℕ, List, [], ◌∷◌, Option, Some, None, refl, sym, ap, subst, ◌∙◌}
+use Rattle.std.proofs.Common.{◌≡◌, ℕ, List, [], ◌∷◌, length, Option, Some, None, refl, sym, ap, subst, ◌∙◌}
 use Rattle.pf_volume.specs.Volumes.{Extent}
 use Rattle.pf_inodes.specs.declared.changes.Change.{Change}
 use Rattle.pf_inodes.specs.declared.changes.Txn.{Txn}
@@ -7,6 +7,7 @@ use Rattle.pf_tree.specs.Trees.{Data, Tree, changed, refusal, tree_sight}
 use Rattle.pf_inodes.specs.Tables.{Tables}
 use Rattle.pf_tree.specs.Plans.{changes, tables_sight}
 use Rattle.pf_tree.specs.Standing.{Follows, IsCall, StandsFor}
+use Rattle.pf_tree.specs.Held.{IsWhole}
 use Rattle.pf_tree.proofs.Law.{follows}
 use Rattle.pf_tree.proofs.Sights.{same_refusal}
 use Rattle.pf_txn.specs.Spelling.{CanSpell, IsShortCall}
@@ -35,6 +36,12 @@ module _ (mount : ℕ) (v : Extent) (d : Data) (tables : Tables) (p : Pending) (
   pub proposed : planned mount v d tables p ≡ Proposes txn → IsProposed d tables p (refusal (tables_sight d tables) p.call) txn
   proposed e = by_refusal (refusal (tables_sight d tables) p.call) e
 
+  pub spelled_as : IsWhole tables → length tables.inodes ≡ 1024 → IsShortCall p.call → planned mount v d tables p ≡ Proposes txn → CanSpell txn
+  spelled_as whole places short e =
+      let P : List Change → Type 0 = Few in
+      let is = proposed e in
+      (can_spell txn (subst P (sym is.changes_are) (changes_few d tables places whole.sizes p.call short is.fine))).0
+
   module _ (tree : Tree) (s : StandsFor d tables tree) where
     pub refused_as : (number : ℕ) → refusal (tree_sight d tree) p.call ≡ Some number → planned mount v d tables p ≡ Refuses (fault_of number)
     refused_as number e = ap (λ (r : Option ℕ). planned_by mount v d tables p r) (same_refusal d tables tree s p.call ∙ e)
@@ -46,8 +53,3 @@ module _ (mount : ℕ) (v : Extent) (d : Data) (tables : Tables) (p : Pending) (
     follows_as is e =
         let P : List Change → Type 0 = λ cs. Follows d tables cs tree (changed d tree p.call) in
         subst P (sym (proposed e).changes_are) (follows d tables tree s p.call is (not_refused e))
-
-    pub spelled_as : IsShortCall p.call → planned mount v d tables p ≡ Proposes txn → CanSpell txn
-    spelled_as short e =
-        let P : List Change → Type 0 = Few in
-        (can_spell txn (subst P (sym (proposed e).changes_are) (changes_few d tables tree s p.call short (not_refused e)))).0

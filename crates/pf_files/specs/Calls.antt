@@ -14,7 +14,7 @@ use Rattle.pf_files.specs.declared.calls.Planned.{Planned}
 use Rattle.pf_files.specs.declared.calls.Planned.TheVariants.{Refuses, Proposes, Goes}
 use Rattle.pf_files.specs.declared.moving.Moved.{Moved}
 use Rattle.pf_files.specs.Faults.{fault_of}
-use Rattle.pf_files.specs.Moving.{moves}
+use Rattle.pf_files.specs.Moving.{AsksInside, moves}
 
 -- the file of a call
 abbrev pub file_of : FileCall → Path
@@ -38,6 +38,11 @@ planned_by mount v d tables p None = planned_with mount v tables p (changes d ta
 -- the call is planned on the tables as they stand
 abbrev pub planned : (mount : ℕ) → Extent → Data → Tables → Pending → Planned
 planned mount v d tables p = planned_by mount v d tables p (refusal (tables_sight d tables) p.call)
+
+-- what is asked next is valid, and lies in a chunk of the volume
+abbrev pub PlansInside : Extent → Planned → Type 0
+PlansInside v (Goes step) = AsksInside v step
+PlansInside v p = Unit {0}
 
 -- a decided value that is no transaction changes nothing
 abbrev pub applied_in : Tables → Option Txn → Tables

@@ -7,9 +7,10 @@ ghost use Rattle.pf_tree.specs.Plans.{node_at};
 ghost use Rattle.pf_tree.specs.Trees.{size_at};
 ghost use Rattle.pf_txn.specs.Reading.{txn_in};
 ghost use Rattle.pf_files.specs.Moving.{IsTreeOf};
-ghost use Rattle.pf_files.specs.Calls.{applied_in, data_of, go_of, is_of, is_own, plan_of, planned, planned_with, size_in};
+ghost use Rattle.pf_files.specs.Calls.{PlansInside, applied_in, data_of, go_of, is_of, is_own, plan_of, planned, planned_with, size_in};
 
 use crate::answers::{CallFault, refused};
+use crate::laws::data_are_asked_inside;
 use crate::moving::{Moved, moves};
 use pf_base::{Names, NoMemory, Value};
 use pf_tree::{Change, Changes, FileCall, Tree, Txn};
@@ -37,7 +38,7 @@ pub enum Planned {
 }
 
 /// The size of a call's file; 0 where there is none.
-fn size_in(alloc: Global, tree: &Tree, call: &FileCall) -> u32
+pub fn size_in(alloc: Global, tree: &Tree, call: &FileCall) -> u32
     ensures { result ≡ size_in tree.now.tables call.now }
 {
     match call {
@@ -55,7 +56,7 @@ fn size_at(tree: &Tree, path: &Names) -> u32
     tree.size_at(path).unwrap_or(0)
 }
 
-/// Plans a call on the tables of a tree. The one error is `NoMemory` (1).
+/// Plans a call on the tables of a tree. On whatever tables, what is asked lies in the volume. The one error is `NoMemory` (1).
 pub fn plan(
     alloc: Global,
     mount: u8,
@@ -65,7 +66,8 @@ pub fn plan(
 ) -> Result<Planned, NoMemory>
     requires tree { IsTreeOf volume.now tree.now.tables }
     requires data { tree.now.first ≡ 513 }
-    ensures { IsWhole tree.now.tables → IfOk result (λ p. p ≡ planned mount volume.now (data_of tree.now.tables) tree.now.tables pending.now) }
+    ensures planned { IsWhole tree.now.tables → IfOk result (λ p. p ≡ planned mount volume.now (data_of tree.now.tables) tree.now.tables pending.now) }
+    ensures inside { IfOk result (PlansInside volume.now) }
 {
     match tree.plan_call(alloc, &pending.call) {
         Ok(changes) => plan_with(alloc, mount, volume, tree, pending, changes),
@@ -83,8 +85,11 @@ fn plan_with(
     changes: Vec<Change>,
 ) -> Result<Planned, NoMemory>
     requires { IsTreeOf volume.now tree.now.tables }
-    ensures { IfOk result (λ p. p ≡ planned_with mount volume.now tree.now.tables pending.now changes.items) }
+    ensures planned { IfOk result (λ p. p ≡ planned_with mount volume.now tree.now.tables pending.now changes.items) }
+    ensures inside { IfOk result (PlansInside volume.now) }
 {
+    data_are_asked_inside();
+    let _sectors = volume.sectors();
     if changes.is_empty() {
         let size = size_in(alloc, tree, &pending.call);
         let step = moves(alloc, volume, tree, size, &pending.call)?;
@@ -145,8 +150,8 @@ pub(crate) fn is_own(mount: u8, txn: &Option<Txn>, pending: &Option<Pending>) ->
     }
 }
 
-/// Whether a transaction is that of a call.
-fn is_of(mount: u8, number: u32, txn: &Option<Txn>) -> bool
+/// Whether a transaction is that of this call of a mount.
+pub fn is_of(mount: u8, number: u32, txn: &Option<Txn>) -> bool
     ensures { result ≡ is_of mount number txn.now }
 {
     match txn {
@@ -155,8 +160,8 @@ fn is_of(mount: u8, number: u32, txn: &Option<Txn>) -> bool
     }
 }
 
-/// A copy of a tree, with the changes of a transaction, if there is one.
-pub(crate) fn applied_in(alloc: Global, tree: &Tree, txn: &Option<Txn>) -> Result<Tree, NoMemory>
+/// A copy of a tree, with the changes of a transaction, if there is one. The one error is `NoMemory` (1).
+pub fn applied_in(alloc: Global, tree: &Tree, txn: &Option<Txn>) -> Result<Tree, NoMemory>
     ensures { IfOk result (λ after. after ≡ record tree.now { tables = applied_in tree.now.tables txn.now }) }
 {
     let mut after = tree.copied(alloc)?;

@@ -1,5 +1,5 @@
 //! Laws of plans, and of the asks for file data.
-ghost use Rattle.std.specs.Prelude.{◌≡◌, ℕ, ◌/◌, ◌<◌, List, Some};
+ghost use Rattle.std.specs.Prelude.{◌≡◌, ℕ, ◌/◌, ◌<◌, List, Some, length};
 ghost use Rattle.pf_volume.specs.Volumes.{Extent, IsVolume, size_of};
 ghost use Rattle.pf_base.specs.declared.asks.Reply.{Reply};
 ghost use Rattle.pf_tree.specs.declared.calls.FileCall.{FileCall};
@@ -36,10 +36,10 @@ pub fn data_are_asked_inside()
 }
 
 /// On tables that stand for a tree, which are always planned exactly, a call is refused exactly as the tree refuses it. What it
-/// proposes has a spelling, and gives tables that stand for the tree after the call.
+/// proposes gives tables that stand for the tree after the call. What is planned exactly has a spelling.
 pub fn planned_calls_follow_the_tree()
     ensures whole { (d : Data) (tables : Tables) (tree : Tree) → StandsFor d tables tree → IsWhole tables }
     ensures refused { (mount : ℕ) (v : Extent) (d : Data) (tables : Tables) (tree : Tree) (p : Pending) (number : ℕ) → StandsFor d tables tree → refusal (tree_sight d tree) p.call ≡ Some number → planned mount v d tables p ≡ Refuses (fault_of number) }
     ensures proposed { (mount : ℕ) (v : Extent) (d : Data) (tables : Tables) (tree : Tree) (p : Pending) (txn : Txn) → StandsFor d tables tree → IsCall p.call → planned mount v d tables p ≡ Proposes txn → Follows d tables txn.changes tree (changed d tree p.call) }
-    ensures spelled { (mount : ℕ) (v : Extent) (d : Data) (tables : Tables) (tree : Tree) (p : Pending) (txn : Txn) → StandsFor d tables tree → IsShortCall p.call → planned mount v d tables p ≡ Proposes txn → CanSpell txn }
+    ensures spelled { (mount : ℕ) (v : Extent) (d : Data) (tables : Tables) (p : Pending) (txn : Txn) → IsWhole tables → length tables.inodes ≡ 1024 → IsShortCall p.call → planned mount v d tables p ≡ Proposes txn → CanSpell txn }
 {}

@@ -13,7 +13,7 @@ mod work;
 
 pub use answers::{CallAnswer, CallFault};
 pub use blocks::{reads, writes};
-pub use calls::{Pending, Planned, plan};
+pub use calls::{Pending, Planned, applied_in, is_of, plan, size_in};
 pub use filling::Fill;
 pub use laws::{blocks_are_asked_inside, data_are_asked_inside, planned_calls_follow_the_tree};
 pub use moving::{Moved, Moving, moves, moves_on};

@@ -77,6 +77,13 @@ impl CallWork {
         &self.tree
     }
 
+    /// The call that has not ended, if there is one.
+    pub fn pending(&self) -> &Option<Pending>
+        ensures { result.now ≡ self.now.pending }
+    {
+        &self.pending
+    }
+
     /// Whether a call has not ended.
     pub fn is_pending(&self) -> bool
         ensures { result ≡ is_some self.now.pending }

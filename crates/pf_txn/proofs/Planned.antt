@@ -1,5 +1,5 @@
 -- The changes of a call have a spelling of at most 324 bytes, so a planned transaction has one of at most 330.
-use Rattle.std.proofs.Common.{◌≡◌, ◌≢◌, ℕ, ◌+◌, ◌-◌, ◌*◌, ◌<◌, ◌≤◌, inl, inr, ◌==◌, nat_lt, List, [], ◌∷◌, ◌++◌, length, take, drop, Option, Some, None, refl, sym, subst, arith}
+use Rattle.std.proofs.Common.{◌≡◌, ◌≢◌, ℕ, ◌+◌, ◌-◌, ◌*◌, ◌<◌, ◌≤◌, inl, inr, ◌==◌, nat_lt, List, [], ◌∷◌, ◌++◌, length, take, drop, true, Option, Some, None, is_some, refl, sym, ap, subst, arith}
 use Rattle.std.specs.Option.{option_and_then, unwrap_or}
 use Rattle.std.proofs.lemmas.Bool.{cases_Bool, cond-true, cond-false, ltb-false}
 use Rattle.std.proofs.lemmas.List.{length-append, length-take, length-drop}
@@ -10,11 +10,9 @@ use Rattle.pf_inodes.specs.declared.changes.Change.TheVariants.{SetInode, AddEnt
 use Rattle.pf_inodes.specs.declared.tables.Inode.{Inode}
 use Rattle.pf_inodes.specs.declared.tables.Inode.TheVariants.{File as OfFile, Directory}
 use Rattle.pf_inodes.specs.Names.{Path}
-use Rattle.pf_tree.specs.Trees.{Node, Tree, Data, at, block_count, size_at, blocks_at, written_size, file_refusal, when, refusal, tree_sight}
+use Rattle.pf_tree.specs.Trees.{Node, Dir, File, Data, block_count, size_at, blocks_at, written_size, file_refusal, step_refusal, walk_refusal, when, refusal}
 use Rattle.pf_inodes.specs.Tables.{Tables, inode_at, walk}
-use Rattle.pf_tree.specs.Plans.{node_in, node_of, node_at, found, untagged, freed, given, makes, sizes, resizes, unlinks, removes, renames, changes}
-use Rattle.pf_tree.specs.Standing.{StandsFor}
-use Rattle.pf_tree.proofs.Walks.{walk_in_use}
+use Rattle.pf_tree.specs.Plans.{node_in, node_of, node_at, tables_sight, found, untagged, freed, given, makes, sizes, resizes, unlinks, removes, renames, changes}
 use Rattle.pf_tree.proofs.Tags.{length_blocks}
 use Rattle.pf_tree.proofs.Steps.{used_within}
 use Rattle.pf_tree.proofs.Law.{first_none, when_none, few_blocks, written_few}
@@ -42,23 +40,42 @@ renames_few t [] to short short2 = nothing
 renames_few t (n ∷ p) [] short short2 = nothing
 renames_few t (n ∷ p) (m ∷ q) short short2 = record { bytes = omega arith; fit = (omega arith, (omega arith, tt)) }
 
-module _ (d : Data) (t : Tables) (tree : Tree) (s : StandsFor d t tree) where
+step_some : (before next : Option Node) → step_refusal before next ≡ None → is_some next ≡ true
+step_some (Some (File size blocks)) next e = cc
+step_some (Some Dir) (Some node) e = refl
+step_some (Some Dir) None e = cc
+step_some None (Some node) e = refl
+step_some None None e = cc
+
+-- of tables with their 1,024 inodes, where no file is larger than the greatest size, as they always are
+module _ (d : Data) (t : Tables) (places : length t.inodes ≡ 1024) (low_sizes : (i size : ℕ) → inode_at t i ≡ Some (OfFile size) → size ≤ 196608) where
   in_place : (i : ℕ) (o : Option Inode) → inode_at t i ≡ o → (length (blocks_at (node_in t.tags i o)) ≡ block_count (size_at (node_in t.tags i o))) × (size_at (node_in t.tags i o) ≤ 196608)
   in_place i None e = (refl, omega arith)
   in_place i (Some Directory) e = (refl, omega arith)
-  in_place i (Some (OfFile size)) e = (length_blocks t.tags i (block_count size), s.sizes i size e)
+  in_place i (Some (OfFile size)) e = (length_blocks t.tags i (block_count size), low_sizes i size e)
 
   at_walk : (o : Option ℕ) → (length (blocks_at (option_and_then (node_of t) o)) ≡ block_count (size_at (option_and_then (node_of t) o))) × (size_at (option_and_then (node_of t) o) ≤ 196608)
   at_walk None = (refl, omega arith)
   at_walk (Some i) = in_place i (inode_at t i) refl
 
-  found_low : (p : Path) (o : Option ℕ) → walk t.entries p ≡ o → unwrap_or o 0 < 1024
-  found_low p None e = omega arith
-  found_low p (Some i) e =
-      let u = used_within t.inodes i (walk_in_use (inode_at t) t.entries s.names p i e) in let z = s.places in omega (arith, u, z)
+  used_low : (i : ℕ) (x : Option Inode) → inode_at t i ≡ x → is_some (node_in t.tags i x) ≡ true → i < 1024
+  used_low i None e some = cc
+  used_low i (Some x) e some = let u = used_within t.inodes i (ap is_some e) in omega (arith, u, places)
 
-  resizes_few : (p : Path) (size : ℕ) → size ≤ 196608 → Few (resizes d t (found t p) (node_at t p) size)
-  resizes_few p size low =
+  led_low : (o : Option ℕ) → is_some (option_and_then (node_of t) o) ≡ true → unwrap_or o 0 < 1024
+  led_low None some = omega arith
+  led_low (Some i) some = used_low i (inode_at t i) refl some
+
+  -- a file whose path leads to it
+  found_low : (p : Path) → file_refusal (node_at t) p ≡ None → found t p < 1024
+  found_low [] e = omega arith
+  found_low (n ∷ p) e =
+      let f = first_none (walk_refusal (node_at t) (n ∷ p)) _ e in
+      let g = first_none (walk_refusal (node_at t) p) (step_refusal (node_at t p) (node_at t (n ∷ p))) f.0 in
+      led_low (walk t.entries (n ∷ p)) (step_some (node_at t p) (node_at t (n ∷ p)) g.1)
+
+  resizes_few : (p : Path) (size : ℕ) → found t p < 1024 → size ≤ 196608 → Few (resizes d t (found t p) (node_at t p) size)
+  resizes_few p size there low =
       let node : Option Node = node_at t p in
       let w = at_walk (walk t.entries p) in
       let gone : List ℕ = drop (block_count size) (blocks_at node) in
@@ -71,17 +88,17 @@ module _ (d : Data) (t : Tables) (tree : Tree) (s : StandsFor d t tree) where
       let c1 = costs_append (freed gone) (given (found t p) (block_count (size_at node)) fresh) in
       let c2 = costs_freed gone in
       let c3 = costs_given (found t p) (block_count (size_at node)) fresh in
-      let other : found t p ≢ 65535 = λ e. let l = found_low p (walk t.entries p) refl in omega (arith, e, l) in
+      let other : found t p ≢ 65535 = λ e. omega (arith, e, there) in
       record {
         bytes = omega (arith, a, b, w0, e1, e2, c1, c2, c3);
         fit = (omega arith, fit_append (freed gone) (given (found t p) (block_count (size_at node)) fresh) (fit_freed gone) (fit_given (found t p) (block_count (size_at node)) fresh other));
       }
 
-  sizes_few : (p : Path) (size : ℕ) → size ≤ 196608 → Few (sizes d t p size)
-  sizes_few p size low =
+  sizes_few : (p : Path) (size : ℕ) → found t p < 1024 → size ≤ 196608 → Few (sizes d t p size)
+  sizes_few p size there low =
       elim (cases_Bool (size == size_at (node_at t p))) [
         | inl same ↦ subst Few (sym (cond-true _ [] (resizes d t (found t p) (node_at t p) size) same)) nothing
-        | inr other ↦ subst Few (sym (cond-false _ [] (resizes d t (found t p) (node_at t p) size) other)) (resizes_few p size low)
+        | inr other ↦ subst Few (sym (cond-false _ [] (resizes d t (found t p) (node_at t p) size) other)) (resizes_few p size there low)
       ]
 
   unlinks_few : (p : Path) → IsShort p → Few (unlinks t p)
@@ -99,18 +116,18 @@ module _ (d : Data) (t : Tables) (tree : Tree) (s : StandsFor d t tree) where
       }
 
   -- a call that is not refused
-  pub changes_few : (call : FileCall) → IsShortCall call → refusal (tree_sight d tree) call ≡ None → Few (changes d t call)
+  pub changes_few : (call : FileCall) → IsShortCall call → refusal (tables_sight d t) call ≡ None → Few (changes d t call)
   changes_few (Mkdir p) short e = makes_few t 2 p (omega arith) short
   changes_few (Create p) short e = makes_few t 1 p (omega arith) short
   changes_few (Write p offset byte count) short e =
-      let f = first_none (file_refusal (at tree) p) _ e in
+      let f = first_none (file_refusal (node_at t) p) _ e in
       let g = first_none (when 88 (nat_lt 196608 (offset + count))) _ f.1 in
       let w = at_walk (walk t.entries p) in
-      sizes_few p (written_size (size_at (node_at t p)) offset count) (written_few (size_at (node_at t p)) offset count w.1 (ltb-false _ _ (when_none 88 _ g.0)))
+      sizes_few p (written_size (size_at (node_at t p)) offset count) (found_low p f.0) (written_few (size_at (node_at t p)) offset count w.1 (ltb-false _ _ (when_none 88 _ g.0)))
   changes_few (Truncate p size) short e =
-      let f = first_none (file_refusal (at tree) p) _ e in
+      let f = first_none (file_refusal (node_at t) p) _ e in
       let g = first_none (when 88 (nat_lt 196608 size)) _ f.1 in
-      sizes_few p size (ltb-false _ _ (when_none 88 _ g.0))
+      sizes_few p size (found_low p f.0) (ltb-false _ _ (when_none 88 _ g.0))
   changes_few (Rename from to) short e = renames_few t from to short.0 short.1
   changes_few (Unlink p) short e = unlinks_few p short
   changes_few (Rmdir p) short e = removes_few t p short
