@@ -4,6 +4,7 @@
 mod answers;
 mod blocks;
 mod bytes;
+mod call_names;
 mod calls;
 mod filling;
 mod laws;
@@ -13,6 +14,7 @@ mod work;
 
 pub use answers::{CallAnswer, CallFault};
 pub use blocks::{reads, writes};
+pub use call_names::{CallName, name_of};
 pub use calls::{Pending, Planned, applied_in, is_of, plan, size_in};
 pub use filling::Fill;
 pub use laws::{blocks_are_asked_inside, data_are_asked_inside, planned_calls_follow_the_tree};

@@ -1,11 +1,12 @@
 //! Lines that tell how an event ended.
-ghost use Rattle.std.specs.Prelude.{◌≡◌, ◌++◌, IfSome, IsSome, MatchOption, OnErr, OnOk, Some};
+ghost use Rattle.std.specs.Prelude.{◌≡◌, ◌++◌, [], IfSome, IsSome, MatchOption, None, OnErr, OnOk, Some, unwrap_or};
 ghost use Rattle.pf_report.specs.Refusals.{refusal_text};
 ghost use Rattle.pf_report.specs.Texts.{answer_text, line_of, settle_text};
 
 use crate::lines::{put_numbered, put_words};
 use pf_base::NoMemory;
 use pf_protocol::Answer;
+use pf_text::put_text;
 
 /// The text of the refusal of a number.
 fn text_of(number: u32) -> Option<&'static [u8]>
@@ -43,6 +44,16 @@ fn text_of(number: u32) -> Option<&'static [u8]>
         97 => b"old format",
         _ => return None,
     })
+}
+
+/// Puts the text of the refusal of a number, if it has one.
+pub(crate) fn put_refusal_text(out: &mut Vec<u8>, number: u32) -> Result<(), NoMemory>
+    ensures { OnOk result (out.new.items ≡ out.old.items ++ unwrap_or (refusal_text number) []) }
+{
+    match text_of(number) {
+        Some(text) => put_text(out, text),
+        None => Ok(()),
+    }
 }
 
 /// Puts a refusal, by its number: the line's number and the refusal's text. Numbers without a text are not for this call.

@@ -1,0 +1,140 @@
+//! Lines of mounts and of their calls.
+ghost use Rattle.std.specs.Prelude.{◌≡◌, ◌++◌, OnErr, OnOk};
+ghost use Rattle.std.specs.List.{join_with_byte};
+ghost use Rattle.pf_report.specs.Texts.{event_line, line_of};
+ghost use Rattle.pf_report.specs.Mounts.{call_answer_text, call_text, mount_text, name_text, names_text, ready_text, started_text, state_text};
+
+use crate::answers::put_refusal_text;
+use crate::lines::{begun, put_ended, put_numbered, put_spaced, put_words};
+use pf_base::{Bytes, NoMemory};
+use pf_files::{CallAnswer, CallName};
+use pf_text::{put_decimal, put_runs, put_text};
+
+/// Puts the line of a mount that was made: the line's number, `mount`, and the mount's number.
+pub fn put_mount(out: &mut Vec<u8>, line: u32, mount: u8) -> Result<(), NoMemory>
+    ensures ok { OnOk result (out.new.items ≡ out.old.items ++ line_of line (mount_text mount)) }
+    ensures err { OnErr result (out.new.items ≡ out.old.items) }
+{
+    put_numbered(out, line, b"mount ", u64::from(mount))
+}
+
+/// Puts the line of a call that began: the line's number and `started`.
+pub fn put_started(out: &mut Vec<u8>, line: u32) -> Result<(), NoMemory>
+    ensures ok { OnOk result (out.new.items ≡ out.old.items ++ line_of line started_text) }
+    ensures err { OnErr result (out.new.items ≡ out.old.items) }
+{
+    put_words(out, line, b"started")
+}
+
+/// Puts the event line of a mount that is ready.
+pub fn put_ready(out: &mut Vec<u8>, mount: u8) -> Result<(), NoMemory>
+    ensures ok { OnOk result (out.new.items ≡ out.old.items ++ event_line (ready_text mount)) }
+    ensures err { OnErr result (out.new.items ≡ out.old.items) }
+{
+    let mut text = Vec::new(*out.allocator());
+    put_text(&mut text, b"- mount ")?;
+    put_decimal(&mut text, u64::from(mount))?;
+    put_text(&mut text, b" ok")?;
+    put_ended(out, text)
+}
+
+/// The word of a call.
+fn word_of(name: CallName) -> &'static [u8]
+    ensures { result.now ≡ name_text name }
+{
+    match name {
+        CallName::Mkdir => b"mkdir",
+        CallName::Create => b"create",
+        CallName::Write => b"write",
+        CallName::Read => b"read",
+        CallName::Truncate => b"truncate",
+        CallName::Rename => b"rename",
+        CallName::Unlink => b"unlink",
+        CallName::Rmdir => b"rmdir",
+        CallName::Stat => b"stat",
+        CallName::List => b"list",
+    }
+}
+
+/// Puts names with a space between each two.
+fn put_joined(out: &mut Vec<u8>, names: &[Bytes]) -> Result<(), NoMemory>
+    ensures { OnOk result (out.new.items ≡ out.old.items ++ join_with_byte 32 names.now) }
+{
+    let Some((name, rest)) = names.split_first() else {
+        return Ok(());
+    };
+    put_text(out, name.as_slice())?;
+    if rest.is_empty() {
+        return Ok(());
+    }
+    put_text(out, b" ")?;
+    put_joined(out, rest)
+}
+
+/// Puts names, or `none`.
+fn put_names(out: &mut Vec<u8>, names: &[Bytes]) -> Result<(), NoMemory>
+    ensures { OnOk result (out.new.items ≡ out.old.items ++ names_text names.now) }
+{
+    if names.is_empty() {
+        return put_text(out, b"none");
+    }
+    put_joined(out, names)
+}
+
+/// Puts the text of an answer.
+fn put_call_answer(out: &mut Vec<u8>, answer: &CallAnswer) -> Result<(), NoMemory>
+    ensures { OnOk result (out.new.items ≡ out.old.items ++ call_answer_text answer.now) }
+{
+    match answer {
+        CallAnswer::Fine => put_text(out, b"ok"),
+        CallAnswer::Bytes(bytes) => put_runs(out, bytes.as_slice()),
+        CallAnswer::Directory => put_text(out, b"dir"),
+        CallAnswer::File { size } => {
+            put_text(out, b"file ")?;
+            put_decimal(out, u64::from(*size))
+        }
+        CallAnswer::Names(names) => put_names(out, names.as_slice()),
+        CallAnswer::Refused(fault) => put_refusal_text(out, fault.number()),
+    }
+}
+
+/// Puts the event line of a call that ends, with its answer.
+pub fn put_call(
+    out: &mut Vec<u8>,
+    mount: u8,
+    name: CallName,
+    answer: &CallAnswer,
+) -> Result<(), NoMemory>
+    ensures ok { OnOk result (out.new.items ≡ out.old.items ++ event_line (call_text mount name answer.now)) }
+    ensures err { OnErr result (out.new.items ≡ out.old.items) }
+{
+    let mut text = Vec::new(*out.allocator());
+    put_text(&mut text, b"- call ")?;
+    put_decimal(&mut text, u64::from(mount))?;
+    put_text(&mut text, b" ")?;
+    put_text(&mut text, word_of(name))?;
+    put_text(&mut text, b" ")?;
+    put_call_answer(&mut text, answer)?;
+    put_ended(out, text)
+}
+
+/// Puts how far a mount is: the line's number, `mount`, its number, `upto`, how many transactions it has applied, and `idle` or `pending`.
+pub fn put_state(
+    out: &mut Vec<u8>,
+    line: u32,
+    mount: u8,
+    upto: u32,
+    pending: bool,
+) -> Result<(), NoMemory>
+    ensures ok { OnOk result (out.new.items ≡ out.old.items ++ line_of line (state_text mount upto pending)) }
+    ensures err { OnErr result (out.new.items ≡ out.old.items) }
+{
+    let mut text = begun(*out.allocator(), line)?;
+    put_text(&mut text, b"mount ")?;
+    put_decimal(&mut text, u64::from(mount))?;
+    put_text(&mut text, b" upto")?;
+    put_spaced(&mut text, u64::from(upto))?;
+    let word: &[u8] = if pending { b" pending" } else { b" idle" };
+    put_text(&mut text, word)?;
+    put_ended(out, text)
+}
