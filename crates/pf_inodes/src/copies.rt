@@ -7,8 +7,8 @@ use crate::rows::Rows;
 use pf_base::{Bytes, NoMemory};
 use std::alloc::Global;
 
-/// So many free places.
-pub(crate) fn free_places<T: Drop>(alloc: Global, count: usize) -> Result<Vec<Option<T>>, NoMemory>
+/// So many free places. The one error is `NoMemory` (1).
+pub fn free_places<T: Drop>(alloc: Global, count: usize) -> Result<Vec<Option<T>>, NoMemory>
     ensures { IfOk result (λ v. v.items ≡ replicate count None) }
 {
     let mut places = Vec::with_capacity(alloc, count)?;

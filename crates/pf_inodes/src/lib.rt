@@ -10,6 +10,6 @@ mod rows;
 mod tables;
 
 pub use changes::{Change, Changes, Txn};
-pub use copies::copy_name;
+pub use copies::{copy_name, free_places};
 pub use file_tables::FileTables;
 pub use tables::{Entry, Inode, Tag};

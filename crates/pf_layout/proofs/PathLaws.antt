@@ -7,7 +7,8 @@ use Rattle.pf_inodes.specs.Names.{Name, Path}
 use Rattle.pf_tree.specs.Paths.{below}
 use Rattle.pf_tree.specs.Trees.{goes_on}
 use Rattle.pf_tree.proofs.Paths.{below_of, below_is}
-use Rattle.pf_layout.specs.Paths.{IsName, IsPath, is_name_byte, names_bytes, path_bytes}
+use Rattle.pf_layout.specs.Paths.{IsName, IsPath, is_name_byte}
+use Rattle.pf_tree.specs.Paths.{names_bytes, path_bytes}
 
 -- ---- bytes that are no `/`
 

@@ -1,7 +1,9 @@
 -- Paths as words. A path lists its names from the last to the first.
-use Rattle.std.specs.Prelude.{◌≡◌, ◌≢◌, ℕ, ◌≤◌, Bool, ◌&&◌, ◌||◌, ◌==◌, nat_le, IsTrue, List, [], ◌∷◌, ◌++◌, length, codes, Result, Ok, Err}
+use Rattle.std.specs.Prelude.{◌≡◌, ◌≢◌, ℕ, ◌≤◌, Bool, ◌&&◌, ◌||◌, ◌==◌, nat_le, IsTrue, List, length, codes, Result, Ok, Err}
 use Rattle.std.specs.List.{AllByRecursion}
 use Rattle.pf_inodes.specs.Names.{Name, Path}
+use Rattle.pf_tree.specs.Paths.{path_bytes}
+use Rattle.pf_tree.specs.Trees.{Tree}
 use Rattle.pf_layout.specs.declared.faults.PathFault.{PathFault}
 use Rattle.pf_layout.specs.declared.faults.PathFault.TheVariants.{NoMemory, BadName}
 
@@ -17,16 +19,6 @@ pub record IsName (name : Name) : Type 0 where
   pub not_here : name ≢ codes "."
   pub not_above : name ≢ codes ".."
 
--- each name after one `/`
-abbrev pub names_bytes : Path → List ℕ
-names_bytes [] = []
-names_bytes (name ∷ path) = names_bytes path ++ 47 ∷ name
-
--- the root is `/` alone
-abbrev pub path_bytes : Path → List ℕ
-path_bytes [] = 47 ∷ []
-path_bytes (name ∷ path) = names_bytes (name ∷ path)
-
 -- at most 16 names, and 255 bytes
 pub record IsPath (path : Path) : Type 0 where
   pub few : length path ≤ 16
@@ -38,3 +30,7 @@ abbrev pub ReadsPath : List ℕ → Result Path PathFault → Type 0
 ReadsPath word (Ok path) = IsPath path × (path_bytes path ≡ word)
 ReadsPath word (Err BadName) = (path : Path) → IsPath path → path_bytes path ≢ word
 ReadsPath word (Err NoMemory) = Unit {0}
+
+-- the paths of a tree have names that calls can make
+abbrev pub HasNames : Tree → Type 0
+HasNames tree = AllByRecursion (λ row. AllByRecursion IsName row.0) tree

@@ -1,9 +1,12 @@
 //! Laws of paths as words.
-ghost use Rattle.std.specs.Prelude.{◌≡◌, ◌≢◌, ◌↔◌, ℕ, List, [], ◌∷◌, ◌++◌, IsTrue};
-ghost use Rattle.pf_inodes.specs.Names.{Path};
-ghost use Rattle.pf_tree.specs.Paths.{below};
-ghost use Rattle.pf_tree.specs.Trees.{goes_on};
-ghost use Rattle.pf_layout.specs.Paths.{IsPath, path_bytes};
+ghost use Rattle.std.specs.Prelude.{◌≡◌, ◌≢◌, ◌↔◌, ℕ, List, [], ◌∷◌, ◌++◌, AllPairs, IsTrue};
+ghost use Rattle.pf_inodes.specs.Names.{Path, is_before};
+ghost use Rattle.pf_tree.specs.declared.listing.Listed.{Listed};
+ghost use Rattle.pf_tree.specs.Listings.{Lists};
+ghost use Rattle.pf_tree.specs.Paths.{below, path_bytes};
+ghost use Rattle.pf_tree.specs.Standing.{IsMap};
+ghost use Rattle.pf_tree.specs.Trees.{Tree, goes_on};
+ghost use Rattle.pf_layout.specs.Paths.{HasNames, IsPath};
 
 /// No two paths have one spelling.
 pub fn paths_tell_themselves()
@@ -14,4 +17,10 @@ pub fn paths_tell_themselves()
 pub fn paths_below_begin_alike()
     ensures { (from to : Path) → IsPath from → IsPath to → from ≢ []
         → IsTrue (goes_on (below from to)) ↔ ((rest : List ℕ) × (path_bytes to ≡ path_bytes from ++ 47 ∷ rest)) }
+{}
+
+/// The listing of a tree ascends strictly in the order of bytes, where its paths have names that calls can make.
+pub fn listed_paths_ascend()
+    ensures { (tree : Tree) (rows : List Listed) → IsMap tree → HasNames tree → Lists tree rows
+        → AllPairs (λ (row : Listed) (later : Listed). IsTrue (is_before row.path later.path)) rows }
 {}

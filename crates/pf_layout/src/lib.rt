@@ -8,7 +8,7 @@ mod regions;
 mod supers;
 
 pub use faults::PathFault;
-pub use laws::{paths_below_begin_alike, paths_tell_themselves};
+pub use laws::{listed_paths_ascend, paths_below_begin_alike, paths_tell_themselves};
 pub use path::Path;
 pub use regions::{BLOCK_BYTES, BLOCK_SECTORS, FIRST_DATA_BLOCK, JOURNAL, has_room};
 pub use supers::{BadSuper, read_super, spell_super};

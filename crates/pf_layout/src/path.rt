@@ -1,7 +1,8 @@
 //! Paths.
 ghost use Rattle.std.specs.Prelude.{◌≡◌, ◌≢◌, ◌≤◌, ◌<◌, ◌↔◌, ◌⊎◌, ℕ, List, [], ◌∷◌, ◌++◌, codes, length, slice_index, IsTrue, IfOk, IfSome, IfNone, Err};
 ghost use Rattle.std.specs.List.{AllByRecursion};
-ghost use Rattle.pf_layout.specs.Paths.{IsName, IsPath, ReadsPath, is_name_byte, names_bytes, path_bytes};
+ghost use Rattle.pf_layout.specs.Paths.{IsName, IsPath, ReadsPath, is_name_byte};
+ghost use Rattle.pf_tree.specs.Paths.{names_bytes, path_bytes};
 
 use crate::PathFault;
 use pf_base::{Bytes, Names};

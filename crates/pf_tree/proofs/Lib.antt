@@ -14,3 +14,4 @@ pub mod New
 pub mod Looks
 pub mod Plans
 pub mod Whole
+pub mod Listings

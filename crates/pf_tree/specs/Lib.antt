@@ -3,4 +3,5 @@ pub mod Trees
 pub mod Plans
 pub mod Held
 pub mod Standing
+pub mod Listings
 pub mod Faults

@@ -3,11 +3,13 @@
 
 mod calls;
 mod faults;
+mod listing;
 mod look;
 mod plan;
 mod tree;
 
 pub use calls::FileCall;
 pub use faults::TreeFault;
+pub use listing::{Listed, Listing};
 pub use pf_inodes::{Change, Changes, Entry, Inode, Tag, Txn};
 pub use tree::Tree;

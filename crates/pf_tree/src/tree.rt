@@ -5,9 +5,12 @@ ghost use Rattle.pf_inodes.specs.Tables.{applied, block_of, names_in, new_tables
 ghost use Rattle.pf_inodes.specs.declared.tables.Entry.{Entry as EntryIs};
 ghost use Rattle.pf_tree.specs.Plans.{changes, found, node_at, tables_sight};
 ghost use Rattle.pf_tree.specs.Held.{Held, IsWhole, data_of};
+ghost use Rattle.pf_tree.specs.Listings.{Lists};
+ghost use Rattle.pf_tree.specs.Standing.{StandsFor};
 ghost use Rattle.pf_tree.specs.Faults.{PlansTo};
-ghost use Rattle.pf_tree.specs.Trees.{file_size, refusal};
+ghost use Rattle.pf_tree.specs.Trees.{Tree as TreeIs, file_size, refusal};
 
+use crate::listing::{Listing, list_tree};
 use crate::look::{copy_names, dir_at, file_at, lead, size_of_file, walk_to};
 use crate::plan::{plan_make, plan_rename, plan_rmdir, plan_truncate, plan_unlink, plan_write};
 use crate::{FileCall, TreeFault};
@@ -106,6 +109,15 @@ impl Tree {
         let rows = self.tables.names_in(self.inode_at(path));
         let names = copy_names(alloc, rows)?;
         Ok(Names::new(names))
+    }
+
+    /// The paths of the tree in the order of their bytes. Where the tables stand for no tree, those inodes in use are listed from which
+    /// names lead up to the root, each once. The one error is `NoMemory` (1).
+    pub fn listing(&self, alloc: Global) -> Result<Listing, NoMemory>
+        ensures { (tree : TreeIs) → StandsFor (data_of self.now.first self.now.tables) self.now.tables tree → IfOk result (Lists tree) }
+    {
+        let rows = list_tree(alloc, &self.tables)?;
+        Ok(Listing::new(rows))
     }
 
     /// The changes of a call, in order; none where the tree stays.

@@ -1,6 +1,6 @@
 use Rattle.std.proofs.Common.{◌≢◌, [], sym, ◌∙◌, arith}
 use Rattle.std.proofs.lemmas.Bool.{eqb-true, false≢true}
-use Rattle.pf_layout.specs.Paths.{path_bytes}
+use Rattle.pf_tree.specs.Paths.{path_bytes}
 use Rattle.pf_layout.proofs.PathLaws.{same_names}
 use Rattle.pf_layout.proofs.path.read_names.Goals as goal
 use Rattle.pf_layout.proofs.path.read_names.Goals.{then-is_empty-via-then-is_empty, then-is_empty-via-else-is_empty+then-len-gt-MOST_NAMES}

@@ -1,6 +1,7 @@
 use Rattle.std.proofs.Common.{◌≡◌, ◌≢◌, ◌==◌, [], ◌∷◌, ◌++◌, length, sym, ap, subst, ◌∙◌}
 use Rattle.std.proofs.lemmas.Bool.{false≢true}
-use Rattle.pf_layout.specs.Paths.{IsName, names_bytes}
+use Rattle.pf_layout.specs.Paths.{IsName}
+use Rattle.pf_tree.specs.Paths.{names_bytes}
 use Rattle.pf_layout.proofs.PathLaws.{what_is_left, none_without, last_is_name, one_more, all_append}
 use Rattle.pf_layout.proofs.path.split_names.Goals as goal
 

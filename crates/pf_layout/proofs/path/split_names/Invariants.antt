@@ -1,6 +1,7 @@
 use Rattle.std.proofs.Common.{◌≡◌, ◌++◌, length}
 use Rattle.std.specs.List.{AllByRecursion}
-use Rattle.pf_layout.specs.Paths.{IsName, names_bytes}
+use Rattle.pf_layout.specs.Paths.{IsName}
+use Rattle.pf_tree.specs.Paths.{names_bytes}
 use Rattle.pf_layout.proofs.path.split_names.Given as goal
 
 abbrev pub invariant-loop-rest : goal.invariant-loop-rest
