@@ -25,6 +25,7 @@ use Rattle.pf_protocol.specs.Outcomes.{Outcome}
 use Rattle.pf_protocol.specs.Servers.{has_applied}
 use Rattle.pf_protocol.specs.declared.answers.Answer.TheVariants.{Read as ReadIs}
 use Rattle.pf_protocol.specs.declared.answers.Refusal.TheVariants.{BadRange, NotLeader}
+use Rattle.pf_state.specs.Bounds.{far}
 use Rattle.pf_state.specs.declared.running.Role.{Role}
 use Rattle.pf_state.specs.declared.running.Role.TheVariants.{Follower, Candidate, Merging, Serving}
 use Rattle.pf_state.specs.declared.running.Running.{Running}
@@ -149,7 +150,7 @@ module _ (d : Durable) (me : Running) (cached : IsCached d me) (range : Span) (w
 
 -- bounds
 module _ (me : Running) (bounded : IsBounded me) where
-  pub base_low : me.log.base < 2 ^ 63
+  pub base_low : me.log.base < far
   unfolding setup_of server_of
   base_low = omega (arith, bounded.low, bounded.fits.durable.vote.base)
 

@@ -17,6 +17,7 @@ use Rattle.pf_protocol.specs.Servers.{Server, climb, upto}
 use Rattle.pf_protocol.specs.Outcomes.{refused}
 use Rattle.pf_protocol.specs.Saving.{is_short_of, on_checkpoint, trimmed}
 use Rattle.pf_protocol.specs.declared.answers.Answer.TheVariants.{Base as BaseIs}
+use Rattle.pf_state.specs.Bounds.{far}
 use Rattle.pf_state.specs.declared.running.Running.{Running}
 use Rattle.pf_state.specs.Standing.{bare, server_of, setup_of, IsBounded, IsCached}
 use Rattle.pf_state.proofs.Applied.{in_above}
@@ -58,7 +59,7 @@ module _ (me : Running) (bounded : IsBounded me) (base : ℕ) (reached : me.log.
   unfolding server_of
   term_word = omega (arith, bounded.fits.durable.term_low, bounded.t_low)
 
-  state_fits : base < 2 ^ 63 → RecordFits (image_of (state_at me base))
+  state_fits : base < far → RecordFits (image_of (state_at me base))
   state_fits small = image_fits me bounded base reached bounded.n me.term (above_base me base) me.sectors slots_fit sized bounded.low term_word (omega (arith, small))
 
 -- how far all is applied
@@ -105,7 +106,7 @@ pub upto_low : (d : Durable) (me : Running) → IsCached d me → me.log.base �
 unfolding upto server_of
 upto_low d me cached = omega (arith, cached.base, climb_low (Sets.len (Sets.retain me.applied.slots (nat_lt me.log.base))) (Sets.retain me.applied.slots (nat_lt me.log.base)) d.base)
 
-pub upto_small : (d : Durable) (me : Running) → IsCached d me → IsBounded me → upto (server_of d me) < 2 ^ 63
+pub upto_small : (d : Durable) (me : Running) → IsCached d me → IsBounded me → upto (server_of d me) < far
 unfolding upto server_of
 upto_small d me cached bounded =
     let same : upto (server_of d me) ≡ upto (server_of (bare me) me) = ap (climb (Sets.len (Sets.retain me.applied.slots (nat_lt me.log.base))) (Sets.retain me.applied.slots (nat_lt me.log.base))) (sym cached.base) in
@@ -185,7 +186,7 @@ module _ (d : Durable) (me : Running) (base : ℕ) (cached : IsCached d me) (is 
   unfolding stored
   saved_is = record { is = refl; used = refl; format = refl }
 
-  pub is_image_of : IsBounded me → base < 2 ^ 63 → (body : List ℕ) → body ≡ body_bytes (image_of (state_at me base)) → IsImageOf d (image_of (state_at me base)) body
+  pub is_image_of : IsBounded me → base < far → (body : List ℕ) → body ≡ body_bytes (image_of (state_at me base)) → IsImageOf d (image_of (state_at me base)) body
   is_image_of bounded small body same = record { canonical = state_canonical me bounded base low; fits = state_fits me bounded base low small; next = ap suc cached.generation; is = same }
 
 -- whether there is a checkpoint to take

@@ -8,6 +8,7 @@ ghost use Rattle.pf_protocol.specs.Saving.{is_short_of, on_checkpoint, trimmed};
 ghost use Rattle.pf_protocol.specs.Servers.{upto};
 ghost use Rattle.pf_protocol.specs.Outcomes.{refused};
 ghost use Rattle.pf_protocol.specs.declared.answers.Answer.TheVariants.{Base as BaseIs};
+ghost use Rattle.pf_state.specs.Bounds.{far};
 ghost use Rattle.pf_state.specs.Outgoing.{Outgoing};
 ghost use Rattle.pf_state.specs.Standing.{server_of, role_of, IsBounded, IsCached, Stands, Steps, room_refusal};
 ghost use Rattle.pf_applying.specs.Saving.{state_at};
@@ -24,7 +25,7 @@ use std::alloc::Global;
 fn spell_state(alloc: Global, me: &Running, base: Slot) -> Result<Vec<u8>, NoMemory>
     requires bounded { IsBounded me.now }
     requires reached { me.now.log.base ≤ base }
-    requires small { base < 2 ^ 63 }
+    requires small { base < far }
     ensures { IfOk result (λ body. body.items ≡ body_bytes (image_of (state_at me.now base))) }
 {
     let vote = VoteLog {
@@ -45,7 +46,7 @@ fn spell_state(alloc: Global, me: &Running, base: Slot) -> Result<Vec<u8>, NoMem
 /// Moves the checkpoint in memory. It takes no memory.
 fn pass(me: &mut Running, base: Slot)
     requires reached { me.old.log.base ≤ base }
-    requires generation { me.old.generation < 2 ^ 63 }
+    requires generation { me.old.generation < far }
     ensures { me.new ≡ record me.old {
       generation = me.old.generation + 1;
       log = record { base = base; entries = finite.retain_keys me.old.log.entries (nat_lt base); marks = set.retain me.old.log.marks (nat_lt base) };
@@ -65,7 +66,7 @@ fn save_state<S: Store>(
     requires stands { (d : Durable) × Stands S.holds S.used S.format d store.old me.old × (base ≡ upto (server_of d me.old)) }
     requires bounded { IsBounded me.old }
     requires reached { me.old.log.base ≤ base }
-    requires small { base < 2 ^ 63 }
+    requires small { base < far }
     ensures { (d : Durable) (out : Outgoing) → Stands S.holds S.used S.format d store.old me.old → out.acked ≡ None → base ≡ upto (server_of d me.old) → (let o = refused (trimmed (server_of d me.old)) (BaseIs base) in
         Steps S.holds S.used S.format S.told S.rose S.was d store.old me.old out store.new me.new out (room_refusal out o) o result) }
 {

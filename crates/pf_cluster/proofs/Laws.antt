@@ -18,7 +18,7 @@ use Rattle.pf_protocol.specs.Fitting.{DurableFits, PacketFits}
 use Rattle.pf_protocol.proofs.ForMoments.{legal_goes_on, replay_goes_on, reads_before}
 use Rattle.pf_protocol.proofs.ForRows.{few_starts}
 use Rattle.pf_protocol.proofs.ForHistories.{legal_packets, legal_starts, fresh, legal_fits, legal_asks, its_number, own_entries}
-use Rattle.pf_server.specs.Conditions.{IsFit, IsFor, IsKnown, IsSound}
+use Rattle.pf_server.specs.Conditions.{IsFit, IsFor, IsHonest, IsKnown, IsSound}
 use Rattle.pf_cluster.specs.Showing.{seat_of}
 use Rattle.pf_cluster.proofs.Fits.{durable_fits, packet_fits, server_fits}
 
@@ -56,7 +56,7 @@ module _ (setup : Setup) (history : History) where
       low = omega (arith, short);
       t_low = omega (arith, few_elections);
       fits = server_fits setup i (length history) (suc (replay setup history).elections) legal.is_setup.window s ((legal_fits setup history legal).servers i (Running s) at).1;
-      few = legal_starts setup history legal i s at;
+      few = omega (arith, legal_starts setup history legal i s at);
       next = (replay setup history).reads;
       asks = legal_asks setup history legal i s at;
       own = λ l. own_entries setup history i s l at;
@@ -67,8 +67,16 @@ module _ (setup : Setup) (history : History) where
     is_known i (Running s) at = is_sound i s at
     is_known i (Stopped life before after) at =
         let f = ((legal_fits setup history legal).servers i (Stopped life before after) at).1 in
-        (is_fit i before f.1, is_fit i after f.2, omega (arith, f.0, short))
+        omega (arith, f.0, short)
     is_known i Unformatted at = tt
+
+    -- and that no restart refuses its states
+    pub is_honest : (i : ℕ) (c : Condition) → slice_get (replay setup history).servers i ≡ Some c → IsHonest (seat_of setup i) c
+    is_honest i (Running s) at = is_fit i s.durable ((legal_fits setup history legal).servers i (Running s) at).1.durable
+    is_honest i (Stopped life before after) at =
+        let f = ((legal_fits setup history legal).servers i (Stopped life before after) at).1 in
+        (is_fit i before f.1, is_fit i after f.2)
+    is_honest i Unformatted at = tt
 
     pub is_member_number : (i : ℕ) (c : Condition) → slice_get (replay setup history).servers i ≡ Some c → i < 3
     is_member_number i c at = ((legal_fits setup history legal).servers i c at).0

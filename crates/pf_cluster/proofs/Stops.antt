@@ -15,7 +15,7 @@ use Rattle.pf_protocol.specs.Saving.{renewed, restarted}
 use Rattle.pf_protocol.specs.Histories.{History, replay}
 use Rattle.pf_protocol.specs.Answers.{answer_to, is_formatted, may_halt, restart_answer, stop_answer}
 use Rattle.pf_server.specs.declared.server.Server.{Server}
-use Rattle.pf_server.specs.Conditions.{IsKnown, Meets, runs}
+use Rattle.pf_server.specs.Conditions.{IsHonest, IsKnown, Meets, runs}
 use Rattle.pf_server.specs.Turns.{Begins, BeginsAgain, WasBegunIn}
 use Rattle.pf_cluster.specs.declared.cluster.Cluster.{Cluster}
 use Rattle.pf_cluster.specs.Going.{GoesBack, HasFault, HasGone, IsReached, KeepsOthers, KeepsStores, Touches}
@@ -23,7 +23,7 @@ use Rattle.pf_cluster.specs.Readings.{taken_after, taken_of}
 use Rattle.pf_cluster.specs.Showing.{IsMember, Shows}
 use Rattle.pf_cluster.proofs.Alone.{alone, alone_still}
 use Rattle.pf_cluster.proofs.Beginning.{its_condition}
-use Rattle.pf_cluster.proofs.Laws.{is_known}
+use Rattle.pf_cluster.proofs.Laws.{is_honest, is_known}
 use Rattle.pf_cluster.proofs.Lists.{set_there}
 use Rattle.pf_cluster.proofs.Stores.{others_kept, stores_kept}
 use Rattle.pf_cluster.proofs.Taking.{stopped_idles, unformatted_idles}
@@ -171,7 +171,7 @@ module _ {S : Type 0} (holds : S → Durable → Durable → Type 0) (used forma
       ours_apart : Refused NotOurs ≡ Refused Halted → ⊥
       ours_apart is = cc
 
-  pub restarts : (result : Result (Answer × Bool) NoMemory) → ((c : Condition) → Meets holds used format me.seat me.store me.state c → IsKnown me.seat c → BeginsAgain holds used format rose me.seat me.store next.store next.state c result) → ((c : Condition) → Meets holds used format me.seat me.store me.state c → WasBegunIn was me.store next.store c) → GoesBack holds used format told rose was setup g i old new result
+  pub restarts : (result : Result (Answer × Bool) NoMemory) → ((c : Condition) → Meets holds used format me.seat me.store me.state c → IsKnown me.seat c → IsHonest me.seat c → BeginsAgain holds used format rose me.seat me.store next.store next.state c result) → ((c : Condition) → Meets holds used format me.seat me.store me.state c → WasBegunIn was me.store next.store c) → GoesBack holds used format told rose was setup g i old new result
   restarts result step left =
       let m = its_condition holds used format told setup history old reached i me here in
-      restarts_at m.0 m.1 m.2 result (step m.0 m.2.meets (subst (λ s. IsKnown s m.0) (sym m.2.seat) (is_known setup history reached.legal reached.short i m.0 m.1))) (left m.0 m.2.meets)
+      restarts_at m.0 m.1 m.2 result (step m.0 m.2.meets (subst (λ s. IsKnown s m.0) (sym m.2.seat) (is_known setup history reached.legal reached.short i m.0 m.1)) (subst (λ s. IsHonest s m.0) (sym m.2.seat) (is_honest setup history reached.legal reached.short i m.0 m.1))) (left m.0 m.2.meets)

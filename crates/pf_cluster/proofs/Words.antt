@@ -14,9 +14,10 @@ use Rattle.pf_spelling.specs.Fitting.{EntryFits as EntryWords, VoteFits as VoteW
 use Rattle.pf_protocol.specs.Servers.{Setup}
 use Rattle.pf_protocol.specs.Answers.{IsSetup}
 use Rattle.pf_protocol.specs.Fitting.{BodyFits, PacketFits, SlotsFit, VoteFits}
+use Rattle.pf_state.specs.Bounds.{far}
 use Rattle.pf_state.proofs.Canonicals.{has_words}
 
-module _ (setup : Setup) (is : IsSetup setup) (n t : ℕ) (low : n < 2 ^ 63) (t_low : t < 2 ^ 63) where
+module _ (setup : Setup) (is : IsSetup setup) (n t : ℕ) (low : n < far) (t_low : t < far) where
   slot_words : (base : ℕ) (slots : Numbers) → SlotsFit setup n base slots → SlotWords slots
   slot_words base slots f = every_map (λ slot. slot < 2 ^ 64) (λ row. row.0) (FinMap.entries slots) (every_of_gets (λ slot x. slot < 2 ^ 64) slots (λ slot x at. omega (arith, (f slot (ap is_some at)).2, low)))
 

@@ -10,6 +10,7 @@ ghost use Rattle.pf_spelling.specs.Spelling.{body_bytes};
 ghost use Rattle.pf_protocol.specs.Servers.{upto};
 ghost use Rattle.pf_protocol.specs.Outcomes.{nothing, sends};
 ghost use Rattle.pf_protocol.specs.Following.{ack, installed, on_image};
+ghost use Rattle.pf_state.specs.Bounds.{far};
 ghost use Rattle.pf_state.specs.Outgoing.{Outgoing};
 ghost use Rattle.pf_state.specs.Standing.{server_of, IsBounded, Stands, Steps, room_refusal};
 ghost use Rattle.pf_state.specs.Coming.{IsComing};
@@ -122,8 +123,8 @@ fn prepare(
 /// Begins a new life over the image's state. It takes no memory.
 fn begin(alloc: Global, me: &mut Running, term: Term, base: Slot, half: NewHalf)
     requires reached { me.old.log.base ≤ base }
-    requires life { me.old.life < 2 ^ 63 }
-    requires generation { me.old.generation < 2 ^ 63 }
+    requires life { me.old.life < far }
+    requires generation { me.old.generation < far }
     ensures { me.new ≡ record me.old {
       life = me.old.life + 1;
       term = term;

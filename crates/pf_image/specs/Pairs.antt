@@ -7,6 +7,7 @@ use Rattle.pf_image.specs.Halves.{of_half, other}
 use Rattle.pf_image.specs.Current.{IsCurrent}
 use Rattle.pf_image.specs.Recovery.{Content, FindsIn}
 use Rattle.pf_image.specs.declared.pair.Pair.{Pair}
+use Rattle.pf_image.specs.declared.place.Place.{Place}
 
 -- the log of the current half, and that of the other
 abbrev pub current_of : {D : Type 0} → Pair D → ChunkLog D
@@ -18,6 +19,18 @@ spare_of pair = of_half (other pair.current) pair.zero pair.one
 -- the format of the current half
 abbrev pub format_of : {D : Type 0} → Pair D → ℕ
 format_of pair = slice_index (current_of pair).head 4
+
+-- where a pair stands
+abbrev pub place_of : {D : Type 0} → Pair D → Place
+place_of pair = record { current = pair.current; zero_head = pair.zero.head; zero_used = pair.zero.used; one_head = pair.one.head; one_used = pair.one.used }
+
+-- a pair that stands there, over the same disks
+abbrev pub moved_to : {D : Type 0} → Pair D → Place → Pair D
+moved_to pair place = record pair {
+  zero = record pair.zero { head = place.zero_head; used = place.zero_used };
+  one = record pair.one { head = place.one_head; used = place.one_used };
+  current = place.current;
+}
 
 -- no count of faults of the two disks fell
 pub record AreLater {D : Type 0} (faults : D → ℕ) (old new : Pair D) : Type 0 where

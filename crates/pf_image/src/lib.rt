@@ -3,7 +3,9 @@
 
 mod halves;
 mod pair;
+mod place;
 mod recovery;
 
 pub use halves::Half;
 pub use pair::Pair;
+pub use place::Place;

@@ -8,8 +8,8 @@ ghost use Rattle.pf_image.specs.Halves.{half_head, of_half, other};
 ghost use Rattle.pf_image.specs.Current.{IsBegun, IsReady};
 ghost use Rattle.pf_image.specs.Recovery.{AreRecoverable, Content, Finds, IsChange, IsFormat, IsNext, IsRecoverable};
 
-use crate::Half;
 use crate::recovery::{Found, newer, read_half};
+use crate::{Half, Place};
 use pf_chunklog::{AppendFault, ChunkLog, DiskFault, OpenFault, RawRecords};
 use pf_disk::{Disk, Failed};
 use std::alloc::Global;
@@ -55,7 +55,7 @@ fn begin<D: Disk>(log: &mut ChunkLog<D>, head: [u8; 8], body: &[u8]) -> Result<(
 }
 
 impl<D: Disk> Pair<D> {
-    ghost use Rattle.pf_image.specs.Pairs.{AreLater, IsInDoubt, IsWhole, Tells, WasInDoubt, current_of, format_of};
+    ghost use Rattle.pf_image.specs.Pairs.{AreLater, IsInDoubt, IsWhole, Tells, WasInDoubt, current_of, format_of, moved_to, place_of};
 
     /// Whether the used bytes of the current half and so many more are within the limit of 67,108,864 bytes.
     pub fn has_room(&self, len: u64) -> bool
@@ -85,6 +85,37 @@ impl<D: Disk> Pair<D> {
             Half::Zero => self.zero.head[4],
             Half::One => self.one.head[4],
         }
+    }
+
+    /// Where it stands.
+    pub fn place(&self) -> Place
+        ensures { result ≡ place_of self.now }
+    {
+        Place {
+            current: self.current,
+            zero_head: self.zero.head,
+            zero_used: self.zero.used,
+            one_head: self.one.head,
+            one_used: self.one.used,
+        }
+    }
+
+    /// Stands there from now on. Nothing is read or written.
+    pub fn stand_at(&mut self, place: Place)
+        ensures { self.new ≡ moved_to self.old place }
+    {
+        let Place {
+            current,
+            zero_head,
+            zero_used,
+            one_head,
+            one_used,
+        } = place;
+        self.current = current;
+        self.zero.head = zero_head;
+        self.zero.used = zero_used;
+        self.one.head = one_head;
+        self.one.used = one_used;
     }
 
     /// Gives the disks back, that of half 0 first.

@@ -1,25 +1,25 @@
 -- What a pair of halves keeps.
-use Rattle.std.proofs.Common.{◌≡◌, ◌≢◌, ◌⊎◌, inl, inr, ⊎_elim, ℕ, ◌≤◌, IsTrue, List, [], ◌∷◌, ◌++◌, Option, Some, IfSome, length, is_some, slice_index, refl, sym, ◌∙◌, ap, subst, arith}
+use Rattle.std.proofs.Common.{◌≡◌, ◌≢◌, ◌⊎◌, inl, inr, ⊎_elim, ℕ, ◌+◌, ◌≤◌, IsTrue, List, [], ◌∷◌, ◌++◌, Bool, Option, Some, IfSome, length, is_some, slice_index, refl, sym, ◌∙◌, ap, subst, arith}
 use Rattle.std.proofs.lemmas.Bool.{and_parts}
 use Rattle.pf_disk.specs.Causes.{Rose}
 use Rattle.pf_disk.specs.Crashes.{Images}
-use Rattle.pf_chunklog.specs.Records.{Raw}
-use Rattle.pf_chunklog.specs.Logs.{IsOnlyRead, LeavesOnly}
+use Rattle.pf_chunklog.specs.Records.{Holds, Raw, blocks}
+use Rattle.pf_chunklog.specs.Logs.{IsAtRest, IsOnlyRead, LeavesOnly}
 use Rattle.pf_chunklog.specs.declared.log.ChunkLog.{ChunkLog}
-use Rattle.pf_chunklog.proofs.Steps.{told}
+use Rattle.pf_chunklog.proofs.Steps.{if_some, told}
 use Rattle.pf_entry.specs.Records.{Durable, stored}
 use Rattle.pf_entry.specs.declared.records.Record.{Record}
 use Rattle.pf_store.specs.Stores.{IsImageOf, IsSpelledAs}
 use Rattle.pf_image.specs.Halves.{half_head, of_half, other}
 use Rattle.pf_image.specs.Recovery.{Content, FindsIn, IsNext, IsRecoverable}
 use Rattle.pf_image.specs.Current.{IsCurrent, IsReady}
-use Rattle.pf_image.specs.Pairs.{AreLater, IsWhole, Leaves, current_of, format_of}
+use Rattle.pf_image.specs.Pairs.{AreLater, IsWhole, Leaves, current_of, format_of, moved_to, place_of}
 use Rattle.pf_image.specs.declared.halves.Half.{Half}
 use Rattle.pf_image.specs.declared.halves.Half.TheVariants.{Zero, One}
 use Rattle.pf_image.specs.declared.pair.Pair.{Pair}
 use Rattle.pf_image.proofs.Files.{one_content}
 use Rattle.pf_image.proofs.Logs as logs
-use Rattle.pf_kept.specs.Kept.{FindsState, HasState, IsBetween, IsKept, IsStateIn, LeavesStates, OneRose, tells}
+use Rattle.pf_kept.specs.Kept.{FindsState, HasState, IsBetween, IsKept, IsReread, IsStateIn, LeavesStates, OneRose, WentOn, tells}
 use Rattle.pf_kept.proofs.States.{is_next, one_more, raw_of, saved_state, told_of}
 
 -- a doubt between two contents is one between the states that they stand for
@@ -70,16 +70,10 @@ module _ {D : Type 0} (seen : D → Option (List ℕ)) (may_leave : D → Images
   pub format_is : (pair : Pair D) (d : Durable) → HasState seen may_leave pair d → format_of pair ≡ d.format
   format_is pair d has = sym (told_of (format_of pair) has.records d has.state).half
 
-  -- the pair after a call that only read its disks
-  pub record IsReread (old new : Pair D) : Type 0 where
-    pub head : new.head ≡ old.head
-    pub on_zero : IsOnlyRead seen may_leave old.zero.disk new.zero.disk
-    pub on_one : IsOnlyRead seen may_leave old.one.disk new.one.disk
-
-  pub tells_same : (old new : Pair D) → IsReread old new → tells seen new ≡ tells seen old
+  pub tells_same : (old new : Pair D) → IsReread seen may_leave old new → tells seen new ≡ tells seen old
   tells_same old new read = let a = read.on_zero.same in let b = read.on_one.same in cc
 
-  pub still_between : (old new : Pair D) (before after : Durable) → IsReread old new → IsBetween seen may_leave old before after → IsBetween seen may_leave new before after
+  pub still_between : (old new : Pair D) (before after : Durable) → IsReread seen may_leave old new → IsBetween seen may_leave old before after → IsBetween seen may_leave new before after
   still_between old new before after read between = record {
     apart = between.apart;
     leaves = λ a b left_a left_b. subst (λ (h : List ℕ). FindsState h a b before ⊎ FindsState h a b after) (sym read.head) (between.leaves a b (read.on_zero.keeps a left_a) (read.on_one.keeps b left_b));
@@ -120,7 +114,7 @@ module _ {D : Type 0} (seen : D → Option (List ℕ)) (may_leave : D → Images
   tells_as old new a b = cc
 
   -- and answered with no records
-  pub kept_err : (old new : Pair D) (before after : Durable) → IsReread old new → ((records : List Raw) → IsWhole seen may_leave old records → IsWhole seen may_leave new records) → format_of new ≡ format_of old
+  pub kept_err : (old new : Pair D) (before after : Durable) → IsReread seen may_leave old new → ((records : List Raw) → IsWhole seen may_leave old records → IsWhole seen may_leave new records) → format_of new ≡ format_of old
       → (IsReady seen may_leave (current_of old) → IsReady seen may_leave (current_of new)) → IsKept seen may_leave old before after → IsKept seen may_leave new before after
   kept_err old new before after read whole format ready kept = record {
     ready = λ same. ready (kept.ready same);
@@ -159,7 +153,7 @@ module _ {D : Type 0} (seen : D → Option (List ℕ)) (may_leave : D → Images
         λ d found. (found.found.found.0, found.content.1, found.found.found.1.recoverable) in
         ⊎_elim (recovers before) (recovers after) (found_now pair before after kept tells_it a b is_a is_b)
 
-    module _ (old new : Pair D) (records : List Raw) (read : IsReread old new) (whole : IfSome (seen old.zero.disk) (λ _. IfSome (seen old.one.disk) (λ _. IsWhole seen may_leave new records))) where
+    module _ (old new : Pair D) (records : List Raw) (read : IsReread seen may_leave old new) (whole : IfSome (seen old.zero.disk) (λ _. IfSome (seen old.one.disk) (λ _. IsWhole seen may_leave new records))) where
       settled : (d : Durable) (a b : List ℕ) → seen old.zero.disk ≡ Some a → seen old.one.disk ≡ Some b → FindsState old.head a b d → IsSettled new records d
       settled d a b is_a is_b found =
           let now : IsWhole seen may_leave new records = told (seen old.one.disk) b _ is_b (told (seen old.zero.disk) a _ is_a whole) in
@@ -210,3 +204,55 @@ rose_later before now next le rose = omega (arith, le, rose)
 -- a count that rises after a reading has risen since before it
 pub one_rose_later : {D : Type 0} (faults : D → ℕ) (old new next : Pair D) → AreLater faults old new → OneRose faults new next → OneRose faults old next
 one_rose_later faults old new next le rose = ⊎_elim (λ zero. inl (rose_later _ _ _ le.zero zero)) (λ one. inr (rose_later _ _ _ le.one one)) rose
+
+-- a pair that went back to where it stood, after calls that only read its disks
+module _ {D : Type 0} (seen : D → Option (List ℕ)) (may_leave : D → Images) (old read : Pair D) (only : IsReread seen may_leave old read) where
+  abbrev pub back : Pair D
+  back = moved_to read (place_of old)
+
+  whole_in : (h : Half) (records : List Raw) → IsCurrent seen may_leave old.head h (of_half h old.zero old.one) (of_half (other h) old.zero old.one) records
+      → IsCurrent seen may_leave old.head h (of_half h back.zero back.one) (of_half (other h) back.zero back.one) records
+  whole_in Zero records whole = logs.only_read seen may_leave old.head Zero old.zero old.one records whole back.zero back.one refl refl only.on_zero.same only.on_zero.keeps only.on_one.same only.on_one.keeps
+  whole_in One records whole = logs.only_read seen may_leave old.head One old.one old.zero records whole back.one back.zero refl refl only.on_one.same only.on_one.keeps only.on_zero.same only.on_zero.keeps
+
+  whole_back : (records : List Raw) → IsWhole seen may_leave old records → IsWhole seen may_leave back records
+  whole_back records whole = subst (λ (h : List ℕ). IsCurrent seen may_leave h old.current (of_half old.current back.zero back.one) (of_half (other old.current) back.zero back.one) records) (sym only.head) (whole_in old.current records whole)
+
+  ready_log : (log new : ChunkLog D) → new.head ≡ log.head → new.used ≡ log.used → IsOnlyRead seen may_leave log.disk new.disk → IsReady seen may_leave log → IsReady seen may_leave new
+  ready_log log new head used its ready =
+      if_some (seen new.disk) (λ file. (records : List Raw) × IsAtRest new.head new.used (may_leave new.disk) records file) (λ file is.
+      let had = told (seen log.disk) file (λ (f : List ℕ). (records : List Raw) × IsAtRest log.head log.used (may_leave log.disk) records f) (sym its.same ∙ is) ready in (
+        had.0,
+        record {
+          held = subst (λ (h : List ℕ). Holds h had.0 file) (sym head) had.1.held;
+          size = used ∙ had.1.size ∙ ap (λ (h : List ℕ). length h + length (blocks had.0) + 1) (sym head);
+          durable = λ c left. had.1.durable c (its.keeps c left);
+        },
+      ))
+
+  ready_in : (h : Half) → IsReady seen may_leave (of_half h old.zero old.one) → IsReady seen may_leave (of_half h back.zero back.one)
+  ready_in Zero ready = ready_log old.zero back.zero refl refl only.on_zero ready
+  ready_in One ready = ready_log old.one back.one refl refl only.on_one ready
+
+  head_in : (h : Half) → (of_half h back.zero back.one).head ≡ (of_half h old.zero old.one).head
+  head_in Zero = refl
+  head_in One = refl
+
+  used_in : (h : Half) → (of_half h back.zero back.one).used ≡ (of_half h old.zero old.one).used
+  used_in Zero = refl
+  used_in One = refl
+
+  pub format_back : format_of back ≡ format_of old
+  format_back = ap (λ (l : List ℕ). slice_index l 4) (head_in old.current)
+
+  pub used_back : (current_of back).used ≡ (current_of old).used
+  used_back = used_in old.current
+
+  reread_back : IsReread seen may_leave old back
+  reread_back = record { head = only.head; on_zero = only.on_zero; on_one = only.on_one }
+
+  pub kept_back : (before after : Durable) → IsKept seen may_leave old before after → IsKept seen may_leave back before after
+  kept_back before after kept = kept_err seen may_leave old back before after reread_back whole_back format_back (ready_in old.current) kept
+
+  pub went_back : (faults moment : D → ℕ) (left_since : D → ℕ → Images) (tells_moments : Bool) (before after : Durable) → WentOn seen faults moment left_since tells_moments old read before after → WentOn seen faults moment left_since tells_moments old back before after
+  went_back faults moment left_since tells_moments before after went = record { head = went.head; later = record { zero = went.later.zero; one = went.later.one }; left = went.left }

@@ -4,6 +4,7 @@ use Rattle.std.specs.List.{AllZip}
 use Rattle.pf_disk.specs.Crashes.{Images}
 use Rattle.pf_disk.specs.Causes.{Rose}
 use Rattle.pf_chunklog.specs.Records.{Raw}
+use Rattle.pf_chunklog.specs.Logs.{IsOnlyRead}
 use Rattle.pf_entry.specs.Canonical.{IsCanonicalRecord}
 use Rattle.pf_entry.specs.Records.{Durable}
 use Rattle.pf_entry.specs.declared.records.Record.{Record}
@@ -64,6 +65,12 @@ module _ {D : Type 0} (seen : D → Option (List ℕ)) (may_leave : D → Images
   pub record IsKept (pair : Pair D) (before after : Durable) : Type 0 where
     pub ready : before ≡ after → IsReady seen may_leave (current_of pair)
     pub known : IsTrue (tells seen pair) → ((before ≡ after) × HasState pair before) ⊎ IsBetween pair before after
+
+-- the pair after calls that only read its disks
+pub record IsReread {D : Type 0} (seen : D → Option (List ℕ)) (may_leave : D → Images) (old new : Pair D) : Type 0 where
+  pub head : new.head ≡ old.head
+  pub on_zero : IsOnlyRead seen may_leave old.zero.disk new.zero.disk
+  pub on_one : IsOnlyRead seen may_leave old.one.disk new.one.disk
 
 -- a crash at any moment since old left one of two states
 abbrev pub WasKept : {D : Type 0} → (D → Option (List ℕ)) → (D → ℕ) → (D → ℕ → Images) → Bool → (old new : Pair D) → (before after : Durable) → Type 0

@@ -1,5 +1,5 @@
 //! Records on two disks.
-ghost use Rattle.std.specs.Prelude.{◌≡◌, ◌≢◌, ◌⊎◌, ◌+◌, ◌≤◌, ◌<◌, ◌^◌, ◌&&◌, [], ◌∷◌, ℕ, List, Err, IfErr, IfOk, IfSome, IsTrue, OnErr, OnOk, is_some, length, slice_index};
+ghost use Rattle.std.specs.Prelude.{◌≡◌, ◌≢◌, ◌⊎◌, ◌+◌, ◌≤◌, ◌<◌, ◌^◌, ◌&&◌, [], ◌∷◌, ℕ, List, Err, IfErr, IfOk, IfSome, IsErrOf, IsTrue, OnErr, OnOk, is_some, length, slice_index};
 ghost use Rattle.std.specs.List.{AllZip};
 ghost use Rattle.pf_disk.specs.Causes.{Rose};
 ghost use Rattle.pf_chunklog.specs.Records.{blocks};
@@ -8,14 +8,14 @@ ghost use Rattle.pf_entry.specs.Records.{Durable};
 ghost use Rattle.pf_entry.specs.declared.records.Record.{Record as RecordIs};
 ghost use Rattle.pf_store.specs.Stores.{StandsFor, state_of};
 ghost use Rattle.pf_image.specs.Recovery.{AreRecoverable, Spells};
-ghost use Rattle.pf_image.specs.Pairs.{current_of, format_of};
-ghost use Rattle.pf_kept.specs.Kept.{FindsState, IsFirst, IsKept, LeavesStates, OneRose, WentOn, tells};
+ghost use Rattle.pf_image.specs.Pairs.{AreLater, current_of, format_of, moved_to};
+ghost use Rattle.pf_kept.specs.Kept.{FindsState, IsFirst, IsKept, IsReread, LeavesStates, OneRose, WentOn, tells};
 
 use crate::reading::{read_records, used_by};
 use pf_base::NoMemory;
 use pf_chunklog::{AppendFault, OpenFault, RawRecords};
 use pf_disk::Disk;
-use pf_image::Pair;
+use pf_image::{Pair, Place};
 use pf_store::{DiskFault, Found, ReloadFault, Store};
 use std::alloc::Global;
 
@@ -23,6 +23,15 @@ use std::alloc::Global;
 #[derive(Drop)]
 pub struct Kept<D: Disk> {
     pair: Pair<D>,
+    found: Place,
+}
+
+/// A store that stands where its pair does.
+fn over<D: Disk>(pair: Pair<D>) -> Kept<D>
+    ensures { result.pair ≡ pair }
+{
+    let found = pair.place();
+    Kept { pair, found }
 }
 
 /// The same fault, as a store names it.
@@ -57,12 +66,12 @@ impl<D: Disk> Kept<D> {
         ensures failed { IfErr result (λ given. Rose (D.faults a) (D.faults given.0) ⊎ Rose (D.faults b) (D.faults given.1)) }
     {
         match Pair::new(a, b, head, first) {
-            Ok(pair) => Ok(Kept { pair }),
+            Ok(pair) => Ok(over(pair)),
             Err((a, b, _)) => Err((a, b, DiskFault)),
         }
     }
 
-    /// A store over two disks that are not read or written yet, whatever they hold: its first call is to be `reload`. Where a
+    /// A store over two disks that are not read or written yet, whatever they hold: its first call is to be `find`. Where a
     /// restart finds one of two states in what they hold, in halves of this head, the store is in doubt between them.
     pub fn unread(a: D, b: D, head: [u8; 7]) -> Kept<D>
         ensures holds { (before after : Durable) → before ≢ after → LeavesStates head (D.may_leave a) (D.may_leave b) before after → IsKept D.seen D.may_leave result.pair before after }
@@ -70,9 +79,7 @@ impl<D: Disk> Kept<D> {
         ensures one { result.pair.one.disk ≡ b }
         ensures head { result.pair.head ≡ head }
     {
-        Kept {
-            pair: Pair::unread(a, b, head),
-        }
+        over(Pair::unread(a, b, head))
     }
 
     /// Gives the disks back, that of half 0 first. Whatever files a crash leaves of them, a restart finds the state of the
@@ -89,7 +96,7 @@ impl<D: Disk> Kept<D> {
     }
 
     /// What the pair stands at, with the records that it read.
-    fn found(&self, alloc: Global, raws: &RawRecords) -> Result<Found, NoMemory>
+    fn spelled(&self, alloc: Global, raws: &RawRecords) -> Result<Found, NoMemory>
         requires recoverable { AreRecoverable (format_of self.now.pair) raws.now }
         requires used { ((current_of self.now.pair).used ≡ 9 + length (blocks raws.now)) × ((current_of self.now.pair).used < 2 ^ 64) }
         ensures format { IfOk result (λ found. found.format ≡ format_of self.now.pair) }
@@ -105,6 +112,24 @@ impl<D: Disk> Kept<D> {
             records,
         })
     }
+
+    /// Reads the records, and stands where they were found. On an `Err` the pair may stand there too.
+    fn read(&mut self, alloc: Global) -> Result<Found, ReloadFault>
+        ensures found { IsTrue (tells D.seen self.old.pair) → IfOk result (λ found. (before after : Durable) → IsKept D.seen D.may_leave self.old.pair before after
+            → (d : Durable) × (d ≡ before ⊎ d ≡ after) × StandsFor found d × IsKept D.seen D.may_leave self.new.pair d d) }
+        ensures whole { IfOk result (λ found. (d : Durable) × StandsFor found d × IsKept D.seen D.may_leave self.new.pair d d) }
+        ensures state { IfOk result (λ found. ((current_of self.new.pair).used ≡ found.used) × (format_of self.new.pair ≡ found.format)) }
+        ensures reread { IsReread D.seen D.may_leave self.old.pair self.new.pair }
+        ensures any_moment { (before after : Durable) → IsKept D.seen D.may_leave self.old.pair before after → WentOn D.seen D.faults D.moment D.left_since D.tells_moments self.old.pair self.new.pair before after }
+        ensures ours { (before after : Durable) → IsKept D.seen D.may_leave self.old.pair before after → IsTrue (tells D.seen self.old.pair) → result ≢ Err ReloadFault.NotOurs }
+        ensures later { AreLater D.faults self.old.pair self.new.pair }
+        ensures cause { IsErrOf result ReloadFault.DiskFault → OneRose D.faults self.old.pair self.new.pair }
+    {
+        match self.pair.reload(alloc) {
+            Ok(raws) => Ok(self.spelled(alloc, &raws)?),
+            Err(fault) => Err(named(fault)),
+        }
+    }
 }
 
 impl<D: Disk> Store for Kept<D> {
@@ -115,6 +140,8 @@ impl<D: Disk> Store for Kept<D> {
     ghost used = { λ kept. (current_of kept.pair).used };
 
     ghost format = { λ kept. format_of kept.pair };
+
+    ghost resumed = { λ kept. record kept { pair = moved_to kept.pair kept.found } };
 
     ghost rose = { λ old new. OneRose D.faults old.pair new.pair };
 
@@ -143,10 +170,15 @@ impl<D: Disk> Store for Kept<D> {
         }
     }
 
-    fn reload(&mut self, alloc: Global) -> Result<Found, ReloadFault> {
-        match self.pair.reload(alloc) {
-            Ok(raws) => Ok(self.found(alloc, &raws)?),
-            Err(fault) => Err(named(fault)),
-        }
+    fn find(&mut self, alloc: Global) -> Result<Found, ReloadFault> {
+        let stood = self.pair.place();
+        let read = self.read(alloc);
+        self.found = self.pair.place();
+        self.pair.stand_at(stood);
+        read
+    }
+
+    fn resume(&mut self) {
+        self.pair.stand_at(self.found);
     }
 }

@@ -19,6 +19,7 @@ use Rattle.pf_protocol.specs.Fitting.{OpFits, EntryFits, StandsIn, LeaderFits, R
 use Rattle.pf_protocol.specs.Outcomes.{Outcome}
 use Rattle.pf_protocol.specs.declared.answers.Answer.{Answer}
 use Rattle.pf_protocol.proofs.ForRows.{Fits, submit_fits}
+use Rattle.pf_state.specs.Bounds.{far}
 use Rattle.pf_state.specs.declared.faults.StepFault.{StepFault}
 use Rattle.pf_state.specs.declared.faults.StepFault.TheVariants.{NoMemory, Refused, Halted}
 use Rattle.pf_state.specs.declared.running.Leader.{Leader as LeaderHere}
@@ -65,7 +66,7 @@ module _ (me : Running) (b : IsBounded me) (op : Op) (asked : IsSubmitted op) (e
   pub plan_window : e.slot ≤ me.log.base + 4096
   plan_window = omega (arith, plan_slot, p.may.within)
 
-  pub plan_low : p.leader.next ≤ 2 ^ 63
+  pub plan_low : p.leader.next ≤ far
   plan_low = omega (arith, leader_fits.next_low, b.low)
 
   module _ (d : Durable) (cached : IsCached d me) where
@@ -114,7 +115,7 @@ module _ (me near : Running) (roomier : IsRoomier me near) (e : Entry) where
   pub near_base : near.log.base ≡ me.log.base
   near_base = ap (λ (m : Running). m.log.base) roomier.is
 
-  pub near_low : (l : LeaderHere) → me.role ≡ ServingHere l → l.next ≤ 2 ^ 63 → IsLow near.role
+  pub near_low : (l : LeaderHere) → me.role ≡ ServingHere l → l.next ≤ far → IsLow near.role
   near_low l serves low = λ k there.
       let more = near_serves me near roomier l serves in
       let same : k ≡ more.0 = own_leader k more.0 (sym there ∙ more.1) in

@@ -16,6 +16,7 @@ use Rattle.pf_protocol.specs.Answers.{refuse, is_mark, is_serving, window_full}
 use Rattle.pf_protocol.specs.declared.answers.Answer.TheVariants.{Slot as SlotIs}
 use Rattle.pf_protocol.specs.declared.answers.Refusal.{Refusal}
 use Rattle.pf_protocol.specs.declared.answers.Refusal.TheVariants.{OldFormat, BadRange, NotLeader, WindowFull}
+use Rattle.pf_state.specs.Bounds.{far}
 use Rattle.pf_state.specs.declared.faults.StepFault.{StepFault}
 use Rattle.pf_state.specs.declared.faults.StepFault.TheVariants.{NoMemory, Refused, Halted}
 use Rattle.pf_state.specs.declared.running.Leader.{Leader as LeaderHere}
@@ -80,7 +81,7 @@ abbrev pub HasRoom : RoleHere → Type 0
 HasRoom role = (l : LeaderHere) → role ≡ ServingHere l → 1 ≤ l.acks.spare
 
 abbrev pub IsLow : RoleHere → Type 0
-IsLow role = (l : LeaderHere) → role ≡ ServingHere l → l.next ≤ 2 ^ 63
+IsLow role = (l : LeaderHere) → role ≡ ServingHere l → l.next ≤ far
 
 abbrev pub HasBegun : ℕ → RoleHere → RoleHere → Type 0
 HasBegun number before after = (l : LeaderHere) → before ≡ ServingHere l → (next : LeaderHere) × (after ≡ ServingHere next) × IsNext number l next

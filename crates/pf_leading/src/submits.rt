@@ -8,6 +8,7 @@ ghost use Rattle.pf_spelling.specs.Spelling.{body_bytes};
 ghost use Rattle.pf_store.specs.Stores.{IsSpelledAs};
 ghost use Rattle.pf_protocol.specs.Answers.{IsSubmitted};
 ghost use Rattle.pf_protocol.specs.Leading.{on_submit};
+ghost use Rattle.pf_state.specs.Bounds.{far};
 ghost use Rattle.pf_state.specs.Packets.{AreCanonical};
 ghost use Rattle.pf_state.specs.Standing.{server_of, setup_of, leader_of, quiet, IsBounded, Stands, Steps, room_refusal};
 ghost use Rattle.pf_state.specs.declared.running.Leader.{Leader as LeaderHere};
@@ -48,7 +49,7 @@ fn reserve(me: &mut Running) -> Result<(), NoMemory>
 fn begin(leader: &mut Leader, me: Server)
     requires me { me < 3 }
     requires room { 1 ≤ leader.old.acks.spare }
-    requires low { leader.old.next ≤ 2 ^ 63 }
+    requires low { leader.old.next ≤ far }
     ensures { IsNext me leader.old leader.new }
 {
     leader.acks.begin(me);

@@ -23,6 +23,7 @@ use Rattle.pf_protocol.specs.Rows.{on_message}
 use Rattle.pf_protocol.specs.Fitting.{EntryFits, StandsIn, VoteFits, RoleFits, ServerFits}
 use Rattle.pf_protocol.proofs.ForRows.{Fits, message_fits, server_more, vote_more}
 use Rattle.pf_entry.proofs.Ranges.{range_has}
+use Rattle.pf_state.specs.Bounds.{far}
 use Rattle.pf_state.specs.declared.running.Running.{Running}
 use Rattle.pf_state.specs.Coming.{IsComing}
 use Rattle.pf_state.specs.Packets.{AreCanonical, packet}
@@ -37,14 +38,14 @@ some_of : (o : Option Entry) → is_some o ≡ true → (e : Entry) × (o ≡ So
 some_of None is = absurd (grind arith)
 some_of (Some e) is = (e, refl)
 
-numbered : (setup : Setup) (n t : ℕ) (v : VoteLog) → n < 2 ^ 63 → VoteFits setup n t v → AreNumbered v.log
+numbered : (setup : Setup) (n t : ℕ) (v : VoteLog) → n < far → VoteFits setup n t v → AreNumbered v.log
 numbered setup n t v low f slot has =
     let found = some_of (FinMap.get v.log slot) has in
     let x = f.log slot found.0 found.1 in
     omega (arith, x.fits.slot_low, x.in_slot, low)
 
 module _ (me : Running) (b : IsBounded me) where
-  under_half : me.log.base < 2 ^ 63
+  under_half : me.log.base < far
   unfolding server_of
   under_half = omega (arith, b.fits.durable.vote.base, b.low)
 

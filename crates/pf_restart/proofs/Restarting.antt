@@ -9,7 +9,10 @@ use Rattle.pf_store.specs.Stores.{BeginsWithImage, StandsFor, blank, is_image, s
 use Rattle.pf_store.specs.declared.found.Found.{Found}
 use Rattle.pf_protocol.specs.Saving.{renewed}
 use Rattle.pf_protocol.specs.Servers.{Setup}
-use Rattle.pf_restart.specs.Beginning.{HasSome, IsThere, MayBegin, WasBegun}
+use Rattle.pf_restart.specs.Beginning.{MayBegin, WasBegun}
+use Rattle.pf_restart.specs.declared.faults.RestartFault.{RestartFault}
+use Rattle.pf_restart.specs.declared.faults.RestartFault.TheVariants.{SaveHalted}
+use Rattle.pf_restart.specs.declared.reading.Reading.{Reading}
 
 -- no later record changes the format
 same_format : (r : Record) (d : Durable) → is_image r ≡ false → (stored d r).format ≡ d.format
@@ -38,28 +41,11 @@ pub may_either : (setup : Setup) (before after d : Durable) → (d ≡ before) �
 may_either setup before after d (inl is) first second = subst (MayBegin setup) (sym is) first
 may_either setup before after d (inr is) first second = subst (MayBegin setup) (sym is) second
 
-pub the_same : (d e : Durable) → (e ≡ d) ⊎ (e ≡ d) → e ≡ d
-the_same d e (inl is) = is
-the_same d e (inr is) = is
-
-module _ {S : Type 0} (holds : S → Durable → Durable → Type 0) (before after : Durable) (store : S) where
-  pub some_both : holds store before after → HasSome holds before after store
-  some_both has = record { x = before; y = after; has = has; first = inl refl; second = inr refl }
-
-  pub some_one : (d : Durable) → (d ≡ before) ⊎ (d ≡ after) → holds store d d → HasSome holds before after store
-  some_one d either has = record { x = d; y = d; has = has; first = either; second = either }
-
 -- the state that was read, which is one of the two, was saved anew or not
 pub begun_anew : {S : Type 0} → (was : S → S → Durable → Durable → Type 0) (before after d : Durable) (old between new : S) → was old between before after → (d ≡ before) ⊎ (d ≡ after) → (new ≡ between) ⊎ was between new d (renewed d)
     → WasBegun was before after old new
 begun_anew was before after d old between new read either (inl same) = record { between = between; read = read; saved = inl same }
 begun_anew was before after d old between new read either (inr saved) = record { between = between; read = read; saved = inr (d, either, saved) }
-
-module _ {S : Type 0} (holds : S → Durable → Durable → Type 0) (used format : S → ℕ) where
-  -- the state that was found
-  pub there_again : (found : Found) (d e : Durable) (store : S) → (e ≡ d) ⊎ (e ≡ d) → StandsFor found e → holds store e e → used store ≡ found.used → format store ≡ found.format → IsThere holds used format d store
-  there_again found d e store either stands has used_is half =
-      subst (λ x. IsThere holds used format x store) (the_same d e either) (record { recorded = has; used_is = used_is ∙ stands.used; half = half ∙ found_format found e stands })
 
 -- an error that is passed on is the one that came
 same_err : {T E : Type 0} → (x y : E) → ◌≡◌ {A = Result T E} (Err x) (Err y) → x ≡ y
@@ -67,3 +53,7 @@ same_err x y same = cc
 
 pub passed_on : {T U E : Type 0} → (r : Result T E) (e came : E) → (y : E) × (r ≡ Err y) × (y ≡ came) → r ≡ Err e → ◌≡◌ {A = Result U E} (Err came) (Err e)
 passed_on {T = T} r e came (y, is, same) gives = ap Err (sym same ∙ same_err {T = T} y e (sym is ∙ gives))
+
+-- what a fault says that it had read
+pub read_so : (reading read : Reading) (fault : RestartFault) → fault ≡ SaveHalted read → ◌≡◌ {A = Result (Unit {0}) RestartFault} (Err fault) (Err (SaveHalted reading)) → reading ≡ read
+read_so reading read fault is came = cc

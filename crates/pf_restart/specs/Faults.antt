@@ -4,7 +4,7 @@ use Rattle.pf_store.specs.declared.faults.ReloadFault.TheVariants.{NoMemory, Dis
 use Rattle.pf_restart.specs.declared.faults.RestartFault.{RestartFault}
 use Rattle.pf_restart.specs.declared.faults.RestartFault.TheVariants.{NoMemory as WantsMemory, ReadHalted, SaveHalted, NotOurs as IsNotOurs}
 
--- what a reload that fails comes to
+-- what records that could not be read come to
 abbrev pub fault_of : ReloadFault → RestartFault
 fault_of NoMemory = WantsMemory
 fault_of DiskFault = ReadHalted
@@ -15,3 +15,8 @@ abbrev pub IsHalt : RestartFault → Type 0
 IsHalt ReadHalted = Unit {0}
 IsHalt (SaveHalted reading) = Unit {0}
 IsHalt _ = ⊥
+
+-- it came before the store went on from what was found
+abbrev pub IsEarly : RestartFault → Type 0
+IsEarly (SaveHalted reading) = ⊥
+IsEarly _ = Unit {0}

@@ -1,6 +1,7 @@
 -- A server in memory, over the state that was read.
-use Rattle.std.specs.Prelude.{◌≡◌, ℕ, suc, ◌<◌, ◌^◌}
-use Rattle.pf_entry.specs.Records.{Durable}
+use Rattle.std.specs.Prelude.{◌≡◌, ◌≢◌, ℕ, suc, ◌<◌, ◌^◌, List, Option, Some, None}
+use Rattle.pf_entry.specs.Records.{Durable, image_of}
+use Rattle.pf_spelling.specs.Spelling.{body_bytes}
 use Rattle.pf_protocol.specs.Saving.{restarted}
 use Rattle.pf_state.specs.declared.running.Running.{Running}
 use Rattle.pf_state.specs.Standing.{server_of, setup_of, IsCached}
@@ -25,3 +26,8 @@ pub record Lives (d : Durable) (me : Running) : Type 0 where
 -- the state under the next generation
 abbrev pub anew : Durable → Durable
 anew d = record d { generation = suc d.generation }
+
+-- the body of the image with which a half of the first format is saved anew, and none for one of the second
+abbrev pub IsImageFor : Running → (format : ℕ) → Option (List ℕ) → Type 0
+IsImageFor me format None = format ≢ 1
+IsImageFor me format (Some body) = (format ≡ 1) × ((d : Durable) → Lives d me → body ≡ body_bytes (image_of (anew d)))

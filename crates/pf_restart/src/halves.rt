@@ -1,11 +1,11 @@
 //! A half of the first format is saved anew.
-ghost use Rattle.std.specs.Prelude.{◌≡◌, ◌⊎◌, ℕ, IfOk, IsErrOf, OnOk};
+ghost use Rattle.std.specs.Prelude.{◌≡◌, ◌⊎◌, ℕ, IfErr, IfOk, OnErr, OnOk};
+ghost use Rattle.std.specs.Option.{option_map};
 ghost use Rattle.pf_entry.specs.Records.{Durable, image_of, stored};
 ghost use Rattle.pf_spelling.specs.Spelling.{body_bytes};
 ghost use Rattle.pf_protocol.specs.Saving.{renewed};
 ghost use Rattle.pf_restart.specs.Beginning.{IsBegun, IsSeat};
-ghost use Rattle.pf_restart.specs.Reviving.{Lives, anew};
-ghost use Rattle.pf_restart.specs.declared.reading.Reading.{Reading as ReadingIs};
+ghost use Rattle.pf_restart.specs.Reviving.{IsImageFor, Lives, anew};
 ghost use Rattle.pf_restart.specs.declared.seat.Seat.{Seat as SeatIs};
 
 use crate::{Reading, RestartFault};
@@ -31,25 +31,35 @@ fn spell_anew(alloc: Global, me: &Running) -> Result<Vec<u8>, NoMemory>
     spell_record(alloc, &image)
 }
 
+/// The body of the image with which a half of this format is saved anew. One of the second format needs none.
+pub fn image_for(alloc: Global, me: &Running, format: u8) -> Result<Option<Vec<u8>>, NoMemory>
+    requires { (d : Durable) × Lives d me.now }
+    ensures { IfOk result (λ image. IsImageFor me.now format (option_map (λ body. body.items) image)) }
+{
+    if format != 1 {
+        return Ok(None);
+    }
+    Ok(Some(spell_anew(alloc, me)?))
+}
+
 /// Saves the state under the next generation in the other half, which has the second format. A fault of a disk tells what
 /// was read.
 fn save_anew<S: Store>(
-    alloc: Global,
     store: &mut S,
     me: &mut Running,
+    body: &[u8],
     read: Reading,
 ) -> Result<(), RestartFault>
-    requires { (d : Durable) × S.holds store.old d d × Lives d me.old }
+    requires lives { (d : Durable) × S.holds store.old d d × Lives d me.old }
+    requires body { (d : Durable) → Lives d me.old → body.now ≡ body_bytes (image_of (anew d)) }
     ensures saved { OnOk result ((d : Durable) (seat : SeatIs) (life : ℕ) → IsSeat seat → IsBegun S.holds S.used S.format d store.old me.old seat life → IsBegun S.holds S.used S.format (stored d (image_of (anew d))) store.new me.new seat life) }
-    ensures halted { (reading : ReadingIs) → IsErrOf result (RestartFault.SaveHalted reading) → (reading ≡ read) × ((d : Durable) → S.holds store.old d d → Lives d me.old → S.holds store.new d (stored d (image_of (anew d)))) × S.rose store.old store.new }
-    ensures no_memory { IsErrOf result RestartFault.NoMemory → store.new ≡ store.old }
-    ensures unread { IsErrOf result RestartFault.ReadHalted → ⊥ }
-    ensures ours { IsErrOf result RestartFault.NotOurs → ⊥ }
+    ensures halted { OnErr result ((d : Durable) → S.holds store.old d d → Lives d me.old → S.holds store.new d (stored d (image_of (anew d)))) }
     ensures any_moment { (d : Durable) → S.holds store.old d d → Lives d me.old → (store.new ≡ store.old) ⊎ S.was store.old store.new d (stored d (image_of (anew d))) }
     ensures told { S.told store.new ≡ S.told store.old }
+    ensures fault { IfErr result (λ fault. fault ≡ RestartFault.SaveHalted read) }
+    ensures cause { OnErr result (S.rose store.old store.new) }
 {
-    let body = spell_anew(alloc, me)?;
-    match store.save(&body) {
+    match store.save(body) {
         Ok(()) => {
             me.generation += 1;
             Ok(())
@@ -59,26 +69,24 @@ fn save_anew<S: Store>(
 }
 
 /// Saves a half of the first format anew in the second. It then has the next generation. A fault of a disk tells
-/// what was read.
+/// what was read. It takes no memory.
 pub fn renew<S: Store>(
-    alloc: Global,
     store: &mut S,
     me: &mut Running,
-    format: u8,
+    image: Option<Vec<u8>>,
     read: Reading,
 ) -> Result<(), RestartFault>
     requires lives { (d : Durable) × S.holds store.old d d × Lives d me.old }
-    requires format { format ≡ S.format store.old }
+    requires image { IsImageFor me.old (S.format store.old) (option_map (λ body. body.items) image) }
     ensures saved { OnOk result ((d : Durable) (seat : SeatIs) (life : ℕ) → IsSeat seat → IsBegun S.holds S.used S.format d store.old me.old seat life → IsBegun S.holds S.used S.format (renewed d) store.new me.new seat life) }
-    ensures halted { (reading : ReadingIs) → IsErrOf result (RestartFault.SaveHalted reading) → (reading ≡ read) × ((d : Durable) → S.holds store.old d d → Lives d me.old → S.format store.old ≡ d.format → S.holds store.new d (renewed d)) × S.rose store.old store.new }
-    ensures no_memory { IsErrOf result RestartFault.NoMemory → store.new ≡ store.old }
-    ensures unread { IsErrOf result RestartFault.ReadHalted → ⊥ }
-    ensures ours { IsErrOf result RestartFault.NotOurs → ⊥ }
+    ensures halted { OnErr result ((d : Durable) → S.holds store.old d d → Lives d me.old → S.format store.old ≡ d.format → S.holds store.new d (renewed d)) }
     ensures any_moment { (d : Durable) → S.holds store.old d d → Lives d me.old → S.format store.old ≡ d.format → (store.new ≡ store.old) ⊎ S.was store.old store.new d (renewed d) }
     ensures told { S.told store.new ≡ S.told store.old }
+    ensures fault { IfErr result (λ fault. fault ≡ RestartFault.SaveHalted read) }
+    ensures cause { OnErr result (S.rose store.old store.new) }
 {
-    if format != 1 {
-        return Ok(());
+    match image {
+        None => Ok(()),
+        Some(body) => save_anew(store, me, &body, read),
     }
-    save_anew(alloc, store, me, read)
 }

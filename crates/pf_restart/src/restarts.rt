@@ -2,12 +2,13 @@
 ghost use Rattle.std.specs.Prelude.{◌≡◌, ◌⊎◌, ◌≢◌, IfErr, IfOk, IsErrOf, IsTrue, Err};
 ghost use Rattle.pf_entry.specs.Records.{Durable};
 ghost use Rattle.pf_protocol.specs.Saving.{renewed};
-ghost use Rattle.pf_restart.specs.Beginning.{setup_at, IsSeat, MayBegin, IsBegun, IsRead, HasSome, IsThere, WasBegun};
-ghost use Rattle.pf_restart.specs.Faults.{IsHalt};
+ghost use Rattle.pf_store.specs.Stores.{StandsStill};
+ghost use Rattle.pf_restart.specs.Beginning.{setup_at, HasBegun, IsSeat, MayBegin, IsBegun, IsRead, WasBegun};
+ghost use Rattle.pf_restart.specs.Faults.{IsEarly, IsHalt};
 ghost use Rattle.pf_restart.specs.Testing.{HasUnfit};
 ghost use Rattle.pf_restart.specs.declared.reading.Reading.{Reading as ReadingIs};
 
-use crate::halves::renew;
+use crate::halves::{image_for, renew};
 use crate::lives::revive;
 use crate::{Reading, RestartFault, Seat};
 use pf_state::Running;
@@ -17,10 +18,10 @@ use std::alloc::Global;
 /// Begins a life of a server from the records in its store, as a follower without committed slots, jobs or reads, and tells what
 /// it read. A half of the first format is saved anew in the second.
 ///
-/// `NoMemory` (1) leaves what the store has; where a call had failed, perhaps one of the two states alone. `ReadHalted` (52) and
-/// `SaveHalted` (52) come only where a disk failed: at the first the store has what it had, at the second what was read, perhaps
-/// saved anew. `NotOurs` (42) where no half is recoverable or what its records give does not fit the server, which no store that
-/// tells its content gives. It takes a step for each record and for each slot of the window.
+/// `NoMemory` (1), `ReadHalted` (52) and `NotOurs` (42) leave the store as it was, whatever its disks tell. `ReadHalted` and
+/// `SaveHalted` (52) come only where a disk failed; at `SaveHalted` the store has what was read, perhaps saved anew. `NotOurs` where
+/// no half is recoverable or what its records give does not fit the server, which no store that tells its content gives. It takes
+/// a step for each record and for each slot of the window.
 pub fn restart<S: Store>(
     alloc: Global,
     store: &mut S,
@@ -30,25 +31,28 @@ pub fn restart<S: Store>(
     requires seat { IsSeat seat.now }
     ensures begun { IfOk result (λ r. (d : Durable) × IsBegun S.holds S.used S.format d store.new r.0 seat.now life) }
     ensures found { IsTrue (S.told store.old) → IfOk result (λ r. (before after : Durable) → S.holds store.old before after → (d : Durable) × ((d ≡ before) ⊎ (d ≡ after)) × IsRead r.1 d × IsBegun S.holds S.used S.format (renewed d) store.new r.0 seat.now life) }
-    ensures unread { IsErrOf result RestartFault.ReadHalted → (before after : Durable) → S.holds store.old before after → S.holds store.new before after }
     ensures unsaved { (reading : ReadingIs) → IsErrOf result (RestartFault.SaveHalted reading) → IsTrue (S.told store.old) → (before after : Durable) → S.holds store.old before after → (d : Durable) × ((d ≡ before) ⊎ (d ≡ after)) × IsRead reading d × S.holds store.new d (renewed d) }
-    ensures no_memory { IsErrOf result RestartFault.NoMemory → IsTrue (S.told store.old) → (before after : Durable) → S.holds store.old before after → HasSome S.holds before after store.new }
-    ensures same { IsErrOf result RestartFault.NoMemory → IsTrue (S.told store.old) → (d : Durable) → IsThere S.holds S.used S.format d store.old → IsThere S.holds S.used S.format d store.new }
+    // Whatever was read, where the disks tell nothing: it fits the server, and was saved anew or not.
+    ensures unsaved_any { (reading : ReadingIs) → IsErrOf result (RestartFault.SaveHalted reading) → (d : Durable) × HasBegun (setup_at seat.now) d × S.holds store.new d (renewed d) }
+    // Whatever the disks tell, the store stands where it stood.
+    ensures still { IfErr result (λ fault. IsEarly fault → StandsStill S.holds S.used S.format store.old store.new) }
     ensures ours { IsTrue (S.told store.old) → (before after : Durable) → S.holds store.old before after → MayBegin (setup_at seat.now) before → MayBegin (setup_at seat.now) after → result ≢ Err RestartFault.NotOurs }
     // Only where the state that is there does not pass the tests.
-    ensures unfit { IsErrOf result RestartFault.NotOurs → IsTrue (S.told store.old) → (before after : Durable) → S.holds store.old before after → HasUnfit S.holds (setup_at seat.now) before after store.new }
+    ensures unfit { IsErrOf result RestartFault.NotOurs → IsTrue (S.told store.old) → (before after : Durable) → S.holds store.old before after → HasUnfit S.holds (setup_at seat.now) before after (S.resumed store.new) }
     ensures any_moment { IsTrue (S.told store.old) → (before after : Durable) → S.holds store.old before after → WasBegun S.was before after store.old store.new }
     ensures told { S.told store.new ≡ S.told store.old }
     ensures cause { IfErr result (λ fault. IsHalt fault → S.rose store.old store.new) }
 {
-    let found = store.reload(alloc)?;
+    let found = store.find(alloc)?;
     let format = found.format;
     let used = found.used;
     let mut me = revive(alloc, seat, life, found)?;
+    let image = image_for(alloc, &me, format)?;
+    store.resume();
     let read = Reading {
         used,
         generation: me.generation,
     };
-    renew(alloc, store, &mut me, format, read)?;
+    renew(store, &mut me, image, read)?;
     Ok((me, read))
 }

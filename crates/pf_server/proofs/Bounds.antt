@@ -13,6 +13,7 @@ use Rattle.pf_protocol.specs.Fitting.{DurableFits, OpFits, RoleFits, ServerFits,
 use Rattle.pf_protocol.specs.Servers.{Server, Setup, Merging as MergingIs, Serving as ServingIs}
 use Rattle.pf_leading.specs.Resending.{AreOwn}
 use Rattle.pf_applying.specs.Jobs.{IsFilledFor, IsJobOf}
+use Rattle.pf_state.specs.Bounds.{far}
 use Rattle.pf_state.specs.declared.running.Running.{Running}
 use Rattle.pf_state.specs.Standing.{server_of, setup_of, bare, leader_of, read_of, role_of, IsBounded, IsCached}
 use Rattle.pf_restart.specs.Beginning.{setup_at}
@@ -75,7 +76,7 @@ module _ {S : Type 0} (holds : S → Durable → Durable → Type 0) (used forma
       few = omega (arith, sound.few, ap FinMap.len runs.stands.cached.starts);
     }
 
-    pub low_life : me.life < 2 ^ 63
+    pub low_life : me.life < far
     low_life = omega (arith, same_life, sound.fits.life, sound.low)
 
     pub asks_here : AsksHere me

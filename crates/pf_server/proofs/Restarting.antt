@@ -3,13 +3,15 @@ use Rattle.std.proofs.Common.{◌≡◌, ◌≢◌, ◌⊎◌, inl, inr, ℕ, su
 use Rattle.pf_base.specs.declared.errors.NoMemory.{NoMemory}
 use Rattle.pf_entry.specs.Records.{Durable}
 use Rattle.pf_protocol.specs.Saving.{renewed, restarted}
+use Rattle.pf_store.specs.Stores.{StandsStill}
 use Rattle.pf_protocol.specs.Servers.{Server, Condition, Running as RunningIs, Stopped as StoppedIs, Unformatted as UnformattedIs}
 use Rattle.pf_protocol.specs.declared.answers.Answer.{Answer}
 use Rattle.pf_protocol.specs.declared.answers.Answer.TheVariants.{Done, Refused}
 use Rattle.pf_protocol.specs.declared.answers.Refusal.TheVariants.{Halted}
+use Rattle.pf_state.specs.Bounds.{far}
 use Rattle.pf_state.specs.declared.running.Running.{Running}
-use Rattle.pf_restart.specs.Beginning.{HasSome, IsBegun, IsRead, IsSeat, IsThere, MayBegin, WasBegun, setup_at}
-use Rattle.pf_restart.specs.Faults.{IsHalt}
+use Rattle.pf_restart.specs.Beginning.{HasBegun, HasSome, IsBegun, IsRead, IsSeat, MayBegin, WasBegun, setup_at}
+use Rattle.pf_restart.specs.Faults.{IsEarly, IsHalt}
 use Rattle.pf_restart.specs.declared.faults.RestartFault.{RestartFault}
 use Rattle.pf_restart.specs.declared.faults.RestartFault.TheVariants.{NoMemory as WantsMemory, ReadHalted, SaveHalted, NotOurs}
 use Rattle.pf_restart.specs.declared.reading.Reading.{Reading}
@@ -18,10 +20,10 @@ use Rattle.pf_server.specs.declared.state.Doubt.{Doubt}
 use Rattle.pf_server.specs.declared.state.Doubt.TheVariants.{Settled, Open, Read}
 use Rattle.pf_server.specs.declared.state.State.{State}
 use Rattle.pf_server.specs.declared.state.State.TheVariants.{Runs, Stopped, Unformatted}
-use Rattle.pf_server.specs.Beginning.{IsLast, Restarts, doubt_after, found_by}
-use Rattle.pf_server.specs.Conditions.{HasOne, IsFit, IsInHalf, IsKnown, IsRunning, IsSound, IsStopped, Leaves, Meets, answers_of}
+use Rattle.pf_server.specs.Beginning.{IsLast, Restarts, doubt_after, found_by, stopped_by}
+use Rattle.pf_server.specs.Conditions.{HasOne, IsFit, IsHonest, IsInHalf, IsKnown, IsRunning, IsSound, IsStopped, Leaves, Meets, answers_of}
 use Rattle.pf_server.specs.Ending.{quieted}
-use Rattle.pf_server.specs.Turns.{Begins, BeginsAgain, IsOf, WasBegunFrom, WasBegunIn}
+use Rattle.pf_server.specs.Turns.{Begins, BeginsAgain, BeginsOver, BeginsSomehow, StopsOver, StopsUnread, next_life, stopped_in, IsOf, WasBegunFrom, WasBegunIn}
 use Rattle.pf_server.proofs.Renewing.{either_read, may_of, renewed_of}
 use Rattle.pf_server.proofs.Bounds.{low_life, same_life}
 use Rattle.pf_server.proofs.Standing.{in_half, quieted_runs}
@@ -126,14 +128,17 @@ module _ {S : Type 0} (holds : S → Durable → Durable → Type 0) (used forma
   known_left (Open bytes generation) r d one is has = saved_one (cond (found_by (Open bytes generation) r) after before) d is has
   known_left (Read found) r d one is has = saved_one (cond found after before) d is has
 
+-- a restart that failed before it went on left the store as it was
+pub early : {S : Type 0} → (holds : S → Durable → Durable → Type 0) (used format : S → ℕ) (store store' : S) (begun : Result (Running × Reading) RestartFault) → IfErr begun (λ fault. IsEarly fault → StandsStill holds used format store store')
+    → (e : RestartFault) → begun ≡ Err e → IsEarly e → StandsStill holds used format store store'
+early holds used format store store' begun said e is = subst (λ b. IfErr b (λ fault. IsEarly fault → StandsStill holds used format store store')) is said
+
 -- what a restart says, of a store that tells its content
 module _ {S : Type 0} (holds : S → Durable → Durable → Type 0) (used format : S → ℕ) (rose : S → S → Type 0) (seat : Seat) (store store' : S) (life : ℕ) (begun : Result (Running × Reading) RestartFault) where
   pub record Says : Type 0 where
     pub found : IfOk begun (λ r. (x y : Durable) → holds store x y → (d : Durable) × ((d ≡ x) ⊎ (d ≡ y)) × IsRead r.1 d × IsBegun holds used format (renewed d) store' r.0 seat (life + 1))
-    pub unread : begun ≡ Err ReadHalted → (x y : Durable) → holds store x y → holds store' x y
+    pub still : (e : RestartFault) → begun ≡ Err e → IsEarly e → StandsStill holds used format store store'
     pub unsaved : (r : Reading) → begun ≡ Err (SaveHalted r) → (x y : Durable) → holds store x y → (d : Durable) × ((d ≡ x) ⊎ (d ≡ y)) × IsRead r d × holds store' d (renewed d)
-    pub no_memory : begun ≡ Err WantsMemory → (x y : Durable) → holds store x y → HasSome holds x y store'
-    pub same : begun ≡ Err WantsMemory → (d : Durable) → IsThere holds used format d store → IsThere holds used format d store'
     pub ours : (x y : Durable) → holds store x y → MayBegin (setup_at seat) x → MayBegin (setup_at seat) y → begun ≢ Err NotOurs
     pub cause : IfErr begun (λ fault. IsHalt fault → rose store store')
 
@@ -167,7 +172,7 @@ module _ {S : Type 0} (holds : S → Durable → Durable → Type 0) (used forma
 
     begins_unread : Says holds used format rose seat store store' life (Err ReadHalted) → state' ≡ Stopped (life + 1) doubt → BeginsHere false (Refused Halted)
     begins_unread says is =
-        let still : HasSome holds pair.0 pair.1 store' = record { x = pair.0; y = pair.1; has = says.unread refl pair.0 pair.1 pair.2.has; first = inl refl; second = inr refl } in
+        let still : HasSome holds pair.0 pair.1 store' = record { x = pair.0; y = pair.1; has = (says.still ReadHalted refl tt).holds_same pair.0 pair.1 pair.2.has; first = inl refl; second = inr refl } in
         (stops_so doubt (pair.2.moved store' still) half half2 is, says.cause tt)
 
     begins_unsaved : (r : Reading) → Says holds used format rose seat store store' life (Err (SaveHalted r)) → state' ≡ Stopped (life + 1) (doubt_after doubt r) → BeginsHere (found_by doubt r) (Refused Halted)
@@ -190,42 +195,48 @@ module _ {S : Type 0} (holds : S → Durable → Durable → Type 0) (used forma
 settled_same : {S : Type 0} (holds : S → Durable → Durable → Type 0) (used format : S → ℕ) (doubt : Doubt) (before after : Durable) (store : S) → Leaves holds used format doubt before after store → doubt ≡ Settled → before ≡ after
 settled_same holds used format doubt before after store left is = (subst (λ k. Leaves holds used format k before after store) is left).0
 
-running_fit : (seat : Seat) (s : Server) → IsSound seat s → IsFit seat s.durable
-running_fit seat s sound = record { n = sound.n; t = sound.t; low = sound.low; t_low = sound.t_low; fits = sound.fits.durable; few = sound.few }
+-- what memory and a store that stands still stood for before, they stand for after
+module _ {S : Type 0} (holds : S → Durable → Durable → Type 0) (used format : S → ℕ) (seat : Seat) (store store' : S) (still : StandsStill holds used format store store') where
+  still_runs : (me : Running) (s : Server) → IsRunning holds used format seat store me s → IsRunning holds used format seat store' me s
+  still_runs me s runs = record {
+    stands = record { recorded = still.holds_same s.durable s.durable runs.stands.recorded; used_is = still.used_same ∙ runs.stands.used_is; within = runs.stands.within; half = still.format_same ∙ runs.stands.half; cached = runs.stands.cached };
+    is = runs.is;
+    setup = runs.setup;
+  }
 
-module _ {S : Type 0} (holds : S → Durable → Durable → Type 0) (used format : S → ℕ) (rose : S → S → Type 0) (seat : Seat) (made : IsSeat seat) (store store' : S) (life : ℕ) (doubt : Doubt) (state' : State) (begun : Result (Running × Reading) RestartFault) (result : Result (Answer × Bool) NoMemory) (says : Says holds used format rose seat store store' life begun) where
-  -- without memory it runs as before
-  still_runs : (me : Running) (s : Server) → IsRunning holds used format seat store me s → begun ≡ Err WantsMemory → IsRunning holds used format seat store' me s
-  still_runs me s runs none =
-      let there : IsThere holds used format s.durable store = record { recorded = runs.stands.recorded; used_is = runs.stands.used_is; half = runs.stands.half } in
-      let now = says.same none s.durable there in
+  still_stopped : (l : ℕ) (known : Doubt) (there : ℕ) (before after : Durable) → IsStopped holds used format seat l known there before after store → IsStopped holds used format seat l known there before after store'
+  still_stopped l known there before after stopped =
+      let pair = pair_left holds used format before after store known stopped.left in
       record {
-        stands = record { recorded = now.recorded; used_is = now.used_is; within = runs.stands.within; half = now.half; cached = runs.stands.cached };
-        is = runs.is;
-        setup = runs.setup;
+        life_is = stopped.life_is;
+        left = pair.2.moved store' (record { x = pair.0; y = pair.1; has = still.holds_same pair.0 pair.1 pair.2.has; first = inl refl; second = inr refl });
+        first = stopped.first;
+        second = stopped.second;
       }
 
-  from_running : (me : Running) (s : Server) → (life ≡ me.life) × (doubt ≡ Settled) → IsRunning holds used format seat store me s → IsSound seat s → Restarts life doubt (Runs me) state' begun result → BeginsAgain holds used format rose seat store store' state' (RunningIs s) result
-  from_running me s last runs sound ends =
+  still_meets : (state : State) (c : Condition) → Meets holds used format seat store state c → Meets holds used format seat store' state c
+  still_meets (Runs me) (RunningIs s) meets = still_runs me s meets
+  still_meets (Runs me) (StoppedIs there before after) meets = absurd meets
+  still_meets (Runs me) UnformattedIs meets = absurd meets
+  still_meets (Stopped l k) (RunningIs s) meets = absurd meets
+  still_meets (Stopped l k) (StoppedIs there before after) meets = still_stopped l k there before after meets
+  still_meets (Stopped l k) UnformattedIs meets = absurd meets
+  still_meets Unformatted (RunningIs s) meets = absurd meets
+  still_meets Unformatted (StoppedIs there before after) meets = absurd meets
+  still_meets Unformatted UnformattedIs meets = meets
+
+module _ {S : Type 0} (holds : S → Durable → Durable → Type 0) (used format : S → ℕ) (rose : S → S → Type 0) (seat : Seat) (made : IsSeat seat) (store store' : S) (life : ℕ) (doubt : Doubt) (state' : State) (begun : Result (Running × Reading) RestartFault) (result : Result (Answer × Bool) NoMemory) (says : Says holds used format rose seat store store' life begun) where
+  from_running : (me : Running) (s : Server) → (life ≡ me.life) × (doubt ≡ Settled) → IsRunning holds used format seat store me s → IsFit seat s.durable → Restarts life doubt (Runs me) state' begun result → BeginsAgain holds used format rose seat store store' state' (RunningIs s) result
+  from_running me s last runs fit ends =
       let its : life ≡ s.life = last.0 ∙ same_life holds used format seat store me s runs in
       let d = s.durable in
       let one : HasOne holds used format d store = record { x = d; y = d; has = runs.stands.recorded; first = inl refl; second = inl refl } in
       let left : Leaves holds used format doubt d d store = subst (λ k. Leaves holds used format k d d store) (sym last.1) (refl, one) in
       let half = in_half holds used format seat store me s runs in
-      begins holds used format rose seat made store store' life doubt (Runs me) state' d d left (λ _. refl) (running_fit seat s sound) half (running_fit seat s sound) half
+      begins holds used format rose seat made store store' life doubt (Runs me) state' d d left (λ _. refl) fit half fit half
       (BeginsAgain holds used format rose seat store store' state' (RunningIs s))
       (λ answer found b. subst (λ n. Begins holds used format rose seat store store' state' n d d found answer) its b) begun result
-      (λ none same. subst (λ z. Meets holds used format seat store' z (RunningIs s)) (sym same) (still_runs me s runs none)) says ends
-
-  still_stopped : (l : ℕ) (known : Doubt) (there : ℕ) (before after : Durable) → IsStopped holds used format seat l known there before after store → begun ≡ Err WantsMemory → IsStopped holds used format seat l known there before after store'
-  still_stopped l known there before after stopped none =
-      let pair = pair_left holds used format before after store known stopped.left in
-      record {
-        life_is = stopped.life_is;
-        left = pair.2.moved store' (says.no_memory none pair.0 pair.1 pair.2.has);
-        first = stopped.first;
-        second = stopped.second;
-      }
+      (λ none same. subst (λ z. Meets holds used format seat store' z (RunningIs s)) (sym same) (still_runs holds used format seat store store' (says.still WantsMemory none tt) me s runs)) says ends
 
   from_stopped : (l : ℕ) (known : Doubt) (there : ℕ) (before after : Durable) → (life ≡ l) × (doubt ≡ known) → IsStopped holds used format seat l known there before after store → IsFit seat before → IsFit seat after → Restarts life doubt (Stopped l known) state' begun result
       → BeginsAgain holds used format rose seat store store' state' (StoppedIs there before after) result
@@ -235,9 +246,9 @@ module _ {S : Type 0} (holds : S → Durable → Durable → Type 0) (used forma
       begins holds used format rose seat made store store' life doubt (Stopped l known) state' before after left (settled_same holds used format doubt before after store left) fit stopped.first fit2 stopped.second
       (BeginsAgain holds used format rose seat store store' state' (StoppedIs there before after))
       (λ answer found b. subst (λ n. Begins holds used format rose seat store store' state' n before after found answer) its b) begun result
-      (λ none same. subst (λ z. Meets holds used format seat store' z (StoppedIs there before after)) (sym same) (still_stopped l known there before after stopped none)) says ends
+      (λ none same. subst (λ z. Meets holds used format seat store' z (StoppedIs there before after)) (sym same) (still_stopped holds used format seat store store' (says.still WantsMemory none tt) l known there before after stopped)) says ends
 
-  pub again : (state : State) (c : Condition) → IsLast state life doubt → Meets holds used format seat store state c → IsKnown seat c → Restarts life doubt state state' begun result → BeginsAgain holds used format rose seat store store' state' c result
+  pub again : (state : State) (c : Condition) → IsLast state life doubt → Meets holds used format seat store state c → IsHonest seat c → Restarts life doubt state state' begun result → BeginsAgain holds used format rose seat store store' state' c result
   again (Runs me) (RunningIs s) last meets known ends = from_running me s last meets known ends
   again (Runs me) (StoppedIs there before after) last meets known ends = absurd meets
   again (Runs me) UnformattedIs last meets known ends = absurd meets
@@ -248,12 +259,12 @@ module _ {S : Type 0} (holds : S → Durable → Durable → Type 0) (used forma
 
 module _ {S : Type 0} (holds : S → Durable → Durable → Type 0) (used format : S → ℕ) (seat : Seat) (store : S) (life : ℕ) (doubt : Doubt) where
   -- no life is near the end of its type
-  pub last_low : (state : State) (c : Condition) → IsLast state life doubt → Meets holds used format seat store state c → IsKnown seat c → life < 2 ^ 63
+  pub last_low : (state : State) (c : Condition) → IsLast state life doubt → Meets holds used format seat store state c → IsKnown seat c → life < far
   last_low (Runs me) (RunningIs s) last meets known = omega (arith, last.0, low_life holds used format seat store me s meets known)
   last_low (Runs me) (StoppedIs there before after) last meets known = absurd meets
   last_low (Runs me) UnformattedIs last meets known = absurd meets
   last_low (Stopped l k) (RunningIs s) last meets known = absurd meets
-  last_low (Stopped l k) (StoppedIs there before after) last meets known = omega (arith, last.0, meets.life_is, known.2)
+  last_low (Stopped l k) (StoppedIs there before after) last meets known = omega (arith, last.0, meets.life_is, known)
   last_low (Stopped l k) UnformattedIs last meets known = absurd meets
   last_low Unformatted c last meets known = absurd last
 
@@ -279,4 +290,129 @@ quiet_again life doubt state state' (Ok (me, r)) result ends none = ap answers_o
 quiet_again life doubt state state' (Err WantsMemory) result ends none = ap answers_of ends.1 ∙ none
 quiet_again life doubt state state' (Err ReadHalted) result ends none = ap answers_of ends.1
 quiet_again life doubt state state' (Err (SaveHalted r)) result ends none = ap answers_of ends.1
-quiet_again life doubt state state' (Err NotOurs) result ends none = ap answers_of ends.1
+quiet_again life doubt state state' (Err NotOurs) result ends none = ap answers_of ends.1 ∙ by state none
+  where
+    by : (z : State) → answers_of z ≡ [] → answers_of (stopped_by life doubt z) ≡ []
+    by (Runs me) e = refl
+    by (Stopped its known) e = refl
+    by Unformatted e = refl
+
+-- over any disks
+module _ {S : Type 0} (holds : S → Durable → Durable → Type 0) (used format : S → ℕ) (seat : Seat) (store store' : S) (life : ℕ) (doubt : Doubt) (state state' : State) where
+  pub record SaysOfAny (begun : Result (Running × Reading) RestartFault) : Type 0 where
+    pub begun_some : IfOk begun (λ r. (d : Durable) × IsBegun holds used format d store' r.0 seat (life + 1))
+    pub still : (e : RestartFault) → begun ≡ Err e → IsEarly e → StandsStill holds used format store store'
+    pub unsaved : (r : Reading) → begun ≡ Err (SaveHalted r) → (d : Durable) × HasBegun (setup_at seat) d × holds store' d (renewed d)
+
+  life_of : (c : Condition) → IsLast state life doubt → Meets holds used format seat store state c → suc life ≡ next_life c
+  life_of c last meets = by state c last meets
+    where
+      by : (z : State) (k : Condition) → IsLast z life doubt → Meets holds used format seat store z k → suc life ≡ next_life k
+      by (Runs me) (RunningIs s) l m = ap suc (l.0 ∙ same_life holds used format seat store me s m)
+      by (Runs me) (StoppedIs there before after) l m = absurd m
+      by (Runs me) UnformattedIs l m = absurd m
+      by (Stopped its known) (RunningIs s) l m = absurd m
+      by (Stopped its known) (StoppedIs there before after) l m = ap suc (l.0 ∙ m.life_is)
+      by (Stopped its known) UnformattedIs l m = absurd m
+      by Unformatted k l m = absurd l
+
+  never_open : (r : Reading) (bytes generation : ℕ) → doubt_after doubt r ≡ Open bytes generation → ⊥
+  never_open r bytes generation is = by doubt is
+    where
+      by : (k : Doubt) → doubt_after k r ≡ Open bytes generation → ⊥
+      by Settled e = grind (arith, e)
+      by (Open b q) e = grind (arith, e)
+      by (Read found) e = grind (arith, e)
+
+  over : (known : Doubt) (d : Durable) → ((bytes generation : ℕ) → known ≡ Open bytes generation → ⊥) → holds store' d (renewed d) → Leaves holds used format known d d store'
+  over Settled d never has = (refl, record { x = d; y = renewed d; has = has; first = inl refl; second = inr refl })
+  over (Open bytes generation) d never has = absurd (never bytes generation refl)
+  over (Read found) d never has = subst (λ z. HasOne holds used format z store') (sym (chosen found)) (record { x = d; y = renewed d; has = has; first = inl refl; second = inr refl })
+    where
+      chosen : (b : Bool) → cond b d d ≡ d
+      chosen true = refl
+      chosen false = refl
+
+  half_of : (d : Durable) → HasBegun (setup_at seat) d → IsInHalf seat d
+  half_of d fits = record { format = fits.half.format; within = fits.half.within }
+
+  module _ (c : Condition) (last : IsLast state life doubt) (meets : Meets holds used format seat store state c) where
+    begins_over : (me : Running) (d : Durable) → IsBegun holds used format d store' me seat (life + 1) → state' ≡ Runs (quieted me) → BeginsOver holds used format seat store' state' c
+    unfolding restarted
+    begins_over me d begun is =
+        let next : life + 1 ≡ next_life c = (omega arith) ∙ life_of c last meets in
+        let runs : IsRunning holds used format seat store' me (restarted seat.number (next_life c) d) = subst (λ n. IsRunning holds used format seat store' me (restarted seat.number n d)) next (record { stands = begun.stands; is = begun.is; setup = begun.setup }) in
+        record {
+          life = life;
+          next = life_of c last meets;
+          d = d;
+          fits = begun.begun;
+          meets = subst (λ z. Meets holds used format seat store' z (RunningIs (restarted seat.number (next_life c) d))) (sym is) (quieted_runs holds used format seat store' me (restarted seat.number (next_life c) d) runs).meets;
+        }
+
+    stops_over : (r : Reading) (d : Durable) → HasBegun (setup_at seat) d → holds store' d (renewed d) → state' ≡ Stopped (life + 1) (doubt_after doubt r) → StopsOver holds used format seat store' state' c
+    stops_over r d fits has is = record {
+      life = life;
+      next = life_of c last meets;
+      d = d;
+      fits = fits;
+      meets = subst (λ z. Meets holds used format seat store' z (StoppedIs (next_life c) d d)) (sym is)
+          (record { life_is = (omega arith) ∙ life_of c last meets; left = over (doubt_after doubt r) d (never_open r) has; first = half_of d fits; second = half_of d fits });
+    }
+
+    unread_by : ((x y : Durable) → holds store x y → holds store' x y) → state' ≡ Stopped (life + 1) doubt → (z : State) (k : Condition) → IsLast z life doubt → Meets holds used format seat store z k → StopsUnread holds used format seat store' state' c k
+    unread_by unread is (Runs me) (RunningIs s) l m =
+        let half = in_half holds used format seat store me s m in
+        let one : HasOne holds used format s.durable store' = record { x = s.durable; y = s.durable; has = unread s.durable s.durable m.stands.recorded; first = inl refl; second = inl refl } in
+        subst (λ y. Meets holds used format seat store' y (StoppedIs (suc s.life) s.durable s.durable)) (sym is) (record {
+          life_is = omega (arith, l.0, same_life holds used format seat store me s m);
+          left = subst (λ q. Leaves holds used format q s.durable s.durable store') (sym l.1) (refl, one);
+          first = half;
+          second = half;
+        })
+    unread_by unread is (Runs me) (StoppedIs there before after) l m = absurd m
+    unread_by unread is (Runs me) UnformattedIs l m = absurd m
+    unread_by unread is (Stopped its known) (RunningIs s) l m = absurd m
+    unread_by unread is (Stopped its known) (StoppedIs there before after) l m =
+        let pair = pair_left holds used format before after store known m.left in
+        let still : HasSome holds pair.0 pair.1 store' = record { x = pair.0; y = pair.1; has = unread pair.0 pair.1 pair.2.has; first = inl refl; second = inr refl } in
+        subst (λ y. Meets holds used format seat store' y (StoppedIs (suc there) before after)) (sym is) (record {
+          life_is = omega (arith, l.0, m.life_is);
+          left = subst (λ q. Leaves holds used format q before after store') (sym l.1) (pair.2.moved store' still);
+          first = m.first;
+          second = m.second;
+        })
+    unread_by unread is (Stopped its known) UnformattedIs l m = absurd m
+    unread_by unread is Unformatted k l m = absurd l
+
+    stops_unread : (unread : (x y : Durable) → holds store x y → holds store' x y) → state' ≡ Stopped (life + 1) doubt → StopsUnread holds used format seat store' state' c c
+    stops_unread unread is = unread_by unread is state c last meets
+
+    -- no state of it was found
+    not_found : StandsStill holds used format store store' → state' ≡ stopped_by life doubt state → Meets holds used format seat store' state' (stopped_in c)
+    not_found still is = by state c last meets is
+      where
+        by : (z : State) (k : Condition) → IsLast z life doubt → Meets holds used format seat store z k → state' ≡ stopped_by life doubt z → Meets holds used format seat store' state' (stopped_in k)
+        by (Runs me) (RunningIs s) l m e = unread_by still.holds_same e (Runs me) (RunningIs s) l m
+        by (Runs me) (StoppedIs there before after) l m e = absurd m
+        by (Runs me) UnformattedIs l m e = absurd m
+        by (Stopped its known) (RunningIs s) l m e = absurd m
+        by (Stopped its known) (StoppedIs there before after) l m e = subst (λ z. Meets holds used format seat store' z (StoppedIs there before after)) (sym e) (still_meets holds used format seat store store' still (Stopped its known) (StoppedIs there before after) m)
+        by (Stopped its known) UnformattedIs l m e = absurd m
+        by Unformatted k l m e = absurd l
+
+    pub somehow : (begun : Result (Running × Reading) RestartFault) (result : Result (Answer × Bool) NoMemory) → SaysOfAny begun → Restarts life doubt state state' begun result → BeginsSomehow holds used format seat store' state' c result
+    somehow (Ok (me, r)) result says ends = subst (BeginsSomehow holds used format seat store' state' c) (sym ends.0) (begins_over me says.begun_some.0 says.begun_some.1 ends.1)
+    somehow (Err WantsMemory) result says ends =
+        subst (BeginsSomehow holds used format seat store' state' c) (sym ends.0) (subst (λ z. Meets holds used format seat store' z c) (sym ends.1) (still_meets holds used format seat store store' (says.still WantsMemory refl tt) state c meets))
+    somehow (Err ReadHalted) result says ends = subst (BeginsSomehow holds used format seat store' state' c) (sym ends.0) (inr (stops_unread (says.still ReadHalted refl tt).holds_same ends.1))
+    somehow (Err (SaveHalted r)) result says ends = let w = says.unsaved r refl in subst (BeginsSomehow holds used format seat store' state' c) (sym ends.0) (inl (stops_over r w.0 w.1 w.2 ends.1))
+    somehow (Err NotOurs) result says ends = subst (BeginsSomehow holds used format seat store' state' c) (sym ends.0) (refl, not_found (says.still NotOurs refl tt) ends.1)
+
+  -- a halt has its cause
+  pub halt_cause : (rose : S → S → Type 0) (begun : Result (Running × Reading) RestartFault) (result : Result (Answer × Bool) NoMemory) → IfErr begun (λ fault. IsHalt fault → rose store store') → Restarts life doubt state state' begun result → IfOk result (λ r. r.0 ≡ Refused Halted → rose store store')
+  halt_cause rose (Ok (me, r)) result cause ends = subst (λ x. IfOk x (λ (y : Answer × Bool). y.0 ≡ Refused Halted → rose store store')) (sym ends.0) (λ e. absurd (grind (arith, e)))
+  halt_cause rose (Err WantsMemory) result cause ends = subst (λ x. IfOk x (λ (y : Answer × Bool). y.0 ≡ Refused Halted → rose store store')) (sym ends.0) tt
+  halt_cause rose (Err ReadHalted) result cause ends = subst (λ x. IfOk x (λ (y : Answer × Bool). y.0 ≡ Refused Halted → rose store store')) (sym ends.0) (λ _. cause tt)
+  halt_cause rose (Err (SaveHalted r)) result cause ends = subst (λ x. IfOk x (λ (y : Answer × Bool). y.0 ≡ Refused Halted → rose store store')) (sym ends.0) (λ _. cause tt)
+  halt_cause rose (Err NotOurs) result cause ends = subst (λ x. IfOk x (λ (y : Answer × Bool). y.0 ≡ Refused Halted → rose store store')) (sym ends.0) (λ e. absurd (grind (arith, e)))

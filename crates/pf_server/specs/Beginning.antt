@@ -32,10 +32,16 @@ doubt_after Settled r = Settled
 doubt_after (Open bytes generation) r = Read (found_by (Open bytes generation) r)
 doubt_after (Read found) r = Read found
 
+-- a running server is stopped where its disks hold no state of it
+abbrev pub stopped_by : (life : ℕ) → Doubt → State → State
+stopped_by life doubt (Runs me) = Stopped (life + 1) doubt
+stopped_by life doubt (Stopped its known) = Stopped its known
+stopped_by life doubt Unformatted = Unformatted
+
 -- what a restart makes of the server, and what it answers
 abbrev pub Restarts : (life : ℕ) → Doubt → State → State → Result (Running × Reading) RestartFault → Result (Answer × Bool) NoMemory → Type 0
 Restarts life doubt state state' (Ok (me, r)) result = (result ≡ Ok (Done, found_by doubt r)) × (state' ≡ Runs (quieted me))
 Restarts life doubt state state' (Err WantsMemory) result = (result ≡ Err (record {})) × (state' ≡ state)
 Restarts life doubt state state' (Err ReadHalted) result = (result ≡ Ok (Refused Halted, false)) × (state' ≡ Stopped (life + 1) doubt)
 Restarts life doubt state state' (Err (SaveHalted r)) result = (result ≡ Ok (Refused Halted, found_by doubt r)) × (state' ≡ Stopped (life + 1) (doubt_after doubt r))
-Restarts life doubt state state' (Err NotOurs) result = (result ≡ Ok (Refused IsNotOurs, false)) × (state' ≡ Stopped life doubt)
+Restarts life doubt state state' (Err NotOurs) result = (result ≡ Ok (Refused IsNotOurs, false)) × (state' ≡ stopped_by life doubt state)

@@ -11,6 +11,7 @@ use Rattle.pf_entry.specs.declared.packets.Packet.{Packet}
 use Rattle.pf_protocol.specs.Servers.{Leader, Merging as MergingIs, Serving as ServingIs, Server, Condition, Running as RunningIs, Stopped as StoppedIs, Unformatted as UnformattedIs}
 use Rattle.pf_protocol.specs.Fitting.{DurableFits, PacketFits, ServerFits}
 use Rattle.pf_protocol.specs.Asked.{AreBelow, Asks}
+use Rattle.pf_state.specs.Bounds.{far}
 use Rattle.pf_state.specs.declared.running.Running.{Running}
 use Rattle.pf_state.specs.Standing.{server_of, setup_of, Stands}
 use Rattle.pf_protocol.specs.Answers.{has_stored}
@@ -91,10 +92,10 @@ pub record IsSound (seat : Seat) (s : Server) : Type 0 where
   pub number : s.number ≡ seat.number
   pub n : ℕ
   pub t : ℕ
-  pub low : suc (suc n) < 2 ^ 63
-  pub t_low : t < 2 ^ 63
+  pub low : suc (suc n) < far
+  pub t_low : t < far
   pub fits : ServerFits (setup_at seat) n t s
-  pub few : FinMap.len s.durable.starts ≤ 65
+  pub few : FinMap.len s.durable.starts ≤ 130
   pub next : ℕ
   pub asks : Asks seat.sectors next s
   -- what a leader holds above its checkpoint and below its next slot is of its term
@@ -112,8 +113,14 @@ pub record IsFit (seat : Seat) (d : Durable) : Type 0 where
 -- and of their conditions
 abbrev pub IsKnown : Seat → Condition → Type 0
 IsKnown seat (RunningIs s) = IsSound seat s
-IsKnown seat (StoppedIs life before after) = IsFit seat before × IsFit seat after × (life < 2 ^ 63)
+IsKnown seat (StoppedIs life before after) = life < far
 IsKnown seat UnformattedIs = Unit {0}
+
+-- no restart refuses the states of this condition. Every group knows so of its servers whose disks tell their content
+abbrev pub IsHonest : Seat → Condition → Type 0
+IsHonest seat (RunningIs s) = IsFit seat s.durable
+IsHonest seat (StoppedIs life before after) = IsFit seat before × IsFit seat after
+IsHonest seat UnformattedIs = Unit {0}
 
 -- memory and disks stand for a condition that a group knows of
 pub record IsInOrder {S : Type 0} (holds : S → Durable → Durable → Type 0) (used format : S → ℕ) (seat : Seat) (store : S) (state : State) : Type 0 where
@@ -136,7 +143,7 @@ IsNext _ number = Unit {0}
 pub record IsFor (seat : Seat) (p : Packet) : Type 0 where
   pub n : ℕ
   pub t : ℕ
-  pub low : n < 2 ^ 63
-  pub t_low : t < 2 ^ 63
+  pub low : n < far
+  pub t_low : t < far
   pub fits : PacketFits (setup_at seat) n t p
   pub to : p.to ≡ seat.number

@@ -16,7 +16,7 @@ use Rattle.pf_protocol.specs.declared.answers.Answer.TheVariants.{Done, Refused}
 use Rattle.pf_protocol.specs.declared.answers.Refusal.{Refusal}
 use Rattle.pf_protocol.specs.declared.answers.Refusal.TheVariants.{Halted, NotOurs, Stale}
 use Rattle.pf_state.specs.Outgoing.{Outgoing, sent_by}
-use Rattle.pf_restart.specs.Beginning.{WasBegun}
+use Rattle.pf_restart.specs.Beginning.{HasBegun, WasBegun, setup_at}
 use Rattle.pf_restart.specs.declared.seat.Seat.{Seat}
 use Rattle.pf_server.specs.declared.state.State.{State}
 use Rattle.pf_server.specs.Conditions.{AreSized, Meets, answers_of}
@@ -102,6 +102,48 @@ module _ {S : Type 0} (holds : S → Durable → Durable → Type 0) (used forma
   BeginsAgain (StoppedIs life before after) (Ok (answer, found)) = Begins life before after found answer
   BeginsAgain UnformattedIs (Ok (answer, found)) = (answer ≡ Refused NotOurs) × Meets holds used format seat store' state' UnformattedIs
   BeginsAgain c (Err e) = Meets holds used format seat store' state' c
+
+-- the life that begins after this condition
+abbrev pub next_life : Condition → ℕ
+next_life (RunningIs s) = suc s.life
+next_life (StoppedIs life before after) = suc life
+next_life UnformattedIs = 0
+
+-- a running server in this condition, stopped
+abbrev pub stopped_in : Condition → Condition
+stopped_in (RunningIs s) = StoppedIs (suc s.life) s.durable s.durable
+stopped_in (StoppedIs life before after) = StoppedIs life before after
+stopped_in UnformattedIs = UnformattedIs
+
+module _ {S : Type 0} (holds : S → Durable → Durable → Type 0) (used format : S → ℕ) (seat : Seat) (store' : S) (state' : State) (c : Condition) where
+  -- the next life over some state that fits, whatever it is
+  pub record BeginsOver : Type 0 where
+    pub life : ℕ
+    pub next : suc life ≡ next_life c
+    pub d : Durable
+    pub fits : HasBegun (setup_at seat) d
+    pub meets : Meets holds used format seat store' state' (RunningIs (restarted seat.number (next_life c) d))
+
+  -- cut off over some state that fits
+  pub record StopsOver : Type 0 where
+    pub life : ℕ
+    pub next : suc life ≡ next_life c
+    pub d : Durable
+    pub fits : HasBegun (setup_at seat) d
+    pub meets : Meets holds used format seat store' state' (StoppedIs (next_life c) d d)
+
+  -- cut off as it read
+  abbrev pub StopsUnread : Condition → Type 0
+  StopsUnread (RunningIs s) = Meets holds used format seat store' state' (StoppedIs (suc s.life) s.durable s.durable)
+  StopsUnread (StoppedIs life before after) = Meets holds used format seat store' state' (StoppedIs (suc life) before after)
+  StopsUnread UnformattedIs = ⊥
+
+  -- what a restart comes to over any disks
+  abbrev pub BeginsSomehow : Result (Answer × Bool) NoMemory → Type 0
+  BeginsSomehow (Ok (Done, found)) = BeginsOver
+  BeginsSomehow (Ok (Refused Halted, found)) = StopsOver ⊎ StopsUnread c
+  BeginsSomehow (Ok (answer, found)) = (answer ≡ Refused NotOurs) × Meets holds used format seat store' state' (stopped_in c)
+  BeginsSomehow (Err e) = Meets holds used format seat store' state' c
 
 -- the state itself, or saved anew in the second format
 abbrev pub IsOf : Durable → Durable → Type 0

@@ -2,6 +2,7 @@
 ghost use Rattle.std.specs.Prelude.{◌≡◌, ◌<◌, ◌^◌, [], IfOk, length, map};
 ghost use Rattle.pf_entry.specs.Records.{Durable};
 ghost use Rattle.pf_protocol.specs.Asked.{AreAsked};
+ghost use Rattle.pf_state.specs.Bounds.{far};
 ghost use Rattle.pf_state.specs.Standing.{server_of, read_of, IsCached};
 ghost use Rattle.pf_server.specs.Ending.{Answers, CanAnswerIn, Ends, WasAnswered, forgotten};
 
@@ -80,7 +81,7 @@ pub fn end(
     before: Before,
     ended: Result<Answer, StepFault>,
 ) -> Result<Answer, NoMemory>
-    requires life { before.life < 2 ^ 63 }
+    requires life { before.life < far }
     requires answerable { IfOk ended (λ answer. CanAnswerIn state.old) }
     ensures { Ends before state.old state.new ended result }
 {

@@ -1,11 +1,12 @@
 //! A server stops, and begins again.
-ghost use Rattle.std.specs.Prelude.{◌≡◌, ◌<◌, ◌^◌, suc, [], Err, IsTrue, MatchOption, false};
+ghost use Rattle.std.specs.Prelude.{◌≡◌, ◌<◌, ◌^◌, suc, [], Err, IfOk, IsTrue, MatchOption, false};
 ghost use Rattle.pf_protocol.specs.Servers.{Condition, Server as ServerIs, Running as RunningIs, Stopped as StoppedIs};
 ghost use Rattle.pf_server.specs.Beginning.{IsLast, Restarts, doubt_after, found_by};
 ghost use Rattle.pf_server.specs.Ending.{quieted};
-ghost use Rattle.pf_server.specs.Conditions.{IsInOrder, IsKnown, Meets, answers_of, runs};
-ghost use Rattle.pf_server.specs.Turns.{BeginsAgain, WasBegunIn};
+ghost use Rattle.pf_server.specs.Conditions.{IsHonest, IsInOrder, IsKnown, Meets, answers_of, runs};
+ghost use Rattle.pf_server.specs.Turns.{BeginsAgain, BeginsSomehow, WasBegunIn};
 ghost use Rattle.pf_server.specs.declared.state.State.TheVariants.{Runs as RunsState, Unformatted as UnformattedState};
+ghost use Rattle.pf_state.specs.Bounds.{far};
 
 use crate::ends::forget;
 use crate::{Doubt, Server, State};
@@ -76,7 +77,7 @@ fn begin(
     doubt: Doubt,
     begun: Result<(Running, Reading), RestartFault>,
 ) -> Result<(Answer, bool), NoMemory>
-    requires { life < 2 ^ 63 }
+    requires { life < far }
     ensures { Restarts life doubt state.old state.new begun result }
 {
     match begun {
@@ -95,7 +96,7 @@ fn stay(
     doubt: Doubt,
     fault: RestartFault,
 ) -> Result<(Answer, bool), NoMemory>
-    requires { life < 2 ^ 63 }
+    requires { life < far }
     ensures { Restarts life doubt state.old state.new (Err fault) result }
 {
     match fault {
@@ -112,7 +113,10 @@ fn stay(
             Ok((Answer::Refused(Refusal::Halted), is_found(doubt, read)))
         }
         RestartFault::NotOurs => {
-            take_state(state, State::Stopped { life, doubt });
+            if let State::Runs(_) = state {
+                let life = life + 1;
+                take_state(state, State::Stopped { life, doubt });
+            }
             Ok((Answer::Refused(Refusal::NotOurs), false))
         }
     }
@@ -142,13 +146,15 @@ impl<S: Store> Server<S> {
     /// anew in the second. Beside the answer it tells whether the record of a step that was cut off was found.
     ///
     /// `NotOurs` (42) where the disks could not be formatted as the group was made, or hold no state of this server, which never
-    /// comes of disks that tell their content. `Halted` (52) where a disk failed: the server is stopped then. `NoMemory` (1)
-    /// leaves the server as it was.
+    /// comes of disks that tell their content: a running server is stopped then. `Halted` (52) where a disk failed: the server is
+    /// stopped then. `NoMemory` (1) leaves the server as it was, whatever its disks tell.
     pub fn restart(&mut self, alloc: Global) -> Result<(Answer, bool), NoMemory>
-        requires told { IsTrue (S.told self.old.store) }
-        requires order { IsInOrder S.holds S.used S.format self.old.seat self.old.store self.old.state }
-        ensures step { (c : Condition) → Meets S.holds S.used S.format self.old.seat self.old.store self.old.state c → IsKnown self.old.seat c → BeginsAgain S.holds S.used S.format S.rose self.old.seat self.old.store self.new.store self.new.state c result }
-        ensures any_moment { (c : Condition) → Meets S.holds S.used S.format self.old.seat self.old.store self.old.state c → WasBegunIn S.was self.old.store self.new.store c }
+        requires { IsInOrder S.holds S.used S.format self.old.seat self.old.store self.old.state }
+        ensures step { IsTrue (S.told self.old.store) → (c : Condition) → Meets S.holds S.used S.format self.old.seat self.old.store self.old.state c → IsKnown self.old.seat c → IsHonest self.old.seat c → BeginsAgain S.holds S.used S.format S.rose self.old.seat self.old.store self.new.store self.new.state c result }
+        // Over any disks, also those that tell nothing.
+        ensures somehow { (c : Condition) → Meets S.holds S.used S.format self.old.seat self.old.store self.old.state c → BeginsSomehow S.holds S.used S.format self.old.seat self.new.store self.new.state c result }
+        ensures cause { IfOk result (λ r. r.0 ≡ Answer.Refused Refusal.Halted → S.rose self.old.store self.new.store) }
+        ensures any_moment { IsTrue (S.told self.old.store) → (c : Condition) → Meets S.holds S.used S.format self.old.seat self.old.store self.old.state c → WasBegunIn S.was self.old.store self.new.store c }
         ensures answers { answers_of self.old.state ≡ [] → answers_of self.new.state ≡ [] }
         ensures seat { self.new.seat ≡ self.old.seat }
         ensures told { S.told self.new.store ≡ S.told self.old.store }

@@ -23,6 +23,7 @@ use Rattle.pf_protocol.specs.Servers.{Setup}
 use Rattle.pf_protocol.specs.Answers.{IsSetup}
 use Rattle.pf_protocol.specs.Fitting.{OpFits, NameFits, EntryFits, VoteFits, SlotsFit, SectorsFit, BodyFits, PacketFits}
 use Rattle.pf_entry.proofs.Counting.{few_keys}
+use Rattle.pf_state.specs.Bounds.{far}
 
 -- one or two, and the half has the volume's format or the second
 abbrev pub IsFormat : Setup → ℕ → Type 0
@@ -105,7 +106,7 @@ module _ (setup : Setup) (is : IsSetup setup) (n t : ℕ) where
   short_entries [] each = omega arith
   short_entries (e ∷ es) each = omega (arith, sum_by-cons entry_size e es, short_entry e each.0, short_entries es each.1)
 
-  module _ (low : n ≤ 2 ^ 63) (t_low : t < 2 ^ 63) where
+  module _ (low : n ≤ far) (t_low : t < far) where
     pub has_words : (e : Entry) → EntryFits setup n t e → HasWords e
     has_words e f = record {
       slot = omega (arith, f.slot_low, low);

@@ -20,17 +20,18 @@ use Rattle.pf_spelling.specs.Fitting.{RecordFits, EntryFits as HasWords}
 use Rattle.pf_spelling.proofs.MapLaws.{every_of_gets}
 use Rattle.pf_protocol.specs.Fitting.{EntryFits, SlotsFit, SectorsFit, StandsIn}
 use Rattle.pf_entry.proofs.Counting.{few_keys}
+use Rattle.pf_state.specs.Bounds.{far}
 use Rattle.pf_state.specs.declared.running.Running.{Running}
 use Rattle.pf_state.specs.Standing.{server_of, setup_of, IsBounded}
 use Rattle.pf_state.specs.Images.{imaged}
 use Rattle.pf_state.proofs.Canonicals.{in_second, short_entries, has_words, image_is}
 
 -- numbers of a server are far from the ends of their types
-pub generation_low : (me : Running) → IsBounded me → me.generation < 2 ^ 63
+pub generation_low : (me : Running) → IsBounded me → me.generation < far
 unfolding server_of
 generation_low me bounded = omega (arith, bounded.fits.durable.generation, bounded.low)
 
-pub life_low : (me : Running) → IsBounded me → me.life < 2 ^ 63
+pub life_low : (me : Running) → IsBounded me → me.life < far
 unfolding server_of
 life_low me bounded = omega (arith, bounded.fits.life, bounded.low)
 
@@ -102,7 +103,7 @@ module _ (me : Running) (bounded : IsBounded me) (base : ℕ) (reached : me.log.
       short = omega (arith, bounded.few, log_short, applied_few, sized.0, bounded.setup.few_sectors);
     }
 
-    pub image_fits : n < 2 ^ 63 → term < 2 ^ 64 → base < 2 ^ 64 → RecordFits (image_of (imaged me term base applied sectors))
+    pub image_fits : n < far → term < 2 ^ 64 → base < 2 ^ 64 → RecordFits (image_of (imaged me term base applied sectors))
     image_fits low word small = (
       omega (arith, generation_low me bounded),
       word,

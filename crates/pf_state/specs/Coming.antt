@@ -2,6 +2,7 @@
 use Rattle.std.specs.Prelude.{ℕ, ◌<◌, ◌^◌}
 use Rattle.pf_entry.specs.declared.packets.Body.{Body}
 use Rattle.pf_protocol.specs.Fitting.{PacketFits}
+use Rattle.pf_state.specs.Bounds.{far}
 use Rattle.pf_state.specs.declared.running.Running.{Running}
 use Rattle.pf_state.specs.Standing.{setup_of}
 use Rattle.pf_state.specs.Packets.{packet}
@@ -10,6 +11,6 @@ use Rattle.pf_state.specs.Packets.{packet}
 pub record IsComing (me : Running) (from term : ℕ) (body : Body) : Type 0 where
   pub n : ℕ
   pub t : ℕ
-  pub low : n < 2 ^ 63
-  pub t_low : t < 2 ^ 63
+  pub low : n < far
+  pub t_low : t < far
   pub fits : PacketFits (setup_of me) n t (packet from me.number term body)

@@ -1,3 +1,4 @@
+pub mod Bounds
 pub mod Coming
 pub mod Images
 pub mod Outgoing

@@ -14,6 +14,7 @@ use Rattle.pf_protocol.specs.Leading.{members}
 use Rattle.pf_protocol.specs.Outcomes.{Outcome}
 use Rattle.pf_protocol.specs.Fitting.{ServerFits}
 use Rattle.pf_protocol.specs.Answers.{IsSetup, refuse, has_stored}
+use Rattle.pf_state.specs.Bounds.{far}
 use Rattle.pf_state.specs.declared.running.Leader.{Leader as LeaderHere}
 use Rattle.pf_state.specs.declared.running.Role.{Role as RoleHere}
 use Rattle.pf_state.specs.declared.running.Role.TheVariants.{Follower as FollowerHere, Candidate as CandidateHere, Merging as MergingHere, Serving as ServingHere}
@@ -104,8 +105,8 @@ pub record IsBounded (me : Running) : Type 0 where
   pub setup : IsSetup (setup_of me)
   pub n : ℕ
   pub t : ℕ
-  pub low : n < 2 ^ 63
-  pub t_low : t < 2 ^ 63
+  pub low : n < far
+  pub t_low : t < far
   pub fits : ServerFits (setup_of me) n t (server_of (bare me) me)
   pub few : FinMap.len me.starts.starts < 2 ^ 15
 

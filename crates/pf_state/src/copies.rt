@@ -1,6 +1,7 @@
 //! Copies of what a server holds.
 ghost use Rattle.std.specs.Prelude.{◌≡◌, ◌≤◌, ◌<◌, ◌^◌, IfOk};
 ghost use Rattle.pf_entry.specs.Records.{above, vote_of};
+ghost use Rattle.pf_state.specs.Bounds.{far};
 ghost use Rattle.pf_state.specs.Standing.{bare};
 
 use crate::Running;
@@ -24,7 +25,7 @@ pub fn vote_of(alloc: Global, me: &Running) -> Result<VoteLog, NoMemory>
 /// slot of the window above it, at most 4,096. `NoMemory` (1) where there is no memory.
 pub fn copied_above(alloc: Global, log: &HoleLog, base: Slot) -> Result<EntryMap, NoMemory>
     requires reached { log.now.base ≤ base }
-    requires small { base < 2 ^ 63 }
+    requires small { base < far }
     ensures { IfOk result (λ entries. entries ≡ above base log.now.entries) }
 {
     let mut rows = Vec::new(alloc);

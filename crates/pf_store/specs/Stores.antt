@@ -52,3 +52,9 @@ pub record StandsFor (found : Found) (d : Durable) : Type 0 where
   pub image : BeginsWithImage found.records.items
   pub state : state_of found.format found.records.items ≡ d
   pub used : found.used ≡ d.used
+
+-- a store that was only read: it has what it had, and its current half is the same
+pub record StandsStill {S : Type 0} (holds : S → Durable → Durable → Type 0) (used format : S → ℕ) (old new : S) : Type 0 where
+  pub holds_same : (before after : Durable) → holds old before after → holds new before after
+  pub used_same : used new ≡ used old
+  pub format_same : format new ≡ format old

@@ -3,7 +3,7 @@ ghost use Rattle.std.specs.Prelude.{◌≡◌, ◌≢◌, ◌⊎◌, ◌+◌, �
 ghost use Rattle.pf_entry.specs.Records.{Durable, stored};
 ghost use Rattle.pf_entry.specs.Sizes.{empty_half};
 ghost use Rattle.pf_entry.specs.declared.records.Record.{Record as RecordIs};
-ghost use Rattle.pf_store.specs.Stores.{IsImageOf, IsSpelledAs, StandsFor};
+ghost use Rattle.pf_store.specs.Stores.{IsImageOf, IsSpelledAs, StandsFor, StandsStill};
 
 use crate::{DiskFault, Found, ReloadFault};
 use std::alloc::Global;
@@ -12,9 +12,9 @@ use std::alloc::Global;
 pub const LIMIT: u64 = 67_108_864;
 
 /// The records of one server on its two disks. A crash leaves what they stood for before the last record, or with it; the two
-/// differ only after a call that failed, and the next `reload` tells which of them is there.
+/// differ only after a call that failed, and the next `find` tells which of them is there.
 ///
-/// Where a disk does not tell its content, nothing is known of what a reload finds.
+/// Where a disk does not tell its content, nothing is known of what is found.
 pub trait Store {
     /// A restart would find the first state, or the second.
     ghost holds: { Self → Durable → Durable → Type 0 };
@@ -68,18 +68,28 @@ pub trait Store {
         ensures told { told self.new ≡ told self.old }
         ensures cause { OnErr result (rose self.old self.new) };
 
-    /// Reads the records, also after a call that failed: the state without the record in doubt, or with it. No crash
-    /// changes that afterwards, and a count of faults that rises afterwards has risen since before. `NoMemory` (1) and `DiskFault`
-    /// (40) leave both possible; `NotOurs` (42) comes only where a disk does not tell its content.
-    fn reload(&mut self, alloc: Global) -> Result<Found, ReloadFault>
-        ensures found { IsTrue (told self.old) → IfOk result (λ found. (before after : Durable) → holds self.old before after → (d : Durable) × (d ≡ before ⊎ d ≡ after) × StandsFor found d × holds self.new d d) }
-        ensures whole { IfOk result (λ found. (d : Durable) × StandsFor found d × holds self.new d d) }
-        ensures state { IfOk result (λ found. (used self.new ≡ found.used) × (format self.new ≡ found.format)) }
-        ensures kept { OnErr result ((before after : Durable) → holds self.old before after → holds self.new before after) }
-        ensures same { OnErr result (IsTrue (told self.old) → (d : Durable) → holds self.old d d → (used self.new ≡ used self.old) × (format self.new ≡ format self.old)) }
+    /// What it becomes where it goes on from what the last `find` found.
+    ghost resumed: { Self → Self };
+
+    /// Reads the records, also after a call that failed: the state without the record in doubt, or with it. The store stands where
+    /// it stood, and goes on from what was found only after `resume`. No crash changes what was found, and a count of faults that
+    /// rises afterwards has risen since before. `NoMemory` (1) and `DiskFault` (40) leave both states possible; `NotOurs` (42) comes
+    /// only where a disk does not tell its content.
+    fn find(&mut self, alloc: Global) -> Result<Found, ReloadFault>
+        ensures found { IsTrue (told self.old) → IfOk result (λ found. (before after : Durable) → holds self.old before after → (d : Durable) × (d ≡ before ⊎ d ≡ after) × StandsFor found d × holds (resumed self.new) d d) }
+        ensures whole { IfOk result (λ found. (d : Durable) × StandsFor found d × holds (resumed self.new) d d) }
+        ensures state { IfOk result (λ found. (used (resumed self.new) ≡ found.used) × (format (resumed self.new) ≡ found.format)) }
+        ensures still { StandsStill holds used format self.old self.new }
         ensures any_moment { (before after : Durable) → holds self.old before after → was self.old self.new before after }
         ensures ours { (before after : Durable) → holds self.old before after → IsTrue (told self.old) → result ≢ Err ReloadFault.NotOurs }
         ensures told { told self.new ≡ told self.old }
         ensures cause { IsErrOf result ReloadFault.DiskFault → rose self.old self.new }
+        ensures later { (next : Self) → rose self.new next → rose self.old next };
+
+    /// Goes on from what the last `find` found. Nothing is read or written.
+    fn resume(&mut self)
+        ensures resumed { self.new ≡ resumed self.old }
+        ensures any_moment { (earlier : Self) (before after : Durable) → was earlier self.old before after → was earlier self.new before after }
+        ensures told { told self.new ≡ told self.old }
         ensures later { (next : Self) → rose self.new next → rose self.old next };
 }

@@ -1,5 +1,6 @@
 use Rattle.std.proofs.Common.{◌<◌, ◌^◌, sym, subst}
 use Rattle.pf_restart.specs.Beginning.{setup_at}
+use Rattle.pf_state.specs.Bounds.{far}
 use Rattle.pf_state.specs.Standing.{room_refusal}
 use Rattle.pf_protocol.specs.Saving.{on_checkpoint}
 use Rattle.pf_protocol.proofs.ForRows.{checkpoint_asks}
@@ -21,7 +22,7 @@ pub end-requires : goal.end-requires
 end-requires g c =
     let known = known_here g.S.Store.holds g.S.Store.used g.S.Store.format c.args.self.now.seat c.args.self.now.store c.args.self.now.state c.in-Runs.me c.in-Runs.is c.requires.order in
     record {
-      life = subst (λ (b : Before). b.life < 2 ^ 63) (sym c.note-before.ensures) (low_life g.S.Store.holds g.S.Store.used g.S.Store.format c.args.self.now.seat c.args.self.now.store c.in-Runs.me known.0 known.1 known.2);
+      life = subst (λ (b : Before). b.life < far) (sym c.note-before.ensures) (low_life g.S.Store.holds g.S.Store.used g.S.Store.format c.args.self.now.seat c.args.self.now.store c.in-Runs.me known.0 known.1 known.2);
       answerable = row_ends g.S.Store.holds g.S.Store.used g.S.Store.format g.S.Store.told g.S.Store.rose g.S.Store.was c.args.self.now.seat c.args.self.now.store c.checkpoint-ended.new.store c.in-Runs.me c.checkpoint-ended.new.me c.args.out.now c.args.out.now (λ u z. room_refusal c.args.out.now (on_checkpoint z)) (λ u z. on_checkpoint z) c.checkpoint-ended.result (λ d stands. c.checkpoint-ended.ensures.step d c.args.out.now stands c.requires.fresh) known.0 known.1 (λ none. (checkpoint_asks (setup_at c.args.self.now.seat) c.args.self.now.seat.sectors known.2.next known.0 known.2.asks).asked);
     }
 

@@ -2,6 +2,7 @@ use Rattle.std.proofs.Common.{◌<◌, ◌^◌, sym, subst}
 use Rattle.pf_protocol.proofs.ForRows.{packet_asks}
 use Rattle.pf_protocol.specs.Rows.{on_packet}
 use Rattle.pf_restart.specs.Beginning.{setup_at}
+use Rattle.pf_state.specs.Bounds.{far}
 use Rattle.pf_state.specs.Standing.{room_refusal}
 use Rattle.pf_server.specs.declared.ends.Before.{Before}
 use Rattle.pf_server.proofs.Bounds.{bounded_here, low_life}
@@ -24,7 +25,7 @@ pub end-requires : goal.end-requires
 end-requires g c =
     let known = known_here g.S.Store.holds g.S.Store.used g.S.Store.format c.args.self.now.seat c.args.self.now.store c.args.self.now.state c.in-Runs.me c.in-Runs.is c.requires.order in
     record {
-      life = subst (λ (b : Before). b.life < 2 ^ 63) (sym c.note-before.ensures) (low_life g.S.Store.holds g.S.Store.used g.S.Store.format c.args.self.now.seat c.args.self.now.store c.in-Runs.me known.0 known.1 known.2);
+      life = subst (λ (b : Before). b.life < far) (sym c.note-before.ensures) (low_life g.S.Store.holds g.S.Store.used g.S.Store.format c.args.self.now.seat c.args.self.now.store c.in-Runs.me known.0 known.1 known.2);
       answerable = row_ends g.S.Store.holds g.S.Store.used g.S.Store.format g.S.Store.told g.S.Store.rose g.S.Store.was c.args.self.now.seat c.args.self.now.store c.take_packet-ended.new.store c.in-Runs.me c.take_packet-ended.new.me c.args.out.now c.take_packet-ended.new.out (λ u z. room_refusal c.args.out.now (on_packet u z c.args.packet)) (λ u z. on_packet u z c.args.packet) c.take_packet-ended.result c.take_packet-ended.ensures known.0 known.1 (λ none. (packet_asks (setup_at c.args.self.now.seat) c.args.self.now.seat.sectors known.2.next known.0 known.2.asks c.args.packet).asked);
     }
 

@@ -8,6 +8,7 @@ use Rattle.pf_server.proofs.Bounds.{bounded_here, low_life}
 use Rattle.pf_server.proofs.Coming.{row_comes, row_ends, row_told, submit_roomy}
 use Rattle.pf_server.proofs.Standing.{known_here, meets_here}
 use Rattle.pf_server.proofs.server.Server.submit.Goals as goal
+use Rattle.pf_state.specs.Bounds.{far}
 
 pub submit-ended-requires : goal.submit-ended-requires
 submit-ended-requires g c =
@@ -23,7 +24,7 @@ pub end-requires : goal.end-requires
 end-requires g c =
     let known = known_here g.S.Store.holds g.S.Store.used g.S.Store.format c.args.self.now.seat c.args.self.now.store c.args.self.now.state c.in-Runs.me c.in-Runs.is c.requires.order in
     record {
-      life = subst (λ (b : Before). b.life < 2 ^ 63) (sym c.note-before.ensures) (low_life g.S.Store.holds g.S.Store.used g.S.Store.format c.args.self.now.seat c.args.self.now.store c.in-Runs.me known.0 known.1 known.2);
+      life = subst (λ (b : Before). b.life < far) (sym c.note-before.ensures) (low_life g.S.Store.holds g.S.Store.used g.S.Store.format c.args.self.now.seat c.args.self.now.store c.in-Runs.me known.0 known.1 known.2);
       answerable = row_ends g.S.Store.holds g.S.Store.used g.S.Store.format g.S.Store.told g.S.Store.rose g.S.Store.was c.args.self.now.seat c.args.self.now.store c.submit-ended.new.store c.in-Runs.me c.submit-ended.new.me c.args.out.now c.submit-ended.new.out (λ u z. submit_refusal u c.args.out.now c.args.op z) (λ u z. on_submit u z c.args.op z.role) c.submit-ended.result c.submit-ended.ensures.step known.0 known.1 (λ none. (submit_asks (setup_at c.args.self.now.seat) c.args.self.now.seat.sectors known.2.next known.0 known.2.asks c.args.op).asked);
     }
 

@@ -4,7 +4,7 @@ use Rattle.pf_chunklog.specs.Records.{Raw}
 use Rattle.pf_image.specs.Recovery.{IsSpelled}
 use Rattle.pf_image.specs.Pairs.{format_of}
 use Rattle.pf_kept.proofs.States.{are_spelled}
-use Rattle.pf_kept.proofs.kept.Kept.found.Goals as goal
+use Rattle.pf_kept.proofs.kept.Kept.spelled.Goals as goal
 
 pub read_records-requires : goal.read_records-requires
 read_records-requires g c =
