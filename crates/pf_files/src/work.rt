@@ -77,6 +77,13 @@ impl CallWork {
         &self.tree
     }
 
+    /// How many calls were started.
+    pub fn calls(&self) -> u32
+        ensures { result ≡ self.now.calls }
+    {
+        self.calls
+    }
+
     /// The call that has not ended, if there is one.
     pub fn pending(&self) -> &Option<Pending>
         ensures { result.now ≡ self.now.pending }

@@ -1,2 +1,4 @@
+pub mod Faults
 pub mod Positions
 pub mod Mounts
+pub mod Steps

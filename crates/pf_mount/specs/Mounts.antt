@@ -1,6 +1,6 @@
 -- A mount, as a pure machine: what a call that is started makes of it, and what an answered ask does. Each gives the next ask, or the
 -- end of the call.
-use Rattle.std.specs.Prelude.{ℕ, zero, suc, pred, ◌*◌, ◌/◌, Bool, true, false, not, ◌||◌, ◌==◌, nat_lt, if◌then◌else◌, List, [], ◌∷◌, map, length, replicate, Option, Some, None, is_some}
+use Rattle.std.specs.Prelude.{◌≡◌, ℕ, zero, suc, pred, ◌*◌, ◌/◌, Bool, true, false, not, ◌||◌, ◌==◌, nat_lt, if◌then◌else◌, List, [], ◌∷◌, map, length, replicate, Option, Some, None, is_some}
 use Rattle.std.specs.List.{list_any}
 use Rattle.std.specs.Str.{bytes_eq}
 use Rattle.pf_base.specs.declared.asks.Ask.{Ask}
@@ -11,8 +11,7 @@ use Rattle.pf_volume.specs.Volumes.{Extent, size_of}
 use Rattle.pf_layout.specs.Supers.{super_block}
 use Rattle.pf_tree.specs.declared.calls.FileCall.{FileCall}
 use Rattle.pf_inodes.specs.declared.changes.Txn.{Txn}
-use Rattle.pf_tree.specs.Trees.{Data}
-use Rattle.pf_inodes.specs.Tables.{Tables, new_tables}
+use Rattle.pf_inodes.specs.Tables.{new_tables}
 use Rattle.pf_txn.specs.Spelling.{spell_txn}
 use Rattle.pf_txn.specs.Reading.{txn_in}
 use Rattle.pf_paxos.specs.declared.block.Block.{Block}
@@ -21,7 +20,7 @@ use Rattle.pf_paxos.specs.declared.proposer.Next.TheVariants.{Write as WriteOwn,
 use Rattle.pf_paxos.specs.declared.proposer.Phase.{Phase}
 use Rattle.pf_paxos.specs.declared.proposer.Phase.TheVariants.{GatheringHigh}
 use Rattle.pf_paxos.specs.Blocks.{best_of}
-use Rattle.pf_paxos.specs.Proposers.{ProposerIs, Outcome as Balloted, started, written_in, read_in}
+use Rattle.pf_paxos.specs.Proposers.{ProposerIs, Outcome as Balloted, IsWriting, started, written_in, read_in}
 use Rattle.pf_journal.specs.Sectors.{block_bytes, block_in}
 use Rattle.pf_journal.specs.Places.{place_of}
 use Rattle.pf_files.specs.declared.answers.CallAnswer.{CallAnswer}
@@ -33,13 +32,15 @@ use Rattle.pf_files.specs.Blocks.{reads, writes, bytes_of}
 use Rattle.pf_files.specs.declared.calls.Pending.{Pending}
 use Rattle.pf_mount.specs.declared.work.Work.{Work}
 use Rattle.pf_mount.specs.declared.work.Work.TheVariants.{Rests, Fails, ReadsSuper, WritesSuper, Syncs, Ballots, Pauses, Moves}
+use Rattle.pf_files.specs.declared.moving.Moving.{Moving}
+use Rattle.pf_files.specs.declared.moving.Moving.TheVariants.{Fetches, Stores, Gathers}
 use Rattle.pf_files.specs.declared.moving.Moved.{Moved}
 use Rattle.pf_files.specs.declared.moving.Moved.TheVariants.{Asks as AsksFor, Ends}
 use Rattle.pf_files.specs.Moving.{moves, moves_on}
 use Rattle.pf_files.specs.declared.calls.Planned.{Planned}
 use Rattle.pf_files.specs.declared.calls.Planned.TheVariants.{Refuses, Proposes, Goes}
 use Rattle.pf_files.specs.Calls.{WorkIs, planned, applied_in, is_of, size_in, data_of}
-use Rattle.pf_mount.specs.Positions.{PositionIs, new_position, having_seen, having_aborted, pause_of, can_start}
+use Rattle.pf_mount.specs.Positions.{PositionIs, IsReadPending, new_position, having_seen, having_aborted, pause_of, can_start}
 
 pub record MountIs : Type 0 where
   pub files : WorkIs  -- the tables, and the call that has not ended
@@ -217,6 +218,26 @@ on_bytes work m sectors = record { mount = m; next = Ready }
 abbrev pub answered : MountIs → Reply → Outcome
 answered m Written = on_written m.work m
 answered m (Bytes sectors) = on_bytes m.work m sectors
+
+-- what the reply to the pending ask may be: of its kind, and with as many sectors
+abbrev pub AnswersMoving : Moving → Reply → Type 0
+AnswersMoving (Stores fill index) Written = Unit {0}
+AnswersMoving (Fetches fill index) (Bytes sectors) = length sectors ≡ 8
+AnswersMoving (Gathers inode offset to index bytes) (Bytes sectors) = length sectors ≡ 8
+AnswersMoving moving reply = ⊥
+
+abbrev pub AnswersWork : Phase → Work → Reply → Type 0
+AnswersWork phase WritesSuper Written = Unit {0}
+AnswersWork phase ReadsSuper (Bytes sectors) = length sectors ≡ 1
+AnswersWork phase (Syncs half found) (Bytes sectors) = length sectors ≡ 8
+AnswersWork phase (Ballots input) Written = IsWriting phase
+AnswersWork phase (Ballots input) (Bytes sectors) = IsReadPending phase × (length sectors ≡ 8)
+AnswersWork phase (Pauses input left) (Bytes sectors) = length sectors ≡ 1
+AnswersWork phase (Moves moving) reply = AnswersMoving moving reply
+AnswersWork phase work reply = ⊥
+
+abbrev pub Answers : MountIs → Reply → Type 0
+Answers m reply = AnswersWork m.position.proposer.phase m.work reply
 
 -- Beginnings
 

@@ -1,8 +1,11 @@
 -- A mount at a position of the journal: its ballots there, and how long it pauses after one that was aborted.
-use Rattle.std.specs.Prelude.{ℕ, ◌+◌, ◌*◌, ◌^◌, Bool, nat_lt, max, min, List, Option}
+use Rattle.std.specs.Prelude.{ℕ, ◌+◌, ◌*◌, ◌^◌, ◌<◌, Bool, nat_lt, max, min, List}
 use Rattle.pf_paxos.specs.declared.block.Block.{Block}
-use Rattle.pf_paxos.specs.Blocks.{zero_block, ballot_after, greatest_mbal}
-use Rattle.pf_paxos.specs.Proposers.{ProposerIs, new_proposer}
+use Rattle.pf_paxos.specs.declared.proposer.Next.{Next}
+use Rattle.pf_paxos.specs.declared.proposer.Next.TheVariants.{Write, Read}
+use Rattle.pf_paxos.specs.declared.proposer.Phase.{Phase}
+use Rattle.pf_paxos.specs.Blocks.{IsBlock, zero_block, ballot_after, greatest_mbal}
+use Rattle.pf_paxos.specs.Proposers.{ProposerIs, IsReading, new_proposer}
 
 pub record PositionIs : Type 0 where
   pub proposer : ProposerIs
@@ -31,3 +34,13 @@ floor_of p = max p.seen p.proposer.own.mbal
 -- there is a ballot left
 abbrev pub can_start : PositionIs → Bool
 can_start p = nat_lt (ballot_after p.proposer.mount (floor_of p)) (2 ^ 62)
+
+-- a read of a ballot is pending
+abbrev pub IsReadPending : Phase → Type 0
+IsReadPending phase = (half : ℕ) × IsReading phase half
+
+-- what a ballot does next can be asked: the own block has its form, and there are two halves
+abbrev pub CanAsk : Next → Type 0
+CanAsk (Write block) = IsBlock block
+CanAsk (Read half) = half < 2
+CanAsk next = Unit {0}

@@ -5,11 +5,13 @@ ghost use Rattle.pf_layout.specs.Supers.{super_block};
 ghost use Rattle.pf_paxos.specs.Blocks.{IsBlock};
 ghost use Rattle.pf_journal.specs.Places.{place_of};
 ghost use Rattle.pf_journal.specs.Sectors.{block_bytes, block_in};
-ghost use Rattle.pf_files.specs.Blocks.{reads, writes};
+ghost use Rattle.pf_files.specs.Blocks.{IsInside, reads, writes};
+ghost use Rattle.pf_paxos.specs.Standing.{AreBlocks};
 
+use crate::journal_is_asked_inside;
 use pf_base::{Ask, NoMemory, Sector, Value};
 use pf_files::{reads, writes};
-use pf_journal::{place_of, read_block, spell_block};
+use pf_journal::{place_of, read_block, spell_block, spelled_blocks_are_read};
 use pf_layout::spell_super;
 use pf_paxos::Block;
 use pf_volume::Volume;
@@ -20,8 +22,10 @@ pub fn reads_half(volume: &Volume, position: u32, half: u8) -> Ask
     requires volume { 4112 ≤ size_of volume.now }
     requires position { position < 256 }
     requires half { half < 2 }
-    ensures { result ≡ reads volume.now (place_of position (8 * half)) 8 }
+    ensures ask { result ≡ reads volume.now (place_of position (8 * half)) 8 }
+    ensures inside { IsInside volume.now result }
 {
+    journal_is_asked_inside();
     let _sectors = volume.sectors();
     reads(volume, place_of(position, 8 * half), 8)
 }
@@ -30,8 +34,10 @@ pub fn reads_half(volume: &Volume, position: u32, half: u8) -> Ask
 pub fn reads_first(volume: &Volume, position: u32) -> Ask
     requires volume { 4112 ≤ size_of volume.now }
     requires position { position < 256 }
-    ensures { result ≡ reads volume.now (place_of position 0) 1 }
+    ensures ask { result ≡ reads volume.now (place_of position 0) 1 }
+    ensures inside { IsInside volume.now result }
 {
+    journal_is_asked_inside();
     let _sectors = volume.sectors();
     reads(volume, place_of(position, 0), 1)
 }
@@ -48,8 +54,11 @@ pub fn writes_own(
     requires position { position < 256 }
     requires mount { mount < 16 }
     requires form { IsBlock block.now }
-    ensures { IfOk result (λ ask. ask ≡ writes volume.now (place_of position mount) (block_bytes block.now ∷ [])) }
+    ensures ask { IfOk result (λ ask. ask ≡ writes volume.now (place_of position mount) (block_bytes block.now ∷ [])) }
+    ensures inside { IfOk result (IsInside volume.now) }
 {
+    journal_is_asked_inside();
+    let _sectors = volume.sectors();
     let sector = spell_block(block);
     writes_one(alloc, volume, place_of(position, mount), sector)
 }
@@ -57,8 +66,10 @@ pub fn writes_own(
 /// A read of the superblock.
 pub fn reads_super(volume: &Volume) -> Ask
     requires { 4112 ≤ size_of volume.now }
-    ensures { result ≡ reads volume.now 0 1 }
+    ensures ask { result ≡ reads volume.now 0 1 }
+    ensures inside { IsInside volume.now result }
 {
+    journal_is_asked_inside();
     let _sectors = volume.sectors();
     reads(volume, 0, 1)
 }
@@ -66,8 +77,10 @@ pub fn reads_super(volume: &Volume) -> Ask
 /// A write of the superblock of the volume.
 pub fn writes_super(alloc: Global, volume: &Volume) -> Result<Ask, NoMemory>
     requires { 4112 ≤ size_of volume.now }
-    ensures { IfOk result (λ ask. ask ≡ writes volume.now 0 (super_block volume.now.chunks volume.now.sectors ∷ [])) }
+    ensures ask { IfOk result (λ ask. ask ≡ writes volume.now 0 (super_block volume.now.chunks volume.now.sectors ∷ [])) }
+    ensures inside { IfOk result (IsInside volume.now) }
 {
+    journal_is_asked_inside();
     let sectors = volume.sectors();
     let sector = spell_super(volume.chunks(), sectors);
     writes_one(alloc, volume, 0, sector)
@@ -86,8 +99,10 @@ fn writes_one(alloc: Global, volume: &Volume, first: u32, sector: Sector) -> Res
 
 /// The blocks of sectors. A sector that is the spelling of none counts as zeros.
 pub fn blocks_in(alloc: Global, sectors: &[Sector]) -> Result<Vec<Block>, NoMemory>
-    ensures { IfOk result (λ blocks. blocks.items ≡ map block_in sectors.now) }
+    ensures blocks { IfOk result (λ blocks. blocks.items ≡ map block_in sectors.now) }
+    ensures forms { IfOk result (λ blocks. AreBlocks blocks.items) }
 {
+    spelled_blocks_are_read();
     let mut blocks = Vec::with_capacity(alloc, sectors.len())?;
     for sector in sectors {
         blocks.push(block_of(sector))?;

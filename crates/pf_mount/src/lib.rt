@@ -1,10 +1,19 @@
 //! A mount of a volume: its sectors in the journal, and the asks for them.
 #![tactic(auto)]
 
+mod answers;
 mod asks;
+mod ballots;
+mod faults;
 mod laws;
+mod mount;
+mod plans;
+mod position;
+mod stand;
 mod work;
 
 pub use asks::{blocks_in, reads_first, reads_half, reads_super, writes_own, writes_super};
+pub use faults::MountFault;
 pub use laws::journal_is_asked_inside;
+pub use mount::Mount;
 pub use work::{Next, Work};

@@ -1,0 +1,178 @@
+//! A mount.
+ghost use Rattle.std.specs.Prelude.{◌≡◌, ◌≢◌, ◌↔◌, ◌+◌, ◌<◌, ◌≤◌, ◌^◌, IfOk, IsErrOf, IsTrue, OnErr, Some, suc};
+ghost use Rattle.pf_volume.specs.Volumes.{size_of};
+ghost use Rattle.pf_mount.specs.declared.work.Work.TheVariants.{Rests};
+ghost use Rattle.pf_mount.specs.Mounts.{Answers, answered, opening, starting};
+ghost use Rattle.pf_tree.specs.Held.{IsWhole};
+ghost use Rattle.pf_txn.specs.Spelling.{IsShortCall};
+ghost use Rattle.pf_mount.specs.Steps.{AsksWithin, IsStep, IsTakenFor, WholeAt, outcome_of, tables_after, at_work};
+
+use crate::answers::answered;
+use crate::asks::reads_super;
+use crate::faults::MountFault;
+use crate::plans::syncs;
+use crate::position::Position;
+use crate::stand::{Stand, Step};
+use crate::{Next, Work};
+use pf_base::{NoMemory, Reply};
+use pf_files::{CallWork, Pending};
+use pf_layout::has_room;
+use pf_tree::{FileCall, Tree};
+use pf_volume::Volume;
+use std::alloc::Global;
+use std::marker::Model;
+
+/// One mount of a volume: its tables, how far it has read the journal, its ballots there, and the call that has not ended. At most one
+/// ask is pending at a time.
+#[derive(Drop)]
+pub struct Mount {
+    files: CallWork,
+    upto: u32,
+    position: Position,
+    work: Work,
+}
+
+impl Model for Mount {
+    ghost use Rattle.pf_mount.specs.Mounts.{MountIs};
+    ghost use Rattle.pf_mount.specs.Steps.{IsMount};
+
+    ghost Value = { MountIs };
+
+    ghost view = { λ m. record { files = m.files; upto = m.upto; position = m.position; work = m.work } };
+
+    ghost invariant = { λ m. IsMount (record { files = m.files; upto = m.upto; position = m.position; work = m.work }) };
+}
+
+impl Mount {
+    /// Mount `number` of a volume, and its first ask. `SmallVolume` (93) comes exactly where the volume has fewer than 4,112 sectors, and
+    /// `NoMemory` (1) where memory has run out.
+    pub fn new(alloc: Global, number: u8, volume: Volume) -> Result<(Mount, Next), MountFault>
+        requires { number < 16 }
+        ensures ok { IfOk result (λ x. record { mount = x.0; next = x.1 } ≡ opening number volume) }
+        ensures small { IsErrOf result MountFault.SmallVolume ↔ (size_of volume < 4112) }
+        ensures inside { IfOk result (λ x. AsksWithin volume x.1) }
+    {
+        if !has_room(volume.size()) {
+            return Err(MountFault::SmallVolume);
+        }
+        let files = CallWork::new(alloc, number, volume)?;
+        let mount = Mount {
+            files,
+            upto: 0,
+            position: Position::new(number),
+            work: Work::ReadsSuper,
+        };
+        Ok((mount, Next::Ask(reads_super(&volume))))
+    }
+
+    /// Its number, below 16.
+    pub fn number(&self) -> u8
+        ensures { result ≡ self.now.files.mount }
+    {
+        self.files.mount()
+    }
+
+    /// Its tables.
+    pub fn tree(&self) -> &Tree
+        ensures { result.now.tables ≡ self.now.files.tables }
+    {
+        self.files.tree()
+    }
+
+    /// The position at which it stands, at most 256: so many transactions are applied.
+    pub fn upto(&self) -> u32
+        ensures upto { result ≡ self.now.upto }
+        ensures most { result ≤ 256 }
+    {
+        self.upto
+    }
+
+    /// Whether it is not ready, or a call of it has not ended.
+    pub fn is_pending(&self) -> bool
+        ensures { IsTrue result ↔ (self.now.work ≢ Rests) }
+    {
+        !matches!(self.work, Work::Rests)
+    }
+
+    /// The pending ask was answered: what comes next. After `NoMemory` (1), the one error, the mount is as it was.
+    ///
+    /// A call is planned exactly on tables that are whole, as all are that stand for a tree. What is asked lies in the volume whatever
+    /// was decided.
+    pub fn on_answer(&mut self, alloc: Global, reply: Reply) -> Result<Next, NoMemory>
+        requires { Answers self.old reply }
+        ensures ok { WholeAt self.old.position.proposer self.old.files.tables self.old.files.pending self.old.work reply → IfOk result (λ next. record { mount = self.new; next = next } ≡ answered self.old reply) }
+        ensures inside { IfOk result (AsksWithin self.old.files.volume) }
+        ensures err { OnErr result (self.new ≡ self.old) }
+    {
+        let stand = Stand {
+            mount: self.files.mount(),
+            volume: self.files.volume(),
+            upto: self.upto,
+            position: self.position,
+        };
+        let (step, tree) = answered(
+            alloc,
+            stand,
+            self.files.tree(),
+            self.files.pending(),
+            &self.work,
+            &reply,
+        )?;
+        Ok(self.take(step, tree))
+    }
+
+    /// Begins a call whose paths are read, with a sync: what comes next. After `NoMemory` (1), the one error, the mount is as it was.
+    ///
+    /// Past the last position there is nothing to read, and the call is planned at once: exactly on tables that are whole.
+    pub fn begin(&mut self, alloc: Global, call: FileCall) -> Result<Next, NoMemory>
+        requires free { self.old.work ≡ Rests }
+        requires short { IsShortCall call }
+        requires few { self.old.files.calls + 1 < 2 ^ 32 }
+        ensures ok { (self.old.upto ≡ 256 → IsWhole self.old.files.tables) → IfOk result (λ next. record { mount = self.new; next = next } ≡ starting self.old call) }
+        ensures inside { IfOk result (AsksWithin self.old.files.volume) }
+        ensures err { OnErr result (self.new ≡ self.old) }
+    {
+        let stand = Stand {
+            mount: self.files.mount(),
+            volume: self.files.volume(),
+            upto: self.upto,
+            position: self.position,
+        };
+        let number = self.files.calls() + 1;
+        let pending = Some(Pending { number, call });
+        let step = syncs(alloc, stand, self.files.tree(), &pending)?;
+        let Some(pending) = pending else {
+            unreachable!();
+        };
+        Ok(self.takes_call(pending.call, step))
+    }
+
+    /// Takes over the next call and its first step.
+    fn takes_call(&mut self, call: FileCall, step: Step) -> Next
+        requires short { IsShortCall call }
+        requires few { self.old.files.calls + 1 < 2 ^ 32 }
+        requires step { IsStep self.old.files.mount self.old.files.volume step }
+        ensures { record { mount = self.new; next = result } ≡ outcome_of step self.old.files.tables (at_work self.old.work (suc self.old.files.calls)) (Some (record { number = suc self.old.files.calls; call = call })) }
+    {
+        self.files.start(call);
+        self.take(step, None)
+    }
+
+    /// Takes over a step, with the tree after a decision.
+    fn take(&mut self, step: Step, tree: Option<Tree>) -> Next
+        requires step { IsStep self.old.files.mount self.old.files.volume step }
+        requires tree { IsTakenFor self.old.files.volume tree }
+        ensures { record { mount = self.new; next = result } ≡ outcome_of step (tables_after self.old.files.tables tree) (at_work self.old.work self.old.files.calls) self.old.files.pending }
+    {
+        if let Some(tree) = tree {
+            self.files.put(tree);
+        }
+        if step.ends {
+            self.files.end();
+        }
+        self.upto = step.stand.upto;
+        self.position = step.stand.position;
+        self.work = step.work;
+        step.next
+    }
+}
