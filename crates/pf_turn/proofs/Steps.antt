@@ -540,7 +540,7 @@ module _ {X E K : Type 0} (log : X → List (Stamped E)) (root : X → K) (about
       not_spent vs other i x e l = ⊎_elim (λ (t : (i ≡ other) × (spent ≡ x)). absurd (true≢false (sym l ∙ ap (λ (z : V). z.live) (sym t.1)))) (λ (t : (i ≢ other) × (get_elem? vs i ≡ some x)). t) (at_set vs other i spent x e)
 
   pub tells : (slots id : ℕ) (me : M) → me.0.live ≡ true → Allows Rule slots id me 1 (λ n. n) (told (step slots 1 0 0 none) me)
-  tells slots id me live s r _ at _ = let l = (r.each id me.0 at).lives live in (me.0, keeps, tt, stays s r 1 id me at, (refl, refl, l.before, l.brought, l.own_before, l.own_brought, l.was_gone, l.one_more))
+  tells slots id me live s r _ at _ = let l = (r.each id me.0 at).lives live in (me.0, keeps, tt, stays s r 1 id me at, (refl, refl, l.before, l.brought, l.own_before, l.own_brought, l.was_gone, l.one_more, λ first n above. let split : me.0.splits ≡ r.splits = (l.counts first).1 in none_begun n me.0.seen r.history l.begins (r.fresh n (omega arith))))
 
   -- a new lock
   pub opens : (y : X) → log y ≡ [] → root y ≡ about → Rule (opening (0 ∷ 0 ∷ 1 ∷ []) (Some y ∷ []) (opener about))

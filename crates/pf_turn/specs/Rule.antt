@@ -145,6 +145,7 @@ module _ {X E K : Type 0} where
   abbrev pub told : Step (Maybe X) → Sat X E K → ℕ → Sat X E K → Type 0
   told st m r m' = (m'.0 ≡ m.0) × (m'.1 ≡ m.1) × Begins m.0.before m.0.seen × Begins m.0.brought m.0.seen
       × (entries_of m.0.number m.0.seen ≡ entries_of m.0.number m.0.before) × (entries_of m.0.brought_by m.0.seen ≡ entries_of m.0.brought_by m.0.brought) × Every (SameOf m.0.seen m.0.before) m.0.was_gone × (m.0.was_out ≡ m.0.out + 1)
+      × (m.0.number ≡ 0 → (n : ℕ) → m.0.splits < n → entries_of n m.0.seen ≡ [])
 
 module _ {X E K : Type 0} (log : X → List (Stamped E)) (root : X → K) where
   -- the value that the seat takes begins with all that it has seen, has the seat's own entries and no others of its number, is

@@ -116,7 +116,7 @@ impl<E, K, V: Logged<E, K>> TurnLock<E, K, V> {
     }
 
     /// Takes in a seat that was split from the first one. The first seat has then seen what either had, and one seat less
-    /// is out.
+    /// is out. No number that was not yet split has an entry.
     pub fn join(&self, seat: &mut TurnSeat<E, K, V>, other: TurnSeat<E, K, V>)
         requires seat { IsSeatOf self.now seat.old × HasNoTurn seat.old × IsFirst seat.old }
         requires other { IsSeatOf self.now other × HasNoTurn other × (number_of other ≢ 0) }
@@ -126,6 +126,7 @@ impl<E, K, V: Logged<E, K>> TurnLock<E, K, V> {
         ensures own { entries_of 0 (seen_by seat.new) ≡ entries_of 0 (seen_by seat.old) }
         ensures gone { Every (SameOf (seen_by seat.new) (seen_by seat.old)) (gone_of seat.old) }
         ensures brought { entries_of (number_of other) (seen_by seat.new) ≡ entries_of (number_of other) (seen_by other) }
+        ensures strangers { (n : ℕ) → splits_of seat.new < n → entries_of n (seen_by seat.new) ≡ [] }
     {
         let TurnSeat {
             number: _,
