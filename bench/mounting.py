@@ -42,7 +42,7 @@ class Tables:
         return [b for b in range(513, self.blocks) if self.tags[b] is None]
 
     def change(self, c):
-        if c[0] == "inode" and c[3] <= MOST:
+        if c[0] == "inode" and c[3] <= MOST and (c[1] > 0 or c[2] > 1):
             self.inodes[c[1]] = None if c[2] == 0 else c[3] if c[2] == 1 else "dir"
         elif c[0] == "add":
             self.entries[c[1]] = [it for it in self.entries[c[1]] if it[0] != c[3]] + [(c[3], c[2])]

@@ -4,10 +4,9 @@ use Rattle.pf_volume.specs.Volumes.{Extent}
 use Rattle.pf_inodes.specs.declared.changes.Change.{Change}
 use Rattle.pf_inodes.specs.declared.changes.Txn.{Txn}
 use Rattle.pf_tree.specs.Trees.{Data, Tree, changed, refusal, tree_sight}
-use Rattle.pf_inodes.specs.Tables.{Tables}
+use Rattle.pf_inodes.specs.Tables.{IsWhole, Tables}
 use Rattle.pf_tree.specs.Plans.{changes, tables_sight}
 use Rattle.pf_tree.specs.Standing.{Follows, IsCall, StandsFor}
-use Rattle.pf_tree.specs.Held.{IsWhole}
 use Rattle.pf_tree.proofs.Law.{follows}
 use Rattle.pf_tree.proofs.Sights.{same_refusal}
 use Rattle.pf_txn.specs.Spelling.{CanSpell, IsShortCall}

@@ -5,7 +5,7 @@ ghost use Rattle.pf_tree.specs.declared.faults.TreeFault.TheVariants.{NoMemory a
 ghost use Rattle.pf_files.specs.Faults.{fault_number, fault_of};
 
 use pf_base::{Bytes, Names, NoMemory};
-use pf_tree::TreeFault;
+use pf_tree::{TreeFault, TreeRefusal};
 use thiserror::Error;
 
 /// The answer to a call.
@@ -28,34 +28,13 @@ pub enum CallAnswer {
 /// Why a call is refused.
 #[derive(Clone, Copy, Debug, PartialEq, Eq, Error)]
 pub enum CallFault {
-    /// Sector 0 is neither zeros nor the superblock of the volume.
+    /// Sector 0 is neither zeros nor the superblock of the volume (81).
     #[error("bad super")]
     BadSuper,
-    /// A name of the path is missing.
-    #[error("no entry")]
-    NoEntry,
-    /// Something stands at the path.
-    #[error("exists")]
-    Exists,
-    /// A file stands where a directory is needed.
-    #[error("not dir")]
-    NotDir,
-    /// A directory stands where a file is needed.
-    #[error("is dir")]
-    IsDir,
-    /// The directory has names.
-    #[error("not empty")]
-    NotEmpty,
-    /// No inode is free, or too few blocks.
-    #[error("no space")]
-    NoSpace,
-    /// The file would be larger than the greatest size.
-    #[error("too large")]
-    TooLarge,
-    /// A directory would move below itself.
-    #[error("into itself")]
-    IntoItself,
-    /// All 256 positions of the journal are decided.
+    /// The tables refuse it (82 to 89).
+    #[error(transparent)]
+    Tree(TreeRefusal),
+    /// All 256 positions of the journal are decided (90).
     #[error("journal full")]
     JournalFull,
 }
@@ -67,14 +46,7 @@ impl CallFault {
     {
         match self {
             CallFault::BadSuper => 81,
-            CallFault::NoEntry => 82,
-            CallFault::Exists => 83,
-            CallFault::NotDir => 84,
-            CallFault::IsDir => 85,
-            CallFault::NotEmpty => 86,
-            CallFault::NoSpace => 87,
-            CallFault::TooLarge => 88,
-            CallFault::IntoItself => 89,
+            CallFault::Tree(refusal) => refusal.number(),
             CallFault::JournalFull => 90,
         }
     }
@@ -86,13 +58,6 @@ pub(crate) fn refused(fault: TreeFault) -> Result<CallFault, NoMemory>
 {
     match fault {
         TreeFault::NoMemory => Err(NoMemory),
-        TreeFault::NoEntry => Ok(CallFault::NoEntry),
-        TreeFault::Exists => Ok(CallFault::Exists),
-        TreeFault::NotDir => Ok(CallFault::NotDir),
-        TreeFault::IsDir => Ok(CallFault::IsDir),
-        TreeFault::NotEmpty => Ok(CallFault::NotEmpty),
-        TreeFault::NoSpace => Ok(CallFault::NoSpace),
-        TreeFault::TooLarge => Ok(CallFault::TooLarge),
-        TreeFault::IntoItself => Ok(CallFault::IntoItself),
+        TreeFault::Refused(refusal) => Ok(CallFault::Tree(refusal)),
     }
 }

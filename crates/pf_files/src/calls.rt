@@ -1,7 +1,6 @@
 //! The calls of a mount on its tables, one at a time.
 ghost use Rattle.std.specs.Prelude.{◌≡◌, ◌+◌, ◌/◌, ◌<◌, ◌^◌, IfOk, None, OnErr, OnOk, Some, suc};
 ghost use Rattle.pf_volume.specs.Volumes.{size_of};
-ghost use Rattle.pf_tree.specs.Held.{IsWhole};
 ghost use Rattle.pf_inodes.specs.Tables.{new_tables};
 ghost use Rattle.pf_tree.specs.Plans.{node_at};
 ghost use Rattle.pf_tree.specs.Trees.{size_at};
@@ -66,7 +65,7 @@ pub fn plan(
 ) -> Result<Planned, NoMemory>
     requires tree { IsTreeOf volume.now tree.now.tables }
     requires data { tree.now.first ≡ 513 }
-    ensures planned { IsWhole tree.now.tables → IfOk result (λ p. p ≡ planned mount volume.now (data_of tree.now.tables) tree.now.tables pending.now) }
+    ensures planned { IfOk result (λ p. p ≡ planned mount volume.now (data_of tree.now.tables) tree.now.tables pending.now) }
     ensures inside { IfOk result (PlansInside volume.now) }
 {
     match tree.plan_call(alloc, &pending.call) {
@@ -112,7 +111,7 @@ pub(crate) fn plan_pending(
 ) -> Result<Option<Planned>, NoMemory>
     requires tree { IsTreeOf volume.now tree.now.tables }
     requires data { tree.now.first ≡ 513 }
-    ensures { IsWhole tree.now.tables → IfOk result (λ p. p ≡ plan_of mount volume.now tree.now.tables pending.now) }
+    ensures { IfOk result (λ p. p ≡ plan_of mount volume.now tree.now.tables pending.now) }
 {
     let Some(pending) = pending else {
         return Ok(None);

@@ -4,10 +4,9 @@ ghost use Rattle.pf_volume.specs.Volumes.{Extent, IsVolume, size_of};
 ghost use Rattle.pf_base.specs.declared.asks.Reply.{Reply};
 ghost use Rattle.pf_tree.specs.declared.calls.FileCall.{FileCall};
 ghost use Rattle.pf_inodes.specs.declared.changes.Txn.{Txn};
-ghost use Rattle.pf_inodes.specs.Tables.{Tables};
+ghost use Rattle.pf_inodes.specs.Tables.{IsWhole, Tables};
 ghost use Rattle.pf_tree.specs.Trees.{Data, Tree, changed, refusal, tree_sight};
 ghost use Rattle.pf_tree.specs.Standing.{Follows, IsCall, StandsFor};
-ghost use Rattle.pf_tree.specs.Held.{IsWhole};
 ghost use Rattle.pf_txn.specs.Spelling.{CanSpell, IsShortCall};
 ghost use Rattle.pf_files.specs.declared.calls.Pending.{Pending};
 ghost use Rattle.pf_files.specs.declared.calls.Planned.TheVariants.{Proposes, Refuses};
@@ -35,8 +34,8 @@ pub fn data_are_asked_inside()
     blocks_are_asked_inside();
 }
 
-/// On tables that stand for a tree, which are always planned exactly, a call is refused exactly as the tree refuses it. What it
-/// proposes gives tables that stand for the tree after the call. What is planned exactly has a spelling.
+/// Tables that stand for a tree are whole. On them a call is refused exactly as the tree refuses it, and what it proposes gives tables
+/// that stand for the tree after the call. What is planned on whole tables has a spelling.
 pub fn planned_calls_follow_the_tree()
     ensures whole { (d : Data) (tables : Tables) (tree : Tree) → StandsFor d tables tree → IsWhole tables }
     ensures refused { (mount : ℕ) (v : Extent) (d : Data) (tables : Tables) (tree : Tree) (p : Pending) (number : ℕ) → StandsFor d tables tree → refusal (tree_sight d tree) p.call ≡ Some number → planned mount v d tables p ≡ Refuses (fault_of number) }

@@ -1,7 +1,6 @@
 //! The tables of a mount and its pending call.
 ghost use Rattle.std.specs.Prelude.{◌≡◌, ◌+◌, ◌/◌, ◌<◌, ◌^◌, IfOk, None, Some, is_some, suc};
 ghost use Rattle.pf_volume.specs.Volumes.{size_of};
-ghost use Rattle.pf_tree.specs.Held.{IsWhole};
 ghost use Rattle.pf_inodes.specs.Tables.{new_tables};
 ghost use Rattle.pf_txn.specs.Reading.{txn_in};
 ghost use Rattle.pf_files.specs.Moving.{HasBlock, IsTreeOf, moves_on};
@@ -121,7 +120,7 @@ impl CallWork {
     pub fn plan_on(&self, alloc: Global, tree: &Tree) -> Result<Option<Planned>, NoMemory>
         requires form { IsTreeOf self.now.volume tree.now.tables }
         requires first { tree.now.first ≡ 513 }
-        ensures { IsWhole tree.now.tables → IfOk result (λ p. p ≡ plan_of self.now.mount self.now.volume tree.now.tables self.now.pending) }
+        ensures { IfOk result (λ p. p ≡ plan_of self.now.mount self.now.volume tree.now.tables self.now.pending) }
     {
         plan_pending(alloc, self.mount, &self.volume, tree, &self.pending)
     }

@@ -1,12 +1,12 @@
 -- What a write of one directory does to the lists of names, and to the room in them.
-use Rattle.std.proofs.Common.{◌≡◌, ◌≢◌, ℕ, ◌+◌, ◌<◌, ◌≤◌, inl, inr, true, ◌&&◌, ◌==◌, nat_le, nat_lt, List, [], ◌∷◌, ◌++◌, length, take, get_or, set, Some, None, refl, sym, ap, ◌∙◌, arith}
+use Rattle.std.proofs.Common.{◌≡◌, ◌≢◌, ℕ, ◌+◌, ◌<◌, ◌≤◌, inl, inr, true, ◌&&◌, ◌==◌, nat_lt, List, [], ◌∷◌, ◌++◌, length, take, get_or, set, Some, None, refl, sym, ap, ◌∙◌, arith}
 use Rattle.std.proofs.lemmas.Bool.{cases_Bool, cond-true, cond-false, cases_eq, or_cases}
 use Rattle.std.proofs.lemmas.List.{map-set, get_or-map, length-set, get_or-set_same, get_or-set_other, set-get_or, get_or_default}
 use Rattle.std.proofs.lemmas.List.Folds.{list_any_more}
 use Rattle.pf_inodes.specs.declared.changes.Change.{Change}
 use Rattle.pf_inodes.specs.declared.changes.Change.TheVariants.{SetInode, AddEntry, DeleteEntry, SetTag}
 use Rattle.pf_inodes.specs.declared.tables.Entry.{Entry}
-use Rattle.pf_inodes.specs.Tables.{Tables, names_in, after_change, applied, others, put_entry, named, inode_with}
+use Rattle.pf_inodes.specs.Tables.{Tables, names_in, after_change, applied, others, put_entry, named, inode_with, may_set}
 use Rattle.pf_inodes.specs.Shelves.{Shelf, no_shelf, lists_of, room_in, adds_to, HasRoom}
 
 pub written : (shelves : List Shelf) (d : ℕ) (s : Shelf) (rows : List Entry) → s.list ≡ rows → lists_of (set shelves d s) ≡ set (lists_of shelves) d rows
@@ -48,11 +48,11 @@ room_more shelves cs k n c low e has here d inside any =
       | inr now ↦ here d inside (ap (adds_to d) e ∙ now)
     ]
 
-tables_length : (t : Tables) (c : Change) → (length (after_change t c).inodes ≡ length t.inodes) × (length (after_change t c).entries ≡ length t.entries) × (length (after_change t c).tags ≡ length t.tags)
+pub tables_length : (t : Tables) (c : Change) → (length (after_change t c).inodes ≡ length t.inodes) × (length (after_change t c).entries ≡ length t.entries) × (length (after_change t c).tags ≡ length t.tags)
 tables_length t (SetInode i kind size) = (
-  elim (cases_Bool (nat_le size 196608)) [
-    | inl small ↦ ap length (cond-true (nat_le size 196608) (set t.inodes i (inode_with kind size)) t.inodes small) ∙ length-set t.inodes i (inode_with kind size)
-    | inr large ↦ ap length (cond-false (nat_le size 196608) (set t.inodes i (inode_with kind size)) t.inodes large)
+  elim (cases_Bool (may_set i kind size)) [
+    | inl may ↦ ap length (cond-true (may_set i kind size) (set t.inodes i (inode_with kind size)) t.inodes may) ∙ length-set t.inodes i (inode_with kind size)
+    | inr may_not ↦ ap length (cond-false (may_set i kind size) (set t.inodes i (inode_with kind size)) t.inodes may_not)
   ],
   refl,
   refl,

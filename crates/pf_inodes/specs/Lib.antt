@@ -1,3 +1,4 @@
 pub mod Names
 pub mod Tables
 pub mod Shelves
+pub mod Places

@@ -1,5 +1,5 @@
 -- The tables: inodes and tags by their numbers, entries by directory and name. What is found in them, and what a change does to them.
-use Rattle.std.specs.Prelude.{◌≡◌, ◌<◌, ◌≤◌, AllPairs, IsTrue, ℕ, ◌-◌, Bool, true, false, cond, not, ◌&&◌, ◌==◌, nat_lt, nat_le, List, [], ◌∷◌, map, length, replicate, set, get_or, Option, Some, None, is_some}
+use Rattle.std.specs.Prelude.{◌≡◌, ◌<◌, ◌≤◌, AllPairs, IsTrue, ℕ, ◌-◌, Bool, true, false, cond, not, ◌&&◌, ◌||◌, ◌==◌, nat_lt, nat_le, List, [], ◌∷◌, map, length, replicate, set, get_or, Option, Some, None, is_some}
 use Rattle.std.specs.List.{HoldsAt, filter, insert, range_with_len, position_or_len}
 use Rattle.std.specs.List.Sorted.{IsPartitionPoint}
 use Rattle.std.specs.Option.{option_and_then, is_none}
@@ -24,6 +24,21 @@ pub record Tables : Type 0 where
 
 abbrev pub inode_at : Tables → ℕ → Option Inode
 inode_at tables i = get_or tables.inodes i None
+
+abbrev pub HasRoot : Tables → Type 0
+HasRoot tables = inode_at tables 0 ≡ Some Directory
+
+-- the root is a directory, and no file is larger than the greatest size
+pub record IsWhole (t : Tables) : Type 0 where
+  pub root : HasRoot t
+  pub sizes : (i size : ℕ) → inode_at t i ≡ Some (OfFile size) → size ≤ 196608
+
+-- what every mount's tables are, whatever was decided
+pub record IsHeld (t : Tables) : Type 0 where
+  pub inodes : length t.inodes ≡ 1024
+  pub entries : length t.entries ≡ 1024
+  pub tags : length t.tags ≤ 4096
+  pub whole : IsWhole t
 
 abbrev pub tag_at : List (Option Tag) → ℕ → Option Tag
 tag_at tags b = get_or tags b None
@@ -91,9 +106,13 @@ abbrev pub blocks_of : List (Option Tag) → (inode count : ℕ) → List ℕ
 blocks_of tags inode count = map (block_of tags inode) (range_with_len 0 count)
 
 -- what a change does: it is passed over where it names an inode or a block that the tables lack, an index past 47 or a size above
--- the greatest
+-- the greatest, and where the root would be no directory any more
 abbrev pub inode_with : (kind size : ℕ) → Option Inode
 inode_with kind size = cond (kind == 0) None (cond (kind == 1) (Some (OfFile size)) (Some Directory))
+
+-- the tables stay whole with this inode
+abbrev pub may_set : (inode kind size : ℕ) → Bool
+may_set i kind size = nat_le size 196608 && (nat_lt 1 kind || nat_lt 0 i)
 
 abbrev pub tag_with : Tables → (inode index : ℕ) → List (Option Tag) → ℕ → List (Option Tag)
 tag_with tables i k tags b =
@@ -102,7 +121,7 @@ tag_with tables i k tags b =
 
 abbrev pub after_change : Tables → Change → Tables
 after_change tables (SetInode i kind size) =
-    record tables { inodes = cond (nat_le size 196608) (set tables.inodes i (inode_with kind size)) tables.inodes }
+    record tables { inodes = cond (may_set i kind size) (set tables.inodes i (inode_with kind size)) tables.inodes }
 after_change tables (AddEntry d i n) =
     record tables { entries = cond (nat_lt i (length tables.inodes)) (named tables.entries d i n) tables.entries }
 after_change tables (DeleteEntry d n) = record tables { entries = unnamed tables.entries d n }

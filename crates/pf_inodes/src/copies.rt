@@ -1,4 +1,4 @@
-//! Copies of names, changes and directories, and new places.
+//! Copies of names, changes and directories, and new directories.
 ghost use Rattle.std.specs.Prelude.{◌≡◌, [], IfOk, length, replicate};
 ghost use Rattle.pf_inodes.specs.Shelves.{lists_of};
 
@@ -6,17 +6,6 @@ use crate::Change;
 use crate::rows::Rows;
 use pf_base::{Bytes, NoMemory};
 use std::alloc::Global;
-
-/// So many free places. The one error is `NoMemory` (1).
-pub fn free_places<T: Drop>(alloc: Global, count: usize) -> Result<Vec<Option<T>>, NoMemory>
-    ensures { IfOk result (λ v. v.items ≡ replicate count None) }
-{
-    let mut places = Vec::with_capacity(alloc, count)?;
-    for made in 0..count {
-        places.push(None)?;
-    }
-    Ok(places)
-}
 
 /// So many directories without names.
 pub(crate) fn no_names(alloc: Global, count: usize) -> Result<Vec<Rows>, NoMemory>

@@ -1,12 +1,16 @@
 //! What the changes of a transaction do to the tables.
-ghost use Rattle.std.specs.Prelude.{◌≡◌, ℕ, ◌+◌, ◌<◌, ◌≤◌, ◌∷◌, [], OnOk, cond, length, nat_le, set};
-ghost use Rattle.pf_inodes.specs.Tables.{after_change, applied, inode_with, named, unnamed};
+ghost use Rattle.std.specs.Prelude.{◌≡◌, ℕ, ◌+◌, ◌<◌, ◌≤◌, ◌∷◌, [], OnOk, cond, length, set};
+ghost use Rattle.pf_inodes.specs.Tables.{after_change, applied, inode_with, may_set, named, unnamed};
 ghost use Rattle.pf_inodes.specs.Shelves.{HasRoom, lists_of, room_in, tables_of};
 
+use crate::places::Places;
 use crate::rows::Rows;
 use crate::{Change, Entry, Inode, Tag};
 use pf_base::{Bytes, NoMemory};
 use std::alloc::Global;
+
+/// The inode of the root directory.
+pub(crate) const ROOT: u16 = 0;
 
 /// The greatest size of a file.
 const MAX_SIZE: u32 = 196608;
@@ -55,13 +59,13 @@ fn reserve_in(directories: &mut Vec<Rows>, directory: u16, count: usize) -> Resu
 
 /// Carries out changes, one by one.
 pub(crate) fn carry_out(
-    inodes: &mut Vec<Option<Inode>>,
+    inodes: &mut Places<Option<Inode>>,
     directories: &mut Vec<Rows>,
-    tags: &mut Vec<Option<Tag>>,
+    tags: &mut Places<Option<Tag>>,
     changes: Vec<Change>,
 )
     requires { HasRoom directories.old.items changes.items (length changes.items) }
-    ensures { tables_of inodes.new.items directories.new.items tags.new.items ≡ applied (tables_of inodes.old.items directories.old.items tags.old.items) changes.items }
+    ensures { tables_of inodes.new directories.new.items tags.new ≡ applied (tables_of inodes.old directories.old.items tags.old) changes.items }
 {
     for change in changes {
         change_one(inodes, directories, tags, change);
@@ -70,13 +74,13 @@ pub(crate) fn carry_out(
 
 /// Carries out one change.
 fn change_one(
-    inodes: &mut Vec<Option<Inode>>,
+    inodes: &mut Places<Option<Inode>>,
     directories: &mut Vec<Rows>,
-    tags: &mut Vec<Option<Tag>>,
+    tags: &mut Places<Option<Tag>>,
     change: Change,
 )
     requires { HasRoom directories.old.items (change ∷ []) 1 }
-    ensures tables { tables_of inodes.new.items directories.new.items tags.new.items ≡ after_change (tables_of inodes.old.items directories.old.items tags.old.items) change }
+    ensures tables { tables_of inodes.new directories.new.items tags.new ≡ after_change (tables_of inodes.old directories.old.items tags.old) change }
     ensures room { (d : ℕ) → room_in directories.old.items d ≤ room_in directories.new.items d + 1 }
     ensures count { length directories.new.items ≡ length directories.old.items }
 {
@@ -98,28 +102,40 @@ fn change_one(
             index,
         } => {
             if inode == NO_INODE {
-                set_tag(tags, block, None);
+                tags.set(block, None);
             } else if (inode as usize) < inodes.len() && index < MAX_BLOCKS {
-                set_tag(tags, block, Some(Tag { inode, index }));
+                let index = index as u32;
+                tags.set(block, Some(Tag { inode, index }));
             }
         }
     }
 }
 
 /// Sets an inode, or frees it.
-fn set_inode(inodes: &mut Vec<Option<Inode>>, inode: u16, kind: u8, size: u32)
-    ensures { inodes.new.items ≡ cond (nat_le size 196608) (set inodes.old.items inode (inode_with kind size)) inodes.old.items }
+fn set_inode(inodes: &mut Places<Option<Inode>>, inode: u16, kind: u8, size: u32)
+    ensures { inodes.new ≡ cond (may_set inode kind size) (set inodes.old inode (inode_with kind size)) inodes.old }
 {
-    let place = inode as usize;
-    if size <= MAX_SIZE && place < inodes.len() {
-        inodes[place] = if kind == 0 {
-            None
-        } else if kind == 1 {
-            Some(Inode::File { size })
-        } else {
-            Some(Inode::Directory)
-        };
+    if may_set(inode, kind, size) {
+        inodes.set(inode, inode_with(kind, size));
     }
+}
+
+/// The inode of this kind.
+fn inode_with(kind: u8, size: u32) -> Option<Inode>
+    ensures { result ≡ inode_with kind size }
+{
+    match kind {
+        0 => None,
+        1 => Some(Inode::File { size }),
+        _ => Some(Inode::Directory),
+    }
+}
+
+/// Whether tables with this inode stay whole: the root is a directory, and no file is larger than the greatest size.
+fn may_set(inode: u16, kind: u8, size: u32) -> bool
+    ensures { result ≡ may_set inode kind size }
+{
+    size <= MAX_SIZE && (kind > 1 || inode > ROOT)
 }
 
 /// Gives a name in a directory to an inode.
@@ -147,15 +163,5 @@ fn delete_entry(directories: &mut Vec<Rows>, directory: u16, name: &Bytes)
     if place < directories.len() {
         let rows = &mut directories[place];
         rows.forget(name.as_slice());
-    }
-}
-
-/// Sets the tag of a block.
-fn set_tag(tags: &mut Vec<Option<Tag>>, block: u16, tag: Option<Tag>)
-    ensures { tags.new.items ≡ set tags.old.items block tag }
-{
-    let place = block as usize;
-    if place < tags.len() {
-        tags[place] = tag;
     }
 }

@@ -1,10 +1,11 @@
 //! The tables of a file system.
 ghost use Rattle.std.specs.Prelude.{◌≡◌, ◌<◌, ◌≤◌, IfOk, MatchOption, OnOk, OnErr, length, take};
-ghost use Rattle.pf_inodes.specs.Tables.{IsAscending, applied, block_of, blocks_of, entry_at, has_names, inode_at, least_free, names_in, new_tables, untagged_from};
+ghost use Rattle.pf_inodes.specs.Tables.{IsAscending, IsWhole, applied, block_of, blocks_of, entry_at, has_names, inode_at, least_free, names_in, new_tables, untagged_from};
 
-use crate::copies::{copy_changes, copy_directories, free_places, no_names};
-use crate::edits::{carry_out, make_room};
+use crate::copies::{copy_changes, copy_directories, no_names};
+use crate::edits::{ROOT, carry_out, make_room};
 use crate::look::{block_of, blocks_of, free_blocks, inode_of, least_free};
+use crate::places::Places;
 use crate::rows::Rows;
 use crate::{Entry, Inode, Tag, Txn};
 use pf_base::NoMemory;
@@ -12,26 +13,25 @@ use std::alloc::Global;
 use std::marker::Model;
 
 /// The count of inodes.
-const INODES: usize = 1024;
+const INODES: u32 = 1024;
 
 /// The tables of a file system: 1,024 inodes, the names in directories, and a tag for each of up to 4,096 blocks.
 #[derive(Drop)]
 pub struct FileTables {
-    inodes: Vec<Option<Inode>>,
+    inodes: Places<Option<Inode>>,
     directories: Vec<Rows>,
-    tags: Vec<Option<Tag>>,
+    tags: Places<Option<Tag>>,
 }
 
 impl Model for FileTables {
-    ghost use Rattle.std.specs.Prelude.{◌≡◌, ◌≤◌, length};
-    ghost use Rattle.pf_inodes.specs.Tables.{Tables};
+    ghost use Rattle.pf_inodes.specs.Tables.{IsHeld, Tables};
     ghost use Rattle.pf_inodes.specs.Shelves.{tables_of};
 
     ghost Value = { Tables };
 
-    ghost view = { λ t. tables_of t.inodes.items t.directories.items t.tags.items };
+    ghost view = { λ t. tables_of t.inodes t.directories.items t.tags };
 
-    ghost invariant = { λ t. (length t.inodes.items ≡ 1024) × (length t.directories.items ≡ 1024) × (length t.tags.items ≤ 4096) };
+    ghost invariant = { λ t. IsHeld (tables_of t.inodes t.directories.items t.tags) };
 }
 
 impl FileTables {
@@ -40,10 +40,10 @@ impl FileTables {
         requires { blocks ≤ 4096 }
         ensures { IfOk result (λ tables. tables ≡ new_tables blocks) }
     {
-        let mut inodes = free_places(alloc, INODES)?;
-        inodes[0] = Some(Inode::Directory);
-        let directories = no_names(alloc, INODES)?;
-        let tags = free_places(alloc, blocks as usize)?;
+        let mut inodes = Places::new(alloc, INODES, None)?;
+        inodes.set(ROOT, Some(Inode::Directory));
+        let directories = no_names(alloc, INODES as usize)?;
+        let tags = Places::new(alloc, blocks, None)?;
         Ok(FileTables {
             inodes,
             directories,
@@ -55,9 +55,9 @@ impl FileTables {
     pub fn copied(&self, alloc: Global) -> Result<FileTables, NoMemory>
         ensures { IfOk result (λ tables. tables ≡ self.now) }
     {
-        let inodes = Vec::from_slice(alloc, &self.inodes)?;
+        let inodes = self.inodes.copied(alloc)?;
         let directories = copy_directories(alloc, &self.directories)?;
-        let tags = Vec::from_slice(alloc, &self.tags)?;
+        let tags = self.tags.copied(alloc)?;
         Ok(FileTables {
             inodes,
             directories,
@@ -65,7 +65,9 @@ impl FileTables {
         })
     }
 
-    /// Carries out the changes of a transaction, one by one. The one error is `NoMemory` (1), which leaves the tables as they were.
+    /// Carries out the changes of a transaction, one by one. A change is passed over where it names an inode or a block that is not
+    /// there, an index past 47 or a size above 196,608, or where the root would be no directory any more. The one error is `NoMemory`
+    /// (1), which leaves the tables as they were.
     pub fn apply(&mut self, alloc: Global, txn: &Txn) -> Result<(), NoMemory>
         ensures ok { OnOk result (self.new ≡ applied self.old txn.now.changes) }
         ensures err { OnErr result (self.new ≡ self.old) }
@@ -81,19 +83,21 @@ impl FileTables {
         Ok(())
     }
 
-    /// The count of blocks, at most 4,096.
+    /// The count of blocks, at most 4,096. Whatever was carried out, inode 0 is a directory, and no file is larger than 196,608 bytes.
     pub fn blocks(&self) -> u32
         ensures count { result ≡ length self.now.tags }
         ensures few { result ≤ 4096 }
+        ensures whole { IsWhole self.now }
     {
         self.tags.len() as u32
     }
 
-    /// An inode, if it is in use.
+    /// An inode, if it is in use. Inode 0 is a directory, and no file is larger than 196,608 bytes.
     pub fn inode(&self, inode: u16) -> Option<Inode>
-        ensures { result ≡ inode_at self.now inode }
+        ensures inode { result ≡ inode_at self.now inode }
+        ensures whole { IsWhole self.now }
     {
-        inode_of(&self.inodes, inode)
+        inode_of(self.inodes.as_slice(), inode)
     }
 
     /// The inode of a name in a directory.

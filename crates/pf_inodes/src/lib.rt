@@ -6,10 +6,11 @@ mod copies;
 mod edits;
 mod file_tables;
 mod look;
+mod places;
 mod rows;
 mod tables;
 
 pub use changes::{Change, Changes, Txn};
-pub use copies::{copy_name, free_places};
+pub use copies::copy_name;
 pub use file_tables::FileTables;
 pub use tables::{Entry, Inode, Tag};

@@ -3,7 +3,7 @@
 use pf_base::Bytes;
 
 /// An inode in use.
-#[derive(Clone, Copy, Debug, PartialEq, Eq)]
+#[derive(Clone, Copy, Debug, PartialEq, Eq, PartialOrd, Ord)]
 pub enum Inode {
     File { size: u32 },
     Directory,
@@ -17,8 +17,8 @@ pub struct Entry {
 }
 
 /// What a block holds: the block of this index of a file.
-#[derive(Clone, Copy, Debug, PartialEq, Eq)]
+#[derive(Clone, Copy, Debug, PartialEq, Eq, PartialOrd, Ord)]
 pub struct Tag {
     pub inode: u16,
-    pub index: u8,
+    pub index: u32,
 }

@@ -2,7 +2,7 @@
 -- tree after the call.
 use Rattle.std.proofs.Common.{◌≡◌, ◌≢◌, ℕ, ◌+◌, ◌-◌, ◌<◌, ◌≤◌, max, inl, inr, Bool, true, false, cond, not, ◌==◌, nat_lt, nat_le, List, [], ◌∷◌, ◌++◌, length, take, drop, set, Option, Some, None, is_some, refl, sym, ap, ◌∙◌, subst, arith}
 use Rattle.std.specs.Option.{option_and_then, unwrap_or, is_none}
-use Rattle.std.proofs.lemmas.Bool.{cases_Bool, cond-true, cond-false, false≢true, true≢false, lt-ltb, le-leb, ltb-false, leb-false, not-true, not-false}
+use Rattle.std.proofs.lemmas.Bool.{cases_Bool, cond-true, cond-false, false≢true, true≢false, lt-ltb, le-leb, ltb-false, leb-false, not-true, not-false, and_from, or_right}
 use Rattle.std.proofs.lemmas.Option.{none-some}
 use Rattle.std.proofs.lemmas.List.{length-set, length-take-le, append-nil}
 use Rattle.std.proofs.lemmas.List.Sums.{passes_at_first}
@@ -16,7 +16,7 @@ use Rattle.pf_tree.specs.Paths.{below}
 use Rattle.pf_tree.specs.declared.calls.FileCall.{FileCall}
 use Rattle.pf_tree.specs.declared.calls.FileCall.TheVariants.{Mkdir, Create, Write, Read, Truncate, Rename, Unlink, Rmdir, Stat, Listing}
 use Rattle.pf_tree.specs.Trees.{Node, Dir, File, Tree, at, put, without, with_moved, Sight, Data, block_count, first_of, when, step_refusal, walk_refusal, place_refusal, file_refusal, dir_refusal, size_refusal, is_dir, is_bare, goes_on, size_at, blocks_at, written_size, sized_blocks, resized, sized, replaced, unlisted, refusal, tree_sight, changed}
-use Rattle.pf_inodes.specs.Tables.{Tables, Entries, inode_at, inode_with, tag_at, entry_at, has_names, unnamed, named, walk, blocks_of, applied, least_free}
+use Rattle.pf_inodes.specs.Tables.{Tables, Entries, inode_at, inode_with, tag_at, entry_at, has_names, may_set, unnamed, named, walk, blocks_of, applied, least_free}
 use Rattle.pf_tree.specs.Plans.{has_none, node_in, node_of, node_at, untagged, found, freed, given, makes, resizes, sizes, changes}
 use Rattle.pf_tree.specs.Standing.{StandsFor, Follows, IsCall, PlansAs}
 use Rattle.pf_tree.proofs.Paths.{below_of, below_is}
@@ -70,6 +70,11 @@ is_none_of (Some x) e = absurd (true≢false e)
 
 cons_not_nil : (c : Change) (cs : List Change) → c ∷ cs ≢ []
 cons_not_nil c cs e = cc
+
+-- an inode other than the root may be set
+may_set_at : (i kind size : ℕ) → i ≢ 0 → size ≤ 196608 → may_set i kind size ≡ true
+may_set_at i kind size other few =
+    and_from _ _ (le-leb size 196608 few) (or_right (nat_lt 1 kind) (nat_lt 0 i) (lt-ltb 0 i (omega (arith, other))))
 
 pub few_blocks : (size : ℕ) → size ≤ 196608 → block_count size ≤ 48
 few_blocks size h = omega arith
@@ -149,6 +154,12 @@ module _ (d : Data) (tables : Tables) (tree : Tree) (s : StandsFor d tables tree
         ];
       }
 
+  not_root : (i : ℕ) → (inode_at tables i ≡ Some Directory → ⊥) → i ≢ 0
+  not_root i other e = other (ap (inode_at tables) e ∙ s.names.root)
+
+  file_not_root : (i size : ℕ) → inode_at tables i ≡ Some (OfFile size) → i ≢ 0
+  file_not_root i size is = not_root i (λ root. true≢false (ap is_dir (ap (node_in tables.tags i) (sym root ∙ is))))
+
   -- mkdir and create
   made : (kind : ℕ) (x : Inode) (node : Node) (n : Name) (p : Path) → inode_with kind 0 ≡ Some x → ((size : ℕ) → x ≡ OfFile size → size ≡ 0) → ((i : ℕ) → node_in tables.tags i (Some x) ≡ Some node) → place_refusal (at tree) (n ∷ p) ≡ None → nat_le (length tables.inodes) (least_free tables) ≡ false → Follows d tables (makes tables kind (n ∷ p)) tree (Some (put tree (n ∷ p) node))
   made kind x node n p is empty shown placed not_full =
@@ -157,12 +168,14 @@ module _ (d : Data) (tables : Tables) (tree : Tree) (s : StandsFor d tables tree
       let low : i < length tables.inodes = leb-false (length tables.inodes) i not_full in
       let free : inode_at tables i ≡ None = is_none_of (inode_at tables i) (not-true _ (passes_at_first is_none tables.inodes None low)) in
       let at_p : found tables p ≡ place.dir.inode = found_is p place.dir.inode place.dir.leads in
-      let after : Option Inode → ℕ → Bool → Tables = λ o dir b. record { inodes = set tables.inodes i o; entries = cond b (named tables.entries dir i n) tables.entries; tags = tables.tags } in
+      let after : List (Option Inode) → ℕ → Bool → Tables = λ xs dir b. record { inodes = xs; entries = cond b (named tables.entries dir i n) tables.entries; tags = tables.tags } in
+      let may : may_set i kind 0 ≡ true = may_set_at i kind 0 (not_root i (λ root. none-some _ (sym free ∙ root))) (omega arith) in
       let i_low : nat_lt i (length (set tables.inodes i (Some x))) ≡ true = ap (nat_lt i) (length-set tables.inodes i (Some x)) ∙ lt-ltb i (length tables.inodes) low in
       follows_change _ _ _ (put tree (n ∷ p) node)
-      (ap (λ (o : Option Inode). after o (found tables p) (nat_lt i (length (set tables.inodes i o)))) is
-      ∙ ap (λ (dir : ℕ). after (Some x) dir (nat_lt i (length (set tables.inodes i (Some x))))) at_p
-      ∙ ap (λ (b : Bool). after (Some x) place.dir.inode b) i_low)
+      (ap (λ (b : Bool). let xs : List (Option Inode) = cond b (set tables.inodes i (inode_with kind 0)) tables.inodes in after xs (found tables p) (nat_lt i (length xs))) may
+      ∙ ap (λ (o : Option Inode). after (set tables.inodes i o) (found tables p) (nat_lt i (length (set tables.inodes i o)))) is
+      ∙ ap (λ (dir : ℕ). after (set tables.inodes i (Some x)) dir (nat_lt i (length (set tables.inodes i (Some x))))) at_p
+      ∙ ap (λ (b : Bool). after (set tables.inodes i (Some x)) place.dir.inode b) i_low)
       (stands_made d tables tree s n p place.dir.inode i x node place.dir.leads place.dir.is place.absent low free empty (shown i))
 
   -- write and truncate
@@ -186,7 +199,7 @@ module _ (d : Data) (tables : Tables) (tree : Tree) (s : StandsFor d tables tree
       (let a = few_blocks size few in let b = few_blocks f.size (s.sizes i f.size f.is) in omega (arith, a, b, as_many)) in
       let set_first : Tables = record tables { inodes = set tables.inodes i (Some (OfFile size)) } in
       let done : applied tables (resizes d tables i (Some (File f.size old)) size) ≡ record { inodes = set tables.inodes i (Some (OfFile size)); entries = tables.entries; tags = tags2 } =
-      ap (λ (b : Bool). applied (record tables { inodes = cond b (set tables.inodes i (Some (OfFile size))) tables.inodes }) (freed (drop want old) ++ given i have fresh)) (le-leb size 196608 few)
+      ap (λ (b : Bool). applied (record tables { inodes = cond b (set tables.inodes i (Some (OfFile size))) tables.inodes }) (freed (drop want old) ++ given i have fresh)) (may_set_at i 1 size (file_not_root i f.size f.is) few)
       ∙ applied_append set_first (freed (drop want old)) (given i have fresh)
       ∙ ap (λ (t : Tables). applied t (given i have fresh)) (applied_freed set_first (drop want old))
       ∙ applied_given (record set_first { tags = free_all tables.tags (drop want old) }) i have fresh (length-set tables.inodes i (Some (OfFile size)) ∙ s.places) i_low short in
@@ -228,7 +241,8 @@ module _ (d : Data) (tables : Tables) (tree : Tree) (s : StandsFor d tables tree
       let named_off : Tables = record tables { entries = unnamed tables.entries w.directory n } in
       let done : applied tables (DeleteEntry w.directory n ∷ (freed old ++ SetInode i 0 0 ∷ [])) ≡ record { inodes = set tables.inodes i None; entries = unnamed tables.entries w.directory n; tags = free_all tables.tags old } =
       applied_append named_off (freed old) (SetInode i 0 0 ∷ [])
-      ∙ ap (λ (t : Tables). applied t (SetInode i 0 0 ∷ [])) (applied_freed named_off old) in
+      ∙ ap (λ (t : Tables). applied t (SetInode i 0 0 ∷ [])) (applied_freed named_off old)
+      ∙ ap (λ (b : Bool). record { inodes = cond b (set tables.inodes i None) tables.inodes; entries = unnamed tables.entries w.directory n; tags = free_all tables.tags old }) (may_set_at i 0 0 (file_not_root i f.size f.is) (omega arith)) in
       let none : (b : ℕ) → has [] b ≡ true → ⊥ = λ b h. false≢true h in
       follows_by _ (DeleteEntry w.directory n ∷ (freed old ++ SetInode i 0 0 ∷ [])) _ (Some (without tree (n ∷ p)))
       (ap (λ (dir : ℕ). DeleteEntry dir n ∷ (freed (blocks_at (node_at tables (n ∷ p))) ++ SetInode (found tables (n ∷ p)) 0 0 ∷ [])) (found_is p w.directory w.before)
@@ -253,7 +267,8 @@ module _ (d : Data) (tables : Tables) (tree : Tree) (s : StandsFor d tables tree
       (ap (λ (dir : ℕ). DeleteEntry dir n ∷ SetInode (found tables (n ∷ p)) 0 0 ∷ []) (found_is p w.directory w.before)
       ∙ ap (λ (j : ℕ). DeleteEntry w.directory n ∷ SetInode j 0 0 ∷ []) (found_is (n ∷ p) i a.leads))
       refl
-      (follows_change _ _ _ _ refl
+      (follows_change _ _ _ _
+      (ap (λ (b : Bool). record { inodes = cond b (set tables.inodes i None) tables.inodes; entries = unnamed tables.entries w.directory n; tags = tables.tags }) (may_set_at i 0 0 (s.names.no_root w.directory n i w.last) (omega arith)))
       (stands_removed d tables tree s n p w.directory i tables.tags w.before w.last (λ m. no_names tables.entries i m empty)
       (untouched tables.tags i (λ b t there same.
       let f = s.tags.of_file b t there in

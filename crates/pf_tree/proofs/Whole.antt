@@ -4,10 +4,9 @@ use Rattle.pf_tree.specs.declared.calls.FileCall.{FileCall}
 use Rattle.pf_inodes.specs.declared.changes.Change.{Change}
 use Rattle.pf_tree.specs.declared.faults.TreeFault.{TreeFault}
 use Rattle.pf_tree.specs.Trees.{Tree, Data, refusal, tree_sight, changed}
-use Rattle.pf_inodes.specs.Tables.{Tables}
+use Rattle.pf_inodes.specs.Tables.{Tables, IsWhole}
 use Rattle.pf_tree.specs.Plans.{tables_sight, changes}
 use Rattle.pf_tree.specs.Standing.{StandsFor, IsCall, Follows}
-use Rattle.pf_tree.specs.Held.{IsWhole}
 use Rattle.pf_tree.specs.Faults.{PlansTo}
 use Rattle.pf_tree.proofs.Sights.{same_refusal}
 use Rattle.pf_tree.proofs.Law.{follows}

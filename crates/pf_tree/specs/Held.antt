@@ -1,9 +1,9 @@
 -- What a mount holds: tables, and the first of its data blocks. The words of its look-ups.
-use Rattle.std.specs.Prelude.{◌≡◌, ℕ, ◌≤◌, List, [], length, ◌∷◌, ◌++◌, ◌-◌, take, drop, Option, Some}
+use Rattle.std.specs.Prelude.{◌≡◌, ◌≢◌, ℕ, ◌≤◌, List, [], length, ◌∷◌, ◌++◌, ◌-◌, take, drop, Option, Some}
 use Rattle.std.specs.Option.{option_and_then}
 use Rattle.pf_inodes.specs.declared.changes.Change.{Change}
 use Rattle.pf_inodes.specs.declared.changes.Change.TheVariants.{SetInode}
-use Rattle.pf_inodes.specs.declared.tables.Inode.TheVariants.{File as OfFile, Directory}
+use Rattle.pf_inodes.specs.declared.tables.Inode.TheVariants.{File as OfFile}
 use Rattle.pf_inodes.specs.declared.tables.Tag.{Tag}
 use Rattle.pf_inodes.specs.Names.{Name, Path}
 use Rattle.pf_inodes.specs.Tables.{Tables, Entries, inode_at, entry_at, walk, blocks_of, untagged_from}
@@ -24,12 +24,11 @@ abbrev pub IsParent : Entries → Path → ℕ → Type 0
 IsParent entries [] d = ⊥
 IsParent entries (n ∷ p) d = walk entries p ≡ Some d
 
-abbrev pub HasRoot : Tables → Type 0
-HasRoot tables = inode_at tables 0 ≡ Some Directory
-
 pub record IsFileAt (tables : Tables) (p : Path) (i size : ℕ) : Type 0 where
   pub leads : walk tables.entries p ≡ Some i
   pub is : inode_at tables i ≡ Some (OfFile size)
+  pub no_root : i ≢ 0
+  pub low : size ≤ 196608
 
 -- the changes that give a file another size
 abbrev pub size_changes : ℕ → List (Option Tag) → (inode old size : ℕ) → List Change
@@ -41,8 +40,3 @@ size_changes first tags i old size =
 -- the data blocks of tables, by their first one
 abbrev pub data_of : ℕ → Tables → Data
 data_of first t = record { first = first; blocks = length t.tags }
-
--- what tables that stand for a tree have, and planning rests on
-pub record IsWhole (t : Tables) : Type 0 where
-  pub root : HasRoot t
-  pub sizes : (i size : ℕ) → inode_at t i ≡ Some (OfFile size) → size ≤ 196608

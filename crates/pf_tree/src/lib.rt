@@ -9,7 +9,7 @@ mod plan;
 mod tree;
 
 pub use calls::FileCall;
-pub use faults::TreeFault;
+pub use faults::{TreeFault, TreeRefusal};
 pub use listing::{Listed, Listing};
 pub use pf_inodes::{Change, Changes, Entry, Inode, Tag, Txn};
 pub use tree::Tree;

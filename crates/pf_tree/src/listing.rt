@@ -1,5 +1,5 @@
 //! The listing of a tree: all its paths, in the order of their bytes.
-ghost use Rattle.std.specs.Prelude.{◌≡◌, ℕ, ◌<◌, ◌++◌, ◌∷◌, None, Some, IfOk, MatchOption, OnOk, get_or, set};
+ghost use Rattle.std.specs.Prelude.{◌≡◌, ℕ, ◌<◌, ◌++◌, ◌∷◌, None, Some, IfOk, MatchOption, OnOk, get_or, replicate, set};
 ghost use Rattle.std.specs.Cmp.Lexicographic.{slice_cmp};
 ghost use Rattle.std.specs.Ordering.{nat_cmp};
 ghost use Rattle.pf_inodes.specs.Tables.{IsAscending, inode_at, names_in};
@@ -8,7 +8,7 @@ ghost use Rattle.pf_tree.specs.Standing.{StandsFor};
 ghost use Rattle.pf_tree.specs.Trees.{Data, Tree as TreeIs};
 
 use pf_base::{Bytes, NoMemory};
-use pf_inodes::{Entry, FileTables, Inode, copy_name, free_places};
+use pf_inodes::{Entry, FileTables, Inode, copy_name};
 use std::alloc::Global;
 use std::cmp::Ordering;
 use std::marker::Model;
@@ -84,9 +84,20 @@ fn uplinks_of(alloc: Global, tables: &FileTables) -> Result<Vec<Option<Uplink>>,
     ensures links { IfOk result (λ links. links.items ≡ uplinks tables.now.entries 1024) }
     ensures ascending { OnOk result ((d : ℕ) → d < 1024 → IsAscending (names_in tables.now.entries d)) }
 {
-    let mut links = free_places(alloc, INODES as usize)?;
+    let mut links = no_uplinks(alloc)?;
     for directory in 0..INODES {
         note(alloc, &mut links, directory, tables.names_in(directory))?;
+    }
+    Ok(links)
+}
+
+/// No name for any inode.
+fn no_uplinks(alloc: Global) -> Result<Vec<Option<Uplink>>, NoMemory>
+    ensures { IfOk result (λ links. links.items ≡ replicate 1024 None) }
+{
+    let mut links = Vec::with_capacity(alloc, INODES as usize)?;
+    for inode in 0..INODES {
+        links.push(None)?;
     }
     Ok(links)
 }

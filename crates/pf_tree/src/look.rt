@@ -5,16 +5,16 @@ ghost use Rattle.pf_inodes.specs.Tables.{entry_at, least_free, names_in, walk};
 ghost use Rattle.pf_inodes.specs.declared.tables.Entry.{Entry as EntryIs};
 ghost use Rattle.pf_tree.specs.Plans.{node_at, node_of};
 ghost use Rattle.pf_tree.specs.Trees.{dir_refusal, file_refusal, file_size, place_refusal, walk_refusal, when};
-ghost use Rattle.pf_tree.specs.Held.{HasRoot, IsFileAt, IsParent, step_of};
+ghost use Rattle.pf_tree.specs.Held.{IsFileAt, IsParent, step_of};
 ghost use Rattle.pf_tree.specs.Faults.{Refuses};
 
-use crate::TreeFault;
+use crate::TreeRefusal;
 use pf_base::{Bytes, NoMemory};
 use pf_inodes::{Entry, FileTables, Inode, copy_name};
 use std::alloc::Global;
 
 /// The inode at a path, and what it is.
-pub(crate) fn walk_to(tables: &FileTables, path: &[Bytes]) -> Result<u16, TreeFault>
+pub(crate) fn walk_to(tables: &FileTables, path: &[Bytes]) -> Result<u16, TreeRefusal>
     ensures { Refuses (walk_refusal (node_at tables.now) path.now) result (λ i. walk tables.now.entries path.now ≡ Some i) }
 {
     let Some((name, rest)) = path.split_first() else {
@@ -47,17 +47,17 @@ pub(crate) fn size_of_file(tables: &FileTables, path: &[Bytes]) -> Option<u32>
 }
 
 /// One name further.
-fn step(tables: &FileTables, directory: u16, name: &Bytes) -> Result<u16, TreeFault>
+fn step(tables: &FileTables, directory: u16, name: &Bytes) -> Result<u16, TreeRefusal>
     ensures { Refuses (step_of tables.now directory name.now) result (λ i. entry_at tables.now.entries directory name.now ≡ Some i) }
 {
     if let Some(Inode::File { .. }) = tables.inode(directory) {
-        return Err(TreeFault::NotDir);
+        return Err(TreeRefusal::NotDir);
     }
     let Some(inode) = tables.entry(directory, name.as_slice()) else {
-        return Err(TreeFault::NoEntry);
+        return Err(TreeRefusal::NoEntry);
     };
     if tables.inode(inode).is_none() {
-        return Err(TreeFault::NoEntry);
+        return Err(TreeRefusal::NoEntry);
     }
     Ok(inode)
 }
@@ -73,50 +73,50 @@ fn is_taken(tables: &FileTables, directory: u16, name: &Bytes) -> bool
 }
 
 /// The directory of a place where nothing stands yet.
-pub(crate) fn place_at(tables: &FileTables, path: &[Bytes]) -> Result<u16, TreeFault>
+pub(crate) fn place_at(tables: &FileTables, path: &[Bytes]) -> Result<u16, TreeRefusal>
     ensures { Refuses (place_refusal (node_at tables.now) path.now) result (IsParent tables.now.entries path.now) }
 {
     let Some((name, rest)) = path.split_first() else {
-        return Err(TreeFault::Exists);
+        return Err(TreeRefusal::Exists);
     };
     let directory = walk_to(tables, rest)?;
     let Some(Inode::Directory) = tables.inode(directory) else {
-        return Err(TreeFault::NotDir);
+        return Err(TreeRefusal::NotDir);
     };
     if is_taken(tables, directory, name) {
-        return Err(TreeFault::Exists);
+        return Err(TreeRefusal::Exists);
     }
     Ok(directory)
 }
 
 /// The inode and the size of the file at a path.
-pub(crate) fn file_at(tables: &FileTables, path: &[Bytes]) -> Result<(u16, u32), TreeFault>
-    ensures { HasRoot tables.now → Refuses (file_refusal (node_at tables.now) path.now) result (λ x. IsFileAt tables.now path.now x.0 x.1) }
+pub(crate) fn file_at(tables: &FileTables, path: &[Bytes]) -> Result<(u16, u32), TreeRefusal>
+    ensures { Refuses (file_refusal (node_at tables.now) path.now) result (λ x. IsFileAt tables.now path.now x.0 x.1) }
 {
     let inode = walk_to(tables, path)?;
     match tables.inode(inode) {
         Some(Inode::File { size }) => Ok((inode, size)),
-        Some(Inode::Directory) => Err(TreeFault::IsDir),
-        None => Err(TreeFault::NoEntry),
+        Some(Inode::Directory) => Err(TreeRefusal::IsDir),
+        None => Err(TreeRefusal::NoEntry),
     }
 }
 
 /// The inode of the directory at a path.
-pub(crate) fn dir_at(tables: &FileTables, path: &[Bytes]) -> Result<u16, TreeFault>
+pub(crate) fn dir_at(tables: &FileTables, path: &[Bytes]) -> Result<u16, TreeRefusal>
     ensures { Refuses (dir_refusal (node_at tables.now) path.now) result (λ i. walk tables.now.entries path.now ≡ Some i) }
 {
     let inode = walk_to(tables, path)?;
     let Some(Inode::Directory) = tables.inode(inode) else {
-        return Err(TreeFault::NotDir);
+        return Err(TreeRefusal::NotDir);
     };
     Ok(inode)
 }
 
 /// The least free inode; `NoSpace` where there is none.
-pub(crate) fn least_free(tables: &FileTables) -> Result<u16, TreeFault>
+pub(crate) fn least_free(tables: &FileTables) -> Result<u16, TreeRefusal>
     ensures { Refuses (when 87 (nat_le (length tables.now.inodes) (least_free tables.now))) result (λ i. i ≡ least_free tables.now) }
 {
-    tables.least_free().ok_or(TreeFault::NoSpace)
+    tables.least_free().ok_or(TreeRefusal::NoSpace)
 }
 
 /// Copies of the names of rows.

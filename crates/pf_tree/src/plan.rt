@@ -5,12 +5,12 @@ ghost use Rattle.pf_inodes.specs.declared.changes.Change.TheVariants.{AddEntry, 
 ghost use Rattle.pf_tree.specs.Plans.{changes, freed, given, has_none, makes, node_at, removes, renames, tables_sight, unlinks};
 ghost use Rattle.pf_tree.specs.Trees.{block_count, dir_refusal, file_refusal, first_of, goes_on, place_refusal, refusal, walk_refusal, when, written_size};
 ghost use Rattle.pf_tree.specs.Paths.{below, is_same};
-ghost use Rattle.pf_tree.specs.Held.{HasRoot, IsWhole, data_of, size_changes};
+ghost use Rattle.pf_tree.specs.Held.{data_of, size_changes};
 ghost use Rattle.pf_tree.specs.Faults.{PlansTo};
 ghost use Rattle.pf_tree.specs.declared.calls.FileCall.TheVariants.{Truncate, Write};
 
-use crate::TreeFault;
 use crate::look::{dir_at, file_at, least_free, place_at, walk_to};
+use crate::{TreeFault, TreeRefusal};
 use pf_base::{Bytes, NoMemory};
 use pf_inodes::{Change, FileTables, copy_name};
 use std::alloc::Global;
@@ -30,7 +30,7 @@ pub(crate) fn plan_make(
     let directory = place_at(tables, path)?;
     let inode = least_free(tables)?;
     let Some(name) = path.first() else {
-        return Err(TreeFault::Exists);
+        return Err(TreeRefusal::Exists.into());
     };
     let changes = make_changes(alloc, kind, directory, inode, name)?;
     Ok(changes)
@@ -70,7 +70,7 @@ pub(crate) fn plan_rmdir(
 {
     let inode = dir_at(tables, path)?;
     if tables.has_names(inode) {
-        return Err(TreeFault::NotEmpty);
+        return Err(TreeRefusal::NotEmpty.into());
     }
     let Some((name, rest)) = path.split_first() else {
         return Ok(Vec::new(alloc));
@@ -105,11 +105,11 @@ pub(crate) fn plan_unlink(
     tables: &FileTables,
     path: &[Bytes],
 ) -> Result<Vec<Change>, TreeFault>
-    ensures { HasRoot tables.now → PlansTo (file_refusal (node_at tables.now) path.now) (unlinks tables.now path.now) result }
+    ensures { PlansTo (file_refusal (node_at tables.now) path.now) (unlinks tables.now path.now) result }
 {
     let (inode, size) = file_at(tables, path)?;
     let Some((name, rest)) = path.split_first() else {
-        return Err(TreeFault::IsDir);
+        return Err(TreeRefusal::IsDir.into());
     };
     let directory = walk_to(tables, rest).unwrap_or(0);
     let blocks = tables.blocks_of(alloc, inode, count_blocks(size))?;
@@ -170,14 +170,14 @@ pub(crate) fn plan_rename(
 {
     let inode = walk_to(tables, from)?;
     if is_below(from, to) {
-        return Err(TreeFault::IntoItself);
+        return Err(TreeRefusal::IntoItself.into());
     }
     let place = place_at(tables, to)?;
     let Some((name, rest)) = from.split_first() else {
         return Ok(Vec::new(alloc));
     };
     let Some(new_name) = to.first() else {
-        return Err(TreeFault::Exists);
+        return Err(TreeRefusal::Exists.into());
     };
     let directory = walk_to(tables, rest).unwrap_or(0);
     let changes = rename_changes(alloc, directory, name, place, inode, new_name)?;
@@ -269,7 +269,7 @@ pub(crate) fn plan_size(
     let more = want.saturating_sub(have) as usize;
     let fresh = tables.free_blocks(alloc, first, more)?;
     if fresh.len() < more {
-        return Err(TreeFault::NoSpace);
+        return Err(TreeRefusal::NoSpace.into());
     }
     let blocks = tables.blocks_of(alloc, inode, have)?;
     let keep = (want as usize).min(blocks.len());
@@ -328,11 +328,11 @@ pub(crate) fn plan_truncate(
     path: &[Bytes],
     size: u32,
 ) -> Result<Vec<Change>, TreeFault>
-    ensures { IsWhole tables.now → PlansTo (refusal (tables_sight (data_of first tables.now) tables.now) (Truncate path.now size)) (changes (data_of first tables.now) tables.now (Truncate path.now size)) result }
+    ensures { PlansTo (refusal (tables_sight (data_of first tables.now) tables.now) (Truncate path.now size)) (changes (data_of first tables.now) tables.now (Truncate path.now size)) result }
 {
     let (inode, old) = file_at(tables, path)?;
-    if size > MAX_SIZE || old > MAX_SIZE {
-        return Err(TreeFault::TooLarge);
+    if size > MAX_SIZE {
+        return Err(TreeRefusal::TooLarge.into());
     }
     plan_size(alloc, tables, first, inode, old, size)
 }
@@ -346,12 +346,12 @@ pub(crate) fn plan_write(
     offset: u32,
     count: u32,
 ) -> Result<Vec<Change>, TreeFault>
-    ensures { IsWhole tables.now → PlansTo (refusal (tables_sight (data_of first tables.now) tables.now) (Write path.now offset 0 count)) (changes (data_of first tables.now) tables.now (Write path.now offset 0 count)) result }
+    ensures { PlansTo (refusal (tables_sight (data_of first tables.now) tables.now) (Write path.now offset 0 count)) (changes (data_of first tables.now) tables.now (Write path.now offset 0 count)) result }
 {
     let (inode, old) = file_at(tables, path)?;
     let end = offset as u64 + count as u64;
-    if end > MAX_SIZE as u64 || old > MAX_SIZE {
-        return Err(TreeFault::TooLarge);
+    if end > MAX_SIZE as u64 {
+        return Err(TreeRefusal::TooLarge.into());
     }
     let size = written(old, end as u32, count);
     plan_size(alloc, tables, first, inode, old, size)

@@ -10,7 +10,7 @@ loop-change-preserved c = (
   tt,
   tt,
   c.change_one.ensures.tables ∙ ap (λ (t : Tables). after_change t c.in-Some.change) c.loop-change.invariant.2
-      ∙ sym (applied_push (tables_of c.args.inodes.now.items c.args.directories.now.items c.args.tags.now.items) c.loop-change.yielded c.in-Some.change),
+      ∙ sym (applied_push (tables_of c.args.inodes.now c.args.directories.now.items c.args.tags.now) c.loop-change.yielded c.in-Some.change),
   c.change_one.ensures.count ∙ c.loop-change.invariant.3,
   λ d low any.
       let n = c.change_one.ensures.count in

@@ -1,12 +1,9 @@
-use Rattle.std.proofs.Common.{arith}
-use Rattle.std.proofs.lemmas.Grind.{common_steps}
-use Rattle.pf_inodes.specs.Tables.{is_tag}
-use Rattle.pf_inodes.proofs.Looks.{first_place, no_place}
+use Rattle.std.proofs.Common.{refl, ◌∙◌}
+use Rattle.pf_inodes.proofs.Looks.{block_found, no_block}
 use Rattle.pf_inodes.proofs.look.block_of.Goals as goal
 
-pub returns-then-is_tag : goal.returns-then-is_tag
-returns-then-is_tag c =
-    first_place (is_tag c.args.inode c.args.index) c.args.tags.now c.loop-block.block (omega arith) c.loop-block.invariant (grind (arith, common_steps))
+pub returns-in-Some-clause-block : goal.returns-in-Some-clause-block
+returns-in-Some-clause-block c = block_found _ (λ a b. refl) c.args.tags.now c.args.inode c.args.index c.in-Some.block c.in-Some.ensures
 
-pub returns : goal.returns
-returns c = no_place (is_tag c.args.inode c.args.index) c.args.tags.now c.loop-block.block (omega arith) c.loop-block.invariant
+pub returns-in-None-clause-block : goal.returns-in-None-clause-block
+returns-in-None-clause-block c = c.len.ensures ∙ no_block _ (λ a b. refl) c.args.tags.now c.args.inode c.args.index c.in-None.ensures

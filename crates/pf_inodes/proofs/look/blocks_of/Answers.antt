@@ -7,5 +7,5 @@ pub loop-index-preserved : goal.loop-index-preserved
 loop-index-preserved c =
     c.in_ok-push.ensures.items
     ∙ ap (λ (xs : List ℕ). xs ++ c.block_of.result ∷ []) c.loop-index.invariant
-    ∙ ap (λ (b : ℕ). blocks_of c.args.tags.now c.args.inode c.loop-index.index ++ b ∷ []) c.block_of.ensures
+    ∙ ap (λ (b : ℕ). blocks_of c.args.tags.now c.args.inode c.loop-index.index ++ b ∷ []) c.block_of.ensures.block
     ∙ sym (blocks_more c.args.tags.now c.args.inode c.loop-index.index)

@@ -1,16 +1,14 @@
-use Rattle.std.proofs.Common.{length, arith, ◌≡◌, ◌<◌, le_of_eq}
-use Rattle.std.specs.Option.{is_none}
-use Rattle.std.proofs.lemmas.Grind.{common_steps}
+use Rattle.std.proofs.Common.{◌≡◌, ◌<◌, ◌≤◌, ℕ, Option, length, subst, sym, le_of_eq}
 use Rattle.std.specs.List.{position_or_len}
-use Rattle.pf_inodes.proofs.Looks.{first_place, no_place}
+use Rattle.std.specs.Option.{MatchOption, is_none}
+use Rattle.pf_inodes.proofs.Looks.{least_free_is, none_free}
 use Rattle.pf_inodes.proofs.look.least_free.Goals as goal
 
-pub returns-then-is_none : goal.returns-then-is_none
-returns-then-is_none c =
-    let low : c.loop-place.place < length c.args.inodes.now = omega arith in
-    let e : c.loop-place.place ≡ position_or_len is_none c.args.inodes.now =
-    first_place is_none c.args.inodes.now c.loop-place.place low c.loop-place.invariant (grind (arith, common_steps)) in
-    (e, low)
+pub returns-in_err-inode : goal.returns-in_err-inode
+returns-in_err-inode c =
+    let inodes = c.args.inodes.now in
+    let P : Option ℕ → Type 0 = λ r. MatchOption r (length inodes ≤ position_or_len is_none inodes) (λ i. (i ≡ position_or_len is_none inodes) × (i < length inodes)) in
+    subst P (sym c.from_residual.ensures) (le_of_eq (none_free _ inodes c.in_err-inode.ensures))
 
 pub returns : goal.returns
-returns c = le_of_eq (no_place is_none c.args.inodes.now c.loop-place.place (omega arith) c.loop-place.invariant)
+returns c = (least_free_is _ c.args.inodes.now c.in_ok-inode.inode c.in_ok-inode.ensures, c.in_ok-inode.ensures.within)
