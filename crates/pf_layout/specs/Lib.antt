@@ -1,3 +1,4 @@
 pub mod Supers
 pub mod Faults
 pub mod Paths
+pub mod Calls

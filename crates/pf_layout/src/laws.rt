@@ -1,11 +1,14 @@
 //! Laws of paths as words.
 ghost use Rattle.std.specs.Prelude.{◌≡◌, ◌≢◌, ◌↔◌, ℕ, List, [], ◌∷◌, ◌++◌, AllPairs, IsTrue};
+ghost use Rattle.pf_base.specs.declared.calls.Call.{Call};
 ghost use Rattle.pf_inodes.specs.Names.{Path, is_before};
+ghost use Rattle.pf_tree.specs.declared.calls.FileCall.{FileCall};
 ghost use Rattle.pf_tree.specs.declared.listing.Listed.{Listed};
 ghost use Rattle.pf_tree.specs.Listings.{Lists};
 ghost use Rattle.pf_tree.specs.Paths.{below, path_bytes};
 ghost use Rattle.pf_tree.specs.Standing.{IsMap};
 ghost use Rattle.pf_tree.specs.Trees.{Tree, goes_on};
+ghost use Rattle.pf_layout.specs.Calls.{IsReadAs};
 ghost use Rattle.pf_layout.specs.Paths.{HasNames, IsPath};
 
 /// No two paths have one spelling.
@@ -23,4 +26,9 @@ pub fn paths_below_begin_alike()
 pub fn listed_paths_ascend()
     ensures { (tree : Tree) (rows : List Listed) → IsMap tree → HasNames tree → Lists tree rows
         → AllPairs (λ (row : Listed) (later : Listed). IsTrue (is_before row.path later.path)) rows }
+{}
+
+/// A call is read in one way.
+pub fn calls_are_read_alike()
+    ensures { (call : Call) (file other : FileCall) → IsReadAs call file → IsReadAs call other → file ≡ other }
 {}

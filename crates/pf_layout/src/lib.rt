@@ -1,14 +1,18 @@
 //! The layout of a volume: its superblock, its regions, and the paths of its files.
 #![tactic(auto)]
 
+mod calls;
 mod faults;
 mod laws;
 mod path;
 mod regions;
 mod supers;
 
+pub use calls::read_call;
 pub use faults::PathFault;
-pub use laws::{listed_paths_ascend, paths_below_begin_alike, paths_tell_themselves};
+pub use laws::{
+    calls_are_read_alike, listed_paths_ascend, paths_below_begin_alike, paths_tell_themselves,
+};
 pub use path::Path;
 pub use regions::{BLOCK_BYTES, BLOCK_SECTORS, FIRST_DATA_BLOCK, JOURNAL, has_room};
 pub use supers::{BadSuper, read_super, spell_super};

@@ -7,12 +7,11 @@ use Rattle.pf_base.specs.declared.asks.Reply.TheVariants.{Written, Bytes}
 use Rattle.pf_entry.specs.Ops.{Sector}
 use Rattle.pf_inodes.specs.Tables.{Tables}
 use Rattle.pf_tree.specs.declared.calls.FileCall.{FileCall}
-use Rattle.pf_tree.specs.Held.{Held, IsWhole}
+use Rattle.pf_tree.specs.Held.{Held}
 use Rattle.pf_paxos.specs.declared.block.Block.{Block}
 use Rattle.pf_paxos.specs.declared.proposer.Next.{Next as BallotNext}
 use Rattle.pf_paxos.specs.declared.proposer.Phase.{Phase}
-use Rattle.pf_paxos.specs.declared.proposer.Phase.TheVariants.{Claiming}
-use Rattle.pf_paxos.specs.Proposers.{ProposerIs, read_in, written_in}
+use Rattle.pf_paxos.specs.Proposers.{written_in}
 use Rattle.pf_files.specs.declared.calls.Pending.{Pending}
 use Rattle.pf_files.specs.declared.moving.Moving.{Moving}
 use Rattle.pf_files.specs.Blocks.{bytes_of}
@@ -22,7 +21,7 @@ use Rattle.pf_mount.specs.declared.stand.Step.{Step}
 use Rattle.pf_mount.specs.declared.work.Work.TheVariants.{WritesSuper, Syncs, Ballots, Pauses, Moves}
 use Rattle.pf_mount.specs.Positions.{having_seen}
 use Rattle.pf_mount.specs.Mounts.{MountIs, Outcome, AnswersWork, answered, starting, balloted, ballot_read, blocks_in, has_bal, moved, paused, syncs, syncs_on}
-use Rattle.pf_mount.specs.Steps.{MakesAfter, MakesAnswer, MakesOn, WholeAt, WholeDecided, at_work, mount_at, outcome_of, stand_of, tables_after, with_proposer}
+use Rattle.pf_mount.specs.Steps.{MakesAfter, MakesAnswer, MakesOn, at_work, mount_at, outcome_of, stand_of, tables_after, with_proposer}
 
 abbrev pub seen_stand : Stand → List Block → Stand
 seen_stand s blocks = record s { position = having_seen s.position blocks }
@@ -64,14 +63,9 @@ sync_as r stand from tables pending half found more blocks sectors reply reply_i
     ∙ ap (λ (y : Reply). answered (mount_at stand tables rest pending) y) (sym reply_is))
     made
 
-none_decided : (phase : Phase) (p : ProposerIs) (pending : Option Pending) (tables : Tables) → WholeDecided (written_in phase p).next pending tables
-none_decided Claiming p pending tables = tt
-none_decided phase p pending tables = tt
-
-pub written_as : {E : Type 0} (r : Result (Step × Option Held) E) (stand from : Stand) (tables : Tables) (pending : Option Pending) (input : Option (List ℕ)) (next : BallotNext) (reply : Reply) → reply ≡ Written → from ≡ with_proposer stand (written_in stand.position.proposer.phase stand.position.proposer).proposer → next ≡ (written_in stand.position.proposer.phase stand.position.proposer).next → (WholeDecided next pending tables → IfOk r (λ x. MakesAfter from tables pending x.0 x.1 (λ m. balloted m input next))) → IfOk r (λ x. MakesAnswer stand tables pending (Ballots input) reply x.0 x.1)
+pub written_as : {E : Type 0} (r : Result (Step × Option Held) E) (stand from : Stand) (tables : Tables) (pending : Option Pending) (input : Option (List ℕ)) (next : BallotNext) (reply : Reply) → reply ≡ Written → from ≡ with_proposer stand (written_in stand.position.proposer.phase stand.position.proposer).proposer → next ≡ (written_in stand.position.proposer.phase stand.position.proposer).next → IfOk r (λ x. MakesAfter from tables pending x.0 x.1 (λ m. balloted m input next)) → IfOk r (λ x. MakesAnswer stand tables pending (Ballots input) reply x.0 x.1)
 written_as r stand from tables pending input next reply reply_is from_is next_is made =
     let o = written_in stand.position.proposer.phase stand.position.proposer in
-    let W : BallotNext → Type 0 = λ n. WholeDecided n pending tables in
     IfOk-weaker r (λ x. MakesAfter from tables pending x.0 x.1 (λ m. balloted m input next)) (λ x. MakesAnswer stand tables pending (Ballots input) reply x.0 x.1)
     (λ x h. λ calls.
     let rest = at_work (Ballots input) calls in
@@ -79,32 +73,32 @@ written_as r stand from tables pending input next reply reply_is from_is next_is
     ∙ ap (λ (s : Stand). balloted (mount_at s tables rest pending) input next) from_is
     ∙ ap (λ (n : BallotNext). balloted (mount_at (with_proposer stand o.proposer) tables rest pending) input n) next_is
     ∙ ap (λ (y : Reply). answered (mount_at stand tables rest pending) y) (sym reply_is))
-    (made (subst W (sym next_is) (none_decided stand.position.proposer.phase stand.position.proposer pending tables)))
+    made
 
-pub ballot_as : {E : Type 0} (r : Result (Step × Option Held) E) (stand from : Stand) (tables : Tables) (pending : Option Pending) (input : Option (List ℕ)) (blocks : List Block) (sectors : List Sector) (reply : Reply) → reply ≡ Bytes sectors → blocks ≡ blocks_in sectors → from ≡ seen_stand stand blocks → (WholeDecided (read_in from.position.proposer.phase from.position.proposer blocks).next pending tables → IfOk r (λ x. MakesAfter from tables pending x.0 x.1 (λ m. ballot_read m input blocks))) → WholeAt stand.position.proposer tables pending (Ballots input) reply → IfOk r (λ x. MakesAnswer stand tables pending (Ballots input) reply x.0 x.1)
+pub ballot_as : {E : Type 0} (r : Result (Step × Option Held) E) (stand from : Stand) (tables : Tables) (pending : Option Pending) (input : Option (List ℕ)) (blocks : List Block) (sectors : List Sector) (reply : Reply) → reply ≡ Bytes sectors → blocks ≡ blocks_in sectors → from ≡ seen_stand stand blocks → IfOk r (λ x. MakesAfter from tables pending x.0 x.1 (λ m. ballot_read m input blocks)) → IfOk r (λ x. MakesAnswer stand tables pending (Ballots input) reply x.0 x.1)
 ballot_as r stand from tables pending input blocks sectors reply reply_is blocks_is from_is made =
-    let Q : Stand → List Block → Type 0 = λ s bs. WholeDecided (read_in s.position.proposer.phase s.position.proposer bs).next pending tables → IfOk r (λ x. MakesAfter s tables pending x.0 x.1 (λ m. ballot_read m input bs)) in
+    let Q : Stand → List Block → Type 0 = λ s bs. IfOk r (λ x. MakesAfter s tables pending x.0 x.1 (λ m. ballot_read m input bs)) in
     let Q1 : Stand → Type 0 = λ s. Q s blocks in
     let Q2 : List Block → Type 0 = λ bs. Q (seen_stand stand bs) bs in
-    let R : Reply → Type 0 = λ y. WholeAt stand.position.proposer tables pending (Ballots input) y → IfOk r (λ x. MakesAnswer stand tables pending (Ballots input) y x.0 x.1) in
+    let R : Reply → Type 0 = λ y. IfOk r (λ x. MakesAnswer stand tables pending (Ballots input) y x.0 x.1) in
     let there : Q (seen_stand stand (blocks_in sectors)) (blocks_in sectors) = subst Q2 blocks_is (subst Q1 from_is made) in
-    subst R (sym reply_is) (λ whole.
-    IfOk-weaker r (λ x. MakesAfter (seen_stand stand (blocks_in sectors)) tables pending x.0 x.1 (λ m. ballot_read m input (blocks_in sectors))) (λ x. MakesAnswer stand tables pending (Ballots input) (Bytes sectors) x.0 x.1)
+    subst R (sym reply_is)
+    (IfOk-weaker r (λ x. MakesAfter (seen_stand stand (blocks_in sectors)) tables pending x.0 x.1 (λ m. ballot_read m input (blocks_in sectors))) (λ x. MakesAnswer stand tables pending (Ballots input) (Bytes sectors) x.0 x.1)
     (λ x h. λ calls. h (at_work (Ballots input) calls))
-    (there whole))
+    there)
 
-pub taken_as : (m : MountIs) (stand : Stand) (tables : Tables) (pending : Option Pending) (reply : Reply) (step : Step) (tree : Option Held) (o : Outcome) → stand ≡ stand_of m → tables ≡ m.files.tables → pending ≡ m.files.pending → (WholeAt stand.position.proposer tables pending m.work reply → MakesAnswer stand tables pending m.work reply step tree) → o ≡ outcome_of step (tables_after m.files.tables tree) (at_work m.work m.files.calls) m.files.pending → WholeAt m.position.proposer m.files.tables m.files.pending m.work reply → o ≡ answered m reply
-taken_as m stand tables pending reply step tree o stand_is tables_is pending_is made o_is whole =
-    let F : Stand → Tables → Option Pending → Type 0 = λ s t p. WholeAt s.position.proposer t p m.work reply → MakesAnswer s t p m.work reply step tree in
+pub taken_as : (m : MountIs) (stand : Stand) (tables : Tables) (pending : Option Pending) (reply : Reply) (step : Step) (tree : Option Held) (o : Outcome) → stand ≡ stand_of m → tables ≡ m.files.tables → pending ≡ m.files.pending → MakesAnswer stand tables pending m.work reply step tree → o ≡ outcome_of step (tables_after m.files.tables tree) (at_work m.work m.files.calls) m.files.pending → o ≡ answered m reply
+taken_as m stand tables pending reply step tree o stand_is tables_is pending_is made o_is =
+    let F : Stand → Tables → Option Pending → Type 0 = λ s t p. MakesAnswer s t p m.work reply step tree in
     let F1 : Stand → Type 0 = λ s. F s tables pending in
     let F2 : Tables → Type 0 = λ t. F (stand_of m) t pending in
     let F3 : Option Pending → Type 0 = λ p. F (stand_of m) m.files.tables p in
-    o_is ∙ subst F3 pending_is (subst F2 tables_is (subst F1 stand_is made)) whole m.files.calls
+    o_is ∙ subst F3 pending_is (subst F2 tables_is (subst F1 stand_is made)) m.files.calls
 
-pub begun_as : (m : MountIs) (stand : Stand) (tables : Tables) (number : ℕ) (call : FileCall) (step : Step) (o : Outcome) → stand ≡ stand_of m → tables ≡ m.files.tables → number ≡ suc m.files.calls → ((stand.upto ≡ 256 → IsWhole tables) → MakesOn stand tables (Some (record { number = number; call = call })) step syncs) → o ≡ outcome_of step m.files.tables (at_work m.work (suc m.files.calls)) (Some (record { number = suc m.files.calls; call = call })) → (m.upto ≡ 256 → IsWhole m.files.tables) → o ≡ starting m call
-begun_as m stand tables number call step o stand_is tables_is number_is made o_is whole =
-    let F : Stand → Tables → ℕ → Type 0 = λ s t n. (s.upto ≡ 256 → IsWhole t) → MakesOn s t (Some (record { number = n; call = call })) step syncs in
+pub begun_as : (m : MountIs) (stand : Stand) (tables : Tables) (number : ℕ) (call : FileCall) (step : Step) (o : Outcome) → stand ≡ stand_of m → tables ≡ m.files.tables → number ≡ suc m.files.calls → MakesOn stand tables (Some (record { number = number; call = call })) step syncs → o ≡ outcome_of step m.files.tables (at_work m.work (suc m.files.calls)) (Some (record { number = suc m.files.calls; call = call })) → o ≡ starting m call
+begun_as m stand tables number call step o stand_is tables_is number_is made o_is =
+    let F : Stand → Tables → ℕ → Type 0 = λ s t n. MakesOn s t (Some (record { number = n; call = call })) step syncs in
     let F1 : Stand → Type 0 = λ s. F s tables number in
     let F2 : Tables → Type 0 = λ t. F (stand_of m) t number in
     let F3 : ℕ → Type 0 = λ n. F (stand_of m) m.files.tables n in
-    o_is ∙ subst F3 number_is (subst F2 tables_is (subst F1 stand_is made)) whole (at_work m.work (suc m.files.calls))
+    o_is ∙ subst F3 number_is (subst F2 tables_is (subst F1 stand_is made)) (at_work m.work (suc m.files.calls))

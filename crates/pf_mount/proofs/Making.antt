@@ -3,7 +3,7 @@ use Rattle.std.proofs.Common.{◌≡◌, ℕ, zero, suc, ◌-◌, ◌<◌, Bool,
 use Rattle.std.proofs.lemmas.Result.{IfOk-weaker}
 use Rattle.pf_volume.specs.Volumes.{Extent}
 use Rattle.pf_inodes.specs.Tables.{Tables}
-use Rattle.pf_tree.specs.Held.{Held, IsWhole}
+use Rattle.pf_tree.specs.Held.{Held}
 use Rattle.pf_inodes.specs.declared.changes.Txn.{Txn}
 use Rattle.pf_inodes.proofs.Shelves.{applied_length}
 use Rattle.pf_txn.specs.Spelling.{CanSpell, spell_txn}
@@ -23,7 +23,7 @@ use Rattle.pf_mount.specs.declared.stand.Step.{Step}
 use Rattle.pf_mount.specs.declared.work.Work.TheVariants.{Ballots}
 use Rattle.pf_mount.specs.Positions.{can_start}
 use Rattle.pf_mount.specs.Mounts.{MountIs, Outcome, aborted, asking, ballot_read, balloted, ballots, decided, done, finds_value, goes_on, moved, paused, pauses, plans, proceeds_with, writes_own}
-use Rattle.pf_mount.specs.Steps.{CanPropose, IsHeldFor, Makes, MakesAfter, Rest, WholeDecided, WholeFor, advanced_stand, mount_at, outcome_of, with_proposer}
+use Rattle.pf_mount.specs.Steps.{CanPropose, IsHeldFor, Makes, MakesAfter, Rest, advanced_stand, mount_at, outcome_of, with_proposer}
 
 pub ok_makes : {E : Type 0} (r : Result Step E) (from to : Stand) (f g : MountIs → Outcome) → ((tables : Tables) (rest : Rest) (pending : Option Pending) → f (mount_at from tables rest pending) ≡ g (mount_at to tables rest pending)) → IfOk r (λ s. Makes from s f) → IfOk r (λ s. Makes to s g)
 ok_makes r from to f g same made =
@@ -75,11 +75,11 @@ held_after v before after txn is e = record {
   first = ap (λ (h : Held). h.first) e ∙ is.first;
 }
 
-pub proceeds_as : {E : Type 0} (r : Result Step E) (stand next : Stand) (before after : Tables) (pending : Option Pending) (input : Option (List ℕ)) (txn : Option Txn) (p : Pending) (x : List ℕ) → next ≡ advanced_stand stand → after ≡ applied_in before txn → pending ≡ Some p → input ≡ Some x → (IsWhole after → IfOk r (λ step. (rest : Rest) → outcome_of step after rest (Some p) ≡ proceeds_with (mount_at next before rest (Some p)) (mount_at next after rest (Some p)) txn (Some p))) → WholeFor pending after → IfOk r (λ step. (rest : Rest) → outcome_of step after rest pending ≡ decided (mount_at stand before rest pending) input txn)
-proceeds_as r stand next before after pending input txn p x next_is after_is pending_is input_is made whole =
-    let P : Option Pending → Type 0 = λ o. WholeFor o after → IfOk r (λ step. (rest : Rest) → outcome_of step after rest o ≡ decided (mount_at stand before rest o) input txn) in
-    subst P (sym pending_is) (λ all.
-    IfOk-weaker r
+pub proceeds_as : {E : Type 0} (r : Result Step E) (stand next : Stand) (before after : Tables) (pending : Option Pending) (input : Option (List ℕ)) (txn : Option Txn) (p : Pending) (x : List ℕ) → next ≡ advanced_stand stand → after ≡ applied_in before txn → pending ≡ Some p → input ≡ Some x → IfOk r (λ step. (rest : Rest) → outcome_of step after rest (Some p) ≡ proceeds_with (mount_at next before rest (Some p)) (mount_at next after rest (Some p)) txn (Some p)) → IfOk r (λ step. (rest : Rest) → outcome_of step after rest pending ≡ decided (mount_at stand before rest pending) input txn)
+proceeds_as r stand next before after pending input txn p x next_is after_is pending_is input_is made =
+    let P : Option Pending → Type 0 = λ o. IfOk r (λ step. (rest : Rest) → outcome_of step after rest o ≡ decided (mount_at stand before rest o) input txn) in
+    subst P (sym pending_is)
+    (IfOk-weaker r
     (λ step. (rest : Rest) → outcome_of step after rest (Some p) ≡ proceeds_with (mount_at next before rest (Some p)) (mount_at next after rest (Some p)) txn (Some p))
     (λ step. (rest : Rest) → outcome_of step after rest (Some p) ≡ decided (mount_at stand before rest (Some p)) input txn)
     (λ step h. λ rest.
@@ -87,20 +87,19 @@ proceeds_as r stand next before after pending input txn p x next_is after_is pen
     ∙ ap (λ (s : Stand). proceeds_with (mount_at s before rest (Some p)) (mount_at s after rest (Some p)) txn (Some p)) next_is
     ∙ ap (λ (t : Tables). proceeds_with (mount_at (advanced_stand stand) before rest (Some p)) (mount_at (advanced_stand stand) t rest (Some p)) txn (Some p)) after_is
     ∙ ap (λ (i : Option (List ℕ)). decided (mount_at stand before rest (Some p)) i txn) (sym input_is))
-    (made all)) whole
+    made)
 
 abbrev pub read_if : MountIs → (input : Option (List ℕ)) → List Block → Bool → Outcome
 read_if m input blocks b =
     if b then goes_on m input (read_in m.position.proposer.phase m.position.proposer blocks) else aborted m input
 
-pub read_as : {E : Type 0} (r : Result (Step × Option Held) E) (from to : Stand) (tables : Tables) (pending : Option Pending) (input : Option (List ℕ)) (blocks : List Block) (next : BallotNext) → from ≡ with_proposer to (read_in to.position.proposer.phase to.position.proposer blocks).proposer → next ≡ (read_in to.position.proposer.phase to.position.proposer blocks).next → finds_value to.position.proposer blocks ≡ true → (WholeDecided next pending tables → IfOk r (λ x. MakesAfter from tables pending x.0 x.1 (λ m. balloted m input next))) → WholeDecided (read_in to.position.proposer.phase to.position.proposer blocks).next pending tables → IfOk r (λ x. MakesAfter to tables pending x.0 x.1 (λ m. ballot_read m input blocks))
-read_as r from to tables pending input blocks next is next_is finds made whole =
+pub read_as : {E : Type 0} (r : Result (Step × Option Held) E) (from to : Stand) (tables : Tables) (pending : Option Pending) (input : Option (List ℕ)) (blocks : List Block) (next : BallotNext) → from ≡ with_proposer to (read_in to.position.proposer.phase to.position.proposer blocks).proposer → next ≡ (read_in to.position.proposer.phase to.position.proposer blocks).next → finds_value to.position.proposer blocks ≡ true → IfOk r (λ x. MakesAfter from tables pending x.0 x.1 (λ m. balloted m input next)) → IfOk r (λ x. MakesAfter to tables pending x.0 x.1 (λ m. ballot_read m input blocks))
+read_as r from to tables pending input blocks next is next_is finds made =
     let o = read_in to.position.proposer.phase to.position.proposer blocks in
-    let W : BallotNext → Type 0 = λ n. WholeDecided n pending tables in
     IfOk-weaker r (λ x. MakesAfter from tables pending x.0 x.1 (λ m. balloted m input next)) (λ x. MakesAfter to tables pending x.0 x.1 (λ m. ballot_read m input blocks))
     (λ x h. λ rest.
     h rest
     ∙ ap (λ (s : Stand). balloted (mount_at s tables rest pending) input next) is
     ∙ ap (λ (n : BallotNext). balloted (mount_at (with_proposer to o.proposer) tables rest pending) input n) next_is
     ∙ ap (read_if (mount_at to tables rest pending) input blocks) (sym finds))
-    (made (subst W (sym next_is) whole))
+    made

@@ -2,20 +2,15 @@
 use Rattle.std.specs.Prelude.{◌≡◌, ℕ, suc, ◌<◌, ◌≤◌, Bool, true, false, length, Option, Some, None}
 use Rattle.pf_volume.specs.Volumes.{Extent, size_of}
 use Rattle.pf_inodes.specs.Tables.{Tables}
-use Rattle.pf_tree.specs.Held.{Held, IsWhole}
+use Rattle.pf_tree.specs.Held.{Held}
 use Rattle.pf_files.specs.declared.calls.Pending.{Pending}
 use Rattle.pf_txn.specs.Spelling.{CanSpell, IsShortCall}
 use Rattle.pf_files.specs.Blocks.{IsInside}
 use Rattle.pf_files.specs.declared.calls.Planned.{Planned}
 use Rattle.pf_files.specs.declared.calls.Planned.TheVariants.{Proposes}
 use Rattle.pf_files.specs.Moving.{IsTreeOf}
-use Rattle.pf_files.specs.Calls.{applied_in}
-use Rattle.pf_txn.specs.Reading.{txn_in}
-use Rattle.pf_paxos.specs.declared.proposer.Next.{Next as BallotNext}
-use Rattle.pf_paxos.specs.declared.proposer.Next.TheVariants.{Decided}
-use Rattle.pf_paxos.specs.Proposers.{ProposerIs, read_in}
+use Rattle.pf_paxos.specs.Proposers.{ProposerIs}
 use Rattle.pf_base.specs.declared.asks.Reply.{Reply}
-use Rattle.pf_base.specs.declared.asks.Reply.TheVariants.{Bytes}
 use Rattle.pf_paxos.specs.Standing.{IsInput}
 use Rattle.pf_mount.specs.declared.stand.Stand.{Stand}
 use Rattle.pf_mount.specs.declared.stand.Step.{Step}
@@ -24,7 +19,7 @@ use Rattle.pf_mount.specs.declared.work.Next.TheVariants.{Ask as Asks}
 use Rattle.pf_mount.specs.declared.work.Work.{Work}
 use Rattle.pf_mount.specs.declared.work.Work.TheVariants.{ReadsSuper, WritesSuper, Syncs, Ballots, Pauses}
 use Rattle.pf_mount.specs.Positions.{new_position}
-use Rattle.pf_mount.specs.Mounts.{MountIs, Outcome, answered, blocks_in}
+use Rattle.pf_mount.specs.Mounts.{MountIs, Outcome, answered}
 
 -- one of sixteen mounts, of a volume with room for the journal and a block of data, at one of 256 positions or past them
 pub record IsStand (s : Stand) : Type 0 where
@@ -37,11 +32,6 @@ pub record IsHeldFor (v : Extent) (h : Held) : Type 0 where
   pub blocks : IsTreeOf v h.tables
   pub inodes : length h.tables.inodes ≡ 1024
   pub first : h.first ≡ 513
-
--- where a call is pending, the tables on which it is planned are whole
-abbrev pub WholeFor : Option Pending → Tables → Type 0
-WholeFor None tables = Unit {0}
-WholeFor (Some p) tables = IsWhole tables
 
 -- what is to be proposed has a spelling
 abbrev pub CanPropose : Planned → Type 0
@@ -130,18 +120,6 @@ IsTakenFor v (Some held) = IsHeldFor v held
 abbrev pub MakesAfter : Stand → Tables → Option Pending → Step → Option Held → (MountIs → Outcome) → Type 0
 MakesAfter stand tables pending step tree machine =
     (rest : Rest) → outcome_of step (tables_after tables tree) rest pending ≡ machine (mount_at stand tables rest pending)
-
--- a ballot that decides now: the tables on which the pending call is planned then are whole
-abbrev pub WholeDecided : BallotNext → Option Pending → Tables → Type 0
-WholeDecided (Decided value) pending tables = WholeFor pending (applied_in tables (txn_in value))
-WholeDecided next pending tables = Unit {0}
-
--- an answer lets the pending call be planned where it is that of the last read of a sync, or decides the position. The tables on which it
--- is planned then are whole
-abbrev pub WholeAt : ProposerIs → Tables → Option Pending → Work → Reply → Type 0
-WholeAt p tables pending (Syncs half found) reply = (half ≡ 0 → ⊥) → WholeFor pending tables
-WholeAt p tables pending (Ballots input) (Bytes sectors) = WholeDecided (read_in p.phase p (blocks_in sectors)).next pending tables
-WholeAt p tables pending work reply = Unit {0}
 
 abbrev pub at_work : Work → (calls : ℕ) → Rest
 at_work work calls = record { calls = calls; work = work }

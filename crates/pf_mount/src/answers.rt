@@ -3,13 +3,12 @@ ghost use Rattle.std.specs.Prelude.{◌≡◌, ◌<◌, IfOk, None, Some, length
 ghost use Rattle.pf_mount.specs.declared.work.Work.TheVariants.{ReadsSuper, Syncs, Ballots, Moves};
 ghost use Rattle.pf_paxos.specs.Proposers.{IsWriting, read_in, written_in};
 ghost use Rattle.pf_paxos.specs.Standing.{AreBlocks, IsInput};
-ghost use Rattle.pf_tree.specs.Held.{IsWhole};
 ghost use Rattle.pf_txn.specs.Reading.{txn_in};
 ghost use Rattle.pf_txn.specs.Spelling.{IsShortCall};
 ghost use Rattle.pf_files.specs.Calls.{applied_in};
 ghost use Rattle.pf_mount.specs.Positions.{CanAsk, IsReadPending};
 ghost use Rattle.pf_mount.specs.Mounts.{AnswersMoving, AnswersWork, ballot_read, balloted, decided, has_bal, paused, proceeds_with, super_read, syncs_on};
-ghost use Rattle.pf_mount.specs.Steps.{IsHeldFor, IsShortFor, IsStand, IsStep, IsTakenFor, IsWorkAt, Makes, MakesAfter, MakesAnswer, MakesOn, Rest, WholeAt, WholeDecided, WholeFor, advanced_stand, mount_at, outcome_of};
+ghost use Rattle.pf_mount.specs.Steps.{IsHeldFor, IsShortFor, IsStand, IsStep, IsTakenFor, IsWorkAt, Makes, MakesAfter, MakesAnswer, MakesOn, Rest, advanced_stand, mount_at, outcome_of};
 
 use crate::asks::{blocks_in, reads_half, writes_super};
 use crate::ballots::{aborted, asks_read, asks_write, ballots, moved, pauses};
@@ -80,7 +79,7 @@ fn syncs_on(
     requires tree { IsHeldFor stand.volume tree.now }
     requires call { IsShortFor pending.now }
     ensures form { IfOk result (IsStep stand.mount stand.volume) }
-    ensures makes { ((half ≡ 0 → ⊥) → WholeFor pending.now tree.now.tables) → IfOk result (λ step. MakesOn stand tree.now.tables pending.now step (λ m. syncs_on m half found)) }
+    ensures makes { IfOk result (λ step. MakesOn stand tree.now.tables pending.now step (λ m. syncs_on m half found)) }
 {
     if half == 0 {
         let ask = reads_half(&stand.volume, stand.upto, 1);
@@ -125,7 +124,7 @@ fn ballot_read(
     requires forms { AreBlocks blocks.now }
     ensures form { IfOk result (λ x. IsStep stand.mount stand.volume x.0) }
     ensures tree { IfOk result (λ x. IsTakenFor stand.volume x.1) }
-    ensures makes { WholeDecided (read_in stand.position.proposer.phase stand.position.proposer blocks.now).next pending.now tree.now.tables → IfOk result (λ x. MakesAfter stand tree.now.tables pending.now x.0 x.1 (λ m. ballot_read m input blocks.now)) }
+    ensures makes { IfOk result (λ x. MakesAfter stand tree.now.tables pending.now x.0 x.1 (λ m. ballot_read m input blocks.now)) }
 {
     if !stand.position.finds_value(blocks) {
         return Ok((aborted(stand, input), None));
@@ -151,7 +150,7 @@ fn balloted(
     requires next { CanAsk next }
     ensures form { IfOk result (λ x. IsStep stand.mount stand.volume x.0) }
     ensures tree { IfOk result (λ x. IsTakenFor stand.volume x.1) }
-    ensures makes { WholeDecided next pending.now tree.now.tables → IfOk result (λ x. MakesAfter stand tree.now.tables pending.now x.0 x.1 (λ m. balloted m input next)) }
+    ensures makes { IfOk result (λ x. MakesAfter stand tree.now.tables pending.now x.0 x.1 (λ m. balloted m input next)) }
 {
     match next {
         BallotNext::Write(block) => Ok((asks_write(alloc, stand, input, &block)?, None)),
@@ -179,7 +178,7 @@ fn decided(
     requires call { IsShortFor pending.now }
     ensures form { IfOk result (λ x. IsStep stand.mount stand.volume x.0) }
     ensures tree { IfOk result (λ x. IsHeldFor stand.volume x.1) }
-    ensures makes { WholeFor pending.now (applied_in tree.now.tables (txn_in value.now)) → IfOk result (λ x. MakesAfter stand tree.now.tables pending.now x.0 (Some x.1) (λ m. decided m input (txn_in value.now))) }
+    ensures makes { IfOk result (λ x. MakesAfter stand tree.now.tables pending.now x.0 (Some x.1) (λ m. decided m input (txn_in value.now))) }
 {
     let txn = read_txn(alloc, value)?;
     let after = applied_in(alloc, tree, &txn)?;
@@ -203,7 +202,7 @@ fn proceeds(
     requires applied { after.now.tables ≡ applied_in before.now.tables txn.now }
     requires call { IsShortFor pending.now }
     ensures form { IfOk result (IsStep stand.mount stand.volume) }
-    ensures makes { WholeFor pending.now after.now.tables → IfOk result (λ step. MakesAfter stand before.now.tables pending.now step (Some after.now) (λ m. decided m input txn.now)) }
+    ensures makes { IfOk result (λ step. MakesAfter stand before.now.tables pending.now step (Some after.now) (λ m. decided m input txn.now)) }
 {
     let next = stand.advanced();
     match (input, pending) {
@@ -225,7 +224,7 @@ fn proceeds_with(
     requires tree { IsHeldFor stand.volume after.now }
     requires call { IsShortCall pending.now.call }
     ensures form { IfOk result (IsStep stand.mount stand.volume) }
-    ensures makes { IsWhole after.now.tables → IfOk result (λ step. (rest : Rest) → outcome_of step after.now.tables rest (Some pending.now) ≡ proceeds_with (mount_at stand before.now.tables rest (Some pending.now)) (mount_at stand after.now.tables rest (Some pending.now)) txn.now (Some pending.now)) }
+    ensures makes { IfOk result (λ step. (rest : Rest) → outcome_of step after.now.tables rest (Some pending.now) ≡ proceeds_with (mount_at stand before.now.tables rest (Some pending.now)) (mount_at stand after.now.tables rest (Some pending.now)) txn.now (Some pending.now)) }
 {
     data_are_asked_inside();
     let _sectors = stand.volume.sectors();
@@ -275,7 +274,7 @@ fn sync_answered(
     requires call { IsShortFor pending.now }
     requires answers { AnswersWork stand.position.proposer.phase (Syncs half found) reply.now }
     ensures form { IfOk result (IsStep stand.mount stand.volume) }
-    ensures makes { ((half ≡ 0 → ⊥) → WholeFor pending.now tree.now.tables) → IfOk result (λ step. MakesAnswer stand tree.now.tables pending.now (Syncs half found) reply.now step None) }
+    ensures makes { IfOk result (λ step. MakesAnswer stand tree.now.tables pending.now (Syncs half found) reply.now step None) }
 {
     let Reply::Bytes(sectors) = reply else {
         unreachable!();
@@ -303,7 +302,7 @@ fn ballot_answered(
     requires answers { AnswersWork stand.position.proposer.phase (Ballots input) reply.now }
     ensures form { IfOk result (λ x. IsStep stand.mount stand.volume x.0) }
     ensures tree { IfOk result (λ x. IsTakenFor stand.volume x.1) }
-    ensures makes { WholeAt stand.position.proposer tree.now.tables pending.now (Ballots input) reply.now → IfOk result (λ x. MakesAnswer stand tree.now.tables pending.now (Ballots input) reply.now x.0 x.1) }
+    ensures makes { IfOk result (λ x. MakesAnswer stand tree.now.tables pending.now (Ballots input) reply.now x.0 x.1) }
 {
     match reply {
         Reply::Written => {
@@ -355,7 +354,7 @@ pub(crate) fn answered(
     requires answers { AnswersWork stand.position.proposer.phase work.now reply.now }
     ensures form { IfOk result (λ x. IsStep stand.mount stand.volume x.0) }
     ensures tree { IfOk result (λ x. IsTakenFor stand.volume x.1) }
-    ensures makes { WholeAt stand.position.proposer tree.now.tables pending.now work.now reply.now → IfOk result (λ x. MakesAnswer stand tree.now.tables pending.now work.now reply.now x.0 x.1) }
+    ensures makes { IfOk result (λ x. MakesAnswer stand tree.now.tables pending.now work.now reply.now x.0 x.1) }
 {
     match work {
         Work::ReadsSuper => Ok((super_answered(alloc, stand, tree, pending, reply)?, None)),

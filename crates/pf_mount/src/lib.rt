@@ -13,7 +13,10 @@ mod stand;
 mod work;
 
 pub use asks::{blocks_in, reads_first, reads_half, reads_super, writes_own, writes_super};
-pub use faults::MountFault;
-pub use laws::journal_is_asked_inside;
+pub use faults::{MountFault, StartFault};
+pub use laws::{
+    asks_are_answered_in_kind, calls_are_answered_as_planned, journal_is_asked_inside,
+    mounts_are_ready_once_and_calls_end_once, tables_follow_decisions,
+};
 pub use mount::Mount;
 pub use work::{Next, Work};

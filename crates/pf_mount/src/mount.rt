@@ -1,22 +1,25 @@
 //! A mount.
 ghost use Rattle.std.specs.Prelude.{◌≡◌, ◌≢◌, ◌↔◌, ◌+◌, ◌<◌, ◌≤◌, ◌^◌, IfOk, IsErrOf, IsTrue, OnErr, Some, suc};
+ghost use Rattle.std.specs.Option.{option_map};
+ghost use Rattle.pf_files.specs.CallNames.{name_of as name_in};
 ghost use Rattle.pf_volume.specs.Volumes.{size_of};
 ghost use Rattle.pf_mount.specs.declared.work.Work.TheVariants.{Rests};
 ghost use Rattle.pf_mount.specs.Mounts.{Answers, answered, opening, starting};
-ghost use Rattle.pf_tree.specs.Held.{IsWhole};
+ghost use Rattle.pf_mount.specs.Awaiting.{AwaitsNext};
+ghost use Rattle.pf_mount.specs.Starts.{IsMisspelled, Starts};
 ghost use Rattle.pf_txn.specs.Spelling.{IsShortCall};
-ghost use Rattle.pf_mount.specs.Steps.{AsksWithin, IsStep, IsTakenFor, WholeAt, outcome_of, tables_after, at_work};
+ghost use Rattle.pf_mount.specs.Steps.{AsksWithin, IsStep, IsTakenFor, outcome_of, tables_after, at_work};
 
 use crate::answers::answered;
 use crate::asks::reads_super;
-use crate::faults::MountFault;
+use crate::faults::{MountFault, StartFault};
 use crate::plans::syncs;
 use crate::position::Position;
 use crate::stand::{Stand, Step};
 use crate::{Next, Work};
-use pf_base::{NoMemory, Reply};
-use pf_files::{CallWork, Pending};
-use pf_layout::has_room;
+use pf_base::{Call, NoMemory, Reply};
+use pf_files::{CallName, CallWork, Pending, name_of};
+use pf_layout::{has_room, read_call};
 use pf_tree::{FileCall, Tree};
 use pf_volume::Volume;
 use std::alloc::Global;
@@ -51,6 +54,7 @@ impl Mount {
         ensures ok { IfOk result (λ x. record { mount = x.0; next = x.1 } ≡ opening number volume) }
         ensures small { IsErrOf result MountFault.SmallVolume ↔ (size_of volume < 4112) }
         ensures inside { IfOk result (λ x. AsksWithin volume x.1) }
+        ensures awaits { IfOk result (λ x. AwaitsNext x.0 x.1) }
     {
         if !has_room(volume.size()) {
             return Err(MountFault::SmallVolume);
@@ -87,6 +91,23 @@ impl Mount {
         self.upto
     }
 
+    /// How many calls were started.
+    pub fn calls(&self) -> u32
+        ensures { result ≡ self.now.files.calls }
+    {
+        self.files.calls()
+    }
+
+    /// The name of the call that has not ended.
+    pub fn call(&self) -> Option<CallName>
+        ensures { result ≡ option_map (λ p. name_in p.call) self.now.files.pending }
+    {
+        match self.files.pending() {
+            Some(pending) => Some(name_of(&pending.call)),
+            None => None,
+        }
+    }
+
     /// Whether it is not ready, or a call of it has not ended.
     pub fn is_pending(&self) -> bool
         ensures { IsTrue result ↔ (self.now.work ≢ Rests) }
@@ -96,12 +117,12 @@ impl Mount {
 
     /// The pending ask was answered: what comes next. After `NoMemory` (1), the one error, the mount is as it was.
     ///
-    /// A call is planned exactly on tables that are whole, as all are that stand for a tree. What is asked lies in the volume whatever
-    /// was decided.
+    /// What is asked lies in the volume whatever was decided.
     pub fn on_answer(&mut self, alloc: Global, reply: Reply) -> Result<Next, NoMemory>
         requires { Answers self.old reply }
-        ensures ok { WholeAt self.old.position.proposer self.old.files.tables self.old.files.pending self.old.work reply → IfOk result (λ next. record { mount = self.new; next = next } ≡ answered self.old reply) }
+        ensures ok { IfOk result (λ next. record { mount = self.new; next = next } ≡ answered self.old reply) }
         ensures inside { IfOk result (AsksWithin self.old.files.volume) }
+        ensures awaits { IfOk result (AwaitsNext self.new) }
         ensures err { OnErr result (self.new ≡ self.old) }
     {
         let stand = Stand {
@@ -121,15 +142,35 @@ impl Mount {
         Ok(self.take(step, tree))
     }
 
-    /// Begins a call whose paths are read, with a sync: what comes next. After `NoMemory` (1), the one error, the mount is as it was.
+    /// Starts a call: what comes next. The mount is as it was after each refusal: `CallPending` (91) exactly where it is not ready or a call
+    /// has not ended, else `BadName` (80) exactly where a word of the call is no path, or `/` where a directory is removed or a path
+    /// renamed, and `NoMemory` (1) where memory has run out.
     ///
-    /// Past the last position there is nothing to read, and the call is planned at once: exactly on tables that are whole.
-    pub fn begin(&mut self, alloc: Global, call: FileCall) -> Result<Next, NoMemory>
+    /// Fewer than 2^32 - 1 calls were started before.
+    pub fn start(&mut self, alloc: Global, call: Call) -> Result<Next, StartFault>
+        requires { self.old.files.calls + 1 < 2 ^ 32 }
+        ensures ok { IfOk result (λ next. Starts self.old call (record { mount = self.new; next = next })) }
+        ensures pending { IsErrOf result StartFault.CallPending ↔ (self.old.work ≢ Rests) }
+        ensures bad_name { IsErrOf result StartFault.BadName → IsMisspelled call }
+        ensures inside { IfOk result (AsksWithin self.old.files.volume) }
+        ensures awaits { IfOk result (AwaitsNext self.new) }
+        ensures err { OnErr result (self.new ≡ self.old) }
+    {
+        if self.is_pending() {
+            return Err(StartFault::CallPending);
+        }
+        let call = read_call(alloc, &call)?;
+        Ok(self.begin(alloc, call)?)
+    }
+
+    /// Begins a call whose paths are read, with a sync: what comes next. After `NoMemory` (1), the one error, the mount is as it was.
+    fn begin(&mut self, alloc: Global, call: FileCall) -> Result<Next, NoMemory>
         requires free { self.old.work ≡ Rests }
         requires short { IsShortCall call }
         requires few { self.old.files.calls + 1 < 2 ^ 32 }
-        ensures ok { (self.old.upto ≡ 256 → IsWhole self.old.files.tables) → IfOk result (λ next. record { mount = self.new; next = next } ≡ starting self.old call) }
+        ensures ok { IfOk result (λ next. record { mount = self.new; next = next } ≡ starting self.old call) }
         ensures inside { IfOk result (AsksWithin self.old.files.volume) }
+        ensures awaits { IfOk result (AwaitsNext self.new) }
         ensures err { OnErr result (self.new ≡ self.old) }
     {
         let stand = Stand {

@@ -1,11 +1,10 @@
 //! The steps of a mount that plan its call.
 ghost use Rattle.std.specs.Prelude.{◌≡◌, IfOk, Some};
-ghost use Rattle.pf_tree.specs.Held.{IsWhole};
 ghost use Rattle.pf_txn.specs.Spelling.{CanSpell, IsShortCall};
 ghost use Rattle.pf_files.specs.Calls.{PlansInside};
 ghost use Rattle.pf_files.specs.declared.answers.CallAnswer.TheVariants.{Refused};
 ghost use Rattle.pf_mount.specs.Mounts.{done, plans, plans_as, proposes, synced, syncs};
-ghost use Rattle.pf_mount.specs.Steps.{CanPropose, IsHeldFor, IsShortFor, IsStand, IsStep, Makes, MakesOn, WholeFor};
+ghost use Rattle.pf_mount.specs.Steps.{CanPropose, IsHeldFor, IsShortFor, IsStand, IsStep, Makes, MakesOn};
 
 use crate::asks::reads_half;
 use crate::ballots::{ballots, moved};
@@ -24,18 +23,18 @@ const POSITIONS: u32 = 256;
 
 /// A change is proposed at the position, unless there is none any more.
 pub(crate) fn proposes(alloc: Global, stand: Stand, txn: &Txn) -> Result<Step, NoMemory>
-    requires { IsStand stand }
-    ensures makes { CanSpell txn.now → IfOk result (λ step. Makes stand step (λ m. proposes m txn.now)) }
+    requires stand { IsStand stand }
+    requires can { CanSpell txn.now }
+    ensures makes { IfOk result (λ step. Makes stand step (λ m. proposes m txn.now)) }
     ensures form { IfOk result (IsStep stand.mount stand.volume) }
 {
     if stand.upto == POSITIONS {
         return Ok(refused(stand, CallFault::JournalFull));
     }
-    match spell_input(txn) {
-        Some(input) => ballots(alloc, stand, Some(input)),
-        // no change of tables with a root directory comes here
-        None => Ok(refused(stand, CallFault::NoSpace)),
-    }
+    let Some(input) = spell_input(txn) else {
+        unreachable!();
+    };
+    ballots(alloc, stand, Some(input))
 }
 
 /// The call is refused.
@@ -51,7 +50,8 @@ fn refused(stand: Stand, fault: CallFault) -> Step
 fn plans_as(alloc: Global, stand: Stand, planned: Planned) -> Result<Step, NoMemory>
     requires stand { IsStand stand }
     requires inside { PlansInside stand.volume planned }
-    ensures makes { CanPropose planned → IfOk result (λ step. Makes stand step (λ m. plans_as m planned)) }
+    requires can { CanPropose planned }
+    ensures makes { IfOk result (λ step. Makes stand step (λ m. plans_as m planned)) }
     ensures form { IfOk result (IsStep stand.mount stand.volume) }
 {
     match planned {
@@ -72,9 +72,10 @@ pub(crate) fn plans(
     requires tree { IsHeldFor stand.volume tree.now }
     requires call { IsShortCall pending.now.call }
     ensures form { IfOk result (IsStep stand.mount stand.volume) }
-    ensures makes { IsWhole tree.now.tables → IfOk result (λ step. MakesOn stand tree.now.tables (Some pending.now) step (λ m. plans m pending.now)) }
+    ensures makes { IfOk result (λ step. MakesOn stand tree.now.tables (Some pending.now) step (λ m. plans m pending.now)) }
 {
     planned_calls_follow_the_tree();
+    let _blocks = tree.blocks();
     let planned = plan(alloc, stand.mount, &stand.volume, tree, pending)?;
     plans_as(alloc, stand, planned)
 }
@@ -90,7 +91,7 @@ pub(crate) fn synced(
     requires tree { IsHeldFor stand.volume tree.now }
     requires call { IsShortFor pending.now }
     ensures form { IfOk result (IsStep stand.mount stand.volume) }
-    ensures makes { WholeFor pending.now tree.now.tables → IfOk result (λ step. MakesOn stand tree.now.tables pending.now step (λ m. synced m pending.now)) }
+    ensures makes { IfOk result (λ step. MakesOn stand tree.now.tables pending.now step (λ m. synced m pending.now)) }
 {
     match pending {
         Some(pending) => plans(alloc, stand, tree, pending),
@@ -114,7 +115,7 @@ pub(crate) fn syncs(
     requires tree { IsHeldFor stand.volume tree.now }
     requires call { IsShortFor pending.now }
     ensures form { IfOk result (IsStep stand.mount stand.volume) }
-    ensures makes { (stand.upto ≡ 256 → WholeFor pending.now tree.now.tables) → IfOk result (λ step. MakesOn stand tree.now.tables pending.now step syncs) }
+    ensures makes { IfOk result (λ step. MakesOn stand tree.now.tables pending.now step syncs) }
 {
     if stand.upto == POSITIONS {
         return synced(alloc, stand, tree, pending);

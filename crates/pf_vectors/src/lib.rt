@@ -8,6 +8,8 @@ mod journal;
 #[cfg(test)]
 mod layout;
 #[cfg(test)]
+mod mount;
+#[cfg(test)]
 mod spelling;
 #[cfg(test)]
 mod tree;

@@ -1,4 +1,4 @@
-use Rattle.std.proofs.Common.{◌≡◌, ◌<◌, sym, subst, ◌∙◌, arith}
+use Rattle.std.proofs.Common.{◌≡◌, ◌<◌, sym, subst, ◌∙◌}
 use Rattle.pf_mount.specs.declared.work.Work.{Work}
 use Rattle.pf_mount.specs.declared.work.Work.TheVariants.{WritesSuper, Pauses}
 use Rattle.pf_mount.specs.Mounts.{AnswersWork, answered}
@@ -7,7 +7,7 @@ use Rattle.pf_mount.proofs.Answering.{pause_answered, super_written}
 use Rattle.pf_mount.proofs.answers.answered.Goals as goal
 
 pub returns-in_ok-syncs-in-WritesSuper-clause-makes : goal.returns-in_ok-syncs-in-WritesSuper-clause-makes
-returns-in_ok-syncs-in-WritesSuper-clause-makes c = λ whole. λ calls.
+returns-in_ok-syncs-in-WritesSuper-clause-makes c = λ calls.
     let stand = c.args.stand in
     let tables = c.args.tree.now.tables in
     let pending = c.args.pending.now in
@@ -18,11 +18,11 @@ returns-in_ok-syncs-in-WritesSuper-clause-makes c = λ whole. λ calls.
     let P : Work → Type 0 = λ w. outcome_of step tables (at_work w calls) pending ≡ answered (mount_at stand tables (at_work w calls) pending) reply in
     let low : stand.upto < 256 = subst I c.in-WritesSuper.is c.requires.work in
     subst P (sym c.in-WritesSuper.is)
-    (c.in_ok-syncs-in-WritesSuper.ensures.makes (λ e. absurd (omega (arith, e, low))) (at_work WritesSuper calls)
+    (c.in_ok-syncs-in-WritesSuper.ensures.makes (at_work WritesSuper calls)
     ∙ super_written stand tables pending calls stand.position.proposer.phase reply (subst A c.in-WritesSuper.is c.requires.answers))
 
 pub returns-in_ok-paused-in-Pauses-clause-makes : goal.returns-in_ok-paused-in-Pauses-clause-makes
-returns-in_ok-paused-in-Pauses-clause-makes c = λ whole. λ calls.
+returns-in_ok-paused-in-Pauses-clause-makes c = λ calls.
     let stand = c.args.stand in
     let tables = c.args.tree.now.tables in
     let pending = c.args.pending.now in

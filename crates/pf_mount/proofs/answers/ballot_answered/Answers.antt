@@ -16,7 +16,7 @@ ballot_read-requires-clause-forms c =
     subst P (sym c.deref-in-Bytes.ensures.value) c.in_ok-blocks-in-Bytes.ensures.forms
 
 pub returns-in-Written-clause-makes : goal.returns-in-Written-clause-makes
-returns-in-Written-clause-makes c = λ whole.
+returns-in-Written-clause-makes c =
     written_as c.balloted.result c.args.stand c.written-stand.result.0 c.args.tree.now.tables c.args.pending.now c.args.input c.written-stand.result.1 c.args.reply.now
     c.in-Written.is c.written-stand.ensures.stand c.written-stand.ensures.next c.balloted.ensures.makes
 

@@ -4,7 +4,7 @@ use Rattle.pf_mount.proofs.Making.{read_as, read_if}
 use Rattle.pf_mount.proofs.answers.ballot_read.Goals as goal
 
 pub returns-then-not-finds_value-clause-makes : goal.returns-then-not-finds_value-clause-makes
-returns-then-not-finds_value-clause-makes c = λ whole. λ rest.
+returns-then-not-finds_value-clause-makes c = λ rest.
     let tables = c.args.tree.now.tables in
     let pending = c.args.pending.now in
     c.aborted.ensures.makes tables rest pending

@@ -7,7 +7,7 @@ use Rattle.pf_mount.proofs.Making.{goes_if}
 use Rattle.pf_mount.proofs.answers.proceeds_with.Goals as goal
 
 pub returns-clause-makes : goal.returns-clause-makes
-returns-clause-makes c = λ whole.
+returns-clause-makes c =
     let stand = c.args.stand in
     let before = c.args.before.now.tables in
     let after = c.args.after.now.tables in
@@ -15,4 +15,4 @@ returns-clause-makes c = λ whole.
     IfOk-weaker c.plans.result (λ s. MakesOn stand after (Some p) s (λ m. plans m p))
     (λ s. (rest : Rest) → outcome_of s after rest (Some p) ≡ goes_if (mount_at stand before rest (Some p)) (mount_at stand after rest (Some p)) p (is_of stand.mount p.number c.args.txn.now))
     (λ s made. λ rest. made rest ∙ ap (goes_if (mount_at stand before rest (Some p)) (mount_at stand after rest (Some p)) p) (sym (sym c.is_of.ensures ∙ c.if-is_of.false)))
-    (c.plans.ensures.makes whole)
+    c.plans.ensures.makes

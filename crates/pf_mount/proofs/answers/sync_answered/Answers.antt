@@ -12,7 +12,7 @@ seeing-stand-requires c =
     subst P (sym c.deref-2.ensures.value) c.in_ok-blocks.ensures.forms
 
 pub returns-clause-makes : goal.returns-clause-makes
-returns-clause-makes c = λ whole.
+returns-clause-makes c =
     let blocks = c.deref-2.result.now in
     let found = c.args.found in
     let more : c.if-found.found ≡ (found || has_bal blocks) =
@@ -21,4 +21,4 @@ returns-clause-makes c = λ whole.
       | else-found w ↦ w.found-is ∙ w.has_bal-found.ensures ∙ ap has_bal (w.deref.ensures.value ∙ sym c.deref-2.ensures.value) ∙ or_right found (has_bal blocks) w.if-found.false
     ] in
     sync_as c.syncs_on.result c.args.stand c.seeing-stand.result c.args.tree.now.tables c.args.pending.now c.args.half found c.if-found.found blocks c.in-Bytes.sectors c.args.reply.now
-    c.in-Bytes.is (c.deref-2.ensures.value ∙ c.in_ok-blocks.ensures.blocks ∙ ap blocks_in c.as_slice.ensures) c.seeing-stand.ensures more (c.syncs_on.ensures.makes whole)
+    c.in-Bytes.is (c.deref-2.ensures.value ∙ c.in_ok-blocks.ensures.blocks ∙ ap blocks_in c.as_slice.ensures) c.seeing-stand.ensures more c.syncs_on.ensures.makes

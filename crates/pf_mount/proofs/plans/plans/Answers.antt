@@ -7,14 +7,21 @@ use Rattle.pf_mount.specs.Steps.{Makes, MakesOn, mount_at}
 use Rattle.pf_mount.proofs.Making.{can_propose}
 use Rattle.pf_mount.proofs.plans.plans.Goals as goal
 
+pub plans_as-requires-clause-can : goal.plans_as-requires-clause-can
+plans_as-requires-clause-can c =
+    let stand = c.args.stand in
+    let tables = c.args.tree.now.tables in
+    let p = c.args.pending.now in
+    let law = c.planned_calls_follow_the_tree.ensures.spelled stand.mount stand.volume (data_of tables) tables p in
+    can_propose c.in_ok-planned.planned (planned stand.mount stand.volume (data_of tables) tables p) c.in_ok-planned.ensures.planned (λ txn e. law txn c.blocks-blocks.ensures.whole c.requires.tree.inodes c.requires.call e)
+
 pub returns-clause-makes : goal.returns-clause-makes
-returns-clause-makes c = λ whole.
+returns-clause-makes c =
     let stand = c.args.stand in
     let tables = c.args.tree.now.tables in
     let p = c.args.pending.now in
     let x = c.in_ok-planned.planned in
-    let is = c.in_ok-planned.ensures.planned whole in
-    let law = c.planned_calls_follow_the_tree.ensures.spelled stand.mount stand.volume (data_of tables) tables p in
+    let is = c.in_ok-planned.ensures.planned in
     IfOk-weaker c.plans_as.result (λ s. Makes stand s (λ m. plans_as m x)) (λ s. MakesOn stand tables (Some p) s (λ m. plans m p))
     (λ s made. λ rest. made tables rest (Some p) ∙ ap (λ (y : Planned). plans_as (mount_at stand tables rest (Some p)) y) is)
-    (c.plans_as.ensures.makes (can_propose x (planned stand.mount stand.volume (data_of tables) tables p) is (λ txn e. law txn whole c.requires.tree.inodes c.requires.call e)))
+    c.plans_as.ensures.makes

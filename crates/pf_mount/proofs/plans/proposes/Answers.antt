@@ -6,12 +6,12 @@ use Rattle.pf_mount.proofs.Making.{ok_makes, proposes_if}
 use Rattle.pf_mount.proofs.plans.proposes.Goals as goal
 
 pub returns-then-stand-eq-POSITIONS-clause-makes : goal.returns-then-stand-eq-POSITIONS-clause-makes
-returns-then-stand-eq-POSITIONS-clause-makes c = λ can. λ tables rest pending.
+returns-then-stand-eq-POSITIONS-clause-makes c = λ tables rest pending.
     c.refused.ensures.makes tables rest pending
     ∙ ap (proposes_if (mount_at c.args.stand tables rest pending) c.args.txn.now) (sym (eq-eqb c.args.stand.upto 256 c.if-stand-eq-POSITIONS.true))
 
-pub returns-in-Some-clause-makes : goal.returns-in-Some-clause-makes
-returns-in-Some-clause-makes c = λ can.
+pub returns-clause-makes : goal.returns-clause-makes
+returns-clause-makes c =
     ok_makes c.ballots.result c.args.stand c.args.stand (λ m. ballots m (Some c.in-Some.input)) (λ m. proposes m c.args.txn.now)
     (λ tables rest pending.
     ap (λ (value : List ℕ). ballots (mount_at c.args.stand tables rest pending) (Some value)) c.in-Some.ensures.value

@@ -1,0 +1,45 @@
+-- Calls with their paths read.
+use Rattle.std.specs.Prelude.{◌≡◌, ◌≢◌, ℕ, List, [], Result, Ok, Err}
+use Rattle.pf_base.specs.declared.calls.Call.{Call}
+use Rattle.pf_base.specs.declared.calls.Call.TheVariants as words
+use Rattle.pf_inodes.specs.Names.{Path}
+use Rattle.pf_tree.specs.declared.calls.FileCall.{FileCall}
+use Rattle.pf_tree.specs.declared.calls.FileCall.TheVariants as paths
+use Rattle.pf_tree.specs.Paths.{path_bytes}
+use Rattle.pf_layout.specs.declared.faults.PathFault.{PathFault}
+use Rattle.pf_layout.specs.declared.faults.PathFault.TheVariants.{NoMemory, BadName}
+use Rattle.pf_layout.specs.Paths.{IsPath}
+
+-- the word spells the path
+abbrev pub Spells : (word : List ℕ) → Path → Type 0
+Spells word path = IsPath path × (path_bytes path ≡ word)
+
+-- it spells a path that is not `/`, as those are that a call removes or renames
+abbrev pub SpellsPlace : (word : List ℕ) → Path → Type 0
+SpellsPlace word path = Spells word path × (path ≢ [])
+
+-- the second call is the first one with its paths read
+abbrev pub IsReadAs : Call → FileCall → Type 0
+IsReadAs (words.Mkdir w) (paths.Mkdir p) = Spells w p
+IsReadAs (words.Create w) (paths.Create p) = Spells w p
+IsReadAs (words.Write w at byte count) (paths.Write p offset value many) = Spells w p × (at ≡ offset) × (byte ≡ value) × (count ≡ many)
+IsReadAs (words.Read w at count) (paths.Read p offset many) = Spells w p × (at ≡ offset) × (count ≡ many)
+IsReadAs (words.Truncate w size) (paths.Truncate p to) = Spells w p × (size ≡ to)
+IsReadAs (words.Rename from to) (paths.Rename p q) = SpellsPlace from p × SpellsPlace to q
+IsReadAs (words.Unlink w) (paths.Unlink p) = Spells w p
+IsReadAs (words.Rmdir w) (paths.Rmdir p) = SpellsPlace w p
+IsReadAs (words.Stat w) (paths.Stat p) = Spells w p
+IsReadAs (words.List w) (paths.Listing p) = Spells w p
+IsReadAs words_call paths_call = ⊥
+
+-- a word is read as the place that it spells, and refused exactly where it spells none
+abbrev pub ReadsPlace : List ℕ → Result Path PathFault → Type 0
+ReadsPlace word (Ok path) = SpellsPlace word path
+ReadsPlace word (Err BadName) = (path : Path) → SpellsPlace word path → ⊥
+ReadsPlace word (Err NoMemory) = Unit {0}
+
+-- a call is read with the paths that its words spell, and refused exactly where a word of it spells none
+abbrev pub ReadsCall : Call → Result FileCall PathFault → Type 0
+ReadsCall call (Ok file) = IsReadAs call file
+ReadsCall call (Err BadName) = (file : FileCall) → IsReadAs call file → ⊥
+ReadsCall call (Err NoMemory) = Unit {0}
