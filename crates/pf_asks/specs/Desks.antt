@@ -1,5 +1,5 @@
 -- What a desk was asked, and what it said.
-use Rattle.std.specs.Prelude.{◌≡◌, ℕ, Bool, List, Option, Some, None, Contains, length}
+use Rattle.std.specs.Prelude.{◌≡◌, ℕ, Bool, List, [], ◌∷◌, Option, None}
 use Rattle.pf_base.specs.Span.{Span}
 
 -- a call of a desk, with its answer
@@ -22,7 +22,7 @@ IsLook (WasAcked term slot is) = Unit {0}
 IsLook (Took number None) = Unit {0}
 IsLook _ = ⊥
 
--- an answer of a read has as many sectors as the range for which a read of this number was asked
-abbrev pub IsOfItsRange : List Call → (number : ℕ) → Option (List (List ℕ)) → Type 0
-IsOfItsRange calls number None = Unit {0}
-IsOfItsRange calls number (Some sectors) = (server : ℕ) (range : Span) → Contains calls (Fetched server range (Some number)) → length sectors ≡ range.count
+-- calls that follow each other, with nothing of anybody else between them
+abbrev pub CallsLead : {K : Type 0} → (says : K → Call → K → Type 0) → (old : K) → List Call → (new : K) → Type 0
+CallsLead says old [] new = new ≡ old
+CallsLead {K} says old (call ∷ calls) new = (mid : K) × says old call mid × CallsLead says mid calls new

@@ -1,5 +1,5 @@
 -- How a port brings an ask to a leader.
-use Rattle.std.specs.Prelude.{◌≡◌, ℕ, ◌≤◌, ◌∷◌, Bool, true, false, cond, nat_le, nat_lt, List, [], Option, Some, None, Contains}
+use Rattle.std.specs.Prelude.{◌≡◌, ℕ, ◌≤◌, ◌∷◌, Bool, true, false, cond, nat_le, nat_lt, List, [], Option, Some, None}
 use Rattle.std.specs.Option.{option_map}
 use Rattle.pf_base.specs.declared.asks.Ask.{Ask}
 use Rattle.pf_base.specs.declared.asks.Ask.TheVariants.{Write, Read}
@@ -93,12 +93,10 @@ IsSentOf (Some (Write chunk span sectors)) (Some (Slot slot)) = Unit {0}
 IsSentOf (Some (Read chunk span)) (Some (Number number)) = Unit {0}
 IsSentOf ask sent = ⊥
 
--- the calls have the read that was taken up, with its range and its number
-abbrev pub IsFetchedIn : Option Sent → Option Ask → List Call → Type 0
-IsFetchedIn None ask calls = Unit {0}
-IsFetchedIn (Some (Slot slot)) ask calls = Unit {0}
-IsFetchedIn (Some (Number number)) (Some (Read chunk span)) calls = (server : ℕ) × Contains calls (Fetched server span (Some number))
-IsFetchedIn (Some (Number number)) ask calls = Unit {0}
+-- where a read was taken up, its number was asked for as many sectors as the range has
+abbrev pub IsCounted : (counts : ℕ → ℕ → Type 0) → Option Sent → Option Ask → Type 0
+IsCounted counts (Some (Number number)) (Some (Read chunk span)) = counts number span.count
+IsCounted counts sent ask = Unit {0}
 
 -- the reply is of the ask's kind
 abbrev pub IsOfKind : Ask → Reply → Type 0

@@ -1,10 +1,10 @@
 //! A port of a host into one group.
-ghost use Rattle.std.specs.Prelude.{◌≡◌, ◌↔◌, ◌<◌, ◌≤◌, ◌++◌, ◌∷◌, [], List, None, Some, IsSome, IsTrue, IfOk, IfSome, OnErr};
+ghost use Rattle.std.specs.Prelude.{◌≡◌, ◌↔◌, ◌<◌, ◌≤◌, List, None, Some, IsSome, IsTrue, IfOk, IfSome, OnErr};
 ghost use Rattle.pf_entry.specs.Lists.{Every};
 ghost use Rattle.pf_base.specs.Asks.{Answers, IsValid};
 ghost use Rattle.pf_base.specs.declared.asks.Ask.{Ask as AskIs};
-ghost use Rattle.pf_asks.specs.Desks.{Call, IsLook};
-ghost use Rattle.pf_asks.specs.Ports.{Drives, Hands, IsFetchedIn, IsLed, IsOfKind, IsSentOf, LooksFor, NeverLower, goes_to, new_port};
+ghost use Rattle.pf_asks.specs.Desks.{Call, CallsLead, IsLook};
+ghost use Rattle.pf_asks.specs.Ports.{Drives, Hands, IsCounted, IsLed, IsOfKind, IsSentOf, LooksFor, NeverLower, goes_to, new_port};
 
 use crate::Desk;
 use pf_base::{Ask, NoMemory, Reply, Server, Slot, Term};
@@ -75,14 +75,13 @@ impl Port {
     /// `NoMemory` (1) leaves the port as it was; the group was asked nothing but how things stand.
     pub fn drive<K: Desk>(&mut self, alloc: Global, desk: &mut K) -> Result<Option<Reply>, NoMemory>
         requires pending { (ask : AskIs) × (self.old.ask ≡ Some ask) }
-        ensures drove { IfOk result (λ reply. (ask : AskIs) → self.old.ask ≡ Some ask → (calls : List Call) × (K.log desk.new ≡ K.log desk.old ++ calls) × Drives self.old ask calls reply self.new) }
+        ensures drove { IfOk result (λ reply. (ask : AskIs) → self.old.ask ≡ Some ask → (calls : List Call) × CallsLead K.says desk.old calls desk.new × Drives self.old ask calls reply self.new) }
         ensures kind { IfOk result (λ reply. IfSome reply (λ r. (ask : AskIs) → self.old.ask ≡ Some ask → IsOfKind ask r)) }
         // The bytes of a read are as many sectors as its range has, at a desk that was asked for it.
-        ensures whole { IsFetchedIn self.old.sent self.old.ask (K.log desk.old) → IfOk result (λ reply. IfSome reply (λ r. (ask : AskIs) → self.old.ask ≡ Some ask → Answers ask r)) }
-        ensures fetched { IsFetchedIn self.old.sent self.old.ask (K.log desk.old) → IsFetchedIn self.new.sent self.new.ask (K.log desk.new) }
-        ensures never_lower { IfOk result (λ _. (calls : List Call) × (K.log desk.new ≡ K.log desk.old ++ calls) × NeverLower self.old.last None calls) }
+        ensures whole { IsCounted (K.counts desk.old) self.old.sent self.old.ask → IfOk result (λ reply. IfSome reply (λ r. (ask : AskIs) → self.old.ask ≡ Some ask → Answers ask r)) }
+        ensures never_lower { IfOk result (λ _. (calls : List Call) × CallsLead K.says desk.old calls desk.new × NeverLower self.old.last None calls) }
         ensures rises { IfOk result (λ _. self.old.last ≤ self.new.last) }
-        ensures err { OnErr result ((self.new ≡ self.old) × ((calls : List Call) × (K.log desk.new ≡ K.log desk.old ++ calls) × Every IsLook calls)) }
+        ensures err { OnErr result ((self.new ≡ self.old) × ((calls : List Call) × CallsLead K.says desk.old calls desk.new × Every IsLook calls)) }
     {
         if let Some(sent) = self.sent {
             let reply = answer_of(alloc, desk, sent, self.last)?;
@@ -98,10 +97,9 @@ impl Port {
 
     /// Hands the pending ask to the leader, if it goes there.
     fn lead<K: Desk>(&mut self, alloc: Global, desk: &mut K) -> Result<(), NoMemory>
-        ensures fetched { IsFetchedIn self.old.sent self.old.ask (K.log desk.old) → IsFetchedIn self.new.sent self.new.ask (K.log desk.new) }
-        ensures led { IfOk result (λ _. (ask : AskIs) → self.old.ask ≡ Some ask → (calls : List Call) × (K.log desk.new ≡ K.log desk.old ++ calls) × IsLed self.old ask calls self.new) }
+        ensures led { IfOk result (λ _. (ask : AskIs) → self.old.ask ≡ Some ask → (calls : List Call) × CallsLead K.says desk.old calls desk.new × IsLed self.old ask calls self.new) }
         ensures rises { IfOk result (λ _. self.old.last ≤ self.new.last) }
-        ensures err { OnErr result ((self.new ≡ self.old) × ((calls : List Call) × (K.log desk.new ≡ K.log desk.old ++ calls) × Every IsLook calls)) }
+        ensures err { OnErr result ((self.new ≡ self.old) × ((calls : List Call) × CallsLead K.says desk.old calls desk.new × Every IsLook calls)) }
     {
         let Some((term, server)) = desk.leader(alloc)? else {
             return Ok(());
@@ -136,10 +134,9 @@ fn hand<K: Desk>(
 ) -> Result<Option<Sent>, NoMemory>
     requires server { server < 3 }
     requires valid { IsValid ask.now }
-    ensures handed { IfOk result (λ sent. (call : Call) × (K.log desk.new ≡ K.log desk.old ++ call ∷ []) × Hands ask.now server call sent) }
+    ensures handed { IfOk result (λ sent. (call : Call) × K.says desk.old call desk.new × Hands ask.now server call sent) }
     ensures kind { IfOk result (λ sent. IsSentOf (Some ask.now) sent) }
-    ensures fetched { IfOk result (λ sent. IsFetchedIn sent (Some ask.now) (K.log desk.new)) }
-    ensures err { OnErr result (K.log desk.new ≡ K.log desk.old) }
+    ensures err { OnErr result (desk.new ≡ desk.old) }
 {
     match ask {
         Ask::Write { range, payload, .. } => {
@@ -160,9 +157,9 @@ fn answer_of<K: Desk>(
     sent: Sent,
     term: Term,
 ) -> Result<Option<Reply>, NoMemory>
-    ensures whole { IfOk result (λ reply. IfSome reply (λ r. (ask : AskIs) → IsSentOf (Some ask) (Some sent) → IsFetchedIn (Some sent) (Some ask) (K.log desk.old) → Answers ask r)) }
-    ensures looked { IfOk result (λ reply. (look : Call) × (K.log desk.new ≡ K.log desk.old ++ look ∷ []) × LooksFor sent term look reply) }
-    ensures err { OnErr result (K.log desk.new ≡ K.log desk.old) }
+    ensures whole { IfOk result (λ reply. IfSome reply (λ r. (ask : AskIs) → IsSentOf (Some ask) (Some sent) → IsCounted (K.counts desk.old) (Some sent) (Some ask) → Answers ask r)) }
+    ensures looked { IfOk result (λ reply. (look : Call) × K.says desk.old look desk.new × LooksFor sent term look reply) }
+    ensures err { OnErr result (desk.new ≡ desk.old) }
 {
     match sent {
         Sent::Slot(slot) => {

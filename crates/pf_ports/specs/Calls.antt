@@ -13,7 +13,7 @@ use Rattle.pf_protocol.specs.Histories.{History, replay}
 use Rattle.pf_protocol.specs.Ports.{Submission, submitting}
 use Rattle.pf_cluster.specs.Showing.{HasAnswer}
 use Rattle.pf_cluster.specs.Shown.{IsLeader}
-use Rattle.pf_asks.specs.Desks.{Call, Led, Submitted, Fetched, WasAcked, Took}
+use Rattle.pf_asks.specs.Desks.{Call, CallsLead, Led, Submitted, Fetched, WasAcked, Took}
 
 -- a port asks a server for the sectors of a range, perhaps once more
 pub record Fetching : Type 0 where
@@ -78,5 +78,4 @@ Says setup old (Took number (Some sectors)) new = (new ≡ old) × HasAnswer (re
 
 -- calls that follow each other, with no event of anybody else between them
 abbrev pub SayInTurn : Setup → (old : Past) → List Call → (new : Past) → Type 0
-SayInTurn setup old [] new = new ≡ old
-SayInTurn setup old (call ∷ calls) new = (mid : Past) × Says setup old call mid × SayInTurn setup mid calls new
+SayInTurn setup old calls new = CallsLead (Says setup) old calls new
