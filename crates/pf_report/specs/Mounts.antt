@@ -1,6 +1,6 @@
 -- The texts of mounts and of their calls.
 use Rattle.std.specs.Prelude.{ℕ, Bool, if◌then◌else◌, List, [], ◌∷◌, ◌++◌, codes, unwrap_or}
-use Rattle.std.specs.List.{join_with_byte}
+use Rattle.std.specs.List.{flat_map, join_with_byte}
 use Rattle.std.specs.Fmt.{decimal}
 use Rattle.pf_text.specs.Runs.{runs_text}
 use Rattle.pf_files.specs.declared.answers.CallAnswer.{CallAnswer}
@@ -8,8 +8,9 @@ use Rattle.pf_files.specs.declared.answers.CallAnswer.TheVariants.{Fine, Bytes, 
 use Rattle.pf_files.specs.declared.call_names.CallName.{CallName}
 use Rattle.pf_files.specs.declared.call_names.CallName.TheVariants.{Mkdir, Create, Write, Read, Truncate, Rename, Unlink, Rmdir, Stat, List as Lists}
 use Rattle.pf_files.specs.Faults.{fault_number}
+use Rattle.pf_tree.specs.declared.listing.Listed.{Listed}
 use Rattle.pf_report.specs.Refusals.{refusal_text}
-use Rattle.pf_report.specs.Texts.{spaced}
+use Rattle.pf_report.specs.Texts.{event_line, spaced}
 
 -- a mount was made
 abbrev pub mount_text : (mount : ℕ) → List ℕ
@@ -54,3 +55,11 @@ call_text mount name answer = codes "call " ++ decimal mount ++ codes " " ++ nam
 -- how far a mount is
 abbrev pub state_text : (mount upto : ℕ) → (pending : Bool) → List ℕ
 state_text mount upto pending = codes "mount " ++ decimal mount ++ codes " upto" ++ spaced upto ++ (if pending then codes " pending" else codes " idle")
+
+-- a path of a tree, and what stands there: a directory, or a file of so many bytes
+abbrev pub listed_text : Listed → List ℕ
+listed_text row = row.path ++ (if row.is_dir then codes " d" else codes " f" ++ spaced row.size)
+
+-- a line for each path of a tree
+abbrev pub tree_lines : List Listed → List ℕ
+tree_lines rows = flat_map (λ row. event_line (listed_text row)) rows

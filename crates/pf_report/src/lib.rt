@@ -11,5 +11,5 @@ mod sectors;
 
 pub use answers::{put_answer, put_refusal, put_settle};
 pub use logs::{put_acked, put_applied, put_log};
-pub use mounts::{put_call, put_mount, put_ready, put_started, put_state};
+pub use mounts::{put_call, put_mount, put_ready, put_started, put_state, put_tree};
 pub use sectors::{put_mark, put_read, put_sectors};

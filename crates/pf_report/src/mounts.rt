@@ -1,14 +1,16 @@
 //! Lines of mounts and of their calls.
-ghost use Rattle.std.specs.Prelude.{◌≡◌, ◌++◌, OnErr, OnOk};
-ghost use Rattle.std.specs.List.{join_with_byte};
+ghost use Rattle.std.specs.Prelude.{◌≡◌, ◌++◌, IfOk, OnErr, OnOk};
+ghost use Rattle.std.specs.List.{flat_map, join_with_byte};
 ghost use Rattle.pf_report.specs.Texts.{event_line, line_of};
-ghost use Rattle.pf_report.specs.Mounts.{call_answer_text, call_text, mount_text, name_text, names_text, ready_text, started_text, state_text};
+ghost use Rattle.pf_report.specs.Mounts.{call_answer_text, call_text, listed_text, mount_text, name_text, names_text, ready_text, started_text, state_text, tree_lines};
 
 use crate::answers::put_refusal_text;
 use crate::lines::{begun, put_ended, put_numbered, put_spaced, put_words};
 use pf_base::{Bytes, NoMemory};
 use pf_files::{CallAnswer, CallName};
 use pf_text::{put_decimal, put_runs, put_text};
+use pf_tree::{Listed, Listing};
+use std::alloc::Global;
 
 /// Puts the line of a mount that was made: the line's number, `mount`, and the mount's number.
 pub fn put_mount(out: &mut Vec<u8>, line: u32, mount: u8) -> Result<(), NoMemory>
@@ -137,4 +139,39 @@ pub fn put_state(
     let word: &[u8] = if pending { b" pending" } else { b" idle" };
     put_text(&mut text, word)?;
     put_ended(out, text)
+}
+
+/// Puts a path of a tree, and what stands there.
+fn put_listed(out: &mut Vec<u8>, row: &Listed) -> Result<(), NoMemory>
+    ensures { OnOk result (out.new.items ≡ out.old.items ++ event_line (listed_text row.now)) }
+{
+    put_text(out, b"- ")?;
+    put_text(out, row.path.as_slice())?;
+    if row.is_dir {
+        put_text(out, b" d")?;
+    } else {
+        put_text(out, b" f")?;
+        put_spaced(out, u64::from(row.size))?;
+    }
+    put_text(out, b"\n")
+}
+
+/// The lines of a tree.
+fn text_of_tree(alloc: Global, rows: &[Listed]) -> Result<Vec<u8>, NoMemory>
+    ensures { IfOk result (λ text. text.items ≡ tree_lines rows.now) }
+{
+    let mut text = Vec::new(alloc);
+    for row in rows {
+        put_listed(&mut text, row)?;
+    }
+    Ok(text)
+}
+
+/// Puts an event line for each path of a tree, in their order: the path, and `d` for a directory, or `f` and the size of a file in bytes.
+pub fn put_tree(out: &mut Vec<u8>, listing: &Listing) -> Result<(), NoMemory>
+    ensures ok { OnOk result (out.new.items ≡ out.old.items ++ tree_lines listing.now) }
+    ensures err { OnErr result (out.new.items ≡ out.old.items) }
+{
+    let text = text_of_tree(*out.allocator(), listing.as_slice())?;
+    put_text(out, &text)
 }
