@@ -1,5 +1,5 @@
 -- Where there was no memory for all of an event, a beginning of it happened.
-use Rattle.std.proofs.Common.{◌≡◌, ℕ, ◌+◌, Bool, false, if◌then◌else◌, List, [], ◌++◌, length, refl, sym, ap, subst, ◌∙◌, append-nil}
+use Rattle.std.proofs.Common.{◌≡◌, ℕ, ◌+◌, Bool, false, if◌then◌else◌, List, [], length, refl, sym, ap, subst, ◌∙◌, append-nil}
 use Rattle.pf_protocol.specs.declared.answers.Answer.{Answer}
 use Rattle.pf_protocol.specs.declared.events.Event.{Event}
 use Rattle.pf_protocol.specs.declared.events.Event.TheVariants as events
@@ -12,7 +12,7 @@ use Rattle.pf_group.specs.GroupIs.{GroupIs}
 use Rattle.pf_group.specs.Steps.{HasStepped, IsLeft}
 use Rattle.pf_rounds.specs.Agreeing.{TellsOfGroup, chunk_of, told_from, told_history}
 use Rattle.pf_rounds.specs.Begun.{HasBegun}
-use Rattle.pf_rounds.specs.Chunks.{Chunk, after}
+use Rattle.pf_rounds.specs.Chunks.{Chunk, after, answered}
 use Rattle.pf_rounds.specs.Growing.{HasGrown}
 use Rattle.pf_rounds.specs.Halts.{Halt}
 use Rattle.pf_rounds.specs.Rounds.{applied}
@@ -21,28 +21,42 @@ use Rattle.pf_rounds.proofs.Growing.{grown_refl, grown_tells, grown_trans, left_
 use Rattle.pf_rounds.proofs.Paying.{only_faults}
 use Rattle.pf_rounds.proofs.Told.{told_longer, told_replays}
 use Rattle.pf_chunk.specs.Asking.{fetches, filled, is_range, no_range, submits}
-use Rattle.pf_chunk.specs.Happenings.{Happened, happened}
-use Rattle.pf_chunk.specs.Steps.{Event as EventIs, HasFailed, HasNotFollowed}
+use Rattle.pf_chunk.specs.Happenings.{Happened, followed, happened}
+use Rattle.pf_chunk.specs.Runs.{ChunkRun}
+use Rattle.pf_chunk.specs.Steps.{HasFailed}
 use Rattle.pf_chunk.specs.Telling.{now_taken}
-use Rattle.pf_chunk.proofs.Happened.{event_is}
+use Rattle.pf_chunk.specs.Views.{ChunkIs, run_of}
+use Rattle.pf_chunk.proofs.Happened.{Fills, event_is, filled_up}
+use Rattle.pf_chunk.proofs.Midway.{plain, waits}
 
 -- an event only adds to the history of its chunk
-pub happened_extends : (halts : List Halt) (c : Chunk) (event : Event) → Extends c (happened halts c event).chunk
-unfolding happened
-happened_extends halts c event =
+pub filled_group : (halts : List Halt) (c : ChunkRun) (answer : Answer) → (followed halts c answer).chunk.group ≡ applied halts c.group
+unfolding followed
+filled_group halts c answer = refl
+
+pub event_extends : (halts : List Halt) (c : Chunk) (event : Event) → Extends c (applied halts (after halts c event))
+event_extends halts c event =
     let next = after halts c event in
     extends_on c next (applied halts next) (after_extends halts c event) (applied_extends halts next)
 
-asked_extends : (halts : List Halt) (c : Chunk) (server : ℕ) (event : Event) (ranges : Bool) → Extends c (if ranges then happened halts c event else no_range server c).chunk
-asked_extends halts c server event ranges =
-    by_test ranges (λ b. Extends c (if b then happened halts c event else no_range server c).chunk)
-    (λ _. happened_extends halts c event) (λ _. extends_refl c)
+module _ (halts : List Halt) (c : ChunkRun) where
+  pub filled_extends : (fill : Fills) (event : Event) → ((m : Chunk) (answer : Answer) → (fill c m answer).group ≡ m) → Extends c.group (filled_up fill event halts c).chunk.group
+  filled_extends fill event group =
+      let a = answered halts c.group event in
+      let m = after halts c.group event in
+      subst (Extends c.group) (sym (filled_group halts (fill c m a) a ∙ ap (applied halts) (group m a))) (event_extends halts c.group event)
 
-pub submits_extend : (halts : List Halt) (c : Chunk) (server first byte count : ℕ) → Extends c (submits halts server first byte count c).chunk
-submits_extend halts c server first byte count = asked_extends halts c server (events.Submit server (filled first byte count)) (is_range first count)
+  pub happened_extends : (event : Event) → Extends c.group (happened halts c event).chunk.group
+  happened_extends event = filled_extends plain event (λ m a. refl)
 
-pub fetches_extend : (halts : List Halt) (c : Chunk) (server first count : ℕ) → Extends c (fetches halts server first count c).chunk
-fetches_extend halts c server first count = asked_extends halts c server (events.Fetch server (record { first = first; count = count })) (is_range first count)
+  asked_extends : (server : ℕ) (ranges : Bool) (would : Happened) → Extends c.group would.chunk.group → Extends c.group (if ranges then would else no_range server c).chunk.group
+  asked_extends server ranges would is = by_test ranges (λ b. Extends c.group (if b then would else no_range server c).chunk.group) (λ _. is) (λ _. extends_refl c.group)
+
+  pub submits_extend : (server first byte count : ℕ) → Extends c.group (submits halts server first byte count c).chunk.group
+  submits_extend server first byte count = asked_extends server (is_range first count) _ (happened_extends (events.Submit server (filled first byte count)))
+
+  pub fetches_extend : (server first count : ℕ) → Extends c.group (fetches halts server first count c).chunk.group
+  fetches_extend server first count = asked_extends server (is_range first count) _ (filled_extends (waits server) (events.Fetch server (record { first = first; count = count })) (λ m a. refl))
 
 -- as a run has it, the history of an earlier moment stands in front of that of a later one
 pub told_later : (halts : List Halt) (was is : GroupIs) → HasGrown was is → IsPrefix (told_history halts was) (told_history halts is)
@@ -67,23 +81,27 @@ all_done halts old at new would tells grown same part = record {
 }
 
 -- the event itself did not happen
-module _ (event : EventIs) (old new : GroupIs) (longer : (halts : List Halt) (c : Chunk) → Extends c (event halts c).chunk) where
-  nothing_began : HasGrown old new → new.history ≡ old.history → HasFailed event old new
+module _ (would : List Halt → Chunk) (old new : GroupIs) (longer : (halts : List Halt) → Extends (chunk_of halts old) (would halts)) where
+  nothing_began : HasGrown old new → new.history ≡ old.history → HasFailed would old new
   nothing_began grown same = record {
     grown = grown;
     begun = λ halts tells.
         let told = ap (told_from halts new.number 0) same ∙ ap (λ n. told_from halts n 0 old.history) grown.number in
-        all_done halts old old new (event halts (chunk_of halts old)).chunk tells (grown_refl old) told (longer halts (chunk_of halts old)).1;
+        all_done halts old old new (would halts) tells (grown_refl old) told (longer halts).1;
   }
 
-  pub left_so : (asked : GroupEvent) → IsLeft old asked new → HasFailed event old new
+  pub left_so : (asked : GroupEvent) → IsLeft old asked new → HasFailed would old new
   left_so asked left = nothing_began (left_grows old asked new left) (ap (λ (g : GroupIs). g.history) (only_faults old asked new left).0)
 
-pub nothing_failed : (event : EventIs) (old : GroupIs) → ((halts : List Halt) (c : Chunk) → Extends c (event halts c).chunk) → HasFailed event old old
-nothing_failed event old longer = nothing_began event old old longer (grown_refl old) refl
+pub nothing_failed : (would : List Halt → Chunk) (old : GroupIs) → ((halts : List Halt) → Extends (chunk_of halts old) (would halts)) → HasFailed would old old
+nothing_failed would old longer = nothing_began would old old longer (grown_refl old) refl
+
+-- what is applied after an event
+abbrev pub apply_of : GroupIs → List Halt → Chunk
+apply_of g halts = applied halts (chunk_of halts g)
 
 -- all was applied, and not all answers were told
-pub not_told : (old full new : GroupIs) → HasGrown old full → ((halts : List Halt) → TellsOfGroup halts full → applied halts (chunk_of halts old) ≡ chunk_of halts full) → new ≡ now_taken full new.taken → HasNotFollowed old new
+pub not_told : (old full new : GroupIs) → HasGrown old full → ((halts : List Halt) → TellsOfGroup halts full → applied halts (chunk_of halts old) ≡ chunk_of halts full) → new ≡ now_taken full new.taken → HasFailed (apply_of old) old new
 not_told old full new grown run is =
     let taken = taken_grows full new is in record {
       grown = grown_trans old full new grown taken;
@@ -93,23 +111,23 @@ not_told old full new grown run is =
           (subst (λ (c : Chunk). IsPrefix (told_history halts full) c.history) (sym there) (whole_prefix (told_history halts full)));
     }
 
-happened_chunk : (halts : List Halt) (c mid : Chunk) (event : Event) → after halts c event ≡ mid → (happened halts c event).chunk ≡ applied halts mid
-unfolding happened
-happened_chunk halts c mid event goes = ap (applied halts) goes
-
 -- the event happened, and not all that follows on it did
-pub not_followed : (old mid new : GroupIs) (asked : GroupEvent) (answer : Answer) → HasStepped old asked answer mid → HasNotFollowed mid new → HasFailed (λ halts c. happened halts c (event_of asked false)) old new
-not_followed old mid new asked answer stepped f =
-    let first = step_grows old mid (event_of asked stepped.found) answer stepped.steps in record {
-      grown = grown_trans old mid new first f.grown;
+pub not_followed : (fill : Fills) (old : ChunkIs) (mid new : GroupIs) (asked : GroupEvent) (answer : Answer) → ((c : ChunkRun) (m : Chunk) (a : Answer) → (fill c m a).group ≡ m) → HasStepped old.group asked answer mid → HasFailed (apply_of mid) mid new
+    → HasFailed (λ halts. (filled_up fill (event_of asked false) halts (run_of halts old)).chunk.group) old.group new
+not_followed fill old mid new asked answer group stepped f =
+    let first = step_grows old.group mid (event_of asked stepped.found) answer stepped.steps in record {
+      grown = grown_trans old.group mid new first f.grown;
       begun = λ halts tells.
           let b = f.begun halts tells in
-          let one = event_is old mid asked stepped.found answer stepped.steps halts (grown_tells halts mid new f.grown tells) in
-          let same = happened_chunk halts (chunk_of halts old) (chunk_of halts mid) (event_of asked false) one.1 in record {
+          let c = run_of halts old in
+          let a = answered halts c.group (event_of asked false) in
+          let m = after halts c.group (event_of asked false) in
+          let one = event_is old.group mid asked stepped.found answer stepped.steps halts (grown_tells halts mid new f.grown tells) in
+          let same = filled_group halts (fill c m a) a ∙ ap (applied halts) (group c m a ∙ one.1) in record {
             done = b.done;
             undone = b.undone;
-            later = prefix_of (told_history halts old) (told_history halts mid) b.done (told_later halts old mid first) b.later;
-            part = subst (λ (c : Chunk). IsPrefix b.done c.history) (sym same) b.part;
+            later = prefix_of (told_history halts old.group) (told_history halts mid) b.done (told_later halts old.group mid first) b.later;
+            part = subst (λ (x : Chunk). IsPrefix b.done x.history) (sym same) b.part;
             recorded = b.recorded;
             returned = b.returned;
             state = b.state;
@@ -117,8 +135,8 @@ not_followed old mid new asked answer stepped f =
     }
 
 -- an event that is told otherwise
-pub failed_same : (a b : EventIs) (old new : GroupIs) → ((halts : List Halt) → b halts (chunk_of halts old) ≡ a halts (chunk_of halts old)) → HasFailed a old new → HasFailed b old new
-failed_same a b old new same f = record {
+pub failed_same : (would other : List Halt → Chunk) (old new : GroupIs) → ((halts : List Halt) → other halts ≡ would halts) → HasFailed would old new → HasFailed other old new
+failed_same would other old new same f = record {
   grown = f.grown;
-  begun = λ halts tells. subst (λ (x : Happened). HasBegun halts old x.chunk new) (sym (same halts)) (f.begun halts tells);
+  begun = λ halts tells. subst (λ (x : Chunk). HasBegun halts old x new) (sym (same halts)) (f.begun halts tells);
 }

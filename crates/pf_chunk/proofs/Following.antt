@@ -11,27 +11,24 @@ use Rattle.pf_protocol.specs.Servers.{Setup}
 use Rattle.pf_protocol.specs.Groups.{Group, ending, happens, opening}
 use Rattle.pf_protocol.specs.Histories.{History, replay, run}
 use Rattle.pf_protocol.specs.Answers.{Claimed, IsAnswer, IsLegal, IsLegalFrom, claims_after, claims_of}
-use Rattle.pf_protocol.proofs.ForMoments.{legal_before, replay_goes_on}
+use Rattle.pf_protocol.proofs.ForMoments.{replay_goes_on}
 use Rattle.pf_rounds.specs.Jobs.{IsClaimOrFinish, IsOfRound}
-use Rattle.pf_chunk.specs.Waiting.{GoesQuietly, ReadsWaitOnce, StepsReads}
+use Rattle.pf_chunk.specs.Waiting.{GoesQuietly, StepsReads}
 use Rattle.pf_chunk.proofs.Keeping.{taken_up}
-use Rattle.pf_chunk.proofs.Once.{reads_wait_once}
-use Rattle.pf_chunk.proofs.Packets.{OnlySent, run_sent}
+use Rattle.pf_group.proofs.Sending.{OnlySent, run_sent}
 use Rattle.pf_chunk.proofs.Stepped.{legal_goes_quietly, steps_reads}
 
 -- a group before an event, after it, and after all that could be applied was
 pub record Follows (before : Group) (event : Event) (answer : Answer) (mid now : Group) : Type 0 where
   pub steps : StepsReads before event answer mid
   pub quiet : GoesQuietly mid now
-  pub once_before : ReadsWaitOnce before
-  pub once : ReadsWaitOnce now
   pub sent : OnlySent before.packets now.packets
 
-run_on : (setup : Setup) (xs ys : History) (g : Group) → run setup g (xs ++ ys) ≡ run setup (run setup g xs) ys
+pub run_on : (setup : Setup) (xs ys : History) (g : Group) → run setup g (xs ++ ys) ≡ run setup (run setup g xs) ys
 run_on setup [] ys g = refl
 run_on setup (x ∷ xs) ys g = run_on setup xs ys (happens setup g x.event (ending x.answer))
 
-legal_rest : (setup : Setup) (xs ys : History) (g : Group) (claims : List Claimed) → IsLegalFrom setup g claims (xs ++ ys) → IsLegalFrom setup (run setup g xs) (claims_of claims xs) ys
+pub legal_rest : (setup : Setup) (xs ys : History) (g : Group) (claims : List Claimed) → IsLegalFrom setup g claims (xs ++ ys) → IsLegalFrom setup (run setup g xs) (claims_of claims xs) ys
 legal_rest setup [] ys g claims legal = legal
 legal_rest setup (x ∷ xs) ys g claims legal = legal_rest setup xs ys (happens setup g x.event (ending x.answer)) (claims_after claims x.event x.answer) legal.1
 
@@ -53,13 +50,10 @@ follows setup history event answer more legal round is =
     let h : Happening = record { event = event; answer = answer } in
     let longer = history ++ h ∷ [] in
     let after = legal_rest setup longer more (opening setup) [] legal.legal in
-    let before = legal_before setup history (longer ++ more) (record { rest = h ∷ more; whole = sym (append_assoc history (h ∷ []) more) }) legal in
     record {
       steps = subst (StepsReads (replay setup history) event answer) (sym (replay_goes_on setup history h)) (steps_reads setup (replay setup history) event answer is);
       quiet = subst (GoesQuietly (replay setup longer)) (sym (run_on setup longer more (opening setup)))
           (legal_goes_quietly setup more (replay setup longer) (claims_of [] longer) after (no_reads setup more (replay setup longer) (claims_of [] longer) after round));
-      once_before = reads_wait_once setup history before;
-      once = reads_wait_once setup (longer ++ more) legal;
       sent = subst (λ (g : Group). OnlySent (replay setup history).packets g.packets) (sym (ap (λ l. replay setup l) (append_assoc history (h ∷ []) more) ∙ run_on setup history (h ∷ more) (opening setup)))
           (run_sent setup (h ∷ more) (replay setup history));
     }

@@ -1,17 +1,17 @@
 -- One event of a chunk is what the run makes of it.
-use Rattle.std.proofs.Common.{◌≡◌, ℕ, ◌<◌, inl, inr, Bool, true, false, IsSome, List, [], ◌∷◌, ◌++◌, Some, slice_get, arith, refl, sym, ap, subst, ◌∙◌}
+use Rattle.std.proofs.Common.{◌≡◌, ℕ, ◌<◌, inl, inr, Bool, true, false, IsSome, List, [], ◌∷◌, ◌++◌, arith, refl, sym, ap, subst, ◌∙◌}
+use Rattle.std.specs.List.{filter}
 use Rattle.std.proofs.lemmas.List.{append-nil}
 use Rattle.pf_protocol.specs.declared.answers.Answer.{Answer}
 use Rattle.pf_protocol.specs.declared.events.Event.{Event}
 use Rattle.pf_protocol.specs.declared.events.Happening.{Happening}
-use Rattle.pf_protocol.specs.Groups.{Answered}
 use Rattle.pf_protocol.specs.Histories.{replay}
-use Rattle.pf_protocol.specs.Answers.{IsLegal}
-use Rattle.pf_cluster.specs.Readings.{taken_after}
+use Rattle.pf_protocol.specs.Answers.{IsLegal, claims_of}
 use Rattle.pf_group.specs.declared.event.GroupEvent.{GroupEvent}
 use Rattle.pf_group.specs.declared.event.GroupEvent.TheVariants as asked
 use Rattle.pf_group.specs.Events.{event_of}
 use Rattle.pf_group.specs.GroupIs.{GroupIs, state_of}
+use Rattle.pf_group.specs.Packets.{NoneComesBack, is_left_in}
 use Rattle.pf_group.specs.Steps.{Steps}
 use Rattle.pf_report.specs.Texts.{answer_text}
 use Rattle.pf_rounds.specs.Agreeing.{TellsOfGroup, chunk_of}
@@ -21,13 +21,13 @@ use Rattle.pf_rounds.specs.Halts.{Halt}
 use Rattle.pf_rounds.specs.Rounds.{applied}
 use Rattle.pf_rounds.proofs.Following.{restart_answer_is, restart_is, step_is}
 use Rattle.pf_rounds.proofs.Growing.{grown_tells, grown_trans, later_tells, step_grows}
-use Rattle.pf_chunk.specs.Happenings.{Happened, happened, reads_text}
-use Rattle.pf_chunk.specs.Packets.{NoneComesBack, is_left_in}
+use Rattle.pf_chunk.specs.Happenings.{Happened, followed}
+use Rattle.pf_chunk.specs.Runs.{ChunkRun}
 use Rattle.pf_chunk.specs.Steps.{HasFollowed, HasHappened}
-use Rattle.pf_chunk.specs.Telling.{told_of}
-use Rattle.pf_chunk.specs.Views.{ChunkIs, IsReady}
+use Rattle.pf_chunk.specs.Telling.{may_wait, now_taken, taken_all, told_of}
+use Rattle.pf_chunk.specs.Views.{ChunkIs, IsKept, IsReady, run_of}
 use Rattle.pf_chunk.proofs.Following.{Follows, follows}
-use Rattle.pf_chunk.proofs.Ready.{IsAwaited, numbered_now, pending_now, shown_now, taken_still, text_is, waiting_now}
+use Rattle.pf_chunk.proofs.Ready.{kept_after}
 
 same_answer : (halts : List Halt) (c : Chunk) (asked : GroupEvent) (found : Bool) → answered halts c (event_of asked found) ≡ answered halts c (event_of asked false)
 same_answer halts c (asked.Submit server range payload) found = refl
@@ -58,12 +58,11 @@ same_after halts c asked.Claim found = refl
 same_after halts c (asked.Finish filled) found = refl
 same_after halts c (asked.Checkpoint server) found = refl
 
-run_happened : (halts : List Halt) (c next : Chunk) (event : Event) (answer : Answer) (mid : Chunk) → answered halts c event ≡ answer → after halts c event ≡ mid → applied halts mid ≡ next → happened halts c event ≡ record { chunk = next; answer = answer; text = reads_text c.number c.state next.state }
-unfolding happened
-run_happened halts c next event answer mid says goes ends =
-    let all : applied halts (after halts c event) ≡ next = ap (applied halts) goes ∙ ends in
-    ap (λ (x : Chunk). let h : Happened = record { chunk = x; answer = answered halts c event; text = reads_text c.number c.state x.state } in h) all
-    ∙ ap (λ a. let h : Happened = record { chunk = next; answer = a; text = reads_text c.number c.state next.state } in h) says
+run_followed : (halts : List Halt) (c : ChunkRun) (answer : Answer) (next : Chunk) → applied halts c.group ≡ next
+    → followed halts c answer ≡ record { chunk = record c { group = next; waiting = filter (may_wait next.state) c.waiting }; answer = answer; text = told_of c.group.number next.state c.waiting }
+unfolding followed
+run_followed halts c answer next ends =
+    ap (λ (x : Chunk). let h : Happened = record { chunk = record c { group = x; waiting = filter (may_wait x.state) c.waiting }; answer = answer; text = told_of c.group.number x.state c.waiting } in h) ends
 
 -- lists of halts look at no more than this
 tells_same : (halts : List Halt) (a b : GroupIs) → b.number ≡ a.number → b.setup ≡ a.setup → b.history ≡ a.history → TellsOfGroup halts b → TellsOfGroup halts a
@@ -81,33 +80,55 @@ event_is old mid asked found answer steps halts tells =
       sym (same_after halts c asked found) ∙ one.1 ∙ ap (chunk_of halts) (sym steps.recorded),
     )
 
-module _ (old mid new : ChunkIs) (asked : GroupEvent) (found : Bool) (answer : Answer) (steps : Steps old.group (event_of asked found) answer mid.group) (out put : List ℕ) (f : HasFollowed mid out put new) (ready : IsReady old) where
+-- where a chunk stands after an event, before it is followed up: the group after it, and how it was answered
+abbrev pub Fills : Type 0
+Fills = ChunkRun → Chunk → Answer → ChunkRun
+
+-- the event happens, what is kept beside the group is filled in, and all is followed up
+abbrev pub filled_up : Fills → Event → List Halt → ChunkRun → Happened
+filled_up fill event halts c = followed halts (fill c (after halts c.group event) (answered halts c.group event)) (answered halts c.group event)
+
+-- an event of a run was answered, and what is kept beside the group goes on
+pub record IsMidway (fill : Fills) (old : ChunkIs) (asked : GroupEvent) (answer : Answer) (mid : ChunkIs) : Type 0 where
+  pub found : Bool
+  pub steps : Steps old.group (event_of asked found) answer mid.group
+  pub first : mid.first_left ≡ old.first_left
+  pub kept : IsKept mid.group mid.waiting mid.ports
+  pub none : claims_of [] mid.group.history ≡ []
+  pub fills : (halts : List Halt) → fill (run_of halts old) (chunk_of halts mid.group) answer ≡ run_of halts mid
+
+-- what comes of it when it is followed up
+pub record Comes (fill : Fills) (old : ChunkIs) (asked : GroupEvent) (answer : Answer) (mid : ChunkIs) (out put : List ℕ) (new : ChunkIs) : Type 0 where
+  pub grown : HasGrown old.group new.group
+  pub ready : IsReady new
+  pub left : NoneComesBack (state_of old.group) (state_of new.group)
+  pub first : new.first_left ≡ old.first_left
+  pub ports : new.ports ≡ mid.ports
+  pub text : List ℕ
+  pub put_is : put ≡ out ++ text
+  pub run : (halts : List Halt) → TellsOfGroup halts new.group → filled_up fill (event_of asked false) halts (run_of halts old) ≡ record { chunk = run_of halts new; answer = answer; text = text }
+
+module _ (fill : Fills) (old mid new : ChunkIs) (asked : GroupEvent) (answer : Answer) (is : IsMidway fill old asked answer mid) (out put : List ℕ) (f : HasFollowed mid out put new) (ready : IsReady old) where
   abbrev event : Event
-  event = event_of asked found
+  event = event_of asked is.found
 
   abbrev h : Happening
   h = record { event = event; answer = answer }
 
   mid_history : mid.group.history ≡ old.group.history ++ h ∷ []
-  mid_history = ap (λ (g : GroupIs). g.history) steps.recorded
+  mid_history = ap (λ (g : GroupIs). g.history) is.steps.recorded
 
   mid_setup : mid.group.setup ≡ old.group.setup
-  mid_setup = ap (λ (g : GroupIs). g.setup) steps.recorded
+  mid_setup = ap (λ (g : GroupIs). g.setup) is.steps.recorded
 
-  mid_number : mid.group.number ≡ old.group.number
-  mid_number = ap (λ (g : GroupIs). g.number) steps.recorded
-
-  mid_taken : mid.group.taken ≡ taken_after old.group.taken answer
-  mid_taken = ap (λ (g : GroupIs). g.taken) steps.recorded
+  more_history : f.then.history ≡ mid.group.history ++ f.adds.more
+  more_history = ap (λ (g : GroupIs). g.history) f.adds.recorded
 
   then_history : f.then.history ≡ (old.group.history ++ h ∷ []) ++ f.adds.more
-  then_history = ap (λ (g : GroupIs). g.history) f.adds.recorded ∙ ap (λ l. l ++ f.adds.more) mid_history
+  then_history = more_history ∙ ap (λ l. l ++ f.adds.more) mid_history
 
   then_setup : f.then.setup ≡ old.group.setup
   then_setup = ap (λ (g : GroupIs). g.setup) f.adds.recorded ∙ mid_setup
-
-  old_grown : HasGrown old.group f.then
-  old_grown = grown_trans old.group mid.group f.then (step_grows old.group mid.group event answer steps) f.grown
 
   state_mid : replay old.group.setup (old.group.history ++ h ∷ []) ≡ state_of mid.group
   state_mid = ap (replay old.group.setup) (sym mid_history) ∙ ap (λ setup. replay setup mid.group.history) (sym mid_setup)
@@ -115,62 +136,68 @@ module _ (old mid new : ChunkIs) (asked : GroupEvent) (found : Bool) (answer : A
   state_then : replay old.group.setup ((old.group.history ++ h ∷ []) ++ f.adds.more) ≡ state_of f.then
   state_then = ap (replay old.group.setup) (sym then_history) ∙ ap (λ setup. replay setup f.then.history) (sym then_setup)
 
-  pub they_follow : Follows (state_of old.group) event answer (state_of mid.group) (state_of f.then)
+  they_follow : Follows (state_of old.group) event answer (state_of mid.group) (state_of f.then)
   they_follow =
       let legal = subst (λ l. IsLegal old.group.setup l) then_history (subst (λ setup. IsLegal setup f.then.history) then_setup f.legal) in
       subst (λ g. Follows (state_of old.group) event answer g (state_of f.then)) state_mid
       (subst (λ g. Follows (state_of old.group) event answer (replay old.group.setup (old.group.history ++ h ∷ [])) g) state_then
-      (follows old.group.setup old.group.history event answer f.adds.more legal f.adds.round steps.legal.answered))
+      (follows old.group.setup old.group.history event answer f.adds.more legal f.adds.round is.steps.legal.answered))
 
-  -- the run
-  run_is : (halts : List Halt) → TellsOfGroup halts f.then → happened halts (chunk_of halts old.group) (event_of asked false) ≡ record { chunk = chunk_of halts f.then; answer = answer; text = reads_text old.group.number (state_of old.group) (state_of f.then) }
+  by_left : (b : Bool) (k : ℕ) → is_left_in (state_of f.then) k ≡ b → k < old.first_left → b ≡ false
+  by_left false k at low = refl
+  by_left true k at low = elim (they_follow.sent.none k at) [
+    | inl was ↦ sym was ∙ ready.none_left k low
+    | inr high ↦ absurd (omega (arith, high, low, ready.first_sent))
+  ]
+
+  abbrev all_told : GroupIs
+  all_told = now_taken f.then (taken_all (state_of f.then) f.then.taken mid.waiting)
+
+  ready_group : IsReady new
+  ready_group = subst IsReady (sym f.is) (record {
+    claims = f.none;
+    applied = f.applied_all;
+    kept = kept_after mid.group all_told mid.waiting mid.ports is.kept f.adds.more (state_of f.then) more_history (ap (λ t. taken_all (state_of f.then) t mid.waiting) f.taken) they_follow.quiet.reads;
+    first_sent = omega (arith, is.first, ready.first_sent, they_follow.sent.longer);
+    none_left = λ k low. by_left (is_left_in (state_of f.then) k) k refl (omega (arith, low, is.first));
+  })
+
+  abbrev text : List ℕ
+  text = told_of mid.group.number (state_of f.then) mid.waiting
+
+  run_is : (halts : List Halt) → TellsOfGroup halts f.then → filled_up fill (event_of asked false) halts (run_of halts old) ≡ record { chunk = run_of halts (record mid { group = all_told; waiting = filter (may_wait (state_of f.then)) mid.waiting }); answer = answer; text = text }
   run_is halts tells =
-      let one = event_is old.group mid.group asked found answer steps halts (grown_tells halts mid.group f.then f.grown tells) in
-      run_happened halts (chunk_of halts old.group) (chunk_of halts f.then) (event_of asked false) answer (chunk_of halts mid.group) one.0 one.1 (f.run halts tells)
+      let one = event_is old.group mid.group asked is.found answer is.steps halts (grown_tells halts mid.group f.then f.grown tells) in
+      ap (λ m. followed halts (fill (run_of halts old) m (answered halts (chunk_of halts old.group) (event_of asked false))) (answered halts (chunk_of halts old.group) (event_of asked false))) one.1
+      ∙ ap (λ a. followed halts (fill (run_of halts old) (chunk_of halts mid.group) a) a) one.0
+      ∙ ap (λ c. followed halts c answer) (is.fills halts)
+      ∙ run_followed halts (run_of halts mid) answer (chunk_of halts f.then) (f.run halts tells)
 
-  module _ (first : mid.first_left ≡ old.first_left) (a : IsAwaited (state_of old.group) (state_of mid.group) mid.group.taken mid.waiting) (said : IsSome (answer_text answer)) where
-    left_back : NoneComesBack (state_of old.group) (state_of f.then)
-    left_back k is = they_follow.sent.none k is
+  pub comes : Comes fill old asked answer mid out put new
+  comes =
+      let to_then = grown_trans old.group mid.group f.then (step_grows old.group mid.group event answer is.steps) f.grown in record {
+        grown = subst (λ (c : ChunkIs). HasGrown old.group c.group) (sym f.is) (record { number = to_then.number; setup = to_then.setup; later = to_then.later; paid = to_then.paid });
+        ready = ready_group;
+        left = subst (λ (c : ChunkIs). NoneComesBack (state_of old.group) (state_of c.group)) (sym f.is) (λ k at. they_follow.sent.none k at);
+        first = ap (λ (c : ChunkIs). c.first_left) f.is ∙ is.first;
+        ports = ap (λ (c : ChunkIs). c.ports) f.is;
+        text = text;
+        put_is = f.put;
+        run = λ halts tells.
+            run_is halts (tells_same halts f.then new.group (ap (λ (c : ChunkIs). c.group.number) f.is) (ap (λ (c : ChunkIs). c.group.setup) f.is) (ap (λ (c : ChunkIs). c.group.history) f.is) tells)
+            ∙ ap (λ (c : ChunkIs). let x : Happened = record { chunk = run_of halts c; answer = answer; text = text } in x) (sym f.is);
+      }
 
-    ready_group : IsReady new
-    ready_group =
-        let taken = f.taken in
-        let b = subst (λ t. IsAwaited (state_of old.group) (state_of mid.group) t mid.waiting) (sym taken) a in
-        let shown : (k : ℕ) (x : Answered) → slice_get (state_of old.group).answered k ≡ Some x → slice_get f.then.taken x.number ≡ Some true =
-        λ k x at. ap (λ t. slice_get t x.number) (taken ∙ mid_taken) ∙ taken_still old.group.taken answer x.number true (ready.shown k x at) in
-        subst IsReady (sym f.is) (record {
-          claims = f.none;
-          applied = f.applied_all;
-          shown = shown_now (state_of old.group) event answer (state_of mid.group) (state_of f.then) they_follow f.then.taken mid.waiting b shown;
-          numbered = numbered_now (state_of old.group) event answer (state_of mid.group) (state_of f.then) they_follow f.then.taken mid.waiting b;
-          waiting = waiting_now (state_of old.group) event answer (state_of mid.group) (state_of f.then) they_follow f.then.taken mid.waiting b;
-          pending = pending_now (state_of old.group) event answer (state_of mid.group) (state_of f.then) they_follow f.then.taken mid.waiting b;
-          first_sent = omega (arith, first, ready.first_sent, they_follow.sent.longer);
-          none_left = λ k low. gone k (omega (arith, low, first));
-        })
-      where
-        by_left : (b : Bool) (k : ℕ) → is_left_in (state_of f.then) k ≡ b → k < old.first_left → b ≡ false
-        by_left false k at low = refl
-        by_left true k at low = elim (they_follow.sent.none k at) [
-          | inl was ↦ sym was ∙ ready.none_left k low
-          | inr high ↦ absurd (omega (arith, high, low, ready.first_sent))
-        ]
-
-        gone : (k : ℕ) → k < old.first_left → is_left_in (state_of f.then) k ≡ false
-        gone k low = by_left (is_left_in (state_of f.then) k) k refl low
-
-    pub has_happened : HasHappened (λ halts c. happened halts c (event_of asked false)) old out answer put new
-    has_happened = record {
-      grown = subst (λ (c : ChunkIs). HasGrown old.group c.group) (sym f.is) (record { number = old_grown.number; setup = old_grown.setup; later = old_grown.later; paid = old_grown.paid });
-      ready = ready_group;
-      left = subst (λ (c : ChunkIs). NoneComesBack (state_of old.group) (state_of c.group)) (sym f.is) left_back;
-      first = ap (λ (c : ChunkIs). c.first_left) f.is ∙ first;
-      said = said;
-      text = reads_text old.group.number (state_of old.group) (state_of f.then);
-      put = f.put ∙ ap (λ text. out ++ text)
-          (ap (λ number. told_of number (state_of f.then) mid.waiting) mid_number
-          ∙ text_is (state_of old.group) event answer (state_of mid.group) (state_of f.then) they_follow mid.group.taken mid.waiting a old.group.number);
-      run = λ halts tells.
-          run_is halts (tells_same halts f.then new.group (ap (λ (c : ChunkIs). c.group.number) f.is) (ap (λ (c : ChunkIs). c.group.setup) f.is) (ap (λ (c : ChunkIs). c.group.history) f.is) tells)
-          ∙ ap (λ (c : ChunkIs). let x : Happened = record { chunk = chunk_of halts c.group; answer = answer; text = reads_text old.group.number (state_of old.group) (state_of f.then) } in x) (sym f.is);
-    }
+-- a line
+pub has_happened : (fill : Fills) (old mid new : ChunkIs) (asked : GroupEvent) (answer : Answer) (out put : List ℕ) → Comes fill old asked answer mid out put new → mid.ports ≡ old.ports → IsSome (answer_text answer) → HasHappened (filled_up fill (event_of asked false)) old out answer put new
+has_happened fill old mid new asked answer out put comes same said = record {
+  grown = comes.grown;
+  ready = comes.ready;
+  left = comes.left;
+  first = comes.first;
+  ports = comes.ports ∙ same;
+  said = said;
+  text = comes.text;
+  put = comes.put_is;
+  run = comes.run;
+}

@@ -1,5 +1,5 @@
 -- How a list of the reads that may wait, each with its server and term, is kept.
-use Rattle.std.proofs.Common.{◌≡◌, ◌≢◌, ℕ, ◌<◌, ◌⊎◌, inl, inr, Some, slice_get, arith, sym, ap, subst, ◌∙◌}
+use Rattle.std.proofs.Common.{◌≡◌, ◌≢◌, ℕ, inl, inr, Some, slice_get, arith, sym, ap, subst, ◌∙◌}
 use Rattle.pf_base.specs.Span.{Span}
 use Rattle.pf_entry.proofs.Lists.{set_there}
 use Rattle.pf_protocol.specs.declared.answers.Answer.{Answer}
@@ -11,19 +11,10 @@ use Rattle.pf_protocol.specs.Rows.{settled}
 use Rattle.pf_protocol.specs.Groups.{Group, ending, happens}
 use Rattle.pf_protocol.specs.Histories.{Runs}
 use Rattle.pf_protocol.specs.Answers.{IsAnswer}
-use Rattle.pf_chunk.specs.Waiting.{WaitsAt, IsAnsweredIn, ReadsWaitOnce, StepsReads, GoesOn, IsDropped, MayWait}
+use Rattle.pf_chunk.specs.Waiting.{IsAnsweredIn, ReadsWaitOnce, StepsReads, GoesOn, IsDropped, MayWait}
 use Rattle.pf_chunk.proofs.Numbering.{rule_number}
 use Rattle.pf_chunk.proofs.Going.{Went, Acts, Rests, went}
 use Rattle.pf_chunk.proofs.Stepped.{reads_are}
-use Rattle.pf_chunk.proofs.Answers.{one_term}
-
--- a read that waits is of the list
-pub waits_so : (g : Group) → ReadsWaitOnce g → (i t n : ℕ) → WaitsAt g i t n → MayWait g i t n
-waits_so g w i t n x = record {
-  taken_up = w.waiting_below i t n x;
-  unanswered = w.unanswered i t n x;
-  only = λ j u y. (w.one_server j i u t n y x, one_term g w j i u t n y x);
-}
 
 -- it stays so until it is answered
 pub stays_so : (g after : Group) → GoesOn g after → (i t n : ℕ) → MayWait g i t n → (IsAnsweredIn after n → ⊥) → MayWait after i t n
@@ -97,10 +88,3 @@ taken_so g i range answer after w h n told z runs = record {
   where
     is_next : n ≡ g.reads
     is_next = h.next n told
-
--- a list of all that wait misses no answer to a read of its time
-pub none_missed : (K : (i t n : ℕ) → Type 0) (g after : Group) → ((i t n : ℕ) → WaitsAt g i t n → K i t n) → GoesOn g after → (n : ℕ) → n < g.reads → IsAnsweredIn after n → IsAnsweredIn g n ⊎ ((i : ℕ) × (t : ℕ) × K i t n)
-none_missed K g after all go n low x = elim (go.answered n low x) [
-  | inl old ↦ inl old
-  | inr waits ↦ inr (waits.server, waits.term, all waits.server waits.term n waits.there)
-]

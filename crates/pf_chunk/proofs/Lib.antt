@@ -5,7 +5,6 @@ pub mod Stepped
 pub mod Once
 pub mod Answers
 pub mod Keeping
-pub mod Packets
 pub mod Saying
 pub mod Told
 pub mod Taking
@@ -20,3 +19,10 @@ pub mod Leasts
 pub mod Made
 pub mod Ranges
 pub mod Tried
+pub mod Leaders
+pub mod Counted
+pub mod Acked
+pub mod Calls
+pub mod Handing
+pub mod Driven
+pub mod Waited

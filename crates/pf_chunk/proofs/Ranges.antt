@@ -12,14 +12,14 @@ use Rattle.pf_protocol.specs.Servers.{Condition, Running, Stopped, Unformatted}
 use Rattle.pf_base.specs.declared.errors.NoMemory.{NoMemory}
 use Rattle.pf_group.specs.GroupIs.{GroupIs, state_of}
 use Rattle.pf_report.specs.Texts.{answer_text}
-use Rattle.pf_rounds.specs.Agreeing.{chunk_of}
 use Rattle.pf_rounds.specs.Chunks.{Chunk}
 use Rattle.pf_rounds.specs.Halts.{Halt}
 use Rattle.pf_rounds.proofs.Growing.{grown_refl}
-use Rattle.pf_chunk.specs.Asking.{fetches, filled, is_range, no_range, no_range_answer, submits}
+use Rattle.pf_chunk.specs.Asking.{fetched, fetches, filled, is_range, no_range, no_range_answer, submits}
 use Rattle.pf_chunk.specs.Happenings.{Happened, happened}
 use Rattle.pf_chunk.specs.Steps.{Event as EventIs, HasFailed, HasHappened}
-use Rattle.pf_chunk.specs.Views.{ChunkIs, IsReady}
+use Rattle.pf_chunk.specs.Runs.{ChunkRun}
+use Rattle.pf_chunk.specs.Views.{ChunkIs, IsReady, run_of}
 use Rattle.pf_chunk.proofs.Begun.{failed_same}
 
 all_alike : {X : Type 0} → (P : X → Type 0) (n : ℕ) (x : X) → P x → Every P (replicate n x)
@@ -46,57 +46,62 @@ said_down (Some Unformatted) = refl
 said_down None = refl
 
 -- no event happens
-nothing : (event : EventIs) (server : ℕ) (old : ChunkIs) (out : List ℕ) (answer : Answer) → IsReady old → answer ≡ no_range_answer (slice_get (state_of old.group).servers server) → ((halts : List Halt) → event halts (chunk_of halts old.group) ≡ no_range server (chunk_of halts old.group)) → HasHappened event old out answer out old
+nothing : (event : EventIs) (server : ℕ) (old : ChunkIs) (out : List ℕ) (answer : Answer) → IsReady old → answer ≡ no_range_answer (slice_get (state_of old.group).servers server) → ((halts : List Halt) → event halts (run_of halts old) ≡ no_range server (run_of halts old)) → HasHappened event old out answer out old
 nothing event server old out answer ready is none = record {
   grown = grown_refl old.group;
   ready = ready;
   left = λ k left. inl left;
   first = refl;
+  ports = refl;
   said = subst (λ a. IsSome (answer_text a)) (sym is) (said_down (slice_get (state_of old.group).servers server));
   text = [];
   put = sym (append-nil out);
-  run = λ halts _. none halts ∙ ap (λ a. let h : Happened = record { chunk = chunk_of halts old.group; answer = a; text = [] } in h) (sym is);
+  run = λ halts _. none halts ∙ ap (λ a. let h : Happened = record { chunk = run_of halts old; answer = a; text = [] } in h) (sym is);
 }
 
 pub no_fetch_is : (server first count : ℕ) (old : ChunkIs) (out : List ℕ) (answer : Answer) → IsReady old → (IsWritable first count → false ≡ true) → answer ≡ no_range_answer (slice_get (state_of old.group).servers server) → HasHappened (λ halts c. fetches halts server first count c) old out answer out old
 no_fetch_is server first count old out answer ready exact is =
     nothing (λ halts c. fetches halts server first count c) server old out answer ready is
-    (λ halts. ap (λ b. if b then happened halts (chunk_of halts old.group) (events.Fetch server (record { first = first; count = count })) else no_range server (chunk_of halts old.group)) (range_false first count (λ w. false≢true (exact w))))
+    (λ halts. ap (λ b. if b then fetched halts server (record { first = first; count = count }) (run_of halts old) else no_range server (run_of halts old)) (range_false first count (λ w. false≢true (exact w))))
 
 pub no_submit_is : (server first byte count : ℕ) (old : ChunkIs) (out : List ℕ) (answer : Answer) → IsReady old → (IsWritable first count → false ≡ true) → answer ≡ no_range_answer (slice_get (state_of old.group).servers server) → HasHappened (λ halts c. submits halts server first byte count c) old out answer out old
 no_submit_is server first byte count old out answer ready exact is =
     nothing (λ halts c. submits halts server first byte count c) server old out answer ready is
-    (λ halts. ap (λ b. if b then happened halts (chunk_of halts old.group) (events.Submit server (filled first byte count)) else no_range server (chunk_of halts old.group)) (range_false first count (λ w. false≢true (exact w))))
+    (λ halts. ap (λ b. if b then happened halts (run_of halts old) (events.Submit server (filled first byte count)) else no_range server (run_of halts old)) (range_false first count (λ w. false≢true (exact w))))
 
 -- one event happens, as it is told
-same_event : (a b : EventIs) (old : ChunkIs) (out : List ℕ) (answer : Answer) (put : List ℕ) (new : ChunkIs) → ((halts : List Halt) → b halts (chunk_of halts old.group) ≡ a halts (chunk_of halts old.group)) → HasHappened a old out answer put new → HasHappened b old out answer put new
+same_event : (a b : EventIs) (old : ChunkIs) (out : List ℕ) (answer : Answer) (put : List ℕ) (new : ChunkIs) → ((halts : List Halt) → b halts (run_of halts old) ≡ a halts (run_of halts old)) → HasHappened a old out answer put new → HasHappened b old out answer put new
 same_event a b old out answer put new same h = record {
   grown = h.grown;
   ready = h.ready;
   left = h.left;
   first = h.first;
+  ports = h.ports;
   said = h.said;
   text = h.text;
   put = h.put;
   run = λ halts tells. same halts ∙ h.run halts tells;
 }
 
+abbrev pub group_in : Happened → Chunk
+group_in h = h.chunk.group
+
 module _ (server first count : ℕ) (range : Span) (writable : IsWritable first count) (is : range ≡ record { first = first; count = count }) where
-  fetch_is : (halts : List Halt) (c : Chunk) → fetches halts server first count c ≡ happened halts c (events.Fetch server range)
+  fetch_is : (halts : List Halt) (c : ChunkRun) → fetches halts server first count c ≡ fetched halts server range c
   fetch_is halts c =
-      ap (λ b. if b then happened halts c (events.Fetch server (record { first = first; count = count })) else no_range server c) (range_true first count writable)
-      ∙ ap (λ span. happened halts c (events.Fetch server span)) (sym is)
+      ap (λ b. if b then fetched halts server (record { first = first; count = count }) c else no_range server c) (range_true first count writable)
+      ∙ ap (λ span. fetched halts server span c) (sym is)
 
   pub fetched_is : (old : ChunkIs) (out : List ℕ) (answer : Answer) (put : List ℕ) (new : ChunkIs)
-      → HasHappened (λ halts c. happened halts c (events.Fetch server range)) old out answer put new → HasHappened (λ halts c. fetches halts server first count c) old out answer put new
+      → HasHappened (λ halts c. fetched halts server range c) old out answer put new → HasHappened (λ halts c. fetches halts server first count c) old out answer put new
   fetched_is old out answer put new =
-      same_event (λ halts c. happened halts c (events.Fetch server range)) (λ halts c. fetches halts server first count c) old out answer put new (λ halts. fetch_is halts (chunk_of halts old.group))
+      same_event (λ halts c. fetched halts server range c) (λ halts c. fetches halts server first count c) old out answer put new (λ halts. fetch_is halts (run_of halts old))
 
-  pub fetch_failed : (old new : GroupIs) → HasFailed (λ halts c. happened halts c (events.Fetch server range)) old new → HasFailed (λ halts c. fetches halts server first count c) old new
-  fetch_failed old new = failed_same (λ halts c. happened halts c (events.Fetch server range)) (λ halts c. fetches halts server first count c) old new (λ halts. fetch_is halts (chunk_of halts old))
+  pub fetch_failed : (old : ChunkIs) (new : GroupIs) → HasFailed (λ halts. (fetched halts server range (run_of halts old)).chunk.group) old.group new → HasFailed (λ halts. (fetches halts server first count (run_of halts old)).chunk.group) old.group new
+  fetch_failed old new = failed_same (λ halts. group_in (fetched halts server range (run_of halts old))) (λ halts. group_in (fetches halts server first count (run_of halts old))) old.group new (λ halts. ap group_in (fetch_is halts (run_of halts old)))
 
 module _ (server first byte count : ℕ) (range : Span) (payload : List Sector) (writable : IsWritable first count) (is : range ≡ record { first = first; count = count }) (bytes : payload ≡ replicate count (replicate 512 byte)) where
-  submit_is : (halts : List Halt) (c : Chunk) → submits halts server first byte count c ≡ happened halts c (events.Submit server (Write range payload))
+  submit_is : (halts : List Halt) (c : ChunkRun) → submits halts server first byte count c ≡ happened halts c (events.Submit server (Write range payload))
   submit_is halts c =
       ap (λ b. if b then happened halts c (events.Submit server (filled first byte count)) else no_range server c) (range_true first count writable)
       ∙ ap (λ span. happened halts c (events.Submit server (Write span (replicate count (replicate 512 byte))))) (sym is)
@@ -105,15 +110,15 @@ module _ (server first byte count : ℕ) (range : Span) (payload : List Sector) 
   submitted_one : (old : ChunkIs) (out : List ℕ) (answer : Answer) (put : List ℕ) (new : ChunkIs)
       → HasHappened (λ halts c. happened halts c (events.Submit server (Write range payload))) old out answer put new → HasHappened (λ halts c. submits halts server first byte count c) old out answer put new
   submitted_one old out answer put new =
-      same_event (λ halts c. happened halts c (events.Submit server (Write range payload))) (λ halts c. submits halts server first byte count c) old out answer put new (λ halts. submit_is halts (chunk_of halts old.group))
+      same_event (λ halts c. happened halts c (events.Submit server (Write range payload))) (λ halts c. submits halts server first byte count c) old out answer put new (λ halts. submit_is halts (run_of halts old))
 
   pub submitted_is : (old : ChunkIs) (out put : List ℕ) (new : ChunkIs) (result : Result Answer NoMemory)
       → IfOk result (λ answer. HasHappened (λ halts c. happened halts c (events.Submit server (Write range payload))) old out answer put new) → IfOk result (λ answer. HasHappened (λ halts c. submits halts server first byte count c) old out answer put new)
   submitted_is old out put new (Ok answer) went = submitted_one old out answer put new went
   submitted_is old out put new (Err e) went = tt
 
-  pub submit_failed : (old new : GroupIs) → HasFailed (λ halts c. happened halts c (events.Submit server (Write range payload))) old new → HasFailed (λ halts c. submits halts server first byte count c) old new
-  submit_failed old new = failed_same (λ halts c. happened halts c (events.Submit server (Write range payload))) (λ halts c. submits halts server first byte count c) old new (λ halts. submit_is halts (chunk_of halts old))
+  pub submit_failed : (old : ChunkIs) (new : GroupIs) → HasFailed (λ halts. (happened halts (run_of halts old) (events.Submit server (Write range payload))).chunk.group) old.group new → HasFailed (λ halts. (submits halts server first byte count (run_of halts old)).chunk.group) old.group new
+  submit_failed old new = failed_same (λ halts. group_in (happened halts (run_of halts old) (events.Submit server (Write range payload)))) (λ halts. group_in (submits halts server first byte count (run_of halts old))) old.group new (λ halts. ap group_in (submit_is halts (run_of halts old)))
 
 pub may_submit : (first byte count : ℕ) (range : Span) (payload : List Sector) → IsWritable first count → range ≡ record { first = first; count = count } → payload ≡ replicate count (replicate 512 byte)
     → IsWritable range.first range.count × (length payload ≡ range.count) × Every (λ bytes. length bytes ≡ 512) payload

@@ -1,62 +1,29 @@
--- Between two events a chunk is ready for the next.
-use Rattle.std.proofs.Common.{◌≡◌, ◌≢◌, ℕ, ◌+◌, ◌<◌, ◌≤◌, ◌⊎◌, inl, inr, Bool, true, false, not, ◌==◌, List, [], ◌∷◌, ◌++◌, drop, length, Some, slice_get, arith, refl, sym, ap, ◌∙◌}
-use Rattle.std.specs.List.{filter, flat_map}
-use Rattle.std.proofs.Math.Seq.{drop-append_seam}
-use Rattle.std.proofs.lemmas.Bool.{and_parts, and_from, cond-false, eq-eqb, false≢true, not-true, ne_eqb}
+-- What is kept beside a group goes on to fit it.
+use Rattle.std.proofs.Common.{◌≡◌, ◌≢◌, ℕ, ◌<◌, inl, inr, Bool, true, false, not, List, [], ◌∷◌, ◌++◌, append-nil, length, Some, slice_get, slice_set, arith, sym, ap, subst, ◌∙◌}
+use Rattle.std.specs.List.{filter}
+use Rattle.std.proofs.lemmas.Bool.{and_parts, not-true}
 use Rattle.std.proofs.lemmas.List.{length-append, map-append}
-use Rattle.std.proofs.lemmas.List.Elements.{filter-append}
-use Rattle.std.proofs.lemmas.List.Folds.{flat_map-map}
-use Rattle.std.proofs.lemmas.Option.{slice_get_within}
+use Rattle.std.proofs.lemmas.Option.{same_Some, slice_get_within}
+use Rattle.std.proofs.lemmas.Bool.{cases_eq}
+use Rattle.pf_base.specs.Span.{Span}
+use Rattle.pf_base.specs.declared.asks.Ask.TheVariants.{Read}
 use Rattle.pf_entry.specs.Lists.{Every}
 use Rattle.pf_entry.specs.Tables.{ascends}
-use Rattle.pf_entry.proofs.Lists.{every_append, every_filter, every_get, every_map, every_more}
+use Rattle.pf_entry.proofs.Lists.{every_append, every_filter, every_map, every_more}
 use Rattle.pf_protocol.specs.declared.answers.Answer.{Answer}
 use Rattle.pf_protocol.specs.declared.answers.Answer.TheVariants.{Done, Slot as SlotIs, Term as TermIs, Read as ReadIs, Base as BaseIs, Job as JobIs, Refused}
-use Rattle.pf_protocol.specs.declared.events.Event.{Event}
-use Rattle.pf_protocol.specs.declared.events.Event.TheVariants.{Fetch}
-use Rattle.pf_base.specs.Span.{Span}
-use Rattle.pf_protocol.specs.Servers.{Server, Running}
-use Rattle.pf_protocol.specs.Groups.{Answered, Group, reads_after}
-use Rattle.pf_protocol.specs.Histories.{Runs}
+use Rattle.pf_protocol.specs.Groups.{Group, reads_after}
+use Rattle.pf_protocol.specs.Histories.{History}
 use Rattle.pf_cluster.specs.Readings.{taken_after}
+use Rattle.pf_cluster.proofs.Lists.{at_end, at_front, set_elsewhere, set_length, set_there}
+use Rattle.pf_asks.specs.declared.port.Sent.TheVariants.{Number}
+use Rattle.pf_asks.specs.Ports.{PortIs}
+use Rattle.pf_group.specs.GroupIs.{GroupIs, state_of}
 use Rattle.pf_chunk.specs.declared.waiting.Waiting.{Waiting}
-use Rattle.pf_chunk.specs.Happenings.{answered_since, read_line, reads_text}
-use Rattle.pf_chunk.specs.Telling.{is_answered, is_some_of, lines_of, may_wait, runs_in, taken_all, told_of}
-use Rattle.pf_chunk.specs.Views.{AreWaiting}
-use Rattle.pf_chunk.specs.Waiting.{AddsAnswers, IsAnsweredIn, StepsReads, TookUp, WaitsAt, answers_of}
-use Rattle.pf_chunk.proofs.Answers.{its_answer, no_answers}
-use Rattle.pf_chunk.proofs.Awaited.{at_end, at_first, at_second, each_text, fewer_ascend, filtered_has, last_greatest, ranged}
-use Rattle.pf_chunk.proofs.Following.{Follows}
-use Rattle.pf_chunk.proofs.Members.{every_place}
-use Rattle.pf_chunk.proofs.Numbering.{NoRead}
-use Rattle.pf_chunk.proofs.Stepped.{adds_both}
-use Rattle.pf_chunk.proofs.Told.{length_all, now_told, numbers_of, still_taken, untaken}
-
--- one of these has the number
-pub record HasNumber (ws : List Waiting) (n : ℕ) : Type 0 where
-  pub place : ℕ
-  pub waiting : Waiting
-  pub there : slice_get ws place ≡ Some waiting
-  pub numbered : waiting.number ≡ n
-
-abbrev pub AreAllIn : List Waiting → Group → Type 0
-AreAllIn ws g = (i t n : ℕ) → WaitsAt g i t n → (k : ℕ) × (slice_get ws k ≡ Some (record { number = n; server = i; term = t }))
-
-abbrev pub ArePending : List Bool → List Waiting → Type 0
-ArePending taken ws = Every (λ w. slice_get taken w.number ≡ Some false) ws
-
-abbrev pub IsUnanswered : Group → Waiting → Type 0
-IsUnanswered g w = (k : ℕ) (a : Answered) → slice_get g.answered k ≡ Some a → a.number ≢ w.number
-
--- the reads that wait after an event, beside what was handed out
-pub record IsAwaited (before mid : Group) (taken : List Bool) (ws : List Waiting) : Type 0 where
-  pub ascending : ascends (numbers_of ws) ≡ true
-  pub servers : Every (λ w. w.server < 3) ws
-  pub pending : ArePending taken ws
-  pub numbered : length taken ≡ mid.reads
-  pub all : AreAllIn ws mid
-  pub earlier : AreAllIn ws before
-  pub unanswered : Every (λ w. IsUnanswered before w ⊎ (before.reads ≤ w.number)) ws
+use Rattle.pf_chunk.specs.Telling.{is_answered, may_wait, taken_all}
+use Rattle.pf_chunk.specs.Views.{ArePorts, IsFetched, IsKept}
+use Rattle.pf_chunk.proofs.Awaited.{fewer_ascend, last_greatest}
+use Rattle.pf_chunk.proofs.Told.{length_all, none_taken, numbers_of, untaken}
 
 -- whether a read was handed out
 pub taken_reads : (taken : List Bool) (reads : ℕ) (answer : Answer) → length taken ≡ reads → length (taken_after taken answer) ≡ reads_after reads answer
@@ -68,8 +35,8 @@ taken_reads taken reads (BaseIs base) is = is
 taken_reads taken reads (JobIs job) is = is
 taken_reads taken reads (Refused refusal) is = is
 
-pub taken_still : (taken : List Bool) (answer : Answer) (n : ℕ) (b : Bool) → slice_get taken n ≡ Some b → slice_get (taken_after taken answer) n ≡ Some b
-taken_still taken (ReadIs m) n b is = at_first taken (false ∷ []) n b is
+taken_still : (taken : List Bool) (answer : Answer) (n : ℕ) (b : Bool) → slice_get taken n ≡ Some b → slice_get (taken_after taken answer) n ≡ Some b
+taken_still taken (ReadIs m) n b is = at_front taken (false ∷ []) n b is
 taken_still taken Done n b is = is
 taken_still taken (SlotIs slot) n b is = is
 taken_still taken (TermIs term) n b is = is
@@ -77,198 +44,143 @@ taken_still taken (BaseIs base) n b is = is
 taken_still taken (JobIs job) n b is = is
 taken_still taken (Refused refusal) n b is = is
 
-module _ (before : Group) (event : Event) (answer : Answer) (mid : Group) (steps : StepsReads before event answer mid) (taken : List Bool) (numbered : length taken ≡ before.reads) (ws : List Waiting) (waiting : AreWaiting ws before) (pending : ArePending taken ws) where
-  counted : length (taken_after taken answer) ≡ mid.reads
-  counted = taken_reads taken before.reads answer numbered ∙ sym steps.reads
+fetched_still : (history more : History) (n : ℕ) (range : Span) → IsFetched history n range → IsFetched (history ++ more) n range
+fetched_still history more n range is = record { server = is.server; place = is.place; happened = at_front history more is.place _ is.happened }
 
-  still_pending : ArePending (taken_after taken answer) ws
-  still_pending = every_more (λ w. slice_get taken w.number ≡ Some false) (λ w. slice_get (taken_after taken answer) w.number ≡ Some false) (λ w is. taken_still taken answer w.number false is) ws pending
+-- what an event adds to the reads that wait: nothing, or the one that it took up
+abbrev pub IsNew : (reads : ℕ) → Answer → List Waiting → Type 0
+IsNew reads answer [] = Unit {0}
+IsNew reads answer (w ∷ []) = (w.number ≡ reads) × (answer ≡ ReadIs w.number) × (w.server < 3)
+IsNew reads answer ws = ⊥
 
-  old_ones : Every (λ w. IsUnanswered before w ⊎ (before.reads ≤ w.number)) ws
-  old_ones = every_more (IsUnanswered before) (λ w. IsUnanswered before w ⊎ (before.reads ≤ w.number)) (λ w is. inl is) ws waiting.none_answered
+-- after an event
+module _ (old mid : GroupIs) (waiting more : List Waiting) (ports : List PortIs) (kept : IsKept old waiting ports) (answer : Answer) (new : IsNew (state_of old).reads answer more) (added : History)
+    (taken_is : mid.taken ≡ taken_after old.taken answer) (history_is : mid.history ≡ old.history ++ added) (reads_is : (state_of mid).reads ≡ reads_after (state_of old).reads answer) where
+  below : (n : ℕ) (b : Bool) → slice_get old.taken n ≡ Some b → n < (state_of old).reads
+  below n b is = omega (arith, slice_get_within old.taken n b is, kept.numbered)
 
-  -- no read was taken up
-  pub awaited_quietly : NoRead answer → IsAwaited before mid (taken_after taken answer) ws
-  awaited_quietly none = record {
-    ascending = waiting.ascending;
-    servers = waiting.servers;
-    pending = still_pending;
-    numbered = counted;
-    all = λ i t n w. elim (steps.waiting i t n w) [ inl old ↦ waiting.all i t n old | inr took ↦ absurd (none n took.told) ];
-    earlier = waiting.all;
-    unanswered = old_ones;
+  still : (n : ℕ) → slice_get old.taken n ≡ Some false → slice_get mid.taken n ≡ Some false
+  still n is = ap (λ t. slice_get t n) taken_is ∙ taken_still old.taken answer n false is
+
+  ascend : (more : List Waiting) → IsNew (state_of old).reads answer more → ascends (numbers_of (waiting ++ more)) ≡ true
+  ascend [] new = ap (λ ws. ascends (numbers_of ws)) (append-nil waiting) ∙ kept.listed.ascending
+  ascend (w ∷ []) new =
+      ap ascends (map-append (λ (x : Waiting). x.number) waiting (w ∷ []))
+      ∙ last_greatest (numbers_of waiting) w.number kept.listed.ascending
+      (every_map (λ k. k < w.number) (λ (x : Waiting). x.number) waiting
+      (every_more (λ x. slice_get old.taken x.number ≡ Some false) (λ x. x.number < w.number) (λ x is. omega (arith, below x.number false is, new.0)) waiting kept.listed.pending))
+  ascend (w ∷ x ∷ ws) new = absurd new
+
+  serve : (more : List Waiting) → IsNew (state_of old).reads answer more → Every (λ (w : Waiting). w.server < 3) more
+  serve [] new = tt
+  serve (w ∷ []) new = (new.2, tt)
+  serve (w ∷ x ∷ ws) new = absurd new
+
+  pend : (more : List Waiting) → IsNew (state_of old).reads answer more → Every (λ (w : Waiting). slice_get mid.taken w.number ≡ Some false) more
+  pend [] new = tt
+  pend (w ∷ []) new = (
+    ap (λ t. slice_get t w.number) taken_is
+        ∙ ap (λ a. slice_get (taken_after old.taken a) w.number) new.1
+        ∙ ap (slice_get (old.taken ++ false ∷ [])) (new.0 ∙ sym kept.numbered) ∙ at_end old.taken false,
+    tt,
+  )
+  pend (w ∷ x ∷ ws) new = absurd new
+
+  others : (more : List Waiting) → IsNew (state_of old).reads answer more → (n : ℕ) → n < (state_of old).reads → Every (λ (w : Waiting). w.number ≢ n) more
+  others [] new n low = tt
+  others (w ∷ []) new n low = ((λ same. omega (arith, same, low, new.0)), tt)
+  others (w ∷ x ∷ ws) new n low = absurd new
+
+  pub kept_on : IsKept mid (waiting ++ more) ports
+  kept_on = record {
+    numbered = ap length taken_is ∙ taken_reads old.taken (state_of old).reads answer kept.numbered ∙ sym reads_is;
+    listed = record {
+      ascending = ascend more new;
+      servers = every_append (λ w. w.server < 3) waiting more kept.listed.servers (serve more new);
+      pending = every_append (λ w. slice_get mid.taken w.number ≡ Some false) waiting more
+          (every_more (λ w. slice_get old.taken w.number ≡ Some false) (λ w. slice_get mid.taken w.number ≡ Some false) (λ w is. still w.number is) waiting kept.listed.pending) (pend more new);
+    };
+    ports_fit = record {
+      count = kept.ports_fit.count;
+      reads = λ m p n at sent.
+          let r = kept.ports_fit.reads m p n at sent in record {
+            pending = still n r.pending;
+            no_line = every_append (λ w. w.number ≢ n) waiting more r.no_line (others more new n (below n false r.pending));
+            alone = r.alone;
+            asked = λ chunk range ask. subst (λ history. IsFetched history n range) (sym history_is) (fetched_still old.history added n range (r.asked chunk range ask));
+          };
+    };
   }
 
-  -- one was
-  module _ (n i : ℕ) (range : Span) (fetched : event ≡ Fetch i range) (told : answer ≡ ReadIs n) (low : i < 3) (s : Server) (runs : Runs mid i s) where
-    abbrev pub one : Waiting
-    one = record { number = n; server = i; term = s.durable.term }
+-- another port at a place
+module _ (group : GroupIs) (waiting : List Waiting) (ports : List PortIs) (m : ℕ) (p : PortIs) where
+  pub record IsFor (n : ℕ) : Type 0 where
+    pub pending : slice_get group.taken n ≡ Some false
+    pub no_line : Every (λ w. w.number ≢ n) waiting
+    pub alone : (k : ℕ) (q : PortIs) → slice_get ports k ≡ Some q → q.sent ≡ Some (Number n) → k ≡ m
+    pub asked : (chunk : ℕ) (range : Span) → p.ask ≡ Some (Read chunk range) → IsFetched group.history n range
 
-    is_next : n ≡ before.reads
-    is_next = steps.next n told
+  there : (q : PortIs) → slice_get (slice_set ports m p) m ≡ Some q → q ≡ p
+  there q at = same_Some q p (sym at ∙ set_there ports m p (omega (arith, slice_get_within (slice_set ports m p) m q at, set_length ports m p)))
 
-    same_fetch : (j : ℕ) (other : Span) → Fetch i range ≡ Fetch j other → i ≡ j
-    same_fetch j other e = cc
-
-    same_running : (z : Server) → Some (Running z) ≡ Some (Running s) → z ≡ s
-    same_running z e = cc
-
-    taken_now : taken_after taken answer ≡ taken ++ false ∷ []
-    taken_now = ap (taken_after taken) told
-
-    its_place : (j t m : ℕ) → WaitsAt mid j t m → TookUp before event answer j m → slice_get (ws ++ one ∷ []) (length ws) ≡ Some (record { number = m; server = j; term = t })
-    its_place j t m w took =
-        let here : i ≡ j = same_fetch j took.range (sym fetched ∙ took.fetched) in
-        let same : w.server ≡ s = same_running w.server (sym w.runs ∙ ap (slice_get mid.servers) (sym here) ∙ runs) in
-        let number : n ≡ m = is_next ∙ sym took.numbered in
-        let term : s.durable.term ≡ t = ap (λ (z : Server). z.durable.term) (sym same) ∙ w.in_term in
-        at_end ws one
-        ∙ ap (λ (x : ℕ). Some (let y : Waiting = record { number = x; server = i; term = s.durable.term } in y)) number
-        ∙ ap (λ (x : ℕ). Some (let y : Waiting = record { number = m; server = x; term = s.durable.term } in y)) here
-        ∙ ap (λ (x : ℕ). Some (let y : Waiting = record { number = m; server = j; term = x } in y)) term
-
-    pub awaited_one : IsAwaited before mid (taken_after taken answer) (ws ++ one ∷ [])
-    awaited_one = record {
-      ascending =
-          ap ascends (map-append (λ (w : Waiting). w.number) ws (one ∷ []))
-          ∙ last_greatest (numbers_of ws) n waiting.ascending
-          (every_map (λ k. k < n) (λ (w : Waiting). w.number) ws
-          (every_more (λ w. slice_get taken w.number ≡ Some false) (λ w. w.number < n) (λ w is. omega (arith, slice_get_within taken w.number false is, numbered, is_next)) ws pending));
-      servers = every_append (λ w. w.server < 3) ws (one ∷ []) waiting.servers (low, tt);
-      pending = every_append (λ w. slice_get (taken_after taken answer) w.number ≡ Some false) ws (one ∷ []) still_pending (
-        ap (λ xs. slice_get xs n) taken_now ∙ ap (slice_get (taken ++ false ∷ [])) (is_next ∙ sym numbered) ∙ at_end taken false,
-        tt,
-      );
-      numbered = counted;
-      all = λ j t m w. elim (steps.waiting j t m w) [
-        | inl old ↦ let p = waiting.all j t m old in (p.0, at_first ws (one ∷ []) p.0 _ p.1)
-        | inr took ↦ (length ws, its_place j t m w took)
-      ];
-      earlier = λ j t m w. let p = waiting.all j t m w in (p.0, at_first ws (one ∷ []) p.0 _ p.1);
-      unanswered = every_append (λ w. IsUnanswered before w ⊎ (before.reads ≤ w.number)) ws (one ∷ []) old_ones (inr (omega (arith, is_next)), tt);
-    }
-
-some_of_one : (xs : List Answered) (a : Answered) → xs ≡ a ∷ [] → is_some_of xs ≡ true
-some_of_one xs a is = ap is_some_of is
-
-some_of_none : (xs : List Answered) → xs ≡ [] → is_some_of xs ≡ false
-some_of_none xs is = ap is_some_of is
-
--- after all was applied
-module _ (before : Group) (event : Event) (answer : Answer) (mid now : Group) (f : Follows before event answer mid now) (taken : List Bool) (ws : List Waiting) (a : IsAwaited before mid taken ws) where
-  adds : AddsAnswers before now
-  adds = adds_both before mid now f.steps.adds f.quiet.adds
-
-  since : answered_since before now ≡ adds.more
-  since = ap (drop (length before.answered)) adds.longer ∙ drop-append_seam before.answered adds.more
-
-  -- a read that is answered now was answered before, or waits in the list
-  pub of_list : (n : ℕ) → IsAnsweredIn now n → IsAnsweredIn before n ⊎ HasNumber ws n
-  of_list n x = elim (f.quiet.answered n x) [
-    | inl mid_too ↦ elim (f.steps.answered n mid_too) [
-      | inl old ↦ inl old
-      | inr waits ↦ let p = a.earlier waits.server waits.term n waits.there in inr (record { place = p.0; waiting = record { number = n; server = waits.server; term = waits.term }; there = p.1; numbered = refl })
-    ]
-    | inr waits ↦ let p = a.all waits.server waits.term n waits.there in inr (record { place = p.0; waiting = record { number = n; server = waits.server; term = waits.term }; there = p.1; numbered = refl })
-  ]
-
-  now_answered : (k : ℕ) (x : Answered) → slice_get now.answered k ≡ Some x → is_answered now x.number ≡ true
-  now_answered k x at = some_of_one (answers_of now x.number) x (its_answer now f.once k x at)
-
-  not_answered : (n : ℕ) → (IsAnsweredIn now n → ⊥) → is_answered now n ≡ false
-  not_answered n none = some_of_none (answers_of now n) (no_answers now n none)
-
-  -- numbers of the list are of reads that were taken up
-  below : Every (λ n. n < now.reads) (numbers_of ws)
-  below = every_map (λ n. n < now.reads) (λ (w : Waiting). w.number) ws
-      (every_more (λ w. slice_get taken w.number ≡ Some false) (λ w. w.number < now.reads) (λ w is. omega (arith, slice_get_within taken w.number false is, a.numbered, f.quiet.reads)) ws a.pending)
-
-  abbrev text_at : (chunk n : ℕ) → List ℕ
-  text_at chunk n = flat_map (read_line chunk) (filter (λ x. x.number == n) (answered_since before now))
-
-  none_of : (n : ℕ) (xs : List Answered) → Every (λ x. x.number ≢ n) xs → filter (λ x. x.number == n) xs ≡ []
-  none_of n [] each = refl
-  none_of n (x ∷ xs) each = cond-false (x.number == n) _ _ (ne_eqb x.number n each.0) ∙ none_of n xs each.1
-
-  -- what is new of a read in the list is all of it
-  listed_text : (chunk : ℕ) (w : Waiting) → ((k : ℕ) (x : Answered) → slice_get before.answered k ≡ Some x → x.number ≢ w.number) → text_at chunk w.number ≡ lines_of chunk now w.number
-  listed_text chunk w none =
-      let test : Answered → Bool = λ x. x.number == w.number in
-      ap (flat_map (read_line chunk))
-      (ap (filter test) since
-      ∙ ap (λ xs. xs ++ filter test adds.more) (sym (no_answers before w.number (λ x. none x.place x.answer x.there x.numbered)))
-      ∙ sym (filter-append test before.answered adds.more)
-      ∙ ap (filter test) (sym adds.longer))
-
-  -- of any other there is nothing
-  no_text : (chunk n : ℕ) → Every (λ k. k ≢ n) (numbers_of ws) → text_at chunk n ≡ []
-  no_text chunk n apart = ap (flat_map (read_line chunk)) (ap (filter (λ (x : Answered). x.number == n)) since ∙ none_of n adds.more (every_place (λ (x : Answered). x.number ≢ n) adds.more gone))
-    where
-      gone : (k : ℕ) (x : Answered) → slice_get adds.more k ≡ Some x → x.number ≢ n
-      gone k x at same =
-          let there : slice_get now.answered (length before.answered + k) ≡ Some x = ap (λ xs. slice_get xs (length before.answered + k)) adds.longer ∙ at_second before.answered adds.more k ∙ at in
-          elim (of_list n (record { place = length before.answered + k; answer = x; there = there; numbered = same })) [
-            | inl old ↦
-                let early : slice_get now.answered old.place ≡ Some old.answer = ap (λ xs. slice_get xs old.place) adds.longer ∙ at_first before.answered adds.more old.place old.answer old.there in
-                omega (arith, f.once.answered_once old.place (length before.answered + k) old.answer x early there (old.numbered ∙ sym same), slice_get_within before.answered old.place old.answer old.there)
-            | inr has ↦ every_get (λ (w : Waiting). w.number ≢ n) ws has.place has.waiting (unmapped ws apart) has.there has.numbered
-          ]
-        where
-          unmapped : (xs : List Waiting) → Every (λ k. k ≢ n) (numbers_of xs) → Every (λ (w : Waiting). w.number ≢ n) xs
-          unmapped [] each = tt
-          unmapped (y ∷ ys) each = (each.0, unmapped ys each.1)
-
-  none_answered : (w : Waiting) → IsUnanswered before w ⊎ (before.reads ≤ w.number) → IsUnanswered before w
-  none_answered w may = elim may [
-    | inl is ↦ is
-    | inr high ↦ λ k x at same. omega (arith, high, f.once_before.answered_below w.number (record { place = k; answer = x; there = at; numbered = same }))
-  ]
-
-  pub text_is : (chunk : ℕ) → told_of chunk now ws ≡ reads_text chunk before now
-  text_is chunk =
-      each_text (λ w. lines_of chunk now w.number) (λ w. text_at chunk w.number) ws
-      (every_more (λ w. IsUnanswered before w ⊎ (before.reads ≤ w.number)) (λ w. lines_of chunk now w.number ≡ text_at chunk w.number) (λ w may. sym (listed_text chunk w (none_answered w may))) ws a.unanswered)
-      ∙ sym (flat_map-map (text_at chunk) (λ (w : Waiting). w.number) ws)
-      ∙ sym (ranged (text_at chunk) now.reads 0 (numbers_of ws) a.ascending
-      (every_more (λ n. n < now.reads) (λ n. 0 ≤ n) (λ n _. omega arith) (numbers_of ws) below)
-      (every_more (λ n. n < now.reads) (λ n. n < 0 + now.reads) (λ n lt. omega (arith, lt)) (numbers_of ws) below)
-      (λ n _ apart. no_text chunk n apart))
-
-  kept : List Waiting
-  kept = filter (may_wait now) ws
-
-  waits_on : (w : Waiting) → may_wait now w ≡ true → is_answered now w.number ≡ false
-  waits_on w may = not-true (is_answered now w.number) (and_parts (not (is_answered now w.number)) _ may).0
-
-  runs_there : (i t : ℕ) (s : Server) → Runs now i s → s.durable.term ≡ t → runs_in (slice_get now.servers i) t ≡ true
-  runs_there i t s runs in_term = ap (λ c. runs_in c t) runs ∙ eq-eqb s.durable.term t in_term
-
-  pub waiting_now : AreWaiting (filter (may_wait now) ws) now
-  waiting_now = record {
-    ascending = fewer_ascend (may_wait now) ws a.ascending;
-    all = λ i t n w.
-        let p = a.all i t n (f.quiet.waiting i t n w) in
-        filtered_has (may_wait now) ws p.0 (record { number = n; server = i; term = t }) p.1
-        (and_from (not (is_answered now n)) (runs_in (slice_get now.servers i) t) (ap not (not_answered n (λ x. f.once.unanswered i t n w x))) (runs_there i t w.server w.runs w.in_term));
-    none_answered = every_filter (λ w. (k : ℕ) (x : Answered) → slice_get now.answered k ≡ Some x → x.number ≢ w.number) (may_wait now) ws
-        (every_more (λ w. w.server < 3) (λ w. may_wait now w ≡ true → (k : ℕ) (x : Answered) → slice_get now.answered k ≡ Some x → x.number ≢ w.number)
-        (λ w _ may k x at same. false≢true (sym (waits_on w may) ∙ ap (is_answered now) (sym same) ∙ now_answered k x at)) ws a.servers);
-    servers = every_filter (λ w. w.server < 3) (may_wait now) ws (every_more (λ w. w.server < 3) (λ w. may_wait now w ≡ true → w.server < 3) (λ w lt _. lt) ws a.servers);
+  pub port_put : ArePorts group waiting ports → ((n : ℕ) → p.sent ≡ Some (Number n) → IsFor n) → ArePorts group waiting (slice_set ports m p)
+  port_put fit fits = record {
+    count = set_length ports m p ∙ fit.count;
+    reads = λ k q n at sent. elim (cases_eq k m) [
+      | inl same ↦
+          let is : q ≡ p = there q (ap (slice_get (slice_set ports m p)) (sym same) ∙ at) in
+          let f = fits n (ap (λ (x : PortIs). x.sent) (sym is) ∙ sent) in record {
+            pending = f.pending;
+            no_line = f.no_line;
+            alone = λ j r r_at r_sent. elim (cases_eq j m) [
+              | inl here ↦ here ∙ sym same
+              | inr apart ↦ f.alone j r (sym (set_elsewhere ports m j p apart) ∙ r_at) r_sent ∙ sym same
+            ];
+            asked = λ chunk range ask. f.asked chunk range (ap (λ (x : PortIs). x.ask) (sym is) ∙ ask);
+          }
+      | inr apart ↦
+          let was = sym (set_elsewhere ports m k p apart) ∙ at in
+          let r = fit.reads k q n was sent in record {
+            pending = r.pending;
+            no_line = r.no_line;
+            alone = λ j other other_at other_sent. elim (cases_eq j m) [
+              | inl here ↦
+                  let is : other ≡ p = there other (ap (slice_get (slice_set ports m p)) (sym here) ∙ other_at) in
+                  here ∙ sym ((fits n (ap (λ (x : PortIs). x.sent) (sym is) ∙ other_sent)).alone k q was sent)
+              | inr away ↦ r.alone j other (sym (set_elsewhere ports m j p away) ∙ other_at) other_sent
+            ];
+            asked = r.asked;
+          }
+    ];
   }
 
-  pub pending_now : ArePending (taken_all now taken ws) (filter (may_wait now) ws)
-  pending_now = every_filter (λ w. slice_get (taken_all now taken ws) w.number ≡ Some false) (may_wait now) ws
-      (every_more (λ w. slice_get taken w.number ≡ Some false) (λ w. may_wait now w ≡ true → slice_get (taken_all now taken ws) w.number ≡ Some false)
-      (λ w is may. untaken now taken ws w.number (waits_on w may) ∙ is) ws a.pending)
+-- after all was applied, and the reads that were answered were told
+module _ (mid now : GroupIs) (waiting : List Waiting) (ports : List PortIs) (kept : IsKept mid waiting ports) (added : History) (g : Group) (history_is : now.history ≡ mid.history ++ added)
+    (taken_is : now.taken ≡ taken_all g mid.taken waiting) (reads_is : (state_of now).reads ≡ (state_of mid).reads) where
+  waits_on : (w : Waiting) → may_wait g w ≡ true → is_answered g w.number ≡ false
+  waits_on w may = not-true (is_answered g w.number) (and_parts (not (is_answered g w.number)) _ may).0
 
-  pub numbered_now : length (taken_all now taken ws) ≡ now.reads
-  numbered_now = length_all now taken ws ∙ a.numbered ∙ sym f.quiet.reads
+  fewer : (P : Waiting → Type 0) → Every P waiting → Every P (filter (may_wait g) waiting)
+  fewer P each = every_filter P (may_wait g) waiting (every_more P (λ w. may_wait g w ≡ true → P w) (λ w is _. is) waiting each)
 
-  pub shown_now : ((k : ℕ) (x : Answered) → slice_get before.answered k ≡ Some x → slice_get taken x.number ≡ Some true) → (k : ℕ) (x : Answered) → slice_get now.answered k ≡ Some x → slice_get (taken_all now taken ws) x.number ≡ Some true
-  shown_now shown k x at = elim (of_list x.number (record { place = k; answer = x; there = at; numbered = refl })) [
-    | inl old ↦ still_taken now taken ws x.number (ap (slice_get taken) (sym old.numbered) ∙ shown old.place old.answer old.there)
-    | inr has ↦
-        let pending = every_get (λ w. slice_get taken w.number ≡ Some false) ws has.place has.waiting a.pending has.there in
-        ap (slice_get (taken_all now taken ws)) (sym has.numbered)
-        ∙ now_told now taken ws has.place has.waiting has.there pending (ap (is_answered now) has.numbered ∙ now_answered k x at)
-  ]
+  pub kept_after : IsKept now (filter (may_wait g) waiting) ports
+  kept_after = record {
+    numbered = ap length taken_is ∙ length_all g mid.taken waiting ∙ kept.numbered ∙ sym reads_is;
+    listed = record {
+      ascending = fewer_ascend (may_wait g) waiting kept.listed.ascending;
+      servers = fewer (λ w. w.server < 3) kept.listed.servers;
+      pending = every_filter (λ w. slice_get now.taken w.number ≡ Some false) (may_wait g) waiting
+          (every_more (λ w. slice_get mid.taken w.number ≡ Some false) (λ w. may_wait g w ≡ true → slice_get now.taken w.number ≡ Some false)
+          (λ w is may. ap (λ t. slice_get t w.number) taken_is ∙ untaken g mid.taken waiting w.number (waits_on w may) ∙ is) waiting kept.listed.pending);
+    };
+    ports_fit = record {
+      count = kept.ports_fit.count;
+      reads = λ m p n at sent.
+          let r = kept.ports_fit.reads m p n at sent in record {
+            pending = ap (λ t. slice_get t n) taken_is ∙ none_taken g mid.taken waiting n r.no_line ∙ r.pending;
+            no_line = fewer (λ w. w.number ≢ n) r.no_line;
+            alone = r.alone;
+            asked = λ chunk range ask. subst (λ history. IsFetched history n range) (sym history_is) (fetched_still mid.history added n range (r.asked chunk range ask));
+          };
+    };
+  }

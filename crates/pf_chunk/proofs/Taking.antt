@@ -9,8 +9,7 @@ use Rattle.pf_group.specs.GroupIs.{GroupIs, state_of}
 use Rattle.pf_group.specs.Readers.{HasTaken, LacksAnswer, OfRunning}
 use Rattle.pf_report.specs.Texts.{event_line, read_text}
 use Rattle.pf_chunk.specs.declared.waiting.Waiting.{Waiting}
-use Rattle.pf_chunk.specs.Happenings.{read_line}
-use Rattle.pf_chunk.specs.Telling.{is_answered, is_some_of, lines_of, may_wait, now_taken, runs_in, taken_with}
+use Rattle.pf_chunk.specs.Telling.{is_answered, is_some_of, lines_of, read_line, may_wait, now_taken, runs_in, taken_with}
 use Rattle.pf_chunk.specs.Waiting.{answers_of}
 use Rattle.pf_chunk.proofs.Answers.{its_answer, no_answers}
 use Rattle.pf_chunk.proofs.Once.{reads_wait_once}

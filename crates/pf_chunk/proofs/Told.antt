@@ -1,15 +1,15 @@
 -- Reads that wait are gone through one after another.
-use Rattle.std.proofs.Common.{◌≡◌, ◌≢◌, ℕ, zero, suc, ◌+◌, ◌<◌, ◌≤◌, Bool, true, false, ◌==◌, cond, List, [], ◌∷◌, ◌++◌, drop, length, map, take, Some, slice_get, slice_set, set, arith, refl, sym, ap, subst, ◌∙◌, append_assoc, append-nil, add-one}
+use Rattle.std.proofs.Common.{◌≡◌, ◌≢◌, ℕ, zero, suc, ◌+◌, ◌<◌, ◌≤◌, Bool, true, false, cond, List, [], ◌∷◌, ◌++◌, drop, length, map, take, Some, slice_get, slice_set, set, arith, refl, sym, ap, ◌∙◌, append_assoc, append-nil, add-one}
 use Rattle.std.specs.List.{filter, flat_map}
 use Rattle.std.proofs.Math.Seq.{take-length, take-suc, take-suc-set, drop-cons}
-use Rattle.std.proofs.lemmas.Bool.{cond-true, cond-false, eq-eqb, eqb-true}
+use Rattle.std.proofs.lemmas.Bool.{cond-true, cond-false}
 use Rattle.std.proofs.lemmas.Grind.{flat_map-append}
 use Rattle.std.proofs.lemmas.List.{drop-set-lt, length-set}
 use Rattle.std.proofs.lemmas.List.Elements.{filter-append}
 use Rattle.std.proofs.lemmas.List.Sums.{fold-append}
 use Rattle.std.proofs.lemmas.Option.{get_or_from_slice_get, same_Some, slice_get_within}
 use Rattle.pf_entry.specs.Lists.{Every}
-use Rattle.pf_cluster.proofs.Lists.{set_elsewhere, set_there}
+use Rattle.pf_cluster.proofs.Lists.{set_elsewhere}
 use Rattle.pf_protocol.specs.Groups.{Group}
 use Rattle.pf_entry.proofs.Cases.{by_test}
 use Rattle.pf_group.specs.GroupIs.{GroupIs, state_of}
@@ -56,6 +56,11 @@ module _ (g : Group) where
   next_pending taken (x ∷ xs) zero w apart pending at = ap (λ y. slice_get taken y.number) (sym (same_Some x w at)) ∙ pending.0
   next_pending taken (x ∷ xs) (suc k) w apart pending at = next_pending (taken_with g taken x) xs k w apart.1 (pending_apart taken x xs apart.0 pending.1) at
 
+  -- no other is handed out
+  pub none_taken : (taken : List Bool) (ws : List Waiting) (n : ℕ) → Every (λ w. w.number ≢ n) ws → slice_get (taken_all g taken ws) n ≡ slice_get taken n
+  none_taken taken [] n apart = refl
+  none_taken taken (w ∷ ws) n apart = none_taken (taken_with g taken w) ws n apart.1 ∙ taken_apart taken w n (λ same. apart.0 (sym same))
+
   -- what is not answered is not handed out
   pub untaken : (taken : List Bool) (ws : List Waiting) (n : ℕ) → is_answered g n ≡ false → slice_get (taken_all g taken ws) n ≡ slice_get taken n
   untaken taken [] n none = refl
@@ -63,33 +68,6 @@ module _ (g : Group) where
       untaken (taken_with g taken w) ws n none
       ∙ by_test (is_answered g w.number) (λ c. (c ≡ is_answered g w.number) → slice_get (cond c (slice_set taken w.number true) taken) n ≡ slice_get taken n)
       (λ told _. set_elsewhere taken w.number n true (λ same. let t : true ≡ false = sym told ∙ ap (is_answered g) (sym same) ∙ none in absurd (cc))) (λ _ _. refl) refl
-
-  -- what was handed out stays so
-  pub still_taken : (taken : List Bool) (ws : List Waiting) (n : ℕ) → slice_get taken n ≡ Some true → slice_get (taken_all g taken ws) n ≡ Some true
-  still_taken taken [] n is = is
-  still_taken taken (w ∷ ws) n is =
-      still_taken (taken_with g taken w) ws n
-      (by_test (is_answered g w.number) (λ c. slice_get (cond c (slice_set taken w.number true) taken) n ≡ Some true)
-      (λ _. by_test (n == w.number) (λ c. slice_get (slice_set taken w.number true) n ≡ Some true)
-      (λ same. let e = eqb-true n w.number same in ap (slice_get (slice_set taken w.number true)) e ∙ set_there taken w.number true (slice_get_within taken w.number true (ap (slice_get taken) (sym e) ∙ is)))
-      (λ apart. set_elsewhere taken w.number n true (λ e. let t : true ≡ false = sym (eq-eqb n w.number e) ∙ apart in absurd (cc)) ∙ is))
-      (λ _. is))
-
-  -- what is answered is
-  pub now_told : (taken : List Bool) (ws : List Waiting) (k : ℕ) (w : Waiting) → slice_get ws k ≡ Some w → slice_get taken w.number ≡ Some false → is_answered g w.number ≡ true → slice_get (taken_all g taken ws) w.number ≡ Some true
-  now_told taken [] k w at pending said = absurd (grind (arith, at))
-  now_told taken (x ∷ xs) zero w at pending said =
-      let same = same_Some x w at in
-      still_taken (taken_with g taken x) xs w.number
-      (subst (λ y. slice_get (taken_with g taken y) w.number ≡ Some true) (sym same)
-      (ap (λ c. slice_get (cond c (slice_set taken w.number true) taken) w.number) said ∙ set_there taken w.number true (slice_get_within taken w.number false pending)))
-  now_told taken (x ∷ xs) (suc k) w at pending said =
-      by_test (x.number == w.number) (λ c. slice_get (taken_all g (taken_with g taken x) xs) w.number ≡ Some true)
-      (λ same. let e = eqb-true x.number w.number same in
-      still_taken (taken_with g taken x) xs w.number
-      (ap (λ c. slice_get (cond c (slice_set taken x.number true) taken) w.number) (ap (is_answered g) e ∙ said)
-      ∙ ap (λ n. slice_get (slice_set taken n true) w.number) e ∙ set_there taken w.number true (slice_get_within taken w.number false pending)))
-      (λ apart. now_told (taken_with g taken x) xs k w at (taken_apart taken x w.number (λ e. let t : true ≡ false = sym (eq-eqb x.number w.number (sym e)) ∙ apart in absurd (cc)) ∙ pending) said)
 
   length_with : (taken : List Bool) (w : Waiting) → length (taken_with g taken w) ≡ length taken
   length_with taken w = by_test (is_answered g w.number) (λ c. length (cond c (slice_set taken w.number true) taken) ≡ length taken) (λ _. length-set taken w.number true) (λ _. refl)
@@ -108,9 +86,6 @@ pub record IsGoneThrough (chunk : ℕ) (first : GroupIs) (ws : List Waiting) (be
   pub put : out ≡ before ++ told_of chunk (state_of first) (take place ws)
 
 module _ (chunk : ℕ) (first : GroupIs) (ws : List Waiting) (before : List ℕ) where
-  pub none_gone : IsGoneThrough chunk first ws before 0 0 first ws before
-  none_gone = record { low = omega arith; count = refl; kept_are = refl; rest = refl; group = refl; put = sym (append-nil before) }
-
   module _ (place kept : ℕ) (now : GroupIs) (items : List Waiting) (out : List ℕ) (is : IsGoneThrough chunk first ws before place kept now items out) (w : Waiting) (at : slice_get items place ≡ Some w) where
     pub there : slice_get ws place ≡ Some w
     there = at_front ws (drop (place + 1) items) place w (sym is.rest ∙ front_of items place w at)

@@ -1,7 +1,7 @@
+pub mod Runs
 pub mod Happenings
 pub mod Saying
 pub mod Asking
-pub mod Packets
 pub mod Showing
 pub mod Waiting
 pub mod Views
@@ -9,3 +9,5 @@ pub mod Events
 pub mod Telling
 pub mod Steps
 pub mod Settling
+pub mod Asks
+pub mod Driving

@@ -1,7 +1,5 @@
 -- What one event of a chunk comes to.
-use Rattle.std.specs.Prelude.{◌≡◌, ℕ, ◌<◌, true, false, IsSome, List, [], ◌++◌, filter, map, Some, slice_get}
-use Rattle.pf_entry.specs.Lists.{Every}
-use Rattle.pf_entry.specs.Tables.{ascends}
+use Rattle.std.specs.Prelude.{◌≡◌, ℕ, IsSome, List, [], ◌++◌, filter}
 use Rattle.pf_protocol.specs.Answers.{IsLegal, claims_of}
 use Rattle.pf_protocol.specs.declared.answers.Answer.{Answer}
 use Rattle.pf_group.specs.GroupIs.{GroupIs, state_of}
@@ -14,15 +12,10 @@ use Rattle.pf_rounds.specs.Agreeing.{TellsOfGroup, chunk_of}
 use Rattle.pf_rounds.specs.Begun.{HasBegun}
 use Rattle.pf_rounds.specs.Growing.{HasGrown}
 use Rattle.pf_chunk.specs.Happenings.{Happened}
-use Rattle.pf_chunk.specs.Packets.{NoneComesBack}
+use Rattle.pf_group.specs.Packets.{NoneComesBack}
 use Rattle.pf_chunk.specs.Telling.{may_wait, now_taken, taken_all, told_of}
-use Rattle.pf_chunk.specs.Views.{ChunkIs, IsReady}
-
--- the reads that wait can be gone through
-pub record IsListed (c : ChunkIs) : Type 0 where
-  pub ascending : ascends (map (λ w. w.number) c.waiting) ≡ true
-  pub servers : Every (λ w. w.server < 3) c.waiting
-  pub pending : Every (λ w. slice_get c.group.taken w.number ≡ Some false) c.waiting
+use Rattle.pf_chunk.specs.Runs.{ChunkRun}
+use Rattle.pf_chunk.specs.Views.{ChunkIs, IsReady, run_of}
 
 -- what followed on an event: all that can be applied is, and the reads that were answered are told
 pub record HasFollowed (old : ChunkIs) (before after : List ℕ) (new : ChunkIs) : Type 0 where
@@ -43,26 +36,23 @@ pub record HasFollowed (old : ChunkIs) (before after : List ℕ) (new : ChunkIs)
 
 -- what a list of halts makes of a chunk
 abbrev pub Event : Type 0
-Event = List Halt → Chunk → Happened
+Event = List Halt → ChunkRun → Happened
 
--- under every list of halts that tells of the group afterwards, the run comes to this group, gives this answer and writes this text,
+-- under every list of halts that tells of the group afterwards, the run comes to this chunk, gives this answer and writes this text,
 -- which was put at the end of a buffer
 pub record HasHappened (event : Event) (old : ChunkIs) (before : List ℕ) (answer : Answer) (after : List ℕ) (new : ChunkIs) : Type 0 where
   pub grown : HasGrown old.group new.group
   pub ready : IsReady new
   pub left : NoneComesBack (state_of old.group) (state_of new.group)
   pub first : new.first_left ≡ old.first_left
+  pub ports : new.ports ≡ old.ports
   pub said : IsSome (answer_text answer)
   pub text : List ℕ
   pub put : after ≡ before ++ text
-  pub run : (halts : List Halt) → TellsOfGroup halts new.group → event halts (chunk_of halts old.group) ≡ record { chunk = chunk_of halts new.group; answer = answer; text = text }
+  pub run : (halts : List Halt) → TellsOfGroup halts new.group → event halts (run_of halts old) ≡ record { chunk = run_of halts new; answer = answer; text = text }
 
--- there was no memory for all that follows on an event: a beginning of the rounds of applying, perhaps with all of them
-pub record HasNotFollowed (old new : GroupIs) : Type 0 where
+-- There was no memory for the whole of it: under every list of halts that tells of the group, this is a beginning of what it would have
+-- come to
+pub record HasFailed (would : List Halt → Chunk) (old new : GroupIs) : Type 0 where
   pub grown : HasGrown old new
-  pub begun : (halts : List Halt) → TellsOfGroup halts new → HasBegun halts old (applied halts (chunk_of halts old)) new
-
--- there was no memory for the whole of it: under every list of halts that tells of the group, this is a beginning of what it would have done
-pub record HasFailed (event : Event) (old new : GroupIs) : Type 0 where
-  pub grown : HasGrown old new
-  pub begun : (halts : List Halt) → TellsOfGroup halts new → HasBegun halts old (event halts (chunk_of halts old)).chunk new
+  pub begun : (halts : List Halt) → TellsOfGroup halts new → HasBegun halts old (would halts) new

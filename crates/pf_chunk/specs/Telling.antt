@@ -1,13 +1,16 @@
 -- Reads that wait are gone through, and those that were answered are told.
-use Rattle.std.specs.Prelude.{ℕ, Bool, true, false, not, ◌&&◌, ◌==◌, if◌then◌else◌, List, [], ◌∷◌, Option, Some, None, slice_get, slice_set}
+use Rattle.std.specs.Prelude.{◌≡◌, ℕ, Bool, true, false, not, ◌&&◌, ◌==◌, if◌then◌else◌, List, [], ◌∷◌, ◌++◌, Option, Some, None, slice_get, slice_set}
 use Rattle.std.specs.List.{flat_map, fold}
+use Rattle.pf_base.specs.Span.{Span}
 use Rattle.pf_protocol.specs.declared.answers.Answer.{Answer}
 use Rattle.pf_protocol.specs.declared.answers.Answer.TheVariants.{Read as ReadIs}
-use Rattle.pf_protocol.specs.Servers.{Condition, Running}
+use Rattle.pf_protocol.specs.declared.events.Event.TheVariants.{Fetch}
+use Rattle.pf_protocol.specs.Servers.{Condition, Running, Setup}
+use Rattle.pf_protocol.specs.Histories.{History, IsPrefix, replay}
 use Rattle.pf_protocol.specs.Groups.{Answered, Group}
 use Rattle.pf_group.specs.GroupIs.{GroupIs}
+use Rattle.pf_report.specs.Texts.{event_line, read_text}
 use Rattle.pf_chunk.specs.declared.waiting.Waiting.{Waiting}
-use Rattle.pf_chunk.specs.Happenings.{read_line}
 use Rattle.pf_chunk.specs.Waiting.{answers_of}
 
 abbrev pub is_some_of : List Answered → Bool
@@ -16,6 +19,9 @@ is_some_of (a ∷ rest) = true
 
 abbrev pub is_answered : Group → ℕ → Bool
 is_answered g n = is_some_of (answers_of g n)
+
+abbrev pub read_line : (chunk : ℕ) → Answered → List ℕ
+read_line chunk a = event_line (read_text chunk a.number a.bytes)
 
 -- the lines of the answers of a read
 abbrev pub lines_of : (chunk : ℕ) → Group → ℕ → List ℕ
@@ -36,6 +42,13 @@ may_wait g w = not (is_answered g w.number) && runs_in (slice_get g.servers w.se
 abbrev pub read_of : Option Condition → (server : ℕ) → Answer → Option Waiting
 read_of (Some (Running s)) server (ReadIs number) = Some (record { number = number; server = server; term = s.durable.term })
 read_of c server answer = None
+
+-- an event of the history took the read up at its server, in its term
+pub record WasTaken (setup : Setup) (history : History) (w : Waiting) : Type 0 where
+  pub before : History
+  pub range : Span
+  pub part : IsPrefix (before ++ record { event = Fetch w.server range; answer = ReadIs w.number } ∷ []) history
+  pub taken : read_of (slice_get (replay setup (before ++ record { event = Fetch w.server range; answer = ReadIs w.number } ∷ [])).servers w.server) w.server (ReadIs w.number) ≡ Some w
 
 -- its answer, if there is one, is handed out
 abbrev pub taken_with : Group → List Bool → Waiting → List Bool

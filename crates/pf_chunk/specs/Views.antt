@@ -1,14 +1,22 @@
 -- A chunk on its disks, as contracts see it.
-use Rattle.std.specs.Prelude.{◌≡◌, ◌≢◌, ℕ, ◌<◌, ◌≤◌, true, false, List, [], length, map, Some, slice_get}
+use Rattle.std.specs.Prelude.{◌≡◌, ◌≢◌, ℕ, ◌<◌, ◌≤◌, Bool, true, false, List, [], length, map, Some, slice_get}
+use Rattle.pf_base.specs.Span.{Span}
+use Rattle.pf_base.specs.declared.asks.Ask.TheVariants.{Read}
 use Rattle.pf_entry.specs.Lists.{Every}
 use Rattle.pf_entry.specs.Tables.{ascends}
-use Rattle.pf_protocol.specs.Groups.{Answered, Group}
+use Rattle.pf_protocol.specs.declared.answers.Answer.TheVariants.{Read as ReadIs}
+use Rattle.pf_protocol.specs.declared.events.Event.TheVariants.{Fetch}
 use Rattle.pf_protocol.specs.Answers.{claims_of}
+use Rattle.pf_protocol.specs.Histories.{History}
+use Rattle.pf_asks.specs.declared.port.Sent.TheVariants.{Number}
+use Rattle.pf_asks.specs.Ports.{PortIs}
 use Rattle.pf_group.specs.GroupIs.{GroupIs, state_of}
+use Rattle.pf_group.specs.Packets.{is_left_in}
+use Rattle.pf_rounds.specs.Agreeing.{chunk_of}
+use Rattle.pf_rounds.specs.Halts.{Halt}
 use Rattle.pf_rounds.specs.Rounds.{IsApplied}
 use Rattle.pf_chunk.specs.declared.waiting.Waiting.{Waiting}
-use Rattle.pf_chunk.specs.Waiting.{WaitsAt}
-use Rattle.pf_chunk.specs.Packets.{is_left_in}
+use Rattle.pf_chunk.specs.Runs.{ChunkRun, most_ports}
 
 -- a group with what is kept beside it
 pub record ChunkIs : Type 0 where
@@ -16,25 +24,45 @@ pub record ChunkIs : Type 0 where
   pub waiting : List Waiting
   pub first_left : ℕ  -- no packet below this one is left
   pub next : ℕ  -- where a settling goes on
+  pub ports : List PortIs
 
--- a line was written for each read that was answered
-abbrev pub AreShown : GroupIs → Type 0
-AreShown g = (k : ℕ) (a : Answered) → slice_get (state_of g).answered k ≡ Some a → slice_get g.taken a.number ≡ Some true
+-- where a run stands that came to this chunk
+abbrev pub run_of : List Halt → ChunkIs → ChunkRun
+run_of halts c = record { group = chunk_of halts c.group; waiting = c.waiting; ports = c.ports }
 
--- the list has each read that waits, with its server and the term in which it waits, and no read that was answered
-pub record AreWaiting (waiting : List Waiting) (g : Group) : Type 0 where
+-- the reads that wait can be gone through
+pub record IsListed (taken : List Bool) (waiting : List Waiting) : Type 0 where
   pub ascending : ascends (map (λ w. w.number) waiting) ≡ true
-  pub all : (i t n : ℕ) → WaitsAt g i t n → (k : ℕ) × (slice_get waiting k ≡ Some (record { number = n; server = i; term = t }))
-  pub none_answered : Every (λ w. (k : ℕ) (a : Answered) → slice_get g.answered k ≡ Some a → a.number ≢ w.number) waiting
   pub servers : Every (λ w. w.server < 3) waiting
+  pub pending : Every (λ w. slice_get taken w.number ≡ Some false) waiting
 
--- between two events: no job is in hand, what can be applied is applied, and each answer of a read was told
+-- the read of this number was taken up, for this range
+pub record IsFetched (history : History) (number : ℕ) (range : Span) : Type 0 where
+  pub server : ℕ
+  pub place : ℕ
+  pub happened : slice_get history place ≡ Some (record { event = Fetch server range; answer = ReadIs number })
+
+-- a read of the port of mount m: its answer was not handed out, and it is of no line and of no other port
+pub record IsPortRead (group : GroupIs) (waiting : List Waiting) (ports : List PortIs) (m : ℕ) (p : PortIs) (number : ℕ) : Type 0 where
+  pub pending : slice_get group.taken number ≡ Some false
+  pub no_line : Every (λ w. w.number ≢ number) waiting
+  pub alone : (k : ℕ) (q : PortIs) → slice_get ports k ≡ Some q → q.sent ≡ Some (Number number) → k ≡ m
+  pub asked : (chunk : ℕ) (range : Span) → p.ask ≡ Some (Read chunk range) → IsFetched group.history number range
+
+pub record ArePorts (group : GroupIs) (waiting : List Waiting) (ports : List PortIs) : Type 0 where
+  pub count : length ports ≡ most_ports
+  pub reads : (m : ℕ) (p : PortIs) (number : ℕ) → slice_get ports m ≡ Some p → p.sent ≡ Some (Number number) → IsPortRead group waiting ports m p number
+
+-- what is kept beside a group fits it
+pub record IsKept (group : GroupIs) (waiting : List Waiting) (ports : List PortIs) : Type 0 where
+  pub numbered : length group.taken ≡ (state_of group).reads
+  pub listed : IsListed group.taken waiting
+  pub ports_fit : ArePorts group waiting ports
+
+-- between two events: no job is in hand, and what can be applied is applied
 pub record IsReady (c : ChunkIs) : Type 0 where
   pub claims : claims_of [] c.group.history ≡ []
   pub applied : IsApplied c.group.setup (state_of c.group)
-  pub shown : AreShown c.group
-  pub numbered : length c.group.taken ≡ (state_of c.group).reads
-  pub waiting : AreWaiting c.waiting (state_of c.group)
-  pub pending : Every (λ w. slice_get c.group.taken w.number ≡ Some false) c.waiting
+  pub kept : IsKept c.group c.waiting c.ports
   pub first_sent : c.first_left ≤ length (state_of c.group).packets
   pub none_left : (k : ℕ) → k < c.first_left → is_left_in (state_of c.group) k ≡ false

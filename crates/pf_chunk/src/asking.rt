@@ -5,7 +5,7 @@ ghost use Rattle.pf_group.specs.GroupIs.{state_of};
 ghost use Rattle.pf_chunk.specs.Asking.{fetches, no_range_answer, submits};
 ghost use Rattle.pf_chunk.specs.Steps.{HasFailed, HasHappened};
 ghost use Rattle.pf_chunk.specs.Telling.{read_of};
-ghost use Rattle.pf_chunk.specs.Views.{IsReady};
+ghost use Rattle.pf_chunk.specs.Views.{IsReady, run_of};
 
 use crate::{ChunkGroup, Waiting};
 use pf_base::{Data, NoMemory, Payload, Range, Server};
@@ -75,7 +75,7 @@ impl<D: Disk + Drop> ChunkGroup<D> {
         requires ready { IsReady self.old }
         requires server { server < 3 }
         ensures went { IfOk result (λ answer. HasHappened (λ halts c. submits halts server sector byte count c) self.old out.old.items answer out.new.items self.new) }
-        ensures err { OnErr result (HasFailed (λ halts c. submits halts server sector byte count c) self.old.group self.new.group) }
+        ensures err { OnErr result (HasFailed (λ halts. (submits halts server sector byte count (run_of halts self.old)).chunk.group) self.old.group self.new.group) }
     {
         let Ok(range) = Range::new(sector, count) else {
             return Ok(self.no_range(server));
@@ -106,7 +106,7 @@ impl<D: Disk + Drop> ChunkGroup<D> {
         requires ready { IsReady self.old }
         requires server { server < 3 }
         ensures went { IfOk result (λ answer. HasHappened (λ halts c. fetches halts server sector count c) self.old out.old.items answer out.new.items self.new) }
-        ensures err { OnErr result (HasFailed (λ halts c. fetches halts server sector count c) self.old.group self.new.group) }
+        ensures err { OnErr result (HasFailed (λ halts. (fetches halts server sector count (run_of halts self.old)).chunk.group) self.old.group self.new.group) }
     {
         let Ok(range) = Range::new(sector, count) else {
             return Ok(self.no_range(server));

@@ -1,12 +1,17 @@
 //! A group, with what a report needs beside it.
-ghost use Rattle.std.specs.Prelude.{◌≡◌, [], IfErr, IfOk};
+ghost use Rattle.std.specs.Prelude.{◌≡◌, [], IfErr, IfOk, List, replicate};
 ghost use Rattle.pf_protocol.specs.Answers.{IsLegal, IsSetup};
 ghost use Rattle.pf_group.specs.Leaving.{LeavesIn, as_seen};
 ghost use Rattle.pf_group.specs.Sound.{IsSound};
 ghost use Rattle.pf_group.specs.Making.{AreTold, IsMade, setup_with, six_faults};
-ghost use Rattle.pf_chunk.specs.Views.{IsReady};
+ghost use Rattle.pf_asks.specs.Ports.{new_port};
+ghost use Rattle.pf_rounds.specs.Agreeing.{chunk_of};
+ghost use Rattle.pf_rounds.specs.Halts.{Halt};
+ghost use Rattle.pf_chunk.specs.Runs.{most_ports, new_run};
+ghost use Rattle.pf_chunk.specs.Views.{IsReady, run_of};
 
 use crate::Waiting;
+use pf_asks::Port;
 use pf_base::NoMemory;
 use pf_disk::Disk;
 use pf_group::{Group, Six};
@@ -14,7 +19,10 @@ use pf_protocol::{Answer, Happening};
 use std::alloc::Global;
 use std::marker::Model;
 
-/// The group of a chunk.
+/// A volume has at most so many mounts.
+const MOST_PORTS: usize = 16;
+
+/// The group of a chunk, with the ports of hosts into it.
 #[derive(Drop)]
 pub struct ChunkGroup<D: Disk> {
     pub(crate) group: Group<D>,
@@ -25,6 +33,8 @@ pub struct ChunkGroup<D: Disk> {
     pub(crate) first_left: u32,
     /// Of the packets from `first_left` to this one those that are left were passed over by the settling that goes on.
     pub(crate) next: u32,
+    /// The ways of hosts to the group, each by the number of its mount.
+    pub(crate) ports: Vec<Port>,
 }
 
 impl<D: Disk> Model for ChunkGroup<D> {
@@ -33,9 +43,20 @@ impl<D: Disk> Model for ChunkGroup<D> {
 
     ghost Value = { ChunkIs };
 
-    ghost view = { λ c. record { group = c.group; waiting = c.waiting.items; first_left = c.first_left; next = c.next } };
+    ghost view = { λ c. record { group = c.group; waiting = c.waiting.items; first_left = c.first_left; next = c.next; ports = c.ports.items } };
 
     ghost invariant = { λ c. c.group.number ≡ c.number };
+}
+
+/// A port for each mount that there may be.
+fn new_ports(alloc: Global) -> Result<Vec<Port>, NoMemory>
+    ensures { IfOk result (λ ports. ports.items ≡ replicate most_ports new_port) }
+{
+    let mut ports = Vec::new(alloc);
+    for mount in 0..MOST_PORTS {
+        ports.push(Port::new())?;
+    }
+    Ok(ports)
 }
 
 impl<D: Disk + Drop> ChunkGroup<D> {
@@ -56,8 +77,13 @@ impl<D: Disk + Drop> ChunkGroup<D> {
         requires told { AreTold D.seen disks }
         ensures made { IfOk result (λ made. IsMade number sectors names format (six_faults D.faults disks) made.0.group made.1) }
         ensures ready { IfOk result (λ made. IsReady made.0) }
+        ensures run { IfOk result (λ made. (halts : List Halt) → run_of halts made.0 ≡ new_run (chunk_of halts made.0.group)) }
         ensures err { IfErr result (λ back. back.0 ≡ disks) }
     {
+        let ports = match new_ports(alloc) {
+            Ok(ports) => ports,
+            Err(NoMemory) => return Err((disks, NoMemory)),
+        };
         let (group, answer) = Group::new(alloc, number, sectors, names, format, disks)?;
         let chunk = ChunkGroup {
             group,
@@ -65,6 +91,7 @@ impl<D: Disk + Drop> ChunkGroup<D> {
             waiting: Vec::new(alloc),
             first_left: 0,
             next: 0,
+            ports,
         };
         Ok((chunk, answer))
     }

@@ -2,10 +2,12 @@
 ghost use Rattle.std.specs.Prelude.{◌≡◌, ◌≤◌, [], IfOk, OnErr, OnOk, false};
 ghost use Rattle.pf_protocol.specs.Answers.{claims_of};
 ghost use Rattle.pf_group.specs.Events.{event_of};
+ghost use Rattle.pf_rounds.specs.Agreeing.{chunk_of};
+ghost use Rattle.pf_rounds.specs.Rounds.{applied};
 ghost use Rattle.pf_chunk.specs.Happenings.{happened};
 ghost use Rattle.pf_chunk.specs.Events.{IsStep};
-ghost use Rattle.pf_chunk.specs.Steps.{HasFailed, HasFollowed, HasHappened, HasNotFollowed, IsListed};
-ghost use Rattle.pf_chunk.specs.Views.{IsReady};
+ghost use Rattle.pf_chunk.specs.Steps.{HasFailed, HasFollowed, HasHappened};
+ghost use Rattle.pf_chunk.specs.Views.{IsListed, IsReady, run_of};
 
 use crate::ChunkGroup;
 use crate::telling::tell_reads;
@@ -19,8 +21,8 @@ use std::alloc::Global;
 use std::thread::Threads;
 
 impl<D: Disk + Drop> ChunkGroup<D> {
-    /// One event, and then what it made free is applied, on at most `workers` threads. A line for each read that was answered is put at
-    /// the end of `out`, by the reads' numbers.
+    /// One event, and then what it made free is applied, on at most `workers` threads. A line for each read of a line that was answered
+    /// is put at the end of `out`, by the reads' numbers.
     ///
     /// After `NoMemory` (1) the group stands after its last whole step, with no job in hand: a beginning of what would have happened.
     pub fn happen<R: Threads + Sync, G: Gate + Sync>(
@@ -37,7 +39,7 @@ impl<D: Disk + Drop> ChunkGroup<D> {
         requires event { IsStep event }
         ensures went { IfOk result (λ answer. HasHappened (λ halts c. happened halts c (event_of event false)) self.old out.old.items answer out.new.items self.new) }
         ensures next { OnOk result (self.new.next ≡ self.old.next) }
-        ensures err { OnErr result (HasFailed (λ halts c. happened halts c (event_of event false)) self.old.group self.new.group) }
+        ensures err { OnErr result (HasFailed (λ halts. (happened halts (run_of halts self.old) (event_of event false)).chunk.group) self.old.group self.new.group) }
     {
         let answer = self.group.step(alloc, event)?;
         self.follow(rt, alloc, workers, gate, out)?;
@@ -55,9 +57,9 @@ impl<D: Disk + Drop> ChunkGroup<D> {
     ) -> Result<(), NoMemory>
         requires workers { (1 ≤ workers) × (workers ≤ 8) }
         requires none { claims_of [] self.old.group.history ≡ [] }
-        requires listed { IsListed self.old }
+        requires listed { IsListed self.old.group.taken self.old.waiting }
         ensures went { OnOk result (HasFollowed self.old out.old.items out.new.items self.new) }
-        ensures err { OnErr result (HasNotFollowed self.old.group self.new.group) }
+        ensures err { OnErr result (HasFailed (λ halts. applied halts (chunk_of halts self.old.group)) self.old.group self.new.group) }
     {
         apply_all(rt, alloc, &mut self.group, workers, gate)?;
         // That the history is legal is asked of the proof alone.

@@ -1,16 +1,21 @@
 //! One chunk of a volume: its group, and what a report tells of it.
 //!
-//! After each event of the group what can be applied is applied; then each read that was answered is told by a line of its own.
+//! After each event of the group what can be applied is applied; then each read of a line that was answered is told by a line of its
+//! own. Hosts have ports into it, one for each mount: what they hand on are events like any other, and what they read is told to them alone.
 #![tactic(auto)]
 
 mod asking;
 mod chunk;
+mod desk;
+mod driving;
 mod happening;
+mod laws;
 mod settling;
 mod showing;
 mod telling;
 mod waiting;
 
 pub use chunk::ChunkGroup;
+pub use laws::reads_are_answered_while_they_wait;
 pub use settling::Try;
 pub use waiting::Waiting;

@@ -4,17 +4,16 @@ ghost use Rattle.pf_group.specs.GroupIs.{state_of};
 ghost use Rattle.pf_protocol.specs.Answers.{most_packets};
 ghost use Rattle.pf_protocol.specs.declared.events.Event.TheVariants.{Deliver};
 ghost use Rattle.pf_chunk.specs.Happenings.{happened};
-ghost use Rattle.pf_chunk.specs.Packets.{IsFirstLeft, is_left_in, is_passed_over, least_from};
+ghost use Rattle.pf_group.specs.Packets.{is_left_in, least_from};
 ghost use Rattle.pf_chunk.specs.Settling.{HasTried};
 ghost use Rattle.pf_chunk.specs.Steps.{HasFailed};
-ghost use Rattle.pf_chunk.specs.Views.{IsReady};
+ghost use Rattle.pf_chunk.specs.Views.{IsReady, run_of};
 
 use crate::ChunkGroup;
 use pf_base::NoMemory;
 use pf_disk::Disk;
 use pf_filling::Gate;
-use pf_group::GroupEvent;
-use pf_protocol::{Answer, Refusal};
+use pf_group::{GroupEvent, is_passed_over};
 use std::alloc::Global;
 use std::thread::Threads;
 
@@ -26,37 +25,14 @@ pub enum Try {
     Delivered,
 }
 
-/// Whether there was no room for what a delivery asks for.
-fn is_passed_over(answer: &Answer) -> bool
-    ensures { result ≡ is_passed_over answer.now }
-{
-    matches!(
-        answer,
-        Answer::Refused(Refusal::LogFull | Refusal::PacketsFull)
-    )
-}
-
 impl<D: Disk + Drop> ChunkGroup<D> {
-    /// The least packet from `from` on that is left, or how many there are.
-    fn left_from(&self, from: u32) -> u32
-        ensures { IsFirstLeft (state_of self.now.group) from result }
-    {
-        let packets = self.group.packets();
-        for k in from..packets {
-            if self.group.is_left(k) {
-                return k;
-            }
-        }
-        packets.max(from)
-    }
-
     /// A settling begins: no packet was passed over yet.
     pub fn begin_settling(&mut self)
         requires ready { IsReady self.old }
         ensures ready { IsReady self.new }
         ensures same { self.new ≡ record self.old { first_left = self.new.next; next = self.new.next } }
     {
-        self.first_left = self.left_from(self.first_left);
+        self.first_left = self.group.left_from(self.first_left);
         self.next = self.first_left;
     }
 
@@ -66,7 +42,7 @@ impl<D: Disk + Drop> ChunkGroup<D> {
         ensures same { self.new ≡ record self.old { next = self.new.next } }
         ensures found { MatchOption result (self.new.next ≡ self.new.next) (λ k. self.new.next ≡ k) }
     {
-        self.next = self.left_from(self.next);
+        self.next = self.group.left_from(self.next);
         if self.next < self.group.packets() {
             Some(self.next)
         } else {
@@ -88,7 +64,7 @@ impl<D: Disk + Drop> ChunkGroup<D> {
         requires left { is_left_in (state_of self.old.group) self.old.next ≡ true }
         ensures went { IfOk result (λ tried. HasTried self.old out.old.items tried out.new.items self.new) }
         ensures few { OnOk result (self.old.next < most_packets) }
-        ensures err { OnErr result (HasFailed (λ halts c. happened halts c (Deliver self.old.next)) self.old.group self.new.group) }
+        ensures err { OnErr result (HasFailed (λ halts. (happened halts (run_of halts self.old) (Deliver self.old.next)).chunk.group) self.old.group self.new.group) }
     {
         let k = self.next;
         // That the history is legal is asked of the proof alone.

@@ -404,7 +404,7 @@ def found_by(halts, group, n, server):
     return False if h is None else h[3]
 # ---- Chunks ----
 @dataclass(frozen=True)
-class Chunk: number: int; setup: Setup; state: Group; events: int
+class Chunk: number: int; setup: Setup; state: Group; events: int; waiting: tuple = ()  # reads of lines; no line touches a port
 def setup_with(sectors, names, fmt, failed): return Setup(names, 4096, sectors, fmt, failed)
 def made_chunk(halts, sectors, names, fmt, number):
     setup = setup_with(sectors, names, fmt, failed_by(halts, number))
@@ -444,13 +444,19 @@ def runs_text(bs):
     return ' '.join(out)
 def read_text(group, number, sectors): return 'read %d %d %s' % (group, number, runs_text(b''.join(sectors)))
 def read_line(chunk, a): return '- ' + read_text(chunk, a['number'], a['bytes']) + '\n'
-def reads_text(chunk, before, now):
-    since = now.answered[len(before.answered):]
-    if not since: return ''
-    return ''.join(read_line(chunk, a) for number in range(now.reads) for a in since if a['number'] == number)
-def happened(halts, c, ev):
-    nxt = applied(halts, after(halts, c, ev))
-    return nxt, answered(halts, c, ev), reads_text(c.number, c.state, nxt.state)
+def answers_of(g, number): return [a for a in g.answered if a['number'] == number]
+def told_of(chunk, g, waiting): return ''.join(read_line(chunk, a) for number, _, _ in waiting for a in answers_of(g, number))
+def may_wait(g, read):
+    number, server, term = read; s = get(g.servers, server)
+    return not answers_of(g, number) and runs(s) and s.durable.term == term
+def read_of(s, server, a): return ((a[1], server, s.durable.term),) if runs(s) and a[0] == 'Read' else ()
+def followed(halts, c, a):
+    nxt = applied(halts, c)
+    return replace(nxt, waiting=tuple(w for w in c.waiting if may_wait(nxt.state, w))), a, told_of(c.number, nxt.state, c.waiting)
+def happened(halts, c, ev): return followed(halts, after(halts, c, ev), answered(halts, c, ev))
+def fetched(halts, server, rng, c):
+    ev = ('Fetch', server, rng); a = answered(halts, c, ev); mid = after(halts, c, ev)
+    return followed(halts, replace(mid, waiting=mid.waiting + read_of(get(mid.state.servers, server), server, a)), a)
 # ---- Worlds: a world is the list of its chunks ----
 TEXTS = dict(BadRange='bad range', WindowFull='window full', LogFull='log full', NotOurs='not ours', NotLeader='not leader', Down='down', Halted='halted',
              NoPacket='no packet', LostPacket='lost packet', PacketsFull='packets full', ElectionsFull='elections full', OldFormat='old format')
@@ -515,7 +521,7 @@ def no_range(server, c): return c, R('BadRange') if runs(get(c.state.servers, se
 def submits(halts, server, first, byte, count, c):
     return happened(halts, c, ('Submit', server, filled(first, byte, count))) if is_range(first, count) else no_range(server, c)
 def fetches(halts, server, first, count, c):
-    return happened(halts, c, ('Fetch', server, (first, count))) if is_range(first, count) else no_range(server, c)
+    return fetched(halts, server, (first, count), c) if is_range(first, count) else no_range(server, c)
 def shows(w, number, chunk, text):
     c = get(w, chunk)
     return (w, '') if c is None else (w, line_of(number, text(c)))

@@ -9,11 +9,11 @@ use Rattle.pf_group.specs.declared.event.GroupEvent.{GroupEvent}
 use Rattle.pf_group.specs.declared.event.GroupEvent.TheVariants as asked
 use Rattle.pf_group.specs.Events.{event_of}
 use Rattle.pf_rounds.specs.Halts.{Halt}
-use Rattle.pf_rounds.specs.Chunks.{Chunk}
+use Rattle.pf_chunk.specs.Runs.{ChunkRun}
 use Rattle.pf_rounds.proofs.Extending.{Extends}
 use Rattle.pf_chunk.specs.Happenings.{happened}
 use Rattle.pf_chunk.specs.Steps.{Event, HasFailed as HasFailedAt, HasHappened}
-use Rattle.pf_chunk.specs.Views.{ChunkIs, IsReady}
+use Rattle.pf_chunk.specs.Views.{ChunkIs, IsReady, run_of}
 use Rattle.pf_world.specs.Worlds.{World, at_chunk}
 use Rattle.pf_world.specs.Lines.{line_told}
 use Rattle.pf_world.specs.Views.{IsWorld, WorldIs}
@@ -95,7 +95,7 @@ module _ (v w : WorldIs) (same : v ≡ w) (world : IsWorld w) (k : ℕ) (was : C
   ready_there = ((subst IsWorld (sym same) world).each k was there).ready
 
   module _ (is : ChunkIs) where
-    pub failed_there : (command other : Command) (event : Event) → command ≡ other → ((halts : List Halt) (x : World) (number : ℕ) → line_told halts x number other ≡ at_chunk x number k (event halts)) → ((halts : List Halt) (c : Chunk) → Extends c (event halts c).chunk) → HasFailedAt event was.group is.group → (number : ℕ) → HasFailed w number command (with_chunk_at v k is)
+    pub failed_there : (command other : Command) (event : Event) → command ≡ other → ((halts : List Halt) (x : World) (number : ℕ) → line_told halts x number other ≡ at_chunk x number k (event halts)) → ((halts : List Halt) (c : ChunkRun) → Extends c.group (event halts c).chunk.group) → HasFailedAt (λ halts. (event halts (run_of halts was)).chunk.group) was.group is.group → (number : ℕ) → HasFailed w number command (with_chunk_at v k is)
     failed_there command other event is_other asks longer f number =
         subst (λ (c : Command). HasFailed w number c (with_chunk_at v k is)) (sym is_other)
         (subst (λ (x : WorldIs). HasFailed x number other (with_chunk_at v k is)) same

@@ -19,10 +19,11 @@ use Rattle.pf_group.specs.GroupIs.{GroupIs}
 use Rattle.pf_group.specs.Making as groups
 use Rattle.pf_group.specs.Making.{making_answer, setup_with}
 use Rattle.pf_rounds.specs.Halts.{Halt, failed_by}
-use Rattle.pf_rounds.specs.Chunks.{Chunk, made_chunk}
+use Rattle.pf_rounds.specs.Chunks.{made_chunk}
 use Rattle.pf_rounds.specs.Agreeing.{TellsOfGroup, chunk_of}
 use Rattle.pf_rounds.proofs.Paying.{made_paid}
-use Rattle.pf_chunk.specs.Views.{ChunkIs, IsReady}
+use Rattle.pf_chunk.specs.Views.{ChunkIs, IsReady, run_of}
+use Rattle.pf_chunk.specs.Runs.{ChunkRun, new_run}
 use Rattle.pf_world.specs.Worlds.{made}
 use Rattle.pf_world.specs.Views.{IsChunkOf, WorldIs, WorldOn}
 use Rattle.pf_world.specs.Disks.{six_list}
@@ -68,10 +69,10 @@ made_is halts sectors names format k before g answer is tells =
       made_with : failed_by halts k ≡ is.failed → made_chunk halts sectors names format k ≡ chunk_of halts (record { number = k; setup = setup_with sectors names format is.failed; history = []; taken = []; faults = g.faults })
       made_with failed = ap (λ fs. chunk_of halts (record { number = k; setup = setup_with sectors names format fs; history = []; taken = []; faults = g.faults })) failed
 
-mapped : (halts : List Halt) (f : ℕ → Chunk) (first : ℕ) (cs : List ChunkIs) → ((k : ℕ) (c : ChunkIs) → slice_get cs k ≡ Some c → f (first + k) ≡ chunk_of halts c.group) → map f (range_with_len first (length cs)) ≡ map (λ c. chunk_of halts c.group) cs
+mapped : (halts : List Halt) (f : ℕ → ChunkRun) (first : ℕ) (cs : List ChunkIs) → ((k : ℕ) (c : ChunkIs) → slice_get cs k ≡ Some c → f (first + k) ≡ run_of halts c) → map f (range_with_len first (length cs)) ≡ map (run_of halts) cs
 mapped halts f first [] each = refl
 mapped halts f first (c ∷ cs) each =
-    let here : f first ≡ chunk_of halts c.group = ap f (omega arith) ∙ each 0 c refl in
+    let here : f first ≡ run_of halts c = ap f (omega arith) ∙ each 0 c refl in
     let later = mapped halts f (first + 1) cs (λ k d there. ap f (omega arith) ∙ each (suc k) d there) in
     cc
 
@@ -91,6 +92,7 @@ module _ {D : Type 0} (faults : D → ℕ) where
     pub answer : Answer
     pub made : groups.IsMade k sectors names format (groups.six_faults faults six) c.group answer
     pub ready : IsReady c
+    pub run : (halts : List Halt) → run_of halts c ≡ new_run (chunk_of halts c.group)
 
   -- the first chunks are made
   pub record Begun (disks : List D) (sectors names format number : ℕ) (w : WorldOn D) (answer : Answer) : Type 0 where
@@ -145,13 +147,13 @@ module _ {D : Type 0} (faults : D → ℕ) where
             ∙ ap making_answer (ap (λ fs. failed_in old.world.chunks ++ fs) (sym failed) ∙ sym (failed_more old.world.chunks a.chunk) ∙ ap failed_in (sym chunks));
       } where
         kept : (k : ℕ) (c : ChunkIs) → IsMadeOn sectors names format b.sixes k c → IsMadeOn sectors names format (b.sixes ++ a.six ∷ []) k c
-        kept k c was = record { six = was.six; there = at_front b.sixes (a.six ∷ []) k was.six was.there; answer = was.answer; made = was.made; ready = was.ready }
+        kept k c was = record { six = was.six; there = at_front b.sixes (a.six ∷ []) k was.six was.there; answer = was.answer; made = was.made; ready = was.ready; run = was.run }
 
         added : (k : ℕ) (c : ChunkIs) → k ≡ number → a.chunk ≡ c → groups.IsMade number sectors names format (groups.six_faults faults a.six) a.chunk.group other → IsMadeOn sectors names format (b.sixes ++ a.six ∷ []) k c
         added k c is same made =
             let last : slice_get (b.sixes ++ a.six ∷ []) k ≡ Some a.six = ap (λ n. slice_get (b.sixes ++ a.six ∷ []) n) (is ∙ sym b.many) ∙ at_end b.sixes a.six in
             let new_made = subst (λ n. groups.IsMade n sectors names format (groups.six_faults faults a.six) a.chunk.group other) (sym is) made in
-            subst (λ (d : ChunkIs). IsMadeOn sectors names format (b.sixes ++ a.six ∷ []) k d) same (record { six = a.six; there = last; answer = other; made = new_made; ready = a.ready })
+            subst (λ (d : ChunkIs). IsMadeOn sectors names format (b.sixes ++ a.six ∷ []) k d) same (record { six = a.six; there = last; answer = other; made = new_made; ready = a.ready; run = a.run })
 
   module _ (disks : List D) (chunks sectors names format : ℕ) (w : WorldOn D) (answer : Answer) (b : Begun disks sectors names format chunks w answer) where
     -- the disks that no chunk has yet
@@ -182,10 +184,10 @@ module _ {D : Type 0} (faults : D → ℕ) where
       count = b.count;
       numbers = (b.sectors_are, b.names_are, b.format_is);
       run = λ halts tells. ap (λ cs. record { chunks = cs }) (
-          ap (λ n. map (made_chunk halts sectors names format) (range_with_len 0 n)) (sym b.count)
-          ∙ mapped halts (made_chunk halts sectors names format) 0 w.world.chunks (λ k c there.
+          ap (λ n. map (λ k. new_run (made_chunk halts sectors names format k)) (range_with_len 0 n)) (sym b.count)
+          ∙ mapped halts (λ k. new_run (made_chunk halts sectors names format k)) 0 w.world.chunks (λ k c there.
           let m = b.each k c there in
-          ap (made_chunk halts sectors names format) (omega arith) ∙ made_is halts sectors names format k (groups.six_faults faults m.six) c.group m.answer m.made (tells k c there)));
+          ap (λ n. new_run (made_chunk halts sectors names format n)) (omega arith) ∙ ap new_run (made_is halts sectors names format k (groups.six_faults faults m.six) c.group m.answer m.made (tells k c there)) ∙ sym (m.run halts)));
       answered = b.answered;
     }
 

@@ -8,11 +8,11 @@ use Rattle.pf_script.specs.declared.command.Command.TheVariants as commands
 use Rattle.pf_protocol.specs.declared.answers.Answer.{Answer}
 use Rattle.pf_rounds.specs.Halts.{Halt}
 use Rattle.pf_rounds.specs.Chunks.{Chunk}
-use Rattle.pf_rounds.specs.Agreeing.{chunk_of}
 use Rattle.pf_rounds.specs.Begun.{HasBegun}
 use Rattle.pf_rounds.proofs.Extending.{Extends}
+use Rattle.pf_chunk.specs.Runs.{ChunkRun}
 use Rattle.pf_chunk.specs.Steps.{Event, HasFailed as HasFailedAt}
-use Rattle.pf_chunk.specs.Views.{ChunkIs}
+use Rattle.pf_chunk.specs.Views.{ChunkIs, run_of}
 use Rattle.pf_world.specs.Worlds.{Told, World, at_chunk, told_of}
 use Rattle.pf_world.specs.Lines.{line_told, shown_of}
 use Rattle.pf_world.specs.Settling.{Settled}
@@ -47,7 +47,7 @@ pub settled_failed : (limit : ℕ) (old : WorldIs) (before : List ℕ) (stopped 
 settled_failed limit old before stopped after new number s = line_whole old number (commands.Settle limit) new s.goes_on (λ halts tells. ap (λ (x : Settled). x.world) (s.run halts tells).run)
 
 -- a line that shows a chunk changes nothing
-shown_still : (w : World) (number : ℕ) (o : Option Chunk) (text : Chunk → List ℕ) → (shown_of w number o text).world ≡ w
+shown_still : (w : World) (number : ℕ) (o : Option ChunkRun) (text : Chunk → List ℕ) → (shown_of w number o text).world ≡ w
 shown_still w number None text = refl
 shown_still w number (Some c) text = refl
 
@@ -65,27 +65,27 @@ show_failed w number command shows = line_whole w number command w (same_world w
 -- an event of one chunk
 module _ (old : WorldIs) (world : IsWorld old) (command : Command) (event : Event) (k : ℕ) (was is : ChunkIs) (there : slice_get old.chunks k ≡ Some was)
     (asks : (halts : List Halt) (w : World) (number : ℕ) → line_told halts w number command ≡ at_chunk w number k (event halts))
-    (longer : (halts : List Halt) (c : Chunk) → Extends c (event halts c).chunk) (f : HasFailedAt event was.group is.group) (number : ℕ) where
+    (longer : (halts : List Halt) (c : ChunkRun) → Extends c.group (event halts c).chunk.group) (f : HasFailedAt (λ halts. (event halts (run_of halts was)).chunk.group) was.group is.group) (number : ℕ) where
   module _ (halts : List Halt) where
-    would : Chunk
-    would = (event halts (chunk_of halts was.group)).chunk
+    would : ChunkRun
+    would = (event halts (run_of halts was)).chunk
 
     leads : (line_told halts (stands_at halts old) number command).world.chunks ≡ slice_set (stands_at halts old).chunks k would
     unfolding would
     leads =
-        let numbered = (longer halts (chunk_of halts was.group)).0 ∙ (world.each k was there).number in
+        let numbered = (longer halts (run_of halts was)).0 ∙ (world.each k was there).number in
         ap (λ (t : Told). t.world.chunks) (asks halts (stands_at halts old) number ∙ ap (λ o. told_of (stands_at halts old) number o (event halts)) (stands_there halts old k was there))
         ∙ ap (λ n. slice_set (stands_at halts old).chunks n would) numbered
 
-    elsewhere : (j : ℕ) (c : ChunkIs) → j ≢ k → slice_get (slice_set old.chunks k is) j ≡ Some c → slice_get (line_told halts (stands_at halts old) number command).world.chunks j ≡ Some (chunk_of halts c.group)
+    elsewhere : (j : ℕ) (c : ChunkIs) → j ≢ k → slice_get (slice_set old.chunks k is) j ≡ Some c → slice_get (line_told halts (stands_at halts old) number command).world.chunks j ≡ Some (run_of halts c)
     elsewhere j c apart at =
         ap (λ cs. slice_get cs j) leads ∙ set_elsewhere (stands_at halts old).chunks k j would apart ∙ stands_there halts old j c (sym (set_elsewhere old.chunks k j is apart) ∙ at)
 
-    begun_there : (x y : ChunkIs) → slice_get old.chunks k ≡ Some x → slice_get (slice_set old.chunks k is) k ≡ Some y → HasBegun halts was.group would is.group → HasBegun halts x.group would y.group
+    begun_there : (x y : ChunkIs) → slice_get old.chunks k ≡ Some x → slice_get (slice_set old.chunks k is) k ≡ Some y → HasBegun halts was.group would.group is.group → HasBegun halts x.group would.group y.group
     begun_there x y at_old at_new begun =
         let same_was : was ≡ x = same_Some was x (sym there ∙ at_old) in
         let same_is : is ≡ y = same_Some is y (sym (set_there old.chunks k was is there) ∙ at_new) in
-        subst (λ (z : ChunkIs). HasBegun halts z.group would y.group) same_was (subst (λ (z : ChunkIs). HasBegun halts was.group would z.group) same_is begun)
+        subst (λ (z : ChunkIs). HasBegun halts z.group would.group y.group) same_was (subst (λ (z : ChunkIs). HasBegun halts was.group would.group z.group) same_is begun)
 
     line_begun : Tells halts (with_chunk_at old k is) → HasBegunLine halts old number command (with_chunk_at old k is)
     unfolding would
@@ -94,7 +94,7 @@ module _ (old : WorldIs) (world : IsWorld old) (command : Command) (event : Even
       before = λ j c low at. elsewhere j c (λ e. omega (arith, low, e)) at;
       here = λ x y at_old at_new. (
         would,
-        ap (λ cs. slice_get cs k) leads ∙ set_there (stands_at halts old).chunks k (chunk_of halts was.group) would (stands_there halts old k was there),
+        ap (λ cs. slice_get cs k) leads ∙ set_there (stands_at halts old).chunks k (run_of halts was) would (stands_there halts old k was there),
         begun_there x y at_old at_new (f.begun halts (tells k is (set_there old.chunks k was is there))),
       );
       beyond = λ j high. set_elsewhere old.chunks k j is (λ e. omega (arith, high, e));

@@ -12,12 +12,12 @@ use Rattle.pf_report.specs.Texts.{answer_text, line_of}
 use Rattle.pf_rounds.specs.Halts.{Halt}
 use Rattle.pf_protocol.specs.Groups.{Group}
 use Rattle.pf_group.specs.GroupIs.{state_of}
-use Rattle.pf_rounds.specs.Agreeing.{TellsOfGroup, chunk_of}
+use Rattle.pf_rounds.specs.Agreeing.{TellsOfGroup}
 use Rattle.pf_rounds.specs.Growing.{HasGrown}
 use Rattle.pf_rounds.proofs.Growing.{grown_refl}
 use Rattle.pf_chunk.specs.Saying.{answer_line}
 use Rattle.pf_chunk.specs.Steps.{Event, HasHappened}
-use Rattle.pf_chunk.specs.Views.{ChunkIs, IsReady}
+use Rattle.pf_chunk.specs.Views.{ChunkIs, IsReady, run_of}
 use Rattle.pf_world.specs.Worlds.{World, at_chunk, told, told_of, with_chunk}
 use Rattle.pf_world.specs.Lines.{line_told, shown_of, shows}
 use Rattle.pf_world.specs.Views.{IsChunkOf, IsWorld, WorldIs, stands_at}
@@ -68,11 +68,11 @@ still_world w k was is world there grown ready = record {
       record { number = grown.number ∙ was_is.number ∙ sym same; failed = was_is.failed; setup = grown.setup ∙ was_is.setup; ready = ready }
 
 -- the run goes to the same chunk
-pub stands_there : (halts : List Halt) (w : WorldIs) (k : ℕ) (c : ChunkIs) → slice_get w.chunks k ≡ Some c → slice_get (stands_at halts w).chunks k ≡ Some (chunk_of halts c.group)
-stands_there halts w k c there = slice_get-map (λ (d : ChunkIs). chunk_of halts d.group) w.chunks k ∙ ap (option_map (λ (d : ChunkIs). chunk_of halts d.group)) there
+pub stands_there : (halts : List Halt) (w : WorldIs) (k : ℕ) (c : ChunkIs) → slice_get w.chunks k ≡ Some c → slice_get (stands_at halts w).chunks k ≡ Some (run_of halts c)
+stands_there halts w k c there = slice_get-map (run_of halts) w.chunks k ∙ ap (option_map (run_of halts)) there
 
-pub stands_with : (halts : List Halt) (w : WorldIs) (k : ℕ) (is : ChunkIs) → is.group.number ≡ k → with_chunk (stands_at halts w) (chunk_of halts is.group) ≡ stands_at halts (with_chunk_at w k is)
-stands_with halts w k is number = ap (λ cs. record { chunks = cs }) (ap (λ n. slice_set (stands_at halts w).chunks n (chunk_of halts is.group)) number ∙ set_mapped (λ (d : ChunkIs). chunk_of halts d.group) w.chunks k is)
+pub stands_with : (halts : List Halt) (w : WorldIs) (k : ℕ) (is : ChunkIs) → is.group.number ≡ k → with_chunk (stands_at halts w) (run_of halts is) ≡ stands_at halts (with_chunk_at w k is)
+stands_with halts w k is number = ap (λ cs. record { chunks = cs }) (ap (λ n. slice_set (stands_at halts w).chunks n (run_of halts is)) number ∙ set_mapped (run_of halts) w.chunks k is)
 
 pub tells_there : (halts : List Halt) (w : WorldIs) (k : ℕ) (was is : ChunkIs) → slice_get w.chunks k ≡ Some was → Tells halts (with_chunk_at w k is) → TellsOfGroup halts is.group
 tells_there halts w k was is there tells = tells k is (set_there w.chunks k was is there)

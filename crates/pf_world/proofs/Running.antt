@@ -9,9 +9,8 @@ use Rattle.pf_protocol.specs.declared.answers.Answer.{Answer}
 use Rattle.pf_rounds.specs.Halts.{Halt}
 use Rattle.pf_chunk.specs.Saying.{answer_line}
 use Rattle.pf_group.specs.Making.{making_answer}
-use Rattle.pf_rounds.specs.Chunks.{Chunk}
-use Rattle.pf_rounds.specs.Agreeing.{chunk_of}
-use Rattle.pf_chunk.specs.Views.{ChunkIs}
+use Rattle.pf_chunk.specs.Runs.{ChunkRun}
+use Rattle.pf_chunk.specs.Views.{ChunkIs, run_of}
 use Rattle.pf_world.specs.Worlds.{Told, World, made_answer, no_world}
 use Rattle.pf_world.specs.Lines.{line_told, volume_told}
 use Rattle.pf_world.specs.declared.line.Line.{Line}
@@ -26,7 +25,7 @@ use Rattle.pf_cluster.proofs.Lists.{something_there}
 -- the making is halted where some server could not be formatted
 made_says : (halts : List Halt) (w : WorldIs) → made_answer (stands_at halts w) ≡ making_answer (flat_map (λ c. c.group.setup.failed) w.chunks)
 made_says halts w = ap making_answer (flat_mapped w.chunks) where
-  flat_mapped : (cs : List ChunkIs) → flat_map (λ (c : Chunk). c.setup.failed) (map (λ c. chunk_of halts c.group) cs) ≡ flat_map (λ c. c.group.setup.failed) cs
+  flat_mapped : (cs : List ChunkIs) → flat_map (λ (c : ChunkRun). c.group.setup.failed) (map (run_of halts) cs) ≡ flat_map (λ c. c.group.setup.failed) cs
   flat_mapped [] = refl
   flat_mapped (c ∷ cs) = ap (λ fs. c.group.setup.failed ++ fs) (flat_mapped cs)
 

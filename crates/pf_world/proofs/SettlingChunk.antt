@@ -5,14 +5,13 @@ use Rattle.std.proofs.lemmas.List.{append-nil}
 use Rattle.pf_protocol.specs.Answers.{most_packets}
 use Rattle.pf_group.specs.GroupIs.{state_of}
 use Rattle.pf_rounds.specs.Halts.{Halt}
-use Rattle.pf_rounds.specs.Chunks.{Chunk}
-use Rattle.pf_rounds.specs.Agreeing.{chunk_of}
+use Rattle.pf_chunk.specs.Runs.{ChunkRun}
 use Rattle.pf_rounds.specs.Growing.{HasGrown}
 use Rattle.pf_rounds.proofs.Growing.{grown_refl, grown_trans}
 use Rattle.pf_chunk.specs.declared.settling.Try.TheVariants.{Delivered, Passed}
-use Rattle.pf_chunk.specs.Packets.{is_left_in, least_from}
+use Rattle.pf_group.specs.Packets.{is_left_in, least_from}
 use Rattle.pf_chunk.specs.Settling.{HasTried}
-use Rattle.pf_chunk.specs.Views.{ChunkIs, IsReady}
+use Rattle.pf_chunk.specs.Views.{ChunkIs, IsReady, run_of}
 use Rattle.pf_world.specs.Settling.{Name, least_left}
 use Rattle.pf_world.specs.Settled.{HasSettledChunk, IsTurnOf, NoneOf, Tries, past}
 use Rattle.pf_world.proofs.SettlingPackets.{ArePassed, IsFound, least_found, least_here, least_is, none_passed, one_more_passed, passed_further, passed_later}
@@ -27,10 +26,7 @@ ready_with : (c : ChunkIs) (n : ℕ) → IsReady c → IsReady (record c { next 
 ready_with c n ready = record {
   claims = ready.claims;
   applied = ready.applied;
-  shown = ready.shown;
-  numbered = ready.numbered;
-  waiting = ready.waiting;
-  pending = ready.pending;
+  kept = ready.kept;
   first_sent = ready.first_sent;
   none_left = ready.none_left;
 }
@@ -46,7 +42,7 @@ pub record SoFar (limit : ℕ) (old : ChunkIs) (before : List ℕ) (left : ℕ) 
   pub put : after ≡ before ++ text
   pub packets : List ℕ
   pub passed : ArePassed (state_of now.group) now.next packets
-  pub run : Tries tries limit old.group text left packets now.group
+  pub run : Tries tries limit old text left packets now
 
 begins_at : (limit : ℕ) (old : ChunkIs) (out : List ℕ) (n : ℕ) → IsReady (record old { first_left = n; next = n }) → SoFar limit old out limit out (record old { first_left = n; next = n })
 begins_at limit old out n ready = record {
@@ -59,7 +55,7 @@ begins_at limit old out n ready = record {
   put = sym (append-nil out);
   packets = [];
   passed = none_passed (state_of old.group) n ready.none_left;
-  run = no_tries limit old.group;
+  run = no_tries limit old;
 }
 
 pub begins : (limit : ℕ) (old begun : ChunkIs) (out : List ℕ) → IsReady begun → begun ≡ record old { first_left = begun.next; next = begun.next } → SoFar limit old out limit out begun
@@ -102,8 +98,8 @@ module _ (limit : ℕ) (old : ChunkIs) (before : List ℕ) (left : ℕ) (after :
     pub looked : MatchOption r (now.next ≡ now.next) (λ k. now.next ≡ k) → is_some r ≡ true → HasNext limit old before left after head now
     looked found some = subst (HasNext limit old before left after head) (sym same) (at_found r now.next is found some)
 
-    least : (halts : List Halt) (passed : List Name) → NoneOf old.group.number passed → least_left (past old.group.number so_far.packets passed) (chunk_of halts head.group) ≡ r
-    least halts passed none = least_is (chunk_of halts head.group) old.group.number head.next so_far.packets passed so_far.grown.number so_far.passed none ∙ sym is
+    least : (halts : List Halt) (passed : List Name) → NoneOf old.group.number passed → least_left (past old.group.number so_far.packets passed) (run_of halts head) ≡ r
+    least halts passed none = least_is (run_of halts head) old.group.number head.next so_far.packets passed so_far.grown.number so_far.passed none ∙ sym is
 
     -- no packet is left
     pub quiet : is_some r ≡ false → HasSettledChunk limit old before (Some left) after now
@@ -129,14 +125,14 @@ module _ (limit : ℕ) (old : ChunkIs) (before : List ℕ) (left : ℕ) (after :
       text = so_far.text;
       put = so_far.put;
       packets = so_far.packets;
-      run = subst (λ n. Tries so_far.tries limit old.group so_far.text n so_far.packets head.group) none so_far.run;
+      run = subst (λ n. Tries so_far.tries limit old so_far.text n so_far.packets head) none so_far.run;
       ends = λ halts passed free. ap (λ (o : Option ℕ). is_some o) (least halts passed free) ∙ some;
     })
 
 module _ (limit : ℕ) (old : ChunkIs) (before : List ℕ) (left : ℕ) (mid : List ℕ) (head now : ChunkIs) (has : HasNext limit old before (suc left) mid head now) where
-  pub is_least : (halts : List Halt) (passed : List Name) (chunks : List Chunk) → IsTurnOf old.group.number passed chunks → least_left (past old.group.number has.so_far.packets passed) (chunk_of halts now.group) ≡ Some now.next
+  pub is_least : (halts : List Halt) (passed : List Name) (chunks : List ChunkRun) → IsTurnOf old.group.number passed chunks → least_left (past old.group.number has.so_far.packets passed) (run_of halts now) ≡ Some now.next
   is_least halts passed chunks turn =
-      least_is (chunk_of halts now.group) old.group.number now.next has.so_far.packets passed has.so_far.grown.number has.so_far.passed turn.none
+      least_is (run_of halts now) old.group.number now.next has.so_far.packets passed has.so_far.grown.number has.so_far.passed turn.none
       ∙ least_here (state_of now.group) now.next has.there has.sent
 
   module _ (after : List ℕ) (new : ChunkIs) (few : now.next < most_packets) where
@@ -155,7 +151,7 @@ module _ (limit : ℕ) (old : ChunkIs) (before : List ℕ) (left : ℕ) (mid : L
           put = t.went.put ∙ ap (λ xs. xs ++ t.went.text) s.put ∙ append_assoc before s.text t.went.text;
           packets = now.next ∷ s.packets;
           passed = subst (λ n. ArePassed (state_of new.group) n (now.next ∷ s.packets)) (sym next) (one_more_passed (state_of now.group) (state_of new.group) now.next s.packets t.went.left has.sent s.passed);
-          run = one_more_try s.tries limit old.group now.group new.group s.text t.went.text (suc left) (suc left) s.packets (now.next ∷ s.packets) t.went.grown s.run
+          run = one_more_try s.tries limit old now new s.text t.went.text (suc left) (suc left) s.packets (now.next ∷ s.packets) t.went.grown s.run
               (try_passed old.group.number s.packets now new mid t.answer after t.went grown.number is_least left t.moved.0);
         }
 
@@ -174,6 +170,6 @@ module _ (limit : ℕ) (old : ChunkIs) (before : List ℕ) (left : ℕ) (mid : L
           put = t.went.put ∙ ap (λ xs. xs ++ t.went.text) s.put ∙ append_assoc before s.text t.went.text;
           packets = s.packets;
           passed = subst (λ n. ArePassed (state_of new.group) n s.packets) (sym next) (passed_later (state_of now.group) (state_of new.group) now.next s.packets t.went.left has.sent s.passed);
-          run = one_more_try s.tries limit old.group now.group new.group s.text t.went.text (suc left) left s.packets s.packets t.went.grown s.run
+          run = one_more_try s.tries limit old now new s.text t.went.text (suc left) left s.packets s.packets t.went.grown s.run
               (try_delivered old.group.number s.packets now new mid t.answer after t.went grown.number is_least left t.moved.0);
         }

@@ -5,8 +5,8 @@ use Rattle.std.specs.List.{list_any, range_with_len}
 use Rattle.std.proofs.lemmas.Bool.{cases_lt, cases_eq, cases_Bool, cond-true, cond-false, eq-eqb, eqb-true, ne_eqb, or_cases, or_left, or_right, false_from_ne_true, false≢true}
 use Rattle.std.proofs.lemmas.Option.{same_Some}
 use Rattle.pf_protocol.specs.Groups.{Group}
-use Rattle.pf_rounds.specs.Chunks.{Chunk}
-use Rattle.pf_chunk.specs.Packets.{NoneComesBack, is_left_in, least_from}
+use Rattle.pf_chunk.specs.Runs.{ChunkRun}
+use Rattle.pf_group.specs.Packets.{NoneComesBack, is_left_in, least_from}
 use Rattle.pf_world.specs.Settling.{Name, is_among, least_left}
 use Rattle.pf_world.specs.Settled.{NoneOf, past}
 
@@ -30,9 +30,9 @@ pub past_none : (n m : ℕ) (packets : List ℕ) (passed : List Name) → m ≢ 
 past_none n m packets passed apart none k = past_other n m k packets passed apart ∙ none k
 
 -- so the least packet of another chunk is the same
-pub past_elsewhere : (n : ℕ) (packets : List ℕ) (passed : List Name) (c : Chunk) → c.number ≢ n → least_left (past n packets passed) c ≡ least_left passed c
+pub past_elsewhere : (n : ℕ) (packets : List ℕ) (passed : List Name) (c : ChunkRun) → c.group.number ≢ n → least_left (past n packets passed) c ≡ least_left passed c
 past_elsewhere n packets passed c apart =
-    ap (λ (f : ℕ → Bool). find f (range_with_len 0 (length c.state.packets))) (fun_ext (λ k. ap (λ b. is_left_in c.state k && not b) (past_other n c.number k packets passed apart)))
+    ap (λ (f : ℕ → Bool). find f (range_with_len 0 (length c.group.state.packets))) (fun_ext (λ k. ap (λ b. is_left_in c.group.state k && not b) (past_other n c.group.number k packets passed apart)))
 
 -- searches of ranges
 find_alike : (p q : ℕ → Bool) (m a : ℕ) → ((j : ℕ) → a ≤ j → q j ≡ p j) → find q (range_with_len a m) ≡ find p (range_with_len a m)
@@ -113,15 +113,15 @@ not_passed true b none = ap not none
 not_passed false b none = refl
 
 -- so the run's next packet is the group's
-pub least_is : (c : Chunk) (n next : ℕ) (packets : List ℕ) (passed : List Name) → c.number ≡ n → ArePassed c.state next packets → NoneOf n passed → least_left (past n packets passed) c ≡ least_from next c.state
+pub least_is : (c : ChunkRun) (n next : ℕ) (packets : List ℕ) (passed : List Name) → c.group.number ≡ n → ArePassed c.group.state next packets → NoneOf n passed → least_left (past n packets passed) c ≡ least_from next c.group.state
 least_is c n next packets passed number are none =
-    let count : (0 + length c.state.packets) - next ≡ length c.state.packets - next = omega arith in
-    find_past (is_left_in c.state) (λ k. is_left_in c.state k && not (is_among (past n packets passed) c.number k)) (length c.state.packets) 0 next (omega arith)
-    (λ j low under. passed_over (is_left_in c.state j) (is_among (past n packets passed) c.number j) (λ left. own j ∙ are.all j under left))
-    (λ j from. not_passed (is_left_in c.state j) (is_among (past n packets passed) c.number j) (own j ∙ false_from_ne_true (is_in packets j) (λ is. absurd (omega (arith, from, are.below j is)))))
-    ∙ ap (λ l. find (is_left_in c.state) (range_with_len next l)) count
+    let count : (0 + length c.group.state.packets) - next ≡ length c.group.state.packets - next = omega arith in
+    find_past (is_left_in c.group.state) (λ k. is_left_in c.group.state k && not (is_among (past n packets passed) c.group.number k)) (length c.group.state.packets) 0 next (omega arith)
+    (λ j low under. passed_over (is_left_in c.group.state j) (is_among (past n packets passed) c.group.number j) (λ left. own j ∙ are.all j under left))
+    (λ j from. not_passed (is_left_in c.group.state j) (is_among (past n packets passed) c.group.number j) (own j ∙ false_from_ne_true (is_in packets j) (λ is. absurd (omega (arith, from, are.below j is)))))
+    ∙ ap (λ l. find (is_left_in c.group.state) (range_with_len next l)) count
   where
-    own : (k : ℕ) → is_among (past n packets passed) c.number k ≡ is_in packets k
+    own : (k : ℕ) → is_among (past n packets passed) c.group.number k ≡ is_in packets k
     own k = ap (λ m. is_among (past n packets passed) m k) number ∙ past_own n k packets passed (none k)
 
 -- how they change

@@ -8,12 +8,11 @@ use Rattle.pf_entry.proofs.Lists.{every_map, set_cases, set_there}
 use Rattle.pf_cluster.proofs.Lists.{set_elsewhere, set_length}
 use Rattle.pf_protocol.specs.Answers.{most_packets}
 use Rattle.pf_rounds.specs.Halts.{Halt}
-use Rattle.pf_rounds.specs.Chunks.{Chunk}
-use Rattle.pf_rounds.specs.Agreeing.{chunk_of}
+use Rattle.pf_chunk.specs.Runs.{ChunkRun}
 use Rattle.pf_rounds.specs.Growing.{HasGrown}
 use Rattle.pf_rounds.proofs.Growing.{grown_refl}
 use Rattle.pf_chunk.proofs.Members.{every_place}
-use Rattle.pf_chunk.specs.Views.{ChunkIs, IsReady}
+use Rattle.pf_chunk.specs.Views.{ChunkIs, IsReady, run_of}
 use Rattle.pf_script.specs.Lines.{is_volume}
 use Rattle.pf_world.specs.Worlds.{World}
 use Rattle.pf_world.specs.Settling.{HasEnded, IsEnd, Name, Next, after_text, ends, enough_tries, least_left, next_in, next_of, settle_next, settle_to, settled}
@@ -38,9 +37,6 @@ at_err (Err e) P is = is
 -- one chunk of the volume is another
 abbrev pub with_is : WorldIs → (k : ℕ) → ChunkIs → WorldIs
 with_is w k c = record w { chunks = slice_set w.chunks k c }
-
-unfoldable pub run_of : List Halt → ChunkIs → Chunk
-run_of halts c = chunk_of halts c.group
 
 -- a list around one place
 pub record IsAround {X : Type 0} (xs : List X) (k : ℕ) (x : X) : Type 0 where
@@ -82,7 +78,7 @@ pub record WorldSoFar (limit : ℕ) (old : WorldIs) (before : List ℕ) (place l
   pub few : tries + left ≤ limit + place * 65536
   pub none : (k : ℕ) → place ≤ k → NoneOf k passed
   pub rest : (k : ℕ) → place ≤ k → slice_get now.chunks k ≡ slice_get old.chunks k
-  pub quiet : (halts : List Halt) (k : ℕ) (c : ChunkIs) → k < place → slice_get now.chunks k ≡ Some c → least_left passed (chunk_of halts c.group) ≡ None
+  pub quiet : (halts : List Halt) (k : ℕ) (c : ChunkIs) → k < place → slice_get now.chunks k ≡ Some c → least_left passed (run_of halts c) ≡ None
   pub run : (halts : List Halt) → Tells halts now → (more : ℕ) → settle_to (tries + more) halts limit [] (stands_at halts old) ≡ after_text text (settle_to more halts left passed (stands_at halts now))
 
 goes_nowhere : (w : WorldIs) → GoesOn w w
@@ -157,27 +153,24 @@ module _ (limit : ℕ) (old : WorldIs) (before : List ℕ) (place left : ℕ) (o
   numbered = (so_far.is_world.each place c there).number
 
   pub turn : (halts : List Halt) (a : IsAround now.chunks place c) → IsTurnOf c.group.number so_far.passed (map (run_of halts) a.before)
-  unfolding run_of
   turn halts a = record {
     place = length-map a.before (run_of halts) ∙ a.place ∙ sym numbered;
     none = so_far.none c.group.number (omega (arith, numbered));
-    quiet = every_map (λ (x : Chunk). (x.number ≢ c.group.number) × (least_left so_far.passed x ≡ None)) (run_of halts) a.before
-        (every_place (λ (x : ChunkIs). (x.group.number ≢ c.group.number) × (least_left so_far.passed (chunk_of halts x.group) ≡ None)) a.before (λ j x at.
+    quiet = every_map (λ (x : ChunkRun). (x.group.number ≢ c.group.number) × (least_left so_far.passed x ≡ None)) (run_of halts) a.before
+        (every_place (λ (x : ChunkIs). (x.group.number ≢ c.group.number) × (least_left so_far.passed (run_of halts x) ≡ None)) a.before (λ j x at.
         let low : j < length a.before = slice_get_within a.before j x at in
         let is = so_far.is_world.each j x (a.first j x at) in
         (λ e. absurd (omega (arith, low, a.place, is.number, numbered, e)), so_far.quiet halts j x (omega (arith, low, a.place)) (a.first j x at))));
   }
 
   -- the run's world is around the chunk
-  stands_around : (halts : List Halt) (a : IsAround now.chunks place c) (x : ChunkIs) → stands_at halts (with_is now place x) ≡ world_around (map (run_of halts) a.before) (chunk_of halts x.group) (map (run_of halts) a.after)
-  unfolding run_of
+  stands_around : (halts : List Halt) (a : IsAround now.chunks place c) (x : ChunkIs) → stands_at halts (with_is now place x) ≡ world_around (map (run_of halts) a.before) (run_of halts x) (map (run_of halts) a.after)
   stands_around halts a x =
       ap (λ xs. record { chunks = map (run_of halts) (slice_set xs place x) }) a.whole
       ∙ ap (λ xs. record { chunks = map (run_of halts) xs }) (set_middle a.before c x a.after place a.place)
       ∙ ap (λ cs. record { chunks = cs }) (map-append (run_of halts) a.before (x ∷ a.after))
 
-  pub stood_around : (halts : List Halt) (a : IsAround now.chunks place c) → stands_at halts now ≡ world_around (map (run_of halts) a.before) (chunk_of halts c.group) (map (run_of halts) a.after)
-  unfolding run_of
+  pub stood_around : (halts : List Halt) (a : IsAround now.chunks place c) → stands_at halts now ≡ world_around (map (run_of halts) a.before) (run_of halts c) (map (run_of halts) a.after)
   stood_around halts a =
       ap (λ xs. record { chunks = map (run_of halts) xs }) a.whole
       ∙ ap (λ cs. record { chunks = cs }) (map-append (run_of halts) a.before (c ∷ a.after))
@@ -193,7 +186,7 @@ module _ (limit : ℕ) (old : WorldIs) (before : List ℕ) (place left : ℕ) (o
         ∙ so_far.run halts (tells_earlier halts now (with_is now place new) (one_goes_on old now so_far.goes_on place c new there h.grown) tells) (h.tries + more)
         ∙ ap (λ w. after_text so_far.text (settle_to (h.tries + more) halts left so_far.passed w)) (stood_around halts a)
         ∙ ap (after_text so_far.text) (h.run halts (tells place new (set_there now.chunks place c new there)) so_far.passed first last (turn halts a) more)
-        ∙ texts_join so_far.text h.text (settle_to more halts (unwrap_or rest 0) (past c.group.number h.packets so_far.passed) (world_around first (chunk_of halts new.group) last))
+        ∙ texts_join so_far.text h.text (settle_to more halts (unwrap_or rest 0) (past c.group.number h.packets so_far.passed) (world_around first (run_of halts new) last))
         ∙ ap (λ w. after_text (so_far.text ++ h.text) (settle_to more halts (unwrap_or rest 0) (past c.group.number h.packets so_far.passed) w)) (sym (stands_around halts a new))
 
     put_all : put ≡ before ++ (so_far.text ++ h.text)
@@ -215,11 +208,11 @@ world_quiet limit old before place left out now so_far c there n put new h = rec
   none = λ k low. past_none c.group.number k h.packets so_far.passed (λ e. absurd (omega (arith, low, e, number))) (so_far.none k (omega (arith, low)));
   rest = λ k low. set_elsewhere now.chunks place k new (λ e. omega (arith, low, e)) ∙ so_far.rest k (omega (arith, low));
   quiet = λ halts k x low at. elim (set_cases now.chunks place new k x at) [
-    | inl here ↦ subst (λ (y : ChunkIs). least_left (past c.group.number h.packets so_far.passed) (chunk_of halts y.group) ≡ None) here.1
+    | inl here ↦ subst (λ (y : ChunkIs). least_left (past c.group.number h.packets so_far.passed) (run_of halts y) ≡ None) here.1
         (h.ends halts so_far.passed (none_own limit old before place left out now so_far c there (Some n) put new h))
     | inr elsewhere ↦
         let is = so_far.is_world.each k x elsewhere.1 in
-        past_elsewhere c.group.number h.packets so_far.passed (chunk_of halts x.group) (λ e. elsewhere.0 (sym is.number ∙ e ∙ number))
+        past_elsewhere c.group.number h.packets so_far.passed (run_of halts x) (λ e. elsewhere.0 (sym is.number ∙ e ∙ number))
         ∙ so_far.quiet halts k x (omega (arith, low, elsewhere.0)) elsewhere.1
   ];
   run = along limit old before place left out now so_far c there (Some n) put new h;
@@ -262,9 +255,9 @@ at_end halts limit old new text tries left passed stopped next few run is ending
         ∙ ap (after_text text) (settle_suc m halts left passed (stands_at halts new) ∙ ap (λ o. settle_next halts o (settle_to m halts) left passed (stands_at halts new)) is ∙ ending (settle_to m halts))
         ∙ ap (λ t. record (ends stopped left passed (stands_at halts new)) { text = t }) (append-nil text)
 
-none_next : (halts : List Halt) (passed : List Name) (cs : List ChunkIs) → Every (λ c. least_left passed (chunk_of halts c.group) ≡ None) cs → next_of passed (map (λ c. chunk_of halts c.group) cs) ≡ None
+none_next : (halts : List Halt) (passed : List Name) (cs : List ChunkIs) → Every (λ c. least_left passed (run_of halts c) ≡ None) cs → next_of passed (map (run_of halts) cs) ≡ None
 none_next halts passed [] quiet = refl
-none_next halts passed (c ∷ cs) quiet = ap (λ o. next_in (chunk_of halts c.group) o (next_of passed (map (λ c. chunk_of halts c.group) cs))) quiet.0 ∙ none_next halts passed cs quiet.1
+none_next halts passed (c ∷ cs) quiet = ap (λ o. next_in (run_of halts c) o (next_of passed (map (run_of halts) cs))) quiet.0 ∙ none_next halts passed cs quiet.1
 
 -- every chunk is quiet
 pub all_quiet : (limit : ℕ) (old : WorldIs) (before : List ℕ) (place left : ℕ) (out : List ℕ) (now : WorldIs) → WorldSoFar limit old before place left out now → length now.chunks ≤ place → place ≤ length now.chunks → HasSettled limit old before false out now
@@ -274,7 +267,7 @@ all_quiet limit old before place left out now so_far all within = record {
   text = so_far.text;
   put = so_far.put;
   run = λ halts tells. at_end halts limit old now so_far.text so_far.tries left so_far.passed false None (omega (arith, so_far.few, within, few_chunks now so_far.is_world)) (so_far.run halts tells)
-      (none_next halts so_far.passed now.chunks (every_place (λ (c : ChunkIs). least_left so_far.passed (chunk_of halts c.group) ≡ None) now.chunks (λ k c there. so_far.quiet halts k c (omega (arith, all, slice_get_within now.chunks k c there)) there)))
+      (none_next halts so_far.passed now.chunks (every_place (λ (c : ChunkIs). least_left so_far.passed (run_of halts c) ≡ None) now.chunks (λ k c there. so_far.quiet halts k c (omega (arith, all, slice_get_within now.chunks k c there)) there)))
       (λ more. refl) tt;
 }
 
@@ -289,16 +282,16 @@ world_stopped limit old before place left out now so_far c there put new h = rec
   goes_on = chunk_goes_on old now so_far.goes_on place c new there h.grown;
   text = so_far.text ++ h.text;
   put = put_all limit old before place left out now so_far c there None put new h;
-  run = λ halts tells. at_end halts limit old (with_is now place new) (so_far.text ++ h.text) (so_far.tries + h.tries) 0 (past c.group.number h.packets so_far.passed) true (Some (record { chunk = chunk_of halts new.group; packet = (packet halts).0 }))
+  run = λ halts tells. at_end halts limit old (with_is now place new) (so_far.text ++ h.text) (so_far.tries + h.tries) 0 (past c.group.number h.packets so_far.passed) true (Some (record { chunk = run_of halts new; packet = (packet halts).0 }))
       (omega (arith, so_far.few, h.few, most_is, slice_get_within now.chunks place c there, few_chunks now so_far.is_world))
       (along limit old before place left out now so_far c there None put new h halts tells)
       (ap (λ (w : World). next_of (past c.group.number h.packets so_far.passed) w.chunks) (stands_around limit old before place left out now so_far c there halts around_it new)
-      ∙ next_is c.group.number h.packets so_far.passed (map (run_of halts) around_it.before) (map (run_of halts) around_it.after) (chunk_of halts new.group) (packet halts).0 (turn limit old before place left out now so_far c there halts around_it) (packet halts).1)
+      ∙ next_is c.group.number h.packets so_far.passed (map (run_of halts) around_it.before) (map (run_of halts) around_it.after) (run_of halts new) (packet halts).0 (turn limit old before place left out now so_far c there halts around_it) (packet halts).1)
       (λ more. refl) refl;
 }
   where
     around_it : IsAround now.chunks place c
     around_it = around now.chunks place c there
 
-    packet : (halts : List Halt) → (k : ℕ) × (least_left (past c.group.number h.packets so_far.passed) (chunk_of halts new.group) ≡ Some k)
+    packet : (halts : List Halt) → (k : ℕ) × (least_left (past c.group.number h.packets so_far.passed) (run_of halts new) ≡ Some k)
     packet halts = something _ (h.ends halts so_far.passed (none_own limit old before place left out now so_far c there None put new h))

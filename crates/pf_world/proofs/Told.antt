@@ -8,11 +8,12 @@ use Rattle.pf_protocol.specs.Answers.{IsLegal}
 use Rattle.pf_group.specs.GroupIs.{GroupIs}
 use Rattle.pf_group.proofs.Sound.{sound}
 use Rattle.pf_rounds.specs.Halts.{Halt}
-use Rattle.pf_rounds.specs.Agreeing.{chunk_of, told_history}
+use Rattle.pf_rounds.specs.Agreeing.{told_history}
 use Rattle.pf_rounds.specs.Telling.{halts_of_group}
 use Rattle.pf_rounds.proofs.Several.{tells_of_all}
 use Rattle.pf_rounds.proofs.Told.{told_legal, told_replays}
-use Rattle.pf_chunk.specs.Views.{ChunkIs}
+use Rattle.pf_chunk.specs.Views.{ChunkIs, run_of}
+use Rattle.pf_chunk.specs.Runs.{ChunkRun}
 use Rattle.pf_world.specs.Agreeing.{Tells}
 use Rattle.pf_world.specs.Headline.{IsLawful, IsLawfulRun, IsSafeRun, IsSoundWorld}
 use Rattle.pf_world.specs.Views.{WorldIs, stands_at}
@@ -45,10 +46,10 @@ module _ (w : WorldIs) (is : AreNumbered w) (legal : IsSoundWorld w) where
 module _ (halts : List Halt) (w : WorldIs) (tells : Tells halts w) (legal : IsSoundWorld w) where
   pub lawful_run : IsLawfulRun (stands_at halts w)
   lawful_run k c there =
-      let at = get_mapped (λ (d : ChunkIs). chunk_of halts d.group) w.chunks k c there in
+      let at = get_mapped (run_of halts) w.chunks k c there in
       let g = at.0.group in
       let told = tells k at.0 at.1 in
-      subst IsLawful (sym at.2) (record {
+      subst (λ (x : ChunkRun). IsLawful x.group) (sym at.2) (record {
         stands = sym (told_replays halts g told);
         legal = told_legal halts g told (legal k at.0 at.1).legal;
         sound = sound g.setup (told_history halts g);

@@ -10,6 +10,7 @@ use Rattle.pf_rounds.specs.Halts.{At, Halt, Making, Place}
 use Rattle.pf_rounds.specs.Chunks.{Chunk}
 use Rattle.pf_rounds.specs.Growing.{IsLast}
 use Rattle.pf_rounds.specs.Telling.{halts_at}
+use Rattle.pf_chunk.specs.Runs.{ChunkRun}
 use Rattle.pf_chunk.specs.Views.{ChunkIs}
 use Rattle.pf_world.specs.declared.line.Line.{Line}
 use Rattle.pf_world.specs.Worlds.{World, no_world}
@@ -22,7 +23,7 @@ use Rattle.pf_world.specs.Agreeing.{Tells}
 -- At every moment of every group of the run: no two servers hold different committed ops in one slot; each server's sectors are its applied
 -- ops in the order of their slots; and each acknowledged write is committed in the log of each later leader, or under its checkpoint.
 abbrev pub IsSafeRun : World → Type 0
-IsSafeRun w = (k : ℕ) (c : Chunk) → slice_get w.chunks k ≡ Some c → IsSafe c.setup c.history
+IsSafeRun w = (k : ℕ) (c : ChunkRun) → slice_get w.chunks k ≡ Some c → IsSafe c.group.setup c.group.history
 
 -- the group of a run stands where its history leads; the history is legal, and every law holds of it
 pub record IsLawful (c : Chunk) : Type 0 where
@@ -31,7 +32,7 @@ pub record IsLawful (c : Chunk) : Type 0 where
   pub sound : IsSound c.setup c.history
 
 abbrev pub IsLawfulRun : World → Type 0
-IsLawfulRun w = (k : ℕ) (c : Chunk) → slice_get w.chunks k ≡ Some c → IsLawful c
+IsLawfulRun w = (k : ℕ) (c : ChunkRun) → slice_get w.chunks k ≡ Some c → IsLawful c.group
 
 -- the same of the histories that the groups of a world keep
 pub record IsLawfulGroup (g : GroupIs) : Type 0 where

@@ -9,6 +9,7 @@ use Rattle.pf_rounds.specs.Halts.{Halt}
 use Rattle.pf_rounds.specs.Chunks.{Chunk}
 use Rattle.pf_chunk.specs.Asking.{fetches, submits}
 use Rattle.pf_chunk.specs.Happenings.{happened}
+use Rattle.pf_chunk.specs.Runs.{ChunkRun}
 use Rattle.pf_chunk.specs.Saying.{answer_line}
 use Rattle.pf_chunk.specs.Showing.{acked_shown, applied_shown, log_shown, mark_shown, of_server, sectors_shown}
 use Rattle.pf_world.specs.Worlds.{Told, World, at_chunk, made, made_answer}
@@ -18,9 +19,9 @@ use Rattle.pf_world.specs.Settling.{settle_told, settled}
 abbrev pub volume_told : (number : ℕ) → World → Told
 volume_told number w = record { world = w; text = answer_line number (made_answer w) }
 
-abbrev pub shown_of : World → (number : ℕ) → Option Chunk → (Chunk → List ℕ) → Told
+abbrev pub shown_of : World → (number : ℕ) → Option ChunkRun → (Chunk → List ℕ) → Told
 shown_of w number None text = record { world = w; text = [] }
-shown_of w number (Some c) text = record { world = w; text = line_of number (text c) }
+shown_of w number (Some c) text = record { world = w; text = line_of number (text c.group) }
 
 -- a line that shows a chunk changes nothing
 abbrev pub shows : World → (number chunk : ℕ) → (Chunk → List ℕ) → Told

@@ -6,8 +6,11 @@ use Rattle.pf_protocol.specs.declared.answers.Answer.{Answer}
 use Rattle.pf_protocol.specs.declared.answers.Answer.TheVariants.{Done}
 use Rattle.pf_group.specs.declared.six.Six.{Six}
 use Rattle.pf_group.specs.Making as groups
+use Rattle.pf_rounds.specs.Halts.{Halt}
+use Rattle.pf_rounds.specs.Agreeing.{chunk_of}
 use Rattle.pf_rounds.specs.Growing.{IsPaidSince}
-use Rattle.pf_chunk.specs.Views.{ChunkIs, IsReady}
+use Rattle.pf_chunk.specs.Runs.{new_run}
+use Rattle.pf_chunk.specs.Views.{ChunkIs, IsReady, run_of}
 use Rattle.pf_world.specs.Views.{WorldIs, WorldOn}
 use Rattle.pf_world.specs.Disks.{six_list}
 
@@ -25,6 +28,7 @@ module _ {D : Type 0} (faults : D → ℕ) where
     pub world : new.world ≡ record old.world { chunks = old.world.chunks ++ chunk ∷ [] }
     pub made : groups.IsMade (length old.world.chunks) old.world.sectors old.world.names old.world.format (groups.six_faults faults six) chunk.group answer
     pub ready : IsReady chunk
+    pub run : (halts : List Halt) → run_of halts chunk ≡ new_run (chunk_of halts chunk.group)
 
   -- nothing has happened to chunk k yet, and each server that could not be formatted is one of its three, with a disk that failed meanwhile
   pub record IsNew (sixes : List (Six D)) (k : ℕ) (c : ChunkIs) : Type 0 where

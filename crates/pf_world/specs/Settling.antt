@@ -5,9 +5,9 @@ use Rattle.pf_protocol.specs.declared.events.Event.TheVariants.{Deliver}
 use Rattle.pf_protocol.specs.Answers.{most_packets}
 use Rattle.pf_report.specs.Texts.{line_of, settle_text}
 use Rattle.pf_rounds.specs.Halts.{Halt}
-use Rattle.pf_rounds.specs.Chunks.{Chunk}
+use Rattle.pf_chunk.specs.Runs.{ChunkRun}
 use Rattle.pf_chunk.specs.Happenings.{Happened, happened}
-use Rattle.pf_chunk.specs.Packets.{is_left_in, is_passed_over}
+use Rattle.pf_group.specs.Packets.{is_left_in, is_passed_over}
 use Rattle.pf_world.specs.Worlds.{Told, World, with_chunk}
 
 -- a packet by its chunk and its number
@@ -19,20 +19,20 @@ abbrev pub is_among : List Name → (chunk packet : ℕ) → Bool
 is_among names chunk packet = list_any (λ name. name.chunk == chunk && name.packet == packet) names
 
 -- the least packet of a chunk that is left and was not passed over
-abbrev pub least_left : (passed : List Name) → Chunk → Option ℕ
+abbrev pub least_left : (passed : List Name) → ChunkRun → Option ℕ
 least_left passed c =
-    find (λ k. is_left_in c.state k && not (is_among passed c.number k)) (range_with_len 0 (length c.state.packets))
+    find (λ k. is_left_in c.group.state k && not (is_among passed c.group.number k)) (range_with_len 0 (length c.group.state.packets))
 
 -- of the least chunk that has one
 pub record Next : Type 0 where
-  pub chunk : Chunk
+  pub chunk : ChunkRun
   pub packet : ℕ
 
-abbrev pub next_in : Chunk → Option ℕ → Option Next → Option Next
+abbrev pub next_in : ChunkRun → Option ℕ → Option Next → Option Next
 next_in c None rest = rest
 next_in c (Some k) rest = Some (record { chunk = c; packet = k })
 
-abbrev pub next_of : (passed : List Name) → List Chunk → Option Next
+abbrev pub next_of : (passed : List Name) → List ChunkRun → Option Next
 next_of passed [] = None
 next_of passed (c ∷ cs) = next_in c (least_left passed c) (next_of passed cs)
 
@@ -61,7 +61,7 @@ goes_on false name limit passed w more = more limit passed w
 
 abbrev pub tried : Happened → (packet limit : ℕ) → List Name → World → Goes → Settled
 tried h packet limit passed w more =
-    after_text h.text (goes_on (is_passed_over h.answer) (record { chunk = h.chunk.number; packet = packet }) limit passed (with_chunk w h.chunk) more)
+    after_text h.text (goes_on (is_passed_over h.answer) (record { chunk = h.chunk.group.number; packet = packet }) limit passed (with_chunk w h.chunk) more)
 
 -- quiet where no packet is left, stopped where one is and no delivery
 abbrev pub settle_next : List Halt → Option Next → Goes → Goes

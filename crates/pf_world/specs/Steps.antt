@@ -7,11 +7,10 @@ use Rattle.pf_script.specs.Lines.{fits}
 use Rattle.pf_protocol.specs.declared.answers.Answer.{Answer}
 use Rattle.pf_rounds.specs.Halts.{Halt}
 use Rattle.pf_group.specs.Making.{making_answer}
-use Rattle.pf_rounds.specs.Chunks.{Chunk}
-use Rattle.pf_rounds.specs.Agreeing.{chunk_of}
+use Rattle.pf_chunk.specs.Runs.{ChunkRun}
 use Rattle.pf_rounds.specs.Begun.{HasBegun}
 use Rattle.pf_rounds.specs.Growing.{HasGrown}
-use Rattle.pf_chunk.specs.Views.{ChunkIs}
+use Rattle.pf_chunk.specs.Views.{ChunkIs, run_of}
 use Rattle.pf_world.specs.Worlds.{World, made}
 use Rattle.pf_world.specs.Settling.{HasEnded, settled}
 use Rattle.pf_world.specs.Lines.{line_told}
@@ -61,9 +60,9 @@ pub record HasRun (old : WorldIs) (number : ℕ) (command : Command) (before aft
 -- them, that one after a beginning of what the line would have done to it, and those above it where they stood.
 pub record HasBegunLine (halts : List Halt) (old : WorldIs) (number : ℕ) (command : Command) (new : WorldIs) : Type 0 where
   pub chunk : ℕ
-  pub before : (k : ℕ) (c : ChunkIs) → k < chunk → slice_get new.chunks k ≡ Some c → slice_get (line_told halts (stands_at halts old) number command).world.chunks k ≡ Some (chunk_of halts c.group)
+  pub before : (k : ℕ) (c : ChunkIs) → k < chunk → slice_get new.chunks k ≡ Some c → slice_get (line_told halts (stands_at halts old) number command).world.chunks k ≡ Some (run_of halts c)
   pub here : (was is : ChunkIs) → slice_get old.chunks chunk ≡ Some was → slice_get new.chunks chunk ≡ Some is
-      → (c : Chunk) × (slice_get (line_told halts (stands_at halts old) number command).world.chunks chunk ≡ Some c) × HasBegun halts was.group c is.group
+      → (c : ChunkRun) × (slice_get (line_told halts (stands_at halts old) number command).world.chunks chunk ≡ Some c) × HasBegun halts was.group c.group is.group
   pub beyond : (k : ℕ) → chunk < k → slice_get new.chunks k ≡ slice_get old.chunks k
 
 -- there was no memory for the whole of it

@@ -3,8 +3,7 @@ use Rattle.std.specs.Prelude.{◌≡◌, ℕ, true, List, length, map, Some, sli
 use Rattle.pf_script.specs.Lines.{is_volume}
 use Rattle.pf_group.specs.Making.{setup_with}
 use Rattle.pf_rounds.specs.Halts.{Halt}
-use Rattle.pf_rounds.specs.Agreeing.{chunk_of}
-use Rattle.pf_chunk.specs.Views.{ChunkIs, IsReady}
+use Rattle.pf_chunk.specs.Views.{ChunkIs, IsReady, run_of}
 use Rattle.pf_world.specs.Worlds.{World}
 
 -- a volume with its chunks, in the order of their numbers
@@ -16,7 +15,7 @@ pub record WorldIs : Type 0 where
 
 -- where a run stands that came to this world
 abbrev pub stands_at : List Halt → WorldIs → World
-stands_at halts w = record { chunks = map (λ c. chunk_of halts c.group) w.chunks }
+stands_at halts w = record { chunks = map (run_of halts) w.chunks }
 
 -- chunk k between two lines is of this volume
 pub record IsChunkOf (w : WorldIs) (k : ℕ) (c : ChunkIs) : Type 0 where

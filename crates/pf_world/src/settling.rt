@@ -28,7 +28,7 @@ fn settle_chunk<D: Disk + Drop, R: Threads + Sync, G: Gate + Sync>(
     requires workers { (1 ≤ workers) × (workers ≤ 8) }
     requires ready { IsReady chunk.old }
     ensures settled { IfOk result (λ left. HasSettledChunk limit chunk.old out.old.items left out.new.items chunk.new) }
-    ensures err { OnErr result (HasFailedChunk limit chunk.old.group chunk.new.group) }
+    ensures err { OnErr result (HasFailedChunk limit chunk.old chunk.new.group) }
 {
     chunk.begin_settling();
     let mut left = limit;

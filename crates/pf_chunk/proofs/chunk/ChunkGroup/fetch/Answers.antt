@@ -1,13 +1,14 @@
-use Rattle.std.proofs.Common.{◌++◌, refl, ap, subst, ◌∙◌}
+use Rattle.std.proofs.Common.{◌≡◌, ◌++◌, refl, sym, ap, subst, ◌∙◌}
 use Rattle.std.specs.Option.{option_to_list}
 use Rattle.pf_group.proofs.Going.{on_err}
 use Rattle.pf_group.specs.declared.event.GroupEvent.TheVariants as asked
 use Rattle.pf_group.specs.Steps.{HasStepped}
 use Rattle.pf_chunk.specs.Asking.{fetches}
-use Rattle.pf_chunk.specs.Steps.{Event as EventIs, HasFailed}
-use Rattle.pf_chunk.specs.Views.{ChunkIs}
+use Rattle.pf_chunk.specs.Steps.{HasFailed}
+use Rattle.pf_chunk.specs.Views.{ChunkIs, run_of}
 use Rattle.pf_chunk.proofs.Begun.{fetches_extend, left_so, not_followed, nothing_failed}
-use Rattle.pf_chunk.proofs.Midway.{comes_to, listed, midway_of_fetch}
+use Rattle.pf_chunk.proofs.Happened.{comes, has_happened}
+use Rattle.pf_chunk.proofs.Midway.{midway_fetch, said_fetch, waits}
 use Rattle.pf_chunk.proofs.Ranges.{fetch_failed, fetched_is, no_fetch_is}
 use Rattle.pf_chunk.proofs.chunk.ChunkGroup.fetch.Goals as goal
 
@@ -17,60 +18,63 @@ returns-in_default-clause-went g c =
 
 pub returns-in_err-reserve-clause-err : goal.returns-in_err-reserve-clause-err
 returns-in_err-reserve-clause-err g c =
-    let was = c.self.inside.group in
-    let event : EventIs = λ halts k. fetches halts c.args.server c.args.sector c.args.count k in
-    on_err c.from_residual.result _ (subst (λ (v : ChunkIs). HasFailed event v.group was) c.self.view_is
-    (nothing_failed event was (λ halts k. fetches_extend halts k c.args.server c.args.sector c.args.count)))
+    let now = c.args.self.now in
+    on_err c.from_residual.result _ (subst (λ (v : ChunkIs). HasFailed (λ halts. (fetches halts c.args.server c.args.sector c.args.count (run_of halts now)).chunk.group) now.group v.group) (sym c.self.view_is)
+    (nothing_failed (λ halts. (fetches halts c.args.server c.args.sector c.args.count (run_of halts now)).chunk.group) now.group (λ halts. fetches_extend halts (run_of halts now) c.args.server c.args.sector c.args.count)))
 
 pub returns-in_err-answer-clause-err : goal.returns-in_err-answer-clause-err
 returns-in_err-answer-clause-err g c =
-    let event : EventIs = λ halts k. fetches halts c.args.server c.args.sector c.args.count k in
-    on_err c.from_residual-in_err-answer.result _ (subst (λ (v : ChunkIs). HasFailed event v.group c.step.new.self) c.self.view_is
-    (left_so event c.self.inside.group c.step.new.self (λ halts k. fetches_extend halts k c.args.server c.args.sector c.args.count) (asked.Fetch c.args.server c.in-Ok.range) c.in_err-answer.ensures.err))
+    let now = c.args.self.now in
+    on_err c.from_residual-in_err-answer.result _
+    (left_so (λ halts. (fetches halts c.args.server c.args.sector c.args.count (run_of halts now)).chunk.group) now.group c.step.new.self (λ halts. fetches_extend halts (run_of halts now) c.args.server c.args.sector c.args.count)
+    (asked.Fetch c.args.server c.in-Ok.range) (subst (λ (v : ChunkIs). c.step.new.self ≡ v.group) c.self.view_is c.in_err-answer.ensures.err))
 
 pub follow-requires-clause-none : goal.follow-requires-clause-none
 follow-requires-clause-none g c _ _ =
     let now = c.args.self.now in
     let answer = c.in_ok-answer.answer in
-    let event = asked.Fetch c.args.server c.in-Ok.range in
-    let mid : ChunkIs = record { group = c.step.new.self; waiting = c.keep.new.waiting.items; first_left = c.self.inside.first_left; next = c.self.inside.next } in
-    let midway = midway_of_fetch now event c.args.server c.in-Ok.range answer mid (λ _. refl) c.requires.ready c.requires.server
-    (subst (λ (v : ChunkIs). HasStepped v.group event answer c.step.new.self) c.self.view_is c.in_ok-answer.ensures.went)
+    let mid : ChunkIs = record { group = c.step.new.self; waiting = c.keep.new.waiting.items; first_left = c.self.inside.first_left; next = c.self.inside.next; ports = c.self.inside.ports.items } in
+    let stepped = subst (λ (v : ChunkIs). HasStepped v.group (asked.Fetch c.args.server c.in-Ok.range) c.in_ok-answer.answer c.step.new.self) c.self.view_is c.in_ok-answer.ensures.went in
+    let midway = midway_fetch now c.args.server c.in-Ok.range answer mid c.requires.ready c.requires.server stepped
     (ap (λ (v : ChunkIs). v.first_left) c.self.view_is)
     (c.keep.ensures ∙ ap (λ items. items ++ option_to_list c.taken_up-read.result) (c.reserve.ensures.items ∙ ap (λ (v : ChunkIs). v.waiting) c.self.view_is)
-    ∙ ap (λ o. now.waiting ++ option_to_list o) c.taken_up-read.ensures) in
+    ∙ ap (λ o. now.waiting ++ option_to_list o) c.taken_up-read.ensures)
+    (ap (λ (v : ChunkIs). v.ports) c.self.view_is) in
     midway.none
 
 pub follow-requires-clause-listed : goal.follow-requires-clause-listed
 follow-requires-clause-listed g c _ _ =
     let now = c.args.self.now in
     let answer = c.in_ok-answer.answer in
-    let event = asked.Fetch c.args.server c.in-Ok.range in
-    let mid : ChunkIs = record { group = c.step.new.self; waiting = c.keep.new.waiting.items; first_left = c.self.inside.first_left; next = c.self.inside.next } in
-    let midway = midway_of_fetch now event c.args.server c.in-Ok.range answer mid (λ _. refl) c.requires.ready c.requires.server
-    (subst (λ (v : ChunkIs). HasStepped v.group event answer c.step.new.self) c.self.view_is c.in_ok-answer.ensures.went)
+    let mid : ChunkIs = record { group = c.step.new.self; waiting = c.keep.new.waiting.items; first_left = c.self.inside.first_left; next = c.self.inside.next; ports = c.self.inside.ports.items } in
+    let stepped = subst (λ (v : ChunkIs). HasStepped v.group (asked.Fetch c.args.server c.in-Ok.range) c.in_ok-answer.answer c.step.new.self) c.self.view_is c.in_ok-answer.ensures.went in
+    let midway = midway_fetch now c.args.server c.in-Ok.range answer mid c.requires.ready c.requires.server stepped
     (ap (λ (v : ChunkIs). v.first_left) c.self.view_is)
     (c.keep.ensures ∙ ap (λ items. items ++ option_to_list c.taken_up-read.result) (c.reserve.ensures.items ∙ ap (λ (v : ChunkIs). v.waiting) c.self.view_is)
-    ∙ ap (λ o. now.waiting ++ option_to_list o) c.taken_up-read.ensures) in
-    listed now event answer mid midway
+    ∙ ap (λ o. now.waiting ++ option_to_list o) c.taken_up-read.ensures)
+    (ap (λ (v : ChunkIs). v.ports) c.self.view_is) in
+    midway.kept.listed
 
 pub returns-in_err-follow-clause-err : goal.returns-in_err-follow-clause-err
 returns-in_err-follow-clause-err g c =
-    let event : EventIs = λ halts k. fetches halts c.args.server c.args.sector c.args.count k in
-    on_err c.from_residual-in_err-follow.result _ (subst (λ (v : ChunkIs). HasFailed event v.group c.follow.new.self.group) c.self.view_is
-    (fetch_failed c.args.server c.args.sector c.args.count c.in-Ok.range (c.in-Ok.ensures.exact.0 refl) c.in-Ok.ensures.range c.self.inside.group c.follow.new.self.group
-    (not_followed c.self.inside.group c.step.new.self c.follow.new.self.group (asked.Fetch c.args.server c.in-Ok.range) c.in_ok-answer.answer c.in_ok-answer.ensures.went c.in_err-follow.ensures.err)))
+    let now = c.args.self.now in
+    on_err c.from_residual-in_err-follow.result _
+    (fetch_failed c.args.server c.args.sector c.args.count c.in-Ok.range (c.in-Ok.ensures.exact.0 refl) c.in-Ok.ensures.range now c.follow.new.self.group
+    (not_followed (waits c.args.server) now c.step.new.self c.follow.new.self.group (asked.Fetch c.args.server c.in-Ok.range) c.in_ok-answer.answer (λ k m a. refl)
+    (subst (λ (v : ChunkIs). HasStepped v.group (asked.Fetch c.args.server c.in-Ok.range) c.in_ok-answer.answer c.step.new.self) c.self.view_is c.in_ok-answer.ensures.went) c.in_err-follow.ensures.err))
 
 pub returns-clause-went : goal.returns-clause-went
 returns-clause-went g c =
     let now = c.args.self.now in
     let answer = c.in_ok-answer.answer in
-    let event = asked.Fetch c.args.server c.in-Ok.range in
-    let mid : ChunkIs = record { group = c.step.new.self; waiting = c.keep.new.waiting.items; first_left = c.self.inside.first_left; next = c.self.inside.next } in
-    let midway = midway_of_fetch now event c.args.server c.in-Ok.range answer mid (λ _. refl) c.requires.ready c.requires.server
-    (subst (λ (v : ChunkIs). HasStepped v.group event answer c.step.new.self) c.self.view_is c.in_ok-answer.ensures.went)
+    let mid : ChunkIs = record { group = c.step.new.self; waiting = c.keep.new.waiting.items; first_left = c.self.inside.first_left; next = c.self.inside.next; ports = c.self.inside.ports.items } in
+    let stepped = subst (λ (v : ChunkIs). HasStepped v.group (asked.Fetch c.args.server c.in-Ok.range) c.in_ok-answer.answer c.step.new.self) c.self.view_is c.in_ok-answer.ensures.went in
+    let midway = midway_fetch now c.args.server c.in-Ok.range answer mid c.requires.ready c.requires.server stepped
     (ap (λ (v : ChunkIs). v.first_left) c.self.view_is)
     (c.keep.ensures ∙ ap (λ items. items ++ option_to_list c.taken_up-read.result) (c.reserve.ensures.items ∙ ap (λ (v : ChunkIs). v.waiting) c.self.view_is)
-    ∙ ap (λ o. now.waiting ++ option_to_list o) c.taken_up-read.ensures) in
+    ∙ ap (λ o. now.waiting ++ option_to_list o) c.taken_up-read.ensures)
+    (ap (λ (v : ChunkIs). v.ports) c.self.view_is) in
     fetched_is c.args.server c.args.sector c.args.count c.in-Ok.range (c.in-Ok.ensures.exact.0 refl) c.in-Ok.ensures.range now c.args.out.now.items answer c.follow.new.out.items c.follow.new.self
-    (comes_to now event answer mid c.follow.new.self c.args.out.now.items c.follow.new.out.items c.requires.ready midway c.in_ok-follow.ensures.went)
+    (has_happened (waits c.args.server) now mid c.follow.new.self (asked.Fetch c.args.server c.in-Ok.range) answer c.args.out.now.items c.follow.new.out.items
+    (comes (waits c.args.server) now mid c.follow.new.self (asked.Fetch c.args.server c.in-Ok.range) answer midway c.args.out.now.items c.follow.new.out.items c.in_ok-follow.ensures.went c.requires.ready)
+    (ap (λ (v : ChunkIs). v.ports) c.self.view_is) (said_fetch now c.args.server c.in-Ok.range answer mid c.requires.ready c.requires.server stepped))

@@ -1,14 +1,14 @@
 use Rattle.std.proofs.Common.{subst}
 use Rattle.std.proofs.lemmas.Result.{on_err_weaker}
 use Rattle.pf_group.proofs.Going.{on_err}
-use Rattle.pf_chunk.specs.Steps.{HasNotFollowed}
+use Rattle.pf_chunk.specs.Steps.{HasFailed}
 use Rattle.pf_chunk.specs.Views.{ChunkIs}
-use Rattle.pf_chunk.proofs.Begun.{not_told}
+use Rattle.pf_chunk.proofs.Begun.{apply_of, not_told}
 use Rattle.pf_chunk.proofs.chunk.ChunkGroup.follow.Goals as goal
 
 pub returns-in_err-apply_all-clause-err : goal.returns-in_err-apply_all-clause-err
 returns-in_err-apply_all-clause-err g c =
-    on_err c.from_residual.result _ (subst (λ (v : ChunkIs). HasNotFollowed v.group c.apply_all.new.group) c.self.view_is
+    on_err c.from_residual.result _ (subst (λ (v : ChunkIs). HasFailed (apply_of v.group) v.group c.apply_all.new.group) c.self.view_is
     (record { grown = c.apply_all.ensures.grown; begun = c.in_err-apply_all.ensures.begun }))
 
 pub returns-clause-err : goal.returns-clause-err
@@ -16,4 +16,4 @@ returns-clause-err g c =
     let was = c.self.inside.group in
     let then = c.apply_all.new.group in
     let new = c.tell_reads.new.group in
-    on_err_weaker c.tell_reads.result (λ taken. subst (λ (v : ChunkIs). HasNotFollowed v.group new) c.self.view_is (not_told was then new c.apply_all.ensures.grown c.in_ok-apply_all.ensures.run taken)) c.tell_reads.ensures.err
+    on_err_weaker c.tell_reads.result (λ taken. subst (λ (v : ChunkIs). HasFailed (apply_of v.group) v.group new) c.self.view_is (not_told was then new c.apply_all.ensures.grown c.in_ok-apply_all.ensures.run taken)) c.tell_reads.ensures.err

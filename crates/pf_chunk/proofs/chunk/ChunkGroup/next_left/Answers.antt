@@ -1,8 +1,8 @@
 use Rattle.std.proofs.Common.{◌≡◌, ◌<◌, ◌≤◌, length, subst, ◌∙◌}
 use Rattle.pf_group.specs.GroupIs.{state_of}
-use Rattle.pf_chunk.specs.Packets.{IsFirstLeft}
+use Rattle.pf_group.specs.Packets.{IsFirstLeft}
 use Rattle.pf_chunk.specs.Views.{ChunkIs}
-use Rattle.pf_chunk.proofs.Leasts.{least_is, least_none}
+use Rattle.pf_group.proofs.Leasts.{least_is, least_none}
 use Rattle.pf_chunk.proofs.chunk.ChunkGroup.next_left.Goals as goal
 use Rattle.pf_chunk.proofs.chunk.ChunkGroup.next_left.Goals.{then-self-packets, else-self-packets}
 
@@ -10,7 +10,7 @@ pub returns-clause-least : goal.returns-clause-least
 returns-clause-least g c =
     let now = c.args.self.now in
     let k = c.left_from-self-inside.result in
-    let first = subst (λ (v : ChunkIs). IsFirstLeft (state_of now.group) v.next k) c.self.view_is c.left_from-self-inside.ensures in
+    let first = subst (λ (v : ChunkIs). IsFirstLeft (state_of v.group) v.next k) c.self.view_is c.left_from-self-inside.ensures in
     let count = subst (λ (v : ChunkIs). c.packets.result ≡ length (state_of v.group).packets) c.self.view_is c.packets.ensures in
     elim c.if-self-packets.branch [
       | then-self-packets w ↦ w.result-is ∙ least_is (state_of now.group) now.next k first (subst (λ n. k < n) count w.if-self-packets.true)

@@ -6,14 +6,15 @@ use Rattle.pf_chunk.specs.Happenings.{happened}
 use Rattle.pf_chunk.specs.Settling.{HasTried}
 use Rattle.pf_chunk.specs.Steps.{HasHappened}
 use Rattle.pf_chunk.specs.Views.{ChunkIs}
-use Rattle.pf_chunk.proofs.Tried.{left_few, left_low, passed}
+use Rattle.pf_group.proofs.Passing.{left_few, left_low}
+use Rattle.pf_chunk.proofs.Tried.{passed}
 use Rattle.pf_chunk.proofs.chunk.ChunkGroup.settle_one.Goals as goal
 
 pub overflow_add-self : goal.overflow_add-self
 overflow_add-self g c =
     let now = c.args.self.now in
     let legal = subst (λ (v : ChunkIs). IsLegal v.group.setup v.group.history) c.self.view_is c.history-legal.ensures.legal in
-    let low : c.self.inside.next < 65536 = subst (λ (v : ChunkIs). v.next < 65536) (sym c.self.view_is) (left_low now.group now.next legal c.requires.left) in
+    let low : c.self.inside.next < 65536 = subst (λ (v : ChunkIs). v.next < 65536) (sym c.self.view_is) (left_low now.group.setup now.group.history now.next legal c.requires.left) in
     omega arith
 
 pub returns-then-is_passed_over-clause-went : goal.returns-then-is_passed_over-clause-went
@@ -28,8 +29,8 @@ returns-then-is_passed_over-clause-went g c =
 
 pub returns-then-is_passed_over-clause-few : goal.returns-then-is_passed_over-clause-few
 returns-then-is_passed_over-clause-few g c =
-    left_few c.args.self.now.group c.args.self.now.next (subst (λ (v : ChunkIs). IsLegal v.group.setup v.group.history) c.self.view_is c.history-legal.ensures.legal) c.requires.left
+    left_few c.args.self.now.group.setup c.args.self.now.group.history c.args.self.now.next (subst (λ (v : ChunkIs). IsLegal v.group.setup v.group.history) c.self.view_is c.history-legal.ensures.legal) c.requires.left
 
 pub returns-clause-few : goal.returns-clause-few
 returns-clause-few g c =
-    left_few c.args.self.now.group c.args.self.now.next (subst (λ (v : ChunkIs). IsLegal v.group.setup v.group.history) c.self.view_is c.history-legal.ensures.legal) c.requires.left
+    left_few c.args.self.now.group.setup c.args.self.now.group.history c.args.self.now.next (subst (λ (v : ChunkIs). IsLegal v.group.setup v.group.history) c.self.view_is c.history-legal.ensures.legal) c.requires.left

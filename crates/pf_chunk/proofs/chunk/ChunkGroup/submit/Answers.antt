@@ -2,6 +2,7 @@ use Rattle.std.proofs.Common.{refl, ◌∙◌}
 use Rattle.std.proofs.lemmas.Result.{on_err_weaker}
 use Rattle.pf_group.proofs.Going.{on_err}
 use Rattle.pf_chunk.specs.Asking.{submits}
+use Rattle.pf_chunk.specs.Views.{run_of}
 use Rattle.pf_chunk.proofs.Begun.{nothing_failed, submits_extend}
 use Rattle.pf_chunk.proofs.Ranges.{may_submit, no_submit_is, submit_failed, submitted_is}
 use Rattle.pf_chunk.proofs.chunk.ChunkGroup.submit.Goals as goal
@@ -23,14 +24,16 @@ pub returns-clause-err : goal.returns-clause-err
 returns-clause-err g c =
     on_err_weaker c.happen.result
     (submit_failed c.args.server c.args.sector c.args.byte c.args.count c.in-Ok.range c.in_ok-payload.payload (c.in-Ok.ensures.exact.0 refl) c.in-Ok.ensures.range (c.in_ok-payload.ensures ∙ c.in_ok-filled.ensures)
-    c.args.self.now.group c.happen.new.self.group) c.happen.ensures.err
+    c.args.self.now c.happen.new.self.group) c.happen.ensures.err
 
 pub returns-in_err-filled-clause-err : goal.returns-in_err-filled-clause-err
 returns-in_err-filled-clause-err g c =
-    on_err c.from_residual.result _ (nothing_failed (λ halts k. submits halts c.args.server c.args.sector c.args.byte c.args.count k) c.args.self.now.group
-    (λ halts k. submits_extend halts k c.args.server c.args.sector c.args.byte c.args.count))
+    let now = c.args.self.now in
+    on_err c.from_residual.result _ (nothing_failed (λ halts. (submits halts c.args.server c.args.sector c.args.byte c.args.count (run_of halts now)).chunk.group) now.group
+    (λ halts. submits_extend halts (run_of halts now) c.args.server c.args.sector c.args.byte c.args.count))
 
 pub returns-in_err-payload-clause-err : goal.returns-in_err-payload-clause-err
 returns-in_err-payload-clause-err g c =
-    on_err c.from_residual-in_err-payload.result _ (nothing_failed (λ halts k. submits halts c.args.server c.args.sector c.args.byte c.args.count k) c.args.self.now.group
-    (λ halts k. submits_extend halts k c.args.server c.args.sector c.args.byte c.args.count))
+    let now = c.args.self.now in
+    on_err c.from_residual-in_err-payload.result _ (nothing_failed (λ halts. (submits halts c.args.server c.args.sector c.args.byte c.args.count (run_of halts now)).chunk.group) now.group
+    (λ halts. submits_extend halts (run_of halts now) c.args.server c.args.sector c.args.byte c.args.count))

@@ -18,4 +18,5 @@ returns-in-Ok-clause-added g c =
       world = ap (λ chunks. let v : WorldIs = record { sectors = w.sectors; names = w.names; format = w.format; chunks = chunks } in v) items;
       made = subst (λ n. groups.IsMade n w.sectors w.names w.format (groups.six_faults g.D.Disk.faults c.in-Some.six) c.in-Ok.chunk.group c.in-Ok.answer) number c.in-Ok.ensures.made;
       ready = c.in-Ok.ensures.ready;
+      run = c.in-Ok.ensures.run;
     })

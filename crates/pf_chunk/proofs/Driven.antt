@@ -1,0 +1,381 @@
+-- A step of a port is what the run makes of it.
+use Rattle.std.proofs.Common.{◌≡◌, ◌≢◌, ℕ, inl, inr, Bool, true, false, cond, if◌then◌else◌, List, [], ◌∷◌, ◌++◌, Option, Some, None, length, slice_get, slice_set, arith, refl, sym, ap, subst, ◌∙◌, append-nil}
+use Rattle.std.proofs.lemmas.Bool.{cases_eq}
+use Rattle.std.proofs.lemmas.List.{length-append}
+use Rattle.std.proofs.lemmas.Option.{none-some, same_Some, slice_get_within}
+use Rattle.pf_base.specs.Span.{Span}
+use Rattle.pf_base.specs.declared.asks.Ask.{Ask}
+use Rattle.pf_base.specs.declared.asks.Ask.TheVariants as asks
+use Rattle.pf_base.specs.declared.asks.Reply.{Reply}
+use Rattle.pf_entry.proofs.Cases.{by_test}
+use Rattle.pf_entry.proofs.Lists.{every_get, every_more}
+use Rattle.pf_protocol.specs.declared.answers.Answer.{Answer}
+use Rattle.pf_protocol.specs.declared.answers.Answer.TheVariants.{Done, Slot as SlotIs, Term as TermIs, Read as ReadIs, Base as BaseIs, Job as JobIs, Refused}
+use Rattle.pf_protocol.specs.declared.events.Event.TheVariants.{Fetch}
+use Rattle.pf_protocol.specs.declared.events.Happening.{Happening}
+use Rattle.pf_protocol.specs.Answers.{IsLegal, claims_after}
+use Rattle.pf_cluster.specs.Readings.{taken_after}
+use Rattle.pf_cluster.proofs.Lists.{at_end, set_again, set_elsewhere, set_length, set_same, set_there}
+use Rattle.pf_asks.specs.declared.port.Sent.{Sent}
+use Rattle.pf_asks.specs.declared.port.Sent.TheVariants.{Number}
+use Rattle.pf_asks.specs.Ports.{Goes, IsHanded, PortIs, Stays, answered as answered_port, goes_to, new_port}
+use Rattle.pf_group.specs.Events.{event_of}
+use Rattle.pf_group.specs.GroupIs.{GroupIs, state_of}
+use Rattle.pf_group.specs.Steps.{HasStepped}
+use Rattle.pf_rounds.specs.Chunks.{answered}
+use Rattle.pf_rounds.specs.Halts.{Halt}
+use Rattle.pf_rounds.proofs.Extending.{Extends, extends_refl}
+use Rattle.pf_rounds.proofs.Growing.{grown_refl, taken_grows}
+use Rattle.pf_rounds.proofs.Told.{told_length}
+use Rattle.pf_chunk.specs.declared.waiting.Waiting.{Waiting}
+use Rattle.pf_chunk.specs.Asks.{leader_of, reply_to}
+use Rattle.pf_chunk.specs.Driving.{HandsOn, HasDriven, PortDrove, ask_after, driven, driven_at, driven_for, event_of_ask, handed, handed_to, idle, led_to, replied, sent_of, with_port}
+use Rattle.pf_chunk.specs.Runs.{ChunkRun}
+use Rattle.pf_chunk.specs.Views.{ArePorts, ChunkIs, IsFetched, IsKept, IsReady, run_of}
+use Rattle.pf_chunk.proofs.Begun.{happened_extends}
+use Rattle.pf_chunk.proofs.Calls.{GivesReply, HandsIt, Keeps, Replies, StaysThere, WasHanded, WentOn, hand, went_on}
+use Rattle.pf_chunk.proofs.Happened.{Comes, Fills, IsMidway, filled_up}
+use Rattle.pf_chunk.proofs.Members.{every_place}
+use Rattle.pf_chunk.proofs.Midway.{claims, kept_quietly, reads}
+use Rattle.pf_chunk.proofs.Ready.{IsFor, port_put}
+
+-- the port goes on with what tells the answer
+abbrev pub sends : (m : ℕ) → PortIs → (term : ℕ) → Fills
+sends m p term c g answer = record c { group = g; ports = slice_set c.ports m (record p { sent = sent_of answer; last = term }) }
+
+sent_read : (answer : Answer) (n : ℕ) → sent_of answer ≡ Some (Number n) → answer ≡ ReadIs n
+sent_read (ReadIs k) n is = cc
+sent_read (SlotIs slot) n is = cc
+sent_read Done n is = cc
+sent_read (TermIs term) n is = cc
+sent_read (BaseIs base) n is = cc
+sent_read (JobIs job) n is = cc
+sent_read (Refused refusal) n is = cc
+
+same_event : (ask : Ask) (server : ℕ) → event_of_ask ask server ≡ event_of (hand ask server) false
+same_event (asks.Write chunk range sectors) server = refl
+same_event (asks.Read chunk range) server = refl
+
+no_claim : (ask : Ask) (server : ℕ) (found : Bool) (answer : Answer) → claims_after [] (event_of (hand ask server) found) answer ≡ []
+no_claim (asks.Write chunk range sectors) server found answer = refl
+no_claim (asks.Read chunk range) server found answer = refl
+
+no_number : (n : ℕ) → None ≡ Some (Number n) → ⊥
+no_number n is = none-some (Number n) is
+
+-- a step only adds to the history of its chunk
+module _ (halts : List Halt) (c : ChunkRun) (m : ℕ) where
+  handed_extends : (p : PortIs) (ask : Ask) (leader : Option (ℕ × ℕ)) → Extends c.group (led_to halts c m p ask leader).chunk.group
+  handed_extends p ask None = extends_refl c.group
+  handed_extends p ask (Some (term, server)) =
+      by_test (goes_to p.sent p.last term) (λ b. Extends c.group (if b then handed_to halts c m p (event_of_ask ask server) term else idle c).chunk.group)
+      (λ _. happened_extends halts (with_port c m (record p { sent = sent_of (answered halts c.group (event_of_ask ask server)); last = term })) (event_of_ask ask server))
+      (λ _. extends_refl c.group)
+
+  reply_extends : (p : PortIs) (ask : Ask) (reply : Option Reply) → Extends c.group (replied halts c m p ask reply).chunk.group
+  reply_extends p ask None = handed_extends p ask (leader_of c.group.state)
+  reply_extends p ask (Some reply) = extends_refl c.group
+
+  ask_extends : (p : PortIs) (ask : Option Ask) → Extends c.group (driven_for halts c m p ask).chunk.group
+  ask_extends p None = extends_refl c.group
+  ask_extends p (Some ask) = reply_extends p ask (reply_to c.group.state p.sent p.last)
+
+  port_extends : (p : Option PortIs) → Extends c.group (driven_at halts c m p).chunk.group
+  port_extends None = extends_refl c.group
+  port_extends (Some p) = ask_extends p p.ask
+
+  pub driven_extends : Extends c.group (driven halts c m).chunk.group
+  driven_extends = port_extends (slice_get c.ports m)
+
+module _ (m : ℕ) (old : ChunkIs) (p : PortIs) (ask : Ask) (there : slice_get old.ports m ≡ Some p) (pending : p.ask ≡ Some ask) (ready : IsReady old) where
+  -- the run looks for a reply
+  looks_for : (halts : List Halt) (r : Option Reply) → reply_to (state_of old.group) p.sent p.last ≡ r → driven halts (run_of halts old) m ≡ replied halts (run_of halts old) m p ask r
+  looks_for halts r told =
+      ap (driven_at halts (run_of halts old) m) there ∙ ap (driven_for halts (run_of halts old) m p) pending ∙ ap (replied halts (run_of halts old) m p ask) told
+
+  -- there is one
+  module _ (taken : List Bool) (count : length taken ≡ length old.group.taken) (same : (j : ℕ) → (p.sent ≡ Some (Number j) → ⊥) → slice_get taken j ≡ slice_get old.group.taken j) where
+    abbrev told_group : GroupIs
+    told_group = record old.group { taken = taken }
+
+    abbrev told_ports : List PortIs
+    told_ports = slice_set old.ports m (answered_port p)
+
+    line_still : (k : ℕ) (w : Waiting) → slice_get old.waiting k ≡ Some w → slice_get taken w.number ≡ Some false
+    line_still k w at =
+        same w.number (λ sent. every_get (λ x. x.number ≢ w.number) old.waiting k w (ready.kept.ports_fit.reads m p w.number there sent).no_line at refl)
+        ∙ every_get (λ x. slice_get old.group.taken x.number ≡ Some false) old.waiting k w ready.kept.listed.pending at
+
+    ports_still : ArePorts told_group old.waiting told_ports
+    ports_still = record {
+      count = set_length old.ports m (answered_port p) ∙ ready.kept.ports_fit.count;
+      reads = λ k q n at sent. elim (cases_eq k m) [
+        | inl here ↦
+            let is : q ≡ answered_port p = same_Some q (answered_port p) (sym (ap (slice_get told_ports) (sym here) ∙ at) ∙ set_there old.ports m (answered_port p) (slice_get_within old.ports m p there)) in
+            absurd (no_number n (ap (λ (x : PortIs). x.sent) (sym is) ∙ sent))
+        | inr apart ↦
+            let was = sym (set_elsewhere old.ports m k (answered_port p) apart) ∙ at in
+            let r = ready.kept.ports_fit.reads k q n was sent in record {
+              pending = same n (λ its. apart ((ready.kept.ports_fit.reads m p n there its).alone k q was sent)) ∙ r.pending;
+              no_line = r.no_line;
+              alone = λ j other other_at other_sent. elim (cases_eq j m) [
+                | inl here ↦
+                    let is : other ≡ answered_port p = same_Some other (answered_port p) (sym (ap (slice_get told_ports) (sym here) ∙ other_at) ∙ set_there old.ports m (answered_port p) (slice_get_within old.ports m p there)) in
+                    absurd (no_number n (ap (λ (x : PortIs). x.sent) (sym is) ∙ other_sent))
+                | inr away ↦ r.alone j other (sym (set_elsewhere old.ports m j (answered_port p) away) ∙ other_at) other_sent
+              ];
+              asked = r.asked;
+            }
+      ];
+    }
+
+    abbrev told_chunk : ChunkIs
+    told_chunk = record old { group = told_group; ports = told_ports }
+
+    has_replied : (given : Reply) → reply_to (state_of old.group) p.sent p.last ≡ Some given → (before : List ℕ) → HasDriven m old before (Some given) before told_chunk
+    has_replied given told before =
+        let grown = taken_grows old.group told_group refl in record {
+          grown = grown;
+          ready = record {
+            claims = ready.claims;
+            applied = ready.applied;
+            kept = record {
+              numbered = count ∙ ready.kept.numbered;
+              listed = record { ascending = ready.kept.listed.ascending; servers = ready.kept.listed.servers; pending = every_place (λ w. slice_get taken w.number ≡ Some false) old.waiting line_still };
+              ports_fit = ports_still;
+            };
+            first_sent = ready.first_sent;
+            none_left = ready.none_left;
+          };
+          left = λ k is. inl is;
+          first = refl;
+          text = [];
+          place = None;
+          put = sym (append-nil before);
+          run = λ halts tells. looks_for halts (Some given) told;
+        }
+
+  -- it stays
+  by_goes : (halts : List Halt) (term server : ℕ) (goes : Bool) → cond goes (IsHanded p ask term server [] p) (Stays p [] p)
+      → (if goes then handed_to halts (run_of halts old) m p (event_of_ask ask server) term else idle (run_of halts old)) ≡ idle (run_of halts old)
+  by_goes halts term server true h = absurd (let e = h.once in cc)
+  by_goes halts term server false h = refl
+
+  by_leader : (halts : List Halt) (leader : Option (ℕ × ℕ)) → Goes p ask leader [] p → led_to halts (run_of halts old) m p ask leader ≡ idle (run_of halts old)
+  by_leader halts None goes = refl
+  by_leader halts (Some (term, server)) goes = by_goes halts term server (goes_to p.sent p.last term) goes
+
+  has_stayed : reply_to (state_of old.group) p.sent p.last ≡ None → (leader : Option (ℕ × ℕ)) → leader_of (state_of old.group) ≡ leader → Goes p ask leader [] p → (before : List ℕ) → HasDriven m old before None before old
+  has_stayed untold leader led goes before = record {
+    grown = grown_refl old.group;
+    ready = ready;
+    left = λ k is. inl is;
+    first = refl;
+    text = [];
+    place = None;
+    put = sym (append-nil before);
+    run = λ halts tells. looks_for halts None untold ∙ ap (led_to halts (run_of halts old) m p ask) led ∙ by_leader halts leader goes;
+  }
+
+  -- it is handed on
+  driven_handed : (halts : List Halt) (term server : ℕ) → reply_to (state_of old.group) p.sent p.last ≡ None → leader_of (state_of old.group) ≡ Some (term, server) → goes_to p.sent p.last term ≡ true
+      → driven halts (run_of halts old) m ≡ handed (length old.group.history) (filled_up (sends m p term) (event_of (hand ask server) false) halts (run_of halts old))
+  driven_handed halts term server untold led goes =
+      let c = run_of halts old in
+      looks_for halts None untold
+      ∙ ap (led_to halts c m p ask) led
+      ∙ ap (λ b. if b then handed_to halts c m p (event_of_ask ask server) term else idle c) goes
+      ∙ ap (λ event. handed (length c.group.history) (filled_up (sends m p term) event halts c)) (same_event ask server)
+      ∙ ap (λ n. handed n (filled_up (sends m p term) (event_of (hand ask server) false) halts c)) (told_length halts old.group.number 0 old.group.history)
+
+  module _ (term server : ℕ) (answer : Answer) (new : GroupIs) (stepped : HasStepped old.group (hand ask server) answer new) where
+    abbrev h : Happening
+    h = record { event = event_of (hand ask server) stepped.found; answer = answer }
+
+    abbrev next : PortIs
+    next = record p { sent = sent_of answer; last = term }
+
+    kept_now : IsKept new old.waiting old.ports
+    kept_now = kept_quietly old.group new (event_of (hand ask server) stepped.found) answer stepped.steps old.waiting old.ports ready.kept
+
+    is_next : (n : ℕ) → answer ≡ ReadIs n → n ≡ length old.group.taken
+    is_next n told = (reads old.group new (event_of (hand ask server) stepped.found) answer stepped.steps).next n told ∙ sym ready.kept.numbered
+
+    its_place : (n chunk : ℕ) (range : Span) → answer ≡ ReadIs n → p.ask ≡ Some (asks.Read chunk range) → IsFetched new.history n range
+    its_place n chunk range told is =
+        let its : ask ≡ asks.Read chunk range = same_Some ask (asks.Read chunk range) (sym pending ∙ is) in record {
+          server = server;
+          place = length old.group.history;
+          happened =
+              ap (λ (g : GroupIs). slice_get g.history (length old.group.history)) stepped.steps.recorded
+              ∙ at_end old.group.history h
+              ∙ ap (λ a. Some (let x : Happening = record { event = event_of (hand a server) stepped.found; answer = answer } in x)) its
+              ∙ ap (λ a. Some (let x : Happening = record { event = Fetch server range; answer = a } in x)) told;
+        }
+
+    fits : (n : ℕ) → sent_of answer ≡ Some (Number n) → IsFor new old.waiting old.ports m next n
+    fits n sent =
+        let told = sent_read answer n sent in
+        let here = is_next n told in record {
+          pending = ap (λ (g : GroupIs). slice_get g.taken n) stepped.steps.recorded ∙ ap (λ a. slice_get (taken_after old.group.taken a) n) told ∙ ap (slice_get (old.group.taken ++ false ∷ [])) here ∙ at_end old.group.taken false;
+          no_line = every_more (λ w. slice_get old.group.taken w.number ≡ Some false) (λ w. w.number ≢ n) (λ w is same. omega (arith, slice_get_within old.group.taken w.number false is, same, here)) old.waiting ready.kept.listed.pending;
+          alone = λ k q at its. absurd (omega (arith, slice_get_within old.group.taken n false (ready.kept.ports_fit.reads k q n at its).pending, here));
+          asked = λ chunk range is. its_place n chunk range told is;
+        }
+
+    abbrev handed_chunk : ChunkIs
+    handed_chunk = record old { group = new; ports = slice_set old.ports m next }
+
+    midway_handed : IsMidway (sends m p term) old (hand ask server) answer handed_chunk
+    midway_handed = record {
+      found = stepped.found;
+      steps = stepped.steps;
+      first = refl;
+      kept = record { numbered = kept_now.numbered; listed = kept_now.listed; ports_fit = port_put new old.waiting old.ports m next kept_now.ports_fit fits };
+      none = claims old.group new (event_of (hand ask server) stepped.found) answer stepped.steps ready.claims (no_claim ask server stepped.found answer);
+      fills = λ halts. refl;
+    }
+
+-- the ask was handed on by one event
+pub record IsHandedOn (m : ℕ) (old : ChunkIs) (reply : Option Reply) (new : ChunkIs) : Type 0 where
+  pub p : PortIs
+  pub ask : Ask
+  pub term : ℕ
+  pub server : ℕ
+  pub answer : Answer
+  pub none : reply ≡ None
+  pub stepped : HasStepped old.group (hand ask server) answer new.group
+  pub midway : IsMidway (sends m p term) old (hand ask server) answer new
+  pub run : (halts : List Halt) → driven halts (run_of halts old) m ≡ handed (length old.group.history) (filled_up (sends m p term) (event_of (hand ask server) false) halts (run_of halts old))
+
+module _ (m : ℕ) (old new : ChunkIs) (reply : Option Reply) (h : HandsOn m old reply new) (ready : IsReady old) (legal : IsLegal old.group.setup old.group.history) where
+  abbrev out : ChunkIs
+  out = record old { ports = slice_set old.ports m new_port }
+
+  went : WentOn out h.port h.ask reply h.next h.after
+  went = went_on out h.port h.ask reply h.next h.after legal (λ n sent. (ready.kept.ports_fit.reads m h.port n h.there sent).pending) h.calls h.drives h.leads
+
+  -- where it stands in its place again
+  back : (group : GroupIs) (port : PortIs) → h.after ≡ record out { group = group } → h.next ≡ port → new ≡ record old { group = group; ports = slice_set old.ports m port }
+  back group port after_is next_is =
+      h.is
+      ∙ ap (λ (c : ChunkIs). let x : ChunkIs = record c { ports = slice_set c.ports m h.next } in x) after_is
+      ∙ ap (λ (ps : List PortIs). let x : ChunkIs = record old { group = group; ports = ps } in x) (set_again old.ports m new_port h.next ∙ ap (slice_set old.ports m) next_is)
+
+  stayed : Keeps out h.port h.ask reply h.next h.after → new ≡ old
+  stayed k = back old.group h.port k.same k.next_is ∙ ap (λ (ps : List PortIs). let x : ChunkIs = record old { ports = ps } in x) (set_same old.ports m h.port h.there)
+
+  handed_is : (k : HandsIt out h.port h.ask reply h.next h.after) → new ≡ record old { group = h.after.group; ports = slice_set old.ports m (record h.port { sent = sent_of k.hands.answer; last = k.term }) }
+  handed_is k = back h.after.group _ k.hands.rest k.next_is
+
+  longer : HandsIt out h.port h.ask reply h.next h.after → length new.group.history ≡ length old.group.history → ⊥
+  longer k same =
+      omega (arith, same, ap (λ (c : ChunkIs). length c.group.history) (handed_is k), ap (λ (g : GroupIs). length g.history) k.hands.stepped.steps.recorded, length-append old.group.history (record { event = event_of (hand h.ask k.server) k.hands.stepped.found; answer = k.hands.answer } ∷ []))
+
+  replied_so : (r : Replies out h.port h.ask reply h.next h.after) (before : List ℕ) → HasDriven m old before reply before new × (new.group.history ≡ old.group.history)
+  replied_so r before = elim r.takes [
+    | inl same ↦
+        let is = back old.group (answered_port h.port) same r.next_is in (
+          subst (λ o. HasDriven m old before o before new) (sym r.is) (subst (HasDriven m old before (Some r.given) before) (sym is)
+              (has_replied m old h.port h.ask h.there h.pending ready old.group.taken refl (λ j _. refl) r.given r.told before)),
+          ap (λ (c : ChunkIs). c.group.history) is,
+        )
+    | inr took ↦
+        let taken = slice_set old.group.taken took.0 true in
+        let is = back (record old.group { taken = taken }) (answered_port h.port) took.2 r.next_is in (
+          subst (λ o. HasDriven m old before o before new) (sym r.is) (subst (HasDriven m old before (Some r.given) before) (sym is)
+              (has_replied m old h.port h.ask h.there h.pending ready taken (set_length old.group.taken took.0 true)
+              (λ j other. set_elsewhere old.group.taken took.0 j true (λ same. other (took.1 ∙ ap (λ n. Some (Number n)) (sym same)))) r.given r.told before)),
+          ap (λ (c : ChunkIs). c.group.history) is,
+        )
+  ]
+
+  -- what it did to its port
+  port_facts : (port : PortIs) → new.ports ≡ slice_set old.ports m port → port.ask ≡ ask_after reply h.port.ask → (h.port.sent ≡ None → reply ≡ None) → PortDrove m reply old new
+  port_facts port ports asks unsent = record {
+    port = port;
+    ports = ports;
+    asks = λ before at. asks ∙ ap (λ (q : PortIs). ask_after reply q.ask) (same_Some h.port before (sym h.there ∙ at));
+    unsent = λ before at none. unsent (ap (λ (q : PortIs). q.sent) (same_Some h.port before (sym h.there ∙ at)) ∙ none);
+  }
+
+  replied_port : Replies out h.port h.ask reply h.next h.after → new.ports ≡ slice_set old.ports m (answered_port h.port)
+  replied_port r = elim r.takes [
+    | inl same ↦ ap (λ (c : ChunkIs). c.ports) (back old.group (answered_port h.port) same r.next_is)
+    | inr took ↦ ap (λ (c : ChunkIs). c.ports) (back (record old.group { taken = slice_set old.group.taken took.0 true }) (answered_port h.port) took.2 r.next_is)
+  ]
+
+  pub port_drove : PortDrove m reply old new
+  port_drove = elim went [
+    | GivesReply r ↦
+        port_facts (answered_port h.port) (replied_port r) (ap (λ (o : Option Reply). ask_after o h.port.ask) (sym r.is))
+        (λ none. absurd (none-some r.given (ap (λ (s : Option Sent). reply_to (state_of old.group) s h.port.last) (sym none) ∙ r.told)))
+    | StaysThere k ↦
+        port_facts h.port (ap (λ (c : ChunkIs). c.ports) (stayed k) ∙ sym (set_same old.ports m h.port h.there)) (ap (λ (o : Option Reply). ask_after o h.port.ask) (sym k.not_told.none))
+        (λ none. k.not_told.none)
+    | WasHanded k ↦
+        port_facts (record h.port { sent = sent_of k.hands.answer; last = k.term }) (ap (λ (c : ChunkIs). c.ports) (handed_is k))
+        (ap (λ (o : Option Reply). ask_after o h.port.ask) (sym k.not_told.none)) (λ none. k.not_told.none)
+  ]
+
+  -- no event took place
+  pub no_event : length new.group.history ≡ length old.group.history → (before : List ℕ) → HasDriven m old before reply before new
+  no_event same before = elim went [
+    | GivesReply r ↦ (replied_so r before).0
+    | StaysThere k ↦
+        subst (λ o. HasDriven m old before o before new) (sym k.not_told.none) (subst (HasDriven m old before None before) (sym (stayed k))
+        (has_stayed m old h.port h.ask h.there h.pending ready k.not_told.untold k.leader k.led k.goes before))
+    | WasHanded k ↦ absurd (longer k same)
+  ]
+
+  -- one did
+  pub an_event : (length new.group.history ≡ length old.group.history → ⊥) → IsHandedOn m old reply new
+  an_event more = elim went [
+    | GivesReply r ↦ absurd (more (ap length (replied_so r []).1))
+    | StaysThere k ↦ absurd (more (ap (λ (c : ChunkIs). length c.group.history) (stayed k)))
+    | WasHanded k ↦
+        let is = handed_is k in record {
+          p = h.port;
+          ask = h.ask;
+          term = k.term;
+          server = k.server;
+          answer = k.hands.answer;
+          none = k.not_told.none;
+          stepped = subst (λ (c : ChunkIs). HasStepped old.group (hand h.ask k.server) k.hands.answer c.group) (sym is) k.hands.stepped;
+          midway = subst (IsMidway (sends m h.port k.term) old (hand h.ask k.server) k.hands.answer) (sym is)
+              (midway_handed m old h.port h.ask h.there h.pending ready k.term k.server k.hands.answer h.after.group k.hands.stepped);
+          run = λ halts. driven_handed m old h.port h.ask h.there h.pending ready halts k.term k.server k.not_told.untold k.led k.goes;
+        }
+  ]
+
+-- what followed on the event
+pub has_driven : (m : ℕ) (old mid new : ChunkIs) (reply : Option Reply) (h : IsHandedOn m old reply mid) (before after : List ℕ) → Comes (sends m h.p h.term) old (hand h.ask h.server) h.answer mid before after new → HasDriven m old before reply after new
+has_driven m old mid new reply h before after comes =
+    subst (λ o. HasDriven m old before o after new) (sym h.none) (record {
+      grown = comes.grown;
+      ready = comes.ready;
+      left = comes.left;
+      first = comes.first;
+      text = comes.text;
+      place = Some (length old.group.history);
+      put = comes.put_is;
+      run = λ halts tells. h.run halts ∙ ap (handed (length old.group.history)) (comes.run halts tells);
+    })
+
+-- what follows on it leaves the ports alone
+pub port_after : (m : ℕ) (old mid new : ChunkIs) (reply : Option Reply) → PortDrove m reply old mid → new.ports ≡ mid.ports → PortDrove m reply old new
+port_after m old mid new reply p same = record { port = p.port; ports = same ∙ p.ports; asks = p.asks; unsent = p.unsent }
+
+-- an ask is put into the port at a place
+pub put_ready : (m : ℕ) (c : ChunkIs) (port : PortIs) → IsReady c → port.sent ≡ None → IsReady (record c { ports = slice_set c.ports m port })
+put_ready m c port ready none = record {
+  claims = ready.claims;
+  applied = ready.applied;
+  kept = record {
+    numbered = ready.kept.numbered;
+    listed = ready.kept.listed;
+    ports_fit = port_put c.group c.waiting c.ports m port ready.kept.ports_fit (λ n sent. absurd (no_number n (sym none ∙ sent)));
+  };
+  first_sent = ready.first_sent;
+  none_left = ready.none_left;
+}

@@ -1,0 +1,80 @@
+//! Ports of hosts into a chunk.
+ghost use Rattle.std.specs.Prelude.{◌≡◌, ◌≤◌, ◌<◌, IfOk, IfSome, IsSome, List, None, OnErr, OnOk, Some};
+ghost use Rattle.pf_base.specs.Asks.{Answers, IsValid};
+ghost use Rattle.pf_base.specs.declared.asks.Ask.{Ask as AskIs};
+ghost use Rattle.pf_rounds.specs.Halts.{Halt};
+ghost use Rattle.pf_chunk.specs.Driving.{HasDriven, HandsOn, PortDrove, ask_of, asked, driven};
+ghost use Rattle.pf_chunk.specs.Steps.{HasFailed};
+ghost use Rattle.pf_chunk.specs.Views.{IsReady, run_of};
+
+use crate::ChunkGroup;
+use pf_asks::Port;
+use pf_base::{Ask, NoMemory, Reply};
+use pf_disk::Disk;
+use pf_filling::Gate;
+use std::alloc::Global;
+use std::mem::replace;
+use std::thread::Threads;
+
+impl<D: Disk + Drop> ChunkGroup<D> {
+    /// Puts an ask into the port of a mount, which has none. Nothing happens to the group yet.
+    pub fn put(&mut self, mount: u8, ask: Ask)
+        requires ready { IsReady self.old }
+        requires mount { mount < 16 }
+        requires none { ask_of self.old.ports mount ≡ None }
+        requires valid { IsValid ask }
+        ensures put { (halts : List Halt) → run_of halts self.new ≡ asked (run_of halts self.old) mount ask }
+        ensures ready { IsReady self.new }
+        ensures same { self.new ≡ record self.old { ports = self.new.ports } }
+    {
+        let port = &mut self.ports[mount as usize];
+        port.put(ask);
+    }
+
+    /// One step of the port of a mount for its pending ask: its reply, if the group has answered its last submission. Else the ask is
+    /// handed to the leader of the greatest term, if it goes there, which is one event of the group; what follows on it is as in `happen`.
+    ///
+    /// After `NoMemory` (1) the group stands after its last whole step, with no job in hand: a beginning of what would have happened.
+    pub fn drive<R: Threads + Sync, G: Gate + Sync>(
+        &mut self,
+        rt: &R,
+        alloc: Global,
+        mount: u8,
+        workers: u32,
+        gate: &G,
+        out: &mut Vec<u8>,
+    ) -> Result<Option<Reply>, NoMemory>
+        requires workers { (1 ≤ workers) × (workers ≤ 8) }
+        requires ready { IsReady self.old }
+        requires mount { mount < 16 }
+        requires pending { IsSome (ask_of self.old.ports mount) }
+        ensures went { IfOk result (λ reply. HasDriven mount self.old out.old.items reply out.new.items self.new) }
+        ensures answers { IfOk result (λ reply. IfSome reply (λ r. (ask : AskIs) → ask_of self.old.ports mount ≡ Some ask → Answers ask r)) }
+        ensures next { OnOk result (self.new.next ≡ self.old.next) }
+        ensures port { IfOk result (λ reply. PortDrove mount reply self.old self.new) }
+        ensures err { OnErr result (HasFailed (λ halts. (driven halts (run_of halts self.old) mount).chunk.group) self.old.group self.new.group) }
+    {
+        let before = self.history().len();
+        let reply = self.hand_on(alloc, mount)?;
+        if self.history().len() == before {
+            return Ok(reply);
+        }
+        self.follow(rt, alloc, workers, gate, out)?;
+        Ok(reply)
+    }
+
+    /// The step itself; what follows on it is left to the caller. `NoMemory` (1) leaves the chunk as it was.
+    fn hand_on(&mut self, alloc: Global, mount: u8) -> Result<Option<Reply>, NoMemory>
+        requires ready { IsReady self.old }
+        requires mount { mount < 16 }
+        requires pending { IsSome (ask_of self.old.ports mount) }
+        ensures went { IfOk result (λ reply. HandsOn mount self.old reply self.new) }
+        ensures answers { IfOk result (λ reply. IfSome reply (λ r. (ask : AskIs) → ask_of self.old.ports mount ≡ Some ask → Answers ask r)) }
+        ensures err { OnErr result (self.new ≡ self.old) }
+    {
+        let mut port = replace(&mut self.ports[mount as usize], Port::new());
+        let driven = port.drive(alloc, self);
+        self.ports[mount as usize] = port;
+        driven
+    }
+}
