@@ -1,0 +1,103 @@
+-- What a host does only adds to the histories of the chunks.
+use Rattle.std.proofs.Common.{◌≡◌, ◌<◌, ℕ, List, length, Option, Some, None, slice_get, slice_set, refl, sym, ap, subst, ◌∙◌, inl, inr}
+use Rattle.std.proofs.lemmas.Option.{same_Some, slice_get_within}
+use Rattle.pf_base.specs.declared.asks.Ask.{Ask}
+use Rattle.pf_base.specs.declared.asks.Reply.{Reply}
+use Rattle.pf_base.specs.Asks.{chunk_of}
+use Rattle.pf_tree.specs.declared.calls.FileCall.{FileCall}
+use Rattle.pf_volume.specs.Volumes.{Extent}
+use Rattle.pf_entry.proofs.Lists.{set_cases}
+use Rattle.pf_cluster.proofs.Lists.{set_length, something_there}
+use Rattle.pf_mount.specs.declared.work.Next.{Next}
+use Rattle.pf_mount.specs.declared.work.Next.TheVariants as nexts
+use Rattle.pf_mount.specs.Mounts.{MountIs, Outcome, answered, opening, starting}
+use Rattle.pf_rounds.specs.Halts.{Halt}
+use Rattle.pf_rounds.proofs.Extending.{Extends, extends_on, extends_refl}
+use Rattle.pf_chunk.specs.Runs.{ChunkRun}
+use Rattle.pf_asks.specs.Ports.{PortIs}
+use Rattle.pf_chunk.specs.Driving.{asked, asked_at, driven}
+use Rattle.pf_chunk.proofs.Driven.{driven_extends}
+use Rattle.pf_hosts.specs.Moments.{Heard}
+use Rattle.pf_hosts.specs.Hosts.{Drove, HostIs, Stepped, begun, call_of, comes_of, drove, drove_of, events_of, hands_at, hands_on, made_host, next_of, number_of, replied, run_after, stepped, stepped_at, with_run}
+
+-- each chunk of the second list extends that of the first
+pub record Lengthens (old new : List ChunkRun) : Type 0 where
+  pub count : length new ≡ length old
+  pub each : (k : ℕ) (was is : ChunkRun) → slice_get old k ≡ Some was → slice_get new k ≡ Some is → Extends was.group is.group
+
+pub lengthens_refl : (chunks : List ChunkRun) → Lengthens chunks chunks
+lengthens_refl chunks = record {
+  count = refl;
+  each = λ k was is before after. subst (λ (c : ChunkRun). Extends was.group c.group) (same_Some was is (sym before ∙ after)) (extends_refl was.group);
+}
+
+pub lengthens_trans : (a b c : List ChunkRun) → Lengthens a b → Lengthens b c → Lengthens a c
+lengthens_trans a b c first second = record {
+  count = second.count ∙ first.count;
+  each = λ k was is before after.
+      let mid = something_there b k (subst (λ n. k < n) (sym first.count) (slice_get_within a k was before)) in
+      extends_on was.group mid.0.group is.group (first.each k was mid.0 before mid.1) (second.each k mid.0 is mid.1 after);
+}
+
+-- one chunk is extended
+pub lengthens_one : (chunks : List ChunkRun) (k : ℕ) (c d : ChunkRun) → slice_get chunks k ≡ Some c → Extends c.group d.group → Lengthens chunks (slice_set chunks k d)
+lengthens_one chunks k c d there extends = record {
+  count = set_length chunks k d;
+  each = λ j was is before after. elim (set_cases chunks k d j is after) [
+    | inl here ↦
+        let same : c ≡ was = same_Some c was (sym there ∙ ap (slice_get chunks) (sym here.0) ∙ before) in
+        subst (λ (x : ChunkRun). Extends x.group is.group) same (subst (λ (x : ChunkRun). Extends c.group x.group) here.1 extends)
+    | inr elsewhere ↦ subst (λ (x : ChunkRun). Extends was.group x.group) (same_Some was is (sym before ∙ elsewhere.1)) (extends_refl was.group)
+  ];
+}
+
+asked_extends : (c : ChunkRun) (m : ℕ) (ask : Ask) (at : Option PortIs) → Extends c.group (asked_at c m ask at).group
+asked_extends c m ask None = extends_refl c.group
+asked_extends c m ask (Some p) = extends_refl c.group
+
+asked_lengthens : (chunks : List ChunkRun) (k m : ℕ) (ask : Ask) (at : Option ChunkRun) → slice_get chunks k ≡ at → Lengthens chunks (with_run chunks k (run_after at (λ c. asked c m ask)))
+asked_lengthens chunks k m ask None there = lengthens_refl chunks
+asked_lengthens chunks k m ask (Some c) there = lengthens_one chunks k c (asked c m ask) there (asked_extends c m ask (slice_get c.ports m))
+
+pub next_lengthens : (chunks : List ChunkRun) (heard : Option Heard) (call : Option FileCall) (mount : MountIs) (next : Next) → Lengthens chunks (next_of chunks heard call mount next).chunks
+next_lengthens chunks heard call mount (nexts.Ask ask) = asked_lengthens chunks (chunk_of ask) (number_of mount) ask (slice_get chunks (chunk_of ask)) refl
+next_lengthens chunks heard call mount nexts.Ready = lengthens_refl chunks
+next_lengthens chunks heard call mount (nexts.Done answer) = lengthens_refl chunks
+
+drove_at : (halts : List Halt) (chunks : List ChunkRun) (m k : ℕ) (at : Option ChunkRun) → slice_get chunks k ≡ at → Lengthens chunks (drove_of halts chunks m k at).chunks
+drove_at halts chunks m k None there = lengthens_refl chunks
+drove_at halts chunks m k (Some c) there = lengthens_one chunks k c (driven halts c m).chunk there (driven_extends halts c m)
+
+pub drove_lengthens : (halts : List Halt) (chunks : List ChunkRun) (m k : ℕ) → Lengthens chunks (drove halts chunks m k).chunks
+drove_lengthens halts chunks m k = drove_at halts chunks m k (slice_get chunks k) refl
+
+hands_at_lengthens : (halts : List Halt) (s : Stepped) (at : Option ℕ) → Lengthens s.chunks (hands_at halts s at).chunks
+hands_at_lengthens halts s None = lengthens_refl s.chunks
+hands_at_lengthens halts s (Some k) = drove_lengthens halts s.chunks (number_of s.host.mount) k
+
+pub hands_on_lengthens : (halts : List Halt) (s : Stepped) → Lengthens s.chunks (hands_on halts s).chunks
+hands_on_lengthens halts s = hands_at_lengthens halts s s.host.at
+
+pub replied_lengthens : (halts : List Halt) (host : HostIs) (k : ℕ) (d : Drove) (reply : Option Reply) → Lengthens d.chunks (replied halts host k d reply).chunks
+replied_lengthens halts host k d None = lengthens_refl d.chunks
+replied_lengthens halts host k d (Some reply) =
+    let heard : Heard = record { reply = reply; by = events_of (slice_get d.chunks k) } in
+    let o : Outcome = answered host.mount reply in
+    let s = comes_of d.chunks (Some heard) (call_of host.mount.files.pending) o in
+    lengthens_trans d.chunks s.chunks (hands_on halts s).chunks (next_lengthens d.chunks (Some heard) (call_of host.mount.files.pending) o.mount o.next) (hands_on_lengthens halts s)
+
+at_lengthens : (halts : List Halt) (chunks : List ChunkRun) (host : HostIs) (at : Option ℕ) → Lengthens chunks (stepped_at halts chunks host at).chunks
+at_lengthens halts chunks host None = lengthens_refl chunks
+at_lengthens halts chunks host (Some k) =
+    let d = drove halts chunks (number_of host.mount) k in
+    lengthens_trans chunks d.chunks (replied halts host k d d.reply).chunks (drove_lengthens halts chunks (number_of host.mount) k) (replied_lengthens halts host k d d.reply)
+
+pub stepped_lengthens : (halts : List Halt) (chunks : List ChunkRun) (host : HostIs) → Lengthens chunks (stepped halts chunks host).chunks
+unfolding stepped
+stepped_lengthens halts chunks host = at_lengthens halts chunks host host.at
+
+pub made_lengthens : (chunks : List ChunkRun) (number : ℕ) (v : Extent) → Lengthens chunks (made_host chunks number v).chunks
+made_lengthens chunks number v = let o : Outcome = opening number v in next_lengthens chunks None None o.mount o.next
+
+pub begun_lengthens : (chunks : List ChunkRun) (host : HostIs) (call : FileCall) → Lengthens chunks (begun chunks host call).chunks
+begun_lengthens chunks host call = let o : Outcome = starting host.mount call in next_lengthens chunks None (Some call) o.mount o.next

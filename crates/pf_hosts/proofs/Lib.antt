@@ -1,0 +1,9 @@
+pub mod Groups
+pub mod Lengthening
+pub mod Machine
+pub mod Driving
+pub mod Coming
+pub mod Stepping
+pub mod Failing
+pub mod Words
+pub mod Calling

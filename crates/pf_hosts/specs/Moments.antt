@@ -1,0 +1,31 @@
+-- What a run tells, in order: lines of its report, and what mounts and their ports did.
+use Rattle.std.specs.Prelude.{ℕ, List, [], Option, flat_map}
+use Rattle.pf_base.specs.declared.asks.Ask.{Ask}
+use Rattle.pf_base.specs.declared.asks.Reply.{Reply}
+use Rattle.pf_tree.specs.declared.calls.FileCall.{FileCall}
+use Rattle.pf_files.specs.declared.answers.CallAnswer.{CallAnswer}
+
+-- what was answered, when so many events of the chunk's group had happened
+pub record Heard : Type 0 where
+  pub reply : Reply
+  pub by : ℕ
+
+pub data Moment : Type 0 where
+  -- lines of the report
+  Writes : (text : List ℕ) → Moment
+  -- a call of the mount begins
+  Begins : (mount : ℕ) → FileCall → Moment
+  -- its pending ask was answered, or nothing was; and it asks the next thing, or nothing
+  Turns : (mount : ℕ) → Option Heard → Option Ask → Moment
+  -- its port into the chunk handed the pending ask on, by the event at this place of the group's history
+  Hands : (mount chunk place : ℕ) → Moment
+  -- its call ends
+  Ends : (mount : ℕ) → CallAnswer → Moment
+
+-- the lines of the report among what is told
+abbrev pub lines_in : Moment → List ℕ
+lines_in (Writes text) = text
+lines_in moment = []
+
+abbrev pub text_of : List Moment → List ℕ
+text_of told = flat_map lines_in told

@@ -1,0 +1,90 @@
+-- What a step of a host comes to, over the chunks of its volume.
+use Rattle.std.specs.Prelude.{◌≡◌, ◌≢◌, ◌⊎◌, ℕ, ◌++◌, List, length, map, Some, None, slice_get}
+use Rattle.pf_base.specs.declared.asks.Ask.{Ask}
+use Rattle.pf_base.specs.Asks.{chunk_of}
+use Rattle.pf_group.specs.GroupIs.{state_of}
+use Rattle.pf_group.specs.Packets.{NoneComesBack}
+use Rattle.pf_asks.specs.Ports.{PortIs}
+use Rattle.pf_mount.specs.declared.work.Work.TheVariants.{Rests, Fails}
+use Rattle.pf_mount.specs.Mounts.{MountIs}
+use Rattle.pf_mount.specs.Awaiting.{Awaits}
+use Rattle.pf_rounds.specs.Halts.{Halt}
+use Rattle.pf_rounds.specs.Agreeing.{TellsOfGroup}
+use Rattle.pf_rounds.specs.Begun.{HasBegun}
+use Rattle.pf_rounds.specs.Growing.{HasGrown}
+use Rattle.pf_chunk.specs.Runs.{ChunkRun}
+use Rattle.pf_chunk.specs.Views.{ChunkIs, IsReady, run_of}
+use Rattle.pf_hosts.specs.Moments.{Moment, text_of}
+use Rattle.pf_hosts.specs.Hosts.{HostIs, number_of, stepped}
+
+-- where a run stands that came to these chunks
+abbrev pub runs : List Halt → List ChunkIs → List ChunkRun
+runs halts chunks = map (run_of halts) chunks
+
+-- the list tells of the group of each
+abbrev pub TellsAll : List Halt → List ChunkIs → Type 0
+TellsAll halts chunks = (k : ℕ) (c : ChunkIs) → slice_get chunks k ≡ Some c → TellsOfGroup halts c.group
+
+-- each stands between two events, and has its number
+abbrev pub AreReady : List ChunkIs → Type 0
+AreReady chunks = (k : ℕ) (c : ChunkIs) → slice_get chunks k ≡ Some c → (c.group.number ≡ k) × IsReady c
+
+-- More happened to the group, no packet that is not left comes back, and a settling goes on where it stood. Ports of mounts but this one
+-- are as they were
+pub record Goes (mount : ℕ) (was is : ChunkIs) : Type 0 where
+  pub grown : HasGrown was.group is.group
+  pub left : NoneComesBack (state_of was.group) (state_of is.group)
+  pub first : is.first_left ≡ was.first_left
+  pub next : is.next ≡ was.next
+  pub others : (m : ℕ) → m ≢ mount → slice_get is.ports m ≡ slice_get was.ports m
+
+pub record HaveGone (mount : ℕ) (old new : List ChunkIs) : Type 0 where
+  pub count : length new ≡ length old
+  pub each : (k : ℕ) (was is : ChunkIs) → slice_get old k ≡ Some was → slice_get new k ≡ Some is → Goes mount was is
+
+-- each group stands at a beginning of what would have happened to it
+pub record HaveBegun (halts : List Halt) (old : List ChunkIs) (would : List ChunkRun) (new : List ChunkIs) : Type 0 where
+  pub count : length would ≡ length new
+  pub each : (k : ℕ) (was is : ChunkIs) (run : ChunkRun) → slice_get old k ≡ Some was → slice_get new k ≡ Some is → slice_get would k ≡ Some run → HasBegun halts was.group run.group is.group
+
+-- chunk k has the mount's pending ask in its port
+pub record IsAsking (mount : MountIs) (k : ℕ) (c : ChunkIs) : Type 0 where
+  pub port : PortIs
+  pub there : slice_get c.ports (number_of mount) ≡ Some port
+  pub ask : Ask
+  pub pending : port.ask ≡ Some ask
+  pub of_chunk : chunk_of ask ≡ k
+  pub awaits : Awaits mount ask
+
+-- the mount's port has nothing to ask
+abbrev pub IsQuiet : MountIs → ChunkIs → Type 0
+IsQuiet mount c = (port : PortIs) → slice_get c.ports (number_of mount) ≡ Some port → port.ask ≡ None
+
+-- the host asks by the port of the chunk that it names, and by no other
+pub record IsHostOf (chunks : List ChunkIs) (host : HostIs) : Type 0 where
+  pub volume : host.mount.files.volume.chunks ≡ length chunks
+  pub asking : (k : ℕ) → host.at ≡ Some k → (c : ChunkIs) × (slice_get chunks k ≡ Some c) × IsAsking host.mount k c
+  pub quiet : (k : ℕ) (c : ChunkIs) → host.at ≢ Some k → slice_get chunks k ≡ Some c → IsQuiet host.mount c
+  pub resting : host.at ≡ None → (host.mount.work ≡ Rests) ⊎ (host.mount.work ≡ Fails)
+
+-- under every list of halts that tells of the chunks afterwards, these are the step's, and what it tells; its lines were put at the end of a buffer
+pub record HasStepped (old : List ChunkIs) (before : List ℕ) (host : HostIs) (new : List ChunkIs) (after : List ℕ) (next : HostIs) : Type 0 where
+  pub ready : AreReady new
+  pub gone : HaveGone (number_of host.mount) old new
+  pub is_host : IsHostOf new next
+  pub number : number_of next.mount ≡ number_of host.mount
+  pub volume : next.mount.files.volume ≡ host.mount.files.volume
+  pub calls : next.mount.files.calls ≡ host.mount.files.calls
+  pub told : List Moment
+  pub put : after ≡ before ++ text_of told
+  pub run : (halts : List Halt) → TellsAll halts new → stepped halts (runs halts old) host ≡ record { chunks = runs halts new; host = next; told = told }
+
+-- more happened to each group
+pub record HaveGrown (old new : List ChunkIs) : Type 0 where
+  pub count : length new ≡ length old
+  pub each : (k : ℕ) (was is : ChunkIs) → slice_get old k ≡ Some was → slice_get new k ≡ Some is → HasGrown was.group is.group
+
+-- there was no memory for the whole of it
+pub record HasNotStepped (old : List ChunkIs) (host : HostIs) (new : List ChunkIs) : Type 0 where
+  pub grown : HaveGrown old new
+  pub begun : (halts : List Halt) → TellsAll halts new → HaveBegun halts old (stepped halts (runs halts old) host).chunks new

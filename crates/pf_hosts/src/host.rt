@@ -1,0 +1,257 @@
+//! A host: its mount, and where its pending ask is.
+ghost use Rattle.std.specs.Prelude.{◌≡◌, ◌≢◌, ◌↔◌, ◌+◌, ◌<◌, ◌≤◌, ◌++◌, ◌^◌, IfErr, IfOk, IfSome, IsErrOf, IsTrue, None, OnErr, OnOk, Some, length, slice_get};
+ghost use Rattle.pf_volume.specs.Volumes.{size_of};
+ghost use Rattle.pf_mount.specs.declared.work.Work.TheVariants.{Rests};
+ghost use Rattle.pf_hosts.specs.Calling.{HasBegunCall, HasMade, Refuses};
+ghost use Rattle.pf_base.specs.declared.asks.Ask.{Ask as AskIs};
+ghost use Rattle.pf_asks.specs.Ports.{PortIs};
+ghost use Rattle.pf_base.specs.Asks.{Answers as AnswersAsk};
+ghost use Rattle.pf_mount.specs.Mounts.{Answers, answered};
+ghost use Rattle.pf_mount.specs.Steps.{AsksWithin};
+ghost use Rattle.pf_chunk.specs.Views.{ChunkIs};
+ghost use Rattle.pf_mount.specs.Awaiting.{AwaitsNext};
+ghost use Rattle.pf_hosts.specs.Parts.{AllQuiet, AreQuiet, HasCome, HasDrove, HasNotDrove, IsPending, end_text, name_in};
+ghost use Rattle.pf_hosts.specs.Steps.{AreReady, HasNotStepped, HasStepped, IsHostOf};
+ghost use Rattle.pf_hosts.specs.Words.{read_call};
+
+use crate::names::name_of;
+use pf_base::{Call, NoMemory, Reply};
+use pf_chunk::ChunkGroup;
+use pf_disk::Disk;
+use pf_files::{CallAnswer, CallName};
+use pf_filling::Gate;
+use pf_mount::{Mount, MountFault, Next, StartFault};
+use pf_report::{put_call, put_ready};
+use pf_tree::Tree;
+use pf_volume::Volume;
+use std::alloc::Global;
+use std::marker::Model;
+use std::thread::Threads;
+
+/// A host of a volume. At most one ask of it is pending at a time.
+#[derive(Drop)]
+pub struct Host {
+    mount: Mount,
+    /// The chunk whose port has the pending ask.
+    at: Option<u8>,
+}
+
+impl Model for Host {
+    ghost use Rattle.std.specs.Prelude.{◌<◌};
+    ghost use Rattle.pf_hosts.specs.Hosts.{HostIs};
+
+    ghost Value = { HostIs };
+
+    ghost view = { λ h. record { mount = h.mount; at = h.at } };
+
+    ghost invariant = { λ h. h.mount.files.mount < 16 };
+}
+
+/// The mount's port into a chunk takes a step.
+fn drive_at<D: Disk + Drop, R: Threads + Sync, G: Gate + Sync>(
+    rt: &R,
+    alloc: Global,
+    mount: u8,
+    at: u8,
+    chunks: &mut [ChunkGroup<D>],
+    workers: u32,
+    gate: &G,
+    out: &mut Vec<u8>,
+) -> Result<Option<Reply>, NoMemory>
+    requires workers { (1 ≤ workers) × (workers ≤ 8) }
+    requires mount { mount < 16 }
+    requires ready { AreReady chunks.old }
+    requires pending { IsPending mount at chunks.old }
+    ensures went { IfOk result (λ reply. HasDrove mount at chunks.old out.old.items reply out.new.items chunks.new) }
+    ensures answers { IfOk result (λ reply. IfSome reply (λ r. (c : ChunkIs) (port : PortIs) (ask : AskIs) → slice_get chunks.old at ≡ Some c → slice_get c.ports mount ≡ Some port → port.ask ≡ Some ask → AnswersAsk ask r)) }
+    ensures err { OnErr result (HasNotDrove mount at chunks.old chunks.new) }
+{
+    let chunk = &mut chunks[at as usize];
+    chunk.drive(rt, alloc, mount, workers, gate, out)
+}
+
+/// Puts the event line of a call that ended. A mount whose superblock is another's ends without one.
+fn put_end(
+    out: &mut Vec<u8>,
+    mount: u8,
+    name: Option<CallName>,
+    answer: CallAnswer,
+) -> Result<(), NoMemory>
+    ensures ok { OnOk result (out.new.items ≡ out.old.items ++ end_text mount name answer) }
+    ensures err { OnErr result (out.new.items ≡ out.old.items) }
+{
+    match name {
+        Some(name) => put_call(out, mount, name, &answer),
+        None => Ok(()),
+    }
+}
+
+impl Host {
+    /// Takes what came of a step of the mount: an ask goes into the port of its chunk; else a line tells that the mount is ready, or how
+    /// its call ended. `NoMemory` (1) leaves the chunks and `out` as they were.
+    fn take<D: Disk + Drop>(
+        &mut self,
+        next: Next,
+        name: Option<CallName>,
+        chunks: &mut [ChunkGroup<D>],
+        out: &mut Vec<u8>,
+    ) -> Result<(), NoMemory>
+        requires ready { AreReady chunks.old }
+        requires volume { self.old.mount.files.volume.chunks ≡ length chunks.old }
+        requires inside { AsksWithin self.old.mount.files.volume next }
+        requires quiet { AllQuiet self.old.mount chunks.old }
+        requires awaits { AwaitsNext self.old.mount next }
+        ensures came { OnOk result (HasCome (record { mount = self.old.mount; next = next }) name chunks.old out.old.items chunks.new out.new.items self.new) }
+        ensures err { OnErr result (chunks.new ≡ chunks.old) }
+    {
+        self.at = None;
+        let number = self.mount.number();
+        match next {
+            Next::Ask(ask) => {
+                let at = ask.chunk();
+                let chunk = &mut chunks[at as usize];
+                chunk.put(number, ask);
+                self.at = Some(at);
+                Ok(())
+            }
+            Next::Ready => put_ready(out, number),
+            Next::Done(answer) => put_end(out, number, name, answer),
+        }
+    }
+
+    /// The pending ask was answered: the mount hears it, and asks the next thing. `NoMemory` (1) leaves the chunks as they were.
+    fn hear<D: Disk + Drop>(
+        &mut self,
+        alloc: Global,
+        reply: Reply,
+        chunks: &mut [ChunkGroup<D>],
+        out: &mut Vec<u8>,
+    ) -> Result<(), NoMemory>
+        requires reply { Answers self.old.mount reply }
+        requires ready { AreReady chunks.old }
+        requires volume { self.old.mount.files.volume.chunks ≡ length chunks.old }
+        requires quiet { AllQuiet self.old.mount chunks.old }
+        ensures came { OnOk result (HasCome (answered self.old.mount reply) (name_in self.old.mount.files.pending) chunks.old out.old.items chunks.new out.new.items self.new) }
+        ensures err { OnErr result (chunks.new ≡ chunks.old) }
+    {
+        let name = self.mount.call();
+        let next = self.mount.on_answer(alloc, reply)?;
+        self.take(next, name, chunks, out)
+    }
+
+    /// The host of mount `number` of the volume of these chunks: its first ask is put into its port. `SmallVolume` (93) comes exactly where
+    /// the volume has fewer than 4,112 sectors, and `NoMemory` (1) where memory has run out. Both leave the chunks as they were.
+    pub fn new<D: Disk + Drop>(
+        alloc: Global,
+        number: u8,
+        volume: Volume,
+        chunks: &mut [ChunkGroup<D>],
+    ) -> Result<Host, MountFault>
+        requires number { number < 16 }
+        requires ready { AreReady chunks.old }
+        requires volume { volume.chunks ≡ length chunks.old }
+        requires quiet { AreQuiet number chunks.old }
+        ensures made { IfOk result (λ host. HasMade number volume chunks.old chunks.new host) }
+        ensures small { IsErrOf result MountFault.SmallVolume ↔ (size_of volume < 4112) }
+        ensures err { OnErr result (chunks.new ≡ chunks.old) }
+    {
+        let (mount, next) = Mount::new(alloc, number, volume)?;
+        let mut host = Host { mount, at: None };
+        // A new mount asks: nothing is written.
+        let mut out = Vec::new(alloc);
+        host.take(next, None, chunks, &mut out)?;
+        Ok(host)
+    }
+
+    /// Begins a call: the ask of its first step is put into its port. A call that ends at once writes its event line at the end of `out`.
+    ///
+    /// `CallPending` (91) comes exactly where the mount is not ready or a call of it has not ended, else `BadName` (80) where a word of the
+    /// call is no path, or `/` where a directory is removed or a path renamed; both leave the host as it was. `NoMemory` (1) comes where
+    /// memory has run out. Each leaves the chunks as they were. Fewer than 2^32 - 1 calls were started before.
+    pub fn start<D: Disk + Drop>(
+        &mut self,
+        alloc: Global,
+        call: Call,
+        chunks: &mut [ChunkGroup<D>],
+        out: &mut Vec<u8>,
+    ) -> Result<(), StartFault>
+        requires ready { AreReady chunks.old }
+        requires host { IsHostOf chunks.old self.old }
+        requires few { self.old.mount.files.calls + 1 < 2 ^ 32 }
+        ensures began { OnOk result (HasBegunCall call chunks.old out.old.items self.old chunks.new out.new.items self.new) }
+        ensures pending { IsErrOf result StartFault.CallPending ↔ (self.old.mount.work ≢ Rests) }
+        ensures bad_name { IsErrOf result StartFault.BadName → read_call call ≡ None }
+        ensures refused { IfErr result (λ fault. Refuses fault self.old self.new) }
+        ensures err { OnErr result (chunks.new ≡ chunks.old) }
+    {
+        let name = name_of(&call);
+        let next = self.mount.start(alloc, call)?;
+        self.take(next, Some(name), chunks, out)?;
+        Ok(())
+    }
+
+    /// The number of its mount.
+    pub fn number(&self) -> u8
+        ensures { result ≡ self.now.mount.files.mount }
+    {
+        self.mount.number()
+    }
+
+    /// The tables of its mount.
+    pub fn tree(&self) -> &Tree
+        ensures { result.now.tables ≡ self.now.mount.files.tables }
+    {
+        self.mount.tree()
+    }
+
+    /// How many transactions its mount has applied, at most 256.
+    pub fn upto(&self) -> u32
+        ensures upto { result ≡ self.now.mount.upto }
+        ensures most { result ≤ 256 }
+    {
+        self.mount.upto()
+    }
+
+    /// Whether its mount is not ready, or a call of it has not ended.
+    pub fn is_pending(&self) -> bool
+        ensures { IsTrue result ↔ (self.now.mount.work ≢ Rests) }
+    {
+        self.mount.is_pending()
+    }
+
+    /// One step of the host. Where its pending ask was answered, its mount hears the reply and asks the next thing; and then the pending ask
+    /// goes to the leader of the greatest term, where its port's rule says so. What that event makes free is applied, on at most `workers`
+    /// threads. Lines are put at the end of `out`: of reads of lines that were answered, of a mount that is ready, of a call that ended.
+    ///
+    /// After `NoMemory` (1) each group stands at a beginning of what would have happened to it; the host is not for use then.
+    pub fn step<D: Disk + Drop, R: Threads + Sync, G: Gate + Sync>(
+        &mut self,
+        rt: &R,
+        alloc: Global,
+        chunks: &mut [ChunkGroup<D>],
+        workers: u32,
+        gate: &G,
+        out: &mut Vec<u8>,
+    ) -> Result<(), NoMemory>
+        requires workers { (1 ≤ workers) × (workers ≤ 8) }
+        requires ready { AreReady chunks.old }
+        requires host { IsHostOf chunks.old self.old }
+        ensures went { OnOk result (HasStepped chunks.old out.old.items self.old chunks.new out.new.items self.new) }
+        ensures err { OnErr result (HasNotStepped chunks.old self.old chunks.new) }
+    {
+        let Some(at) = self.at else {
+            return Ok(());
+        };
+        let number = self.mount.number();
+        let Some(reply) = drive_at(rt, alloc, number, at, chunks, workers, gate, out)? else {
+            return Ok(());
+        };
+        self.hear(alloc, reply, chunks, out)?;
+        let Some(at) = self.at else {
+            return Ok(());
+        };
+        // It was not handed on before, so that nothing is answered yet.
+        let _reply = drive_at(rt, alloc, number, at, chunks, workers, gate, out)?;
+        Ok(())
+    }
+}

@@ -1,0 +1,9 @@
+//! A host of a volume: a mount, and its ports into the chunks.
+#![tactic(auto)]
+
+mod host;
+mod laws;
+mod names;
+
+pub use host::Host;
+pub use laws::calls_are_read_by_their_words;
