@@ -14,4 +14,5 @@ pub mod New
 pub mod Looks
 pub mod Plans
 pub mod Whole
+pub mod Sorts
 pub mod Listings

@@ -1,16 +1,18 @@
 -- The rows of a listing are those of the tree for which the tables stand.
 use Rattle.std.proofs.Common.{◌≡◌, ◌≢◌, ℕ, zero, suc, ◌+◌, ◌-◌, ◌<◌, ◌≤◌, inl, inr, Bool, true, false, cond, ◌==◌, List, [], ◌∷◌, ◌++◌, length, map, take, drop, replicate, get_or, set, Option, Some, None, is_some, refl, sym, ap, ◌∙◌, subst, arith}
 use Rattle.std.specs.Prelude.{AllPairs, Contains, IsPermutation, count_by}
+use Rattle.std.specs.Cmp.{IsStrictWeakOrder}
 use Rattle.std.specs.List.{list_any, remove}
 use Rattle.std.specs.Option.{option_and_then, option_map, unwrap_or}
 use Rattle.std.specs.Str.{bytes_eq}
 use Rattle.std.proofs.lemmas.Bool.{cases_Bool, cases_eq, cases_lt, cond-true, cond-false, ne_eqb, false≢true}
+use Rattle.std.proofs.lemmas.Cmp.{nat_list_cmp_total}
 use Rattle.std.proofs.lemmas.Option.{none-some, same_Some}
 use Rattle.std.proofs.lemmas.List.{get_or_past, get_or_default, get_or-replicate, get_or-set_same, get_or-set_other, set_past, length-set, length-replicate, length-append, length-drop, map-append, take_all, take_more}
 use Rattle.std.proofs.lemmas.List.Edits.{length-remove}
 use Rattle.std.proofs.lemmas.List.Elements.{Contains-append_left, Contains-append_right}
 use Rattle.std.proofs.lemmas.List.Sums.{sum_by-append}
-use Rattle.std.proofs.lemmas.List.Sorted.{IsPermutation-refl, IsPermutation-sym, IsPermutation-cons, IsPermutation-trans, IsPermutation-remove, IsPermutation-map, Contains-permutation}
+use Rattle.std.proofs.lemmas.List.Sorted.{ranks_by, IsPermutation-refl, IsPermutation-sym, IsPermutation-cons, IsPermutation-trans, IsPermutation-remove, IsPermutation-map, Contains-permutation}
 use Rattle.std.proofs.lemmas.Map.Made.{IsDistinct-from_AllPairs}
 use Rattle.std.proofs.lemmas.Map.Steps.{length-le_from_distinct_below}
 use Rattle.std.proofs.lemmas.Bool.Decides.{Decides-eqb}
@@ -18,7 +20,7 @@ use Rattle.pf_inodes.specs.declared.tables.Entry.{Entry}
 use Rattle.pf_inodes.specs.declared.tables.Inode.{Inode}
 use Rattle.pf_inodes.specs.declared.tables.Inode.TheVariants.{File as OfFile, Directory}
 use Rattle.pf_inodes.specs.declared.tables.Tag.{Tag}
-use Rattle.pf_inodes.specs.Names.{Name, Path}
+use Rattle.pf_inodes.specs.Names.{Name, Path, is_before}
 use Rattle.pf_inodes.specs.Tables.{Entries, Tables, IsAscending, inode_at, names_in, found_in, entry_at, walk, blocks_of}
 use Rattle.pf_inodes.proofs.Entries.{here, past}
 use Rattle.pf_inodes.proofs.Ascending.{found_here}
@@ -28,10 +30,11 @@ use Rattle.pf_tree.specs.Paths.{is_same, names_bytes, path_bytes}
 use Rattle.pf_tree.specs.Trees.{Node, Dir, File, Tree, Data, at, block_count}
 use Rattle.pf_tree.specs.Plans.{node_in, node_of, found}
 use Rattle.pf_tree.specs.Standing.{IsMap, StandsFor}
-use Rattle.pf_tree.specs.Listings.{listed, noted, uplinks, up_from, bytes_up, rooted, row_of, rows_upto}
+use Rattle.pf_tree.specs.Listings.{Lists, listed, noted, uplinks, up_from, bytes_up, rooted, row_of, rows_upto, listing}
 use Rattle.pf_tree.proofs.Members.{member}
 use Rattle.pf_tree.proofs.Moving.{cases_option}
 use Rattle.pf_tree.proofs.Paths.{is_same_true, is_same_false}
+use Rattle.pf_tree.proofs.Sorts.{put_all, put_in_order}
 use Rattle.pf_tree.proofs.Steps.{used_within}
 use Rattle.pf_tree.proofs.Walks.{walk_parts, walk_once, walk_in_use}
 
@@ -165,6 +168,13 @@ rooted_under (x ∷ xs) n = refl
 rooted_path : (p : Path) → rooted (names_bytes p) ≡ path_bytes p
 rooted_path [] = refl
 rooted_path (n ∷ p) = rooted_under (names_bytes p) n
+
+-- the order of the rows of a listing
+abbrev pub before : Listed → Listed → Bool
+before row other = is_before row.path other.path
+
+pub before_ranks : IsStrictWeakOrder before
+before_ranks = ranks_by nat_list_cmp_total (λ (row : Listed). row.path)
 
 -- a list with all rows of a map, and as many, has them in another order
 other_than_head : {X : Type 0} → (y x : X) (xs : List X) → Contains (y ∷ xs) x → y ≢ x → Contains xs x
@@ -349,7 +359,7 @@ module _ (d : Data) (tables : Tables) (tree : Tree) (s : StandsFor d tables tree
   led_to p node None w is = absurd (none-some node is)
   led_to p node (Some i) w is = in_pairs 1024 i p node (in_range i (walk_in_use (inode_at tables) tables.entries s.names p i w)) w is
 
-  pub listed_all : (rows : List Listed) → IsPermutation (rows_upto tables (uplinks tables.entries 1024) 1024) rows → IsPermutation (map (λ row. listed row.0 row.1) tree) rows
+  listed_all : (rows : List Listed) → IsPermutation (rows_upto tables (uplinks tables.entries 1024) 1024) rows → IsPermutation (map (λ row. listed row.0 row.1) tree) rows
   listed_all rows sorted =
       let count = length_pairs 1024 (let a = s.places in omega (arith, a)) in
       let whole : count_by is_some (take 1024 tables.inodes) ≡ length tree =
@@ -360,3 +370,10 @@ module _ (d : Data) (tables : Tables) (tree : Tree) (s : StandsFor d tables tree
       subst (λ (xs : List Listed). IsPermutation xs rows) (rows_are 1024) sorted in
       IsPermutation-trans (map (λ row. listed row.0 row.1) tree) (map (λ row. listed row.0 row.1) (pairs 1024)) rows
       (IsPermutation-map (λ (row : Path × Node). listed row.0 row.1) tree (pairs 1024) moved) spelled
+
+  -- the listing of tables that stand for a tree is one of the tree
+  pub listing_lists : Lists tree (listing tables)
+  listing_lists = record {
+    all = listed_all (listing tables) (put_all before (rows_upto tables (uplinks tables.entries 1024) 1024));
+    order = put_in_order before before_ranks (rows_upto tables (uplinks tables.entries 1024) 1024);
+  }

@@ -1,5 +1,6 @@
 -- The listing of a tree, and the names by which it is made.
 use Rattle.std.specs.Prelude.{◌≡◌, false, true, AllPairs, IsPermutation, ℕ, zero, suc, cond, ◌==◌, List, [], ◌∷◌, ◌++◌, map, replicate, set, get_or, Option, Some, None}
+use Rattle.std.specs.List.{fold, insert, position_or_len}
 use Rattle.std.specs.Option.{option_map}
 use Rattle.pf_inodes.specs.declared.tables.Entry.{Entry}
 use Rattle.pf_inodes.specs.declared.tables.Inode.{Inode}
@@ -55,3 +56,15 @@ row_of (Some bytes) (Some (OfFile size)) = record { path = rooted bytes; is_dir 
 unfoldable pub rows_upto : Tables → List (Option Uplink) → ℕ → List Listed
 rows_upto tables links zero = []
 rows_upto tables links (suc inode) = rows_upto tables links inode ++ row_of (bytes_up links 1024 inode) (inode_at tables inode)
+
+-- a row more, before the first one whose path comes after its own
+abbrev pub put_row : List Listed → Listed → List Listed
+put_row rows row = insert rows (position_or_len (λ other. is_before row.path other.path) rows) row
+
+-- the rows in the order of the bytes of their paths, those of equal bytes as they stand
+abbrev pub in_order : List Listed → List Listed
+in_order rows = fold put_row [] rows
+
+-- each inode in use from which names lead up to the root, in the order of the bytes of their paths, those of equal bytes by inode
+abbrev pub listing : Tables → List Listed
+listing tables = in_order (rows_upto tables (uplinks tables.entries 1024) 1024)

@@ -3,7 +3,7 @@ ghost use Rattle.std.specs.Prelude.{◌≡◌, ℕ, ◌<◌, ◌++◌, ◌∷◌
 ghost use Rattle.std.specs.Cmp.Lexicographic.{slice_cmp};
 ghost use Rattle.std.specs.Ordering.{nat_cmp};
 ghost use Rattle.pf_inodes.specs.Tables.{IsAscending, inode_at, names_in};
-ghost use Rattle.pf_tree.specs.Listings.{Lists, bytes_up, noted, rooted, row_of, rows_upto, uplinks};
+ghost use Rattle.pf_tree.specs.Listings.{Lists, bytes_up, listing, noted, rooted, row_of, rows_upto, uplinks};
 ghost use Rattle.pf_tree.specs.Standing.{StandsFor};
 ghost use Rattle.pf_tree.specs.Trees.{Data, Tree as TreeIs};
 
@@ -62,9 +62,10 @@ struct Uplink {
     name: Bytes,
 }
 
-/// The paths of the tree for which tables stand. On other tables, those inodes in use from which names lead up to the root, each once.
+/// The listing of tables. Where they stand for a tree, it has each of its paths.
 pub(crate) fn list_tree(alloc: Global, tables: &FileTables) -> Result<Vec<Listed>, NoMemory>
-    ensures { (d : Data) (tree : TreeIs) → StandsFor d tables.now tree → IfOk result (λ rows. Lists tree rows.items) }
+    ensures rows { IfOk result (λ rows. rows.items ≡ listing tables.now) }
+    ensures tree { (d : Data) (tree : TreeIs) → StandsFor d tables.now tree → IfOk result (λ rows. Lists tree rows.items) }
 {
     let links = uplinks_of(alloc, tables)?;
     let mut rows = rows_of(alloc, tables, &links)?;

@@ -5,7 +5,7 @@ ghost use Rattle.pf_inodes.specs.Tables.{IsWhole, applied, block_of, names_in, n
 ghost use Rattle.pf_inodes.specs.declared.tables.Entry.{Entry as EntryIs};
 ghost use Rattle.pf_tree.specs.Plans.{changes, found, node_at, tables_sight};
 ghost use Rattle.pf_tree.specs.Held.{Held, data_of};
-ghost use Rattle.pf_tree.specs.Listings.{Lists};
+ghost use Rattle.pf_tree.specs.Listings.{Lists, listing};
 ghost use Rattle.pf_tree.specs.Standing.{StandsFor};
 ghost use Rattle.pf_tree.specs.Faults.{PlansTo};
 ghost use Rattle.pf_tree.specs.Trees.{Tree as TreeIs, file_size, refusal};
@@ -112,10 +112,11 @@ impl Tree {
         Ok(Names::new(names))
     }
 
-    /// The paths of the tree in the order of their bytes. Where the tables stand for no tree, those inodes in use are listed from which
-    /// names lead up to the root, each once. The one error is `NoMemory` (1).
+    /// The paths of the tree in the order of their bytes, those of equal bytes in the order of their inodes. Where the tables stand for no
+    /// tree, those inodes in use are listed from which names lead up to the root, each once. The one error is `NoMemory` (1).
     pub fn listing(&self, alloc: Global) -> Result<Listing, NoMemory>
-        ensures { (tree : TreeIs) → StandsFor (data_of self.now.first self.now.tables) self.now.tables tree → IfOk result (Lists tree) }
+        ensures rows { IfOk result (λ rows. rows ≡ listing self.now.tables) }
+        ensures tree { (tree : TreeIs) → StandsFor (data_of self.now.first self.now.tables) self.now.tables tree → IfOk result (Lists tree) }
     {
         let rows = list_tree(alloc, &self.tables)?;
         Ok(Listing::new(rows))
