@@ -26,10 +26,10 @@ all_alike : {X : Type 0} → (P : X → Type 0) (n : ℕ) (x : X) → P x → Ev
 all_alike P zero x is = tt
 all_alike P (suc n) x is = (is, all_alike P n x is)
 
-range_true : (first count : ℕ) → IsWritable first count → is_range first count ≡ true
+pub range_true : (first count : ℕ) → IsWritable first count → is_range first count ≡ true
 range_true first count is = and_from _ _ (and_from _ _ (le-leb 1 count is.some) (le-leb count 8 is.few)) (le-leb (first + count) 4096 is.low)
 
-range_false : (first count : ℕ) → (IsWritable first count → ⊥) → is_range first count ≡ false
+pub range_false : (first count : ℕ) → (IsWritable first count → ⊥) → is_range first count ≡ false
 range_false first count none = by (is_range first count) refl
   where
     by : (b : Bool) → is_range first count ≡ b → b ≡ false
@@ -39,11 +39,11 @@ range_false first count none = by (is_range first count) refl
         let more = and_parts (nat_le 1 count) (nat_le count 8) parts.0 in
         absurd (none (record { some = leb-true 1 count more.0; few = leb-true count 8 more.1; low = leb-true (first + count) 4096 parts.1 }))
 
-said_down : (c : Option Condition) → IsSome (answer_text (no_range_answer c))
-said_down (Some (Running s)) = refl
-said_down (Some (Stopped life before after)) = refl
-said_down (Some Unformatted) = refl
-said_down None = refl
+pub no_range_said : (c : Option Condition) → IsSome (answer_text (no_range_answer c))
+no_range_said (Some (Running s)) = refl
+no_range_said (Some (Stopped life before after)) = refl
+no_range_said (Some Unformatted) = refl
+no_range_said None = refl
 
 -- no event happens
 nothing : (event : EventIs) (server : ℕ) (old : ChunkIs) (out : List ℕ) (answer : Answer) → IsReady old → answer ≡ no_range_answer (slice_get (state_of old.group).servers server) → ((halts : List Halt) → event halts (run_of halts old) ≡ no_range server (run_of halts old)) → HasHappened event old out answer out old
@@ -53,7 +53,7 @@ nothing event server old out answer ready is none = record {
   left = λ k left. inl left;
   first = refl;
   ports = refl;
-  said = subst (λ a. IsSome (answer_text a)) (sym is) (said_down (slice_get (state_of old.group).servers server));
+  said = subst (λ a. IsSome (answer_text a)) (sym is) (no_range_said (slice_get (state_of old.group).servers server));
   text = [];
   put = sym (append-nil out);
   run = λ halts _. none halts ∙ ap (λ a. let h : Happened = record { chunk = run_of halts old; answer = a; text = [] } in h) (sym is);

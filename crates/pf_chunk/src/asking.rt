@@ -45,8 +45,8 @@ impl<D: Disk + Drop> ChunkGroup<D> {
         }
     }
 
-    /// How a line is refused whose numbers are no range: no event happens.
-    fn no_range(&self, server: Server) -> Answer
+    /// How a line is refused whose numbers are no range, which is no event: `BadRange` (10) at a running server, else `Down` (51).
+    pub fn no_range(&self, server: Server) -> Answer
         requires { server < 3 }
         ensures { result ≡ no_range_answer (slice_get (state_of self.now.group).servers server) }
     {

@@ -4,7 +4,7 @@ ghost use Rattle.pf_group.specs.GroupIs.{state_of};
 ghost use Rattle.pf_protocol.specs.Answers.{most_packets};
 ghost use Rattle.pf_protocol.specs.declared.events.Event.TheVariants.{Deliver};
 ghost use Rattle.pf_chunk.specs.Happenings.{happened};
-ghost use Rattle.pf_group.specs.Packets.{is_left_in, least_from};
+ghost use Rattle.pf_group.specs.Packets.{IsFirstLeft, is_left_in, least_from};
 ghost use Rattle.pf_chunk.specs.Settling.{HasTried};
 ghost use Rattle.pf_chunk.specs.Steps.{HasFailed};
 ghost use Rattle.pf_chunk.specs.Views.{IsReady, run_of};
@@ -39,6 +39,7 @@ impl<D: Disk + Drop> ChunkGroup<D> {
     /// The least packet that is left and was not passed over.
     pub fn next_left(&mut self) -> Option<u32>
         ensures least { result ≡ least_from self.old.next (state_of self.old.group) }
+        ensures first { IsFirstLeft (state_of self.old.group) self.old.next self.new.next }
         ensures same { self.new ≡ record self.old { next = self.new.next } }
         ensures found { MatchOption result (self.new.next ≡ self.new.next) (λ k. self.new.next ≡ k) }
     {

@@ -182,6 +182,7 @@ impl Host {
         ensures pending { IsErrOf result StartFault.CallPending ↔ (self.old.mount.work ≢ Rests) }
         ensures bad_name { IsErrOf result StartFault.BadName → read_call call ≡ None }
         ensures refused { IfErr result (λ fault. Refuses fault self.old self.new) }
+        ensures unwritten { IfErr result (λ fault. fault ≢ StartFault.NoMemory → out.new.items ≡ out.old.items) }
         ensures err { OnErr result (chunks.new ≡ chunks.old) }
     {
         let name = name_of(&call);
