@@ -1,18 +1,24 @@
 //! The ranges of the numbers of a line, and its place in the script.
-ghost use Rattle.std.specs.Prelude.{◌≡◌, ◌≤◌, IsTrue, IfOk, Some, None};
+ghost use Rattle.std.specs.Prelude.{◌≡◌, ℕ, ◌≤◌, IsTrue, IfOk, Some, None};
 ghost use Rattle.std.specs.Option.{ForSome};
-ghost use Rattle.pf_script.specs.Lines.{placed, within, is_volume, is_server, server_command, packet_command};
+ghost use Rattle.pf_script.specs.Calls.{call_from};
+ghost use Rattle.pf_script.specs.Lines.{Gives, placed, within, is_volume, is_server, server_command, packet_command};
 ghost use Rattle.pf_script.specs.declared.command.Command.TheVariants as commands;
 
+use crate::call_forms::CallForm;
 use crate::form::{Form, PacketVerb, ServerVerb};
 use crate::{Command, LineFault};
 use pf_base::Server;
+use std::alloc::Global;
 
 /// Sectors of a volume, packets of a group and counts of sectors stand below this number in a script.
 const LIMIT: u64 = 65_536;
 
 /// The most deliveries of one `settle` line.
 const MOST_DELIVERIES: u64 = 1_000_000;
+
+/// The most mounts of a volume.
+const MOUNTS: u64 = 16;
 
 fn fits_volume(chunks: u64, sectors: u64, names: u64, format: u64) -> bool
     ensures { result ≡ is_volume chunks sectors names format }
@@ -63,7 +69,7 @@ impl PacketVerb {
 
 /// The command of a form before the volume.
 fn place_first(form: Form) -> Result<Command, LineFault>
-    ensures { result ≡ placed None form }
+    ensures { result ≡ placed None form.entry }
 {
     let Form::Volume {
         chunks,
@@ -159,8 +165,8 @@ fn place_fetch(
     })
 }
 
-fn place_settle(chunks: u32, limit: u64) -> Result<Command, LineFault>
-    ensures { result ≡ within chunks (commands.Settle limit) }
+fn place_settle(limit: u64) -> Result<Command, LineFault>
+    ensures { (chunks : ℕ) → result ≡ within chunks (commands.Settle limit) }
 {
     if limit > MOST_DELIVERIES {
         return Err(LineFault::OutOfRange);
@@ -194,10 +200,43 @@ fn place_mark(chunks: u32, group: u64, server: u64, slot: u64) -> Result<Command
     })
 }
 
+fn place_kill(mount: u64) -> Result<Command, LineFault>
+    ensures { (chunks : ℕ) → result ≡ within chunks (commands.Kill mount) }
+{
+    if mount >= MOUNTS {
+        return Err(LineFault::OutOfRange);
+    }
+    Ok(Command::Kill { mount: mount as u8 })
+}
+
+fn place_show_mount(mount: u64) -> Result<Command, LineFault>
+    ensures { (chunks : ℕ) → result ≡ within chunks (commands.ShowMount mount) }
+{
+    if mount >= MOUNTS {
+        return Err(LineFault::OutOfRange);
+    }
+    Ok(Command::ShowMount { mount: mount as u8 })
+}
+
+/// The words of the call are copied once its numbers are judged.
+fn place_call(alloc: Global, mount: u64, call: CallForm) -> Result<Command, LineFault>
+    ensures { (chunks : ℕ) → Gives (within chunks (commands.Call mount (call_from call.entry))) result }
+{
+    if mount >= MOUNTS || !call.fits() {
+        return Err(LineFault::OutOfRange);
+    }
+    let call = call.call(alloc)?;
+    Ok(Command::Call {
+        mount: mount as u8,
+        call,
+    })
+}
+
 /// The command of a form after a volume of so many chunks.
-fn place_later(chunks: u32, form: Form) -> Result<Command, LineFault>
+#[tactic(auto, using(crate::proofs::Memory::exact_gives))]
+fn place_later(alloc: Global, chunks: u32, form: Form) -> Result<Command, LineFault>
     requires { chunks ≤ 8 }
-    ensures { result ≡ placed (Some chunks) form }
+    ensures { Gives (placed (Some chunks) form.entry) result }
 {
     match form {
         Form::Volume { .. } => Err(LineFault::NoVolume),
@@ -224,25 +263,31 @@ fn place_later(chunks: u32, form: Form) -> Result<Command, LineFault>
             sector,
             count,
         } => place_fetch(chunks, group, server, sector, count),
-        Form::Settle { limit } => place_settle(chunks, limit),
+        Form::Settle { limit } => place_settle(limit),
         Form::ShowAcked { group } => place_acked(chunks, group),
         Form::ShowMark {
             group,
             server,
             slot,
         } => place_mark(chunks, group, server, slot),
+        Form::Mount => Ok(Command::Mount),
+        Form::Kill { mount } => place_kill(mount),
+        Form::Call { mount, call } => place_call(alloc, mount, call),
+        Form::ShowMount { mount } => place_show_mount(mount),
     }
 }
 
 /// The command of a form in a script whose volume has so many chunks, or has not come yet.
 ///
-/// A form in the wrong place is `NoVolume` (24); else a number outside its range is `OutOfRange` (22).
-pub fn place(volume: Option<u32>, form: Form) -> Result<Command, LineFault>
+/// A form in the wrong place is `NoVolume` (24); else a number outside its range is `OutOfRange` (22). The words of a call
+/// are copied, so there `NoMemory` (1) may come.
+#[tactic(auto, using(crate::proofs::Memory::exact_gives))]
+pub fn place(alloc: Global, volume: Option<u32>, form: Form) -> Result<Command, LineFault>
     requires { ForSome volume (λ chunks. chunks ≤ 8) }
-    ensures { result ≡ placed volume form }
+    ensures { Gives (placed volume form.entry) result }
 {
     match volume {
         None => place_first(form),
-        Some(chunks) => place_later(chunks, form),
+        Some(chunks) => place_later(alloc, chunks, form),
     }
 }
