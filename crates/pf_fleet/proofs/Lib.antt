@@ -1,0 +1,14 @@
+pub mod Lists
+pub mod Keeping
+pub mod Growing
+pub mod Parts
+pub mod Events
+pub mod Steps
+pub mod Joining
+pub mod SameChunks
+pub mod Places
+pub mod Rooms
+pub mod Tries
+pub mod SoFar
+pub mod Ends
+pub mod Stops

@@ -1,0 +1,63 @@
+-- Parts of a run, one after another.
+use Rattle.std.proofs.Common.{◌≡◌, ℕ, List, ◌++◌, append_assoc, sym, ap, subst, ◌∙◌}
+use Rattle.pf_rounds.specs.Halts.{Halt}
+use Rattle.pf_chunk.specs.Runs.{ChunkRun}
+use Rattle.pf_chunk.specs.Views.{ChunkIs}
+use Rattle.pf_hosts.specs.Moments.{text_of}
+use Rattle.pf_hosts.specs.Steps.{HaveBegun}
+use Rattle.pf_hosts.proofs.Lengthening.{Lengthens, lengthens_refl}
+use Rattle.pf_hosts.proofs.Stepping.{told_both}
+use Rattle.pf_fleet.specs.Steps.{FleetIs, HasGone, HasStopped, Part, stands_at}
+use Rattle.pf_fleet.specs.Volumes.{Told, VolumeRun, after_telling, followed}
+use Rattle.pf_fleet.proofs.Growing.{begun_through, grown_refl_all, grown_trans_all, tells_before}
+
+-- the whole went on
+pub went_on : (p q : Part) (a b c : List ChunkIs) (f g h : FleetIs) (x y z : List ℕ) → HasGone p a f x b g y → HasGone q b g y c h z → HasGone (λ halts v. followed (p halts v) (q halts)) a f x c h z
+went_on p q a b c f g h x y z first second = record {
+  ready = second.ready;
+  is_fleet = second.is_fleet;
+  grown = grown_trans_all a b c first.grown second.grown;
+  told = first.told ++ second.told;
+  put =
+      second.put ∙ ap (λ text. text ++ text_of second.told) first.put ∙ append_assoc x (text_of first.told) (text_of second.told)
+      ∙ ap (λ text. x ++ text) (sym (told_both first.told second.told));
+  run = λ halts tells.
+      ap (λ (t : Told). followed t (q halts)) (first.run halts (tells_before halts b c second.grown tells))
+      ∙ ap (λ (t : Told). after_telling first.told t) (second.run halts tells);
+}
+
+-- the second part was stopped
+pub then_stopped : (p q : Part) (a b c : List ChunkIs) (f g : FleetIs) (x y : List ℕ) → HasGone p a f x b g y → HasStopped q b g c → HasStopped (λ halts v. followed (p halts v) (q halts)) a f c
+then_stopped p q a b c f g x y first second = record {
+  grown = grown_trans_all a b c first.grown second.grown;
+  begun = λ halts tells.
+      let would : List ChunkRun = (q halts (stands_at halts b g)).volume.chunks in
+      subst (λ (t : Told). HaveBegun halts a (followed t (q halts)).volume.chunks c) (sym (first.run halts (tells_before halts b c second.grown tells)))
+      (begun_through halts a b c would would first.grown (second.begun halts tells) (lengthens_refl would));
+}
+
+-- the first part was stopped: what would have followed only adds to histories
+pub stopped_on : (p q : Part) (a b : List ChunkIs) (f : FleetIs) → HasStopped p a f b → ((halts : List Halt) (v : VolumeRun) → Lengthens v.chunks (q halts v).volume.chunks) → HasStopped (λ halts v. followed (p halts v) (q halts)) a f b
+stopped_on p q a b f first longer = record {
+  grown = first.grown;
+  begun = λ halts tells.
+      let v : VolumeRun = (p halts (stands_at halts a f)).volume in
+      begun_through halts a a b v.chunks (q halts v).volume.chunks (grown_refl_all a) (first.begun halts tells) (longer halts v);
+}
+
+-- a part that comes to the same from there
+pub gone_as : (p q : Part) (a b : List ChunkIs) (f g : FleetIs) (x y : List ℕ) → ((halts : List Halt) → q halts (stands_at halts a f) ≡ p halts (stands_at halts a f)) → HasGone p a f x b g y → HasGone q a f x b g y
+gone_as p q a b f g x y same went = record {
+  ready = went.ready;
+  is_fleet = went.is_fleet;
+  grown = went.grown;
+  told = went.told;
+  put = went.put;
+  run = λ halts tells. same halts ∙ went.run halts tells;
+}
+
+pub stopped_as : (p q : Part) (a b : List ChunkIs) (f : FleetIs) → ((halts : List Halt) → q halts (stands_at halts a f) ≡ p halts (stands_at halts a f)) → HasStopped p a f b → HasStopped q a f b
+stopped_as p q a b f same stopped = record {
+  grown = stopped.grown;
+  begun = λ halts tells. subst (λ (t : Told). HaveBegun halts a t.volume.chunks b) (sym (same halts)) (stopped.begun halts tells);
+}

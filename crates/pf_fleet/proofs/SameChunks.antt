@@ -1,0 +1,56 @@
+-- Chunks that differ in where their settlings stand alone.
+use Rattle.std.proofs.Common.{◌≡◌, ℕ, suc, List, [], ◌∷◌, length, Some, slice_get, arith, refl, sym, ap, subst, ◌∙◌}
+use Rattle.pf_asks.specs.Ports.{PortIs}
+use Rattle.pf_group.specs.GroupIs.{GroupIs}
+use Rattle.pf_rounds.specs.Agreeing.{chunk_of}
+use Rattle.pf_rounds.specs.Growing.{HasGrown}
+use Rattle.pf_rounds.specs.Halts.{Halt}
+use Rattle.pf_rounds.proofs.Growing.{grown_refl}
+use Rattle.pf_chunk.specs.declared.waiting.Waiting.{Waiting}
+use Rattle.pf_chunk.specs.Runs.{ChunkRun}
+use Rattle.pf_chunk.specs.Views.{ChunkIs, run_of}
+use Rattle.pf_hosts.specs.Steps.{HaveGrown, runs}
+use Rattle.pf_fleet.specs.Steps.{FleetIs, IsFleetOf, stands_at}
+use Rattle.pf_fleet.specs.Volumes.{VolumeRun}
+use Rattle.pf_fleet.proofs.Keeping.{fleet_stays}
+
+pub record IsSame (was is : ChunkIs) : Type 0 where
+  pub group : is.group ≡ was.group
+  pub waiting : is.waiting ≡ was.waiting
+  pub ports : is.ports ≡ was.ports
+
+pub record AreSame (old new : List ChunkIs) : Type 0 where
+  pub count : length new ≡ length old
+  pub each : (k : ℕ) (was is : ChunkIs) → slice_get old k ≡ Some was → slice_get new k ≡ Some is → IsSame was is
+
+run_same : (halts : List Halt) (was is : ChunkIs) → IsSame was is → run_of halts is ≡ run_of halts was
+run_same halts was is same =
+    let make : GroupIs → List Waiting → List PortIs → ChunkRun = λ g w p. record { group = chunk_of halts g; waiting = w; ports = p } in
+    ap (λ (g : GroupIs). make g is.waiting is.ports) same.group
+    ∙ ap (λ (w : List Waiting). make was.group w is.ports) same.waiting
+    ∙ ap (λ (p : List PortIs). make was.group was.waiting p) same.ports
+
+mapped_same : (halts : List Halt) (old new : List ChunkIs) → length new ≡ length old → ((k : ℕ) (was is : ChunkIs) → slice_get old k ≡ Some was → slice_get new k ≡ Some is → IsSame was is) → runs halts new ≡ runs halts old
+mapped_same halts [] [] count each = refl
+mapped_same halts [] (y ∷ ys) count each = absurd (omega arith)
+mapped_same halts (x ∷ xs) [] count each = absurd (omega arith)
+mapped_same halts (x ∷ xs) (y ∷ ys) count each =
+    ap (λ (c : ChunkRun). c ∷ runs halts ys) (run_same halts x y (each 0 x y refl refl))
+    ∙ ap (λ (cs : List ChunkRun). run_of halts x ∷ cs) (mapped_same halts xs ys (omega arith) (λ k was is at to. each (suc k) was is at to))
+
+module _ (old new : List ChunkIs) (same : AreSame old new) where
+  -- a run stands at the same
+  pub same_stands : (halts : List Halt) (f : FleetIs) → stands_at halts new f ≡ stands_at halts old f
+  same_stands halts f =
+      let make : List ChunkRun → VolumeRun = λ cs. record { extent = f.volume; chunks = cs; hosts = f.hosts } in
+      ap make (mapped_same halts old new same.count same.each)
+
+  -- nothing happened to the groups
+  pub same_grown : HaveGrown old new
+  same_grown = record {
+    count = same.count;
+    each = λ k was is at to. subst (λ (g : GroupIs). HasGrown was.group g) (sym (same.each k was is at to).group) (grown_refl was.group);
+  }
+
+  pub same_fleet : (f : FleetIs) → IsFleetOf old f → IsFleetOf new f
+  same_fleet f is = fleet_stays old new f same.count (λ n. record { count = same.count; each = λ k was is at to. ap (λ (ps : List PortIs). slice_get ps n) (same.each k was is at to).ports }) is

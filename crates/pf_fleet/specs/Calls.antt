@@ -1,0 +1,67 @@
+-- How hosts come, begin calls and go.
+use Rattle.std.specs.Prelude.{◌≡◌, ◌≢◌, ℕ, suc, [], List, length, Some, None}
+use Rattle.pf_base.specs.declared.calls.Call.{Call}
+use Rattle.pf_tree.specs.declared.calls.FileCall.{FileCall}
+use Rattle.pf_mount.specs.declared.faults.MountFault.{MountFault}
+use Rattle.pf_mount.specs.declared.faults.MountFault.TheVariants as mounts
+use Rattle.pf_mount.specs.declared.faults.StartFault.{StartFault}
+use Rattle.pf_mount.specs.declared.faults.StartFault.TheVariants as starts
+use Rattle.pf_mount.specs.declared.work.Work.TheVariants.{Rests}
+use Rattle.pf_hosts.specs.Hosts.{HostIs}
+use Rattle.pf_hosts.specs.Words.{read_call}
+use Rattle.pf_chunk.specs.Views.{ChunkIs}
+use Rattle.pf_fleet.specs.declared.faults.CallFault.{CallFault}
+use Rattle.pf_fleet.specs.declared.faults.CallFault.TheVariants.{NoMemory, BadName, CallPending, NoMount}
+use Rattle.pf_fleet.specs.declared.faults.JoinFault.{JoinFault}
+use Rattle.pf_fleet.specs.declared.faults.JoinFault.TheVariants.{NoMemory as NoMemoryToJoin, MountsFull, SmallVolume}
+use Rattle.pf_fleet.specs.Steps.{FleetIs, HasGone}
+use Rattle.pf_fleet.specs.Volumes.{Hosts, begins, host_at, mounts as comes}
+
+abbrev pub call_number : CallFault → ℕ
+call_number NoMemory = 1
+call_number BadName = 80
+call_number CallPending = 91
+call_number NoMount = 96
+
+abbrev pub join_number : JoinFault → ℕ
+join_number NoMemoryToJoin = 1
+join_number MountsFull = 92
+join_number SmallVolume = 93
+
+-- a mount that is not made is no host
+abbrev pub join_fault : MountFault → JoinFault
+join_fault mounts.NoMemory = NoMemoryToJoin
+join_fault mounts.SmallVolume = SmallVolume
+
+-- a call that is not started is none of the host
+abbrev pub call_fault : StartFault → CallFault
+call_fault starts.NoMemory = NoMemory
+call_fault starts.BadName = BadName
+call_fault starts.CallPending = CallPending
+
+-- a host came, with the next number; nothing was written
+pub record HasJoined (old : List ChunkIs) (fleet : FleetIs) (number : ℕ) (new : List ChunkIs) (next : FleetIs) : Type 0 where
+  pub number_is : number ≡ length fleet.hosts
+  pub went : HasGone (λ halts v. comes v) old fleet [] new next []
+  pub count : length next.hosts ≡ suc (length fleet.hosts)
+  pub volume : next.volume ≡ fleet.volume
+  pub calls : next.calls ≡ fleet.calls
+
+-- a call of host m began, with its paths read
+pub record HasCalled (m : ℕ) (call : Call) (old : List ChunkIs) (fleet : FleetIs) (before : List ℕ) (new : List ChunkIs) (next : FleetIs) (after : List ℕ) : Type 0 where
+  pub host : HostIs
+  pub there : host_at fleet.hosts m ≡ Some host
+  pub rests : host.mount.work ≡ Rests
+  pub file : FileCall
+  pub read : read_call call ≡ Some file
+  pub went : HasGone (λ halts v. begins m host file v) old fleet before new next after
+  pub count : length next.hosts ≡ length fleet.hosts
+  pub volume : next.volume ≡ fleet.volume
+  pub calls : next.calls ≡ suc fleet.calls
+
+-- the cause of each refusal
+abbrev pub IsCause : CallFault → (m : ℕ) → Call → Hosts → Type 0
+IsCause NoMemory m call hosts = (host : HostIs) × (host_at hosts m ≡ Some host)
+IsCause BadName m call hosts = (host : HostIs) × (host_at hosts m ≡ Some host) × (host.mount.work ≡ Rests) × (read_call call ≡ None)
+IsCause CallPending m call hosts = (host : HostIs) × (host_at hosts m ≡ Some host) × (host.mount.work ≢ Rests)
+IsCause NoMount m call hosts = host_at hosts m ≡ None

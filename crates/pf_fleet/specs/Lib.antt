@@ -1,0 +1,6 @@
+pub mod Volumes
+pub mod Steps
+pub mod Calls
+pub mod Settling
+pub mod Settled
+pub mod Nexts
