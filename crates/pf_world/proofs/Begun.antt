@@ -1,9 +1,9 @@
 -- How a volume is made, chunk by chunk.
-use Rattle.std.proofs.Common.{◌≡◌, ◌⊎◌, inl, inr, ℕ, suc, ◌+◌, ◌*◌, ◌/◌, ◌%◌, ◌==◌, nat_le, ◌<◌, ◌≤◌, Bool, true, false, ◌&&◌, ◌||◌, List, [], ◌∷◌, ◌++◌, None, Some, drop, take, length, map, slice_get, refl, sym, ap, subst, ◌∙◌, arith}
+use Rattle.std.proofs.Common.{◌≡◌, ◌⊎◌, inl, inr, ℕ, suc, replicate, zero, ◌+◌, ◌*◌, ◌/◌, ◌%◌, ◌==◌, nat_le, ◌<◌, ◌≤◌, Bool, true, false, ◌&&◌, ◌||◌, List, [], ◌∷◌, ◌++◌, None, Some, drop, take, length, map, slice_get, refl, sym, ap, subst, ◌∙◌, arith}
 use Rattle.std.specs.List.{flat_map, range_with_len}
 use Rattle.std.proofs.lemmas.Bool.Decides.{nat_tests}
 use Rattle.std.proofs.lemmas.List.{append_assoc, append-nil, length-append, take-append-le}
-use Rattle.std.proofs.lemmas.Option.{slice_get_within}
+use Rattle.std.proofs.lemmas.Option.{none-some, same_Some, slice_get_within}
 use Rattle.std.proofs.lemmas.Grind.{flat_map-append}
 use Rattle.std.proofs.Math.Seq.{take-length}
 use Rattle.pf_entry.specs.Lists.{Every}
@@ -23,9 +23,13 @@ use Rattle.pf_rounds.specs.Chunks.{made_chunk}
 use Rattle.pf_rounds.specs.Agreeing.{TellsOfGroup, chunk_of}
 use Rattle.pf_rounds.proofs.Paying.{made_paid}
 use Rattle.pf_chunk.specs.Views.{ChunkIs, IsReady, run_of}
-use Rattle.pf_chunk.specs.Runs.{ChunkRun, new_run}
-use Rattle.pf_world.specs.Worlds.{made}
-use Rattle.pf_world.specs.Views.{IsChunkOf, WorldIs, WorldOn}
+use Rattle.pf_asks.specs.Ports.{PortIs, new_port}
+use Rattle.pf_chunk.specs.Runs.{ChunkRun, most_ports, new_run}
+use Rattle.pf_volume.specs.Volumes.{Extent, IsVolume}
+use Rattle.pf_fleet.specs.Steps.{FleetIs, IsFleetOf}
+use Rattle.pf_fleet.specs.Volumes.{host_at}
+use Rattle.pf_world.specs.Worlds.{made, new_volume}
+use Rattle.pf_world.specs.Views.{IsChunkOf, WorldIs, WorldOn, stands_at}
 use Rattle.pf_world.specs.Disks.{six_list}
 use Rattle.pf_world.specs.Making.{AreBegun, AreNew, HasAdded, IsNew, unless_done}
 use Rattle.pf_world.specs.Steps.{IsMade}
@@ -84,6 +88,42 @@ failed_more : (cs : List ChunkIs) (c : ChunkIs) → failed_in (cs ++ c ∷ []) �
 failed_more [] c = append-nil c.group.setup.failed
 failed_more (d ∷ cs) c = ap (λ fs. d.group.setup.failed ++ fs) (failed_more cs c) ∙ sym (append_assoc d.group.setup.failed (failed_in cs) c.group.setup.failed)
 
+-- a volume has the form that its sectors are counted by
+pub volume_extent : (chunks sectors names format : ℕ) → is_volume chunks sectors names format ≡ true → IsVolume (record { chunks = chunks; sectors = sectors })
+volume_extent chunks sectors names format is = record {
+  some_chunks = grind (arith, nat_tests);
+  few_chunks = grind (arith, nat_tests);
+  some_sectors = grind (arith, nat_tests);
+  few_sectors = grind (arith, nat_tests);
+  blocks = (sectors / 8, eights sectors (grind (arith, nat_tests)));
+}
+
+replicate_get : {X : Type 0} (n : ℕ) (x : X) (k : ℕ) (y : X) → slice_get (replicate n x) k ≡ Some y → y ≡ x
+replicate_get zero x k y there = absurd (none-some y there)
+replicate_get (suc n) x zero y there = sym (same_Some x y there)
+replicate_get (suc n) x (suc k) y there = replicate_get n x k y there
+
+-- a new chunk has nothing to ask
+new_quiet : (c : ChunkIs) → ((halts : List Halt) → run_of halts c ≡ new_run (chunk_of halts c.group)) → (m : ℕ) (port : PortIs) → slice_get c.ports m ≡ Some port → port.ask ≡ None
+new_quiet c new m port there =
+    let ports : c.ports ≡ replicate most_ports new_port = ap (λ (r : ChunkRun). r.ports) (new []) in
+    ap (λ (p : PortIs). p.ask) (replicate_get most_ports new_port m port (ap (λ ps. slice_get ps m) (sym ports) ∙ there))
+
+-- no host yet
+no_hosts : (chunks : List ChunkIs) (fleet : FleetIs) → fleet.hosts ≡ [] → IsVolume fleet.volume → fleet.volume.chunks ≡ length chunks → ((k : ℕ) (c : ChunkIs) → slice_get chunks k ≡ Some c → (halts : List Halt) → run_of halts c ≡ new_run (chunk_of halts c.group)) → IsFleetOf chunks fleet
+no_hosts chunks fleet none volume count new = record {
+  volume = volume;
+  count = count;
+  few = omega (arith, ap length none);
+  large = λ some. absurd (some (ap length none));
+  each = λ m host there. absurd (none-some host (sym (ap (λ hs. host_at hs m) none) ∙ there));
+  free = λ m above k c there port its. new_quiet c (new k c there) m port its;
+}
+
+new_stands : (halts : List Halt) (chunks sectors : ℕ) (w : WorldIs) (runs : List ChunkRun) → w.fleet.volume ≡ record { chunks = chunks; sectors = sectors } → w.fleet.hosts ≡ [] → w.kind ≡ None → runs ≡ map (run_of halts) w.chunks
+    → record { volume = new_volume (record { chunks = chunks; sectors = sectors }) runs; kind = None } ≡ stands_at halts w
+new_stands halts chunks sectors w runs extent hosts kind same = cc
+
 module _ {D : Type 0} (faults : D → ℕ) where
   -- chunk k was made on its six disks
   pub record IsMadeOn (sectors names format : ℕ) (sixes : List (Six D)) (k : ℕ) (c : ChunkIs) : Type 0 where
@@ -100,18 +140,25 @@ module _ {D : Type 0} (faults : D → ℕ) where
     pub names_are : w.world.names ≡ names
     pub format_is : w.world.format ≡ format
     pub count : length w.world.chunks ≡ number
+    pub hosts_are : w.world.fleet.hosts ≡ []
+    pub calls_are : w.world.fleet.calls ≡ 0
+    pub kind_is : w.world.kind ≡ None
     pub sixes : List (Six D)
     pub many : length sixes ≡ number
     pub given : disks ≡ flat_map six_list sixes ++ w.spare
     pub each : (k : ℕ) (c : ChunkIs) → slice_get w.world.chunks k ≡ Some c → IsMadeOn sectors names format sixes k c
     pub answered : answer ≡ making_answer (failed_in w.world.chunks)
 
-  pub begun_none : (disks spare : List D) (sectors names format : ℕ) (chunks : List ChunkIs) → chunks ≡ [] → spare ≡ disks → Begun disks sectors names format 0 (record { world = record { sectors = sectors; names = names; format = format; chunks = chunks }; spare = spare }) Done
-  begun_none disks spare sectors names format chunks none all = record {
+  pub begun_none : (disks spare : List D) (sectors names format : ℕ) (chunks : List ChunkIs) (fleet : FleetIs) → chunks ≡ [] → spare ≡ disks → fleet.hosts ≡ [] → fleet.calls ≡ 0
+      → Begun disks sectors names format 0 (record { world = record { sectors = sectors; names = names; format = format; chunks = chunks; fleet = fleet; kind = None }; spare = spare }) Done
+  begun_none disks spare sectors names format chunks fleet none all hosts calls = record {
     sectors_are = refl;
     names_are = refl;
     format_is = refl;
     count = ap length none;
+    hosts_are = hosts;
+    calls_are = calls;
+    kind_is = refl;
     sixes = [];
     many = refl;
     given = sym all;
@@ -135,6 +182,9 @@ module _ {D : Type 0} (faults : D → ℕ) where
         names_are = ap (λ (w : WorldIs). w.names) a.world ∙ b.names_are;
         format_is = ap (λ (w : WorldIs). w.format) a.world ∙ b.format_is;
         count = ap length chunks ∙ length-append old.world.chunks (a.chunk ∷ []) ∙ ap (λ n. n + 1) b.count;
+        hosts_are = ap (λ (w : WorldIs). w.fleet.hosts) a.world ∙ b.hosts_are;
+        calls_are = ap (λ (w : WorldIs). w.fleet.calls) a.world ∙ b.calls_are;
+        kind_is = ap (λ (w : WorldIs). w.kind) a.world ∙ b.kind_is;
         sixes = b.sixes ++ a.six ∷ [];
         many = length-append b.sixes (a.six ∷ []) ∙ ap (λ n. n + 1) b.many;
         given = b.given ∙ ap (λ ds. flat_map six_list b.sixes ++ ds) a.given ∙ sym (append_assoc (flat_map six_list b.sixes) (six_list a.six) new.spare)
@@ -175,15 +225,18 @@ module _ {D : Type 0} (faults : D → ℕ) where
     }
 
     -- all are made
-    pub all_made : is_volume chunks sectors names format ≡ true → IsMade chunks sectors names format w.world answer
-    all_made volume = record {
+    pub all_made : is_volume chunks sectors names format ≡ true → w.world.fleet.volume ≡ record { chunks = chunks; sectors = sectors } → IsMade chunks sectors names format w.world answer
+    all_made volume extent = record {
       is_world = record {
         volume = ap (λ n. is_volume n w.world.sectors w.world.names w.world.format) b.count ∙ ap (λ s. is_volume chunks s w.world.names w.world.format) b.sectors_are ∙ ap (λ n. is_volume chunks sectors n w.world.format) b.names_are ∙ ap (is_volume chunks sectors names) b.format_is ∙ volume;
         each = λ k c there. chunk_made k c (b.each k c there);
+        is_fleet = no_hosts w.world.chunks w.world.fleet b.hosts_are (subst IsVolume (sym extent) (volume_extent chunks sectors names format volume)) (ap (λ (v : Extent). v.chunks) extent ∙ sym b.count) (λ k c there. (b.each k c there).run);
+        extent = extent ∙ ap (λ n. record { chunks = n; sectors = sectors }) (sym b.count) ∙ ap (λ n. record { chunks = length w.world.chunks; sectors = n }) (sym b.sectors_are);
       };
       count = b.count;
       numbers = (b.sectors_are, b.names_are, b.format_is);
-      run = λ halts tells. ap (λ cs. record { chunks = cs }) (
+      calls = b.calls_are;
+      run = λ halts tells. new_stands halts chunks sectors w.world (map (λ k. new_run (made_chunk halts sectors names format k)) (range_with_len 0 chunks)) extent b.hosts_are b.kind_is (
           ap (λ n. map (λ k. new_run (made_chunk halts sectors names format k)) (range_with_len 0 n)) (sym b.count)
           ∙ mapped halts (λ k. new_run (made_chunk halts sectors names format k)) 0 w.world.chunks (λ k c there.
           let m = b.each k c there in

@@ -1,91 +1,91 @@
--- Where there was no memory for all of a chunk's settling, a beginning of it happened.
-use Rattle.std.proofs.Common.{◌≡◌, ℕ, suc, ◌+◌, List, [], ◌∷◌, ◌++◌, length, slice_set, arith, sym, ap, subst, ◌∙◌}
-use Rattle.pf_protocol.specs.declared.events.Event.TheVariants.{Deliver}
-use Rattle.pf_protocol.proofs.ForMoments.{prefix_of}
-use Rattle.pf_group.specs.GroupIs.{GroupIs}
-use Rattle.pf_rounds.specs.Halts.{Halt}
-use Rattle.pf_rounds.specs.Chunks.{Chunk}
-use Rattle.pf_chunk.specs.Runs.{ChunkRun}
-use Rattle.pf_rounds.specs.Agreeing.{TellsOfGroup, told_history}
+-- Where memory runs out in the middle of a line.
+use Rattle.std.proofs.Common.{◌≡◌, inl, inr, ℕ, Bool, List, Option, Some, Result, Ok, Err, OnErr, slice_get, refl, sym, ap, subst, ◌∙◌}
+use Rattle.std.proofs.lemmas.List.{length-map}
+use Rattle.std.proofs.lemmas.Option.{same_Some}
+use Rattle.pf_fleet.proofs.Growing.{grown_trans_all}
+use Rattle.pf_script.specs.declared.command.Command.{Command}
+use Rattle.pf_script.specs.declared.command.Command.TheVariants as commands
 use Rattle.pf_rounds.specs.Begun.{HasBegun}
-use Rattle.pf_rounds.specs.Growing.{HasGrown}
-use Rattle.pf_rounds.proofs.Extending.{Extends}
-use Rattle.pf_rounds.proofs.Growing.{grown_tells, grown_trans}
-use Rattle.pf_chunk.specs.Happenings.{Happened, happened}
-use Rattle.pf_group.specs.Packets.{is_passed_over}
-use Rattle.pf_chunk.specs.Steps.{HasFailed}
+use Rattle.pf_rounds.specs.Halts.{Halt}
+use Rattle.pf_rounds.proofs.Extending.{extends_refl}
+use Rattle.pf_chunk.specs.Runs.{ChunkRun}
+use Rattle.pf_chunk.specs.Steps.{Event}
 use Rattle.pf_chunk.specs.Views.{ChunkIs, run_of}
-use Rattle.pf_chunk.proofs.Begun.{happened_extends, told_later}
-use Rattle.pf_world.specs.Worlds.{World}
-use Rattle.pf_world.specs.Settling.{Name, Settled, after_text, goes_on, settle_next, settle_to}
-use Rattle.pf_world.specs.Settled.{AreInPlace, HasBegunBehind, HasFailedChunk, IsTurnOf, past, world_around}
-use Rattle.pf_world.proofs.Extending.{Follow, Stand, going_follows, settle_follows}
-use Rattle.pf_world.proofs.SettlingChunk.{HasNext, is_least}
-use Rattle.pf_world.proofs.SettlingTries.{next_is, set_middle, settle_suc, still_quiet}
+use Rattle.pf_hosts.specs.Steps.{HaveBegun, HaveGrown, TellsAll, runs}
+use Rattle.pf_hosts.proofs.Groups.{all_begun, run_there}
+use Rattle.pf_fleet.specs.Settled.{HasNotSettled, HasSettled}
+use Rattle.pf_fleet.specs.Steps.{FleetIs, HasAnswered, HasGone, HasNotAnswered, HasStopped, Part}
+use Rattle.pf_fleet.specs.Steps as fleets
+use Rattle.pf_fleet.specs.Volumes.{happens}
+use Rattle.pf_world.specs.declared.kind.Kind.{Kind}
+use Rattle.pf_world.specs.Worlds.{Told, at_chunk, told_of}
+use Rattle.pf_world.specs.Lines.{line_told}
+use Rattle.pf_world.specs.Views.{WorldIs, stands_at}
+use Rattle.pf_world.specs.Steps.{HasFailed, IsWithin, StopsIn}
+use Rattle.pf_world.proofs.Happening.{all_grew, becomes, same_world}
 
--- what is a beginning of a run is one of a run that goes on, and began before
-pub begun_on : (halts : List Halt) (old now new : GroupIs) (first last : Chunk) → HasGrown old now → Extends first last → HasBegun halts now first new → HasBegun halts old last new
-begun_on halts old now new first last grown ext b = record {
-  done = b.done;
-  undone = b.undone;
-  later = prefix_of (told_history halts old) (told_history halts now) b.done (told_later halts old now grown) b.later;
-  part = prefix_of b.done first.history last.history b.part ext.1;
-  recorded = b.recorded;
-  returned = b.returned;
-  state = b.state;
+pub on_err : {X E : Type 0} (r : Result X E) (P : Type 0) → P → OnErr r P
+on_err (Ok x) P p = tt
+on_err (Err e) P p = p
+
+-- all that was to happen did
+pub have_all_begun : (halts : List Halt) (old new : List ChunkIs) → HaveGrown old new → TellsAll halts new → HaveBegun halts old (runs halts new) new
+have_all_begun halts old new grown tells = record {
+  count = length-map new (run_of halts);
+  each = λ k was is run at to there.
+      let same : run_of halts is ≡ run = same_Some (run_of halts is) run (sym (run_there halts new k is to) ∙ there) in
+      subst (λ (c : ChunkRun). HasBegun halts was.group c.group is.group) same
+      (all_begun halts was.group is.group (run_of halts is).group (tells k is to) (grown.each k was is at to) (extends_refl (run_of halts is).group));
 }
 
-module _ (halts : List Halt) (old now new : GroupIs) (grown : HasGrown old now) (before : List ChunkRun) (c : ChunkRun) (begun : HasBegun halts now c.group new) (after chunks : List ChunkRun) where
-  in_rest : (rest : List ChunkRun) → chunks ≡ before ++ rest → Follow (c ∷ after) rest → HasBegunBehind halts old before chunks new
-  in_rest [] whole follow = absurd follow
-  in_rest (d ∷ rest) whole follow = record { chunk = d; rest = rest; whole = whole; begun = begun_on halts old now new c.group d.group grown follow.0 begun }
-
-  begun_behind : Stand before (c ∷ after) chunks → HasBegunBehind halts old before chunks new
-  begun_behind s = in_rest s.rest s.whole s.follow
-
-module _ (limit : ℕ) (old : ChunkIs) (out : List ℕ) (left : ℕ) (mid : List ℕ) (head now : ChunkIs) (has : HasNext limit old out (suc left) mid head now)
-    (new : ChunkIs) (f : HasFailed (λ halts. (happened halts (run_of halts now) (Deliver now.next)).chunk.group) now.group new.group) where
-  module _ (halts : List Halt) (tells : TellsOfGroup halts new.group) (passed : List Name) (before after : List ChunkRun) (turn : IsTurnOf old.group.number passed before) (is : AreInPlace (length before) (run_of halts old ∷ after)) (more : ℕ) where
-    delivery : Happened
-    delivery = happened halts (run_of halts now) (Deliver now.next)
-
-    over : List Name
-    over = past old.group.number has.so_far.packets passed
-
-    goes : (chunks : List ChunkRun) → Settled
-    unfolding delivery over
-    goes chunks = goes_on (is_passed_over delivery.answer) (record { chunk = delivery.chunk.group.number; packet = now.next }) left over (record { chunks = chunks }) (settle_to more halts)
-
-    numbered : delivery.chunk.group.number ≡ old.group.number
-    unfolding delivery
-    numbered = (happened_extends halts (run_of halts now) (Deliver now.next)).0 ∙ has.so_far.grown.number
-
-    -- the tries before, and the one that began
-    leads : (settle_to (has.so_far.tries + suc more) halts limit passed (world_around before (run_of halts old) after)).world.chunks ≡ (goes (before ++ delivery.chunk ∷ after)).world.chunks
-    unfolding delivery over goes
-    leads =
-        let s = has.so_far in
-        let w : World = world_around before (run_of halts now) after in
-        let cs : List ChunkRun = before ++ run_of halts now ∷ after in
-        ap (λ (x : Settled). x.world.chunks) (
-        s.run halts (grown_tells halts now.group new.group f.grown tells) passed before after turn (suc more)
-        ∙ ap (after_text s.text) (settle_suc more halts (suc left) over w
-        ∙ ap (λ o. settle_next halts o (settle_to more halts) (suc left) over w) (next_is old.group.number s.packets passed before after (run_of halts now) now.next turn (is_least limit old out left mid head now has halts passed before turn))))
-        ∙ ap (λ n. (goes (slice_set cs n delivery.chunk)).world.chunks) numbered
-        ∙ ap (λ xs. (goes xs).world.chunks) (set_middle before (run_of halts now) delivery.chunk after old.group.number turn.place)
-
-    began : HasBegunBehind halts old.group before (settle_to (has.so_far.tries + suc more) halts limit passed (world_around before (run_of halts old) after)).world.chunks new.group
-    unfolding delivery over goes
-    began =
-        let quiet = still_quiet old.group.number has.so_far.packets passed before turn.quiet in
-        begun_behind halts old.group now.group new.group has.so_far.grown before delivery.chunk (f.begun halts tells) after _
-        (subst (Stand before (delivery.chunk ∷ after)) (sym leads)
-        (going_follows halts more before (settle_follows more halts before) (is_passed_over delivery.answer) (record { chunk = delivery.chunk.group.number; packet = now.next }) left over (delivery.chunk ∷ after) quiet (numbered ∙ sym turn.place, is.1)))
-
-  pub failed_one : HasFailedChunk limit old new.group
-  failed_one = record {
-    grown = grown_trans old.group now.group new.group has.so_far.grown f.grown;
-    tries = has.so_far.tries;
-    few = omega (arith, has.so_far.few);
-    begun = began;
+module _ (old : WorldIs) (number : ℕ) (command : Command) (within : (new : WorldIs) → IsWithin old number command new → StopsIn old number command new) where
+  -- a part was begun
+  pub stopped_fails : (part : Part) (kind : Option Kind) (chunks : List ChunkIs) (fleet : FleetIs) → HasStopped part old.chunks old.fleet chunks
+      → ((halts : List Halt) → TellsAll halts chunks → (line_told halts (stands_at halts old) number command).world.volume.chunks ≡ (part halts (fleets.stands_at halts old.chunks old.fleet)).volume.chunks) → HasFailed old number command (becomes old chunks fleet kind)
+  stopped_fails part kind chunks fleet s line = record {
+    goes_on = all_grew old chunks fleet kind s.grown;
+    stopped = within (becomes old chunks fleet kind) (λ halts tells. subst (λ cs. HaveBegun halts old.chunks cs chunks) (sym (line halts tells)) (s.begun halts tells));
   }
+
+  -- it was gone through, and there was no memory for the text of the line
+  pub gone_fails : (part : Part) (kind : Option Kind) (chunks : List ChunkIs) (fleet : FleetIs) (before after : List ℕ) → HasGone part old.chunks old.fleet before chunks fleet after
+      → ((halts : List Halt) → TellsAll halts chunks → (line_told halts (stands_at halts old) number command).world.volume.chunks ≡ (part halts (fleets.stands_at halts old.chunks old.fleet)).volume.chunks) → HasFailed old number command (becomes old chunks fleet kind)
+  gone_fails part kind chunks fleet before after went line =
+      stopped_fails part kind chunks fleet (record {
+        grown = went.grown;
+        begun = λ halts tells. subst (λ (t : _). HaveBegun halts old.chunks t chunks) (sym (ap (λ t. t.volume.chunks) (went.run halts tells))) (have_all_begun halts old.chunks chunks went.grown tells);
+      }) line
+
+  -- nothing happened
+  pub said_fails : (kind : Option Kind) (fleet : FleetIs) → ((halts : List Halt) → (line_told halts (stands_at halts old) number command).world.volume.chunks ≡ runs halts old.chunks) → HasFailed old number command (becomes old old.chunks fleet kind)
+  said_fails kind fleet line = record {
+    goes_on = all_grew old old.chunks fleet kind (record { count = refl; each = (same_world old).grown });
+    stopped = within (becomes old old.chunks fleet kind) (λ halts tells. subst (λ cs. HaveBegun halts old.chunks cs old.chunks) (sym (line halts))
+        (have_all_begun halts old.chunks old.chunks (record { count = refl; each = (same_world old).grown }) tells));
+  }
+
+  module _ (event : Event) (k : ℕ) (kind decided : Option Kind) (line : (halts : List Halt) → line_told halts (stands_at halts old) number command ≡ at_chunk halts (record (stands_at halts old) { kind = decided }) number k (event halts)) where
+    chunks_are : (halts : List Halt) (was : ChunkIs) → slice_get old.chunks k ≡ Some was → (line_told halts (stands_at halts old) number command).world.volume.chunks ≡ (happens halts (fleets.stands_at halts old.chunks old.fleet) (event halts (run_of halts was))).volume.chunks
+    chunks_are halts was there =
+        ap (λ (t : Told). t.world.volume.chunks) (line halts ∙ ap (λ c. told_of halts (record (stands_at halts old) { kind = decided }) number c (event halts)) (run_there halts old.chunks k was there))
+
+    pub event_fails : (chunks : List ChunkIs) (fleet : FleetIs) → HasNotAnswered event k old.chunks old.fleet chunks → HasFailed old number command (becomes old chunks fleet kind)
+    event_fails chunks fleet n = stopped_fails (λ halts v. happens halts v (event halts (run_of halts n.was))) kind chunks fleet n.stopped (λ halts tells. chunks_are halts n.was n.there)
+
+    pub answered_fails : (chunks : List ChunkIs) (fleet : FleetIs) (before after : List ℕ) (answer : _) → HasAnswered event k old.chunks old.fleet before answer chunks fleet after → HasFailed old number command (becomes old chunks fleet kind)
+    answered_fails chunks fleet before after answer a = gone_fails (λ halts v. happens halts v (event halts (run_of halts a.was))) kind chunks fleet before after a.went (λ halts tells. chunks_are halts a.was a.there)
+
+-- Settlings
+
+pub settling_grown : (limit : ℕ) (old : List ChunkIs) (fleet : FleetIs) (new : List ChunkIs) → HasNotSettled limit old fleet new → HaveGrown old new
+settling_grown limit old fleet new n = grown_trans_all old n.mid new n.grown n.stopped.grown
+
+pub settling_fails : (old : WorldIs) (number limit : ℕ) (kind : Option Kind) (chunks : List ChunkIs) (fleet : FleetIs) → HasNotSettled limit old.chunks old.fleet chunks → HasFailed old number (commands.Settle limit) (becomes old chunks fleet kind)
+settling_fails old number limit kind chunks fleet n = record { goes_on = all_grew old chunks fleet kind (settling_grown limit old.chunks old.fleet chunks n); stopped = inl n }
+
+pub settled_fails : (old : WorldIs) (number limit : ℕ) (kind : Option Kind) (chunks : List ChunkIs) (fleet : FleetIs) (before after : List ℕ) (stopped : Bool) → HasSettled limit old.chunks old.fleet before stopped chunks fleet after
+    → HasFailed old number (commands.Settle limit) (becomes old chunks fleet kind)
+settled_fails old number limit kind chunks fleet before after stopped s = record {
+  goes_on = all_grew old chunks fleet kind s.went.grown;
+  stopped = inr (record { next = fleet; before = before; after = after; stopped = stopped; settled = s });
+}

@@ -46,4 +46,4 @@ module _ {D : Type 0} (faults : D → ℕ) (before after : List D) (faultless : 
 
   -- the text is that of the run without halts
   pub report_is : (lines : List Line) (text : List ℕ) (w : WorldIs) (halts : List Halt) → RunsTo lines text w → AreHalts faults halts before after w → text ≡ report_of [] lines
-  report_is lines text w halts run told = sym (ap (λ r. r.text) (run halts told.tells).run) ∙ ap (λ hs. report_of hs lines) (no_halts halts told.causes)
+  report_is lines text w halts run told = sym (run halts told.tells).report ∙ ap (λ hs. report_of hs lines) (no_halts halts told.causes)

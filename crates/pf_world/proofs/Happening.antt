@@ -1,28 +1,32 @@
--- What happens to one chunk of a world.
-use Rattle.std.proofs.Common.{◌≡◌, inl, inr, ℕ, IsSome, IfSome, List, [], ◌++◌, Option, Some, None, option_map, slice_get, slice_set, unwrap_or, refl, sym, ap, subst, ◌∙◌}
+-- What happens to a volume and its hosts makes a line.
+use Rattle.std.proofs.Common.{◌≡◌, ℕ, suc, ◌<◌, ◌≤◌, Bool, IsSome, IfSome, List, [], ◌∷◌, ◌++◌, Option, Some, None, unwrap_or, refl, sym, ap, subst, ◌∙◌, arith}
 use Rattle.std.proofs.lemmas.Bool.{false≢true}
-use Rattle.std.proofs.lemmas.List.{append_assoc}
-use Rattle.std.proofs.lemmas.Option.{same_Some, slice_get-map}
-use Rattle.pf_entry.proofs.Lists.{set_cases, set_there}
+use Rattle.std.proofs.lemmas.List.{append_assoc, append-nil}
+use Rattle.std.proofs.lemmas.Grind.{flat_map-append}
+use Rattle.std.proofs.lemmas.Option.{same_Some, slice_get_within}
 use Rattle.pf_script.specs.Lines.{is_volume}
 use Rattle.pf_script.specs.declared.command.Command.{Command}
+use Rattle.pf_script.specs.declared.command.Command.TheVariants.{Settle}
 use Rattle.pf_protocol.specs.declared.answers.Answer.{Answer}
-use Rattle.pf_cluster.proofs.Lists.{set_length, set_mapped}
-use Rattle.pf_report.specs.Texts.{answer_text, line_of}
+use Rattle.pf_cluster.proofs.Lists.{something_there}
+use Rattle.pf_report.specs.Texts.{answer_text, line_of, settle_text}
 use Rattle.pf_rounds.specs.Halts.{Halt}
-use Rattle.pf_protocol.specs.Groups.{Group}
-use Rattle.pf_group.specs.GroupIs.{state_of}
-use Rattle.pf_rounds.specs.Agreeing.{TellsOfGroup}
 use Rattle.pf_rounds.specs.Growing.{HasGrown}
 use Rattle.pf_rounds.proofs.Growing.{grown_refl}
-use Rattle.pf_chunk.specs.Saying.{answer_line}
-use Rattle.pf_chunk.specs.Steps.{Event, HasHappened}
-use Rattle.pf_chunk.specs.Views.{ChunkIs, IsReady, run_of}
-use Rattle.pf_world.specs.Worlds.{World, at_chunk, told, told_of, with_chunk}
-use Rattle.pf_world.specs.Lines.{line_told, shown_of, shows}
-use Rattle.pf_world.specs.Views.{IsChunkOf, IsWorld, WorldIs, stands_at}
-use Rattle.pf_world.specs.Agreeing.{Tells}
-use Rattle.pf_world.specs.Asked.{HasHappenedAt}
+use Rattle.pf_chunk.specs.Saying.{said}
+use Rattle.pf_chunk.specs.Steps.{Event}
+use Rattle.pf_chunk.specs.Views.{ChunkIs, run_of}
+use Rattle.pf_hosts.specs.Moments.{Moment, Writes, lines_in, text_of}
+use Rattle.pf_hosts.specs.Steps.{AreReady, HaveGrown, TellsAll}
+use Rattle.pf_hosts.proofs.Groups.{run_there}
+use Rattle.pf_fleet.specs.Settled.{HasSettled, settling}
+use Rattle.pf_fleet.specs.Steps.{FleetIs, HasAnswered, HasGone, IsFleetOf, Part}
+use Rattle.pf_fleet.specs.Steps as fleets
+use Rattle.pf_fleet.specs.Volumes.{happens}
+use Rattle.pf_world.specs.declared.kind.Kind.{Kind}
+use Rattle.pf_world.specs.Worlds.{at_chunk, ended, told_of}
+use Rattle.pf_world.specs.Lines.{line_told}
+use Rattle.pf_world.specs.Views.{IsWorld, WorldIs, stands_at}
 use Rattle.pf_world.specs.Steps.{Ends, GoesOn, HasRun}
 
 pub same_world : (w : WorldIs) → GoesOn w w
@@ -34,82 +38,89 @@ same_world w = record {
   grown = λ k was is there now. subst (λ (c : ChunkIs). HasGrown was.group c.group) (same_Some was is (sym there ∙ now)) (grown_refl was.group);
 }
 
--- a world with another chunk in one place
-abbrev pub with_chunk_at : WorldIs → ℕ → ChunkIs → WorldIs
-with_chunk_at w k c = record w { chunks = slice_set w.chunks k c }
+-- the world with other chunks and hosts
+abbrev pub becomes : WorldIs → List ChunkIs → FleetIs → Option Kind → WorldIs
+becomes w chunks fleet kind = record w { chunks = chunks; fleet = fleet; kind = kind }
 
-pub one_grew : (w : WorldIs) (k : ℕ) (was is : ChunkIs) → slice_get w.chunks k ≡ Some was → HasGrown was.group is.group → GoesOn w (with_chunk_at w k is)
-one_grew w k was is there grown = record {
-  sectors = refl;
-  names = refl;
-  format = refl;
-  chunks = set_length w.chunks k is;
-  grown = λ j old new before now. elim (set_cases w.chunks k is j new now) [
-    | inl here ↦ at_k j old new before here.0 here.1
-    | inr other ↦ subst (λ (c : ChunkIs). HasGrown old.group c.group) (same_Some old new (sym before ∙ other.1)) (grown_refl old.group)
-  ];
-} where
-  at_k : (j : ℕ) (old new : ChunkIs) → slice_get w.chunks j ≡ Some old → j ≡ k → is ≡ new → HasGrown old.group new.group
-  at_k j old new before same now =
-      let was_old : was ≡ old = same_Some was old (sym there ∙ ap (slice_get w.chunks) (sym same) ∙ before) in
-      subst (λ (c : ChunkIs). HasGrown old.group c.group) now (subst (λ (c : ChunkIs). HasGrown c.group is.group) was_old grown)
+pub all_grew : (old : WorldIs) (chunks : List ChunkIs) (fleet : FleetIs) (kind : Option Kind) → HaveGrown old.chunks chunks → GoesOn old (becomes old chunks fleet kind)
+all_grew old chunks fleet kind grown = record { sectors = refl; names = refl; format = refl; chunks = grown.count; grown = grown.each }
 
-pub still_world : (w : WorldIs) (k : ℕ) (was is : ChunkIs) → IsWorld w → slice_get w.chunks k ≡ Some was → HasGrown was.group is.group → IsReady is → IsWorld (with_chunk_at w k is)
-still_world w k was is world there grown ready = record {
-  volume = ap (λ n. is_volume n w.sectors w.names w.format) (set_length w.chunks k is) ∙ world.volume;
-  each = λ j c now. elim (set_cases w.chunks k is j c now) [
-    | inl here ↦ subst (λ (d : ChunkIs). IsChunkOf (with_chunk_at w k is) j d) here.1 (at_k j here.0)
-    | inr other ↦ let c_is = world.each j c other.1 in record { number = c_is.number; failed = c_is.failed; setup = c_is.setup; ready = c_is.ready }
-  ];
-} where
-  at_k : (j : ℕ) → j ≡ k → IsChunkOf (with_chunk_at w k is) j is
-  at_k j same =
-      let was_is = world.each k was there in
-      record { number = grown.number ∙ was_is.number ∙ sym same; failed = was_is.failed; setup = grown.setup ∙ was_is.setup; ready = ready }
+-- each chunk of a world stands between two events
+pub chunks_ready : (w : WorldIs) → IsWorld w → AreReady w.chunks
+chunks_ready w world k c there = let is = world.each k c there in (is.number, is.ready)
 
--- the run goes to the same chunk
-pub stands_there : (halts : List Halt) (w : WorldIs) (k : ℕ) (c : ChunkIs) → slice_get w.chunks k ≡ Some c → slice_get (stands_at halts w).chunks k ≡ Some (run_of halts c)
-stands_there halts w k c there = slice_get-map (run_of halts) w.chunks k ∙ ap (option_map (run_of halts)) there
-
-pub stands_with : (halts : List Halt) (w : WorldIs) (k : ℕ) (is : ChunkIs) → is.group.number ≡ k → with_chunk (stands_at halts w) (run_of halts is) ≡ stands_at halts (with_chunk_at w k is)
-stands_with halts w k is number = ap (λ cs. record { chunks = cs }) (ap (λ n. slice_set (stands_at halts w).chunks n (run_of halts is)) number ∙ set_mapped (run_of halts) w.chunks k is)
-
-pub tells_there : (halts : List Halt) (w : WorldIs) (k : ℕ) (was is : ChunkIs) → slice_get w.chunks k ≡ Some was → Tells halts (with_chunk_at w k is) → TellsOfGroup halts is.group
-tells_there halts w k was is there tells = tells k is (set_there w.chunks k was is there)
-
-pub told_at : (event : Event) (k : ℕ) (old : WorldIs) (before : List ℕ) (answer : Answer) (after : List ℕ) (number : ℕ) (was is : ChunkIs) (there : slice_get old.chunks k ≡ Some was) (went : HasHappened event was before answer after is) → is.group.number ≡ k → (halts : List Halt) → Tells halts (with_chunk_at old k is) → at_chunk (stands_at halts old) number k (event halts) ≡ record { world = stands_at halts (with_chunk_at old k is); text = went.text ++ answer_line number answer }
-told_at event k old before answer after number was is there went numbered halts tells =
-    ap (λ c. told_of (stands_at halts old) number c (event halts)) (stands_there halts old k was there)
-    ∙ ap (told (stands_at halts old) number) (went.run halts (tells_there halts old k was is there tells))
-    ∙ ap (λ w. record { world = w; text = went.text ++ answer_line number answer }) (stands_with halts old k is numbered)
-
-answer_put : (o : Option (List ℕ)) (number : ℕ) (middle after : List ℕ) → IsSome o → IfSome o (λ text. after ≡ middle ++ line_of number text) → after ≡ middle ++ line_of number (unwrap_or o [])
-answer_put (Some text) number middle after said put = put
-answer_put None number middle after said put = absurd (false≢true said)
-
--- it happened, and its answer was put
-pub happened_runs : (old : WorldIs) (number : ℕ) (command : Command) (event : Event) (k : ℕ) (before middle after : List ℕ) (answer : Answer) (new : WorldIs) → IsWorld old → HasHappenedAt event k old before answer middle new → IfSome (answer_text answer) (λ text. after ≡ middle ++ line_of number text) → ((halts : List Halt) (w : World) → line_told halts w number command ≡ at_chunk w number k (event halts)) → ((halts : List Halt) (w : World) → Ends halts w command) → HasRun old number command before after new
-happened_runs old number command event k before middle after answer new world h put asks ends =
-    subst (λ w. HasRun old number command before after w) (sym h.world) (record {
-      text = h.went.text ++ answer_line number answer;
-      put = answer_put (answer_text answer) number middle after h.went.said put ∙ ap (λ t. t ++ answer_line number answer) h.went.put ∙ append_assoc before h.went.text (answer_line number answer);
-      runs = record {
-        is_world = still_world old k h.was h.is world h.there h.went.grown h.went.ready;
-        goes_on = one_grew old k h.was h.is h.there h.went.grown;
-        run = λ halts tells. asks halts (stands_at halts old) ∙ told_at event k old before answer middle number h.was h.is h.there h.went (h.went.grown.number ∙ (world.each k h.was h.there).number) halts tells;
-        ends = λ halts tells. ends halts (stands_at halts old);
-      };
-    })
-
--- a chunk was shown
-pub shown_runs : (w : WorldIs) (number : ℕ) (command : Command) (k : ℕ) (c : ChunkIs) (text : Group → List ℕ) (before after : List ℕ) → IsWorld w → slice_get w.chunks k ≡ Some c → after ≡ before ++ line_of number (text (state_of c.group)) → ((halts : List Halt) (v : World) → line_told halts v number command ≡ shows v number k (λ d. text d.state)) → ((halts : List Halt) (v : World) → Ends halts v command) → HasRun w number command before after w
-shown_runs w number command k c text before after world there put shown ends = record {
-  text = line_of number (text (state_of c.group));
-  put = put;
-  runs = record {
-    is_world = world;
-    goes_on = same_world w;
-    run = λ halts tells. shown halts (stands_at halts w) ∙ ap (λ d. shown_of (stands_at halts w) number d (λ x. text x.state)) (stands_there halts w k c there);
-    ends = λ halts tells. ends halts (stands_at halts w);
-  };
+pub still_world : (old : WorldIs) (chunks : List ChunkIs) (fleet : FleetIs) (kind : Option Kind) → IsWorld old → AreReady chunks → IsFleetOf chunks fleet → HaveGrown old.chunks chunks → fleet.volume ≡ old.fleet.volume
+    → IsWorld (becomes old chunks fleet kind)
+still_world old chunks fleet kind world ready is_fleet grown volume = record {
+  volume = ap (λ n. is_volume n old.sectors old.names old.format) grown.count ∙ world.volume;
+  each = λ k c there.
+      let was = something_there old.chunks k (subst (λ n. k < n) grown.count (slice_get_within chunks k c there)) in
+      let its = world.each k was.0 was.1 in
+      record { number = (ready k c there).0; failed = its.failed; setup = (grown.each k was.0 c was.1 there).setup ∙ its.setup; ready = (ready k c there).1 };
+  is_fleet = is_fleet;
+  extent = volume ∙ world.extent ∙ ap (λ n. record { chunks = n; sectors = old.sectors }) (sym grown.count);
 }
+
+-- the line's own text comes behind what was told
+text_after : (told : List Moment) (text : List ℕ) → text_of (told ++ Writes text ∷ []) ≡ text_of told ++ text
+text_after told text = flat_map-append lines_in told (Writes text ∷ []) ∙ ap (λ xs. text_of told ++ xs) (append-nil text)
+
+pub answer_put : (o : Option (List ℕ)) (number : ℕ) (middle after : List ℕ) → IsSome o → IfSome o (λ text. after ≡ middle ++ line_of number text) → after ≡ middle ++ line_of number (unwrap_or o [])
+answer_put (Some text) number middle after is put = put
+answer_put None number middle after is put = absurd (false≢true is)
+
+pub le_suc : (n : ℕ) → n ≤ suc n
+le_suc n = omega arith
+
+module _ (old : WorldIs) (number : ℕ) (command : Command) (world : IsWorld old) where
+  -- the chunks and the hosts went through a part, and then the line's text was put
+  pub gone_runs : (part : Part) (kind : Option Kind) (chunks : List ChunkIs) (fleet : FleetIs) (before middle after text : List ℕ) → HasGone part old.chunks old.fleet before chunks fleet middle → after ≡ middle ++ line_of number text
+      → fleet.volume ≡ old.fleet.volume → fleet.calls ≤ suc old.fleet.calls
+      → ((halts : List Halt) → TellsAll halts chunks → line_told halts (stands_at halts old) number command ≡ ended (record (stands_at halts old) { kind = kind }) number (part halts (fleets.stands_at halts old.chunks old.fleet)) text)
+      → ((halts : List Halt) → TellsAll halts chunks → Ends halts (stands_at halts old) command) → HasRun old number command before after (becomes old chunks fleet kind)
+  gone_runs part kind chunks fleet before middle after text went put volume calls line ends = record {
+    told = went.told ++ Writes (line_of number text) ∷ [];
+    put = put ∙ ap (λ xs. xs ++ line_of number text) went.put ∙ append_assoc before (text_of went.told) (line_of number text) ∙ ap (λ xs. before ++ xs) (sym (text_after went.told (line_of number text)));
+    runs = record {
+      is_world = still_world old chunks fleet kind world went.ready went.is_fleet went.grown volume;
+      goes_on = all_grew old chunks fleet kind went.grown;
+      calls = calls;
+      run = λ halts tells. line halts tells ∙ ap (λ t. ended (record (stands_at halts old) { kind = kind }) number t text) (went.run halts tells);
+      ends = ends;
+    };
+  }
+
+  -- nothing happened, and the line's text was put
+  pub said_runs : (kind : Option Kind) (before after text : List ℕ) (part : Part) → ((halts : List Halt) → part halts (fleets.stands_at halts old.chunks old.fleet) ≡ record { volume = fleets.stands_at halts old.chunks old.fleet; told = [] }) → after ≡ before ++ line_of number text
+      → ((halts : List Halt) → line_told halts (stands_at halts old) number command ≡ ended (record (stands_at halts old) { kind = kind }) number (part halts (fleets.stands_at halts old.chunks old.fleet)) text)
+      → ((halts : List Halt) → Ends halts (stands_at halts old) command) → HasRun old number command before after (becomes old old.chunks old.fleet kind)
+  said_runs kind before after text part none put line ends =
+      gone_runs part kind old.chunks old.fleet before before after text (record {
+        ready = chunks_ready old world;
+        is_fleet = world.is_fleet;
+        grown = record { count = refl; each = (same_world old).grown };
+        told = [];
+        put = sym (append-nil before);
+        run = λ halts tells. none halts;
+      }) put refl (le_suc old.fleet.calls) (λ halts tells. line halts) (λ halts tells. ends halts)
+
+  -- an event was answered, and the answer was put
+  pub answered_runs : (event : Event) (k : ℕ) (kind : Option Kind) (chunks : List ChunkIs) (fleet : FleetIs) (before middle after : List ℕ) (answer : Answer) → HasAnswered event k old.chunks old.fleet before answer chunks fleet middle
+      → IfSome (answer_text answer) (λ text. after ≡ middle ++ line_of number text) → fleet.volume ≡ old.fleet.volume → fleet.calls ≡ old.fleet.calls
+      → ((halts : List Halt) → line_told halts (stands_at halts old) number command ≡ at_chunk halts (record (stands_at halts old) { kind = kind }) number k (event halts))
+      → ((halts : List Halt) → Ends halts (stands_at halts old) command) → HasRun old number command before after (becomes old chunks fleet kind)
+  answered_runs event k kind chunks fleet before middle after answer a put volume calls line ends =
+      gone_runs (λ halts v. happens halts v (event halts (run_of halts a.was))) kind chunks fleet before middle after (said answer) a.went (answer_put (answer_text answer) number middle after a.said put) volume
+      (subst (λ n. n ≤ suc old.fleet.calls) (sym calls) (le_suc old.fleet.calls))
+      (λ halts tells.
+      line halts ∙ ap (λ c. told_of halts (record (stands_at halts old) { kind = kind }) number c (event halts)) (run_there halts old.chunks k a.was a.there)
+      ∙ ap (λ x. ended (record (stands_at halts old) { kind = kind }) number (happens halts (fleets.stands_at halts old.chunks old.fleet) (event halts (run_of halts a.was))) (said x)) (a.answered halts tells))
+      (λ halts tells. ends halts)
+
+-- a settling ended, and its line was put
+pub settled_runs : (old : WorldIs) (number limit : ℕ) → IsWorld old → (chunks : List ChunkIs) (fleet : FleetIs) (before middle after : List ℕ) (stopped : Bool) → HasSettled limit old.chunks old.fleet before stopped chunks fleet middle → after ≡ middle ++ line_of number (settle_text stopped)
+    → HasRun old number (Settle limit) before after (becomes old chunks fleet old.kind)
+settled_runs old number limit world chunks fleet before middle after stopped s put =
+    gone_runs old number (Settle limit) world (settling limit) old.kind chunks fleet before middle after (settle_text stopped) s.went put s.same.volume (subst (λ n. n ≤ suc old.fleet.calls) (sym s.same.calls) (le_suc old.fleet.calls))
+    (λ halts tells. ap (λ b. ended (stands_at halts old) number (settling limit halts (fleets.stands_at halts old.chunks old.fleet)) (settle_text b)) (s.answered halts tells))
+    (λ halts tells. s.ends halts tells)

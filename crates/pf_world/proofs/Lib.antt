@@ -9,12 +9,8 @@ pub mod Told
 pub mod Servers
 pub mod Causes
 pub mod Lawful
-pub mod SettlingPackets
-pub mod SettlingTries
-pub mod Extending
-pub mod SettlingChunk
 pub mod Failing
-pub mod FailingLines
-pub mod SettlingWorld
-pub mod FailingWorld
-pub mod Settles
+pub mod Landing
+pub mod Asked
+pub mod Shown
+pub mod Mounts

@@ -2,6 +2,7 @@
 use Rattle.std.proofs.Common.{◌≡◌, ℕ, ◌<◌, List, [], ◌∷◌, ◌++◌, length, map, get_or, refl, sym, ap, subst, ◌∙◌}
 use Rattle.std.specs.List.{flat_map}
 use Rattle.std.proofs.lemmas.List.{append_assoc, append-nil}
+use Rattle.std.proofs.lemmas.Grind.{flat_map-append}
 use Rattle.std.proofs.lemmas.Option.{slice_get-get_or, slice_get_within}
 use Rattle.pf_script.specs.declared.command.Command.{Command}
 use Rattle.pf_script.specs.declared.command.Command.TheVariants as commands
@@ -11,10 +12,11 @@ use Rattle.pf_chunk.specs.Saying.{answer_line}
 use Rattle.pf_group.specs.Making.{making_answer}
 use Rattle.pf_chunk.specs.Runs.{ChunkRun}
 use Rattle.pf_chunk.specs.Views.{ChunkIs, run_of}
+use Rattle.pf_hosts.specs.Moments.{Moment, lines_in, text_of}
 use Rattle.pf_world.specs.Worlds.{Told, World, made_answer, no_world}
 use Rattle.pf_world.specs.Lines.{line_told, volume_told}
 use Rattle.pf_world.specs.declared.line.Line.{Line}
-use Rattle.pf_world.specs.Reports.{followed, run_from}
+use Rattle.pf_world.specs.Reports.{followed, run_from, world_run}
 use Rattle.pf_world.specs.Views.{WorldIs, stands_at}
 use Rattle.pf_world.specs.Agreeing.{Tells}
 use Rattle.pf_world.specs.Steps.{Ends, GoesOn, IsMade, Runs}
@@ -50,15 +52,15 @@ goes_trans a b c first second = record {
 
 -- one more line at the end
 followed_assoc : (first : Told) (more last : World → Told) → followed (followed first more) last ≡ followed first (λ w. followed (more w) last)
-followed_assoc first more last = ap (λ text. record { world = (last (more first.world).world).world; text = text }) (append_assoc first.text (more first.world).text (last (more first.world).world).text)
+followed_assoc first more last = ap (λ told. record { world = (last (more first.world).world).world; told = told }) (append_assoc first.told (more first.world).told (last (more first.world).world).told)
 
 run_one : (halts : List Halt) (w : World) (line : Line) → run_from halts w (line ∷ []) ≡ line_told halts w line.number line.command
-run_one halts w line = ap (λ text. record { world = (line_told halts w line.number line.command).world; text = text }) (append-nil (line_told halts w line.number line.command).text)
+run_one halts w line = ap (λ told. record { world = (line_told halts w line.number line.command).world; told = told }) (append-nil (line_told halts w line.number line.command).told)
 
 run_snoc : (halts : List Halt) (w : World) (lines : List Line) (line : Line) → run_from halts w (lines ++ line ∷ []) ≡ followed (run_from halts w lines) (λ next. line_told halts next line.number line.command)
 run_snoc halts w [] line = run_one halts w line
 run_snoc halts w (first ∷ lines) line =
-    ap (λ rest. record { world = rest.world; text = (line_told halts w first.number first.command).text ++ rest.text }) (run_snoc halts (line_told halts w first.number first.command).world lines line)
+    ap (λ rest. record { world = rest.world; told = (line_told halts w first.number first.command).told ++ rest.told }) (run_snoc halts (line_told halts w first.number first.command).world lines line)
     ∙ sym (followed_assoc (line_told halts w first.number first.command) (λ next. run_from halts next lines) (λ next. line_told halts next line.number line.command))
 
 -- a run of no line, but for its end
@@ -68,21 +70,26 @@ ends_one halts (first ∷ lines) w line each last = (each.0, ends_one halts line
 
 -- the volume is the first line
 pub run_begins : (chunks sectors names format number : ℕ) (w : WorldIs) (answer : Answer) → IsMade chunks sectors names format w answer → RunsTo (record { number = number; command = commands.Volume chunks sectors names format } ∷ []) (answer_line number answer) w
-run_begins chunks sectors names format number w answer made halts tells = record {
-  run = run_one halts no_world (record { number = number; command = commands.Volume chunks sectors names format })
-      ∙ ap (volume_told number) (made.run halts tells)
-      ∙ ap (λ a. record { world = stands_at halts w; text = answer_line number a }) (made_says halts w ∙ sym made.answered);
-  ends = (tt, tt);
-}
+run_begins chunks sectors names format number w answer made halts tells =
+    let line : Line = record { number = number; command = commands.Volume chunks sectors names format } in
+    let told = run_one halts no_world line ∙ ap (volume_told number) (made.run halts tells) in
+    record {
+      world = ap (λ (t : Told). t.world) told;
+      report = ap (λ (t : Told). text_of t.told) told ∙ append-nil (answer_line number (made_answer (stands_at halts w))) ∙ ap (answer_line number) (made_says halts w ∙ sym made.answered);
+      ends = (tt, tt);
+    }
 
 -- and each line that was run goes on with it
-pub run_goes_on : (lines : List Line) (text : List ℕ) (old : WorldIs) (number : ℕ) (command : Command) (more : List ℕ) (new : WorldIs) → RunsTo lines text old → Runs old number command more new → RunsTo (lines ++ record { number = number; command = command } ∷ []) (text ++ more) new
+pub run_goes_on : (lines : List Line) (text : List ℕ) (old : WorldIs) (number : ℕ) (command : Command) (more : List Moment) (new : WorldIs) → RunsTo lines text old → Runs old number command more new → RunsTo (lines ++ record { number = number; command = command } ∷ []) (text ++ text_of more) new
 run_goes_on lines text old number command more new before runs halts tells =
     let line : Line = record { number = number; command = command } in
     let was = before halts (tells_earlier halts old new runs.goes_on tells) in
+    let so_far : Told = world_run halts lines in
+    let last : line_told halts so_far.world number command ≡ record { world = stands_at halts new; told = more } = ap (λ w. line_told halts w number command) was.world ∙ runs.run halts tells in
+    let whole : world_run halts (lines ++ line ∷ []) ≡ record { world = stands_at halts new; told = so_far.told ++ more } =
+    run_snoc halts no_world lines line ∙ ap (λ (t : Told). record { world = t.world; told = so_far.told ++ t.told }) last in
     record {
-      run = run_snoc halts no_world lines line
-          ∙ ap (λ told. followed told (λ next. line_told halts next number command)) was.run
-          ∙ ap (λ told. record { world = told.world; text = text ++ told.text }) (runs.run halts tells);
-      ends = ends_one halts lines no_world line was.ends (subst (λ (t : Told). Ends halts t.world command) (sym was.run) (runs.ends halts tells));
+      world = ap (λ (t : Told). t.world) whole;
+      report = ap (λ (t : Told). text_of t.told) whole ∙ flat_map-append lines_in so_far.told more ∙ ap (λ xs. xs ++ text_of more) was.report;
+      ends = ends_one halts lines no_world line was.ends (subst (λ (w : World). Ends halts w command) (sym was.world) (runs.ends halts tells));
     }

@@ -16,14 +16,14 @@ use Rattle.pf_world.specs.declared.line.Line.{Line}
 use Rattle.pf_world.specs.Worlds.{World, no_world}
 use Rattle.pf_world.specs.Lines.{line_told}
 use Rattle.pf_world.specs.Steps.{Ends}
-use Rattle.pf_world.specs.Reports.{world_run}
+use Rattle.pf_world.specs.Reports.{report_of, world_run}
 use Rattle.pf_world.specs.Views.{WorldIs, stands_at}
 use Rattle.pf_world.specs.Agreeing.{Tells}
 
 -- At every moment of every group of the run: no two servers hold different committed ops in one slot; each server's sectors are its applied
 -- ops in the order of their slots; and each acknowledged write is committed in the log of each later leader, or under its checkpoint.
 abbrev pub IsSafeRun : World → Type 0
-IsSafeRun w = (k : ℕ) (c : ChunkRun) → slice_get w.chunks k ≡ Some c → IsSafe c.group.setup c.group.history
+IsSafeRun w = (k : ℕ) (c : ChunkRun) → slice_get w.volume.chunks k ≡ Some c → IsSafe c.group.setup c.group.history
 
 -- the group of a run stands where its history leads; the history is legal, and every law holds of it
 pub record IsLawful (c : Chunk) : Type 0 where
@@ -32,7 +32,7 @@ pub record IsLawful (c : Chunk) : Type 0 where
   pub sound : IsSound c.setup c.history
 
 abbrev pub IsLawfulRun : World → Type 0
-IsLawfulRun w = (k : ℕ) (c : ChunkRun) → slice_get w.chunks k ≡ Some c → IsLawful c.group
+IsLawfulRun w = (k : ℕ) (c : ChunkRun) → slice_get w.volume.chunks k ≡ Some c → IsLawful c.group
 
 -- the same of the histories that the groups of a world keep
 pub record IsLawfulGroup (g : GroupIs) : Type 0 where
@@ -77,9 +77,10 @@ abbrev pub EndEach : List Halt → World → List Line → Type 0
 EndEach halts w [] = Unit {0}
 EndEach halts w (line ∷ lines) = Ends halts w line.command × EndEach halts (line_told halts w line.number line.command).world lines
 
--- the run of these lines leads to the world and writes this text
+-- the run of these lines leads to the world, and its report is this text
 pub record IsRunTo (halts : List Halt) (lines : List Line) (text : List ℕ) (w : WorldIs) : Type 0 where
-  pub run : world_run halts lines ≡ record { world = stands_at halts w; text = text }
+  pub world : (world_run halts lines).world ≡ stands_at halts w
+  pub report : report_of halts lines ≡ text
   pub ends : EndEach halts no_world lines
 
 -- under every list of halts that tells of the world

@@ -1,12 +1,10 @@
 pub mod Worlds
-pub mod Settling
 pub mod Lines
 pub mod Reports
 pub mod Views
 pub mod Agreeing
 pub mod Disks
 pub mod Making
-pub mod Asked
 pub mod Steps
+pub mod Asked
 pub mod Headline
-pub mod Settled

@@ -1,48 +1,146 @@
--- What each line of a script does to a world, and what it writes.
-use Rattle.std.specs.Prelude.{ℕ, false, List, [], Option, Some, None, slice_get}
+-- What each line of a script does to a world, and what it tells.
+use Rattle.std.specs.Prelude.{ℕ, Bool, true, false, not, nat_le, nat_lt, if◌then◌else◌, List, [], ◌∷◌, length, Option, Some, None, slice_get}
+use Rattle.pf_base.specs.declared.calls.Call.{Call}
+use Rattle.pf_tree.specs.declared.calls.FileCall.{FileCall}
+use Rattle.pf_tree.specs.Listings.{listing}
 use Rattle.pf_script.specs.declared.command.Command.{Command}
 use Rattle.pf_script.specs.declared.command.Command.TheVariants as commands
 use Rattle.pf_entry.specs.declared.ops.Op.TheVariants.{Mark}
+use Rattle.pf_protocol.specs.declared.answers.Answer.TheVariants.{Done}
 use Rattle.pf_protocol.specs.declared.events.Event.TheVariants as events
-use Rattle.pf_report.specs.Texts.{line_of}
+use Rattle.pf_volume.specs.Volumes.{size_of}
+use Rattle.pf_mount.specs.declared.work.Work.{Work}
+use Rattle.pf_mount.specs.declared.work.Work.TheVariants.{Rests}
+use Rattle.pf_report.specs.Texts.{settle_text}
+use Rattle.pf_report.specs.Mounts.{mount_text, started_text, state_text, tree_lines}
 use Rattle.pf_rounds.specs.Halts.{Halt}
 use Rattle.pf_rounds.specs.Chunks.{Chunk}
-use Rattle.pf_chunk.specs.Asking.{fetches, submits}
-use Rattle.pf_chunk.specs.Happenings.{happened}
+use Rattle.pf_chunk.specs.Asking.{fetches, is_range, no_range_answer, submits}
+use Rattle.pf_chunk.specs.Happenings.{Happened, happened}
 use Rattle.pf_chunk.specs.Runs.{ChunkRun}
-use Rattle.pf_chunk.specs.Saying.{answer_line}
+use Rattle.pf_chunk.specs.Saying.{answer_line, said}
 use Rattle.pf_chunk.specs.Showing.{acked_shown, applied_shown, log_shown, mark_shown, of_server, sectors_shown}
-use Rattle.pf_world.specs.Worlds.{Told, World, at_chunk, made, made_answer}
-use Rattle.pf_world.specs.Settling.{settle_told, settled}
+use Rattle.pf_hosts.specs.Moments.{Writes}
+use Rattle.pf_hosts.specs.Hosts.{HostIs}
+use Rattle.pf_hosts.specs.Words.{read_call}
+use Rattle.pf_fleet.specs.Settling.{settled}
+use Rattle.pf_fleet.specs.Settled.{settling}
+use Rattle.pf_fleet.specs.Volumes.{begins, host_at, killed, mounts, quietly, saying}
+use Rattle.pf_world.specs.declared.kind.Kind.{Kind}
+use Rattle.pf_world.specs.declared.kind.Kind.TheVariants.{Mounted, Raw}
+use Rattle.pf_world.specs.Worlds.{Told, World, at_chunk, ended, made, made_answer, refused_text, said_only, stepped}
 
 -- a new volume takes the place of what was there
 abbrev pub volume_told : (number : ℕ) → World → Told
-volume_told number w = record { world = w; text = answer_line number (made_answer w) }
+volume_told number w = record { world = w; told = Writes (answer_line number (made_answer w)) ∷ [] }
 
 abbrev pub shown_of : World → (number : ℕ) → Option ChunkRun → (Chunk → List ℕ) → Told
-shown_of w number None text = record { world = w; text = [] }
-shown_of w number (Some c) text = record { world = w; text = line_of number (text c.group) }
+shown_of w number None text = record { world = w; told = [] }
+shown_of w number (Some c) text = said_only w number (text c.group)
 
 -- a line that shows a chunk changes nothing
 abbrev pub shows : World → (number chunk : ℕ) → (Chunk → List ℕ) → Told
-shows w number chunk text = shown_of w number (slice_get w.chunks chunk) text
+shows w number chunk text = shown_of w number (slice_get w.volume.chunks chunk) text
+
+abbrev pub settle_told : List Halt → World → (number limit : ℕ) → Told
+settle_told halts w number limit = ended w number (settling limit halts w.volume) (settle_text (settled halts limit w.volume).stopped)
+
+-- Asks of lines
+
+abbrev pub no_event_of : World → (number server : ℕ) → Option ChunkRun → Told
+no_event_of w number server None = record { world = w; told = [] }
+no_event_of w number server (Some c) = said_only w number (said (no_range_answer (slice_get c.group.state.servers server)))
+
+-- numbers that are no range are no event
+abbrev pub asked : List Halt → World → (number chunk server first count : ℕ) → (ChunkRun → Happened) → Told
+asked halts w number chunk server first count event =
+    if is_range first count then at_chunk halts w number chunk event else no_event_of w number server (slice_get w.volume.chunks chunk)
+
+-- the kind of a run is that of the first line that has one
+abbrev pub decided : Option Kind → Kind → Kind
+decided None kind = kind
+decided (Some was) kind = was
+
+abbrev pub is_mounted : Kind → Bool
+is_mounted Mounted = true
+is_mounted Raw = false
+
+abbrev pub with_kind : World → Kind → World
+with_kind w kind = record w { kind = Some kind }
+
+-- in a run with mounts no line submits
+abbrev pub submits_as : Kind → List Halt → World → (number chunk server first byte count : ℕ) → Told
+submits_as Mounted halts w number chunk server first byte count = said_only w number (refused_text 94)
+submits_as Raw halts w number chunk server first byte count = asked halts w number chunk server first count (submits halts server first byte count)
+
+abbrev pub submit_told : List Halt → World → (number chunk server first byte count : ℕ) → Told
+submit_told halts w number chunk server first byte count =
+    let kind = decided w.kind Raw in
+    submits_as kind halts (with_kind w kind) number chunk server first byte count
+
+-- Mounts
+
+-- the next mount, where the volume has room for files and for one more
+abbrev pub joins : List Halt → World → (number : ℕ) → Told
+joins halts w number =
+    if nat_lt (size_of w.volume.extent) 4112 then stepped halts w number (quietly w.volume) (refused_text 93)
+    else if nat_le 16 (length w.volume.hosts) then stepped halts w number (quietly w.volume) (refused_text 92)
+    else stepped halts w number (mounts w.volume) (mount_text (length w.volume.hosts))
+
+-- in a raw run no mount is made
+abbrev pub mounts_as : Kind → List Halt → World → (number : ℕ) → Told
+mounts_as Raw halts w number = said_only w number (refused_text 95)
+mounts_as Mounted halts w number = joins halts w number
+
+abbrev pub mount_told : List Halt → World → (number : ℕ) → Told
+mount_told halts w number =
+    let kind = decided w.kind Mounted in
+    mounts_as kind halts (with_kind w kind) number
+
+abbrev pub kill_of : World → (number mount : ℕ) → Option HostIs → Told
+kill_of w number mount None = said_only w number (refused_text 96)
+kill_of w number mount (Some host) = ended w number (quietly (killed mount w.volume)) (said Done)
+
+abbrev pub rests : Work → Bool
+rests Rests = true
+rests work = false
+
+-- a call with its paths read, if they are paths
+abbrev pub begins_if : List Halt → World → (number mount : ℕ) → HostIs → Option FileCall → Told
+begins_if halts w number mount host None = stepped halts w number (quietly w.volume) (refused_text 80)
+begins_if halts w number mount host (Some call) = stepped halts w number (begins mount host call w.volume) started_text
+
+-- of a host that is there, and rests
+abbrev pub call_of : List Halt → World → (number mount : ℕ) → Call → Option HostIs → Told
+call_of halts w number mount call None = stepped halts w number (quietly w.volume) (refused_text 96)
+call_of halts w number mount call (Some host) =
+    if rests host.mount.work then begins_if halts w number mount host (read_call call) else stepped halts w number (quietly w.volume) (refused_text 91)
+
+abbrev pub show_of : World → (number mount : ℕ) → Option HostIs → Told
+show_of w number mount None = said_only w number (refused_text 96)
+show_of w number mount (Some host) =
+    ended w number (saying (tree_lines (listing host.mount.files.tables)) w.volume) (state_text mount host.mount.upto (not (rests host.mount.work)))
 
 -- a line, by its number and its command
 abbrev pub line_told : List Halt → World → (number : ℕ) → Command → Told
 line_told halts w number (commands.Volume chunks sectors names format) = volume_told number (made halts chunks sectors names format)
-line_told halts w number (commands.Elect g i) = at_chunk w number g (λ c. happened halts c (events.Elect i))
-line_told halts w number (commands.Resend g i) = at_chunk w number g (λ c. happened halts c (events.Resend i))
-line_told halts w number (commands.Stop g i) = at_chunk w number g (λ c. happened halts c (events.Stop i))
-line_told halts w number (commands.Restart g i) = at_chunk w number g (λ c. happened halts c (events.Restart i false))
-line_told halts w number (commands.Checkpoint g i) = at_chunk w number g (λ c. happened halts c (events.Checkpoint i))
-line_told halts w number (commands.Deliver g k) = at_chunk w number g (λ c. happened halts c (events.Deliver k))
-line_told halts w number (commands.Lose g k) = at_chunk w number g (λ c. happened halts c (events.Lose k))
-line_told halts w number (commands.Submit g i s b n) = at_chunk w number g (submits halts i s b n)
-line_told halts w number (commands.Fetch g i s n) = at_chunk w number g (fetches halts i s n)
-line_told halts w number (commands.Mark g i) = at_chunk w number g (λ c. happened halts c (events.Submit i Mark))
-line_told halts w number (commands.Settle limit) = settle_told number (settled halts limit w)
+line_told halts w number (commands.Elect g i) = at_chunk halts w number g (λ c. happened halts c (events.Elect i))
+line_told halts w number (commands.Resend g i) = at_chunk halts w number g (λ c. happened halts c (events.Resend i))
+line_told halts w number (commands.Stop g i) = at_chunk halts w number g (λ c. happened halts c (events.Stop i))
+line_told halts w number (commands.Restart g i) = at_chunk halts w number g (λ c. happened halts c (events.Restart i false))
+line_told halts w number (commands.Checkpoint g i) = at_chunk halts w number g (λ c. happened halts c (events.Checkpoint i))
+line_told halts w number (commands.Deliver g k) = at_chunk halts w number g (λ c. happened halts c (events.Deliver k))
+line_told halts w number (commands.Lose g k) = at_chunk halts w number g (λ c. happened halts c (events.Lose k))
+line_told halts w number (commands.Submit g i s b n) = submit_told halts w number g i s b n
+line_told halts w number (commands.Fetch g i s n) = asked halts w number g i s n (fetches halts i s n)
+line_told halts w number (commands.Mark g i) = at_chunk halts w number g (λ c. happened halts c (events.Submit i Mark))
+line_told halts w number (commands.Settle limit) = settle_told halts w number limit
+line_told halts w number commands.Mount = mount_told halts w number
+line_told halts w number (commands.Kill m) = kill_of w number m (host_at w.volume.hosts m)
+line_told halts w number (commands.Call m call) = call_of halts w number m call (host_at w.volume.hosts m)
 line_told halts w number (commands.ShowLog g i) = shows w number g (λ c. of_server c.state i log_shown)
 line_told halts w number (commands.ShowApplied g i) = shows w number g (λ c. of_server c.state i applied_shown)
 line_told halts w number (commands.ShowSectors g i) = shows w number g (λ c. of_server c.state i sectors_shown)
 line_told halts w number (commands.ShowAcked g) = shows w number g (λ c. acked_shown c.state)
 line_told halts w number (commands.ShowMark g i s) = shows w number g (λ c. of_server c.state i (mark_shown s))
+line_told halts w number (commands.ShowMount m) = show_of w number m (host_at w.volume.hosts m)

@@ -1,6 +1,7 @@
 -- The run of a script, and its report.
 use Rattle.std.specs.Prelude.{ℕ, List, [], ◌∷◌, ◌++◌}
 use Rattle.pf_rounds.specs.Halts.{Halt}
+use Rattle.pf_hosts.specs.Moments.{text_of}
 use Rattle.pf_world.specs.declared.line.Line.{Line}
 use Rattle.pf_world.specs.Worlds.{Told, World, no_world}
 use Rattle.pf_world.specs.Lines.{line_told}
@@ -9,16 +10,17 @@ use Rattle.pf_world.specs.Lines.{line_told}
 abbrev pub followed : Told → (World → Told) → Told
 followed first more =
     let rest = more first.world in
-    record { world = rest.world; text = first.text ++ rest.text }
+    record { world = rest.world; told = first.told ++ rest.told }
 
 -- lines, one after another
 abbrev pub run_from : List Halt → World → List Line → Told
-run_from halts w [] = record { world = w; text = [] }
+run_from halts w [] = record { world = w; told = [] }
 run_from halts w (line ∷ lines) = followed (line_told halts w line.number line.command) (λ next. run_from halts next lines)
 
 -- the run of an accepted script, whose first command is its volume
 abbrev pub world_run : List Halt → List Line → Told
 world_run halts lines = run_from halts no_world lines
 
+-- its report: the lines among what it tells
 abbrev pub report_of : List Halt → List Line → List ℕ
-report_of halts lines = (world_run halts lines).text
+report_of halts lines = text_of (world_run halts lines).told

@@ -1,5 +1,5 @@
 -- What the making of a world and one line of a script come to.
-use Rattle.std.specs.Prelude.{◌≡◌, ℕ, ◌<◌, true, List, ◌++◌, length, Some, slice_get}
+use Rattle.std.specs.Prelude.{◌≡◌, ◌⊎◌, ℕ, suc, ◌≤◌, Bool, true, List, ◌++◌, length, Some, slice_get}
 use Rattle.std.specs.List.{flat_map}
 use Rattle.pf_script.specs.declared.command.Command.{Command}
 use Rattle.pf_script.specs.declared.command.Command.TheVariants as commands
@@ -7,12 +7,14 @@ use Rattle.pf_script.specs.Lines.{fits}
 use Rattle.pf_protocol.specs.declared.answers.Answer.{Answer}
 use Rattle.pf_rounds.specs.Halts.{Halt}
 use Rattle.pf_group.specs.Making.{making_answer}
-use Rattle.pf_chunk.specs.Runs.{ChunkRun}
-use Rattle.pf_rounds.specs.Begun.{HasBegun}
 use Rattle.pf_rounds.specs.Growing.{HasGrown}
-use Rattle.pf_chunk.specs.Views.{ChunkIs, run_of}
+use Rattle.pf_chunk.specs.Views.{ChunkIs}
+use Rattle.pf_hosts.specs.Moments.{Moment, text_of}
+use Rattle.pf_hosts.specs.Steps.{HaveBegun}
+use Rattle.pf_fleet.specs.Settled.{HasNotSettled, HasSettled}
+use Rattle.pf_fleet.specs.Settling.{HasEnded, settled}
+use Rattle.pf_fleet.specs.Steps.{FleetIs}
 use Rattle.pf_world.specs.Worlds.{World, made}
-use Rattle.pf_world.specs.Settling.{HasEnded, settled}
 use Rattle.pf_world.specs.Lines.{line_told}
 use Rattle.pf_world.specs.Views.{IsWorld, WorldIs, stands_at}
 use Rattle.pf_world.specs.Agreeing.{Tells}
@@ -22,6 +24,7 @@ pub record IsMade (chunks sectors names format : ℕ) (w : WorldIs) (answer : An
   pub is_world : IsWorld w
   pub count : length w.chunks ≡ chunks
   pub numbers : (w.sectors ≡ sectors) × (w.names ≡ names) × (w.format ≡ format)
+  pub calls : w.fleet.calls ≡ 0
   pub run : (halts : List Halt) → Tells halts w → made halts chunks sectors names format ≡ stands_at halts w
   pub answered : answer ≡ making_answer (flat_map (λ c. c.group.setup.failed) w.chunks)
 
@@ -40,32 +43,42 @@ MayRun chunks command = fits chunks command ≡ true
 
 -- each settling ends by itself
 abbrev pub Ends : List Halt → World → Command → Type 0
-Ends halts w (commands.Settle limit) = HasEnded (settled halts limit w)
+Ends halts w (commands.Settle limit) = HasEnded (settled halts limit w.volume)
 Ends halts w command = Unit {0}
 
--- the line was run: under every list of halts that tells of the world afterwards, this world and this text are the run's
-pub record Runs (old : WorldIs) (number : ℕ) (command : Command) (text : List ℕ) (new : WorldIs) : Type 0 where
+-- the line was run: under every list of halts that tells of the world afterwards, this world and what was told are the run's
+pub record Runs (old : WorldIs) (number : ℕ) (command : Command) (told : List Moment) (new : WorldIs) : Type 0 where
   pub is_world : IsWorld new
   pub goes_on : GoesOn old new
-  pub run : (halts : List Halt) → Tells halts new → line_told halts (stands_at halts old) number command ≡ record { world = stands_at halts new; text = text }
+  pub calls : new.fleet.calls ≤ suc old.fleet.calls
+  pub run : (halts : List Halt) → Tells halts new → line_told halts (stands_at halts old) number command ≡ record { world = stands_at halts new; told = told }
   pub ends : (halts : List Halt) → Tells halts new → Ends halts (stands_at halts old) command
 
--- the same, where the text was put at the end of a buffer
+-- the same, where its lines were put at the end of a buffer
 pub record HasRun (old : WorldIs) (number : ℕ) (command : Command) (before after : List ℕ) (new : WorldIs) : Type 0 where
-  pub text : List ℕ
-  pub put : after ≡ before ++ text
-  pub runs : Runs old number command text new
+  pub told : List Moment
+  pub put : after ≡ before ++ text_of told
+  pub runs : Runs old number command told new
 
--- The world stands in the middle of a line. Under a list of halts that tells of it, the chunks below one stand where the line would have left
--- them, that one after a beginning of what the line would have done to it, and those above it where they stood.
-pub record HasBegunLine (halts : List Halt) (old : WorldIs) (number : ℕ) (command : Command) (new : WorldIs) : Type 0 where
-  pub chunk : ℕ
-  pub before : (k : ℕ) (c : ChunkIs) → k < chunk → slice_get new.chunks k ≡ Some c → slice_get (line_told halts (stands_at halts old) number command).world.chunks k ≡ Some (run_of halts c)
-  pub here : (was is : ChunkIs) → slice_get old.chunks chunk ≡ Some was → slice_get new.chunks chunk ≡ Some is
-      → (c : ChunkRun) × (slice_get (line_told halts (stands_at halts old) number command).world.chunks chunk ≡ Some c) × HasBegun halts was.group c.group is.group
-  pub beyond : (k : ℕ) → chunk < k → slice_get new.chunks k ≡ slice_get old.chunks k
+-- under a list of halts that tells of the world, each group stands at a beginning of what the line would have done to it
+abbrev pub IsWithin : (old : WorldIs) → (number : ℕ) → Command → (new : WorldIs) → Type 0
+IsWithin old number command new =
+    (halts : List Halt) → Tells halts new → HaveBegun halts old.chunks (line_told halts (stands_at halts old) number command).world.volume.chunks new.chunks
 
--- there was no memory for the whole of it
+-- it settled, and there was no memory for the line that tells so
+pub record HasSettledOnly (limit : ℕ) (old new : WorldIs) : Type 0 where
+  pub next : FleetIs
+  pub before : List ℕ
+  pub after : List ℕ
+  pub stopped : Bool
+  pub settled : HasSettled limit old.chunks old.fleet before stopped new.chunks next after
+
+-- a settling stands after some whole tries and a beginning of one more
+abbrev pub StopsIn : (old : WorldIs) → (number : ℕ) → Command → (new : WorldIs) → Type 0
+StopsIn old number (commands.Settle limit) new = HasNotSettled limit old.chunks old.fleet new.chunks ⊎ HasSettledOnly limit old new
+StopsIn old number command new = IsWithin old number command new
+
+-- there was no memory for the whole of it: the world stands in the middle of the line
 pub record HasFailed (old : WorldIs) (number : ℕ) (command : Command) (new : WorldIs) : Type 0 where
   pub goes_on : GoesOn old new
-  pub begun : (halts : List Halt) → Tells halts new → HasBegunLine halts old number command new
+  pub stopped : StopsIn old number command new

@@ -1,21 +1,26 @@
 -- A world, as contracts see it.
-use Rattle.std.specs.Prelude.{◌≡◌, ℕ, true, List, length, map, Some, slice_get}
+use Rattle.std.specs.Prelude.{◌≡◌, ℕ, true, List, length, Option, Some, slice_get}
 use Rattle.pf_script.specs.Lines.{is_volume}
 use Rattle.pf_group.specs.Making.{setup_with}
 use Rattle.pf_rounds.specs.Halts.{Halt}
-use Rattle.pf_chunk.specs.Views.{ChunkIs, IsReady, run_of}
+use Rattle.pf_chunk.specs.Views.{ChunkIs, IsReady}
+use Rattle.pf_fleet.specs.Steps.{FleetIs, IsFleetOf}
+use Rattle.pf_fleet.specs.Steps as fleets
+use Rattle.pf_world.specs.declared.kind.Kind.{Kind}
 use Rattle.pf_world.specs.Worlds.{World}
 
--- a volume with its chunks, in the order of their numbers
+-- a volume with its chunks, in the order of their numbers, and its hosts; and the kind of the run
 pub record WorldIs : Type 0 where
   pub sectors : ℕ  -- of each chunk
   pub names : ℕ
   pub format : ℕ
   pub chunks : List ChunkIs
+  pub fleet : FleetIs
+  pub kind : Option Kind
 
 -- where a run stands that came to this world
 abbrev pub stands_at : List Halt → WorldIs → World
-stands_at halts w = record { chunks = map (run_of halts) w.chunks }
+stands_at halts w = record { volume = fleets.stands_at halts w.chunks w.fleet; kind = w.kind }
 
 -- chunk k between two lines is of this volume
 pub record IsChunkOf (w : WorldIs) (k : ℕ) (c : ChunkIs) : Type 0 where
@@ -27,6 +32,8 @@ pub record IsChunkOf (w : WorldIs) (k : ℕ) (c : ChunkIs) : Type 0 where
 pub record IsWorld (w : WorldIs) : Type 0 where
   pub volume : is_volume (length w.chunks) w.sectors w.names w.format ≡ true
   pub each : (k : ℕ) (c : ChunkIs) → slice_get w.chunks k ≡ Some c → IsChunkOf w k c
+  pub is_fleet : IsFleetOf w.chunks w.fleet
+  pub extent : w.fleet.volume ≡ record { chunks = length w.chunks; sectors = w.sectors }
 
 -- a world with the disks that no chunk has, in their order
 pub record WorldOn (D : Type 0) : Type 0 where

@@ -1,46 +1,69 @@
 -- The world of a run.
-use Rattle.std.specs.Prelude.{ℕ, ◌++◌, List, [], map, Option, Some, None, slice_get, slice_set}
+use Rattle.std.specs.Prelude.{ℕ, ◌++◌, List, [], ◌∷◌, map, Option, Some, None, slice_get, unwrap_or}
 use Rattle.std.specs.List.{flat_map, range_with_len}
 use Rattle.pf_protocol.specs.declared.answers.Answer.{Answer}
 use Rattle.pf_group.specs.Making.{making_answer}
+use Rattle.pf_volume.specs.Volumes.{Extent}
+use Rattle.pf_report.specs.Refusals.{refusal_text}
+use Rattle.pf_report.specs.Texts.{line_of}
 use Rattle.pf_rounds.specs.Halts.{Halt}
 use Rattle.pf_rounds.specs.Chunks.{made_chunk}
 use Rattle.pf_chunk.specs.Happenings.{Happened}
 use Rattle.pf_chunk.specs.Runs.{ChunkRun, new_run}
-use Rattle.pf_chunk.specs.Saying.{answer_line}
+use Rattle.pf_chunk.specs.Saying.{said}
+use Rattle.pf_hosts.specs.Moments.{Moment, Writes}
+use Rattle.pf_fleet.specs.Volumes.{VolumeRun, happens, hosts_step, quietly}
+use Rattle.pf_fleet.specs.Volumes as volumes
+use Rattle.pf_world.specs.declared.kind.Kind.{Kind}
 
--- the chunks of its volume, in the order of their numbers
+-- a volume with its hosts, and the kind of the run, once a line has decided it
 pub record World : Type 0 where
-  pub chunks : List ChunkRun
+  pub volume : VolumeRun
+  pub kind : Option Kind
+
+-- so many chunks without hosts
+abbrev pub new_volume : Extent → List ChunkRun → VolumeRun
+new_volume extent chunks = record { extent = extent; chunks = chunks; hosts = [] }
 
 -- before the volume is made
 abbrev pub no_world : World
-no_world = record { chunks = [] }
+no_world = record { volume = new_volume (record { chunks = 0; sectors = 0 }) []; kind = None }
 
--- a world after a line, and what was written
+-- a world after a line, and what was told
 pub record Told : Type 0 where
   pub world : World
-  pub text : List ℕ
+  pub told : List Moment
 
 -- a new volume
 abbrev pub made : List Halt → (chunks sectors names format : ℕ) → World
-made halts chunks sectors names format = record { chunks = map (λ k. new_run (made_chunk halts sectors names format k)) (range_with_len 0 chunks) }
+made halts chunks sectors names format =
+    let made_chunks = map (λ k. new_run (made_chunk halts sectors names format k)) (range_with_len 0 chunks) in
+    record { volume = new_volume (record { chunks = chunks; sectors = sectors }) made_chunks; kind = None }
 
 -- halted where some server could not be formatted
 abbrev pub made_answer : World → Answer
-made_answer w = making_answer (flat_map (λ c. c.group.setup.failed) w.chunks)
+made_answer w = making_answer (flat_map (λ c. c.group.setup.failed) w.volume.chunks)
 
-abbrev pub with_chunk : World → ChunkRun → World
-with_chunk w c = record w { chunks = slice_set w.chunks c.group.number c }
+-- what a line did to the volume, and then its own line of the report
+abbrev pub ended : World → (number : ℕ) → volumes.Told → (text : List ℕ) → Told
+ended w number t text = record { world = record w { volume = t.volume }; told = t.told ++ Writes (line_of number text) ∷ [] }
 
--- the lines of reads, and then the line's own
-abbrev pub told : World → (number : ℕ) → Happened → Told
-told w number h = record { world = with_chunk w h.chunk; text = h.text ++ answer_line number h.answer }
+-- nothing happened, and this is the line
+abbrev pub said_only : World → (number : ℕ) → (text : List ℕ) → Told
+said_only w number text = ended w number (quietly w.volume) text
 
-abbrev pub told_of : World → (number : ℕ) → Option ChunkRun → (ChunkRun → Happened) → Told
-told_of w number None step = record { world = w; text = [] }
-told_of w number (Some c) step = told w number (step c)
+-- the text of a refusal
+abbrev pub refused_text : (fault : ℕ) → List ℕ
+refused_text fault = unwrap_or (refusal_text fault) []
 
--- what happens to one chunk of the volume
-abbrev pub at_chunk : World → (number chunk : ℕ) → (ChunkRun → Happened) → Told
-at_chunk w number chunk step = told_of w number (slice_get w.chunks chunk) step
+-- at the end of a line of a mount each host takes a step
+abbrev pub stepped : List Halt → World → (number : ℕ) → volumes.Told → (text : List ℕ) → Told
+stepped halts w number t text = ended w number (volumes.followed t (hosts_step halts)) text
+
+abbrev pub told_of : List Halt → World → (number : ℕ) → Option ChunkRun → (ChunkRun → Happened) → Told
+told_of halts w number None event = record { world = w; told = [] }
+told_of halts w number (Some c) event = ended w number (happens halts w.volume (event c)) (said (event c).answer)
+
+-- what happens to one chunk of the volume, and how it is answered
+abbrev pub at_chunk : List Halt → World → (number chunk : ℕ) → (ChunkRun → Happened) → Told
+at_chunk halts w number chunk event = told_of halts w number (slice_get w.volume.chunks chunk) event

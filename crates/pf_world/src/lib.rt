@@ -1,14 +1,16 @@
-//! A volume without mounts: its chunks, and how the lines of a script run over them.
+//! A volume with its hosts, and how the lines of a script run over them.
 //!
 //! Each line of the script ends with one line of the report; before it stands a line for each read that it answered.
 #![tactic(auto)]
 
 mod disks;
+mod kind;
 mod laws;
 mod line;
 mod lines;
 mod making;
-mod settling;
+mod mounting;
+mod showing;
 mod world;
 
 pub use line::Line;

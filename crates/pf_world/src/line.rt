@@ -2,7 +2,7 @@
 use pf_script::Command;
 
 /// A line of a script that says something.
-#[derive(Clone, Copy, Debug, PartialEq, Eq)]
+#[derive(Debug, Drop)]
 pub struct Line {
     pub number: u32,
     pub command: Command,

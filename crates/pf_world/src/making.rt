@@ -14,7 +14,9 @@ use crate::disks::{put_six, take_six};
 use pf_base::NoMemory;
 use pf_chunk::ChunkGroup;
 use pf_disk::Disk;
+use pf_fleet::Fleet;
 use pf_protocol::Answer;
+use pf_volume::Volume;
 use std::alloc::Global;
 
 /// The second answer, unless it tells no more than that all was done.
@@ -61,6 +63,8 @@ impl<D: Disk + Drop> World<D> {
             format,
             workers,
             chunks: Vec::new(alloc),
+            fleet: Fleet::new(alloc, Volume::new(chunks, sectors)),
+            kind: None,
             spare,
         };
         let mut answer = Answer::Done;

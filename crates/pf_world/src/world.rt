@@ -1,9 +1,11 @@
 //! The world of a script.
+use crate::kind::Kind;
 use pf_chunk::ChunkGroup;
 use pf_disk::Disk;
+use pf_fleet::Fleet;
 use std::marker::Model;
 
-/// The chunks of a volume, on the disks that they were given.
+/// The chunks of a volume, on the disks that they were given, and its hosts.
 #[derive(Drop)]
 pub struct World<D: Disk> {
     pub(crate) sectors: u32,
@@ -12,6 +14,9 @@ pub struct World<D: Disk> {
     /// How many threads copy sectors at once, 1 to 8.
     pub(crate) workers: u32,
     pub(crate) chunks: Vec<ChunkGroup<D>>,
+    pub(crate) fleet: Fleet,
+    /// Once a line has decided it.
+    pub(crate) kind: Option<Kind>,
     /// The disks that no chunk has, in the reverse of their order. It has room for all of them.
     pub(crate) spare: Vec<D>,
 }
@@ -22,7 +27,7 @@ impl<D: Disk> Model for World<D> {
 
     ghost Value = { WorldOn D };
 
-    ghost view = { λ w. record { world = record { sectors = w.sectors; names = w.names; format = w.format; chunks = w.chunks.items }; spare = reverse w.spare.items } };
+    ghost view = { λ w. record { world = record { sectors = w.sectors; names = w.names; format = w.format; chunks = w.chunks.items; fleet = w.fleet; kind = w.kind }; spare = reverse w.spare.items } };
 
     ghost invariant = { λ w. (1 ≤ w.workers) × (w.workers ≤ 8) × (vec_len w.spare + 6 * length w.chunks.items ≤ vec_capacity w.spare) };
 }

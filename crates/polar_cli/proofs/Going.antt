@@ -1,10 +1,12 @@
 -- Lines that are run one after another.
-use Rattle.std.proofs.Common.{◌≡◌, ℕ, zero, suc, ◌+◌, ◌<◌, ◌≤◌, List, [], ◌∷◌, ◌++◌, length, take, drop, get_or, Option, refl, sym, ap, subst, drop-cons, ◌∙◌, arith}
+use Rattle.std.proofs.Common.{◌≡◌, ℕ, zero, suc, ◌+◌, ◌^◌, ◌<◌, ◌≤◌, List, [], ◌∷◌, ◌++◌, length, take, drop, get_or, Option, refl, sym, ap, subst, drop-cons, ◌∙◌, arith}
 use Rattle.std.specs.Io.KnownBytes.{Appends}
 use Rattle.std.proofs.lemmas.List.{take-append-drop, take_more}
+use Rattle.std.proofs.lemmas.Option.{same_Some, slice_get-get_or, slice_get_read}
 use Rattle.std.proofs.Math.ListN.{drop_of_length-le}
 use Rattle.pf_entry.specs.Lists.{Every}
 use Rattle.pf_script.specs.declared.command.Command.TheVariants.{Volume}
+use Rattle.pf_hosts.specs.Moments.{text_of}
 use Rattle.pf_world.specs.declared.line.Line.{Line}
 use Rattle.pf_world.specs.Headline.{IsSoundWorld, RunsTo}
 use Rattle.pf_world.specs.Steps.{GoesOn, HasFailed, HasRun, MayRun}
@@ -19,6 +21,10 @@ use Rattle.polar_cli.proofs.Taken.{appends_both, front_after}
 abbrev pub no_line : Line
 no_line = record { number = 0; command = Volume 0 0 0 0 }
 
+-- the line that stands there
+pub item_is : (lines : List Line) (i : ℕ) (line : Line) → i < length lines → line ≡ get_or lines i line → line ≡ get_or lines i no_line
+item_is lines i line low is = same_Some line (get_or lines i no_line) (sym (slice_get_read lines (length lines) i line refl low is) ∙ slice_get-get_or lines i no_line low)
+
 -- after the volume these lines were run, and the texts written
 pub record HasGone (volume : Line) (done : List Line) (taken now : Option (List ℕ)) (old world : WorldIs) : Type 0 where
   pub text : List ℕ
@@ -26,10 +32,16 @@ pub record HasGone (volume : Line) (done : List Line) (taken now : Option (List 
   pub lawful : IsSoundWorld world
   pub is_world : IsWorld world
   pub goes_on : GoesOn old world
+  pub calls : world.fleet.calls ≤ old.fleet.calls + length done
   pub written : Appends taken now text
 
 pub gone_none : (volume : Line) (text : List ℕ) (taken now : Option (List ℕ)) (w : WorldIs) → RunsTo (volume ∷ []) text w → IsWorld w → IsSoundWorld w → Appends taken now text → HasGone volume [] taken now w w
-gone_none volume text taken now w run is_world sound written = record { text = text; run = run; lawful = sound; is_world = is_world; goes_on = same_world w; written = written }
+gone_none volume text taken now w run is_world sound written = record { text = text; run = run; lawful = sound; is_world = is_world; goes_on = same_world w; calls = omega arith; written = written }
+
+length_taken : (lines : List Line) (i : ℕ) → i ≤ length lines → length (take i lines) ≡ i
+length_taken lines zero low = refl
+length_taken [] (suc i) low = absurd (omega (arith, low))
+length_taken (line ∷ lines) (suc i) low = ap suc (length_taken lines i (omega (arith, low)))
 
 -- one line more was run
 pub gone_more : (volume : Line) (lines : List Line) (i : ℕ) (taken now later : Option (List ℕ)) (old w new : WorldIs) (out : List ℕ) → i < length lines
@@ -37,14 +49,15 @@ pub gone_more : (volume : Line) (lines : List Line) (i : ℕ) (taken now later :
     → HasGone volume (take (i + 1) lines) taken later old new
 gone_more volume lines i taken now later old w new out low gone ran sound put =
     let line = get_or lines i no_line in
-    let run : RunsTo ((volume ∷ take i lines) ++ line ∷ []) (gone.text ++ ran.text) new = run_goes_on (volume ∷ take i lines) gone.text w line.number line.command ran.text new gone.run ran.runs in
+    let run : RunsTo ((volume ∷ take i lines) ++ line ∷ []) (gone.text ++ text_of ran.told) new = run_goes_on (volume ∷ take i lines) gone.text w line.number line.command ran.told new gone.run ran.runs in
     record {
-      text = gone.text ++ ran.text;
-      run = subst (λ done. RunsTo (volume ∷ done) (gone.text ++ ran.text) new) (sym (take_more lines i no_line low)) run;
+      text = gone.text ++ text_of ran.told;
+      run = subst (λ done. RunsTo (volume ∷ done) (gone.text ++ text_of ran.told) new) (sym (take_more lines i no_line low)) run;
       lawful = sound;
       is_world = ran.runs.is_world;
       goes_on = goes_trans old w new gone.goes_on ran.runs.goes_on;
-      written = appends_both taken now later gone.text ran.text gone.written (subst (Appends now later) ran.put put);
+      calls = omega (arith, gone.calls, ran.runs.calls, length_taken lines i (omega (arith, low)), length_taken lines (i + 1) (omega (arith, low)));
+      written = appends_both taken now later gone.text (text_of ran.told) gone.written (subst (Appends now later) ran.put put);
     }
 
 -- memory ran out in the next line
@@ -91,21 +104,21 @@ pub full_later : (volume : Line) (lines : List Line) (i : ℕ) (taken now later 
     → HasGoneOn statuses.WriteFault volume lines taken later full old new
 full_later volume lines i taken now later full old w new out low gone ran sound rose front =
     let line = get_or lines i no_line in
-    let run : RunsTo ((volume ∷ take i lines) ++ line ∷ []) (gone.text ++ ran.text) new = run_goes_on (volume ∷ take i lines) gone.text w line.number line.command ran.text new gone.run ran.runs in
+    let run : RunsTo ((volume ∷ take i lines) ++ line ∷ []) (gone.text ++ text_of ran.told) new = run_goes_on (volume ∷ take i lines) gone.text w line.number line.command ran.told new gone.run ran.runs in
     record {
       done = take (i + 1) lines;
       rest = drop (i + 1) lines;
       first = take-append-drop (i + 1) lines;
-      text = gone.text ++ ran.text;
+      text = gone.text ++ text_of ran.told;
       world = new;
-      run = subst (λ done. RunsTo (volume ∷ done) (gone.text ++ ran.text) new) (sym (take_more lines i no_line low)) run;
+      run = subst (λ done. RunsTo (volume ∷ done) (gone.text ++ text_of ran.told) new) (sym (take_more lines i no_line low)) run;
       is_world = ran.runs.is_world;
       goes_on = goes_trans old w new gone.goes_on ran.runs.goes_on;
       lawful = sound;
       leaves = refl;
       lawful_left = sound;
       count = ran.runs.goes_on.chunks ∙ gone.goes_on.chunks;
-      wrote = (rose, front_after taken now later gone.text ran.text gone.written (subst (AppendsFront now later) ran.put front));
+      wrote = (rose, front_after taken now later gone.text (text_of ran.told) gone.written (subst (AppendsFront now later) ran.put front));
     }
 
 -- all lines were run
@@ -137,3 +150,7 @@ pub may_run : (lines : List Line) (i : ℕ) (old w : WorldIs) → i < length lin
     → MayRun (length w.chunks) (get_or lines i no_line).command
 may_run lines i old w low count all =
     subst (λ n. MayRun n (get_or lines i no_line).command) (sym count) (every_at (λ line. MayRun (length old.chunks) line.command) lines i no_line low all)
+
+-- so few calls were begun that the next line may begin one
+pub few_calls : (volume : Line) (lines : List Line) (i : ℕ) (taken now : Option (List ℕ)) (old w : WorldIs) → i < length lines → old.fleet.calls + length lines < 2 ^ 32 → HasGone volume (take i lines) taken now old w → w.fleet.calls + 1 < 2 ^ 32
+few_calls volume lines i taken now old w low few gone = omega (arith, low, few, gone.calls, length_taken lines i (omega (arith, low)))

@@ -1,5 +1,5 @@
 -- A volume is made on disks, or its first chunks are.
-use Rattle.std.proofs.Common.{◌≡◌, ℕ, ◌*◌, ◌≤◌, true, List, [], ◌∷◌, ◌++◌, IfSome, Option, drop, length, Some, flat_map, slice_get, refl, ap, sym, subst, ◌∙◌, arith}
+use Rattle.std.proofs.Common.{◌≡◌, ℕ, ◌*◌, ◌≤◌, true, List, [], ◌∷◌, ◌++◌, IfSome, Option, drop, length, Some, None, flat_map, slice_get, refl, ap, sym, subst, ◌∙◌, arith}
 use Rattle.std.proofs.lemmas.Option.{slice_get_within}
 use Rattle.pf_disk.specs.Crashes.{Images}
 use Rattle.pf_script.specs.declared.command.Command.{Command}
@@ -53,6 +53,10 @@ volume_of n (commands.ShowApplied g i) volume = absurd volume
 volume_of n (commands.ShowSectors g i) volume = absurd volume
 volume_of n (commands.ShowAcked g) volume = absurd volume
 volume_of n (commands.ShowMark g i s) volume = absurd volume
+volume_of n commands.Mount volume = absurd volume
+volume_of n (commands.Kill m) volume = absurd volume
+volume_of n (commands.Call m call) volume = absurd volume
+volume_of n (commands.ShowMount m) volume = absurd volume
 
 -- the text of a volume that was made
 made_says : (failed : List ℕ) (number : ℕ) (out : List ℕ) (answer : Answer) → answer ≡ making_answer failed → IfSome (answer_text answer) (λ text. out ≡ [] ++ line_of number text) → out ≡ answer_line number answer
@@ -72,11 +76,16 @@ new_legal setup sectors names format good is =
 none_at : (k : ℕ) (c : ChunkIs) → slice_get [] k ≡ Some c → ⊥
 none_at k c there = absurd (omega (arith, slice_get_within [] k c there))
 
+-- a world without chunks
+abbrev pub bare : (sectors names format : ℕ) → WorldIs
+bare sectors names format =
+    record { sectors = sectors; names = names; format = format; chunks = []; fleet = record { volume = record { chunks = 0; sectors = 0 }; hosts = []; calls = 0 }; kind = None }
+
 module _ {D : Type 0} (faults : D → ℕ) (command : Command) (before : List D) where
   -- no chunk of the volume was made yet
-  pub none_begun : (v : VolumeOf command) → HasBegunVolume faults command before (record { sectors = v.sectors; names = v.names; format = v.format; chunks = [] })
+  pub none_begun : (v : VolumeOf command) → HasBegunVolume faults command before (bare v.sectors v.names v.format)
   none_begun v =
-      let left : WorldIs = record { sectors = v.sectors; names = v.names; format = v.format; chunks = [] } in
+      let left : WorldIs = bare v.sectors v.names v.format in
       subst (λ c. HasBegunVolume faults c before left) (sym v.is)
       (refl, refl, refl, record { few = omega arith; sixes = []; given = refl; each = λ k c there. absurd (none_at k c there); numbers = λ k c there. absurd (none_at k c there) })
 
@@ -116,13 +125,14 @@ module _ {D : Type 0} (seen : D → Option (List ℕ)) (may_leave : D → Images
             (run_begins chunks sectors names format line.number on.world answer made);
         fresh = fresh;
         volume = (sym made.count, fits);
+        calls = made.calls;
         spare = spare ∙ ap (λ n. drop (6 * n) disks) (sym made.count);
       })
 
   -- only the first were
   pub not_opened : (before after : List D) → (made : List ChunkIs) × AreBegun faults chunks sectors names format before made × AreLeft seen may_leave faults made before after → HasNotOpened seen may_leave faults line before after
   not_opened before after back =
-      let made : WorldIs = record { sectors = sectors; names = names; format = format; chunks = back.0 } in
+      let made : WorldIs = record (bare sectors names format) { chunks = back.0 } in
       record { made = made; begun = subst (λ c. HasBegunVolume faults c before made) (sym is) (refl, refl, refl, back.1); left = back.2 }
 
   -- all were, but there was no memory for the text

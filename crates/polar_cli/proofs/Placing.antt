@@ -1,5 +1,7 @@
 -- In an accepted script the volume comes first, and each later line may be run in it.
-use Rattle.std.proofs.Common.{◌≡◌, ℕ, ◌+◌, nat_lt, Bool, true, false, cond, length, append-nil, List, [], ◌∷◌, ◌++◌, Option, Some, None, Result, Ok, Err, IfOk, refl, sym, subst}
+use Rattle.std.proofs.Common.{◌≡◌, ℕ, ◌+◌, ◌<◌, ◌≤◌, nat_lt, Bool, true, false, cond, length, append-nil, List, [], ◌∷◌, ◌++◌, Option, Some, None, Result, Ok, Err, IfOk, refl, sym, subst, arith}
+use Rattle.std.proofs.lemmas.Bool.Decides.{nat_tests}
+use Rattle.std.proofs.lemmas.List.{length-append}
 use Rattle.pf_entry.specs.Lists.{Every}
 use Rattle.pf_script.specs.declared.command.Command.{Command}
 use Rattle.pf_script.specs.declared.command.Command.TheVariants as commands
@@ -11,6 +13,7 @@ use Rattle.pf_script.specs.declared.form.PacketVerb.{PacketVerb}
 use Rattle.pf_script.specs.declared.form.PacketVerb.TheVariants.{Deliver, Lose}
 use Rattle.pf_script.specs.declared.form.Form.{Form}
 use Rattle.pf_script.specs.declared.form.Form.TheVariants as forms
+use Rattle.pf_script.specs.Calls.{call_from}
 use Rattle.pf_script.specs.Words.{words_of, trimmed}
 use Rattle.pf_script.specs.Forms.{form_of, ◌>>=◌}
 use Rattle.pf_script.specs.Lines.{command_of, fits, is_silent, is_volume, line_of, placed, volume_after}
@@ -66,6 +69,10 @@ placed_may None (forms.Fetch g i s c) = tt
 placed_may None (forms.Settle n) = tt
 placed_may None (forms.ShowAcked g) = tt
 placed_may None (forms.ShowMark g i s) = tt
+placed_may None forms.Mount = tt
+placed_may None (forms.Kill m) = tt
+placed_may None (forms.Call m call) = tt
+placed_may None (forms.ShowMount m) = tt
 placed_may (Some chunks) (forms.Volume c s n f) = tt
 placed_may (Some chunks) (forms.OfServer verb g i) = server_may chunks verb g i
 placed_may (Some chunks) (forms.OfPacket verb g k) = packet_may chunks verb g k
@@ -74,6 +81,10 @@ placed_may (Some chunks) (forms.Fetch g i s c) = within_ok (fits chunks (command
 placed_may (Some chunks) (forms.Settle n) = within_ok (fits chunks (commands.Settle n)) (commands.Settle n) (MayRun chunks) (λ h. h)
 placed_may (Some chunks) (forms.ShowAcked g) = within_ok (fits chunks (commands.ShowAcked g)) (commands.ShowAcked g) (MayRun chunks) (λ h. h)
 placed_may (Some chunks) (forms.ShowMark g i s) = within_ok (fits chunks (commands.ShowMark g i s)) (commands.ShowMark g i s) (MayRun chunks) (λ h. h)
+placed_may (Some chunks) forms.Mount = within_ok (fits chunks commands.Mount) commands.Mount (MayRun chunks) (λ h. h)
+placed_may (Some chunks) (forms.Kill m) = within_ok (fits chunks (commands.Kill m)) (commands.Kill m) (MayRun chunks) (λ h. h)
+placed_may (Some chunks) (forms.Call m call) = within_ok (fits chunks (commands.Call m (call_from call))) (commands.Call m (call_from call)) (MayRun chunks) (λ h. h)
+placed_may (Some chunks) (forms.ShowMount m) = within_ok (fits chunks (commands.ShowMount m)) (commands.ShowMount m) (MayRun chunks) (λ h. h)
 
 some_may : (volume : Option ℕ) (r : Result Command LineFault) → IfOk r (MayCome volume) → IfOk (r >>= λ command. Ok (Some command)) (MayStand volume)
 some_may volume (Ok command) h = h
@@ -124,6 +135,10 @@ line_placed None lines number (commands.ShowApplied g i) all may = absurd may
 line_placed None lines number (commands.ShowSectors g i) all may = absurd may
 line_placed None lines number (commands.ShowAcked g) all may = absurd may
 line_placed None lines number (commands.ShowMark g i s) all may = absurd may
+line_placed None lines number commands.Mount all may = absurd may
+line_placed None lines number (commands.Kill m) all may = absurd may
+line_placed None lines number (commands.Call m call) all may = absurd may
+line_placed None lines number (commands.ShowMount m) all may = absurd may
 line_placed (Some chunks) lines number (commands.Volume c s n f) all may = absurd may
 line_placed (Some chunks) lines number (commands.Elect g i) all may = later_placed chunks lines (record { number = number; command = commands.Elect g i }) all may
 line_placed (Some chunks) lines number (commands.Resend g i) all may = later_placed chunks lines (record { number = number; command = commands.Resend g i }) all may
@@ -141,24 +156,63 @@ line_placed (Some chunks) lines number (commands.ShowApplied g i) all may = late
 line_placed (Some chunks) lines number (commands.ShowSectors g i) all may = later_placed chunks lines (record { number = number; command = commands.ShowSectors g i }) all may
 line_placed (Some chunks) lines number (commands.ShowAcked g) all may = later_placed chunks lines (record { number = number; command = commands.ShowAcked g }) all may
 line_placed (Some chunks) lines number (commands.ShowMark g i s) all may = later_placed chunks lines (record { number = number; command = commands.ShowMark g i s }) all may
+line_placed (Some chunks) lines number commands.Mount all may = later_placed chunks lines (record { number = number; command = commands.Mount }) all may
+line_placed (Some chunks) lines number (commands.Kill m) all may = later_placed chunks lines (record { number = number; command = commands.Kill m }) all may
+line_placed (Some chunks) lines number (commands.Call m call) all may = later_placed chunks lines (record { number = number; command = commands.Call m call }) all may
+line_placed (Some chunks) lines number (commands.ShowMount m) all may = later_placed chunks lines (record { number = number; command = commands.ShowMount m }) all may
 
 more_placed : (volume : Option ℕ) (lines : List Line) (number : ℕ) (command : Option Command) → ArePlaced volume lines → MayStand volume command → ArePlaced (volume_after volume command) (lines ++ line_list number command)
 more_placed volume lines number None all may = subst (ArePlaced volume) (sym (append-nil lines)) all
 more_placed volume lines number (Some command) all may = line_placed volume lines number command all may
 
+-- a line that was read has a number of at most 100,000
+all_ok : {T : Type 0} (r : Result T LineFault) (P : Type 0) → P → IfOk r (λ x. P)
+all_ok (Ok x) P is = is
+all_ok (Err fault) P is = tt
+
+few_ok : {T : Type 0} (number : ℕ) (many : Bool) (r : Result T LineFault) → nat_lt 100000 number ≡ many → IfOk (cond many (Err TooManyLines) r) (λ x. number ≤ 100000)
+few_ok number true r is = tt
+few_ok number false r is = all_ok r (number ≤ 100000) (grind (arith, nat_tests))
+
+read_few : (number : ℕ) (volume : Option ℕ) (line : List ℕ) → IfOk (read_line number volume line) (λ command. number ≤ 100000)
+read_few number volume line = few_ok number (nat_lt 100000 number) (line_of volume line) refl
+
+abbrev Reads : (number : ℕ) → (volume : Option ℕ) → Result (Option Command) LineFault → Type 0
+Reads number volume r = IfOk r (MayStand volume) × IfOk r (λ command. number ≤ 100000)
+
+reads : (number : ℕ) (volume : Option ℕ) (line : List ℕ) → Reads number volume (read_line number volume line)
+reads number volume line = (read_may number volume line, read_few number volume line)
+
+-- the lines so far stand in their places, and are fewer than the number of the next one
+record AreGood (volume : Option ℕ) (lines : List Line) (number : ℕ) : Type 0 where
+  placed : ArePlaced volume lines
+  fewer : length lines < number
+  few : number ≤ 100001
+
 abbrev IsGood : Scanned → Type 0
-IsGood (Open lines number volume begun) = ArePlaced volume lines
+IsGood (Open lines number volume begun) = AreGood volume lines number
 IsGood (Refused line fault) = Unit {0}
 
 abbrev IsGoodEnd : Judged → Type 0
 IsGoodEnd (Ok lines) = IsWhole lines
 IsGoodEnd (Err refused) = Unit {0}
 
-line_good : (lines : List Line) (number : ℕ) (volume : Option ℕ) (r : Result (Option Command) LineFault) → ArePlaced volume lines → IfOk r (MayStand volume) → IsGood (fed_line lines number volume r)
-line_good lines number volume (Ok command) all may = more_placed volume lines number command all may
+at_most_one : (number : ℕ) (command : Option Command) → length (line_list number command) ≤ 1
+at_most_one number None = omega arith
+at_most_one number (Some command) = omega arith
+
+more_good : (lines : List Line) (number : ℕ) (volume : Option ℕ) (command : Option Command) → AreGood volume lines number → MayStand volume command → number ≤ 100000 → AreGood (volume_after volume command) (lines ++ line_list number command) (number + 1)
+more_good lines number volume command all may few = record {
+  placed = more_placed volume lines number command all.placed may;
+  fewer = omega (arith, all.fewer, length-append lines (line_list number command), at_most_one number command);
+  few = omega (arith, few);
+}
+
+line_good : (lines : List Line) (number : ℕ) (volume : Option ℕ) (r : Result (Option Command) LineFault) → AreGood volume lines number → Reads number volume r → IsGood (fed_line lines number volume r)
+line_good lines number volume (Ok command) all may = more_good lines number volume command all may.0 may.1
 line_good lines number volume (Err fault) all may = tt
 
-byte_good : (feed over : Bool) (lines : List Line) (number : ℕ) (volume : Option ℕ) (r : Result (Option Command) LineFault) (fault : LineFault) (begun : List ℕ) → ArePlaced volume lines → IfOk r (MayStand volume)
+byte_good : (feed over : Bool) (lines : List Line) (number : ℕ) (volume : Option ℕ) (r : Result (Option Command) LineFault) (fault : LineFault) (begun : List ℕ) → AreGood volume lines number → Reads number volume r
     → IsGood (cond feed (fed_line lines number volume r) (cond over (Refused number fault) (Open lines number volume begun)))
 byte_good true over lines number volume r fault begun all may = line_good lines number volume r all may
 byte_good false true lines number volume r fault begun all may = tt
@@ -167,29 +221,32 @@ byte_good false false lines number volume r fault begun all may = all
 fed_good : (s : Scanned) (byte : ℕ) → IsGood s → IsGood (fed s byte)
 fed_good (Refused line fault) byte good = tt
 fed_good (Open lines number volume begun) byte good =
-    byte_good (is_feed byte) (is_over number (begun ++ byte ∷ [])) lines number volume (read_line number volume begun) (over_fault number) (begun ++ byte ∷ []) good (read_may number volume begun)
+    byte_good (is_feed byte) (is_over number (begun ++ byte ∷ [])) lines number volume (read_line number volume begun) (over_fault number) (begun ++ byte ∷ []) good (reads number volume begun)
 
 all_good : (s : Scanned) (bytes : List ℕ) → IsGood s → IsGood (fed_all s bytes)
 all_good s [] good = good
 all_good s (byte ∷ bytes) good = all_good (fed s byte) bytes (fed_good s byte good)
 
+none_good : IsGood (Open [] 1 None [])
+none_good = record { placed = refl; fewer = omega arith; few = omega arith }
+
 scan_good : (bytes : List ℕ) → IsGood (scan bytes)
 scan_good bytes =
     subst IsGood (sym (scan_append [] bytes))
-    (all_good (scan []) bytes (subst IsGood (sym scan_none) refl))
+    (all_good (scan []) bytes (subst IsGood (sym scan_none) none_good))
 
-ended_good : (lines : List Line) (number : ℕ) (volume : Option ℕ) → ArePlaced volume lines → IsGoodEnd (ended lines number volume)
+ended_good : (lines : List Line) (number : ℕ) (volume : Option ℕ) → AreGood volume lines number → IsGoodEnd (ended lines number volume)
 ended_good lines number None all = tt
-ended_good lines number (Some chunks) all = record { chunks = chunks; placed = all }
+ended_good lines number (Some chunks) all = record { chunks = chunks; placed = all.placed; few = omega (arith, all.fewer, all.few) }
 
-last_good : (lines : List Line) (number : ℕ) (volume : Option ℕ) (r : Result (Option Command) LineFault) → ArePlaced volume lines → IfOk r (MayStand volume) → IsGoodEnd (last_line lines number volume r)
-last_good lines number volume (Ok command) all may = ended_good (lines ++ line_list number command) (number + 1) (volume_after volume command) (more_placed volume lines number command all may)
+last_good : (lines : List Line) (number : ℕ) (volume : Option ℕ) (r : Result (Option Command) LineFault) → AreGood volume lines number → Reads number volume r → IsGoodEnd (last_line lines number volume r)
+last_good lines number volume (Ok command) all may = ended_good (lines ++ line_list number command) (number + 1) (volume_after volume command) (more_good lines number volume command all may.0 may.1)
 last_good lines number volume (Err fault) all may = tt
 
 close_good : (s : Scanned) → IsGood s → IsGoodEnd (close s)
 close_good (Refused line fault) good = tt
 close_good (Open lines number volume []) good = ended_good lines number volume good
-close_good (Open lines number volume (byte ∷ bytes)) good = last_good lines number volume (read_line number volume (byte ∷ bytes)) good (read_may number volume (byte ∷ bytes))
+close_good (Open lines number volume (byte ∷ bytes)) good = last_good lines number volume (read_line number volume (byte ∷ bytes)) good (reads number volume (byte ∷ bytes))
 
 pub whole_script : (script : List ℕ) (lines : List Line) → script_of script ≡ Ok lines → IsWhole lines
 whole_script script lines accepted = subst IsGoodEnd accepted (close_good (scan script) (scan_good script))

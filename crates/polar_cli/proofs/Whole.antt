@@ -23,7 +23,7 @@ use Rattle.polar_cli.specs.declared.status.Status.{Status}
 use Rattle.polar_cli.specs.declared.status.Status.TheVariants as statuses
 use Rattle.polar_cli.specs.Placed.{ArePlaced, IsVolume, IsWhole}
 use Rattle.polar_cli.specs.Running.{HasGoneOn, HasNotOpened, HasOpened, HasRunLines, HasRunTo, LeavesWorld, Stops}
-use Rattle.polar_cli.proofs.Opening.{begun_passed, begun_sound, none_begun, volume_of}
+use Rattle.polar_cli.proofs.Opening.{bare, begun_passed, begun_sound, none_begun, volume_of}
 use Rattle.polar_cli.proofs.Taken.{appends_none}
 
 one_count : (m n : ℕ) (command : Command) → IsVolume m command → IsVolume n command → m ≡ n
@@ -44,6 +44,10 @@ one_count m n (commands.ShowApplied g i) first second = absurd first
 one_count m n (commands.ShowSectors g i) first second = absurd first
 one_count m n (commands.ShowAcked g) first second = absurd first
 one_count m n (commands.ShowMark g i s) first second = absurd first
+one_count m n commands.Mount first second = absurd first
+one_count m n (commands.Kill i) first second = absurd first
+one_count m n (commands.Call i call) first second = absurd first
+one_count m n (commands.ShowMount i) first second = absurd first
 
 rest_placed : (lines : List Line) (d : Line) (chunks n : ℕ) → ArePlaced (Some chunks) lines → IsVolume n (get_or lines 0 d).command → Every (λ line. MayRun n line.command) (drop 1 lines)
 rest_placed [] d chunks n placed volume = absurd placed
@@ -86,10 +90,6 @@ abbrev pub Begins : List Line → Type 0
 Begins [] = Unit {0}
 Begins (line ∷ rest) = (chunks : ℕ) × IsVolume chunks line.command
 
--- a world without chunks
-abbrev bare : (sectors names format : ℕ) → WorldIs
-bare sectors names format = record { sectors = sectors; names = names; format = format; chunks = [] }
-
 no_such : (k : ℕ) (c : ChunkIs) → slice_get [] k ≡ Some c → ⊥
 no_such k c there = let low : k < 0 = slice_get_within [] k c there in absurd (omega arith)
 
@@ -98,7 +98,7 @@ module _ {D : Type 0} (seen : D → Option (List ℕ)) (may_leave : D → Images
   has_run : (status : Status) (lines done rest : List Line) (text : List ℕ) (before after : List D) (world left : WorldIs) (halts : List Halt) → done ++ rest ≡ lines → RunsTo done text world → (done ≡ [] → world.chunks ≡ []) → IsSoundWorld world → IsSoundWorld left
       → Tells halts world → AreHalts faults halts before after left → Stops faults status before done rest world left → AreLeft seen may_leave faults left.chunks before after → HasRunTo seen may_leave faults status lines rest text before after
   has_run status lines done rest text before after world left halts first run none sound sound_left tells told stops disks =
-      let same : stands_at halts world ≡ (world_run halts done).world = sym (ap (λ t. t.world) (run halts tells).run) in
+      let same : stands_at halts world ≡ (world_run halts done).world = sym (run halts tells).world in
       record {
         done = done;
         first = first;
@@ -149,7 +149,7 @@ module _ {D : Type 0} (seen : D → Option (List ℕ)) (may_leave : D → Images
   none_ran : (status : Status) (lines : List Line) (before after : List D) (sectors names format : ℕ) (left : WorldIs) (halts : List Halt) → IsSoundWorld left → AreHalts faults halts before after left → Stops faults status before [] lines (bare sectors names format) left → AreLeft seen may_leave faults left.chunks before after
       → HasRunTo seen may_leave faults status lines lines [] before after
   none_ran status lines before after sectors names format left halts sound told stops disks =
-      has_run status lines [] lines [] before after (bare sectors names format) left halts refl (λ hs tells. record { run = refl; ends = tt }) (λ none. refl) (λ k c there. absurd (no_such k c there)) sound (λ k c there. absurd (no_such k c there)) told stops disks
+      has_run status lines [] lines [] before after (bare sectors names format) left halts refl (λ hs tells. record { world = refl; report = refl; ends = tt }) (λ none. refl) (λ k c there. absurd (no_such k c there)) sound (λ k c there. absurd (no_such k c there)) told stops disks
 
   -- memory ran out as the volume was made
   pub none_made : (lines : List Line) (d : Line) (taken : Option (List ℕ)) (full : Type 0) (before after : List D) → IsWhole lines → HasNotOpened seen may_leave faults (get_or lines 0 d) before after → HasRunLines seen may_leave faults statuses.NoMemory lines taken taken full before after

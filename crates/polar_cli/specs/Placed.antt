@@ -1,5 +1,5 @@
 -- What stands where in an accepted script.
-use Rattle.std.specs.Prelude.{◌≡◌, ℕ, true, List, [], ◌∷◌, Option, Some, None}
+use Rattle.std.specs.Prelude.{◌≡◌, ℕ, ◌≤◌, true, List, [], ◌∷◌, length, Option, Some, None}
 use Rattle.pf_entry.specs.Lists.{Every}
 use Rattle.pf_script.specs.declared.command.Command.{Command}
 use Rattle.pf_script.specs.declared.command.Command.TheVariants.{Volume}
@@ -22,3 +22,4 @@ ArePlaced (Some chunks) (line ∷ lines) = IsVolume chunks line.command × Every
 pub record IsWhole (lines : List Line) : Type 0 where
   pub chunks : ℕ
   pub placed : ArePlaced (Some chunks) lines
+  pub few : length lines ≤ 100000

@@ -1,5 +1,5 @@
 //! The lines of a script, run over a world on disks.
-ghost use Rattle.std.specs.Prelude.{◌≡◌, ◌≤◌, ℕ, List, [], ◌∷◌, IfErr, IfOk, length};
+ghost use Rattle.std.specs.Prelude.{◌≡◌, ◌≤◌, ◌<◌, ◌+◌, ◌^◌, ℕ, List, [], ◌∷◌, IfErr, IfOk, length};
 ghost use Rattle.pf_io.specs.Causes.{Rose};
 ghost use Rattle.pf_entry.specs.Lists.{Every};
 ghost use Rattle.pf_world.specs.Disks.{AreTold};
@@ -72,6 +72,7 @@ fn go_on<K: Sink, D: Disk + Drop, R: Threads + Sync, G: Gate + Sync>(
     requires run { RunsTo (volume.now ∷ []) opened.now world.old.world }
     requires sound { IsSoundWorld world.old.world }
     requires lines { Every (λ line. MayRun (length world.old.world.chunks) line.command) lines.now }
+    requires few { world.old.world.fleet.calls + length lines.now < 2 ^ 32 }
     ensures gone { HasGoneOn result volume.now lines.now (K.taken sink.old) (K.taken sink.new) (Rose (K.faults sink.old) (K.faults sink.new)) world.old.world world.new.world }
     ensures spare { world.new.spare ≡ world.old.spare }
 {

@@ -1,11 +1,16 @@
-use Rattle.std.proofs.Common.{[], arith, get_or, refl, subst, ◌∙◌}
+use Rattle.std.proofs.Common.{[], OnErr, OnOk, arith, get_or, refl, subst, ◌∙◌}
+use Rattle.pf_world.specs.declared.line.Line.{Line}
 use Rattle.std.specs.Io.KnownBytes.{Appends}
 use Rattle.pf_io.specs.Causes.{Rose}
 use Rattle.pf_world.specs.Steps.{HasFailed, HasRun}
 use Rattle.polar_cli.specs.Ends.{AppendsFront}
-use Rattle.polar_cli.proofs.Going.{full_first, full_later, gone_all, gone_more, gone_none, gone_short, no_line}
+use Rattle.polar_cli.proofs.Going.{few_calls, full_first, full_later, gone_all, gone_more, gone_none, gone_short, item_is, no_line}
 use Rattle.polar_cli.proofs.Writing.{done_of, failed_of}
 use Rattle.polar_cli.proofs.lines.go_on.Goals as goal
+
+pub line-requires-clause-few : goal.line-requires-clause-few
+line-requires-clause-few g c κs within =
+    few_calls c.args.volume.now c.args.lines.now c.loop-line.line-index (g.K.Sink.taken c.args.sink.now) (g.K.Sink.taken c.loop-line.sink) c.args.world.now.world c.loop-line.world.world c.loop-line-test.true c.requires.few c.loop-line.invariant.gone
 
 pub returns-then-is_err-clause-gone : goal.returns-then-is_err-clause-gone
 returns-then-is_err-clause-gone g c =
@@ -17,8 +22,9 @@ returns-then-is_err-clause-gone g c =
 pub returns-then-is_err-2-clause-gone : goal.returns-then-is_err-2-clause-gone
 returns-then-is_err-2-clause-gone g c =
     let taken = g.K.Sink.taken in
+    let at = item_is c.args.lines.now c.loop-line.line-index c.line-item.result c.loop-line-test.true c.line-item.is in
     gone_short c.args.volume.now c.args.lines.now c.loop-line.line-index (taken c.args.sink.now) (taken c.loop-line.sink) (Rose (g.K.Sink.faults c.args.sink.now) (g.K.Sink.faults c.loop-line.sink)) c.args.world.now.world c.loop-line.world.world c.line.new.self.world c.loop-line-test.true c.loop-line.invariant.gone
-    (failed_of c.line.result (HasFailed c.loop-line.world.world (get_or c.args.lines.now c.loop-line.line-index no_line).number (get_or c.args.lines.now c.loop-line.line-index no_line).command c.line.new.self.world) c.if-is_err-2.ensures.value c.line.ensures.err)
+    (failed_of c.line.result (HasFailed c.loop-line.world.world (get_or c.args.lines.now c.loop-line.line-index no_line).number (get_or c.args.lines.now c.loop-line.line-index no_line).command c.line.new.self.world) c.if-is_err-2.ensures.value (subst (λ (l : Line). OnErr c.line.result (HasFailed c.loop-line.world.world l.number l.command c.line.new.self.world)) at c.line.ensures.err))
     c.line.ensures.sound
 
 pub returns-then-is_err-3-clause-gone : goal.returns-then-is_err-3-clause-gone
@@ -26,10 +32,11 @@ returns-then-is_err-3-clause-gone g c =
     let taken = g.K.Sink.taken in
     let i = c.loop-line.line-index in
     let line = get_or c.args.lines.now i no_line in
+    let at = item_is c.args.lines.now i c.line-item.result c.loop-line-test.true c.line-item.is in
     let out = c.line.new.out.items in
     let ran : HasRun c.loop-line.world.world line.number line.command [] out c.line.new.self.world =
     subst (λ before. HasRun c.loop-line.world.world line.number line.command before out c.line.new.self.world) c.new-text.ensures.items
-    (done_of c.line.result (HasRun c.loop-line.world.world line.number line.command c.new-text.result.items out c.line.new.self.world) c.if-is_err-2.ensures.value c.line.ensures.ran) in
+    (done_of c.line.result (HasRun c.loop-line.world.world line.number line.command c.new-text.result.items out c.line.new.self.world) c.if-is_err-2.ensures.value (subst (λ (l : Line). OnOk c.line.result (HasRun c.loop-line.world.world l.number l.command c.new-text.result.items out c.line.new.self.world)) at c.line.ensures.ran)) in
     let rose : Rose (g.K.Sink.faults c.loop-line.sink) (g.K.Sink.faults c.write_all-in-loop-line.new.sink) =
     failed_of c.write_all-in-loop-line.result (Rose (g.K.Sink.faults c.loop-line.sink) (g.K.Sink.faults c.write_all-in-loop-line.new.sink)) c.if-is_err-3.ensures.value c.write_all-in-loop-line.ensures.cause in
     let front : AppendsFront (taken c.loop-line.sink) (taken c.write_all-in-loop-line.new.sink) c.deref.result.now =
@@ -44,10 +51,11 @@ loop-line-preserved g c =
     let taken = g.K.Sink.taken in
     let i = c.loop-line.line-index in
     let line = get_or c.args.lines.now i no_line in
+    let at = item_is c.args.lines.now i c.line-item.result c.loop-line-test.true c.line-item.is in
     let out = c.line.new.out.items in
     let ran : HasRun c.loop-line.world.world line.number line.command [] out c.line.new.self.world =
     subst (λ before. HasRun c.loop-line.world.world line.number line.command before out c.line.new.self.world) c.new-text.ensures.items
-    (done_of c.line.result (HasRun c.loop-line.world.world line.number line.command c.new-text.result.items out c.line.new.self.world) c.if-is_err-2.ensures.value c.line.ensures.ran) in
+    (done_of c.line.result (HasRun c.loop-line.world.world line.number line.command c.new-text.result.items out c.line.new.self.world) c.if-is_err-2.ensures.value (subst (λ (l : Line). OnOk c.line.result (HasRun c.loop-line.world.world l.number l.command c.new-text.result.items out c.line.new.self.world)) at c.line.ensures.ran)) in
     let put : Appends (taken c.loop-line.sink) (taken c.write_all-in-loop-line.new.sink) c.deref.result.now =
     done_of c.write_all-in-loop-line.result (Appends (taken c.loop-line.sink) (taken c.write_all-in-loop-line.new.sink) c.deref.result.now) c.if-is_err-3.ensures.value c.write_all-in-loop-line.ensures.ok in
     record {

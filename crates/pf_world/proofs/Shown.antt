@@ -1,0 +1,107 @@
+-- Lines that show a group or a mount.
+use Rattle.std.proofs.Common.{◌≡◌, ◌≢◌, ◌↔◌, ℕ, Bool, true, false, not, IsTrue, List, [], ◌∷◌, ◌++◌, Option, Some, None, slice_get, refl, sym, ap, ◌∙◌, append-nil}
+use Rattle.std.proofs.lemmas.Bool.{false≢true}
+use Rattle.pf_script.specs.declared.command.Command.{Command}
+use Rattle.pf_script.specs.declared.command.Command.TheVariants as commands
+use Rattle.pf_protocol.specs.Groups.{Group}
+use Rattle.pf_group.specs.GroupIs.{state_of}
+use Rattle.pf_tree.specs.Listings.{listing}
+use Rattle.pf_mount.specs.declared.work.Work.{Work}
+use Rattle.pf_mount.specs.declared.work.Work.TheVariants.{Rests}
+use Rattle.pf_report.specs.Texts.{line_of}
+use Rattle.pf_report.specs.Mounts.{state_text, tree_lines}
+use Rattle.pf_rounds.specs.Chunks.{Chunk}
+use Rattle.pf_rounds.specs.Halts.{Halt}
+use Rattle.pf_chunk.specs.Runs.{ChunkRun}
+use Rattle.pf_chunk.specs.Views.{ChunkIs}
+use Rattle.pf_hosts.specs.Hosts.{HostIs}
+use Rattle.pf_hosts.specs.Moments.{Moment, Writes, text_of}
+use Rattle.pf_hosts.proofs.Groups.{run_there}
+use Rattle.pf_fleet.specs.Steps.{FleetIs, HasGone, IsFleetOf, Part}
+use Rattle.pf_fleet.specs.Steps as fleets
+use Rattle.pf_fleet.specs.Volumes.{host_at, quietly, saying}
+use Rattle.pf_world.specs.Asked.{IsShow}
+use Rattle.pf_world.specs.Worlds.{World, refused_text}
+use Rattle.pf_world.specs.Lines.{line_told, rests, show_of, shown_of, shows}
+use Rattle.pf_world.specs.Views.{IsWorld, WorldIs, stands_at}
+use Rattle.pf_world.specs.Steps.{Ends, HasFailed, HasRun, IsWithin, StopsIn}
+use Rattle.pf_world.proofs.Failing.{said_fails}
+use Rattle.pf_world.proofs.Happening.{chunks_ready, gone_runs, le_suc, said_runs, same_world}
+
+-- nothing happened to the chunks
+pub still_gone : (old : WorldIs) → IsWorld old → (part : Part) (next : FleetIs) → IsFleetOf old.chunks next → (told : List Moment) (before after : List ℕ) → after ≡ before ++ text_of told
+    → ((halts : List Halt) → part halts (fleets.stands_at halts old.chunks old.fleet) ≡ record { volume = fleets.stands_at halts old.chunks next; told = told }) → HasGone part old.chunks old.fleet before old.chunks next after
+still_gone old world part next is_fleet told before after put run = record {
+  ready = chunks_ready old world;
+  is_fleet = is_fleet;
+  grown = record { count = refl; each = (same_world old).grown };
+  told = told;
+  put = put;
+  run = λ halts tells. run halts;
+}
+
+-- Groups
+
+pub shown_runs : (w : WorldIs) (number : ℕ) (command : Command) (k : ℕ) (c : ChunkIs) (text : Group → List ℕ) (before after : List ℕ) → IsWorld w → slice_get w.chunks k ≡ Some c → after ≡ before ++ line_of number (text (state_of c.group))
+    → ((halts : List Halt) → line_told halts (stands_at halts w) number command ≡ shows (stands_at halts w) number k (λ d. text d.state))
+    → ((halts : List Halt) → Ends halts (stands_at halts w) command) → HasRun w number command before after w
+shown_runs w number command k c text before after world there put line ends =
+    said_runs w number command world w.kind before after (text (state_of c.group)) (λ halts v. quietly v) (λ halts. refl) put
+    (λ halts. line halts ∙ ap (λ d. shown_of (stands_at halts w) number d (λ x. text x.state)) (run_there halts w.chunks k c there)) ends
+
+shown_within : (command : Command) → IsShow command → (old : WorldIs) (number : ℕ) (new : WorldIs) → IsWithin old number command new → StopsIn old number command new
+shown_within (commands.Settle limit) shows old number new within = absurd shows
+shown_within command shows old number new within = within
+
+none_shown : (w : World) (number : ℕ) (c : Option ChunkRun) (text : Chunk → List ℕ) → (shown_of w number c text).world ≡ w
+none_shown w number None text = refl
+none_shown w number (Some c) text = refl
+
+same_shown : (halts : List Halt) (w : World) (number : ℕ) (command : Command) → IsShow command → (line_told halts w number command).world ≡ w
+same_shown halts w number (commands.ShowLog g i) shows = none_shown w number (slice_get w.volume.chunks g) _
+same_shown halts w number (commands.ShowApplied g i) shows = none_shown w number (slice_get w.volume.chunks g) _
+same_shown halts w number (commands.ShowSectors g i) shows = none_shown w number (slice_get w.volume.chunks g) _
+same_shown halts w number (commands.ShowAcked g) shows = none_shown w number (slice_get w.volume.chunks g) _
+same_shown halts w number (commands.ShowMark g i s) shows = none_shown w number (slice_get w.volume.chunks g) _
+same_shown halts w number command shows = absurd shows
+
+pub shown_fails : (w : WorldIs) (number : ℕ) (command : Command) → IsShow command → HasFailed w number command w
+shown_fails w number command shows =
+    said_fails w number command (shown_within command shows w number) w.kind w.fleet (λ halts. ap (λ (x : World). x.volume.chunks) (same_shown halts (stands_at halts w) number command shows))
+
+-- Mounts
+
+rests_so : (work : Work) → rests work ≡ true → work ≡ Rests
+rests_so Rests is = refl
+rests_so work is = absurd (false≢true is)
+
+pending_by : (pending resting : Bool) (work : Work) → rests work ≡ resting → (IsTrue pending ↔ (work ≢ Rests)) → pending ≡ not resting
+pending_by true true work is both = absurd (both.0 refl (rests_so work is))
+pending_by true false work is both = refl
+pending_by false true work is both = refl
+pending_by false false work is both = both.1 (λ same. false≢true (sym is ∙ ap rests same))
+
+-- a mount is pending where it does not rest
+pub pending_is : (pending : Bool) (work : Work) → (IsTrue pending ↔ (work ≢ Rests)) → pending ≡ not (rests work)
+pending_is pending work both = pending_by pending (rests work) work refl both
+
+module _ (w : WorldIs) (number mount : ℕ) (world : IsWorld w) (before after : List ℕ) where
+  pub no_mount_runs : host_at w.fleet.hosts mount ≡ None → after ≡ before ++ line_of number (refused_text 96) → HasRun w number (commands.ShowMount mount) before after w
+  no_mount_runs none put =
+      said_runs w number (commands.ShowMount mount) world w.kind before after (refused_text 96) (λ halts v. quietly v) (λ halts. refl) put (λ halts. ap (show_of (stands_at halts w) number mount) none) (λ halts. tt)
+
+  pub tree_shown : (host : HostIs) (middle : List ℕ) → host_at w.fleet.hosts mount ≡ Some host → middle ≡ before ++ tree_lines (listing host.mount.files.tables)
+      → after ≡ middle ++ line_of number (state_text mount host.mount.upto (not (rests host.mount.work))) → HasRun w number (commands.ShowMount mount) before after w
+  tree_shown host middle there tree put =
+      let lines = tree_lines (listing host.mount.files.tables) in
+      gone_runs w number (commands.ShowMount mount) world (λ halts v. saying lines v) w.kind w.chunks w.fleet before middle after (state_text mount host.mount.upto (not (rests host.mount.work)))
+      (still_gone w world (λ halts v. saying lines v) w.fleet world.is_fleet (Writes lines ∷ []) before middle (tree ∙ ap (λ xs. before ++ xs) (sym (append-nil lines))) (λ halts. refl))
+      put refl (le_suc w.fleet.calls) (λ halts tells. ap (show_of (stands_at halts w) number mount) there) (λ halts tells. tt)
+
+same_of : (w : World) (number mount : ℕ) (host : Option HostIs) → (show_of w number mount host).world ≡ w
+same_of w number mount None = refl
+same_of w number mount (Some host) = refl
+
+pub mount_shown_fails : (w : WorldIs) (number mount : ℕ) → HasFailed w number (commands.ShowMount mount) w
+mount_shown_fails w number mount =
+    said_fails w number (commands.ShowMount mount) (λ new within. within) w.kind w.fleet (λ halts. ap (λ (x : World). x.volume.chunks) (same_of (stands_at halts w) number mount (host_at w.fleet.hosts mount)))

@@ -1,0 +1,31 @@
+//! Kinds of runs.
+ghost use Rattle.std.specs.Prelude.{◌≡◌};
+ghost use Rattle.pf_world.specs.Lines.{decided, is_mounted};
+
+/// What writes to the volume in a run. Its first line that submits or mounts decides it.
+#[derive(Clone, Copy, Debug, PartialEq, Eq)]
+pub enum Kind {
+    /// Hosts, through the file system: no line submits.
+    Mounted,
+    /// Lines of the script: no mount is made.
+    Raw,
+}
+
+impl Kind {
+    /// Whether it is the kind of a run with mounts.
+    pub(crate) fn is_mounted(self) -> bool
+        ensures { result ≡ is_mounted self }
+    {
+        match self {
+            Kind::Mounted => true,
+            Kind::Raw => false,
+        }
+    }
+
+    /// The kind of a run is that of the first line that has one.
+    pub(crate) fn decided(self, was: Option<Kind>) -> Kind
+        ensures { result ≡ decided was self }
+    {
+        was.unwrap_or(self)
+    }
+}

@@ -1,0 +1,131 @@
+//! Lines that make a mount, end one, or begin a call of one.
+ghost use Rattle.std.specs.Prelude.{◌≡◌, ◌<◌, ◌+◌, ◌^◌, OnErr, OnOk};
+ghost use Rattle.pf_script.specs.declared.command.Command.TheVariants as commands;
+ghost use Rattle.pf_hosts.specs.Steps.{AreReady};
+ghost use Rattle.pf_fleet.specs.Steps.{AreSameHosts, HasGone, HasStopped, IsFleetOf};
+ghost use Rattle.pf_fleet.specs.Volumes.{hosts_step};
+ghost use Rattle.pf_world.specs.Steps.{HasFailed, HasRun};
+ghost use Rattle.pf_world.specs.Views.{IsWorld};
+
+use crate::World;
+use crate::kind::Kind;
+use pf_base::{Call, NoMemory};
+use pf_disk::Disk;
+use pf_filling::Gate;
+use pf_fleet::{CallFault, JoinFault};
+use pf_protocol::Answer;
+use pf_report::{put_answer, put_mount, put_refusal, put_started};
+use std::alloc::Global;
+use std::thread::Threads;
+
+/// The number of the refusal of a mount in a raw run.
+const RAW: u32 = 95;
+
+impl<D: Disk + Drop> World<D> {
+    /// A line that makes a mount. Each host takes a step at its end.
+    pub(crate) fn mount_line<R: Threads + Sync, G: Gate + Sync>(
+        &mut self,
+        rt: &R,
+        alloc: Global,
+        number: u32,
+        gate: &G,
+        out: &mut Vec<u8>,
+    ) -> Result<(), NoMemory>
+        requires world { IsWorld self.old.world }
+        ensures ran { OnOk result (HasRun self.old.world number commands.Mount out.old.items out.new.items self.new.world) }
+        ensures err { OnErr result (HasFailed self.old.world number commands.Mount self.new.world) }
+        ensures spare { self.new.spare ≡ self.old.spare }
+    {
+        let kind = Kind::Mounted.decided(self.kind);
+        self.kind = Some(kind);
+        if !kind.is_mounted() {
+            return put_refusal(out, number, RAW);
+        }
+        match self.fleet.mount(alloc, &mut self.chunks) {
+            Ok(mount) => {
+                self.step_hosts(rt, alloc, gate, out)?;
+                put_mount(out, number, mount)
+            }
+            Err(fault) => match fault {
+                JoinFault::NoMemory => Err(NoMemory),
+                _ => {
+                    self.step_hosts(rt, alloc, gate, out)?;
+                    put_refusal(out, number, fault.number())
+                }
+            },
+        }
+    }
+
+    /// A line that ends a mount.
+    pub(crate) fn kill_line(
+        &mut self,
+        number: u32,
+        mount: u8,
+        out: &mut Vec<u8>,
+    ) -> Result<(), NoMemory>
+        requires world { IsWorld self.old.world }
+        ensures ran { OnOk result (HasRun self.old.world number (commands.Kill mount) out.old.items out.new.items self.new.world) }
+        ensures err { OnErr result (HasFailed self.old.world number (commands.Kill mount) self.new.world) }
+        ensures spare { self.new.spare ≡ self.old.spare }
+    {
+        match self.fleet.kill(mount) {
+            Ok(()) => put_answer(out, number, &Answer::Done),
+            Err(fault) => put_refusal(out, number, fault.number()),
+        }
+    }
+
+    /// A line that begins a call of a mount. Each host takes a step at its end.
+    #[allow(clippy::too_many_arguments)]
+    pub(crate) fn call_line<R: Threads + Sync, G: Gate + Sync>(
+        &mut self,
+        rt: &R,
+        alloc: Global,
+        number: u32,
+        mount: u8,
+        call: &Call,
+        gate: &G,
+        out: &mut Vec<u8>,
+    ) -> Result<(), NoMemory>
+        requires world { IsWorld self.old.world }
+        requires few { self.old.world.fleet.calls + 1 < 2 ^ 32 }
+        ensures ran { OnOk result (HasRun self.old.world number (commands.Call mount call.now) out.old.items out.new.items self.new.world) }
+        ensures err { OnErr result (HasFailed self.old.world number (commands.Call mount call.now) self.new.world) }
+        ensures spare { self.new.spare ≡ self.old.spare }
+    {
+        match self.fleet.call(alloc, mount, call, &mut self.chunks, out) {
+            Ok(()) => {
+                self.step_hosts(rt, alloc, gate, out)?;
+                put_started(out, number)
+            }
+            Err(fault) => match fault {
+                CallFault::NoMemory => Err(NoMemory),
+                _ => {
+                    self.step_hosts(rt, alloc, gate, out)?;
+                    put_refusal(out, number, fault.number())
+                }
+            },
+        }
+    }
+
+    /// Each host takes a step.
+    fn step_hosts<R: Threads + Sync, G: Gate + Sync>(
+        &mut self,
+        rt: &R,
+        alloc: Global,
+        gate: &G,
+        out: &mut Vec<u8>,
+    ) -> Result<(), NoMemory>
+        requires ready { AreReady self.old.world.chunks }
+        requires fleet { IsFleetOf self.old.world.chunks self.old.world.fleet }
+        ensures went { OnOk result (HasGone hosts_step self.old.world.chunks self.old.world.fleet out.old.items self.new.world.chunks self.new.world.fleet out.new.items) }
+        ensures same { OnOk result (AreSameHosts self.old.world.fleet self.new.world.fleet) }
+        ensures err { OnErr result (HasStopped hosts_step self.old.world.chunks self.old.world.fleet self.new.world.chunks) }
+
+        // All else of the world is as it was.
+        ensures others { self.new.world ≡ record self.old.world { chunks = self.new.world.chunks; fleet = self.new.world.fleet } }
+        ensures spare { self.new.spare ≡ self.old.spare }
+    {
+        self.fleet
+            .step(rt, alloc, &mut self.chunks, self.workers, gate, out)
+    }
+}

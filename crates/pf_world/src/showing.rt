@@ -1,0 +1,79 @@
+//! Lines that show a group or a mount.
+ghost use Rattle.std.specs.Prelude.{◌≡◌, ◌<◌, OnErr, OnOk, Some, length, slice_get};
+ghost use Rattle.pf_script.specs.declared.command.Command.TheVariants.{ShowMount};
+ghost use Rattle.pf_world.specs.Asked.{IsShow};
+ghost use Rattle.pf_world.specs.Steps.{HasFailed, HasRun, MayRun};
+ghost use Rattle.pf_world.specs.Views.{IsWorld};
+
+use crate::World;
+use pf_base::NoMemory;
+use pf_chunk::ChunkGroup;
+use pf_disk::Disk;
+use pf_fleet::NoMount;
+use pf_report::{put_refusal, put_state, put_tree};
+use pf_script::Command;
+use std::alloc::Global;
+
+impl<D: Disk + Drop> World<D> {
+    /// A line that shows a group.
+    pub(crate) fn show(
+        &self,
+        number: u32,
+        command: &Command,
+        out: &mut Vec<u8>,
+    ) -> Result<(), NoMemory>
+        requires world { IsWorld self.now.world }
+        requires command { MayRun (length self.now.world.chunks) command.now }
+        requires shows { IsShow command.now }
+        ensures ran { OnOk result (HasRun self.now.world number command.now out.old.items out.new.items self.now.world) }
+        ensures err { OnErr result (HasFailed self.now.world number command.now self.now.world) }
+    {
+        match command {
+            Command::ShowLog { group, server } => {
+                self.chunk(*group).show_log(number, *server, out)
+            }
+            Command::ShowApplied { group, server } => {
+                self.chunk(*group).show_applied(number, *server, out)
+            }
+            Command::ShowSectors { group, server } => {
+                self.chunk(*group).show_sectors(number, *server, out)
+            }
+            Command::ShowAcked { group } => self.chunk(*group).show_acked(number, out),
+            Command::ShowMark {
+                group,
+                server,
+                slot,
+            } => self
+                .chunk(*group)
+                .show_mark(number, *server, u64::from(*slot), out),
+            _ => unreachable!(),
+        }
+    }
+
+    pub(crate) fn chunk(&self, number: u8) -> &ChunkGroup<D>
+        requires { number < length self.now.world.chunks }
+        ensures { slice_get self.now.world.chunks number ≡ Some result.now }
+    {
+        &self.chunks[number as usize]
+    }
+
+    /// A line that shows the tree of a mount, and how far it is.
+    pub(crate) fn show_mount(
+        &self,
+        alloc: Global,
+        number: u32,
+        mount: u8,
+        out: &mut Vec<u8>,
+    ) -> Result<(), NoMemory>
+        requires world { IsWorld self.now.world }
+        ensures ran { OnOk result (HasRun self.now.world number (ShowMount mount) out.old.items out.new.items self.now.world) }
+        ensures err { OnErr result (HasFailed self.now.world number (ShowMount mount) self.now.world) }
+    {
+        let Some(host) = self.fleet.host(mount) else {
+            return put_refusal(out, number, NoMount.number());
+        };
+        let listing = host.tree().listing(alloc)?;
+        put_tree(out, &listing)?;
+        put_state(out, number, mount, host.upto(), host.is_pending())
+    }
+}
