@@ -1,0 +1,4 @@
+pub mod Scripts
+pub mod Mounts
+pub mod Pasts
+pub mod Hearing
