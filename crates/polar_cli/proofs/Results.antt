@@ -1,13 +1,13 @@
 -- How each end of a run is told.
 use Rattle.std.proofs.Common.{◌≡◌, ℕ, Bool, true, false, cond, List, [], ◌∷◌, Option, Some, None, Ok, Err, is_ok, refl, ap, sym, subst, ◌∙◌}
-use Rattle.std.specs.Prelude.{is_err, is_some}
+use Rattle.std.specs.Prelude.{is_err}
 use Rattle.std.specs.Io.KnownBytes.{Appends}
 use Rattle.pf_disk.specs.Crashes.{Images}
 use Rattle.pf_script.specs.declared.command.LineFault.{LineFault}
 use Rattle.pf_world.specs.declared.line.Line.{Line}
 use Rattle.polar_cli.specs.declared.status.Status.{Status}
 use Rattle.polar_cli.specs.declared.status.Status.TheVariants as statuses
-use Rattle.polar_cli.specs.Words.{is_accepted, workers_of}
+use Rattle.polar_cli.specs.Words.{is_accepted}
 use Rattle.polar_cli.specs.Scripts.{Judged, script_of}
 use Rattle.polar_cli.specs.Runs.{IsRefused, IsScript, IsSource, IsUndecided}
 use Rattle.polar_cli.specs.Ends.{AppendsFront}
@@ -18,12 +18,6 @@ use Rattle.polar_cli.specs.Placed.{IsWhole}
 use Rattle.polar_cli.proofs.Placing.{whole_script}
 use Rattle.polar_cli.proofs.Taken.{appends_none}
 use Rattle.polar_cli.proofs.Whole.{Begins, first_is_volume, untouched}
-
-pub accepts : (words : List (List ℕ)) (workers : ℕ) → Some workers ≡ workers_of words → is_accepted words ≡ true
-accepts words workers is = sym (ap is_some is)
-
-pub accepts_not : (words : List (List ℕ)) → None ≡ workers_of words → is_accepted words ≡ false
-accepts_not words is = sym (ap is_some is)
 
 -- what is to be written and run, for accepted words and others
 text_yes : (words : List (List ℕ)) (script text : List ℕ) (judged : Judged) → is_accepted words ≡ true → script_of script ≡ judged → judged_text judged text ≡ written_for words script text
@@ -72,7 +66,7 @@ module _ {D : Type 0} (seen : D → Option (List ℕ)) (may_leave : D → Images
     behind = w.rest;
     text = w.text;
     ran = subst (λ ls. HasRunTo seen may_leave faults statuses.NoMemory ls w.rest w.text before after) (lines_yes words s.script lines good s.accepted) w.ran;
-    ending = (good, w.wrote);
+    ending = w.wrote;
   }
   ran statuses.WriteFault lines before after good s w = record {
     script = s.script;
@@ -105,7 +99,7 @@ module _ {D : Type 0} (seen : D → Option (List ℕ)) (may_leave : D → Images
     behind = lines_for words s.script;
     text = [];
     ran = untouched seen may_leave faults statuses.NoMemory (lines_for words s.script) disks (lines_begin words s.script);
-    ending = (good, w);
+    ending = w;
   }
   refused statuses.WriteFault disks line fault good s w = record {
     script = s.script;
@@ -141,15 +135,15 @@ module _ {D : Type 0} (seen : D → Option (List ℕ)) (may_leave : D → Images
   }
 
 module _ {D : Type 0} (seen : D → Option (List ℕ)) (may_leave : D → Images) (faults : D → ℕ) (words : List (List ℕ)) (left rest taken : Option (List ℕ)) (failed full : Type 0) (disks : List D) where
-  -- the script was not read whole
-  pub unread : is_accepted words ≡ true → Outcome seen may_leave faults statuses.NoMemory words left rest failed taken taken full disks disks
-  unread good = record {
+  -- the words or the script were not read whole
+  pub unread : Outcome seen may_leave faults statuses.NoMemory words left rest failed taken taken full disks disks
+  unread = record {
     script = a_script left;
     source = is_script left;
     behind = lines_for words (a_script left);
     text = [];
     ran = untouched seen may_leave faults statuses.NoMemory (lines_for words (a_script left)) disks (lines_begin words (a_script left));
-    ending = (good, appends_none taken);
+    ending = appends_none taken;
   }
 
   pub unreadable : is_accepted words ≡ true → failed × IsUndecided left rest → Outcome seen may_leave faults statuses.ReadFault words left rest failed taken taken full disks disks
