@@ -1,12 +1,10 @@
 -- A step of a port, and what follows on it, is as it was told.
-use Rattle.std.proofs.Common.{◌≡◌, ◌≢◌, ℕ, suc, ◌<◌, inl, inr, Bool, true, false, ◌==◌, if◌then◌else◌, List, [], ◌∷◌, ◌++◌, length, Option, Some, None, slice_get, slice_set, take, arith, refl, sym, ap, subst, ◌∙◌}
+use Rattle.std.proofs.Common.{◌≡◌, ℕ, ◌<◌, inl, inr, true, ◌==◌, if◌then◌else◌, List, [], ◌∷◌, ◌++◌, length, Option, Some, None, slice_get, take, arith, refl, sym, ap, subst}
 use Rattle.std.proofs.lemmas.List.{append_assoc, length-append}
-use Rattle.std.proofs.lemmas.Option.{same_Some}
 use Rattle.std.specs.Option.{option_map}
 use Rattle.pf_base.specs.declared.asks.Ask.{Ask}
 use Rattle.pf_base.specs.declared.asks.Ask.TheVariants as asks
 use Rattle.pf_base.specs.declared.asks.Reply.{Reply}
-use Rattle.pf_entry.specs.Lists.{Every}
 use Rattle.pf_entry.specs.declared.ops.Op.TheVariants.{Write}
 use Rattle.pf_entry.proofs.Cases.{by_test}
 use Rattle.pf_entry.proofs.Lists.{every_append, set_cases}
@@ -26,7 +24,6 @@ use Rattle.pf_rounds.specs.Halts.{Halt}
 use Rattle.pf_rounds.specs.Chunks.{after, answered, listed}
 use Rattle.pf_chunk.specs.Asks.{leader_of, reply_to}
 use Rattle.pf_chunk.specs.Driving.{Driven, driven, driven_at, driven_for, event_of_ask, handed_to, idle, led_to, replied, sent_of, with_port}
-use Rattle.pf_chunk.specs.Happenings.{happened}
 use Rattle.pf_chunk.specs.Runs.{ChunkRun}
 use Rattle.pf_hosts.specs.Hosts.{handed}
 use Rattle.pf_hosts.specs.Moments.{Hands, Moment, Writes}

@@ -8,11 +8,7 @@ use Rattle.pf_base.specs.Asks.{chunk_of}
 use Rattle.pf_base.specs.declared.asks.Ask.{Ask}
 use Rattle.pf_base.specs.declared.asks.Reply.{Reply}
 use Rattle.pf_entry.specs.Lists.{Every}
-use Rattle.pf_entry.proofs.Lists.{set_cases, set_there}
-use Rattle.pf_tree.specs.declared.calls.FileCall.{FileCall}
-use Rattle.pf_mount.specs.declared.work.Next.{Next}
-use Rattle.pf_mount.specs.declared.work.Next.TheVariants.{Ask as Asks, Ready, Done}
-use Rattle.pf_mount.specs.Mounts.{MountIs, Outcome, answered, opening, starting}
+use Rattle.pf_entry.proofs.Lists.{set_there}
 use Rattle.pf_protocol.specs.Answers.{IsLegal}
 use Rattle.pf_protocol.specs.Histories.{History}
 use Rattle.pf_protocol.specs.Servers.{Setup}
@@ -23,19 +19,18 @@ use Rattle.pf_ports.specs.Calls.{Past}
 use Rattle.pf_ports.specs.Replies.{IsReplied}
 use Rattle.pf_rounds.specs.Halts.{Halt}
 use Rattle.pf_rounds.specs.Chunks.{Chunk}
-use Rattle.pf_chunk.specs.Driving.{Driven, asked, asked_at, driven}
+use Rattle.pf_chunk.specs.Driving.{asked, asked_at, driven}
 use Rattle.pf_chunk.specs.Runs.{ChunkRun}
-use Rattle.pf_hosts.specs.Moments.{Begins, Ends, Hands, Heard, Moment, Turns, Writes}
-use Rattle.pf_hosts.specs.Hosts.{Drove, HostIs, Stepped, after_telling, call_of, comes_of, drove, drove_as, drove_of, events_of, handed, hands_at, hands_on, next_of, number_of, replied, run_after, stepped, stepped_at, with_run}
-use Rattle.pf_hosts.proofs.Machine.{answered_keeps}
+use Rattle.pf_hosts.specs.Moments.{Heard, Moment, Turns, Writes}
+use Rattle.pf_hosts.specs.Hosts.{Drove, drove, drove_as, drove_of, events_of, handed, run_after, with_run}
 use Rattle.pf_mounted.specs.Hearing.{IsHeard}
 use Rattle.pf_mounted.specs.Mounts.{last_ask, of_chunk}
-use Rattle.pf_mounted.specs.Pasts.{past_of, trace_of}
+use Rattle.pf_mounted.specs.Pasts.{past_of}
 use Rattle.pf_mounted.proofs.Growing.{Grows, grows_refl}
 use Rattle.pf_mounted.proofs.Lives.{same_ask}
 use Rattle.pf_mounted.proofs.Ports.{HasAsked}
-use Rattle.pf_mounted.proofs.Replying.{Replies, driven_grows, driven_replies, reply_is}
-use Rattle.pf_mounted.proofs.Telling.{IsAsTold}
+use Rattle.pf_mounted.proofs.Replying.{driven_grows, driven_replies, reply_is}
+use Rattle.pf_mounted.proofs.Telling.{AreAsTold}
 use Rattle.pf_mounted.proofs.Tracing.{past_same}
 
 -- each reply that was heard is its group's
@@ -163,7 +158,7 @@ drove_past halts chunks m k = by (slice_get chunks k) refl
 abbrev ReplyHeard : List Moment → (m k : ℕ) → Drove → Type 0
 ReplyHeard told m k d = (reply : Reply) → d.reply ≡ Some reply → IsHeard d.chunks m (told ++ d.told) (record { reply = reply; by = events_of (slice_get d.chunks k) })
 
-module _ (halts : List Halt) (told : List Moment) (chunks : List ChunkRun) (is : (j : ℕ) (x : ChunkRun) → slice_get chunks j ≡ Some x → IsAsTold told j x) (m : ℕ) (asked_so : HasAsked m (last_ask told m) chunks) (k : ℕ) where
+module _ (halts : List Halt) (told : List Moment) (chunks : List ChunkRun) (is : AreAsTold told chunks) (m : ℕ) (asked_so : HasAsked m (last_ask told m) chunks) (k : ℕ) where
   module _ (c : ChunkRun) (there : slice_get chunks k ≡ Some c) where
     abbrev d : Drove
     d = drove_as chunks m k (driven halts c m)

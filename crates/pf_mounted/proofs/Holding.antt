@@ -2,7 +2,9 @@
 use Rattle.std.proofs.Common.{◌≡◌, ℕ, zero, suc, ◌+◌, inl, inr, true, List, [], ◌∷◌, ◌++◌, length, Option, Some, None, slice_get, slice_set, take, replicate, arith, refl, sym, ap, subst, ◌∙◌}
 use Rattle.std.specs.Option.{option_map}
 use Rattle.std.proofs.lemmas.Bool.{false≢true}
+use Rattle.std.proofs.lemmas.List.{append_assoc}
 use Rattle.std.proofs.lemmas.Option.{none-some, same_Some}
+use Rattle.std.proofs.Math.Seq.{take-append_seam}
 use Rattle.pf_base.specs.Asks.{chunk_of}
 use Rattle.pf_base.specs.declared.asks.Ask.{Ask}
 use Rattle.pf_entry.proofs.Lists.{set_cases}
@@ -10,6 +12,7 @@ use Rattle.pf_tree.specs.declared.calls.FileCall.{FileCall}
 use Rattle.pf_mount.specs.declared.work.Work.{Work}
 use Rattle.pf_mount.specs.Mounts.{Outcome, opening, starting}
 use Rattle.pf_asks.specs.Ports.{PortIs, new_port}
+use Rattle.pf_cluster.proofs.Lists.{at_end, at_front}
 use Rattle.pf_ports.specs.Driven.{Begins as BeginsDriven, IsDriven}
 use Rattle.pf_rounds.specs.Halts.{Halt}
 use Rattle.pf_rounds.specs.Chunks.{made_chunk}
@@ -30,7 +33,7 @@ use Rattle.pf_mounted.specs.Pasts.{past_of}
 use Rattle.pf_mounted.specs.Scripts.{IsScript}
 use Rattle.pf_mounted.proofs.Growing.{Grows, fetched_grows, happened_grows}
 use Rattle.pf_mounted.proofs.Hearing.{HearsNothing, all_grown, grow_set, nothing_heard}
-use Rattle.pf_mounted.proofs.Hosting.{AreAsTold, AreSo, behind, comes_so, stepped_so}
+use Rattle.pf_mounted.proofs.Hosting.{AreSo, behind, comes_so, stepped_so}
 use Rattle.pf_mounted.proofs.Hosts.{WorksAt}
 use Rattle.pf_mounted.proofs.Ports.{HasAsked, fetched_ports, happened_ports}
 use Rattle.pf_mounted.proofs.Running.{IsKept, running}
@@ -142,6 +145,12 @@ pub ports_driven : (halts : List Halt) (lines : List Line) → IsScript lines �
 ports_driven halts lines script k m c port at its = ((as_run halts lines script).so.ports k c at).driven m port its
 
 -- and whatever a mount heard is its group's answer
-pub replies_heard : (halts : List Halt) (lines : List Line) → IsScript lines → (place m : ℕ) (heard : Heard) (next : Option Ask) → slice_get (world_run halts lines).told place ≡ Some (Turns m (Some heard) next)
-    → IsHeard (world_run halts lines).world.volume.chunks m (take place (world_run halts lines).told) heard
-replies_heard halts lines script = (as_run halts lines script).so.heard
+pub replies_heard : (halts : List Halt) (lines : List Line) → IsScript lines → (m : ℕ) (before after : List Moment) (heard : Heard) (next : Option Ask) → (world_run halts lines).told ≡ before ++ Turns m (Some heard) next ∷ after
+    → IsHeard (world_run halts lines).world.volume.chunks m before heard
+replies_heard halts lines script m before after heard next told_so =
+    let turn : Moment = Turns m (Some heard) next in
+    let chunks = (world_run halts lines).world.volume.chunks in
+    let front : slice_get ((before ++ turn ∷ []) ++ after) (length before) ≡ Some turn = at_front (before ++ turn ∷ []) after (length before) turn (at_end before turn) in
+    let there = ap (λ (all : List Moment). slice_get all (length before)) (told_so ∙ sym (append_assoc before (turn ∷ []) after)) ∙ front in
+    let part : take (length before) (world_run halts lines).told ≡ before = ap (take (length before)) told_so ∙ take-append_seam before (turn ∷ after) in
+    subst (λ (first : List Moment). IsHeard chunks m first heard) part ((as_run halts lines script).so.heard (length before) m heard next there)

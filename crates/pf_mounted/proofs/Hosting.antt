@@ -15,19 +15,16 @@ use Rattle.pf_mount.specs.Mounts.{MountIs, Outcome, answered}
 use Rattle.pf_rounds.specs.Halts.{Halt}
 use Rattle.pf_chunk.specs.Driving.{Driven, ask_after, asked, driven}
 use Rattle.pf_chunk.specs.Runs.{ChunkRun}
-use Rattle.pf_hosts.specs.Moments.{Ends, Hands, Heard, Moment, Turns, Writes}
+use Rattle.pf_hosts.specs.Moments.{Heard, Moment, Turns, Writes}
 use Rattle.pf_hosts.specs.Hosts.{Drove, HostIs, Stepped, call_of, comes_of, drove, drove_of, events_of, handed, hands_at, hands_on, next_of, number_of, replied, run_after, stepped, stepped_at, with_run}
 use Rattle.pf_hosts.proofs.Machine.{answered_keeps}
 use Rattle.pf_mounted.specs.Hearing.{IsHeard}
 use Rattle.pf_mounted.specs.Mounts.{last_ask}
 use Rattle.pf_mounted.proofs.Driving.{driven_told}
-use Rattle.pf_mounted.proofs.Hearing.{AreHeard, HearsNothing, IsHeardIf, all_grown, asked_grow, drove_heard, drove_past, grow_refl, none_heard, turn_heard}
+use Rattle.pf_mounted.proofs.Hearing.{AreHeard, HearsNothing, IsHeardIf, all_grown, asked_grow, drove_heard, drove_past, none_heard, turn_heard}
 use Rattle.pf_mounted.proofs.Ports.{HasAsked, drives_at}
-use Rattle.pf_mounted.proofs.Telling.{IsAsTold, asked_told, passed}
+use Rattle.pf_mounted.proofs.Telling.{AreAsTold, IsAsTold, asked_told, passed}
 use Rattle.pf_mounted.proofs.Tracing.{Passes, asks_pass, hands_pass, rests_pass, writes_pass}
-
-abbrev pub AreAsTold : List Moment → List ChunkRun → Type 0
-AreAsTold told chunks = (k : ℕ) (c : ChunkRun) → slice_get chunks k ≡ Some c → IsAsTold told k c
 
 -- what was told of the ports of these chunks, and of what mounts heard, is so
 pub record AreSo (told : List Moment) (chunks : List ChunkRun) : Type 0 where
@@ -83,15 +80,13 @@ module _ (told : List Moment) (chunks : List ChunkRun) (is : AreSo told chunks) 
 
   -- nothing is asked
   rests_so : (more : List Moment) → ((k : ℕ) → Every (Passes k) more) → Every HearsNothing more → AreSo (told ++ Turns m heard None ∷ more) chunks
-  rests_so more pass silent = record {
-    ports = λ k c there. passed_all told k c (Turns m heard None ∷ more) (rests_pass k m heard, pass k) (is.ports k c there);
-    heard = (behind_turn more silent);
-  }
-    where
-      behind_turn : (more : List Moment) → Every HearsNothing more → AreHeard (told ++ Turns m heard None ∷ more) chunks
-      behind_turn more silent =
-          let turn : Moment = Turns m heard None in
-          subst (λ (all : List Moment). AreHeard all chunks) (append_assoc told (turn ∷ []) more) (none_heard chunks (told ++ turn ∷ []) more (turn_heard chunks told is.heard m heard None new) silent)
+  rests_so more pass silent =
+      let turn : Moment = Turns m heard None in record {
+        ports = λ k c there. passed_all told k c (turn ∷ more) (rests_pass k m heard, pass k) (is.ports k c there);
+        heard =
+            subst (λ (all : List Moment). AreHeard all chunks) (append_assoc told (turn ∷ []) more)
+            (none_heard chunks (told ++ turn ∷ []) more (turn_heard chunks told is.heard m heard None new) silent);
+      }
 
   -- an ask is put into the port of its chunk
   asks_ports : (ask : Ask) (o : Option ChunkRun) → slice_get chunks (chunk_of ask) ≡ o → AreAsTold (told ++ Turns m heard (Some ask) ∷ []) (with_run chunks (chunk_of ask) (run_after o (λ c. asked c m ask)))

@@ -1,5 +1,5 @@
 -- What a run looks up in a group for a port is what calls of a port would say.
-use Rattle.std.proofs.Common.{◌≡◌, inl, inr, ℕ, zero, suc, ◌<◌, Bool, true, false, ◌&&◌, ◌||◌, ◌==◌, cond, List, [], ◌∷◌, Option, Some, None, slice_get, arith, refl, sym, ap, subst, ◌∙◌}
+use Rattle.std.proofs.Common.{◌≡◌, ℕ, zero, suc, ◌<◌, Bool, true, false, ◌&&◌, ◌||◌, ◌==◌, cond, List, [], ◌∷◌, Option, Some, None, slice_get, arith, refl, sym, ap, subst, ◌∙◌}
 use Rattle.std.specs.Prelude.{◌↔◌, IsTrue}
 use Rattle.std.specs.List.{filter, list_any}
 use Rattle.std.specs.Option.{option_map}
@@ -16,7 +16,7 @@ use Rattle.pf_cluster.proofs.Shown.{IsGreatest, one_more_leader}
 use Rattle.pf_asks.specs.declared.port.Sent.{Sent}
 use Rattle.pf_asks.specs.declared.port.Sent.TheVariants.{Slot, Number}
 use Rattle.pf_asks.specs.Desks.{Call, Took, WasAcked}
-use Rattle.pf_asks.specs.Ports.{LooksFor, reply_if}
+use Rattle.pf_asks.specs.Ports.{LooksFor}
 use Rattle.pf_ports.specs.Calls.{HasAcked, Past, Says}
 use Rattle.pf_chunk.specs.Asks.{is_acked, leader_of, reply_to, served_at, served_by, served_in}
 use Rattle.pf_chunk.specs.Waiting.{answers_of}

@@ -1,5 +1,5 @@
 -- What holds of a new volume, and is kept by all that lines and hosts do to one, holds of the run of every script.
-use Rattle.std.proofs.Common.{◌≡◌, ℕ, zero, suc, ◌<◌, ◌≤◌, Bool, true, false, not, if◌then◌else◌, List, [], ◌∷◌, ◌++◌, length, Option, Some, None, slice_get, refl, sym, ap, subst, ◌∙◌, append-nil}
+use Rattle.std.proofs.Common.{◌≡◌, ℕ, zero, suc, Bool, true, false, not, if◌then◌else◌, List, [], ◌∷◌, ◌++◌, length, Option, Some, None, slice_get, refl, sym, ap, subst, append-nil}
 use Rattle.std.specs.Prelude.{nat_le, nat_lt}
 use Rattle.std.specs.List.{range_with_len}
 use Rattle.std.proofs.lemmas.Bool.{false≢true}
@@ -32,7 +32,7 @@ use Rattle.pf_hosts.specs.Moments.{Moment, Writes}
 use Rattle.pf_hosts.specs.Hosts.{HostIs}
 use Rattle.pf_hosts.specs.Hosts as hosts
 use Rattle.pf_hosts.specs.Words.{read_call}
-use Rattle.pf_fleet.specs.Settling.{Goes, Name, Next, Settled, delivered, ends, enough_tries, goes_on, having_told, least_left, name_of, next_in, next_of, settle_next, settle_to, settled, tried}
+use Rattle.pf_fleet.specs.Settling.{Goes, Name, Next, Settled, delivered, ends, enough_tries, goes_on, least_left, name_of, next_in, next_of, settle_next, settle_to, settled, tried}
 use Rattle.pf_fleet.specs.Settled.{settling}
 use Rattle.pf_fleet.specs.Volumes.{VolumeRun, begins, happens, host_at, host_steps, hosts_step, killed, mounts, quietly, saying, step_of, these_step, with_chunk, with_host}
 use Rattle.pf_fleet.specs.Volumes as volumes
@@ -40,8 +40,8 @@ use Rattle.pf_world.specs.declared.kind.Kind.{Kind}
 use Rattle.pf_world.specs.declared.kind.Kind.TheVariants.{Mounted, Raw}
 use Rattle.pf_world.specs.declared.line.Line.{Line}
 use Rattle.pf_world.specs.Worlds.{Told, World, at_chunk, ended, made, made_answer, no_world, refused_text, said_only, stepped, told_of}
-use Rattle.pf_world.specs.Lines.{asked, begins_if, call_of, decided, joins, kill_of, line_told, mount_told, mounts_as, no_event_of, rests, settle_told, show_of, shown_of, shows, submit_told, submits_as, with_kind}
-use Rattle.pf_world.specs.Reports.{followed, run_from, world_run}
+use Rattle.pf_world.specs.Lines.{asked, begins_if, call_of, decided, joins, kill_of, line_told, mounts_as, no_event_of, rests, show_of, shown_of, submits_as, with_kind}
+use Rattle.pf_world.specs.Reports.{run_from, world_run}
 use Rattle.pf_mounted.specs.Scripts.{IsScript, makes_volume}
 
 -- A property of a volume and of all that was told so far is kept by lines of text, by an event of a chunk, by a read that a line takes up, by

@@ -1,44 +1,29 @@
 -- What was told of a chunk tells what its ports did.
-use Rattle.std.proofs.Common.{◌≡◌, ◌≢◌, ℕ, suc, ◌≤◌, inl, inr, Bool, true, false, ◌==◌, cond, if◌then◌else◌, List, [], ◌∷◌, ◌++◌, length, Option, Some, None, slice_get, slice_set, arith, refl, sym, ap, subst, ◌∙◌}
-use Rattle.std.specs.Option.{option_map}
+use Rattle.std.proofs.Common.{◌≡◌, ◌≢◌, ℕ, suc, ◌≤◌, inl, inr, true, ◌==◌, cond, List, [], ◌∷◌, ◌++◌, length, Option, Some, None, slice_get, arith, refl, sym, ap, subst, ◌∙◌}
 use Rattle.std.proofs.lemmas.Bool.{cases_eq}
-use Rattle.std.proofs.lemmas.List.{append_assoc, length-append}
+use Rattle.std.proofs.lemmas.List.{length-append}
 use Rattle.std.proofs.lemmas.Option.{none-some}
 use Rattle.pf_base.specs.Asks.{chunk_of}
 use Rattle.pf_base.specs.declared.asks.Ask.{Ask}
-use Rattle.pf_base.specs.declared.asks.Ask.TheVariants as asks
 use Rattle.pf_base.specs.declared.asks.Reply.{Reply}
 use Rattle.pf_entry.specs.Lists.{Every}
-use Rattle.pf_entry.specs.declared.ops.Op.TheVariants.{Write}
-use Rattle.pf_entry.proofs.Cases.{by_test}
 use Rattle.pf_entry.proofs.Lists.{every_append, every_more, set_cases}
-use Rattle.pf_protocol.specs.declared.answers.Answer.{Answer}
-use Rattle.pf_protocol.specs.declared.events.Event.{Event}
-use Rattle.pf_protocol.specs.declared.events.Event.TheVariants.{Fetch, Submit}
-use Rattle.pf_protocol.specs.declared.events.Happening.{Happening}
 use Rattle.pf_protocol.specs.Histories.{History, IsPrefix, replay}
 use Rattle.pf_protocol.specs.Servers.{Setup}
 use Rattle.pf_cluster.specs.Shown.{IsLeader}
-use Rattle.pf_cluster.proofs.Lists.{set_elsewhere}
 use Rattle.pf_asks.specs.declared.port.Sent.{Sent}
-use Rattle.pf_asks.specs.declared.port.Sent.TheVariants.{Slot, Number}
-use Rattle.pf_asks.specs.Desks.{Call, Fetched, Led, Submitted}
-use Rattle.pf_asks.specs.Ports.{Drives, DrivesFrom, Hands as HandsTo, IsHanded, IsLed, PortIs, Stays, answered as answered_port, goes_to}
-use Rattle.pf_ports.specs.Calls.{Past, SayInTurn, Says, fetching_of, number_in, slot_in, submission_of, with_read, with_write}
-use Rattle.pf_ports.specs.Driven.{IsDriven, IsStep, Others, Puts, Steps}
-use Rattle.pf_rounds.specs.Halts.{Halt}
-use Rattle.pf_rounds.specs.Chunks.{Chunk, after, answered, listed}
+use Rattle.pf_asks.specs.Desks.{Call, Led}
+use Rattle.pf_asks.specs.Ports.{DrivesFrom, Hands as HandsTo, IsHanded, IsLed, PortIs, Stays, answered as answered_port, goes_to}
+use Rattle.pf_ports.specs.Calls.{Past, Says}
+use Rattle.pf_ports.specs.Driven.{IsDriven, IsStep, Others, Puts}
 use Rattle.pf_chunk.specs.Asks.{leader_of, reply_to}
-use Rattle.pf_chunk.specs.Driving.{Driven, ask_after, asked, asked_at, driven, driven_at, driven_for, event_of_ask, handed_to, idle, led_to, replied, sent_of, with_port}
-use Rattle.pf_chunk.specs.Happenings.{Happened, happened}
+use Rattle.pf_chunk.specs.Driving.{asked, asked_at, with_port}
 use Rattle.pf_chunk.specs.Runs.{ChunkRun}
-use Rattle.pf_hosts.specs.Hosts.{handed}
-use Rattle.pf_hosts.specs.Moments.{Hands, Heard, Moment, Turns, Writes}
-use Rattle.pf_mounted.specs.Pasts.{Trace, handed_at, handed_by, past_in, past_of, trace_of}
-use Rattle.pf_mounted.proofs.Growing.{Grows, after_grows, after_history, followed_grows, followed_ports}
+use Rattle.pf_hosts.specs.Moments.{Heard, Moment, Turns}
+use Rattle.pf_mounted.specs.Pasts.{Trace, past_in, past_of, trace_of}
+use Rattle.pf_mounted.proofs.Growing.{Grows}
 use Rattle.pf_mounted.proofs.Looking.{Looks, leader_leads, looked_up}
-use Rattle.pf_mounted.proofs.Sending.{is_answer, read_sent, write_sent}
-use Rattle.pf_mounted.proofs.Tracing.{IsWithin, Passes, asks_low, past_handed, past_more, past_same, test_other, test_same, trace_longer, within_more, writes_pass}
+use Rattle.pf_mounted.proofs.Tracing.{IsWithin, Passes, asks_low, past_more, past_same, test_other, test_same, trace_longer, within_more}
 
 -- the chunk has its place, its group stands where its history leads, and each port was driven as was told
 pub record IsAsTold (told : List Moment) (k : ℕ) (c : ChunkRun) : Type 0 where
@@ -46,6 +31,9 @@ pub record IsAsTold (told : List Moment) (k : ℕ) (c : ChunkRun) : Type 0 where
   pub stands : c.group.state ≡ replay c.group.setup c.group.history
   pub within : Every (IsWithin k (length c.group.history)) told
   pub driven : (m : ℕ) (port : PortIs) → slice_get c.ports m ≡ Some port → IsDriven c.group.setup (past_of c.group.history m k told) port
+
+abbrev pub AreAsTold : List Moment → List ChunkRun → Type 0
+AreAsTold told chunks = (k : ℕ) (c : ChunkRun) → slice_get chunks k ≡ Some c → IsAsTold told k c
 
 prefix_length : (earlier history : History) → IsPrefix earlier history → length earlier ≤ length history
 prefix_length earlier history p = omega (arith, length-append earlier p.rest, ap length p.whole)

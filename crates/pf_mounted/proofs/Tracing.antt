@@ -1,5 +1,5 @@
 -- What moments tell of a port.
-use Rattle.std.proofs.Common.{◌≡◌, ◌≢◌, ℕ, suc, ◌<◌, ◌≤◌, Bool, true, false, ◌&&◌, ◌==◌, if◌then◌else◌, List, [], ◌∷◌, ◌++◌, length, Option, Some, None, slice_get, take, arith, refl, sym, ap, subst, ◌∙◌}
+use Rattle.std.proofs.Common.{◌≡◌, ◌≢◌, ℕ, suc, ◌<◌, ◌≤◌, Bool, true, false, ◌&&◌, ◌==◌, if◌then◌else◌, List, [], ◌∷◌, ◌++◌, length, Option, Some, None, slice_get, take, arith, refl, sym, ap, ◌∙◌}
 use Rattle.std.specs.List.{fold}
 use Rattle.std.proofs.lemmas.Bool.{eq-eqb, eqb-true, false≢true, ne_eqb}
 use Rattle.std.proofs.lemmas.Grind.{fold-append}
@@ -12,9 +12,8 @@ use Rattle.pf_protocol.specs.declared.answers.Answer.{Answer}
 use Rattle.pf_protocol.specs.declared.events.Event.{Event}
 use Rattle.pf_protocol.specs.declared.events.Event.TheVariants as events
 use Rattle.pf_protocol.specs.declared.events.Happening.{Happening}
-use Rattle.pf_protocol.specs.Histories.{History, IsPrefix}
+use Rattle.pf_protocol.specs.Histories.{History}
 use Rattle.pf_cluster.proofs.Lists.{at_end, at_front, something_there}
-use Rattle.pf_ports.specs.Calls.{Past}
 use Rattle.pf_hosts.specs.Moments.{Begins, Ends, Hands, Heard, Moment, Turns, Writes}
 use Rattle.pf_mounted.specs.Pasts.{Trace, after_moment, at_moment, handed_at, handed_by, no_trace, past_in, past_of, trace_of}
 

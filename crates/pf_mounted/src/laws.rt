@@ -1,5 +1,5 @@
 //! Laws of the run of every script, with any list of halts.
-ghost use Rattle.std.specs.Prelude.{◌≡◌, ℕ, ◌++◌, ◌∷◌, [], List, Option, Some, length, slice_get, take};
+ghost use Rattle.std.specs.Prelude.{◌≡◌, ℕ, ◌++◌, ◌∷◌, [], List, Option, Some, length, slice_get};
 ghost use Rattle.std.specs.Option.{option_map};
 ghost use Rattle.pf_base.specs.Asks.{chunk_of};
 ghost use Rattle.pf_base.specs.declared.asks.Ask.{Ask as AskIs};
@@ -32,7 +32,7 @@ pub fn ports_of_runs_are_driven()
 /// Whatever a mount was told to have heard is, in every legal history of the group of its ask's chunk, the group's answer to the last time
 /// that the ask was handed to it: a write was acknowledged, a read was answered with these sectors.
 pub fn replies_of_runs_are_the_groups()
-    ensures { (halts : List Halt) (lines : List LineIs) → IsScript lines → let run = world_run halts lines in (place m : ℕ) (heard : Heard) (next : Option AskIs) → slice_get run.told place ≡ Some (Turns m (Some heard) next) → IsHeard run.world.volume.chunks m (take place run.told) heard }
+    ensures { (halts : List Halt) (lines : List LineIs) → IsScript lines → let run = world_run halts lines in (m : ℕ) (before after : List Moment) (heard : Heard) (next : Option AskIs) → run.told ≡ before ++ Turns m (Some heard) next ∷ after → IsHeard run.world.volume.chunks m before heard }
 {}
 
 /// Each host that is there is the mount that what was told of its number makes, and it waits for the chunk that its last turn asked, if that
