@@ -17,3 +17,11 @@ pub mod Decided
 pub mod Deciding
 pub mod Replying
 pub mod Hearing
+pub mod Coming
+pub mod Lying
+pub mod Goes
+pub mod Balloting
+pub mod Seeing
+pub mod Matching
+pub mod Stepping
+pub mod Journaling

@@ -2,3 +2,4 @@ pub mod Scripts
 pub mod Mounts
 pub mod Pasts
 pub mod Hearing
+pub mod Journals

@@ -13,12 +13,17 @@ ghost use Rattle.pf_hosts.specs.Moments.{Begins, Ends, Heard, Moment, Turns};
 ghost use Rattle.pf_mount.specs.Mounts.{MountIs};
 ghost use Rattle.pf_mounted.specs.Hearing.{IsHeard};
 ghost use Rattle.pf_mounted.specs.Mounts.{HasDecided, IsLonger, RestsIn, decisions, last_answer, last_ask, life_of, mount_after, next_ask, of_chunk, tables_from};
+ghost use Rattle.pf_mounted.specs.Journals.{AreOfMounts, deeds, doings};
 ghost use Rattle.pf_mounted.specs.Pasts.{past_of};
 ghost use Rattle.pf_mounted.specs.Scripts.{IsScript};
 ghost use Rattle.pf_ports.specs.Driven.{IsDriven};
 ghost use Rattle.pf_rounds.specs.Halts.{Halt};
 ghost use Rattle.pf_tree.specs.declared.calls.FileCall.{FileCall};
-ghost use Rattle.pf_volume.specs.Volumes.{Extent};
+ghost use Rattle.pf_volume.specs.Volumes.{Extent, IsVolume};
+ghost use Rattle.pf_hosted.specs.Volumes.{IsSameJournal};
+ghost use Rattle.pf_journal.specs.Sectors.{block_in};
+ghost use Rattle.pf_paxos.specs.Journals.{journal_from, new_journal};
+ghost use Rattle.pf_protocol.specs.Groups.{Answered};
 ghost use Rattle.pf_world.specs.Reports.{world_run};
 ghost use Rattle.pf_world.specs.declared.line.Line.{Line as LineIs};
 
@@ -64,4 +69,12 @@ pub fn tables_are_those_of_decisions()
 pub fn decisions_are_of_ballots()
     ensures ballots { (v : Extent) (told : List Moment) (m k : ℕ) (value : List ℕ) → slice_get (decisions v told m) k ≡ Some value → HasDecided v told m k value }
     ensures stay { (v : Extent) (told more : List Moment) (m : ℕ) → IsLonger (decisions v told m) (decisions v (told ++ more) m) }
+{}
+
+/// Where each moment that was told is what its mount does, and what was heard answers what was asked, the deeds of the ports are the doings
+/// of a journal, in each of its positions. After them the journal has, of each mount, the values that it decided, and the proposer at its
+/// position.
+pub fn deeds_are_doings()
+    ensures same { (v : Extent) (answer_at : ℕ → Answered) (told : List Moment) → IsVolume v → AreOfMounts v answer_at [] told → IsSameJournal block_in v.sectors 256 (deeds v answer_at told) (doings v answer_at told) }
+    ensures lists { (v : Extent) (answer_at : ℕ → Answered) (told : List Moment) → IsVolume v → AreOfMounts v answer_at [] told → let journal = journal_from new_journal (doings v answer_at told) in (m : ℕ) (mount : MountIs) → mount_after v told m ≡ Some mount → (journal.list m ≡ decisions v told m) × (journal.proposers mount.upto m ≡ mount.position.proposer) }
 {}
