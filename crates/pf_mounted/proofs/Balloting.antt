@@ -32,7 +32,8 @@ use Rattle.pf_mounted.proofs.Changing.{having_started}
 use Rattle.pf_mount.specs.declared.work.Work.{Work}
 use Rattle.pf_mount.specs.declared.work.Work.TheVariants.{Rests, Fails, ReadsSuper, WritesSuper, Syncs, Ballots, Pauses, Moves}
 use Rattle.pf_mount.specs.Mounts.{MountIs, Outcome, aborted, advanced, answered, asking, balloted, blocks_in, finds_value, goes_on, has_bal, on_bytes, on_written, seeing, syncs_on, reads_half, starting, synced, plans_as, moved, done, ballots as balloting, with_proposer, writes_own}
-use Rattle.pf_mounted.specs.Journals.{FindsValue, ask_next, ballot_next, call_of}
+use Rattle.pf_mounted.specs.Mounts.{ask_in}
+use Rattle.pf_mounted.specs.Journals.{FindsValue, ballot_next, call_of}
 use Rattle.pf_mounted.proofs.Coming.{Comes, HasRoom, Pends, ballot_ask, aborted_comes, moved_comes, paused_comes, proceeds_comes, super_comes, syncs_come, syncs_on_come}
 
 -- what a reply makes of a proposer
@@ -98,7 +99,7 @@ pub record GoesOn (m : MountIs) (p : ProposerIs) (o : Outcome) : Type 0 where
   pub proposer : o.mount.position.proposer ≡ p
   pub input : Option (List ℕ)
   pub work : o.mount.work ≡ Ballots input
-  pub pends : ask_next o.next ≡ ballot_ask p.phase o.mount
+  pub pends : ask_in o.next ≡ ballot_ask p.phase o.mount
 
 -- it has ended, and this comes of the mount that it left
 pub record Leaves (m : MountIs) (p : ProposerIs) (upto : ℕ) (o : Outcome) : Type 0 where

@@ -27,7 +27,7 @@ use Rattle.pf_mount.specs.declared.work.Work.{Work}
 use Rattle.pf_mount.specs.declared.work.Work.TheVariants.{Rests, Fails, ReadsSuper, WritesSuper, Syncs, Ballots, Pauses, Moves}
 use Rattle.pf_mount.specs.Positions.{can_start}
 use Rattle.pf_mount.specs.Mounts.{MountIs, Outcome, aborted, asking, ballots, done, moved, opening, paused, pauses, plans, plans_as, proceeds, proceeds_with, proposes, reads_first, reads_half, starting, super_read, synced, syncs, syncs_on, with_proposer, writes_own}
-use Rattle.pf_mounted.specs.Journals.{ask_next}
+use Rattle.pf_mounted.specs.Mounts.{ask_in}
 use Rattle.pf_mounted.proofs.Changing.{having_started}
 
 -- the ask of a ballot, by its phase
@@ -72,7 +72,7 @@ pub record Comes (m : MountIs) (o : Outcome) : Type 0 where
   pub upto : o.mount.upto ≡ m.upto
   pub room : HasRoom o.mount.work m.upto
   pub proposer : BeginsFrom o.mount.work m.position.proposer o.mount
-  pub pends : Pends o.mount.work o.mount (ask_next o.next)
+  pub pends : Pends o.mount.work o.mount (ask_in o.next)
 
 comes_if : (m : MountIs) (b : Bool) (x y : Outcome) → (b ≡ true → Comes m x) → (b ≡ false → Comes m y) → Comes m (if b then x else y)
 comes_if m true x y of_x of_y = of_x refl

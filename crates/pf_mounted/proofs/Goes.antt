@@ -28,8 +28,8 @@ use Rattle.pf_mount.specs.declared.work.Work.{Work}
 use Rattle.pf_mount.specs.declared.work.Work.TheVariants.{Rests, Fails, ReadsSuper, WritesSuper, Syncs, Ballots, Pauses, Moves}
 use Rattle.pf_mount.specs.Mounts.{MountIs, Outcome, answered, blocks_in}
 use Rattle.pf_hosts.specs.Moments.{Heard}
-use Rattle.pf_mounted.specs.Mounts.{Life, hearing}
-use Rattle.pf_mounted.specs.Journals.{CanBeTold, FindsValue, IsAnswerOf, IsHearing, Step, ask_next, asking, asks_on, ballot_next, call_of, client_of, hearing_steps, hears, port_ask, port_reply, stays_in}
+use Rattle.pf_mounted.specs.Mounts.{Life, ask_in, hearing}
+use Rattle.pf_mounted.specs.Journals.{CanBeTold, FindsValue, IsAnswerOf, IsHearing, Step, asking, asks_on, ballot_next, call_of, client_of, hearing_steps, hears, port_ask, port_reply, stays_in}
 use Rattle.pf_mounted.proofs.Coming.{BeginsFrom, Comes, HasRoom, Pends, ballot_ask}
 use Rattle.pf_mounted.proofs.Balloting.{GoesOn, HeardIn, IsNoBallot, Leaves, WaitsFor, ballot_heard, is_move, made, made_waits, other_heard, replies}
 use Rattle.pf_mounted.proofs.Seeing.{ballot_seen}
@@ -175,7 +175,7 @@ module _ (v : Extent) (blocks : ℕ) (is : v.sectors ≡ 8 * blocks) (many : 1 <
     upto_after : o.mount.upto ≡ length list
     upto_after = comes.upto ∙ upto
 
-    pub stands_after : CanBeTold v o.mount.work o.mount (ask_next o.next) → Stands v m (record { outcome = o; decided = list }) (ask_next o.next)
+    pub stands_after : CanBeTold v o.mount.work o.mount (ask_in o.next) → Stands v m (record { outcome = o; decided = list }) (ask_in o.next)
     stands_after told = record {
       small = small;
       number = comes.number ∙ number;
@@ -193,10 +193,10 @@ module _ (v : Extent) (blocks : ℕ) (is : v.sectors ≡ 8 * blocks) (many : 1 <
         let asked = asks_some v blocks is many m small o.mount (comes.number ∙ number) (comes.volume ∙ volume) j list left.position.proposer matches idle upto_after o.mount.work ask pends told room_after comes.proposer in
         ((asked.0, tt), asked.1)
 
-    pub comes_after : (j : Journal) → Matches j m list left.position.proposer → CanBeTold v o.mount.work o.mount (ask_next o.next)
-        → Goes j (asking m o.mount (ask_next o.next)) (record { outcome = o; decided = list }) (ask_next o.next)
+    pub comes_after : (j : Journal) → Matches j m list left.position.proposer → CanBeTold v o.mount.work o.mount (ask_in o.next)
+        → Goes j (asking m o.mount (ask_in o.next)) (record { outcome = o; decided = list }) (ask_in o.next)
     comes_after j matches told =
-        let asked = asks_come j matches (ask_next o.next) comes.pends told in
+        let asked = asks_come j matches (ask_in o.next) comes.pends told in
         record { same = asked.0; stands = stands_after told; matches = asked.1 }
 
   -- one step, and then others
@@ -217,7 +217,7 @@ module _ (v : Extent) (blocks : ℕ) (is : v.sectors ≡ 8 * blocks) (many : 1 <
     o = answered life.outcome.mount heard.reply
 
     abbrev next : Option Ask
-    next = ask_next o.next
+    next = ask_in o.next
 
     abbrev reply_told : Option PortReply
     reply_told = port_reply ask heard.by answer heard.reply

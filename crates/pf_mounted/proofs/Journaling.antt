@@ -24,8 +24,8 @@ use Rattle.pf_mount.specs.declared.work.Work.TheVariants.{Rests, Fails, ReadsSup
 use Rattle.pf_mount.specs.Mounts.{MountIs, answered, opening, starting}
 use Rattle.pf_hosts.specs.Moments.{Heard, Moment, Begins, Ends, Hands, Turns, Writes}
 use Rattle.pf_mount.specs.declared.work.Next.{Next}
-use Rattle.pf_mounted.specs.Mounts.{Life, asked_in, calling, values_in, decisions, hearing, last_ask, life_of, lived, mount_after, mount_in, opened, turned}
-use Rattle.pf_mounted.specs.Journals.{AreOfMounts, CanBeTold, CanBegin, call_of, client_of, hand_steps, hearing_steps, hears, port_ask, port_reply, puts, stays_in, IsOfMount, IsTurn, Step, ask_next, asking, deeds, doings, steps_at, steps_from, steps_of, turn_steps}
+use Rattle.pf_mounted.specs.Mounts.{Life, ask_in, asked_in, calling, values_in, decisions, hearing, last_ask, life_of, lived, mount_after, mount_in, opened, turned}
+use Rattle.pf_mounted.specs.Journals.{AreOfMounts, CanBeTold, CanBegin, call_of, client_of, hand_steps, hearing_steps, hears, port_ask, port_reply, puts, stays_in, IsOfMount, IsTurn, Step, asking, deeds, doings, steps_at, steps_from, steps_of, turn_steps}
 use Rattle.pf_mounted.proofs.Balloting.{IsNoBallot, starting_no_ballot}
 use Rattle.pf_mounted.proofs.Changing.{having_started, starting_keeps}
 use Rattle.pf_mounted.proofs.Lives.{ask_on, life_on}
@@ -142,19 +142,19 @@ module _ (v : Extent) (blocks : ℕ) (is : v.sectors ≡ 8 * blocks) (many : 1 <
   as_goes m small j steps life next goes = (goes.same, (goes.stands, goes.matches))
 
   begun_goes : (m : ℕ) (j : Journal) (before : MountIs) (call : FileCall) (list : List (List ℕ)) (last : Option Ask) (next : Next) (x : MountIs) → x ≡ (starting before call).mount
-      → Stands v m (record { outcome = record { mount = x; next = next }; decided = list }) last → Matches j m list x.position.proposer → CanBeTold v x.work x (ask_next (starting before call).next)
-      → TurnGoes j m (asking m x (ask_next (starting before call).next)) (record { outcome = record { mount = x; next = next }; decided = list }) (ask_next (starting before call).next)
+      → Stands v m (record { outcome = record { mount = x; next = next }; decided = list }) last → Matches j m list x.position.proposer → CanBeTold v x.work x (ask_in (starting before call).next)
+      → TurnGoes j m (asking m x (ask_in (starting before call).next)) (record { outcome = record { mount = x; next = next }; decided = list }) (ask_in (starting before call).next)
   begun_goes m j before call list last next x began =
       let o = starting before call in
-      subst (λ (y : MountIs). Stands v m (record { outcome = record { mount = y; next = next }; decided = list }) last → Matches j m list y.position.proposer → CanBeTold v y.work y (ask_next o.next)
-      → TurnGoes j m (asking m y (ask_next o.next)) (record { outcome = record { mount = y; next = next }; decided = list }) (ask_next o.next)) (sym began)
+      subst (λ (y : MountIs). Stands v m (record { outcome = record { mount = y; next = next }; decided = list }) last → Matches j m list y.position.proposer → CanBeTold v y.work y (ask_in o.next)
+      → TurnGoes j m (asking m y (ask_in o.next)) (record { outcome = record { mount = y; next = next }; decided = list }) (ask_in o.next)) (sym began)
       (λ stands matches told.
       let kept = (starting_keeps before call).changes.upto in
       let most : before.upto ≤ 256 = subst (λ n. n ≤ 256) kept (room_most o.mount.work o.mount.upto stands.room) in
       let comes = starting_comes before call most in
       let none = starting_no_ballot before call in
       let same = same_proposer o.mount.work before.position.proposer o.mount none comes.proposer in
-      let goes = as_goes m stands.small j (asking m o.mount (ask_next o.next)) (record { outcome = o; decided = list }) (ask_next o.next)
+      let goes = as_goes m stands.small j (asking m o.mount (ask_in o.next)) (record { outcome = o; decided = list }) (ask_in o.next)
       (comes_after v blocks is many m stands.small (having_started before call) o comes (sym comes.number ∙ stands.number) (sym comes.volume ∙ stands.volume)
       (ap (λ (p : ProposerIs). p.phase) (sym same) ∙ idle_in o.mount.work o.mount.position.proposer.phase none stands.idle) list (sym comes.upto ∙ stands.upto) j
       (subst (Matches j m list) same matches) told) in
@@ -166,7 +166,7 @@ module _ (v : Extent) (blocks : ℕ) (is : v.sectors ≡ 8 * blocks) (many : 1 <
   turn_goes m None last answer (Some heard) next j turn stands = absurd (none-some heard (sym turn.1))
   turn_goes m None last answer None next j turn stands =
       subst (λ n. TurnGoes j m (asking m (opening m v).mount n) (opened v m) n) (sym turn.2)
-      (as_goes m turn.0 j (asking m (opening m v).mount (ask_next (opening m v).next)) (opened v m) (ask_next (opening m v).next)
+      (as_goes m turn.0 j (asking m (opening m v).mount (ask_in (opening m v).next)) (opened v m) (ask_in (opening m v).next)
       (comes_after v blocks is many m turn.0 (opening m v).mount (opening m v) (opening_comes m v) refl refl refl [] refl j stands tt))
   turn_goes m (Some life) last answer None next j turn stands =
       subst (λ n. TurnGoes j m (asking m life.outcome.mount n) life n) (sym turn.asks)

@@ -17,14 +17,12 @@ use Rattle.pf_paxos.specs.Runs.{Call, Starts, IsWritten, IsRead, idle_turn}
 use Rattle.pf_paxos.specs.Journals.{Doing, Does, Reads}
 use Rattle.pf_hosted.specs.Deeds.{Deed, Takes, Submits, PortAsk, Puts, Gets, PortReply, Put, Got}
 use Rattle.pf_journal.specs.Sectors.{HasSpelling}
-use Rattle.pf_mount.specs.declared.work.Next.{Next}
-use Rattle.pf_mount.specs.declared.work.Next.TheVariants.{Ask as Asks}
 use Rattle.pf_mount.specs.declared.work.Work.{Work}
 use Rattle.pf_tree.specs.declared.calls.FileCall.{FileCall}
 use Rattle.pf_mount.specs.declared.work.Work.TheVariants.{Ballots, Moves, Rests, Syncs}
 use Rattle.pf_mount.specs.Mounts.{MountIs, answered, blocks_in, finds_value, opening, starting}
 use Rattle.pf_hosts.specs.Moments.{Heard, Moment, Begins, Turns, Hands}
-use Rattle.pf_mounted.specs.Mounts.{Life, last_ask, life_of, mount_after, mount_in, turned}
+use Rattle.pf_mounted.specs.Mounts.{Life, ask_in, last_ask, life_of, mount_after, mount_in, turned}
 
 -- what ports did, and what it is in the journal
 pub record Step : Type 0 where
@@ -141,10 +139,6 @@ doings v answer_at told = map (λ (s : Step). s.doing) (steps_of v answer_at tol
 
 -- What is asked of a list of moments
 
-abbrev pub ask_next : Next → Option Ask
-ask_next (Asks ask) = Some ask
-ask_next next = None
-
 -- bytes that were heard are those that the answer gives of the range that was asked
 abbrev pub IsAnswerOf : Ask → Reply → Answered → Type 0
 IsAnswerOf (Read chunk span) (Bytes sectors) answer = (answer.range ≡ span) × (answer.bytes ≡ sectors)
@@ -169,7 +163,7 @@ CanBeTold v work mount next = Unit {0}
 -- what mount m hears, and asks with it: it waits for the reply, its machine makes the next ask, and the answer is of the reply
 pub record IsHearing (v : Extent) (mount : MountIs) (ask : Ask) (answer : Answered) (heard : Heard) (next : Option Ask) : Type 0 where
   pub in_kind : Answers ask heard.reply
-  pub asks : next ≡ ask_next (answered mount heard.reply).next
+  pub asks : next ≡ ask_in (answered mount heard.reply).next
   pub answers : IsAnswerOf ask heard.reply answer
   pub finds : FindsValue mount.work mount heard.reply
   pub told : CanBeTold v (answered mount heard.reply).mount.work (answered mount heard.reply).mount next
@@ -179,11 +173,11 @@ pub record HasBegun (v : Extent) (mount : MountIs) (next : Option Ask) : Type 0 
   pub before : MountIs
   pub call : FileCall
   pub began : mount ≡ (starting before call).mount
-  pub asks : next ≡ ask_next (starting before call).next
+  pub asks : next ≡ ask_in (starting before call).next
   pub told : CanBeTold v mount.work mount next
 
 abbrev pub IsTurn : Extent → (m : ℕ) → Option Life → Option Ask → Answered → Option Heard → Option Ask → Type 0
-IsTurn v m None last answer heard next = (m < 16) × (heard ≡ None) × (next ≡ ask_next (opening m v).next)
+IsTurn v m None last answer heard next = (m < 16) × (heard ≡ None) × (next ≡ ask_in (opening m v).next)
 IsTurn v m (Some life) last answer None next = HasBegun v life.outcome.mount next
 IsTurn v m (Some life) None answer (Some heard) next = ⊥
 IsTurn v m (Some life) (Some ask) answer (Some heard) next = IsHearing v life.outcome.mount ask answer heard next
