@@ -1,16 +1,15 @@
--- What each event of a group keeps is kept where all that can be applied is.
+-- What claims and ends of jobs keep is kept where all that can be applied is.
 use Rattle.std.proofs.Common.{ℕ, zero, suc, List, [], ◌∷◌}
 use Rattle.std.specs.List.{fold}
 use Rattle.pf_entry.specs.declared.ops.Job.{Job}
 use Rattle.pf_protocol.specs.declared.answers.Answer.{Answer}
 use Rattle.pf_protocol.specs.declared.answers.Answer.TheVariants as answers
-use Rattle.pf_protocol.specs.declared.events.Event.{Event}
 use Rattle.pf_protocol.specs.declared.events.Event.TheVariants.{Claim, Finish}
 use Rattle.pf_rounds.specs.Halts.{Halt}
 use Rattle.pf_rounds.specs.Chunks.{Chunk, after, answered}
 use Rattle.pf_rounds.specs.Rounds.{Claims, applied, claim_on, claims_to, enough, finished, round, rounds_to}
 
-module _ (halts : List Halt) (P : Chunk → Type 0) (keeps : (c : Chunk) (event : Event) → P c → P (after halts c event)) where
+module _ (halts : List Halt) (P : Chunk → Type 0) (claimed : (c : Chunk) → P c → P (after halts c Claim)) (ended : (c : Chunk) (server life slot : ℕ) → P c → P (after halts c (Finish server life slot))) where
   claim : (answer : Answer) (c : Chunk) (more : Chunk → Claims) → P c → P (more c).chunk → P (claim_on answer c more).chunk
   claim (answers.Job job) c more is then = then
   claim answers.Done c more is then = is
@@ -23,11 +22,11 @@ module _ (halts : List Halt) (P : Chunk → Type 0) (keeps : (c : Chunk) (event 
   claims : (n : ℕ) (c : Chunk) → P c → P (claims_to n halts c).chunk
   unfolding claims_to
   claims zero c is = is
-  claims (suc n) c is = let next = keeps c Claim is in claim (answered halts c Claim) (after halts c Claim) (claims_to n halts) next (claims n (after halts c Claim) next)
+  claims (suc n) c is = let next = claimed c is in claim (answered halts c Claim) (after halts c Claim) (claims_to n halts) next (claims n (after halts c Claim) next)
 
   finishes : (jobs : List Job) (c : Chunk) → P c → P (fold (finished halts) c jobs)
   finishes [] c is = is
-  finishes (job ∷ jobs) c is = finishes jobs (finished halts c job) (keeps c (Finish job.server job.life job.slot) is)
+  finishes (job ∷ jobs) c is = finishes jobs (finished halts c job) (ended c job.server job.life job.slot is)
 
   one_round : (claims : Claims) (more : Chunk → Chunk) → ((c : Chunk) → P c → P (more c)) → P claims.chunk → P (round halts claims more)
   one_round claims more then is = by claims.jobs

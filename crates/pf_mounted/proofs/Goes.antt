@@ -29,7 +29,7 @@ use Rattle.pf_mount.specs.declared.work.Work.TheVariants.{Rests, Fails, ReadsSup
 use Rattle.pf_mount.specs.Mounts.{MountIs, Outcome, answered, blocks_in}
 use Rattle.pf_hosts.specs.Moments.{Heard}
 use Rattle.pf_mounted.specs.Mounts.{Life, ask_in, hearing}
-use Rattle.pf_mounted.specs.Journals.{CanBeTold, FindsValue, IsAnswerOf, IsHearing, Step, asking, asks_on, ballot_next, call_of, client_of, hearing_steps, hears, port_ask, port_reply, stays_in}
+use Rattle.pf_mounted.specs.Journals.{CanBeTold, CanTurn, FindsValue, IsAnswerOf, IsHearing, Step, asking, asks_on, ballot_next, call_of, client_of, hearing_steps, hears, port_ask, port_reply, stays_in}
 use Rattle.pf_mounted.proofs.Coming.{BeginsFrom, Comes, HasRoom, Pends, ballot_ask}
 use Rattle.pf_mounted.proofs.Balloting.{GoesOn, HeardIn, IsNoBallot, Leaves, WaitsFor, ballot_heard, is_move, made, made_waits, other_heard, replies}
 use Rattle.pf_mounted.proofs.Seeing.{ballot_seen}
@@ -354,8 +354,8 @@ module _ (v : Extent) (blocks : ℕ) (is : v.sectors ≡ 8 * blocks) (many : 1 <
             (subst (λ b. Goes j (steps_if b mount.work) (became None) next) (sym (no_stay mount.work p heard.reply none)) (in_none none told_so))
 
   pub heard_goes : (j : Journal) (life : Life) (ask : Ask) (answer : Answered) (heard : Heard) (next : Option Ask) → Stands v m life (Some ask) → Matches j m life.decided life.outcome.mount.position.proposer
-      → IsHearing v life.outcome.mount ask answer heard next → Goes j (hearing_steps m life.outcome.mount ask answer heard next) (hearing heard.reply life) next
-  heard_goes j life ask answer heard _ stands matches hears_it =
+      → IsHearing life.outcome.mount ask answer heard next → CanTurn v (Some life) (Some heard) next → Goes j (hearing_steps m life.outcome.mount ask answer heard next) (hearing heard.reply life) next
+  heard_goes j life ask answer heard _ stands matches hears_it can =
       let o = answered life.outcome.mount heard.reply in
       subst (λ n. Goes j (hearing_steps m life.outcome.mount ask answer heard n) (hearing heard.reply life) n) (sym hears_it.asks)
-      (by_work j life ask answer heard stands matches hears_it.in_kind hears_it.answers life.outcome.mount.work refl hears_it.finds (subst (CanBeTold v o.mount.work o.mount) hears_it.asks hears_it.told))
+      (by_work j life ask answer heard stands matches hears_it.in_kind hears_it.answers life.outcome.mount.work refl can.0 (subst (CanBeTold v o.mount.work o.mount) hears_it.asks can.1))

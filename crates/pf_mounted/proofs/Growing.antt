@@ -50,7 +50,9 @@ module _ (halts : List Halt) where
   after_history c event = refl
 
   applied_grows : (c : Chunk) → Grows c (applied halts c)
-  applied_grows c = all_applied halts (Grows c) (λ d event grown. grows_on c d (after halts d event) grown (after_grows d event)) c (grows_refl c)
+  applied_grows c =
+      let on : (event : Event) (d : Chunk) → Grows c d → Grows c (after halts d event) = λ event d grown. grows_on c d (after halts d event) grown (after_grows d event) in
+      all_applied halts (Grows c) (on events.Claim) (λ d server life slot. on (events.Finish server life slot) d) c (grows_refl c)
 
   -- what follows on an event
   pub followed_grows : (c : ChunkRun) (answer : Answer) → Grows c.group (followed halts c answer).chunk.group

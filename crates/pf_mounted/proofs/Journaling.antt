@@ -25,7 +25,7 @@ use Rattle.pf_mount.specs.Mounts.{MountIs, answered, opening, starting}
 use Rattle.pf_hosts.specs.Moments.{Heard, Moment, Begins, Ends, Hands, Turns, Writes}
 use Rattle.pf_mount.specs.declared.work.Next.{Next}
 use Rattle.pf_mounted.specs.Mounts.{Life, ask_in, asked_in, calling, values_in, decisions, hearing, last_ask, life_of, lived, mount_after, mount_in, opened, turned}
-use Rattle.pf_mounted.specs.Journals.{AreOfMounts, CanBeTold, CanBegin, call_of, client_of, hand_steps, hearing_steps, hears, port_ask, port_reply, puts, stays_in, IsOfMount, IsTurn, Step, asking, deeds, doings, steps_at, steps_from, steps_of, turn_steps}
+use Rattle.pf_mounted.specs.Journals.{AreOfMounts, CanBeDoing, CanBeDoings, CanBeTold, CanBegin, CanTurn, call_of, client_of, hand_steps, hearing_steps, hears, port_ask, port_reply, puts, stays_in, IsOfMount, IsTurn, Step, asking, deeds, doings, steps_at, steps_from, steps_of, turn_steps}
 use Rattle.pf_mounted.proofs.Balloting.{IsNoBallot, starting_no_ballot}
 use Rattle.pf_mounted.proofs.Changing.{having_started, starting_keeps}
 use Rattle.pf_mounted.proofs.Lives.{ask_on, life_on}
@@ -131,7 +131,7 @@ same_proposer work p m none begins = begins
 -- Moments
 
 module _ (v : Extent) (blocks : ℕ) (is : v.sectors ≡ 8 * blocks) (many : 1 < blocks) where
-  abbrev StandsIn : (m : ℕ) → Option Life → Option Ask → Journal → Type 0
+  abbrev pub StandsIn : (m : ℕ) → Option Life → Option Ask → Journal → Type 0
   StandsIn m None last j = Matches j m [] (new_proposer m zero_block)
   StandsIn m (Some life) last j = Stands v m life last × Matches j m life.decided life.outcome.mount.position.proposer
 
@@ -161,20 +161,20 @@ module _ (v : Extent) (blocks : ℕ) (is : v.sectors ≡ 8 * blocks) (many : 1 <
       let its = goes.1.0 in
       (goes.0, (record { small = its.small; number = its.number; volume = its.volume; upto = its.upto; room = its.room; idle = its.idle; waits = its.waits }, goes.1.1)))
 
-  turn_goes : (m : ℕ) (l : Option Life) (last : Option Ask) (answer : Answered) (heard : Option Heard) (next : Option Ask) (j : Journal) → IsTurn v m l last answer heard next → StandsIn m l last j
+  turn_goes : (m : ℕ) (l : Option Life) (last : Option Ask) (answer : Answered) (heard : Option Heard) (next : Option Ask) (j : Journal) → IsTurn v m l last answer heard next → CanTurn v l heard next → StandsIn m l last j
       → AreSame v.sectors j (turn_steps v m l last answer heard next) × StandsIn m (turned v m heard l) next (after j (turn_steps v m l last answer heard next))
-  turn_goes m None last answer (Some heard) next j turn stands = absurd (none-some heard (sym turn.1))
-  turn_goes m None last answer None next j turn stands =
+  turn_goes m None last answer (Some heard) next j turn can stands = absurd (none-some heard (sym turn.1))
+  turn_goes m None last answer None next j turn can stands =
       subst (λ n. TurnGoes j m (asking m (opening m v).mount n) (opened v m) n) (sym turn.2)
       (as_goes m turn.0 j (asking m (opening m v).mount (ask_in (opening m v).next)) (opened v m) (ask_in (opening m v).next)
       (comes_after v blocks is many m turn.0 (opening m v).mount (opening m v) (opening_comes m v) refl refl refl [] refl j stands tt))
-  turn_goes m (Some life) last answer None next j turn stands =
+  turn_goes m (Some life) last answer None next j turn can stands =
       subst (λ n. TurnGoes j m (asking m life.outcome.mount n) life n) (sym turn.asks)
-      (begun_goes m j turn.before turn.call life.decided last life.outcome.next life.outcome.mount turn.began stands.0 stands.1 (subst (CanBeTold v life.outcome.mount.work life.outcome.mount) turn.asks turn.told))
-  turn_goes m (Some life) None answer (Some heard) next j turn stands = absurd turn
-  turn_goes m (Some life) (Some ask) answer (Some heard) next j turn stands =
+      (begun_goes m j turn.before turn.call life.decided last life.outcome.next life.outcome.mount turn.began stands.0 stands.1 (subst (CanBeTold v life.outcome.mount.work life.outcome.mount) turn.asks can))
+  turn_goes m (Some life) None answer (Some heard) next j turn can stands = absurd turn
+  turn_goes m (Some life) (Some ask) answer (Some heard) next j turn can stands =
       as_goes m stands.0.small j (hearing_steps m life.outcome.mount ask answer heard next) (hearing heard.reply life) next
-      (heard_goes v blocks is many m stands.0.small j life ask answer heard next stands.0 stands.1 turn)
+      (heard_goes v blocks is many m stands.0.small j life ask answer heard next stands.0 stands.1 turn can)
 
   -- a call begins at rest
   call_stands : (m : ℕ) (call : FileCall) (l : Option Life) (last : Option Ask) (j : Journal) → CanBegin (mount_in l) → StandsIn m l last j → StandsIn m (option_map (calling call) l) last j
@@ -231,22 +231,22 @@ module _ (v : Extent) (blocks : ℕ) (is : v.sectors ≡ 8 * blocks) (many : 1 <
       subst (λ l. StandsIn n l (last_ask (before ++ moment ∷ []) n) j) (sym (life_on v before (moment ∷ []) n))
       (subst (λ a. StandsIn n (lived v n (life_of v before n) moment) a j) (sym (ask_on before (moment ∷ []) n)) (on n))
 
-  moment_goes : (j : Journal) (before : List Moment) (answer : Answered) (moment : Moment) → IsOfMount v before answer moment → AllStand j before
+  moment_goes : (j : Journal) (before : List Moment) (answer : Answered) (moment : Moment) → IsOfMount v before answer moment → CanBeDoing v before moment → AllStand j before
       → AreSame v.sectors j (steps_at v before answer moment) × Moves_on (after j (steps_at v before answer moment)) before moment
-  moment_goes j before answer (Writes text) of stand = (tt, stand)
-  moment_goes j before answer (Ends m call) of stand = (tt, stand)
-  moment_goes j before answer (Hands m k place) of stand =
+  moment_goes j before answer (Writes text) of can stand = (tt, stand)
+  moment_goes j before answer (Ends m call) of can stand = (tt, stand)
+  moment_goes j before answer (Hands m k place) of can stand =
       let mount = mount_in (life_of v before m) in
       (hand_goes m k place mount j, subst (λ (x : Journal). AllStand x before) (sym (hand_after m k place mount j)) stand)
-  moment_goes j before answer (Begins m call) of stand = (
+  moment_goes j before answer (Begins m call) of can stand = (
     tt,
     λ n. by_test (m == n) (λ b. StandsIn n (if b then option_map (calling call) (life_of v before n) else life_of v before n) (last_ask before n) j)
         (λ same. call_stands n call (life_of v before n) (last_ask before n) j (subst (λ k. CanBegin (mount_in (life_of v before k))) (eqb-true m n same) of) (stand n))
         (λ _. stand n),
   )
-  moment_goes j before answer (Turns m heard next) of stand =
+  moment_goes j before answer (Turns m heard next) of can stand =
       let steps = turn_steps v m (life_of v before m) (last_ask before m) answer heard next in
-      let goes = turn_goes m (life_of v before m) (last_ask before m) answer heard next j of (stand m) in (
+      let goes = turn_goes m (life_of v before m) (last_ask before m) answer heard next j of can (stand m) in (
         goes.0,
         λ n. by_test (m == n) (λ b. StandsIn n (if b then turned v n heard (life_of v before n) else life_of v before n) (if b then next else last_ask before n) (after j steps))
             (λ same. subst (λ k. StandsIn k (turned v k heard (life_of v before k)) next (after j steps)) (eqb-true m n same) goes.1)
@@ -254,14 +254,14 @@ module _ (v : Extent) (blocks : ℕ) (is : v.sectors ≡ 8 * blocks) (many : 1 <
       )
 
   module _ (answer_at : ℕ → Answered) where
-    all_go : (told : List Moment) (before : List Moment) (j : Journal) → AreOfMounts v answer_at before told → AllStand j before
+    all_go : (told : List Moment) (before : List Moment) (j : Journal) → AreOfMounts v answer_at before told → CanBeDoings v before told → AllStand j before
         → AreSame v.sectors j (steps_from v answer_at before told) × AllStand (after j (steps_from v answer_at before told)) (before ++ told)
-    all_go [] before j of stand = (tt, subst (AllStand j) (sym (append-nil before)) stand)
-    all_go (moment ∷ told) before j of stand =
+    all_go [] before j of can stand = (tt, subst (AllStand j) (sym (append-nil before)) stand)
+    all_go (moment ∷ told) before j of can stand =
         let steps = steps_at v before (answer_at (length before)) moment in
         let now : List Moment = before ++ moment ∷ [] in
-        let here = moment_goes j before (answer_at (length before)) moment of.0 stand in
-        let rest = all_go told now (after j steps) of.1 (told_on (after j steps) before moment here.1) in (
+        let here = moment_goes j before (answer_at (length before)) moment of.0 can.0 stand in
+        let rest = all_go told now (after j steps) of.1 can.1 (told_on (after j steps) before moment here.1) in (
           same_then v.sectors j steps (steps_from v answer_at now told) here.0 rest.0,
           subst (λ (x : Journal). AllStand x (before ++ moment ∷ told)) (sym (after_both j steps (steps_from v answer_at now told)))
               (subst (AllStand (after (after j steps) (steps_from v answer_at now told))) (append_assoc before (moment ∷ []) told) rest.1),
@@ -270,11 +270,11 @@ module _ (v : Extent) (blocks : ℕ) (is : v.sectors ≡ 8 * blocks) (many : 1 <
     new_stand : AllStand new_journal []
     new_stand n = record { list_is = refl; here = refl; later = λ q past. refl }
 
-    pub told_same : (told : List Moment) → AreOfMounts v answer_at [] told → IsSameJournal block_in v.sectors 256 (deeds v answer_at told) (doings v answer_at told)
-    told_same told of = same_journal v.sectors (steps_of v answer_at told) (all_go told [] new_journal of new_stand).0
+    pub told_same : (told : List Moment) → AreOfMounts v answer_at [] told → CanBeDoings v [] told → IsSameJournal block_in v.sectors 256 (deeds v answer_at told) (doings v answer_at told)
+    told_same told of can = same_journal v.sectors (steps_of v answer_at told) (all_go told [] new_journal of can new_stand).0
 
-    pub told_stand : (told : List Moment) → AreOfMounts v answer_at [] told → AllStand (journal_from new_journal (doings v answer_at told)) told
-    told_stand told of = (all_go told [] new_journal of new_stand).1
+    pub told_stand : (told : List Moment) → AreOfMounts v answer_at [] told → CanBeDoings v [] told → AllStand (journal_from new_journal (doings v answer_at told)) told
+    told_stand told of can = (all_go told [] new_journal of can new_stand).1
 
     -- the journal has the list and the proposer of each mount
     of_mount : (m : ℕ) (life : Option Life) (last : Option Ask) (mount : MountIs) (j : Journal) → StandsIn m life last j → mount_in life ≡ Some mount → (j.list m ≡ values_in life) × (j.proposers mount.upto m ≡ mount.position.proposer)
@@ -285,6 +285,6 @@ module _ (v : Extent) (blocks : ℕ) (is : v.sectors ≡ 8 * blocks) (many : 1 <
           (ap (λ n. j.proposers n m) stands.0.upto ∙ stands.1.here),
     )
 
-    pub told_lists : (told : List Moment) → AreOfMounts v answer_at [] told → (m : ℕ) (mount : MountIs) → mount_after v told m ≡ Some mount
+    pub told_lists : (told : List Moment) → AreOfMounts v answer_at [] told → CanBeDoings v [] told → (m : ℕ) (mount : MountIs) → mount_after v told m ≡ Some mount
         → ((journal_from new_journal (doings v answer_at told)).list m ≡ decisions v told m) × ((journal_from new_journal (doings v answer_at told)).proposers mount.upto m ≡ mount.position.proposer)
-    told_lists told of m mount made = of_mount m (life_of v told m) (last_ask told m) mount (journal_from new_journal (doings v answer_at told)) (told_stand told of m) made
+    told_lists told of can m mount made = of_mount m (life_of v told m) (last_ask told m) mount (journal_from new_journal (doings v answer_at told)) (told_stand told of can m) made

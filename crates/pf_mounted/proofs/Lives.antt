@@ -106,6 +106,12 @@ module _ (told more : List Moment) (quiet : AreQuiet more) (m : ℕ) where
 
 -- Of its own turns
 
+pub ask_turned : (m n : ℕ) → n ≡ m → (told rest : List Moment) → AreQuiet rest → (heard : Option Heard) (next : Option Ask) → last_ask (told ++ Turns n heard next ∷ rest) m ≡ next
+ask_turned m n same told rest quiet heard next =
+    ask_on told (Turns n heard next ∷ rest) m
+    ∙ folds_still (asked_in m) IsQuiet (quiet_ask m) rest (asked_in m (last_ask told m) (Turns n heard next)) quiet
+    ∙ its_own n m next (last_ask told m) same
+
 -- a turn, and what is quiet after it
 module _ (v : Extent) (m n : ℕ) (same : n ≡ m) (told rest : List Moment) (quiet : AreQuiet rest) (heard : Option Heard) (next : Option Ask) where
   pub turned_life : life_of v (told ++ Turns n heard next ∷ rest) m ≡ turned v m heard (life_of v told m)
@@ -115,10 +121,7 @@ module _ (v : Extent) (m n : ℕ) (same : n ≡ m) (told rest : List Moment) (qu
       ∙ its_own n m (turned v m heard (life_of v told m)) (life_of v told m) same
 
   pub turned_ask : last_ask (told ++ Turns n heard next ∷ rest) m ≡ next
-  turned_ask =
-      ask_on told (Turns n heard next ∷ rest) m
-      ∙ folds_still (asked_in m) IsQuiet (quiet_ask m) rest (asked_in m (last_ask told m) (Turns n heard next)) quiet
-      ∙ its_own n m next (last_ask told m) same
+  turned_ask = ask_turned m n same told rest quiet heard next
 
 -- a call begins
 module _ (v : Extent) (m n : ℕ) (same : n ≡ m) (told : List Moment) (call : FileCall) where

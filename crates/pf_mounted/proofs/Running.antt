@@ -8,6 +8,7 @@ use Rattle.std.proofs.lemmas.Option.{none-some, same_Some}
 use Rattle.pf_base.specs.Span.{Span}
 use Rattle.pf_base.specs.declared.calls.Call.{Call}
 use Rattle.pf_entry.specs.Lists.{Every}
+use Rattle.pf_entry.specs.declared.ops.Op.{Op}
 use Rattle.pf_entry.specs.declared.ops.Op.TheVariants.{Mark}
 use Rattle.pf_entry.proofs.Cases.{by_test}
 use Rattle.pf_script.specs.declared.command.Command.{Command}
@@ -40,12 +41,29 @@ use Rattle.pf_world.specs.declared.kind.Kind.{Kind}
 use Rattle.pf_world.specs.declared.kind.Kind.TheVariants.{Mounted, Raw}
 use Rattle.pf_world.specs.declared.line.Line.{Line}
 use Rattle.pf_world.specs.Worlds.{Told, World, at_chunk, ended, made, made_answer, no_world, refused_text, said_only, stepped, told_of}
-use Rattle.pf_world.specs.Lines.{asked, begins_if, call_of, decided, joins, kill_of, line_told, mounts_as, no_event_of, rests, show_of, shown_of, submits_as, with_kind}
+use Rattle.pf_world.specs.Lines.{asked, begins_if, call_of, decided, joins, kill_of, line_told, mounts_as, no_event_of, rests, show_of, shown_of, submits_as}
 use Rattle.pf_world.specs.Reports.{run_from, world_run}
 use Rattle.pf_mounted.specs.Scripts.{IsScript, makes_volume}
+use Rattle.pf_mounted.proofs.Writing.{IsNoWrite}
 
--- A property of a volume and of all that was told so far is kept by lines of text, by an event of a chunk, by a read that a line takes up, by
--- the step of a host, and where one comes, begins a call or goes
+-- A property of a run's kind, its volume and all that was told so far is kept where the kind is decided, by lines of text, by an event of a
+-- chunk, by a write that a line submits in a raw run, by a read that a line takes up, by the step of a host, and where one comes in a run
+-- with mounts, begins the call of words or goes
+pub record IsKeptIn (halts : List Halt) (P : Option Kind → VolumeRun → List Moment → Type 0) : Type 0 where
+  pub deciding : (kind : Kind) (v : VolumeRun) (told : List Moment) → P None v told → P (Some kind) v told
+  pub writing : (kind : Option Kind) (v : VolumeRun) (told : List Moment) (text : List ℕ) → P kind v told → P kind v (told ++ Writes text ∷ [])
+  pub happening : (kind : Option Kind) (v : VolumeRun) (told : List Moment) (k : ℕ) (c : ChunkRun) (event : Event) → slice_get v.chunks k ≡ Some c → IsNoWrite event → P kind v told → P kind (with_chunk v (happened halts c event).chunk) told
+  pub submitting : (v : VolumeRun) (told : List Moment) (k : ℕ) (c : ChunkRun) (server : ℕ) (op : Op) → slice_get v.chunks k ≡ Some c → P (Some Raw) v told
+      → P (Some Raw) (with_chunk v (happened halts c (events.Submit server op)).chunk) told
+  pub reading : (kind : Option Kind) (v : VolumeRun) (told : List Moment) (k : ℕ) (c : ChunkRun) (server : ℕ) (range : Span) → slice_get v.chunks k ≡ Some c → P kind v told → P kind (with_chunk v (fetched halts server range c).chunk) told
+  pub stepping : (kind : Option Kind) (v : VolumeRun) (told : List Moment) (m : ℕ) (host : HostIs) → host_at v.hosts m ≡ Some host → P kind v told
+      → P kind (with_host v m (hosts.stepped halts v.chunks host)).volume (told ++ (hosts.stepped halts v.chunks host).told)
+  pub mounting : (v : VolumeRun) (told : List Moment) → nat_lt (size_of v.extent) 4112 ≡ false → nat_le 16 (length v.hosts) ≡ false → P (Some Mounted) v told → P (Some Mounted) (mounts v).volume (told ++ (mounts v).told)
+  pub beginning : (kind : Option Kind) (v : VolumeRun) (told : List Moment) (m : ℕ) (host : HostIs) (words : Call) (call : FileCall) → host_at v.hosts m ≡ Some host → rests host.mount.work ≡ true → read_call words ≡ Some call → P kind v told
+      → P kind (begins m host call v).volume (told ++ (begins m host call v).told)
+  pub killing : (kind : Option Kind) (v : VolumeRun) (told : List Moment) (m : ℕ) (host : HostIs) → host_at v.hosts m ≡ Some host → P kind v told → P kind (killed m v) told
+
+-- so it is in a run of any kind
 pub record IsKept (halts : List Halt) (P : VolumeRun → List Moment → Type 0) : Type 0 where
   pub writing : (v : VolumeRun) (told : List Moment) (text : List ℕ) → P v told → P v (told ++ Writes text ∷ [])
   pub happening : (v : VolumeRun) (told : List Moment) (k : ℕ) (c : ChunkRun) (event : Event) → slice_get v.chunks k ≡ Some c → P v told → P (with_chunk v (happened halts c event).chunk) told
@@ -57,199 +75,224 @@ pub record IsKept (halts : List Halt) (P : VolumeRun → List Moment → Type 0)
       → P (begins m host call v).volume (told ++ (begins m host call v).told)
   pub killing : (v : VolumeRun) (told : List Moment) (m : ℕ) (host : HostIs) → host_at v.hosts m ≡ Some host → P v told → P (killed m v) told
 
-module _ (halts : List Halt) (P : VolumeRun → List Moment → Type 0) (kept : IsKept halts P) where
-  -- it holds after this, which was told behind what was told before
-  abbrev Comes : (told : List Moment) → volumes.Told → Type 0
-  Comes told t = P t.volume (told ++ t.told)
+pub in_any_kind : (halts : List Halt) (P : VolumeRun → List Moment → Type 0) → IsKept halts P → IsKeptIn halts (λ kind v told. P v told)
+in_any_kind halts P kept = record {
+  deciding = λ kind v told is. is;
+  writing = λ kind. kept.writing;
+  happening = λ kind v told k c event at never. kept.happening v told k c event at;
+  submitting = λ v told k c server op. kept.happening v told k c (events.Submit server op);
+  reading = λ kind. kept.reading;
+  stepping = λ kind. kept.stepping;
+  mounting = kept.mounting;
+  beginning = λ kind v told m host words call at rest said. kept.beginning v told m host call at rest;
+  killing = λ kind. kept.killing;
+}
 
-  abbrev Tells : (told : List Moment) → Told → Type 0
-  Tells told t = P t.world.volume (told ++ t.told)
+module _ (halts : List Halt) (P : Option Kind → VolumeRun → List Moment → Type 0) (kept : IsKeptIn halts P) where
+  module _ (kind : Option Kind) where
+    -- it holds after this, which was told behind what was told before
+    abbrev Comes : (told : List Moment) → volumes.Told → Type 0
+    Comes told t = P kind t.volume (told ++ t.told)
 
-  abbrev Settles : (told : List Moment) → Settled → Type 0
-  Settles told s = P s.volume (told ++ s.told)
+    abbrev Settles : (told : List Moment) → Settled → Type 0
+    Settles told s = P kind s.volume (told ++ s.told)
 
-  nothing_told : (v : VolumeRun) (told : List Moment) → P v told → P v (told ++ [])
-  nothing_told v told is = subst (P v) (sym (append-nil told)) is
+    nothing_told : (v : VolumeRun) (told : List Moment) → P kind v told → P kind v (told ++ [])
+    nothing_told v told is = subst (P kind v) (sym (append-nil told)) is
 
-  behind : (v : VolumeRun) (told more last : List Moment) → P v ((told ++ more) ++ last) → P v (told ++ (more ++ last))
-  behind v told more last is = subst (P v) (append_assoc told more last) is
+    behind : (v : VolumeRun) (told more last : List Moment) → P kind v ((told ++ more) ++ last) → P kind v (told ++ (more ++ last))
+    behind v told more last is = subst (P kind v) (append_assoc told more last) is
 
-  follow : (told : List Moment) (t : volumes.Told) (next : VolumeRun → volumes.Told) → Comes told t → ((v : VolumeRun) (so_far : List Moment) → P v so_far → Comes so_far (next v)) → Comes told (volumes.followed t next)
-  follow told t next is onward = behind (next t.volume).volume told t.told (next t.volume).told (onward t.volume (told ++ t.told) is)
+    follow : (told : List Moment) (t : volumes.Told) (next : VolumeRun → volumes.Told) → Comes told t → ((v : VolumeRun) (so_far : List Moment) → P kind v so_far → Comes so_far (next v)) → Comes told (volumes.followed t next)
+    follow told t next is onward = behind (next t.volume).volume told t.told (next t.volume).told (onward t.volume (told ++ t.told) is)
 
-  -- Steps of hosts
+    -- Steps of hosts
 
-  host_step : (m : ℕ) (v : VolumeRun) (told : List Moment) → P v told → Comes told (host_steps halts m v)
-  host_step m v told is = by (host_at v.hosts m) refl
-    where
-      by : (o : Option HostIs) → host_at v.hosts m ≡ o → Comes told (step_of halts m v o)
-      by None at = nothing_told v told is
-      by (Some host) at = kept.stepping v told m host at is
+    host_step : (m : ℕ) (v : VolumeRun) (told : List Moment) → P kind v told → Comes told (host_steps halts m v)
+    host_step m v told is = by (host_at v.hosts m) refl
+      where
+        by : (o : Option HostIs) → host_at v.hosts m ≡ o → Comes told (step_of halts m v o)
+        by None at = nothing_told v told is
+        by (Some host) at = kept.stepping kind v told m host at is
 
-  these : (ms : List ℕ) (v : VolumeRun) (told : List Moment) → P v told → Comes told (these_step halts ms v)
-  these [] v told is = nothing_told v told is
-  these (m ∷ ms) v told is = follow told (host_steps halts m v) (these_step halts ms) (host_step m v told is) (these ms)
+    these : (ms : List ℕ) (v : VolumeRun) (told : List Moment) → P kind v told → Comes told (these_step halts ms v)
+    these [] v told is = nothing_told v told is
+    these (m ∷ ms) v told is = follow told (host_steps halts m v) (these_step halts ms) (host_step m v told is) (these ms)
 
-  all_step : (v : VolumeRun) (told : List Moment) → P v told → Comes told (hosts_step halts v)
-  unfolding hosts_step
-  all_step v told is = these (range_with_len 0 (length v.hosts)) v told is
+    all_step : (v : VolumeRun) (told : List Moment) → P kind v told → Comes told (hosts_step halts v)
+    unfolding hosts_step
+    all_step v told is = these (range_with_len 0 (length v.hosts)) v told is
 
-  -- something happened to a chunk
-  after_event : (v : VolumeRun) (told : List Moment) (h : Happened) → P (with_chunk v h.chunk) told → Comes told (happens halts v h)
-  after_event v told h is = follow told (saying h.text (with_chunk v h.chunk)) (hosts_step halts) (kept.writing (with_chunk v h.chunk) told h.text is) all_step
+    -- something happened to a chunk
+    after_event : (v : VolumeRun) (told : List Moment) (h : Happened) → P kind (with_chunk v h.chunk) told → Comes told (happens halts v h)
+    after_event v told h is = follow told (saying h.text (with_chunk v h.chunk)) (hosts_step halts) (kept.writing kind (with_chunk v h.chunk) told h.text is) all_step
 
-  -- Settlings
+    -- Settlings
 
-  next_here : (c : ChunkRun) (cs : List ChunkRun) (rest : Option Next) (next : Next) (o : Option ℕ) → (rest ≡ Some next → (k : ℕ) × (slice_get cs k ≡ Some next.chunk)) → next_in c o rest ≡ Some next → (k : ℕ) × (slice_get (c ∷ cs) k ≡ Some next.chunk)
-  next_here c cs rest next None later is = let there = later is in (suc there.0, there.1)
-  next_here c cs rest next (Some packet) later is = (zero, ap (λ (n : Next). Some n.chunk) (same_Some (record { chunk = c; packet = packet }) next is))
+    next_here : (c : ChunkRun) (cs : List ChunkRun) (rest : Option Next) (next : Next) (o : Option ℕ) → (rest ≡ Some next → (k : ℕ) × (slice_get cs k ≡ Some next.chunk)) → next_in c o rest ≡ Some next → (k : ℕ) × (slice_get (c ∷ cs) k ≡ Some next.chunk)
+    next_here c cs rest next None later is = let there = later is in (suc there.0, there.1)
+    next_here c cs rest next (Some packet) later is = (zero, ap (λ (n : Next). Some n.chunk) (same_Some (record { chunk = c; packet = packet }) next is))
 
-  next_there : (passed : List Name) (cs : List ChunkRun) (next : Next) → next_of passed cs ≡ Some next → (k : ℕ) × (slice_get cs k ≡ Some next.chunk)
-  next_there passed [] next is = absurd (none-some next is)
-  next_there passed (c ∷ cs) next is = next_here c cs (next_of passed cs) next (least_left passed c) (next_there passed cs next) is
+    next_there : (passed : List Name) (cs : List ChunkRun) (next : Next) → next_of passed cs ≡ Some next → (k : ℕ) × (slice_get cs k ≡ Some next.chunk)
+    next_there passed [] next is = absurd (none-some next is)
+    next_there passed (c ∷ cs) next is = next_here c cs (next_of passed cs) next (least_left passed c) (next_there passed cs next) is
 
-  quiet : (stopped : Bool) (limit : ℕ) (passed : List Name) (v : VolumeRun) (told : List Moment) → P v told → Settles told (ends stopped limit passed v)
-  quiet stopped limit passed v told is = nothing_told v told is
+    quiet : (stopped : Bool) (limit : ℕ) (passed : List Name) (v : VolumeRun) (told : List Moment) → P kind v told → Settles told (ends stopped limit passed v)
+    quiet stopped limit passed v told is = nothing_told v told is
 
-  module _ (more : Goes) (well : (limit : ℕ) (passed : List Name) (v : VolumeRun) (told : List Moment) → P v told → Settles told (more limit passed v)) where
-    go_on : (is_passed : Bool) (name : Name) (limit : ℕ) (passed : List Name) (v : VolumeRun) (told : List Moment) → P v told → Settles told (goes_on is_passed name limit passed v more)
-    go_on true name limit passed v told is = well (suc limit) (name ∷ passed) v told is
-    go_on false name limit passed v told is = well limit passed v told is
+    module _ (more : Goes) (well : (limit : ℕ) (passed : List Name) (v : VolumeRun) (told : List Moment) → P kind v told → Settles told (more limit passed v)) where
+      go_on : (is_passed : Bool) (name : Name) (limit : ℕ) (passed : List Name) (v : VolumeRun) (told : List Moment) → P kind v told → Settles told (goes_on is_passed name limit passed v more)
+      go_on true name limit passed v told is = well (suc limit) (name ∷ passed) v told is
+      go_on false name limit passed v told is = well limit passed v told is
 
-    after_try : (t : volumes.Told) (is_passed : Bool) (name : Name) (limit : ℕ) (passed : List Name) (told : List Moment) → Comes told t → Settles told (tried t is_passed name limit passed more)
-    after_try t is_passed name limit passed told is =
-        let s : Settled = goes_on is_passed name limit passed t.volume more in
-        behind s.volume told t.told s.told (go_on is_passed name limit passed t.volume (told ++ t.told) is)
+      after_try : (t : volumes.Told) (is_passed : Bool) (name : Name) (limit : ℕ) (passed : List Name) (told : List Moment) → Comes told t → Settles told (tried t is_passed name limit passed more)
+      after_try t is_passed name limit passed told is =
+          let s : Settled = goes_on is_passed name limit passed t.volume more in
+          behind s.volume told t.told s.told (go_on is_passed name limit passed t.volume (told ++ t.told) is)
 
-    one_try : (o : Option Next) (limit : ℕ) (passed : List Name) (v : VolumeRun) (told : List Moment) → next_of passed v.chunks ≡ o → P v told → Settles told (settle_next halts o more limit passed v)
-    one_try None limit passed v told next is = quiet false limit passed v told is
-    one_try (Some packet) zero passed v told next is = quiet true zero passed v told is
-    one_try (Some packet) (suc limit) passed v told next is =
-        let there = next_there passed v.chunks packet next in
-        let h : Happened = delivered halts packet in
-        after_try (happens halts v h) (is_passed_over h.answer) (name_of packet) limit passed told
-        (after_event v told h (kept.happening v told there.0 packet.chunk (events.Deliver packet.packet) there.1 is))
+      one_try : (o : Option Next) (limit : ℕ) (passed : List Name) (v : VolumeRun) (told : List Moment) → next_of passed v.chunks ≡ o → P kind v told → Settles told (settle_next halts o more limit passed v)
+      one_try None limit passed v told next is = quiet false limit passed v told is
+      one_try (Some packet) zero passed v told next is = quiet true zero passed v told is
+      one_try (Some packet) (suc limit) passed v told next is =
+          let there = next_there passed v.chunks packet next in
+          let h : Happened = delivered halts packet in
+          after_try (happens halts v h) (is_passed_over h.answer) (name_of packet) limit passed told
+          (after_event v told h (kept.happening kind v told there.0 packet.chunk (events.Deliver packet.packet) there.1 tt is))
 
-  settle : (tries limit : ℕ) (passed : List Name) (v : VolumeRun) (told : List Moment) → P v told → Settles told (settle_to tries halts limit passed v)
-  unfolding settle_to
-  settle zero limit passed v told is = quiet true limit passed v told is
-  settle (suc tries) limit passed v told is = one_try (settle_to tries halts) (settle tries) (next_of passed v.chunks) limit passed v told refl is
+    settle : (tries limit : ℕ) (passed : List Name) (v : VolumeRun) (told : List Moment) → P kind v told → Settles told (settle_to tries halts limit passed v)
+    unfolding settle_to
+    settle zero limit passed v told is = quiet true limit passed v told is
+    settle (suc tries) limit passed v told is = one_try (settle_to tries halts) (settle tries) (next_of passed v.chunks) limit passed v told refl is
 
-  settles : (limit : ℕ) (v : VolumeRun) (told : List Moment) → P v told → Settles told (settled halts limit v)
-  unfolding settled
-  settles limit v told is = settle (enough_tries limit) limit [] v told is
+    settles : (limit : ℕ) (v : VolumeRun) (told : List Moment) → P kind v told → Settles told (settled halts limit v)
+    unfolding settled
+    settles limit v told is = settle (enough_tries limit) limit [] v told is
 
   -- Lines
 
-  end : (w : World) (number : ℕ) (t : volumes.Told) (text : List ℕ) (told : List Moment) → Comes told t → Tells told (ended w number t text)
-  end w number t text told is = behind t.volume told t.told (Writes (line_of number text) ∷ []) (kept.writing t.volume (told ++ t.told) (line_of number text) is)
+  abbrev Tells : (told : List Moment) → Told → Type 0
+  Tells told t = P t.world.kind t.world.volume (told ++ t.told)
 
-  say : (w : World) (number : ℕ) (text : List ℕ) (told : List Moment) → P w.volume told → Tells told (said_only w number text)
-  say w number text told is = end w number (quietly w.volume) text told (nothing_told w.volume told is)
+  end : (w : World) (number : ℕ) (t : volumes.Told) (text : List ℕ) (told : List Moment) → Comes w.kind told t → Tells told (ended w number t text)
+  end w number t text told is = behind w.kind t.volume told t.told (Writes (line_of number text) ∷ []) (kept.writing w.kind t.volume (told ++ t.told) (line_of number text) is)
 
-  step : (w : World) (number : ℕ) (t : volumes.Told) (text : List ℕ) (told : List Moment) → Comes told t → Tells told (stepped halts w number t text)
-  step w number t text told is = end w number (volumes.followed t (hosts_step halts)) text told (follow told t (hosts_step halts) is all_step)
+  say : (w : World) (number : ℕ) (text : List ℕ) (told : List Moment) → P w.kind w.volume told → Tells told (said_only w number text)
+  say w number text told is = end w number (quietly w.volume) text told (nothing_told w.kind w.volume told is)
 
-  refuse : (w : World) (number : ℕ) (text : List ℕ) (told : List Moment) → P w.volume told → Tells told (stepped halts w number (quietly w.volume) text)
-  refuse w number text told is = step w number (quietly w.volume) text told (nothing_told w.volume told is)
+  step : (w : World) (number : ℕ) (t : volumes.Told) (text : List ℕ) (told : List Moment) → Comes w.kind told t → Tells told (stepped halts w number t text)
+  step w number t text told is = end w number (volumes.followed t (hosts_step halts)) text told (follow w.kind told t (hosts_step halts) is (all_step w.kind))
 
-  module _ (w : World) (number : ℕ) (told : List Moment) (is : P w.volume told) where
+  refuse : (w : World) (number : ℕ) (text : List ℕ) (told : List Moment) → P w.kind w.volume told → Tells told (stepped halts w number (quietly w.volume) text)
+  refuse w number text told is = step w number (quietly w.volume) text told (nothing_told w.kind w.volume told is)
+
+  module _ (w : World) (number : ℕ) (told : List Moment) (is : P w.kind w.volume told) where
     -- a line of one chunk
-    at : (chunk : ℕ) (event : ChunkRun → Happened) → ((c : ChunkRun) → slice_get w.volume.chunks chunk ≡ Some c → P (with_chunk w.volume (event c).chunk) told) → Tells told (at_chunk halts w number chunk event)
+    at : (chunk : ℕ) (event : ChunkRun → Happened) → ((c : ChunkRun) → slice_get w.volume.chunks chunk ≡ Some c → P w.kind (with_chunk w.volume (event c).chunk) told) → Tells told (at_chunk halts w number chunk event)
     at chunk event onward = by (slice_get w.volume.chunks chunk) refl
       where
         by : (o : Option ChunkRun) → slice_get w.volume.chunks chunk ≡ o → Tells told (told_of halts w number o event)
-        by None there = nothing_told w.volume told is
-        by (Some c) there = end w number (happens halts w.volume (event c)) (said (event c).answer) told (after_event w.volume told (event c) (onward c there))
+        by None there = nothing_told w.kind w.volume told is
+        by (Some c) there = end w number (happens halts w.volume (event c)) (said (event c).answer) told (after_event w.kind w.volume told (event c) (onward c there))
 
-    plain : (chunk : ℕ) (event : Event) → Tells told (at_chunk halts w number chunk (λ c. happened halts c event))
-    plain chunk event = at chunk (λ c. happened halts c event) (λ c there. kept.happening w.volume told chunk c event there is)
+    plain : (chunk : ℕ) (event : Event) → IsNoWrite event → Tells told (at_chunk halts w number chunk (λ c. happened halts c event))
+    plain chunk event never = at chunk (λ c. happened halts c event) (λ c there. kept.happening w.kind w.volume told chunk c event there never is)
 
     no_range : (server : ℕ) (o : Option ChunkRun) → Tells told (no_event_of w number server o)
-    no_range server None = nothing_told w.volume told is
+    no_range server None = nothing_told w.kind w.volume told is
     no_range server (Some c) = say w number (said (no_range_answer (slice_get c.group.state.servers server))) told is
 
     -- a line that asks for a range
-    ask : (chunk server first count : ℕ) (event : ChunkRun → Happened) → (is_range first count ≡ true → (c : ChunkRun) → slice_get w.volume.chunks chunk ≡ Some c → P (with_chunk w.volume (event c).chunk) told)
+    ask : (chunk server first count : ℕ) (event : ChunkRun → Happened) → (is_range first count ≡ true → (c : ChunkRun) → slice_get w.volume.chunks chunk ≡ Some c → P w.kind (with_chunk w.volume (event c).chunk) told)
         → Tells told (asked halts w number chunk server first count event)
     ask chunk server first count event onward =
         by_test (is_range first count) (λ b. Tells told (if b then at_chunk halts w number chunk event else no_event_of w number server (slice_get w.volume.chunks chunk)))
         (λ ranges. at chunk event (onward ranges))
         (λ _. no_range server (slice_get w.volume.chunks chunk))
 
-    submit : (chunk server first byte count : ℕ) → Tells told (asked halts w number chunk server first count (submits halts server first byte count))
-    submit chunk server first byte count = ask chunk server first count (submits halts server first byte count) (λ ranges c there.
-        subst (λ b. P (with_chunk w.volume (if b then happened halts c (events.Submit server (filled first byte count)) else no_event server c).chunk) told) (sym ranges)
-        (kept.happening w.volume told chunk c (events.Submit server (filled first byte count)) there is))
-
     fetch : (chunk server first count : ℕ) → Tells told (asked halts w number chunk server first count (fetches halts server first count))
     fetch chunk server first count = ask chunk server first count (fetches halts server first count) (λ ranges c there.
-        subst (λ b. P (with_chunk w.volume (if b then fetched halts server (record { first = first; count = count }) c else no_event server c).chunk) told) (sym ranges)
-        (kept.reading w.volume told chunk c server (record { first = first; count = count }) there is))
-
-    submit_as : (kind : Kind) (chunk server first byte count : ℕ) → Tells told (submits_as kind halts w number chunk server first byte count)
-    submit_as Mounted chunk server first byte count = say w number (refused_text 94) told is
-    submit_as Raw chunk server first byte count = submit chunk server first byte count
+        subst (λ b. P w.kind (with_chunk w.volume (if b then fetched halts server (record { first = first; count = count }) c else no_event server c).chunk) told) (sym ranges)
+        (kept.reading w.kind w.volume told chunk c server (record { first = first; count = count }) there is))
 
     show : (o : Option ChunkRun) (text : Chunk → List ℕ) → Tells told (shown_of w number o text)
-    show None text = nothing_told w.volume told is
+    show None text = nothing_told w.kind w.volume told is
     show (Some c) text = say w number (text c.group) told is
 
     -- a line of a mount
-    abbrev new_mount : Told
-    new_mount = stepped halts w number (mounts w.volume) (mount_text (length w.volume.hosts))
-
-    abbrev if_few : Told
-    if_few = if nat_le 16 (length w.volume.hosts) then stepped halts w number (quietly w.volume) (refused_text 92) else new_mount
-
-    join : Tells told (joins halts w number)
-    join =
-        by_test (nat_lt (size_of w.volume.extent) 4112) (λ b. Tells told (if b then stepped halts w number (quietly w.volume) (refused_text 93) else if_few)) (λ _. refuse w number (refused_text 93) told is)
-        (λ large. by_test (nat_le 16 (length w.volume.hosts)) (λ b. Tells told (if b then stepped halts w number (quietly w.volume) (refused_text 92) else new_mount)) (λ _. refuse w number (refused_text 92) told is)
-        (λ few. step w number (mounts w.volume) (mount_text (length w.volume.hosts)) told (kept.mounting w.volume told large few is)))
-
-    mount_as : (kind : Kind) → Tells told (mounts_as kind halts w number)
-    mount_as Raw = say w number (refused_text 95) told is
-    mount_as Mounted = join
-
     kill : (m : ℕ) (o : Option HostIs) → host_at w.volume.hosts m ≡ o → Tells told (kill_of w number m o)
     kill m None there = say w number (refused_text 96) told is
-    kill m (Some host) there = end w number (quietly (killed m w.volume)) (said Done) told (nothing_told (killed m w.volume) told (kept.killing w.volume told m host there is))
+    kill m (Some host) there = end w number (quietly (killed m w.volume)) (said Done) told (nothing_told w.kind (killed m w.volume) told (kept.killing w.kind w.volume told m host there is))
 
-    begin : (m : ℕ) (host : HostIs) → host_at w.volume.hosts m ≡ Some host → rests host.mount.work ≡ true → (o : Option FileCall) → Tells told (begins_if halts w number m host o)
-    begin m host there free None = refuse w number (refused_text 80) told is
-    begin m host there free (Some call) = step w number (begins m host call w.volume) started_text told (kept.beginning w.volume told m host call there free is)
+    begin : (m : ℕ) (host : HostIs) (words : Call) → host_at w.volume.hosts m ≡ Some host → rests host.mount.work ≡ true → (o : Option FileCall) → read_call words ≡ o → Tells told (begins_if halts w number m host o)
+    begin m host words there free None said_so = refuse w number (refused_text 80) told is
+    begin m host words there free (Some call) said_so = step w number (begins m host call w.volume) started_text told (kept.beginning w.kind w.volume told m host words call there free said_so is)
 
     call : (m : ℕ) (words : Call) (o : Option HostIs) → host_at w.volume.hosts m ≡ o → Tells told (call_of halts w number m words o)
     call m words None there = refuse w number (refused_text 96) told is
     call m words (Some host) there =
         by_test (rests host.mount.work) (λ b. Tells told (if b then begins_if halts w number m host (read_call words) else stepped halts w number (quietly w.volume) (refused_text 91)))
-        (λ free. begin m host there free (read_call words))
+        (λ free. begin m host words there free (read_call words) refl)
         (λ _. refuse w number (refused_text 91) told is)
 
     show_mount : (m : ℕ) (o : Option HostIs) → Tells told (show_of w number m o)
     show_mount m None = say w number (refused_text 96) told is
     show_mount m (Some host) =
         let lines = tree_lines (listing host.mount.files.tables) in
-        end w number (saying lines w.volume) (state_text m host.mount.upto (not (rests host.mount.work))) told (kept.writing w.volume told lines is)
+        end w number (saying lines w.volume) (state_text m host.mount.upto (not (rests host.mount.work))) told (kept.writing w.kind w.volume told lines is)
+
+  -- Lines that ask for a kind of run
+
+  decide : (was : Option Kind) (kind : Kind) (v : VolumeRun) (told : List Moment) → P was v told → P (Some (decided was kind)) v told
+  decide None kind v told is = kept.deciding kind v told is
+  decide (Some was) kind v told is = is
+
+  abbrev of_kind : Kind → VolumeRun → World
+  of_kind kind v = record { volume = v; kind = Some kind }
+
+  module _ (v : VolumeRun) (number : ℕ) (told : List Moment) where
+    submit : P (Some Raw) v told → (chunk server first byte count : ℕ) → Tells told (asked halts (of_kind Raw v) number chunk server first count (submits halts server first byte count))
+    submit is chunk server first byte count = ask (of_kind Raw v) number told is chunk server first count (submits halts server first byte count) (λ ranges c there.
+        subst (λ b. P (Some Raw) (with_chunk v (if b then happened halts c (events.Submit server (filled first byte count)) else no_event server c).chunk) told) (sym ranges)
+        (kept.submitting v told chunk c server (filled first byte count) there is))
+
+    submit_as : (kind : Kind) → P (Some kind) v told → (chunk server first byte count : ℕ) → Tells told (submits_as kind halts (of_kind kind v) number chunk server first byte count)
+    submit_as Mounted is chunk server first byte count = say (of_kind Mounted v) number (refused_text 94) told is
+    submit_as Raw is chunk server first byte count = submit is chunk server first byte count
+
+    abbrev new_mount : Told
+    new_mount = stepped halts (of_kind Mounted v) number (mounts v) (mount_text (length v.hosts))
+
+    abbrev if_few : Told
+    if_few = if nat_le 16 (length v.hosts) then stepped halts (of_kind Mounted v) number (quietly v) (refused_text 92) else new_mount
+
+    join : P (Some Mounted) v told → Tells told (joins halts (of_kind Mounted v) number)
+    join is =
+        let w : World = of_kind Mounted v in
+        by_test (nat_lt (size_of v.extent) 4112) (λ b. Tells told (if b then stepped halts w number (quietly v) (refused_text 93) else if_few)) (λ _. refuse w number (refused_text 93) told is)
+        (λ large. by_test (nat_le 16 (length v.hosts)) (λ b. Tells told (if b then stepped halts w number (quietly v) (refused_text 92) else new_mount)) (λ _. refuse w number (refused_text 92) told is)
+        (λ few. step w number (mounts v) (mount_text (length v.hosts)) told (kept.mounting v told large few is)))
+
+    mount_as : (kind : Kind) → P (Some kind) v told → Tells told (mounts_as kind halts (of_kind kind v) number)
+    mount_as Raw is = say (of_kind Raw v) number (refused_text 95) told is
+    mount_as Mounted is = join is
 
   -- any line but a volume
-  line : (w : World) (number : ℕ) (told : List Moment) → P w.volume told → (command : Command) → makes_volume command ≡ false → Tells told (line_told halts w number command)
+  line : (w : World) (number : ℕ) (told : List Moment) → P w.kind w.volume told → (command : Command) → makes_volume command ≡ false → Tells told (line_told halts w number command)
   line w number told is (commands.Volume chunks sectors names format) none = absurd (false≢true (sym none))
-  line w number told is (commands.Elect g i) none = plain w number told is g (events.Elect i)
-  line w number told is (commands.Resend g i) none = plain w number told is g (events.Resend i)
-  line w number told is (commands.Stop g i) none = plain w number told is g (events.Stop i)
-  line w number told is (commands.Restart g i) none = plain w number told is g (events.Restart i false)
-  line w number told is (commands.Checkpoint g i) none = plain w number told is g (events.Checkpoint i)
-  line w number told is (commands.Deliver g k) none = plain w number told is g (events.Deliver k)
-  line w number told is (commands.Lose g k) none = plain w number told is g (events.Lose k)
-  line w number told is (commands.Submit g i s b n) none = let kind : Kind = decided w.kind Raw in submit_as (with_kind w kind) number told is kind g i s b n
+  line w number told is (commands.Elect g i) none = plain w number told is g (events.Elect i) tt
+  line w number told is (commands.Resend g i) none = plain w number told is g (events.Resend i) tt
+  line w number told is (commands.Stop g i) none = plain w number told is g (events.Stop i) tt
+  line w number told is (commands.Restart g i) none = plain w number told is g (events.Restart i false) tt
+  line w number told is (commands.Checkpoint g i) none = plain w number told is g (events.Checkpoint i) tt
+  line w number told is (commands.Deliver g k) none = plain w number told is g (events.Deliver k) tt
+  line w number told is (commands.Lose g k) none = plain w number told is g (events.Lose k) tt
+  line w number told is (commands.Submit g i s b n) none = let kind : Kind = decided w.kind Raw in submit_as w.volume number told kind (decide w.kind Raw w.volume told is) g i s b n
   line w number told is (commands.Fetch g i s n) none = fetch w number told is g i s n
-  line w number told is (commands.Mark g i) none = plain w number told is g (events.Submit i Mark)
+  line w number told is (commands.Mark g i) none = plain w number told is g (events.Submit i Mark) tt
   line w number told is (commands.Settle limit) none =
       let s : Settled = settled halts limit w.volume in
-      end w number (settling limit halts w.volume) (settle_text s.stopped) told (settles limit w.volume told is)
-  line w number told is commands.Mount none = let kind : Kind = decided w.kind Mounted in mount_as (with_kind w kind) number told is kind
+      end w number (settling limit halts w.volume) (settle_text s.stopped) told (settles w.kind limit w.volume told is)
+  line w number told is commands.Mount none = let kind : Kind = decided w.kind Mounted in mount_as w.volume number told kind (decide w.kind Mounted w.volume told is)
   line w number told is (commands.Kill m) none = kill w number told is m (host_at w.volume.hosts m) refl
   line w number told is (commands.Call m words) none = call w number told is m words (host_at w.volume.hosts m) refl
   line w number told is (commands.ShowLog g i) none = show w number told is (slice_get w.volume.chunks g) _
@@ -259,22 +302,26 @@ module _ (halts : List Halt) (P : VolumeRun → List Moment → Type 0) (kept : 
   line w number told is (commands.ShowMark g i s) none = show w number told is (slice_get w.volume.chunks g) _
   line w number told is (commands.ShowMount m) none = show_mount w number told is m (host_at w.volume.hosts m)
 
-  run : (lines : List Line) (w : World) (told : List Moment) → Every (λ x. makes_volume x.command ≡ false) lines → P w.volume told → Tells told (run_from halts w lines)
-  run [] w told none is = nothing_told w.volume told is
+  run : (lines : List Line) (w : World) (told : List Moment) → Every (λ x. makes_volume x.command ≡ false) lines → P w.kind w.volume told → Tells told (run_from halts w lines)
+  run [] w told none is = nothing_told w.kind w.volume told is
   run (first ∷ lines) w told none is =
       let t : Told = line_told halts w first.number first.command in
       let rest : Told = run_from halts t.world lines in
-      behind rest.world.volume told t.told rest.told (run lines t.world (told ++ t.told) none.1 (line w first.number told is first.command none.0))
+      behind rest.world.kind rest.world.volume told t.told rest.told (run lines t.world (told ++ t.told) none.1 (line w first.number told is first.command none.0))
 
-  module _ (new : (chunks sectors names format : ℕ) → P (made halts chunks sectors names format).volume []) where
+  module _ (new : (chunks sectors names format : ℕ) → P None (made halts chunks sectors names format).volume []) where
     first_line : (number : ℕ) (command : Command) → makes_volume command ≡ true → Tells [] (line_told halts no_world number command)
     first_line number (commands.Volume chunks sectors names format) is =
         let w : World = made halts chunks sectors names format in
-        kept.writing w.volume [] (answer_line number (made_answer w)) (new chunks sectors names format)
+        kept.writing None w.volume [] (answer_line number (made_answer w)) (new chunks sectors names format)
     first_line number command is = absurd (false≢true is)
 
-    pub running : (lines : List Line) → IsScript lines → P (world_run halts lines).world.volume (world_run halts lines).told
-    running [] is = absurd is
-    running (first ∷ lines) is =
+    pub running_in : (lines : List Line) → IsScript lines → P (world_run halts lines).world.kind (world_run halts lines).world.volume (world_run halts lines).told
+    running_in [] is = absurd is
+    running_in (first ∷ lines) is =
         let t : Told = line_told halts no_world first.number first.command in
         run lines t.world t.told is.1 (first_line first.number first.command is.0)
+
+pub running : (halts : List Halt) (P : VolumeRun → List Moment → Type 0) → IsKept halts P → ((chunks sectors names format : ℕ) → P (made halts chunks sectors names format).volume [])
+    → (lines : List Line) → IsScript lines → P (world_run halts lines).world.volume (world_run halts lines).told
+running halts P kept new lines is = running_in halts (λ kind v told. P v told) (in_any_kind halts P kept) new lines is

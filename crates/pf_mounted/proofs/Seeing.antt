@@ -57,13 +57,13 @@ module _ (s blocks : ℕ) (is : s ≡ 8 * blocks) (many : 1 < blocks) (q : ℕ) 
       (λ same. subst (λ n. ask_in block_in (home_of s q) client (port_ask (Read (place_of n (8 * half) / s) (record { first = place_of n (8 * half) % s; count = 8 }))) ≡ Some (AsksRead half)) (eqb-true q upto same) (half_read s blocks is many q client half few))
       (λ other. let differs = eqb-false q upto other in elsewhere_read s blocks is many q client (place_of upto (8 * half)) (λ k its same. omega (arith, same, differs, few, its)))
 
-  below : (range : Span) (x : ℕ) → range.count ≤ 8 → is_in range x ≡ true → range.first ≤ x
+  pub below : (range : Span) (x : ℕ) → range.count ≤ 8 → is_in range x ≡ true → range.first ≤ x
   below range x few inside =
       by_test (range.count == 255) (λ b. (b || (nat_le range.first x && nat_lt x (range.first + range.count))) ≡ true → range.first ≤ x)
       (λ whole _. let e = eqb-true range.count 255 whole in absurd (omega (arith, e, few)))
       (λ part rest. leb-true range.first x (and_first _ _ rest)) inside
 
-  within : (first x : ℕ) → is_in (record { first = first; count = 1 }) x ≡ true → x ≡ first
+  pub within : (first x : ℕ) → is_in (record { first = first; count = 1 }) x ≡ true → x ≡ first
   within first x inside =
       let from = leb-true first x (and_first _ _ inside) in
       let to = ltb-true x (first + 1) (and_second (nat_le first x) _ inside) in

@@ -161,26 +161,23 @@ CanBeTold v (Moves moving) mount next = IsOfData v next
 CanBeTold v work mount next = Unit {0}
 
 -- what mount m hears, and asks with it: it waits for the reply, its machine makes the next ask, and the answer is of the reply
-pub record IsHearing (v : Extent) (mount : MountIs) (ask : Ask) (answer : Answered) (heard : Heard) (next : Option Ask) : Type 0 where
+pub record IsHearing (mount : MountIs) (ask : Ask) (answer : Answered) (heard : Heard) (next : Option Ask) : Type 0 where
   pub in_kind : Answers ask heard.reply
   pub asks : next ≡ ask_in (answered mount heard.reply).next
   pub answers : IsAnswerOf ask heard.reply answer
-  pub finds : FindsValue mount.work mount heard.reply
-  pub told : CanBeTold v (answered mount heard.reply).mount.work (answered mount heard.reply).mount next
 
 -- a call has begun at rest, and this is asked first
-pub record HasBegun (v : Extent) (mount : MountIs) (next : Option Ask) : Type 0 where
+pub record HasBegun (mount : MountIs) (next : Option Ask) : Type 0 where
   pub before : MountIs
   pub call : FileCall
   pub began : mount ≡ (starting before call).mount
   pub asks : next ≡ ask_in (starting before call).next
-  pub told : CanBeTold v mount.work mount next
 
 abbrev pub IsTurn : Extent → (m : ℕ) → Option Life → Option Ask → Answered → Option Heard → Option Ask → Type 0
 IsTurn v m None last answer heard next = (m < 16) × (heard ≡ None) × (next ≡ ask_in (opening m v).next)
-IsTurn v m (Some life) last answer None next = HasBegun v life.outcome.mount next
+IsTurn v m (Some life) last answer None next = HasBegun life.outcome.mount next
 IsTurn v m (Some life) None answer (Some heard) next = ⊥
-IsTurn v m (Some life) (Some ask) answer (Some heard) next = IsHearing v life.outcome.mount ask answer heard next
+IsTurn v m (Some life) (Some ask) answer (Some heard) next = IsHearing life.outcome.mount ask answer heard next
 
 abbrev pub CanBegin : Option MountIs → Type 0
 CanBegin None = Unit {0}
@@ -196,3 +193,19 @@ IsOfMount v before answer moment = Unit {0}
 abbrev pub AreOfMounts : Extent → (answer_at : ℕ → Answered) → (before told : List Moment) → Type 0
 AreOfMounts v answer_at before [] = Unit {0}
 AreOfMounts v answer_at before (moment ∷ told) = IsOfMount v before (answer_at (length before)) moment × AreOfMounts v answer_at (before ++ moment ∷ []) told
+
+-- What a journal asks for beside that: the ballot of a turn finds a value where its phase 1 ends, and what the mount asks then can be told
+abbrev pub CanTurn : Extent → Option Life → Option Heard → Option Ask → Type 0
+CanTurn v None heard next = Unit {0}
+CanTurn v (Some life) None next = CanBeTold v life.outcome.mount.work life.outcome.mount next
+CanTurn v (Some life) (Some heard) next =
+    let after = (answered life.outcome.mount heard.reply).mount in
+    FindsValue life.outcome.mount.work life.outcome.mount heard.reply × CanBeTold v after.work after next
+
+abbrev pub CanBeDoing : Extent → (before : List Moment) → Moment → Type 0
+CanBeDoing v before (Turns m heard next) = CanTurn v (life_of v before m) heard next
+CanBeDoing v before moment = Unit {0}
+
+abbrev pub CanBeDoings : Extent → (before told : List Moment) → Type 0
+CanBeDoings v before [] = Unit {0}
+CanBeDoings v before (moment ∷ told) = CanBeDoing v before moment × CanBeDoings v (before ++ moment ∷ []) told

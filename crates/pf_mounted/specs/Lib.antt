@@ -3,3 +3,9 @@ pub mod Mounts
 pub mod Pasts
 pub mod Hearing
 pub mod Journals
+pub mod Handing
+pub mod Hosted
+pub mod Lists
+pub mod Sound
+pub mod Finding
+pub mod Fitting

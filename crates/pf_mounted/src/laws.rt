@@ -13,7 +13,7 @@ ghost use Rattle.pf_hosts.specs.Moments.{Begins, Ends, Heard, Moment, Turns};
 ghost use Rattle.pf_mount.specs.Mounts.{MountIs};
 ghost use Rattle.pf_mounted.specs.Hearing.{IsHeard};
 ghost use Rattle.pf_mounted.specs.Mounts.{HasDecided, IsLonger, RestsIn, decisions, last_answer, last_ask, life_of, mount_after, next_ask, of_chunk, tables_from};
-ghost use Rattle.pf_mounted.specs.Journals.{AreOfMounts, deeds, doings};
+ghost use Rattle.pf_mounted.specs.Journals.{AreOfMounts, CanBeDoings, deeds, doings};
 ghost use Rattle.pf_mounted.specs.Pasts.{past_of};
 ghost use Rattle.pf_mounted.specs.Scripts.{IsScript};
 ghost use Rattle.pf_ports.specs.Driven.{IsDriven};
@@ -71,10 +71,10 @@ pub fn decisions_are_of_ballots()
     ensures stay { (v : Extent) (told more : List Moment) (m : ℕ) → IsLonger (decisions v told m) (decisions v (told ++ more) m) }
 {}
 
-/// Where each moment that was told is what its mount does, and what was heard answers what was asked, the deeds of the ports are the doings
-/// of a journal, in each of its positions. After them the journal has, of each mount, the values that it decided, and the proposer at its
+/// Where each moment that was told is what its mount does, what was heard answers what was asked, and what mounts ask can stand in a
+/// journal, the deeds of the ports are the doings of a journal, in each of its positions. After them the journal has, of each mount, the values that it decided, and the proposer at its
 /// position.
 pub fn deeds_are_doings()
-    ensures same { (v : Extent) (answer_at : ℕ → Answered) (told : List Moment) → IsVolume v → AreOfMounts v answer_at [] told → IsSameJournal block_in v.sectors 256 (deeds v answer_at told) (doings v answer_at told) }
-    ensures lists { (v : Extent) (answer_at : ℕ → Answered) (told : List Moment) → IsVolume v → AreOfMounts v answer_at [] told → let journal = journal_from new_journal (doings v answer_at told) in (m : ℕ) (mount : MountIs) → mount_after v told m ≡ Some mount → (journal.list m ≡ decisions v told m) × (journal.proposers mount.upto m ≡ mount.position.proposer) }
+    ensures same { (v : Extent) (answer_at : ℕ → Answered) (told : List Moment) → IsVolume v → AreOfMounts v answer_at [] told → CanBeDoings v [] told → IsSameJournal block_in v.sectors 256 (deeds v answer_at told) (doings v answer_at told) }
+    ensures lists { (v : Extent) (answer_at : ℕ → Answered) (told : List Moment) → IsVolume v → AreOfMounts v answer_at [] told → CanBeDoings v [] told → let journal = journal_from new_journal (doings v answer_at told) in (m : ℕ) (mount : MountIs) → mount_after v told m ≡ Some mount → (journal.list m ≡ decisions v told m) × (journal.proposers mount.upto m ≡ mount.position.proposer) }
 {}

@@ -1,9 +1,26 @@
 //! Laws of runs with mounts: what hosts and their ports did in the run of a script.
 #![tactic(auto)]
 
+mod alone;
+mod finding;
+mod fitting;
+mod handing;
 mod laws;
+mod list;
+mod moments;
+mod sound;
 
-pub use laws::{
-    decisions_are_of_ballots, hosts_are_told, mounts_do_what_is_told, ports_of_runs_are_driven,
-    replies_of_runs_are_the_groups, tables_are_those_of_decisions,
+pub use alone::blocks_are_written_by_their_mounts;
+pub use finding::{
+    ballots_without_input_follow_a_find, decisions_were_put_in, registers_were_registers,
+    replies_end_phase_one_with_a_value, the_last_ask_is_free,
 };
+pub use fitting::deeds_fit_the_groups;
+pub use handing::what_is_handed_on_is_told;
+pub use laws::{
+    decisions_are_of_ballots, deeds_are_doings, hosts_are_told, mounts_do_what_is_told,
+    ports_of_runs_are_driven, replies_of_runs_are_the_groups, tables_are_those_of_decisions,
+};
+pub use list::runs_have_one_list;
+pub use moments::{moments_are_of_mounts, turns_come_in_time};
+pub use sound::{calls_of_words_are_short, mounts_stay_sound};

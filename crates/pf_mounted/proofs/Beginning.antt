@@ -1,0 +1,159 @@
+-- In a run a turn in which nothing was heard makes its mount, or comes right after a call that begins.
+use Rattle.std.proofs.Common.{◌≡◌, ◌⊎◌, ℕ, inl, inr, List, [], ◌∷◌, ◌++◌, Option, Some, None, slice_get, length, arith, refl, sym, ap, subst, ◌∙◌}
+use Rattle.std.proofs.lemmas.List.{append_assoc}
+use Rattle.pf_base.specs.declared.asks.Ask.{Ask}
+use Rattle.pf_base.specs.declared.asks.Reply.{Reply}
+use Rattle.pf_entry.specs.Lists.{Every}
+use Rattle.pf_entry.proofs.Lists.{every_append, every_more}
+use Rattle.pf_tree.specs.declared.calls.FileCall.{FileCall}
+use Rattle.pf_volume.specs.Volumes.{Extent}
+use Rattle.pf_mount.specs.declared.work.Next.{Next}
+use Rattle.pf_mount.specs.declared.work.Next.TheVariants.{Ask as Asks, Ready, Done}
+use Rattle.pf_mount.specs.Mounts.{MountIs, Outcome, answered, opening, starting}
+use Rattle.pf_rounds.specs.Halts.{Halt}
+use Rattle.pf_chunk.specs.Runs.{ChunkRun}
+use Rattle.pf_hosts.specs.Moments.{Begins, Ends, Hands, Heard, Moment, Turns, Writes}
+use Rattle.pf_hosts.specs.Hosts.{Drove, HostIs, Stepped, begun, call_of, comes_of, drove, events_of, hands_at, hands_on, next_of, number_of, replied, stepped, stepped_at}
+use Rattle.pf_hosts.proofs.Machine.{starting_keeps}
+use Rattle.pf_world.specs.Reports.{world_run}
+use Rattle.pf_world.specs.Worlds.{made}
+use Rattle.pf_world.specs.declared.line.Line.{Line}
+use Rattle.pf_fleet.specs.Volumes.{VolumeRun}
+use Rattle.pf_mounted.specs.Mounts.{last_ask, life_of}
+use Rattle.pf_mounted.specs.Scripts.{IsScript}
+use Rattle.pf_mounted.proofs.Each.{AreEach, all_more, each_at, none_told, one_more}
+use Rattle.pf_mounted.proofs.Holding.{none_asked}
+use Rattle.pf_mounted.proofs.Lives.{IsQuiet, called_ask}
+use Rattle.pf_mounted.proofs.Ports.{drives_at}
+use Rattle.pf_mounted.proofs.Running.{IsKept, running}
+use Rattle.pf_mounted.proofs.Standing.{AreTold, all_told, new_told}
+
+-- mount m is not there yet, or a call of it has just begun
+abbrev pub IsNewAt : Extent → (before : List Moment) → (m : ℕ) → Type 0
+IsNewAt e before m = (life_of e before m ≡ None) ⊎ ((earlier : List Moment) × (call : FileCall) × (before ≡ earlier ++ Begins m call ∷ []))
+
+abbrev pub IsNew : Extent → (before : List Moment) → Moment → Type 0
+IsNew e before (Turns m None next) = IsNewAt e before m × (last_ask before m ≡ None)
+IsNew e before moment = Unit {0}
+
+-- no turn, or one in which something was heard
+abbrev Hears : Moment → Type 0
+Hears (Turns m None next) = ⊥
+Hears moment = Unit {0}
+
+module _ (e : Extent) where
+  heard_new : (before : List Moment) (y : Moment) → Hears y → IsNew e before y
+  heard_new before (Turns m None next) hears = absurd hears
+  heard_new before (Turns m (Some heard) next) hears = tt
+  heard_new before (Begins m call) hears = tt
+  heard_new before (Hands m k place) hears = tt
+  heard_new before (Writes text) hears = tt
+  heard_new before (Ends m answer) hears = tt
+
+  all_heard : (told more : List Moment) → AreEach (IsNew e) told → Every Hears more → AreEach (IsNew e) (told ++ more)
+  all_heard told more = all_more (IsNew e) Hears heard_new told more
+
+  turned_new : (told rest : List Moment) (m : ℕ) (next : Option Ask) → AreEach (IsNew e) told → IsNew e told (Turns m None next) → Every Hears rest → AreEach (IsNew e) (told ++ Turns m None next ∷ rest)
+  turned_new told rest m next are new hears =
+      let turn : Moment = Turns m None next in
+      subst (AreEach (IsNew e)) (append_assoc told (turn ∷ []) rest) (all_heard (told ++ turn ∷ []) rest (one_more (IsNew e) told turn are new) hears)
+
+  -- what comes of a step of a mount that heard nothing
+  comes_new : (told : List Moment) (chunks : List ChunkRun) (call : Option FileCall) (mount : MountIs) (next : Next) → AreEach (IsNew e) told → IsNew e told (Turns (number_of mount) None None) → AreEach (IsNew e) (told ++ (next_of chunks None call mount next).told)
+  comes_new told chunks call mount (Asks ask) are new = turned_new told [] (number_of mount) (Some ask) are new tt
+  comes_new told chunks call mount Ready are new = turned_new told _ (number_of mount) None are new (tt, tt)
+  comes_new told chunks call mount (Done answer) are new = turned_new told _ (number_of mount) None are new (tt, (tt, tt))
+
+  begun_new : (told : List Moment) (chunks : List ChunkRun) (host : HostIs) (call : FileCall) → AreEach (IsNew e) told → last_ask told (number_of host.mount) ≡ None → AreEach (IsNew e) (told ++ (begun chunks host call).told)
+  begun_new told chunks host call are free =
+      let n = number_of host.mount in
+      let first : Moment = Begins n call in
+      let o : Outcome = starting host.mount call in
+      let s : Stepped = comes_of chunks None (Some call) o in
+      let number : number_of o.mount ≡ n = (starting_keeps host.mount call).0 in
+      subst (AreEach (IsNew e)) (append_assoc told (first ∷ []) s.told)
+      (comes_new (told ++ first ∷ []) chunks (Some call) o.mount o.next (all_heard told (first ∷ []) are (tt, tt)) (inr (told, call, ap (λ i. told ++ Begins i call ∷ []) (sym number)), ap (last_ask (told ++ first ∷ [])) number ∙ called_ask e n n refl told call ∙ free))
+
+  -- A step of a host
+
+  module _ (halts : List Halt) where
+    quiet_hears : (y : Moment) → IsQuiet y → Hears y
+    quiet_hears (Turns m heard next) quiet = absurd quiet
+    quiet_hears (Begins m call) quiet = tt
+    quiet_hears (Hands m k place) quiet = tt
+    quiet_hears (Writes text) quiet = tt
+    quiet_hears (Ends m answer) quiet = tt
+
+    drove_hears : (chunks : List ChunkRun) (m k : ℕ) → Every Hears (drove halts chunks m k).told
+    drove_hears chunks m k = every_more IsQuiet Hears quiet_hears (drove halts chunks m k).told (drives_at halts chunks m k).quiet
+
+    next_hears : (chunks : List ChunkRun) (heard : Heard) (call : Option FileCall) (mount : MountIs) (next : Next) → Every Hears (next_of chunks (Some heard) call mount next).told
+    next_hears chunks heard call mount (Asks ask) = (tt, tt)
+    next_hears chunks heard call mount Ready = (tt, (tt, tt))
+    next_hears chunks heard call mount (Done answer) = (tt, (tt, (tt, tt)))
+
+    handed_hears : (s : Stepped) (at : Option ℕ) → Every Hears s.told → Every Hears (hands_at halts s at).told
+    handed_hears s None hears = hears
+    handed_hears s (Some k) hears = every_append Hears s.told (drove halts s.chunks (number_of s.host.mount) k).told hears (drove_hears s.chunks (number_of s.host.mount) k)
+
+    reply_hears : (host : HostIs) (k : ℕ) (d : Drove) (reply : Option Reply) → Every Hears d.told → Every Hears (replied halts host k d reply).told
+    reply_hears host k d None hears = hears
+    reply_hears host k d (Some reply) hears =
+        let heard : Heard = record { reply = reply; by = events_of (slice_get d.chunks k) } in
+        let o : Outcome = answered host.mount reply in
+        let call = call_of host.mount.files.pending in
+        let s : Stepped = comes_of d.chunks (Some heard) call o in
+        every_append Hears d.told (hands_on halts s).told hears (handed_hears s s.host.at (next_hears d.chunks heard call o.mount o.next))
+
+    step_hears : (chunks : List ChunkRun) (host : HostIs) (at : Option ℕ) → Every Hears (stepped_at halts chunks host at).told
+    step_hears chunks host None = tt
+    step_hears chunks host (Some k) = let d = drove halts chunks (number_of host.mount) k in reply_hears host k d d.reply (drove_hears chunks (number_of host.mount) k)
+
+    stepped_hears : (chunks : List ChunkRun) (host : HostIs) → Every Hears (stepped halts chunks host).told
+    unfolding stepped
+    stepped_hears chunks host = step_hears chunks host host.at
+
+-- Runs
+
+record IsTurned (v : VolumeRun) (told : List Moment) : Type 0 where
+  hosts : AreTold v told
+  each : AreEach (IsNew v.extent) told
+
+module _ (halts : List Halt) where
+  kept : IsKept halts IsTurned
+  kept =
+      let hosts = all_told halts in record {
+        writing = λ v told text is. record { hosts = hosts.writing v told text is.hosts; each = one_more (IsNew v.extent) told (Writes text) is.each tt };
+        happening = λ v told k c event at is. record { hosts = hosts.happening v told k c event at is.hosts; each = is.each };
+        reading = λ v told k c server range at is. record { hosts = hosts.reading v told k c server range at is.hosts; each = is.each };
+        stepping = λ v told m host at is. record {
+          hosts = hosts.stepping v told m host at is.hosts;
+          each = all_heard v.extent told (stepped halts v.chunks host).told is.each (stepped_hears v.extent halts v.chunks host);
+        };
+        mounting = λ v told large few is.
+            let o : Outcome = opening (length v.hosts) v.extent in record {
+              hosts = hosts.mounting v told large few is.hosts;
+              each = comes_new v.extent told v.chunks None o.mount o.next is.each (let none = is.hosts.past (length v.hosts) (omega arith) in (inl none.0, none.1));
+            };
+        beginning = λ v told m host call at rest is.
+            let h = is.hosts.hosts m host at in record {
+              hosts = hosts.beginning v told m host call at rest is.hosts;
+              each = begun_new v.extent told v.chunks host call is.each (ap (last_ask told) h.number ∙ none_asked host.mount.work host.at (last_ask told m) h.at h.works rest);
+            };
+        killing = λ v told m host at is. record { hosts = hosts.killing v told m host at is.hosts; each = is.each };
+      }
+
+  -- a turn in which nothing was heard is new
+  turn_new : (lines : List Line) → IsScript lines → (before after : List Moment) (m : ℕ) (next : Option Ask) → (world_run halts lines).told ≡ before ++ Turns m None next ∷ after
+      → IsNew (world_run halts lines).world.volume.extent before (Turns m None next)
+  turn_new lines script before after m next same =
+      let run = world_run halts lines in
+      let new = λ (chunks sectors names format : ℕ). let is : IsTurned (made halts chunks sectors names format).volume [] = record { hosts = new_told halts chunks sectors names format; each = none_told (IsNew (record { chunks = chunks; sectors = sectors })) } in is in
+      each_at (IsNew run.world.volume.extent) run.told before (Turns m None next) after (running halts IsTurned kept new lines script).each same
+
+  pub turns_new : (lines : List Line) → IsScript lines → (before after : List Moment) (m : ℕ) (next : Option Ask) → (world_run halts lines).told ≡ before ++ Turns m None next ∷ after → IsNewAt (world_run halts lines).world.volume.extent before m
+  turns_new lines script before after m next same = (turn_new lines script before after m next same).0
+
+  -- and its mount asked nothing before
+  pub turns_free : (lines : List Line) → IsScript lines → (before after : List Moment) (m : ℕ) (next : Option Ask) → (world_run halts lines).told ≡ before ++ Turns m None next ∷ after → last_ask before m ≡ None
+  turns_free lines script before after m next same = (turn_new lines script before after m next same).1

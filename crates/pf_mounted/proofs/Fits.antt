@@ -1,0 +1,89 @@
+-- The deeds of what a run told fit the groups of its chunks, as far as it was told.
+use Rattle.std.proofs.Common.{◌≡◌, ℕ, if◌then◌else◌, List, [], ◌∷◌, ◌++◌, length, Option, Some, None, slice_get, arith, refl, sym, ap, subst, ◌∙◌}
+use Rattle.std.specs.Option.{option_map}
+use Rattle.std.proofs.lemmas.List.{append_assoc}
+use Rattle.std.proofs.lemmas.Option.{none-some}
+use Rattle.pf_base.specs.declared.asks.Ask.{Ask}
+use Rattle.pf_entry.proofs.Cases.{by_test}
+use Rattle.pf_protocol.specs.Groups.{Answered}
+use Rattle.pf_hosted.specs.Deeds.{Deed, Fits, Groups, IsPort, PortAsk, PortReply, Takes}
+use Rattle.pf_chunk.specs.Runs.{ChunkRun}
+use Rattle.pf_volume.specs.Volumes.{Extent}
+use Rattle.pf_mount.specs.Mounts.{answered}
+use Rattle.pf_hosts.specs.Moments.{Heard, Moment, Turns}
+use Rattle.pf_paxos.specs.Journals.{Does}
+use Rattle.pf_mounted.specs.Fitting.{IsOfRun}
+use Rattle.pf_mounted.specs.Hosted.{groups_of}
+use Rattle.pf_mounted.specs.Journals.{Step, asking, call_of, client_of, deeds, hears, port_ask, port_reply, stays_in, turn_steps}
+use Rattle.pf_mounted.specs.Mounts.{Life, last_ask, life_of}
+use Rattle.pf_mounted.proofs.Answering.{got_at, put_at, waits_at}
+use Rattle.pf_mounted.proofs.Bringing.{first_epoch, places_rise, rises_after}
+use Rattle.pf_mounted.proofs.Cutting.{SubmitNothing, cut_fits}
+use Rattle.pf_mounted.proofs.Dealing.{asking_silent, deeds_in}
+use Rattle.pf_mounted.proofs.Known.{IsKnown, knows}
+use Rattle.pf_mounted.proofs.Listing.{deeds_at, deeds_more}
+use Rattle.pf_mounted.proofs.Pending.{stays_own}
+use Rattle.pf_mounted.proofs.Porting.{every_port}
+
+module _ (v : Extent) (chunks : List ChunkRun) (answer_at : ℕ → Answered) where
+  fits : (told : List Moment) (k : ℕ) (c : ChunkRun) → IsKnown v chunks answer_at told k c → Fits (groups_of v answer_at chunks told) (deeds v answer_at told) k
+  fits told k c known = record {
+    places = λ moment later epoch client other place next low at its. places_rise v chunks answer_at told k c known moment later epoch client other place next low at its;
+    rises = λ moment later epoch client by place deed low at is its. rises_after v chunks answer_at told k c known moment later epoch client by place deed low at is its;
+    goes_on = λ moment later epoch other deed next low at is its that. let first = first_epoch v chunks answer_at told k c known moment epoch deed at is in omega (arith, first);
+    reached = λ moment epoch deed at is. let first = first_epoch v chunks answer_at told k c known moment epoch deed at is in omega (arith, first);
+    port = λ epoch client first.
+        subst (λ e. IsPort (groups_of v answer_at chunks told) (deeds v answer_at told) k e client) (let same : 0 ≡ epoch = omega (arith, first) in same) (every_port v chunks answer_at told k c known client);
+    waits = waits_at v chunks answer_at told k c known;
+    put = put_at v chunks answer_at told k c known;
+    got = got_at v chunks answer_at told k c known;
+  }
+
+  module _ (told : List Moment) (is : IsOfRun v chunks answer_at told) where
+    pub deeds_fit : (before after : List Moment) → told ≡ before ++ after → (k : ℕ) (c : ChunkRun) → slice_get chunks k ≡ Some c → Fits (groups_of v answer_at chunks before) (deeds v answer_at before) k
+    deeds_fit before after part k c there = fits before k c (knows v chunks answer_at told is before after part k c there)
+
+    -- What was heard, and not yet asked
+
+    -- the deeds of a turn begin with its reply, and submit nothing
+    record BeginsWith (deeds : List Deed) (client : ℕ) (reply : Option PortReply) : Type 0 where
+      ask : Option PortAsk
+      rest : List Deed
+      whole : deeds ≡ Takes client reply ask ∷ rest
+      silent : SubmitNothing rest
+
+    begins_with : (before : List Moment) (m : ℕ) (life : Life) (ask : Ask) (answer : Answered) (heard : Heard) (next : Option Ask)
+        → BeginsWith (deeds_in (turn_steps v m (Some life) (Some ask) answer (Some heard) next)) (client_of m life.outcome.mount.work) (port_reply ask heard.by answer heard.reply)
+    begins_with before m life ask answer heard next =
+        let mount = life.outcome.mount in
+        let reply = port_reply ask heard.by answer heard.reply in
+        let on : Step = record { deed = Takes m reply (option_map port_ask next); doing = Does m (call_of heard.reply) } in
+        let hear : Step = record { deed = Takes (client_of m mount.work) reply None; doing = hears m mount.upto mount.work heard.reply } in
+        let after = (answered mount heard.reply).mount in
+        by_test (stays_in mount.work mount.position.proposer heard.reply) (λ b. BeginsWith (deeds_in (if b then on ∷ [] else hear ∷ asking m after next)) (client_of m mount.work) reply)
+        (λ stays. record {
+          ask = option_map port_ask next;
+          rest = [];
+          whole = ap (λ c. Takes c reply (option_map port_ask next) ∷ []) (sym (stays_own m mount heard.reply stays).0);
+          silent = λ i client chunk epoch place at. none-some _ at;
+        })
+        (λ _. record { ask = None; rest = deeds_in (asking m after next); whole = refl; silent = asking_silent v m after next })
+
+    pub heard_deeds_fit : (before after : List Moment) (m : ℕ) (heard : Heard) (next : Option Ask) (life : Life) (ask : Ask) → told ≡ before ++ Turns m (Some heard) next ∷ after → life_of v before m ≡ Some life → last_ask before m ≡ Some ask
+        → (k : ℕ) (c : ChunkRun) → slice_get chunks k ≡ Some c
+        → Fits (groups_of v answer_at chunks (before ++ Turns m (Some heard) next ∷ []))
+        (deeds v answer_at before ++ Takes (client_of m life.outcome.mount.work) (port_reply ask heard.by (answer_at (length before)) heard.reply) None ∷ []) k
+    heard_deeds_fit before after m heard next life ask part made pending k c there =
+        let answer = answer_at (length before) in
+        let turn : Moment = Turns m (Some heard) next in
+        let client = client_of m life.outcome.mount.work in
+        let reply = port_reply ask heard.by answer heard.reply in
+        let b = begins_with before m life ask answer heard next in
+        let its : deeds_at v answer_at before turn ≡ Takes client reply b.ask ∷ b.rest =
+        ap (λ l. deeds_in (turn_steps v m l (last_ask before m) answer (Some heard) next)) made
+        ∙ ap (λ a. deeds_in (turn_steps v m (Some life) a answer (Some heard) next)) pending ∙ b.whole in
+        let all : deeds v answer_at (before ++ turn ∷ []) ≡ deeds v answer_at before ++ Takes client reply b.ask ∷ b.rest =
+        deeds_more v answer_at before turn ∙ ap (λ ds. deeds v answer_at before ++ ds) its in
+        let g : Groups = groups_of v answer_at chunks (before ++ turn ∷ []) in
+        let part_of : told ≡ (before ++ turn ∷ []) ++ after = part ∙ sym (append_assoc before (turn ∷ []) after) in
+        cut_fits (deeds v answer_at before) client reply b.ask b.rest b.silent g k (subst (λ ds. Fits g ds k) all (deeds_fit (before ++ turn ∷ []) after part_of k c there))

@@ -1,0 +1,155 @@
+-- The chunks of a run are those that its volume has, of its size; and a volume with mounts has room for their files.
+use Rattle.std.proofs.Common.{◌≡◌, ◌⊎◌, ℕ, zero, suc, ◌+◌, ◌<◌, ◌≤◌, false, List, [], ◌∷◌, ◌++◌, length, map, Option, Some, None, slice_get, slice_set, nat_lt, inl, inr, arith, refl, sym, ap, subst, ◌∙◌, length-append}
+use Rattle.std.specs.List.{range_with_len}
+use Rattle.std.proofs.lemmas.Bool.{ltb-false}
+use Rattle.std.proofs.lemmas.List.{length-map}
+use Rattle.std.proofs.lemmas.List.FromFn.{length-range_with_len}
+use Rattle.std.proofs.lemmas.Option.{none-some}
+use Rattle.pf_base.specs.Asks.{chunk_of}
+use Rattle.pf_base.specs.declared.asks.Ask.{Ask}
+use Rattle.pf_base.specs.declared.asks.Reply.{Reply}
+use Rattle.pf_entry.proofs.Lists.{set_cases}
+use Rattle.pf_cluster.proofs.Lists.{set_length}
+use Rattle.pf_tree.specs.declared.calls.FileCall.{FileCall}
+use Rattle.pf_volume.specs.Volumes.{Extent, size_of}
+use Rattle.pf_asks.specs.Ports.{PortIs}
+use Rattle.pf_mount.specs.declared.work.Next.{Next}
+use Rattle.pf_mount.specs.declared.work.Next.TheVariants.{Ask as Asks, Ready, Done}
+use Rattle.pf_mount.specs.Mounts.{MountIs, Outcome, answered, opening, starting}
+use Rattle.pf_protocol.specs.declared.events.Event.TheVariants as events
+use Rattle.pf_rounds.specs.Chunks.{made_chunk}
+use Rattle.pf_rounds.specs.Halts.{Halt}
+use Rattle.pf_chunk.specs.Driving.{asked, asked_at, driven}
+use Rattle.pf_chunk.specs.Asking.{fetched}
+use Rattle.pf_chunk.specs.Happenings.{happened}
+use Rattle.pf_chunk.specs.Runs.{ChunkRun, new_run}
+use Rattle.pf_hosts.specs.Moments.{Heard, Moment}
+use Rattle.pf_hosts.specs.Hosts.{Drove, HostIs, Stepped, begun, call_of, comes_of, drove, drove_of, events_of, hands_at, hands_on, next_of, number_of, replied, run_after, stepped, stepped_at, with_run}
+use Rattle.pf_fleet.specs.Volumes.{VolumeRun, with_chunk}
+use Rattle.pf_world.specs.declared.kind.Kind.{Kind}
+use Rattle.pf_world.specs.declared.kind.Kind.TheVariants.{Mounted, Raw}
+use Rattle.pf_world.specs.Worlds.{made}
+use Rattle.pf_world.specs.Reports.{world_run}
+use Rattle.pf_world.specs.declared.line.Line.{Line}
+use Rattle.pf_mounted.specs.Mounts.{life_of}
+use Rattle.pf_mounted.specs.Scripts.{IsScript}
+use Rattle.pf_mounted.proofs.Growing.{fetched_grows, happened_grows}
+use Rattle.pf_mounted.proofs.Replying.{driven_grows}
+use Rattle.pf_mounted.proofs.Running.{IsKeptIn, running_in}
+use Rattle.pf_mounted.proofs.Standing.{new_chunk}
+
+-- each chunk has so many sectors
+abbrev pub AreSized : (sectors : ℕ) → List ChunkRun → Type 0
+AreSized sectors chunks = (k : ℕ) (c : ChunkRun) → slice_get chunks k ≡ Some c → c.group.setup.chunk ≡ sectors
+
+-- and there are so many
+pub record AreChunks (extent : Extent) (chunks : List ChunkRun) : Type 0 where
+  pub count : length chunks ≡ extent.chunks
+  pub sized : AreSized extent.sectors chunks
+
+set_sized : (e : Extent) (chunks : List ChunkRun) (n k : ℕ) (c d : ChunkRun) → slice_get chunks k ≡ Some c → d.group.setup ≡ c.group.setup → AreChunks e chunks → AreChunks e (slice_set chunks n d)
+set_sized e chunks n k c d at same are = record {
+  count = set_length chunks n d ∙ are.count;
+  sized = λ j x there. elim (set_cases chunks n d j x there) [
+    | inl here ↦ ap (λ (y : ChunkRun). y.group.setup.chunk) (sym here.1) ∙ ap (λ s. s.chunk) same ∙ are.sized k c at
+    | inr away ↦ are.sized j x away.1
+  ];
+}
+
+module _ (halts : List Halt) (e : Extent) where
+  drove_sized : (chunks : List ChunkRun) (m k : ℕ) → AreChunks e chunks → AreChunks e (drove halts chunks m k).chunks
+  drove_sized chunks m k are = by (slice_get chunks k) refl
+    where
+      by : (o : Option ChunkRun) → slice_get chunks k ≡ o → AreChunks e (drove_of halts chunks m k o).chunks
+      by None at = are
+      by (Some c) at = set_sized e chunks k k c (driven halts c m).chunk at (driven_grows halts c m).setup are
+
+  put_sized : (chunks : List ChunkRun) (m : ℕ) (ask : Ask) (o : Option ChunkRun) → slice_get chunks (chunk_of ask) ≡ o → AreChunks e chunks → AreChunks e (with_run chunks (chunk_of ask) (run_after o (λ c. asked c m ask)))
+  put_sized chunks m ask None at are = are
+  put_sized chunks m ask (Some c) at are = set_sized e chunks (chunk_of ask) (chunk_of ask) c (asked c m ask) at (same_setup (slice_get c.ports m)) are
+    where
+      same_setup : (port : Option PortIs) → (asked_at c m ask port).group.setup ≡ c.group.setup
+      same_setup None = refl
+      same_setup (Some p) = refl
+
+  next_sized : (chunks : List ChunkRun) (heard : Option Heard) (call : Option FileCall) (mount : MountIs) (next : Next) → AreChunks e chunks → AreChunks e (next_of chunks heard call mount next).chunks
+  next_sized chunks heard call mount (Asks ask) are = put_sized chunks (number_of mount) ask (slice_get chunks (chunk_of ask)) refl are
+  next_sized chunks heard call mount Ready are = are
+  next_sized chunks heard call mount (Done answer) are = are
+
+  hands_sized : (s : Stepped) (at : Option ℕ) → AreChunks e s.chunks → AreChunks e (hands_at halts s at).chunks
+  hands_sized s None are = are
+  hands_sized s (Some k) are = drove_sized s.chunks (number_of s.host.mount) k are
+
+  reply_sized : (host : HostIs) (k : ℕ) (d : Drove) (reply : Option Reply) → AreChunks e d.chunks → AreChunks e (replied halts host k d reply).chunks
+  reply_sized host k d None are = are
+  reply_sized host k d (Some reply) are =
+      let heard : Heard = record { reply = reply; by = events_of (slice_get d.chunks k) } in
+      let o : Outcome = answered host.mount reply in
+      let s : Stepped = comes_of d.chunks (Some heard) (call_of host.mount.files.pending) o in
+      hands_sized s s.host.at (next_sized d.chunks (Some heard) (call_of host.mount.files.pending) o.mount o.next are)
+
+  at_sized : (chunks : List ChunkRun) (host : HostIs) (at : Option ℕ) → AreChunks e chunks → AreChunks e (stepped_at halts chunks host at).chunks
+  at_sized chunks host None are = are
+  at_sized chunks host (Some k) are =
+      let d = drove halts chunks (number_of host.mount) k in
+      reply_sized host k d d.reply (drove_sized chunks (number_of host.mount) k are)
+
+  step_sized : (chunks : List ChunkRun) (host : HostIs) → AreChunks e chunks → AreChunks e (stepped halts chunks host).chunks
+  unfolding stepped
+  step_sized chunks host are = at_sized chunks host host.at are
+
+-- a volume that has hosts is that of a run with mounts, and has room for their files
+pub record HasRoomFor (kind : Option Kind) (v : VolumeRun) : Type 0 where
+  pub chunks : AreChunks v.extent v.chunks
+  pub mounted : 0 < length v.hosts → kind ≡ Some Mounted
+  pub room : 0 < length v.hosts → 4112 ≤ size_of v.extent
+
+abbrev Kept : Option Kind → VolumeRun → List Moment → Type 0
+Kept kind v told = HasRoomFor kind v
+
+module _ (halts : List Halt) where
+  -- its hosts are as many as before
+  same_hosts : (kind : Option Kind) (v : VolumeRun) (chunks : List ChunkRun) (m : ℕ) (host : Option HostIs) → AreChunks v.extent chunks → HasRoomFor kind v → HasRoomFor kind (record v { chunks = chunks; hosts = slice_set v.hosts m host })
+  same_hosts kind v chunks m host are is = record {
+    chunks = are;
+    mounted = λ some. is.mounted (subst (λ n. 0 < n) (set_length v.hosts m host) some);
+    room = λ some. is.room (subst (λ n. 0 < n) (set_length v.hosts m host) some);
+  }
+
+  same_volume : (kind : Option Kind) (v : VolumeRun) (k : ℕ) (c d : ChunkRun) → slice_get v.chunks k ≡ Some c → d.group.setup ≡ c.group.setup → HasRoomFor kind v → HasRoomFor kind (with_chunk v d)
+  same_volume kind v k c d at same is = record { chunks = set_sized v.extent v.chunks d.group.number k c d at same is.chunks; mounted = is.mounted; room = is.room }
+
+  kept : IsKeptIn halts Kept
+  kept = record {
+    deciding = λ kind v told is. record { chunks = is.chunks; mounted = λ some. absurd (none-some Mounted (is.mounted some)); room = is.room };
+    writing = λ kind v told text is. is;
+    happening = λ kind v told k c event at no_write is. same_volume kind v k c (happened halts c event).chunk at (happened_grows halts c event).setup is;
+    submitting = λ v told k c server op at is. same_volume (Some Raw) v k c (happened halts c (events.Submit server op)).chunk at (happened_grows halts c (events.Submit server op)).setup is;
+    reading = λ kind v told k c server range at is. same_volume kind v k c (fetched halts server range c).chunk at (fetched_grows halts c server range).setup is;
+    stepping = λ kind v told m host at is. let s = stepped halts v.chunks host in same_hosts kind v s.chunks m (Some s.host) (step_sized halts v.extent v.chunks host is.chunks) is;
+    mounting = λ v told large few is. record {
+      chunks = let o = opening (length v.hosts) v.extent in next_sized halts v.extent v.chunks None None o.mount o.next is.chunks;
+      mounted = λ some. refl;
+      room = λ some. ltb-false (size_of v.extent) 4112 large;
+    };
+    beginning = λ kind v told m host words call at rest read is.
+        let o = starting host.mount call in
+        let s = begun v.chunks host call in
+        same_hosts kind v s.chunks m (Some s.host) (next_sized halts v.extent v.chunks None (Some call) o.mount o.next is.chunks) is;
+    killing = λ kind v told m host at is. same_hosts kind v v.chunks m None is.chunks is;
+  }
+
+  new : (chunks sectors names format : ℕ) → HasRoomFor None (made halts chunks sectors names format).volume
+  new chunks sectors names format = record {
+    room = λ some. absurd (omega (arith, some));
+    mounted = λ some. absurd (omega (arith, some));
+    chunks = record {
+      count = length-map (range_with_len 0 chunks) (λ (k : ℕ). new_run (made_chunk halts sectors names format k)) ∙ length-range_with_len 0 chunks;
+      sized = λ k c at. ap (λ (x : ChunkRun). x.group.setup.chunk) (sym (new_chunk (λ i. new_run (made_chunk halts sectors names format i)) chunks 0 k c at));
+    };
+  }
+
+  -- after each script
+  pub has_room : (lines : List Line) → IsScript lines → HasRoomFor (world_run halts lines).world.kind (world_run halts lines).world.volume
+  has_room lines is = running_in halts Kept kept new lines is

@@ -1,0 +1,203 @@
+-- A run with a mount has one list.
+use Rattle.std.proofs.Common.{◌≡◌, ◌≢◌, ◌⊎◌, ℕ, ◌+◌, ◌*◌, ◌<◌, ◌≤◌, List, [], ◌∷◌, ◌++◌, length, Option, Some, None, slice_get, inl, inr, arith, refl, sym, ap, subst, ◌∙◌, append-nil, length-append}
+use Rattle.std.proofs.lemmas.List.{append_assoc}
+use Rattle.std.proofs.lemmas.Option.{none-some, same_Some}
+use Rattle.pf_base.specs.declared.asks.Ask.{Ask}
+use Rattle.pf_base.specs.declared.asks.Reply.{Reply}
+use Rattle.pf_base.specs.declared.asks.Reply.TheVariants.{Written, Bytes}
+use Rattle.pf_entry.specs.Ops.{Sector}
+use Rattle.pf_protocol.specs.Groups.{Answered}
+use Rattle.pf_volume.specs.Volumes.{Extent, IsVolume, size_of}
+use Rattle.pf_paxos.specs.Registers as registers
+use Rattle.pf_paxos.specs.Registers.{AreRegisters, Turn}
+use Rattle.pf_paxos.specs.Journals.{Begins, Does, Doing, IsTransactionList, journal_before, turns_at}
+use Rattle.pf_paxos.specs.Proposers.{ProposerIs}
+use Rattle.pf_paxos.specs.Runs.{IsRead}
+use Rattle.pf_hosted.specs.Deeds.{Deed, Fits, Groups, Takes}
+use Rattle.pf_hosted.specs.Homes.{chunk_of, sector_of}
+use Rattle.pf_hosted.specs.Hosted.{AreAlone}
+use Rattle.pf_hosted.specs.Volumes.{IsHostedJournal, home_of}
+use Rattle.pf_journal.specs.Sectors.{block_in}
+use Rattle.pf_mount.specs.Decisions.{decided_by, decided_in}
+use Rattle.pf_mount.specs.declared.work.Work.{Work}
+use Rattle.pf_mount.specs.declared.work.Work.TheVariants.{Rests, Fails, ReadsSuper, WritesSuper, Syncs, Ballots, Pauses, Moves}
+use Rattle.pf_mount.specs.Mounts.{MountIs, blocks_in}
+use Rattle.pf_chunk.specs.Runs.{ChunkRun}
+use Rattle.pf_inodes.specs.declared.changes.Txn.{Txn}
+use Rattle.pf_txn.specs.Spelling.{spell_txn}
+use Rattle.pf_txn.proofs.TxnLaws.{txn_found}
+use Rattle.pf_hosts.specs.Moments.{Heard, Moment, Hands, Turns}
+use Rattle.pf_mounted.specs.Fitting.{IsOfRun}
+use Rattle.pf_mounted.specs.Finding.{HasPutIn}
+use Rattle.pf_mounted.specs.Handing.{AreCallsOfWords, AreMountsAlone}
+use Rattle.pf_mounted.specs.Hosted.{groups_of}
+use Rattle.pf_mounted.specs.Journals.{AreOfMounts, CanBeDoings, FindsValue, IsHearing, IsTurn, call_of, client_of, deeds, doings, port_reply}
+use Rattle.pf_mounted.specs.Lists.{HasOneList}
+use Rattle.pf_mounted.specs.Mounts.{Life, last_ask, life_of, mount_after, mount_in, next_ask}
+use Rattle.pf_mounted.specs.Sound.{IsDataValue, IsSound, IsSoundWork}
+use Rattle.pf_mounted.proofs.Assembling.{its_hosted}
+use Rattle.pf_mounted.proofs.Extending.{at_position, still_registers}
+use Rattle.pf_mounted.proofs.Concluding.{decided_was_put_in, ends_with_value}
+use Rattle.pf_mounted.proofs.Fits.{deeds_fit, heard_deeds_fit}
+use Rattle.pf_mounted.proofs.Inducting.{of_at, of_until, split_end, told_good}
+use Rattle.pf_mounted.proofs.OneList.{has_one, hosted}
+use Rattle.pf_mounted.proofs.Shortness.{short_call}
+use Rattle.pf_mounted.proofs.Sounding.{answered_stays, opening_is_sound, starting_stays}
+use Rattle.pf_mounted.proofs.Turning.{freed_registers}
+use Rattle.pf_mounted.proofs.Sizing.{AreChunks}
+use Rattle.pf_mounted.proofs.Submitting.{are_alone, doings_before}
+
+-- a moment behind which something stands is not the last of a list
+not_whole : (before : List Moment) (x : Moment) (earlier rest : List Moment) (y : Moment) → before ++ x ∷ [] ≡ earlier ++ y ∷ rest → earlier ≡ before ++ x ∷ [] → ⊥
+not_whole before x earlier rest y same whole =
+    let more = ap length same in
+    let all = ap length whole in
+    omega (arith, more, all, length-append earlier (y ∷ rest))
+
+module _ (v : Extent) (chunks : List ChunkRun) (answer_at : ℕ → Answered) (told : List Moment) (run : IsOfRun v chunks answer_at told)
+    (volume : IsVolume v) (room : 4112 ≤ size_of v) (are : AreChunks v chunks) (alone : AreMountsAlone chunks told) where
+  abbrev blocks : ℕ
+  blocks = volume.blocks.0
+
+  abbrev is : v.sectors ≡ 8 * blocks
+  is = volume.blocks.1
+
+  many : 1 < blocks
+  many = let some = volume.some_sectors in omega (arith, is, some)
+
+  -- each block is written by its mount alone
+  its_alone : (before after : List Moment) → told ≡ before ++ after → ((earlier rest : List Moment) (m chunk place : ℕ) → before ≡ earlier ++ Hands m chunk place ∷ rest → CanBeDoings v [] earlier)
+      → (q block : ℕ) → q < 256 → block < 16 → let home = home_of v.sectors q in let groups = groups_of v answer_at chunks before in AreAlone (groups.history (chunk_of home block) 0) [] (groups.writes (chunk_of home block) 0 block) (sector_of home block)
+  its_alone before after same can q block low few = are_alone v blocks is many answer_at q low block few chunks told before after run.handed alone run.turns can same
+
+  can_each : (before : List Moment) → CanBeDoings v [] before → (earlier rest : List Moment) (m chunk place : ℕ) → before ≡ earlier ++ Hands m chunk place ∷ rest → CanBeDoings v [] earlier
+  can_each before can earlier rest m chunk place whole = doings_before v earlier (Hands m chunk place ∷ rest) [] (subst (CanBeDoings v []) whole can)
+
+  -- no ask is handed on in a turn
+  can_more : (before : List Moment) (x : Moment) → CanBeDoings v [] before → (earlier rest : List Moment) (m chunk place : ℕ) → before ++ x ∷ [] ≡ earlier ++ Hands m chunk place ∷ rest → CanBeDoings v [] earlier
+  can_more before x can earlier rest m chunk place whole = elim (split_end before x earlier (Hands m chunk place ∷ rest) whole) [
+    | inl all ↦ absurd (not_whole before x earlier rest (Hands m chunk place) whole all)
+    | inr part ↦ doings_before v earlier part.0 [] (subst (CanBeDoings v []) part.1 can)
+  ]
+
+  -- A reply of a ballot
+
+  module _ (last_free : (ts : List Turn) (t : Turn) (ask : Option registers.Ask) → AreRegisters (ts ++ t ∷ []) → AreRegisters (ts ++ record t { ask = ask } ∷ []))
+      (fits : (before after : List Moment) (m : ℕ) (heard : Heard) (next : Option Ask) (life : Life) (ask : Ask) → told ≡ before ++ Turns m (Some heard) next ∷ after → life_of v before m ≡ Some life → last_ask before m ≡ Some ask
+      → (k : ℕ) (c : ChunkRun) → slice_get chunks k ≡ Some c → Fits (groups_of v answer_at chunks (before ++ Turns m (Some heard) next ∷ [])) (deeds v answer_at before ++ Takes (client_of m life.outcome.mount.work) (port_reply ask heard.by (answer_at (length before)) heard.reply) None ∷ []) k)
+      (before after : List Moment) (m : ℕ) (heard : Heard) (next : Option Ask) (life : Life) (same : told ≡ before ++ Turns m (Some heard) next ∷ after) (there : life_of v before m ≡ Some life) (can : CanBeDoings v [] before)
+      (input : Option (List ℕ)) (at : life.outcome.mount.work ≡ Ballots input) where
+    pub reply_registers : AreRegisters (turns_at life.outcome.mount.upto (doings v answer_at before ++ Does m (call_of heard.reply) ∷ []))
+    reply_registers = by (last_ask before m) refl (subst (λ l. IsTurn v m l (last_ask before m) (answer_at (length before)) (Some heard) next) there (of_at v answer_at told run.turns before (Turns m (Some heard) next) after same))
+      where
+        by : (last : Option Ask) → last_ask before m ≡ last → IsTurn v m (Some life) last (answer_at (length before)) (Some heard) next
+            → AreRegisters (turns_at life.outcome.mount.upto (doings v answer_at before ++ Does m (call_of heard.reply) ∷ []))
+        by None asked turn = absurd turn
+        by (Some ask) asked turn =
+            let of = of_until v answer_at told run.turns before (Turns m (Some heard) next ∷ after) same in
+            let q = life.outcome.mount.upto in
+            let groups = groups_of v answer_at chunks (before ++ Turns m (Some heard) next ∷ []) in
+            let ds = deeds v answer_at before ++ Takes m (port_reply ask heard.by (answer_at (length before)) heard.reply) None ∷ [] in
+            let low = at_position v blocks is many answer_at before of can m life there ask asked input at in
+            let told_so : told ≡ (before ++ Turns m (Some heard) next ∷ []) ++ after = same ∙ sym (append_assoc before (Turns m (Some heard) next ∷ []) after) in
+            still_registers v blocks is many answer_at before of can m life there ask asked (answer_at (length before)) heard next turn input at last_free groups
+            (its_hosted v answer_at chunks (before ++ Turns m (Some heard) next ∷ []) volume room are run.legal q low ds
+            (λ k c its. subst (λ w. Fits groups (deeds v answer_at before ++ Takes (client_of m w) (port_reply ask heard.by (answer_at (length before)) heard.reply) None ∷ []) k) at (fits before after m heard next life ask same there asked k c its))
+            (λ block few. its_alone (before ++ Turns m (Some heard) next ∷ []) after told_so (can_more before (Turns m (Some heard) next) can) q block low few))
+
+-- An empty value spells no transaction
+none_spelled : IsDataValue []
+none_spelled t is = absurd (let spelled = (txn_found [] t is).spelled in no_bytes t spelled)
+  where
+    no_bytes : (t : Txn) → spell_txn t ≡ [] → ⊥
+    no_bytes t same = cc
+
+not_empty : (byte : ℕ) (bytes : List ℕ) → byte ∷ bytes ≢ []
+not_empty byte bytes same = cc
+
+input_of_sound : (v : Extent) (m : ℕ) (mount : MountIs) (value : List ℕ) → IsSound v m mount → mount.work ≡ Ballots (Some value) → IsDataValue value
+input_of_sound v m mount value sound at = (subst (λ work. IsSoundWork work mount.upto mount.position.proposer) at sound.work).1.of_data
+
+-- A ballot decides with bytes
+
+decides_in : (work : Work) (p : ProposerIs) (reply : Reply) (value : List ℕ) → decided_in work p reply ≡ Some value → ((input : Option (List ℕ)) × (work ≡ Ballots input)) × ((sectors : List Sector) × (reply ≡ Bytes sectors))
+decides_in (Ballots input) p (Bytes sectors) value decides = ((input, refl), (sectors, refl))
+decides_in (Ballots input) p Written value decides = absurd (none-some value decides)
+decides_in ReadsSuper p reply value decides = absurd (none-some value decides)
+decides_in WritesSuper p reply value decides = absurd (none-some value decides)
+decides_in (Syncs half found) p reply value decides = absurd (none-some value decides)
+decides_in (Pauses input left) p reply value decides = absurd (none-some value decides)
+decides_in (Moves moving) p reply value decides = absurd (none-some value decides)
+decides_in Rests p reply value decides = absurd (none-some value decides)
+decides_in Fails p reply value decides = absurd (none-some value decides)
+
+-- the life of a mount that is there
+life_there : (life : Option Life) (mount : MountIs) → mount_in life ≡ Some mount → (l : Life) × (life ≡ Some l) × (l.outcome.mount ≡ mount)
+life_there None mount made = absurd (none-some mount made)
+life_there (Some l) mount made = (l, refl, same_Some l.outcome.mount mount made)
+
+module _ (v : Extent) (chunks : List ChunkRun) (answer_at : ℕ → Answered) (told : List Moment) (run : IsOfRun v chunks answer_at told)
+    (volume : IsVolume v) (room : 4112 ≤ size_of v) (are : AreChunks v chunks) (alone : AreMountsAlone chunks told) (words : AreCallsOfWords told)
+    (asks : (m : ℕ) (before after : List Moment) (heard : Option Heard) (next : Option Ask) → told ≡ before ++ Turns m heard next ∷ after → next ≡ next_ask (life_of v (before ++ Turns m heard next ∷ []) m)) where
+  some_blocks : 1 < volume.blocks.0
+  some_blocks = many v chunks answer_at told run volume room are alone
+
+  module _ (before after : List Moment) (m : ℕ) (life : Life) (heard : Heard) (next : Option Ask) (same : told ≡ before ++ Turns m (Some heard) next ∷ after) (there : life_of v before m ≡ Some life) (can : CanBeDoings v [] before)
+      (input : Option (List ℕ)) (at : life.outcome.mount.work ≡ Ballots input) where
+    of_before : AreOfMounts v answer_at [] before
+    of_before = of_until v answer_at told run.turns before (Turns m (Some heard) next ∷ after) same
+
+    made : mount_after v before m ≡ Some life.outcome.mount
+    made = ap mount_in there
+
+    with_bytes : (sectors : List Sector) → heard.reply ≡ Bytes sectors → AreRegisters (turns_at life.outcome.mount.upto (doings v answer_at before ++ Does m (IsRead (blocks_in sectors)) ∷ []))
+    with_bytes sectors reply =
+        subst (λ r. AreRegisters (turns_at life.outcome.mount.upto (doings v answer_at before ++ Does m (call_of r) ∷ []))) reply
+        (reply_registers v chunks answer_at told run volume room are alone freed_registers (λ before after m heard next life ask same there asked k c at. heard_deeds_fit v chunks answer_at told run before after m heard next life ask same there asked k c at)
+        before after m heard next life same there can input at)
+
+    finds_for : (reply : Reply) → heard.reply ≡ reply → FindsValue (Ballots input) life.outcome.mount reply
+    finds_for Written is = tt
+    finds_for (Bytes sectors) is = ends_with_value v volume.blocks.0 volume.blocks.1 some_blocks answer_at before of_before can m life.outcome.mount made sectors (with_bytes sectors is) input at
+
+    put_in_for : (sectors : List Sector) → heard.reply ≡ Bytes sectors → (value : List ℕ) → decided_by life.outcome.mount (Bytes sectors) ≡ Some value → value ≢ [] → HasPutIn v before life.outcome.mount.upto value
+    put_in_for sectors is value decides some = decided_was_put_in v volume.blocks.0 volume.blocks.1 some_blocks answer_at before of_before can m life.outcome.mount made sectors (with_bytes sectors is) value decides some
+
+  abbrev PutIn : List Moment → List ℕ → Type 0
+  PutIn before value = (n : ℕ) × (its : Life) × (first rest : List Moment) × (before ≡ first ++ rest) × (life_of v first n ≡ Some its) × (its.outcome.mount.work ≡ Ballots (Some value))
+
+  was_put_in : (before : List Moment) (position : ℕ) (value : List ℕ) → HasPutIn v before position value → PutIn before value
+  was_put_in before position value put =
+      let its = life_there (life_of v put.first put.mount) put.its put.stood in
+      (put.mount, its.0, put.first, put.rest, put.told_so, its.1, ap (λ (x : MountIs). x.work) its.2 ∙ put.works)
+
+  put_in : (before after : List Moment) (m : ℕ) (life : Life) (heard : Heard) (next : Option Ask) (value : List ℕ) → told ≡ before ++ Turns m (Some heard) next ∷ after → life_of v before m ≡ Some life → CanBeDoings v [] before
+      → decided_by life.outcome.mount heard.reply ≡ Some value → (IsDataValue value) ⊎ PutIn before value
+  put_in before after m life heard next [] same there can decides = inl none_spelled
+  put_in before after m life heard next (byte ∷ bytes) same there can decides =
+      let value : List ℕ = byte ∷ bytes in
+      let parts = decides_in life.outcome.mount.work life.outcome.mount.position.proposer heard.reply value decides in
+      let sectors = parts.1.0 in
+      let put = put_in_for before after m life heard next same there can parts.0.0 parts.0.1 sectors parts.1.1 value (subst (λ r. decided_by life.outcome.mount r ≡ Some value) parts.1.1 decides) (not_empty byte bytes) in
+      inr (was_put_in before life.outcome.mount.upto value put)
+
+  -- all that was told can be a journal's doings
+  pub can_all : CanBeDoings v [] told
+  can_all = (told_good v answer_at told run.turns (IsSound v) IsDataValue asks
+      (λ m before after call same. let read = words before after m call same in short_call read.0 call read.1)
+      (λ m small. opening_is_sound v m volume room)
+      (λ m mount call small sound rests short. starting_stays v m volume room mount call sound short)
+      (λ m mount reply small sound fine. answered_stays v m volume room mount reply sound fine)
+      (λ m mount value sound at. input_of_sound v m mount value sound at)
+      (λ before after m life heard next input same there can at. finds_for before after m life heard next same there can input at heard.reply refl)
+      put_in).can
+
+  -- one list
+  pub one_list : (lists : (groups : Groups) (sectors : ℕ) (deeds : List Deed) (doings : List Doing) → IsHostedJournal groups block_in sectors 256 deeds doings
+      → (list : List (List ℕ)) × IsTransactionList doings list × ((mount moment : ℕ) → Begins ((journal_before doings moment).list mount) list)) → HasOneList v chunks told
+  one_list lists =
+      let fits = λ (k : ℕ) (c : ChunkRun) (there : slice_get chunks k ≡ Some c). deeds_fit v chunks answer_at told run told [] (sym (append-nil told)) k c there in
+      let theirs = λ (q block : ℕ) (low : q < 256) (few : block < 16).
+      its_alone v chunks answer_at told run volume room are alone told [] (sym (append-nil told)) (can_each v chunks answer_at told run volume room are alone told can_all) q block low few in
+      let held = hosted v answer_at chunks told volume room are run.legal run.turns run.reads can_all fits theirs in
+      has_one v answer_at chunks told volume room are run.legal run.turns run.reads can_all fits theirs (lists (groups_of v answer_at chunks told) v.sectors (deeds v answer_at told) (doings v answer_at told) held)

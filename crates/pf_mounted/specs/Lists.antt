@@ -1,0 +1,33 @@
+-- One list of transactions for all mounts of a run.
+use Rattle.std.specs.Prelude.{◌≡◌, ℕ, ◌≤◌, List, [], ◌++◌, length, take, Some}
+use Rattle.pf_protocol.specs.Groups.{Answered}
+use Rattle.pf_volume.specs.Volumes.{Extent}
+use Rattle.pf_paxos.specs.Journals.{IsTransactionList}
+use Rattle.pf_hosted.specs.Volumes.{IsHostedJournal}
+use Rattle.pf_journal.specs.Sectors.{block_in}
+use Rattle.pf_mount.specs.Mounts.{MountIs}
+use Rattle.pf_chunk.specs.Runs.{ChunkRun}
+use Rattle.pf_hosts.specs.Moments.{Moment}
+use Rattle.pf_mounted.specs.Hosted.{AreOfReads, groups_of}
+use Rattle.pf_mounted.specs.Journals.{AreOfMounts, deeds, doings}
+use Rattle.pf_mounted.specs.Mounts.{mount_after, tables_from}
+
+-- What ports and mounts did, by what was told, is what they do over a journal of 256 positions whose blocks lie in the chunks' groups; and
+-- this is its transaction list: the decided values of the positions up to the first that is not decided
+pub record IsListOf (v : Extent) (chunks : List ChunkRun) (told : List Moment) (list : List (List ℕ)) : Type 0 where
+  pub answer_at : ℕ → Answered
+  pub mounts : AreOfMounts v answer_at [] told
+  pub reads : AreOfReads chunks answer_at told
+  pub hosted : IsHostedJournal (groups_of v answer_at chunks told) block_in v.sectors 256 (deeds v answer_at told) (doings v answer_at told)
+  pub is : IsTransactionList (doings v answer_at told) list
+
+-- the mount stands behind the first transactions of the list, and its tables are those of a new volume after them
+pub record StandsInList (v : Extent) (list : List (List ℕ)) (mount : MountIs) : Type 0 where
+  pub within : mount.upto ≤ length list
+  pub tables : mount.files.tables ≡ tables_from v (take mount.upto list)
+
+-- at every moment of the run each mount stands in one list
+pub record HasOneList (v : Extent) (chunks : List ChunkRun) (told : List Moment) : Type 0 where
+  pub list : List (List ℕ)
+  pub is : IsListOf v chunks told list
+  pub stands : (before after : List Moment) (m : ℕ) (mount : MountIs) → told ≡ before ++ after → mount_after v before m ≡ Some mount → StandsInList v list mount
