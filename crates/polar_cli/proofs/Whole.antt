@@ -23,6 +23,8 @@ use Rattle.polar_cli.specs.declared.status.Status.{Status}
 use Rattle.polar_cli.specs.declared.status.Status.TheVariants as statuses
 use Rattle.polar_cli.specs.Placed.{ArePlaced, IsVolume, IsWhole}
 use Rattle.polar_cli.specs.Running.{HasGoneOn, HasNotOpened, HasOpened, HasRunLines, HasRunTo, LeavesWorld, Stops}
+use Rattle.pf_mounted.specs.Lists.{HasOneList}
+use Rattle.polar_cli.proofs.Lists.{HaveLists, lists_of}
 use Rattle.polar_cli.proofs.Opening.{bare, begun_passed, begun_sound, none_begun, volume_of}
 use Rattle.polar_cli.proofs.Taken.{appends_none}
 
@@ -94,11 +96,17 @@ no_such : (k : ℕ) (c : ChunkIs) → slice_get [] k ≡ Some c → ⊥
 no_such k c there = let low : k < 0 = slice_get_within [] k c there in absurd (omega arith)
 
 module _ {D : Type 0} (seen : D → Option (List ℕ)) (may_leave : D → Images) (faults : D → ℕ) where
+  abbrev HasLists : List Halt → List Line → Type 0
+  HasLists halts done = let run = world_run halts done in 0 < length run.world.volume.hosts → HasOneList run.world.volume.extent run.world.volume.chunks run.told
+
   -- what a list of halts that tells of the world that is left says of the run
   has_run : (status : Status) (lines done rest : List Line) (text : List ℕ) (before after : List D) (world left : WorldIs) (halts : List Halt) → done ++ rest ≡ lines → RunsTo done text world → (done ≡ [] → world.chunks ≡ []) → IsSoundWorld world → IsSoundWorld left
-      → Tells halts world → AreHalts faults halts before after left → Stops faults status before done rest world left → AreLeft seen may_leave faults left.chunks before after → HasRunTo seen may_leave faults status lines rest text before after
-  has_run status lines done rest text before after world left halts first run none sound sound_left tells told stops disks =
+      → Tells halts world → AreHalts faults halts before after left → Stops faults status before done rest world left → AreLeft seen may_leave faults left.chunks before after
+      → (IsLawfulRun (world_run halts done).world → HasLists halts done) → HasRunTo seen may_leave faults status lines rest text before after
+  has_run status lines done rest text before after world left halts first run none sound sound_left tells told stops disks lists =
       let same : stands_at halts world ≡ (world_run halts done).world = sym (run halts tells).world in
+      let safe = subst IsSafeRun same (safe_run halts world tells sound) in
+      let lawful = subst IsLawfulRun same (lawful_run halts world tells sound) in
       record {
         done = done;
         first = first;
@@ -110,19 +118,25 @@ module _ {D : Type 0} (seen : D → Option (List ℕ)) (may_leave : D → Images
         told = told;
         ran = run halts tells;
         stops = stops;
-        safe = subst IsSafeRun same (safe_run halts world tells sound);
-        lawful = subst IsLawfulRun same (lawful_run halts world tells sound);
+        headline = record {
+          one_write_in_a_slot = λ k c earlier at part. (safe k c at earlier part).agrees;
+          sectors_are_applied_writes = λ k c earlier at part. (safe k c at earlier part).in_order;
+          acknowledged_writes_stay = λ k c earlier at part. (safe k c at earlier part).acknowledged;
+          one_list = lists lawful;
+          shown = (run halts tells).report;
+        };
+        lawful = lawful;
         safe_left = safe_run halts left told.tells sound_left;
         lawful_left = lawful_run halts left told.tells sound_left;
         disks = disks;
       }
 
   -- the volume was made, lines were run, and the world was closed
-  pub ran_lines : (status : Status) (lines : List Line) (d : Line) (text : List ℕ) (taken now : Option (List ℕ)) (full : Type 0) (before after : List D) (old new : WorldOn D) → 0 < length lines → 48 ≤ length before
+  pub ran_lines : HaveLists → (status : Status) (lines : List Line) (d : Line) (text : List ℕ) (taken now : Option (List ℕ)) (full : Type 0) (before after : List D) (old new : WorldOn D) → IsWhole lines → 0 < length lines → 48 ≤ length before
       → HasOpened faults (get_or lines 0 d) text before old → HasGoneOn status (get_or lines 0 d) (drop 1 lines) taken now full old.world new.world → new.spare ≡ old.spare
       → ((given : List D) → drop (6 * length new.world.chunks) given ≡ new.spare → 6 * length new.world.chunks ≤ length given → AreLeft seen may_leave faults new.world.chunks given after)
       → HasRunLines seen may_leave faults status lines taken now full before after
-  ran_lines status lines d text taken now full before after old new some enough opened gone spare closed =
+  ran_lines have status lines d text taken now full before after old new whole some enough opened gone spare closed =
       let small : length old.world.chunks ≤ 8 = some_chunks (length old.world.chunks) old.world.sectors old.world.names old.world.format opened.is_world.volume in
       let count = gone.count in
       let left = closed before (ap (λ n. drop (6 * n) before) count ∙ sym opened.spare ∙ sym spare) (omega (arith, count, small, enough)) in
@@ -141,7 +155,10 @@ module _ {D : Type 0} (seen : D → Option (List ℕ)) (may_leave : D → Images
         text = gone.text;
         ran = has_run status lines (get_or lines 0 d ∷ gone.done) gone.rest gone.text before after gone.world new.world halts
             (ap (λ l. get_or lines 0 d ∷ l) gone.first ∙ sym (drop-cons lines 0 d some)) gone.run (λ none. absurd (cc none)) gone.lawful gone.lawful_left
-            (tells_earlier halts gone.world new.world more told.tells) told (stopped faults before status (get_or lines 0 d) gone.done gone.rest gone.world new.world gone.leaves) left;
+            (tells_earlier halts gone.world new.world more told.tells) told (stopped faults before status (get_or lines 0 d) gone.done gone.rest gone.world new.world gone.leaves) left
+            (lists_of have halts (get_or lines 0 d) gone.done gone.rest (length old.world.chunks) gone.world opened.volume
+            (subst (Every (λ line. MayRun (length old.world.chunks) line.command)) (sym gone.first) (rest_may_run lines d (length old.world.chunks) whole opened.volume))
+            gone.is_world (gone.run halts (tells_earlier halts gone.world new.world more told.tells)).world);
         wrote = gone.wrote;
       }
 
@@ -149,7 +166,7 @@ module _ {D : Type 0} (seen : D → Option (List ℕ)) (may_leave : D → Images
   none_ran : (status : Status) (lines : List Line) (before after : List D) (sectors names format : ℕ) (left : WorldIs) (halts : List Halt) → IsSoundWorld left → AreHalts faults halts before after left → Stops faults status before [] lines (bare sectors names format) left → AreLeft seen may_leave faults left.chunks before after
       → HasRunTo seen may_leave faults status lines lines [] before after
   none_ran status lines before after sectors names format left halts sound told stops disks =
-      has_run status lines [] lines [] before after (bare sectors names format) left halts refl (λ hs tells. record { world = refl; report = refl; ends = tt }) (λ none. refl) (λ k c there. absurd (no_such k c there)) sound (λ k c there. absurd (no_such k c there)) told stops disks
+      has_run status lines [] lines [] before after (bare sectors names format) left halts refl (λ hs tells. record { world = refl; report = refl; ends = tt }) (λ none. refl) (λ k c there. absurd (no_such k c there)) sound (λ k c there. absurd (no_such k c there)) told stops disks (λ lawful some. absurd (omega (arith, some)))
 
   -- memory ran out as the volume was made
   pub none_made : (lines : List Line) (d : Line) (taken : Option (List ℕ)) (full : Type 0) (before after : List D) → IsWhole lines → HasNotOpened seen may_leave faults (get_or lines 0 d) before after → HasRunLines seen may_leave faults statuses.NoMemory lines taken taken full before after

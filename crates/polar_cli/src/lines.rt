@@ -14,6 +14,7 @@ use crate::status::Status;
 use pf_disk::Disk;
 use pf_filling::Gate;
 use pf_io::Sink;
+use pf_mounted::runs_have_one_list;
 use pf_report::put_answer;
 use pf_script::Command;
 use pf_world::{Line, World};
@@ -111,6 +112,7 @@ pub fn run_lines<K: Sink, D: Disk + Drop, R: Threads + Sync, G: Gate + Sync>(
     requires told { AreTold D.seen disks.old.items }
     ensures { HasRunLines D.seen D.may_leave D.faults result lines.now (K.taken sink.old) (K.taken sink.new) (Rose (K.faults sink.old) (K.faults sink.new)) disks.old.items disks.new.items }
 {
+    runs_have_one_list();
     let [volume, rest @ ..] = lines else {
         unreachable!()
     };
