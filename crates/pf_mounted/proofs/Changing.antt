@@ -152,7 +152,7 @@ none_if true x y of_x of_y = of_x
 none_if false x y of_x of_y = of_y
 
 -- where phase 1 finds no value, the reply decides none
-unfound_decides_none : (phase : Phase) (p : ProposerIs) (blocks : List Block) → (not (is_gathering_high phase) || is_some p.input || nat_lt 0 (best_of p.best blocks).bal) ≡ false → value_in (read_in phase p blocks).next ≡ None
+pub unfound_decides_none : (phase : Phase) (p : ProposerIs) (blocks : List Block) → (not (is_gathering_high phase) || is_some p.input || nat_lt 0 (best_of p.best blocks).bal) ≡ false → value_in (read_in phase p blocks).next ≡ None
 unfound_decides_none GatheringHigh p blocks e =
     let block = proposal_of p (best_of p.best blocks) in
     none_if (is_outrun p blocks) (outrun p blocks) (record { proposer = record p { own = block; best = best_of p.best blocks; phase = Proposing }; next = WriteOwn block }) refl refl

@@ -60,7 +60,7 @@ module _ (v : Extent) (blocks : ℕ) (is : v.sectors ≡ 8 * blocks) (many : 1 <
   number_in None last stands it = absurd (none-some mount it)
   number_in (Some life) last stands it = stands.0.small
 
-  small : m < 16
+  pub small : m < 16
   small = number_in (life_of v told m) (last_ask told m) (told_stand v blocks is many answer_at told of can m) made_so
 
   in_journal : now.proposers mount.upto m ≡ p

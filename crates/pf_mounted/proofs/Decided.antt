@@ -28,7 +28,7 @@ one_more : (txn : Option Txn) → cons_option txn [] ≡ option_to_list txn
 one_more None = refl
 one_more (Some txn) = refl
 
-tables_on : (tables : Tables) (values : List (List ℕ)) (value : Option (List ℕ)) → after_txns tables (txns_in (values ++ option_to_list value)) ≡ tables_by (after_txns tables (txns_in values)) value
+pub tables_on : (tables : Tables) (values : List (List ℕ)) (value : Option (List ℕ)) → after_txns tables (txns_in (values ++ option_to_list value)) ≡ tables_by (after_txns tables (txns_in values)) value
 tables_on tables values None = ap (λ vs. after_txns tables (txns_in vs)) (append-nil values)
 tables_on tables values (Some value) =
     ap (after_txns tables) (filter_map-append txn_in values (value ∷ []) ∙ ap (λ more. txns_in values ++ more) (one_more (txn_in value)))

@@ -68,3 +68,17 @@ pub mod Bringing
 pub mod Answering
 pub mod Fits
 pub mod Shortness
+pub mod Unfailing
+pub mod Supers
+pub mod Never
+pub mod Lawful
+pub mod Staging
+pub mod Repeating
+pub mod Counting
+pub mod Typing
+pub mod Proposing
+pub mod Naming
+pub mod Words
+pub mod Succeeding
+pub mod Numbering
+pub mod Listed

@@ -9,14 +9,15 @@ use Rattle.pf_hosted.specs.Deeds.{Deed, Fits, Groups}
 use Rattle.pf_hosted.specs.Homes.{chunk_of, sector_of}
 use Rattle.pf_hosted.specs.Hosted.{AreAlone}
 use Rattle.pf_hosted.specs.Volumes.{IsHostedJournal, home_of}
+use Rattle.pf_hosted.proofs.Volumes.{journal}
 use Rattle.pf_journal.specs.Sectors.{block_in}
 use Rattle.pf_mount.specs.Mounts.{MountIs}
 use Rattle.pf_chunk.specs.Runs.{ChunkRun}
 use Rattle.pf_hosts.specs.Moments.{Moment}
 use Rattle.pf_mounted.specs.Hosted.{AreOfReads, groups_of}
 use Rattle.pf_mounted.specs.Journals.{AreOfMounts, CanBeDoings, Step, deeds, doings, steps_at, steps_from, steps_of}
-use Rattle.pf_mounted.specs.Lists.{HasOneList, StandsInList}
 use Rattle.pf_mounted.specs.Mounts.{decisions, mount_after, tables_from}
+use Rattle.pf_mounted.specs.Trees.{IsOverList}
 use Rattle.pf_mounted.proofs.Assembling.{its_hosted}
 use Rattle.pf_mounted.proofs.Decided.{tables_of_decisions}
 use Rattle.pf_mounted.proofs.Inducting.{of_until}
@@ -33,7 +34,7 @@ steps_on v answer_at before (x ∷ first) more =
     ∙ sym (append_assoc here (steps_from v answer_at now first) (steps_from v answer_at (now ++ first) more))
     ∙ ap (λ b. (here ++ steps_from v answer_at now first) ++ steps_from v answer_at b more) (append_assoc before (x ∷ []) first)
 
-can_until : (v : Extent) (before first more : List Moment) → CanBeDoings v before (first ++ more) → CanBeDoings v before first
+pub can_until : (v : Extent) (before first more : List Moment) → CanBeDoings v before (first ++ more) → CanBeDoings v before first
 can_until v before [] more can = tt
 can_until v before (x ∷ first) more can = (can.0, can_until v (before ++ x ∷ []) first more can.1)
 
@@ -64,7 +65,7 @@ module _ (v : Extent) (answer_at : ℕ → Answered) where
     }
 
     module _ (one : (list : List (List ℕ)) × IsTransactionList (doings v answer_at told) list × ((mount moment : ℕ) → Begins ((journal_before (doings v answer_at told) moment).list mount) list)) where
-      stands_there : (before after : List Moment) (m : ℕ) (mount : MountIs) → told ≡ before ++ after → mount_after v before m ≡ Some mount → StandsInList v one.0 mount
+      pub stands_there : (before after : List Moment) (m : ℕ) (mount : MountIs) → told ≡ before ++ after → mount_after v before m ≡ Some mount → (mount.upto ≤ length one.0) × (mount.files.tables ≡ tables_from v (take mount.upto one.0))
       stands_there before after m mount same made =
           let first = doings v answer_at before in
           let all : doings v answer_at told ≡ first ++ map (λ (s : Step). s.doing) (steps_from v answer_at before after) = ap (doings v answer_at) same ∙ doings_on before after in
@@ -72,14 +73,11 @@ module _ (v : Extent) (answer_at : ℕ → Answered) where
           let its = (told_lists v blocks is many answer_at before (of_until v answer_at told of before after same) (can_until v [] before after (subst (CanBeDoings v []) same can)) m mount made).0 in
           let begins : Begins (decisions v before m) one.0 = subst (λ l. Begins l one.0) (ap (λ ds. (journal_from new_journal ds).list m) part ∙ its) (one.2 m (length first)) in
           let decided = tables_of_decisions v before m mount made in
-          let front : take mount.upto one.0 ≡ decisions v before m = ap (take mount.upto) (sym begins.1) ∙ take_at (decisions v before m) begins.0 mount.upto (sym decided.1) in record {
-            within = omega (arith, decided.1, ap length begins.1, length-append (decisions v before m) begins.0);
-            tables = decided.0 ∙ ap (tables_from v) (sym front);
-          }
+          let front : take mount.upto one.0 ≡ decisions v before m = ap (take mount.upto) (sym begins.1) ∙ take_at (decisions v before m) begins.0 mount.upto (sym decided.1) in (
+            omega (arith, decided.1, ap length begins.1, length-append (decisions v before m) begins.0),
+            decided.0 ∙ ap (tables_from v) (sym front),
+          )
 
-      pub has_one : HasOneList v chunks told
-      has_one = record {
-        list = one.0;
-        is = record { answer_at = answer_at; mounts = of; reads = reads; hosted = hosted; is = one.1 };
-        stands = stands_there;
-      }
+      -- what the trees of the list ask for
+      pub over_list : IsOverList v answer_at told one.0
+      over_list = record { mounts = of; can = can; registers = journal (groups_of v answer_at chunks told) block_in v.sectors 256 (deeds v answer_at told) (doings v answer_at told) hosted; is = one.1; begins = one.2 }

@@ -192,7 +192,7 @@ module _ {X : Type 0} where
       one_more first before x y z (head_same y z (first ++ more) (before ++ x ∷ after) same) (parts first more before after x (tail_same y z (first ++ more) (before ++ x ∷ after) same))
 
 -- a mount that was not made has asked nothing
-abbrev IsMade : Option Life → Option Ask → Type 0
+abbrev pub IsMade : Option Life → Option Ask → Type 0
 IsMade None ask = ask ≡ None
 IsMade (Some life) ask = Unit {0}
 
@@ -214,7 +214,7 @@ moment_made v m life ask (Writes text) made = made
 moment_made v m life ask (Hands n k place) made = made
 moment_made v m life ask (Ends n answer) made = made
 
-made_from : (v : Extent) (m : ℕ) (told : List Moment) (life : Option Life) (ask : Option Ask) → IsMade life ask → IsMade (fold (lived v m) life told) (fold (asked_in m) ask told)
+pub made_from : (v : Extent) (m : ℕ) (told : List Moment) (life : Option Life) (ask : Option Ask) → IsMade life ask → IsMade (fold (lived v m) life told) (fold (asked_in m) ask told)
 made_from v m [] life ask made = made
 made_from v m (moment ∷ told) life ask made = made_from v m told (lived v m life moment) (asked_in m ask moment) (moment_made v m life ask moment made)
 

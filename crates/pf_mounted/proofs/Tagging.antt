@@ -30,12 +30,12 @@ use Rattle.pf_files.specs.Calls.{applied_in, data_of}
 use Rattle.pf_mounted.specs.Sound.{AreSound, HasDataTags, IsDataChange, IsDataTxn}
 use Rattle.pf_mounted.proofs.Respelling.{IsDataBlock, IsDataPlan}
 
-every_take : {X : Type 0} → (P : X → Type 0) (n : ℕ) (xs : List X) → Every P xs → Every P (take n xs)
+pub every_take : {X : Type 0} → (P : X → Type 0) (n : ℕ) (xs : List X) → Every P xs → Every P (take n xs)
 every_take P zero xs each = tt
 every_take P (suc n) [] each = tt
 every_take P (suc n) (x ∷ xs) each = (each.0, every_take P n xs each.1)
 
-every_drop : {X : Type 0} → (P : X → Type 0) (n : ℕ) (xs : List X) → Every P xs → Every P (drop n xs)
+pub every_drop : {X : Type 0} → (P : X → Type 0) (n : ℕ) (xs : List X) → Every P xs → Every P (drop n xs)
 every_drop P zero xs each = each
 every_drop P (suc n) [] each = tt
 every_drop P (suc n) (x ∷ xs) each = every_drop P n xs each.1
@@ -167,7 +167,7 @@ none_tagged n b tag is =
     ]
 
 -- of eight chunks of 4,096 sectors at most
-few_blocks : (v : Extent) → IsVolume v → size_of v / 8 ≤ 4096
+pub few_blocks : (v : Extent) → IsVolume v → size_of v / 8 ≤ 4096
 few_blocks v is = let most : v.chunks * v.sectors ≤ 8 * 4096 = mul-le-mul is.few_chunks is.few_sectors in omega (arith, most)
 
 pub new_sound : (v : Extent) → IsVolume v → AreSound v (new_tables (size_of v / 8))

@@ -40,7 +40,8 @@ use Rattle.pf_mounted.proofs.Extending.{at_position, still_registers}
 use Rattle.pf_mounted.proofs.Concluding.{decided_was_put_in, ends_with_value}
 use Rattle.pf_mounted.proofs.Fits.{deeds_fit, heard_deeds_fit}
 use Rattle.pf_mounted.proofs.Inducting.{of_at, of_until, split_end, told_good}
-use Rattle.pf_mounted.proofs.OneList.{has_one, hosted}
+use Rattle.pf_mounted.proofs.Listed.{AreCalls, has_one}
+use Rattle.pf_mounted.proofs.OneList.{hosted}
 use Rattle.pf_mounted.proofs.Shortness.{short_call}
 use Rattle.pf_mounted.proofs.Sounding.{answered_stays, opening_is_sound, starting_stays}
 use Rattle.pf_mounted.proofs.Turning.{freed_registers}
@@ -105,6 +106,10 @@ module _ (v : Extent) (chunks : List ChunkRun) (answer_at : ℕ → Answered) (t
             (λ k c its. subst (λ w. Fits groups (deeds v answer_at before ++ Takes (client_of m w) (port_reply ask heard.by (answer_at (length before)) heard.reply) None ∷ []) k) at (fits before after m heard next life ask same there asked k c its))
             (λ block few. its_alone (before ++ Turns m (Some heard) next ∷ []) after told_so (can_more before (Turns m (Some heard) next) can) q block low few))
 
+-- Each turn asks what its mount asks
+abbrev pub AsksTold : Extent → List Moment → Type 0
+AsksTold v told = (m : ℕ) (before after : List Moment) (heard : Option Heard) (next : Option Ask) → told ≡ before ++ Turns m heard next ∷ after → next ≡ next_ask (life_of v (before ++ Turns m heard next ∷ []) m)
+
 -- An empty value spells no transaction
 none_spelled : IsDataValue []
 none_spelled t is = absurd (let spelled = (txn_found [] t is).spelled in no_bytes t spelled)
@@ -132,13 +137,13 @@ decides_in Rests p reply value decides = absurd (none-some value decides)
 decides_in Fails p reply value decides = absurd (none-some value decides)
 
 -- the life of a mount that is there
-life_there : (life : Option Life) (mount : MountIs) → mount_in life ≡ Some mount → (l : Life) × (life ≡ Some l) × (l.outcome.mount ≡ mount)
+pub life_there : (life : Option Life) (mount : MountIs) → mount_in life ≡ Some mount → (l : Life) × (life ≡ Some l) × (l.outcome.mount ≡ mount)
 life_there None mount made = absurd (none-some mount made)
 life_there (Some l) mount made = (l, refl, same_Some l.outcome.mount mount made)
 
 module _ (v : Extent) (chunks : List ChunkRun) (answer_at : ℕ → Answered) (told : List Moment) (run : IsOfRun v chunks answer_at told)
     (volume : IsVolume v) (room : 4112 ≤ size_of v) (are : AreChunks v chunks) (alone : AreMountsAlone chunks told) (words : AreCallsOfWords told)
-    (asks : (m : ℕ) (before after : List Moment) (heard : Option Heard) (next : Option Ask) → told ≡ before ++ Turns m heard next ∷ after → next ≡ next_ask (life_of v (before ++ Turns m heard next ∷ []) m)) where
+    (asks : AsksTold v told) where
   some_blocks : 1 < volume.blocks.0
   some_blocks = many v chunks answer_at told run volume room are alone
 
@@ -193,11 +198,11 @@ module _ (v : Extent) (chunks : List ChunkRun) (answer_at : ℕ → Answered) (t
       put_in).can
 
   -- one list
-  pub one_list : (lists : (groups : Groups) (sectors : ℕ) (deeds : List Deed) (doings : List Doing) → IsHostedJournal groups block_in sectors 256 deeds doings
+  pub one_list : AreCalls v told → (lists : (groups : Groups) (sectors : ℕ) (deeds : List Deed) (doings : List Doing) → IsHostedJournal groups block_in sectors 256 deeds doings
       → (list : List (List ℕ)) × IsTransactionList doings list × ((mount moment : ℕ) → Begins ((journal_before doings moment).list mount) list)) → HasOneList v chunks told
-  one_list lists =
+  one_list calls lists =
       let fits = λ (k : ℕ) (c : ChunkRun) (there : slice_get chunks k ≡ Some c). deeds_fit v chunks answer_at told run told [] (sym (append-nil told)) k c there in
       let theirs = λ (q block : ℕ) (low : q < 256) (few : block < 16).
       its_alone v chunks answer_at told run volume room are alone told [] (sym (append-nil told)) (can_each v chunks answer_at told run volume room are alone told can_all) q block low few in
       let held = hosted v answer_at chunks told volume room are run.legal run.turns run.reads can_all fits theirs in
-      has_one v answer_at chunks told volume room are run.legal run.turns run.reads can_all fits theirs (lists (groups_of v answer_at chunks told) v.sectors (deeds v answer_at told) (doings v answer_at told) held)
+      has_one v answer_at chunks told volume room are run.legal run.turns run.reads can_all fits theirs (lists (groups_of v answer_at chunks told) v.sectors (deeds v answer_at told) (doings v answer_at told) held) calls

@@ -9,3 +9,4 @@ pub mod Lists
 pub mod Sound
 pub mod Finding
 pub mod Fitting
+pub mod Trees

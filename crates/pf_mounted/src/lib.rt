@@ -8,7 +8,9 @@ mod handing;
 mod laws;
 mod list;
 mod moments;
+mod once;
 mod sound;
+mod trees;
 
 pub use alone::blocks_are_written_by_their_mounts;
 pub use finding::{
@@ -21,6 +23,8 @@ pub use laws::{
     decisions_are_of_ballots, deeds_are_doings, hosts_are_told, mounts_do_what_is_told,
     ports_of_runs_are_driven, replies_of_runs_are_the_groups, tables_are_those_of_decisions,
 };
-pub use list::runs_have_one_list;
+pub use list::{runs_have_one_list, superblocks_are_the_volumes};
 pub use moments::{moments_are_of_mounts, turns_come_in_time};
+pub use once::{calls_are_of_lines, calls_have_one_transaction};
 pub use sound::{calls_of_words_are_short, mounts_stay_sound};
+pub use trees::{calls_of_runs_are_few, tables_stand_for_trees};

@@ -1,6 +1,10 @@
 //! One list of transactions.
-ghost use Rattle.std.specs.Prelude.{◌≡◌, ◌<◌, List, length};
+ghost use Rattle.std.specs.Prelude.{◌≡◌, ◌≢◌, ℕ, ◌^◌, ◌<◌, ◌++◌, List, Some, length};
+ghost use Rattle.pf_hosts.specs.Moments.{Moment};
+ghost use Rattle.pf_mount.specs.Mounts.{MountIs};
+ghost use Rattle.pf_mount.specs.declared.work.Work.TheVariants.{Fails};
 ghost use Rattle.pf_mounted.specs.Lists.{HasOneList};
+ghost use Rattle.pf_mounted.specs.Mounts.{mount_after};
 ghost use Rattle.pf_mounted.specs.Scripts.{IsScript};
 ghost use Rattle.pf_rounds.specs.Halts.{Halt};
 ghost use Rattle.pf_volume.specs.Volumes.{IsVolume};
@@ -11,9 +15,17 @@ ghost use Rattle.pf_world.specs.declared.line.Line.{Line as LineIs};
 use pf_journal::journals_in_chunks_have_one_list;
 
 /// In a run with a mount, whose groups are lawful, there is one list of transactions, decided position by position over the groups of the
-/// chunks: at every moment each mount stands behind the first ones of it, and its tables are those of a new volume after these.
+/// chunks. No call has two in it. At every moment each mount stands behind the first ones of the list; its tables are those of a new volume
+/// after these, and they stand for the user's tree after the calls that these name. (A transaction's spelling has room for 2^32 calls of a
+/// mount, so a script is to have fewer lines.)
 pub fn runs_have_one_list()
-    ensures { (halts : List Halt) (lines : List LineIs) → IsScript lines → let run = world_run halts lines in IsLawfulRun run.world → IsVolume run.world.volume.extent → 0 < length run.world.volume.hosts → HasOneList run.world.volume.extent run.world.volume.chunks run.told }
+    ensures { (halts : List Halt) (lines : List LineIs) → IsScript lines → let run = world_run halts lines in IsLawfulRun run.world → IsVolume run.world.volume.extent → length lines < 2 ^ 32 → 0 < length run.world.volume.hosts → HasOneList run.world.volume.extent run.world.volume.chunks run.told }
 {
     journals_in_chunks_have_one_list();
 }
+
+/// No mount of such a run ever fails for good: what it reads as the superblock is the volume's own, or zeros. So none is refused as its
+/// superblock is another's (81).
+pub fn superblocks_are_the_volumes()
+    ensures { (halts : List Halt) (lines : List LineIs) → IsScript lines → let run = world_run halts lines in IsLawfulRun run.world → IsVolume run.world.volume.extent → 0 < length run.world.volume.hosts → (before after : List Moment) → run.told ≡ before ++ after → (m : ℕ) (mount : MountIs) → mount_after run.world.volume.extent before m ≡ Some mount → mount.work ≢ Fails }
+{}

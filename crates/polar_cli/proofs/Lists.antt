@@ -1,5 +1,5 @@
 -- A run of a script's lines has one list.
-use Rattle.std.proofs.Common.{◌≡◌, ℕ, ◌<◌, Bool, true, false, List, [], ◌∷◌, ◌++◌, length, drop, get_or, refl, ap, sym, subst, ◌∙◌}
+use Rattle.std.proofs.Common.{◌≡◌, ℕ, ◌^◌, ◌<◌, Bool, true, false, List, [], ◌∷◌, ◌++◌, length, drop, get_or, refl, ap, sym, subst, ◌∙◌}
 use Rattle.pf_entry.specs.Lists.{Every}
 use Rattle.pf_rounds.specs.Halts.{Halt}
 use Rattle.pf_script.specs.declared.command.Command.{Command}
@@ -20,7 +20,7 @@ use Rattle.polar_cli.specs.Placed.{IsVolume}
 abbrev pub HaveLists : Type 0
 HaveLists =
     (halts : List Halt) (lines : List Line) → IsScript lines → let run = world_run halts lines in
-    IsLawfulRun run.world → IsExtent run.world.volume.extent → 0 < length run.world.volume.hosts → HasOneList run.world.volume.extent run.world.volume.chunks run.told
+    IsLawfulRun run.world → IsExtent run.world.volume.extent → length lines < 2 ^ 32 → 0 < length run.world.volume.hosts → HasOneList run.world.volume.extent run.world.volume.chunks run.told
 
 makes_one : (n : ℕ) (command : Command) → IsVolume n command → makes_volume command ≡ true
 makes_one n (commands.Volume c s names f) is = refl
@@ -74,8 +74,8 @@ none_makes n [] rest may = tt
 none_makes n (line ∷ done) rest may = (makes_none n line.command may.0, none_makes n done rest may.1)
 
 pub lists_of : HaveLists → (halts : List Halt) (first : Line) (done rest : List Line) (n : ℕ) (world : WorldIs) → IsVolume n first.command → Every (λ line. MayRun n line.command) (done ++ rest) → IsWorld world → (world_run halts (first ∷ done)).world ≡ stands_at halts world
-    → IsLawfulRun (world_run halts (first ∷ done)).world → let run = world_run halts (first ∷ done) in 0 < length run.world.volume.hosts → HasOneList run.world.volume.extent run.world.volume.chunks run.told
-lists_of have halts first done rest n world volume may is stands lawful some =
+    → length (first ∷ done) < 2 ^ 32 → IsLawfulRun (world_run halts (first ∷ done)).world → let run = world_run halts (first ∷ done) in 0 < length run.world.volume.hosts → HasOneList run.world.volume.extent run.world.volume.chunks run.told
+lists_of have halts first done rest n world volume may is stands few lawful some =
     let extent : IsExtent (world_run halts (first ∷ done)).world.volume.extent =
     subst (λ (e : Extent). IsExtent e) (sym (ap (λ (w : World). w.volume.extent) stands ∙ is.extent)) (volume_extent (length world.chunks) world.sectors world.names world.format is.volume) in
-    have halts (first ∷ done) (makes_one n first.command volume, none_makes n done rest may) lawful extent some
+    have halts (first ∷ done) (makes_one n first.command volume, none_makes n done rest may) lawful extent few some

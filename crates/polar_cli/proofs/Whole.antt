@@ -1,5 +1,5 @@
 -- The lines of a script are run on disks.
-use Rattle.std.proofs.Common.{◌≡◌, ℕ, ◌*◌, ◌<◌, ◌≤◌, List, [], ◌∷◌, ◌++◌, length, drop, get_or, Option, Some, slice_get, refl, ap, sym, subst, ◌∙◌, arith, drop-cons}
+use Rattle.std.proofs.Common.{◌≡◌, ℕ, ◌*◌, ◌<◌, ◌≤◌, List, [], ◌∷◌, ◌++◌, length, drop, get_or, Option, Some, slice_get, refl, ap, sym, subst, ◌∙◌, arith, drop-cons, length-append, length-drop}
 use Rattle.std.proofs.lemmas.Option.{slice_get_within}
 use Rattle.pf_disk.specs.Crashes.{Images}
 use Rattle.pf_entry.specs.Lists.{Every}
@@ -158,7 +158,8 @@ module _ {D : Type 0} (seen : D → Option (List ℕ)) (may_leave : D → Images
             (tells_earlier halts gone.world new.world more told.tells) told (stopped faults before status (get_or lines 0 d) gone.done gone.rest gone.world new.world gone.leaves) left
             (lists_of have halts (get_or lines 0 d) gone.done gone.rest (length old.world.chunks) gone.world opened.volume
             (subst (Every (λ line. MayRun (length old.world.chunks) line.command)) (sym gone.first) (rest_may_run lines d (length old.world.chunks) whole opened.volume))
-            gone.is_world (gone.run halts (tells_earlier halts gone.world new.world more told.tells)).world);
+            gone.is_world (gone.run halts (tells_earlier halts gone.world new.world more told.tells)).world
+            (omega (arith, whole.few, ap length gone.first, length-append gone.done gone.rest, length-drop 1 lines)));
         wrote = gone.wrote;
       }
 

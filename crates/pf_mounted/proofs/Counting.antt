@@ -1,0 +1,310 @@
+-- Each line of a script begins one call at most, so no mount has started more calls than there are lines.
+use Rattle.std.proofs.Common.{◌≡◌, ℕ, zero, suc, ◌+◌, ◌≤◌, ◌==◌, Bool, true, false, nat_le, nat_lt, if◌then◌else◌, List, [], ◌∷◌, ◌++◌, length, Option, Some, None, slice_get, arith, refl, sym, ap}
+use Rattle.std.specs.List.{fold, range_with_len}
+use Rattle.std.specs.Option.{option_map}
+use Rattle.std.proofs.lemmas.Option.{none-some, same_Some}
+use Rattle.pf_base.specs.declared.asks.Reply.{Reply}
+use Rattle.pf_base.specs.declared.calls.Call.{Call}
+use Rattle.pf_entry.specs.Lists.{Every}
+use Rattle.pf_entry.proofs.Cases.{by_test}
+use Rattle.pf_entry.proofs.Lists.{every_append, every_more}
+use Rattle.pf_script.specs.declared.command.Command.{Command}
+use Rattle.pf_script.specs.declared.command.Command.TheVariants as commands
+use Rattle.pf_group.specs.Packets.{is_passed_over}
+use Rattle.pf_volume.specs.Volumes.{Extent, size_of}
+use Rattle.pf_tree.specs.declared.calls.FileCall.{FileCall}
+use Rattle.pf_files.specs.Calls.{WorkIs}
+use Rattle.pf_mount.specs.declared.work.Next.{Next}
+use Rattle.pf_mount.specs.declared.work.Next.TheVariants.{Ask as Asks, Ready, Done}
+use Rattle.pf_mount.specs.Mounts.{MountIs, Outcome, answered, opening, starting}
+use Rattle.pf_report.specs.Mounts.{mount_text}
+use Rattle.pf_rounds.specs.Chunks.{Chunk}
+use Rattle.pf_rounds.specs.Halts.{Halt}
+use Rattle.pf_chunk.specs.Asking.{fetches, is_range, submits}
+use Rattle.pf_chunk.specs.Happenings.{Happened}
+use Rattle.pf_chunk.specs.Runs.{ChunkRun}
+use Rattle.pf_hosts.specs.Moments.{Begins, Ends, Hands, Heard, Moment, Turns, Writes}
+use Rattle.pf_hosts.specs.Hosts.{Drove, HostIs, Stepped, call_of, comes_of, drove, events_of, hands_at, hands_on, next_of, number_of, replied, stepped, stepped_at}
+use Rattle.pf_hosts.specs.Words.{read_call}
+use Rattle.pf_fleet.specs.Settling.{Goes, Name, Settled, delivered, enough_tries, goes_on, name_of, settle_next, settle_to, settled, tried}
+use Rattle.pf_fleet.specs.Settling as settling_specs
+use Rattle.pf_fleet.specs.Volumes.{VolumeRun, begins, happens, host_at, host_steps, hosts_step, mounts, quietly, step_of, these_step}
+use Rattle.pf_fleet.specs.Volumes as volumes
+use Rattle.pf_world.specs.declared.kind.Kind.{Kind}
+use Rattle.pf_world.specs.declared.kind.Kind.TheVariants.{Mounted, Raw}
+use Rattle.pf_world.specs.declared.line.Line.{Line}
+use Rattle.pf_world.specs.Worlds.{World, at_chunk, refused_text, told_of}
+use Rattle.pf_world.specs.Worlds as worlds
+use Rattle.pf_world.specs.Lines.{asked, begins_if, decided, joins, kill_of, line_told, mounts_as, no_event_of, rests, show_of, shown_of, submits_as, with_kind}
+use Rattle.pf_world.specs.Lines as lines_specs
+use Rattle.pf_world.specs.Reports.{run_from, world_run}
+use Rattle.pf_mounted.specs.Mounts.{Life, calling, life_of, lived, mount_after, mount_in, turned}
+use Rattle.pf_mounted.proofs.Changing.{answered_keeps, starting_keeps}
+use Rattle.pf_mounted.proofs.Lives.{IsQuiet}
+use Rattle.pf_mounted.proofs.Ports.{drives_at}
+
+-- Calls that begin
+
+abbrev begun_at : Moment → ℕ
+begun_at (Begins m call) = 1
+begun_at moment = 0
+
+abbrev begun_in : List Moment → ℕ
+begun_in [] = 0
+begun_in (moment ∷ told) = begun_at moment + begun_in told
+
+begun_on : (told more : List Moment) → begun_in (told ++ more) ≡ begun_in told + begun_in more
+begun_on [] more = omega arith
+begun_on (moment ∷ told) more = let rest = begun_on told more in omega (arith, rest)
+
+-- none begins
+abbrev BeginsNone : Moment → Type 0
+BeginsNone (Begins m call) = ⊥
+BeginsNone moment = Unit {0}
+
+none_begun : (moment : Moment) → BeginsNone moment → begun_at moment ≡ 0
+none_begun (Begins m call) none = absurd none
+none_begun (Turns m heard next) none = refl
+none_begun (Hands m k place) none = refl
+none_begun (Writes text) none = refl
+none_begun (Ends m answer) none = refl
+
+all_none : (told : List Moment) → Every BeginsNone told → begun_in told ≡ 0
+all_none [] none = refl
+all_none (moment ∷ told) none = let first = none_begun moment none.0 in let rest = all_none told none.1 in omega (arith, first, rest)
+
+few : (told : List Moment) → Every BeginsNone told → begun_in told ≤ 1
+few told none = let e = all_none told none in omega (arith, e)
+
+one : (m : ℕ) (call : FileCall) (told : List Moment) → Every BeginsNone told → begun_in (Begins m call ∷ told) ≤ 1
+one m call told none = let e = all_none told none in omega (arith, e)
+
+-- Calls of a mount
+
+abbrev calls_in : Option Life → ℕ
+calls_in None = 0
+calls_in (Some life) = life.outcome.mount.files.calls
+
+module _ (v : Extent) (m : ℕ) where
+  called_calls : (call : FileCall) (life : Option Life) → calls_in (option_map (calling call) life) ≤ calls_in life + 1
+  called_calls call None = omega arith
+  called_calls call (Some life) = let e = ap (λ (w : WorkIs). w.calls) (starting_keeps life.outcome.mount call).changes.files in omega (arith, e)
+
+  turned_calls : (heard : Option Heard) (life : Option Life) → calls_in (turned v m heard life) ≤ calls_in life + 0
+  turned_calls heard None = omega arith
+  turned_calls None (Some life) = omega arith
+  turned_calls (Some heard) (Some life) = let e = ap (λ (w : WorkIs). w.calls) (answered_keeps life.outcome.mount heard.reply).changes.files in omega (arith, e)
+
+  moment_calls : (life : Option Life) (moment : Moment) → calls_in (lived v m life moment) ≤ calls_in life + begun_at moment
+  moment_calls life (Begins n call) = by_test (n == m) (λ b. calls_in (if b then option_map (calling call) life else life) ≤ calls_in life + 1) (λ _. called_calls call life) (λ _. omega arith)
+  moment_calls life (Turns n heard next) = by_test (n == m) (λ b. calls_in (if b then turned v m heard life else life) ≤ calls_in life + 0) (λ _. turned_calls heard life) (λ _. omega arith)
+  moment_calls life (Writes text) = omega arith
+  moment_calls life (Hands n k place) = omega arith
+  moment_calls life (Ends n answer) = omega arith
+
+  all_calls : (told : List Moment) (life : Option Life) → calls_in (fold (lived v m) life told) ≤ calls_in life + begun_in told
+  all_calls [] life = omega arith
+  all_calls (moment ∷ told) life =
+      let here = moment_calls life moment in
+      let later = all_calls told (lived v m life moment) in
+      omega (arith, here, later)
+
+  calls_of : (life : Option Life) (mount : MountIs) → mount_in life ≡ Some mount → mount.files.calls ≡ calls_in life
+  calls_of None mount made = absurd (none-some mount made)
+  calls_of (Some life) mount made = ap (λ (x : MountIs). x.files.calls) (sym (same_Some life.outcome.mount mount made))
+
+  mount_calls : (told : List Moment) (mount : MountIs) → mount_after v told m ≡ Some mount → mount.files.calls ≤ begun_in told
+  mount_calls told mount made = let e = calls_of (life_of v told m) mount made in let low = all_calls told None in omega (arith, e, low)
+
+-- Steps of hosts begin none
+
+abbrev AreNone : List Moment → Type 0
+AreNone told = Every BeginsNone told
+
+both : (told more : List Moment) → AreNone told → AreNone more → AreNone (told ++ more)
+both told more none rest = every_append BeginsNone told more none rest
+
+quiet_none : (moment : Moment) → IsQuiet moment → BeginsNone moment
+quiet_none (Begins m call) quiet = absurd quiet
+quiet_none (Turns m heard next) quiet = tt
+quiet_none (Hands m k place) quiet = tt
+quiet_none (Writes text) quiet = tt
+quiet_none (Ends m answer) quiet = tt
+
+next_none : (chunks : List ChunkRun) (heard : Option Heard) (call : Option FileCall) (mount : MountIs) (next : Next) → AreNone (next_of chunks heard call mount next).told
+next_none chunks heard call mount (Asks ask) = (tt, tt)
+next_none chunks heard call mount Ready = (tt, (tt, tt))
+next_none chunks heard call mount (Done answer) = (tt, (tt, (tt, tt)))
+
+module _ (halts : List Halt) where
+  drove_none : (chunks : List ChunkRun) (m k : ℕ) → AreNone (drove halts chunks m k).told
+  drove_none chunks m k = every_more IsQuiet BeginsNone quiet_none (drove halts chunks m k).told (drives_at halts chunks m k).quiet
+
+  handed_none : (s : Stepped) (at : Option ℕ) → AreNone s.told → AreNone (hands_at halts s at).told
+  handed_none s None none = none
+  handed_none s (Some k) none = both s.told (drove halts s.chunks (number_of s.host.mount) k).told none (drove_none s.chunks (number_of s.host.mount) k)
+
+  reply_none : (host : HostIs) (k : ℕ) (d : Drove) (reply : Option Reply) → AreNone d.told → AreNone (replied halts host k d reply).told
+  reply_none host k d None none = none
+  reply_none host k d (Some reply) none =
+      let heard : Heard = record { reply = reply; by = events_of (slice_get d.chunks k) } in
+      let o : Outcome = answered host.mount reply in
+      let call = call_of host.mount.files.pending in
+      let s : Stepped = comes_of d.chunks (Some heard) call o in
+      both d.told (hands_on halts s).told none (handed_none s s.host.at (next_none d.chunks (Some heard) call o.mount o.next))
+
+  at_none : (chunks : List ChunkRun) (host : HostIs) (at : Option ℕ) → AreNone (stepped_at halts chunks host at).told
+  at_none chunks host None = tt
+  at_none chunks host (Some k) = let d = drove halts chunks (number_of host.mount) k in reply_none host k d d.reply (drove_none chunks (number_of host.mount) k)
+
+  stepped_none : (chunks : List ChunkRun) (host : HostIs) → AreNone (stepped halts chunks host).told
+  unfolding stepped
+  stepped_none chunks host = at_none chunks host host.at
+
+  step_none : (m : ℕ) (v : VolumeRun) (o : Option HostIs) → AreNone (step_of halts m v o).told
+  step_none m v None = tt
+  step_none m v (Some host) = stepped_none v.chunks host
+
+  these_none : (ms : List ℕ) (v : VolumeRun) → AreNone (these_step halts ms v).told
+  these_none [] v = tt
+  these_none (m ∷ ms) v = let first = host_steps halts m v in both first.told (these_step halts ms first.volume).told (step_none m v (host_at v.hosts m)) (these_none ms first.volume)
+
+  hosts_none : (v : VolumeRun) → AreNone (hosts_step halts v).told
+  unfolding hosts_step
+  hosts_none v = these_none (range_with_len 0 (length v.hosts)) v
+
+  happens_none : (v : VolumeRun) (h : Happened) → AreNone (happens halts v h).told
+  happens_none v h = (tt, hosts_none (volumes.with_chunk v h.chunk))
+
+  -- Settlings
+
+  on_none : (is_passed : Bool) (name : Name) (limit : ℕ) (passed : List Name) (v : VolumeRun) (more : Goes) → ((limit : ℕ) (passed : List Name) (v : VolumeRun) → AreNone (more limit passed v).told)
+      → AreNone (goes_on is_passed name limit passed v more).told
+  on_none true name limit passed v more none = none (suc limit) (name ∷ passed) v
+  on_none false name limit passed v more none = none limit passed v
+
+  next_settled : (o : Option settling_specs.Next) (limit : ℕ) (passed : List Name) (v : VolumeRun) (more : Goes) → ((limit : ℕ) (passed : List Name) (v : VolumeRun) → AreNone (more limit passed v).told)
+      → AreNone (settle_next halts o more limit passed v).told
+  next_settled None limit passed v more none = tt
+  next_settled (Some next) zero passed v more none = tt
+  next_settled (Some next) (suc limit) passed v more none =
+      let h : Happened = delivered halts next in
+      let t : volumes.Told = happens halts v h in
+      both t.told (goes_on (is_passed_over h.answer) (name_of next) limit passed t.volume more).told (happens_none v h) (on_none (is_passed_over h.answer) (name_of next) limit passed t.volume more none)
+
+  settle_none : (tries limit : ℕ) (passed : List Name) (v : VolumeRun) → AreNone (settle_to tries halts limit passed v).told
+  unfolding settle_to
+  settle_none zero limit passed v = tt
+  settle_none (suc tries) limit passed v = next_settled (settling_specs.next_of passed v.chunks) limit passed v (settle_to tries halts) (settle_none tries)
+
+  settled_none : (limit : ℕ) (v : VolumeRun) → AreNone (settled halts limit v).told
+  unfolding settled
+  settled_none limit v = settle_none (enough_tries limit) limit [] v
+
+  -- Lines
+
+  module _ (w : World) (number : ℕ) where
+    ended_none : (t : volumes.Told) (text : List ℕ) → AreNone t.told → AreNone (worlds.ended w number t text).told
+    ended_none t text none = both t.told _ none (tt, tt)
+
+    stepped_too : (t : volumes.Told) (text : List ℕ) → AreNone t.told → AreNone (worlds.stepped halts w number t text).told
+    stepped_too t text none = ended_none (volumes.followed t (hosts_step halts)) text (both t.told (hosts_step halts t.volume).told none (hosts_none t.volume))
+
+    told_none : (o : Option ChunkRun) (event : ChunkRun → Happened) → AreNone (told_of halts w number o event).told
+    told_none None event = tt
+    told_none (Some c) event = ended_none (happens halts w.volume (event c)) _ (happens_none w.volume (event c))
+
+    chunk_none : (chunk : ℕ) (event : ChunkRun → Happened) → AreNone (at_chunk halts w number chunk event).told
+    chunk_none chunk event = told_none (slice_get w.volume.chunks chunk) event
+
+    no_event_none : (server : ℕ) (o : Option ChunkRun) → AreNone (no_event_of w number server o).told
+    no_event_none server None = tt
+    no_event_none server (Some c) = (tt, tt)
+
+    asked_none : (chunk server first count : ℕ) (event : ChunkRun → Happened) → AreNone (asked halts w number chunk server first count event).told
+    asked_none chunk server first count event =
+        by_test (is_range first count) (λ b. AreNone (if b then at_chunk halts w number chunk event else no_event_of w number server (slice_get w.volume.chunks chunk)).told) (λ _. chunk_none chunk event)
+        (λ _. no_event_none server (slice_get w.volume.chunks chunk))
+
+    submit_none : (kind : Kind) (chunk server first byte count : ℕ) → AreNone (submits_as kind halts w number chunk server first byte count).told
+    submit_none Mounted chunk server first byte count = (tt, tt)
+    submit_none Raw chunk server first byte count = asked_none chunk server first count (submits halts server first byte count)
+
+    shown_none : (o : Option ChunkRun) (text : Chunk → List ℕ) → AreNone (shown_of w number o text).told
+    shown_none None text = tt
+    shown_none (Some c) text = (tt, tt)
+
+    joins_none : AreNone (joins halts w number).told
+    joins_none =
+        let v : VolumeRun = w.volume in
+        let new = worlds.stepped halts w number (mounts v) (mount_text (length v.hosts)) in
+        let refused : ℕ → worlds.Told = λ fault. worlds.stepped halts w number (quietly v) (refused_text fault) in
+        by_test (nat_lt (size_of v.extent) 4112) (λ b. AreNone (if b then refused 93 else if nat_le 16 (length v.hosts) then refused 92 else new).told) (λ _. stepped_too (quietly v) (refused_text 93) tt)
+        (λ _. by_test (nat_le 16 (length v.hosts)) (λ b. AreNone (if b then refused 92 else new).told) (λ _. stepped_too (quietly v) (refused_text 92) tt)
+        (λ _. let o : Outcome = opening (length v.hosts) v.extent in stepped_too (mounts v) (mount_text (length v.hosts)) (next_none v.chunks None None o.mount o.next)))
+
+    mount_none : (kind : Kind) → AreNone (mounts_as kind halts w number).told
+    mount_none Raw = (tt, tt)
+    mount_none Mounted = joins_none
+
+    kill_none : (m : ℕ) (o : Option HostIs) → AreNone (kill_of w number m o).told
+    kill_none m None = (tt, tt)
+    kill_none m (Some host) = (tt, tt)
+
+    show_none : (m : ℕ) (o : Option HostIs) → AreNone (show_of w number m o).told
+    show_none m None = (tt, tt)
+    show_none m (Some host) = (tt, (tt, tt))
+
+    -- but a call
+    begins_one : (m : ℕ) (host : HostIs) (o : Option FileCall) → begun_in (begins_if halts w number m host o).told ≤ 1
+    begins_one m host None = few _ (stepped_too (quietly w.volume) (refused_text 80) tt)
+    begins_one m host (Some call) =
+        let o : Outcome = starting host.mount call in
+        let s : Stepped = comes_of w.volume.chunks None (Some call) o in
+        let t : volumes.Told = begins m host call w.volume in
+        one (number_of host.mount) call _ (both (s.told ++ (hosts_step halts t.volume).told) _ (both s.told (hosts_step halts t.volume).told (next_none w.volume.chunks None (Some call) o.mount o.next) (hosts_none t.volume)) (tt, tt))
+
+    call_one : (m : ℕ) (words : Call) (o : Option HostIs) → begun_in (lines_specs.call_of halts w number m words o).told ≤ 1
+    call_one m words None = few _ (stepped_too (quietly w.volume) (refused_text 96) tt)
+    call_one m words (Some host) =
+        by_test (rests host.mount.work) (λ b. begun_in (if b then begins_if halts w number m host (read_call words) else worlds.stepped halts w number (quietly w.volume) (refused_text 91)).told ≤ 1)
+        (λ _. begins_one m host (read_call words)) (λ _. few _ (stepped_too (quietly w.volume) (refused_text 91) tt))
+
+  line_one : (w : World) (number : ℕ) (command : Command) → begun_in (line_told halts w number command).told ≤ 1
+  line_one w number (commands.Volume chunks sectors names format) = omega arith
+  line_one w number (commands.Elect g i) = few _ (chunk_none w number g _)
+  line_one w number (commands.Resend g i) = few _ (chunk_none w number g _)
+  line_one w number (commands.Stop g i) = few _ (chunk_none w number g _)
+  line_one w number (commands.Restart g i) = few _ (chunk_none w number g _)
+  line_one w number (commands.Checkpoint g i) = few _ (chunk_none w number g _)
+  line_one w number (commands.Deliver g k) = few _ (chunk_none w number g _)
+  line_one w number (commands.Lose g k) = few _ (chunk_none w number g _)
+  line_one w number (commands.Submit g i s b n) = let kind : Kind = decided w.kind Raw in few _ (submit_none (with_kind w kind) number kind g i s b n)
+  line_one w number (commands.Fetch g i s n) = few _ (asked_none w number g i s n (fetches halts i s n))
+  line_one w number (commands.Mark g i) = few _ (chunk_none w number g _)
+  line_one w number (commands.Settle limit) = few _ (both (settled halts limit w.volume).told _ (settled_none limit w.volume) (tt, tt))
+  line_one w number commands.Mount = let kind : Kind = decided w.kind Mounted in few _ (mount_none (with_kind w kind) number kind)
+  line_one w number (commands.Kill m) = few _ (kill_none w number m (host_at w.volume.hosts m))
+  line_one w number (commands.Call m words) = call_one w number m words (host_at w.volume.hosts m)
+  line_one w number (commands.ShowLog g i) = few _ (shown_none w number (slice_get w.volume.chunks g) _)
+  line_one w number (commands.ShowApplied g i) = few _ (shown_none w number (slice_get w.volume.chunks g) _)
+  line_one w number (commands.ShowSectors g i) = few _ (shown_none w number (slice_get w.volume.chunks g) _)
+  line_one w number (commands.ShowAcked g) = few _ (shown_none w number (slice_get w.volume.chunks g) _)
+  line_one w number (commands.ShowMark g i s) = few _ (shown_none w number (slice_get w.volume.chunks g) _)
+  line_one w number (commands.ShowMount m) = few _ (show_none w number m (host_at w.volume.hosts m))
+
+  lines_begin : (w : World) (lines : List Line) → begun_in (run_from halts w lines).told ≤ length lines
+  lines_begin w [] = omega arith
+  lines_begin w (line ∷ lines) =
+      let t : worlds.Told = line_told halts w line.number line.command in
+      let here = line_one w line.number line.command in
+      let later = lines_begin t.world lines in
+      let all = begun_on t.told (run_from halts t.world lines).told in
+      omega (arith, here, later, all)
+
+  pub calls_of_lines : (lines : List Line) (m : ℕ) (mount : MountIs) → mount_after (world_run halts lines).world.volume.extent (world_run halts lines).told m ≡ Some mount → mount.files.calls ≤ length lines
+  calls_of_lines lines m mount made =
+      let run = world_run halts lines in
+      let of_mount = mount_calls run.world.volume.extent m run.told mount made in
+      let of_lines = lines_begin worlds.no_world lines in
+      omega (arith, of_mount, of_lines)
