@@ -1,5 +1,5 @@
 -- The positions of a run's journal lie in the groups of its chunks.
-use Rattle.std.proofs.Common.{◌≡◌, ℕ, zero, suc, ◌+◌, ◌*◌, ◌/◌, ◌<◌, ◌≤◌, List, [], ◌∷◌, take, length, Option, Some, None, slice_get, arith, refl, sym, ap, subst, ◌∙◌}
+use Rattle.std.proofs.Common.{◌≡◌, ℕ, zero, suc, ◌+◌, ◌*◌, ◌<◌, ◌≤◌, List, [], take, length, Option, Some, None, slice_get, arith, refl, sym, subst, ◌∙◌}
 use Rattle.std.proofs.Math.Nat.{div-lt_iff_lt-mul}
 use Rattle.std.proofs.lemmas.Option.{none-some}
 use Rattle.pf_entry.specs.Sets.{empty}

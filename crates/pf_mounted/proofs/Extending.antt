@@ -1,10 +1,9 @@
 -- With one reply more the blocks of a position are registers still.
-use Rattle.std.proofs.Common.{◌≡◌, ℕ, zero, suc, ◌+◌, ◌*◌, ◌<◌, ◌≤◌, ◌==◌, if◌then◌else◌, List, [], ◌∷◌, ◌++◌, length, map, take, Option, Some, None, slice_get, arith, refl, sym, ap, subst, ◌∙◌, length-append}
+use Rattle.std.proofs.Common.{◌≡◌, ℕ, suc, ◌*◌, ◌<◌, ◌==◌, List, [], ◌∷◌, ◌++◌, length, take, Option, Some, None, arith, refl, sym, ap, subst, ◌∙◌}
 use Rattle.std.proofs.lemmas.Bool.{cond-true, eq-eqb}
-use Rattle.std.proofs.lemmas.List.{append_assoc, map-append, take_all}
+use Rattle.std.proofs.lemmas.List.{map-append, take_all}
 use Rattle.std.proofs.lemmas.Option.{none-some}
 use Rattle.pf_base.specs.declared.asks.Ask.{Ask}
-use Rattle.pf_base.specs.declared.asks.Reply.{Reply}
 use Rattle.pf_protocol.specs.Groups.{Answered}
 use Rattle.pf_volume.specs.Volumes.{Extent}
 use Rattle.pf_paxos.specs.declared.block.Block.{Block}
@@ -23,12 +22,11 @@ use Rattle.pf_hosted.specs.Volumes.{home_of}
 use Rattle.pf_hosted.proofs.Copied.{registers as are_registers}
 use Rattle.pf_hosted.proofs.Volumes.{turns_told}
 use Rattle.pf_journal.specs.Sectors.{block_in}
-use Rattle.pf_mount.specs.declared.work.Work.{Work}
 use Rattle.pf_mount.specs.declared.work.Work.TheVariants.{Ballots}
 use Rattle.pf_mount.specs.Mounts.{MountIs}
 use Rattle.pf_hosts.specs.Moments.{Heard, Moment}
 use Rattle.pf_mounted.specs.Mounts.{Life, last_ask, life_of}
-use Rattle.pf_mounted.specs.Journals.{AreOfMounts, CanBeDoings, CanBeTold, IsHearing, call_of, client_of, deeds, doings, port_reply}
+use Rattle.pf_mounted.specs.Journals.{AreOfMounts, CanBeDoings, CanBeTold, IsHearing, call_of, deeds, doings, port_reply}
 use Rattle.pf_mounted.proofs.Balloting.{is_move, made, replies}
 use Rattle.pf_mounted.proofs.Coming.{HasRoom, Pends, ballot_ask}
 use Rattle.pf_mounted.proofs.Goes.{Stands}

@@ -100,7 +100,7 @@ made_next : (p : ProposerIs) (reply : Reply) → (made p reply).next ≡ ballot_
 made_next p Written = refl
 made_next p (Bytes sectors) = refl
 
-written_decides_none : (phase : Phase) (p : ProposerIs) → value_in (written_in phase p).next ≡ None
+pub written_decides_none : (phase : Phase) (p : ProposerIs) → value_in (written_in phase p).next ≡ None
 written_decides_none Claiming p = refl
 written_decides_none phase p = refl
 

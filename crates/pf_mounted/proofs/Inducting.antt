@@ -1,27 +1,24 @@
 -- What holds of all that was told, moment by moment: it can be a journal's doings, and each mount is sound.
-use Rattle.std.proofs.Common.{◌≡◌, ◌≢◌, ◌⊎◌, ℕ, ◌+◌, ◌<◌, ◌≤◌, ◌==◌, if◌then◌else◌, List, [], ◌∷◌, ◌++◌, length, Option, Some, None, inl, inr, arith, refl, sym, ap, subst, ◌∙◌, append-nil}
+use Rattle.std.proofs.Common.{◌≡◌, ◌⊎◌, ℕ, ◌<◌, ◌==◌, if◌then◌else◌, List, [], ◌∷◌, ◌++◌, length, Option, Some, None, inl, inr, arith, refl, sym, ap, subst, ◌∙◌, append-nil}
 use Rattle.std.specs.Option.{option_map}
-use Rattle.std.proofs.lemmas.Bool.{cases_eq, eqb-true}
+use Rattle.std.proofs.lemmas.Bool.{eqb-true}
 use Rattle.std.proofs.lemmas.List.{append_assoc}
 use Rattle.std.proofs.lemmas.Option.{none-some, same_Some}
 use Rattle.pf_base.specs.declared.asks.Ask.{Ask}
 use Rattle.pf_base.specs.declared.asks.Reply.{Reply}
-use Rattle.pf_base.specs.declared.asks.Reply.TheVariants.{Written, Bytes}
 use Rattle.pf_entry.proofs.Cases.{by_test}
 use Rattle.pf_protocol.specs.Groups.{Answered}
 use Rattle.pf_volume.specs.Volumes.{Extent}
-use Rattle.pf_paxos.specs.Registers.{AreRegisters}
-use Rattle.pf_paxos.specs.Journals.{Does, turns_at}
 use Rattle.pf_tree.specs.declared.calls.FileCall.{FileCall}
 use Rattle.pf_txn.specs.Spelling.{IsShortCall}
 use Rattle.pf_mount.specs.Decisions.{decided_by}
 use Rattle.pf_mount.specs.declared.work.Work.{Work}
-use Rattle.pf_mount.specs.declared.work.Work.TheVariants.{Rests, Fails, ReadsSuper, WritesSuper, Syncs, Ballots, Pauses, Moves}
-use Rattle.pf_mount.specs.Mounts.{MountIs, answered, blocks_in, finds_value, opening, starting}
+use Rattle.pf_mount.specs.declared.work.Work.TheVariants.{Rests, Ballots}
+use Rattle.pf_mount.specs.Mounts.{MountIs, answered, opening, starting}
 use Rattle.pf_hosts.specs.Moments.{Heard, Moment, Begins, Ends, Hands, Turns, Writes}
 use Rattle.pf_mounted.specs.Mounts.{Life, ask_in, calling, hearing, last_ask, life_of, lived, mount_in, next_ask, opened, turned}
-use Rattle.pf_mounted.specs.Journals.{AreOfMounts, CanBeDoing, CanBeDoings, CanBeTold, CanBegin, CanTurn, FindsValue, IsHearing, IsOfMount, IsTurn, call_of, doings}
-use Rattle.pf_mounted.proofs.Lives.{life_on, its_own, not_its_own}
+use Rattle.pf_mounted.specs.Journals.{AreOfMounts, CanBeDoing, CanBeDoings, CanBeTold, CanBegin, CanTurn, FindsValue, IsHearing, IsOfMount, IsTurn}
+use Rattle.pf_mounted.proofs.Lives.{life_on, its_own}
 
 -- Lists
 

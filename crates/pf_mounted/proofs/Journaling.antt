@@ -116,7 +116,7 @@ turn_of_mount v m None last answer (Some heard) next = tt
 turn_of_mount v m (Some life) None answer (Some heard) next = tt
 turn_of_mount v m (Some life) (Some ask) answer (Some heard) next = hearing_of m life.outcome.mount ask answer heard next
 
-room_most : (work : Work) (upto : ℕ) → HasRoom work upto → upto ≤ 256
+pub room_most : (work : Work) (upto : ℕ) → HasRoom work upto → upto ≤ 256
 room_most (Ballots input) upto room = omega (arith, room)
 room_most (Syncs half found) upto room = omega (arith, room)
 room_most (Pauses input left) upto room = omega (arith, room)

@@ -37,7 +37,7 @@ many_blocks v k is size = omega (arith, is.some_sectors, size)
 
 -- Doings of others
 
-abbrev AreApart : (client : ℕ) → List Step → Type 0
+abbrev pub AreApart : (client : ℕ) → List Step → Type 0
 AreApart client steps = Every (IsApart client) (map (λ (s : Step). s.doing) steps)
 
 module _ (m n : ℕ) (other : m ≢ n) where
@@ -70,14 +70,14 @@ module _ (m n : ℕ) (other : m ≢ n) where
       by_test (stays_in mount.work mount.position.proposer heard.reply) (λ b. AreApart (17 + n) (if b then on ∷ [] else hear ∷ asking m (answered mount heard.reply).mount next))
       (λ _. (tt, tt)) (λ _. (hears_apart mount.upto mount.work heard.reply, asking_apart (answered mount heard.reply).mount next))
 
-  turn_apart : (v : Extent) (life : Option Life) (last : Option Ask) (answer : Answered) (heard : Option Heard) (next : Option Ask) → AreApart (17 + n) (turn_steps v m life last answer heard next)
+  pub turn_apart : (v : Extent) (life : Option Life) (last : Option Ask) (answer : Answered) (heard : Option Heard) (next : Option Ask) → AreApart (17 + n) (turn_steps v m life last answer heard next)
   turn_apart v None last answer None next = asking_apart (opening m v).mount next
   turn_apart v (Some life) last answer None next = asking_apart life.outcome.mount next
   turn_apart v None last answer (Some heard) next = tt
   turn_apart v (Some life) None answer (Some heard) next = tt
   turn_apart v (Some life) (Some ask) answer (Some heard) next = hearing_apart life.outcome.mount ask answer heard next
 
-hand_apart : (n m k place : ℕ) (mount : Option MountIs) → AreApart (17 + n) (hand_steps m k place mount)
+pub hand_apart : (n m k place : ℕ) (mount : Option MountIs) → AreApart (17 + n) (hand_steps m k place mount)
 hand_apart n m k place None = tt
 hand_apart n m k place (Some mount) = ((λ same. absurd (omega (arith, same))), tt)
 
@@ -92,7 +92,7 @@ record Knows (ds : List Doing) (m : ℕ) (mount : MountIs) (last : Option Ask) :
   has : Has (HasFound ds m) mount
   awaits : Awaits ds m mount.upto mount.work last
 
-high : (m : ℕ) → 16 < 17 + m
+pub high : (m : ℕ) → 16 < 17 + m
 high m = omega arith
 
 awaits_nothing : (ds : List Doing) (m upto : ℕ) (work : Work) → Awaits ds m upto work None
@@ -129,7 +129,7 @@ asks_know ds m mount (Some ask) has =
 
 -- A reply
 
-abbrev IsNoSync : Work → Type 0
+abbrev pub IsNoSync : Work → Type 0
 IsNoSync (Syncs half found) = ⊥
 IsNoSync work = Unit {0}
 
@@ -144,7 +144,7 @@ balloted_on m input (ballots.Abort mbal) on = tt
 balloted_on m input (ballots.Decided value) on = absurd (false≢true on)
 
 -- a ballot that goes on begins no sync
-ballot_on : (m : MountIs) (input : Option (List ℕ)) (reply : Reply) → m.work ≡ Ballots input → asks_on (ballot_next m.position.proposer reply) ≡ true → IsNoSync (answered m reply).mount.work
+pub ballot_on : (m : MountIs) (input : Option (List ℕ)) (reply : Reply) → m.work ≡ Ballots input → asks_on (ballot_next m.position.proposer reply) ≡ true → IsNoSync (answered m reply).mount.work
 ballot_on m input Written at on =
     let o = written_in m.position.proposer.phase m.position.proposer in
     subst (λ w. IsNoSync (on_written w m).mount.work) (sym at) (balloted_on (with_proposer m o.proposer) input o.next on)

@@ -1,8 +1,8 @@
 -- What is known of all that a lawful run told.
-use Rattle.std.proofs.Common.{◌≡◌, ℕ, ◌<◌, List, [], ◌++◌, length, Option, Some, refl}
+use Rattle.std.proofs.Common.{ℕ, ◌<◌, List, [], length, refl}
 use Rattle.pf_protocol.specs.Groups.{Answered}
 use Rattle.pf_volume.specs.Volumes.{IsVolume}
-use Rattle.pf_hosts.specs.Moments.{Moment, Turns}
+use Rattle.pf_hosts.specs.Moments.{Turns}
 use Rattle.pf_rounds.specs.Halts.{Halt}
 use Rattle.pf_world.specs.Headline.{IsLawfulRun}
 use Rattle.pf_world.specs.Reports.{world_run}

@@ -162,7 +162,7 @@ module _ (client : ℕ) (high : 16 < client) (q : ℕ) where
       subst (λ all. IsAsked all client q half) (append_assoc ds (d ∷ []) more) (asked_still (ds ++ d ∷ []) more half apart.1 (asked_one ds half d apart.0 is))
 
   -- before the next moment it was asked
-  asked_before : (ds : List Doing) (d : Doing) (half : ℕ) → IsAsked ds client q half → HasAsked (turns_at q (ds ++ d ∷ [])) client (length ds) (AsksRead half)
+  pub asked_before : (ds : List Doing) (d : Doing) (half : ℕ) → IsAsked ds client q half → HasAsked (turns_at q (ds ++ d ∷ [])) client (length ds) (AsksRead half)
   asked_before ds d half is = subst (λ ts. HasAsked ts client (length ds) (AsksRead half)) (sym (turns_on q ds (d ∷ []))) (record {
     last = is.last;
     turn = is.turn;
@@ -174,7 +174,7 @@ module _ (client : ℕ) (high : 16 < client) (q : ℕ) where
   })
 
   -- a turn of the client that is told of the position
-  turn_next : (ds : List Doing) (turn : Turn) → turn.client ≡ client → slice_get (turns_at q (ds ++ Reads q turn ∷ [])) (length ds) ≡ Some turn
+  pub turn_next : (ds : List Doing) (turn : Turn) → turn.client ≡ client → slice_get (turns_at q (ds ++ Reads q turn ∷ [])) (length ds) ≡ Some turn
   turn_next ds turn its =
       let j : Journal = journal_from new_journal ds in
       let x : Turn = turn_of (j.proposers q) (event_at q j (Reads q turn)) in

@@ -82,3 +82,13 @@ pub mod Words
 pub mod Succeeding
 pub mod Numbering
 pub mod Listed
+pub mod Planning
+pub mod Missing
+pub mod Resting
+pub mod Ended
+pub mod Behind
+pub mod Ending
+pub mod Reporting
+pub mod Rising
+pub mod Finished
+pub mod Enduring

@@ -1,5 +1,5 @@
 -- One list, with its trees and its calls.
-use Rattle.std.proofs.Common.{◌≡◌, ℕ, ◌^◌, ◌<◌, ◌≤◌, List, [], ◌++◌, length, Some, slice_get}
+use Rattle.std.proofs.Common.{◌≡◌, ◌≢◌, ℕ, ◌^◌, ◌<◌, ◌≤◌, List, [], ◌∷◌, ◌++◌, Some, slice_get}
 use Rattle.pf_protocol.specs.Answers.{IsLegal}
 use Rattle.pf_protocol.specs.Groups.{Answered}
 use Rattle.pf_volume.specs.Volumes.{Extent, IsVolume, size_of}
@@ -8,17 +8,20 @@ use Rattle.pf_hosted.specs.Deeds.{Fits}
 use Rattle.pf_hosted.specs.Homes.{chunk_of, sector_of}
 use Rattle.pf_hosted.specs.Hosted.{AreAlone}
 use Rattle.pf_hosted.specs.Volumes.{home_of}
+use Rattle.pf_files.specs.declared.answers.CallAnswer.{CallAnswer}
 use Rattle.pf_mount.specs.Mounts.{MountIs}
+use Rattle.pf_mount.specs.declared.work.Work.TheVariants.{Fails}
 use Rattle.pf_chunk.specs.Runs.{ChunkRun}
-use Rattle.pf_hosts.specs.Moments.{Moment}
+use Rattle.pf_hosts.specs.Moments.{Ends, Moment}
 use Rattle.pf_mounted.specs.Handing.{AreCallsOfWords}
 use Rattle.pf_mounted.specs.Hosted.{AreOfReads, groups_of}
 use Rattle.pf_mounted.specs.Journals.{AreOfMounts, CanBeDoings, deeds, doings}
 use Rattle.pf_mounted.specs.Lists.{HasOneList}
-use Rattle.pf_mounted.specs.Mounts.{mount_after}
+use Rattle.pf_mounted.specs.Mounts.{last_answer, life_of, mount_after}
 use Rattle.pf_mounted.specs.Trees.{AreBegunAtRest, AreFewCalls}
 use Rattle.pf_mounted.proofs.OneList.{hosted, over_list, stands_there}
 use Rattle.pf_mounted.proofs.Repeating.{once}
+use Rattle.pf_mounted.proofs.Reporting.{calls_answered}
 use Rattle.pf_mounted.proofs.Sizing.{AreChunks}
 use Rattle.pf_mounted.proofs.Succeeding.{mounts_stand}
 
@@ -28,6 +31,8 @@ pub record AreCalls (v : Extent) (told : List Moment) : Type 0 where
   pub rest : AreBegunAtRest v told
   pub few : AreFewCalls told
   pub numbers : (m : ℕ) (mount : MountIs) → mount_after v told m ≡ Some mount → mount.files.calls < 2 ^ 32
+  pub ends : (m : ℕ) (before after : List Moment) (answer : CallAnswer) → told ≡ before ++ Ends m answer ∷ after → last_answer (life_of v before m) ≡ Some answer
+  pub lives : (before after : List Moment) → told ≡ before ++ after → (m : ℕ) (mount : MountIs) → mount_after v before m ≡ Some mount → mount.work ≢ Fails
 
 module _ (v : Extent) (answer_at : ℕ → Answered) (chunks : List ChunkRun) (told : List Moment) (volume : IsVolume v) (room : 4112 ≤ size_of v) (are : AreChunks v chunks)
     (legal : (k : ℕ) (c : ChunkRun) → slice_get chunks k ≡ Some c → IsLegal c.group.setup c.group.history)
@@ -48,4 +53,6 @@ module _ (v : Extent) (answer_at : ℕ → Answered) (chunks : List ChunkRun) (t
               tables = stands.1;
               tree = mounts_stand v answer_at told one.0 volume over calls.words calls.rest calls.few before after m mount same made;
             };
+        answers = λ before after m mount answer same made.
+            calls_answered v answer_at told one.0 volume over calls.words calls.rest calls.few before (Ends m answer ∷ after) m mount answer same made (calls.lives before (Ends m answer ∷ after) same m mount made) (calls.ends m before after answer same);
       }

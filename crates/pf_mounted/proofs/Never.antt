@@ -1,21 +1,19 @@
 -- No mount of a run ever meets the superblock of another volume.
-use Rattle.std.proofs.Common.{◌≡◌, ◌⊎◌, ℕ, ◌+◌, ◌-◌, ◌*◌, ◌/◌, ◌%◌, ◌<◌, ◌≤◌, ◌==◌, if◌then◌else◌, List, [], ◌∷◌, ◌++◌, length, replicate, take, Option, Some, None, slice_get, inl, inr, arith, refl, sym, ap, subst, ◌∙◌, append-nil}
+use Rattle.std.proofs.Common.{◌≡◌, ℕ, ◌+◌, ◌-◌, ◌*◌, ◌/◌, ◌%◌, ◌<◌, ◌==◌, if◌then◌else◌, List, [], ◌∷◌, ◌++◌, length, replicate, take, Option, Some, None, slice_get, inl, inr, arith, refl, sym, ap, subst, ◌∙◌, append-nil}
 use Rattle.std.specs.Option.{option_map}
 use Rattle.std.proofs.lemmas.Bool.{eqb-true}
 use Rattle.std.proofs.lemmas.List.{append_assoc}
 use Rattle.std.proofs.lemmas.Option.{none-some, same_Some}
-use Rattle.pf_base.specs.Asks.{Answers, chunk_of as chunk_asked}
+use Rattle.pf_base.specs.Asks.{Answers}
 use Rattle.pf_base.specs.Span.{Span}
 use Rattle.pf_base.specs.declared.asks.Ask.{Ask}
-use Rattle.pf_base.specs.declared.asks.Ask.TheVariants as asks
 use Rattle.pf_base.specs.declared.asks.Reply.{Reply}
 use Rattle.pf_base.specs.declared.asks.Reply.TheVariants.{Written, Bytes}
 use Rattle.pf_entry.specs.Ops.{Sector, zero_sector}
 use Rattle.pf_entry.specs.declared.ops.Op.TheVariants.{Write}
 use Rattle.pf_entry.proofs.Cases.{by_test}
-use Rattle.pf_volume.specs.Volumes.{Extent, IsVolume, size_of}
+use Rattle.pf_volume.specs.Volumes.{Extent, IsVolume}
 use Rattle.pf_layout.specs.Supers.{super_block}
-use Rattle.pf_protocol.specs.declared.answers.Answer.{Answer}
 use Rattle.pf_protocol.specs.declared.events.Event.TheVariants as events
 use Rattle.pf_protocol.specs.declared.events.Happening.{Happening}
 use Rattle.pf_protocol.specs.Groups.{Answered}
@@ -24,18 +22,18 @@ use Rattle.pf_registers.specs.Orders.{given}
 use Rattle.pf_tree.specs.declared.calls.FileCall.{FileCall}
 use Rattle.pf_files.specs.Blocks.{bytes_of, reads, run_at, writes}
 use Rattle.pf_mount.specs.declared.work.Work.{Work}
-use Rattle.pf_mount.specs.declared.work.Work.TheVariants.{Rests, Fails, ReadsSuper, WritesSuper, Syncs, Ballots, Pauses, Moves}
-use Rattle.pf_mount.specs.Mounts.{MountIs, answered, opening}
+use Rattle.pf_mount.specs.declared.work.Work.TheVariants.{ReadsSuper}
+use Rattle.pf_mount.specs.Mounts.{MountIs}
 use Rattle.pf_chunk.specs.Driving.{event_of_ask}
 use Rattle.pf_chunk.specs.Runs.{ChunkRun}
 use Rattle.pf_hosts.specs.Moments.{Heard, Moment, Begins, Ends, Hands, Turns, Writes}
 use Rattle.pf_paxos.specs.Journals.{journal_from, new_journal}
 use Rattle.pf_mounted.specs.Fitting.{IsOfRun}
 use Rattle.pf_mounted.specs.Handing.{AreMountsAlone}
-use Rattle.pf_mounted.specs.Journals.{AreOfMounts, CanBeDoings, IsHearing, IsTurn, doings}
+use Rattle.pf_mounted.specs.Journals.{CanBeDoings, IsHearing, IsTurn, doings}
 use Rattle.pf_mounted.specs.Mounts.{Life, calling, last_ask, life_of, lived, turned}
 use Rattle.pf_mounted.proofs.Coming.{Pends}
-use Rattle.pf_mounted.proofs.Inducting.{of_at, of_until, split_end}
+use Rattle.pf_mounted.proofs.Inducting.{of_at, of_until}
 use Rattle.pf_mounted.proofs.Journaling.{StandsIn, told_stand}
 use Rattle.pf_mounted.proofs.Lives.{life_on}
 use Rattle.pf_mounted.proofs.Submitting.{IsMade, WritesAt, doings_before, event_there, made_from, write_of, writes_so}

@@ -1,11 +1,11 @@
 -- Each mount of a run stands in one list.
-use Rattle.std.proofs.Common.{◌≡◌, ℕ, ◌*◌, ◌+◌, ◌<◌, ◌≤◌, List, [], ◌∷◌, ◌++◌, length, map, take, Some, slice_get, arith, refl, sym, ap, subst, ◌∙◌, append-nil, length-append}
+use Rattle.std.proofs.Common.{◌≡◌, ℕ, ◌*◌, ◌<◌, ◌≤◌, List, [], ◌∷◌, ◌++◌, length, map, take, Some, slice_get, arith, refl, sym, ap, subst, ◌∙◌, append-nil, length-append}
 use Rattle.std.proofs.lemmas.List.{append_assoc, map-append, take_at}
 use Rattle.pf_protocol.specs.Groups.{Answered}
 use Rattle.pf_protocol.specs.Answers.{IsLegal}
 use Rattle.pf_volume.specs.Volumes.{Extent, IsVolume, size_of}
-use Rattle.pf_paxos.specs.Journals.{Begins, Doing, IsTransactionList, journal_before, journal_from, new_journal}
-use Rattle.pf_hosted.specs.Deeds.{Deed, Fits, Groups}
+use Rattle.pf_paxos.specs.Journals.{Begins, IsTransactionList, journal_before, journal_from, new_journal}
+use Rattle.pf_hosted.specs.Deeds.{Fits}
 use Rattle.pf_hosted.specs.Homes.{chunk_of, sector_of}
 use Rattle.pf_hosted.specs.Hosted.{AreAlone}
 use Rattle.pf_hosted.specs.Volumes.{IsHostedJournal, home_of}

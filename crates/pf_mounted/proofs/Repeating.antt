@@ -54,7 +54,7 @@ read_names m calls value txn is few read =
       sym (from_be_bytes-to_be_bytes_4 txn.number found.typed.number) ∙ ap (λ bytes. from_be_bytes w32 (take 4 (drop 1 bytes))) same ∙ from_be_bytes-to_be_bytes_4 is.txn.number number_few ∙ is.number,
     )
 
-some_value : (value : List ℕ) (txn : Txn) → txn_in value ≡ Some txn → value ≢ []
+pub some_value : (value : List ℕ) (txn : Txn) → txn_in value ≡ Some txn → value ≢ []
 some_value value txn read none = let found = txn_found value txn read in let e = ap length (found.spelled ∙ none) in omega (arith, e)
 
 named : (m n : ℕ) (txn : Txn) → txn.mount ≡ m → txn.number ≡ n → is_of m n (Some txn) ≡ true
@@ -104,7 +104,7 @@ module _ (v : Extent) (answer_at : ℕ → Answered) (told : List Moment) (volum
         subst (λ values. Begins values list) (ap (λ ds. (journal_from new_journal ds).list m) part ∙ in_journal m mount made) (begins_list (doings v answer_at told) registers list is_list m (length so_far))
 
     -- a value that is decided by then was put in by then
-    put_before : (q : ℕ) (value : List ℕ) → value ≢ [] → IsDecidedAt so_far q value → HasPutIn v before q value
+    pub put_before : (q : ℕ) (value : List ℕ) → value ≢ [] → IsDecidedAt so_far q value → HasPutIn v before q value
     put_before q value some decided =
         let put = was_put_in (events_at q so_far) (registers_before q) decided.ballot value decided.decides some in
         let there = call_there so_far q put.moment put.mount (Starts put.above (Some value)) put.at in
@@ -130,10 +130,10 @@ module _ (v : Extent) (answer_at : ℕ → Answered) (told : List Moment) (volum
   -- A value that was put in is of the call that its mount made then
 
   module _ (before after : List Moment) (same : told ≡ before ++ after) (q : ℕ) (value : List ℕ) (put : HasPutIn v before q value) where
-    put_progress : progress put.its ≡ 3 * put.its.files.calls + 1
+    pub put_progress : progress put.its ≡ 3 * put.its.files.calls + 1
     put_progress = ap (λ (w : Work). 3 * put.its.files.calls + stage w) put.works
 
-    put_names : (txn : Txn) → txn_in value ≡ Some txn → (txn.mount ≡ put.mount) × (txn.number ≡ put.its.files.calls)
+    pub put_names : (txn : Txn) → txn_in value ≡ Some txn → (txn.mount ≡ put.mount) × (txn.number ≡ put.its.files.calls)
     put_names txn read =
         let calling = mount_is_calling v put.mount put.first put.its put.stood in
         let x = put.its in

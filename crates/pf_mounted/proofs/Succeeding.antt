@@ -50,7 +50,7 @@ use Rattle.pf_mounted.proofs.Words.{read_bytes, read_is_call, read_short}
 
 -- a planned transaction names its call
 module _ (m : ℕ) (v : Extent) (d : Data) (t : Tables) (p : Pending) (txn : Txn) where
-  abbrev NamesCall : Type 0
+  abbrev pub NamesCall : Type 0
   NamesCall = (txn.mount ≡ m) × (txn.number ≡ p.number)
 
   with_changes_names : (cs : List Change) → planned_with m v t p cs ≡ Proposes txn → NamesCall
@@ -63,7 +63,7 @@ module _ (m : ℕ) (v : Extent) (d : Data) (t : Tables) (p : Pending) (txn : Txn
   by_refusal_names (Some refused) e = cc
   by_refusal_names None e = with_changes_names _ e
 
-  planned_names : planned m v d t p ≡ Proposes txn → NamesCall
+  pub planned_names : planned m v d t p ≡ Proposes txn → NamesCall
   planned_names e = by_refusal_names _ e
 
 -- the tables after changes that follow the tree
@@ -89,7 +89,7 @@ module _ (m : ℕ) (v : Extent) (d : Data) (t : Tables) (p : Pending) (txn : Txn
   read_again : txn_in (spell_txn txn) ≡ Some txn
   read_again = txn_again txn (spelled_as m v d t p txn (record { root = stand.names.root; sizes = stand.sizes }) stand.places (read_short call p.call read) plan) is_typed
 
-no_spelling : (txn : Txn) → spell_txn txn ≡ [] → ⊥
+pub no_spelling : (txn : Txn) → spell_txn txn ≡ [] → ⊥
 no_spelling txn e = cc
 
 module _ (v : Extent) (answer_at : ℕ → Answered) (told : List Moment) (list : List (List ℕ)) (volume : IsVolume v) (over : IsOverList v answer_at told list)
@@ -100,16 +100,16 @@ module _ (v : Extent) (answer_at : ℕ → Answered) (told : List Moment) (list 
   many : 1 < blocks
   many = many_blocks v blocks volume volume.blocks.1
 
-  abbrev d : Data
+  abbrev pub d : Data
   d = data_blocks v
 
   abbrev so_far : List Doing
   so_far = doings v answer_at told
 
-  abbrev tables_at : ℕ → Tables
+  abbrev pub tables_at : ℕ → Tables
   tables_at n = tables_from v (take n list)
 
-  abbrev tree_at : ℕ → Tree
+  abbrev pub tree_at : ℕ → Tree
   tree_at n = tree_after v told (take n list)
 
   -- Mounts
@@ -121,7 +121,7 @@ module _ (v : Extent) (answer_at : ℕ → Answered) (told : List Moment) (list 
     can_before : CanBeDoings v [] before
     can_before = can_until v [] before after (subst (CanBeDoings v []) same over.can)
 
-    begins_list : BeginsList (decisions v before m) list
+    pub begins_list : BeginsList (decisions v before m) list
     begins_list =
         let first = doings v answer_at before in
         let all : so_far ≡ first ++ map (λ (s : Step). s.doing) (steps_from v answer_at before after) = ap (doings v answer_at) same ∙ doings_on v answer_at before after in
@@ -134,7 +134,7 @@ module _ (v : Extent) (answer_at : ℕ → Answered) (told : List Moment) (list 
         let decided = tables_of_decisions v before m mount made in
         omega (arith, decided.1, ap length begins_list.1, length-append (decisions v before m) begins_list.0)
 
-    tables_are : mount.files.tables ≡ tables_at mount.upto
+    pub tables_are : mount.files.tables ≡ tables_at mount.upto
     tables_are =
         let decided = tables_of_decisions v before m mount made in
         let front : take mount.upto list ≡ decisions v before m = ap (take mount.upto) (sym begins_list.1) ∙ take_at (decisions v before m) begins_list.0 mount.upto (sym decided.1) in
@@ -143,12 +143,12 @@ module _ (v : Extent) (answer_at : ℕ → Answered) (told : List Moment) (list 
     number_small : m < 16
     number_small = small v blocks volume.blocks.1 many answer_at before of_before can_before m mount made
 
-    calls_are : IsNamed v m (calls_of before m) mount
+    pub calls_are : IsNamed v m (calls_of before m) mount
     calls_are = its_calls v m before after (subst (AreBegunAtRest v) same rest) mount made
 
   -- Values
 
-  put_in : (n : ℕ) (value : List ℕ) → slice_get list n ≡ Some value → value ≢ [] → HasPutIn v told n value
+  pub put_in : (n : ℕ) (value : List ℕ) → slice_get list n ≡ Some value → value ≢ [] → HasPutIn v told n value
   put_in n value at some =
       let decided = over.is.decided n value at in
       let put = was_put_in _ (over.registers n) decided.ballot value decided.decides some in
@@ -160,19 +160,19 @@ module _ (v : Extent) (answer_at : ℕ → Answered) (told : List Moment) (list 
   StandsWith n value txn = StandsFor d (applied_in (tables_at n) txn) (tree_with d (tree_at n) (option_and_then (λ (x : Txn). call_named told x.mount x.number) txn))
 
   module _ (n : ℕ) (value : List ℕ) (stand : StandsFor d (tables_at n) (tree_at n)) (put : HasPutIn v told n value) where
-    abbrev m : ℕ
+    abbrev pub m : ℕ
     m = put.mount
 
-    its : IsNamed v m (calls_of put.first m) put.its
+    pub its : IsNamed v m (calls_of put.first m) put.its
     its = calls_are put.first put.rest m put.its put.told_so put.stood
 
-    plan : IsOfPlan put.its.files value
+    pub plan : IsOfPlan put.its.files value
     plan = subst (λ work. PutsInPlan work put.its.files) put.works its.plans.work
 
-    abbrev p : Pending
+    abbrev pub p : Pending
     p = plan.call
 
-    named : call_named told m p.number ≡ Some p.call
+    pub named : call_named told m p.number ≡ Some p.call
     named = subst (λ all. call_named all m p.number ≡ Some p.call) (sym put.told_so) (named_on put.first put.rest m p.number p.call (subst (OfPending (IsNamedIn (calls_of put.first m))) plan.pends its.plans.call))
 
     tables_there : put.its.files.tables ≡ tables_at n
@@ -181,7 +181,7 @@ module _ (v : Extent) (answer_at : ℕ → Answered) (told : List Moment) (list 
     data_is : data_of (tables_at n) ≡ d
     data_is = let with_blocks : ℕ → Data = λ b. record { first = 513; blocks = b } in ap with_blocks stand.blocks
 
-    planned_there : planned m v d (tables_at n) p ≡ Proposes plan.txn
+    pub planned_there : planned m v d (tables_at n) p ≡ Proposes plan.txn
     planned_there =
         let files = put.its.files in
         ap (λ (x : Data). planned m v x (tables_at n) p) (sym data_is)
@@ -212,7 +212,7 @@ module _ (v : Extent) (answer_at : ℕ → Answered) (told : List Moment) (list 
         subst (λ call. StandsFor d (applied (tables_at n) plan.txn.changes) (tree_with d (tree_at n) call)) (sym its_call)
         (call_followed m v d (tables_at n) p plan.txn (tree_at n) stand few_tags m_small low words.0 words.1 planned_there)
 
-    value_read : txn_in value ≡ Some plan.txn
+    pub value_read : txn_in value ≡ Some plan.txn
     value_read = ap txn_in plan.spells ∙ read_again m v d (tables_at n) p plan.txn (tree_at n) stand few_tags m_small low words.0 words.1 planned_there
 
     stands_with : StandsWith n value (txn_in value)

@@ -1,22 +1,15 @@
 -- The superblock that a mount reads is the volume's, or zeros.
-use Rattle.std.proofs.Common.{◌≡◌, ◌⊎◌, ℕ, zero, suc, ◌+◌, ◌-◌, ◌*◌, ◌/◌, ◌%◌, ◌<◌, ◌≤◌, Bool, true, false, if◌then◌else◌, List, [], ◌∷◌, ◌++◌, length, map, replicate, take, Option, Some, None, slice_get, inl, inr, arith, refl, sym, ap, subst, ◌∙◌, append-nil}
+use Rattle.std.proofs.Common.{◌≡◌, ◌⊎◌, ℕ, zero, suc, ◌+◌, ◌-◌, ◌*◌, ◌/◌, ◌%◌, ◌<◌, ◌≤◌, if◌then◌else◌, List, [], ◌∷◌, ◌++◌, Option, Some, None, slice_get, inl, inr, arith, refl, sym, ap, subst, ◌∙◌}
 use Rattle.std.specs.Option.{option_map}
 use Rattle.std.proofs.lemmas.Option.{none-some, same_Some, slice_get-map}
-use Rattle.pf_base.specs.Asks.{chunk_of as chunk_asked}
-use Rattle.pf_base.specs.Span.{Span, is_in}
+use Rattle.pf_base.specs.Span.{Span}
 use Rattle.pf_base.specs.declared.asks.Ask.{Ask}
 use Rattle.pf_base.specs.declared.asks.Ask.TheVariants as asks
-use Rattle.pf_base.specs.declared.asks.Reply.{Reply}
-use Rattle.pf_base.specs.declared.asks.Reply.TheVariants.{Written, Bytes}
 use Rattle.pf_entry.specs.Ops.{Sector, writes as op_writes, zero_sector}
-use Rattle.pf_entry.specs.declared.ops.Op.{Op}
 use Rattle.pf_entry.specs.declared.ops.Op.TheVariants.{Write}
 use Rattle.pf_entry.proofs.Cases.{by_test}
-use Rattle.pf_volume.specs.Volumes.{Extent, IsVolume, size_of}
+use Rattle.pf_volume.specs.Volumes.{Extent}
 use Rattle.pf_layout.specs.Supers.{super_block}
-use Rattle.pf_protocol.specs.declared.answers.Answer.{Answer}
-use Rattle.pf_protocol.specs.declared.events.Event.TheVariants as events
-use Rattle.pf_protocol.specs.declared.events.Happening.{Happening}
 use Rattle.pf_protocol.specs.Groups.{Answered}
 use Rattle.pf_protocol.specs.Histories.{History, IsPrefix, replay}
 use Rattle.pf_protocol.specs.LastWriters.{bytes_for}
@@ -31,11 +24,10 @@ use Rattle.pf_journal.specs.Sectors.{block_bytes}
 use Rattle.pf_paxos.specs.declared.block.Block.{Block}
 use Rattle.pf_paxos.specs.declared.proposer.Phase.{Phase}
 use Rattle.pf_paxos.specs.declared.proposer.Phase.TheVariants.{Idle, Claiming, GatheringLow, GatheringHigh, Proposing, ConfirmingLow, ConfirmingHigh}
-use Rattle.pf_files.specs.Blocks.{reads, run_at, writes}
+use Rattle.pf_files.specs.Blocks.{writes}
 use Rattle.pf_mount.specs.declared.work.Work.{Work}
 use Rattle.pf_mount.specs.declared.work.Work.TheVariants.{Rests, Fails, ReadsSuper, WritesSuper, Syncs, Ballots, Pauses, Moves}
 use Rattle.pf_mount.specs.Mounts.{MountIs, writes_own}
-use Rattle.pf_chunk.specs.Driving.{event_of_ask}
 use Rattle.pf_mounted.specs.Journals.{CanBeTold, IsOfData}
 use Rattle.pf_mounted.proofs.Coming.{Pends, ballot_ask}
 use Rattle.pf_mounted.proofs.Lying.{same_place, whole_place}

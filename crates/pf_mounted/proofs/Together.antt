@@ -1,5 +1,5 @@
 -- A run with a mount has one list.
-use Rattle.std.proofs.Common.{◌≡◌, ◌≢◌, ◌⊎◌, ℕ, ◌+◌, ◌*◌, ◌<◌, ◌≤◌, List, [], ◌∷◌, ◌++◌, length, Option, Some, None, slice_get, inl, inr, arith, refl, sym, ap, subst, ◌∙◌, append-nil, length-append}
+use Rattle.std.proofs.Common.{◌≡◌, ◌≢◌, ◌⊎◌, ℕ, ◌*◌, ◌<◌, ◌≤◌, List, [], ◌∷◌, ◌++◌, length, Option, Some, None, slice_get, inl, inr, arith, refl, sym, ap, subst, ◌∙◌, append-nil, length-append}
 use Rattle.std.proofs.lemmas.List.{append_assoc}
 use Rattle.std.proofs.lemmas.Option.{none-some, same_Some}
 use Rattle.pf_base.specs.declared.asks.Ask.{Ask}
@@ -31,7 +31,7 @@ use Rattle.pf_mounted.specs.Fitting.{IsOfRun}
 use Rattle.pf_mounted.specs.Finding.{HasPutIn}
 use Rattle.pf_mounted.specs.Handing.{AreCallsOfWords, AreMountsAlone}
 use Rattle.pf_mounted.specs.Hosted.{groups_of}
-use Rattle.pf_mounted.specs.Journals.{AreOfMounts, CanBeDoings, FindsValue, IsHearing, IsTurn, call_of, client_of, deeds, doings, port_reply}
+use Rattle.pf_mounted.specs.Journals.{AreOfMounts, CanBeDoings, FindsValue, IsTurn, call_of, client_of, deeds, doings, port_reply}
 use Rattle.pf_mounted.specs.Lists.{HasOneList}
 use Rattle.pf_mounted.specs.Mounts.{Life, last_ask, life_of, mount_after, mount_in, next_ask}
 use Rattle.pf_mounted.specs.Sound.{IsDataValue, IsSound, IsSoundWork}
@@ -197,12 +197,20 @@ module _ (v : Extent) (chunks : List ChunkRun) (answer_at : ℕ → Answered) (t
       (λ before after m life heard next input same there can at. finds_for before after m life heard next same there can input at heard.reply refl)
       put_in).can
 
+  -- What ports and mounts did is what they do over a journal in the groups of the chunks
+
+  its_fits : (k : ℕ) (c : ChunkRun) → slice_get chunks k ≡ Some c → Fits (groups_of v answer_at chunks told) (deeds v answer_at told) k
+  its_fits k c there = deeds_fit v chunks answer_at told run told [] (sym (append-nil told)) k c there
+
+  all_alone : (q block : ℕ) → q < 256 → block < 16 → let home = home_of v.sectors q in let groups = groups_of v answer_at chunks told in AreAlone (groups.history (chunk_of home block) 0) [] (groups.writes (chunk_of home block) 0 block) (sector_of home block)
+  all_alone q block low few =
+      its_alone v chunks answer_at told run volume room are alone told [] (sym (append-nil told)) (can_each v chunks answer_at told run volume room are alone told can_all) q block low few
+
+  pub held : IsHostedJournal (groups_of v answer_at chunks told) block_in v.sectors 256 (deeds v answer_at told) (doings v answer_at told)
+  held = hosted v answer_at chunks told volume room are run.legal run.turns run.reads can_all its_fits all_alone
+
   -- one list
   pub one_list : AreCalls v told → (lists : (groups : Groups) (sectors : ℕ) (deeds : List Deed) (doings : List Doing) → IsHostedJournal groups block_in sectors 256 deeds doings
       → (list : List (List ℕ)) × IsTransactionList doings list × ((mount moment : ℕ) → Begins ((journal_before doings moment).list mount) list)) → HasOneList v chunks told
   one_list calls lists =
-      let fits = λ (k : ℕ) (c : ChunkRun) (there : slice_get chunks k ≡ Some c). deeds_fit v chunks answer_at told run told [] (sym (append-nil told)) k c there in
-      let theirs = λ (q block : ℕ) (low : q < 256) (few : block < 16).
-      its_alone v chunks answer_at told run volume room are alone told [] (sym (append-nil told)) (can_each v chunks answer_at told run volume room are alone told can_all) q block low few in
-      let held = hosted v answer_at chunks told volume room are run.legal run.turns run.reads can_all fits theirs in
-      has_one v answer_at chunks told volume room are run.legal run.turns run.reads can_all fits theirs (lists (groups_of v answer_at chunks told) v.sectors (deeds v answer_at told) (doings v answer_at told) held) calls
+      has_one v answer_at chunks told volume room are run.legal run.turns run.reads can_all its_fits all_alone (lists (groups_of v answer_at chunks told) v.sectors (deeds v answer_at told) (doings v answer_at told) held) calls

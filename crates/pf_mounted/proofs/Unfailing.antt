@@ -1,9 +1,8 @@
 -- A mount fails for good only as its superblock is another's.
-use Rattle.std.proofs.Common.{◌≡◌, ◌≢◌, ◌⊎◌, ℕ, zero, suc, Bool, true, false, ◌||◌, ◌==◌, nat_lt, if◌then◌else◌, List, [], ◌∷◌, ◌++◌, length, replicate, Option, Some, None, inl, inr, refl, sym, ap, subst, ◌∙◌, append-nil}
+use Rattle.std.proofs.Common.{◌≡◌, ◌⊎◌, ℕ, zero, suc, Bool, true, false, ◌||◌, ◌==◌, if◌then◌else◌, List, [], ◌∷◌, replicate, Option, Some, None, inl, inr, refl, sym, subst, ◌∙◌}
 use Rattle.std.specs.Str.{bytes_eq}
 use Rattle.std.proofs.lemmas.Bool.{false≢true}
 use Rattle.std.proofs.lemmas.Slice.Eq.{bytes_eq-Decides}
-use Rattle.pf_base.specs.declared.asks.Ask.{Ask}
 use Rattle.pf_base.specs.declared.asks.Reply.{Reply}
 use Rattle.pf_base.specs.declared.asks.Reply.TheVariants.{Written, Bytes}
 use Rattle.pf_entry.specs.Ops.{Sector}
@@ -14,10 +13,9 @@ use Rattle.pf_tree.specs.declared.calls.FileCall.{FileCall}
 use Rattle.pf_inodes.specs.declared.changes.Txn.{Txn}
 use Rattle.pf_txn.specs.Spelling.{spell_txn}
 use Rattle.pf_txn.specs.Reading.{txn_in}
-use Rattle.pf_paxos.specs.declared.block.Block.{Block}
 use Rattle.pf_paxos.specs.declared.proposer.Next.{Next as BallotNext}
 use Rattle.pf_paxos.specs.declared.proposer.Next.TheVariants.{Write as WriteOwn, Read as ReadHalf, Abort, Decided}
-use Rattle.pf_paxos.specs.Proposers.{Outcome as Balloted, read_in, started, written_in}
+use Rattle.pf_paxos.specs.Proposers.{Outcome as Balloted, read_in, written_in}
 use Rattle.pf_files.specs.declared.answers.CallAnswer.TheVariants.{Refused}
 use Rattle.pf_files.specs.declared.answers.CallFault.TheVariants.{BadSuper}
 use Rattle.pf_files.specs.Blocks.{bytes_of, writes}
@@ -31,7 +29,7 @@ use Rattle.pf_files.specs.declared.moving.Moved.TheVariants.{Asks as AsksFor, En
 use Rattle.pf_mount.specs.declared.work.Next.TheVariants.{Done}
 use Rattle.pf_mount.specs.declared.work.Work.{Work}
 use Rattle.pf_mount.specs.declared.work.Work.TheVariants.{Rests, Fails, ReadsSuper, WritesSuper, Syncs, Ballots, Pauses, Moves}
-use Rattle.pf_mount.specs.Mounts.{MountIs, Outcome, aborted, asking, advanced, answered, ballot_read, balloted, ballots, blocks_in, decided, finds_value, goes_on, has_bal, moved, on_bytes, on_written, paused, plans, plans_as, proceeds, proceeds_with, proposes, seeing, starting, super_read, synced, syncs, syncs_on, with_proposer}
+use Rattle.pf_mount.specs.Mounts.{MountIs, Outcome, asking, advanced, answered, balloted, ballots, blocks_in, decided, finds_value, goes_on, has_bal, moved, on_bytes, on_written, paused, plans, plans_as, proceeds_with, seeing, starting, super_read, synced, syncs, syncs_on, with_proposer}
 use Rattle.pf_mount.specs.Positions.{can_start}
 
 abbrev pub HasFailed : Work → Type 0

@@ -1,6 +1,5 @@
 -- The groups of a run's chunks, and what their ports did, as a journal's deeds have them.
 use Rattle.std.specs.Prelude.{◌≡◌, ℕ, pred, nat_lt, if◌then◌else◌, List, [], ◌∷◌, ◌++◌, length, map, take, Option, Some, None, slice_get}
-use Rattle.pf_base.specs.Asks.{chunk_of}
 use Rattle.pf_base.specs.declared.asks.Ask.{Ask}
 use Rattle.pf_base.specs.declared.asks.Ask.TheVariants.{Read}
 use Rattle.pf_base.specs.declared.asks.Reply.TheVariants.{Bytes}

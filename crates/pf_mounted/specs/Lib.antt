@@ -10,3 +10,5 @@ pub mod Sound
 pub mod Finding
 pub mod Fitting
 pub mod Trees
+pub mod Late
+pub mod Answering

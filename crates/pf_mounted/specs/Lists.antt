@@ -1,5 +1,5 @@
 -- One list of transactions for all mounts of a run.
-use Rattle.std.specs.Prelude.{◌≡◌, ℕ, ◌≤◌, List, [], ◌++◌, length, take, Some, slice_get}
+use Rattle.std.specs.Prelude.{◌≡◌, ℕ, ◌≤◌, List, [], ◌∷◌, ◌++◌, length, take, Some, slice_get}
 use Rattle.pf_protocol.specs.Groups.{Answered}
 use Rattle.pf_volume.specs.Volumes.{Extent}
 use Rattle.pf_paxos.specs.Journals.{IsTransactionList}
@@ -8,9 +8,11 @@ use Rattle.pf_journal.specs.Sectors.{block_in}
 use Rattle.pf_inodes.specs.declared.changes.Txn.{Txn}
 use Rattle.pf_tree.specs.Standing.{StandsFor}
 use Rattle.pf_txn.specs.Reading.{txn_in}
+use Rattle.pf_files.specs.declared.answers.CallAnswer.{CallAnswer}
 use Rattle.pf_mount.specs.Mounts.{MountIs}
 use Rattle.pf_chunk.specs.Runs.{ChunkRun}
-use Rattle.pf_hosts.specs.Moments.{Moment}
+use Rattle.pf_hosts.specs.Moments.{Ends, Moment}
+use Rattle.pf_mounted.specs.Answering.{IsAnswered}
 use Rattle.pf_mounted.specs.Hosted.{AreOfReads, groups_of}
 use Rattle.pf_mounted.specs.Journals.{AreOfMounts, deeds, doings}
 use Rattle.pf_mounted.specs.Mounts.{mount_after, tables_from}
@@ -44,9 +46,11 @@ NamesEachOnce list =
     → txn.number ≡ same.number
     → position ≡ other
 
--- at every moment of the run each mount stands in one list, in which each call has one transaction at most
+-- At every moment of the run each mount stands in one list, in which each call has one transaction at most. Each call that ends is
+-- answered as the user's tree at the mount's position of the list
 pub record HasOneList (v : Extent) (chunks : List ChunkRun) (told : List Moment) : Type 0 where
   pub list : List (List ℕ)
   pub is : IsListOf v chunks told list
   pub once : NamesEachOnce list
   pub stands : (before after : List Moment) (m : ℕ) (mount : MountIs) → told ≡ before ++ after → mount_after v before m ≡ Some mount → StandsInList v told list mount
+  pub answers : (before after : List Moment) (m : ℕ) (mount : MountIs) (answer : CallAnswer) → told ≡ before ++ Ends m answer ∷ after → mount_after v before m ≡ Some mount → IsAnswered v told list m mount.files.calls mount.upto answer

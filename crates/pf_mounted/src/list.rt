@@ -16,7 +16,8 @@ use pf_journal::journals_in_chunks_have_one_list;
 
 /// In a run with a mount, whose groups are lawful, there is one list of transactions, decided position by position over the groups of the
 /// chunks. No call has two in it. At every moment each mount stands behind the first ones of the list; its tables are those of a new volume
-/// after these, and they stand for the user's tree after the calls that these name. (A transaction's spelling has room for 2^32 calls of a
+/// after these, and they stand for the user's tree after the calls that these name. Each call that ends is answered as this tree, at the
+/// mount's position then. (A transaction's spelling has room for 2^32 calls of a
 /// mount, so a script is to have fewer lines.)
 pub fn runs_have_one_list()
     ensures { (halts : List Halt) (lines : List LineIs) → IsScript lines → let run = world_run halts lines in IsLawfulRun run.world → IsVolume run.world.volume.extent → length lines < 2 ^ 32 → 0 < length run.world.volume.hosts → HasOneList run.world.volume.extent run.world.volume.chunks run.told }

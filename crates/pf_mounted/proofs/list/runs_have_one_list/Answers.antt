@@ -1,7 +1,8 @@
-use Rattle.std.proofs.Common.{◌≡◌, ◌≤◌, arith, refl}
-use Rattle.pf_hosts.specs.Moments.{Begins}
+use Rattle.std.proofs.Common.{arith, refl}
+use Rattle.pf_hosts.specs.Moments.{Begins, Ends}
 use Rattle.pf_world.specs.Reports.{world_run}
 use Rattle.pf_mounted.proofs.Counting.{calls_of_lines}
+use Rattle.pf_mounted.proofs.Enduring.{endures}
 use Rattle.pf_mounted.proofs.Holding.{calls_of_words, mounts_alone}
 use Rattle.pf_mounted.proofs.Lawful.{answers, asks_told, known}
 use Rattle.pf_mounted.proofs.Numbering.{run_few}
@@ -21,5 +22,7 @@ returns c = λ halts lines script lawful volume few some.
       rest = λ m before after call same. each_done run.world.volume run.told (hosts_are_told halts lines script) m before (Begins m call) after same refl;
       few = λ m. let most = run_few m halts lines in omega (arith, most, few);
       numbers = λ m mount made. let most = calls_of_lines halts lines m mount made in omega (arith, most, few);
+      ends = λ m before after answer same. each_done run.world.volume run.told (hosts_are_told halts lines script) m before (Ends m answer) after same refl;
+      lives = endures halts lines script lawful volume some;
     })
     c.journals_in_chunks_have_one_list.ensures.list

@@ -1,0 +1,11 @@
+use Rattle.pf_mounted.proofs.Behind.{planned_late}
+use Rattle.pf_mounted.proofs.Missing.{planned_late_of_all}
+use Rattle.pf_mounted.proofs.late.calls_are_planned_late.Goals as goal
+
+pub returns-clause-told : goal.returns-clause-told
+returns-clause-told c = λ v answer_at told volume of can registers before mid after m call same mount made planned n its stood.
+    planned_late_of_all v answer_at told volume of can registers before mid after m call same mount made planned n its stood
+
+pub returns-clause-runs : goal.returns-clause-runs
+returns-clause-runs c = λ halts lines script lawful volume some before mid after m call same mount made planned n its stood.
+    planned_late halts lines script lawful volume some before mid after m call same mount made planned n its stood
