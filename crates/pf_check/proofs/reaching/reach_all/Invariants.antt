@@ -1,0 +1,11 @@
+use Rattle.std.proofs.Common.{◌≡◌, ◌<◌, ℕ, length, take, get_or}
+use Rattle.pf_inodes.specs.declared.tables.Entry.{Entry}
+use Rattle.pf_check.specs.Walks.{front_of, reach_all}
+use Rattle.pf_check.proofs.reaching.reach_all.Given as goal
+
+abbrev pub invariant-loop-row : goal.invariant-loop-row
+invariant-loop-row l = record {
+  front : front_of l.marks.items l.queue.items ≡ reach_all (front_of l.fn.marks.items l.fn.queue.items) (take l.row-index l.rows);
+  places : length l.marks.items ≡ 65536;
+  low : (k : ℕ) (d : Entry) → k < l.row-index → (get_or l.rows k d).inode < 65536;
+}

@@ -1,0 +1,13 @@
+//! Laws of the tables that transactions make.
+ghost use Rattle.pf_inodes.specs.declared.changes.Change.{Change};
+ghost use Rattle.pf_check.specs.Raw.{IsRaw, RawTables, after, empty_tables, made};
+ghost use Rattle.pf_check.specs.Changing.{Does, IsEmpty, IsPlaced};
+ghost use Rattle.std.specs.Prelude.{List};
+
+/// The empty tables have the root and nothing else. Each change sets or removes exactly what it names, in whatever tables transactions
+/// made, and makes such tables again.
+pub fn changes_do_what_they_name()
+    ensures empty { IsEmpty empty_tables }
+    ensures does { (t : RawTables) (change : Change) → IsRaw t → IsPlaced change → Does t change (after t change) }
+    ensures made { (changes : List Change) → IsRaw (made empty_tables changes) }
+{}
