@@ -1,5 +1,5 @@
 //! Lines that show a group. A server that does not run is told as `down`.
-ghost use Rattle.std.specs.Prelude.{◌≡◌, ◌<◌, ◌++◌, IfOk, OnErr, OnOk, map};
+ghost use Rattle.std.specs.Prelude.{◌≡◌, ◌<◌, ◌++◌, IfOk, OnErr, OnOk, length, map};
 ghost use Rattle.pf_group.specs.GroupIs.{state_of};
 ghost use Rattle.pf_report.specs.Texts.{line_of};
 ghost use Rattle.pf_chunk.specs.Showing.{acked_shown, applied_shown, log_shown, mark_shown, of_server, sectors_shown};
@@ -93,5 +93,11 @@ impl<D: Disk + Drop> ChunkGroup<D> {
     {
         let slots = slots_of(*out.allocator(), self.group.acked())?;
         put_acked(out, line, &slots)
+    }
+    /// How many slots were acknowledged to hosts.
+    pub fn acked_count(&self) -> usize
+        ensures { result ≡ length (state_of self.now.group).acked }
+    {
+        self.group.acked().len()
     }
 }

@@ -1,6 +1,8 @@
 //! Lines that show a group or a mount.
 ghost use Rattle.std.specs.Prelude.{◌≡◌, ◌<◌, OnErr, OnOk, Some, length, slice_get};
+ghost use Rattle.std.specs.Option.{option_map_or};
 ghost use Rattle.pf_script.specs.declared.command.Command.TheVariants.{ShowMount};
+ghost use Rattle.pf_group.specs.GroupIs.{state_of};
 ghost use Rattle.pf_world.specs.Asked.{IsShow};
 ghost use Rattle.pf_world.specs.Steps.{HasFailed, HasRun, MayRun};
 ghost use Rattle.pf_world.specs.Views.{IsWorld};
@@ -55,6 +57,16 @@ impl<D: Disk + Drop> World<D> {
         ensures { slice_get self.now.world.chunks number ≡ Some result.now }
     {
         &self.chunks[number as usize]
+    }
+
+    /// How many slots of a group were acknowledged to hosts, and 0 where there is no such group.
+    pub fn acked_count(&self, group: u8) -> usize
+        ensures { result ≡ option_map_or (λ c. length (state_of c.group).acked) (slice_get self.now.world.chunks group) 0 }
+    {
+        match self.chunks.get(group as usize) {
+            Some(chunk) => chunk.acked_count(),
+            None => 0,
+        }
     }
 
     /// A line that shows the tree of a mount, and how far it is.

@@ -1,43 +1,33 @@
 -- How each end of a run is told.
-use Rattle.std.proofs.Common.{◌≡◌, ℕ, Bool, true, false, cond, List, [], ◌∷◌, Option, Some, None, Ok, Err, is_ok, refl, ap, sym, subst, ◌∙◌}
+use Rattle.std.proofs.Common.{◌≡◌, ℕ, List, [], Option, Some, None, Ok, Err, is_ok, refl, ap, sym, subst}
 use Rattle.std.specs.Prelude.{is_err}
 use Rattle.std.specs.Io.KnownBytes.{Appends}
 use Rattle.pf_disk.specs.Crashes.{Images}
 use Rattle.pf_script.specs.declared.command.LineFault.{LineFault}
 use Rattle.pf_world.specs.declared.line.Line.{Line}
+use Rattle.pf_world.specs.Worlds.{World}
 use Rattle.polar_cli.specs.declared.status.Status.{Status}
 use Rattle.polar_cli.specs.declared.status.Status.TheVariants as statuses
-use Rattle.polar_cli.specs.Words.{is_accepted}
+use Rattle.polar_cli.specs.declared.words.Task.{Task}
+use Rattle.polar_cli.specs.declared.words.Task.TheVariants as tasks
 use Rattle.polar_cli.specs.Scripts.{Judged, script_of}
 use Rattle.polar_cli.specs.Runs.{IsRefused, IsScript, IsSource, IsUndecided}
 use Rattle.polar_cli.specs.Ends.{AppendsFront}
-use Rattle.polar_cli.specs.Reports.{fault_text, judged_lines, judged_text, lines_for, usage_text, written_for}
+use Rattle.polar_cli.specs.Reports.{fault_text, judged_lines, judged_text, lines_for, script_for, usage_text}
 use Rattle.polar_cli.specs.Running.{HasRunLines, HasRunTo}
-use Rattle.polar_cli.specs.Outcomes.{Outcome, Refuses}
-use Rattle.polar_cli.specs.Placed.{IsWhole}
-use Rattle.polar_cli.proofs.Placing.{whole_script}
+use Rattle.polar_cli.specs.Generating.{HasGenerated}
+use Rattle.polar_cli.specs.Outcomes.{Ending, IsLeft, Outcome, Refuses}
 use Rattle.polar_cli.proofs.Taken.{appends_none}
-use Rattle.polar_cli.proofs.Whole.{Begins, first_is_volume, untouched}
+use Rattle.polar_cli.proofs.Whole.{Begins, script_begins, untouched}
 
--- what is to be written and run, for accepted words and others
-text_yes : (words : List (List ℕ)) (script text : List ℕ) (judged : Judged) → is_accepted words ≡ true → script_of script ≡ judged → judged_text judged text ≡ written_for words script text
-text_yes words script text judged good is = sym (ap (λ b. cond b (judged_text (script_of script) text) usage_text) good ∙ ap (λ j. judged_text j text) is)
-
-text_no : (words : List (List ℕ)) (script text : List ℕ) → is_accepted words ≡ false → usage_text ≡ written_for words script text
-text_no words script text h = sym (ap (λ b. cond b (judged_text (script_of script) text) usage_text) h)
-
-pub lines_yes : (words : List (List ℕ)) (script : List ℕ) (lines : List Line) → is_accepted words ≡ true → script_of script ≡ Ok lines → lines ≡ lines_for words script
-lines_yes words script lines good is = sym (ap (λ b. cond b (judged_lines (script_of script)) []) good ∙ ap judged_lines is)
-
-begin : (accepted : Bool) (judged : Judged) → ((lines : List Line) → judged ≡ Ok lines → IsWhole lines) → Begins (cond accepted (judged_lines judged) [])
-begin true (Ok []) whole = tt
-begin true (Ok (line ∷ lines)) whole = first_is_volume (line ∷ lines) line (whole (line ∷ lines) refl)
-begin true (Err refused) whole = tt
-begin false judged whole = tt
+-- what is to be written of a script
+text_of : (script text : List ℕ) (judged : Judged) → script_of script ≡ judged → judged_text judged text ≡ judged_text (script_of script) text
+text_of script text judged is = sym (ap (λ j. judged_text j text) is)
 
 -- the first line is a volume
-lines_begin : (words : List (List ℕ)) (script : List ℕ) → Begins (lines_for words script)
-lines_begin words script = begin (is_accepted words) (script_of script) (whole_script script)
+lines_begin : (task : Option Task) (script : List ℕ) → Begins (lines_for task script)
+lines_begin None script = tt
+lines_begin (Some task) script = script_begins (script_for task script)
 
 -- the script of a source, or any where it does not tell its bytes
 a_script : Option (List ℕ) → List ℕ
@@ -49,109 +39,160 @@ unfolding a_script
 is_script None = tt
 is_script (Some bytes) = refl
 
-module _ {D : Type 0} (seen : D → Option (List ℕ)) (may_leave : D → Images) (faults : D → ℕ) (words : List (List ℕ)) (left rest taken now : Option (List ℕ)) (failed full : Type 0) where
+left_same : (task : Option Task) (left : Option (List ℕ)) → IsLeft task left left
+left_same None left = refl
+left_same (Some (tasks.Run workers)) left = tt
+left_same (Some (tasks.Gen number workers)) left = refl
+
+none_told : {D : Type 0} (task : Option Task) (script : List ℕ) (behind : List Line) (w : World) (left rest : Option (List ℕ)) (failed : Type 0) (taken : Option (List ℕ)) (full : Type 0) (before after : List D) → Ending task statuses.NoMemory script behind [] w left rest failed taken taken full before after
+none_told None script behind w left rest failed taken full before after = appends_none taken
+none_told (Some (tasks.Run workers)) script behind w left rest failed taken full before after = appends_none taken
+none_told (Some (tasks.Gen number workers)) script behind w left rest failed taken full before after = appends_none taken
+
+module _ {D : Type 0} (seen : D → Option (List ℕ)) (may_leave : D → Images) (faults : D → ℕ) (workers : ℕ) (left rest taken now : Option (List ℕ)) (failed full : Type 0) where
+  abbrev Ran : Status → (before after : List D) → Type 0
+  Ran status before after = Outcome seen may_leave faults status (Some (tasks.Run workers)) left rest failed taken now full before after
+
   -- the lines of an accepted script
-  pub ran : (status : Status) (lines : List Line) (before after : List D) → is_accepted words ≡ true → IsScript left rest lines → HasRunLines seen may_leave faults status lines taken now full before after → Outcome seen may_leave faults status words left rest failed taken now full before after
-  ran statuses.Ok lines before after good s w = record {
+  pub ran : (status : Status) (acked : ℕ × ℕ) (lines : List Line) (before after : List D) → IsScript left rest lines → HasRunLines seen may_leave faults status acked lines taken now full before after → Ran status before after
+  ran statuses.Ok acked lines before after s w = record {
     script = s.script;
     source = s.source;
+    kept = tt;
     behind = w.rest;
     text = w.text;
-    ran = subst (λ ls. HasRunTo seen may_leave faults statuses.Ok ls w.rest w.text before after) (lines_yes words s.script lines good s.accepted) w.ran;
-    ending = (good, ap is_ok s.accepted, s.whole, w.wrote.0, w.wrote.1);
+    ran = subst (λ ls. HasRunTo seen may_leave faults statuses.Ok ls w.rest w.text before after) (sym (ap judged_lines s.accepted)) w.ran;
+    ending = (ap is_ok s.accepted, s.whole, w.wrote.0, w.wrote.1);
   }
-  ran statuses.NoMemory lines before after good s w = record {
+  ran statuses.NoMemory acked lines before after s w = record {
     script = s.script;
     source = s.source;
+    kept = tt;
     behind = w.rest;
     text = w.text;
-    ran = subst (λ ls. HasRunTo seen may_leave faults statuses.NoMemory ls w.rest w.text before after) (lines_yes words s.script lines good s.accepted) w.ran;
+    ran = subst (λ ls. HasRunTo seen may_leave faults statuses.NoMemory ls w.rest w.text before after) (sym (ap judged_lines s.accepted)) w.ran;
     ending = w.wrote;
   }
-  ran statuses.WriteFault lines before after good s w = record {
+  ran statuses.WriteFault acked lines before after s w = record {
     script = s.script;
     source = s.source;
+    kept = tt;
     behind = w.rest;
     text = w.text;
-    ran = subst (λ ls. HasRunTo seen may_leave faults statuses.WriteFault ls w.rest w.text before after) (lines_yes words s.script lines good s.accepted) w.ran;
-    ending = (w.wrote.0, subst (AppendsFront taken now) (text_yes words s.script w.text (Ok lines) good s.accepted) w.wrote.1);
+    ran = subst (λ ls. HasRunTo seen may_leave faults statuses.WriteFault ls w.rest w.text before after) (sym (ap judged_lines s.accepted)) w.ran;
+    ending = (w.wrote.0, subst (AppendsFront taken now) (text_of s.script w.text (Ok lines) s.accepted) w.wrote.1);
   }
-  ran statuses.Usage lines before after good s w = absurd w.wrote
-  ran statuses.Script lines before after good s w = absurd w.wrote
-  ran statuses.ReadFault lines before after good s w = absurd w.wrote
-
-  abbrev Unrun : Status → List D → Type 0
-  Unrun status disks = Outcome seen may_leave faults status words left rest failed taken now full disks disks
+  ran statuses.Usage acked lines before after s w = absurd w.wrote
+  ran statuses.Script acked lines before after s w = absurd w.wrote
+  ran statuses.ReadFault acked lines before after s w = absurd w.wrote
 
   -- the fault of a refused one
-  pub refused : (status : Status) (disks : List D) (line : ℕ) (fault : LineFault) → is_accepted words ≡ true → IsRefused left line fault → Refuses status (fault_text line fault) taken now full → Unrun status disks
-  refused statuses.Script disks line fault good s w = record {
+  pub refused : (status : Status) (disks : List D) (line : ℕ) (fault : LineFault) → IsRefused left line fault → Refuses status (fault_text line fault) taken now full → Ran status disks disks
+  refused statuses.Script disks line fault s w = record {
     script = s.script;
     source = s.source;
-    behind = lines_for words s.script;
+    kept = tt;
+    behind = judged_lines (script_of s.script);
     text = [];
-    ran = untouched seen may_leave faults statuses.Script (lines_for words s.script) disks (lines_begin words s.script);
-    ending = (good, ap is_err s.refused, subst (Appends taken now) (text_yes words s.script [] (Err (line, fault)) good s.refused) w, refl);
+    ran = untouched seen may_leave faults statuses.Script (judged_lines (script_of s.script)) disks (script_begins s.script);
+    ending = (ap is_err s.refused, subst (Appends taken now) (text_of s.script [] (Err (line, fault)) s.refused) w, refl);
   }
-  refused statuses.NoMemory disks line fault good s w = record {
+  refused statuses.NoMemory disks line fault s w = record {
     script = s.script;
     source = s.source;
-    behind = lines_for words s.script;
+    kept = tt;
+    behind = judged_lines (script_of s.script);
     text = [];
-    ran = untouched seen may_leave faults statuses.NoMemory (lines_for words s.script) disks (lines_begin words s.script);
+    ran = untouched seen may_leave faults statuses.NoMemory (judged_lines (script_of s.script)) disks (script_begins s.script);
     ending = w;
   }
-  refused statuses.WriteFault disks line fault good s w = record {
+  refused statuses.WriteFault disks line fault s w = record {
     script = s.script;
     source = s.source;
-    behind = lines_for words s.script;
+    kept = tt;
+    behind = judged_lines (script_of s.script);
     text = [];
-    ran = untouched seen may_leave faults statuses.WriteFault (lines_for words s.script) disks (lines_begin words s.script);
-    ending = (w.0, subst (AppendsFront taken now) (text_yes words s.script [] (Err (line, fault)) good s.refused) w.1);
+    ran = untouched seen may_leave faults statuses.WriteFault (judged_lines (script_of s.script)) disks (script_begins s.script);
+    ending = (w.0, subst (AppendsFront taken now) (text_of s.script [] (Err (line, fault)) s.refused) w.1);
   }
-  refused statuses.Usage disks line fault good s w = absurd w
-  refused statuses.Ok disks line fault good s w = absurd w
-  refused statuses.ReadFault disks line fault good s w = absurd w
+  refused statuses.Usage disks line fault s w = absurd w
+  refused statuses.Ok disks line fault s w = absurd w
+  refused statuses.ReadFault disks line fault s w = absurd w
 
+module _ {D : Type 0} (seen : D → Option (List ℕ)) (may_leave : D → Images) (faults : D → ℕ) (left taken now : Option (List ℕ)) (failed full : Type 0) (disks : List D) where
   -- the usage
-  pub told_usage : (disks : List D) → is_accepted words ≡ false → Appends taken now usage_text → Unrun statuses.Usage disks
-  told_usage disks bad put = record {
+  pub told_usage : Appends taken now usage_text → Outcome seen may_leave faults statuses.Usage None left left failed taken now full disks disks
+  told_usage put = record {
     script = a_script left;
     source = is_script left;
-    behind = lines_for words (a_script left);
+    kept = refl;
+    behind = [];
     text = [];
-    ran = untouched seen may_leave faults statuses.Usage (lines_for words (a_script left)) disks (lines_begin words (a_script left));
-    ending = (bad, put, refl);
+    ran = untouched seen may_leave faults statuses.Usage [] disks tt;
+    ending = (put, refl);
   }
 
-  pub cut_usage : (disks : List D) → is_accepted words ≡ false → full → AppendsFront taken now usage_text → Unrun statuses.WriteFault disks
-  cut_usage disks bad rose front = record {
+  pub cut_usage : full → AppendsFront taken now usage_text → Outcome seen may_leave faults statuses.WriteFault None left left failed taken now full disks disks
+  cut_usage rose front = record {
     script = a_script left;
     source = is_script left;
-    behind = lines_for words (a_script left);
+    kept = refl;
+    behind = [];
     text = [];
-    ran = untouched seen may_leave faults statuses.WriteFault (lines_for words (a_script left)) disks (lines_begin words (a_script left));
-    ending = (rose, subst (AppendsFront taken now) (text_no words (a_script left) [] bad) front);
+    ran = untouched seen may_leave faults statuses.WriteFault [] disks tt;
+    ending = (rose, front);
   }
 
-module _ {D : Type 0} (seen : D → Option (List ℕ)) (may_leave : D → Images) (faults : D → ℕ) (words : List (List ℕ)) (left rest taken : Option (List ℕ)) (failed full : Type 0) (disks : List D) where
-  -- the words or the script were not read whole
-  pub unread : Outcome seen may_leave faults statuses.NoMemory words left rest failed taken taken full disks disks
-  unread = record {
+  -- the words were not read whole
+  pub unread : (task : Option Task) → Outcome seen may_leave faults statuses.NoMemory task left left failed taken taken full disks disks
+  unread task = record {
     script = a_script left;
     source = is_script left;
-    behind = lines_for words (a_script left);
+    kept = left_same task left;
+    behind = lines_for task (a_script left);
     text = [];
-    ran = untouched seen may_leave faults statuses.NoMemory (lines_for words (a_script left)) disks (lines_begin words (a_script left));
+    ran = untouched seen may_leave faults statuses.NoMemory (lines_for task (a_script left)) disks (lines_begin task (a_script left));
+    ending = none_told task (a_script left) (lines_for task (a_script left)) _ left left failed taken full disks disks;
+  }
+
+module _ {D : Type 0} (seen : D → Option (List ℕ)) (may_leave : D → Images) (faults : D → ℕ) (workers : ℕ) (left rest taken : Option (List ℕ)) (failed full : Type 0) (disks : List D) where
+  -- the script was not read whole
+  pub cut_off : Outcome seen may_leave faults statuses.NoMemory (Some (tasks.Run workers)) left rest failed taken taken full disks disks
+  cut_off = record {
+    script = a_script left;
+    source = is_script left;
+    kept = tt;
+    behind = judged_lines (script_of (a_script left));
+    text = [];
+    ran = untouched seen may_leave faults statuses.NoMemory (judged_lines (script_of (a_script left))) disks (script_begins (a_script left));
     ending = appends_none taken;
   }
 
-  pub unreadable : is_accepted words ≡ true → failed × IsUndecided left rest → Outcome seen may_leave faults statuses.ReadFault words left rest failed taken taken full disks disks
-  unreadable good cause = record {
+  pub unreadable : failed × IsUndecided left rest → Outcome seen may_leave faults statuses.ReadFault (Some (tasks.Run workers)) left rest failed taken taken full disks disks
+  unreadable cause = record {
     script = a_script left;
     source = is_script left;
-    behind = lines_for words (a_script left);
+    kept = tt;
+    behind = judged_lines (script_of (a_script left));
     text = [];
-    ran = untouched seen may_leave faults statuses.ReadFault (lines_for words (a_script left)) disks (lines_begin words (a_script left));
-    ending = (good, cause.0, cause.1, appends_none taken, refl);
+    ran = untouched seen may_leave faults statuses.ReadFault (judged_lines (script_of (a_script left))) disks (script_begins (a_script left));
+    ending = (cause.0, cause.1, appends_none taken, refl);
   }
+
+-- a generated script
+pub summed : {D : Type 0} (seen : D → Option (List ℕ)) (may_leave : D → Images) (faults : D → ℕ) (status : Status) (number workers : ℕ) (left taken now : Option (List ℕ)) (failed full : Type 0) (before after : List D) → HasGenerated seen may_leave faults status number taken now full before after
+    → Outcome seen may_leave faults status (Some (tasks.Gen number workers)) left left failed taken now full before after
+summed seen may_leave faults status number workers left taken now failed full before after g = record {
+  script = a_script left;
+  source = is_script left;
+  kept = refl;
+  behind = g.behind;
+  text = g.text;
+  ran = g.ran;
+  ending = g.sums;
+}
+
+-- of the task that the words ask for
+pub asked : {D : Type 0} {seen : D → Option (List ℕ)} {may_leave : D → Images} {faults : D → ℕ} {status : Status} {left rest : Option (List ℕ)} {failed : Type 0} {taken now : Option (List ℕ)} {full : Type 0} {before after : List D} (one task : Option Task)
+    → one ≡ task → Outcome seen may_leave faults status one left rest failed taken now full before after → Outcome seen may_leave faults status task left rest failed taken now full before after
+asked {D} {seen} {may_leave} {faults} {status} {left} {rest} {failed} {taken} {now} {full} {before} {after} one task is o = subst (λ t. Outcome seen may_leave faults status t left rest failed taken now full before after) is o

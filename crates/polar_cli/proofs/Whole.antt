@@ -1,5 +1,5 @@
 -- The lines of a script are run on disks.
-use Rattle.std.proofs.Common.{◌≡◌, ℕ, ◌*◌, ◌<◌, ◌≤◌, List, [], ◌∷◌, ◌++◌, length, drop, get_or, Option, Some, slice_get, refl, ap, sym, subst, ◌∙◌, arith, drop-cons, length-append, length-drop}
+use Rattle.std.proofs.Common.{◌≡◌, ℕ, ◌*◌, ◌<◌, ◌≤◌, List, [], ◌∷◌, ◌++◌, length, drop, get_or, Option, Some, Ok, Err, slice_get, refl, ap, sym, subst, ◌∙◌, arith, drop-cons, length-append, length-drop}
 use Rattle.std.proofs.lemmas.Option.{slice_get_within}
 use Rattle.pf_disk.specs.Crashes.{Images}
 use Rattle.pf_entry.specs.Lists.{Every}
@@ -22,10 +22,13 @@ use Rattle.pf_world.proofs.Told.{lawful_run, safe_run, world_halts}
 use Rattle.polar_cli.specs.declared.status.Status.{Status}
 use Rattle.polar_cli.specs.declared.status.Status.TheVariants as statuses
 use Rattle.polar_cli.specs.Placed.{ArePlaced, IsVolume, IsWhole}
-use Rattle.polar_cli.specs.Running.{HasGoneOn, HasNotOpened, HasOpened, HasRunLines, HasRunTo, LeavesWorld, Stops}
+use Rattle.polar_cli.specs.Scripts.{Judged, script_of}
+use Rattle.polar_cli.specs.Reports.{judged_lines}
+use Rattle.polar_cli.specs.Running.{Counts, HasGoneOn, HasNotOpened, HasOpened, HasRunLines, HasRunTo, LeavesWorld, Stops, acked_count}
 use Rattle.pf_mounted.specs.Lists.{HasOneList}
 use Rattle.polar_cli.proofs.Lists.{HaveLists, lists_of}
 use Rattle.polar_cli.proofs.Opening.{bare, begun_passed, begun_sound, none_begun, volume_of}
+use Rattle.polar_cli.proofs.Placing.{whole_script}
 use Rattle.polar_cli.proofs.Taken.{appends_none}
 
 one_count : (m n : ℕ) (command : Command) → IsVolume m command → IsVolume n command → m ≡ n
@@ -92,6 +95,23 @@ abbrev pub Begins : List Line → Type 0
 Begins [] = Unit {0}
 Begins (line ∷ rest) = (chunks : ℕ) × IsVolume chunks line.command
 
+begin : (judged : Judged) → ((lines : List Line) → judged ≡ Ok lines → IsWhole lines) → Begins (judged_lines judged)
+begin (Ok []) whole = tt
+begin (Ok (line ∷ lines)) whole = first_is_volume (line ∷ lines) line (whole (line ∷ lines) refl)
+begin (Err refused) whole = tt
+
+-- and so a script does
+pub script_begins : (script : List ℕ) → Begins (judged_lines (script_of script))
+script_begins script = begin (script_of script) (whole_script script)
+
+counts : (status : Status) (acked : ℕ × ℕ) (w : WorldIs) → acked ≡ (acked_count w 0, acked_count w 1) → Counts status acked w
+counts statuses.Ok acked w is = is
+counts statuses.NoMemory acked w is = tt
+counts statuses.Usage acked w is = tt
+counts statuses.Script acked w is = tt
+counts statuses.ReadFault acked w is = tt
+counts statuses.WriteFault acked w is = tt
+
 no_such : (k : ℕ) (c : ChunkIs) → slice_get [] k ≡ Some c → ⊥
 no_such k c there = let low : k < 0 = slice_get_within [] k c there in absurd (omega arith)
 
@@ -132,11 +152,12 @@ module _ {D : Type 0} (seen : D → Option (List ℕ)) (may_leave : D → Images
       }
 
   -- the volume was made, lines were run, and the world was closed
-  pub ran_lines : HaveLists → (status : Status) (lines : List Line) (d : Line) (text : List ℕ) (taken now : Option (List ℕ)) (full : Type 0) (before after : List D) (old new : WorldOn D) → IsWhole lines → 0 < length lines → 48 ≤ length before
-      → HasOpened faults (get_or lines 0 d) text before old → HasGoneOn status (get_or lines 0 d) (drop 1 lines) taken now full old.world new.world → new.spare ≡ old.spare
+  pub ran_lines : HaveLists → (status : Status) (acked : ℕ × ℕ) (lines : List Line) (d : Line) (text : List ℕ) (taken now : Option (List ℕ)) (full : Type 0) (before after : List D) (old new : WorldOn D) → IsWhole lines → 0 < length lines → 48 ≤ length before
+      → HasOpened faults (get_or lines 0 d) text before old → HasGoneOn status (get_or lines 0 d) (drop 1 lines) taken now full old.world new.world → new.spare ≡ old.spare → acked ≡ (acked_count new.world 0, acked_count new.world 1)
       → ((given : List D) → drop (6 * length new.world.chunks) given ≡ new.spare → 6 * length new.world.chunks ≤ length given → AreLeft seen may_leave faults new.world.chunks given after)
-      → HasRunLines seen may_leave faults status lines taken now full before after
-  ran_lines have status lines d text taken now full before after old new whole some enough opened gone spare closed =
+      → HasRunLines seen may_leave faults status acked lines taken now full before after
+  unfolding has_run
+  ran_lines have status acked lines d text taken now full before after old new whole some enough opened gone spare counted closed =
       let small : length old.world.chunks ≤ 8 = some_chunks (length old.world.chunks) old.world.sectors old.world.names old.world.format opened.is_world.volume in
       let count = gone.count in
       let left = closed before (ap (λ n. drop (6 * n) before) count ∙ sym opened.spare ∙ sym spare) (omega (arith, count, small, enough)) in
@@ -161,6 +182,7 @@ module _ {D : Type 0} (seen : D → Option (List ℕ)) (may_leave : D → Images
             gone.is_world (gone.run halts (tells_earlier halts gone.world new.world more told.tells)).world
             (omega (arith, whole.few, ap length gone.first, length-append gone.done gone.rest, length-drop 1 lines)));
         wrote = gone.wrote;
+        counted = counts status acked new.world counted;
       }
 
   -- no line was run
@@ -170,9 +192,9 @@ module _ {D : Type 0} (seen : D → Option (List ℕ)) (may_leave : D → Images
       has_run status lines [] lines [] before after (bare sectors names format) left halts refl (λ hs tells. record { world = refl; report = refl; ends = tt }) (λ none. refl) (λ k c there. absurd (no_such k c there)) sound (λ k c there. absurd (no_such k c there)) told stops disks (λ lawful some. absurd (omega (arith, some)))
 
   -- memory ran out as the volume was made
-  pub none_made : (lines : List Line) (d : Line) (taken : Option (List ℕ)) (full : Type 0) (before after : List D) → IsWhole lines → HasNotOpened seen may_leave faults (get_or lines 0 d) before after → HasRunLines seen may_leave faults statuses.NoMemory lines taken taken full before after
-  none_made [] d taken full before after whole not = absurd whole.placed
-  none_made (line ∷ lines) d taken full before after whole not =
+  pub none_made : (acked : ℕ × ℕ) (lines : List Line) (d : Line) (taken : Option (List ℕ)) (full : Type 0) (before after : List D) → IsWhole lines → HasNotOpened seen may_leave faults (get_or lines 0 d) before after → HasRunLines seen may_leave faults statuses.NoMemory acked lines taken taken full before after
+  none_made acked [] d taken full before after whole not = absurd whole.placed
+  none_made acked (line ∷ lines) d taken full before after whole not =
       let volume = volume_of whole.chunks line.command whole.placed.0 in
       let sound = begun_sound faults line.command before not.made volume not.begun in
       let told = are_halts seen may_leave faults before after not.made not.made (begun_passed faults line.command before not.made volume not.begun seen may_leave after not.left) in
@@ -181,6 +203,7 @@ module _ {D : Type 0} (seen : D → Option (List ℕ)) (may_leave : D → Images
         text = [];
         ran = none_ran statuses.NoMemory (line ∷ lines) before after 0 0 0 not.made (world_halts not.made) sound told not.begun not.left;
         wrote = appends_none taken;
+        counted = tt;
       }
 
   -- a world without chunks, where a run stops that has no line

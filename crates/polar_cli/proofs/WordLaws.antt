@@ -1,27 +1,33 @@
 -- What the words of the command line say.
-use Rattle.std.proofs.Common.{◌≡◌, ℕ, zero, suc, ◌+◌, ◌≤◌, ◌<◌, pos, Bool, true, false, List, [], ◌∷◌, Option, Some, None, option_map, IfSome, Result, Ok, refl, sym, ap, subst, ◌∙◌, arith, true≢false, codes}
+use Rattle.std.proofs.Common.{◌≡◌, ◌⊎◌, inl, inr, ℕ, zero, suc, ◌+◌, ◌≤◌, ◌<◌, pos, Bool, true, false, ◌&&◌, cond, List, [], ◌∷◌, Option, Some, None, is_some, option_map, Result, Ok, Err, refl, sym, ap, ◌∙◌, arith, true≢false, codes}
 use Rattle.std.specs.Prelude.{Box, if◌then◌else◌, option_and_then}
 use Rattle.std.specs.Box.{box_value}
+use Rattle.std.specs.Option.{option_map_or}
+use Rattle.std.specs.Str.{bytes_eq}
 use Rattle.std.specs.Str.Parse.{ParsesUnsigned, digits_value, without_leading_plus}
 use Rattle.clap.specs.Lexer.{without_minus}
 use Rattle.clap.specs.Matches.{ReadsOne, one_text, subcommand_name_of}
-use Rattle.clap.specs.Walk.{Row, Text, one_of, rows_of}
-use Rattle.clap.specs.Simple.{subcommand_of, subcommand_rows, subcommand_rows_of}
-use Rattle.clap.specs.Takes.{takes}
+use Rattle.clap.specs.Walk.{Row, Rule, Text, answers_to, nothing_held, one_of, rows_after, rows_of, settled, stop_after, walk, with_default}
+use Rattle.clap.specs.Simple.{Shape, built, entered, filled, names_of, rows_at, subcommand_of, subcommand_rows, subcommand_rows_of, with_index, is_simple}
+use Rattle.clap.specs.Takes.{entered_passes, is_given, level_passes, takes}
+use Rattle.clap.specs.ValueTests.{accepts as fits}
 use Rattle.clap.specs.Faults.{fault_of, is_simple_and_free}
 use Rattle.clap.proofs.OnLiterals.{clap_on_literals}
 use Rattle.clap.proofs.CallerReads.{signed_reads}
 use Rattle.clap.proofs.ValueTestLemmas.{accepts-Accepts}
-use Rattle.clap.proofs.WalkLemmas.{one_text-rows}
+use Rattle.clap.proofs.WalkLemmas.{both, one_text-rows}
 use Rattle.clap.specs.declared.builder.value_parser.ValueParser.TheVariants as parsers
 use Rattle.clap.specs.declared.parser.matches.ArgMatches.{ArgMatches}
 use Rattle.clap.specs.declared.parser.matches.ArgMatches.TheViews.{out-ArgMatches, out-SubCommand}
 use Rattle.clap.specs.declared.parser.matches.Found.{Found}
 use Rattle.clap.specs.declared.parser.matches.SubCommand.{SubCommand}
-use Rattle.clap.specs.declared.parser.matches.ValueSource.{ValueSource}
-use Rattle.polar_cli.specs.Words.{command, is_accepted, workers_of, workers_text}
+use Rattle.polar_cli.specs.declared.words.Task.{Task}
+use Rattle.polar_cli.specs.declared.words.Task.TheVariants as tasks
+use Rattle.pf_entry.specs.Lists.{Every}
+use Rattle.polar_cli.specs.Words.{command, is_accepted, number_rule, workers_rule}
+use Rattle.polar_cli.specs.Tasks.{number_at, task_at, task_of}
 use Rattle.polar_cli.proofs.Faultless.{taken}
-use Rattle.polar_cli.proofs.RunRows.{HasRun, row, run_is_met}
+use Rattle.polar_cli.proofs.Rows.{HasOne, IsSet, defaulted, given_row, leaf, level_fit, one_fits}
 
 pub command_is_simple : is_simple_and_free command ≡ true
 command_is_simple = refl
@@ -31,100 +37,252 @@ pub accepted : (words : List Text) → fault_of command words ≡ [] → is_acce
 unfolding is_accepted
 accepted words none = taken command words refl refl refl none
 
--- and others mean nothing
-none_of : (words : List Text) (b : Bool) → is_accepted words ≡ b → (b ≡ true → ⊥) → None ≡ workers_of words
-unfolding workers_of
-none_of words true is never = absurd (never refl)
-none_of words false is never = sym (ap (λ (b : Bool). if b then option_map (λ text. digits_value 10 (without_leading_plus text)) (workers_text words) else None) is)
+-- ---- the two subcommands
 
-pub unaccepted : (words : List Text) → (takes command words ≡ true → ⊥) → None ≡ workers_of words
+abbrev workers_here : Rule
+workers_here = filled workers_rule
+
+abbrev number_here : Rule
+number_here = with_index 1 (filled number_rule)
+
+abbrev run_rules : List Rule
+run_rules = workers_here ∷ []
+
+abbrev gen_rules : List Rule
+gen_rules = number_here ∷ workers_here ∷ []
+
+run_set : Every (IsSet run_rules) run_rules
+run_set = (record { found = refl; action = refl; least = refl; most = refl; defaults = omega arith }, tt)
+
+gen_set : Every (IsSet gen_rules) gen_rules
+gen_set = (record { found = refl; action = refl; least = refl; most = refl; defaults = omega arith }, (record { found = refl; action = refl; least = refl; most = refl; defaults = omega arith }, tt))
+
+-- `run` was met
+pub record IsRun (met : Option (Text × List Row)) : Type 0 where
+  pub rows : List Row
+  pub met_is : met ≡ Some (codes "run", rows)
+  pub workers : HasOne rows workers_here
+
+-- `gen` was met
+pub record IsGen (met : Option (Text × List Row)) : Type 0 where
+  pub rows : List Row
+  pub met_is : met ≡ Some (codes "gen", rows)
+  pub number : HasOne rows number_here
+  pub workers : HasOne rows workers_here
+
+run_good : (words : List Text) → level_passes (leaf (codes "run") run_rules) [] nothing_held words false ≡ true → HasOne (rows_after run_rules [] words) workers_here
+run_good words e =
+    let fit = level_fit (codes "run") run_rules run_set words e in
+    one_fits run_rules workers_here (rows_after run_rules [] words) run_set.0 fit.0 (defaulted workers_here (codes "2") (settled run_rules (walk run_rules [] nothing_held words).held).rows refl)
+
+gen_good : (words : List Text) → level_passes (leaf (codes "gen") gen_rules) [] nothing_held words false ≡ true → HasOne (rows_after gen_rules [] words) number_here × HasOne (rows_after gen_rules [] words) workers_here
+gen_good words e =
+    let rows = rows_after gen_rules [] words in
+    let fit = level_fit (codes "gen") gen_rules gen_set words e in
+    let given : is_given (codes "N") rows ≡ true = (both (is_given (codes "N") rows) true fit.1).0 in (
+      one_fits gen_rules number_here rows gen_set.0 fit.0 (given_row (codes "N") rows given),
+      one_fits gen_rules workers_here rows gen_set.1.0 fit.0 (defaulted workers_here (codes "2") (with_default (settled gen_rules (walk gen_rules [] nothing_held words).held).rows number_here) refl),
+    )
+
+abbrev met_of : Option Shape → List Text → Option (Text × List Row)
+met_of found words = option_map (λ s. rows_at s words) found
+
+abbrev passes_at : Option Shape → List Text → Bool
+passes_at found words = option_map_or (λ s. level_passes s [] nothing_held words false) found true
+
+by_name : (b c : Bool) (words : List Text) → is_some (met_of (cond b (Some (leaf (codes "run") run_rules)) (cond c (Some (leaf (codes "gen") gen_rules)) None)) words) ≡ true
+    → passes_at (cond b (Some (leaf (codes "run") run_rules)) (cond c (Some (leaf (codes "gen") gen_rules)) None)) words ≡ true
+    → IsRun (met_of (cond b (Some (leaf (codes "run") run_rules)) (cond c (Some (leaf (codes "gen") gen_rules)) None)) words) ⊎ IsGen (met_of (cond b (Some (leaf (codes "run") run_rules)) (cond c (Some (leaf (codes "gen") gen_rules)) None)) words)
+by_name true c words some e = inl (record { rows = rows_after run_rules [] words; met_is = refl; workers = run_good words e })
+by_name false true words some e = inr (record { rows = rows_after gen_rules [] words; met_is = refl; number = (gen_good words e).0; workers = (gen_good words e).1 })
+by_name false false words some e = absurd (true≢false (sym some))
+
+entered_good : (stop : Option (Text × List Text)) → is_some (entered (built command) stop) ≡ true → entered_passes (built command) stop ≡ true → IsRun (entered (built command) stop) ⊎ IsGen (entered (built command) stop)
+entered_good None some e = absurd (true≢false (sym some))
+entered_good (Some p) some e = by_name (answers_to p.0 (codes "run", [])) (answers_to p.0 (codes "gen", [])) p.1 some e
+
+third : (a b c d : Bool) → (a && (b && (c && d))) ≡ true → c ≡ true
+third a b c d e = (both c d (both b (c && d) (both a (b && (c && d)) e).1).1).0
+
+met_good : (words : List Text) → takes command words ≡ true → IsRun (subcommand_of command words) ⊎ IsGen (subcommand_of command words)
+met_good words e =
+    let b = built command in
+    let stop = stop_after b.top.rules (names_of b) words in
+    let parts = both (entered_passes b stop) (level_passes b.top (names_of b) nothing_held words (is_some (entered b stop))) (both (is_simple command) _ e).1 in
+    let met = third _ _ (is_some (entered b stop)) _ parts.1 in
+    entered_good stop met parts.0
+
+-- words that are accepted have one of the two, since a subcommand is required
+pub met_of_words : (words : List Text) → is_accepted words ≡ true → IsRun (subcommand_of command words) ⊎ IsGen (subcommand_of command words)
+unfolding is_accepted
+met_of_words words e = met_good words e
+
+-- ---- what they mean
+
+abbrev number : Text → ℕ
+number text = digits_value 10 (without_leading_plus text)
+
+accepted_task : (words : List Text) (met : Option (Text × List Row)) → is_accepted words ≡ true → subcommand_of command words ≡ met → task_of words ≡ option_and_then task_at met
+unfolding task_of
+accepted_task words met good is = ap (λ (b : Bool). if b then option_and_then task_at (subcommand_of command words) else None) good ∙ ap (option_and_then task_at) is
+
+run_task : (words : List Text) → is_accepted words ≡ true → (run : IsRun (subcommand_of command words)) → task_of words ≡ Some (tasks.Run (number (without_minus run.workers.text)))
+run_task words good run =
+    accepted_task words (Some (codes "run", run.rows)) good run.met_is
+    ∙ ap (λ (o : Option Text). option_and_then (λ workers. Some (tasks.Run workers)) (option_map number o)) run.workers.one
+
+gen_task : (words : List Text) → is_accepted words ≡ true → (gen : IsGen (subcommand_of command words)) → task_of words ≡ Some (tasks.Gen (number gen.number.text) (number (without_minus gen.workers.text)))
+gen_task words good gen =
+    accepted_task words (Some (codes "gen", gen.rows)) good gen.met_is
+    ∙ ap (λ (o : Option Text). option_and_then (λ workers. option_map (λ n. tasks.Gen n workers) (number_at (codes "N") gen.rows)) (option_map number o)) gen.workers.one
+    ∙ ap (λ (o : Option Text). option_map (λ n. tasks.Gen n (number (without_minus gen.workers.text))) (option_map number o)) gen.number.one
+
+-- other words mean nothing
+none_of : (words : List Text) (b : Bool) → is_accepted words ≡ b → (b ≡ true → ⊥) → None ≡ task_of words
+unfolding task_of
+none_of words true is never = absurd (never refl)
+none_of words false is never = sym (ap (λ (b : Bool). if b then option_and_then task_at (subcommand_of command words) else None) is)
+
+pub means_none : (words : List Text) → is_accepted words ≡ false → None ≡ task_of words
+means_none words not = none_of words false not (λ e. true≢false (sym e))
+
+pub unaccepted : (words : List Text) → (takes command words ≡ true → ⊥) → None ≡ task_of words
 unfolding is_accepted
 unaccepted words never = none_of words (is_accepted words) refl never
 
-some_means : (words : List Text) (b : Bool) (n : ℕ) → is_accepted words ≡ b → Some n ≡ workers_of words → b ≡ true
-some_means words true n is some = refl
-some_means words false n is some = let none = none_of words false is (λ e. true≢false (sym e)) in absurd (cc)
+some_means : (words : List Text) (b : Bool) (task : Task) → is_accepted words ≡ b → Some task ≡ task_of words → b ≡ true
+some_means words true task is some = refl
+some_means words false task is some = let none = none_of words false is (λ e. true≢false (sym e)) in absurd (cc)
 
--- words that tell a count are accepted
-pub accepts : (words : List Text) (workers : ℕ) → Some workers ≡ workers_of words → is_accepted words ≡ true
-accepts words workers some = some_means words (is_accepted words) workers refl some
+-- words that mean something are accepted
+pub accepts : (words : List Text) (task : Task) → Some task ≡ task_of words → is_accepted words ≡ true
+accepts words task some = some_means words (is_accepted words) task refl some
 
--- what is read of accepted words
-pub run_of : (words : List Text) → is_accepted words ≡ true → HasRun (subcommand_of command words)
-unfolding is_accepted
-run_of words e = run_is_met words e
+accepted_some : (words : List Text) → is_accepted words ≡ true → (task : Task) × (task_of words ≡ Some task)
+accepted_some words good = elim (met_of_words words good) [
+  | inl run ↦ (tasks.Run (number (without_minus run.workers.text)), run_task words good run)
+  | inr gen ↦ (tasks.Gen (number gen.number.text) (number (without_minus gen.workers.text)), gen_task words good gen)
+]
 
-abbrev number : Text → ℕ
-number text = digits_value 10 (without_leading_plus (without_minus text))
-
-workers_are : (words : List Text) (source : ValueSource) (text : Text) → is_accepted words ≡ true → subcommand_of command words ≡ Some (codes "run", row source text ∷ []) → Some (number text) ≡ workers_of words
-unfolding workers_of
-workers_are words source text good met =
-    let read : Option (Text × List Row) → Option ℕ =
-    λ (o : Option (Text × List Row)). option_map (λ t. digits_value 10 (without_leading_plus t)) (option_and_then (λ run. one_of (codes "workers") run.1) o) in
-    sym (ap (λ (b : Bool). if b then read (subcommand_of command words) else None) good ∙ ap read met)
-
-none_means : (words : List Text) (b : Bool) → is_accepted words ≡ b → None ≡ workers_of words → b ≡ false
+none_means : (words : List Text) (b : Bool) → is_accepted words ≡ b → None ≡ task_of words → b ≡ false
 none_means words false is none = refl
-none_means words true is none =
-    let run = run_of words is in
-    let met : subcommand_of command words ≡ Some (codes "run", row run.value.source run.value.text ∷ []) = let rows_are = run.value.rows_are in let met_is = run.met_is in (cc) in
-    let some = workers_are words run.value.source run.value.text is met in
-    absurd (cc)
+none_means words true is none = let (task, some) = accepted_some words is in absurd (cc)
 
--- and words that tell none are not
-pub accepts_not : (words : List Text) → None ≡ workers_of words → is_accepted words ≡ false
+-- and words that mean nothing are not
+pub accepts_not : (words : List Text) → None ≡ task_of words → is_accepted words ≡ false
 accepts_not words none = none_means words (is_accepted words) refl none
+
+-- ---- what a parse reads of them
 
 module _ {Z : Type 0} where
   name_of : (o : Option (Box SubCommand Z)) → option_map (λ b. (out-SubCommand (box_value b)).name.now) o ≡ option_map (λ p. p.0) (subcommand_rows o)
   name_of None = refl
   name_of (Some b) = refl
 
--- a parse of accepted words met `run`
-pub named_run : (words : List Text) (m : ArgMatches) → is_accepted words ≡ true → subcommand_rows_of m ≡ subcommand_of command words → subcommand_name_of m ≡ Some (codes "run")
-named_run words m good is = name_of (out-ArgMatches m).subcommand ∙ ap (option_map (λ p. p.0)) (is ∙ (run_of words good).met_is)
+named : (words : List Text) (m : ArgMatches) (met : Option (Text × List Row)) → subcommand_rows_of m ≡ subcommand_of command words → subcommand_of command words ≡ met → subcommand_name_of m ≡ option_map (λ p. p.0) met
+named words m met is met_is = name_of (out-ArgMatches m).subcommand ∙ ap (option_map (λ p. p.0)) (is ∙ met_is)
 
-from_1_to_8 : (r : Option ℕ) (n : ℕ) → r ≡ Some n → 1 ≤ n → n ≤ 8 → IfSome r (λ k. (1 ≤ k) × (k ≤ 8))
-from_1_to_8 r n is low high = subst (λ (o : Option ℕ). IfSome o (λ k. (1 ≤ k) × (k ≤ 8))) (sym is) (low, high)
+abbrev is_called : Text → Option Text → Bool
+is_called name o = option_map_or (λ n. bytes_eq n name) o false
 
--- what a number of 32 bits is read from
-module _ {E : Type 0} (G : List ℕ → Result ℕ E → Type 0) (only : (u : List ℕ) (x : Result ℕ E) → G u x → ParsesUnsigned 32 10 u x) where
-  exact : (text : Text) (r : Option ℕ) (n : ℕ) → ReadsOne G text r → r ≡ Some n → r ≡ Some (digits_value 10 (without_leading_plus text))
-  exact text (Some v) n read is = ap Some (only text (Ok v) read).1
-  exact text None n read is = absurd (cc)
+not_both : (o : Option Text) → o ≡ Some (codes "run") → o ≡ Some (codes "gen") → ⊥
+not_both o run gen = let both : true ≡ false = sym (ap (is_called (codes "run")) run) ∙ ap (is_called (codes "run")) gen in true≢false both
 
-  -- the count that is read of them
-  pub read_workers : (words : List Text) (m : ArgMatches) (f : Found) (r : Option ℕ) → is_accepted words ≡ true → subcommand_rows_of m ≡ subcommand_of command words
-      → option_map (λ p. p.1) (subcommand_rows (out-ArgMatches m).subcommand) ≡ Some (rows_of f)
-      → ((text : Text) → one_text f (codes "workers") ≡ Some text → ReadsOne G text r)
-      → (r ≡ workers_of words) × IfSome r (λ n. (1 ≤ n) × (n ≤ 8))
-  read_workers words m f r good is rows reads =
-      let run = run_of words good in
-      let text = run.value.text in
-      let met_rows : option_map (λ p. p.1) (subcommand_rows (out-ArgMatches m).subcommand) ≡ Some run.rows = ap (option_map (λ p. p.1)) (is ∙ run.met_is) in
-      let same : rows_of f ≡ row run.value.source text ∷ [] = let rows_are = run.value.rows_are in (cc (met_rows, rows, rows_are)) in
-      let read : ReadsOne G (without_minus text) r = reads (without_minus text) (one_text-rows f (codes "workers") ∙ ap (one_of (codes "workers")) same) in
-      let (n, is_n, low, high) = signed_reads E G 32 1 8 text r read only (omega arith) (accepts-Accepts false (parsers.Signed (pos 1) (pos 8)) text run.value.good) in
-      let met : subcommand_of command words ≡ Some (codes "run", row run.value.source text ∷ []) = let rows_are = run.value.rows_are in let met_is = run.met_is in (cc) in (
-        exact (without_minus text) r n read is_n ∙ workers_are words run.value.source text good met,
-        from_1_to_8 r n is_n low high,
-      )
+-- a parse that met `run`, or `gen`
+pub has_run : (words : List Text) (m : ArgMatches) → is_accepted words ≡ true → subcommand_rows_of m ≡ subcommand_of command words → subcommand_name_of m ≡ Some (codes "run") → IsRun (subcommand_of command words)
+has_run words m good is name = elim (met_of_words words good) [
+  | inl run ↦ run
+  | inr gen ↦ absurd (not_both (subcommand_name_of m) name (named words m (Some (codes "gen", gen.rows)) is gen.met_is))
+]
 
--- ---- what was accepted before clap read the words
+pub has_gen : (words : List Text) (m : ArgMatches) → is_accepted words ≡ true → subcommand_rows_of m ≡ subcommand_of command words → subcommand_name_of m ≡ Some (codes "gen") → IsGen (subcommand_of command words)
+has_gen words m good is name = elim (met_of_words words good) [
+  | inl run ↦ absurd (not_both (subcommand_name_of m) (named words m (Some (codes "run", run.rows)) is run.met_is) name)
+  | inr gen ↦ gen
+]
+
+pub has_either : (words : List Text) (m : ArgMatches) → is_accepted words ≡ true → subcommand_rows_of m ≡ subcommand_of command words → (subcommand_name_of m ≡ Some (codes "run") → ⊥) → (subcommand_name_of m ≡ Some (codes "gen") → ⊥) → ⊥
+has_either words m good is not_run not_gen = elim (met_of_words words good) [
+  | inl run ↦ not_run (named words m (Some (codes "run", run.rows)) is run.met_is)
+  | inr gen ↦ not_gen (named words m (Some (codes "gen", gen.rows)) is gen.met_is)
+]
+
+-- the rows of a parse are those of the subcommand
+rows_met : (words : List Text) (m : ArgMatches) (f : Found) (name : Text) (rows : List Row) → subcommand_rows_of m ≡ subcommand_of command words → subcommand_of command words ≡ Some (name, rows)
+    → option_map (λ p. p.1) (subcommand_rows (out-ArgMatches m).subcommand) ≡ Some (rows_of f) → rows_of f ≡ rows
+rows_met words m f name rows is met_is found =
+    let met : option_map (λ p. p.1) (subcommand_rows (out-ArgMatches m).subcommand) ≡ Some rows = ap (option_map (λ p. p.1)) (is ∙ met_is) in
+    cc (met, found)
+
+-- what a number is read from
+module _ {E : Type 0} (G : List ℕ → Result ℕ E → Type 0) where
+  exact : (bits : ℕ) → ((u : List ℕ) (x : Result ℕ E) → G u x → ParsesUnsigned bits 10 u x) → (text : Text) (r : Option ℕ) (n : ℕ) → ReadsOne G text r → r ≡ Some n → r ≡ Some (number text)
+  exact bits only text (Some v) n read is = ap Some (only text (Ok v) read).1
+  exact bits only text None n read is = absurd (cc)
+
+  -- the workers that are read of rows
+  pub workers_read : ((u : List ℕ) (x : Result ℕ E) → G u x → ParsesUnsigned 32 10 u x) → (rows : List Row) (f : Found) (r : Option ℕ) (one : HasOne rows workers_here) → rows_of f ≡ rows
+      → ((text : Text) → one_text f (codes "workers") ≡ Some text → ReadsOne G text r) → (n : ℕ) × (r ≡ Some n) × (n ≡ number (without_minus one.text)) × (1 ≤ n) × (n ≤ 8)
+  workers_read only rows f r one same reads =
+      let read : ReadsOne G (without_minus one.text) r = reads (without_minus one.text) (one_text-rows f (codes "workers") ∙ ap (one_of (codes "workers")) same ∙ one.one) in
+      let (n, is_n, low, high) = signed_reads E G 32 1 8 one.text r read only (omega arith) (accepts-Accepts false (parsers.Signed (pos 1) (pos 8)) one.text one.good) in
+      let value = exact 32 only (without_minus one.text) r n read is_n in
+      (n, is_n, cc (value, is_n), low, high)
+
+  unsigned : ((u : List ℕ) (x : Result ℕ E) → G u x → ParsesUnsigned 64 10 u x) → (text : Text) (r : Option ℕ) → ReadsOne G text r → fits false (parsers.Unsigned 0 18446744073709551615) text ≡ true → r ≡ Some (number text)
+  unsigned only text (Some v) read good = ap Some (only text (Ok v) read).1
+  unsigned only text None read good =
+      let fits = accepts-Accepts false (parsers.Unsigned 0 18446744073709551615) text good in
+      absurd (only text (Err read.0) read.1 (fits.0, fits.1))
+
+  -- and the number
+  pub number_read : ((u : List ℕ) (x : Result ℕ E) → G u x → ParsesUnsigned 64 10 u x) → (rows : List Row) (f : Found) (r : Option ℕ) (one : HasOne rows number_here) → rows_of f ≡ rows
+      → ((text : Text) → one_text f (codes "N") ≡ Some text → ReadsOne G text r) → r ≡ Some (number one.text)
+  number_read only rows f r one same reads =
+      unsigned only one.text r (reads one.text (one_text-rows f (codes "N") ∙ ap (one_of (codes "N")) same ∙ one.one)) one.good
+
+module _ {E : Type 0} (G : List ℕ → Result ℕ E → Type 0) (only : (u : List ℕ) (x : Result ℕ E) → G u x → ParsesUnsigned 32 10 u x) (words : List Text) (m : ArgMatches) (f : Found) (good : is_accepted words ≡ true) (is : subcommand_rows_of m ≡ subcommand_of command words)
+    (found : option_map (λ p. p.1) (subcommand_rows (out-ArgMatches m).subcommand) ≡ Some (rows_of f)) where
+  -- a parse that met `run` reads its workers
+  pub run_read : (r : Option ℕ) → subcommand_name_of m ≡ Some (codes "run") → ((text : Text) → one_text f (codes "workers") ≡ Some text → ReadsOne G text r)
+      → (n : ℕ) × (r ≡ Some n) × (Some (tasks.Run n) ≡ task_of words) × (1 ≤ n) × (n ≤ 8)
+  run_read r name reads =
+      let run = has_run words m good is name in
+      let (n, is_n, value, low, high) = workers_read G only run.rows f r run.workers (rows_met words m f (codes "run") run.rows is run.met_is found) reads in
+      (n, is_n, ap (λ k. Some (tasks.Run k)) value ∙ sym (run_task words good run), low, high)
+
+  -- and one that met `gen` its number too
+  pub gen_read : {F : Type 0} (H : List ℕ → Result ℕ F → Type 0) → ((u : List ℕ) (x : Result ℕ F) → H u x → ParsesUnsigned 64 10 u x) → (q r : Option ℕ) → subcommand_name_of m ≡ Some (codes "gen")
+      → ((text : Text) → one_text f (codes "N") ≡ Some text → ReadsOne H text q) → ((text : Text) → one_text f (codes "workers") ≡ Some text → ReadsOne G text r)
+      → (k : ℕ) × (n : ℕ) × (q ≡ Some k) × (r ≡ Some n) × (Some (tasks.Gen k n) ≡ task_of words) × (1 ≤ n) × (n ≤ 8)
+  gen_read H only_64 q r name reads_number reads =
+      let gen = has_gen words m good is name in
+      let same = rows_met words m f (codes "gen") gen.rows is gen.met_is found in
+      let (n, is_n, value, low, high) = workers_read G only gen.rows f r gen.workers same reads in
+      (number gen.number.text, n, number_read H only_64 gen.rows f q gen.number same reads_number, is_n, ap (λ k. Some (tasks.Gen (number gen.number.text) k)) value ∙ sym (gen_task words good gen), low, high)
+
+-- the number alone
+pub gen_number : {F : Type 0} (H : List ℕ → Result ℕ F → Type 0) → ((u : List ℕ) (x : Result ℕ F) → H u x → ParsesUnsigned 64 10 u x) → (words : List Text) (m : ArgMatches) (f : Found) (q : Option ℕ) → is_accepted words ≡ true
+    → subcommand_rows_of m ≡ subcommand_of command words → option_map (λ p. p.1) (subcommand_rows (out-ArgMatches m).subcommand) ≡ Some (rows_of f) → subcommand_name_of m ≡ Some (codes "gen")
+    → ((text : Text) → one_text f (codes "N") ≡ Some text → ReadsOne H text q) → (k : ℕ) × (q ≡ Some k)
+gen_number H only words m f q good is found name reads =
+    let gen = has_gen words m good is name in
+    (number gen.number.text, number_read H only gen.rows f q gen.number (rows_met words m f (codes "gen") gen.rows is gen.met_is found) reads)
+
+-- ---- what was accepted before there was `gen`
 
 -- `run --workers W`, with one digit
 abbrev with_digit : ℕ → List Text
 with_digit digit = codes "run" ∷ codes "--workers" ∷ (digit ∷ []) ∷ []
 
 -- `run` alone means two
-pub run_alone : workers_of (codes "run" ∷ []) ≡ Some 2
-unfolding workers_of is_accepted clap_on_literals
+pub run_alone : task_of (codes "run" ∷ []) ≡ Some (tasks.Run 2)
+unfolding task_of is_accepted clap_on_literals
 run_alone = refl
 
 -- and `run --workers W` means W, from 1 to 8
-pub run_with_digit : (n : ℕ) → n < 8 → workers_of (with_digit (49 + n)) ≡ Some (1 + n)
-unfolding workers_of is_accepted clap_on_literals
+pub run_with_digit : (n : ℕ) → n < 8 → task_of (with_digit (49 + n)) ≡ Some (tasks.Run (1 + n))
+unfolding task_of is_accepted clap_on_literals
 run_with_digit zero low = refl
 run_with_digit (suc zero) low = refl
 run_with_digit (suc (suc zero)) low = refl

@@ -12,6 +12,9 @@ use Rattle.pf_world.specs.Views.{WorldIs}
 use Rattle.pf_world.specs.Worlds.{World}
 use Rattle.pf_world.specs.declared.line.Line.{Line}
 use Rattle.pf_mounted.specs.Lists.{HasOneList}
+use Rattle.polar_cli.specs.Reports.{lines_for}
+use Rattle.polar_cli.specs.Tasks.{IfRun}
+use Rattle.polar_cli.specs.declared.words.Task.{Task}
 use Rattle.polar_cli.specs.declared.status.Status.{Status}
 use Rattle.polar_cli.specs.declared.status.Status.TheVariants as statuses
 
@@ -30,15 +33,15 @@ pub record Headline (halts : List Halt) (lines : List Line) (text : List ℕ) : 
   pub one_list : let run = world_run halts lines in 0 < length run.world.volume.hosts → HasOneList run.world.volume.extent run.world.volume.chunks run.told
   pub shown : report_of halts lines ≡ text
 
--- It holds of the lines that were run, under a list of halts each of which has its cause. With status 0 these are all lines, and the sink took
--- the whole text
-pub record HasHeadline {D : Type 0} (faults : D → ℕ) (status : Status) (lines : List Line) (taken now : Option (List ℕ)) (before after : List D) : Type 0 where
+-- It holds of the lines of the words' task that were run, under a list of halts each of which has its cause. With status 0 these are all lines, and
+-- the sink took the whole text of the source's script
+pub record HasHeadline {D : Type 0} (faults : D → ℕ) (status : Status) (task : Option Task) (given : List ℕ) (taken now : Option (List ℕ)) (before after : List D) : Type 0 where
   pub done : List Line
   pub rest : List Line
-  pub first : done ++ rest ≡ lines
+  pub first : done ++ rest ≡ lines_for task given
   pub halts : List Halt
   pub left : WorldIs
   pub caused : AreHalts faults halts before after left
   pub text : List ℕ
   pub holds : Headline halts done text
-  pub whole : status ≡ statuses.Ok → (rest ≡ []) × Appends taken now text
+  pub whole : status ≡ statuses.Ok → (rest ≡ []) × IfRun task (Appends taken now text)

@@ -95,7 +95,8 @@ fn go_on<K: Sink, D: Disk + Drop, R: Threads + Sync, G: Gate + Sync>(
     Status::Ok
 }
 
-/// Runs the lines of a script over the disks, and writes the text of each line after it has run.
+/// Runs the lines of a script over the disks, and writes the text of each line after it has run. With `Ok` come the counts of the slots
+/// that groups 0 and 1 acknowledged.
 #[allow(clippy::too_many_arguments)]
 pub fn run_lines<K: Sink, D: Disk + Drop, R: Threads + Sync, G: Gate + Sync>(
     rt: &R,
@@ -105,12 +106,12 @@ pub fn run_lines<K: Sink, D: Disk + Drop, R: Threads + Sync, G: Gate + Sync>(
     sink: &mut K,
     disks: &mut Vec<D>,
     gate: &G,
-) -> Status
+) -> (Status, (usize, usize))
     requires lines { IsWhole lines.now }
     requires workers { (1 ≤ workers) × (workers ≤ 8) }
     requires disks { 48 ≤ length disks.old.items }
     requires told { AreTold D.seen disks.old.items }
-    ensures { HasRunLines D.seen D.may_leave D.faults result lines.now (K.taken sink.old) (K.taken sink.new) (Rose (K.faults sink.old) (K.faults sink.new)) disks.old.items disks.new.items }
+    ensures { HasRunLines D.seen D.may_leave D.faults result.0 result.1 lines.now (K.taken sink.old) (K.taken sink.new) (Rose (K.faults sink.old) (K.faults sink.new)) disks.old.items disks.new.items }
 {
     runs_have_one_list();
     let [volume, rest @ ..] = lines else {
@@ -119,12 +120,13 @@ pub fn run_lines<K: Sink, D: Disk + Drop, R: Threads + Sync, G: Gate + Sync>(
     match open(alloc, volume, workers, mem::replace(disks, Vec::new(alloc))) {
         Ok((mut world, text)) => {
             let status = go_on(rt, alloc, volume, &text, rest, &mut world, sink, gate);
+            let acked = (world.acked_count(0), world.acked_count(1));
             *disks = world.close();
-            status
+            (status, acked)
         }
         Err(back) => {
             *disks = back;
-            Status::NoMemory
+            (Status::NoMemory, (0, 0))
         }
     }
 }

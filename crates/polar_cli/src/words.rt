@@ -1,36 +1,67 @@
 //! The words of the command line.
-ghost use Rattle.std.specs.Prelude.{◌≡◌, ◌≤◌, IfOk, IfSome, map, string_bytes};
-ghost use Rattle.clap.specs.Words.{app_of};
-ghost use Rattle.polar_cli.specs.Words.{command, workers_of};
+ghost use Rattle.std.specs.Prelude.{◌≡◌, false, IfOk, IfSome, map, string_bytes};
+ghost use Rattle.clap.specs.Words.{app_of, rule_of};
+ghost use Rattle.polar_cli.specs.Words.{command, number_rule, workers_rule};
+ghost use Rattle.polar_cli.specs.Tasks.{HasFewWorkers, task_of};
 
 use clap::error::ErrorKind;
 use clap::{Arg, Command};
 use pf_base::NoMemory;
 use std::alloc::{AllocError, Global};
 
-/// What the program reads of its words: `run`, with the option `--workers` of one whole number from 1 to 8.
+/// What the words ask for.
+#[derive(Clone, Copy, Debug, PartialEq, Eq)]
+pub enum Task {
+    /// To run the script of the source, and to write its report.
+    Run { workers: u32 },
+    /// To run the script that a number generates, and to write one line.
+    Gen { number: u64, workers: u32 },
+}
+
+/// `--workers`, with one whole number from 1 to 8.
+fn workers_option<'a>(alloc: Global) -> Arg<'a>
+    ensures rule { rule_of result ≡ workers_rule }
+    ensures global { result.global ≡ false }
+{
+    Arg::new(alloc, "workers")
+        .long("workers")
+        .default_value("2")
+        .value_parser(clap::value_parser!(u32).range(1..=8))
+}
+
+/// `N`, a whole number of 64 bits that has to come.
+fn number_place<'a>(alloc: Global) -> Arg<'a>
+    ensures rule { rule_of result ≡ number_rule }
+    ensures global { result.global ≡ false }
+{
+    Arg::new(alloc, "N")
+        .required(true)
+        .value_parser(clap::value_parser!(u64))
+}
+
+/// What the program reads of its words: `run`, or `gen N`, each with the option `--workers`.
 fn command<'a>(alloc: Global) -> Result<Command<'a>, AllocError>
     ensures { IfOk result (λ made. app_of made ≡ command) }
 {
-    let workers = Arg::new(alloc, "workers")
-        .long("workers")
-        .default_value("2")
-        .value_parser(clap::value_parser!(u32).range(1..=8));
-    let run = Command::new(alloc, "run").arg(workers)?;
+    let run = Command::new(alloc, "run").arg(workers_option(alloc))?;
+    let generate = Command::new(alloc, "gen")
+        .arg(number_place(alloc))?
+        .arg(workers_option(alloc))?;
     Command::new(alloc, "polarfs")
         .no_binary_name(true)
         .disable_help_flag(true)
         .disable_help_subcommand(true)
         .subcommand_required(true)
-        .subcommand(run)
+        .subcommand(run)?
+        .subcommand(generate)
 }
 
-/// On how many threads sectors are copied, 1 to 8, where the words are accepted, and else `None`.
+/// What the words ask for, where they are accepted, and else `None`. The workers are 1 to 8.
 ///
 /// `NoMemory` (1) where memory runs out before it is known.
-pub fn workers(alloc: Global, words: &[String]) -> Result<Option<u32>, NoMemory>
-    ensures told { IfOk result (λ told. told ≡ workers_of (map string_bytes words.now)) }
-    ensures bound { IfOk result (λ told. IfSome told (λ workers. (1 ≤ workers) × (workers ≤ 8))) }
+pub fn read_task(alloc: Global, words: &[String]) -> Result<Option<Task>, NoMemory>
+    ensures told { IfOk result (λ told. told ≡ task_of (map string_bytes words.now)) }
+    ensures bound { IfOk result (λ told. IfSome told HasFewWorkers) }
 {
     let matches = match command(alloc)?.try_get_matches_from(words) {
         Ok(matches) => matches,
@@ -43,7 +74,19 @@ pub fn workers(alloc: Global, words: &[String]) -> Result<Option<u32>, NoMemory>
         }
     };
     match matches.subcommand_matches("run") {
-        Some(run) => Ok(run.get_one::<u32>("workers")),
-        None => Ok(None),
+        Some(met) => match met.get_one::<u32>("workers") {
+            Some(workers) => Ok(Some(Task::Run { workers })),
+            None => Ok(None),
+        },
+        None => match matches.subcommand_matches("gen") {
+            Some(met) => match met.get_one::<u64>("N") {
+                Some(number) => match met.get_one::<u32>("workers") {
+                    Some(workers) => Ok(Some(Task::Gen { number, workers })),
+                    None => Ok(None),
+                },
+                None => Ok(None),
+            },
+            None => Ok(None),
+        },
     }
 }

@@ -1,0 +1,41 @@
+-- How the run of a generated script ends.
+use Rattle.std.specs.Prelude.{◌≡◌, ℕ, List, [], length, Option, IsOk, Ok}
+use Rattle.std.specs.Io.KnownBytes.{Appends}
+use Rattle.pf_disk.specs.Crashes.{Images}
+use Rattle.pf_gen.specs.Generated.{generated}
+use Rattle.pf_world.specs.declared.line.Line.{Line}
+use Rattle.pf_world.specs.Reports.{world_run}
+use Rattle.pf_world.specs.Worlds.{World}
+use Rattle.polar_cli.specs.declared.status.Status.{Status}
+use Rattle.polar_cli.specs.declared.status.Status.TheVariants as statuses
+use Rattle.polar_cli.specs.Ends.{AppendsFront}
+use Rattle.polar_cli.specs.Reports.{judged_lines, summary_text}
+use Rattle.polar_cli.specs.Running.{HasRunTo}
+use Rattle.polar_cli.specs.Scripts.{script_of}
+
+-- the lines of the script that a number generates
+abbrev pub generated_lines : ℕ → List Line
+generated_lines number = judged_lines (script_of (generated number))
+
+-- the script is accepted, with its 2,004 lines
+abbrev pub IsAccepted : ℕ → Type 0
+IsAccepted number = (lines : List Line) × (script_of (generated number) ≡ Ok lines) × (length lines ≡ 2004)
+
+-- A status: all lines were run, and led to this world; the sink took the line that tells so, or a front of it where it failed. Else memory ran
+-- out, and nothing was written.
+abbrev pub Sums : Status → (number : ℕ) → (behind : List Line) → World → (taken now : Option (List ℕ)) → (full : Type 0) → Type 0
+Sums statuses.Ok number behind w taken now full = IsOk (script_of (generated number)) × (behind ≡ []) × Appends taken now (summary_text number w)
+Sums statuses.NoMemory number behind w taken now full = Appends taken now []
+Sums statuses.WriteFault number behind w taken now full = IsOk (script_of (generated number)) × (behind ≡ []) × full × AppendsFront taken now (summary_text number w)
+Sums status number behind w taken now full = ⊥
+
+module _ {D : Type 0} (seen : D → Option (List ℕ)) (may_leave : D → Images) (faults : D → ℕ) where
+  pub record HasGenerated (status : Status) (number : ℕ) (taken now : Option (List ℕ)) (full : Type 0) (before after : List D) : Type 0 where
+    pub behind : List Line
+    pub text : List ℕ
+    pub ran : HasRunTo seen may_leave faults status (generated_lines number) behind text before after
+    pub sums : Sums status number behind (world_run ran.halts ran.done).world taken now full
+
+-- the sink took the line of the run of which none was cut off
+abbrev pub IsPlainSum : (number : ℕ) → (taken now : Option (List ℕ)) → Type 0
+IsPlainSum number taken now = Appends taken now (summary_text number (world_run [] (generated_lines number)).world)

@@ -1,0 +1,37 @@
+-- What the words of the command line ask for.
+use Rattle.std.specs.Prelude.{ℕ, ◌≤◌, if◌then◌else◌, List, Option, Some, None, option_and_then, option_map, codes}
+use Rattle.std.specs.Str.{bytes_eq}
+use Rattle.std.specs.Str.Parse.{digits_value, without_leading_plus}
+use Rattle.clap.specs.Words.{Row, Text, one_of, subcommand_of}
+use Rattle.polar_cli.specs.declared.words.Task.{Task}
+use Rattle.polar_cli.specs.declared.words.Task.TheVariants as tasks
+use Rattle.polar_cli.specs.Words.{command, is_accepted}
+
+-- the number that is given to an argument, or stands for it
+abbrev pub number_at : Text → List Row → Option ℕ
+number_at id rows = option_map (λ text. digits_value 10 (without_leading_plus text)) (one_of id rows)
+
+-- `gen`, or else `run`, with the numbers of its arguments
+abbrev pub task_at : Text × List Row → Option Task
+task_at met = option_and_then (λ workers.
+    if bytes_eq met.0 (codes "gen") then option_map (λ number. tasks.Gen number workers) (number_at (codes "N") met.1)
+    else Some (tasks.Run workers)) (number_at (codes "workers") met.1)
+
+-- where the words are accepted
+unfoldable pub task_of : List Text → Option Task
+task_of words = if is_accepted words then option_and_then task_at (subcommand_of command words) else None
+
+-- sectors are copied on 1 to 8 threads
+abbrev pub HasFewWorkers : Task → Type 0
+HasFewWorkers (tasks.Run workers) = (1 ≤ workers) × (workers ≤ 8)
+HasFewWorkers (tasks.Gen number workers) = (1 ≤ workers) × (workers ≤ 8)
+
+-- this holds where the script of the source is to be run
+abbrev pub IfRun : Option Task → Type 0 → Type 0
+IfRun (Some (tasks.Run workers)) P = P
+IfRun task P = Unit {0}
+
+-- and this where that of a number is
+abbrev pub IfGen : Option Task → (ℕ → Type 0) → Type 0
+IfGen (Some (tasks.Gen number workers)) P = P number
+IfGen task P = Unit {0}

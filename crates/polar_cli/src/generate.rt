@@ -1,0 +1,76 @@
+//! The run of a generated script.
+ghost use Rattle.std.specs.Prelude.{◌≡◌, ◌≤◌, ◌++◌, IfOk, OnOk, length};
+ghost use Rattle.pf_io.specs.Causes.{Rose};
+ghost use Rattle.pf_world.specs.Disks.{AreTold};
+ghost use Rattle.polar_cli.specs.Reports.{counts_text, sum_text};
+ghost use Rattle.polar_cli.specs.Generating.{HasGenerated};
+
+use crate::ends::{Nowhere, write_all};
+use crate::lines::run_lines;
+use crate::scan::read_script;
+use crate::status::Status;
+use pf_base::NoMemory;
+use pf_disk::Disk;
+use pf_filling::Gate;
+use pf_gen::script;
+use pf_io::{Sink, SureSource};
+use pf_text::{put_decimal, put_text};
+use std::alloc::Global;
+use std::thread::Threads;
+
+/// Puts two counts, and a line feed.
+fn put_counts(out: &mut Vec<u8>, acked: (usize, usize)) -> Result<(), NoMemory>
+    ensures { OnOk result (out.new.items ≡ out.old.items ++ counts_text acked) }
+{
+    put_decimal(out, acked.0 as u64)?;
+    put_text(out, b" ")?;
+    put_decimal(out, acked.1 as u64)?;
+    put_text(out, b"\n")
+}
+
+/// The line that tells of a generated script, by how many slots each of its two groups acknowledged.
+fn sum_text(alloc: Global, number: u64, acked: (usize, usize)) -> Result<Vec<u8>, NoMemory>
+    ensures { IfOk result (λ text. text.items ≡ sum_text number acked) }
+{
+    let mut out = Vec::new(alloc);
+    put_text(&mut out, b"gen ")?;
+    put_decimal(&mut out, number)?;
+    put_text(&mut out, b" lines 2004 acked ")?;
+    put_counts(&mut out, acked)?;
+    Ok(out)
+}
+
+/// Runs the script that a number generates over the disks, and writes its one line when all its lines have run.
+pub fn generate<K: Sink, D: Disk + Drop, R: Threads + Sync, G: Gate + Sync>(
+    rt: &R,
+    alloc: Global,
+    number: u64,
+    workers: u32,
+    sink: &mut K,
+    disks: &mut Vec<D>,
+    gate: &G,
+) -> Status
+    requires workers { (1 ≤ workers) × (workers ≤ 8) }
+    requires disks { 48 ≤ length disks.old.items }
+    requires told { AreTold D.seen disks.old.items }
+    ensures { HasGenerated D.seen D.may_leave D.faults result number (K.taken sink.old) (K.taken sink.new) (Rose (K.faults sink.old) (K.faults sink.new)) disks.old.items disks.new.items }
+{
+    let Ok(text) = script(alloc, number) else {
+        return Status::NoMemory;
+    };
+    // A generated script is accepted (proofs/Drawn): only want of memory keeps it from being read.
+    let Ok(lines) = read_script(alloc, &mut SureSource::new(text)) else {
+        return Status::NoMemory;
+    };
+    let (status, acked) = run_lines(rt, alloc, &lines, workers, &mut Nowhere, disks, gate);
+    let Status::Ok = status else {
+        return Status::NoMemory;
+    };
+    let Ok(line) = sum_text(alloc, number, acked) else {
+        return Status::NoMemory;
+    };
+    if write_all(sink, &line).is_err() {
+        return Status::WriteFault;
+    }
+    Status::Ok
+}
