@@ -105,6 +105,9 @@ fn changed(alloc: Global, bytes: &[u8], at: usize, byte: u8) -> Result<Vec<u8>, 
 #[test]
 fn bytes_that_are_no_packet(rt: HostRuntime) -> Result<(), Fail> {
     let alloc = rt.alloc();
+    for len in 0..REQUEST.len() {
+        assert!(rt; is_bad(alloc, &REQUEST[..len]));
+    }
     for len in 0..ACCEPT.len() {
         assert!(rt; is_bad(alloc, &ACCEPT[..len]));
     }
