@@ -21,7 +21,6 @@ pub mod Ranges
 pub mod Tried
 pub mod Leaders
 pub mod Counted
-pub mod Acked
 pub mod Calls
 pub mod Handing
 pub mod Driven

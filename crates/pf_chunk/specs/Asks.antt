@@ -1,6 +1,5 @@
 -- What a chunk tells a port, as a desk.
-use Rattle.std.specs.Prelude.{◌≡◌, ℕ, Bool, ◌&&◌, ◌==◌, Option, Some, None, slice_get}
-use Rattle.std.specs.List.{list_any}
+use Rattle.std.specs.Prelude.{◌≡◌, ℕ, Bool, Option, Some, None, slice_get}
 use Rattle.std.specs.Option.{option_map}
 use Rattle.pf_base.specs.declared.asks.Reply.{Reply}
 use Rattle.pf_base.specs.declared.asks.Reply.TheVariants.{Bytes}
@@ -8,7 +7,7 @@ use Rattle.pf_base.specs.Span.{Span}
 use Rattle.pf_protocol.specs.Servers.{Condition, Role, Running, Serving}
 use Rattle.pf_protocol.specs.Groups.{Group}
 use Rattle.pf_protocol.specs.declared.answers.Answer.{Answer}
-use Rattle.pf_cluster.specs.Shown.{later_of}
+use Rattle.pf_cluster.specs.Shown.{is_acked, later_of}
 use Rattle.pf_asks.specs.declared.port.Sent.{Sent}
 use Rattle.pf_asks.specs.declared.port.Sent.TheVariants.{Slot, Number}
 use Rattle.pf_asks.specs.Desks.{Call, Led, Submitted, Fetched, WasAcked, Took}
@@ -21,10 +20,6 @@ use Rattle.pf_group.specs.Readers.{HasTaken, LacksAnswer}
 use Rattle.pf_group.specs.Steps.{HasStepped}
 use Rattle.pf_chunk.specs.Views.{ChunkIs, IsFetched}
 use Rattle.pf_chunk.specs.Waiting.{answers_of}
-
--- the slot was acknowledged to hosts in this term
-abbrev pub is_acked : Group → (term slot : ℕ) → Bool
-is_acked g term slot = list_any (λ a. a.term == term && a.slot == slot) g.acked
 
 -- how the last submission of an ask was answered, if it was
 abbrev pub reply_to : Group → (sent : Option Sent) → (last : ℕ) → Option Reply

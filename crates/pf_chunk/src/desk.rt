@@ -1,27 +1,15 @@
 //! A chunk as its ports see it.
-ghost use Rattle.std.specs.Prelude.{◌≡◌, ◌&&◌, ◌==◌, length, reverse};
-ghost use Rattle.std.specs.List.{list_any};
+ghost use Rattle.std.specs.Prelude.{◌≡◌, length};
 ghost use Rattle.pf_entry.specs.Lists.{Every};
 ghost use Rattle.pf_chunk.specs.Asks.{Counts, Says};
 
 use crate::ChunkGroup;
 use pf_asks::Desk;
 use pf_base::{Data, NoMemory, Payload, Range, Sector, Server, Slot, Term};
-use pf_cluster::Acked;
 use pf_disk::Disk;
 use pf_group::GroupEvent;
 use pf_protocol::Answer;
 use std::alloc::Global;
-
-/// Whether the slot was acknowledged in this term. What a host waits for stands near the end.
-fn is_acked(acked: &[Acked], term: Term, slot: Slot) -> bool
-    ensures { result ≡ list_any (λ a. a.term == term && a.slot == slot) (reverse acked.now) }
-{
-    acked
-        .iter()
-        .rev()
-        .any(|one| one.term == term && one.slot == slot)
-}
 
 /// Each sector has 512 bytes: its type says so, and after this the list that contracts see does too.
 fn are_whole(sectors: &[Sector])
@@ -75,7 +63,7 @@ impl<D: Disk + Drop> Desk for ChunkGroup<D> {
     }
 
     fn acked(&mut self, _alloc: Global, term: Term, slot: Slot) -> Result<bool, NoMemory> {
-        Ok(is_acked(self.group.acked(), term, slot))
+        Ok(self.group.is_acked(term, slot))
     }
 
     fn take_read(&mut self, _alloc: Global, number: u64) -> Result<Option<Data>, NoMemory> {

@@ -78,7 +78,7 @@ module _ {S : Type 0} (holds : S → Durable → Durable → Type 0) (used forma
     pub packets : next.packets.items ≡ cluster.packets.items ++ map fresh_parcel out.packets
     pub grown : vec_capacity cluster.packets ≤ vec_capacity next.packets
     pub room : next.byte_room + sum_by length out.packets ≡ cluster.byte_room
-    pub acked : next.acked.items ≡ cluster.acked.items ++ map (acked_here (settled o.server).durable.term) (option_to_list out.acked)
+    pub acked : next.acked.list.items ≡ cluster.acked.list.items ++ map (acked_here (settled o.server).durable.term) (option_to_list out.acked)
     pub readings : next.readings.items ≡ with_answers cluster.readings.items (answers_of stepped.me.state)
     pub elections : next.elections ≡ cluster.elections
 
@@ -108,7 +108,7 @@ module _ {S : Type 0} (holds : S → Durable → Durable → Type 0) (used forma
     all_room : next.byte_room + sum_by (λ sent. packet_size sent.packet) (g.packets ++ send o.packets) ≡ 134217728
     all_room = omega (arith, moved.room, its_bytes, stepped.traffic.room, sum_by-append (λ sent. packet_size sent.packet) g.packets (send o.packets), sent_size o.packets)
 
-    all_acked : next.acked.items ≡ map acked_of (g.acked ++ map (acked_in o.server.durable.term) (option_to_list o.acked))
+    all_acked : next.acked.list.items ≡ map acked_of (g.acked ++ map (acked_in o.server.durable.term) (option_to_list o.acked))
     all_acked =
         moved.acked ∙ ap (λ xs. xs ++ map (acked_here (settled o.server).durable.term) (option_to_list out.acked)) stepped.traffic.acked
         ∙ ap (λ (d : Durable). map acked_of g.acked ++ map (acked_here d.term) (option_to_list out.acked)) (settled_disk o.server)

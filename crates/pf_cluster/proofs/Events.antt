@@ -1,5 +1,5 @@
 -- Events that are one server's turn.
-use Rattle.std.proofs.Common.{◌≡◌, ℕ, ◌<◌, Bool, true, inl, inr, [], ◌++◌, length, Option, Some, None, Result, ◌^◌, slice_get, slice_set, vec_capacity, vec_len, refl, sym, ap, subst, ◌∙◌}
+use Rattle.std.proofs.Common.{◌≡◌, ℕ, ◌<◌, Bool, true, inl, inr, [], ◌++◌, length, Option, Some, None, Result, ◌^◌, slice_get, slice_set, refl, sym, ap, subst, ◌∙◌}
 use Rattle.pf_base.specs.declared.errors.NoMemory.{NoMemory}
 use Rattle.pf_entry.specs.Lists.{Every}
 use Rattle.pf_entry.specs.Records.{Durable}
@@ -14,6 +14,7 @@ use Rattle.pf_protocol.specs.Histories.{History, Runs, replay}
 use Rattle.pf_protocol.specs.Answers.{Turn, MayHappen, IsAnswer, IsLegal, answer_at, answer_by, answer_to, claims_of, halts_at, may_halt}
 use Rattle.pf_state.specs.Outgoing.{Outgoing}
 use Rattle.pf_server.specs.declared.server.Server.{Server}
+use Rattle.pf_cluster.specs.AckedSlots.{HasRoom}
 use Rattle.pf_cluster.specs.declared.cluster.Cluster.{Cluster}
 use Rattle.pf_cluster.specs.Going.{IsReached, acts_at}
 use Rattle.pf_cluster.specs.Showing.{AreMembers, HasTraffic}
@@ -67,7 +68,7 @@ module _ {S : Type 0} (holds : S → Durable → Durable → Type 0) (used forma
           → ((s : ServerIs) → judged s ≡ turn.refusal s) → ((s : ServerIs) → rule s ≡ turn.rule s)
           → Tells holds used format told rose was me next out out' judged rule outcome → IsDown holds used format told rose was me next out out' judged rule outcome
           → out ≡ outbox_of mid → ((s : ServerIs) → Runs (replay setup history) i s → IsTurnOf g turn s)
-          → HasTraffic mid g → vec_len mid.acked < vec_capacity mid.acked → ((c : Condition) → Took holds used format told rose was turn me next out out' outcome c → length mid.readings.items ≡ reads_with g.reads outcome)
+          → HasTraffic mid g → HasRoom mid.acked.list mid.acked.known → ((c : Condition) → Took holds used format told rose was turn me next out out' outcome c → length mid.readings.items ≡ reads_with g.reads outcome)
           → HasTurned holds used format told rose was setup g i turn mid out' outcome
       turned_so g same turn outcome out out' judged rule same_judged same_rule tells down fresh knows traffic place reads =
           let m = its_condition holds used format told setup history cluster reached i me middle.here in

@@ -26,7 +26,7 @@ use Rattle.pf_restart.specs.Beginning.{setup_at}
 use Rattle.pf_server.specs.declared.server.Server.{Server}
 use Rattle.pf_server.specs.Conditions.{IsNext, Meets}
 use Rattle.pf_cluster.specs.declared.cluster.Cluster.{Cluster}
-use Rattle.pf_cluster.specs.declared.kept.Acked.{Acked}
+use Rattle.pf_cluster.specs.declared.acked.AckedList.{AckedList}
 use Rattle.pf_cluster.specs.declared.kept.Reading.{Reading}
 use Rattle.pf_cluster.specs.declared.kept.Reading.TheVariants.{Waiting}
 use Rattle.pf_entry.specs.Lists.{Every}
@@ -131,7 +131,7 @@ module _ {S : Type 0} (holds : S → Durable → Durable → Type 0) (used forma
       next (StoppedIs life before after) there = tt
       next UnformattedIs there = tt
 
-  module _ (i : ℕ) (range : Span) (writable : IsWritable range.first range.count) (me next : Server S) (acked : Vec Acked) (readings : Vec Reading) (out out' : Outgoing) (number : ℕ) (numbered : number ≡ (replay setup history).reads) (outcome : Result Answer NoMemory)
+  module _ (i : ℕ) (range : Span) (writable : IsWritable range.first range.count) (me next : Server S) (acked : AckedList) (readings : Vec Reading) (out out' : Outgoing) (number : ℕ) (numbered : number ≡ (replay setup history).reads) (outcome : Result Answer NoMemory)
       (did : DidTurn holds used format told rose was setup history old reached i me next acked out out' (fetch_refusal (setup_at me.seat) out range number) (λ s. on_fetch s range number s.role) outcome)
       (kept : readings.items ≡ readings_with old.readings.items outcome) (room : (o : Outcome) → room_refusal out o ≡ group_room_refusal (replay setup history) o) where
     abbrev g : Group

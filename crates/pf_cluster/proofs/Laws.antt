@@ -1,14 +1,12 @@
 -- What a server may rest on after a legal history.
-use Rattle.std.proofs.Common.{◌≡◌, ℕ, zero, suc, ◌+◌, ◌<◌, ◌≤◌, ◌⊎◌, ◌^◌, false, inl, inr, List, [], ◌∷◌, ◌++◌, length, Some, slice_get, arith, refl, sym, ap, subst, ◌∙◌}
-use Rattle.std.specs.FinMap
+use Rattle.std.proofs.Common.{◌≡◌, ℕ, zero, suc, ◌+◌, ◌<◌, ◌≤◌, ◌^◌, false, inl, List, [], ◌∷◌, ◌++◌, length, Some, slice_get, arith, refl, ap, ◌∙◌}
 use Rattle.std.proofs.lemmas.Option.{same_Some}
 use Rattle.pf_entry.specs.Lists.{Every}
 use Rattle.pf_entry.specs.Records.{Durable}
 use Rattle.pf_entry.specs.Canonical.{IsCanonicalPacket}
-use Rattle.pf_entry.specs.declared.entries.Entry.{Entry}
 use Rattle.pf_entry.specs.declared.packets.Packet.{Packet}
 use Rattle.pf_entry.proofs.Lists.{every_get}
-use Rattle.pf_protocol.specs.Servers.{Setup, Leader, Merging, Serving, Server, Condition, Running, Stopped, Unformatted}
+use Rattle.pf_protocol.specs.Servers.{Setup, Server, Condition, Running, Stopped, Unformatted}
 use Rattle.pf_protocol.specs.Groups.{Sent, ending, happens, send}
 use Rattle.pf_protocol.specs.Histories.{History, replay, Runs}
 use Rattle.pf_protocol.specs.Answers.{IsLegal, IsLegalNext, MayHappen, answer_to, claims_of}

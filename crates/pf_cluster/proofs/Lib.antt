@@ -1,3 +1,4 @@
+pub mod Finding
 pub mod Lists
 pub mod Readings
 pub mod Members

@@ -1,6 +1,5 @@
 -- Events that are the turn of one server, and no more.
-use Rattle.std.proofs.Common.{◌≡◌, ℕ, ◌<◌, Bool, Option, Some, None, Result, Ok, Err, slice_get, get_or, vec_capacity, vec_len, refl, sym, ap, subst, ◌∙◌}
-use Rattle.std.specs.Global.{Vec}
+use Rattle.std.proofs.Common.{◌≡◌, ℕ, ◌<◌, Bool, Option, Some, None, Result, Ok, Err, slice_get, get_or, refl, sym, ap, subst, ◌∙◌}
 use Rattle.std.specs.Vec.{with_item}
 use Rattle.pf_base.specs.declared.errors.NoMemory.{NoMemory}
 use Rattle.pf_entry.specs.Records.{Durable}
@@ -19,7 +18,8 @@ use Rattle.pf_server.specs.declared.server.Server.{Server}
 use Rattle.pf_server.specs.Conditions.{Meets}
 use Rattle.pf_server.specs.Turns.{Comes}
 use Rattle.pf_cluster.specs.declared.cluster.Cluster.{Cluster}
-use Rattle.pf_cluster.specs.declared.kept.Acked.{Acked}
+use Rattle.pf_cluster.specs.AckedSlots.{HasRoom}
+use Rattle.pf_cluster.specs.declared.acked.AckedList.{AckedList}
 use Rattle.pf_cluster.specs.Going.{Goes, HasFault, IsReached, KeepsOthers, KeepsStores, Touches, acts_at}
 use Rattle.pf_cluster.specs.Readings.{taken_of}
 use Rattle.pf_cluster.specs.Showing.{HasTraffic, Shows}
@@ -42,19 +42,19 @@ pub record IsTurnAs (setup : Setup) (history : History) (event : Event) (i : ℕ
   pub plain : (s : ServerIs) → reads_after (replay setup history).reads (turn.rule s).answer ≡ (replay setup history).reads
 
 -- after a server's step, with room for a slot that it acknowledged
-abbrev pub mid_of : {S : Type 0} → Cluster S → (i : ℕ) → Server S → Vec Acked → Cluster S
+abbrev pub mid_of : {S : Type 0} → Cluster S → (i : ℕ) → Server S → AckedList → Cluster S
 mid_of cluster i next acked = record cluster { servers = with_item cluster.servers i next; acked = acked }
 
 module _ {S : Type 0} (holds : S → Durable → Durable → Type 0) (used format : S → ℕ) (told : S → Bool) where
-  module _ (rose : S → S → Type 0) (was : S → S → Durable → Durable → Type 0) (setup : Setup) (history : History) (old : Cluster S) (reached : IsReached holds used format told setup history old) (i : ℕ) (me next : Server S) (acked : Vec Acked) (out out' : Outgoing) (judged : ServerIs → Option Refusal) (rule : ServerIs → Outcome) (outcome : Result Answer NoMemory) where
+  module _ (rose : S → S → Type 0) (was : S → S → Durable → Durable → Type 0) (setup : Setup) (history : History) (old : Cluster S) (reached : IsReached holds used format told setup history old) (i : ℕ) (me next : Server S) (acked : AckedList) (out out' : Outgoing) (judged : ServerIs → Option Refusal) (rule : ServerIs → Outcome) (outcome : Result Answer NoMemory) where
     -- what the code did
     pub record DidTurn : Type 0 where
       pub low : i < 3
       pub read : me ≡ get_or old.servers.items i me
       pub seat : next.seat ≡ me.seat
       pub told_same : told next.store ≡ told me.store
-      pub items : acked.items ≡ old.acked.items
-      pub place : vec_len acked < vec_capacity acked
+      pub items : acked.list.items ≡ old.acked.list.items
+      pub place : HasRoom acked.list acked.known
       pub fresh : out ≡ outbox_of old
       pub tells : Tells holds used format told rose was me next out out' judged rule outcome
       pub down : IsDown holds used format told rose was me next out out' judged rule outcome

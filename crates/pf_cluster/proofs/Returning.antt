@@ -152,7 +152,7 @@ module _ {S : Type 0} (holds : S → Durable → Durable → Type 0) (used forma
             packets = sym (append-nil old.packets.items);
             grown = le_refl (vec_capacity old.packets);
             room = omega arith;
-            acked = sym (append-nil old.acked.items);
+            acked = sym (append-nil old.acked.list.items);
             readings = items ∙ ap (λ (x : Server S). with_answers old.readings.items (answers_of x.state)) lent_is;
             elections = refl;
           }))

@@ -1,3 +1,4 @@
+pub mod AckedSlots
 pub mod Claiming
 pub mod Deliveries
 pub mod Elections

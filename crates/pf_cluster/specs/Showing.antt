@@ -49,7 +49,7 @@ module _ {S : Type 0} where
     pub packets : cluster.packets.items ≡ map parcel_of g.packets
     pub places : 65536 ≤ vec_capacity cluster.packets
     pub room : cluster.byte_room + sum_by (λ sent. packet_size sent.packet) g.packets ≡ 134217728
-    pub acked : cluster.acked.items ≡ map acked_of g.acked
+    pub acked : cluster.acked.list.items ≡ map acked_of g.acked
     pub elections : cluster.elections ≡ g.elections
     pub readings : AreReadings g.answered cluster.readings.items
 

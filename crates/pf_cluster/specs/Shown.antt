@@ -1,5 +1,6 @@
 -- What a cluster shows of its group.
-use Rattle.std.specs.Prelude.{◌≡◌, ◌≢◌, ℕ, ◌<◌, ◌≤◌, Bool, true, false, List, Option, Some, None, nat_lt, if◌then◌else◌, slice_get, slice_set}
+use Rattle.std.specs.List.{list_any}
+use Rattle.std.specs.Prelude.{◌≡◌, ◌≢◌, ℕ, ◌<◌, ◌≤◌, ◌==◌, ◌&&◌, Bool, true, false, List, Option, Some, None, nat_lt, if◌then◌else◌, slice_get, slice_set}
 use Rattle.pf_entry.specs.Lists.{Every}
 use Rattle.pf_entry.specs.Ops.{Sector}
 use Rattle.pf_entry.specs.Records.{Durable}
@@ -19,6 +20,10 @@ use Rattle.pf_cluster.specs.Showing.{HasAnswer, Shows}
 -- the cluster stands for some group
 abbrev pub IsShown : {S : Type 0} → (S → Durable → Durable → Type 0) → (S → ℕ) → (S → ℕ) → (S → Bool) → Cluster S → Type 0
 IsShown holds used format told cluster = (setup : Setup) × ((g : Group) × Shows holds used format told setup cluster g)
+
+-- the slot was acknowledged in this term
+abbrev pub is_acked : Group → (term slot : ℕ) → Bool
+is_acked g term slot = list_any (λ a. a.term == term && a.slot == slot) g.acked
 
 -- memory stands for this server
 pub record IsMemoryOf (me : Running) (s : ServerIs) : Type 0 where

@@ -1,5 +1,5 @@
 -- A turn of one server of a cluster.
-use Rattle.std.specs.Prelude.{◌≡◌, ◌⊎◌, ℕ, ◌-◌, ◌<◌, Bool, true, false, List, [], length, map, Option, Some, None, Result, Ok, Err, slice_get, slice_set, vec_capacity, vec_len}
+use Rattle.std.specs.Prelude.{◌≡◌, ◌⊎◌, ℕ, ◌-◌, ◌<◌, Bool, true, false, List, [], length, map, Option, Some, None, Result, Ok, Err, slice_get, slice_set}
 use Rattle.pf_base.specs.declared.errors.NoMemory.{NoMemory}
 use Rattle.pf_entry.specs.Lists.{Every}
 use Rattle.pf_entry.specs.Records.{Durable}
@@ -19,6 +19,7 @@ use Rattle.pf_state.specs.Outgoing.{Outgoing}
 use Rattle.pf_server.specs.declared.server.Server.{Server}
 use Rattle.pf_server.specs.Conditions.{AreSized, Meets, answers_of}
 use Rattle.pf_server.specs.Turns.{Comes, answers_after}
+use Rattle.pf_cluster.specs.AckedSlots.{HasRoom}
 use Rattle.pf_cluster.specs.declared.cluster.Cluster.{Cluster}
 use Rattle.pf_cluster.specs.Showing.{AreMembers, HasTraffic, Shows, seat_of}
 
@@ -106,5 +107,5 @@ module _ {S : Type 0} (holds : S → Durable → Durable → Type 0) (used forma
       pub took : Took turn me next (outbox_of cluster) out outcome c
       pub knows : (s : ServerIs) → c ≡ RunningIs s → IsTurnOf g turn s
       pub traffic : HasTraffic cluster g
-      pub place : vec_len cluster.acked < vec_capacity cluster.acked
+      pub place : HasRoom cluster.acked.list cluster.acked.known
       pub reads : length cluster.readings.items ≡ reads_with g.reads outcome

@@ -2,7 +2,7 @@
 ghost use Rattle.std.specs.Prelude.{◌≡◌, ◌≤◌, length};
 ghost use Rattle.pf_cluster.specs.Turned.{outbox_of};
 
-use crate::{Acked, Parcel, Reading};
+use crate::{AckedList, Parcel, Reading};
 use pf_server::Server;
 use pf_state::Outbox;
 use pf_store::Store;
@@ -22,7 +22,7 @@ pub struct Cluster<S: Store> {
     /// How many bytes more all packets may take.
     pub byte_room: u64,
     /// The slots that were acknowledged to hosts, in order.
-    pub acked: Vec<Acked>,
+    pub acked: AckedList,
     /// The reads, by their numbers.
     pub readings: Vec<Reading>,
     /// How many elections there were, at most 64.

@@ -4,6 +4,7 @@ ghost use Rattle.pf_protocol.specs.Servers.{Setup};
 ghost use Rattle.pf_protocol.specs.Outcomes.{Outcome};
 ghost use Rattle.pf_protocol.specs.Groups.{Group, acted};
 ghost use Rattle.pf_protocol.specs.Answers.{Turn};
+ghost use Rattle.pf_cluster.specs.AckedSlots.{HasRoom};
 ghost use Rattle.pf_cluster.specs.Going.{KeepsStores};
 ghost use Rattle.pf_cluster.specs.Readings.{taken_of};
 ghost use Rattle.pf_cluster.specs.Showing.{Shows};
@@ -29,7 +30,7 @@ pub(crate) fn is_refused(answer: &Answer) -> bool
 impl<S: Store> Cluster<S> {
     /// Keeps what the step of a server sent, acknowledged and answered. It takes no memory.
     fn keep(&mut self, server: Number, out: &mut Outbox)
-        requires place { vec_len self.old.acked < vec_capacity self.old.acked }
+        requires place { HasRoom self.old.acked.list self.old.acked.known }
         requires stepped { (setup : Setup) × ((grp : Group) × ((o : Outcome) × HasStepped S.holds S.used S.format S.told setup grp server o self.old out.old)) }
         ensures shows { (setup : Setup) (grp : Group) (o : Outcome) → HasStepped S.holds S.used S.format S.told setup grp server o self.old out.old → Shows S.holds S.used S.format S.told setup self.new (acted grp server o) }
         ensures elections { self.new.elections ≡ self.old.elections }

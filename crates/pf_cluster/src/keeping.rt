@@ -3,10 +3,11 @@ ghost use Rattle.std.specs.Prelude.{◌≡◌, ◌+◌, ◌<◌, ◌≤◌, [], 
 ghost use Rattle.std.specs.Option.{option_to_list};
 ghost use Rattle.pf_protocol.specs.Servers.{Server as ServerIs, Running as RunningIs};
 ghost use Rattle.pf_server.specs.Conditions.{AreSized, Meets, answers_of};
+ghost use Rattle.pf_cluster.specs.AckedSlots.{HasRoom};
 ghost use Rattle.pf_cluster.specs.Keeping.{HavePlaces, fresh_parcel, with_answers};
 ghost use Rattle.pf_cluster.specs.declared.kept.Acked.{Acked as AckedHere};
 
-use crate::{Acked, Parcel, Reading};
+use crate::{Acked, AckedList, Parcel, Reading};
 use pf_base::{Slot, Term};
 use pf_server::Server;
 use pf_state::Outbox;
@@ -56,13 +57,13 @@ fn term_of<S: Store>(server: &Server<S>) -> Term
 }
 
 /// Keeps the slot that a step of this server acknowledged, if it did. It takes no memory.
-pub fn keep_acked<S: Store>(acked: &mut Vec<Acked>, server: &Server<S>, slot: Option<Slot>)
-    requires { vec_len acked.old < vec_capacity acked.old }
-    ensures { (s : ServerIs) → Meets S.holds S.used S.format server.now.seat server.now.store server.now.state (RunningIs s) → acked.new.items ≡ acked.old.items ++ map (λ k. (let a : AckedHere = record { term = s.durable.term; slot = k } in a)) (option_to_list slot) }
+pub fn keep_acked<S: Store>(acked: &mut AckedList, server: &Server<S>, slot: Option<Slot>)
+    requires { HasRoom acked.old.list acked.old.known }
+    ensures { (s : ServerIs) → Meets S.holds S.used S.format server.now.seat server.now.store server.now.state (RunningIs s) → acked.new.list.items ≡ acked.old.list.items ++ map (λ k. (let a : AckedHere = record { term = s.durable.term; slot = k } in a)) (option_to_list slot) }
 {
     let term = term_of(server);
     if let Some(slot) = slot {
-        put(acked, Acked { term, slot });
+        acked.push(Acked { term, slot });
     }
 }
 

@@ -5,6 +5,7 @@
 //! before the event, and for the group with the event after it.
 #![tactic(auto)]
 
+mod acked;
 mod cluster;
 mod ends;
 mod jobs;
@@ -16,5 +17,6 @@ mod readers;
 mod requests;
 mod upkeep;
 
+pub use acked::AckedList;
 pub use cluster::Cluster;
 pub use kept::{Acked, Parcel, Reading};

@@ -71,7 +71,7 @@ impl<S: Store> Cluster<S> {
         }
         let packet = packet_of(alloc, self.packets[place].bytes.as_slice())?;
         let to = packet.to;
-        self.acked.reserve(1)?;
+        self.acked.reserve()?;
         let mut out = self.outbox(alloc);
         let outcome = self.servers[to as usize].receive(alloc, packet, &mut out);
         let outcome = self.end(to, outcome, &mut out);

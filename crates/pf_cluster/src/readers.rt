@@ -5,10 +5,10 @@ ghost use Rattle.pf_protocol.specs.Servers.{Setup};
 ghost use Rattle.pf_cluster.specs.declared.kept.Parcel.{Parcel as ParcelIs};
 ghost use Rattle.pf_cluster.specs.Readings.{taken_of};
 ghost use Rattle.pf_cluster.specs.Showing.{Shows, acked_of};
-ghost use Rattle.pf_cluster.specs.Shown.{Idles, IsLeader, IsRunningAt, IsShown, TakesRead, later_of, served_by};
+ghost use Rattle.pf_cluster.specs.Shown.{Idles, IsLeader, IsRunningAt, IsShown, TakesRead, is_acked, later_of, served_by};
 
 use crate::{Acked, Cluster, Parcel};
-use pf_base::{Data, Server as Number, Term};
+use pf_base::{Data, Server as Number, Slot, Term};
 use pf_server::Server;
 use pf_state::{Role, Running};
 use pf_store::Store;
@@ -70,7 +70,14 @@ impl<S: Store> Cluster<S> {
     pub fn acked(&self) -> &[Acked]
         ensures { (setup : Setup) (g : Group) → Shows S.holds S.used S.format S.told setup self.now g → result.now ≡ map acked_of g.acked }
     {
-        &self.acked
+        &self.acked.list
+    }
+
+    /// Whether the slot was acknowledged in this term.
+    pub fn is_acked(&self, term: Term, slot: Slot) -> bool
+        ensures { (setup : Setup) (g : Group) → Shows S.holds S.used S.format S.told setup self.now g → result ≡ is_acked g term slot }
+    {
+        self.acked.has(term, slot)
     }
 
     /// What a running server has in memory. `None` exactly where it does not run.

@@ -40,7 +40,7 @@ impl<S: Store> Cluster<S> {
         requires reached { HasHistory S.holds S.used S.format S.told self.old }
         ensures { (setup : Setup) (history : History) → IsReached S.holds S.used S.format S.told setup history self.old → Goes S.holds S.used S.format S.told S.rose S.was setup (replay setup history) (Submit server op) self.old self.new result }
     {
-        self.acked.reserve(1)?;
+        self.acked.reserve()?;
         let mut out = self.outbox(alloc);
         let outcome = self.servers[server as usize].submit(alloc, op, &mut out);
         self.end(server, outcome, &mut out)
@@ -57,7 +57,7 @@ impl<S: Store> Cluster<S> {
         ensures { (setup : Setup) (history : History) → IsReached S.holds S.used S.format S.told setup history self.old → Goes S.holds S.used S.format S.told S.rose S.was setup (replay setup history) (Fetch server range) self.old self.new result }
     {
         self.readings.reserve(1)?;
-        self.acked.reserve(1)?;
+        self.acked.reserve()?;
         let mut out = self.outbox(alloc);
         let number = self.readings.len() as u64;
         let outcome = self.servers[server as usize].fetch(alloc, range, number, &mut out);

@@ -45,7 +45,7 @@ impl<S: Store> Cluster<S> {
         if self.elections >= MOST_ELECTIONS {
             return Ok(Answer::Refused(Refusal::ElectionsFull));
         }
-        self.acked.reserve(1)?;
+        self.acked.reserve()?;
         let mut out = self.outbox(alloc);
         let outcome = self.servers[server as usize].elect(alloc, &mut out);
         let outcome = self.end(server, outcome, &mut out);
@@ -61,7 +61,7 @@ impl<S: Store> Cluster<S> {
         requires reached { HasHistory S.holds S.used S.format S.told self.old }
         ensures { (setup : Setup) (history : History) → IsReached S.holds S.used S.format S.told setup history self.old → Goes S.holds S.used S.format S.told S.rose S.was setup (replay setup history) (Resend server) self.old self.new result }
     {
-        self.acked.reserve(1)?;
+        self.acked.reserve()?;
         let mut out = self.outbox(alloc);
         let outcome = self.servers[server as usize].resend(alloc, &mut out);
         self.end(server, outcome, &mut out)
@@ -76,7 +76,7 @@ impl<S: Store> Cluster<S> {
         requires reached { HasHistory S.holds S.used S.format S.told self.old }
         ensures { (setup : Setup) (history : History) → IsReached S.holds S.used S.format S.told setup history self.old → Goes S.holds S.used S.format S.told S.rose S.was setup (replay setup history) (Checkpoint server) self.old self.new result }
     {
-        self.acked.reserve(1)?;
+        self.acked.reserve()?;
         let mut out = self.outbox(alloc);
         let outcome = self.servers[server as usize].checkpoint(alloc, &mut out);
         self.end(server, outcome, &mut out)

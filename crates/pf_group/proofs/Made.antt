@@ -103,7 +103,7 @@ module _ {S : Type 0} (holds : S → Durable → Durable → Type 0) (used forma
       members (suc (suc (suc i))) server at = absurd (grind (arith, at))
 
   pub shows_opening : (cluster : Cluster S) (zero one two : Server S) → cluster.servers.items ≡ zero ∷ one ∷ two ∷ [] → AreMembers holds used format told setup (zero ∷ one ∷ two ∷ []) (opening setup).servers
-      → cluster.packets.items ≡ [] → 65536 ≤ vec_capacity cluster.packets → cluster.byte_room ≡ 134217728 → cluster.acked.items ≡ [] → cluster.readings.items ≡ [] → cluster.elections ≡ 0 → Shows holds used format told setup cluster (opening setup)
+      → cluster.packets.items ≡ [] → 65536 ≤ vec_capacity cluster.packets → cluster.byte_room ≡ 134217728 → cluster.acked.list.items ≡ [] → cluster.readings.items ≡ [] → cluster.elections ≡ 0 → Shows holds used format told setup cluster (opening setup)
   unfolding opening
   shows_opening cluster z o t servers members packets places bytes acked readings elections = record {
     three = ap length servers;

@@ -15,7 +15,7 @@ pub record IsEmpty {S : Type 0} (cluster : Cluster S) : Type 0 where
   pub packets : cluster.packets.items ≡ []
   pub places : 65536 ≤ vec_capacity cluster.packets
   pub bytes : cluster.byte_room ≡ 134217728
-  pub acked : cluster.acked.items ≡ []
+  pub acked : cluster.acked.list.items ≡ []
   pub readings : cluster.readings.items ≡ []
   pub elections : cluster.elections ≡ 0
 

@@ -8,7 +8,7 @@ ghost use Rattle.pf_group.specs.Rooms.{IsEmpty, IsPlan, IsPlanOf, halted_of, pic
 use crate::past::{Past, put};
 use crate::{Group, Six};
 use pf_base::{NoMemory, Server as Number};
-use pf_cluster::Cluster;
+use pf_cluster::{AckedList, Cluster};
 use pf_disk::Disk;
 use pf_kept::Kept;
 use pf_opening::ServerRoom;
@@ -88,7 +88,7 @@ fn empty_cluster<D: Disk + Drop>(alloc: Global) -> Result<Cluster<Kept<D>>, NoMe
         servers: Vec::with_capacity(alloc, 3)?,
         packets: Vec::with_capacity(alloc, PLACES)?,
         byte_room: PACKET_BYTES,
-        acked: Vec::new(alloc),
+        acked: AckedList::new(alloc),
         readings: Vec::new(alloc),
         elections: 0,
     })

@@ -1,12 +1,12 @@
 //! What a group shows.
 ghost use Rattle.std.specs.Prelude.{◌≡◌, IfNone, IfSome, length, map, slice_get};
 ghost use Rattle.pf_cluster.specs.Showing.{acked_of};
-ghost use Rattle.pf_cluster.specs.Shown.{IsLeader};
+ghost use Rattle.pf_cluster.specs.Shown.{IsLeader, is_acked};
 ghost use Rattle.pf_group.specs.GroupIs.{state_of};
 ghost use Rattle.pf_group.specs.Readers.{HasTaken, LacksAnswer, is_left};
 
 use crate::Group;
-use pf_base::{Data, Server as Number, Term};
+use pf_base::{Data, Server as Number, Slot, Term};
 use pf_cluster::Acked;
 use pf_disk::Disk;
 
@@ -16,6 +16,13 @@ impl<D: Disk> Group<D> {
         ensures { result.now ≡ map acked_of (state_of self.now).acked }
     {
         self.cluster.acked()
+    }
+
+    /// Whether the slot was acknowledged in this term. It is found without going through the others.
+    pub fn is_acked(&self, term: Term, slot: Slot) -> bool
+        ensures { result ≡ is_acked (state_of self.now) term slot }
+    {
+        self.cluster.is_acked(term, slot)
     }
 
     /// Of the running servers that serve the one of the greatest term: that term, and its number. `None` exactly where none serves.

@@ -11,14 +11,14 @@ use Rattle.pf_protocol.specs.Servers.{Candidate, Condition, Follower, Merging, R
 use Rattle.pf_protocol.specs.Groups.{Acked, Answered, Group}
 use Rattle.pf_protocol.specs.Histories.{Runs, replay}
 use Rattle.pf_cluster.specs.Showing.{HasAnswer}
-use Rattle.pf_cluster.specs.Shown.{IsLeader, Serves}
+use Rattle.pf_cluster.specs.Shown.{IsLeader, Serves, is_acked}
 use Rattle.pf_cluster.proofs.Shown.{IsGreatest, one_more_leader}
 use Rattle.pf_asks.specs.declared.port.Sent.{Sent}
 use Rattle.pf_asks.specs.declared.port.Sent.TheVariants.{Slot, Number}
 use Rattle.pf_asks.specs.Desks.{Call, Took, WasAcked}
 use Rattle.pf_asks.specs.Ports.{LooksFor}
 use Rattle.pf_ports.specs.Calls.{HasAcked, Past, Says}
-use Rattle.pf_chunk.specs.Asks.{is_acked, leader_of, reply_to, served_at, served_by, served_in}
+use Rattle.pf_chunk.specs.Asks.{leader_of, reply_to, served_at, served_by, served_in}
 use Rattle.pf_chunk.specs.Waiting.{answers_of}
 
 -- The leader

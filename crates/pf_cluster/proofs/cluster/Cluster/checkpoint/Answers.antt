@@ -1,4 +1,3 @@
-use Rattle.std.proofs.Common.{arith}
 use Rattle.pf_protocol.specs.declared.events.Event.TheVariants.{Checkpoint}
 use Rattle.pf_protocol.specs.Histories.{replay}
 use Rattle.pf_protocol.specs.Answers.{plain}
@@ -35,8 +34,8 @@ end-requires g c =
                 read = c.index_mut.ensures.value;
                 seat = outcome.ensures.seat;
                 told_same = outcome.ensures.told;
-                items = c.reserve.ensures.items;
-                place = omega (arith, c.in_ok-reserve.ensures.ok);
+                items = c.reserve.ensures.same;
+                place = c.in_ok-reserve.ensures.room;
                 fresh = c.outbox-out.ensures;
                 tells = outcome.ensures.step;
                 down = outcome.ensures.down;
@@ -58,8 +57,8 @@ returns g c setup history reached =
       read = c.index_mut.ensures.value;
       seat = outcome.ensures.seat;
       told_same = outcome.ensures.told;
-      items = c.reserve.ensures.items;
-      place = omega (arith, c.in_ok-reserve.ensures.ok);
+      items = c.reserve.ensures.same;
+      place = c.in_ok-reserve.ensures.room;
       fresh = c.outbox-out.ensures;
       tells = outcome.ensures.step;
       down = outcome.ensures.down;

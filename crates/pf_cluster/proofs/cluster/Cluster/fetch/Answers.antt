@@ -1,4 +1,4 @@
-use Rattle.std.proofs.Common.{arith, ap, ◌∙◌}
+use Rattle.std.proofs.Common.{ap, ◌∙◌}
 use Rattle.pf_protocol.specs.Histories.{replay}
 use Rattle.pf_protocol.specs.Answers.{fetch_turn}
 use Rattle.pf_cluster.specs.Readings.{readings_with}
@@ -31,8 +31,8 @@ end-requires g c =
                 read = c.index_mut.ensures.value;
                 seat = outcome.ensures.seat;
                 told_same = outcome.ensures.told;
-                items = c.reserve-2.ensures.items;
-                place = omega (arith, c.in_ok-reserve-2.ensures.ok);
+                items = c.reserve-2.ensures.same;
+                place = c.in_ok-reserve-2.ensures.room;
                 fresh = c.outbox-out.ensures;
                 tells = outcome.ensures.step;
                 down = outcome.ensures.down;
@@ -52,8 +52,8 @@ returns g c setup history reached =
       read = c.index_mut.ensures.value;
       seat = outcome.ensures.seat;
       told_same = outcome.ensures.told;
-      items = c.reserve-2.ensures.items;
-      place = omega (arith, c.in_ok-reserve-2.ensures.ok);
+      items = c.reserve-2.ensures.same;
+      place = c.in_ok-reserve-2.ensures.room;
       fresh = c.outbox-out.ensures;
       tells = outcome.ensures.step;
       down = outcome.ensures.down;

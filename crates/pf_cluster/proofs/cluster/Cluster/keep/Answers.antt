@@ -45,7 +45,7 @@ returns-clause-shows g c setup grp o stepped =
       grown = c.keep_packets.ensures.capacity;
       room = c.keep_packets.ensures.room;
       acked = c.keep_acked.ensures s (meets c.index.result.now read)
-          ∙ ap (λ (slot : Option ℕ). c.args.self.now.acked.items ++ map (λ k. (let a : Acked = record { term = s.durable.term; slot = k } in a)) (option_to_list slot)) (c.acked.ensures ∙ c.keep_packets.ensures.acked);
+          ∙ ap (λ (slot : Option ℕ). c.args.self.now.acked.list.items ++ map (λ k. (let a : Acked = record { term = s.durable.term; slot = k } in a)) (option_to_list slot)) (c.acked.ensures ∙ c.keep_packets.ensures.acked);
       readings = c.keep_answers.ensures.readings ∙ ap (λ (x : Server g.row.S.Denot). with_answers c.args.self.now.readings.items (answers_of x.state)) lent;
       elections = refl;
     })
