@@ -1,5 +1,5 @@
 -- The count of blocks stays.
-use Rattle.std.proofs.Common.{◌≡◌, Option, Some, None, sym, subst, ◌∙◌}
+use Rattle.std.proofs.Common.{◌≡◌, Option, Some, None, sym, ap, subst, ◌∙◌}
 use Rattle.pf_volume.specs.Volumes.{Extent}
 use Rattle.pf_inodes.specs.declared.changes.Txn.{Txn}
 use Rattle.pf_tree.specs.Held.{Held}
@@ -15,3 +15,12 @@ tree_with v t (Some txn) is = (applied_length t txn.changes).2 ∙ is
 pub tree_after : (v : Extent) (before after : Held) (txn : Option Txn) → IsTreeOf v before.tables → after ≡ record before { tables = applied_in before.tables txn } → IsTreeOf v after.tables
 tree_after v before after txn is e =
     let P : Held → Type 0 = λ h. IsTreeOf v h.tables in subst P (sym e) (tree_with v before.tables txn is)
+
+-- the tree that is taken over has the one before as its spare
+pub taken_over : (v : Extent) (before held after new : Held) (txn : Option Txn) → before ≡ held → new ≡ after → IsTreeOf v held.tables → held.first ≡ 513 → after.tables ≡ applied_in held.tables txn → after.first ≡ 513 → IsTreeOf v new.tables × (new.first ≡ 513) × (new ≡ record before { tables = applied_in before.tables txn })
+taken_over v before held after new txn was is form first tables starts =
+    let P : Held → Type 0 = λ h. IsTreeOf v h.tables in
+    let Q : Tables → Type 0 = IsTreeOf v in
+    let t : new.tables ≡ applied_in before.tables txn = ap (λ (h : Held). h.tables) is ∙ tables ∙ ap (λ (h : Held). applied_in h.tables txn) (sym was) in
+    let f : new.first ≡ before.first = ap (λ (h : Held). h.first) is ∙ starts ∙ sym first ∙ ap (λ (h : Held). h.first) (sym was) in
+    (subst Q (sym t) (tree_with v before.tables txn (subst P (sym was) form)), ap (λ (h : Held). h.first) is ∙ starts, λ i. record { first = f i; tables = t i })

@@ -1,18 +1,19 @@
 -- A call on the tables: it is refused, it has changes to propose, or it goes on to its data at once.
-use Rattle.std.specs.Prelude.{ℕ, Bool, false, ◌&&◌, ◌==◌, List, [], ◌∷◌, length, Option, Some, None}
+use Rattle.std.specs.Prelude.{◌≡◌, ℕ, Bool, false, ◌&&◌, ◌==◌, List, [], ◌∷◌, length, Option, Some, None}
 use Rattle.pf_volume.specs.Volumes.{Extent}
 use Rattle.pf_tree.specs.declared.calls.FileCall.{FileCall}
 use Rattle.pf_tree.specs.declared.calls.FileCall.TheVariants.{Write, Read, Truncate}
 use Rattle.pf_inodes.specs.declared.changes.Change.{Change}
 use Rattle.pf_inodes.specs.declared.changes.Txn.{Txn}
 use Rattle.pf_inodes.specs.Names.{Path}
+use Rattle.pf_tree.specs.Held.{Held}
 use Rattle.pf_tree.specs.Trees.{Data, refusal, size_at}
 use Rattle.pf_inodes.specs.Tables.{Tables, applied}
 use Rattle.pf_tree.specs.Plans.{changes, node_at, tables_sight}
 use Rattle.pf_files.specs.declared.calls.Pending.{Pending}
 use Rattle.pf_files.specs.declared.calls.Planned.{Planned}
 use Rattle.pf_files.specs.declared.calls.Planned.TheVariants.{Refuses, Proposes, Goes}
-use Rattle.pf_files.specs.declared.moving.Moved.{Moved}
+use Rattle.pf_files.specs.declared.spare.Spare.{Spare}
 use Rattle.pf_files.specs.Faults.{fault_of}
 use Rattle.pf_files.specs.Moving.{AsksInside, moves}
 
@@ -66,16 +67,7 @@ pub record WorkIs : Type 0 where
 abbrev pub data_of : Tables → Data
 data_of tables = record { first = 513; blocks = length tables.tags }
 
-abbrev pub plan_of : (mount : ℕ) → Extent → Tables → Option Pending → Option Planned
-plan_of mount v tables None = None
-plan_of mount v tables (Some p) = Some (planned mount v (data_of tables) tables p)
-
--- the first step of the pending call's data, on the tables with its changes
-abbrev pub go_of : Extent → (before after : Tables) → Option Pending → Option Moved
-go_of v before after None = None
-go_of v before after (Some p) = Some (moves v after (size_in before p.call) p.call)
-
--- the transaction is that of the pending call
-abbrev pub is_own : (mount : ℕ) → Option Txn → Option Pending → Bool
-is_own mount txn None = false
-is_own mount txn (Some p) = is_of mount p.number txn
+-- a spare tree with the transaction that it lacks is the tree
+abbrev pub IsSpareOf : Held → Option Spare → Type 0
+IsSpareOf held None = Unit {0}
+IsSpareOf held (Some s) = held ≡ record s.before { tables = applied_in s.before.tables s.txn }

@@ -6,7 +6,7 @@ ghost use Rattle.pf_tree.specs.Plans.{node_at};
 ghost use Rattle.pf_tree.specs.Trees.{size_at};
 ghost use Rattle.pf_txn.specs.Reading.{txn_in};
 ghost use Rattle.pf_files.specs.Moving.{IsTreeOf};
-ghost use Rattle.pf_files.specs.Calls.{PlansInside, applied_in, data_of, go_of, is_of, is_own, plan_of, planned, planned_with, size_in};
+ghost use Rattle.pf_files.specs.Calls.{PlansInside, applied_in, data_of, is_of, planned, planned_with, size_in};
 
 use crate::answers::{CallFault, refused};
 use crate::laws::data_are_asked_inside;
@@ -101,54 +101,6 @@ fn plan_with(
     }))
 }
 
-/// Plans the pending call, if there is one.
-pub(crate) fn plan_pending(
-    alloc: Global,
-    mount: u8,
-    volume: &Volume,
-    tree: &Tree,
-    pending: &Option<Pending>,
-) -> Result<Option<Planned>, NoMemory>
-    requires tree { IsTreeOf volume.now tree.now.tables }
-    requires data { tree.now.first ≡ 513 }
-    ensures { IfOk result (λ p. p ≡ plan_of mount volume.now tree.now.tables pending.now) }
-{
-    let Some(pending) = pending else {
-        return Ok(None);
-    };
-    let planned = plan(alloc, mount, volume, tree, pending)?;
-    Ok(Some(planned))
-}
-
-/// The first step of the pending call's data, if there is one, on the tables with its changes.
-pub(crate) fn go_pending(
-    alloc: Global,
-    volume: &Volume,
-    before: &Tree,
-    after: &Tree,
-    pending: &Option<Pending>,
-) -> Result<Option<Moved>, NoMemory>
-    requires { IsTreeOf volume.now after.now.tables }
-    ensures { IfOk result (λ step. step ≡ go_of volume.now before.now.tables after.now.tables pending.now) }
-{
-    let Some(pending) = pending else {
-        return Ok(None);
-    };
-    let size = size_in(alloc, before, &pending.call);
-    let step = moves(alloc, volume, after, size, &pending.call)?;
-    Ok(Some(step))
-}
-
-/// Whether a transaction is that of the pending call.
-pub(crate) fn is_own(mount: u8, txn: &Option<Txn>, pending: &Option<Pending>) -> bool
-    ensures { result ≡ is_own mount txn.now pending.now }
-{
-    match pending {
-        Some(pending) => is_of(mount, pending.number, txn),
-        None => false,
-    }
-}
-
 /// Whether a transaction is that of this call of a mount.
 pub fn is_of(mount: u8, number: u32, txn: &Option<Txn>) -> bool
     ensures { result ≡ is_of mount number txn.now }
@@ -159,13 +111,12 @@ pub fn is_of(mount: u8, number: u32, txn: &Option<Txn>) -> bool
     }
 }
 
-/// A copy of a tree, with the changes of a transaction, if there is one. The one error is `NoMemory` (1).
-pub fn applied_in(alloc: Global, tree: &Tree, txn: &Option<Txn>) -> Result<Tree, NoMemory>
-    ensures { IfOk result (λ after. after ≡ record tree.now { tables = applied_in tree.now.tables txn.now }) }
+/// A tree with the changes of a transaction, if there is one. The one error is `NoMemory` (1).
+pub(crate) fn applied_in(alloc: Global, mut tree: Tree, txn: &Option<Txn>) -> Result<Tree, NoMemory>
+    ensures { IfOk result (λ after. after ≡ record tree { tables = applied_in tree.tables txn.now }) }
 {
-    let mut after = tree.copied(alloc)?;
     if let Some(txn) = txn {
-        after.apply(alloc, txn)?;
+        tree.apply(alloc, txn)?;
     }
-    Ok(after)
+    Ok(tree)
 }

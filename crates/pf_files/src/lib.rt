@@ -9,15 +9,17 @@ mod calls;
 mod filling;
 mod laws;
 mod moving;
+mod spare;
 mod spelled;
 mod work;
 
 pub use answers::{CallAnswer, CallFault};
 pub use blocks::{reads, writes};
 pub use call_names::{CallName, name_of};
-pub use calls::{Pending, Planned, applied_in, is_of, plan, size_in};
+pub use calls::{Pending, Planned, is_of, plan, size_in};
 pub use filling::Fill;
 pub use laws::{blocks_are_asked_inside, data_are_asked_inside, planned_calls_follow_the_tree};
 pub use moving::{Moved, Moving, moves, moves_on};
+pub use spare::Applied;
 pub use spelled::spell_input;
 pub use work::CallWork;

@@ -1,19 +1,20 @@
 //! The tables of a mount and its pending call.
-ghost use Rattle.std.specs.Prelude.{◌≡◌, ◌+◌, ◌/◌, ◌<◌, ◌^◌, IfOk, None, Some, is_some, suc};
+ghost use Rattle.std.specs.Prelude.{◌≡◌, ◌+◌, ◌/◌, ◌<◌, ◌^◌, IfOk, None, Some, suc};
 ghost use Rattle.pf_volume.specs.Volumes.{size_of};
 ghost use Rattle.pf_inodes.specs.Tables.{new_tables};
 ghost use Rattle.pf_txn.specs.Reading.{txn_in};
-ghost use Rattle.pf_files.specs.Moving.{HasBlock, IsTreeOf, moves_on};
-ghost use Rattle.pf_files.specs.Calls.{WorkIs, applied_in, go_of, is_own, plan_of};
+ghost use Rattle.pf_files.specs.Moving.{IsTreeOf};
+ghost use Rattle.pf_files.specs.Calls.{WorkIs, applied_in};
 
-use crate::calls::{Pending, Planned, applied_in, go_pending, is_own, plan_pending};
-use crate::moving::{Moved, Moving, moves_on};
-use pf_base::{NoMemory, Reply, Value};
+use crate::calls::{Pending, applied_in};
+use crate::spare::{Applied, Spare};
+use pf_base::{NoMemory, Value};
 use pf_tree::{FileCall, Tree};
 use pf_txn::read_txn;
 use pf_volume::Volume;
 use std::alloc::Global;
 use std::marker::Model;
+use std::mem::replace;
 
 /// The tables of a mount, the calls that it started, and the one that is pending. It knows nothing of ballots: what proposes
 /// values brings them here once they are decided.
@@ -22,20 +23,21 @@ pub struct CallWork {
     mount: u8,
     volume: Volume,
     tree: Tree,
+    spare: Option<Spare>,
     calls: u32,
     pending: Option<Pending>,
 }
 
 impl Model for CallWork {
     ghost use Rattle.std.specs.Prelude.{◌≡◌};
-    ghost use Rattle.pf_files.specs.Calls.{WorkIs};
+    ghost use Rattle.pf_files.specs.Calls.{IsSpareOf, WorkIs};
     ghost use Rattle.pf_files.specs.Moving.{IsTreeOf};
 
     ghost Value = { WorkIs };
 
     ghost view = { λ w. record { mount = w.mount; volume = w.volume; tables = w.tree.tables; calls = w.calls; pending = w.pending } };
 
-    ghost invariant = { λ w. IsTreeOf w.volume w.tree.tables × (w.tree.first ≡ 513) };
+    ghost invariant = { λ w. IsTreeOf w.volume w.tree.tables × (w.tree.first ≡ 513) × IsSpareOf w.tree w.spare };
 }
 
 impl CallWork {
@@ -48,6 +50,7 @@ impl CallWork {
             mount,
             volume,
             tree,
+            spare: None,
             calls: 0,
             pending: None,
         })
@@ -90,13 +93,6 @@ impl CallWork {
         &self.pending
     }
 
-    /// Whether a call has not ended.
-    pub fn is_pending(&self) -> bool
-        ensures { result ≡ is_some self.now.pending }
-    {
-        self.pending.is_some()
-    }
-
     /// Begins a call.
     pub fn start(&mut self, call: FileCall)
         requires { self.old.calls + 1 < 2 ^ 32 }
@@ -116,51 +112,41 @@ impl CallWork {
         self.pending = None;
     }
 
-    /// Plans the pending call on tables of the volume; `None` exactly where none is pending. The one error is `NoMemory` (1).
-    pub fn plan_on(&self, alloc: Global, tree: &Tree) -> Result<Option<Planned>, NoMemory>
-        requires form { IsTreeOf self.now.volume tree.now.tables }
-        requires first { tree.now.first ≡ 513 }
-        ensures { IfOk result (λ p. p ≡ plan_of self.now.mount self.now.volume tree.now.tables self.now.pending) }
-    {
-        plan_pending(alloc, self.mount, &self.volume, tree, &self.pending)
-    }
-
-    /// The first step of the pending call's data on tables with its changes; `None` exactly where none is pending. The one error is
-    /// `NoMemory` (1).
-    pub fn go_on(&self, alloc: Global, after: &Tree) -> Result<Option<Moved>, NoMemory>
-        requires { IsTreeOf self.now.volume after.now.tables }
-        ensures { IfOk result (λ step. step ≡ go_of self.now.volume self.now.tables after.now.tables self.now.pending) }
-    {
-        go_pending(alloc, &self.volume, &self.tree, after, &self.pending)
-    }
-
-    /// The tables with the changes of a decided value, if it is the spelling of a transaction, and whether this is that of the pending
-    /// call. The one error is `NoMemory` (1).
-    pub fn applied(&self, alloc: Global, value: &Value) -> Result<(Tree, bool), NoMemory>
-        ensures tables { IfOk result (λ x. x.0.tables ≡ applied_in self.now.tables (txn_in value.now)) }
-        ensures form { IfOk result (λ x. IsTreeOf self.now.volume x.0.tables) }
-        ensures first { IfOk result (λ x. x.0.first ≡ 513) }
-        ensures own { IfOk result (λ x. x.1 ≡ is_own self.now.mount (txn_in value.now) self.now.pending) }
+    /// The tables with the changes of a decided value, if it is the spelling of a transaction. Whoever takes them over lets the next ones
+    /// be made at the cost of two transactions; else those are made of a copy. The one error is `NoMemory` (1).
+    pub fn applied(&mut self, alloc: Global, value: &Value) -> Result<Applied, NoMemory>
+        ensures same { self.new ≡ self.old }
+        ensures tables { IfOk result (λ after. after.tree.tables ≡ applied_in self.old.tables (txn_in value.now)) }
+        ensures form { IfOk result (λ after. IsTreeOf self.old.volume after.tree.tables) }
+        ensures first { IfOk result (λ after. after.tree.first ≡ 513) }
+        ensures txn { IfOk result (λ after. after.txn ≡ txn_in value.now) }
     {
         let txn = read_txn(alloc, value)?;
-        let after = applied_in(alloc, &self.tree, &txn)?;
-        Ok((after, is_own(self.mount, &txn, &self.pending)))
+        let tree = self.second_tree(alloc)?;
+        let tree = applied_in(alloc, tree, &txn)?;
+        Ok(Applied { tree, txn })
     }
 
-    /// Takes other tables of the volume.
-    pub fn put(&mut self, tree: Tree)
-        requires form { IsTreeOf self.old.volume tree.tables }
-        requires first { tree.first ≡ 513 }
-        ensures { self.new ≡ record self.old { tables = tree.tables } }
+    /// The tables once more: the spare ones, or a copy where there are none.
+    fn second_tree(&mut self, alloc: Global) -> Result<Tree, NoMemory>
+        ensures same { self.new ≡ self.old }
+        ensures tree { IfOk result (λ tree. tree ≡ record { first = 513; tables = self.old.tables }) }
+        ensures form { IfOk result (λ tree. IsTreeOf self.old.volume tree.tables) }
     {
-        self.tree = tree;
+        match self.spare.take() {
+            Some(spare) => spare.caught_up(alloc),
+            None => self.tree.copied(alloc),
+        }
     }
 
-    /// The next step of file data, where its ask was answered. The one error is `NoMemory` (1).
-    pub fn moves_on(&self, alloc: Global, moving: &Moving, reply: &Reply) -> Result<Moved, NoMemory>
-        requires { HasBlock reply.now }
-        ensures { IfOk result (λ step. step ≡ moves_on self.now.volume self.now.tables moving.now reply.now) }
+    /// Takes over the tables with the changes of a decided value.
+    pub fn take_over(&mut self, after: Applied)
+        requires tables { after.tree.tables ≡ applied_in self.old.tables after.txn }
+        requires first { after.tree.first ≡ 513 }
+        ensures { self.new ≡ record self.old { tables = after.tree.tables } }
     {
-        moves_on(alloc, &self.volume, &self.tree, moving, reply)
+        let Applied { tree, txn } = after;
+        let before = replace(&mut self.tree, tree);
+        self.spare = Some(Spare { before, txn });
     }
 }

@@ -1,11 +1,8 @@
 -- What steps make of a mount, along equations.
-use Rattle.std.proofs.Common.{◌≡◌, ℕ, zero, suc, ◌-◌, ◌<◌, Bool, true, if◌then◌else◌, length, List, Option, Some, None, Result, IfOk, IsTrue, refl, sym, ap, subst, ◌∙◌, arith}
+use Rattle.std.proofs.Common.{◌≡◌, ℕ, zero, suc, ◌-◌, ◌<◌, Bool, true, if◌then◌else◌, List, Option, Some, Result, IfOk, IsTrue, sym, ap, subst, ◌∙◌, arith}
 use Rattle.std.proofs.lemmas.Result.{IfOk-weaker}
-use Rattle.pf_volume.specs.Volumes.{Extent}
 use Rattle.pf_inodes.specs.Tables.{Tables}
-use Rattle.pf_tree.specs.Held.{Held}
 use Rattle.pf_inodes.specs.declared.changes.Txn.{Txn}
-use Rattle.pf_inodes.proofs.Shelves.{applied_length}
 use Rattle.pf_txn.specs.Spelling.{CanSpell, spell_txn}
 use Rattle.pf_paxos.specs.declared.block.Block.{Block}
 use Rattle.pf_paxos.specs.declared.proposer.Next.{Next as BallotNext}
@@ -17,13 +14,12 @@ use Rattle.pf_files.specs.declared.calls.Planned.{Planned}
 use Rattle.pf_files.specs.declared.calls.Planned.TheVariants.{Refuses, Proposes, Goes}
 use Rattle.pf_files.specs.Moving.{moves}
 use Rattle.pf_files.specs.Calls.{applied_in, size_in}
-use Rattle.pf_files.proofs.Kept.{tree_after}
 use Rattle.pf_mount.specs.declared.stand.Stand.{Stand}
 use Rattle.pf_mount.specs.declared.stand.Step.{Step}
 use Rattle.pf_mount.specs.declared.work.Work.TheVariants.{Ballots}
 use Rattle.pf_mount.specs.Positions.{can_start}
 use Rattle.pf_mount.specs.Mounts.{MountIs, Outcome, aborted, asking, ballot_read, balloted, ballots, decided, done, finds_value, goes_on, moved, paused, pauses, plans, proceeds_with, writes_own}
-use Rattle.pf_mount.specs.Steps.{CanPropose, IsHeldFor, Makes, MakesAfter, Rest, advanced_stand, mount_at, outcome_of, with_proposer}
+use Rattle.pf_mount.specs.Steps.{CanPropose, Makes, MakesAfter, Rest, advanced_stand, mount_at, outcome_of, with_proposer}
 
 pub ok_makes : {E : Type 0} (r : Result Step E) (from to : Stand) (f g : MountIs → Outcome) → ((tables : Tables) (rest : Rest) (pending : Option Pending) → f (mount_at from tables rest pending) ≡ g (mount_at to tables rest pending)) → IfOk r (λ s. Makes from s f) → IfOk r (λ s. Makes to s g)
 ok_makes r from to f g same made =
@@ -64,17 +60,6 @@ abbrev pub goes_if : (before after : MountIs) → Pending → Bool → Outcome
 goes_if before after p b =
     if b then moved after (moves after.files.volume after.files.tables (size_in before.files.tables p.call) p.call) else plans after p
 
-with_tables : (t : Tables) (txn : Option Txn) → length (applied_in t txn).inodes ≡ length t.inodes
-with_tables t None = refl
-with_tables t (Some txn) = (applied_length t txn.changes).0
-
-pub held_after : (v : Extent) (before after : Held) (txn : Option Txn) → IsHeldFor v before → after ≡ record before { tables = applied_in before.tables txn } → IsHeldFor v after
-held_after v before after txn is e = record {
-  blocks = tree_after v before after txn is.blocks e;
-  inodes = ap (λ (h : Held). length h.tables.inodes) e ∙ with_tables before.tables txn ∙ is.inodes;
-  first = ap (λ (h : Held). h.first) e ∙ is.first;
-}
-
 pub proceeds_as : {E : Type 0} (r : Result Step E) (stand next : Stand) (before after : Tables) (pending : Option Pending) (input : Option (List ℕ)) (txn : Option Txn) (p : Pending) (x : List ℕ) → next ≡ advanced_stand stand → after ≡ applied_in before txn → pending ≡ Some p → input ≡ Some x → IfOk r (λ step. (rest : Rest) → outcome_of step after rest (Some p) ≡ proceeds_with (mount_at next before rest (Some p)) (mount_at next after rest (Some p)) txn (Some p)) → IfOk r (λ step. (rest : Rest) → outcome_of step after rest pending ≡ decided (mount_at stand before rest pending) input txn)
 proceeds_as r stand next before after pending input txn p x next_is after_is pending_is input_is made =
     let P : Option Pending → Type 0 = λ o. IfOk r (λ step. (rest : Rest) → outcome_of step after rest o ≡ decided (mount_at stand before rest o) input txn) in
@@ -93,10 +78,10 @@ abbrev pub read_if : MountIs → (input : Option (List ℕ)) → List Block → 
 read_if m input blocks b =
     if b then goes_on m input (read_in m.position.proposer.phase m.position.proposer blocks) else aborted m input
 
-pub read_as : {E : Type 0} (r : Result (Step × Option Held) E) (from to : Stand) (tables : Tables) (pending : Option Pending) (input : Option (List ℕ)) (blocks : List Block) (next : BallotNext) → from ≡ with_proposer to (read_in to.position.proposer.phase to.position.proposer blocks).proposer → next ≡ (read_in to.position.proposer.phase to.position.proposer blocks).next → finds_value to.position.proposer blocks ≡ true → IfOk r (λ x. MakesAfter from tables pending x.0 x.1 (λ m. balloted m input next)) → IfOk r (λ x. MakesAfter to tables pending x.0 x.1 (λ m. ballot_read m input blocks))
-read_as r from to tables pending input blocks next is next_is finds made =
+pub read_as : {E : Type 0} (r : Result Step E) (from to : Stand) (tables after : Tables) (pending : Option Pending) (input : Option (List ℕ)) (blocks : List Block) (next : BallotNext) → from ≡ with_proposer to (read_in to.position.proposer.phase to.position.proposer blocks).proposer → next ≡ (read_in to.position.proposer.phase to.position.proposer blocks).next → finds_value to.position.proposer blocks ≡ true → IfOk r (λ s. MakesAfter from tables pending s after (λ m. balloted m input next)) → IfOk r (λ s. MakesAfter to tables pending s after (λ m. ballot_read m input blocks))
+read_as r from to tables after pending input blocks next is next_is finds made =
     let o = read_in to.position.proposer.phase to.position.proposer blocks in
-    IfOk-weaker r (λ x. MakesAfter from tables pending x.0 x.1 (λ m. balloted m input next)) (λ x. MakesAfter to tables pending x.0 x.1 (λ m. ballot_read m input blocks))
+    IfOk-weaker r (λ s. MakesAfter from tables pending s after (λ m. balloted m input next)) (λ s. MakesAfter to tables pending s after (λ m. ballot_read m input blocks))
     (λ x h. λ rest.
     h rest
     ∙ ap (λ (s : Stand). balloted (mount_at s tables rest pending) input next) is

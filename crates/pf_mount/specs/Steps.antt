@@ -6,6 +6,7 @@ use Rattle.pf_tree.specs.Held.{Held}
 use Rattle.pf_files.specs.declared.calls.Pending.{Pending}
 use Rattle.pf_txn.specs.Spelling.{CanSpell, IsShortCall}
 use Rattle.pf_files.specs.Blocks.{IsInside}
+use Rattle.pf_files.specs.Calls.{WorkIs}
 use Rattle.pf_files.specs.declared.calls.Planned.{Planned}
 use Rattle.pf_files.specs.declared.calls.Planned.TheVariants.{Proposes}
 use Rattle.pf_files.specs.Moving.{IsTreeOf}
@@ -33,15 +34,21 @@ pub record IsHeldFor (v : Extent) (h : Held) : Type 0 where
   pub inodes : length h.tables.inodes ≡ 1024
   pub first : h.first ≡ 513
 
--- what is to be proposed has a spelling
-abbrev pub CanPropose : Planned → Type 0
-CanPropose (Proposes txn) = CanSpell txn
-CanPropose p = Unit {0}
-
 -- its last names are short, as those of each call are
 abbrev pub IsShortFor : Option Pending → Type 0
 IsShortFor None = Unit {0}
 IsShortFor (Some p) = IsShortCall p.call
+
+-- the tables and the call of a mount that stands here
+pub record AreFilesAt (s : Stand) (files : WorkIs) : Type 0 where
+  pub volume : files.volume ≡ s.volume
+  pub inodes : length files.tables.inodes ≡ 1024
+  pub call : IsShortFor files.pending
+
+-- what is to be proposed has a spelling
+abbrev pub CanPropose : Planned → Type 0
+CanPropose (Proposes txn) = CanSpell txn
+CanPropose p = Unit {0}
 
 -- a position is read or decided only where there is one, and an input has a byte at least
 abbrev pub IsWorkAt : (upto : ℕ) → Work → Type 0
@@ -107,27 +114,18 @@ abbrev pub MakesOn : Stand → Tables → Option Pending → Step → (MountIs �
 MakesOn stand tables pending step machine =
     (rest : Rest) → outcome_of step tables rest pending ≡ machine (mount_at stand tables rest pending)
 
--- the tables of a tree that is taken over, if there is one
-abbrev pub tables_after : Tables → Option Held → Tables
-tables_after tables None = tables
-tables_after tables (Some held) = held.tables
-
-abbrev pub IsTakenFor : Extent → Option Held → Type 0
-IsTakenFor v None = Unit {0}
-IsTakenFor v (Some held) = IsHeldFor v held
-
--- the same of a step after which the mount takes over a tree, if there is one
-abbrev pub MakesAfter : Stand → Tables → Option Pending → Step → Option Held → (MountIs → Outcome) → Type 0
-MakesAfter stand tables pending step tree machine =
-    (rest : Rest) → outcome_of step (tables_after tables tree) rest pending ≡ machine (mount_at stand tables rest pending)
+-- the same, where the mount takes over other tables with the step
+abbrev pub MakesAfter : Stand → (before : Tables) → Option Pending → Step → (after : Tables) → (MountIs → Outcome) → Type 0
+MakesAfter stand before pending step after machine =
+    (rest : Rest) → outcome_of step after rest pending ≡ machine (mount_at stand before rest pending)
 
 abbrev pub at_work : Work → (calls : ℕ) → Rest
 at_work work calls = record { calls = calls; work = work }
 
--- the step, and the tree that is taken over with it, are what the machine makes of a mount that is at this work, with this answer
-abbrev pub MakesAnswer : Stand → Tables → Option Pending → Work → Reply → Step → Option Held → Type 0
-MakesAnswer stand tables pending work reply step tree =
-    (calls : ℕ) → outcome_of step (tables_after tables tree) (at_work work calls) pending ≡ answered (mount_at stand tables (at_work work calls) pending) reply
+-- the step, and the tables that are taken over with it, are what the machine makes of a mount that is at this work, with this answer
+abbrev pub MakesAnswer : Stand → (before : Tables) → Option Pending → Work → Reply → Step → (after : Tables) → Type 0
+MakesAnswer stand before pending work reply step after =
+    (calls : ℕ) → outcome_of step after (at_work work calls) pending ≡ answered (mount_at stand before (at_work work calls) pending) reply
 
 -- what is true of every mount, beside what its tables and its proposer are
 pub record IsMount (m : MountIs) : Type 0 where

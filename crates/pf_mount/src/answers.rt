@@ -1,5 +1,5 @@
 //! The steps of a mount whose ask was answered.
-ghost use Rattle.std.specs.Prelude.{◌≡◌, ◌<◌, IfOk, None, Some, length};
+ghost use Rattle.std.specs.Prelude.{◌≡◌, ◌<◌, IfOk, OnErr, Some, length};
 ghost use Rattle.pf_mount.specs.declared.work.Work.TheVariants.{ReadsSuper, Syncs, Ballots, Moves};
 ghost use Rattle.pf_paxos.specs.Proposers.{IsWriting, read_in, written_in};
 ghost use Rattle.pf_paxos.specs.Standing.{AreBlocks, IsInput};
@@ -8,7 +8,7 @@ ghost use Rattle.pf_txn.specs.Spelling.{IsShortCall};
 ghost use Rattle.pf_files.specs.Calls.{applied_in};
 ghost use Rattle.pf_mount.specs.Positions.{CanAsk, IsReadPending};
 ghost use Rattle.pf_mount.specs.Mounts.{AnswersMoving, AnswersWork, ballot_read, balloted, decided, has_bal, paused, proceeds_with, super_read, syncs_on};
-ghost use Rattle.pf_mount.specs.Steps.{IsHeldFor, IsShortFor, IsStand, IsStep, IsTakenFor, IsWorkAt, Makes, MakesAfter, MakesAnswer, MakesOn, Rest, advanced_stand, mount_at, outcome_of};
+ghost use Rattle.pf_mount.specs.Steps.{AreFilesAt, IsHeldFor, IsShortFor, IsStand, IsStep, IsWorkAt, Makes, MakesAfter, MakesAnswer, MakesOn, Rest, advanced_stand, mount_at, outcome_of};
 
 use crate::asks::{blocks_in, reads_half, writes_super};
 use crate::ballots::{aborted, asks_read, asks_write, ballots, moved, pauses};
@@ -17,13 +17,12 @@ use crate::stand::{Stand, Step};
 use crate::{Next, Work};
 use pf_base::{NoMemory, Reply, Sector, Value};
 use pf_files::{
-    CallAnswer, CallFault, Moving, Pending, applied_in, data_are_asked_inside, is_of, moves,
+    CallAnswer, CallFault, CallWork, Moving, Pending, data_are_asked_inside, is_of, moves,
     moves_on, size_in,
 };
 use pf_layout::read_super;
 use pf_paxos::{Block, Next as BallotNext};
 use pf_tree::{Tree, Txn};
-use pf_txn::read_txn;
 use std::alloc::Global;
 
 /// Sector 0 was read.
@@ -109,81 +108,86 @@ fn paused(alloc: Global, stand: Stand, input: Option<Value>, left: u32) -> Resul
 fn ballot_read(
     alloc: Global,
     stand: Stand,
-    tree: &Tree,
-    pending: &Option<Pending>,
+    files: &mut CallWork,
     input: Option<Value>,
     blocks: &[Block],
-) -> Result<(Step, Option<Tree>), NoMemory>
+) -> Result<Step, NoMemory>
     requires stand { IsStand stand }
     requires upto { stand.upto < 256 }
-    requires tree { IsHeldFor stand.volume tree.now }
-    requires call { IsShortFor pending.now }
+    requires files { AreFilesAt stand files.old }
     requires input { IsInput input }
     requires reading { IsReadPending stand.position.proposer.phase }
     requires eight { length blocks.now ≡ 8 }
     requires forms { AreBlocks blocks.now }
-    ensures form { IfOk result (λ x. IsStep stand.mount stand.volume x.0) }
-    ensures tree { IfOk result (λ x. IsTakenFor stand.volume x.1) }
-    ensures makes { IfOk result (λ x. MakesAfter stand tree.now.tables pending.now x.0 x.1 (λ m. ballot_read m input blocks.now)) }
+    ensures form { IfOk result (IsStep stand.mount stand.volume) }
+    ensures kept { files.new ≡ record files.old { tables = files.new.tables } }
+    ensures inodes { length files.new.tables.inodes ≡ 1024 }
+    ensures makes { IfOk result (λ step. MakesAfter stand files.old.tables files.old.pending step files.new.tables (λ m. ballot_read m input blocks.now)) }
+    ensures err { OnErr result (files.new ≡ files.old) }
 {
     if !stand.position.finds_value(blocks) {
-        return Ok((aborted(stand, input), None));
+        return Ok(aborted(stand, input));
     }
     let (stand, next) = stand.read(blocks);
-    balloted(alloc, stand, tree, pending, input, next)
+    balloted(alloc, stand, files, input, next)
 }
 
 /// What a ballot does next.
 fn balloted(
     alloc: Global,
     stand: Stand,
-    tree: &Tree,
-    pending: &Option<Pending>,
+    files: &mut CallWork,
     input: Option<Value>,
     next: BallotNext,
-) -> Result<(Step, Option<Tree>), NoMemory>
+) -> Result<Step, NoMemory>
     requires stand { IsStand stand }
     requires upto { stand.upto < 256 }
-    requires tree { IsHeldFor stand.volume tree.now }
-    requires call { IsShortFor pending.now }
+    requires files { AreFilesAt stand files.old }
     requires input { IsInput input }
     requires next { CanAsk next }
-    ensures form { IfOk result (λ x. IsStep stand.mount stand.volume x.0) }
-    ensures tree { IfOk result (λ x. IsTakenFor stand.volume x.1) }
-    ensures makes { IfOk result (λ x. MakesAfter stand tree.now.tables pending.now x.0 x.1 (λ m. balloted m input next)) }
+    ensures form { IfOk result (IsStep stand.mount stand.volume) }
+    ensures kept { files.new ≡ record files.old { tables = files.new.tables } }
+    ensures inodes { length files.new.tables.inodes ≡ 1024 }
+    ensures makes { IfOk result (λ step. MakesAfter stand files.old.tables files.old.pending step files.new.tables (λ m. balloted m input next)) }
+    ensures err { OnErr result (files.new ≡ files.old) }
 {
     match next {
-        BallotNext::Write(block) => Ok((asks_write(alloc, stand, input, &block)?, None)),
-        BallotNext::Read(half) => Ok((asks_read(stand, input, half), None)),
-        BallotNext::Abort(_) => Ok((aborted(stand, input), None)),
-        BallotNext::Decided(value) => {
-            let (step, after) = decided(alloc, stand, tree, pending, input, &value)?;
-            Ok((step, Some(after)))
-        }
+        BallotNext::Write(block) => asks_write(alloc, stand, input, &block),
+        BallotNext::Read(half) => Ok(asks_read(stand, input, half)),
+        BallotNext::Abort(_) => Ok(aborted(stand, input)),
+        BallotNext::Decided(value) => decided(alloc, stand, files, input, &value),
     }
 }
 
-/// The value of the position is decided: the tables with its changes, and the step.
+/// The value of the position is decided: its changes are taken over with the step.
 fn decided(
     alloc: Global,
     stand: Stand,
-    tree: &Tree,
-    pending: &Option<Pending>,
+    files: &mut CallWork,
     input: Option<Value>,
     value: &Value,
-) -> Result<(Step, Tree), NoMemory>
+) -> Result<Step, NoMemory>
     requires stand { IsStand stand }
     requires upto { stand.upto < 256 }
-    requires tree { IsHeldFor stand.volume tree.now }
-    requires call { IsShortFor pending.now }
-    ensures form { IfOk result (λ x. IsStep stand.mount stand.volume x.0) }
-    ensures tree { IfOk result (λ x. IsHeldFor stand.volume x.1) }
-    ensures makes { IfOk result (λ x. MakesAfter stand tree.now.tables pending.now x.0 (Some x.1) (λ m. decided m input (txn_in value.now))) }
+    requires files { AreFilesAt stand files.old }
+    ensures form { IfOk result (IsStep stand.mount stand.volume) }
+    ensures kept { files.new ≡ record files.old { tables = files.new.tables } }
+    ensures inodes { length files.new.tables.inodes ≡ 1024 }
+    ensures makes { IfOk result (λ step. MakesAfter stand files.old.tables files.old.pending step files.new.tables (λ m. decided m input (txn_in value.now))) }
+    ensures err { OnErr result (files.new ≡ files.old) }
 {
-    let txn = read_txn(alloc, value)?;
-    let after = applied_in(alloc, tree, &txn)?;
-    let step = proceeds(alloc, stand, tree, &after, pending, &txn, input)?;
-    Ok((step, after))
+    let after = files.applied(alloc, value)?;
+    let step = proceeds(
+        alloc,
+        stand,
+        files.tree(),
+        &after.tree,
+        files.pending(),
+        &after.txn,
+        input,
+    )?;
+    files.take_over(after);
+    Ok(step)
 }
 
 /// The step after a decision. A sync goes on at the next position, and so does a ballot without a call.
@@ -202,7 +206,7 @@ fn proceeds(
     requires applied { after.now.tables ≡ applied_in before.now.tables txn.now }
     requires call { IsShortFor pending.now }
     ensures form { IfOk result (IsStep stand.mount stand.volume) }
-    ensures makes { IfOk result (λ step. MakesAfter stand before.now.tables pending.now step (Some after.now) (λ m. decided m input txn.now)) }
+    ensures makes { IfOk result (λ step. MakesAfter stand before.now.tables pending.now step after.now.tables (λ m. decided m input txn.now)) }
 {
     let next = stand.advanced();
     match (input, pending) {
@@ -250,7 +254,7 @@ fn super_answered(
     requires call { IsShortFor pending.now }
     requires answers { AnswersWork stand.position.proposer.phase ReadsSuper reply.now }
     ensures form { IfOk result (IsStep stand.mount stand.volume) }
-    ensures makes { IfOk result (λ step. MakesAnswer stand tree.now.tables pending.now ReadsSuper reply.now step None) }
+    ensures makes { IfOk result (λ step. MakesAnswer stand tree.now.tables pending.now ReadsSuper reply.now step tree.now.tables) }
 {
     let Reply::Bytes(sectors) = reply else {
         unreachable!();
@@ -274,7 +278,7 @@ fn sync_answered(
     requires call { IsShortFor pending.now }
     requires answers { AnswersWork stand.position.proposer.phase (Syncs half found) reply.now }
     ensures form { IfOk result (IsStep stand.mount stand.volume) }
-    ensures makes { IfOk result (λ step. MakesAnswer stand tree.now.tables pending.now (Syncs half found) reply.now step None) }
+    ensures makes { IfOk result (λ step. MakesAnswer stand tree.now.tables pending.now (Syncs half found) reply.now step tree.now.tables) }
 {
     let Reply::Bytes(sectors) = reply else {
         unreachable!();
@@ -289,30 +293,30 @@ fn sync_answered(
 fn ballot_answered(
     alloc: Global,
     stand: Stand,
-    tree: &Tree,
-    pending: &Option<Pending>,
+    files: &mut CallWork,
     input: Option<Value>,
     reply: &Reply,
-) -> Result<(Step, Option<Tree>), NoMemory>
+) -> Result<Step, NoMemory>
     requires stand { IsStand stand }
     requires upto { stand.upto < 256 }
-    requires tree { IsHeldFor stand.volume tree.now }
-    requires call { IsShortFor pending.now }
+    requires files { AreFilesAt stand files.old }
     requires input { IsInput input }
     requires answers { AnswersWork stand.position.proposer.phase (Ballots input) reply.now }
-    ensures form { IfOk result (λ x. IsStep stand.mount stand.volume x.0) }
-    ensures tree { IfOk result (λ x. IsTakenFor stand.volume x.1) }
-    ensures makes { IfOk result (λ x. MakesAnswer stand tree.now.tables pending.now (Ballots input) reply.now x.0 x.1) }
+    ensures form { IfOk result (IsStep stand.mount stand.volume) }
+    ensures kept { files.new ≡ record files.old { tables = files.new.tables } }
+    ensures inodes { length files.new.tables.inodes ≡ 1024 }
+    ensures makes { IfOk result (λ step. MakesAnswer stand files.old.tables files.old.pending (Ballots input) reply.now step files.new.tables) }
+    ensures err { OnErr result (files.new ≡ files.old) }
 {
     match reply {
         Reply::Written => {
             let (stand, next) = stand.written();
-            balloted(alloc, stand, tree, pending, input, next)
+            balloted(alloc, stand, files, input, next)
         }
         Reply::Bytes(sectors) => {
             let blocks = blocks_in(alloc, sectors.as_slice())?;
             let stand = stand.seeing(&blocks);
-            ballot_read(alloc, stand, tree, pending, input, &blocks)
+            ballot_read(alloc, stand, files, input, &blocks)
         }
     }
 }
@@ -330,7 +334,7 @@ fn data_answered(
     requires tree { IsHeldFor stand.volume tree.now }
     requires answers { AnswersMoving moving.now reply.now }
     ensures form { IfOk result (IsStep stand.mount stand.volume) }
-    ensures makes { IfOk result (λ step. MakesAnswer stand tree.now.tables pending.now (Moves moving.now) reply.now step None) }
+    ensures makes { IfOk result (λ step. MakesAnswer stand tree.now.tables pending.now (Moves moving.now) reply.now step tree.now.tables) }
 {
     data_are_asked_inside();
     let _sectors = stand.volume.sectors();
@@ -338,37 +342,46 @@ fn data_answered(
     Ok(moved(stand, step))
 }
 
-/// The pending ask was answered: the step, and the tree that the mount takes over with it, if a transaction was decided.
+/// The pending ask was answered: the step. Where a transaction was decided, its changes are taken over.
 pub(crate) fn answered(
     alloc: Global,
     stand: Stand,
-    tree: &Tree,
-    pending: &Option<Pending>,
+    files: &mut CallWork,
     work: &Work,
     reply: &Reply,
-) -> Result<(Step, Option<Tree>), NoMemory>
+) -> Result<Step, NoMemory>
     requires stand { IsStand stand }
-    requires tree { IsHeldFor stand.volume tree.now }
-    requires call { IsShortFor pending.now }
+    requires files { AreFilesAt stand files.old }
     requires work { IsWorkAt stand.upto work.now }
     requires answers { AnswersWork stand.position.proposer.phase work.now reply.now }
-    ensures form { IfOk result (λ x. IsStep stand.mount stand.volume x.0) }
-    ensures tree { IfOk result (λ x. IsTakenFor stand.volume x.1) }
-    ensures makes { IfOk result (λ x. MakesAnswer stand tree.now.tables pending.now work.now reply.now x.0 x.1) }
+    ensures form { IfOk result (IsStep stand.mount stand.volume) }
+    ensures kept { files.new ≡ record files.old { tables = files.new.tables } }
+    ensures inodes { length files.new.tables.inodes ≡ 1024 }
+    ensures makes { IfOk result (λ step. MakesAnswer stand files.old.tables files.old.pending work.now reply.now step files.new.tables) }
+    ensures err { OnErr result (files.new ≡ files.old) }
 {
     match work {
-        Work::ReadsSuper => Ok((super_answered(alloc, stand, tree, pending, reply)?, None)),
-        Work::WritesSuper => Ok((syncs(alloc, stand, tree, pending)?, None)),
-        Work::Syncs { half, found } => Ok((
-            sync_answered(alloc, stand, tree, pending, *half, *found, reply)?,
-            None,
-        )),
-        Work::Ballots { input } => ballot_answered(alloc, stand, tree, pending, *input, reply),
-        Work::Pauses { input, left } => Ok((paused(alloc, stand, *input, *left)?, None)),
-        Work::Moves(moving) => Ok((
-            data_answered(alloc, stand, tree, pending, moving, reply)?,
-            None,
-        )),
+        Work::ReadsSuper => super_answered(alloc, stand, files.tree(), files.pending(), reply),
+        Work::WritesSuper => syncs(alloc, stand, files.tree(), files.pending()),
+        Work::Syncs { half, found } => sync_answered(
+            alloc,
+            stand,
+            files.tree(),
+            files.pending(),
+            *half,
+            *found,
+            reply,
+        ),
+        Work::Ballots { input } => ballot_answered(alloc, stand, files, *input, reply),
+        Work::Pauses { input, left } => paused(alloc, stand, *input, *left),
+        Work::Moves(moving) => data_answered(
+            alloc,
+            stand,
+            files.tree(),
+            files.pending(),
+            moving,
+            reply,
+        ),
         Work::Rests => unreachable!(),
         Work::Fails => unreachable!(),
     }

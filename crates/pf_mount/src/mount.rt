@@ -8,7 +8,7 @@ ghost use Rattle.pf_mount.specs.Mounts.{Answers, answered, opening, starting};
 ghost use Rattle.pf_mount.specs.Awaiting.{AwaitsNext};
 ghost use Rattle.pf_mount.specs.Starts.{IsMisspelled, Starts};
 ghost use Rattle.pf_txn.specs.Spelling.{IsShortCall};
-ghost use Rattle.pf_mount.specs.Steps.{AsksWithin, IsStep, IsTakenFor, outcome_of, tables_after, at_work};
+ghost use Rattle.pf_mount.specs.Steps.{AsksWithin, IsStep, outcome_of, at_work};
 
 use crate::answers::answered;
 use crate::asks::reads_super;
@@ -131,15 +131,8 @@ impl Mount {
             upto: self.upto,
             position: self.position,
         };
-        let (step, tree) = answered(
-            alloc,
-            stand,
-            self.files.tree(),
-            self.files.pending(),
-            &self.work,
-            &reply,
-        )?;
-        Ok(self.take(step, tree))
+        let step = answered(alloc, stand, &mut self.files, &self.work, &reply)?;
+        Ok(self.take(step))
     }
 
     /// Starts a call: what comes next. The mount is as it was after each refusal: `CallPending` (91) exactly where it is not ready or a call
@@ -196,18 +189,14 @@ impl Mount {
         ensures { record { mount = self.new; next = result } ≡ outcome_of step self.old.files.tables (at_work self.old.work (suc self.old.files.calls)) (Some (record { number = suc self.old.files.calls; call = call })) }
     {
         self.files.start(call);
-        self.take(step, None)
+        self.take(step)
     }
 
-    /// Takes over a step, with the tree after a decision.
-    fn take(&mut self, step: Step, tree: Option<Tree>) -> Next
-        requires step { IsStep self.old.files.mount self.old.files.volume step }
-        requires tree { IsTakenFor self.old.files.volume tree }
-        ensures { record { mount = self.new; next = result } ≡ outcome_of step (tables_after self.old.files.tables tree) (at_work self.old.work self.old.files.calls) self.old.files.pending }
+    /// Takes over a step.
+    fn take(&mut self, step: Step) -> Next
+        requires { IsStep self.old.files.mount self.old.files.volume step }
+        ensures { record { mount = self.new; next = result } ≡ outcome_of step self.old.files.tables (at_work self.old.work self.old.files.calls) self.old.files.pending }
     {
-        if let Some(tree) = tree {
-            self.files.put(tree);
-        }
         if step.ends {
             self.files.end();
         }

@@ -1,4 +1,4 @@
-use Rattle.std.proofs.Common.{◌≡◌, List, ℕ, length, None, sym, ap, subst, ◌∙◌}
+use Rattle.std.proofs.Common.{◌≡◌, List, ℕ, length, sym, ap, subst, ◌∙◌}
 use Rattle.std.proofs.lemmas.Result.{IfOk-weaker}
 use Rattle.pf_base.specs.declared.asks.Reply.{Reply}
 use Rattle.pf_mount.specs.declared.work.Work.TheVariants.{ReadsSuper}
@@ -16,7 +16,7 @@ returns-clause-makes c =
     let sector = c.sector.result.now in
     let P : Reply → Type 0 = λ y. AnswersWork stand.position.proposer.phase ReadsSuper y in
     let one : length c.in-Bytes.sectors ≡ 1 = subst P c.in-Bytes.is c.requires.answers in
-    IfOk-weaker c.super_read.result (λ s. MakesOn stand tables pending s (λ m. super_read m sector)) (λ s. MakesAnswer stand tables pending ReadsSuper reply s None)
+    IfOk-weaker c.super_read.result (λ s. MakesOn stand tables pending s (λ m. super_read m sector)) (λ s. MakesAnswer stand tables pending ReadsSuper reply s tables)
     (λ s h. λ calls.
     let rest = at_work ReadsSuper calls in
     h rest
