@@ -13,4 +13,4 @@ record_text (Merged term first entries) = codes "merged" ++ spaced term ++ space
 
 -- the line of a record
 abbrev pub record_line : Record → List ℕ
-record_line record_is = ended (record_text record_is)
+record_line written = ended (record_text written)

@@ -9,10 +9,10 @@ use pf_entry::Record;
 use pf_text::put_text;
 
 /// Puts what a record tells.
-fn put_told(out: &mut Vec<u8>, record: &Record) -> Result<(), NoMemory>
-    ensures { OnOk result (out.new.items ≡ out.old.items ++ record_text record.now) }
+fn put_told(out: &mut Vec<u8>, written: &Record) -> Result<(), NoMemory>
+    ensures { OnOk result (out.new.items ≡ out.old.items ++ record_text written.now) }
 {
-    match record {
+    match written {
         Record::Image {
             generation,
             term,
@@ -49,11 +49,11 @@ fn put_told(out: &mut Vec<u8>, record: &Record) -> Result<(), NoMemory>
 /// Puts the line of a record, without a number before it: `image` with its generation, its term and its checkpoint; `term` with the
 /// term; `entry` with its slot, its term and its op as `s:t:OP`; or `merged` with its term, its first new slot and the count of its
 /// entries.
-pub fn put_record(out: &mut Vec<u8>, record: &Record) -> Result<(), NoMemory>
-    ensures ok { OnOk result (out.new.items ≡ out.old.items ++ record_line record.now) }
+pub fn put_record(out: &mut Vec<u8>, written: &Record) -> Result<(), NoMemory>
+    ensures ok { OnOk result (out.new.items ≡ out.old.items ++ record_line written.now) }
     ensures err { OnErr result (out.new.items ≡ out.old.items) }
 {
     let mut text = Vec::new(*out.allocator());
-    put_told(&mut text, record)?;
+    put_told(&mut text, written)?;
     put_ended(out, text)
 }
