@@ -1,3 +1,4 @@
 pub mod Texts
 pub mod Refusals
 pub mod Mounts
+pub mod Records

@@ -55,9 +55,13 @@ op_text Mark = codes "m"
 abbrev pub sign : Bool → List ℕ
 sign committed = if committed then codes "+" else codes "-"
 
--- one held slot, as s:t:OP with its sign
+-- a slot with its term and its op, as s:t:OP
+abbrev pub slot_text : (slot term : ℕ) → Op → List ℕ
+slot_text slot term op = decimal slot ++ codes ":" ++ decimal term ++ codes ":" ++ op_text op
+
+-- one held slot, with its sign
 abbrev pub held_text : Line → List ℕ
-held_text held = spaced held.slot ++ codes ":" ++ decimal held.term ++ codes ":" ++ op_text held.op ++ sign held.committed
+held_text held = codes " " ++ slot_text held.slot held.term held.op ++ sign held.committed
 
 abbrev pub line_in : Holes → ℕ × Entry → Line
 line_in log held = record { slot = held.0; term = held.1.term; op = held.1.op; committed = Sets.contains log.marks held.0 }

@@ -1,4 +1,4 @@
-//! The lines of a report, each put at the end of a list of bytes with its line feed.
+//! The lines of a report, and of a listing of records, each put at the end of a list of bytes with its line feed.
 //!
 //! `NoMemory` (1) is the only error, and leaves the list as it was. The list keeps its allocator, so these calls take none.
 #![tactic(auto)]
@@ -7,9 +7,11 @@ mod answers;
 mod lines;
 mod logs;
 mod mounts;
+mod records;
 mod sectors;
 
 pub use answers::{put_answer, put_refusal, put_settle};
 pub use logs::{put_acked, put_applied, put_log};
 pub use mounts::{put_call, put_mount, put_ready, put_started, put_state, put_tree};
+pub use records::put_record;
 pub use sectors::{put_mark, put_read, put_sectors};

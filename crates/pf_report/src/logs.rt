@@ -1,7 +1,7 @@
 //! Lines that show a server's log, and what it applied.
 ghost use Rattle.std.specs.Prelude.{◌≡◌, ◌++◌, OnErr, OnOk};
 ghost use Rattle.std.specs.List.{flat_map};
-ghost use Rattle.pf_report.specs.Texts.{acked_text, applied_text, held_in, held_text, line_in, line_of, log_text, op_text};
+ghost use Rattle.pf_report.specs.Texts.{acked_text, applied_text, held_in, held_text, line_in, line_of, log_text, op_text, slot_text};
 
 use crate::lines::{begun, put_all_spaced, put_ended, put_spaced};
 use pf_base::{NoMemory, Slot, Term};
@@ -25,15 +25,23 @@ fn put_op(out: &mut Vec<u8>, op: &Op) -> Result<(), NoMemory>
     }
 }
 
+/// Puts a slot, its term, and what its op does.
+pub(crate) fn put_slot(out: &mut Vec<u8>, slot: Slot, term: Term, op: &Op) -> Result<(), NoMemory>
+    ensures { OnOk result (out.new.items ≡ out.old.items ++ slot_text slot term op.now) }
+{
+    put_decimal(out, slot)?;
+    put_text(out, b":")?;
+    put_decimal(out, term)?;
+    put_text(out, b":")?;
+    put_op(out, op)
+}
+
 /// Puts one held slot of a log.
 fn put_held(out: &mut Vec<u8>, log: &HoleLog, entry: &Entry) -> Result<(), NoMemory>
     ensures { OnOk result (out.new.items ≡ out.old.items ++ held_text (line_in log.now (entry.now.slot, entry.now))) }
 {
-    put_spaced(out, entry.slot)?;
-    put_text(out, b":")?;
-    put_decimal(out, entry.term)?;
-    put_text(out, b":")?;
-    put_op(out, &entry.op)?;
+    put_text(out, b" ")?;
+    put_slot(out, entry.slot, entry.term, &entry.op)?;
     let sign = if log.is_committed(entry.slot) {
         b"+"
     } else {

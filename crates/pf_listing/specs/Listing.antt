@@ -1,0 +1,55 @@
+-- What is listed of a server's two disks.
+use Rattle.std.specs.Prelude.{ℕ, ◌≡◌, ◌⊎◌, List, [], ◌∷◌, ◌++◌, Option, Some, None, Result, Ok, Err, Vec, codes}
+use Rattle.std.specs.List.{AllZip, flat_map}
+use Rattle.std.specs.declared.alloc.Global.{Global}
+use Rattle.pf_entry.specs.declared.records.Record.{Record}
+use Rattle.pf_chunklog.specs.Records.{Raw}
+use Rattle.pf_chunklog.specs.declared.errors.OpenFault.{OpenFault}
+use Rattle.pf_chunklog.specs.declared.errors.OpenFault.TheVariants.{NoMemory, DiskFault, NotOurs}
+use Rattle.pf_image.specs.Halves.{of_half}
+use Rattle.pf_image.specs.Recovery.{Content, IsRecoverable, Spells}
+use Rattle.pf_image.specs.declared.halves.Half.{Half}
+use Rattle.pf_report.specs.Records.{record_line}
+use Rattle.pf_report.specs.Texts.{ended}
+
+-- what the halves of a server begin with: the magic, a format, which does not count here, the group and the server
+abbrev pub head_of : (group server : ℕ) → List ℕ
+head_of group server = codes "PFCL" ++ 2 ∷ group ∷ server ∷ []
+
+-- a line for each record, in order
+abbrev pub records_text : List Record → List ℕ
+records_text records = flat_map record_line records
+
+abbrev pub not_ours_line : List ℕ
+not_ours_line = ended (codes "not ours")
+
+abbrev pub disk_fault_line : List ℕ
+disk_fault_line = ended (codes "disk fault")
+
+-- what is said of the text of the records that were found, or of why there is none
+abbrev pub said_of : Result (Vec ℕ Global) OpenFault → Option (List ℕ)
+said_of (Ok text) = Some text.items
+said_of (Err NoMemory) = None
+said_of (Err NotOurs) = Some not_ours_line
+said_of (Err DiskFault) = Some disk_fault_line
+
+-- the text of the records that stand in a half of this format
+pub record TellsRecords (content : Content) (text : List ℕ) : Type 0 where
+  pub records : List Record
+  pub spelled : AllZip (Spells content.0) content.1 records
+  pub text_is : text ≡ records_text records
+
+-- the text of records that were found
+pub record AreRecords (IsFound : Content → Type 0) (text : List ℕ) : Type 0 where
+  pub content : Content
+  pub found : IsFound content
+  pub told : TellsRecords content text
+
+-- neither of the two files is that of a recoverable half
+abbrev pub HasNone : (head zero one : List ℕ) → Type 0
+HasNone head zero one = (half : Half) (records : List Raw) → IsRecoverable head half (of_half half zero one) records → ⊥
+
+-- The text of the records that were found; that there are none; or that a disk failed.
+abbrev pub IsListing : (IsFound : Content → Type 0) → (none failed : Type 0) → List ℕ → Type 0
+IsListing IsFound none failed text =
+    AreRecords IsFound text ⊎ ((none × (text ≡ not_ours_line)) ⊎ (failed × (text ≡ disk_fault_line)))

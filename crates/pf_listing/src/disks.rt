@@ -1,0 +1,32 @@
+//! The two disks of a server among those of many.
+ghost use Rattle.std.specs.Prelude.{◌≡◌, ◌+◌, ◌<◌, IfOk, length};
+ghost use Rattle.pf_listing.specs.Disks.{AreRead, HasListed, place_of};
+
+use crate::list_records;
+use pf_base::NoMemory;
+use pf_disk::Disk;
+use std::alloc::Global;
+
+/// Lists the records that a restart of a server would find on its two disks, as `list_records` does. Disk 6g + 2i + h is half h of server i
+/// of group g. All disks stand where they stood, with what they held; only the two are read.
+///
+/// `NoMemory` (1) where there is none for the text. It takes no other memory.
+pub fn list_server<D: Disk + Drop>(
+    alloc: Global,
+    disks: &mut Vec<D>,
+    group: u8,
+    server: u8,
+) -> Result<Vec<u8>, NoMemory>
+    requires { place_of group server + 1 < length disks.old.items }
+    ensures listed { IfOk result (λ text. HasListed D.seen D.may_leave D.faults group server disks.old.items disks.new.items text.items) }
+    ensures read { AreRead D.seen D.may_leave D.faults group server disks.old.items disks.new.items }
+{
+    let place = 6 * usize::from(group) + 2 * usize::from(server);
+    let zero = disks.remove(place);
+    let one = disks.remove(place);
+    let (zero, one, text) = list_records(alloc, zero, one, group, server);
+    // They have their old places, so there is room for them.
+    let _ = disks.insert(place, one);
+    let _ = disks.insert(place, zero);
+    text
+}

@@ -1,0 +1,103 @@
+//! The records of a server, listed.
+ghost use Rattle.std.specs.Prelude.{◌≡◌, ◌≤◌, ◌⊎◌, ℕ, List, IfErr, IfOk, IfSome, IsErrOf, IsTrue};
+ghost use Rattle.std.specs.List.{All};
+ghost use Rattle.pf_disk.specs.Causes.{Rose};
+ghost use Rattle.pf_chunklog.specs.Logs.{IsOnlyRead, LeavesOnly};
+ghost use Rattle.pf_image.specs.Recovery.{AreRecoverable, FindsIn, IsSpelled};
+ghost use Rattle.pf_image.specs.Pairs.{AreLater};
+ghost use Rattle.pf_listing.specs.Listing.{AreRecords, HasNone, IsListing, TellsRecords, disk_fault_line, head_of, not_ours_line, said_of};
+
+use pf_base::{Bytes, NoMemory};
+use pf_chunklog::OpenFault;
+use pf_disk::Disk;
+use pf_image::Pair;
+use pf_report::put_record;
+use pf_spelling::read_record;
+use pf_text::put_text;
+use std::alloc::Global;
+
+/// The lines of the records that these kinds and payloads spell. One record at a time is read.
+fn lines_of(alloc: Global, format: u8, raws: &[(u8, Bytes)]) -> Result<Vec<u8>, NoMemory>
+    requires { All (IsSpelled format) raws.now }
+    ensures { IfOk result (λ text. TellsRecords (format, raws.now) text.items) }
+{
+    let mut text = Vec::new(alloc);
+    for raw in raws {
+        let Some(record) = read_record(alloc, format, raw.0, raw.1.as_slice())? else {
+            unreachable!()
+        };
+        put_record(&mut text, &record)?;
+    }
+    Ok(text)
+}
+
+/// The lines of the records that a restart finds.
+fn found_lines<D: Disk>(alloc: Global, pair: &mut Pair<D>) -> Result<Vec<u8>, OpenFault>
+    ensures found { IfSome (D.seen pair.old.zero.disk) (λ zero. IfSome (D.seen pair.old.one.disk) (λ one. IfOk result (λ text. AreRecords (FindsIn pair.old.head zero one) text.items))) }
+    ensures recoverable { IfOk result (λ text. AreRecords (λ content. AreRecoverable content.0 content.1) text.items) }
+    ensures none { IfSome (D.seen pair.old.zero.disk) (λ zero. IfSome (D.seen pair.old.one.disk) (λ one. IsErrOf result OpenFault.NotOurs → HasNone pair.old.head zero one)) }
+    ensures failed { IsErrOf result OpenFault.DiskFault → Rose (D.faults pair.old.zero.disk) (D.faults pair.new.zero.disk) ⊎ Rose (D.faults pair.old.one.disk) (D.faults pair.new.one.disk) }
+    ensures zero { IsOnlyRead D.seen D.may_leave pair.old.zero.disk pair.new.zero.disk }
+    ensures one { IsOnlyRead D.seen D.may_leave pair.old.one.disk pair.new.one.disk }
+    ensures any_moment { IsTrue D.tells_moments → LeavesOnly D.moment D.left_since pair.old.zero.disk pair.new.zero.disk (D.may_leave pair.old.zero.disk)
+        × LeavesOnly D.moment D.left_since pair.old.one.disk pair.new.one.disk (D.may_leave pair.old.one.disk) }
+    ensures later { AreLater D.faults pair.old pair.new }
+{
+    match pair.reload(alloc) {
+        Ok(raws) => Ok(lines_of(alloc, pair.format(), raws.as_slice())?),
+        Err(fault) => Err(fault),
+    }
+}
+
+/// A line in a list of its own.
+fn line(alloc: Global, text: &[u8]) -> Result<Vec<u8>, NoMemory>
+    ensures { IfOk result (λ line. line.items ≡ text.now) }
+{
+    let mut line = Vec::new(alloc);
+    put_text(&mut line, text)?;
+    Ok(line)
+}
+
+/// What is said of what was found.
+fn said(alloc: Global, found: Result<Vec<u8>, OpenFault>) -> Result<Vec<u8>, NoMemory>
+    ensures { IfOk result (λ text. said_of found ≡ Some text.items) }
+{
+    match found {
+        Ok(text) => Ok(text),
+        Err(OpenFault::NoMemory) => Err(NoMemory),
+        Err(OpenFault::NotOurs) => line(alloc, b"not ours\n"),
+        Err(OpenFault::DiskFault) => line(alloc, b"disk fault\n"),
+    }
+}
+
+/// Lists the records that a restart of a server would find on its two disks, that of half 0 first: a line for each record of the
+/// current half, in order, as `put_record` has it. Where neither half is recoverable the one line is `not ours`; where a disk failed it
+/// is `disk fault`, and only where one of the two disks has failed in this call. Nothing is written, and the disks come back, with what
+/// they held. The memory that it takes is in proportion to the two files.
+///
+/// `NoMemory` (1) where there is none for it.
+pub fn list_records<D: Disk>(
+    alloc: Global,
+    a: D,
+    b: D,
+    group: u8,
+    server: u8,
+) -> (D, D, Result<Vec<u8>, NoMemory>)
+    ensures told { IfOk result.2 (λ text. IfSome (D.seen a) (λ zero. IfSome (D.seen b) (λ one.
+        IsListing (FindsIn (head_of group server) zero one) (HasNone (head_of group server) zero one) (Rose (D.faults a) (D.faults result.0) ⊎ Rose (D.faults b) (D.faults result.1)) text.items))) }
+    // Of disks that do not tell what they hold, this much is known.
+    ensures any { IfOk result.2 (λ text.
+        IsListing (λ content. AreRecoverable content.0 content.1) (Unit {0}) (Rose (D.faults a) (D.faults result.0) ⊎ Rose (D.faults b) (D.faults result.1)) text.items) }
+    ensures zero { IsOnlyRead D.seen D.may_leave a result.0 }
+    ensures one { IsOnlyRead D.seen D.may_leave b result.1 }
+    ensures any_moment { IsTrue D.tells_moments → LeavesOnly D.moment D.left_since a result.0 (D.may_leave a) × LeavesOnly D.moment D.left_since b result.1 (D.may_leave b) }
+    ensures later_zero { D.faults a ≤ D.faults result.0 }
+    ensures later_one { D.faults b ≤ D.faults result.1 }
+{
+    let head = [b'P', b'F', b'C', b'L', 2, group, server];
+    let mut pair = Pair::unread(a, b, head);
+    let found = found_lines(alloc, &mut pair);
+    let text = said(alloc, found);
+    let (a, b) = pair.into_disks();
+    (a, b, text)
+}
