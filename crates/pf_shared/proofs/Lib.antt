@@ -7,3 +7,4 @@ pub mod Ending
 pub mod Taking
 pub mod Looking
 pub mod Growing
+pub mod Widening

@@ -97,7 +97,7 @@ module _ {D : Type 0} {disk : Ghosts D} (root : GroupIs) (n m : ℕ) (number_is 
   handed_is = b.handed ∙ ap (λ (x : GroupIs). handed_out x.taken (list_of b)) rooted
 
   -- the group behind the turn is that of the list
-  group_is : state_of b.group ≡ state_at root (list_of b)
+  pub group_is : state_of b.group ≡ state_at root (list_of b)
   group_is = ap (λ l. replay b.group.setup l) history_is ∙ ap (λ s. replay s (whole root (list_of b))) setup_is
 
   look : (P : Group → Type 0) → P (state_of b.group) → new ≡ list_of b ++ entry m (Look None) ∷ [] → Looks root n alone seen P new

@@ -8,3 +8,5 @@ pub mod Seats
 pub mod Calls
 pub mod Faults
 pub mod Looks
+pub mod Delivering
+pub mod Submitting

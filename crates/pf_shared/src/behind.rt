@@ -4,6 +4,7 @@ ghost use Rattle.pf_protocol.specs.Answers.{IsLegal, claims_of};
 ghost use Rattle.pf_protocol.specs.declared.answers.Answer.TheVariants.{Done};
 ghost use Rattle.pf_protocol.specs.declared.events.Event.TheVariants.{Claim, Finish, GiveBack};
 ghost use Rattle.pf_group.specs.GroupIs.{state_of};
+ghost use Rattle.pf_group.specs.Packets.{least_from};
 ghost use Rattle.pf_group.specs.Sound.{IsSound};
 ghost use Rattle.pf_shared.specs.Events.{IsStep};
 ghost use Rattle.pf_group.specs.Roots.{root_of};
@@ -101,6 +102,18 @@ impl<D: Disk + Drop> Behind<D> {
         ensures sound { IsSound self.now.group.setup self.now.group.history }
     {
         self.group.history()
+    }
+
+    /// The least packet from `from` on that is left.
+    pub(crate) fn least_from(&self, from: u32) -> Option<u32>
+        ensures { result ≡ least_from from (state_of self.now.group) }
+    {
+        let k = self.group.left_from(from);
+        if k < self.group.packets() {
+            Some(k)
+        } else {
+            None
+        }
     }
 
     /// Makes room for one more entry, and for the end of what it claims.

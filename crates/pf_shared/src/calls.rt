@@ -62,7 +62,8 @@ impl<D: Disk + Drop> SharedGroup<D> {
         }
     }
 
-    /// Takes in a seat that was split from the first one. The first seat has then seen what either had, and one seat less is out.
+    /// Takes in a seat that was split from the first one. The first seat has then seen what either had, and one seat less is out. No
+    /// number that was not yet split has an entry.
     pub fn join(&self, seat: &mut GroupSeat<D>, other: GroupSeat<D>)
         requires seat { IsSeatOf self.now seat.old × IsFirst seat.old }
         requires other { IsSeatOf self.now other × (number_of other ≢ 0) }
@@ -72,6 +73,7 @@ impl<D: Disk + Drop> SharedGroup<D> {
         ensures own { entries_of 0 (seen_by seat.new) ≡ entries_of 0 (seen_by seat.old) }
         ensures gone { Every (SameOf (seen_by seat.new) (seen_by seat.old)) (gone_of seat.old) }
         ensures brought { entries_of (number_of other) (seen_by seat.new) ≡ entries_of (number_of other) (seen_by other) }
+        ensures strangers { (n : ℕ) → splits_of seat.new < n → entries_of n (seen_by seat.new) ≡ [] }
     {
         let GroupSeat { seat: other } = other;
         self.lock.join(&mut seat.seat, other);
@@ -90,6 +92,29 @@ impl<D: Disk + Drop> SharedGroup<D> {
         self.lock.give(&mut seat.seat, turn);
     }
 
+    /// One event in a turn that was taken, which ends with it.
+    pub(crate) fn act(
+        &self,
+        alloc: Global,
+        seat: &mut GroupSeat<D>,
+        mut turn: Turn<Behind<D>>,
+        event: GroupEvent,
+    ) -> Result<Answer, NoMemory>
+        requires seat { turns.IsSeatOf self.now.lock seat.old.seat × turns.HasTurn seat.old.seat }
+        requires root { turn.value.start ≡ root_in self.now }
+        requires found { seen_by seat.old ≡ list_of turn.value }
+        requires event { IsStep event }
+        ensures seat { IsSeatOf self.now seat.new × IsSameSeat seat.old seat.new }
+        ensures step { IfOk result (λ answer. HasStepped (root_in self.now) (number_of seat.old) (Unit {0}) (seen_by seat.old) event answer (seen_by seat.new)) }
+        ensures err { OnErr result (Finds (number_of seat.old) (Unit {0}) (seen_by seat.old) (seen_by seat.new)) }
+        ensures history { IsHistory (root_in self.now) (seen_by seat.new) }
+    {
+        let number = seat.seat.number();
+        let answer = turn.value.step(alloc, number, event);
+        self.end(seat, turn);
+        answer
+    }
+
     /// One event of the group, in one turn. A refusal is an answer, and stands in the list with its event; `NoMemory` (1) is none.
     pub fn step<R: Wait>(
         &self,
@@ -105,11 +130,8 @@ impl<D: Disk + Drop> SharedGroup<D> {
         ensures err { OnErr result (Finds (number_of seat.old) (IsAlone seat.old) (seen_by seat.old) (seen_by seat.new)) }
         ensures history { IsHistory (root_in self.now) (seen_by seat.new) }
     {
-        let mut turn = self.lock.take(rt, &mut seat.seat);
-        let number = seat.seat.number();
-        let answer = turn.value.step(alloc, number, event);
-        self.end(seat, turn);
-        answer
+        let turn = self.lock.take(rt, &mut seat.seat);
+        self.act(alloc, seat, turn, event)
     }
 
     /// Claims a job: that of the least server that has one, its least slot that is committed, not applied, not in hand and free.

@@ -12,6 +12,7 @@ mod looks;
 mod moment;
 mod parts;
 mod start;
+mod told;
 
 pub use behind::Behind;
 pub use errors::LookFault;

@@ -8,6 +8,7 @@ ghost use Rattle.std.specs.FinMap as finite;
 ghost use Rattle.pf_entry.specs.Sets as set;
 ghost use Rattle.pf_cluster.specs.Showing.{acked_of};
 ghost use Rattle.pf_cluster.specs.Shown.{IsLeader};
+ghost use Rattle.pf_group.specs.Packets.{least_from};
 ghost use Rattle.pf_group.specs.Readers.{IsAppliedOf, is_left, snapshot_in};
 ghost use Rattle.pf_turn.specs.Seats as turns;
 ghost use Rattle.pf_shared.specs.declared.moment.Moment.TheVariants.{Look};
@@ -15,6 +16,7 @@ ghost use Rattle.pf_shared.specs.Behinds.{list_of};
 ghost use Rattle.pf_shared.specs.Calls.{Finds, IsHistory};
 ghost use Rattle.pf_shared.specs.Looks.{Looks, LooksAt, TakesRead, told_of};
 ghost use Rattle.pf_shared.specs.Moments.{entry};
+ghost use Rattle.pf_shared.specs.Submitting.{is_acked};
 ghost use Rattle.pf_shared.specs.Seats.{IsAlone, IsSameSeat, IsSeatOf, number_of, root_in, seen_by};
 
 use crate::{Behind, GroupSeat, LookFault, SharedGroup, copies};
@@ -37,7 +39,7 @@ fn told_of<T>(told: Result<Result<T, Down>, NoMemory>) -> Result<T, LookFault>
 
 impl<D: Disk + Drop> SharedGroup<D> {
     /// Ends the turn of a look that tells this.
-    fn end_look<T: Drop>(
+    pub(crate) fn end_look<T: Drop>(
         &self,
         seat: &mut GroupSeat<D>,
         mut turn: Turn<Behind<D>>,
@@ -100,6 +102,26 @@ impl<D: Disk + Drop> SharedGroup<D> {
         self.end_look(seat, turn, told)
     }
 
+    /// Whether the slot was acknowledged to a host in this term. `NoMemory` (1) is no entry.
+    pub fn is_acked<R: Wait>(
+        &self,
+        rt: &R,
+        _alloc: Global,
+        seat: &mut GroupSeat<D>,
+        term: Term,
+        slot: Slot,
+    ) -> Result<bool, NoMemory>
+        requires { IsSeatOf self.now seat.old }
+        ensures seat { IsSeatOf self.now seat.new × IsSameSeat seat.old seat.new }
+        ensures look { IfOk result (λ is. Looks (root_in self.now) (number_of seat.old) (IsAlone seat.old) (seen_by seat.old) (λ g. is ≡ is_acked term slot g) (seen_by seat.new)) }
+        ensures err { OnErr result (Finds (number_of seat.old) (IsAlone seat.old) (seen_by seat.old) (seen_by seat.new)) }
+        ensures history { IsHistory (root_in self.now) (seen_by seat.new) }
+    {
+        let turn = self.lock.take(rt, &mut seat.seat);
+        let told = Ok(copies::is_acked(&turn.value.group, term, slot));
+        self.end_look(seat, turn, told)
+    }
+
     /// Of the running servers that serve the one of the greatest term: that term, and its number. `None` exactly where none serves.
     /// `NoMemory` (1) is no entry.
     pub fn leader<R: Wait>(
@@ -134,6 +156,25 @@ impl<D: Disk + Drop> SharedGroup<D> {
     {
         let turn = self.lock.take(rt, &mut seat.seat);
         let told = Ok(turn.value.group.packets());
+        self.end_look(seat, turn, told)
+    }
+
+    /// The least packet from `from` on that is left, `None` exactly where none is. `NoMemory` (1) is no entry.
+    pub fn left_from<R: Wait>(
+        &self,
+        rt: &R,
+        _alloc: Global,
+        seat: &mut GroupSeat<D>,
+        from: u32,
+    ) -> Result<Option<u32>, NoMemory>
+        requires { IsSeatOf self.now seat.old }
+        ensures seat { IsSeatOf self.now seat.new × IsSameSeat seat.old seat.new }
+        ensures look { IfOk result (λ left. Looks (root_in self.now) (number_of seat.old) (IsAlone seat.old) (seen_by seat.old) (λ g. left ≡ least_from from g) (seen_by seat.new)) }
+        ensures err { OnErr result (Finds (number_of seat.old) (IsAlone seat.old) (seen_by seat.old) (seen_by seat.new)) }
+        ensures history { IsHistory (root_in self.now) (seen_by seat.new) }
+    {
+        let turn = self.lock.take(rt, &mut seat.seat);
+        let told = Ok(turn.value.least_from(from));
         self.end_look(seat, turn, told)
     }
 

@@ -1,27 +1,14 @@
-use Rattle.std.proofs.Common.{◌≡◌, ◌∙◌, sym, subst}
-use Rattle.pf_turn.specs.Lists.{GrewBy}
 use Rattle.pf_group.specs.Events.{event_of}
-use Rattle.pf_shared.specs.Behinds.{ActsAs, list_of}
-use Rattle.pf_shared.specs.Calls.{Finds, HasStepped}
+use Rattle.pf_shared.specs.Behinds.{list_of}
+use Rattle.pf_shared.specs.Calls.{Finds}
 use Rattle.pf_shared.specs.Seats.{IsAlone, number_of, root_in, seen_by}
-use Rattle.pf_shared.proofs.Taking.{turn_finds, turn_grew, turn_root, turn_steps}
+use Rattle.pf_shared.proofs.Widening.{took_err, took_step}
 use Rattle.pf_shared.proofs.parts.SharedGroup.step.Goals as goal
 
-pub end-requires : goal.end-requires
-end-requires g c = let t = c.take-turn.ensures in let s = c.args.seat.now in let old = c.take-turn.result.value in let new = c.step-answer.new.self in let n = number_of s in let m = c.number-number.result in let root = root_in c.args.self.now in
-    let same : m ≡ n = c.number-number.ensures ∙ t.seat.2.0 in let finds : Finds n (IsAlone s) (seen_by s) (list_of old) = record { begins = t.seen.1; own = t.own; exact = λ a. t.alone a.0 a.1 } in record {
-      seat = (t.seat.0, t.seat.1);
-      root = turn_root root n m same (IsAlone s) (seen_by s) old new t.root finds (λ a. ActsAs m c.args.event a old new) (λ a d. (event_of c.args.event d.found, d.acts)) c.step-answer.result c.step-answer.ensures.ok c.step-answer.ensures.err;
-      grew = subst (λ i. GrewBy i (seen_by record { seat = c.take-turn.new.seat }) (list_of new)) (sym t.seat.2.0)
-          (turn_grew root n m same (IsAlone s) (seen_by s) old new t.root finds (λ a. ActsAs m c.args.event a old new) (λ a d. (event_of c.args.event d.found, d.acts)) c.step-answer.result (seen_by record { seat = c.take-turn.new.seat }) t.seen.0 c.step-answer.ensures.ok c.step-answer.ensures.err);
-    }
-
 pub returns-clause-step : goal.returns-clause-step
-returns-clause-step g c = let t = c.take-turn.ensures in let s = c.args.seat.now in let old = c.take-turn.result.value in let new = c.step-answer.new.self in let n = number_of s in let m = c.number-number.result in let root = root_in c.args.self.now in
-    let same : m ≡ n = c.number-number.ensures ∙ t.seat.2.0 in let finds : Finds n (IsAlone s) (seen_by s) (list_of old) = record { begins = t.seen.1; own = t.own; exact = λ a. t.alone a.0 a.1 } in
-    turn_steps root n m same (IsAlone s) (seen_by s) old new t.root finds (λ a. ActsAs m c.args.event a old new) (λ a d. (event_of c.args.event d.found, d.acts)) (λ a. HasStepped root n (IsAlone s) (seen_by s) c.args.event a (seen_by c.end.new.seat)) (seen_by c.end.new.seat) (λ a d w. record { found = d.found; steps = w }) c.step-answer.result c.step-answer.ensures.ok c.end.ensures.seen
+returns-clause-step g c = let t = c.take-turn.ensures in let s = c.args.seat.now in
+    took_step (number_of s) _ t.seat.2.0 (IsAlone s) (seen_by s) (seen_by (record { seat = c.take-turn.new.seat })) (list_of c.take-turn.result.value) (record { begins = t.seen.1; own = t.own; exact = λ a. t.alone a.0 a.1 }) t.seen.0 (root_in c.args.self.now) c.args.event c.act.result (seen_by c.act.new.seat) c.act.ensures.step
 
 pub returns-clause-err : goal.returns-clause-err
-returns-clause-err g c = let t = c.take-turn.ensures in let s = c.args.seat.now in let old = c.take-turn.result.value in let new = c.step-answer.new.self in let n = number_of s in let m = c.number-number.result in let root = root_in c.args.self.now in
-    let same : m ≡ n = c.number-number.ensures ∙ t.seat.2.0 in let finds : Finds n (IsAlone s) (seen_by s) (list_of old) = record { begins = t.seen.1; own = t.own; exact = λ a. t.alone a.0 a.1 } in
-    turn_finds root n m same (IsAlone s) (seen_by s) old new t.root finds (λ a. ActsAs m c.args.event a old new) (λ a d. (event_of c.args.event d.found, d.acts)) c.step-answer.result (seen_by c.end.new.seat) c.step-answer.ensures.err c.end.ensures.seen
+returns-clause-err g c = let t = c.take-turn.ensures in let s = c.args.seat.now in
+    took_err (number_of s) _ t.seat.2.0 (IsAlone s) (seen_by s) (seen_by (record { seat = c.take-turn.new.seat })) (list_of c.take-turn.result.value) (record { begins = t.seen.1; own = t.own; exact = λ a. t.alone a.0 a.1 }) t.seen.0 c.act.result (seen_by c.act.new.seat) c.act.ensures.err

@@ -1,0 +1,34 @@
+use Rattle.std.proofs.Common.{◌≡◌, ℕ, Option, Some, None, Result, Ok, IfOk, refl, sym, ◌∙◌, subst}
+use Rattle.pf_base.specs.declared.errors.NoMemory.{NoMemory}
+use Rattle.pf_protocol.specs.Groups.{Group}
+use Rattle.pf_group.specs.declared.event.GroupEvent.TheVariants as asked
+use Rattle.pf_group.specs.Packets.{least_from}
+use Rattle.pf_shared.specs.Behinds.{list_of}
+use Rattle.pf_shared.specs.Calls.{Finds}
+use Rattle.pf_shared.specs.Seats.{IsAlone, number_of, root_in, seen_by}
+use Rattle.pf_shared.specs.Since.{state_at}
+use Rattle.pf_shared.specs.Looks.{Looks}
+use Rattle.pf_shared.proofs.Looking.{group_is, look_ok}
+use Rattle.pf_shared.proofs.Widening.{took_with}
+use Rattle.pf_shared.proofs.parts.SharedGroup.deliver_left.Goals as goal
+
+none_is : (o : Option ℕ) → ((k : ℕ) → o ≡ Some k → ⊥) → o ≡ None
+none_is None none = refl
+none_is (Some k) none = absurd (none k refl)
+
+pub returns-in_default-clause-delivers : goal.returns-in_default-clause-delivers
+returns-in_default-clause-delivers g c = let t = c.take-turn.ensures in let s = c.args.seat.now in let b = c.take-turn.result.value in let n = number_of s in
+    let finds : Finds n (IsAlone s) (seen_by s) (list_of b) = record { begins = t.seen.1; own = t.own; exact = λ a. t.alone a.0 a.1 } in
+    let P : Group → Type 0 = λ x. least_from c.args.from x ≡ None in
+    let told = look_ok (root_in c.args.self.now) n _ t.seat.2.0 (IsAlone s) (seen_by s) b t.root finds (seen_by c.end_look.new.seat) (λ (u : Unit {0}) (x : Group). P x) (Ok tt) c.end_look.result
+    (sym c.least_from.ensures ∙ none_is c.least_from.result (λ k is. c.in_default.not-Some k is)) c.end_look.ensures.told c.end_look.ensures.ok in
+    subst (λ (r : Result (Unit {0}) NoMemory). IfOk r (λ u. Looks (root_in c.args.self.now) n (IsAlone s) (seen_by s) P (seen_by c.end_look.new.seat))) c.in_ok-end_look.was told
+
+pub returns-clause-delivers : goal.returns-clause-delivers
+returns-clause-delivers g c = let t = c.take-turn.ensures in let s = c.args.seat.now in let b = c.take-turn.result.value in let n = number_of s in let root = root_in c.args.self.now in let new = seen_by c.act.new.seat in
+    let finds : Finds n (IsAlone s) (seen_by s) (list_of b) = record { begins = t.seen.1; own = t.own; exact = λ a. t.alone a.0 a.1 } in
+    let mid = seen_by (record { seat = c.take-turn.new.seat }) in
+    let here : least_from c.args.from (state_at root mid) ≡ Some c.in-Some.k = subst (λ l. least_from c.args.from (state_at root l) ≡ Some c.in-Some.k) (sym t.seen.0)
+    (subst (λ (x : Group). least_from c.args.from x ≡ Some c.in-Some.k) (group_is root n _ t.seat.2.0 (IsAlone s) (seen_by s) b t.root finds new) (sym c.least_from.ensures ∙ c.in-Some.is)) in
+    let w = took_with n _ t.seat.2.0 (IsAlone s) (seen_by s) mid (list_of b) finds t.seen.0 root (λ (x : Group). least_from c.args.from x ≡ Some c.in-Some.k) (asked.Deliver c.in-Some.k) c.in_ok-answer.answer new c.in_ok-answer.ensures.step here in
+    (w.1.0, w.1.1)

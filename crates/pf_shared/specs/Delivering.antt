@@ -1,0 +1,16 @@
+-- The least packet that is left is delivered.
+use Rattle.std.specs.Prelude.{◌≡◌, ℕ, List, Option, Some, None}
+use Rattle.pf_turn.specs.declared.log.Stamped.{Stamped}
+use Rattle.pf_protocol.specs.declared.answers.Answer.{Answer}
+use Rattle.pf_protocol.specs.declared.events.Event.TheVariants.{Deliver}
+use Rattle.pf_group.specs.GroupIs.{GroupIs}
+use Rattle.pf_group.specs.Packets.{least_from}
+use Rattle.pf_shared.specs.declared.moment.Moment.{Moment}
+use Rattle.pf_shared.specs.Calls.{Steps}
+use Rattle.pf_shared.specs.Looks.{Looks}
+use Rattle.pf_shared.specs.Since.{state_at}
+
+-- the packet that was delivered was the least one left from the first on, where its delivery stands in the list; or none was left
+abbrev pub DeliversLeft : (root : GroupIs) (n : ℕ) (alone : Type 0) (seen : List (Stamped Moment)) (first : ℕ) → Option (ℕ × Answer) → (new : List (Stamped Moment)) → Type 0
+DeliversLeft root n alone seen first (Some (k, answer)) new = (steps : Steps root n alone seen (Deliver k) answer new) × (least_from first (state_at root steps.adds.found) ≡ Some k)
+DeliversLeft root n alone seen first None new = Looks root n alone seen (λ g. least_from first g ≡ None) new
