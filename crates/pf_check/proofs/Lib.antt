@@ -6,3 +6,5 @@ pub mod Keeping
 pub mod Trees
 pub mod Volumes
 pub mod Exactly
+pub mod Alike
+pub mod HexReading

@@ -4,3 +4,4 @@ pub mod Kinds
 pub mod Standing
 pub mod Walks
 pub mod Verdicts
+pub mod HexLines

@@ -3,6 +3,7 @@ use Rattle.std.specs.Prelude.{◌≡◌, ◌<◌, ℕ, cond, ◌==◌, List, [],
 use Rattle.std.specs.Str.{bytes_eq}
 use Rattle.pf_inodes.specs.declared.changes.Change.{Change}
 use Rattle.pf_inodes.specs.declared.changes.Change.TheVariants.{SetInode, AddEntry, DeleteEntry, SetTag}
+use Rattle.pf_inodes.specs.declared.changes.Txn.{Txn}
 use Rattle.pf_inodes.specs.declared.tables.Entry.{Entry}
 use Rattle.pf_inodes.specs.declared.tables.Tag.{Tag}
 use Rattle.pf_inodes.specs.Names.{Name}
@@ -57,6 +58,11 @@ after t (SetTag b i k) = record t { tags = set t.tags b (raw_tag i k) }
 abbrev pub made : RawTables → List Change → RawTables
 made t [] = t
 made t (c ∷ cs) = made (after t c) cs
+
+-- the changes of transactions, one transaction after another
+abbrev pub made_by : RawTables → List Txn → RawTables
+made_by t [] = t
+made_by t (txn ∷ txns) = made_by (made t txn.changes) txns
 
 -- some of the changes are made, the first ones, and not all
 abbrev pub IsPartOf : RawTables → List Change → RawTables → Type 0

@@ -1,6 +1,7 @@
 //! Judging transactions: the tables that they make where nothing is refused, and whether these stand for a tree.
 #![tactic(auto)]
 
+mod hex_line;
 mod judging;
 mod laws;
 mod naming;
@@ -11,6 +12,7 @@ mod spelling;
 mod tables;
 mod tagging;
 
+pub use hex_line::read_hex;
 pub use judging::{Verdict, judge};
-pub use laws::changes_do_what_they_name;
+pub use laws::{changes_do_what_they_name, verdicts_are_alike};
 pub use tables::{RawInode, Tables};

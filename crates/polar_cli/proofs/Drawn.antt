@@ -27,7 +27,8 @@ use Rattle.pf_script.specs.Forms.{◌>>=◌, server_of}
 use Rattle.pf_script.specs.Values.{byte, number}
 use Rattle.pf_script.specs.Words.{is_blank, is_word, trimmed, words_of}
 use Rattle.pf_world.specs.declared.line.Line.{Line}
-use Rattle.polar_cli.specs.Scripts.{Open, Scanned, fed, fed_all, fed_line, Refused, is_feed, is_over, close, line_list, over_fault, read_line, scan}
+use Rattle.polar_cli.specs.LineScans.{Open, Scanned, fed, fed_all, fed_line, Refused, is_feed, is_over, close, over_fault, read_line, said_list, scan}
+use Rattle.polar_cli.specs.Scripts.{numbered, numbered_line, script_rules}
 use Rattle.polar_cli.specs.Generating.{IsAccepted}
 use Rattle.polar_cli.proofs.Scanning.{scan_append, scan_none}
 
@@ -117,51 +118,52 @@ no_return (b ∷ bytes) (suc k) e = no_return bytes k (both (is_inner b) (list_a
 
 -- ---- how they are fed
 
-fed_both : (s : Scanned) (xs ys : List ℕ) → fed_all s (xs ++ ys) ≡ fed_all (fed_all s xs) ys
+fed_both : (s : Scanned (Option ℕ) Line) (xs ys : List ℕ) → fed_all script_rules s (xs ++ ys) ≡ fed_all script_rules (fed_all script_rules s xs) ys
 fed_both s [] ys = refl
-fed_both s (x ∷ xs) ys = fed_both (fed s x) xs ys
+fed_both s (x ∷ xs) ys = fed_both (fed script_rules s x) xs ys
 
-fed_inner : (lines : List Line) (n : ℕ) (v : Option ℕ) (begun bytes : List ℕ) → n ≤ 100000 → length begun + length bytes ≤ 1024 → list_all is_inner bytes ≡ true → fed_all (Open lines n v begun) bytes ≡ Open lines n v (begun ++ bytes)
+fed_inner : (lines : List Line) (n : ℕ) (v : Option ℕ) (begun bytes : List ℕ) → n ≤ 100000 → length begun + length bytes ≤ 1024 → list_all is_inner bytes ≡ true → fed_all script_rules (Open lines n v begun) bytes ≡ Open lines n v (begun ++ bytes)
 fed_inner lines n v begun [] few short e = ap (Open lines n v) (sym (append-nil begun))
 fed_inner lines n v begun (b ∷ bytes) few short e =
     let parts = both (is_inner b) (list_all is_inner bytes) e in
     let more = length-append begun (b ∷ []) in
     let within : is_over n (begun ++ b ∷ []) ≡ false = not_over n (length (begun ++ b ∷ [])) few (omega (arith, more, short)) in
-    let one : fed (Open lines n v begun) b ≡ Open lines n v (begun ++ b ∷ []) =
-    ap (λ t. cond t (fed_line lines n v (read_line n v begun)) (cond (is_over n (begun ++ b ∷ [])) (over_at n) (Open lines n v (begun ++ b ∷ [])))) (not_true (is_feed b) (both (not (is_feed b)) _ parts.0).0)
+    let one : fed script_rules (Open lines n v begun) b ≡ Open lines n v (begun ++ b ∷ []) =
+    ap (λ t. cond t (fed_line script_rules lines n v (read_line script_rules n v begun)) (cond (is_over n (begun ++ b ∷ [])) (over_at n) (Open lines n v (begun ++ b ∷ [])))) (not_true (is_feed b) (both (not (is_feed b)) _ parts.0).0)
     ∙ ap (λ t. cond t (over_at n) (Open lines n v (begun ++ b ∷ []))) within in
-    ap (λ s. fed_all s bytes) one ∙ fed_inner lines n v (begun ++ b ∷ []) bytes few (omega (arith, more, short)) parts.1 ∙ ap (Open lines n v) (append_assoc begun (b ∷ []) bytes)
+    ap (λ s. fed_all script_rules s bytes) one ∙ fed_inner lines n v (begun ++ b ∷ []) bytes few (omega (arith, more, short)) parts.1 ∙ ap (Open lines n v) (append_assoc begun (b ∷ []) bytes)
   where
     not_over : (n length : ℕ) → n ≤ 100000 → length ≤ 1024 → ((nat_lt 100000 n && nat_lt 0 length) || nat_lt 1024 length) ≡ false
     not_over n length few short = grind (arith, nat_tests)
 
-    over_at : ℕ → Scanned
+    over_at : ℕ → Scanned (Option ℕ) Line
     over_at n = Refused n (over_fault n)
 
 -- what a line of plain words says
-read_joined : (n : ℕ) (v : Option ℕ) (word : List ℕ) (words : List (List ℕ)) → n ≤ 100000 → length words ≤ 100 → is_plain word ≡ true → list_all is_plain words ≡ true → read_line n v (joined word words) ≡ command_of v (word ∷ words)
+read_joined : (n : ℕ) (v : Option ℕ) (word : List ℕ) (words : List (List ℕ)) → n ≤ 100000 → length words ≤ 100 → is_plain word ≡ true → list_all is_plain words ≡ true → read_line script_rules n v (joined word words) ≡ numbered_line n (command_of v (word ∷ words))
 read_joined n v word words few small e all =
     let text = joined word words in
     let short = length_joined word words e all in
     let low : nat_lt 100000 n ≡ false = grind (arith, nat_tests) in
     let fits : nat_lt 1024 (length text) ≡ false = fits_in (length text) (omega (arith, short, small)) in
     let whole : trimmed text ≡ text = ap (λ t. cond t (take (length text - 1) text) text) (no_return text (length text - 1) (inner_joined word words e all)) in
-    ap (λ t. cond t (Err TooManyLines) (line_of v text)) low
-    ∙ ap (λ t. cond t (Err LineTooLong) (command_of v (words_of (trimmed text)))) fits
-    ∙ ap (λ line. command_of v (words_of line)) whole
-    ∙ ap (command_of v) (words_joined word words e all)
+    ap (λ t. cond t (Err TooManyLines) (cond (nat_lt 1024 (length text)) (Err LineTooLong) (numbered_line n (line_of v text)))) low
+    ∙ ap (λ t. cond t (Err LineTooLong) (numbered_line n (line_of v text))) fits
+    ∙ ap (λ t. numbered_line n (cond t (Err LineTooLong) (command_of v (words_of (trimmed text))))) fits
+    ∙ ap (λ line. numbered_line n (command_of v (words_of line))) whole
+    ∙ ap (λ ws. numbered_line n (command_of v ws)) (words_joined word words e all)
   where
     fits_in : (length : ℕ) → length ≤ 1024 → nat_lt 1024 length ≡ false
     fits_in length low = grind (arith, nat_tests)
 
 pub fed_joined : (lines : List Line) (n : ℕ) (v : Option ℕ) (word : List ℕ) (words : List (List ℕ)) → n ≤ 100000 → length words ≤ 100 → is_plain word ≡ true → list_all is_plain words ≡ true
-    → fed_all (Open lines n v []) (joined word words ++ 10 ∷ []) ≡ fed_line lines n v (command_of v (word ∷ words))
+    → fed_all script_rules (Open lines n v []) (joined word words ++ 10 ∷ []) ≡ fed_line script_rules lines n v (numbered_line n (command_of v (word ∷ words)))
 fed_joined lines n v word words few small e all =
     let text = joined word words in
     let short = length_joined word words e all in
     fed_both (Open lines n v []) text (10 ∷ [])
-    ∙ ap (λ s. fed s 10) (fed_inner lines n v [] text few (omega (arith, short, small)) (inner_joined word words e all))
-    ∙ ap (fed_line lines n v) (read_joined n v word words few small e all)
+    ∙ ap (λ s. fed script_rules s 10) (fed_inner lines n v [] text few (omega (arith, short, small)) (inner_joined word words e all))
+    ∙ ap (fed_line script_rules lines n v) (read_joined n v word words few small e all)
 
 -- ---- words of small numbers
 
@@ -347,38 +349,38 @@ drawn x =
 -- ---- the whole script
 
 -- so many lines were read, of a volume of two chunks
-record HasRead (n : ℕ) (s : Scanned) : Type 0 where
+record HasRead (n : ℕ) (s : Scanned (Option ℕ) Line) : Type 0 where
   lines : List Line
   is : s ≡ Open lines n (Some 2) []
   count : length lines + 1 ≡ n
 
-more_read : (s : Scanned) (n : ℕ) (text : List ℕ) → HasRead n s → n ≤ 100000 → IsLine text → HasRead (n + 1) (fed_all s (fed_with text))
+more_read : (s : Scanned (Option ℕ) Line) (n : ℕ) (text : List ℕ) → HasRead n s → n ≤ 100000 → IsLine text → HasRead (n + 1) (fed_all script_rules s (fed_with text))
 more_read s n text read few line = record {
-  lines = read.lines ++ line_list n (Some line.command);
-  is = ap (λ t. fed_all t (fed_with text)) read.is
-      ∙ ap (λ bytes. fed_all (Open read.lines n (Some 2) []) (fed_with bytes)) line.text_is
+  lines = read.lines ++ said_list (numbered n (Some line.command));
+  is = ap (λ t. fed_all script_rules t (fed_with text)) read.is
+      ∙ ap (λ bytes. fed_all script_rules (Open read.lines n (Some 2) []) (fed_with bytes)) line.text_is
       ∙ fed_joined read.lines n (Some 2) line.word line.words few line.few line.plain line.plains
-      ∙ ap (fed_line read.lines n (Some 2)) line.says
-      ∙ ap (λ v. Open (read.lines ++ line_list n (Some line.command)) (n + 1) v []) line.stays;
-  count = omega (arith, read.count, length-append read.lines (line_list n (Some line.command)));
+      ∙ ap (λ r. fed_line script_rules read.lines n (Some 2) (numbered_line n r)) line.says
+      ∙ ap (λ v. Open (read.lines ++ said_list (numbered n (Some line.command))) (n + 1) v []) line.stays;
+  count = omega (arith, read.count, length-append read.lines (said_list (numbered n (Some line.command))));
 }
 
-drawn_read : (s : Scanned) (first k : ℕ) → HasRead 2 s → k ≤ 2000 → HasRead (k + 2) (fed_all s (drawn_lines first k))
-drawn_read s first zero read few = subst (λ bytes. HasRead 2 (fed_all s bytes)) (sym (drawn_none first)) read
+drawn_read : (s : Scanned (Option ℕ) Line) (first k : ℕ) → HasRead 2 s → k ≤ 2000 → HasRead (k + 2) (fed_all script_rules s (drawn_lines first k))
+drawn_read s first zero read few = subst (λ bytes. HasRead 2 (fed_all script_rules s bytes)) (sym (drawn_none first)) read
 drawn_read s first (suc k) read few =
     let before = drawn_read s first k read (omega (arith, few)) in
     let line = draws.number first (k + 1) in
-    let after = more_read (fed_all s (drawn_lines first k)) (k + 2) (drawn_text line) before (omega (arith, few)) (drawn line) in
+    let after = more_read (fed_all script_rules s (drawn_lines first k)) (k + 2) (drawn_text line) before (omega (arith, few)) (drawn line) in
     let bytes : drawn_lines first k ++ drawn_line line ≡ drawn_lines first (suc k) = sym (drawn_more first k) ∙ ap (drawn_lines first) (add-one k) in
     let one : k + 2 + 1 ≡ suc k + 2 = omega arith in
-    subst (λ n. HasRead n (fed_all s (drawn_lines first (suc k)))) one
-    (subst (λ all. HasRead (k + 2 + 1) (fed_all s all)) bytes (subst (HasRead (k + 2 + 1)) (sym (fed_both s (drawn_lines first k) (drawn_line line))) after))
+    subst (λ n. HasRead n (fed_all script_rules s (drawn_lines first (suc k)))) one
+    (subst (λ all. HasRead (k + 2 + 1) (fed_all script_rules s all)) bytes (subst (HasRead (k + 2 + 1)) (sym (fed_both s (drawn_lines first k) (drawn_line line))) after))
 
-opened : HasRead 2 (fed_all (scan []) opening)
+opened : HasRead 2 (fed_all script_rules (scan script_rules None []) opening)
 unfolding decimal_number
 opened = record {
   lines = record { number = 1; command = commands.Volume 2 64 2 2 } ∷ [];
-  is = ap (λ s. fed_all s opening) scan_none ∙ fed_joined [] 1 None (codes "volume") (codes "2" ∷ codes "64" ∷ []) (omega arith) (omega arith) refl refl;
+  is = ap (λ s. fed_all script_rules s opening) (scan_none script_rules None) ∙ fed_joined [] 1 None (codes "volume") (codes "2" ∷ codes "64" ∷ []) (omega arith) (omega arith) refl refl;
   count = refl;
 }
 
@@ -390,16 +392,16 @@ last_lines = (
   record { word = codes "show"; words = codes "acked" ∷ codes "1" ∷ []; text_is = refl; few = omega arith; plain = refl; plains = refl; command = commands.ShowAcked 1; says = refl; stays = refl },
 )
 
-all_read : (first : ℕ) → HasRead 2005 (scan (generated first))
+all_read : (first : ℕ) → HasRead 2005 (scan script_rules None (generated first))
 all_read first =
-    let middle = drawn_read (fed_all (scan []) opening) first 2000 opened (omega arith) in
+    let middle = drawn_read (fed_all script_rules (scan script_rules None []) opening) first 2000 opened (omega arith) in
     let settled = more_read _ 2002 (codes "settle 100000") middle (omega arith) last_lines.0 in
     let shown = more_read _ 2003 (codes "show acked 0") settled (omega arith) last_lines.1 in
     let end = more_read _ 2004 (codes "show acked 1") shown (omega arith) last_lines.2 in
-    let fed : fed_all (fed_all (fed_all (scan []) opening) (drawn_lines first 2000)) closing ≡ scan (generated first) =
-    sym (scan_append [] (generated first) ∙ fed_both (scan []) opening (drawn_lines first 2000 ++ closing) ∙ fed_both (fed_all (scan []) opening) (drawn_lines first 2000) closing) in
+    let fed : fed_all script_rules (fed_all script_rules (fed_all script_rules (scan script_rules None []) opening) (drawn_lines first 2000)) closing ≡ scan script_rules None (generated first) =
+    sym (scan_append script_rules None [] (generated first) ∙ fed_both (scan script_rules None []) opening (drawn_lines first 2000 ++ closing) ∙ fed_both (fed_all script_rules (scan script_rules None []) opening) (drawn_lines first 2000) closing) in
     subst (HasRead 2005) fed end
 
 -- the script of a number is accepted, with its 2,004 lines
 pub generated_is_accepted : (number : ℕ) → IsAccepted number
-generated_is_accepted number = let read = all_read number in (read.lines, ap close read.is, omega (arith, read.count))
+generated_is_accepted number = let read = all_read number in (read.lines, ap (close script_rules) read.is, omega (arith, read.count))

@@ -16,8 +16,8 @@ use Rattle.pf_world.specs.Worlds.{World}
 use Rattle.polar_cli.specs.declared.status.Status.{Status}
 use Rattle.polar_cli.specs.declared.status.Status.TheVariants as statuses
 use Rattle.polar_cli.specs.Ends.{AppendsFront}
-use Rattle.polar_cli.specs.Runs.{IsScript, IsSource}
-use Rattle.polar_cli.specs.Scripts.{script_of}
+use Rattle.polar_cli.specs.Runs.{IsSource, IsText}
+use Rattle.polar_cli.specs.Scripts.{script_of, script_rules}
 use Rattle.polar_cli.specs.Reports.{acked_in, judged_lines, sum_text, summary_text}
 use Rattle.polar_cli.specs.Running.{Counts, HasRunLines, HasRunTo, Stops, acked_count}
 use Rattle.polar_cli.specs.Generating.{HasGenerated, generated_lines}
@@ -25,9 +25,9 @@ use Rattle.polar_cli.proofs.Taken.{appends_none}
 use Rattle.polar_cli.proofs.Whole.{script_begins, untouched}
 
 -- the script that was read is the one that the number generates
-pub accepted_of : (left rest : Option (List ℕ)) (lines : List Line) (number : ℕ) (text : List ℕ) → left ≡ Some text → text ≡ generated number → IsScript left rest lines → script_of (generated number) ≡ Ok lines
+pub accepted_of : (left rest : Option (List ℕ)) (lines : List Line) (number : ℕ) (text : List ℕ) → left ≡ Some text → text ≡ generated number → IsText script_rules None left rest lines → script_of (generated number) ≡ Ok lines
 accepted_of left rest lines number text is made s =
-    let source : s.script ≡ text = subst (λ o. IsSource o s.script) is s.source in
+    let source : s.text ≡ text = subst (λ o. IsSource o s.text) is s.source in
     ap script_of (sym (source ∙ made)) ∙ s.accepted
 
 -- a run has acknowledged what the world has that it came to

@@ -19,7 +19,8 @@ use Rattle.pf_script.specs.Forms.{form_of, ◌>>=◌}
 use Rattle.pf_script.specs.Lines.{command_of, fits, is_silent, is_volume, line_of, placed, volume_after}
 use Rattle.pf_world.specs.declared.line.Line.{Line}
 use Rattle.pf_world.specs.Steps.{MayRun}
-use Rattle.polar_cli.specs.Scripts.{Scanned, Open, Refused, Judged, close, ended, fed, fed_all, fed_line, is_feed, is_over, last_line, line_list, over_fault, read_line, scan, script_of}
+use Rattle.polar_cli.specs.LineScans.{Scanned, Open, Refused, close, ended, fed, fed_all, fed_line, is_feed, is_over, last_line, over_fault, read_line, said_list, scan}
+use Rattle.polar_cli.specs.Scripts.{Judged, numbered_line, script_of, script_rules, volume_behind}
 use Rattle.polar_cli.specs.Placed.{ArePlaced, IsWhole}
 use Rattle.polar_cli.proofs.Scanning.{scan_append, scan_none}
 
@@ -99,10 +100,22 @@ command_may volume words =
     silent_or (is_silent words) volume (form_of words >>= λ form. placed volume form >>= λ command. Ok (Some command))
     (then_ok (form_of words) (λ form. placed volume form >>= λ command. Ok (Some command)) (MayStand volume) (λ form. some_may volume (placed volume form) (placed_may volume form)))
 
-read_may : (number : ℕ) (volume : Option ℕ) (line : List ℕ) → IfOk (read_line number volume line) (MayStand volume)
+-- the same of a line with its number
+abbrev MaySay : Option ℕ → Option Line → Type 0
+MaySay volume None = Unit {0}
+MaySay volume (Some line) = MayCome volume line.command
+
+numbered_may : (number : ℕ) (volume : Option ℕ) (r : Result (Option Command) LineFault) → IfOk r (MayStand volume) → IfOk (numbered_line number r) (MaySay volume)
+numbered_may number volume (Ok None) may = tt
+numbered_may number volume (Ok (Some command)) may = may
+numbered_may number volume (Err fault) may = tt
+
+read_may : (number : ℕ) (volume : Option ℕ) (line : List ℕ) → IfOk (read_line script_rules number volume line) (MaySay volume)
 read_may number volume line =
-    if_fault (nat_lt 100000 number) TooManyLines (line_of volume line) (MayStand volume)
-    (if_fault (nat_lt 1024 (length line)) LineTooLong (command_of volume (words_of (trimmed line))) (MayStand volume) (command_may volume (words_of (trimmed line))))
+    if_fault (nat_lt 100000 number) TooManyLines (cond (nat_lt 1024 (length line)) (Err LineTooLong) (numbered_line number (line_of volume line))) (MaySay volume)
+    (if_fault (nat_lt 1024 (length line)) LineTooLong (numbered_line number (line_of volume line)) (MaySay volume)
+    (numbered_may number volume (line_of volume line)
+    (if_fault (nat_lt 1024 (length line)) LineTooLong (command_of volume (words_of (trimmed line))) (MayStand volume) (command_may volume (words_of (trimmed line))))))
 
 -- one line more
 every_snoc : {X : Type 0} (P : X → Type 0) (xs : List X) (x : X) → Every P xs → P x → Every P (xs ++ x ∷ [])
@@ -161,9 +174,9 @@ line_placed (Some chunks) lines number (commands.Kill m) all may = later_placed 
 line_placed (Some chunks) lines number (commands.Call m call) all may = later_placed chunks lines (record { number = number; command = commands.Call m call }) all may
 line_placed (Some chunks) lines number (commands.ShowMount m) all may = later_placed chunks lines (record { number = number; command = commands.ShowMount m }) all may
 
-more_placed : (volume : Option ℕ) (lines : List Line) (number : ℕ) (command : Option Command) → ArePlaced volume lines → MayStand volume command → ArePlaced (volume_after volume command) (lines ++ line_list number command)
-more_placed volume lines number None all may = subst (ArePlaced volume) (sym (append-nil lines)) all
-more_placed volume lines number (Some command) all may = line_placed volume lines number command all may
+more_placed : (volume : Option ℕ) (lines : List Line) (said : Option Line) → ArePlaced volume lines → MaySay volume said → ArePlaced (volume_behind volume said) (lines ++ said_list said)
+more_placed volume lines None all may = subst (ArePlaced volume) (sym (append-nil lines)) all
+more_placed volume lines (Some line) all may = line_placed volume lines line.number line.command all may
 
 -- a line that was read has a number of at most 100,000
 all_ok : {T : Type 0} (r : Result T LineFault) (P : Type 0) → P → IfOk r (λ x. P)
@@ -174,13 +187,13 @@ few_ok : {T : Type 0} (number : ℕ) (many : Bool) (r : Result T LineFault) → 
 few_ok number true r is = tt
 few_ok number false r is = all_ok r (number ≤ 100000) (grind (arith, nat_tests))
 
-read_few : (number : ℕ) (volume : Option ℕ) (line : List ℕ) → IfOk (read_line number volume line) (λ command. number ≤ 100000)
-read_few number volume line = few_ok number (nat_lt 100000 number) (line_of volume line) refl
+read_few : (number : ℕ) (volume : Option ℕ) (line : List ℕ) → IfOk (read_line script_rules number volume line) (λ said. number ≤ 100000)
+read_few number volume line = few_ok number (nat_lt 100000 number) (cond (nat_lt 1024 (length line)) (Err LineTooLong) (numbered_line number (line_of volume line))) refl
 
-abbrev Reads : (number : ℕ) → (volume : Option ℕ) → Result (Option Command) LineFault → Type 0
-Reads number volume r = IfOk r (MayStand volume) × IfOk r (λ command. number ≤ 100000)
+abbrev Reads : (number : ℕ) → (volume : Option ℕ) → Result (Option Line) LineFault → Type 0
+Reads number volume r = IfOk r (MaySay volume) × IfOk r (λ said. number ≤ 100000)
 
-reads : (number : ℕ) (volume : Option ℕ) (line : List ℕ) → Reads number volume (read_line number volume line)
+reads : (number : ℕ) (volume : Option ℕ) (line : List ℕ) → Reads number volume (read_line script_rules number volume line)
 reads number volume line = (read_may number volume line, read_few number volume line)
 
 -- the lines so far stand in their places, and are fewer than the number of the next one
@@ -189,7 +202,7 @@ record AreGood (volume : Option ℕ) (lines : List Line) (number : ℕ) : Type 0
   fewer : length lines < number
   few : number ≤ 100001
 
-abbrev IsGood : Scanned → Type 0
+abbrev IsGood : Scanned (Option ℕ) Line → Type 0
 IsGood (Open lines number volume begun) = AreGood volume lines number
 IsGood (Refused line fault) = Unit {0}
 
@@ -197,56 +210,56 @@ abbrev IsGoodEnd : Judged → Type 0
 IsGoodEnd (Ok lines) = IsWhole lines
 IsGoodEnd (Err refused) = Unit {0}
 
-at_most_one : (number : ℕ) (command : Option Command) → length (line_list number command) ≤ 1
-at_most_one number None = omega arith
-at_most_one number (Some command) = omega arith
+at_most_one : (said : Option Line) → length (said_list said) ≤ 1
+at_most_one None = omega arith
+at_most_one (Some line) = omega arith
 
-more_good : (lines : List Line) (number : ℕ) (volume : Option ℕ) (command : Option Command) → AreGood volume lines number → MayStand volume command → number ≤ 100000 → AreGood (volume_after volume command) (lines ++ line_list number command) (number + 1)
-more_good lines number volume command all may few = record {
-  placed = more_placed volume lines number command all.placed may;
-  fewer = omega (arith, all.fewer, length-append lines (line_list number command), at_most_one number command);
+more_good : (lines : List Line) (number : ℕ) (volume : Option ℕ) (said : Option Line) → AreGood volume lines number → MaySay volume said → number ≤ 100000 → AreGood (volume_behind volume said) (lines ++ said_list said) (number + 1)
+more_good lines number volume said all may few = record {
+  placed = more_placed volume lines said all.placed may;
+  fewer = omega (arith, all.fewer, length-append lines (said_list said), at_most_one said);
   few = omega (arith, few);
 }
 
-line_good : (lines : List Line) (number : ℕ) (volume : Option ℕ) (r : Result (Option Command) LineFault) → AreGood volume lines number → Reads number volume r → IsGood (fed_line lines number volume r)
-line_good lines number volume (Ok command) all may = more_good lines number volume command all may.0 may.1
+line_good : (lines : List Line) (number : ℕ) (volume : Option ℕ) (r : Result (Option Line) LineFault) → AreGood volume lines number → Reads number volume r → IsGood (fed_line script_rules lines number volume r)
+line_good lines number volume (Ok said) all may = more_good lines number volume said all may.0 may.1
 line_good lines number volume (Err fault) all may = tt
 
-byte_good : (feed over : Bool) (lines : List Line) (number : ℕ) (volume : Option ℕ) (r : Result (Option Command) LineFault) (fault : LineFault) (begun : List ℕ) → AreGood volume lines number → Reads number volume r
-    → IsGood (cond feed (fed_line lines number volume r) (cond over (Refused number fault) (Open lines number volume begun)))
+byte_good : (feed over : Bool) (lines : List Line) (number : ℕ) (volume : Option ℕ) (r : Result (Option Line) LineFault) (fault : LineFault) (begun : List ℕ) → AreGood volume lines number → Reads number volume r
+    → IsGood (cond feed (fed_line script_rules lines number volume r) (cond over (Refused number fault) (Open lines number volume begun)))
 byte_good true over lines number volume r fault begun all may = line_good lines number volume r all may
 byte_good false true lines number volume r fault begun all may = tt
 byte_good false false lines number volume r fault begun all may = all
 
-fed_good : (s : Scanned) (byte : ℕ) → IsGood s → IsGood (fed s byte)
+fed_good : (s : Scanned (Option ℕ) Line) (byte : ℕ) → IsGood s → IsGood (fed script_rules s byte)
 fed_good (Refused line fault) byte good = tt
 fed_good (Open lines number volume begun) byte good =
-    byte_good (is_feed byte) (is_over number (begun ++ byte ∷ [])) lines number volume (read_line number volume begun) (over_fault number) (begun ++ byte ∷ []) good (reads number volume begun)
+    byte_good (is_feed byte) (is_over number (begun ++ byte ∷ [])) lines number volume (read_line script_rules number volume begun) (over_fault number) (begun ++ byte ∷ []) good (reads number volume begun)
 
-all_good : (s : Scanned) (bytes : List ℕ) → IsGood s → IsGood (fed_all s bytes)
+all_good : (s : Scanned (Option ℕ) Line) (bytes : List ℕ) → IsGood s → IsGood (fed_all script_rules s bytes)
 all_good s [] good = good
-all_good s (byte ∷ bytes) good = all_good (fed s byte) bytes (fed_good s byte good)
+all_good s (byte ∷ bytes) good = all_good (fed script_rules s byte) bytes (fed_good s byte good)
 
 none_good : IsGood (Open [] 1 None [])
 none_good = record { placed = refl; fewer = omega arith; few = omega arith }
 
-scan_good : (bytes : List ℕ) → IsGood (scan bytes)
+scan_good : (bytes : List ℕ) → IsGood (scan script_rules None bytes)
 scan_good bytes =
-    subst IsGood (sym (scan_append [] bytes))
-    (all_good (scan []) bytes (subst IsGood (sym scan_none) none_good))
+    subst IsGood (sym (scan_append script_rules None [] bytes))
+    (all_good (scan script_rules None []) bytes (subst IsGood (sym (scan_none script_rules None)) none_good))
 
-ended_good : (lines : List Line) (number : ℕ) (volume : Option ℕ) → AreGood volume lines number → IsGoodEnd (ended lines number volume)
+ended_good : (lines : List Line) (number : ℕ) (volume : Option ℕ) → AreGood volume lines number → IsGoodEnd (ended script_rules lines number volume)
 ended_good lines number None all = tt
 ended_good lines number (Some chunks) all = record { chunks = chunks; placed = all.placed; few = omega (arith, all.fewer, all.few) }
 
-last_good : (lines : List Line) (number : ℕ) (volume : Option ℕ) (r : Result (Option Command) LineFault) → AreGood volume lines number → Reads number volume r → IsGoodEnd (last_line lines number volume r)
-last_good lines number volume (Ok command) all may = ended_good (lines ++ line_list number command) (number + 1) (volume_after volume command) (more_good lines number volume command all may.0 may.1)
+last_good : (lines : List Line) (number : ℕ) (volume : Option ℕ) (r : Result (Option Line) LineFault) → AreGood volume lines number → Reads number volume r → IsGoodEnd (last_line script_rules lines number volume r)
+last_good lines number volume (Ok said) all may = ended_good (lines ++ said_list said) (number + 1) (volume_behind volume said) (more_good lines number volume said all may.0 may.1)
 last_good lines number volume (Err fault) all may = tt
 
-close_good : (s : Scanned) → IsGood s → IsGoodEnd (close s)
+close_good : (s : Scanned (Option ℕ) Line) → IsGood s → IsGoodEnd (close script_rules s)
 close_good (Refused line fault) good = tt
 close_good (Open lines number volume []) good = ended_good lines number volume good
-close_good (Open lines number volume (byte ∷ bytes)) good = last_good lines number volume (read_line number volume (byte ∷ bytes)) good (reads number volume (byte ∷ bytes))
+close_good (Open lines number volume (byte ∷ bytes)) good = last_good lines number volume (read_line script_rules number volume (byte ∷ bytes)) good (reads number volume (byte ∷ bytes))
 
 pub whole_script : (script : List ℕ) (lines : List Line) → script_of script ≡ Ok lines → IsWhole lines
-whole_script script lines accepted = subst IsGoodEnd accepted (close_good (scan script) (scan_good script))
+whole_script script lines accepted = subst IsGoodEnd accepted (close_good (scan script_rules None script) (scan_good script))

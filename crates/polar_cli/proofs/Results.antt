@@ -3,20 +3,26 @@ use Rattle.std.proofs.Common.{◌≡◌, ℕ, List, [], Option, Some, None, Ok, 
 use Rattle.std.specs.Prelude.{is_err}
 use Rattle.std.specs.Io.KnownBytes.{Appends}
 use Rattle.pf_disk.specs.Crashes.{Images}
+use Rattle.pf_gen.specs.Generated.{generated}
 use Rattle.pf_script.specs.declared.command.LineFault.{LineFault}
 use Rattle.pf_world.specs.declared.line.Line.{Line}
 use Rattle.pf_world.specs.Worlds.{World}
+use Rattle.polar_cli.specs.declared.scan.Stop.{Stop}
+use Rattle.polar_cli.specs.declared.scan.Stop.TheVariants as stops
 use Rattle.polar_cli.specs.declared.status.Status.{Status}
 use Rattle.polar_cli.specs.declared.status.Status.TheVariants as statuses
 use Rattle.polar_cli.specs.declared.words.Task.{Task}
 use Rattle.polar_cli.specs.declared.words.Task.TheVariants as tasks
-use Rattle.polar_cli.specs.Scripts.{Judged, script_of}
-use Rattle.polar_cli.specs.Runs.{IsRefused, IsScript, IsSource, IsUndecided}
+use Rattle.polar_cli.specs.Scripts.{Judged, script_of, script_rules}
+use Rattle.polar_cli.specs.Runs.{IsRefused, IsText, IsUndecided, StopSays}
 use Rattle.polar_cli.specs.Ends.{AppendsFront}
-use Rattle.polar_cli.specs.Reports.{fault_text, judged_lines, judged_text, lines_for, script_for, usage_text}
+use Rattle.polar_cli.specs.Reports.{judged_lines, judged_text, lines_for, usage_text}
+use Rattle.polar_cli.specs.Refusing.{EndsAtStop, Refuses, fault_text}
+use Rattle.polar_cli.specs.Checking.{HasChecked}
 use Rattle.polar_cli.specs.Running.{HasRunLines, HasRunTo}
 use Rattle.polar_cli.specs.Generating.{HasGenerated}
-use Rattle.polar_cli.specs.Outcomes.{Ending, IsLeft, Outcome, Refuses}
+use Rattle.polar_cli.specs.Outcomes.{Ending, IsLeft, Outcome}
+use Rattle.polar_cli.proofs.Reading.{a_text, is_text}
 use Rattle.polar_cli.proofs.Taken.{appends_none}
 use Rattle.polar_cli.proofs.Whole.{Begins, script_begins, untouched}
 
@@ -27,36 +33,30 @@ text_of script text judged is = sym (ap (λ j. judged_text j text) is)
 -- the first line is a volume
 lines_begin : (task : Option Task) (script : List ℕ) → Begins (lines_for task script)
 lines_begin None script = tt
-lines_begin (Some task) script = script_begins (script_for task script)
-
--- the script of a source, or any where it does not tell its bytes
-a_script : Option (List ℕ) → List ℕ
-a_script None = []
-a_script (Some bytes) = bytes
-
-is_script : (left : Option (List ℕ)) → IsSource left (a_script left)
-unfolding a_script
-is_script None = tt
-is_script (Some bytes) = refl
+lines_begin (Some (tasks.Run workers)) script = script_begins script
+lines_begin (Some (tasks.Gen number workers)) script = script_begins (generated number)
+lines_begin (Some tasks.Check) script = tt
 
 left_same : (task : Option Task) (left : Option (List ℕ)) → IsLeft task left left
 left_same None left = refl
 left_same (Some (tasks.Run workers)) left = tt
 left_same (Some (tasks.Gen number workers)) left = refl
+left_same (Some tasks.Check) left = tt
 
-none_told : {D : Type 0} (task : Option Task) (script : List ℕ) (behind : List Line) (w : World) (left rest : Option (List ℕ)) (failed : Type 0) (taken : Option (List ℕ)) (full : Type 0) (before after : List D) → Ending task statuses.NoMemory script behind [] w left rest failed taken taken full before after
-none_told None script behind w left rest failed taken full before after = appends_none taken
-none_told (Some (tasks.Run workers)) script behind w left rest failed taken full before after = appends_none taken
-none_told (Some (tasks.Gen number workers)) script behind w left rest failed taken full before after = appends_none taken
+none_told : {D : Type 0} (task : Option Task) (script : List ℕ) (behind : List Line) (w : World) (left rest : Option (List ℕ)) (failed : Type 0) (taken : Option (List ℕ)) (full : Type 0) (disks : List D) → Ending task statuses.NoMemory script behind [] w left rest failed taken taken full disks disks
+none_told None script behind w left rest failed taken full disks = appends_none taken
+none_told (Some (tasks.Run workers)) script behind w left rest failed taken full disks = appends_none taken
+none_told (Some (tasks.Gen number workers)) script behind w left rest failed taken full disks = appends_none taken
+none_told (Some tasks.Check) script behind w left rest failed taken full disks = (appends_none taken, refl)
 
 module _ {D : Type 0} (seen : D → Option (List ℕ)) (may_leave : D → Images) (faults : D → ℕ) (workers : ℕ) (left rest taken now : Option (List ℕ)) (failed full : Type 0) where
   abbrev Ran : Status → (before after : List D) → Type 0
   Ran status before after = Outcome seen may_leave faults status (Some (tasks.Run workers)) left rest failed taken now full before after
 
   -- the lines of an accepted script
-  pub ran : (status : Status) (acked : ℕ × ℕ) (lines : List Line) (before after : List D) → IsScript left rest lines → HasRunLines seen may_leave faults status acked lines taken now full before after → Ran status before after
+  pub ran : (status : Status) (acked : ℕ × ℕ) (lines : List Line) (before after : List D) → IsText script_rules None left rest lines → HasRunLines seen may_leave faults status acked lines taken now full before after → Ran status before after
   ran statuses.Ok acked lines before after s w = record {
-    script = s.script;
+    script = s.text;
     source = s.source;
     kept = tt;
     behind = w.rest;
@@ -65,7 +65,7 @@ module _ {D : Type 0} (seen : D → Option (List ℕ)) (may_leave : D → Images
     ending = (ap is_ok s.accepted, s.whole, w.wrote.0, w.wrote.1);
   }
   ran statuses.NoMemory acked lines before after s w = record {
-    script = s.script;
+    script = s.text;
     source = s.source;
     kept = tt;
     behind = w.rest;
@@ -74,46 +74,46 @@ module _ {D : Type 0} (seen : D → Option (List ℕ)) (may_leave : D → Images
     ending = w.wrote;
   }
   ran statuses.WriteFault acked lines before after s w = record {
-    script = s.script;
+    script = s.text;
     source = s.source;
     kept = tt;
     behind = w.rest;
     text = w.text;
     ran = subst (λ ls. HasRunTo seen may_leave faults statuses.WriteFault ls w.rest w.text before after) (sym (ap judged_lines s.accepted)) w.ran;
-    ending = (w.wrote.0, subst (AppendsFront taken now) (text_of s.script w.text (Ok lines) s.accepted) w.wrote.1);
+    ending = (w.wrote.0, subst (AppendsFront taken now) (text_of s.text w.text (Ok lines) s.accepted) w.wrote.1);
   }
   ran statuses.Usage acked lines before after s w = absurd w.wrote
   ran statuses.Script acked lines before after s w = absurd w.wrote
   ran statuses.ReadFault acked lines before after s w = absurd w.wrote
 
   -- the fault of a refused one
-  pub refused : (status : Status) (disks : List D) (line : ℕ) (fault : LineFault) → IsRefused left line fault → Refuses status (fault_text line fault) taken now full → Ran status disks disks
+  refused : (status : Status) (disks : List D) (line : ℕ) (fault : LineFault) → IsRefused script_rules None left line fault → Refuses status (fault_text line fault) taken now full → Ran status disks disks
   refused statuses.Script disks line fault s w = record {
-    script = s.script;
+    script = s.text;
     source = s.source;
     kept = tt;
-    behind = judged_lines (script_of s.script);
+    behind = judged_lines (script_of s.text);
     text = [];
-    ran = untouched seen may_leave faults statuses.Script (judged_lines (script_of s.script)) disks (script_begins s.script);
-    ending = (ap is_err s.refused, subst (Appends taken now) (text_of s.script [] (Err (line, fault)) s.refused) w, refl);
+    ran = untouched seen may_leave faults statuses.Script (judged_lines (script_of s.text)) disks (script_begins s.text);
+    ending = (ap is_err s.refused, subst (Appends taken now) (text_of s.text [] (Err (line, fault)) s.refused) w, refl);
   }
   refused statuses.NoMemory disks line fault s w = record {
-    script = s.script;
+    script = s.text;
     source = s.source;
     kept = tt;
-    behind = judged_lines (script_of s.script);
+    behind = judged_lines (script_of s.text);
     text = [];
-    ran = untouched seen may_leave faults statuses.NoMemory (judged_lines (script_of s.script)) disks (script_begins s.script);
+    ran = untouched seen may_leave faults statuses.NoMemory (judged_lines (script_of s.text)) disks (script_begins s.text);
     ending = w;
   }
   refused statuses.WriteFault disks line fault s w = record {
-    script = s.script;
+    script = s.text;
     source = s.source;
     kept = tt;
-    behind = judged_lines (script_of s.script);
+    behind = judged_lines (script_of s.text);
     text = [];
-    ran = untouched seen may_leave faults statuses.WriteFault (judged_lines (script_of s.script)) disks (script_begins s.script);
-    ending = (w.0, subst (AppendsFront taken now) (text_of s.script [] (Err (line, fault)) s.refused) w.1);
+    ran = untouched seen may_leave faults statuses.WriteFault (judged_lines (script_of s.text)) disks (script_begins s.text);
+    ending = (w.0, subst (AppendsFront taken now) (text_of s.text [] (Err (line, fault)) s.refused) w.1);
   }
   refused statuses.Usage disks line fault s w = absurd w
   refused statuses.Ok disks line fault s w = absurd w
@@ -123,8 +123,8 @@ module _ {D : Type 0} (seen : D → Option (List ℕ)) (may_leave : D → Images
   -- the usage
   pub told_usage : Appends taken now usage_text → Outcome seen may_leave faults statuses.Usage None left left failed taken now full disks disks
   told_usage put = record {
-    script = a_script left;
-    source = is_script left;
+    script = a_text left;
+    source = is_text left;
     kept = refl;
     behind = [];
     text = [];
@@ -134,8 +134,8 @@ module _ {D : Type 0} (seen : D → Option (List ℕ)) (may_leave : D → Images
 
   pub cut_usage : full → AppendsFront taken now usage_text → Outcome seen may_leave faults statuses.WriteFault None left left failed taken now full disks disks
   cut_usage rose front = record {
-    script = a_script left;
-    source = is_script left;
+    script = a_text left;
+    source = is_text left;
     kept = refl;
     behind = [];
     text = [];
@@ -146,45 +146,69 @@ module _ {D : Type 0} (seen : D → Option (List ℕ)) (may_leave : D → Images
   -- the words were not read whole
   pub unread : (task : Option Task) → Outcome seen may_leave faults statuses.NoMemory task left left failed taken taken full disks disks
   unread task = record {
-    script = a_script left;
-    source = is_script left;
+    script = a_text left;
+    source = is_text left;
     kept = left_same task left;
-    behind = lines_for task (a_script left);
+    behind = lines_for task (a_text left);
     text = [];
-    ran = untouched seen may_leave faults statuses.NoMemory (lines_for task (a_script left)) disks (lines_begin task (a_script left));
-    ending = none_told task (a_script left) (lines_for task (a_script left)) _ left left failed taken full disks disks;
+    ran = untouched seen may_leave faults statuses.NoMemory (lines_for task (a_text left)) disks (lines_begin task (a_text left));
+    ending = none_told task (a_text left) (lines_for task (a_text left)) _ left left failed taken full disks;
   }
 
 module _ {D : Type 0} (seen : D → Option (List ℕ)) (may_leave : D → Images) (faults : D → ℕ) (workers : ℕ) (left rest taken : Option (List ℕ)) (failed full : Type 0) (disks : List D) where
   -- the script was not read whole
-  pub cut_off : Outcome seen may_leave faults statuses.NoMemory (Some (tasks.Run workers)) left rest failed taken taken full disks disks
+  cut_off : Outcome seen may_leave faults statuses.NoMemory (Some (tasks.Run workers)) left rest failed taken taken full disks disks
   cut_off = record {
-    script = a_script left;
-    source = is_script left;
+    script = a_text left;
+    source = is_text left;
     kept = tt;
-    behind = judged_lines (script_of (a_script left));
+    behind = judged_lines (script_of (a_text left));
     text = [];
-    ran = untouched seen may_leave faults statuses.NoMemory (judged_lines (script_of (a_script left))) disks (script_begins (a_script left));
+    ran = untouched seen may_leave faults statuses.NoMemory (judged_lines (script_of (a_text left))) disks (script_begins (a_text left));
     ending = appends_none taken;
   }
 
-  pub unreadable : failed × IsUndecided left rest → Outcome seen may_leave faults statuses.ReadFault (Some (tasks.Run workers)) left rest failed taken taken full disks disks
+  unreadable : failed × IsUndecided script_rules None left rest → Outcome seen may_leave faults statuses.ReadFault (Some (tasks.Run workers)) left rest failed taken taken full disks disks
   unreadable cause = record {
-    script = a_script left;
-    source = is_script left;
+    script = a_text left;
+    source = is_text left;
     kept = tt;
-    behind = judged_lines (script_of (a_script left));
+    behind = judged_lines (script_of (a_text left));
     text = [];
-    ran = untouched seen may_leave faults statuses.ReadFault (judged_lines (script_of (a_script left))) disks (script_begins (a_script left));
+    ran = untouched seen may_leave faults statuses.ReadFault (judged_lines (script_of (a_text left))) disks (script_begins (a_text left));
     ending = (cause.0, cause.1, appends_none taken, refl);
   }
+
+-- the lines of a script were not read whole, or one of them is refused
+pub stopped : {D : Type 0} (seen : D → Option (List ℕ)) (may_leave : D → Images) (faults : D → ℕ) (workers : ℕ) (left rest taken now : Option (List ℕ)) (failed full : Type 0) (status : Status) (disks : List D) (stop : Stop)
+    → StopSays stop (IsRefused script_rules None left) (failed × IsUndecided script_rules None left rest) → EndsAtStop status stop taken now full → Outcome seen may_leave faults status (Some (tasks.Run workers)) left rest failed taken now full disks disks
+stopped seen may_leave faults workers left rest taken now failed full status disks stops.NoMemory says ends =
+    subst (λ n. Outcome seen may_leave faults status (Some (tasks.Run workers)) left rest failed taken n full disks disks) (sym ends.1)
+    (subst (λ (s : Status). Outcome seen may_leave faults s (Some (tasks.Run workers)) left rest failed taken taken full disks disks) (sym ends.0) (cut_off seen may_leave faults workers left rest taken failed full disks))
+stopped seen may_leave faults workers left rest taken now failed full status disks stops.Failed says ends =
+    subst (λ n. Outcome seen may_leave faults status (Some (tasks.Run workers)) left rest failed taken n full disks disks) (sym ends.1)
+    (subst (λ (s : Status). Outcome seen may_leave faults s (Some (tasks.Run workers)) left rest failed taken taken full disks disks) (sym ends.0) (unreadable seen may_leave faults workers left rest taken failed full disks says))
+stopped seen may_leave faults workers left rest taken now failed full status disks (stops.Refused line fault) says ends = refused seen may_leave faults workers left rest taken now failed full status disks line fault says ends
+
+-- a checked list
+pub checked : {D : Type 0} (seen : D → Option (List ℕ)) (may_leave : D → Images) (faults : D → ℕ) (status : Status) (left rest taken now : Option (List ℕ)) (failed full : Type 0) (disks : List D) → HasChecked status left rest failed taken now full
+    → Outcome seen may_leave faults status (Some tasks.Check) left rest failed taken now full disks disks
+checked seen may_leave faults status left rest taken now failed full disks h = record {
+  script = h.list;
+  source = h.source;
+  kept = tt;
+  behind = [];
+  text = [];
+  ran = untouched seen may_leave faults status [] disks tt;
+  ending = (h.ends, refl);
+}
 
 -- a generated script
 pub summed : {D : Type 0} (seen : D → Option (List ℕ)) (may_leave : D → Images) (faults : D → ℕ) (status : Status) (number workers : ℕ) (left taken now : Option (List ℕ)) (failed full : Type 0) (before after : List D) → HasGenerated seen may_leave faults status number taken now full before after
     → Outcome seen may_leave faults status (Some (tasks.Gen number workers)) left left failed taken now full before after
 summed seen may_leave faults status number workers left taken now failed full before after g = record {
-  script = a_script left;
-  source = is_script left;
+  script = a_text left;
+  source = is_text left;
   kept = refl;
   behind = g.behind;
   text = g.text;

@@ -37,7 +37,7 @@ pub accepted : (words : List Text) → fault_of command words ≡ [] → is_acce
 unfolding is_accepted
 accepted words none = taken command words refl refl refl none
 
--- ---- the two subcommands
+-- ---- the subcommands
 
 abbrev workers_here : Rule
 workers_here = filled workers_rule
@@ -70,6 +70,17 @@ pub record IsGen (met : Option (Text × List Row)) : Type 0 where
   pub number : HasOne rows number_here
   pub workers : HasOne rows workers_here
 
+-- `check` was met
+pub record IsCheck (met : Option (Text × List Row)) : Type 0 where
+  pub rows : List Row
+  pub met_is : met ≡ Some (codes "check", rows)
+
+-- one of the subcommands was met
+pub data IsMet (met : Option (Text × List Row)) : Type 0 where
+  AsRun : IsRun met → IsMet met
+  AsGen : IsGen met → IsMet met
+  AsCheck : IsCheck met → IsMet met
+
 run_good : (words : List Text) → level_passes (leaf (codes "run") run_rules) [] nothing_held words false ≡ true → HasOne (rows_after run_rules [] words) workers_here
 run_good words e =
     let fit = level_fit (codes "run") run_rules run_set words e in
@@ -90,21 +101,23 @@ met_of found words = option_map (λ s. rows_at s words) found
 abbrev passes_at : Option Shape → List Text → Bool
 passes_at found words = option_map_or (λ s. level_passes s [] nothing_held words false) found true
 
-by_name : (b c : Bool) (words : List Text) → is_some (met_of (cond b (Some (leaf (codes "run") run_rules)) (cond c (Some (leaf (codes "gen") gen_rules)) None)) words) ≡ true
-    → passes_at (cond b (Some (leaf (codes "run") run_rules)) (cond c (Some (leaf (codes "gen") gen_rules)) None)) words ≡ true
-    → IsRun (met_of (cond b (Some (leaf (codes "run") run_rules)) (cond c (Some (leaf (codes "gen") gen_rules)) None)) words) ⊎ IsGen (met_of (cond b (Some (leaf (codes "run") run_rules)) (cond c (Some (leaf (codes "gen") gen_rules)) None)) words)
-by_name true c words some e = inl (record { rows = rows_after run_rules [] words; met_is = refl; workers = run_good words e })
-by_name false true words some e = inr (record { rows = rows_after gen_rules [] words; met_is = refl; number = (gen_good words e).0; workers = (gen_good words e).1 })
-by_name false false words some e = absurd (true≢false (sym some))
+abbrev called : (run gen check : Bool) → Option Shape
+called run gen check = cond run (Some (leaf (codes "run") run_rules)) (cond gen (Some (leaf (codes "gen") gen_rules)) (cond check (Some (leaf (codes "check") [])) None))
 
-entered_good : (stop : Option (Text × List Text)) → is_some (entered (built command) stop) ≡ true → entered_passes (built command) stop ≡ true → IsRun (entered (built command) stop) ⊎ IsGen (entered (built command) stop)
+by_name : (b c d : Bool) (words : List Text) → is_some (met_of (called b c d) words) ≡ true → passes_at (called b c d) words ≡ true → IsMet (met_of (called b c d) words)
+by_name true c d words some e = AsRun (record { rows = rows_after run_rules [] words; met_is = refl; workers = run_good words e })
+by_name false true d words some e = AsGen (record { rows = rows_after gen_rules [] words; met_is = refl; number = (gen_good words e).0; workers = (gen_good words e).1 })
+by_name false false true words some e = AsCheck (record { rows = rows_after [] [] words; met_is = refl })
+by_name false false false words some e = absurd (true≢false (sym some))
+
+entered_good : (stop : Option (Text × List Text)) → is_some (entered (built command) stop) ≡ true → entered_passes (built command) stop ≡ true → IsMet (entered (built command) stop)
 entered_good None some e = absurd (true≢false (sym some))
-entered_good (Some p) some e = by_name (answers_to p.0 (codes "run", [])) (answers_to p.0 (codes "gen", [])) p.1 some e
+entered_good (Some p) some e = by_name (answers_to p.0 (codes "run", [])) (answers_to p.0 (codes "gen", [])) (answers_to p.0 (codes "check", [])) p.1 some e
 
 third : (a b c d : Bool) → (a && (b && (c && d))) ≡ true → c ≡ true
 third a b c d e = (both c d (both b (c && d) (both a (b && (c && d)) e).1).1).0
 
-met_good : (words : List Text) → takes command words ≡ true → IsRun (subcommand_of command words) ⊎ IsGen (subcommand_of command words)
+met_good : (words : List Text) → takes command words ≡ true → IsMet (subcommand_of command words)
 met_good words e =
     let b = built command in
     let stop = stop_after b.top.rules (names_of b) words in
@@ -112,8 +125,8 @@ met_good words e =
     let met = third _ _ (is_some (entered b stop)) _ parts.1 in
     entered_good stop met parts.0
 
--- words that are accepted have one of the two, since a subcommand is required
-pub met_of_words : (words : List Text) → is_accepted words ≡ true → IsRun (subcommand_of command words) ⊎ IsGen (subcommand_of command words)
+-- words that are accepted have one of these, since a subcommand is required
+pub met_of_words : (words : List Text) → is_accepted words ≡ true → IsMet (subcommand_of command words)
 unfolding is_accepted
 met_of_words words e = met_good words e
 
@@ -136,6 +149,9 @@ gen_task words good gen =
     accepted_task words (Some (codes "gen", gen.rows)) good gen.met_is
     ∙ ap (λ (o : Option Text). option_and_then (λ workers. option_map (λ n. tasks.Gen n workers) (number_at (codes "N") gen.rows)) (option_map number o)) gen.workers.one
     ∙ ap (λ (o : Option Text). option_map (λ n. tasks.Gen n (number (without_minus gen.workers.text))) (option_map number o)) gen.number.one
+
+check_task : (words : List Text) → is_accepted words ≡ true → IsCheck (subcommand_of command words) → task_of words ≡ Some tasks.Check
+check_task words good check = accepted_task words (Some (codes "check", check.rows)) good check.met_is
 
 -- other words mean nothing
 none_of : (words : List Text) (b : Bool) → is_accepted words ≡ b → (b ≡ true → ⊥) → None ≡ task_of words
@@ -160,8 +176,9 @@ accepts words task some = some_means words (is_accepted words) task refl some
 
 accepted_some : (words : List Text) → is_accepted words ≡ true → (task : Task) × (task_of words ≡ Some task)
 accepted_some words good = elim (met_of_words words good) [
-  | inl run ↦ (tasks.Run (number (without_minus run.workers.text)), run_task words good run)
-  | inr gen ↦ (tasks.Gen (number gen.number.text) (number (without_minus gen.workers.text)), gen_task words good gen)
+  | AsRun run ↦ (tasks.Run (number (without_minus run.workers.text)), run_task words good run)
+  | AsGen gen ↦ (tasks.Gen (number gen.number.text) (number (without_minus gen.workers.text)), gen_task words good gen)
+  | AsCheck check ↦ (tasks.Check, check_task words good check)
 ]
 
 none_means : (words : List Text) (b : Bool) → is_accepted words ≡ b → None ≡ task_of words → b ≡ false
@@ -185,26 +202,37 @@ named words m met is met_is = name_of (out-ArgMatches m).subcommand ∙ ap (opti
 abbrev is_called : Text → Option Text → Bool
 is_called name o = option_map_or (λ n. bytes_eq n name) o false
 
-not_both : (o : Option Text) → o ≡ Some (codes "run") → o ≡ Some (codes "gen") → ⊥
-not_both o run gen = let both : true ≡ false = sym (ap (is_called (codes "run")) run) ∙ ap (is_called (codes "run")) gen in true≢false both
+not_both : (o : Option Text) (name other : Text) → is_called name (Some name) ≡ true → is_called name (Some other) ≡ false → o ≡ Some name → o ≡ Some other → ⊥
+not_both o name other itself apart is also = true≢false (sym itself ∙ sym (ap (is_called name) is) ∙ ap (is_called name) also ∙ apart)
 
--- a parse that met `run`, or `gen`
+-- a parse that met one of them
 pub has_run : (words : List Text) (m : ArgMatches) → is_accepted words ≡ true → subcommand_rows_of m ≡ subcommand_of command words → subcommand_name_of m ≡ Some (codes "run") → IsRun (subcommand_of command words)
 has_run words m good is name = elim (met_of_words words good) [
-  | inl run ↦ run
-  | inr gen ↦ absurd (not_both (subcommand_name_of m) name (named words m (Some (codes "gen", gen.rows)) is gen.met_is))
+  | AsRun run ↦ run
+  | AsGen gen ↦ absurd (not_both (subcommand_name_of m) (codes "run") (codes "gen") refl refl name (named words m (Some (codes "gen", gen.rows)) is gen.met_is))
+  | AsCheck check ↦ absurd (not_both (subcommand_name_of m) (codes "run") (codes "check") refl refl name (named words m (Some (codes "check", check.rows)) is check.met_is))
 ]
 
 pub has_gen : (words : List Text) (m : ArgMatches) → is_accepted words ≡ true → subcommand_rows_of m ≡ subcommand_of command words → subcommand_name_of m ≡ Some (codes "gen") → IsGen (subcommand_of command words)
 has_gen words m good is name = elim (met_of_words words good) [
-  | inl run ↦ absurd (not_both (subcommand_name_of m) (named words m (Some (codes "run", run.rows)) is run.met_is) name)
-  | inr gen ↦ gen
+  | AsRun run ↦ absurd (not_both (subcommand_name_of m) (codes "gen") (codes "run") refl refl name (named words m (Some (codes "run", run.rows)) is run.met_is))
+  | AsGen gen ↦ gen
+  | AsCheck check ↦ absurd (not_both (subcommand_name_of m) (codes "gen") (codes "check") refl refl name (named words m (Some (codes "check", check.rows)) is check.met_is))
 ]
 
-pub has_either : (words : List Text) (m : ArgMatches) → is_accepted words ≡ true → subcommand_rows_of m ≡ subcommand_of command words → (subcommand_name_of m ≡ Some (codes "run") → ⊥) → (subcommand_name_of m ≡ Some (codes "gen") → ⊥) → ⊥
-has_either words m good is not_run not_gen = elim (met_of_words words good) [
-  | inl run ↦ not_run (named words m (Some (codes "run", run.rows)) is run.met_is)
-  | inr gen ↦ not_gen (named words m (Some (codes "gen", gen.rows)) is gen.met_is)
+pub check_read : (words : List Text) (m : ArgMatches) → is_accepted words ≡ true → subcommand_rows_of m ≡ subcommand_of command words → subcommand_name_of m ≡ Some (codes "check") → Some tasks.Check ≡ task_of words
+check_read words m good is name = elim (met_of_words words good) [
+  | AsRun run ↦ absurd (not_both (subcommand_name_of m) (codes "check") (codes "run") refl refl name (named words m (Some (codes "run", run.rows)) is run.met_is))
+  | AsGen gen ↦ absurd (not_both (subcommand_name_of m) (codes "check") (codes "gen") refl refl name (named words m (Some (codes "gen", gen.rows)) is gen.met_is))
+  | AsCheck check ↦ sym (check_task words good check)
+]
+
+pub has_one : (words : List Text) (m : ArgMatches) → is_accepted words ≡ true → subcommand_rows_of m ≡ subcommand_of command words
+    → (subcommand_name_of m ≡ Some (codes "run") → ⊥) → (subcommand_name_of m ≡ Some (codes "gen") → ⊥) → (subcommand_name_of m ≡ Some (codes "check") → ⊥) → ⊥
+has_one words m good is not_run not_gen not_check = elim (met_of_words words good) [
+  | AsRun run ↦ not_run (named words m (Some (codes "run", run.rows)) is run.met_is)
+  | AsGen gen ↦ not_gen (named words m (Some (codes "gen", gen.rows)) is gen.met_is)
+  | AsCheck check ↦ not_check (named words m (Some (codes "check", check.rows)) is check.met_is)
 ]
 
 -- the rows of a parse are those of the subcommand

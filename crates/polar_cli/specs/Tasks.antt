@@ -12,10 +12,14 @@ abbrev pub number_at : Text → List Row → Option ℕ
 number_at id rows = option_map (λ text. digits_value 10 (without_leading_plus text)) (one_of id rows)
 
 -- `gen`, or else `run`, with the numbers of its arguments
-abbrev pub task_at : Text × List Row → Option Task
-task_at met = option_and_then (λ workers.
+abbrev pub worked_task_at : Text × List Row → Option Task
+worked_task_at met = option_and_then (λ workers.
     if bytes_eq met.0 (codes "gen") then option_map (λ number. tasks.Gen number workers) (number_at (codes "N") met.1)
     else Some (tasks.Run workers)) (number_at (codes "workers") met.1)
+
+-- `check`, or else one of those two
+abbrev pub task_at : Text × List Row → Option Task
+task_at met = if bytes_eq met.0 (codes "check") then Some tasks.Check else worked_task_at met
 
 -- where the words are accepted
 unfoldable pub task_of : List Text → Option Task
@@ -25,6 +29,7 @@ task_of words = if is_accepted words then option_and_then task_at (subcommand_of
 abbrev pub HasFewWorkers : Task → Type 0
 HasFewWorkers (tasks.Run workers) = (1 ≤ workers) × (workers ≤ 8)
 HasFewWorkers (tasks.Gen number workers) = (1 ≤ workers) × (workers ≤ 8)
+HasFewWorkers tasks.Check = Unit {0}
 
 -- this holds where the script of the source is to be run
 abbrev pub IfRun : Option Task → Type 0 → Type 0
@@ -35,3 +40,8 @@ IfRun task P = Unit {0}
 abbrev pub IfGen : Option Task → (ℕ → Type 0) → Type 0
 IfGen (Some (tasks.Gen number workers)) P = P number
 IfGen task P = Unit {0}
+
+-- and this where the list of the source is to be checked
+abbrev pub IfCheck : Option Task → Type 0 → Type 0
+IfCheck (Some tasks.Check) P = P
+IfCheck task P = Unit {0}

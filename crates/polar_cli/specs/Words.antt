@@ -24,6 +24,9 @@ run_shape = (with_rule (new_app (codes "run")) workers_rule).top
 abbrev pub gen_shape : Shape
 gen_shape = (with_rule (with_rule (new_app (codes "gen")) number_rule) workers_rule).top
 
+abbrev pub check_shape : Shape
+check_shape = (new_app (codes "check")).top
+
 -- the program's name, which is no word; one of its subcommands has to come, and it has no help
 abbrev pub bare : App
 bare = record {
@@ -37,7 +40,7 @@ bare = record {
 }
 
 abbrev pub command : App
-command = with_subcommand (with_subcommand bare run_shape) gen_shape
+command = with_subcommand (with_subcommand (with_subcommand bare run_shape) gen_shape) check_shape
 
 -- the words are those that clap takes of this command
 unfoldable pub is_accepted : List Text → Bool

@@ -1,13 +1,14 @@
 //! The run of a generated script.
-ghost use Rattle.std.specs.Prelude.{◌≡◌, ◌≤◌, ◌++◌, IfOk, OnOk, length};
+ghost use Rattle.std.specs.Prelude.{◌≡◌, ◌≤◌, IfOk, length};
 ghost use Rattle.pf_io.specs.Causes.{Rose};
 ghost use Rattle.pf_world.specs.Disks.{AreTold};
-ghost use Rattle.polar_cli.specs.Reports.{counts_text, sum_text};
+ghost use Rattle.polar_cli.specs.Reports.{sum_text};
 ghost use Rattle.polar_cli.specs.Generating.{HasGenerated};
 
+use crate::counts::put_counts;
 use crate::ends::{Nowhere, write_all};
 use crate::lines::run_lines;
-use crate::scan::read_script;
+use crate::script::read_script;
 use crate::status::Status;
 use pf_base::NoMemory;
 use pf_disk::Disk;
@@ -17,16 +18,6 @@ use pf_io::{Sink, SureSource};
 use pf_text::{put_decimal, put_text};
 use std::alloc::Global;
 use std::thread::Threads;
-
-/// Puts two counts, and a line feed.
-fn put_counts(out: &mut Vec<u8>, acked: (usize, usize)) -> Result<(), NoMemory>
-    ensures { OnOk result (out.new.items ≡ out.old.items ++ counts_text acked) }
-{
-    put_decimal(out, acked.0 as u64)?;
-    put_text(out, b" ")?;
-    put_decimal(out, acked.1 as u64)?;
-    put_text(out, b"\n")
-}
 
 /// The line that tells of a generated script, by how many slots each of its two groups acknowledged.
 fn sum_text(alloc: Global, number: u64, acked: (usize, usize)) -> Result<Vec<u8>, NoMemory>

@@ -16,6 +16,8 @@ pub enum Task {
     Run { workers: u32 },
     /// To run the script that a number generates, and to write one line.
     Gen { number: u64, workers: u32 },
+    /// To judge the tables that the source's list of transactions makes, and to write one line.
+    Check,
 }
 
 /// `--workers`, with one whole number from 1 to 8.
@@ -39,7 +41,7 @@ fn number_place<'a>(alloc: Global) -> Arg<'a>
         .value_parser(clap::value_parser!(u64))
 }
 
-/// What the program reads of its words: `run`, or `gen N`, each with the option `--workers`.
+/// What the program reads of its words: `run`, or `gen N`, each with the option `--workers`, or `check`.
 fn command<'a>(alloc: Global) -> Result<Command<'a>, AllocError>
     ensures { IfOk result (λ made. app_of made ≡ command) }
 {
@@ -53,7 +55,8 @@ fn command<'a>(alloc: Global) -> Result<Command<'a>, AllocError>
         .disable_help_subcommand(true)
         .subcommand_required(true)
         .subcommand(run)?
-        .subcommand(generate)
+        .subcommand(generate)?
+        .subcommand(Command::new(alloc, "check"))
 }
 
 /// What the words ask for, where they are accepted, and else `None`. The workers are 1 to 8.
@@ -86,7 +89,10 @@ pub fn read_task(alloc: Global, words: &[String]) -> Result<Option<Task>, NoMemo
                 },
                 None => Ok(None),
             },
-            None => Ok(None),
+            None => match matches.subcommand_matches("check") {
+                Some(_) => Ok(Some(Task::Check)),
+                None => Ok(None),
+            },
         },
     }
 }

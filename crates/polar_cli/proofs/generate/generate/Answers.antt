@@ -18,7 +18,7 @@ returns-in_default-read_script g c = not_begun g.D.Disk.seen g.D.Disk.may_leave 
 pub run_lines-status-requires-clause-lines : goal.run_lines-status-requires-clause-lines
 run_lines-status-requires-clause-lines g c κs within =
     let script = c.in-Ok-read_script.ensures.accepted in
-    subst IsWhole (sym c.deref.ensures.value) (whole_script script.script c.in-Ok-read_script.lines.items script.accepted)
+    subst IsWhole (sym c.deref.ensures.value) (whole_script script.text c.in-Ok-read_script.lines.items script.accepted)
 
 pub returns-in_default-status : goal.returns-in_default-status
 returns-in_default-status g c =

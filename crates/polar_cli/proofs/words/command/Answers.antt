@@ -3,7 +3,7 @@ use Rattle.std.proofs.lemmas.Result.{IfOk-weaker}
 use Rattle.clap.specs.Words.{App, app_of, new_app, with_rule, with_subcommand}
 use Rattle.clap.specs.declared.builder.command.Command.TheViews.{out-Command}
 use Rattle.clap.specs.Simple.{app_of_fields, on_top}
-use Rattle.polar_cli.specs.Words.{bare, number_rule, run_shape, workers_rule}
+use Rattle.polar_cli.specs.Words.{bare, gen_shape, number_rule, run_shape, workers_rule}
 use Rattle.polar_cli.proofs.words.command.Goals as goal
 
 pub returns : goal.returns
@@ -27,4 +27,6 @@ returns c =
     (ap app_of_fields c.no_binary_name.ensures ∙ ap (on_top (λ s. record s { no_binary_name = true })) c.new-3.ensures.app))) in
     let one_is : app_of c.in_ok-subcommand.field-0 ≡ with_subcommand bare run_shape =
     c.in_ok-subcommand.ensures.shape run_local ∙ ap₂ with_subcommand bare_is (ap (λ (a : App). a.top) run_is) in
-    IfOk-weaker c.subcommand-2.result _ _ (λ made h. h.shape gen_local ∙ ap₂ with_subcommand one_is (ap (λ (a : App). a.top) gen_is)) c.subcommand-2.ensures
+    let two_is : app_of c.in_ok-subcommand-2.field-0 ≡ with_subcommand (with_subcommand bare run_shape) gen_shape =
+    c.in_ok-subcommand-2.ensures.shape gen_local ∙ ap₂ with_subcommand one_is (ap (λ (a : App). a.top) gen_is) in
+    IfOk-weaker c.subcommand-3.result _ _ (λ made h. h.shape c.new-4.ensures.local ∙ ap₂ with_subcommand two_is (ap (λ (a : App). a.top) c.new-4.ensures.app)) c.subcommand-3.ensures

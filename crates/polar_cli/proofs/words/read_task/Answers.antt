@@ -10,7 +10,7 @@ use Rattle.polar_cli.specs.Words.{command}
 use Rattle.polar_cli.specs.Tasks.{task_of}
 use Rattle.polar_cli.specs.declared.words.Task.{Task}
 use Rattle.polar_cli.specs.declared.words.Task.TheVariants as tasks
-use Rattle.polar_cli.proofs.WordLaws.{accepted, command_is_simple, gen_number, gen_read, has_either, run_read, unaccepted}
+use Rattle.polar_cli.proofs.WordLaws.{accepted, command_is_simple, gen_number, check_read, gen_read, has_one, run_read, unaccepted}
 use Rattle.polar_cli.proofs.words.read_task.Goals as goal
 use Rattle.polar_cli.proofs.words.read_task.Goals.{then-eq, else-eq}
 
@@ -102,10 +102,18 @@ returns-in-Some-subcommand_matches-clause-told c =
     let some = sym c.in-None-get_one-2.is ∙ read.1 in
     absurd (cc)
 
+pub returns-in-Some-subcommand_matches-2-clause-told : goal.returns-in-Some-subcommand_matches-2-clause-told
+returns-in-Some-subcommand_matches-2-clause-told c =
+    let words = map string_bytes c.args.words.now in
+    let made = c.in_ok-command.ensures in
+    let good = accepted words (sym (ap (λ (a : App). fault_of a words) made) ∙ c.in-Ok.ensures.kinds (ap is_simple_and_free made ∙ command_is_simple)) in
+    let is = (c.in-Ok.ensures.matches (ap is_simple made)).1 ∙ ap (λ (a : App). subcommand_of a words) made in
+    check_read words c.in-Ok.matches good is (c.in-Some-subcommand_matches-2.ensures.found.0 refl)
+
 pub returns-clause-told : goal.returns-clause-told
 returns-clause-told c =
     let words = map string_bytes c.args.words.now in
     let made = c.in_ok-command.ensures in
     let good = accepted words (sym (ap (λ (a : App). fault_of a words) made) ∙ c.in-Ok.ensures.kinds (ap is_simple_and_free made ∙ command_is_simple)) in
     let is = (c.in-Ok.ensures.matches (ap is_simple made)).1 ∙ ap (λ (a : App). subcommand_of a words) made in
-    absurd (has_either words c.in-Ok.matches good is (λ name. let some = c.in-None.ensures.found.1 name in absurd (cc)) (λ name. let some = c.in-None-subcommand_matches.ensures.found.1 name in absurd (cc)))
+    absurd (has_one words c.in-Ok.matches good is (λ name. let some = c.in-None.ensures.found.1 name in absurd (cc)) (λ name. let some = c.in-None-subcommand_matches.ensures.found.1 name in absurd (cc)) (λ name. let some = c.in-None-subcommand_matches-2.ensures.found.1 name in absurd (cc)))
