@@ -1,5 +1,5 @@
 -- How the check of a list ends.
-use Rattle.std.proofs.Common.{◌≡◌, ℕ, List, [], Option, Some, None, Ok, Err, refl, ap, sym, subst}
+use Rattle.std.proofs.Common.{◌≡◌, ℕ, List, [], Option, refl, ap, sym, subst}
 use Rattle.std.specs.Prelude.{is_err}
 use Rattle.std.specs.Io.KnownBytes.{Appends}
 use Rattle.pf_inodes.specs.declared.changes.Txn.{Txn}
@@ -8,9 +8,9 @@ use Rattle.polar_cli.specs.declared.scan.Stop.{Stop}
 use Rattle.polar_cli.specs.declared.scan.Stop.TheVariants as stops
 use Rattle.polar_cli.specs.declared.status.Status.{Status}
 use Rattle.polar_cli.specs.declared.status.Status.TheVariants as statuses
-use Rattle.polar_cli.specs.Checking.{CheckEnds, HasChecked, IsVerdictLine, TellsOf}
+use Rattle.polar_cli.specs.Checking.{HasChecked, IsVerdictLine, TellsOf}
 use Rattle.polar_cli.specs.Ends.{AppendsFront}
-use Rattle.polar_cli.specs.Lists.{list_of, list_rules}
+use Rattle.polar_cli.specs.Lists.{list_rules}
 use Rattle.polar_cli.specs.Refusing.{EndsAtStop, Refuses, fault_text}
 use Rattle.polar_cli.specs.Runs.{IsRefused, IsText, IsUndecided, StopSays}
 use Rattle.polar_cli.proofs.Reading.{a_text, is_text}

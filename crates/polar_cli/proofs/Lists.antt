@@ -1,5 +1,5 @@
 -- A run of a script's lines has one list.
-use Rattle.std.proofs.Common.{◌≡◌, ℕ, ◌^◌, ◌<◌, Bool, true, false, List, [], ◌∷◌, ◌++◌, length, drop, get_or, refl, ap, sym, subst, ◌∙◌}
+use Rattle.std.proofs.Common.{◌≡◌, ℕ, ◌^◌, ◌<◌, true, false, List, [], ◌∷◌, ◌++◌, length, refl, ap, sym, subst, ◌∙◌}
 use Rattle.pf_entry.specs.Lists.{Every}
 use Rattle.pf_rounds.specs.Halts.{Halt}
 use Rattle.pf_script.specs.declared.command.Command.{Command}

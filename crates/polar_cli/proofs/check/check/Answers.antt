@@ -1,4 +1,4 @@
-use Rattle.std.proofs.Common.{refl, sym, subst, ◌∙◌}
+use Rattle.std.proofs.Common.{refl, subst}
 use Rattle.std.specs.Io.KnownBytes.{Appends}
 use Rattle.pf_io.specs.Causes.{Rose}
 use Rattle.polar_cli.specs.Checking.{IsVerdictLine}
