@@ -45,4 +45,4 @@ shared_sync D g d = let b = behind_send D g d (group_send D g d) (start_send D g
 
 pub line_sync : (D G : RattleType) (g : Ghosts D.Denot) → IsSend D → IsSync G → IsSync (Line.the_row D G g)
 line_sync D G g d y = let s = shared_sync D g d in
-    recorded_sync _ _ _ (Line.the_type D G g).to_one (struct_sync (shape (Line.the_type D G g)) (s, (y, (search (sendable, heap.the_field_sync), (cell.the_field_sync, (plan.the_field_sync, (search (sendable, vec.the_sync, ring.the_sync, heap.the_sync, frees) depth 30, (search (sendable, vec.the_sync, word.the_sync, heap.the_sync, frees) depth 30, (search (sendable, word.the_sync), (search (sendable, bit.the_sync, word.the_sync), tt))))))))))
+    recorded_sync _ _ _ (Line.the_type D G g).to_one (struct_sync (shape (Line.the_type D G g)) (s, (y, (search (sendable, heap.the_field_sync), (cell.the_field_sync, (plan.the_field_sync, (search (sendable, vec.the_sync, ring.the_sync, heap.the_sync, frees) depth 30, (search (sendable, vec.the_sync, word.the_sync, heap.the_sync, frees) depth 30, (search (sendable, word.the_sync), (search (sendable, word.the_sync), (search (sendable, bit.the_sync, word.the_sync), tt)))))))))))

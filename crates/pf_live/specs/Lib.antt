@@ -6,3 +6,4 @@ pub mod Lines
 pub mod Ends
 pub mod Workers
 pub mod Switches
+pub mod Submitters

@@ -21,6 +21,8 @@ pub struct Line<D: Disk, G> {
     pub(crate) acked: Vec<AtomicU64>,
     /// How often the group was changed. A worker that found nothing to do waits until it was changed again.
     pub(crate) moves: AtomicU64,
+    /// How often the group had been changed when the switch last found that no packet is left.
+    pub(crate) calm: AtomicU64,
     /// Whether all are to end.
     pub(crate) stops: AtomicBool,
 }
@@ -34,6 +36,16 @@ impl<D: Disk, G> Line<D, G> {
     /// How often it was changed.
     pub(crate) fn count(&self) -> u64 {
         self.moves.load(Ordering::SeqCst)
+    }
+
+    /// No packet was left when the group had been changed so often.
+    pub(crate) fn calm_down(&self, moves: u64) {
+        self.calm.store(moves, Ordering::SeqCst);
+    }
+
+    /// Whether no packet was left when the group had been changed so often.
+    pub(crate) fn is_calm(&self, moves: u64) -> bool {
+        self.calm.load(Ordering::SeqCst) == moves
     }
 
     /// All are to end.
@@ -50,6 +62,13 @@ impl<D: Disk, G> Line<D, G> {
         match self.acked.get(host as usize) {
             Some(acked) => acked.load(Ordering::SeqCst) == u64::from(count),
             None => false,
+        }
+    }
+
+    /// One more request of the host was acknowledged.
+    pub(crate) fn acknowledge(&self, host: u32) {
+        if let Some(acked) = self.acked.get(host as usize) {
+            acked.fetch_add(1, Ordering::SeqCst);
         }
     }
 }

@@ -116,6 +116,7 @@ impl<D: Disk + Drop> Switch<D> {
         }
         if !self.finds(rt, line)? {
             self.moves = moves;
+            line.calm_down(moves);
             return Ok(Turned::Waits);
         }
         line.gate.before(SWITCH);
