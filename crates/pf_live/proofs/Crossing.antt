@@ -18,7 +18,9 @@ use Rattle.pf_turn.proofs.parts.TurnLock.TheSendSync as lock
 use Rattle.pf_group.proofs.group.Group.TheSendSync as group
 use Rattle.pf_turn.proofs.log.Stamped.TheSendSync as stamped
 use Rattle.pf_shared.proofs.moment.Did.TheSendSync as did
-use Rattle.pf_shared.proofs.moment.Moment.TheSendSync as moment
+use Rattle.pf_leadercell.proofs.cell.LeaderCell.TheSendSync as cell
+use Rattle.pf_live.proofs.plan.Plan.TheSendSync as plan
+use Rattle.pf_rings.proofs.ring.Ring.TheSendSync as ring
 use Rattle.std.proofs.vec.Vec.TheSendSync as vec
 use Rattle.std.proofs.alloc.Global.TheSendSync as heap
 use Rattle.std.proofs.Crossing.{frees}
@@ -43,4 +45,4 @@ shared_sync D g d = let b = behind_send D g d (group_send D g d) (start_send D g
 
 pub line_sync : (D G : RattleType) (g : Ghosts D.Denot) → IsSend D → IsSync G → IsSync (Line.the_row D G g)
 line_sync D G g d y = let s = shared_sync D g d in
-    recorded_sync _ _ _ (Line.the_type D G g).to_one (struct_sync (shape (Line.the_type D G g)) (s, (y, (search (sendable, heap.the_field_sync), (search (sendable, word.the_sync), (search (sendable, bit.the_sync, word.the_sync), tt))))))
+    recorded_sync _ _ _ (Line.the_type D G g).to_one (struct_sync (shape (Line.the_type D G g)) (s, (y, (search (sendable, heap.the_field_sync), (cell.the_field_sync, (plan.the_field_sync, (search (sendable, vec.the_sync, ring.the_sync, heap.the_sync, frees) depth 30, (search (sendable, vec.the_sync, word.the_sync, heap.the_sync, frees) depth 30, (search (sendable, word.the_sync), (search (sendable, word.the_sync), (search (sendable, bit.the_sync, word.the_sync), tt)))))))))))

@@ -1,7 +1,7 @@
 -- What an apply seat's calls do to its own entries.
 use Rattle.std.proofs.Common.{◌≡◌, ℕ, Bool, true, false, true≢false, cond, List, [], ◌∷◌, ◌++◌, None, Some, refl, sym, ap, ◌∙◌, subst}
 use Rattle.pf_turn.specs.declared.log.Stamped.{Stamped}
-use Rattle.pf_turn.specs.Lists.{Begins, entries_of}
+use Rattle.pf_turn.specs.Lists.{entries_of}
 use Rattle.pf_turn.specs.Own.{EachOf}
 use Rattle.pf_turn.proofs.Own.{each_longer, each_snoc}
 use Rattle.pf_group.specs.GroupIs.{GroupIs}
@@ -13,7 +13,6 @@ use Rattle.pf_applying.specs.Jobs.{IsFilledFor}
 use Rattle.pf_filling.specs.Filling.{filled_of}
 use Rattle.pf_protocol.specs.declared.answers.Answer.{Answer}
 use Rattle.pf_protocol.specs.declared.answers.Answer.TheVariants.{Job as JobIs}
-use Rattle.pf_protocol.specs.declared.events.Event.{Event}
 use Rattle.pf_protocol.specs.declared.events.Event.TheVariants.{Claim, Finish, GiveBack}
 use Rattle.pf_shared.specs.declared.moment.Moment.{Moment}
 use Rattle.pf_shared.specs.declared.moment.Moment.TheVariants.{Happened}

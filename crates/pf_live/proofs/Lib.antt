@@ -1,2 +1,6 @@
 pub mod Hands
+pub mod Deliveries
+pub mod Submissions
+pub mod Stands
+pub mod Submitters
 pub mod Crossing

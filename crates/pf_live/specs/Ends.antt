@@ -1,46 +1,44 @@
--- How a live line ends: one definition over the line's list and the state after it.
-use Rattle.std.specs.Prelude.{◌≡◌, ◌⊎◌, ℕ, ◌+◌, ◌<◌, Bool, true, false, not, ◌&&◌, ◌==◌, List, [], ◌∷◌, ◌++◌, find, if◌then◌else◌, length, Option, Some, None, slice_get}
-use Rattle.std.specs.List.{list_any, range_with_len}
-use Rattle.pf_turn.specs.declared.log.Stamped.{Stamped}
-use Rattle.pf_entry.specs.Ops.{Sector}
-use Rattle.pf_entry.specs.declared.ops.Op.{Op}
-use Rattle.pf_entry.specs.declared.ops.Op.TheVariants.{Write, Noop, Mark}
-use Rattle.pf_protocol.specs.Servers.{Condition, Running, Stopped, Unformatted}
-use Rattle.pf_protocol.specs.Groups.{Group}
-use Rattle.pf_protocol.specs.declared.answers.Answer.{Answer}
-use Rattle.pf_protocol.specs.declared.answers.Answer.TheVariants.{Done, Slot, Refused}
+-- How a live line ends: one definition over its list and the state after it.
+use Rattle.std.specs.Prelude.{◌≡◌, ◌⊎◌, ℕ, ◌<◌, ◌∷◌, ◌++◌, length, Some, None}
+use Rattle.pf_protocol.specs.declared.answers.Answer.TheVariants.{Refused}
 use Rattle.pf_protocol.specs.declared.answers.Refusal.{Refusal}
-use Rattle.pf_protocol.specs.declared.answers.Refusal.TheVariants.{LogFull, PacketsFull}
-use Rattle.pf_protocol.specs.declared.events.Event.{Event}
-use Rattle.pf_protocol.specs.declared.events.Event.TheVariants.{Deliver, Submit}
-use Rattle.pf_protocol.specs.declared.events.Happening.{Happening}
+use Rattle.pf_protocol.specs.declared.events.Event.TheVariants.{Submit}
 use Rattle.pf_cluster.specs.Shown.{IsLeader}
 use Rattle.pf_group.specs.GroupIs.{GroupIs}
-use Rattle.pf_group.specs.Readers.{is_left}
-use Rattle.pf_shared.specs.declared.moment.Moment.{Moment}
-use Rattle.pf_shared.specs.declared.moment.Moment.TheVariants.{Happened, Look}
+use Rattle.pf_shared.specs.declared.moment.Moment.TheVariants.{Happened}
+use Rattle.pf_shared.specs.Moments.{entry}
 use Rattle.pf_shared.specs.Since.{state_at}
+use Rattle.pf_live.specs.declared.plan.Plan.{Plan}
+use Rattle.pf_live.specs.declared.ending.LiveEnd.{LiveEnd}
+use Rattle.pf_live.specs.declared.ending.LiveEnd.TheVariants.{Done, Stalled, TurnsSpent}
+use Rattle.pf_live.specs.Deliveries.{Line, deliveries, least_left}
+use Rattle.pf_live.specs.Submissions.{acked_of, slots_of}
+use Rattle.pf_live.specs.Writes.{op_of, request_of}
 
-abbrev pub Line : Type 0
-Line = List (Stamped Moment)
+-- the serving leader of the greatest term refused the host's first write that is not acknowledged, and nothing was delivered since
+pub record WasRefused (plan : Plan) (root : GroupIs) (list : Line) (h : ℕ) : Type 0 where
+  pub before : Line
+  pub seat : ℕ
+  pub server : ℕ
+  pub term : ℕ
+  pub refusal : Refusal
+  pub after : Line
+  pub there : before ++ entry seat (Happened (record { event = Submit server (op_of (request_of plan.sectors h (acked_of root h list))); answer = Refused refusal })) ∷ after ≡ list
+  pub leads : IsLeader (state_at root list) (Some (term, server))
+  pub since : deliveries after ≡ 0
 
--- a delivery that was refused for want of room passes its packet over until the line ends
-abbrev pub passes : Answer → Bool
-passes (Refused LogFull) = true
-passes (Refused PacketsFull) = true
-passes answer = false
+-- it got a slot, or no server serves, or it was refused
+abbrev pub WaitsInVain : Plan → GroupIs → Line → (h : ℕ) → Type 0
+WaitsInVain plan root list h = (acked_of root h list < length (slots_of root h list)) ⊎ (IsLeader (state_at root list) None ⊎ WasRefused plan root list h)
 
-abbrev pub is_delivery : ℕ → Event → Bool
-is_delivery k (Deliver j) = j == k
-is_delivery k event = false
+-- a write of the host is not acknowledged
+abbrev pub IsOpen : Plan → GroupIs → Line → (h : ℕ) → Type 0
+IsOpen plan root list h = (h < plan.hosts) × (acked_of root h list < plan.writes)
 
-abbrev pub passes_over : ℕ → Moment → Bool
-passes_over k (Happened h) = is_delivery k h.event && passes h.answer
-passes_over k what = false
+abbrev pub NoneIsLeft : GroupIs → Line → Type 0
+NoneIsLeft root list = least_left (state_at root list) list ≡ None
 
-abbrev pub is_passed : Line → ℕ → Bool
-is_passed list k = list_any (λ (e : Stamped Moment). passes_over k e.what) list
-
--- the least packet that is left and was not passed over in the line
-abbrev pub least_left : GroupIs → Line → Option ℕ
-least_left root list = find (λ k. is_left (slice_get (state_at root list).packets k) && not (is_passed list k)) (range_with_len 0 (length (state_at root list).packets))
+abbrev pub HasEnd : Plan → GroupIs → Line → LiveEnd → Type 0
+HasEnd plan root list Done = ((h : ℕ) → h < plan.hosts → acked_of root h list ≡ plan.writes) × NoneIsLeft root list
+HasEnd plan root list Stalled = NoneIsLeft root list × ((h : ℕ) × IsOpen plan root list h) × ((h : ℕ) → IsOpen plan root list h → WaitsInVain plan root list h)
+HasEnd plan root list TurnsSpent = (deliveries list ≡ plan.turns) × ((k : ℕ) × (least_left (state_at root list) list ≡ Some k))

@@ -1,14 +1,10 @@
 -- What the seats of a live line do.
-use Rattle.std.specs.Prelude.{◌≡◌, ◌⊎◌, ℕ, ◌+◌, Bool, true, false, not, ◌&&◌, ◌==◌, List, [], ◌∷◌, ◌++◌, find, length, Option, Some, None}
-use Rattle.std.specs.List.{list_any, range_with_len}
+use Rattle.std.specs.Prelude.{◌≡◌, ℕ, Bool, true, false, List, [], ◌∷◌, ◌++◌}
 use Rattle.pf_turn.specs.declared.log.Stamped.{Stamped}
-use Rattle.pf_turn.specs.Lists.{entries_of}
-use Rattle.pf_protocol.specs.declared.answers.Answer.{Answer}
 use Rattle.pf_protocol.specs.declared.answers.Answer.TheVariants.{Refused}
 use Rattle.pf_protocol.specs.declared.answers.Refusal.TheVariants.{NoneFree}
 use Rattle.pf_protocol.specs.declared.events.Event.{Event}
-use Rattle.pf_protocol.specs.declared.events.Event.TheVariants.{Claim, Finish, GiveBack, Deliver}
-use Rattle.pf_protocol.specs.declared.events.Happening.{Happening}
+use Rattle.pf_protocol.specs.declared.events.Event.TheVariants.{Claim, Finish, GiveBack}
 use Rattle.pf_shared.specs.declared.moment.Moment.{Moment}
 use Rattle.pf_shared.specs.declared.moment.Moment.TheVariants.{Happened, Look}
 use Rattle.pf_shared.specs.Moments.{entry}

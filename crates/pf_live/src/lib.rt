@@ -2,9 +2,21 @@
 #![tactic(auto)]
 
 mod applying;
+mod ending;
+mod hosting;
 mod line;
+mod plan;
 mod running;
+mod serving;
+mod submitting;
+mod switching;
 
 pub use applying::Applier;
+pub use ending::LiveEnd;
+pub use hosting::Host;
 pub use line::Line;
+pub use plan::Plan;
 pub use running::{apply_all, join_one};
+pub use serving::{Served, Standing};
+pub use submitting::Submitter;
+pub use switching::Switch;

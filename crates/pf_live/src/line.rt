@@ -1,16 +1,28 @@
 //! What the workers of a live line share.
+use crate::plan::Plan;
 use pf_disk::Disk;
+use pf_leadercell::LeaderCell;
+use pf_rings::Ring;
 use pf_shared::SharedGroup;
 use std::alloc::Global;
 use std::sync::atomic::{AtomicBool, AtomicU64, Ordering};
 
-/// What the workers share: the group, the gate that is called round each step, and two signs that decide nothing but when to look.
+/// What the workers share: the group, the leader that the switch published, the gate that is called round each step, and two signs that
+/// decide nothing but when to look.
 pub struct Line<D: Disk, G> {
     pub(crate) group: SharedGroup<D>,
     pub(crate) gate: G,
     pub(crate) alloc: Global,
+    pub(crate) cell: LeaderCell,
+    pub(crate) plan: Plan,
+    /// One of each host.
+    pub(crate) rings: Vec<Ring>,
+    /// How many requests of each host were acknowledged, as far as the server worker knows.
+    pub(crate) acked: Vec<AtomicU64>,
     /// How often the group was changed. A worker that found nothing to do waits until it was changed again.
     pub(crate) moves: AtomicU64,
+    /// How often the group had been changed when the switch last found that no packet is left.
+    pub(crate) calm: AtomicU64,
     /// Whether all are to end.
     pub(crate) stops: AtomicBool,
 }
@@ -26,6 +38,16 @@ impl<D: Disk, G> Line<D, G> {
         self.moves.load(Ordering::SeqCst)
     }
 
+    /// No packet was left when the group had been changed so often.
+    pub(crate) fn calm_down(&self, moves: u64) {
+        self.calm.store(moves, Ordering::SeqCst);
+    }
+
+    /// Whether no packet was left when the group had been changed so often.
+    pub(crate) fn is_calm(&self, moves: u64) -> bool {
+        self.calm.load(Ordering::SeqCst) == moves
+    }
+
     /// All are to end.
     pub(crate) fn stop(&self) {
         self.stops.store(true, Ordering::SeqCst);
@@ -33,5 +55,20 @@ impl<D: Disk, G> Line<D, G> {
 
     pub(crate) fn is_stopping(&self) -> bool {
         self.stops.load(Ordering::SeqCst)
+    }
+
+    /// Whether so many requests of the host were acknowledged.
+    pub(crate) fn has_acked(&self, host: u32, count: u32) -> bool {
+        match self.acked.get(host as usize) {
+            Some(acked) => acked.load(Ordering::SeqCst) == u64::from(count),
+            None => false,
+        }
+    }
+
+    /// One more request of the host was acknowledged.
+    pub(crate) fn acknowledge(&self, host: u32) {
+        if let Some(acked) = self.acked.get(host as usize) {
+            acked.fetch_add(1, Ordering::SeqCst);
+        }
     }
 }

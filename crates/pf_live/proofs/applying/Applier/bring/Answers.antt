@@ -1,5 +1,4 @@
-use Rattle.std.proofs.Common.{◌≡◌, refl, subst, sym}
-use Rattle.pf_filling.specs.Filling.{filled_of}
+use Rattle.std.proofs.Common.{refl, subst, sym}
 use Rattle.pf_protocol.specs.declared.answers.Answer.TheVariants.{Done}
 use Rattle.pf_protocol.specs.declared.events.Event.TheVariants.{Finish}
 use Rattle.pf_shared.specs.Calls.{Steps}

@@ -1,4 +1,4 @@
-use Rattle.std.proofs.Common.{◌≡◌, refl, subst, sym}
+use Rattle.std.proofs.Common.{refl, subst}
 use Rattle.pf_protocol.specs.declared.events.Event.TheVariants.{Claim}
 use Rattle.pf_shared.specs.Calls.{IsTaken, OnJob, Steps}
 use Rattle.pf_shared.specs.Seats.{IsAlone, number_of, root_in, seen_by}

@@ -1,0 +1,185 @@
+-- What the switch has done, as others add entries and it adds its own.
+use Rattle.std.proofs.Common.{◌≡◌, ℕ, ◌+◌, ◌<◌, Bool, true, false, not, cond, ◌&&◌, ◌||◌, ◌==◌, [], ◌∷◌, ◌++◌, Option, Some, None, length, sum_by, append_assoc, arith, refl, sym, ap, ◌∙◌, subst}
+use Rattle.std.proofs.lemmas.List.Folds.{list_any-append}
+use Rattle.std.proofs.lemmas.List.Sums.{sum_by-append}
+use Rattle.pf_turn.specs.declared.log.Stamped.{Stamped}
+use Rattle.pf_turn.specs.Lists.{Begins, entries_of}
+use Rattle.pf_turn.specs.Own.{EachOf}
+use Rattle.pf_protocol.specs.Groups.{Group}
+use Rattle.pf_protocol.specs.Histories.{History, run}
+use Rattle.pf_protocol.specs.declared.answers.Answer.{Answer}
+use Rattle.pf_protocol.specs.declared.events.Event.TheVariants.{Deliver}
+use Rattle.pf_protocol.proofs.ForMoments.{legal_before, run_parts}
+use Rattle.pf_group.specs.GroupIs.{GroupIs}
+use Rattle.pf_group.specs.Packets.{IsPassedUpTo, is_passed_over, least_from}
+use Rattle.pf_group.proofs.Sending.{OnlySent, run_sent}
+use Rattle.pf_group.proofs.Passing.{IsFound, least_found, least_is, left_low, one_more_passed, passed_further, passed_later}
+use Rattle.pf_shared.specs.declared.moment.Moment.{Moment}
+use Rattle.pf_shared.specs.declared.moment.Moment.TheVariants.{Happened, Look}
+use Rattle.pf_shared.specs.Moments.{entry, happenings, with_moment}
+use Rattle.pf_shared.specs.Since.{state_at, whole}
+use Rattle.pf_shared.specs.Calls.{Adds, Finds, IsHistory, Steps}
+use Rattle.pf_shared.specs.Delivering.{DeliversLeft}
+use Rattle.pf_live.specs.Deliveries.{Line, deliveries, delivers, is_passed, passes_over}
+use Rattle.pf_live.specs.Switches.{Delivers, HasDelivered, IsSwitch}
+use Rattle.pf_live.proofs.Hands.{each_adds, each_finds}
+use Rattle.pf_disk.specs.declared.disk.Disk.{Ghosts}
+use Rattle.pf_leadercell.specs.Passes.{IsFirst, IsPassOf}
+use Rattle.pf_leadercell.specs.declared.cell.LeaderCell.{LeaderCell}
+use Rattle.pf_shared.specs.declared.parts.SharedGroup.{SharedGroup}
+use Rattle.pf_shared.specs.Seats.{IsSeatOf, number_of, root_in, seen_by}
+use Rattle.pf_live.specs.declared.switching.Switch.{Switch}
+
+with-append : (what : Moment) (xs ys : History) → with_moment what (xs ++ ys) ≡ with_moment what xs ++ ys
+with-append (Happened h) xs ys = refl
+with-append (Look read) xs ys = refl
+
+pub happenings-append : (xs ys : Line) → happenings (xs ++ ys) ≡ happenings xs ++ happenings ys
+happenings-append [] ys = refl
+happenings-append (x ∷ xs) ys = ap (with_moment x.what) (happenings-append xs ys) ∙ with-append x.what (happenings xs) (happenings ys)
+
+pub begins_snoc : (seen found new : Line) (e : Stamped Moment) → Begins seen found → new ≡ found ++ e ∷ [] → Begins seen new
+begins_snoc seen found new e p is = (p.0 ++ e ∷ [], sym (append_assoc seen p.0 (e ∷ [])) ∙ (ap (λ l. l ++ e ∷ []) p.1 ∙ sym is))
+
+-- what happened up to a longer list
+pub whole_more : (root : GroupIs) (seen rest new : Line) → seen ++ rest ≡ new → whole root seen ++ happenings rest ≡ whole root new
+whole_more root seen rest new is = append_assoc root.history (happenings seen) (happenings rest) ∙ (ap (λ l. root.history ++ l) (sym (happenings-append seen rest)) ∙ ap (whole root) is)
+
+pub state_more : (root : GroupIs) (seen rest new : Line) → seen ++ rest ≡ new → run root.setup (state_at root seen) (happenings rest) ≡ state_at root new
+state_more root seen rest new is = sym (run_parts root.setup _ (whole root seen) (happenings rest)) ∙ ap (λ l. Rattle.pf_protocol.specs.Histories.replay root.setup l) (whole_more root seen rest new is)
+
+-- packets are only sent and marked
+pub sent_later : (root : GroupIs) (seen new : Line) → Begins seen new → OnlySent (state_at root seen).packets (state_at root new).packets
+sent_later root seen new p = subst (λ (g : Group). OnlySent (state_at root seen).packets g.packets) (state_more root seen p.0 new p.1) (run_sent root.setup (happenings p.0) (state_at root seen))
+
+passed_alike : (g : Group) (p q : ℕ → Bool) (next : ℕ) → ((k : ℕ) → q k ≡ p k) → IsPassedUpTo g p next → IsPassedUpTo g q next
+passed_alike g p q next alike h = record { below = λ k is. h.below k (sym (alike k) ∙ is); all = λ k low left. alike k ∙ h.all k low left }
+
+or_none : (b c : Bool) → c ≡ false → (b || (c || false)) ≡ b
+or_none true c is = refl
+or_none false c is = ap (λ x. x || false) is
+
+or_last : (b c d : Bool) → c ≡ d → (b || (c || false)) ≡ (b || d)
+or_last true c d is = refl
+or_last false true d is = is
+or_last false false d is = is
+
+-- one more entry
+passed_snoc : (k : ℕ) (list : Line) (e : Stamped Moment) → is_passed k (list ++ e ∷ []) ≡ (is_passed k list || (passes_over k e.what || false))
+passed_snoc k list e = list_any-append (λ (x : Stamped Moment). passes_over k x.what) list (e ∷ [])
+
+deliveries_snoc : (list : Line) (e : Stamped Moment) (c : ℕ) → cond (delivers e.what) 1 0 ≡ c → deliveries (list ++ e ∷ []) ≡ deliveries list + c
+deliveries_snoc list e c is = let f : Stamped Moment → ℕ = λ x. cond (delivers x.what) 1 0 in let s : sum_by f (list ++ e ∷ []) ≡ sum_by f list + (0 + cond (delivers e.what) 1 0) = sum_by-append f list (e ∷ []) in omega (arith, s, is)
+
+and_true : (b c : Bool) → c ≡ true → (b && c) ≡ b
+and_true true c is = is
+and_true false c is = refl
+
+and_false : (b c : Bool) → c ≡ false → (b && c) ≡ false
+and_false true c is = is
+and_false false c is = refl
+
+module _ (turns : ℕ) (root : GroupIs) (begun : Line) (n : ℕ) (alone : Type 0) where
+  -- others added entries
+  pub delivered_finds : (seen new : Line) (next made : ℕ) → Finds n alone seen new → HasDelivered turns root begun n seen next made → HasDelivered turns root begun n new next made
+  delivered_finds seen new next made f h = let sent = sent_later root seen new f.begins in record {
+    steps = each_finds n (Delivers turns root begun n) alone seen new f h.steps;
+    sent = omega (arith, h.sent, sent.longer);
+    passed = passed_alike (state_at root new) (λ k. is_passed k (begun ++ entries_of n seen)) (λ k. is_passed k (begun ++ entries_of n new)) next (λ k. ap (λ l. is_passed k (begun ++ l)) f.own)
+        (passed_later (state_at root seen) (λ k. is_passed k (begun ++ entries_of n seen)) next h.passed (state_at root new) (λ k is. sent.none k is) h.sent);
+    count = h.count ∙ ap (λ l. deliveries (begun ++ l)) (sym f.own);
+    within = h.within;
+  }
+
+  -- one more entry of its own
+  own_more : (seen new : Line) (what : Moment) → entries_of n new ≡ entries_of n seen ++ entry n what ∷ [] → begun ++ entries_of n new ≡ (begun ++ entries_of n seen) ++ entry n what ∷ []
+  own_more seen new what own = ap (λ l. begun ++ l) own ∙ sym (append_assoc begun (entries_of n seen) (entry n what ∷ []))
+
+  passed_more : (seen new : Line) (what : Moment) → entries_of n new ≡ entries_of n seen ++ entry n what ∷ [] → (k : ℕ) → is_passed k (begun ++ entries_of n new) ≡ (is_passed k (begun ++ entries_of n seen) || (passes_over k what || false))
+  passed_more seen new what own k = ap (is_passed k) (own_more seen new what own) ∙ passed_snoc k (begun ++ entries_of n seen) (entry n what)
+
+  -- it looked
+  pub delivered_look : (seen new : Line) (next made : ℕ) → Adds n alone seen (Look None) new → HasDelivered turns root begun n seen next made → HasDelivered turns root begun n new next made
+  delivered_look seen new next made a h = let sent = sent_later root seen new (begins_snoc seen a.found new _ a.finds.begins a.listed) in record {
+    steps = each_adds n (Delivers turns root begun n) alone seen new (Look None) a h.steps refl;
+    sent = omega (arith, h.sent, sent.longer);
+    passed = passed_alike (state_at root new) (λ k. is_passed k (begun ++ entries_of n seen)) (λ k. is_passed k (begun ++ entries_of n new)) next
+        (λ k. passed_more seen new (Look None) a.own k ∙ or_none (is_passed k (begun ++ entries_of n seen)) false refl)
+        (passed_later (state_at root seen) (λ k. is_passed k (begun ++ entries_of n seen)) next h.passed (state_at root new) (λ k is. sent.none k is) h.sent);
+    count = let c = ap deliveries (own_more seen new (Look None) a.own) ∙ deliveries_snoc (begun ++ entries_of n seen) (entry n (Look None)) 0 refl in omega (arith, c, h.count);
+    within = h.within;
+  }
+
+  -- it delivered the least packet from `next` on
+  module _ (seen new : Line) (next made k : ℕ) (answer : Answer) (h : HasDelivered turns root begun n seen next made) (s : Steps root n alone seen (Deliver k) answer new) (least : least_from next (state_at root s.adds.found) ≡ Some k) where
+    abbrev what : Moment
+    what = Happened (record { event = Deliver k; answer = answer })
+
+    there : HasDelivered turns root begun n s.adds.found next made
+    there = delivered_finds seen s.adds.found next made s.adds.finds h
+
+    found_it : IsFound (Rattle.pf_group.specs.Packets.is_left_in (state_at root s.adds.found)) next (length (state_at root s.adds.found).packets) k
+    found_it = least_found (state_at root s.adds.found) next k least
+
+    sent_on : OnlySent (state_at root s.adds.found).packets (state_at root new).packets
+    sent_on = sent_later root s.adds.found new (entry n what ∷ [], sym s.adds.listed)
+
+    own_on : entries_of n new ≡ entries_of n s.adds.found ++ entry n what ∷ []
+    own_on = s.adds.own ∙ ap (λ l. l ++ entry n what ∷ []) (sym s.adds.finds.own)
+
+    steps_on : made < turns → EachOf n (Delivers turns root begun n) new
+    steps_on few = each_adds n (Delivers turns root begun n) alone seen new what s.adds h.steps record {
+      k = k;
+      is = refl;
+      least = least_is (state_at root s.adds.found) (λ j. is_passed j (begun ++ entries_of n s.adds.found)) next there.passed ∙ least;
+      few = subst (λ m. m < turns) there.count few;
+    }
+
+    further : IsPassedUpTo (state_at root s.adds.found) (λ j. is_passed j (begun ++ entries_of n s.adds.found)) k
+    further = passed_further (state_at root s.adds.found) (λ j. is_passed j (begun ++ entries_of n s.adds.found)) next there.passed k found_it
+
+    pub delivered_one : made < turns → is_passed_over answer ≡ false → HasDelivered turns root begun n new k (made + 1)
+    delivered_one few not_over = record {
+      steps = steps_on few;
+      sent = omega (arith, found_it.under, sent_on.longer);
+      passed = passed_later (state_at root s.adds.found) (λ j. is_passed j (begun ++ entries_of n new)) k
+          (passed_alike (state_at root s.adds.found) (λ j. is_passed j (begun ++ entries_of n s.adds.found)) (λ j. is_passed j (begun ++ entries_of n new)) k
+          (λ j. passed_more s.adds.found new what own_on j ∙ or_none (is_passed j (begun ++ entries_of n s.adds.found)) (passes_over j what) (and_false (k == j) (is_passed_over answer) not_over)) further)
+          (state_at root new) (λ j is. sent_on.none j is) (omega (arith, found_it.under));
+      count = let c = ap deliveries (own_more s.adds.found new what own_on) ∙ deliveries_snoc (begun ++ entries_of n s.adds.found) (entry n what) 1 (ap (λ b. cond (not b) 1 0) not_over) in omega (arith, c, there.count);
+      within = omega (arith, few);
+    }
+
+    pub delivered_none : made < turns → is_passed_over answer ≡ true → HasDelivered turns root begun n new (k + 1) made
+    delivered_none few over = record {
+      steps = steps_on few;
+      sent = omega (arith, found_it.under, sent_on.longer);
+      passed = passed_later (state_at root s.adds.found) (λ j. is_passed j (begun ++ entries_of n new)) (k + 1)
+          (one_more_passed (state_at root s.adds.found) (λ j. is_passed j (begun ++ entries_of n s.adds.found)) k further (λ j. is_passed j (begun ++ entries_of n new))
+          (λ j. passed_more s.adds.found new what own_on j ∙ or_last (is_passed j (begun ++ entries_of n s.adds.found)) (passes_over j what) (k == j) (and_true (k == j) (is_passed_over answer) over)))
+          (state_at root new) (λ j is. sent_on.none j is) (omega (arith, found_it.under));
+      count = let c = ap deliveries (own_more s.adds.found new what own_on) ∙ deliveries_snoc (begun ++ entries_of n s.adds.found) (entry n what) 0 (ap (λ b. cond (not b) 1 0) over) in omega (arith, c, there.count);
+      within = h.within;
+    }
+
+    -- few packets are ever sent
+    pub delivered_low : IsHistory root new → k < 65536
+    delivered_low is = left_low root.setup (whole root s.adds.found) k
+        (legal_before root.setup (whole root s.adds.found) (whole root new) (record { rest = happenings (entry n what ∷ []); whole = whole_more root s.adds.found (entry n what ∷ []) new (sym s.adds.listed) }) is.legal) found_it.passes
+
+-- none was left
+pub looked_none : (root : GroupIs) (n : ℕ) (alone : Type 0) (seen : Line) (next : ℕ) (told : Option (ℕ × Answer)) (new : Line) → ((k : ℕ) (answer : Answer) → told ≡ Some (k, answer) → ⊥) → DeliversLeft root n alone seen next told new → Adds n alone seen (Look None) new
+looked_none root n alone seen next None new not_some looks = looks.adds
+looked_none root n alone seen next (Some (k, answer)) new not_some looks = absurd (not_some k answer refl)
+
+-- the switch, whose number is known by another name
+module _ {D : Type 0} {disk : Ghosts D} (group : SharedGroup D disk) (cell : LeaderCell) (turns : ℕ) (a b : Switch D disk) (at : IsSeatOf group b.seat) (same : number_of b.seat ≡ number_of a.seat) (begun : b.begun ≡ a.begun) (pass : IsPassOf cell b.pass × IsFirst b.pass) where
+  pub is_switch : HasDelivered turns (root_in group) (seen_by a.begun.value) (number_of a.seat) (seen_by b.seat) b.next b.made → IsSwitch group cell turns b
+  is_switch h = record {
+    seat = at;
+    did = subst (λ m. HasDelivered turns (root_in group) (seen_by b.begun.value) m (seen_by b.seat) b.next b.made) (sym same) (ap_begun h);
+    pass = pass;
+  }
+    where
+      ap_begun : HasDelivered turns (root_in group) (seen_by a.begun.value) (number_of a.seat) (seen_by b.seat) b.next b.made → HasDelivered turns (root_in group) (seen_by b.begun.value) (number_of a.seat) (seen_by b.seat) b.next b.made
+      ap_begun h = subst (λ l. HasDelivered turns (root_in group) l (number_of a.seat) (seen_by b.seat) b.next b.made) (ap (λ s. seen_by s.value) (sym begun)) h

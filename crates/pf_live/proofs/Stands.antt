@@ -1,0 +1,290 @@
+-- What became of a host by one call of the seat that submits.
+use Rattle.std.proofs.Common.{◌≡◌, ◌≢◌, ℕ, zero, suc, ◌+◌, ◌<◌, ◌≤◌, Bool, true, false, cond, ◌==◌, eqb, eq-eqb, eqb-true, List, [], ◌∷◌, ◌++◌, length, replicate, Option, Some, None, Result, Ok, Err, slice_get, append_assoc, append-nil, arith, refl, sym, ap, ◌∙◌, subst}
+use Rattle.std.proofs.lemmas.List.{length-replicate}
+use Rattle.pf_base.specs.Span.{IsWritable, Span}
+use Rattle.pf_entry.specs.Lists.{Every}
+use Rattle.pf_entry.specs.declared.ops.Op.{Op}
+use Rattle.pf_entry.specs.declared.ops.Op.TheVariants.{Write}
+use Rattle.pf_turn.specs.declared.log.Stamped.{Stamped}
+use Rattle.pf_turn.specs.Lists.{Begins, entries_of}
+use Rattle.pf_turn.specs.Own.{EachOf}
+use Rattle.pf_turn.proofs.Own.{each_longer, each_snoc}
+use Rattle.pf_protocol.specs.Servers.{Condition, Running, Stopped, Unformatted, Server}
+use Rattle.pf_protocol.specs.Answers.{IsSubmitted}
+use Rattle.pf_protocol.specs.Groups.{Acked, Group}
+use Rattle.pf_protocol.specs.declared.answers.Answer.{Answer}
+use Rattle.pf_protocol.specs.declared.answers.Answer.TheVariants as answers
+use Rattle.pf_protocol.specs.declared.events.Event.TheVariants.{Submit}
+use Rattle.pf_group.specs.declared.errors.Down.{Down}
+use Rattle.pf_group.specs.GroupIs.{GroupIs}
+use Rattle.pf_group.specs.Readers.{IsDown, OfRunning, TellsOf}
+use Rattle.pf_rings.specs.Passes.{taken_by}
+use Rattle.pf_rings.specs.declared.view.Request.{Request}
+use Rattle.pf_shared.specs.declared.moment.Moment.{Moment}
+use Rattle.pf_shared.specs.declared.moment.Moment.TheVariants.{Happened, Look}
+use Rattle.pf_shared.specs.Calls.{Adds, Finds, Steps}
+use Rattle.pf_shared.specs.Moments.{entry}
+use Rattle.pf_shared.specs.Since.{state_at}
+use Rattle.pf_shared.specs.Submitting.{is_acked}
+use Rattle.pf_live.specs.declared.plan.Plan.{Plan}
+use Rattle.pf_live.specs.declared.serving.Served.{Served}
+use Rattle.pf_live.specs.declared.serving.Standing.{Standing}
+use Rattle.pf_live.specs.declared.serving.Standing.TheVariants.{Asked, Placed, Settled}
+use Rattle.pf_live.specs.Deliveries.{Line}
+use Rattle.pf_live.specs.Submissions.{IsNextWrite, is_told, is_write_of, slot_at, slot_got, slot_with, slots_of}
+use Rattle.pf_live.specs.Submitters.{AllTold, IsCounted, IsFed, IsLast, Serves, ServesOn, Stands, Submits, SubmitsAlone, standing_after}
+use Rattle.pf_live.specs.Writes.{byte_of, first_requests, op_of, request_of}
+use Rattle.pf_live.proofs.Submissions.{all_told_later, alone_before, every_snoc, others_quiet, slots_quiet, slots_snoc, told_later}
+
+pub begins_on : (xs ys zs : Line) → Begins xs ys → Begins ys zs → Begins xs zs
+begins_on xs ys zs p q = (p.0 ++ q.0, sym (append_assoc xs p.0 q.0) ∙ (ap (λ l. l ++ q.0) p.1 ∙ q.1))
+
+-- the last members of two lists
+snoc_last : {A : Type 0} → (xs ys : List A) (x y : A) → xs ++ x ∷ [] ≡ ys ++ y ∷ [] → (xs ≡ ys) × (x ≡ y)
+snoc_last [] [] x y is = (refl, cc)
+snoc_last [] (z ∷ []) x y is = absurd cc
+snoc_last [] (z ∷ (w ∷ zs)) x y is = absurd cc
+snoc_last (z ∷ []) [] x y is = absurd cc
+snoc_last (z ∷ (w ∷ zs)) [] x y is = absurd cc
+snoc_last (z ∷ zs) (w ∷ ws) x y is = let tails : zs ++ x ∷ [] ≡ ws ++ y ∷ [] = cc in let heads : z ≡ w = cc in let both = snoc_last zs ws x y tails in (let t = both.0 in cc, both.1)
+
+-- others added entries
+module _ (root : GroupIs) (h : ℕ) (seen new : Line) (p : Begins seen new) (same : slots_of root h new ≡ slots_of root h seen) where
+  told_on : AllTold root seen (slots_of root h seen) → AllTold root new (slots_of root h new)
+  told_on t = subst (AllTold root new) (sym same) (all_told_later root seen new p (slots_of root h seen) t)
+
+  pub stands_on : (taken : ℕ) (standing : Standing) → Stands root h seen taken standing → Stands root h new taken standing
+  stands_on taken Settled s = (ap length same ∙ s.0, told_on s.1)
+  stands_on taken (Asked request) s = (ap (λ l. length l + 1) same ∙ s.0, told_on s.1)
+  stands_on taken (Placed term slot) s = (ap length same ∙ s.0, s.1, s.2 ∙ sym same, all_told_later root seen new p s.1 s.3)
+
+stands_as : (root : GroupIs) (h : ℕ) (list : Line) (a b : Served) → b.taken ≡ a.taken → b.standing ≡ a.standing → Stands root h list a.taken a.standing → Stands root h list b.taken b.standing
+stands_as root h list a b t st s = subst (λ x. Stands root h list x b.standing) (sym t) (subst (λ y. Stands root h list a.taken y) (sym st) s)
+
+-- the request that has no slot yet is the host's next one
+request_is : (plan : Plan) (h m : ℕ) (a : Served) (request : Request) → IsCounted plan a → IsFed plan.sectors h a → a.standing ≡ Asked request → m + 1 ≡ a.taken → request ≡ request_of plan.sectors h m
+request_is plan h m a request counted fed st count =
+    let last : IsLast (taken_by a.pass) (Asked request) = subst (IsLast (taken_by a.pass)) st counted.last in
+    let now : a.taken ≡ suc m = omega arith in
+    (snoc_last last.0 (first_requests plan.sectors h m) request (request_of plan.sectors h m) (last.1 ∙ (fed ∙ ap (first_requests plan.sectors h) now))).1
+
+abbrev pub asks : Request → Op
+asks request = Write request.range (replicate request.range.count (replicate 512 request.byte))
+
+-- and its op is that of the request
+asks_is : (sectors h m : ℕ) (request : Request) → request ≡ request_of sectors h m → asks request ≡ op_of (request_of sectors h m)
+asks_is sectors h m request is = ap asks is
+
+is_own : (h k : ℕ) → k ≡ h → (byte_of h == byte_of k) ≡ true
+is_own h k is = eq-eqb (byte_of h) (byte_of k) (omega arith)
+
+is_other : (h k : ℕ) → k ≢ h → (byte_of h == byte_of k) ≡ false
+is_other h k other = by (byte_of h == byte_of k) refl
+  where
+    by : (b : Bool) → (byte_of h == byte_of k) ≡ b → (byte_of h == byte_of k) ≡ false
+    by true e = absurd (other (let x = eqb-true (byte_of h) (byte_of k) e in omega arith))
+    by false e = e
+
+cond_none : {A : Type 0} → (b : Bool) (x : List A) → x ≡ [] → cond b x [] ≡ []
+cond_none true x is = is
+cond_none false x is = refl
+
+cond_true : {A : Type 0} → (b : Bool) (x y : A) → b ≡ true → cond b x y ≡ x
+cond_true true x y is = refl
+cond_true false x y is = absurd cc
+
+cond_false : {A : Type 0} → (b : Bool) (x y : A) → b ≡ false → cond b x y ≡ y
+cond_false true x y is = absurd cc
+cond_false false x y is = refl
+
+-- a server that does not run gives no slot
+down_slot : (o : Option Condition) (slot : ℕ) → ((s : Server) → o ≡ Some (Running s) → ⊥) → slot_at o slot ≡ []
+down_slot None slot down = refl
+down_slot (Some (Running s)) slot down = absurd (down s refl)
+down_slot (Some (Stopped life before after)) slot down = refl
+down_slot (Some Unformatted) slot down = refl
+
+-- what a submission that was told so got
+module _ (g : Group) (server : ℕ) (op : Op) (request : Request) where
+  abbrev GotAs : Answer → Standing → Type 0
+  GotAs answer Settled = ⊥
+  GotAs answer (Asked r) = (r ≡ request) × (slot_got g (Submit server op) answer ≡ [])
+  GotAs answer (Placed term slot) = slot_got g (Submit server op) answer ≡ record { term = term; slot = slot } ∷ []
+
+  got : (told : Result ℕ Down) (answer : Answer) → TellsOf g server told (λ term s. term ≡ s.durable.term) → GotAs answer (standing_after told answer request)
+  got (Ok term) (answers.Slot slot) t = ap (λ o. slot_at o slot) t.1 ∙ ap (λ x. record { term = x; slot = slot } ∷ []) (sym t.2)
+  got (Err down) (answers.Slot slot) t = (refl, down_slot (slice_get g.servers server) slot t)
+  got (Ok term) answers.Done t = (refl, refl)
+  got (Err down) answers.Done t = (refl, refl)
+  got (Ok term) (answers.Term x) t = (refl, refl)
+  got (Err down) (answers.Term x) t = (refl, refl)
+  got (Ok term) (answers.Read x) t = (refl, refl)
+  got (Err down) (answers.Read x) t = (refl, refl)
+  got (Ok term) (answers.Base x) t = (refl, refl)
+  got (Err down) (answers.Base x) t = (refl, refl)
+  got (Ok term) (answers.Job x) t = (refl, refl)
+  got (Err down) (answers.Job x) t = (refl, refl)
+  got (Ok term) (answers.Refused x) t = (refl, refl)
+  got (Err down) (answers.Refused x) t = (refl, refl)
+
+module _ (plan : Plan) (root : GroupIs) (n h : ℕ) (a b : Served) (alone : Type 0) (seen new : Line) where
+  fed_kept : b.pass ≡ a.pass → b.taken ≡ a.taken → IsFed plan.sectors h b → IsFed plan.sectors h a
+  fed_kept p t f = ap taken_by (sym p) ∙ (f ∙ ap (first_requests plan.sectors h) t)
+
+  module _ (f : Finds n alone seen new) (begun : Line) (begins : Begins begun seen) (al : SubmitsAlone n begun new) where
+    pub slots_found : (k : ℕ) → slots_of root k new ≡ slots_of root k seen
+    slots_found k = slots_quiet root k seen f.begins.0 new f.begins.1 (others_quiet n begun seen new begins f.begins f.own al)
+
+  -- it made no entry
+  pub serves_kept : Finds n alone seen new → b.pass ≡ a.pass → b.taken ≡ a.taken → b.standing ≡ a.standing → ServesOn plan root n h a seen b new
+  serves_kept f p t st begun begins = record {
+    begins = f.begins;
+    fed = fed_kept p t;
+    steps = λ al fed each s. each_longer n (Submits plan root) seen new f.begins f.own each;
+    stands = λ al fed s. stands_as root h new a b t st (stands_on root h seen new f.begins (slots_found f begun begins al h) a.taken a.standing s);
+    others = λ al fed s k other. slots_found f begun begins al k;
+  }
+
+  module _ (what : Moment) (adds : Adds n alone seen what new) (begun : Line) (begins : Begins begun seen) where
+    to_found : Begins begun adds.found
+    to_found = begins_on begun seen adds.found begins adds.finds.begins
+
+    found_on : Begins adds.found new
+    found_on = (entry n what ∷ [], sym adds.listed)
+
+    pub begins_new : Begins seen new
+    begins_new = begins_on seen adds.found new adds.finds.begins found_on
+
+    module _ (al : SubmitsAlone n begun new) where
+      alone_there : SubmitsAlone n begun adds.found
+      alone_there = alone_before n begun adds.found new to_found found_on al
+
+      slots_there : (k : ℕ) → slots_of root k adds.found ≡ slots_of root k seen
+      slots_there k = slots_quiet root k seen adds.finds.begins.0 adds.found adds.finds.begins.1 (others_quiet n begun seen adds.found begins adds.finds.begins adds.finds.own alone_there)
+
+      slots_own : (k : ℕ) → slots_of root k new ≡ slots_of root k seen ++ slot_with (state_at root adds.found) k what
+      slots_own k = ap (slots_of root k) adds.listed ∙ (slots_snoc root k adds.found (entry n what) ∙ ap (λ l. l ++ slot_with (state_at root adds.found) k what) (slots_there k))
+
+      no_more : (k : ℕ) → slot_with (state_at root adds.found) k what ≡ [] → slots_of root k new ≡ slots_of root k seen
+      no_more k none = slots_own k ∙ (ap (λ l. slots_of root k seen ++ l) none ∙ append-nil (slots_of root k seen))
+
+    each_on : EachOf n (Submits plan root) seen → Submits plan root adds.found what → EachOf n (Submits plan root) new
+    each_on each here = subst (EachOf n (Submits plan root)) (sym adds.listed) (each_snoc n (Submits plan root) adds.found what (each_longer n (Submits plan root) seen adds.found adds.finds.begins adds.finds.own each) here)
+
+  -- it looked
+  pub serves_look : Adds n alone seen (Look None) new → b.pass ≡ a.pass → b.taken ≡ a.taken → b.standing ≡ a.standing → ServesOn plan root n h a seen b new
+  serves_look adds p t st begun begins = record {
+    begins = begins_new (Look None) adds begun begins;
+    fed = fed_kept p t;
+    steps = λ al fed each s. each_on (Look None) adds begun begins each refl;
+    stands = λ al fed s. stands_as root h new a b t st (stands_on root h seen new (begins_new (Look None) adds begun begins) (no_more (Look None) adds begun begins al h refl) a.taken a.standing s);
+    others = λ al fed s k other. no_more (Look None) adds begun begins al k refl;
+  }
+
+  -- and found that its slot is acknowledged
+  pub serves_told : (term slot : ℕ) (adds : Adds n alone seen (Look None) new) → is_acked term slot (state_at root adds.found) ≡ true → a.standing ≡ Placed term slot → b.pass ≡ a.pass → b.taken ≡ a.taken → b.standing ≡ Settled → ServesOn plan root n h a seen b new
+  serves_told term slot adds told was p t st begun begins = record {
+    begins = begins_new (Look None) adds begun begins;
+    fed = fed_kept p t;
+    steps = λ al fed each s. each_on (Look None) adds begun begins each refl;
+    stands = λ al fed s. subst (λ y. Stands root h new b.taken y) (sym st) (settles al (subst (λ y. Stands root h seen a.taken y) was s));
+    others = λ al fed s k other. no_more (Look None) adds begun begins al k refl;
+  }
+    where
+      settles : SubmitsAlone n begun new → Stands root h seen a.taken (Placed term slot) → Stands root h new b.taken Settled
+      settles al s = let same = no_more (Look None) adds begun begins al h refl in (
+        ap length same ∙ (s.0 ∙ sym t),
+        subst (AllTold root new) (s.2 ∙ sym same) (every_snoc (λ (x : Acked). is_told (state_at root new) x ≡ true) s.1 (record { term = term; slot = slot })
+            (all_told_later root seen new (begins_new (Look None) adds begun begins) s.1 s.3)
+            (told_later root adds.found new (found_on (Look None) adds begun begins) (record { term = term; slot = slot }) told)),
+      )
+
+  -- it handed a request to a server
+  module _ (server : ℕ) (request : Request) (told : Result ℕ Down) (answer : Answer) (op : Op) (op_is : op ≡ asks request) (steps : Steps root n alone seen (Submit server op) answer new)
+      (tells : TellsOf (state_at root steps.adds.found) server told (λ term s. term ≡ s.durable.term)) (low : h < plan.hosts) (counted : IsCounted plan a) (was : a.standing ≡ Asked request)
+      (p : b.pass ≡ a.pass) (t : b.taken ≡ a.taken) (st : b.standing ≡ standing_after told answer request) where
+    abbrev what : Moment
+    what = Happened (record { event = Submit server op; answer = answer })
+
+    module _ (begun : Line) (begins : Begins begun seen) (al : SubmitsAlone n begun new) (fed : IsFed plan.sectors h b) (s : Stands root h seen a.taken (Asked request)) where
+      abbrev m : ℕ
+      m = length (slots_of root h seen)
+
+      op_next : op ≡ op_of (request_of plan.sectors h m)
+      op_next = op_is ∙ asks_is plan.sectors h m request (request_is plan h m a request counted (fed_kept p t fed) was s.0)
+
+      writes_as : (k : ℕ) → is_write_of k (Submit server op) ≡ (byte_of h == byte_of k)
+      writes_as k = ap (λ o. is_write_of k (Submit server o)) op_next
+
+      next_write : IsNextWrite plan root steps.adds.found (Submit server op)
+      next_write = let same = slots_there what steps.adds begun begins al h in record {
+        h = h;
+        low = low;
+        more = let c = ap length same in let few = counted.few in let is = s.0 in omega arith;
+        server = server;
+        is = ap (Submit server) (op_next ∙ ap (λ l. op_of (request_of plan.sectors h (length l))) (sym same));
+        acked = subst (AllTold root steps.adds.found) (sym same) (all_told_later root seen steps.adds.found steps.adds.finds.begins (slots_of root h seen) s.1);
+      }
+
+      none_else : (k : ℕ) → k ≢ h → slots_of root k new ≡ slots_of root k seen
+      none_else k other = no_more what steps.adds begun begins al k (cond_false (is_write_of k (Submit server op)) (slot_got (state_at root steps.adds.found) (Submit server op) answer) [] (writes_as k ∙ is_other h k other))
+
+      stands_then : (standing : Standing) → GotAs (state_at root steps.adds.found) server op request answer standing → Stands root h new a.taken standing
+      stands_then Settled g = absurd g
+      stands_then (Asked r) g = let same = no_more what steps.adds begun begins al h (cond_none (is_write_of h (Submit server op)) _ g.1) in
+          (ap (λ l. length l + 1) same ∙ s.0, told_on root h seen new (begins_new what steps.adds begun begins) same s.1)
+      stands_then (Placed term slot) g =
+          let more : slots_of root h seen ++ record { term = term; slot = slot } ∷ [] ≡ slots_of root h new
+          = ap (λ l. slots_of root h seen ++ l) (sym (cond_true (is_write_of h (Submit server op)) (slot_got (state_at root steps.adds.found) (Submit server op) answer) [] (writes_as h ∙ is_own h h refl) ∙ g)) ∙ sym (slots_own what steps.adds begun begins al h) in (
+            ap length (sym more) ∙ (length_snoc (slots_of root h seen) (record { term = term; slot = slot }) ∙ s.0),
+            slots_of root h seen,
+            more,
+            all_told_later root seen new (begins_new what steps.adds begun begins) (slots_of root h seen) s.1,
+          )
+        where
+          length_snoc : (xs : List Acked) (x : Acked) → length (xs ++ x ∷ []) ≡ length xs + 1
+          length_snoc xs x = Rattle.std.proofs.Common.length-append xs (x ∷ [])
+
+    pub serves_handed : ServesOn plan root n h a seen b new
+    serves_handed begun begins = record {
+      begins = begins_new what steps.adds begun begins;
+      fed = fed_kept p t;
+      steps = λ al fed each s. each_on what steps.adds begun begins each (next_write begun begins al fed (subst (λ y. Stands root h seen a.taken y) was s));
+      stands = λ al fed s. subst (λ x. Stands root h new x b.standing) (sym t) (subst (λ y. Stands root h new a.taken y) (sym st)
+          (stands_then begun begins al fed (subst (λ y. Stands root h seen a.taken y) was s) (standing_after told answer request) (got (state_at root steps.adds.found) server op request told answer tells)));
+      others = λ al fed s k other. none_else begun begins al fed (subst (λ y. Stands root h seen a.taken y) was s) k other;
+    }
+
+  -- it took the host's next request
+  pub serves_taken : (request : Request) → new ≡ seen → a.standing ≡ Settled → taken_by b.pass ≡ taken_by a.pass ++ request ∷ [] → b.taken ≡ a.taken + 1 → b.standing ≡ Asked request → ServesOn plan root n h a seen b new
+  serves_taken request is was p t st begun begins = record {
+    begins = ([], append-nil seen ∙ sym is);
+    fed = λ f. let now : b.taken ≡ suc a.taken = omega arith in (snoc_last (taken_by a.pass) (first_requests plan.sectors h a.taken) request (request_of plan.sectors h a.taken) (sym p ∙ (f ∙ ap (first_requests plan.sectors h) now))).0;
+    steps = λ al fed each s. subst (EachOf n (Submits plan root)) (sym is) each;
+    stands = λ al fed s. subst (λ y. Stands root h new b.taken y) (sym st) (asked (subst (λ y. Stands root h seen a.taken y) was s));
+    others = λ al fed s k other. ap (slots_of root k) is;
+  }
+    where
+      asked : Stands root h seen a.taken Settled → Stands root h new b.taken (Asked request)
+      asked s = subst (λ l. Stands root h l b.taken (Asked request)) (sym is) (omega (arith, s.0, t), s.1)
+
+all_alike : {X : Type 0} → (P : X → Type 0) (n : ℕ) (x : X) → P x → Every P (replicate n x)
+all_alike P zero x is = tt
+all_alike P (suc n) x is = (is, all_alike P n x is)
+
+-- a write of sectors that are all alike may be submitted
+pub may_submit : (range : Span) (byte : ℕ) (payload : List (List ℕ)) → IsWritable range.first range.count → payload ≡ replicate range.count (replicate 512 byte) → IsSubmitted (Write range payload)
+may_submit range byte payload writable is = (
+  writable,
+  ap length is ∙ length-replicate range.count (replicate 512 byte),
+  subst (Every (λ (bytes : List ℕ). length bytes ≡ 512)) (sym is) (all_alike (λ (bytes : List ℕ). length bytes ≡ 512) range.count (replicate 512 byte) (length-replicate 512 byte)),
+)
+
+abbrev spanned : ℕ → ℕ → Span
+spanned first count = record { first = first; count = count }
+
+pub span_as : (range : Span) (first count : ℕ) → first ≡ range.first → count ≡ range.count → record { first = first; count = count } ≡ range
+span_as range first count is also = ap (λ x. spanned x count) is ∙ ap (spanned range.first) also
+
+pub asks_as : (range : Span) (request : Request) (payload : List (List ℕ)) → range ≡ request.range → payload ≡ replicate range.count (replicate 512 request.byte) → Write range payload ≡ asks request
+asks_as range request payload is bytes = ap (Write range) bytes ∙ ap (λ (r : Span). Write r (replicate r.count (replicate 512 request.byte))) is

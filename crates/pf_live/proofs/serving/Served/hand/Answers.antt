@@ -1,0 +1,23 @@
+use Rattle.std.proofs.Common.{◌≡◌, ℕ, List, replicate, refl, sym, ap, subst, ◌∙◌}
+use Rattle.pf_base.specs.Span.{IsWritable, Span}
+use Rattle.pf_entry.specs.declared.ops.Op.TheVariants.{Write}
+use Rattle.pf_shared.specs.Seats.{IsAlone, number_of, root_in, seen_by}
+use Rattle.pf_live.proofs.Stands.{asks_as, may_submit, serves_handed, serves_kept, span_as}
+use Rattle.pf_live.proofs.serving.Served.hand.Goals as goal
+
+pub submit-requires-clause-write : goal.submit-requires-clause-write
+submit-requires-clause-write g c = let range = c.in-Ok.ensures.range in
+    may_submit c.in-Ok.range c.args.request.byte c.in_ok-payload.payload (subst (λ (s : Span). IsWritable s.first s.count) (sym range) (c.in-Ok.ensures.exact.0 refl))
+    (c.in_ok-payload.ensures ∙ (c.in_ok-data.ensures ∙ ap (λ n. replicate n (replicate 512 c.args.request.byte)) c.count-2.ensures))
+
+pub returns-in_err-term-clause-serves : goal.returns-in_err-term-clause-serves
+returns-in_err-term-clause-serves g c = let a = c.args.self.now in let s = c.args.seat.now in let line = c.args.line.now in
+    serves_kept line.plan (root_in line.group) (number_of s) c.args.host a a (IsAlone s) (seen_by s) (seen_by c.submit.new.seat) c.in_err-term.ensures.err refl refl refl
+
+pub returns-clause-serves : goal.returns-clause-serves
+returns-clause-serves g c = let a = c.args.self.now in let s = c.args.seat.now in let line = c.args.line.now in let request = c.args.request in let h = c.in_ok-term.ensures.submits in
+    serves_handed line.plan (root_in line.group) (number_of s) c.args.host a (record a { standing = c.standing_after-self.result; moves = c.args.moves }) (IsAlone s) (seen_by s) (seen_by c.submit.new.seat)
+    c.args.server request c.in_ok-term.term c.in_ok-term.answer (Write c.in-Ok.range c.in_ok-payload.payload)
+    (asks_as c.in-Ok.range request c.in_ok-payload.payload (c.in-Ok.ensures.range ∙ span_as request.range c.first.result c.count.result c.first.ensures c.count.ensures)
+    (c.in_ok-payload.ensures ∙ (c.in_ok-data.ensures ∙ ap (λ n. replicate n (replicate 512 request.byte)) c.count-2.ensures)))
+    h.0 h.1 c.requires.host c.requires.counted c.requires.asked refl refl c.standing_after-self.ensures

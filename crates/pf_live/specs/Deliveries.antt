@@ -1,0 +1,48 @@
+-- Deliveries of a live line, and the packets that are left.
+use Rattle.std.specs.Prelude.{◌≡◌, ℕ, ◌<◌, Bool, true, false, not, ◌&&◌, ◌==◌, if◌then◌else◌, List, find, length, Option, Some, sum_by}
+use Rattle.std.specs.List.{list_any, range_with_len}
+use Rattle.pf_turn.specs.declared.log.Stamped.{Stamped}
+use Rattle.pf_protocol.specs.Groups.{Group}
+use Rattle.pf_protocol.specs.declared.events.Event.{Event}
+use Rattle.pf_protocol.specs.declared.events.Event.TheVariants.{Deliver}
+use Rattle.pf_group.specs.Packets.{is_left_in, is_passed_over}
+use Rattle.pf_shared.specs.declared.moment.Moment.{Moment}
+use Rattle.pf_shared.specs.declared.moment.Moment.TheVariants.{Happened, Look}
+
+abbrev pub Line : Type 0
+Line = List (Stamped Moment)
+
+abbrev pub is_delivery : Event → Bool
+is_delivery (Deliver k) = true
+is_delivery event = false
+
+abbrev pub is_delivery_of : ℕ → Event → Bool
+is_delivery_of k (Deliver j) = j == k
+is_delivery_of k event = false
+
+-- a delivery that was refused for want of room passes its packet over
+abbrev pub passes_over : ℕ → Moment → Bool
+passes_over k (Happened h) = is_delivery_of k h.event && is_passed_over h.answer
+passes_over k (Look read) = false
+
+abbrev pub is_passed : ℕ → Line → Bool
+is_passed k list = list_any (λ (e : Stamped Moment). passes_over k e.what) list
+
+-- and does not count
+abbrev pub delivers : Moment → Bool
+delivers (Happened h) = is_delivery h.event && not (is_passed_over h.answer)
+delivers (Look read) = false
+
+abbrev pub deliveries : Line → ℕ
+deliveries list = sum_by (λ (e : Stamped Moment). if delivers e.what then 1 else 0) list
+
+-- the least packet that is left in the group and was not passed over in the list
+abbrev pub least_left : Group → Line → Option ℕ
+least_left g list = find (λ k. is_left_in g k && not (is_passed k list)) (range_with_len 0 (length g.packets))
+
+-- the least packet left is delivered, after fewer than so many deliveries in the list
+pub record IsNextDelivery (turns : ℕ) (g : Group) (list : Line) (event : Event) : Type 0 where
+  pub k : ℕ
+  pub is : event ≡ Deliver k
+  pub least : least_left g list ≡ Some k
+  pub few : deliveries list < turns

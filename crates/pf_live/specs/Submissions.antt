@@ -1,0 +1,60 @@
+-- Submissions of a live line, and the slots that the writes of its hosts got.
+use Rattle.std.specs.Prelude.{◌≡◌, ℕ, ◌<◌, Bool, true, false, ◌==◌, if◌then◌else◌, List, [], ◌∷◌, ◌++◌, length, Option, Some, slice_get, slice_index_or, sum_by}
+use Rattle.pf_entry.specs.Lists.{Every}
+use Rattle.pf_entry.specs.declared.ops.Op.TheVariants.{Write}
+use Rattle.pf_protocol.specs.Servers.{Condition, Running}
+use Rattle.pf_protocol.specs.Groups.{Acked, Group}
+use Rattle.pf_protocol.specs.declared.answers.Answer.{Answer}
+use Rattle.pf_protocol.specs.declared.answers.Answer.TheVariants.{Slot}
+use Rattle.pf_protocol.specs.declared.events.Event.{Event}
+use Rattle.pf_protocol.specs.declared.events.Event.TheVariants.{Submit}
+use Rattle.pf_group.specs.GroupIs.{GroupIs}
+use Rattle.pf_shared.specs.declared.moment.Moment.{Moment}
+use Rattle.pf_shared.specs.declared.moment.Moment.TheVariants.{Happened, Look}
+use Rattle.pf_shared.specs.Since.{state_at}
+use Rattle.pf_shared.specs.Submitting.{is_acked}
+use Rattle.pf_live.specs.declared.plan.Plan.{Plan}
+use Rattle.pf_live.specs.Deliveries.{Line}
+use Rattle.pf_live.specs.Writes.{byte_of, op_of, request_of}
+
+-- a write is known by its byte as one of the host's
+abbrev pub is_write_of : (h : ℕ) → Event → Bool
+is_write_of h (Submit server (Write range payload)) = slice_index_or (slice_index_or payload 0 []) 0 0 == byte_of h
+is_write_of h event = false
+
+abbrev pub slot_at : Option Condition → (slot : ℕ) → List Acked
+slot_at (Some (Running s)) slot = record { term = s.durable.term; slot = slot } ∷ []
+slot_at condition slot = []
+
+-- the slot that a submission got, in the term that its server had
+abbrev pub slot_got : Group → Event → Answer → List Acked
+slot_got g (Submit server op) (Slot slot) = slot_at (slice_get g.servers server) slot
+slot_got g event answer = []
+
+abbrev pub slot_with : Group → (h : ℕ) → Moment → List Acked
+slot_with g h (Happened x) = if is_write_of h x.event then slot_got g x.event x.answer else []
+slot_with g h (Look read) = []
+
+abbrev pub slots_after : GroupIs → (h : ℕ) → (before list : Line) → List Acked
+slots_after root h before [] = []
+slots_after root h before (e ∷ es) = slot_with (state_at root before) h e.what ++ slots_after root h (before ++ e ∷ []) es
+
+-- the slots that the writes of host h got, in order
+abbrev pub slots_of : GroupIs → (h : ℕ) → Line → List Acked
+slots_of root h list = slots_after root h [] list
+
+abbrev pub is_told : Group → Acked → Bool
+is_told g a = is_acked a.term a.slot g
+
+-- how many writes of the host were acknowledged
+abbrev pub acked_of : GroupIs → (h : ℕ) → Line → ℕ
+acked_of root h list = sum_by (λ a. if is_told (state_at root list) a then 1 else 0) (slots_of root h list)
+
+-- A host's next write is submitted, once each slot that its writes got was acknowledged. So one that was refused or halted comes again
+pub record IsNextWrite (plan : Plan) (root : GroupIs) (list : Line) (event : Event) : Type 0 where
+  pub h : ℕ
+  pub low : h < plan.hosts
+  pub more : length (slots_of root h list) < plan.writes
+  pub server : ℕ
+  pub is : event ≡ Submit server (op_of (request_of plan.sectors h (length (slots_of root h list))))
+  pub acked : Every (λ a. is_told (state_at root list) a ≡ true) (slots_of root h list)

@@ -1,0 +1,120 @@
+-- The worker that submits, and what it keeps.
+use Rattle.std.specs.Prelude.{◌≡◌, ◌≢◌, ℕ, ◌+◌, ◌<◌, ◌≤◌, Bool, true, false, List, [], ◌∷◌, ◌++◌, length, None, Some, Result, Ok, slice_get}
+use Rattle.pf_entry.specs.Lists.{Every}
+use Rattle.pf_turn.specs.Lists.{Begins}
+use Rattle.pf_turn.specs.Own.{EachOf}
+use Rattle.pf_disk.specs.declared.disk.Disk.{Ghosts}
+use Rattle.pf_protocol.specs.Groups.{Acked}
+use Rattle.pf_protocol.specs.declared.answers.Answer.{Answer}
+use Rattle.pf_protocol.specs.declared.answers.Answer.TheVariants.{Slot as SlotIs}
+use Rattle.pf_protocol.specs.declared.events.Event.{Event}
+use Rattle.pf_protocol.specs.declared.events.Event.TheVariants.{Submit}
+use Rattle.pf_group.specs.declared.errors.Down.{Down}
+use Rattle.pf_group.specs.GroupIs.{GroupIs}
+use Rattle.pf_leadercell.specs.Passes.{IsPassOf}
+use Rattle.pf_leadercell.specs.declared.cell.LeaderCell.{LeaderCell}
+use Rattle.pf_rings.specs.Passes.{IsServerOf, taken_by}
+use Rattle.pf_rings.specs.declared.ring.Ring.{Ring}
+use Rattle.pf_rings.specs.declared.view.Request.{Request}
+use Rattle.pf_shared.specs.declared.moment.Moment.{Moment}
+use Rattle.pf_shared.specs.declared.moment.Moment.TheVariants.{Happened, Look}
+use Rattle.pf_shared.specs.declared.parts.SharedGroup.{SharedGroup}
+use Rattle.pf_shared.specs.Seats.{IsSameSeat, IsSeatOf, number_of, root_in, seen_by}
+use Rattle.pf_shared.specs.Since.{rest_after, state_at}
+use Rattle.pf_live.specs.declared.plan.Plan.{Plan}
+use Rattle.pf_live.specs.declared.serving.Served.{Served}
+use Rattle.pf_live.specs.declared.serving.Standing.{Standing}
+use Rattle.pf_live.specs.declared.serving.Standing.TheVariants.{Asked, Placed, Settled}
+use Rattle.pf_live.specs.declared.submitting.Submitter.{Submitter}
+use Rattle.pf_live.specs.Deliveries.{Line}
+use Rattle.pf_live.specs.Submissions.{IsNextWrite, is_told, slots_of}
+use Rattle.pf_live.specs.Writes.{first_requests}
+
+abbrev pub is_submit : Event → Bool
+is_submit (Submit server op) = true
+is_submit event = false
+
+abbrev pub submits : Moment → Bool
+submits (Happened h) = is_submit h.event
+submits (Look read) = false
+
+-- since this list began, no other seat has submitted
+abbrev pub SubmitsAlone : (n : ℕ) (begun list : Line) → Type 0
+SubmitsAlone n begun list = Every (λ e. e.seat ≢ n → submits e.what ≡ false) (rest_after begun list)
+
+-- the next write of a host is submitted. Looks take no answer
+abbrev pub Submits : Plan → GroupIs → Line → Moment → Type 0
+Submits plan root before (Happened h) = IsNextWrite plan root before h.event
+Submits plan root before (Look read) = read ≡ None
+
+-- each of these slots is acknowledged
+abbrev pub AllTold : GroupIs → Line → List Acked → Type 0
+AllTold root list slots = Every (λ a. is_told (state_at root list) a ≡ true) slots
+
+-- how the last one stands of so many requests of the host that were taken
+abbrev pub Stands : GroupIs → (h : ℕ) → Line → (taken : ℕ) → Standing → Type 0
+Stands root h list taken Settled = (length (slots_of root h list) ≡ taken) × AllTold root list (slots_of root h list)
+Stands root h list taken (Asked request) = (length (slots_of root h list) + 1 ≡ taken) × AllTold root list (slots_of root h list)
+Stands root h list taken (Placed term slot) = (length (slots_of root h list) ≡ taken) × (front : List Acked) × (front ++ record { term = term; slot = slot } ∷ [] ≡ slots_of root h list) × AllTold root list front
+
+-- how a request stands once it was handed to a server that had this term
+abbrev pub standing_after : Result ℕ Down → Answer → Request → Standing
+standing_after (Ok term) (SlotIs slot) request = Placed term slot
+standing_after told answer request = Asked request
+
+-- the requests that were taken are the host's first ones
+abbrev pub IsFed : (sectors h : ℕ) → Served → Type 0
+IsFed sectors h a = taken_by a.pass ≡ first_requests sectors h a.taken
+
+-- one that has no slot yet is the last one that was taken
+abbrev pub IsLast : List Request → Standing → Type 0
+IsLast taken (Asked request) = (front : List Request) × (front ++ request ∷ [] ≡ taken)
+IsLast taken standing = Unit {0}
+
+pub record IsCounted (plan : Plan) (a : Served) : Type 0 where
+  pub count : length (taken_by a.pass) ≡ a.taken
+  pub few : a.taken ≤ plan.writes
+  pub last : IsLast (taken_by a.pass) a.standing
+
+pub record IsServed (plan : Plan) (ring : Ring) (a : Served) : Type 0 where
+  pub pass : IsServerOf ring a.pass
+  pub counted : IsCounted plan a
+
+-- its ring is the one of its number
+pub record IsServedIn (plan : Plan) (rings : List Ring) (h : ℕ) (a : Served) : Type 0 where
+  pub ring : Ring
+  pub there : slice_get rings h ≡ Some ring
+  pub is : IsServed plan ring a
+
+-- What became of host h, as the seat went on from what it had seen. Where no other seat submitted, and the requests are the host's first
+-- ones, what was submitted was the next write each time
+pub record Serves (plan : Plan) (root : GroupIs) (n : ℕ) (begun : Line) (h : ℕ) (a : Served) (seen : Line) (b : Served) (later : Line) : Type 0 where
+  pub begins : Begins seen later
+  pub fed : IsFed plan.sectors h b → IsFed plan.sectors h a
+  pub steps : SubmitsAlone n begun later → IsFed plan.sectors h b → EachOf n (Submits plan root) seen → Stands root h seen a.taken a.standing → EachOf n (Submits plan root) later
+  pub stands : SubmitsAlone n begun later → IsFed plan.sectors h b → Stands root h seen a.taken a.standing → Stands root h later b.taken b.standing
+  pub others : SubmitsAlone n begun later → IsFed plan.sectors h b → Stands root h seen a.taken a.standing → (k : ℕ) → k ≢ h → slots_of root k later ≡ slots_of root k seen
+
+-- whatever the list was from which on it submits alone
+abbrev pub ServesOn : Plan → GroupIs → (n h : ℕ) → Served → (seen : Line) → Served → (later : Line) → Type 0
+ServesOn plan root n h a seen b later = (begun : Line) → Begins begun seen → Serves plan root n begun h a seen b later
+
+abbrev pub AllFed : Plan → List Served → Type 0
+AllFed plan served = (h : ℕ) (a : Served) → slice_get served h ≡ Some a → IsFed plan.sectors h a
+
+abbrev pub AllStand : GroupIs → Line → List Served → Type 0
+AllStand root list served = (h : ℕ) (a : Served) → slice_get served h ≡ Some a → Stands root h list a.taken a.standing
+
+module _ {D : Type 0} {disk : Ghosts D} where
+  pub record IsSubmitter (group : SharedGroup D disk) (cell : LeaderCell) (plan : Plan) (rings : List Ring) (a : Submitter D disk) : Type 0 where
+    pub seat : IsSeatOf group a.seat
+    pub pass : IsPassOf cell a.pass
+    pub since : Begins (seen_by a.begun.value) (seen_by a.seat)
+    pub hosts : length a.served.items ≡ plan.hosts
+    pub each : (h : ℕ) (s : Served) → slice_get a.served.items h ≡ Some s → IsServedIn plan rings h s
+    pub steps : SubmitsAlone (number_of a.seat) (seen_by a.begun.value) (seen_by a.seat) → AllFed plan a.served.items → EachOf (number_of a.seat) (Submits plan (root_in group)) (seen_by a.seat)
+    pub stand : SubmitsAlone (number_of a.seat) (seen_by a.begun.value) (seen_by a.seat) → AllFed plan a.served.items → AllStand (root_in group) (seen_by a.seat) a.served.items
+
+  -- nothing changes but what it has seen and done
+  abbrev pub IsSameSubmitter : Submitter D disk → Submitter D disk → Type 0
+  IsSameSubmitter x y = IsSameSeat x.seat y.seat × (y.begun ≡ x.begun)

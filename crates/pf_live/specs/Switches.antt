@@ -1,0 +1,40 @@
+-- The worker that delivers packets, and what it keeps.
+use Rattle.std.specs.Prelude.{◌≡◌, ℕ, ◌≤◌, ◌++◌, None, length}
+use Rattle.pf_turn.specs.Lists.{entries_of}
+use Rattle.pf_turn.specs.Own.{EachOf}
+use Rattle.pf_disk.specs.declared.disk.Disk.{Ghosts}
+use Rattle.pf_group.specs.GroupIs.{GroupIs}
+use Rattle.pf_group.specs.Packets.{IsPassedUpTo}
+use Rattle.pf_leadercell.specs.Passes.{IsFirst, IsPassOf}
+use Rattle.pf_leadercell.specs.declared.cell.LeaderCell.{LeaderCell}
+use Rattle.pf_shared.specs.declared.moment.Moment.{Moment}
+use Rattle.pf_shared.specs.declared.moment.Moment.TheVariants.{Happened, Look}
+use Rattle.pf_shared.specs.declared.parts.SharedGroup.{SharedGroup}
+use Rattle.pf_shared.specs.Seats.{IsSameSeat, IsSeatOf, number_of, root_in, seen_by}
+use Rattle.pf_shared.specs.Since.{state_at}
+use Rattle.pf_live.specs.declared.switching.Switch.{Switch}
+use Rattle.pf_live.specs.Deliveries.{IsNextDelivery, Line, deliveries, is_passed}
+
+-- seat n, which began after this list, delivers the least packet left: of the deliveries it counts those that stood there and its own.
+-- Its looks take no answer
+abbrev pub Delivers : (turns : ℕ) (root : GroupIs) (begun : Line) (n : ℕ) → Line → Moment → Type 0
+Delivers turns root begun n before (Happened h) = IsNextDelivery turns (state_at root before) (begun ++ entries_of n before) h.event
+Delivers turns root begun n before (Look read) = read ≡ None
+
+-- What it has done: of the packets below `next` those that are left were passed over, and it counts so many deliveries
+pub record HasDelivered (turns : ℕ) (root : GroupIs) (begun : Line) (n : ℕ) (seen : Line) (next made : ℕ) : Type 0 where
+  pub steps : EachOf n (Delivers turns root begun n) seen
+  pub sent : next ≤ length (state_at root seen).packets
+  pub passed : IsPassedUpTo (state_at root seen) (λ k. is_passed k (begun ++ entries_of n seen)) next
+  pub count : made ≡ deliveries (begun ++ entries_of n seen)
+  pub within : made ≤ turns
+
+module _ {D : Type 0} {disk : Ghosts D} where
+  pub record IsSwitch (group : SharedGroup D disk) (cell : LeaderCell) (turns : ℕ) (a : Switch D disk) : Type 0 where
+    pub seat : IsSeatOf group a.seat
+    pub did : HasDelivered turns (root_in group) (seen_by a.begun.value) (number_of a.seat) (seen_by a.seat) a.next a.made
+    pub pass : IsPassOf cell a.pass × IsFirst a.pass
+
+  -- nothing changes but what it has seen and done
+  abbrev pub IsSameSwitch : Switch D disk → Switch D disk → Type 0
+  IsSameSwitch x y = IsSameSeat x.seat y.seat × (y.begun ≡ x.begun)

@@ -1,0 +1,37 @@
+-- What the hosts of a live line write.
+use Rattle.std.specs.Prelude.{◌≡◌, ℕ, zero, suc, ◌+◌, ◌%◌, ◌<◌, ◌≤◌, List, [], ◌∷◌, ◌++◌, Some, replicate, slice_get}
+use Rattle.pf_entry.specs.declared.ops.Op.{Op}
+use Rattle.pf_entry.specs.declared.ops.Op.TheVariants.{Write}
+use Rattle.pf_rings.specs.Passes.{IsHostOf, put_by}
+use Rattle.pf_rings.specs.declared.ring.Ring.{Ring}
+use Rattle.pf_rings.specs.declared.view.Request.{Request}
+use Rattle.pf_live.specs.declared.plan.Plan.{Plan}
+use Rattle.pf_live.specs.declared.hosting.Host.{Host}
+
+abbrev pub byte_of : (h : ℕ) → ℕ
+byte_of h = 65 + h
+
+-- write j of host h: one sector, filled with the host's byte
+abbrev pub request_of : (sectors h j : ℕ) → Request
+request_of sectors h j = record { host = h; number = j; range = record { first = (h + j) % sectors; count = 1 }; byte = byte_of h }
+
+abbrev pub op_of : Request → Op
+op_of request = Write request.range (replicate 512 request.byte ∷ [])
+
+-- the first n of them, in order
+abbrev pub first_requests : (sectors h n : ℕ) → List Request
+first_requests sectors h zero = []
+first_requests sectors h (suc n) = first_requests sectors h n ++ request_of sectors h n ∷ []
+
+-- a host put its first `next` requests into its ring, and no others
+pub record IsHost (plan : Plan) (ring : Ring) (a : Host) : Type 0 where
+  pub pass : IsHostOf ring a.pass
+  pub host : a.host < plan.hosts
+  pub put : put_by a.pass ≡ first_requests plan.sectors a.host a.next
+  pub within : a.next ≤ plan.writes
+
+-- its ring is one of these
+pub record IsHostIn (plan : Plan) (rings : List Ring) (a : Host) : Type 0 where
+  pub ring : Ring
+  pub there : slice_get rings a.host ≡ Some ring
+  pub is : IsHost plan ring a

@@ -1,0 +1,237 @@
+//! A host, as the worker that submits knows it.
+ghost use Rattle.std.specs.Prelude.{◌≡◌, ℕ, ◌<◌, OnErr};
+ghost use Rattle.pf_turn.specs.Lists.{Begins};
+ghost use Rattle.pf_group.specs.GroupIs.{GroupIs};
+ghost use Rattle.pf_leadercell.specs.Passes.{IsPassOf};
+ghost use Rattle.pf_shared.specs.Seats.{IsSameSeat, IsSeatOf, number_of, root_in, seen_by};
+ghost use Rattle.pf_live.specs.declared.serving.Standing.TheVariants.{Asked, Placed, Settled};
+ghost use Rattle.pf_live.specs.Deliveries.{Line as Entries};
+ghost use Rattle.pf_live.specs.Submitters.{IsCounted, IsServed, IsServedIn, ServesOn, standing_after};
+
+use crate::line::Line;
+use crate::plan::Plan;
+use pf_base::{Data, NoMemory, Payload, Range, Server, Slot, Term};
+use pf_disk::Disk;
+use pf_filling::Gate;
+use pf_group::Down;
+use pf_leadercell::LeaderPass;
+use pf_protocol::Answer;
+use pf_rings::{Request, Ring, RingPass};
+use pf_shared::GroupSeat;
+use std::sync::Wait;
+
+/// The number that the gate is told of the worker that submits.
+const SERVER: u32 = 200;
+
+/// How the request stands that was taken from a host last.
+#[derive(Clone, Copy, Debug, PartialEq, Eq)]
+pub enum Standing {
+    /// It was acknowledged, or none was taken yet.
+    Settled,
+    /// It has no slot.
+    Asked(Request),
+    /// It has this slot, in this term, and was not acknowledged yet.
+    Placed { term: Term, slot: Slot },
+}
+
+/// How a request stands once it was handed to a server that had this term.
+fn standing_after(term: Result<Term, Down>, answer: &Answer, request: Request) -> Standing
+    ensures { result ≡ standing_after term answer.now request }
+{
+    match term {
+        Ok(term) => match answer {
+            Answer::Slot(slot) => Standing::Placed { term, slot: *slot },
+            _ => Standing::Asked(request),
+        },
+        Err(Down) => Standing::Asked(request),
+    }
+}
+
+/// A host, as the worker that submits knows it.
+#[derive(Drop)]
+pub struct Served {
+    /// The server thread's pass of the host's ring.
+    pub(crate) pass: RingPass,
+    /// How many requests were taken.
+    pub(crate) taken: u32,
+    pub(crate) standing: Standing,
+    /// How often the group had been changed when the last request was handed to a server, or its slot was looked for.
+    pub(crate) moves: u64,
+}
+
+impl Served {
+    /// Whether nothing is to be done for the host unless it puts a request or the group is changed once more, and no request is to come.
+    pub(crate) fn is_stuck(&self, writes: u32, moves: u64) -> bool {
+        match self.standing {
+            Standing::Settled => self.taken >= writes,
+            Standing::Asked(_) | Standing::Placed { .. } => self.moves == moves,
+        }
+    }
+
+    /// Takes the host's next request, if its ring has one. Whether it did.
+    fn take<R: Wait>(&mut self, rt: &R, ring: &Ring, plan: &Plan) -> bool
+        requires is { IsServed plan.now ring.now self.old }
+        requires settled { self.old.standing ≡ Settled }
+        requires more { self.old.taken < plan.now.writes }
+        ensures is { IsServed plan.now ring.now self.new }
+        ensures serves { (root : GroupIs) (n h : ℕ) (seen : Entries) → ServesOn plan.now root n h self.old seen self.new seen }
+    {
+        match ring.take(rt, &mut self.pass) {
+            Ok(request) => {
+                self.taken += 1;
+                self.standing = Standing::Asked(request);
+                self.moves = u64::MAX;
+                true
+            }
+            Err(_) => false,
+        }
+    }
+
+    /// Takes the next request of this host, if it has more and its ring has one. Whether it did.
+    fn take_next<R: Wait, D: Disk, G>(&mut self, rt: &R, line: &Line<D, G>, host: u32) -> bool
+        requires is { IsServedIn line.now.plan line.now.rings.items host self.old }
+        requires settled { self.old.standing ≡ Settled }
+        ensures is { IsServedIn line.now.plan line.now.rings.items host self.new }
+        ensures serves { (root : GroupIs) (n : ℕ) (seen : Entries) → ServesOn line.now.plan root n host self.old seen self.new seen }
+    {
+        if self.taken >= line.plan.writes {
+            return false;
+        }
+        let Some(ring) = line.rings.get(host as usize) else {
+            return false;
+        };
+        self.take(rt, ring, &line.plan)
+    }
+
+    /// Looks whether the slot of its last request is acknowledged, if the group was changed since it last did, and tells the host. Whether
+    /// it is. Where memory runs out (`NoMemory`, 1) it is not known.
+    fn look<R: Wait, D: Disk + Drop, G>(
+        &mut self,
+        rt: &R,
+        line: &Line<D, G>,
+        seat: &mut GroupSeat<D>,
+        host: u32,
+        term: Term,
+        slot: Slot,
+    ) -> Result<bool, NoMemory>
+        requires seat { IsSeatOf line.now.group seat.old }
+        requires counted { IsCounted line.now.plan self.old }
+        requires placed { self.old.standing ≡ Placed term slot }
+        ensures seat { IsSeatOf line.now.group seat.new × IsSameSeat seat.old seat.new }
+        ensures pass { self.new.pass ≡ self.old.pass }
+        ensures counted { IsCounted line.now.plan self.new }
+        ensures serves { ServesOn line.now.plan (root_in line.now.group) (number_of seat.old) host self.old (seen_by seat.old) self.new (seen_by seat.new) }
+    {
+        let moves = line.count();
+        if moves == self.moves {
+            return Ok(false);
+        }
+        let is_acked = line.group.is_acked(rt, line.alloc, seat, term, slot)?;
+        self.moves = moves;
+        if is_acked {
+            self.standing = Standing::Settled;
+            line.acknowledge(host);
+        }
+        Ok(is_acked)
+    }
+
+    /// Hands a request to a server, after so many changes of the group. Whether it has a slot now. Where memory runs out (`NoMemory`, 1), or
+    /// its range is none that may be written, it was not handed over.
+    #[allow(clippy::too_many_arguments)]
+    fn hand<R: Wait, D: Disk + Drop, G>(
+        &mut self,
+        rt: &R,
+        line: &Line<D, G>,
+        seat: &mut GroupSeat<D>,
+        host: u32,
+        server: Server,
+        request: Request,
+        moves: u64,
+    ) -> Result<bool, NoMemory>
+        requires seat { IsSeatOf line.now.group seat.old }
+        requires counted { IsCounted line.now.plan self.old }
+        requires host { host < line.now.plan.hosts }
+        requires server { server < 3 }
+        requires asked { self.old.standing ≡ Asked request }
+        ensures seat { IsSeatOf line.now.group seat.new × IsSameSeat seat.old seat.new }
+        ensures pass { self.new.pass ≡ self.old.pass }
+        ensures counted { IsCounted line.now.plan self.new }
+        ensures serves { ServesOn line.now.plan (root_in line.now.group) (number_of seat.old) host self.old (seen_by seat.old) self.new (seen_by seat.new) }
+    {
+        let Ok(range) = Range::new(request.range.first(), request.range.count()) else {
+            return Ok(false);
+        };
+        let data = Data::filled(line.alloc, request.byte, range.count())?;
+        let payload = Payload::new(line.alloc, data)?;
+        let (term, answer) = line
+            .group
+            .submit(rt, line.alloc, seat, server, range, payload)?;
+        self.standing = standing_after(term, &answer, request);
+        self.moves = moves;
+        let placed = matches!(self.standing, Standing::Placed { .. });
+        if placed {
+            line.moved();
+        }
+        Ok(placed)
+    }
+
+    /// Hands a request to the server that was published last as the leader, between the calls of the gate, if the group was changed since it
+    /// last was. Whether it has a slot now. Where memory runs out (`NoMemory`, 1) it was not handed over.
+    fn submit<R: Wait, D: Disk + Drop, G: Gate>(
+        &mut self,
+        rt: &R,
+        line: &Line<D, G>,
+        seat: &mut GroupSeat<D>,
+        leaders: &mut LeaderPass,
+        host: u32,
+        request: Request,
+    ) -> Result<bool, NoMemory>
+        requires seat { IsSeatOf line.now.group seat.old }
+        requires leaders { IsPassOf line.now.cell leaders.old }
+        requires counted { IsCounted line.now.plan self.old }
+        requires host { host < line.now.plan.hosts }
+        requires asked { self.old.standing ≡ Asked request }
+        ensures seat { IsSeatOf line.now.group seat.new × IsSameSeat seat.old seat.new }
+        ensures leaders { IsPassOf line.now.cell leaders.new }
+        ensures pass { self.new.pass ≡ self.old.pass }
+        ensures counted { IsCounted line.now.plan self.new }
+        ensures serves { ServesOn line.now.plan (root_in line.now.group) (number_of seat.old) host self.old (seen_by seat.old) self.new (seen_by seat.new) }
+    {
+        let moves = line.count();
+        if moves == self.moves {
+            return Ok(false);
+        }
+        let (_, server) = line.cell.hint(rt, leaders);
+        line.gate.before(SERVER);
+        let handed = self.hand(rt, line, seat, host, server, request, moves);
+        line.gate.after(SERVER);
+        handed
+    }
+
+    /// Does what is next for the host: takes its next request, hands it to a server, or looks whether its slot is acknowledged. Whether
+    /// it did. It hands over and looks only where the group was changed since it last did. Where memory runs out (`NoMemory`, 1) it does
+    /// neither.
+    pub(crate) fn serve<R: Wait, D: Disk + Drop, G: Gate>(
+        &mut self,
+        rt: &R,
+        line: &Line<D, G>,
+        seat: &mut GroupSeat<D>,
+        leaders: &mut LeaderPass,
+        host: u32,
+    ) -> Result<bool, NoMemory>
+        requires seat { IsSeatOf line.now.group seat.old }
+        requires leaders { IsPassOf line.now.cell leaders.old }
+        requires host { host < line.now.plan.hosts }
+        requires is { IsServedIn line.now.plan line.now.rings.items host self.old }
+        ensures seat { IsSeatOf line.now.group seat.new × IsSameSeat seat.old seat.new }
+        ensures leaders { IsPassOf line.now.cell leaders.new }
+        ensures is { IsServedIn line.now.plan line.now.rings.items host self.new }
+        ensures serves { ServesOn line.now.plan (root_in line.now.group) (number_of seat.old) host self.old (seen_by seat.old) self.new (seen_by seat.new) }
+    {
+        match self.standing {
+            Standing::Settled => Ok(self.take_next(rt, line, host)),
+            Standing::Asked(request) => self.submit(rt, line, seat, leaders, host, request),
+            Standing::Placed { term, slot } => self.look(rt, line, seat, host, term, slot),
+        }
+    }
+}

@@ -1,0 +1,148 @@
+//! The worker that delivers packets.
+ghost use Rattle.std.specs.Prelude.{◌≡◌, ◌<◌, OnErr, OnOk};
+ghost use Rattle.pf_live.specs.Switches.{IsSwitch, IsSameSwitch};
+
+use crate::line::Line;
+use pf_base::NoMemory;
+use pf_crew::Turned;
+use pf_disk::Disk;
+use pf_filling::Gate;
+use pf_group::is_passed_over;
+use pf_leadercell::LeaderPass;
+use pf_shared::GroupSeat;
+use std::snapshot::Snapshot;
+use std::sync::Wait;
+
+/// The number that the gate is told of the switch.
+const SWITCH: u32 = 300;
+
+/// The worker that delivers the least packet that is left, and then publishes the leader.
+#[derive(Drop)]
+pub struct Switch<D: Disk> {
+    pub(crate) seat: GroupSeat<D>,
+    /// Its seat as it began.
+    pub(crate) begun: Snapshot<GroupSeat<D>>,
+    /// The leader cell's first pass.
+    pub(crate) pass: LeaderPass,
+    /// Of the packets below this one those that are left were passed over in this line.
+    pub(crate) next: u32,
+    /// How many packets were delivered in this line.
+    pub(crate) made: u32,
+    /// How often the group had been changed when no packet was left.
+    pub(crate) moves: u64,
+    /// Whether the leader was published once.
+    pub(crate) began: bool,
+    pub(crate) ended: bool,
+    /// Memory ran out.
+    pub(crate) wants: bool,
+}
+
+impl<D: Disk + Drop> Switch<D> {
+    /// Memory ran out, or it is done: it ends, and so are all.
+    fn end<G>(&mut self, line: &Line<D, G>, wants: bool) -> Turned
+        requires { IsSwitch line.now.group line.now.cell line.now.plan.turns self.old }
+        ensures is { IsSwitch line.now.group line.now.cell line.now.plan.turns self.new }
+        ensures same { IsSameSwitch self.old self.new }
+    {
+        line.stop();
+        self.ended = true;
+        self.wants |= wants;
+        Turned::Ends
+    }
+
+    /// Publishes the leader, where there is one. Where memory runs out (`NoMemory`, 1) it does not.
+    fn publish<R: Wait, G>(&mut self, rt: &R, line: &Line<D, G>) -> Result<(), NoMemory>
+        requires { IsSwitch line.now.group line.now.cell line.now.plan.turns self.old }
+        ensures is { IsSwitch line.now.group line.now.cell line.now.plan.turns self.new }
+        ensures same { IsSameSwitch self.old self.new × (self.new.made ≡ self.old.made) }
+    {
+        let leader = line.group.leader(rt, line.alloc, &mut self.seat)?;
+        if let Some((term, server)) = leader {
+            line.cell.publish(rt, &mut self.pass, term, server);
+        }
+        Ok(())
+    }
+
+    /// Whether a packet is left that was not passed over. Where memory runs out (`NoMemory`, 1) it is not known.
+    fn finds<R: Wait, G>(&mut self, rt: &R, line: &Line<D, G>) -> Result<bool, NoMemory>
+        requires { IsSwitch line.now.group line.now.cell line.now.plan.turns self.old }
+        ensures is { IsSwitch line.now.group line.now.cell line.now.plan.turns self.new }
+        ensures same { IsSameSwitch self.old self.new × (self.new.made ≡ self.old.made) }
+    {
+        let left = line
+            .group
+            .left_from(rt, line.alloc, &mut self.seat, self.next)?;
+        Ok(left.is_some())
+    }
+
+    /// Delivers the least packet that is left and was not passed over, if there still is one. Where memory runs out (`NoMemory`, 1) it
+    /// does not.
+    fn deliver<R: Wait, G>(&mut self, rt: &R, line: &Line<D, G>) -> Result<(), NoMemory>
+        requires is { IsSwitch line.now.group line.now.cell line.now.plan.turns self.old }
+        requires few { self.old.made < line.now.plan.turns }
+        ensures is { IsSwitch line.now.group line.now.cell line.now.plan.turns self.new }
+        ensures same { IsSameSwitch self.old self.new }
+    {
+        // That the number is in its range is asked of the proof alone.
+        let _turns = line.plan.turns;
+        let told = line
+            .group
+            .deliver_left(rt, line.alloc, &mut self.seat, self.next)?;
+        if let Some((k, answer)) = told {
+            if is_passed_over(&answer) {
+                self.next = k + 1;
+            } else {
+                self.next = k;
+                self.made += 1;
+            }
+        }
+        Ok(())
+    }
+
+    /// One step: a delivery between the calls of the gate, and the leader that comes of it.
+    fn step<R: Wait, G: Gate>(&mut self, rt: &R, line: &Line<D, G>) -> Result<Turned, NoMemory>
+        requires is { IsSwitch line.now.group line.now.cell line.now.plan.turns self.old }
+        requires few { self.old.made < line.now.plan.turns }
+        ensures is { IsSwitch line.now.group line.now.cell line.now.plan.turns self.new }
+        ensures same { IsSameSwitch self.old self.new }
+    {
+        let moves = line.count();
+        if moves == self.moves {
+            return Ok(Turned::Waits);
+        }
+        if !self.began {
+            self.publish(rt, line)?;
+            self.began = true;
+        }
+        if !self.finds(rt, line)? {
+            self.moves = moves;
+            line.calm_down(moves);
+            return Ok(Turned::Waits);
+        }
+        line.gate.before(SWITCH);
+        let delivered = self.deliver(rt, line);
+        line.gate.after(SWITCH);
+        delivered?;
+        self.publish(rt, line)?;
+        line.moved();
+        Ok(Turned::Went)
+    }
+
+    /// One turn. It ends where it made all its deliveries, or where all are to end.
+    pub(crate) fn work<R: Wait, G: Gate>(&mut self, rt: &R, line: &Line<D, G>) -> Turned
+        requires { IsSwitch line.now.group line.now.cell line.now.plan.turns self.old }
+        ensures is { IsSwitch line.now.group line.now.cell line.now.plan.turns self.new }
+        ensures same { IsSameSwitch self.old self.new }
+    {
+        if self.ended {
+            return Turned::Ends;
+        }
+        if line.is_stopping() || self.made >= line.plan.turns {
+            return self.end(line, false);
+        }
+        match self.step(rt, line) {
+            Ok(turned) => turned,
+            Err(NoMemory) => self.end(line, true),
+        }
+    }
+}
