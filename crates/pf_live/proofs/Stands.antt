@@ -25,7 +25,7 @@ use Rattle.pf_shared.specs.declared.moment.Moment.TheVariants.{Happened, Look}
 use Rattle.pf_shared.specs.Calls.{Adds, Finds, Steps}
 use Rattle.pf_shared.specs.Moments.{entry}
 use Rattle.pf_shared.specs.Since.{state_at}
-use Rattle.pf_shared.specs.Submitting.{is_acked}
+use Rattle.pf_cluster.specs.Shown.{is_acked}
 use Rattle.pf_live.specs.declared.plan.Plan.{Plan}
 use Rattle.pf_live.specs.declared.serving.Served.{Served}
 use Rattle.pf_live.specs.declared.serving.Standing.{Standing}
@@ -182,7 +182,7 @@ module _ (plan : Plan) (root : GroupIs) (n h : ℕ) (a b : Served) (alone : Type
   }
 
   -- and found that its slot is acknowledged
-  pub serves_told : (term slot : ℕ) (adds : Adds n alone seen (Look None) new) → is_acked term slot (state_at root adds.found) ≡ true → a.standing ≡ Placed term slot → b.pass ≡ a.pass → b.taken ≡ a.taken → b.standing ≡ Settled → ServesOn plan root n h a seen b new
+  pub serves_told : (term slot : ℕ) (adds : Adds n alone seen (Look None) new) → is_acked (state_at root adds.found) term slot ≡ true → a.standing ≡ Placed term slot → b.pass ≡ a.pass → b.taken ≡ a.taken → b.standing ≡ Settled → ServesOn plan root n h a seen b new
   serves_told term slot adds told was p t st begun begins = record {
     begins = begins_new (Look None) adds begun begins;
     fed = fed_kept p t;

@@ -19,7 +19,7 @@ use Rattle.pf_shared.specs.declared.moment.Moment.{Moment}
 use Rattle.pf_shared.specs.declared.moment.Moment.TheVariants.{Happened, Look}
 use Rattle.pf_shared.specs.Moments.{entry, happenings, with_moment}
 use Rattle.pf_shared.specs.Since.{rest_after, state_at, whole}
-use Rattle.pf_shared.specs.Submitting.{is_acked}
+use Rattle.pf_cluster.specs.Shown.{is_acked}
 use Rattle.pf_live.specs.Deliveries.{Line}
 use Rattle.pf_live.specs.Submissions.{is_told, is_write_of, slot_got, slot_with, slots_after, slots_of}
 use Rattle.pf_live.specs.Submitters.{AllTold, SubmitsAlone, is_submit, submits}

@@ -12,7 +12,7 @@ use Rattle.pf_group.specs.GroupIs.{GroupIs}
 use Rattle.pf_shared.specs.declared.moment.Moment.{Moment}
 use Rattle.pf_shared.specs.declared.moment.Moment.TheVariants.{Happened, Look}
 use Rattle.pf_shared.specs.Since.{state_at}
-use Rattle.pf_shared.specs.Submitting.{is_acked}
+use Rattle.pf_cluster.specs.Shown.{is_acked}
 use Rattle.pf_live.specs.declared.plan.Plan.{Plan}
 use Rattle.pf_live.specs.Deliveries.{Line}
 use Rattle.pf_live.specs.Writes.{byte_of, op_of, request_of}
@@ -44,7 +44,7 @@ abbrev pub slots_of : GroupIs → (h : ℕ) → Line → List Acked
 slots_of root h list = slots_after root h [] list
 
 abbrev pub is_told : Group → Acked → Bool
-is_told g a = is_acked a.term a.slot g
+is_told g a = is_acked g a.term a.slot
 
 -- how many writes of the host were acknowledged
 abbrev pub acked_of : GroupIs → (h : ℕ) → Line → ℕ

@@ -1,21 +1,15 @@
--- A write is handed to a server, and acknowledged.
-use Rattle.std.specs.Prelude.{◌≡◌, ℕ, Bool, ◌&&◌, ◌==◌, List, Result}
-use Rattle.std.specs.List.{list_any}
+-- A write is handed to a server.
+use Rattle.std.specs.Prelude.{◌≡◌, ℕ, List, Result}
 use Rattle.pf_turn.specs.declared.log.Stamped.{Stamped}
 use Rattle.pf_entry.specs.declared.ops.Op.{Op}
 use Rattle.pf_protocol.specs.declared.answers.Answer.{Answer}
 use Rattle.pf_protocol.specs.declared.events.Event.TheVariants.{Submit}
-use Rattle.pf_protocol.specs.Groups.{Acked, Group}
 use Rattle.pf_group.specs.declared.errors.Down.{Down}
 use Rattle.pf_group.specs.GroupIs.{GroupIs}
 use Rattle.pf_group.specs.Readers.{TellsOf}
 use Rattle.pf_shared.specs.declared.moment.Moment.{Moment}
 use Rattle.pf_shared.specs.Calls.{Steps}
 use Rattle.pf_shared.specs.Since.{state_at}
-
--- whether the slot was acknowledged in this term
-abbrev pub is_acked : (term slot : ℕ) → Group → Bool
-is_acked term slot g = list_any (λ (a : Acked). a.term == term && a.slot == slot) g.acked
 
 -- the write was answered as the rules say, and the server had the term that is told, where the submission stands in the list
 abbrev pub HasSubmitted : (root : GroupIs) (n : ℕ) (alone : Type 0) (seen : List (Stamped Moment)) (server : ℕ) → Op → Result ℕ Down × Answer → (new : List (Stamped Moment)) → Type 0

@@ -1,11 +1,10 @@
 //! Copies of what a group shows. Where there is no memory for one (`NoMemory`, 1), nothing is told.
-ghost use Rattle.std.specs.Prelude.{◌≡◌, ◌<◌, ◌&&◌, ◌==◌, IfOk, map, slice_get};
+ghost use Rattle.std.specs.Prelude.{◌≡◌, ◌<◌, IfOk, map, slice_get};
 ghost use Rattle.std.specs.FinMap as finite;
-ghost use Rattle.std.specs.List.{list_any};
 ghost use Rattle.pf_cluster.specs.Showing.{acked_of};
+ghost use Rattle.pf_cluster.specs.Shown.{is_acked};
 ghost use Rattle.pf_group.specs.GroupIs.{state_of};
 ghost use Rattle.pf_group.specs.Readers.{IsAppliedOf, TellsOf, snapshot_in};
-ghost use Rattle.pf_shared.specs.Submitting.{is_acked};
 
 use pf_base::{NoMemory, Sectors, Server, Slot, Term};
 use pf_cluster::Acked;
@@ -22,18 +21,11 @@ pub(crate) fn acked<D: Disk>(alloc: Global, group: &Group<D>) -> Result<Vec<Acke
     Ok(Vec::from_slice(alloc, group.acked())?)
 }
 
-/// Whether the slot stands in the list in this term.
-fn has_acked(acked: &[Acked], term: Term, slot: Slot) -> bool
-    ensures { result ≡ list_any (λ a. a.term == term && a.slot == slot) acked.now }
-{
-    acked.iter().any(|one| one.term == term && one.slot == slot)
-}
-
 /// Whether the slot was acknowledged in this term.
 pub(crate) fn is_acked<D: Disk>(group: &Group<D>, term: Term, slot: Slot) -> bool
-    ensures { result ≡ is_acked term slot (state_of group.now) }
+    ensures { result ≡ is_acked (state_of group.now) term slot }
 {
-    has_acked(group.acked(), term, slot)
+    group.is_acked(term, slot)
 }
 
 /// The entry in the server's log.

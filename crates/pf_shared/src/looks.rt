@@ -7,7 +7,7 @@ ghost use Rattle.std.specs.Prelude.{◌≡◌, ◌<◌, ◌++◌, ◌∷◌, [],
 ghost use Rattle.std.specs.FinMap as finite;
 ghost use Rattle.pf_entry.specs.Sets as set;
 ghost use Rattle.pf_cluster.specs.Showing.{acked_of};
-ghost use Rattle.pf_cluster.specs.Shown.{IsLeader};
+ghost use Rattle.pf_cluster.specs.Shown.{IsLeader, is_acked};
 ghost use Rattle.pf_group.specs.Packets.{least_from};
 ghost use Rattle.pf_group.specs.Readers.{IsAppliedOf, is_left, snapshot_in};
 ghost use Rattle.pf_turn.specs.Seats as turns;
@@ -16,7 +16,6 @@ ghost use Rattle.pf_shared.specs.Behinds.{list_of};
 ghost use Rattle.pf_shared.specs.Calls.{Finds, IsHistory};
 ghost use Rattle.pf_shared.specs.Looks.{Looks, LooksAt, TakesRead, told_of};
 ghost use Rattle.pf_shared.specs.Moments.{entry};
-ghost use Rattle.pf_shared.specs.Submitting.{is_acked};
 ghost use Rattle.pf_shared.specs.Seats.{IsAlone, IsSameSeat, IsSeatOf, number_of, root_in, seen_by};
 
 use crate::{Behind, GroupSeat, LookFault, SharedGroup, copies};
@@ -113,7 +112,7 @@ impl<D: Disk + Drop> SharedGroup<D> {
     ) -> Result<bool, NoMemory>
         requires { IsSeatOf self.now seat.old }
         ensures seat { IsSeatOf self.now seat.new × IsSameSeat seat.old seat.new }
-        ensures look { IfOk result (λ is. Looks (root_in self.now) (number_of seat.old) (IsAlone seat.old) (seen_by seat.old) (λ g. is ≡ is_acked term slot g) (seen_by seat.new)) }
+        ensures look { IfOk result (λ is. Looks (root_in self.now) (number_of seat.old) (IsAlone seat.old) (seen_by seat.old) (λ g. is ≡ is_acked g term slot) (seen_by seat.new)) }
         ensures err { OnErr result (Finds (number_of seat.old) (IsAlone seat.old) (seen_by seat.old) (seen_by seat.new)) }
         ensures history { IsHistory (root_in self.now) (seen_by seat.new) }
     {
