@@ -44,3 +44,8 @@ module _ (n m : ℕ) (number : m ≡ n) (alone : Type 0) (seen mid : List (Stamp
   pub took_with : (root : GroupIs) (P : Group → Type 0) (event : GroupEvent) (a : Answer) (new : List (Stamped Moment)) → HasStepped root m (Unit {0}) mid event a new → P (state_at root mid) → (found : Bool) × ((steps : Steps root n alone seen (event_of event found) a new) × P (state_at root steps.adds.found))
   took_with root P event a new h p = let k = subst (λ i. HasStepped root i (Unit {0}) mid event a new) number h in
       (k.found, (steps_on root _ a new k.steps, subst (λ l. P (state_at root l)) (sym (k.steps.adds.finds.exact tt)) p))
+
+-- what holds at an error, whatever is returned
+pub at_err : {B F : Type 0} (P : Type 0) (given : Result B F) → P → OnErr given P
+at_err P (Ok b) p = tt
+at_err P (Err f) p = p

@@ -1,6 +1,7 @@
-use Rattle.std.proofs.Common.{◌≡◌, ℕ, Option, Some, None, Result, Ok, IfOk, refl, sym, ◌∙◌, subst}
+use Rattle.std.proofs.Common.{◌≡◌, ℕ, Option, Some, None, Result, Ok, Err, IfOk, refl, sym, ◌∙◌, subst}
 use Rattle.pf_base.specs.declared.errors.NoMemory.{NoMemory}
 use Rattle.pf_protocol.specs.Groups.{Group}
+use Rattle.pf_protocol.specs.declared.answers.Answer.{Answer}
 use Rattle.pf_group.specs.declared.event.GroupEvent.TheVariants as asked
 use Rattle.pf_group.specs.Packets.{least_from}
 use Rattle.pf_shared.specs.Behinds.{list_of}
@@ -8,8 +9,8 @@ use Rattle.pf_shared.specs.Calls.{Finds}
 use Rattle.pf_shared.specs.Seats.{IsAlone, number_of, root_in, seen_by}
 use Rattle.pf_shared.specs.Since.{state_at}
 use Rattle.pf_shared.specs.Looks.{Looks}
-use Rattle.pf_shared.proofs.Looking.{group_is, look_ok}
-use Rattle.pf_shared.proofs.Widening.{took_with}
+use Rattle.pf_shared.proofs.Looking.{group_is, look_err, look_ok}
+use Rattle.pf_shared.proofs.Widening.{at_err, took_err, took_with}
 use Rattle.pf_shared.proofs.parts.SharedGroup.deliver_left.Goals as goal
 
 none_is : (o : Option ℕ) → ((k : ℕ) → o ≡ Some k → ⊥) → o ≡ None
@@ -32,3 +33,17 @@ returns-clause-delivers g c = let t = c.take-turn.ensures in let s = c.args.seat
     (subst (λ (x : Group). least_from c.args.from x ≡ Some c.in-Some.k) (group_is root n _ t.seat.2.0 (IsAlone s) (seen_by s) b t.root finds new) (sym c.least_from.ensures ∙ c.in-Some.is)) in
     let w = took_with n _ t.seat.2.0 (IsAlone s) (seen_by s) mid (list_of b) finds t.seen.0 root (λ (x : Group). least_from c.args.from x ≡ Some c.in-Some.k) (asked.Deliver c.in-Some.k) c.in_ok-answer.answer new c.in_ok-answer.ensures.step here in
     (w.1.0, w.1.1)
+
+pub returns-in_err-end_look-clause-err : goal.returns-in_err-end_look-clause-err
+returns-in_err-end_look-clause-err g c = let t = c.take-turn.ensures in let s = c.args.seat.now in let b = c.take-turn.result.value in let n = number_of s in
+    let finds : Finds n (IsAlone s) (seen_by s) (list_of b) = record { begins = t.seen.1; own = t.own; exact = λ a. t.alone a.0 a.1 } in
+    let r : Result (Unit {0}) NoMemory = Err c.in_err-end_look.field-0.0 in
+    at_err (Finds n (IsAlone s) (seen_by s) (seen_by c.end_look.new.seat)) c.from_residual.result
+    (look_err (root_in c.args.self.now) n _ t.seat.2.0 (IsAlone s) (seen_by s) b t.root finds (seen_by c.end_look.new.seat) r c.in_err-end_look.ensures.err)
+
+pub returns-in_err-answer-clause-err : goal.returns-in_err-answer-clause-err
+returns-in_err-answer-clause-err g c = let t = c.take-turn.ensures in let s = c.args.seat.now in let b = c.take-turn.result.value in let n = number_of s in let new = seen_by c.act.new.seat in
+    let finds : Finds n (IsAlone s) (seen_by s) (list_of b) = record { begins = t.seen.1; own = t.own; exact = λ a. t.alone a.0 a.1 } in
+    let r : Result Answer NoMemory = Err c.in_err-answer.field-0.0 in
+    at_err (Finds n (IsAlone s) (seen_by s) new) c.from_residual-in_err-answer.result
+    (took_err n _ t.seat.2.0 (IsAlone s) (seen_by s) (seen_by (record { seat = c.take-turn.new.seat })) (list_of b) finds t.seen.0 r new c.in_err-answer.ensures.err)
