@@ -18,13 +18,14 @@ use Rattle.pf_tree.specs.declared.calls.FileCall.{FileCall}
 use Rattle.pf_tree.specs.declared.calls.FileCall.TheVariants.{Mkdir, Create, Write, Read, Truncate, Rename, Unlink, Rmdir, Stat, Listing}
 use Rattle.pf_tree.specs.Plans.{changes, found, node_of, tables_sight}
 use Rattle.pf_tree.specs.Standing.{Follows, IsCall, StandsFor}
-use Rattle.pf_tree.specs.Trees.{Data, Dir, File, Node, Tree, at, changed, is_dir, new_tree, refusal, tree_sight, walk_refusal, when}
+use Rattle.pf_tree.specs.Trees.{Data, Dir, File, Node, Tree, at, changed, is_dir, new_tree, refusal, size_at, tree_sight, walk_refusal, when}
 use Rattle.pf_tree.proofs.Law.{first_none, follows, when_none}
 use Rattle.pf_tree.proofs.Sights.{Stands, node_from, node_in_some, same_refusal, stands_at}
 use Rattle.pf_tree.proofs.Walks.{walk_on}
 use Rattle.pf_txn.specs.Reading.{txn_in}
 use Rattle.pf_txn.proofs.TxnLaws.{txn_found}
-use Rattle.pf_files.specs.Calls.{is_of, planned, planned_by, planned_with}
+use Rattle.pf_files.specs.Calls.{is_of, planned, planned_by, planned_with, size_in}
+use Rattle.pf_files.specs.Filling.{read_end}
 use Rattle.pf_files.specs.Faults.{fault_of}
 use Rattle.pf_files.specs.Moving.{names_of, stat_of}
 use Rattle.pf_files.specs.declared.answers.CallAnswer.{CallAnswer}
@@ -42,10 +43,11 @@ use Rattle.pf_hosts.proofs.Words.{call_spelled}
 use Rattle.pf_mounted.specs.Answering.{AreNamesIn, IsAnswered, IsAnswerIn, IsRefusedBy}
 use Rattle.pf_mounted.specs.Finding.{HasPutIn}
 use Rattle.pf_mounted.specs.Handing.{AreCallsOfWords}
-use Rattle.pf_mounted.specs.Mounts.{last_answer, life_of, mount_after}
+use Rattle.pf_mounted.specs.Exchanges.{AreBytesOf, Exchange, exchanges}
+use Rattle.pf_mounted.specs.Mounts.{last_answer, life_of, mount_after, tables_from}
 use Rattle.pf_mounted.specs.Trees.{AreBegunAtRest, AreFewCalls, IsOverList, call_in, call_named, data_blocks, tree_after, tree_with}
 use Rattle.pf_mounted.proofs.Ended.{HasEnded, IsIn, has_ended}
-use Rattle.pf_mounted.proofs.Ending.{AnswersOn, IsOwn}
+use Rattle.pf_mounted.proofs.Ending.{AnswersOn, IsFound, IsOwn}
 use Rattle.pf_mounted.proofs.Naming.{named_began}
 use Rattle.pf_mounted.proofs.Placing.{take_one_more}
 use Rattle.pf_mounted.proofs.Rising.{AllRise, ascending, tables_rise}
@@ -96,30 +98,31 @@ module _ (d : Data) (t : Tables) (tree : Tree) (stand : StandsFor d t tree) (ris
             ∙ below_is p name dir.inode dir.leads (entry_at t.entries dir.inode name) refl;
       }
 
-  answered_in : (call : FileCall) (answer : CallAnswer) → refusal (tree_sight d tree) call ≡ None → AnswersOn t call answer → IsAnswerIn tree call answer
-  answered_in (Stat p) answer fine is = is ∙ ap stat_of (sym (stand.nodes p))
-  answered_in (Listing p) answer fine is = (names_of t p, is, names_listed p fine)
-  answered_in (Read p offset count) answer fine is = is
-  answered_in (Write p offset byte count) answer fine is = is
-  answered_in (Truncate p size) answer fine is = is
-  answered_in (Mkdir p) answer fine is = is
-  answered_in (Create p) answer fine is = is
-  answered_in (Rename from to) answer fine is = is
-  answered_in (Unlink p) answer fine is = is
-  answered_in (Rmdir p) answer fine is = is
+  answered_in : (v : Extent) (came : List Exchange) (call : FileCall) (answer : CallAnswer) → refusal (tree_sight d tree) call ≡ None → AnswersOn v t (size_in t call) came call answer → IsAnswerIn v came t tree call answer
+  answered_in v came (Stat p) answer fine is = is ∙ ap stat_of (sym (stand.nodes p))
+  answered_in v came (Listing p) answer fine is = (names_of t p, is, names_listed p fine)
+  answered_in v came (Read p offset count) answer fine is =
+      (is.0, is.1, subst (λ node. AreBytesOf v t came (found t p) offset (read_end (size_at node) offset count) is.0) (sym (stand.nodes p)) is.2)
+  answered_in v came (Write p offset byte count) answer fine is = is
+  answered_in v came (Truncate p size) answer fine is = is
+  answered_in v came (Mkdir p) answer fine is = is
+  answered_in v came (Create p) answer fine is = is
+  answered_in v came (Rename from to) answer fine is = is
+  answered_in v came (Unlink p) answer fine is = is
+  answered_in v came (Rmdir p) answer fine is = is
 
 -- a call that changes something is answered that it is done
-changing_fine : (d : Data) (t : Tables) (tree after : Tree) (call : FileCall) (answer : CallAnswer) → changed d tree call ≡ Some after → AnswersOn t call answer → answer ≡ Fine
-changing_fine d t tree after (Stat p) answer some is = absurd (none-some after some)
-changing_fine d t tree after (Listing p) answer some is = absurd (none-some after some)
-changing_fine d t tree after (Read p offset count) answer some is = absurd (none-some after some)
-changing_fine d t tree after (Write p offset byte count) answer some is = is
-changing_fine d t tree after (Truncate p size) answer some is = is
-changing_fine d t tree after (Mkdir p) answer some is = is
-changing_fine d t tree after (Create p) answer some is = is
-changing_fine d t tree after (Rename from to) answer some is = is
-changing_fine d t tree after (Unlink p) answer some is = is
-changing_fine d t tree after (Rmdir p) answer some is = is
+changing_fine : (d : Data) (t : Tables) (tree after : Tree) (v : Extent) (size : ℕ) (came : List Exchange) (call : FileCall) (answer : CallAnswer) → changed d tree call ≡ Some after → AnswersOn v t size came call answer → answer ≡ Fine
+changing_fine d t tree after v size came (Stat p) answer some is = absurd (none-some after some)
+changing_fine d t tree after v size came (Listing p) answer some is = absurd (none-some after some)
+changing_fine d t tree after v size came (Read p offset count) answer some is = absurd (none-some after some)
+changing_fine d t tree after v size came (Write p offset byte count) answer some is = is
+changing_fine d t tree after v size came (Truncate p to) answer some is = is
+changing_fine d t tree after v size came (Mkdir p) answer some is = is
+changing_fine d t tree after v size came (Create p) answer some is = is
+changing_fine d t tree after v size came (Rename from to) answer some is = is
+changing_fine d t tree after v size came (Unlink p) answer some is = is
+changing_fine d t tree after v size came (Rmdir p) answer some is = is
 
 -- Plans
 
@@ -265,15 +268,18 @@ module _ (v : Extent) (answer_at : ℕ → Answered) (told : List Moment) (list 
 
   -- The answer
 
-  module _ (before after : List Moment) (m : ℕ) (x : MountIs) (answer : CallAnswer) (same_told : told ≡ before ++ after) (made : mount_after v before m ≡ Some x) (ended : HasEnded told list m x answer) where
+  module _ (before after : List Moment) (m : ℕ) (x : MountIs) (answer : CallAnswer) (same_told : told ≡ before ++ after) (made : mount_after v before m ≡ Some x) (ended : HasEnded told list m (exchanges before m) x answer) where
     abbrev q : Pending
     q = ended.call
 
     abbrev tree : Tree
     tree = tree_at x.upto
 
+    abbrev came : List Exchange
+    came = exchanges before m
+
     abbrev Is : Type 0
-    Is = IsAnswered v told list m x.files.calls x.upto answer
+    Is = IsAnswered v told list came m x.files.calls x.upto answer
 
     stand_here : StandsFor d x.files.tables tree
     stand_here = succeeding.mounts_stand v answer_at told list volume over words rest few before after m x same_told made
@@ -304,8 +310,8 @@ module _ (v : Extent) (answer_at : ℕ → Answered) (told : List Moment) (list 
         record { call = q.call; named = named_here; is = inr (inl (record { fine = its.0; after = its.1; changes = its.2; full = refused.0; answer_is = answer_is ∙ ap Refused refused.1 })) }
     by_plan fault (Goes step) is answer_is refused = absurd refused
 
-    done_in : (own : IsOwn (IsIn told list m) x.files.mount x.upto q) → AnswersOn x.files.tables q.call answer → Is
-    done_in own answers =
+    done_in : (own : IsOwn (IsIn told list m) x.files.mount x.upto q) (size : ℕ) → AnswersOn x.files.volume x.files.tables size came q.call answer → Is
+    done_in own size answers =
         let number : x.files.mount ≡ m = (succeeding.calls_are v answer_at told list volume over words rest few before after m x same_told made).number in
         let spells : Spells m x.files.calls own.value =
         subst (λ k. Spells k x.files.calls own.value) number (subst (λ k. Spells x.files.mount k own.value) ended.number (own_txn x.files.mount q.number own.value (txn_in own.value) refl own.own)) in
@@ -324,22 +330,41 @@ module _ (v : Extent) (answer_at : ℕ → Answered) (told : List Moment) (list 
             number_is = spells.number_is;
             fine = fine_there m x.files.calls q.call named_here own.position own.value own.is spells;
             changes = changes ∙ ap (λ k. Some (tree_at k)) (sym own.last);
-            answer_is = changing_fine d x.files.tables (tree_at own.position) (tree_at (suc own.position)) q.call answer changes answers;
+            answer_is = changing_fine d x.files.tables (tree_at own.position) (tree_at (suc own.position)) x.files.volume size came q.call answer changes answers;
           })));
         }
+
+    tables_here : x.files.tables ≡ tables_from v (take x.upto list)
+    tables_here = succeeding.tables_are v answer_at told list volume over words rest few before after m x same_told made
+
+    volume_here : x.files.volume ≡ v
+    volume_here = (succeeding.calls_are v answer_at told list volume over words rest few before after m x same_told made).volume
+
+    -- the call is answered from the tables
+    looked_up : (step : Moved) → plan_on x q ≡ Goes step → AnswersOn x.files.volume x.files.tables (size_in x.files.tables q.call) came q.call answer → Is
+    looked_up step is answers =
+        let its = goes_so x.files.mount x.files.volume d x.files.tables q tree stand_here call_here step (plan_is ∙ is) in
+        let here : IsAnswerIn x.files.volume came x.files.tables tree q.call answer = answered_in d x.files.tables tree stand_here rise_here x.files.volume came q.call answer its.0 answers in
+        let there : IsAnswerIn v came (tables_from v (take x.upto list)) tree q.call answer =
+        subst (λ t. IsAnswerIn v came t tree q.call answer) tables_here (subst (λ e. IsAnswerIn e came x.files.tables tree q.call answer) volume_here here) in
+        record { call = q.call; named = named_here; is = inr (inr (inl (record { fine = its.0; stays = its.1; answers = there }))) }
+
+    is_found : IsFound (IsIn told list m) came x q answer → Is
+    is_found found = elim found.0 [
+      | inl goes ↦ elim found.2 [
+        | inl same ↦ looked_up goes.0 goes.1 (subst (λ size. AnswersOn x.files.volume x.files.tables size came q.call answer) same found.3)
+        | inr own ↦ done_in own found.1 found.3
+      ]
+      | inr own ↦ done_in own found.1 found.3
+    ]
 
     is_answered : Is
     is_answered = elim ended.end [
       | inl refused ↦ by_plan refused.0 (plan_on x q) refl refused.1 refused.2
-      | inr passed ↦ elim passed.0 [
-        | inl goes ↦
-            let its = goes_so x.files.mount x.files.volume d x.files.tables q tree stand_here call_here goes.0 (plan_is ∙ goes.1) in
-            record { call = q.call; named = named_here; is = inr (inr (inl (record { fine = its.0; stays = its.1; answers = answered_in d x.files.tables tree stand_here rise_here q.call answer its.0 passed.1 }))) }
-        | inr own ↦ done_in own passed.1
-      ]
+      | inr found ↦ is_found found
     ]
 
   pub calls_answered : (before after : List Moment) (m : ℕ) (x : MountIs) (answer : CallAnswer) → told ≡ before ++ after → mount_after v before m ≡ Some x → x.work ≢ Fails → last_answer (life_of v before m) ≡ Some answer
-      → IsAnswered v told list m x.files.calls x.upto answer
+      → IsAnswered v told list (exchanges before m) m x.files.calls x.upto answer
   calls_answered before after m x answer same made lives is =
       is_answered before after m x answer same made (has_ended v answer_at told list volume over words rest few m before after x answer same made lives is)

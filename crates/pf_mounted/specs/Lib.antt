@@ -11,4 +11,5 @@ pub mod Finding
 pub mod Fitting
 pub mod Trees
 pub mod Late
+pub mod Exchanges
 pub mod Answering

@@ -13,6 +13,7 @@ use Rattle.pf_mount.specs.Mounts.{MountIs}
 use Rattle.pf_chunk.specs.Runs.{ChunkRun}
 use Rattle.pf_hosts.specs.Moments.{Ends, Moment}
 use Rattle.pf_mounted.specs.Answering.{IsAnswered}
+use Rattle.pf_mounted.specs.Exchanges.{exchanges}
 use Rattle.pf_mounted.specs.Hosted.{AreOfReads, groups_of}
 use Rattle.pf_mounted.specs.Journals.{AreOfMounts, deeds, doings}
 use Rattle.pf_mounted.specs.Mounts.{mount_after, tables_from}
@@ -47,10 +48,10 @@ NamesEachOnce list =
     → position ≡ other
 
 -- At every moment of the run each mount stands in one list, in which each call has one transaction at most. Each call that ends is
--- answered as the user's tree at the mount's position of the list
+-- answered as the user's tree at the mount's position of the list, and a read the bytes that came for it
 pub record HasOneList (v : Extent) (chunks : List ChunkRun) (told : List Moment) : Type 0 where
   pub list : List (List ℕ)
   pub is : IsListOf v chunks told list
   pub once : NamesEachOnce list
   pub stands : (before after : List Moment) (m : ℕ) (mount : MountIs) → told ≡ before ++ after → mount_after v before m ≡ Some mount → StandsInList v told list mount
-  pub answers : (before after : List Moment) (m : ℕ) (mount : MountIs) (answer : CallAnswer) → told ≡ before ++ Ends m answer ∷ after → mount_after v before m ≡ Some mount → IsAnswered v told list m mount.files.calls mount.upto answer
+  pub answers : (before after : List Moment) (m : ℕ) (mount : MountIs) (answer : CallAnswer) → told ≡ before ++ Ends m answer ∷ after → mount_after v before m ≡ Some mount → IsAnswered v told list (exchanges before m) m mount.files.calls mount.upto answer
