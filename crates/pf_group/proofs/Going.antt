@@ -27,14 +27,17 @@ use Rattle.pf_group.specs.declared.event.GroupEvent.{GroupEvent}
 use Rattle.pf_group.specs.declared.event.GroupEvent.TheVariants as asked
 use Rattle.pf_group.specs.Events.{Brings, MayAsk, event_of}
 use Rattle.pf_group.specs.GroupIs.{GroupIs}
-use Rattle.pf_group.specs.Halves.{AreLater, all_faults, format_in, holds_in, rose_in, told_in, used_in, was_in}
-use Rattle.pf_group.specs.Inside.{HaveHeads, group_of}
+use Rattle.pf_group.specs.Halves.{AreLater, all_counts, format_in, holds_in, rose_in, told_in, used_in, was_in}
+use Rattle.pf_group.specs.Inside.{HaveHeads, IsSince, group_of}
+use Rattle.pf_group.specs.declared.began.Began.{Began}
 use Rattle.pf_group.specs.declared.past.Past.{Past}
+use Rattle.pf_group.specs.Beginning.{IsBegun, IsBegunIf}
 use Rattle.pf_group.specs.Pasts.{HasPlaceFor, HasRoomFor, IsKeepable}
 use Rattle.pf_group.specs.Reacting.{own_of}
-use Rattle.pf_group.specs.Steps.{IsLeft, Steps}
+use Rattle.pf_group.specs.Steps.{HasTried, IsLeft, Steps}
 use Rattle.pf_group.proofs.Faults.{all_later, all_same, has_risen, heads_kept, later_same, others_same}
 use Rattle.pf_group.proofs.Plain.{claims_low}
+use Rattle.pf_group.proofs.Since.{Stood, since_as, since_step, since_still}
 
 -- a job that comes back is of one of the three servers
 pub brings_low : (setup : Setup) (history : History) → IsLegal setup history → (filled : Filled) → Brings (claims_of [] history) filled → filled.server < 3
@@ -116,7 +119,7 @@ left_equal (asked.Lose k) old new is = is
 left_equal (asked.Elect server) old new is = is
 left_equal (asked.Resend server) old new is = is
 left_equal (asked.Stop server) old new is = is
-left_equal (asked.Restart server) old new is = subst (λ (n : GroupIs). (n ≡ record old { faults = n.faults }) × AreLater old.faults n.faults × ((j : ℕ) → j ≢ server → slice_get n.faults j ≡ slice_get old.faults j)) (sym is) (refl, later_same old.faults, λ j apart. refl)
+left_equal (asked.Restart server) old new is = inl is
 left_equal asked.Claim old new is = is
 left_equal (asked.Finish filled) old new is = is
 left_equal (asked.Checkpoint server) old new is = is
@@ -129,7 +132,7 @@ module _ {S : Type 0} (holds : S → Durable → Durable → Type 0) (used forma
   happening = record { event = event; answer = answer }
 
   -- a history with it at its end
-  pub reached_longer : (later : History) → later ≡ history ++ happening ∷ [] → length later ≤ 2 ^ 32 → IsReached holds used format told setup history old → MayHappen (claims_of [] history) event → HasGone holds used format told rose was setup (replay setup history) event old new answer → IsReached holds used format told setup later new
+  reached_longer : (later : History) → later ≡ history ++ happening ∷ [] → length later ≤ 2 ^ 32 → IsReached holds used format told setup history old → MayHappen (claims_of [] history) event → HasGone holds used format told rose was setup (replay setup history) event old new answer → IsReached holds used format told setup later new
   reached_longer later is low reached may gone = subst (λ l. IsReached holds used format told setup l new) (sym is) (record {
     legal = legal_goes_on setup history happening reached.legal (record { asked = may; answered = gone.answered });
     short = let short : length (history ++ happening ∷ []) ≤ 2 ^ 32 = subst (λ l. length l ≤ 2 ^ 32) is low in omega (arith, short);
@@ -138,8 +141,14 @@ module _ {S : Type 0} (holds : S → Durable → Durable → Type 0) (used forma
 
 module _ {S : Type 0} (holds : S → Durable → Durable → Type 0) (used format : S → ℕ) (told : S → Bool) (rose : S → S → Type 0) (was : S → S → Durable → Durable → Type 0) (setup : Setup) (history : History) (old new : Cluster S) where
   -- the same history
-  pub reached_still : (own : Option ℕ) (later : History) → later ≡ history → IsReached holds used format told setup history old → HasStayed holds used format told rose was setup (replay setup history) own old new → IsReached holds used format told setup later new
+  reached_still : (own : Option ℕ) (later : History) → later ≡ history → IsReached holds used format told setup history old → HasStayed holds used format told rose was setup (replay setup history) own old new → IsReached holds used format told setup later new
   reached_still own later is reached stayed = subst (λ l. IsReached holds used format told setup l new) (sym is) (record { legal = reached.legal; short = reached.short; shows = stayed.shows })
+
+-- what holds of a group holds of the same one
+pub as_begun : {D : Type 0} → (faults moment : D → ℕ) (number : ℕ) (setup : Setup) (history later : History) (old new began : Cluster (Kept D)) (earlier : History) → began ≡ old → earlier ≡ history → (P : GroupIs → Type 0) → P (group_of faults moment number setup history old later new) → P (group_of faults moment number setup earlier began later new)
+as_begun {D = D} faults moment number setup history later old new began earlier same_cluster same_history P holds =
+    subst (λ h. P (group_of faults moment number setup h began later new)) (sym same_history)
+    (subst (λ (b : Cluster (Kept D)). P (group_of faults moment number setup history b later new)) (sym same_cluster) holds)
 
 module _ {D : Type 0} (seen : D → Option (List ℕ)) (may_leave : D → Images) (faults moment : D → ℕ) (left_since : D → ℕ → Images) (tells_moments : Bool) (setup : Setup) (history : History) (old new : Cluster (Kept D)) where
   abbrev pub Went : Event → Answer → Type 0
@@ -149,52 +158,131 @@ module _ {D : Type 0} (seen : D → Option (List ℕ)) (may_leave : D → Images
   Stayed own = HasStayed (holds_in seen may_leave) used_in format_in (told_in seen) (rose_in faults) (was_in seen faults moment left_since tells_moments) setup (replay setup history) own old new
 
   module _ (reached : IsReached (holds_in seen may_leave) used_in format_in (told_in seen) setup history old) where
-    later_went : (event : Event) (answer : Answer) → Went event answer → AreLater (all_faults faults old) (all_faults faults new)
+    later_went : (event : Event) (answer : Answer) → Went event answer → AreLater (all_counts faults old) (all_counts faults new)
     later_went event answer gone = all_later seen may_leave faults moment left_since tells_moments (replay setup history) (happens setup (replay setup history) event (ending answer)) setup (acts_at (replay setup history) event) old new reached.shows gone.shows gone.crash gone.others
 
-    later_stayed : (own : Option ℕ) → Stayed own → AreLater (all_faults faults old) (all_faults faults new)
+    later_stayed : (own : Option ℕ) → Stayed own → AreLater (all_counts faults old) (all_counts faults new)
     later_stayed own stayed = all_later seen may_leave faults moment left_since tells_moments (replay setup history) (replay setup history) setup own old new reached.shows stayed.shows stayed.crash stayed.others
 
     -- each server still has its own head
-    pub heads_went : (event : Event) (answer : Answer) → Went event answer → (number : ℕ) → HaveHeads number old → HaveHeads number new
+    heads_went : (event : Event) (answer : Answer) → Went event answer → (number : ℕ) → HaveHeads number old → HaveHeads number new
     heads_went event answer gone = heads_kept seen may_leave faults moment left_since tells_moments (replay setup history) (happens setup (replay setup history) event (ending answer)) setup (acts_at (replay setup history) event) old new reached.shows gone.shows gone.crash gone.others
 
-    pub heads_stayed : (own : Option ℕ) → Stayed own → (number : ℕ) → HaveHeads number old → HaveHeads number new
+    heads_stayed : (own : Option ℕ) → Stayed own → (number : ℕ) → HaveHeads number old → HaveHeads number new
     heads_stayed own stayed = heads_kept seen may_leave faults moment left_since tells_moments (replay setup history) (replay setup history) setup own old new reached.shows stayed.shows stayed.crash stayed.others
 
-    module _ (number : ℕ) (later : History) where
-      pub steps_of : (event : Event) (answer : Answer) (h : Happening) → later ≡ history ++ h ∷ [] → h.event ≡ event → h.answer ≡ answer → MayHappen (claims_of [] history) event → Went event answer → Steps (group_of faults number setup history old) event answer (group_of faults number setup later new)
+    module _ (number : ℕ) (earlier : History) (began : Cluster (Kept D)) (later : History) where
+      -- as it was, and as it is after a step that began then
+      abbrev Was : GroupIs
+      Was = group_of faults moment number setup earlier began history old
+
+      abbrev Is : GroupIs
+      Is = group_of faults moment number setup history old later new
+
+      pub steps_of : (event : Event) (answer : Answer) (h : Happening) → later ≡ history ++ h ∷ [] → h.event ≡ event → h.answer ≡ answer → MayHappen (claims_of [] history) event → Went event answer → Steps Was event answer Is
       steps_of event answer h is same_event same_answer may gone =
           let stamped = same_happening h.event event h.answer answer same_event same_answer in
           record {
             legal = record { asked = may; answered = gone.answered };
-            recorded = ap (λ l. let g : GroupIs = record { number = number; setup = setup; history = l; taken = taken_of new; faults = all_faults faults new } in g) (is ∙ ap (λ x. history ++ x ∷ []) stamped)
-                ∙ ap (λ t. let g : GroupIs = record { number = number; setup = setup; history = history ++ record { event = event; answer = answer } ∷ []; taken = t; faults = all_faults faults new } in g) gone.taken;
+            recorded = ap (λ l. record Is { history = l }) (is ∙ ap (λ x. history ++ x ∷ []) stamped)
+                ∙ ap (λ t. record Is { history = history ++ record { event = event; answer = answer } ∷ []; taken = t }) gone.taken;
             cause = λ halted. let c = gone.cause halted in (c.0, c.1, has_risen faults old new c.0 c.2);
             later = later_went event answer gone;
             others = λ j apart. others_same faults _ old new gone.others j apart;
+            begins = refl;
+            still = λ j apart. others_same moment _ old new gone.others j apart;
           }
 
-      left_same : later ≡ history → Stayed None → group_of faults number setup later new ≡ group_of faults number setup history old
+      -- there was no memory for it
+      left_same : later ≡ history → Stayed None → group_of faults moment number setup earlier began later new ≡ Was
       left_same is stayed =
-          ap (λ l. group_of faults number setup l new) is
-          ∙ ap (λ t. let g : GroupIs = record { number = number; setup = setup; history = history; taken = t; faults = all_faults faults new } in g) stayed.taken
-          ∙ ap (λ f. let g : GroupIs = record { number = number; setup = setup; history = history; taken = taken_of old; faults = f } in g) (all_same faults old new stayed.others)
+          ap (λ l. group_of faults moment number setup earlier began l new) is
+          ∙ ap (λ t. record (group_of faults moment number setup earlier began history new) { taken = t }) stayed.taken
+          ∙ ap (λ f. record Was { faults = f; time = record Was.time { now = all_counts moment new } }) (all_same faults old new stayed.others)
+          ∙ ap (λ m. record Was { time = record Was.time { now = m } }) (all_same moment old new stayed.others)
 
-      pub left_of : (event : GroupEvent) → later ≡ history → Stayed (own_of event) → IsLeft (group_of faults number setup history old) event (group_of faults number setup later new)
-      left_of (asked.Submit server range payload) is stayed = left_same is stayed
-      left_of (asked.Mark server) is stayed = left_same is stayed
-      left_of (asked.Fetch server range) is stayed = left_same is stayed
-      left_of (asked.Deliver k) is stayed = left_same is stayed
-      left_of (asked.Lose k) is stayed = left_same is stayed
-      left_of (asked.Elect server) is stayed = left_same is stayed
-      left_of (asked.Resend server) is stayed = left_same is stayed
-      left_of (asked.Stop server) is stayed = left_same is stayed
-      left_of (asked.Restart server) is stayed = (
-        ap (λ l. group_of faults number setup l new) is ∙ ap (λ t. let g : GroupIs = record { number = number; setup = setup; history = history; taken = t; faults = all_faults faults new } in g) stayed.taken,
-        later_stayed (Some server) stayed,
-        λ j apart. others_same faults (Some server) old new stayed.others j (λ same. apart (sym (same_Some server j same))),
-      )
-      left_of asked.Claim is stayed = left_same is stayed
-      left_of (asked.Finish filled) is stayed = left_same is stayed
-      left_of (asked.Checkpoint server) is stayed = left_same is stayed
+      -- for a restart, which may have touched the disks of its server
+      has_tried : (server : ℕ) → later ≡ history → Stayed (Some server) → HasTried Was server Is
+      has_tried server is stayed = record {
+        is = ap (λ l. record Is { history = l }) is ∙ ap (λ t. record Is { history = history; taken = t }) stayed.taken;
+        later = later_stayed (Some server) stayed;
+        others = λ j apart. others_same faults (Some server) old new stayed.others j (λ same. apart (sym (same_Some server j same)));
+        begins = refl;
+        still = λ j apart. others_same moment (Some server) old new stayed.others j (λ same. apart (sym (same_Some server j same)));
+      }
+
+    since_went : (event : Event) (answer : Answer) → Went event answer → IsSince seen faults moment left_since tells_moments (replay setup history) (happens setup (replay setup history) event (ending answer)) old new
+    since_went event answer gone = since_step seen may_leave faults moment left_since tells_moments setup (replay setup history) (happens setup (replay setup history) event (ending answer)) (acts_at (replay setup history) event) old new reached.shows gone.crash gone.others
+
+    since_stayed : (own : Option ℕ) → Stayed own → IsSince seen faults moment left_since tells_moments (replay setup history) (replay setup history) old new
+    since_stayed own stayed = since_step seen may_leave faults moment left_since tells_moments setup (replay setup history) (replay setup history) own old new reached.shows stayed.crash stayed.others
+
+    module _ (number : ℕ) (heads : HaveHeads number old) (later : History) where
+      abbrev Stands : (earlier : History) (began : Cluster (Kept D)) → Type 0
+      Stands earlier began = Stood seen may_leave faults moment left_since tells_moments number setup earlier began later new
+
+      module _ (earlier : History) (began : Cluster (Kept D)) (same_cluster : began ≡ old) (same_history : earlier ≡ history) where
+        -- after a step that began here
+        pub stood_gone : (event : Event) (answer : Answer) → later ≡ history ++ record { event = event; answer = answer } ∷ [] → length later ≤ 2 ^ 32 → MayHappen (claims_of [] history) event → Went event answer → Stands earlier began
+        stood_gone event answer is low may gone =
+            let state = ap (replay setup) is ∙ replay_goes_on setup history (record { event = event; answer = answer }) in
+            record {
+              reached = reached_longer (holds_in seen may_leave) used_in format_in (told_in seen) (rose_in faults) (was_in seen faults moment left_since tells_moments) setup history old new event answer later is low reached may gone;
+              heads = heads_went event answer gone number heads;
+              since = since_as seen may_leave faults moment left_since tells_moments setup history earlier later _ old new began same_cluster same_history state (since_went event answer gone);
+            }
+
+        stood_tried : (own : Option ℕ) → later ≡ history → Stayed own → Stands earlier began
+        stood_tried own is stayed = record {
+          reached = reached_still (holds_in seen may_leave) used_in format_in (told_in seen) (rose_in faults) (was_in seen faults moment left_since tells_moments) setup history old new own later is reached stayed;
+          heads = heads_stayed own stayed number heads;
+          since = since_as seen may_leave faults moment left_since tells_moments setup history earlier later (replay setup history) old new began same_cluster same_history (ap (replay setup) is) (since_stayed own stayed);
+        }
+
+      -- as it stood, where no disk was touched
+      stood_still : (earlier : History) (began : Cluster (Kept D)) → later ≡ history → IsSince seen faults moment left_since tells_moments (replay setup earlier) (replay setup history) began old → Stayed None → Stands earlier began
+      stood_still earlier began is since stayed = record {
+        reached = reached_still (holds_in seen may_leave) used_in format_in (told_in seen) (rose_in faults) (was_in seen faults moment left_since tells_moments) setup history old new None later is reached stayed;
+        heads = heads_stayed None stayed number heads;
+        since = since_still seen may_leave faults moment left_since tells_moments (replay setup earlier) (replay setup later) began old new stayed.others (subst (λ l. IsSince seen faults moment left_since tells_moments (replay setup earlier) (replay setup l) began old) (sym is) since);
+      }
+
+    -- There was no memory for an event: a step began with it only where it may have touched disks
+    module _ (number : ℕ) (before after : Began D) (later : History) (is : later ≡ history) where
+      abbrev Left : GroupIs
+      Left = group_of faults moment number setup after.happenings.value.items after.cluster.value later new
+
+      abbrev WasSo : GroupIs
+      WasSo = group_of faults moment number setup before.happenings.value.items before.cluster.value history old
+
+      stays : after ≡ before → Stayed None → Left ≡ WasSo
+      stays same stayed =
+          ap (λ (b : Began D). group_of faults moment number setup b.happenings.value.items b.cluster.value later new) same
+          ∙ left_same number before.happenings.value.items before.cluster.value later is stayed
+
+      tries : (server : ℕ) → IsBegun old later after → Stayed (Some server) → HasTried WasSo server Left
+      tries server begun stayed =
+          as_begun faults moment number setup history later old new after.cluster.value after.happenings.value.items begun.cluster_is (begun.history_is ∙ is) (HasTried WasSo server)
+          (has_tried number before.happenings.value.items before.cluster.value later server is stayed)
+
+      pub left_of : (event : GroupEvent) → IsBegunIf (own_of event) old later before after → Stayed (own_of event) → IsLeft WasSo event Left
+      left_of (asked.Submit server range payload) begun stayed = stays begun stayed
+      left_of (asked.Mark server) begun stayed = stays begun stayed
+      left_of (asked.Fetch server range) begun stayed = stays begun stayed
+      left_of (asked.Deliver k) begun stayed = stays begun stayed
+      left_of (asked.Lose k) begun stayed = stays begun stayed
+      left_of (asked.Elect server) begun stayed = stays begun stayed
+      left_of (asked.Resend server) begun stayed = stays begun stayed
+      left_of (asked.Stop server) begun stayed = stays begun stayed
+      left_of (asked.Restart server) begun stayed = inr (tries server begun stayed)
+      left_of asked.Claim begun stayed = stays begun stayed
+      left_of (asked.Finish filled) begun stayed = stays begun stayed
+      left_of (asked.Checkpoint server) begun stayed = stays begun stayed
+
+      pub stood_left : HaveHeads number old → IsSince seen faults moment left_since tells_moments (replay setup before.happenings.value.items) (replay setup history) before.cluster.value old → (own : Option ℕ) → IsBegunIf own old later before after → Stayed own
+          → Stood seen may_leave faults moment left_since tells_moments number setup after.happenings.value.items after.cluster.value later new
+      stood_left heads since None begun stayed =
+          subst (λ (b : Began D). Stood seen may_leave faults moment left_since tells_moments number setup b.happenings.value.items b.cluster.value later new) (sym begun)
+          (stood_still number heads later before.happenings.value.items before.cluster.value is since stayed)
+      stood_left heads since (Some server) begun stayed =
+          stood_tried number heads later after.happenings.value.items after.cluster.value begun.cluster_is (begun.history_is ∙ is) (Some server) is stayed

@@ -4,13 +4,24 @@ use Rattle.pf_protocol.specs.Servers.{Setup}
 use Rattle.pf_protocol.specs.Groups.{Group}
 use Rattle.pf_protocol.specs.Histories.{History, replay}
 
+-- How far its disks are in time: for each server, the moments of the disks of its halves 0 and 1
+pub record Times : Type 0 where
+  pub now : List (ℕ × ℕ)
+  pub began : List (ℕ × ℕ)  -- when the last step of the group began
+  pub earlier : History  -- what had happened by then
+
 pub record GroupIs : Type 0 where
   pub number : ℕ  -- of the group in its volume
   pub setup : Setup
   pub history : History
   pub taken : List Bool  -- for each read by its number, whether its answer was handed out
   pub faults : List (ℕ × ℕ)  -- for each server, how often the disks of its halves 0 and 1 have failed
+  pub time : Times
 
 -- the state after the history
 abbrev pub state_of : GroupIs → Group
 state_of g = replay g.setup g.history
+
+-- the state when the last step began
+abbrev pub state_before : GroupIs → Group
+state_before g = replay g.setup g.time.earlier
