@@ -1,5 +1,5 @@
 -- What a crash since the last step of a group began left.
-use Rattle.std.proofs.Common.{◌≡◌, ◌≢◌, ◌⊎◌, inl, inr, ℕ, ◌<◌, Bool, if◌then◌else◌, is_some, List, length, Option, Some, None, option_map, slice_get, arith, refl, sym, ap, subst, ◌∙◌}
+use Rattle.std.proofs.Common.{◌≡◌, ◌⊎◌, inl, inr, ℕ, ◌<◌, ◌≤◌, ◌^◌, Bool, if◌then◌else◌, is_some, List, length, Option, Some, None, option_map, slice_get, arith, refl, sym, ap, subst, ◌∙◌}
 use Rattle.std.proofs.lemmas.Option.{none-some, same_Some, slice_get_within}
 use Rattle.pf_disk.specs.Crashes.{Images}
 use Rattle.pf_entry.specs.Records.{Durable}
@@ -10,18 +10,22 @@ use Rattle.pf_kept.specs.Kept.{LeavesStates}
 use Rattle.pf_kept.specs.declared.kept.Kept.{Kept}
 use Rattle.pf_server.specs.declared.server.Server.{Server}
 use Rattle.pf_cluster.specs.declared.cluster.Cluster.{Cluster}
-use Rattle.pf_cluster.specs.Going.{IsReached, KeepsOthers, Passes, Touches, WasTouched, store_at}
+use Rattle.pf_cluster.specs.Going.{KeepsOthers, Passes, Touches, WasTouched, store_at}
 use Rattle.pf_cluster.specs.Showing.{Shows}
 use Rattle.pf_cluster.proofs.Lists.{something_there}
 use Rattle.pf_opening.specs.Opening.{head_of}
 use Rattle.pf_group.specs.declared.group.Group.TheInside.{Inside}
 use Rattle.pf_group.specs.declared.began.Began.{Began}
+use Rattle.pf_group.specs.declared.event.GroupEvent.{GroupEvent}
 use Rattle.pf_group.specs.Beginning.{IsBegun, IsBegunIf}
 use Rattle.pf_group.specs.Crashing.{AllLeaveAtCrash, LeavesAtCrash, WasLeft, WereTouched}
 use Rattle.pf_group.specs.GroupIs.{GroupIs}
-use Rattle.pf_group.specs.Halves.{all_counts, format_in, holds_in, told_in, used_in, was_in}
+use Rattle.pf_group.specs.Halves.{format_in, holds_in, told_in, used_in, was_in}
 use Rattle.pf_group.specs.Inside.{HaveHeads, IsGroup, IsSince, group_of, setup_in}
 use Rattle.pf_group.specs.Leaving.{head_in}
+use Rattle.pf_group.specs.Reacting.{IsTold}
+use Rattle.pf_group.specs.Standing.{AllTell, StandsFor}
+use Rattle.pf_group.proofs.Standing.{is_told}
 use Rattle.pf_group.proofs.Faults.{at_own, faults_at, some_mapped}
 
 module _ {D : Type 0} where
@@ -54,10 +58,10 @@ module _ {D : Type 0} (seen : D → Option (List ℕ)) (may_leave : D → Images
   untouched before after i old new same = record { between = old; first = inl refl; second = inl same }
 
   -- a step that touched no disks but those of its own server
-  pub since_step : (setup : Setup) (before after : Group) (own : Option ℕ) (old new : Cluster (Kept D)) → Stands setup old before → Touches Was before after own old new → KeepsOthers own old new → Since before after old new
-  since_step setup before after own old new shows crash others = record {
+  pub since_step : (setup : Setup) (before after : Group) (own : Option ℕ) (old new : Cluster (Kept D)) → Stands setup old before → AllTell (told_in seen) old → Touches Was before after own old new → KeepsOthers own old new → Since before after old new
+  since_step setup before after own old new shows tell crash others = record {
     three = shows.three;
-    told = λ i server there. (shows.members i server there).2.tells;
+    told = tell;
     touched = λ i server next there now. elim (at_own own i) [
       | inl is ↦ crash i server next is there now
       | inr apart ↦ untouched before after i server.store next.store (kept_at old new i server next (others i apart) there now)
@@ -65,10 +69,10 @@ module _ {D : Type 0} (seen : D → Option (List ℕ)) (may_leave : D → Images
   }
 
   -- a step that begins now
-  pub since_now : (setup : Setup) (shown g h : Group) (began cluster : Cluster (Kept D)) → began ≡ cluster → Stands setup cluster shown → Since g h began cluster
-  since_now setup shown g h began cluster is shows = subst (λ (b : Cluster (Kept D)). Since g h b cluster) (sym is) (record {
+  pub since_now : (setup : Setup) (shown g h : Group) (began cluster : Cluster (Kept D)) → began ≡ cluster → Stands setup cluster shown → AllTell (told_in seen) cluster → Since g h began cluster
+  since_now setup shown g h began cluster is shows tell = subst (λ (b : Cluster (Kept D)). Since g h b cluster) (sym is) (record {
     three = shows.three;
-    told = λ i server there. (shows.members i server there).2.tells;
+    told = tell;
     touched = λ i server next there now. untouched g h i server.store next.store (kept_at cluster cluster i server next refl there now);
   })
 
@@ -122,12 +126,19 @@ module _ {D : Type 0} (seen : D → Option (List ℕ)) (may_leave : D → Images
 
   -- what holds of the fields of a group, but for the room of its past
   pub record Stood (number : ℕ) (setup : Setup) (earlier : History) (began : Cluster (Kept D)) (history : History) (cluster : Cluster (Kept D)) : Type 0 where
-    pub reached : IsReached (holds_in seen may_leave) used_in format_in (told_in seen) setup history cluster
+    pub stands : StandsFor (holds_in seen may_leave) used_in format_in (told_in seen) setup history cluster
+    pub tell : AllTell (told_in seen) cluster
     pub heads : HaveHeads number cluster
     pub since : Since (replay setup earlier) (replay setup history) began cluster
 
   pub stood : (g : Inside D) → IsGroup seen may_leave faults moment left_since tells_moments g → Stood g.number (setup_in g) g.began.happenings.value.items g.began.cluster.value g.past.happenings.items g.cluster
-  stood g is = record { reached = is.reached; heads = is.heads; since = is.since }
+  stood g is = record { stands = is.stands; tell = is.tell; heads = is.heads; since = is.since }
+
+  -- an event may be carried out by the rules
+  pub told_now : (g : Inside D) (is : IsGroup seen may_leave faults moment left_since tells_moments g) → (event : GroupEvent) → IsTold (told_in seen) (setup_in g) is.stands.past.group g.cluster event
+  told_now g is event =
+      let few : length g.past.happenings.items ≤ 2 ^ 32 = omega (arith, is.past.few, g.past.happenings.ok.0) in
+      is_told (holds_in seen may_leave) used_in format_in (told_in seen) (setup_in g) g.past.happenings.items g.cluster is.stands is.tell few event
 
   module _ (number : ℕ) (setup : Setup) (earlier : History) (began : Cluster (Kept D)) (history : History) (cluster : Cluster (Kept D)) (is : Stood number setup earlier began history cluster) where
     abbrev Now : GroupIs
@@ -137,11 +148,11 @@ module _ {D : Type 0} (seen : D → Option (List ℕ)) (may_leave : D → Images
     Leaves = LeavesAtCrash seen moment left_since tells_moments Now
 
     own_head : (i : ℕ) (next : Server (Kept D)) → slice_get cluster.servers.items i ≡ Some next → next.store.pair.head ≡ head_in Now i
-    own_head i next now = is.heads i next now ∙ ap (head_of number) (is.reached.shows.members i next now).2.seat
+    own_head i next now = is.heads i next now ∙ ap (head_of number) (is.stands.reached.shows.members i next now).2.seat
 
     its_crash : (i : ℕ) (next : Server (Kept D)) → slice_get cluster.servers.items i ≡ Some next → Leaves i next.store.pair.zero.disk next.store.pair.one.disk
     its_crash i next now =
-        let within : i < length began.servers.items = omega (arith, slice_get_within cluster.servers.items i next now, is.since.three, is.reached.shows.three) in
+        let within : i < length began.servers.items = omega (arith, slice_get_within cluster.servers.items i next now, is.since.three, is.stands.reached.shows.three) in
         let there = something_there began.servers.items i within in
         record {
           old = halves there.0.store;
@@ -157,6 +168,6 @@ module _ {D : Type 0} (seen : D → Option (List ℕ)) (may_leave : D → Images
 
     pub all_leave : AllLeaveAtCrash seen moment left_since tells_moments Now
     all_leave i low =
-        let within : i < length cluster.servers.items = omega (arith, low, is.reached.shows.three) in
+        let within : i < length cluster.servers.items = omega (arith, low, is.stands.reached.shows.three) in
         let at = something_there cluster.servers.items i within in
         (at.0.store.pair.zero.disk, (at.0.store.pair.one.disk, its_crash i at.0 at.1))

@@ -1,9 +1,9 @@
 -- What a group's fields stand for.
-use Rattle.std.specs.Prelude.{◌≡◌, ℕ, Bool, IsTrue, Option, List, Some, length, slice_get}
+use Rattle.std.specs.Prelude.{◌≡◌, ℕ, Bool, Option, List, Some, length, slice_get}
 use Rattle.pf_disk.specs.Crashes.{Images}
 use Rattle.pf_protocol.specs.Servers.{Setup}
 use Rattle.pf_protocol.specs.Groups.{Group}
-use Rattle.pf_cluster.specs.Going.{IsReached, WasTouched}
+use Rattle.pf_cluster.specs.Going.{WasTouched}
 use Rattle.pf_cluster.specs.Readings.{taken_of}
 use Rattle.pf_group.specs.declared.group.Group.TheInside.{Inside}
 use Rattle.pf_group.specs.GroupIs.{GroupIs}
@@ -13,6 +13,7 @@ use Rattle.pf_cluster.specs.declared.cluster.Cluster.{Cluster}
 use Rattle.pf_group.specs.Making.{setup_with}
 use Rattle.pf_group.specs.Halves.{all_counts, format_in, holds_in, told_in, used_in, was_in}
 use Rattle.pf_group.specs.Pasts.{IsPast}
+use Rattle.pf_group.specs.Standing.{AllTell, StandsFor}
 use Rattle.pf_opening.specs.Opening.{head_of}
 use Rattle.pf_server.specs.declared.server.Server.{Server}
 
@@ -43,13 +44,14 @@ module _ {D : Type 0} where
     -- before it or after it
     pub record IsSince (before after : Group) (began cluster : Cluster (Kept D)) : Type 0 where
       pub three : length began.servers.items ≡ 3
-      pub told : (i : ℕ) (server : Server (Kept D)) → slice_get began.servers.items i ≡ Some server → IsTrue (told_in seen server.store)
+      pub told : AllTell (told_in seen) began
       pub touched : (i : ℕ) (server next : Server (Kept D)) → slice_get began.servers.items i ≡ Some server → slice_get cluster.servers.items i ≡ Some next
           → WasTouched (was_in seen faults moment left_since tells_moments) before after i server.store next.store
 
-  -- the servers stand for the state after the history
+  -- the servers stand for the state after the history, since the disks of each tell their content
   pub record IsGroup (seen : D → Option (List ℕ)) (may_leave : D → Images) (faults moment : D → ℕ) (left_since : D → ℕ → Images) (tells_moments : Bool) (g : Inside D) : Type 0 where
-    pub reached : IsReached (holds_in seen may_leave) used_in format_in (told_in seen) (setup_in g) g.past.happenings.items g.cluster
+    pub stands : StandsFor (holds_in seen may_leave) used_in format_in (told_in seen) (setup_in g) g.past.happenings.items g.cluster
+    pub tell : AllTell (told_in seen) g.cluster
     pub heads : HaveHeads g.number g.cluster
     pub past : IsPast g.past
     pub since : IsSince seen faults moment left_since tells_moments (replay (setup_in g) g.began.happenings.value.items) (replay (setup_in g) g.past.happenings.items) g.began.cluster.value g.cluster

@@ -16,7 +16,8 @@ use Rattle.pf_group.specs.GroupIs.{GroupIs, Times}
 use Rattle.pf_group.specs.Halves.{AreLater, HasRisen, format_in, holds_in, told_in, used_in}
 use Rattle.pf_group.specs.Making.{making_answer, setup_with, six_faults}
 use Rattle.pf_group.specs.Rooms.{halted_of, picked}
-use Rattle.pf_group.proofs.Made.{every_picked, opened_members, opened_there, own_head, picked_0, picked_1, picked_2, picks_ascend, reached_opening, shows_opening, three_heads, three_later, was_halted}
+use Rattle.pf_group.proofs.Made.{every_picked, opened_members, opened_there, own_head, picked_0, picked_1, picked_2, picks_ascend, shows_opening, three_heads, three_later, three_tell, was_halted}
+use Rattle.pf_group.proofs.Standing.{stands_opening}
 use Rattle.pf_group.proofs.Since.{since_now}
 use Rattle.pf_group.proofs.making.Plan.open.Goals as goal
 
@@ -32,23 +33,25 @@ invariant_of-group g c =
     shows_opening (holds_in g.D.Disk.seen g.D.Disk.may_leave) used_in format_in (told_in g.D.Disk.seen) setup cluster c.open-zero.result.0 c.open-one.result.0 c.open-two.result.0 servers
     (opened_members (holds_in g.D.Disk.seen g.D.Disk.may_leave) used_in format_in (told_in g.D.Disk.seen) setup c.open-zero.result.0 c.open-one.result.0 c.open-two.result.0
     (opened_there (holds_in g.D.Disk.seen g.D.Disk.may_leave) used_in format_in (told_in g.D.Disk.seen) setup 0 p.zero (ap (λ (q : Place). q.seat) c.requires.plan.zero) c.open-zero.result.0 c.open-zero.result.1
-    (ap (list_any (λ j. j == 0)) failed ∙ picked_0 (halted_of c.open-zero.result.1) (halted_of c.open-one.result.1) (halted_of c.open-two.result.1)) c.open-zero.ensures.outcome c.open-zero.ensures.opened c.open-zero.ensures.halted c.open-zero.ensures.seat
-    (c.open-zero.ensures.told ∙ and_from _ _ c.requires.told.s0h0 c.requires.told.s0h1))
+    (ap (list_any (λ j. j == 0)) failed ∙ picked_0 (halted_of c.open-zero.result.1) (halted_of c.open-one.result.1) (halted_of c.open-two.result.1)) c.open-zero.ensures.outcome c.open-zero.ensures.opened c.open-zero.ensures.halted c.open-zero.ensures.seat)
     (opened_there (holds_in g.D.Disk.seen g.D.Disk.may_leave) used_in format_in (told_in g.D.Disk.seen) setup 1 p.one (ap (λ (q : Place). q.seat) c.requires.plan.one) c.open-one.result.0 c.open-one.result.1
-    (ap (list_any (λ j. j == 1)) failed ∙ picked_1 (halted_of c.open-zero.result.1) (halted_of c.open-one.result.1) (halted_of c.open-two.result.1)) c.open-one.ensures.outcome c.open-one.ensures.opened c.open-one.ensures.halted c.open-one.ensures.seat
-    (c.open-one.ensures.told ∙ and_from _ _ c.requires.told.s1h0 c.requires.told.s1h1))
+    (ap (list_any (λ j. j == 1)) failed ∙ picked_1 (halted_of c.open-zero.result.1) (halted_of c.open-one.result.1) (halted_of c.open-two.result.1)) c.open-one.ensures.outcome c.open-one.ensures.opened c.open-one.ensures.halted c.open-one.ensures.seat)
     (opened_there (holds_in g.D.Disk.seen g.D.Disk.may_leave) used_in format_in (told_in g.D.Disk.seen) setup 2 p.two (ap (λ (q : Place). q.seat) c.requires.plan.two) c.open-two.result.0 c.open-two.result.1
-    (ap (list_any (λ j. j == 2)) failed ∙ picked_2 (halted_of c.open-zero.result.1) (halted_of c.open-one.result.1) (halted_of c.open-two.result.1)) c.open-two.ensures.outcome c.open-two.ensures.opened c.open-two.ensures.halted c.open-two.ensures.seat
-    (c.open-two.ensures.told ∙ and_from _ _ c.requires.told.s2h0 c.requires.told.s2h1)))
+    (ap (list_any (λ j. j == 2)) failed ∙ picked_2 (halted_of c.open-zero.result.1) (halted_of c.open-one.result.1) (halted_of c.open-two.result.1)) c.open-two.ensures.outcome c.open-two.ensures.opened c.open-two.ensures.halted c.open-two.ensures.seat))
     e.packets e.places e.bytes e.acked e.readings e.elections in
+    let tell = three_tell (told_in g.D.Disk.seen) cluster c.open-zero.result.0 c.open-one.result.0 c.open-two.result.0 servers
+    (c.open-zero.ensures.told ∙ and_from _ _ c.requires.told.s0h0 c.requires.told.s0h1)
+    (c.open-one.ensures.told ∙ and_from _ _ c.requires.told.s1h0 c.requires.told.s1h1)
+    (c.open-two.ensures.told ∙ and_from _ _ c.requires.told.s2h0 c.requires.told.s2h1) in
     record {
-      reached = reached_opening (holds_in g.D.Disk.seen g.D.Disk.may_leave) used_in format_in (told_in g.D.Disk.seen) setup p.past.happenings.items cluster c.requires.setup c.requires.plan.history shows;
+      stands = stands_opening (holds_in g.D.Disk.seen g.D.Disk.may_leave) used_in format_in (told_in g.D.Disk.seen) setup p.past.happenings.items cluster c.requires.setup c.requires.plan.history shows;
+      tell = tell;
       heads = three_heads p.number cluster c.open-zero.result.0 c.open-one.result.0 c.open-two.result.0 servers
           (own_head p.number p.sectors p.names p.format 0 p.zero c.requires.plan.zero c.open-zero.result.0.seat c.open-zero.result.0.store.pair.head c.open-zero.ensures.seat c.open-zero.ensures.head)
           (own_head p.number p.sectors p.names p.format 1 p.one c.requires.plan.one c.open-one.result.0.seat c.open-one.result.0.store.pair.head c.open-one.ensures.seat c.open-one.ensures.head)
           (own_head p.number p.sectors p.names p.format 2 p.two c.requires.plan.two c.open-two.result.0.seat c.open-two.result.0.store.pair.head c.open-two.ensures.seat c.open-two.ensures.head);
       past = c.requires.plan.past;
-      since = since_now g.D.Disk.seen g.D.Disk.may_leave g.D.Disk.faults g.D.Disk.moment g.D.Disk.left_since g.D.Disk.tells_moments setup (opening setup) (replay setup c.now-began.result.happenings.value.items) (replay setup p.past.happenings.items) c.now-began.result.cluster.value cluster c.now-began.ensures.cluster_is shows;
+      since = since_now g.D.Disk.seen g.D.Disk.may_leave g.D.Disk.faults g.D.Disk.moment g.D.Disk.left_since g.D.Disk.tells_moments setup (opening setup) (replay setup c.now-began.result.happenings.value.items) (replay setup p.past.happenings.items) c.now-began.result.cluster.value cluster c.now-began.ensures.cluster_is shows tell;
     }
 
 pub returns : goal.returns
