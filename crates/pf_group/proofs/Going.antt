@@ -1,5 +1,5 @@
 -- A group after one more event.
-use Rattle.std.proofs.Common.{◌≡◌, ◌≢◌, ℕ, zero, suc, ◌<◌, ◌≤◌, ◌^◌, ◌||◌, inl, inr, Bool, true, false, List, [], ◌∷◌, ◌++◌, length, Option, Some, None, Result, Ok, Err, OnErr, slice_get, arith, refl, sym, ap, subst, ◌∙◌}
+use Rattle.std.proofs.Common.{◌≡◌, ℕ, zero, suc, ◌<◌, ◌≤◌, ◌^◌, ◌||◌, inl, inr, Bool, true, false, List, [], ◌∷◌, ◌++◌, length, Option, Some, None, Result, Ok, Err, OnErr, slice_get, arith, refl, sym, ap, subst, ◌∙◌}
 use Rattle.std.specs.List.{list_any}
 use Rattle.std.proofs.lemmas.Option.{none-some, same_Some}
 use Rattle.std.proofs.lemmas.Bool.{and_from, and_parts, eq-eqb, eqb-true, false≢true}
@@ -21,12 +21,11 @@ use Rattle.pf_protocol.proofs.ForMoments.{legal_goes_on, replay_goes_on}
 use Rattle.pf_kept.specs.declared.kept.Kept.{Kept}
 use Rattle.pf_cluster.specs.declared.cluster.Cluster.{Cluster}
 use Rattle.pf_cluster.specs.Going.{HasGone, HasStayed, IsReached, acts_at}
-use Rattle.pf_cluster.specs.Readings.{taken_of}
 use Rattle.pf_cluster.specs.Showing.{Shows}
 use Rattle.pf_group.specs.declared.event.GroupEvent.{GroupEvent}
 use Rattle.pf_group.specs.declared.event.GroupEvent.TheVariants as asked
 use Rattle.pf_group.specs.Events.{Brings, MayAsk, event_of}
-use Rattle.pf_group.specs.GroupIs.{GroupIs}
+use Rattle.pf_group.specs.GroupIs.{AddsOne, GroupIs}
 use Rattle.pf_group.specs.Halves.{AreLater, all_counts, format_in, holds_in, rose_in, told_in, used_in, was_in}
 use Rattle.pf_group.specs.Inside.{HaveHeads, IsSince, group_of}
 use Rattle.pf_group.specs.declared.began.Began.{Began}
@@ -35,7 +34,7 @@ use Rattle.pf_group.specs.Beginning.{IsBegun, IsBegunIf}
 use Rattle.pf_group.specs.Pasts.{HasPlaceFor, HasRoomFor, IsKeepable}
 use Rattle.pf_group.specs.Reacting.{own_of}
 use Rattle.pf_group.specs.Steps.{HasTried, IsLeft, Steps}
-use Rattle.pf_group.proofs.Faults.{all_later, all_same, has_risen, heads_kept, later_same, others_same}
+use Rattle.pf_group.proofs.Faults.{all_later, all_same, has_risen, heads_kept, others_same}
 use Rattle.pf_group.proofs.Plain.{claims_low}
 use Rattle.pf_group.proofs.Since.{Stood, since_as, since_step, since_still}
 
@@ -229,6 +228,7 @@ module _ {D : Type 0} (seen : D → Option (List ℕ)) (may_leave : D → Images
             record {
               reached = reached_longer (holds_in seen may_leave) used_in format_in (told_in seen) (rose_in faults) (was_in seen faults moment left_since tells_moments) setup history old new event answer later is low reached may gone;
               heads = heads_went event answer gone number heads;
+              last = inr (record { event = event; answer = answer }, is ∙ ap (λ l. l ++ record { event = event; answer = answer } ∷ []) (sym same_history));
               since = since_as seen may_leave faults moment left_since tells_moments setup history earlier later _ old new began same_cluster same_history state (since_went event answer gone);
             }
 
@@ -236,14 +236,16 @@ module _ {D : Type 0} (seen : D → Option (List ℕ)) (may_leave : D → Images
         stood_tried own is stayed = record {
           reached = reached_still (holds_in seen may_leave) used_in format_in (told_in seen) (rose_in faults) (was_in seen faults moment left_since tells_moments) setup history old new own later is reached stayed;
           heads = heads_stayed own stayed number heads;
+          last = inl (is ∙ sym same_history);
           since = since_as seen may_leave faults moment left_since tells_moments setup history earlier later (replay setup history) old new began same_cluster same_history (ap (replay setup) is) (since_stayed own stayed);
         }
 
       -- as it stood, where no disk was touched
-      stood_still : (earlier : History) (began : Cluster (Kept D)) → later ≡ history → IsSince seen faults moment left_since tells_moments (replay setup earlier) (replay setup history) began old → Stayed None → Stands earlier began
-      stood_still earlier began is since stayed = record {
+      stood_still : (earlier : History) (began : Cluster (Kept D)) → later ≡ history → AddsOne earlier history → IsSince seen faults moment left_since tells_moments (replay setup earlier) (replay setup history) began old → Stayed None → Stands earlier began
+      stood_still earlier began is last since stayed = record {
         reached = reached_still (holds_in seen may_leave) used_in format_in (told_in seen) (rose_in faults) (was_in seen faults moment left_since tells_moments) setup history old new None later is reached stayed;
         heads = heads_stayed None stayed number heads;
+        last = subst (AddsOne earlier) (sym is) last;
         since = since_still seen may_leave faults moment left_since tells_moments (replay setup earlier) (replay setup later) began old new stayed.others (subst (λ l. IsSince seen faults moment left_since tells_moments (replay setup earlier) (replay setup l) began old) (sym is) since);
       }
 
@@ -279,10 +281,10 @@ module _ {D : Type 0} (seen : D → Option (List ℕ)) (may_leave : D → Images
       left_of (asked.Finish filled) begun stayed = stays begun stayed
       left_of (asked.Checkpoint server) begun stayed = stays begun stayed
 
-      pub stood_left : HaveHeads number old → IsSince seen faults moment left_since tells_moments (replay setup before.happenings.value.items) (replay setup history) before.cluster.value old → (own : Option ℕ) → IsBegunIf own old later before after → Stayed own
+      pub stood_left : HaveHeads number old → AddsOne before.happenings.value.items history → IsSince seen faults moment left_since tells_moments (replay setup before.happenings.value.items) (replay setup history) before.cluster.value old → (own : Option ℕ) → IsBegunIf own old later before after → Stayed own
           → Stood seen may_leave faults moment left_since tells_moments number setup after.happenings.value.items after.cluster.value later new
-      stood_left heads since None begun stayed =
+      stood_left heads last since None begun stayed =
           subst (λ (b : Began D). Stood seen may_leave faults moment left_since tells_moments number setup b.happenings.value.items b.cluster.value later new) (sym begun)
-          (stood_still number heads later before.happenings.value.items before.cluster.value is since stayed)
-      stood_left heads since (Some server) begun stayed =
+          (stood_still number heads later before.happenings.value.items before.cluster.value is last since stayed)
+      stood_left heads last since (Some server) begun stayed =
           stood_tried number heads later after.happenings.value.items after.cluster.value begun.cluster_is (begun.history_is ∙ is) (Some server) is stayed

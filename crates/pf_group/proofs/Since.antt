@@ -1,5 +1,5 @@
 -- What a crash since the last step of a group began left.
-use Rattle.std.proofs.Common.{◌≡◌, ◌≢◌, ◌⊎◌, inl, inr, ℕ, ◌<◌, Bool, if◌then◌else◌, is_some, List, length, Option, Some, None, option_map, slice_get, arith, refl, sym, ap, subst, ◌∙◌}
+use Rattle.std.proofs.Common.{◌≡◌, ◌⊎◌, inl, inr, ℕ, ◌<◌, Bool, if◌then◌else◌, is_some, List, length, Option, Some, None, option_map, slice_get, arith, refl, sym, ap, subst, ◌∙◌}
 use Rattle.std.proofs.lemmas.Option.{none-some, same_Some, slice_get_within}
 use Rattle.pf_disk.specs.Crashes.{Images}
 use Rattle.pf_entry.specs.Records.{Durable}
@@ -18,8 +18,8 @@ use Rattle.pf_group.specs.declared.group.Group.TheInside.{Inside}
 use Rattle.pf_group.specs.declared.began.Began.{Began}
 use Rattle.pf_group.specs.Beginning.{IsBegun, IsBegunIf}
 use Rattle.pf_group.specs.Crashing.{AllLeaveAtCrash, LeavesAtCrash, WasLeft, WereTouched}
-use Rattle.pf_group.specs.GroupIs.{GroupIs}
-use Rattle.pf_group.specs.Halves.{all_counts, format_in, holds_in, told_in, used_in, was_in}
+use Rattle.pf_group.specs.GroupIs.{AddsOne, GroupIs}
+use Rattle.pf_group.specs.Halves.{format_in, holds_in, told_in, used_in, was_in}
 use Rattle.pf_group.specs.Inside.{HaveHeads, IsGroup, IsSince, group_of, setup_in}
 use Rattle.pf_group.specs.Leaving.{head_in}
 use Rattle.pf_group.proofs.Faults.{at_own, faults_at, some_mapped}
@@ -124,10 +124,11 @@ module _ {D : Type 0} (seen : D → Option (List ℕ)) (may_leave : D → Images
   pub record Stood (number : ℕ) (setup : Setup) (earlier : History) (began : Cluster (Kept D)) (history : History) (cluster : Cluster (Kept D)) : Type 0 where
     pub reached : IsReached (holds_in seen may_leave) used_in format_in (told_in seen) setup history cluster
     pub heads : HaveHeads number cluster
+    pub last : AddsOne earlier history
     pub since : Since (replay setup earlier) (replay setup history) began cluster
 
   pub stood : (g : Inside D) → IsGroup seen may_leave faults moment left_since tells_moments g → Stood g.number (setup_in g) g.began.happenings.value.items g.began.cluster.value g.past.happenings.items g.cluster
-  stood g is = record { reached = is.reached; heads = is.heads; since = is.since }
+  stood g is = record { reached = is.reached; heads = is.heads; last = is.last; since = is.since }
 
   module _ (number : ℕ) (setup : Setup) (earlier : History) (began : Cluster (Kept D)) (history : History) (cluster : Cluster (Kept D)) (is : Stood number setup earlier began history cluster) where
     abbrev Now : GroupIs
@@ -148,6 +149,7 @@ module _ {D : Type 0} (seen : D → Option (List ℕ)) (may_leave : D → Images
           told = is.since.told i there.0 there.1;
           began = faults_at moment began i there.0 there.1;
           now = faults_at moment cluster i next now;
+          step = is.last;
           touched = were_touched (replay setup earlier) (replay setup history) i (head_in Now i) there.0.store next.store (own_head i next now) (is.since.touched i there.0 next there.1 now);
         }
 

@@ -1,5 +1,5 @@
 -- Where a step of a group began.
-use Rattle.std.specs.Prelude.{◌≡◌, ℕ, List, Option, Some, None}
+use Rattle.std.specs.Prelude.{◌≡◌, ℕ, Option, Some, None}
 use Rattle.pf_protocol.specs.Histories.{History}
 use Rattle.pf_kept.specs.declared.kept.Kept.{Kept}
 use Rattle.pf_cluster.specs.declared.cluster.Cluster.{Cluster}

@@ -1,4 +1,3 @@
-use Rattle.std.proofs.Common.{◌≡◌, ◌∙◌, sym}
 use Rattle.pf_group.specs.Reacting.{own_of}
 use Rattle.pf_group.proofs.Since.{begun_if}
 use Rattle.pf_group.proofs.began.begin.Goals as goal
