@@ -1,5 +1,5 @@
 -- What fits does not depend on which servers could not be formatted.
-use Rattle.std.proofs.Common.{◌≡◌, ℕ, ◌+◌, ◌≤◌, ◌^◌, List, [], arith, le_refl, refl, subst, sym}
+use Rattle.std.proofs.Common.{◌≡◌, ℕ, ◌+◌, ◌≤◌, ◌^◌, List, [], refl, subst, sym}
 use Rattle.pf_entry.proofs.Lists.{every_more}
 use Rattle.pf_entry.specs.declared.ops.Op.{Op}
 use Rattle.pf_entry.specs.declared.ops.Op.TheVariants.{Write, Noop, Mark}

@@ -27,8 +27,8 @@ impl<S: Store> Cluster<S> {
     /// A server begins again from its disks; a running one is stopped first. Beside the answer it tells whether the record of a step
     /// that was cut off was found.
     ///
-    /// `NotOurs` (42) where its disks could not be formatted as the group was made, and `NoMemory` (1) leave the group as it was.
-    /// `Halted` (52) where a disk failed: the server is stopped then.
+    /// `NotOurs` (42) where its disks hold no state of it, as where they could not be formatted: a running server is stopped then.
+    /// `Halted` (52) where a disk failed: the server is stopped then. `NoMemory` (1) leaves the group as it was.
     pub fn restart(&mut self, alloc: Global, server: Number) -> Result<(Answer, bool), NoMemory>
         requires server { server < 3 }
         requires reached { HasPast S.holds S.used S.format S.told self.old }

@@ -25,7 +25,7 @@ use Rattle.pf_cluster.specs.Showing.{Shows}
 use Rattle.pf_group.specs.declared.event.GroupEvent.{GroupEvent}
 use Rattle.pf_group.specs.declared.event.GroupEvent.TheVariants as asked
 use Rattle.pf_group.specs.Events.{Brings, MayAsk, event_of}
-use Rattle.pf_group.specs.GroupIs.{GroupIs}
+use Rattle.pf_group.specs.GroupIs.{AddsOne, GroupIs}
 use Rattle.pf_group.specs.Halves.{AreLater, all_counts, format_in, holds_in, rose_in, told_in, used_in, was_in}
 use Rattle.pf_group.specs.Inside.{HaveHeads, IsSince, group_of}
 use Rattle.pf_group.specs.declared.began.Began.{Began}
@@ -241,6 +241,7 @@ module _ {D : Type 0} (seen : D → Option (List ℕ)) (may_leave : D → Images
               stands = stands_gone event answer later is low may there;
               tell = tell_now there.tells;
               heads = heads_went event answer gone number heads;
+              last = inr (record { event = event; answer = answer }, is ∙ ap (λ l. l ++ record { event = event; answer = answer } ∷ []) (sym same_history));
               since = since_as seen may_leave faults moment left_since tells_moments setup history earlier later _ old new began same_cluster same_history state (since_went event answer gone);
             }
 
@@ -249,15 +250,17 @@ module _ {D : Type 0} (seen : D → Option (List ℕ)) (may_leave : D → Images
           stands = stands_stayed own later is there;
           tell = tell_now there.tells;
           heads = heads_stayed own stayed number heads;
+          last = inl (is ∙ sym same_history);
           since = since_as seen may_leave faults moment left_since tells_moments setup history earlier later (replay setup history) old new began same_cluster same_history (ap (replay setup) is) (since_stayed own stayed);
         }
 
       -- as it stood, where no disk was touched
-      stood_still : (earlier : History) (began : Cluster (Kept D)) → later ≡ history → IsSince seen faults moment left_since tells_moments (replay setup earlier) (replay setup history) began old → StayedIn stands.past.group None → Stands earlier began
-      stood_still earlier began is since there = let stayed = stayed_so None there in record {
+      stood_still : (earlier : History) (began : Cluster (Kept D)) → later ≡ history → AddsOne earlier history → IsSince seen faults moment left_since tells_moments (replay setup earlier) (replay setup history) began old → StayedIn stands.past.group None → Stands earlier began
+      stood_still earlier began is last since there = let stayed = stayed_so None there in record {
         stands = stands_stayed None later is there;
         tell = tell_now there.tells;
         heads = heads_stayed None stayed number heads;
+        last = subst (AddsOne earlier) (sym is) last;
         since = since_still seen may_leave faults moment left_since tells_moments (replay setup earlier) (replay setup later) began old new stayed.others (subst (λ l. IsSince seen faults moment left_since tells_moments (replay setup earlier) (replay setup l) began old) (sym is) since);
       }
 
@@ -293,10 +296,10 @@ module _ {D : Type 0} (seen : D → Option (List ℕ)) (may_leave : D → Images
       left_of (asked.Finish filled) begun stayed = stays begun stayed
       left_of (asked.Checkpoint server) begun stayed = stays begun stayed
 
-      pub stood_left : HaveHeads number old → IsSince seen faults moment left_since tells_moments (replay setup before.happenings.value.items) (replay setup history) before.cluster.value old → (own : Option ℕ) → IsBegunIf own old later before after → StayedIn stands.past.group own
+      pub stood_left : HaveHeads number old → AddsOne before.happenings.value.items history → IsSince seen faults moment left_since tells_moments (replay setup before.happenings.value.items) (replay setup history) before.cluster.value old → (own : Option ℕ) → IsBegunIf own old later before after → StayedIn stands.past.group own
           → Stood seen may_leave faults moment left_since tells_moments number setup after.happenings.value.items after.cluster.value later new
-      stood_left heads since None begun stayed =
+      stood_left heads last since None begun stayed =
           subst (λ (b : Began D). Stood seen may_leave faults moment left_since tells_moments number setup b.happenings.value.items b.cluster.value later new) (sym begun)
-          (stood_still number heads later before.happenings.value.items before.cluster.value is since stayed)
-      stood_left heads since (Some server) begun stayed =
+          (stood_still number heads later before.happenings.value.items before.cluster.value is last since stayed)
+      stood_left heads last since (Some server) begun stayed =
           stood_tried number heads later after.happenings.value.items after.cluster.value begun.cluster_is (begun.history_is ∙ is) (Some server) is stayed

@@ -19,7 +19,7 @@ use Rattle.pf_group.specs.declared.began.Began.{Began}
 use Rattle.pf_group.specs.declared.event.GroupEvent.{GroupEvent}
 use Rattle.pf_group.specs.Beginning.{IsBegun, IsBegunIf}
 use Rattle.pf_group.specs.Crashing.{AllLeaveAtCrash, LeavesAtCrash, WasLeft, WereTouched}
-use Rattle.pf_group.specs.GroupIs.{GroupIs}
+use Rattle.pf_group.specs.GroupIs.{AddsOne, GroupIs}
 use Rattle.pf_group.specs.Halves.{format_in, holds_in, told_in, used_in, was_in}
 use Rattle.pf_group.specs.Inside.{HaveHeads, IsGroup, IsSince, group_of, setup_in}
 use Rattle.pf_group.specs.Leaving.{head_in}
@@ -129,10 +129,11 @@ module _ {D : Type 0} (seen : D → Option (List ℕ)) (may_leave : D → Images
     pub stands : StandsFor (holds_in seen may_leave) used_in format_in (told_in seen) setup history cluster
     pub tell : AllTell (told_in seen) cluster
     pub heads : HaveHeads number cluster
+    pub last : AddsOne earlier history
     pub since : Since (replay setup earlier) (replay setup history) began cluster
 
   pub stood : (g : Inside D) → IsGroup seen may_leave faults moment left_since tells_moments g → Stood g.number (setup_in g) g.began.happenings.value.items g.began.cluster.value g.past.happenings.items g.cluster
-  stood g is = record { stands = is.stands; tell = is.tell; heads = is.heads; since = is.since }
+  stood g is = record { stands = is.stands; tell = is.tell; heads = is.heads; last = is.last; since = is.since }
 
   -- an event may be carried out by the rules
   pub told_now : (g : Inside D) (is : IsGroup seen may_leave faults moment left_since tells_moments g) → (event : GroupEvent) → IsTold (told_in seen) (setup_in g) is.stands.past.group g.cluster event
@@ -159,6 +160,7 @@ module _ {D : Type 0} (seen : D → Option (List ℕ)) (may_leave : D → Images
           told = is.since.told i there.0 there.1;
           began = faults_at moment began i there.0 there.1;
           now = faults_at moment cluster i next now;
+          step = is.last;
           touched = were_touched (replay setup earlier) (replay setup history) i (head_in Now i) there.0.store next.store (own_head i next now) (is.since.touched i there.0 next there.1 now);
         }
 

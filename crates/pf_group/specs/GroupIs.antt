@@ -1,5 +1,6 @@
 -- A group, as contracts see it.
-use Rattle.std.specs.Prelude.{ℕ, Bool, List}
+use Rattle.std.specs.Prelude.{◌≡◌, ◌⊎◌, ℕ, Bool, List, [], ◌∷◌, ◌++◌}
+use Rattle.pf_protocol.specs.declared.events.Happening.{Happening}
 use Rattle.pf_protocol.specs.Servers.{Setup}
 use Rattle.pf_protocol.specs.Groups.{Group}
 use Rattle.pf_protocol.specs.Histories.{History, replay}
@@ -21,6 +22,10 @@ pub record GroupIs : Type 0 where
 -- the state after the history
 abbrev pub state_of : GroupIs → Group
 state_of g = replay g.setup g.history
+
+-- the last step added one happening; or none, where there was no memory for a restart, or where no step was taken yet
+abbrev pub AddsOne : (earlier history : History) → Type 0
+AddsOne earlier history = (history ≡ earlier) ⊎ ((h : Happening) × (history ≡ earlier ++ h ∷ []))
 
 -- the state when the last step began
 abbrev pub state_before : GroupIs → Group

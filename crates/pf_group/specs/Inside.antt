@@ -6,7 +6,7 @@ use Rattle.pf_protocol.specs.Groups.{Group}
 use Rattle.pf_cluster.specs.Going.{WasTouched}
 use Rattle.pf_cluster.specs.Readings.{taken_of}
 use Rattle.pf_group.specs.declared.group.Group.TheInside.{Inside}
-use Rattle.pf_group.specs.GroupIs.{GroupIs}
+use Rattle.pf_group.specs.GroupIs.{AddsOne, GroupIs}
 use Rattle.pf_protocol.specs.Histories.{History, replay}
 use Rattle.pf_kept.specs.declared.kept.Kept.{Kept}
 use Rattle.pf_cluster.specs.declared.cluster.Cluster.{Cluster}
@@ -54,4 +54,5 @@ module _ {D : Type 0} where
     pub tell : AllTell (told_in seen) g.cluster
     pub heads : HaveHeads g.number g.cluster
     pub past : IsPast g.past
+    pub last : AddsOne g.began.happenings.value.items g.past.happenings.items
     pub since : IsSince seen faults moment left_since tells_moments (replay (setup_in g) g.began.happenings.value.items) (replay (setup_in g) g.past.happenings.items) g.began.cluster.value g.cluster

@@ -28,7 +28,7 @@ invariant_of-self g c =
     let may = subst (λ (v : GroupIs). MayHappen (claims_of [] v.history) e) (sym c.self.view_is) c.requires in
     let low : length c.keep.new.self.happenings.items ≤ 2 ^ 32 = omega (arith, c.keep.ensures.past.few, c.keep.new.self.happenings.ok.0) in
     let s = stood_gone g.D.Disk.seen g.D.Disk.may_leave g.D.Disk.faults g.D.Disk.moment g.D.Disk.left_since g.D.Disk.tells_moments (setup_in c.self.inside) c.self.inside.past.happenings.items c.self.inside.cluster c.give_back.new.self c.self.invariant.stands c.self.invariant.tell c.self.inside.number c.self.invariant.heads c.keep.new.self.happenings.items c.now.result.happenings.value.items c.now.result.cluster.value c.now.ensures.cluster_is c.now.ensures.history_is e Done c.keep.ensures.items low may went in
-    record { stands = s.stands; tell = s.tell; heads = s.heads; past = c.keep.ensures.past; since = s.since }
+    record { stands = s.stands; tell = s.tell; heads = s.heads; past = c.keep.ensures.past; last = s.last; since = s.since }
 
 pub returns-clause-went : goal.returns-clause-went
 returns-clause-went g c =
