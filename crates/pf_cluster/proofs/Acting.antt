@@ -84,7 +84,7 @@ module _ {S : Type 0} (holds : S → Durable → Durable → Type 0) (used forma
 
   module _ (next : Cluster S) (me : Server S) (moved : WasMoved next me) where
     is_member : IsMember holds used format told setup i me (RunningIs (settled o.server))
-    is_member = record { seat = moved.seat ∙ stepped.seat; meets = moved.meets; tells = ap told moved.store ∙ stepped.tells }
+    is_member = record { seat = moved.seat ∙ stepped.seat; meets = moved.meets }
 
     all_servers : next.servers.items ≡ slice_set stepped.before i me
     all_servers = moved.servers ∙ ap (λ xs. slice_set xs i me) stepped.now ∙ set_again stepped.before i stepped.me me

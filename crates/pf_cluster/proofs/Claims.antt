@@ -1,6 +1,7 @@
 -- A claim, server by server.
 use Rattle.std.proofs.Common.{◌≡◌, ℕ, Bool, false, inl, List, [], ◌∷◌, ◌++◌, Option, Some, None, Result, Ok, Err, slice_get, slice_set, refl, sym, ap, subst, ◌∙◌}
 use Rattle.std.specs.Vec.{with_item}
+use Rattle.std.specs.Option.{option_map}
 use Rattle.pf_base.specs.declared.errors.NoMemory.{NoMemory}
 use Rattle.pf_entry.specs.Lists.{Every}
 use Rattle.pf_entry.specs.Records.{Durable}
@@ -13,7 +14,7 @@ use Rattle.pf_protocol.specs.Servers.{Setup, Server as ServerIs, Condition, Runn
 use Rattle.pf_protocol.specs.Leading.{op_at}
 use Rattle.pf_protocol.specs.Saving.{claimable, claimed}
 use Rattle.pf_protocol.specs.Groups.{Group, claim_at, claim_of, claim_or, first_claim, happens}
-use Rattle.pf_protocol.specs.Histories.{History, replay}
+use Rattle.pf_cluster.specs.Pasts.{Past}
 use Rattle.pf_protocol.specs.Answers.{answer_to, claim_answer, claim_answer_at}
 use Rattle.pf_server.specs.declared.server.Server.{Server}
 use Rattle.pf_server.specs.Conditions.{Meets, runs}
@@ -25,24 +26,24 @@ use Rattle.pf_cluster.specs.Readings.{taken_of}
 use Rattle.pf_cluster.specs.Showing.{IsMember, Shows}
 use Rattle.pf_cluster.proofs.Alone.{alone, alone_still}
 use Rattle.pf_cluster.proofs.Beginning.{its_condition}
-use Rattle.pf_protocol.proofs.ForHistories.{its_number}
+use Rattle.pf_cluster.proofs.Laws.{its_number}
 use Rattle.pf_cluster.proofs.Taking.{stopped_idles, unformatted_idles}
 use Rattle.pf_cluster.proofs.Touching.{touches_kept}
 
-module _ {S : Type 0} (holds : S → Durable → Durable → Type 0) (used format : S → ℕ) (told : S → Bool) (setup : Setup) (history : History) (old : Cluster S) (reached : IsReached holds used format told setup history old) where
+module _ {S : Type 0} (holds : S → Durable → Durable → Type 0) (used format : S → ℕ) (told : S → Bool) (setup : Setup) (past : Past) (old : Cluster S) (reached : IsReached holds used format told setup past old) where
   abbrev g : Group
-  g = replay setup history
+  g = past.group
 
   module _ (i : ℕ) (me next : Server S) (here : slice_get old.servers.items i ≡ Some me) (seat : next.seat ≡ me.seat) (told_same : told next.store ≡ told me.store) where
     abbrev new : Cluster S
     new = record old { servers = with_item old.servers i next }
 
     member : (was c : Condition) → IsMember holds used format told setup i me was → Meets holds used format me.seat next.store next.state c → IsMember holds used format told setup i next c
-    member was c m meets = record { seat = seat ∙ m.seat; meets = subst (λ s. Meets holds used format s next.store next.state c) (sym seat) meets; tells = told_same ∙ m.tells }
+    member was c m meets = record { seat = seat ∙ m.seat; meets = subst (λ s. Meets holds used format s next.store next.state c) (sym seat) meets }
 
     pub claims_at : (result : Result (Option Claimed) NoMemory) → ((s : ServerIs) → Meets holds used format me.seat me.store me.state (RunningIs s) → Claims holds used format me.seat next.store next.state s result) → (runs me.state ≡ false → (result ≡ Ok None) × (next ≡ me)) → ClaimsAt holds used format told setup g i new result
     claims_at result step down =
-        let m = its_condition holds used format told setup history old reached i me here in
+        let m = its_condition holds used format told setup past old reached i me here in
         by m.0 m.1 m.2
       where
         idle : (c : Condition) → slice_get g.servers i ≡ Some c → IsMember holds used format told setup i me c → claim_of setup.window (Some c) ≡ None → (result ≡ Ok None) × (next ≡ me) → ClaimsAt holds used format told setup g i new result
@@ -53,12 +54,12 @@ module _ {S : Type 0} (holds : S → Durable → Durable → Type 0) (used forma
         running s there m (Ok (Some claim)) c = let job = claim.job in record {
           s = s;
           runs = there;
-          least = ap (λ w. claimable w s) reached.legal.is_setup.window ∙ c.least;
-          job_is = c.job_is ∙ ap (λ (n : ℕ). record { server = n; life = s.life; slot = job.slot; op = op_at s.durable.log job.slot }) (its_number setup history i s there);
+          least = ap (λ w. claimable w s) reached.viable.is_setup.window ∙ c.least;
+          job_is = c.job_is ∙ ap (λ (n : ℕ). record { server = n; life = s.life; slot = job.slot; op = op_at s.durable.log job.slot }) (its_number setup past reached.viable i s there);
           twice = c.twice;
           shows = alone holds used format told setup g old reached.shows i next (RunningIs s) (RunningIs (claimed s job.slot)) there (member (RunningIs s) (RunningIs (claimed s job.slot)) m c.meets);
         }
-        running s there m (Ok None) c = (ap (claim_of setup.window) there ∙ ap (λ w. claimable w s) reached.legal.is_setup.window ∙ c.0, alone_still holds used format told setup g old reached.shows i next (RunningIs s) there (member (RunningIs s) (RunningIs s) m c.1.meets))
+        running s there m (Ok None) c = (ap (claim_of setup.window) there ∙ ap (λ w. claimable w s) reached.viable.is_setup.window ∙ c.0, alone_still holds used format told setup g old reached.shows i next (RunningIs s) there (member (RunningIs s) (RunningIs s) m c.1.meets))
         running s there m (Err e) c = alone_still holds used format told setup g old reached.shows i next (RunningIs s) there (member (RunningIs s) (RunningIs s) m c.meets)
 
         by : (c : Condition) → slice_get g.servers i ≡ Some c → IsMember holds used format told setup i me c → ClaimsAt holds used format told setup g i new result
@@ -67,8 +68,8 @@ module _ {S : Type 0} (holds : S → Durable → Durable → Type 0) (used forma
         by UnformattedIs there m = idle UnformattedIs there m refl (down (unformatted_idles holds used format me.seat me.store me.state m.meets))
 
   -- the cluster stands for the same group
-  pub still_reached : (later : Cluster S) → Shows holds used format told setup later g → IsReached holds used format told setup history later
-  still_reached later shows = record { legal = reached.legal; short = reached.short; shows = shows }
+  pub still_reached : (later : Cluster S) → Shows holds used format told setup later g → IsReached holds used format told setup past later
+  still_reached later shows = record { viable = reached.viable; short = reached.short; shows = shows }
 
 skipped : (window i : ℕ) (c : Option Condition) (rest : Answer) → claim_of window c ≡ None → claim_answer_at i c (claim_of window c) rest ≡ rest
 skipped window i (Some (RunningIs s)) rest none = ap (λ o. claim_answer_at i (Some (RunningIs s)) o rest) none
@@ -110,6 +111,7 @@ module _ {S : Type 0} (holds : S → Durable → Durable → Type 0) (used forma
       cause = λ halted. absurd (apart halted);
       crash = touches_kept was _ _ _ old later stores;
       others = λ i own. stores i;
+      tells = λ i. ap (option_map told) (stores i);
       taken = taken;
     }),
   )
@@ -120,7 +122,7 @@ module _ {S : Type 0} (holds : S → Durable → Durable → Type 0) (used forma
   -- no server has one
   pub claims_none : Every (HasNone setup.window g) (0 ∷ 1 ∷ 2 ∷ []) → Shows holds used format told setup later g → HasGone holds used format told rose was setup g Claim old later (Refused NoneFree)
   unfolding answer_to happens
-  claims_none none shows = record { answered = inl (sym (none_answer setup.window g (0 ∷ 1 ∷ 2 ∷ []) none)); shows = shows; cause = λ halted. absurd (apart halted); crash = touches_kept was _ _ _ old later stores; others = λ i own. stores i; taken = taken }
+  claims_none none shows = record { answered = inl (sym (none_answer setup.window g (0 ∷ 1 ∷ 2 ∷ []) none)); shows = shows; cause = λ halted. absurd (apart halted); crash = touches_kept was _ _ _ old later stores; others = λ i own. stores i; tells = λ i. ap (option_map told) (stores i); taken = taken }
     where
       apart : Refused NoneFree ≡ Refused Halted → ⊥
       apart is = cc

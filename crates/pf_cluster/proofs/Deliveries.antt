@@ -1,5 +1,5 @@
 -- A delivery as the turn of a server.
-use Rattle.std.proofs.Common.{◌≡◌, inl, ℕ, zero, suc, ◌+◌, ◌<◌, ◌≤◌, ◌^◌, Bool, true, false, not, ◌&&◌, ◌||◌, ◌==◌, cond, if◌then◌else◌, List, [], ◌∷◌, ◌++◌, length, map, Option, Some, None, Result, Ok, Err, nat_lt, nat_le, slice_get, slice_set, vec_capacity, arith, refl, sym, ap, subst, ◌∙◌}
+use Rattle.std.proofs.Common.{◌≡◌, inl, ℕ, zero, suc, ◌+◌, ◌<◌, ◌≤◌, Bool, true, false, not, ◌&&◌, ◌||◌, ◌==◌, cond, if◌then◌else◌, List, [], ◌∷◌, ◌++◌, length, map, Option, Some, None, Result, Ok, Err, nat_lt, nat_le, slice_get, slice_set, vec_capacity, arith, refl, sym, ap, subst, ◌∙◌}
 use Rattle.std.specs.Global.{Vec}
 use Rattle.std.proofs.lemmas.Option.{same_Some, slice_get_past, slice_get_within}
 use Rattle.pf_base.specs.declared.errors.NoMemory.{NoMemory}
@@ -18,10 +18,11 @@ use Rattle.pf_protocol.specs.Leading.{on_ack, on_probe_ok, on_vote}
 use Rattle.pf_protocol.specs.Following.{on_accept, on_commit, on_image, on_nack, on_probe, on_request_vote}
 use Rattle.pf_protocol.specs.Rows.{on_message, on_packet}
 use Rattle.pf_protocol.specs.Groups.{Group, Sent, Ending, Whole, CutOff, Missed, Untouched, acted, at_server, cut_off, delivered, ending, happens, lost, marked_in, reads_after, send, step_of, with_sent}
-use Rattle.pf_protocol.specs.Histories.{History, replay}
-use Rattle.pf_protocol.specs.Answers.{IsLegal, answer_at, answer_to, deliver_turn, delivery_answer, delivery_halts, halts_at, loss_answer, may_halt, room_refusal as group_room_refusal}
-use Rattle.pf_protocol.proofs.ForHistories.{legal_asks, legal_packets, legal_fits}
-use Rattle.pf_protocol.proofs.ForRows.{packet_asks, room_silent}
+use Rattle.pf_protocol.specs.Answers.{answer_at, answer_to, deliver_turn, delivery_answer, delivery_halts, halts_at, loss_answer, may_halt, room_refusal as group_room_refusal}
+use Rattle.pf_cluster.specs.Pasts.{Past, IsShort, IsViablePast}
+use Rattle.pf_protocol.proofs.ForRows.{packet_asks}
+use Rattle.pf_cluster.proofs.Laws.{viable_asks}
+use Rattle.pf_protocol.proofs.ForRows.{room_silent}
 use Rattle.pf_state.specs.Outgoing.{Outgoing}
 use Rattle.pf_state.specs.Standing.{room_refusal}
 use Rattle.pf_restart.specs.Beginning.{setup_at}
@@ -36,12 +37,11 @@ use Rattle.pf_cluster.proofs.Beginning.{same_packets}
 use Rattle.pf_cluster.proofs.Events.{IsTurnEvent, turn_canonical}
 use Rattle.pf_cluster.proofs.Lists.{at_front}
 use Rattle.pf_cluster.proofs.Plain.{IsTurnAs}
-use Rattle.pf_cluster.proofs.Laws.{is_for}
+use Rattle.pf_cluster.proofs.Laws.{few_elections, is_for, its_fits}
 use Rattle.pf_cluster.proofs.Words.{packet_words}
 use Rattle.pf_entry.specs.Canonical.{IsCanonicalPacket}
-use Rattle.pf_entry.proofs.Lists.{every_get}
 use Rattle.pf_wire.specs.Packets.{packet_bytes, PacketFits as HasWords}
-use Rattle.pf_protocol.specs.Fitting.{PacketFits}
+use Rattle.pf_cluster.proofs.Laws.{canonical_packets}
 use Rattle.pf_server.specs.Conditions.{IsFor}
 use Rattle.pf_cluster.proofs.Rules.{below_after, leaves_all, packets_fit, same_setup}
 use Rattle.pf_cluster.proofs.Touching.{touches_kept}
@@ -122,11 +122,11 @@ deliver_event setup g k p at here = record {
   acts = ap receiver at;
 }
 
-pub delivers : (setup : Setup) (history : History) → IsLegal setup history → length history < 2 ^ 62 → (k : ℕ) (p : Sent) → slice_get (replay setup history).packets k ≡ Some p → p.lost ≡ false → (packet : Packet) → packet ≡ p.packet → (out : Outgoing) → ((o : Outcome) → room_refusal out o ≡ group_room_refusal (replay setup history) o) → (seat : Seat) → seat ≡ seat_of setup p.packet.to
-    → IsTurnAs setup history (Deliver k) p.packet.to (deliver_turn setup (replay setup history) p) (λ how. marked_in how (replay setup history) k p) (λ s. room_refusal out (on_packet (setup_at seat) s packet)) (λ s. on_packet (setup_at seat) s packet)
-delivers setup history legal short k p at here packet same out room seat its =
-    let g = replay setup history in
-    let rule : (s : ServerIs) → on_packet (setup_at seat) s packet ≡ on_packet setup s p.packet = λ s. ap (λ x. on_packet (setup_at x) s packet) its ∙ same_setup (λ z. on_packet z s packet) setup p.packet.to legal.is_setup.window ∙ same_packet setup s packet ∙ ap (on_packet setup s) same in
+pub delivers : (setup : Setup) (past : Past) → IsViablePast setup past → IsShort past → (k : ℕ) (p : Sent) → slice_get past.group.packets k ≡ Some p → p.lost ≡ false → (packet : Packet) → packet ≡ p.packet → (out : Outgoing) → ((o : Outcome) → room_refusal out o ≡ group_room_refusal past.group o) → (seat : Seat) → seat ≡ seat_of setup p.packet.to
+    → IsTurnAs setup past (Deliver k) p.packet.to (deliver_turn setup past.group p) (λ how. marked_in how past.group k p) (λ s. room_refusal out (on_packet (setup_at seat) s packet)) (λ s. on_packet (setup_at seat) s packet)
+delivers setup past viable short k p at here packet same out room seat its =
+    let g = past.group in
+    let rule : (s : ServerIs) → on_packet (setup_at seat) s packet ≡ on_packet setup s p.packet = λ s. ap (λ x. on_packet (setup_at x) s packet) its ∙ same_setup (λ z. on_packet z s packet) setup p.packet.to viable.is_setup.window ∙ same_packet setup s packet ∙ ap (on_packet setup s) same in
     let whole : (s : ServerIs) → ending (on_packet setup s p.packet).answer ≡ Whole = λ s. ap ending (packet_done setup s p.packet) in
     record {
       event_is = deliver_event setup g k p at here;
@@ -136,8 +136,8 @@ delivers setup history legal short k p at here packet same out room seat its =
         leaves = leaves_all (group_room_refusal g (on_packet setup s p.packet)) (room_silent g (on_packet setup s p.packet));
         whole = λ none. whole s;
         fits = λ none. packets_fit g (on_packet setup s p.packet) none;
-        below = λ none. below_after g.reads (on_packet setup s p.packet).answer (on_packet setup s p.packet).server.reads (packet_asks setup setup.chunk g.reads s (legal_asks setup history legal p.packet.to s runs) p.packet).below;
-        canonical = λ none. turn_canonical setup history legal short (Deliver k) p.packet.to (deliver_turn setup g p) (λ how. marked_in how g k p) (deliver_event setup g k p at here) tt s runs none (whole s);
+        below = λ none. below_after g.reads (on_packet setup s p.packet).answer (on_packet setup s p.packet).server.reads (packet_asks setup setup.chunk g.reads s (viable_asks setup past viable p.packet.to s runs) p.packet).below;
+        canonical = λ none. turn_canonical setup past viable short (Deliver k) p.packet.to (deliver_turn setup g p) (λ how. marked_in how g k p) (deliver_event setup g k p at here) tt s runs none (whole s);
       };
       plain = λ s. ap (reads_after g.reads) (packet_done setup s p.packet);
     }
@@ -232,26 +232,27 @@ module _ {S : Type 0} (owns : S → Durable → Durable → Type 0) (used format
     pub marks_none : (e : NoMemory) → outcome ≡ Err e → Shows owns used format told setup after g → Shows owns used format told setup (record after { packets = packets }) g
     marks_none e is shows = same_parcels setup after g packets (items (parcel_of p) (there g shows at) ∙ ap (λ b. cond b (slice_set after.packets.items k (parcel_of now_delivered)) after.packets.items) (ap is_delivery is)) places shows
 
-  module _ (rose : S → S → Type 0) (was : S → S → Durable → Durable → Type 0) (setup : Setup) (history : History) (old : Cluster S) (reached : IsReached owns used format told setup history old) (k : ℕ) where
+  module _ (rose : S → S → Type 0) (was : S → S → Durable → Durable → Type 0) (setup : Setup) (past : Past) (old : Cluster S) (reached : IsReached owns used format told setup past old) (k : ℕ) where
     -- there is no such packet
-    no_packet : length old.packets.items ≤ k → slice_get (replay setup history).packets k ≡ None
-    no_packet beyond = slice_get_past (replay setup history).packets k (omega (arith, beyond, same_packets owns used format told setup history old reached))
+    no_packet : length old.packets.items ≤ k → slice_get past.group.packets k ≡ None
+    no_packet beyond = slice_get_past past.group.packets k (omega (arith, beyond, same_packets owns used format told setup past old reached))
 
-    pub loses_none : length old.packets.items ≤ k → HasGone owns used format told rose was setup (replay setup history) (Lose k) old old (Refused NoPacket)
+    pub loses_none : length old.packets.items ≤ k → HasGone owns used format told rose was setup past.group (Lose k) old old (Refused NoPacket)
     unfolding answer_to happens
-    loses_none beyond = record { answered = inl (sym (ap loss_answer (no_packet beyond))); shows = reached.shows; cause = λ halted. absurd (apart halted); crash = touches_kept was _ _ _ old old (λ j. refl); others = λ i own. refl; taken = refl }
+    loses_none beyond = record { answered = inl (sym (ap loss_answer (no_packet beyond))); shows = reached.shows; cause = λ halted. absurd (apart halted); crash = touches_kept was _ _ _ old old (λ j. refl); others = λ i own. refl; tells = λ i. refl; taken = refl }
       where
         apart : Refused NoPacket ≡ Refused Halted → ⊥
         apart is = cc
 
-    pub delivers_none : length old.packets.items ≤ k → HasGone owns used format told rose was setup (replay setup history) (Deliver k) old old (Refused NoPacket)
+    pub delivers_none : length old.packets.items ≤ k → HasGone owns used format told rose was setup past.group (Deliver k) old old (Refused NoPacket)
     unfolding answer_to happens
     delivers_none beyond = record {
-      answered = inl (sym (ap (delivery_answer setup (replay setup history)) (no_packet beyond)));
-      shows = subst (Shows owns used format told setup old) (sym (ap (delivered setup Untouched (replay setup history) k) (no_packet beyond))) reached.shows;
+      answered = inl (sym (ap (delivery_answer setup past.group) (no_packet beyond)));
+      shows = subst (Shows owns used format told setup old) (sym (ap (delivered setup Untouched past.group k) (no_packet beyond))) reached.shows;
       cause = λ halted. absurd (apart halted);
       crash = touches_kept was _ _ _ old old (λ j. refl);
       others = λ i own. refl;
+      tells = λ i. refl;
       taken = refl;
     }
       where
@@ -260,47 +261,49 @@ module _ {S : Type 0} (owns : S → Durable → Durable → Type 0) (used format
 
     -- a packet that was lost
     module _ (parcel : Parcel) (at : slice_get old.packets.items k ≡ Some parcel) where
-      pub sent_there : (sent : Sent) × (slice_get (replay setup history).packets k ≡ Some sent) × (parcel ≡ parcel_of sent)
-      sent_there = packet_there owns used format told setup (replay setup history) old reached.shows k parcel at
+      pub sent_there : (sent : Sent) × (slice_get past.group.packets k ≡ Some sent) × (parcel ≡ parcel_of sent)
+      sent_there = packet_there owns used format told setup past.group old reached.shows k parcel at
 
-      pub loses_again : parcel.lost ≡ true → HasGone owns used format told rose was setup (replay setup history) (Lose k) old old (Refused LostPacket)
+      pub loses_again : parcel.lost ≡ true → HasGone owns used format told rose was setup past.group (Lose k) old old (Refused LostPacket)
       unfolding answer_to happens
       loses_again is =
           let gone : sent_there.0.lost ≡ true = sym (ap (λ (x : Parcel). x.lost) sent_there.2) ∙ is in
-          record { answered = inl (sym (ap loss_answer sent_there.1 ∙ ap (λ b. if b then Refused LostPacket else Done) gone)); shows = reached.shows; cause = λ halted. absurd (apart halted); crash = touches_kept was _ _ _ old old (λ j. refl); others = λ i own. refl; taken = refl }
+          record { answered = inl (sym (ap loss_answer sent_there.1 ∙ ap (λ b. if b then Refused LostPacket else Done) gone)); shows = reached.shows; cause = λ halted. absurd (apart halted); crash = touches_kept was _ _ _ old old (λ j. refl); others = λ i own. refl; tells = λ i. refl; taken = refl }
         where
           apart : Refused LostPacket ≡ Refused Halted → ⊥
           apart is = cc
 
-      pub delivers_lost : parcel.lost ≡ true → HasGone owns used format told rose was setup (replay setup history) (Deliver k) old old (Refused LostPacket)
+      pub delivers_lost : parcel.lost ≡ true → HasGone owns used format told rose was setup past.group (Deliver k) old old (Refused LostPacket)
       unfolding answer_to happens
       delivers_lost is =
           let p = sent_there.0 in
           let gone : p.lost ≡ true = sym (ap (λ (x : Parcel). x.lost) sent_there.2) ∙ is in
           record {
-            answered = inl (sym (ap (delivery_answer setup (replay setup history)) sent_there.1 ∙ ap (λ b. if b then Refused LostPacket else answer_at (slice_get (replay setup history).servers p.packet.to) (deliver_turn setup (replay setup history) p)) gone));
-            shows = subst (Shows owns used format told setup old) (sym (ap (delivered setup Untouched (replay setup history) k) sent_there.1 ∙ ap (λ b. if b then replay setup history else at_server Untouched (marked_in Untouched (replay setup history) k p) p.packet.to (λ s. on_packet setup s p.packet)) gone)) reached.shows;
+            answered = inl (sym (ap (delivery_answer setup past.group) sent_there.1 ∙ ap (λ b. if b then Refused LostPacket else answer_at (slice_get past.group.servers p.packet.to) (deliver_turn setup past.group p)) gone));
+            shows = subst (Shows owns used format told setup old) (sym (ap (delivered setup Untouched past.group k) sent_there.1 ∙ ap (λ b. if b then past.group else at_server Untouched (marked_in Untouched past.group k p) p.packet.to (λ s. on_packet setup s p.packet)) gone)) reached.shows;
             cause = λ halted. absurd (apart halted);
             crash = touches_kept was _ _ _ old old (λ j. refl);
             others = λ i own. refl;
+            tells = λ i. refl;
             taken = refl;
           }
         where
           apart : Refused LostPacket ≡ Refused Halted → ⊥
           apart is = cc
 
-      pub loses : parcel.lost ≡ false → (packets : Vec Parcel) → packets.items ≡ slice_set old.packets.items k (record parcel { lost = true }) → vec_capacity old.packets ≤ vec_capacity packets → HasGone owns used format told rose was setup (replay setup history) (Lose k) old (record old { packets = packets }) Done
+      pub loses : parcel.lost ≡ false → (packets : Vec Parcel) → packets.items ≡ slice_set old.packets.items k (record parcel { lost = true }) → vec_capacity old.packets ≤ vec_capacity packets → HasGone owns used format told rose was setup past.group (Lose k) old (record old { packets = packets }) Done
       unfolding answer_to happens
       loses is packets items places =
           let p = sent_there.0 in
           let here : p.lost ≡ false = sym (ap (λ (x : Parcel). x.lost) sent_there.2) ∙ is in
           record {
             answered = inl (sym (ap loss_answer sent_there.1 ∙ ap (λ b. if b then Refused LostPacket else Done) here));
-            shows = subst (Shows owns used format told setup (record old { packets = packets })) (sym (ap (lost (replay setup history) k) sent_there.1))
-                (marked owns used format told setup (replay setup history) old reached.shows k p (record p { lost = true }) (record parcel { lost = true }) packets sent_there.1 refl (ap (λ (x : Parcel). record x { lost = true }) sent_there.2) items places);
+            shows = subst (Shows owns used format told setup (record old { packets = packets })) (sym (ap (lost past.group k) sent_there.1))
+                (marked owns used format told setup past.group old reached.shows k p (record p { lost = true }) (record parcel { lost = true }) packets sent_there.1 refl (ap (λ (x : Parcel). record x { lost = true }) sent_there.2) items places);
             cause = λ halted. absurd (apart halted);
             crash = touches_kept was _ _ _ old (record old { packets = packets }) (λ j. refl);
             others = λ i own. refl;
+            tells = λ i. refl;
             taken = refl;
           }
         where
@@ -311,26 +314,23 @@ module _ {S : Type 0} (owns : S → Durable → Durable → Type 0) (used format
       pub came : (packet : Packet) (bytes : List ℕ) → bytes ≡ parcel.bytes → ((x : Packet) → HasWords x → IsCanonicalPacket x → packet_bytes x ≡ bytes → packet ≡ x) → packet ≡ sent_there.0.packet
       came packet bytes same read =
           let p = sent_there.0 in
-          let g = replay setup history in
-          let fits = legal_fits setup history reached.legal in
-          let fit = every_get (λ x. PacketFits setup (length history) (suc g.elections) x.packet) g.packets k p fits.packets sent_there.1 in
-          read p.packet (packet_words setup reached.legal.is_setup (length history) (suc g.elections) (omega (arith, reached.short)) (omega (arith, fits.elections)) p.packet fit) (legal_packets setup history reached.legal k p sent_there.1)
+          let g = past.group in
+          let fit = its_fits setup past reached.viable reached.short k p sent_there.1 in
+          read p.packet (packet_words setup reached.viable.is_setup past.count (suc (past.top + g.elections)) (omega (arith, reached.short.count)) (omega (arith, reached.short.top, few_elections setup past reached.viable)) p.packet fit) (canonical_packets setup past reached.viable k p sent_there.1)
           (sym (same ∙ ap (λ (x : Parcel). x.bytes) sent_there.2))
 
       module _ (packet : Packet) (is : packet ≡ sent_there.0.packet) where
         pub to_member : packet.to < 3
         to_member =
-            let g = replay setup history in
-            let fits = legal_fits setup history reached.legal in
-            let fit = every_get (λ x. PacketFits setup (length history) (suc g.elections) x.packet) g.packets k sent_there.0 fits.packets sent_there.1 in
+            let fit = its_fits setup past reached.viable reached.short k sent_there.0 sent_there.1 in
             subst (λ x. x.to < 3) (sym is) fit.to
 
         pub for_member : (seat : Seat) → seat ≡ seat_of setup packet.to → IsFor seat packet
-        for_member seat its = subst (λ x. IsFor x packet) (sym its) (subst (λ x. IsFor (seat_of setup x.to) x) (sym is) (is_for setup history reached.legal reached.short k sent_there.0 sent_there.1))
+        for_member seat its = subst (λ x. IsFor x packet) (sym its) (subst (λ x. IsFor (seat_of setup x.to) x) (sym is) (is_for setup past reached.viable reached.short k sent_there.0 sent_there.1))
 
-        pub comes : parcel.lost ≡ false → (out : Outgoing) → ((o : Outcome) → room_refusal out o ≡ group_room_refusal (replay setup history) o) → (seat : Seat) → seat ≡ seat_of setup packet.to
-            → IsTurnAs setup history (Deliver k) packet.to (deliver_turn setup (replay setup history) sent_there.0) (λ how. marked_in how (replay setup history) k sent_there.0) (λ s. room_refusal out (on_packet (setup_at seat) s packet)) (λ s. on_packet (setup_at seat) s packet)
+        pub comes : parcel.lost ≡ false → (out : Outgoing) → ((o : Outcome) → room_refusal out o ≡ group_room_refusal past.group o) → (seat : Seat) → seat ≡ seat_of setup packet.to
+            → IsTurnAs setup past (Deliver k) packet.to (deliver_turn setup past.group sent_there.0) (λ how. marked_in how past.group k sent_there.0) (λ s. room_refusal out (on_packet (setup_at seat) s packet)) (λ s. on_packet (setup_at seat) s packet)
         comes here out room seat its =
             let its_here = its ∙ ap (λ x. seat_of setup x.to) is in
-            subst (λ x. IsTurnAs setup history (Deliver k) x.to (deliver_turn setup (replay setup history) sent_there.0) (λ how. marked_in how (replay setup history) k sent_there.0) (λ s. room_refusal out (on_packet (setup_at seat) s packet)) (λ s. on_packet (setup_at seat) s packet)) (sym is)
-            (delivers setup history reached.legal reached.short k sent_there.0 sent_there.1 (sym (ap (λ (x : Parcel). x.lost) sent_there.2) ∙ here) packet is out room seat its_here)
+            subst (λ x. IsTurnAs setup past (Deliver k) x.to (deliver_turn setup past.group sent_there.0) (λ how. marked_in how past.group k sent_there.0) (λ s. room_refusal out (on_packet (setup_at seat) s packet)) (λ s. on_packet (setup_at seat) s packet)) (sym is)
+            (delivers setup past reached.viable reached.short k sent_there.0 sent_there.1 (sym (ap (λ (x : Parcel). x.lost) sent_there.2) ∙ here) packet is out room seat its_here)

@@ -1,5 +1,5 @@
 -- An election as the turn of a server.
-use Rattle.std.proofs.Common.{◌≡◌, inl, ℕ, ◌<◌, ◌≤◌, ◌^◌, Bool, true, false, length, Option, Some, None, Result, Ok, Err, nat_le, slice_get, arith, refl, sym, ap, subst, ◌∙◌}
+use Rattle.std.proofs.Common.{◌≡◌, inl, ℕ, ◌<◌, ◌≤◌, Bool, true, false, Option, Some, None, Result, Ok, Err, nat_le, slice_get, arith, refl, sym, ap, subst, ◌∙◌}
 use Rattle.std.proofs.lemmas.Bool.{true≢false}
 use Rattle.std.proofs.lemmas.Bool.Decides.{nat_tests}
 use Rattle.pf_base.specs.declared.errors.NoMemory.{NoMemory}
@@ -12,10 +12,11 @@ use Rattle.pf_protocol.specs.Servers.{Setup, Server as ServerIs, Condition, Runn
 use Rattle.pf_protocol.specs.Outcomes.{Outcome, store}
 use Rattle.pf_protocol.specs.Leading.{on_elect}
 use Rattle.pf_protocol.specs.Groups.{Group, Ending, Whole, CutOff, Missed, Untouched, acted, at_server, counted_election, cut_off, ending, happens, reads_after, step_of}
-use Rattle.pf_protocol.specs.Histories.{History, replay}
-use Rattle.pf_protocol.specs.Answers.{IsLegal, answer_at, answer_by, answer_to, elect_refusal, elect_turn, may_halt, most_elections, refuse, room_refusal as group_room_refusal}
-use Rattle.pf_protocol.proofs.ForRows.{elect_asks, elect_silent}
-use Rattle.pf_protocol.proofs.ForHistories.{legal_asks}
+use Rattle.pf_protocol.specs.Answers.{answer_at, answer_by, answer_to, elect_refusal, elect_turn, may_halt, most_elections, refuse, room_refusal as group_room_refusal}
+use Rattle.pf_cluster.specs.Pasts.{Past, IsShort, IsViablePast}
+use Rattle.pf_protocol.proofs.ForRows.{elect_asks}
+use Rattle.pf_cluster.proofs.Laws.{viable_asks}
+use Rattle.pf_protocol.proofs.ForRows.{elect_silent}
 use Rattle.pf_state.specs.Outgoing.{Outgoing}
 use Rattle.pf_state.specs.Standing.{room_refusal}
 use Rattle.pf_server.specs.declared.server.Server.{Server}
@@ -65,10 +66,10 @@ full_judged g s many =
     let so : nat_le 64 g.elections ≡ true = grind (arith, nat_tests) in
     ap (λ b. refuse b ElectionsFull (group_room_refusal g (on_elect s))) so
 
-pub elects : (setup : Setup) (history : History) → IsLegal setup history → length history < 2 ^ 62 → (i : ℕ) → i < 3 → (replay setup history).elections < 64 → (out : Outgoing) → ((o : Outcome) → room_refusal out o ≡ group_room_refusal (replay setup history) o)
-    → IsTurnAs setup history (Elect i) i (elect_turn (replay setup history)) (λ how. counted_election how (replay setup history)) (λ s. room_refusal out (on_elect s)) on_elect
-elects setup history legal short i low few out room =
-    let g = replay setup history in
+pub elects : (setup : Setup) (past : Past) → IsViablePast setup past → IsShort past → (i : ℕ) → i < 3 → past.group.elections < 64 → (out : Outgoing) → ((o : Outcome) → room_refusal out o ≡ group_room_refusal past.group o)
+    → IsTurnAs setup past (Elect i) i (elect_turn past.group) (λ how. counted_election how past.group) (λ s. room_refusal out (on_elect s)) on_elect
+elects setup past viable short i low few out room =
+    let g = past.group in
     record {
       event_is = elect_event setup g i;
       same_judged = λ s. room (on_elect s) ∙ sym (few_judged g s few);
@@ -77,8 +78,8 @@ elects setup history legal short i low few out room =
         leaves = leaves_all (elect_refusal g s) (elect_silent g s);
         whole = λ none. elect_answer_whole s;
         fits = λ none. packets_fit g (on_elect s) (sym (few_judged g s few) ∙ none);
-        below = λ none. below_after g.reads (on_elect s).answer (on_elect s).server.reads (elect_asks setup setup.chunk g.reads s (legal_asks setup history legal i s at)).below;
-        canonical = λ none. turn_canonical setup history legal short (Elect i) i (elect_turn g) (λ how. counted_election how g) (elect_event setup g i) low s at none (elect_answer_whole s);
+        below = λ none. below_after g.reads (on_elect s).answer (on_elect s).server.reads (elect_asks setup setup.chunk g.reads s (viable_asks setup past viable i s at)).below;
+        canonical = λ none. turn_canonical setup past viable short (Elect i) i (elect_turn g) (λ how. counted_election how g) (elect_event setup g i) low s at none (elect_answer_whole s);
       };
       plain = λ s. elect_quiet s g.reads;
     }
@@ -148,53 +149,55 @@ module _ {S : Type 0} (holds : S → Durable → Durable → Type 0) (used forma
       let count : n ≡ g.elections = is ∙ ap (elections_after before) so ∙ same in
       subst (λ k. Shows holds used format told setup (record after { elections = n }) (record g { elections = k })) count (shows_count setup after g n shows)
 
-  module _ (rose : S → S → Type 0) (was : S → S → Durable → Durable → Type 0) (setup : Setup) (history : History) (old : Cluster S) (reached : IsReached holds used format told setup history old) (i : ℕ) (me : Server S) (here : slice_get old.servers.items i ≡ Some me) where
-    elect_is : (answer right : Answer) → answer ≡ right → happens setup (replay setup history) (Elect i) (ending answer) ≡ at_server (ending right) (counted_election (ending right) (replay setup history)) i on_elect
+  module _ (rose : S → S → Type 0) (was : S → S → Durable → Durable → Type 0) (setup : Setup) (past : Past) (old : Cluster S) (reached : IsReached holds used format told setup past old) (i : ℕ) (me : Server S) (here : slice_get old.servers.items i ≡ Some me) where
+    elect_is : (answer right : Answer) → answer ≡ right → happens setup past.group (Elect i) (ending answer) ≡ at_server (ending right) (counted_election (ending right) past.group) i on_elect
     unfolding happens
-    elect_is answer right is = ap (λ a. at_server (ending a) (counted_election (ending a) (replay setup history)) i on_elect) is
+    elect_is answer right is = ap (λ a. at_server (ending a) (counted_election (ending a) past.group) i on_elect) is
 
-    elect_answers : (c : Condition) → slice_get (replay setup history).servers i ≡ Some c → answer_to setup (replay setup history) (Elect i) ≡ answer_at (Some c) (elect_turn (replay setup history))
+    elect_answers : (c : Condition) → slice_get past.group.servers i ≡ Some c → answer_to setup past.group (Elect i) ≡ answer_at (Some c) (elect_turn past.group)
     unfolding answer_to
-    elect_answers c there = ap (λ x. answer_at x (elect_turn (replay setup history))) there
+    elect_answers c there = ap (λ x. answer_at x (elect_turn past.group)) there
 
     -- the server does not run
-    pub elects_none : runs me.state ≡ false → HasGone holds used format told rose was setup (replay setup history) (Elect i) old old (Refused Down)
+    pub elects_none : runs me.state ≡ false → HasGone holds used format told rose was setup past.group (Elect i) old old (Refused Down)
     elects_none idle =
-        let m = its_condition holds used format told setup history old reached i me here in
+        let m = its_condition holds used format told setup past old reached i me here in
         record {
           answered = inl (sym (elect_answers m.0 m.1 ∙ down m.0 m.2.meets));
-          shows = subst (Shows holds used format told setup old) (sym (elect_is (Refused Down) (Refused Down) refl ∙ missed (replay setup history) i on_elect (slice_get (replay setup history).servers i))) reached.shows;
+          shows = subst (Shows holds used format told setup old) (sym (elect_is (Refused Down) (Refused Down) refl ∙ missed past.group i on_elect (slice_get past.group.servers i))) reached.shows;
           cause = λ halted. absurd (apart halted);
           crash = touches_kept was _ _ _ old old (λ j. refl);
           others = λ j own. refl;
+          tells = λ j. refl;
           taken = refl;
         }
       where
         apart : Refused Down ≡ Refused Halted → ⊥
         apart is = cc
 
-        down : (c : Condition) → Meets holds used format me.seat me.store me.state c → answer_at (Some c) (elect_turn (replay setup history)) ≡ Refused Down
+        down : (c : Condition) → Meets holds used format me.seat me.store me.state c → answer_at (Some c) (elect_turn past.group) ≡ Refused Down
         down (RunningIs s) meets = absurd (true≢false (sym (running_there me.seat me.store me.state s meets) ∙ idle))
         down (StoppedIs life before after) meets = refl
         down UnformattedIs meets = refl
 
     -- the group has had all its elections
-    pub elects_full : runs me.state ≡ true → 64 ≤ old.elections → HasGone holds used format told rose was setup (replay setup history) (Elect i) old old (Refused ElectionsFull)
+    pub elects_full : runs me.state ≡ true → 64 ≤ old.elections → HasGone holds used format told rose was setup past.group (Elect i) old old (Refused ElectionsFull)
     elects_full running many =
-        let m = its_condition holds used format told setup history old reached i me here in
+        let m = its_condition holds used format told setup past old reached i me here in
         record {
           answered = inl (sym (elect_answers m.0 m.1 ∙ full m.0 m.2.meets));
-          shows = subst (Shows holds used format told setup old) (sym (elect_is (Refused ElectionsFull) (Refused ElectionsFull) refl ∙ untouched (replay setup history) i on_elect (slice_get (replay setup history).servers i))) reached.shows;
+          shows = subst (Shows holds used format told setup old) (sym (elect_is (Refused ElectionsFull) (Refused ElectionsFull) refl ∙ untouched past.group i on_elect (slice_get past.group.servers i))) reached.shows;
           cause = λ halted. absurd (apart halted);
           crash = touches_kept was _ _ _ old old (λ j. refl);
           others = λ j own. refl;
+          tells = λ j. refl;
           taken = refl;
         }
       where
         apart : Refused ElectionsFull ≡ Refused Halted → ⊥
         apart is = cc
 
-        full : (c : Condition) → Meets holds used format me.seat me.store me.state c → answer_at (Some c) (elect_turn (replay setup history)) ≡ Refused ElectionsFull
-        full (RunningIs s) meets = ap (λ o. answer_by o (on_elect s).answer) (full_judged (replay setup history) s (subst (λ n. 64 ≤ n) reached.shows.traffic.elections many))
+        full : (c : Condition) → Meets holds used format me.seat me.store me.state c → answer_at (Some c) (elect_turn past.group) ≡ Refused ElectionsFull
+        full (RunningIs s) meets = ap (λ o. answer_by o (on_elect s).answer) (full_judged past.group s (subst (λ n. 64 ≤ n) reached.shows.traffic.elections many))
         full (StoppedIs life before after) meets = absurd (true≢false (sym running ∙ stopped_idles holds used format me.seat me.store me.state life before after meets))
         full UnformattedIs meets = absurd (true≢false (sym running ∙ unformatted_idles holds used format me.seat me.store me.state meets))

@@ -1,5 +1,5 @@
 -- Events that are one server's turn.
-use Rattle.std.proofs.Common.{◌≡◌, ℕ, ◌<◌, Bool, true, inl, inr, [], ◌++◌, length, Option, Some, None, Result, ◌^◌, slice_get, slice_set, refl, sym, ap, subst, ◌∙◌}
+use Rattle.std.proofs.Common.{◌≡◌, ℕ, Bool, true, inl, inr, ◌++◌, length, Option, Some, None, Result, slice_get, slice_set, refl, sym, ap, subst, ◌∙◌}
 use Rattle.pf_base.specs.declared.errors.NoMemory.{NoMemory}
 use Rattle.pf_entry.specs.Lists.{Every}
 use Rattle.pf_entry.specs.Records.{Durable}
@@ -10,8 +10,9 @@ use Rattle.pf_protocol.specs.declared.events.Event.{Event}
 use Rattle.pf_protocol.specs.Servers.{Setup, Server as ServerIs, Condition, Running as RunningIs}
 use Rattle.pf_protocol.specs.Outcomes.{Outcome}
 use Rattle.pf_protocol.specs.Groups.{Group, Ending, Whole, acted, at_server, ending, happens, send, step_of}
-use Rattle.pf_protocol.specs.Histories.{History, Runs, replay}
-use Rattle.pf_protocol.specs.Answers.{Turn, MayHappen, IsAnswer, IsLegal, answer_at, answer_by, answer_to, claims_of, halts_at, may_halt}
+use Rattle.pf_protocol.specs.Histories.{Runs}
+use Rattle.pf_protocol.specs.Answers.{Turn, MayHappen, IsAnswer, answer_at, answer_by, answer_to, halts_at, may_halt}
+use Rattle.pf_cluster.specs.Pasts.{Past, IsShort, IsViablePast}
 use Rattle.pf_state.specs.Outgoing.{Outgoing}
 use Rattle.pf_server.specs.declared.server.Server.{Server}
 use Rattle.pf_cluster.specs.AckedSlots.{HasRoom}
@@ -36,14 +37,14 @@ unfolding acted
 acted_packets g i o = refl
 
 -- what such an event sends has a spelling
-pub turn_canonical : (setup : Setup) (history : History) (reached : IsLegal setup history) → length history < 2 ^ 62 → (event : Event) (i : ℕ) (turn : Turn) (pre : Ending → Group) → IsTurnEvent setup (replay setup history) event i turn pre → MayHappen (claims_of [] history) event
-    → (s : ServerIs) → Runs (replay setup history) i s → turn.refusal s ≡ None → ending (turn.rule s).answer ≡ Whole → Every IsCanonicalPacket (turn.rule s).packets
-turn_canonical setup history legal short event i turn pre is asked s at free whole =
-    let g = replay setup history in
+pub turn_canonical : (setup : Setup) (past : Past) (reached : IsViablePast setup past) → IsShort past → (event : Event) (i : ℕ) (turn : Turn) (pre : Ending → Group) → IsTurnEvent setup past.group event i turn pre → MayHappen past.claims event
+    → (s : ServerIs) → Runs past.group i s → turn.refusal s ≡ None → ending (turn.rule s).answer ≡ Whole → Every IsCanonicalPacket (turn.rule s).packets
+turn_canonical setup past viable short event i turn pre is asked s at free whole =
+    let g = past.group in
     let right : answer_to setup g event ≡ (turn.rule s).answer = is.answers ∙ ap (λ c. answer_at c turn) at ∙ ap (λ o. answer_by o (turn.rule s).answer) free in
     let how : ending (answer_to setup g event) ≡ Whole = ap ending right ∙ whole in
     let there : slice_get (pre Whole).servers i ≡ Some (RunningIs s) = ap (λ xs. slice_get xs i) (is.servers Whole) ∙ at in
-    sent_canonical setup history legal short event asked (pre Whole).packets (turn.rule s).packets
+    sent_canonical setup past viable short event asked (pre Whole).packets (turn.rule s).packets
     (ap (λ h. (happens setup g event h).packets) how ∙ ap (λ (x : Group). x.packets) (is.goes Whole ∙ ap (λ c. step_of Whole (pre Whole) i c turn.rule) there) ∙ acted_packets (pre Whole) i (turn.rule s))
 
 -- the turn was answered as the event is
@@ -54,7 +55,7 @@ turn_answer setup g event i turn pre is answer turned = elim turned [
 ]
 
 module _ {S : Type 0} (holds : S → Durable → Durable → Type 0) (used format : S → ℕ) (told : S → Bool) where
-  module _ (rose : S → S → Type 0) (was : S → S → Durable → Durable → Type 0) (setup : Setup) (history : History) (cluster : Cluster S) (reached : IsReached holds used format told setup history cluster) (i : ℕ) (me next : Server S) (mid : Cluster S) where
+  module _ (rose : S → S → Type 0) (was : S → S → Durable → Durable → Type 0) (setup : Setup) (past : Past) (cluster : Cluster S) (reached : IsReached holds used format told setup past cluster) (i : ℕ) (me next : Server S) (mid : Cluster S) where
     -- the server of this place had its turn
     pub record IsMid : Type 0 where
       pub here : slice_get cluster.servers.items i ≡ Some me
@@ -64,14 +65,14 @@ module _ {S : Type 0} (holds : S → Durable → Durable → Type 0) (used forma
 
     module _ (middle : IsMid) where
       -- what it sent, acknowledged and answered is still to be kept
-      unfoldable pub turned_so : (g : Group) → g.servers ≡ (replay setup history).servers → (turn : Turn) (outcome : Result Answer NoMemory) (out out' : Outgoing) (judged : ServerIs → Option Refusal) (rule : ServerIs → Outcome)
+      unfoldable pub turned_so : (g : Group) → g.servers ≡ past.group.servers → (turn : Turn) (outcome : Result Answer NoMemory) (out out' : Outgoing) (judged : ServerIs → Option Refusal) (rule : ServerIs → Outcome)
           → ((s : ServerIs) → judged s ≡ turn.refusal s) → ((s : ServerIs) → rule s ≡ turn.rule s)
           → Tells holds used format told rose was me next out out' judged rule outcome → IsDown holds used format told rose was me next out out' judged rule outcome
-          → out ≡ outbox_of mid → ((s : ServerIs) → Runs (replay setup history) i s → IsTurnOf g turn s)
+          → out ≡ outbox_of mid → ((s : ServerIs) → Runs past.group i s → IsTurnOf g turn s)
           → HasTraffic mid g → HasRoom mid.acked.list mid.acked.known → ((c : Condition) → Took holds used format told rose was turn me next out out' outcome c → length mid.readings.items ≡ reads_with g.reads outcome)
           → HasTurned holds used format told rose was setup g i turn mid out' outcome
       turned_so g same turn outcome out out' judged rule same_judged same_rule tells down fresh knows traffic place reads =
-          let m = its_condition holds used format told setup history cluster reached i me middle.here in
+          let m = its_condition holds used format told setup past cluster reached i me middle.here in
           let took = took_by holds used format told rose was me next out out' judged rule turn outcome same_judged same_rule tells down m.0 m.2.meets in
           record {
             before = cluster.servers.items;

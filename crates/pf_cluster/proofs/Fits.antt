@@ -1,5 +1,5 @@
 -- What fits does not depend on which servers could not be formatted.
-use Rattle.std.proofs.Common.{◌≡◌, ℕ, ◌+◌, ◌≤◌, refl, subst}
+use Rattle.std.proofs.Common.{◌≡◌, ℕ, ◌+◌, ◌≤◌, ◌^◌, List, [], refl, subst, sym}
 use Rattle.pf_entry.proofs.Lists.{every_more}
 use Rattle.pf_entry.specs.declared.ops.Op.{Op}
 use Rattle.pf_entry.specs.declared.ops.Op.TheVariants.{Write, Noop, Mark}
@@ -14,24 +14,28 @@ use Rattle.pf_entry.specs.Records.{Durable, vote_of}
 use Rattle.pf_protocol.specs.Servers.{Setup, Role, Follower, Candidate, Merging, Serving, Server}
 use Rattle.pf_protocol.specs.Fitting.{OpFits, NameFits, EntryFits, StandsIn, VoteFits, SlotsFit, DurableFits, RoleFits, ServerFits, BodyFits, PacketFits}
 use Rattle.pf_protocol.specs.Answers.{IsSetup}
-use Rattle.pf_restart.specs.Beginning.{setup_at}
+use Rattle.pf_protocol.proofs.ForRows.{durable_more}
+use Rattle.pf_restart.specs.Beginning.{HasBegun, setup_at}
 use Rattle.pf_cluster.specs.Showing.{seat_of}
 
-module _ (setup : Setup) (i n t : ℕ) (window : setup.window ≡ 4096) where
-  -- the setup that a server of the group is made with
-  abbrev here : Setup
-  here = setup_at (seat_of setup i)
+-- from one setup to another of the same names, chunk, format and window
+module _ (names chunk format w v : ℕ) (failed failed' : List ℕ) (window : w ≡ v) (n t : ℕ) where
+  abbrev one : Setup
+  one = record { names = names; window = w; chunk = chunk; format = format; failed = failed }
 
-  op_fits : (op : Op) → OpFits setup op → OpFits here op
-  op_fits (Write range payload) f = f
-  op_fits Noop f = f
-  op_fits Mark f = f
+  abbrev other : Setup
+  other = record { names = names; window = v; chunk = chunk; format = format; failed = failed' }
 
-  name_fits : (slot : ℕ) (m : Named) → NameFits setup slot m → NameFits here slot m
-  name_fits slot m f = record { below = f.below; span = f.span; fits = f.fits; marks = f.marks }
+  op_to : (op : Op) → OpFits one op → OpFits other op
+  op_to (Write range payload) f = f
+  op_to Noop f = f
+  op_to Mark f = f
 
-  entry_fits : (e : Entry) → EntryFits setup n t e → EntryFits here n t e
-  entry_fits e f = record {
+  name_to : (slot : ℕ) (m : Named) → NameFits one slot m → NameFits other slot m
+  name_to slot m f = record { below = f.below; span = f.span; fits = f.fits; marks = f.marks }
+
+  entry_to : (e : Entry) → EntryFits one n t e → EntryFits other n t e
+  entry_to e f = record {
     slot = f.slot;
     slot_low = f.slot_low;
     term = f.term;
@@ -40,34 +44,58 @@ module _ (setup : Setup) (i n t : ℕ) (window : setup.window ≡ 4096) where
     first_low = f.first_low;
     few = f.few;
     ascending = f.ascending;
-    named = every_more (NameFits setup e.slot) (NameFits here e.slot) (name_fits e.slot) e.look f.named;
+    named = every_more (NameFits one e.slot) (NameFits other e.slot) (name_to e.slot) e.look f.named;
     merged = f.merged;
-    op = op_fits e.op f.op;
+    op = op_to e.op f.op;
   }
 
-  stands_in : (base slot : ℕ) (e : Entry) → StandsIn setup n t base slot e → StandsIn here n t base slot e
-  stands_in base slot e f = record {
-    fits = entry_fits e f.fits;
+  stands_to : (base slot : ℕ) (e : Entry) → StandsIn one n t base slot e → StandsIn other n t base slot e
+  stands_to base slot e f = record {
+    fits = entry_to e f.fits;
     in_slot = f.in_slot;
     is_above = f.is_above;
-    within = subst (λ w. slot ≤ base + w) window f.within;
+    within = subst (λ x. slot ≤ base + x) window f.within;
   }
 
-  vote_fits : (v : VoteLog) → VoteFits setup n t v → VoteFits here n t v
-  vote_fits v f = record { base = f.base; log = λ slot e at. stands_in v.base slot e (f.log slot e at); starts = f.starts }
+  vote_to : (vote : VoteLog) → VoteFits one n t vote → VoteFits other n t vote
+  vote_to vote f = record {
+    base = f.base;
+    log = λ slot e at. stands_to vote.base slot e (f.log slot e at);
+    starts = f.starts;
+  }
 
-  slots_fit : (base : ℕ) (slots : Numbers) → SlotsFit setup n base slots → SlotsFit here n base slots
-  slots_fit base slots f slot is = let x = f slot is in (x.0, subst (λ w. slot ≤ base + w) window x.1, x.2)
+  slots_to : (base : ℕ) (slots : Numbers) → SlotsFit one n base slots → SlotsFit other n base slots
+  slots_to base slots f slot is = let x = f slot is in (x.0, subst (λ y. slot ≤ base + y) window x.1, x.2)
 
-  pub durable_fits : (d : Durable) → DurableFits setup n t d → DurableFits here n t d
-  durable_fits d f = record {
+  durable_to : (d : Durable) → DurableFits one n t d → DurableFits other n t d
+  durable_to d f = record {
     generation = f.generation;
     term = f.term;
     term_low = f.term_low;
-    vote = vote_fits (vote_of d) f.vote;
-    saved = slots_fit d.base d.saved f.saved;
+    vote = vote_to (vote_of d) f.vote;
+    saved = slots_to d.base d.saved f.saved;
     sectors = f.sectors;
   }
+
+-- what a server of the group may hold fits the setup that it is made with
+module _ (setup : Setup) (i n t : ℕ) (window : setup.window ≡ 4096) where
+  abbrev here : Setup
+  here = setup_at (seat_of setup i)
+
+  op_fits : (op : Op) → OpFits setup op → OpFits here op
+  op_fits = op_to setup.names setup.chunk setup.format setup.window 4096 setup.failed [] window n t
+
+  entry_fits : (e : Entry) → EntryFits setup n t e → EntryFits here n t e
+  entry_fits = entry_to setup.names setup.chunk setup.format setup.window 4096 setup.failed [] window n t
+
+  vote_fits : (v : VoteLog) → VoteFits setup n t v → VoteFits here n t v
+  vote_fits = vote_to setup.names setup.chunk setup.format setup.window 4096 setup.failed [] window n t
+
+  slots_fit : (base : ℕ) (slots : Numbers) → SlotsFit setup n base slots → SlotsFit here n base slots
+  slots_fit = slots_to setup.names setup.chunk setup.format setup.window 4096 setup.failed [] window n t
+
+  pub durable_fits : (d : Durable) → DurableFits setup n t d → DurableFits here n t d
+  durable_fits = durable_to setup.names setup.chunk setup.format setup.window 4096 setup.failed [] window n t
 
   role_fits : (base : ℕ) (role : Role) → RoleFits setup n t base role → RoleFits here n t base role
   role_fits base Follower f = f
@@ -100,6 +128,11 @@ module _ (setup : Setup) (i n t : ℕ) (window : setup.window ≡ 4096) where
 
   pub packet_fits : (p : Packet) → PacketFits setup n t p → PacketFits here n t p
   packet_fits p f = record { from = f.from; to = f.to; apart = f.apart; term = f.term; term_low = f.term_low; body = body_fits p.term p.body f.body }
+
+-- and a state from which it begins fits the group
+pub begun_fits : (setup : Setup) (i : ℕ) → setup.window ≡ 4096 → (n t : ℕ) → 2 ^ 63 + 4096 ≤ n → 2 ^ 63 ≤ t → (d : Durable) → HasBegun (setup_at (seat_of setup i)) d → DurableFits setup n t d
+begun_fits setup i window n t le le_term d b =
+    durable_to setup.names setup.chunk setup.format 4096 setup.window [] setup.failed (sym window) n t d (durable_more (setup_at (seat_of setup i)) (2 ^ 63 + 4096) n (2 ^ 63) t le le_term d b.fits)
 
 pub setup_is : (setup : Setup) (i : ℕ) → IsSetup setup → IsSetup (setup_at (seat_of setup i))
 setup_is setup i is = record { few_names = is.few_names; some_sectors = is.some_sectors; few_sectors = is.few_sectors; blocks = is.blocks; format = is.format; window = refl }

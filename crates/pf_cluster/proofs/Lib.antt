@@ -27,3 +27,4 @@ pub mod Returning
 pub mod Claims
 pub mod Shown
 pub mod Taken
+pub mod Next

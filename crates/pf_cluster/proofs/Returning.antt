@@ -20,11 +20,12 @@ use Rattle.pf_protocol.specs.Saving.{applied_op, on_finish, on_give_back}
 use Rattle.pf_protocol.specs.Asked.{AreBelow}
 use Rattle.pf_protocol.specs.Rows.{settled}
 use Rattle.pf_protocol.specs.Groups.{Group, Ending, Whole, Missed, Untouched, at_server, ending, happens, reads_after, step_of}
-use Rattle.pf_protocol.specs.Histories.{History, replay}
-use Rattle.pf_protocol.specs.Answers.{answer_to, finish_answer, most_packet_bytes, most_packets, packets_full, refuse, Claimed, IsOpen, claims_of}
+use Rattle.pf_cluster.specs.Pasts.{Past}
+use Rattle.pf_protocol.specs.Answers.{answer_to, finish_answer, most_packet_bytes, most_packets, packets_full, refuse}
 use Rattle.pf_protocol.proofs.ForRows.{finish_asks, give_back_asks}
-use Rattle.pf_protocol.proofs.ForHistories.{legal_asks, legal_room, legal_open}
+use Rattle.pf_cluster.proofs.Laws.{viable_asks}
 use Rattle.pf_entry.proofs.Cases.{by_test}
+use Rattle.pf_cluster.proofs.Laws.{viable_room}
 use Rattle.pf_state.specs.Outgoing.{Outgoing}
 use Rattle.pf_server.specs.declared.server.Server.{Server}
 use Rattle.pf_server.specs.declared.state.State.{State}
@@ -35,6 +36,9 @@ use Rattle.pf_server.specs.Turns.{ComesInMemory, IsSettled, finish_refusal}
 use Rattle.pf_cluster.specs.declared.cluster.Cluster.{Cluster}
 use Rattle.pf_base.specs.declared.filled.Filled.{Filled}
 use Rattle.pf_entry.proofs.Lists.{every_get}
+use Rattle.pf_protocol.specs.Answers.{Claimed, IsOpen}
+use Rattle.pf_cluster.proofs.Laws.{viable_open}
+use Rattle.pf_server.specs.Conditions.{BringsBack}
 use Rattle.pf_cluster.specs.Going.{HasGone, IsBroughtBack, IsReached, KeepsStores}
 use Rattle.pf_cluster.specs.Readings.{taken_after, taken_of}
 use Rattle.pf_cluster.specs.Showing.{HasTraffic, IsMember, Shows}
@@ -52,6 +56,7 @@ use Rattle.pf_cluster.specs.Keeping.{HavePlaces, with_answers}
 use Rattle.pf_cluster.specs.declared.kept.Reading.{Reading}
 use Rattle.std.specs.Global.{Vec}
 use Rattle.std.specs.FinMap
+use Rattle.std.specs.Option.{option_map}
 
 pub none_full : (g : Group) → length g.packets ≤ most_packets → sum_by (λ sent. packet_size sent.packet) g.packets ≤ most_packet_bytes → packets_full g [] ≡ false
 unfolding most_packets most_packet_bytes
@@ -70,9 +75,9 @@ pub record IsStill (o : Outcome) : Type 0 where
   pub packets : o.packets ≡ []
   pub acked : o.acked ≡ None
 
-module _ {S : Type 0} (holds : S → Durable → Durable → Type 0) (used format : S → ℕ) (told : S → Bool) (rose : S → S → Type 0) (was : S → S → Durable → Durable → Type 0) (setup : Setup) (history : History) (old : Cluster S) (reached : IsReached holds used format told setup history old) (i : ℕ) (me next : Server S) (low : i < 3) (here : slice_get old.servers.items i ≡ Some me) (seat : next.seat ≡ me.seat) (told_same : told next.store ≡ told me.store) where
+module _ {S : Type 0} (holds : S → Durable → Durable → Type 0) (used format : S → ℕ) (told : S → Bool) (rose : S → S → Type 0) (was : S → S → Durable → Durable → Type 0) (setup : Setup) (past : Past) (old : Cluster S) (reached : IsReached holds used format told setup past old) (i : ℕ) (me next : Server S) (low : i < 3) (here : slice_get old.servers.items i ≡ Some me) (seat : next.seat ≡ me.seat) (told_same : told next.store ≡ told me.store) where
   abbrev g : Group
-  g = replay setup history
+  g = past.group
 
   abbrev mid : Cluster S
   mid = record old { servers = with_item old.servers i next }
@@ -81,12 +86,12 @@ module _ {S : Type 0} (holds : S → Durable → Durable → Type 0) (used forma
   traffic = let t = reached.shows.traffic in record { packets = t.packets; places = t.places; room = t.room; acked = t.acked; elections = t.elections; readings = t.readings }
 
   member : (c : Condition) → IsMember holds used format told setup i me c → Meets holds used format me.seat next.store next.state c → IsMember holds used format told setup i next c
-  member c m meets = record { seat = seat ∙ m.seat; meets = subst (λ s. Meets holds used format s next.store next.state c) (sym seat) meets; tells = told_same ∙ m.tells }
+  member c m meets = record { seat = seat ∙ m.seat; meets = subst (λ s. Meets holds used format s next.store next.state c) (sym seat) meets }
 
   -- the step was carried out in memory
   unfoldable pub job_stepped : (s : ServerIs) (o : Outcome) (answer : Answer) → IsMember holds used format told setup i me (RunningIs s) → IsSettled holds used format me.seat next.store next.state s o answer → IsStill o → AreBelow g.reads o.server.reads → HasStepped holds used format told setup g i o mid nothing_sent
   job_stepped s o answer m settles still below =
-      let room = legal_room setup history reached.legal in
+      let room = viable_room setup past reached.viable in
       record {
         before = old.servers.items;
         me = next;
@@ -96,7 +101,6 @@ module _ {S : Type 0} (holds : S → Durable → Durable → Type 0) (used forma
         members = reached.shows.members;
         seat = seat ∙ m.seat;
         meets = subst (λ x. Meets holds used format x next.store next.state (RunningIs (settled o.server))) (sym seat) settles.meets;
-        tells = told_same ∙ m.tells;
         answers = settles.answers;
         sized = settles.sized;
         traffic = traffic;
@@ -172,17 +176,17 @@ stale : (s : ServerIs) (life slot : ℕ) → (life == s.life) ≡ false → (on_
 unfolding on_finish
 stale s life slot other = by_test (life == s.life) (λ c. c ≡ false → (if c then sends (applied_op s slot (FinMap.get s.in_hand slot)) [] else refused s (Refused (Stale s.life))).answer ≡ Refused (Stale s.life)) (λ _ is. absurd (true≢false is)) (λ _ is. refl) other
 
-module _ {S : Type 0} (holds : S → Durable → Durable → Type 0) (used format : S → ℕ) (told : S → Bool) (rose : S → S → Type 0) (was : S → S → Durable → Durable → Type 0) (setup : Setup) (history : History) (old : Cluster S) (reached : IsReached holds used format told setup history old) (i : ℕ) (me next : Server S) (low : i < 3) (here : slice_get old.servers.items i ≡ Some me) (seat : next.seat ≡ me.seat) (told_same : told next.store ≡ told me.store) (life slot : ℕ) where
+module _ {S : Type 0} (holds : S → Durable → Durable → Type 0) (used format : S → ℕ) (told : S → Bool) (rose : S → S → Type 0) (was : S → S → Durable → Durable → Type 0) (setup : Setup) (past : Past) (old : Cluster S) (reached : IsReached holds used format told setup past old) (i : ℕ) (me next : Server S) (low : i < 3) (here : slice_get old.servers.items i ≡ Some me) (seat : next.seat ≡ me.seat) (told_same : told next.store ≡ told me.store) (life slot : ℕ) where
   abbrev grp : Group
-  grp = replay setup history
+  grp = past.group
 
   abbrev back_done : Answer → Type 0
-  back_done answer = JobDone holds used format told rose was setup history old reached i me next low here seat told_same (λ s. on_give_back s life slot) answer
+  back_done answer = JobDone holds used format told rose was setup past old reached i me next low here seat told_same (λ s. on_give_back s life slot) answer
 
   -- a running server took a job back
   pub back_taken : runs me.state ≡ true → ((s : ServerIs) → Meets holds used format me.seat me.store me.state (RunningIs s) → ComesInMemory holds used format me.seat next.store next.state s None (on_give_back s life slot) Done) → back_done Done
   back_taken running step =
-      let m = its_condition holds used format told setup history old reached i me here in
+      let m = its_condition holds used format told setup past old reached i me here in
       by m.0 m.1 m.2
     where
       by : (c : Condition) → slice_get grp.servers i ≡ Some c → IsMember holds used format told setup i me c → back_done Done
@@ -192,18 +196,18 @@ module _ {S : Type 0} (holds : S → Durable → Durable → Type 0) (used forma
         member_is = m;
         settles = step s m.meets;
         still = given_back s life slot;
-        below = (give_back_asks setup setup.chunk grp.reads s (legal_asks setup history reached.legal i s there) life slot).below;
+        below = (give_back_asks setup setup.chunk grp.reads s (viable_asks setup past reached.viable i s there) life slot).below;
       }
       by (StoppedIs its before after) there m = absurd (true≢false (sym running ∙ stopped_idles holds used format me.seat me.store me.state its before after m.meets))
       by UnformattedIs there m = absurd (true≢false (sym running ∙ unformatted_idles holds used format me.seat me.store me.state m.meets))
 
   pub back_gone : (after : Cluster S) → KeepsStores old after → taken_of after ≡ taken_of old → Shows holds used format told setup after (at_server Whole grp i (λ s. on_give_back s life slot)) → HasGone holds used format told rose was setup grp (GiveBack i life slot) old after Done
   unfolding answer_to happens
-  back_gone after stores taken shows = record { answered = inl refl; shows = shows; cause = λ halted. absurd (done_apart halted); crash = touches_kept was _ _ _ old after stores; others = λ j own. stores j; taken = taken }
+  back_gone after stores taken shows = record { answered = inl refl; shows = shows; cause = λ halted. absurd (done_apart halted); crash = touches_kept was _ _ _ old after stores; others = λ j own. stores j; tells = λ j. ap (option_map told) (stores j); taken = taken }
 
   pub back_idle : runs me.state ≡ false → HasGone holds used format told rose was setup grp (GiveBack i life slot) old old Done
   back_idle idle =
-      let m = its_condition holds used format told setup history old reached i me here in
+      let m = its_condition holds used format told setup past old reached i me here in
       back_gone old (λ j. refl) refl (subst (Shows holds used format told setup old) (sym (ap (λ c. step_of Whole grp i c (λ s. on_give_back s life slot)) m.1 ∙ by m.0 m.2.meets)) reached.shows)
     where
       by : (c : Condition) → Meets holds used format me.seat me.store me.state c → step_of Whole grp i (Some c) (λ s. on_give_back s life slot) ≡ grp
@@ -217,14 +221,14 @@ not_down is = cc
 not_stale : (life : ℕ) → Refused (Stale life) ≡ Refused Halted → ⊥
 not_stale life is = cc
 
-module _ {S : Type 0} (holds : S → Durable → Durable → Type 0) (used format : S → ℕ) (told : S → Bool) (rose : S → S → Type 0) (was : S → S → Durable → Durable → Type 0) (setup : Setup) (history : History) (old : Cluster S) (reached : IsReached holds used format told setup history old) (i : ℕ) (me next : Server S) (low : i < 3) (here : slice_get old.servers.items i ≡ Some me) (seat : next.seat ≡ me.seat) (told_same : told next.store ≡ told me.store) (life slot : ℕ) (answer : Answer)
+module _ {S : Type 0} (holds : S → Durable → Durable → Type 0) (used format : S → ℕ) (told : S → Bool) (rose : S → S → Type 0) (was : S → S → Durable → Durable → Type 0) (setup : Setup) (past : Past) (old : Cluster S) (reached : IsReached holds used format told setup past old) (i : ℕ) (me next : Server S) (low : i < 3) (here : slice_get old.servers.items i ≡ Some me) (seat : next.seat ≡ me.seat) (told_same : told next.store ≡ told me.store) (life slot : ℕ) (answer : Answer)
     (step : (s : ServerIs) → Meets holds used format me.seat me.store me.state (RunningIs s) → ComesInMemory holds used format me.seat next.store next.state s (finish_refusal s life) (on_finish s life slot) answer)
     (stopped : (its : ℕ) (doubt : Doubt) → me.state ≡ Stopped its doubt → (answer ≡ Refused (Stale its)) × (next ≡ me)) (unformatted : me.state ≡ Unformatted → (answer ≡ Refused Down) × (next ≡ me)) where
   abbrev now : Group
-  now = replay setup history
+  now = past.group
 
   abbrev done_so : Type 0
-  done_so = JobDone holds used format told rose was setup history old reached i me next low here seat told_same (λ s. on_finish s life slot) answer
+  done_so = JobDone holds used format told rose was setup past old reached i me next low here seat told_same (λ s. on_finish s life slot) answer
 
   abbrev middle : Cluster S
   middle = record old { servers = with_item old.servers i next }
@@ -256,7 +260,7 @@ module _ {S : Type 0} (holds : S → Durable → Durable → Type 0) (used forma
   -- it was done
   pub finish_done : is_refused answer ≡ false → done_so
   finish_done stands =
-      let m = its_condition holds used format told setup history old reached i me here in
+      let m = its_condition holds used format told setup past old reached i me here in
       by m.0 m.1 m.2
     where
       refuses : (refusal : Refusal) → answer ≡ Refused refusal → ⊥
@@ -270,7 +274,7 @@ module _ {S : Type 0} (holds : S → Durable → Durable → Type 0) (used forma
           member_is = m;
           settles = done.1;
           still = finished s life slot done.0;
-          below = (finish_asks setup setup.chunk now.reads s (legal_asks setup history reached.legal i s there) life slot).below;
+          below = (finish_asks setup setup.chunk now.reads s (viable_asks setup past reached.viable i s there) life slot).below;
         }
         | inr other ↦ absurd (refuses (Stale s.life) other.1)
       ]
@@ -294,13 +298,14 @@ module _ {S : Type 0} (holds : S → Durable → Durable → Type 0) (used forma
         cause = λ halted. absurd (done_apart (sym is ∙ halted));
         crash = touches_kept was _ _ _ old after stores;
         others = λ j own. stores j;
+        tells = λ j. ap (option_map told) (stores j);
         taken = taken ∙ ap (taken_after (taken_of old)) (sym is);
       }
 
   -- it was refused
   pub finish_refused : next.store ≡ me.store → is_refused answer ≡ true → HasGone holds used format told rose was setup now (Finish i life slot) old middle answer
   finish_refused kept refused_so =
-      let m = its_condition holds used format told setup history old reached i me here in
+      let m = its_condition holds used format told setup past old reached i me here in
       by m.0 m.1 m.2
     where
       stores : KeepsStores old middle
@@ -314,13 +319,14 @@ module _ {S : Type 0} (holds : S → Durable → Durable → Type 0) (used forma
         cause = λ halted. absurd (apart (sym same ∙ halted));
         crash = touches_kept was _ _ _ old middle stores;
         others = λ j own. stores j;
+        tells = λ j. ap (option_map told) (stores j);
         taken = sym (ap (taken_after (taken_of old)) same ∙ quiet);
       }
 
       by : (c : Condition) → slice_get now.servers i ≡ Some c → IsMember holds used format told setup i me c → HasGone holds used format told rose was setup now (Finish i life slot) old middle answer
       by (RunningIs s) there m = elim (at_running s m.meets) [
         | inl done ↦ absurd (false≢true (sym (ap is_refused (done.1.answered ∙ (finished s life slot done.0).answer)) ∙ refused_so))
-        | inr other ↦ gone (RunningIs s) there (record { seat = seat ∙ m.seat; meets = subst (λ x. Meets holds used format x next.store next.state (RunningIs s)) (sym seat) other.2; tells = told_same ∙ m.tells }) (Refused (Stale s.life)) (stale s life slot other.0) other.1 Untouched refl refl (not_stale s.life) refl
+        | inr other ↦ gone (RunningIs s) there (record { seat = seat ∙ m.seat; meets = subst (λ x. Meets holds used format x next.store next.state (RunningIs s)) (sym seat) other.2 }) (Refused (Stale s.life)) (stale s life slot other.0) other.1 Untouched refl refl (not_stale s.life) refl
       ]
       by (StoppedIs its before after) there m = let d = at_stopped its before after m.meets in
           gone (StoppedIs its before after) there (subst (λ (x : Server S). IsMember holds used format told setup i x (StoppedIs its before after)) (sym d.1) m) (Refused (Stale its)) refl d.0 Untouched refl refl (not_stale its) refl
@@ -328,15 +334,15 @@ module _ {S : Type 0} (holds : S → Durable → Durable → Type 0) (used forma
           gone UnformattedIs there (subst (λ (x : Server S). IsMember holds used format told setup i x UnformattedIs) (sym d.1) m) (Refused Down) refl d.0 Missed refl refl not_down refl
 
 -- the job is in hand where its life lasts
-pub brings_back : {S : Type 0} → (holds : S → Durable → Durable → Type 0) (used format : S → ℕ) (told : S → Bool) (setup : Setup) (history : History) (old : Cluster S) (filled : Filled) → IsBroughtBack holds used format told setup history old filled → (me : Server S) → slice_get old.servers.items filled.server ≡ Some me → (c : Condition) × Meets holds used format me.seat me.store me.state c × BringsBack c filled
-brings_back holds used format told setup history old filled job me here =
-    let m = its_condition holds used format told setup history old job.reached filled.server me here in
+pub brings_back : {S : Type 0} → (holds : S → Durable → Durable → Type 0) (used format : S → ℕ) (told : S → Bool) (setup : Setup) (past : Past) (old : Cluster S) (filled : Filled) → IsBroughtBack holds used format told setup past old filled → (me : Server S) → slice_get old.servers.items filled.server ≡ Some me → (c : Condition) × Meets holds used format me.seat me.store me.state c × BringsBack c filled
+brings_back holds used format told setup past old filled job me here =
+    let m = its_condition holds used format told setup past old job.reached filled.server me here in
     (m.0, m.2.meets, by m.0 m.1)
   where
-    by : (c : Condition) → slice_get (replay setup history).servers filled.server ≡ Some c → BringsBack c filled
+    by : (c : Condition) → slice_get past.group.servers filled.server ≡ Some c → BringsBack c filled
     by (RunningIs s) there = λ same.
         let claim : Claimed = record { server = filled.server; life = filled.life; slot = filled.slot; op = job.op } in
-        let open_so = every_get (IsOpen (replay setup history).servers) (claims_of [] history) job.k claim (legal_open setup history job.reached.legal) job.claim in
+        let open_so = every_get (IsOpen past.group.servers) past.claims job.k claim (viable_open setup past job.reached.viable) job.claim in
         (job.op, (open_so.running s there).1 same, job.brought)
     by (StoppedIs its before after) there = tt
     by UnformattedIs there = tt

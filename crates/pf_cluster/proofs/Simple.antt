@@ -1,5 +1,5 @@
 -- Turns that only want of room refuses.
-use Rattle.std.proofs.Common.{◌≡◌, ℕ, ◌<◌, ◌^◌, true, false, not, ◌&&◌, ◌==◌, ◌||◌, if◌then◌else◌, [], length, Option, Some, None, is_none, slice_get, refl, sym, ap, ◌∙◌}
+use Rattle.std.proofs.Common.{◌≡◌, ℕ, ◌<◌, true, false, not, ◌&&◌, ◌==◌, ◌||◌, if◌then◌else◌, Option, Some, None, is_none, slice_get, refl, sym, ap, ◌∙◌}
 use Rattle.std.proofs.lemmas.Bool.{eq-eqb, and_parts}
 use Rattle.pf_entry.specs.Records.{Durable}
 use Rattle.pf_protocol.specs.declared.answers.Answer.TheVariants.{Base}
@@ -11,11 +11,13 @@ use Rattle.pf_protocol.specs.Leading.{on_resend}
 use Rattle.pf_protocol.specs.Saving.{is_short_of, on_checkpoint, trimmed}
 use Rattle.pf_protocol.specs.Asked.{Asks}
 use Rattle.pf_protocol.specs.Groups.{Group, Whole, ending, happens, reads_after}
-use Rattle.pf_protocol.specs.Histories.{History, Runs, replay}
-use Rattle.pf_protocol.specs.Answers.{IsLegal, MayHappen, Turn, answer_to, claims_of, halts_at, has_stored, may_halt, plain, room_refusal as group_room_refusal}
-use Rattle.pf_protocol.proofs.ForRows.{checkpoint_asks, resend_asks, room_silent}
-use Rattle.pf_protocol.proofs.ForHistories.{legal_asks}
+use Rattle.pf_protocol.specs.Histories.{Runs}
+use Rattle.pf_protocol.specs.Answers.{MayHappen, Turn, answer_to, halts_at, has_stored, may_halt, plain, room_refusal as group_room_refusal}
+use Rattle.pf_cluster.specs.Pasts.{Past, IsShort, IsViablePast}
+use Rattle.pf_protocol.proofs.ForRows.{checkpoint_asks, resend_asks}
+use Rattle.pf_cluster.proofs.Laws.{viable_asks}
 use Rattle.pf_entry.proofs.Cases.{by_test}
+use Rattle.pf_protocol.proofs.ForRows.{room_silent}
 use Rattle.pf_state.specs.Outgoing.{Outgoing}
 use Rattle.pf_state.specs.Standing.{room_refusal}
 use Rattle.pf_cluster.specs.Turned.{IsTurnOf}
@@ -35,23 +37,23 @@ never_halts turn same (Some (Stopped life before after)) is = is
 never_halts turn same (Some Unformatted) is = is
 never_halts turn same None is = is
 
-module _ (setup : Setup) (history : History) (legal : IsLegal setup history) (short : length history < 2 ^ 62) (i : ℕ) (event : Event) (rule : Server → Outcome) (event_is : IsTurnEvent setup (replay setup history) event i (plain (replay setup history) rule) (λ how. replay setup history)) (asked : MayHappen (claims_of [] history) event) (whole : (s : Server) → ending (rule s).answer ≡ Whole) (quiet : (s : Server) (reads : ℕ) → reads_after reads (rule s).answer ≡ reads) (asks : (s : Server) → Asks setup.chunk (replay setup history).reads s → Asks setup.chunk (replay setup history).reads (rule s).server) where
-  pub simple_known : (s : Server) → Runs (replay setup history) i s → IsTurnOf (replay setup history) (plain (replay setup history) rule) s
+module _ (setup : Setup) (past : Past) (viable : IsViablePast setup past) (short : IsShort past) (i : ℕ) (event : Event) (rule : Server → Outcome) (event_is : IsTurnEvent setup past.group event i (plain past.group rule) (λ how. past.group)) (asked : MayHappen past.claims event) (whole : (s : Server) → ending (rule s).answer ≡ Whole) (quiet : (s : Server) (reads : ℕ) → reads_after reads (rule s).answer ≡ reads) (asks : (s : Server) → Asks setup.chunk past.group.reads s → Asks setup.chunk past.group.reads (rule s).server) where
+  pub simple_known : (s : Server) → Runs past.group i s → IsTurnOf past.group (plain past.group rule) s
   simple_known s at = record {
-    leaves = leaves_all (group_room_refusal (replay setup history) (rule s)) (room_silent (replay setup history) (rule s));
+    leaves = leaves_all (group_room_refusal past.group (rule s)) (room_silent past.group (rule s));
     whole = λ none. whole s;
-    fits = λ none. packets_fit (replay setup history) (rule s) none;
-    below = λ none. below_after (replay setup history).reads (rule s).answer (rule s).server.reads (asks s (legal_asks setup history legal i s at)).below;
-    canonical = λ none. turn_canonical setup history legal short event i (plain (replay setup history) rule) (λ how. replay setup history) event_is asked s at none (whole s);
+    fits = λ none. packets_fit past.group (rule s) none;
+    below = λ none. below_after past.group.reads (rule s).answer (rule s).server.reads (asks s (viable_asks setup past viable i s at)).below;
+    canonical = λ none. turn_canonical setup past viable short event i (plain past.group rule) (λ how. past.group) event_is asked s at none (whole s);
   }
 
-  pub simple_turn : (out : Outgoing) → ((o : Outcome) → room_refusal out o ≡ group_room_refusal (replay setup history) o) → IsTurnAs setup history event i (plain (replay setup history) rule) (λ how. replay setup history) (λ s. room_refusal out (rule s)) rule
+  pub simple_turn : (out : Outgoing) → ((o : Outcome) → room_refusal out o ≡ group_room_refusal past.group o) → IsTurnAs setup past event i (plain past.group rule) (λ how. past.group) (λ s. room_refusal out (rule s)) rule
   simple_turn out room = record {
     event_is = event_is;
     same_judged = λ s. room (rule s);
     same_rule = λ s. refl;
     knows = simple_known;
-    plain = λ s. quiet s (replay setup history).reads;
+    plain = λ s. quiet s past.group.reads;
   }
 
 -- Resend
@@ -81,9 +83,9 @@ resend_event : (setup : Setup) (g : Group) (i : ℕ) → IsTurnEvent setup g (Re
 unfolding answer_to may_halt happens
 resend_event setup g i = record { answers = refl; halts = never_halts (plain g (λ s. on_resend s s.role)) (λ s. resent_disk s s.role) (slice_get g.servers i); goes = λ how. refl; servers = λ how. refl; acts = refl }
 
-pub resends : (setup : Setup) (history : History) → IsLegal setup history → length history < 2 ^ 62 → (i : ℕ) → i < 3 → (out : Outgoing) → ((o : Outcome) → room_refusal out o ≡ group_room_refusal (replay setup history) o)
-    → IsTurnAs setup history (Resend i) i (plain (replay setup history) (λ s. on_resend s s.role)) (λ how. replay setup history) (λ s. room_refusal out (on_resend s s.role)) (λ s. on_resend s s.role)
-resends setup history legal short i low = simple_turn setup history legal short i (Resend i) (λ s. on_resend s s.role) (resend_event setup (replay setup history) i) low (λ s. resent_whole s s.role) (λ s reads. resent_quiet s s.role reads) (λ s asks. resend_asks setup setup.chunk (replay setup history).reads s asks)
+pub resends : (setup : Setup) (past : Past) → IsViablePast setup past → IsShort past → (i : ℕ) → i < 3 → (out : Outgoing) → ((o : Outcome) → room_refusal out o ≡ group_room_refusal past.group o)
+    → IsTurnAs setup past (Resend i) i (plain past.group (λ s. on_resend s s.role)) (λ how. past.group) (λ s. room_refusal out (on_resend s s.role)) (λ s. on_resend s s.role)
+resends setup past viable short i low = simple_turn setup past viable short i (Resend i) (λ s. on_resend s s.role) (resend_event setup past.group i) low (λ s. resent_whole s s.role) (λ s reads. resent_quiet s s.role reads) (λ s asks. resend_asks setup setup.chunk past.group.reads s asks)
 
 -- Checkpoint
 saved_whole : (s : Server) → ending (on_checkpoint s).answer ≡ Whole
@@ -98,6 +100,6 @@ checkpoint_event : (setup : Setup) (g : Group) (i : ℕ) → IsTurnEvent setup g
 unfolding answer_to may_halt happens
 checkpoint_event setup g i = record { answers = refl; halts = λ is. is; goes = λ how. refl; servers = λ how. refl; acts = refl }
 
-pub checkpoints : (setup : Setup) (history : History) → IsLegal setup history → length history < 2 ^ 62 → (i : ℕ) → i < 3 → (out : Outgoing) → ((o : Outcome) → room_refusal out o ≡ group_room_refusal (replay setup history) o)
-    → IsTurnAs setup history (Checkpoint i) i (plain (replay setup history) on_checkpoint) (λ how. replay setup history) (λ s. room_refusal out (on_checkpoint s)) on_checkpoint
-checkpoints setup history legal short i low = simple_turn setup history legal short i (Checkpoint i) on_checkpoint (checkpoint_event setup (replay setup history) i) low saved_whole saved_quiet (λ s asks. checkpoint_asks setup setup.chunk (replay setup history).reads s asks)
+pub checkpoints : (setup : Setup) (past : Past) → IsViablePast setup past → IsShort past → (i : ℕ) → i < 3 → (out : Outgoing) → ((o : Outcome) → room_refusal out o ≡ group_room_refusal past.group o)
+    → IsTurnAs setup past (Checkpoint i) i (plain past.group on_checkpoint) (λ how. past.group) (λ s. room_refusal out (on_checkpoint s)) on_checkpoint
+checkpoints setup past viable short i low = simple_turn setup past viable short i (Checkpoint i) on_checkpoint (checkpoint_event setup past.group i) low saved_whole saved_quiet (λ s asks. checkpoint_asks setup setup.chunk past.group.reads s asks)

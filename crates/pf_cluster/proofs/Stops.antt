@@ -1,5 +1,5 @@
 -- A server stops, and begins again.
-use Rattle.std.proofs.Common.{◌≡◌, ◌⊎◌, ℕ, suc, Bool, true, false, cond, inl, inr, Some, Result, Ok, Err, slice_get, slice_set, refl, sym, ap, subst, ◌∙◌}
+use Rattle.std.proofs.Common.{◌≡◌, ◌⊎◌, ℕ, suc, Bool, true, false, cond, inl, inr, Some, IfOk, IfSome, IsTrue, Result, Ok, Err, slice_get, slice_set, refl, sym, ap, subst, ◌∙◌}
 use Rattle.std.proofs.lemmas.Option.{slice_get_within}
 use Rattle.std.specs.Option.{option_map}
 use Rattle.std.specs.Vec.{with_item}
@@ -10,37 +10,41 @@ use Rattle.pf_protocol.specs.declared.answers.Answer.TheVariants.{Done, Refused}
 use Rattle.pf_protocol.specs.declared.answers.Refusal.TheVariants.{Down, Halted, NotOurs}
 use Rattle.pf_protocol.specs.declared.events.Event.TheVariants.{Restart, Stop}
 use Rattle.pf_protocol.specs.Servers.{Setup, Server as ServerIs, Condition, Running as RunningIs, Stopped as StoppedIs, Unformatted as UnformattedIs}
-use Rattle.pf_protocol.specs.Groups.{Group, ending, happens, only, restart, stopped}
+use Rattle.pf_protocol.specs.Groups.{CutOff, Group, ending, happens, only, restart, stopped}
 use Rattle.pf_protocol.specs.Saving.{renewed, restarted}
-use Rattle.pf_protocol.specs.Histories.{History, replay}
+use Rattle.pf_cluster.specs.Pasts.{Past}
 use Rattle.pf_protocol.specs.Answers.{answer_to, is_formatted, may_halt, restart_answer, stop_answer}
 use Rattle.pf_server.specs.declared.server.Server.{Server}
 use Rattle.pf_server.specs.Conditions.{IsHonest, IsKnown, Meets, runs}
-use Rattle.pf_server.specs.Turns.{Begins, BeginsAgain, WasBegunIn}
+use Rattle.pf_server.specs.Turns.{Begins, BeginsAgain, BeginsSomehow, StopsUnread, WasBegunIn, next_life, stopped_in}
 use Rattle.pf_cluster.specs.declared.cluster.Cluster.{Cluster}
-use Rattle.pf_cluster.specs.Going.{GoesBack, HasFault, HasGone, IsReached, KeepsOthers, KeepsStores, Touches}
+use Rattle.pf_cluster.specs.Going.{GoesBack, GoesSomehow, HasFault, HasGone, IsHonestAt, IsReached, IsToldAt, ShowsSomehow, KeepsOthers, KeepsStores, KeepsTelling, Touches}
 use Rattle.pf_cluster.specs.Readings.{taken_after, taken_of}
-use Rattle.pf_cluster.specs.Showing.{IsMember, Shows}
+use Rattle.pf_cluster.specs.Showing.{IsMember, Shows, seat_of}
 use Rattle.pf_cluster.proofs.Alone.{alone, alone_still}
 use Rattle.pf_cluster.proofs.Beginning.{its_condition}
-use Rattle.pf_cluster.proofs.Laws.{is_honest, is_known}
+use Rattle.pf_cluster.proofs.Laws.{is_known}
 use Rattle.pf_cluster.proofs.Lists.{set_there}
-use Rattle.pf_cluster.proofs.Stores.{others_kept, stores_kept}
+use Rattle.pf_restart.specs.Beginning.{HasBegun, setup_at}
+use Rattle.pf_cluster.proofs.Stores.{others_kept, stores_kept, telling_kept}
 use Rattle.pf_cluster.proofs.Taking.{stopped_idles, unformatted_idles}
 use Rattle.pf_cluster.proofs.Touching.{begun_touches, touches_kept, touches_one}
 
-module _ {S : Type 0} (holds : S → Durable → Durable → Type 0) (used format : S → ℕ) (told : S → Bool) (rose : S → S → Type 0) (was : S → S → Durable → Durable → Type 0) (setup : Setup) (history : History) (old : Cluster S) (reached : IsReached holds used format told setup history old) (i : ℕ) (me next : Server S) (here : slice_get old.servers.items i ≡ Some me) (seat : next.seat ≡ me.seat) (told_same : told next.store ≡ told me.store) where
+module _ {S : Type 0} (holds : S → Durable → Durable → Type 0) (used format : S → ℕ) (told : S → Bool) (rose : S → S → Type 0) (was : S → S → Durable → Durable → Type 0) (setup : Setup) (past : Past) (old : Cluster S) (reached : IsReached holds used format told setup past old) (i : ℕ) (me next : Server S) (here : slice_get old.servers.items i ≡ Some me) (seat : next.seat ≡ me.seat) (told_same : told next.store ≡ told me.store) where
   abbrev g : Group
-  g = replay setup history
+  g = past.group
 
   abbrev new : Cluster S
   new = record old { servers = with_item old.servers i next }
 
   member : (was c : Condition) → IsMember holds used format told setup i me was → Meets holds used format me.seat next.store next.state c → IsMember holds used format told setup i next c
-  member was c m meets = record { seat = seat ∙ m.seat; meets = subst (λ s. Meets holds used format s next.store next.state c) (sym seat) meets; tells = told_same ∙ m.tells }
+  member was c m meets = record { seat = seat ∙ m.seat; meets = subst (λ s. Meets holds used format s next.store next.state c) (sym seat) meets }
 
   elsewhere : KeepsOthers (Some i) old new
   elsewhere = others_kept old new i next refl
+
+  telling : KeepsTelling told old new
+  telling = telling_kept old new i next refl told me here told_same
 
   -- Stop
   module _ (result : Answer) (step : (s : ServerIs) → Meets holds used format me.seat me.store me.state (RunningIs s) → (result ≡ Done) × Meets holds used format me.seat next.store next.state (StoppedIs (suc s.life) s.durable s.durable)) (down : runs me.state ≡ false → (result ≡ Refused Down) × (next ≡ me)) (kept : next.store ≡ me.store) where
@@ -64,6 +68,7 @@ module _ {S : Type 0} (holds : S → Durable → Durable → Type 0) (used forma
       cause = λ halted. absurd (down_apart (sym d.0 ∙ halted));
       crash = touches_kept was _ _ _ old new stores;
       others = elsewhere;
+      tells = telling;
       taken = ap (taken_after (taken_of old)) (sym d.0);
     }
       where
@@ -80,6 +85,7 @@ module _ {S : Type 0} (holds : S → Durable → Durable → Type 0) (used forma
           cause = λ halted. absurd (done_apart (sym d.0 ∙ halted));
           crash = touches_kept was _ _ _ old new stores;
           others = elsewhere;
+          tells = telling;
           taken = ap (taken_after (taken_of old)) (sym d.0);
         }
       where
@@ -89,7 +95,7 @@ module _ {S : Type 0} (holds : S → Durable → Durable → Type 0) (used forma
     by_condition UnformattedIs there m = stays UnformattedIs there m refl (down (unformatted_idles holds used format me.seat me.store me.state m.meets))
 
     pub stops : HasGone holds used format told rose was setup g (Stop i) old new result
-    stops = let m = its_condition holds used format told setup history old reached i me here in by_condition m.0 m.1 m.2
+    stops = let m = its_condition holds used format told setup past old reached i me here in by_condition m.0 m.1 m.2
 
   -- Restart
   fault : rose me.store next.store → HasFault rose i old new
@@ -128,6 +134,7 @@ module _ {S : Type 0} (holds : S → Durable → Durable → Type 0) (used forma
       cause = λ halted. absurd (done_apart (sym done.0 ∙ halted));
       crash = touch _ c there left;
       others = elsewhere;
+      tells = telling;
       taken = ap (taken_after (taken_of old)) (sym done.0);
     }
     | inr halt ↦ record {
@@ -137,6 +144,7 @@ module _ {S : Type 0} (holds : S → Durable → Durable → Type 0) (used forma
       cause = λ halted. (i, refl, fault halt.2);
       crash = touch _ c there left;
       others = elsewhere;
+      tells = telling;
       taken = ap (taken_after (taken_of old)) (sym halt.0);
     }
   ]
@@ -149,7 +157,7 @@ module _ {S : Type 0} (holds : S → Durable → Durable → Type 0) (used forma
   same_found false d = refl
 
   restarts_at : (c : Condition) → slice_get g.servers i ≡ Some c → IsMember holds used format told setup i me c → (result : Result (Answer × Bool) NoMemory) → BeginsAgain holds used format rose me.seat me.store next.store next.state c result → WasBegunIn was me.store next.store c → GoesBack holds used format told rose was setup g i old new result
-  restarts_at c there m (Err e) b left = record { shows = alone_still holds used format told setup g old reached.shows i next c there (member c c m (again c b)); crash = touch g c there left; others = elsewhere; taken = refl }
+  restarts_at c there m (Err e) b left = record { shows = alone_still holds used format told setup g old reached.shows i next c there (member c c m (again c b)); crash = touch g c there left; others = elsewhere; tells = telling; taken = refl }
     where
       again : (x : Condition) → BeginsAgain holds used format rose me.seat me.store next.store next.state x (Err e) → Meets holds used format me.seat next.store next.state x
       again (RunningIs s) is = is
@@ -165,13 +173,69 @@ module _ {S : Type 0} (holds : S → Durable → Durable → Type 0) (used forma
     cause = λ halted. absurd (ours_apart (sym b.0 ∙ halted));
     crash = touch _ UnformattedIs there left;
     others = elsewhere;
+    tells = telling;
     taken = ap (taken_after (taken_of old)) (sym b.0);
   }
     where
       ours_apart : Refused NotOurs ≡ Refused Halted → ⊥
       ours_apart is = cc
 
-  pub restarts : (result : Result (Answer × Bool) NoMemory) → ((c : Condition) → Meets holds used format me.seat me.store me.state c → IsKnown me.seat c → IsHonest me.seat c → BeginsAgain holds used format rose me.seat me.store next.store next.state c result) → ((c : Condition) → Meets holds used format me.seat me.store me.state c → WasBegunIn was me.store next.store c) → GoesBack holds used format told rose was setup g i old new result
-  restarts result step left =
-      let m = its_condition holds used format told setup history old reached i me here in
-      restarts_at m.0 m.1 m.2 result (step m.0 m.2.meets (subst (λ s. IsKnown s m.0) (sym m.2.seat) (is_known setup history reached.legal reached.short i m.0 m.1)) (subst (λ s. IsHonest s m.0) (sym m.2.seat) (is_honest setup history reached.legal reached.short i m.0 m.1))) (left m.0 m.2.meets)
+  pub restarts : IsToldAt told old i → IsHonestAt setup g i → (result : Result (Answer × Bool) NoMemory) → (IsTrue (told me.store) → (c : Condition) → Meets holds used format me.seat me.store me.state c → IsKnown me.seat c → IsHonest me.seat c → BeginsAgain holds used format rose me.seat me.store next.store next.state c result) → (IsTrue (told me.store) → (c : Condition) → Meets holds used format me.seat me.store me.state c → WasBegunIn was me.store next.store c) → GoesBack holds used format told rose was setup g i old new result
+  restarts is_told honest result step left =
+      let m = its_condition holds used format told setup past old reached i me here in
+      let tells : IsTrue (told me.store) = subst (λ o. IfSome o (λ (server : Server S). IsTrue (told server.store))) here is_told in
+      let is_honest : IsHonest (seat_of setup i) m.0 = subst (λ o. IfSome o (IsHonest (seat_of setup i))) m.1 honest in
+      restarts_at m.0 m.1 m.2 result (step tells m.0 m.2.meets (subst (λ s. IsKnown s m.0) (sym m.2.seat) (is_known setup past reached.viable reached.short i m.0 m.1)) (subst (λ s. IsHonest s m.0) (sym m.2.seat) is_honest)) (left tells m.0 m.2.meets)
+
+  -- over any disks
+  pub somehow : (result : Result (Answer × Bool) NoMemory) → ((c : Condition) → Meets holds used format me.seat me.store me.state c → BeginsSomehow holds used format me.seat next.store next.state c result) → IfOk result (λ r. r.0 ≡ Refused Halted → rose me.store next.store) → GoesSomehow holds used format told rose was setup g i old new result
+  somehow (Err e) step cause =
+      let m = its_condition holds used format told setup past old reached i me here in
+      record { shows = alone_still holds used format told setup g old reached.shows i next m.0 m.1 (member m.0 m.0 m.2 (step m.0 m.2.meets)); others = elsewhere; tells = telling; taken = refl }
+  somehow (Ok (answer, found)) step cause =
+      let m = its_condition holds used format told setup past old reached i me here in
+      record {
+        shows = shows_by m.0 m.1 m.2 answer (step m.0 m.2.meets);
+        cause = λ halted. fault (cause halted);
+        others = elsewhere;
+        tells = telling;
+        taken = refl;
+      }
+    where
+      numbered : (c : Condition) → IsMember holds used format told setup i me c → (life : ℕ) (d : Durable) → Meets holds used format me.seat next.store next.state (RunningIs (restarted me.seat.number life d)) → Meets holds used format me.seat next.store next.state (RunningIs (restarted i life d))
+      numbered c m life d = subst (λ k. Meets holds used format me.seat next.store next.state (RunningIs (restarted k life d))) (ap (λ x. x.number) m.seat)
+
+      unread : (c : Condition) → slice_get g.servers i ≡ Some c → IsMember holds used format told setup i me c → StopsUnread holds used format me.seat next.store next.state c c → Shows holds used format told setup new (restart CutOff g i false (Some c))
+      unread (RunningIs s) there m b = alone holds used format told setup g old reached.shows i next (RunningIs s) (StoppedIs (suc s.life) s.durable s.durable) there (member (RunningIs s) (StoppedIs (suc s.life) s.durable s.durable) m b)
+      unread (StoppedIs life before after) there m b = alone holds used format told setup g old reached.shows i next (StoppedIs life before after) (StoppedIs (suc life) before after) there (member (StoppedIs life before after) (StoppedIs (suc life) before after) m b)
+      unread UnformattedIs there m b = absurd b
+
+      -- a running server is stopped
+      not_found : (c : Condition) → slice_get g.servers i ≡ Some c → IsMember holds used format told setup i me c → Meets holds used format me.seat next.store next.state (stopped_in c) → Shows holds used format told setup new (stopped g i (Some c))
+      not_found (RunningIs s) there m b = alone holds used format told setup g old reached.shows i next (RunningIs s) (StoppedIs (suc s.life) s.durable s.durable) there (member (RunningIs s) (StoppedIs (suc s.life) s.durable s.durable) m b)
+      not_found (StoppedIs life before after) there m b = alone_still holds used format told setup g old reached.shows i next (StoppedIs life before after) there (member (StoppedIs life before after) (StoppedIs life before after) m b)
+      not_found UnformattedIs there m b = alone_still holds used format told setup g old reached.shows i next UnformattedIs there (member UnformattedIs UnformattedIs m b)
+
+      shows_by : (c : Condition) → slice_get g.servers i ≡ Some c → IsMember holds used format told setup i me c → (its : Answer) → BeginsSomehow holds used format me.seat next.store next.state c (Ok (its, found)) → ShowsSomehow holds used format told rose was setup g i new its
+      shows_by c there m Done b = record {
+        c = c;
+        there = there;
+        life = b.life;
+        next = b.next;
+        d = b.d;
+        fits = subst (λ x. HasBegun (setup_at x) b.d) m.seat b.fits;
+        shows = alone holds used format told setup g old reached.shows i next c (RunningIs (restarted i (next_life c) b.d)) there (member c (RunningIs (restarted i (next_life c) b.d)) m (numbered c m (next_life c) b.d b.meets));
+      }
+      shows_by c there m (Refused Halted) b = elim b [
+        | inl over ↦ inl (record {
+          c = c;
+          there = there;
+          life = over.life;
+          next = over.next;
+          d = over.d;
+          fits = subst (λ x. HasBegun (setup_at x) over.d) m.seat over.fits;
+          shows = alone holds used format told setup g old reached.shows i next c (StoppedIs (next_life c) over.d over.d) there (member c (StoppedIs (next_life c) over.d over.d) m over.meets);
+        })
+        | inr cut ↦ inr (subst (λ o. Shows holds used format told setup new (restart CutOff g i false o)) (sym there) (unread c there m cut))
+      ]
+      shows_by c there m _ b = (b.0, subst (λ o. Shows holds used format told setup new (stopped g i o)) (sym there) (not_found c there m b.1))

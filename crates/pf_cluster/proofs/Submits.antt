@@ -1,5 +1,5 @@
 -- A submission as the turn of a server.
-use Rattle.std.proofs.Common.{◌≡◌, ℕ, ◌+◌, ◌<◌, Bool, true, false, not, ◌&&◌, ◌==◌, if◌then◌else◌, [], length, Option, None, nat_lt, ◌^◌, refl, sym, ap, ◌∙◌}
+use Rattle.std.proofs.Common.{◌≡◌, ℕ, ◌+◌, ◌<◌, Bool, true, false, not, ◌&&◌, ◌==◌, if◌then◌else◌, [], Option, None, nat_lt, refl, sym, ap, ◌∙◌}
 use Rattle.std.proofs.lemmas.Bool.{true≢false}
 use Rattle.pf_base.specs.Span.{fits_in}
 use Rattle.pf_entry.specs.Ops.{range_of}
@@ -13,11 +13,13 @@ use Rattle.pf_protocol.specs.Servers.{Setup, Role, Follower, Candidate, Merging,
 use Rattle.pf_protocol.specs.Outcomes.{Outcome, refused, to_others}
 use Rattle.pf_protocol.specs.Leading.{new_entry, on_submit, submitted}
 use Rattle.pf_protocol.specs.Groups.{Group, Whole, ending, happens, reads_after}
-use Rattle.pf_protocol.specs.Histories.{History, Runs, replay}
-use Rattle.pf_protocol.specs.Answers.{IsLegal, IsSubmitted, answer_to, is_mark, is_serving, may_halt, refuse, room_refusal as group_room_refusal, submit_refusal as group_submit_refusal, submit_turn, window_full}
-use Rattle.pf_protocol.proofs.ForHistories.{legal_asks}
-use Rattle.pf_protocol.proofs.ForRows.{submit_asks, refuse_none, submit_silent}
+use Rattle.pf_protocol.specs.Histories.{Runs}
+use Rattle.pf_protocol.specs.Answers.{IsSubmitted, answer_to, is_mark, is_serving, may_halt, refuse, room_refusal as group_room_refusal, submit_refusal as group_submit_refusal, submit_turn, window_full}
+use Rattle.pf_cluster.specs.Pasts.{Past, IsShort, IsViablePast}
+use Rattle.pf_protocol.proofs.ForRows.{submit_asks}
+use Rattle.pf_cluster.proofs.Laws.{viable_asks}
 use Rattle.pf_entry.proofs.Cases.{by_test}
+use Rattle.pf_protocol.proofs.ForRows.{refuse_none, submit_silent}
 use Rattle.pf_state.specs.Outgoing.{Outgoing}
 use Rattle.pf_state.specs.Standing.{room_refusal}
 use Rattle.pf_leading.specs.Submitting.{refused_first, submit_refusal}
@@ -88,17 +90,17 @@ pub submit_event : (setup : Setup) (g : Group) (i : ℕ) (op : Op) → IsTurnEve
 unfolding answer_to may_halt happens
 submit_event setup g i op = record { answers = refl; halts = λ is. is; goes = λ how. refl; servers = λ how. refl; acts = refl }
 
-pub submit_known : (setup : Setup) (history : History) → IsLegal setup history → length history < 2 ^ 62 → (i : ℕ) (op : Op) → i < 3 → IsSubmitted op → (s : Server) → Runs (replay setup history) i s → IsTurnOf (replay setup history) (submit_turn setup (replay setup history) op) s
-submit_known setup history legal short i op low submitted_so s at =
-    let g = replay setup history in
+pub submit_known : (setup : Setup) (past : Past) → IsViablePast setup past → IsShort past → (i : ℕ) (op : Op) → i < 3 → IsSubmitted op → (s : Server) → Runs past.group i s → IsTurnOf past.group (submit_turn setup past.group op) s
+submit_known setup past viable short i op low submitted_so s at =
+    let g = past.group in
     let turn = submit_turn setup g op in
     let whole : turn.refusal s ≡ None → ending (turn.rule s).answer ≡ Whole = λ none. (let m = may_go setup g op s none in goes_whole setup op s s.role m.serves m.within) in
     record {
       leaves = leaves_all (turn.refusal s) (submit_silent setup g op s);
       whole = whole;
       fits = λ none. packets_fit g (on_submit setup s op s.role) (may_go setup g op s none).room;
-      below = λ none. below_after g.reads (turn.rule s).answer (turn.rule s).server.reads (submit_asks setup setup.chunk g.reads s (legal_asks setup history legal i s at) op).below;
-      canonical = λ none. turn_canonical setup history legal short (Submit i op) i turn (λ how. g) (submit_event setup g i op) (low, submitted_so) s at none (whole none);
+      below = λ none. below_after g.reads (turn.rule s).answer (turn.rule s).server.reads (submit_asks setup setup.chunk g.reads s (viable_asks setup past viable i s at) op).below;
+      canonical = λ none. turn_canonical setup past viable short (Submit i op) i turn (λ how. g) (submit_event setup g i op) (low, submitted_so) s at none (whole none);
     }
 
 plain_answer : (setup : Setup) (reads : ℕ) (op : Op) (s : Server) (role : Role) → reads_after reads (on_submit setup s op role).answer ≡ reads
@@ -110,12 +112,12 @@ plain_answer setup reads op s (Serving l) =
     by_test (nat_lt (s.durable.base + setup.window) l.next) (λ c. reads_after reads (if c then refused s (Refused WindowFull) else record { server = submitted s l (new_entry setup.names s l op); packets = to_others s (Accept (new_entry setup.names s l op)); answer = Slot l.next; acked = None }).answer ≡ reads)
     (λ _. refl) (λ _. refl)
 
-pub submits : (setup : Setup) (history : History) → IsLegal setup history → length history < 2 ^ 62 → (i : ℕ) (op : Op) → i < 3 → IsSubmitted op → (out : Outgoing) → ((o : Outcome) → room_refusal out o ≡ group_room_refusal (replay setup history) o) → (seat : Seat) → seat ≡ seat_of setup i
-    → IsTurnAs setup history (Submit i op) i (submit_turn setup (replay setup history) op) (λ how. replay setup history) (submit_refusal (setup_at seat) out op) (λ s. on_submit (setup_at seat) s op s.role)
-submits setup history legal short i op low submitted_so out room seat its = record {
-  event_is = submit_event setup (replay setup history) i op;
-  same_judged = λ s. ap (λ x. submit_refusal (setup_at x) out op s) its ∙ submit_judged setup i legal.is_setup.window op s (replay setup history) out room;
-  same_rule = λ s. ap (λ x. on_submit (setup_at x) s op s.role) its ∙ submit_rule setup i legal.is_setup.window op s;
-  knows = submit_known setup history legal short i op low submitted_so;
-  plain = λ s. plain_answer setup (replay setup history).reads op s s.role;
+pub submits : (setup : Setup) (past : Past) → IsViablePast setup past → IsShort past → (i : ℕ) (op : Op) → i < 3 → IsSubmitted op → (out : Outgoing) → ((o : Outcome) → room_refusal out o ≡ group_room_refusal past.group o) → (seat : Seat) → seat ≡ seat_of setup i
+    → IsTurnAs setup past (Submit i op) i (submit_turn setup past.group op) (λ how. past.group) (submit_refusal (setup_at seat) out op) (λ s. on_submit (setup_at seat) s op s.role)
+submits setup past viable short i op low submitted_so out room seat its = record {
+  event_is = submit_event setup past.group i op;
+  same_judged = λ s. ap (λ x. submit_refusal (setup_at x) out op s) its ∙ submit_judged setup i viable.is_setup.window op s past.group out room;
+  same_rule = λ s. ap (λ x. on_submit (setup_at x) s op s.role) its ∙ submit_rule setup i viable.is_setup.window op s;
+  knows = submit_known setup past viable short i op low submitted_so;
+  plain = λ s. plain_answer setup past.group.reads op s s.role;
 }

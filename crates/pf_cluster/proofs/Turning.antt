@@ -65,7 +65,6 @@ module _ {S : Type 0} (holds : S → Durable → Durable → Type 0) (used forma
       let member : IsMember holds used format told setup i t.next t.c = record {
         seat = t.seat ∙ m.seat;
         meets = subst (λ seat. Meets holds used format seat t.next.store t.next.state t.c) (sym t.seat) (as_it_was t.c t.took);
-        tells = t.tells ∙ m.tells;
       } in
       record {
         three = ap length t.now ∙ set_length t.before i t.next ∙ t.three;
@@ -124,7 +123,6 @@ module _ {S : Type 0} (holds : S → Durable → Durable → Type 0) (used forma
   is_member c meets = record {
     seat = t.seat ∙ was_member.seat;
     meets = subst (λ seat. Meets holds used format seat t.next.store t.next.state c) (sym t.seat) meets;
-    tells = t.tells ∙ was_member.tells;
   }
 
   is_low : i < 3
@@ -144,7 +142,6 @@ module _ {S : Type 0} (holds : S → Durable → Durable → Type 0) (used forma
         members = t.members;
         seat = m.seat;
         meets = m.meets;
-        tells = m.tells;
         answers = way.step.settles.answers;
         sized = way.step.settles.sized;
         traffic = t.traffic;

@@ -2,6 +2,7 @@ pub mod AckedSlots
 pub mod Claiming
 pub mod Deliveries
 pub mod Elections
+pub mod Pasts
 pub mod Going
 pub mod Keeping
 pub mod Readings

@@ -1,5 +1,5 @@
 -- A cluster as the group of the rules.
-use Rattle.std.specs.Prelude.{◌≡◌, ◌≢◌, ℕ, ◌+◌, ◌≤◌, Bool, true, List, length, map, Some, slice_get, sum_by, vec_capacity}
+use Rattle.std.specs.Prelude.{◌≡◌, ◌≢◌, ℕ, ◌+◌, ◌≤◌, Bool, List, length, map, Some, slice_get, sum_by, vec_capacity}
 use Rattle.pf_entry.specs.Lists.{Every}
 use Rattle.pf_entry.specs.Ops.{Sector}
 use Rattle.pf_entry.specs.Records.{Durable}
@@ -54,11 +54,10 @@ module _ {S : Type 0} where
     pub readings : AreReadings g.answered cluster.readings.items
 
 module _ {S : Type 0} (holds : S → Durable → Durable → Type 0) (used format : S → ℕ) (told : S → Bool) where
-  -- this server of the group, whose disks tell their content, is in this condition
+  -- this server of the group is in this condition
   pub record IsMember (setup : Setup) (i : ℕ) (server : Server S) (c : Condition) : Type 0 where
     pub seat : server.seat ≡ seat_of setup i
     pub meets : Meets holds used format server.seat server.store server.state c
-    pub tells : told server.store ≡ true
 
   abbrev pub AreMembers : Setup → List (Server S) → List Condition → Type 0
   AreMembers setup servers conditions = (i : ℕ) (server : Server S) → slice_get servers i ≡ Some server → (c : Condition) × (slice_get conditions i ≡ Some c) × IsMember setup i server c

@@ -64,7 +64,6 @@ module _ {S : Type 0} (holds : S → Durable → Durable → Type 0) (used forma
     pub members : AreMembers holds used format told setup before g.servers
     pub seat : me.seat ≡ seat_of setup i
     pub meets : Meets holds used format me.seat me.store me.state (RunningIs (settled o.server))
-    pub tells : told me.store ≡ true
     pub answers : answers_of me.state ≡ answers_after o.server
     pub sized : AreSized (answers_of me.state)
     pub traffic : HasTraffic cluster g

@@ -1,8 +1,9 @@
 //! Three servers, and every packet that they ever sent. Each call carries out one event of the group, as the definitions of
 //! pf_protocol have it.
 //!
-//! What a call says of the cluster holds for every setup and history that led to it: the cluster stands for the group of that history
-//! before the event, and for the group with the event after it.
+//! What a call says of the cluster holds for every setup and past that led to it: the cluster stands for the group of that past before
+//! the event, and for the group with the event after it. A past is no more than a viable group, so it holds over any disks; what is
+//! said of a restart alone is weaker where its disks do not tell their content.
 #![tactic(auto)]
 
 mod acked;
@@ -20,3 +21,4 @@ mod upkeep;
 pub use acked::AckedList;
 pub use cluster::Cluster;
 pub use kept::{Acked, Parcel, Reading};
+pub use lives::restarts_lead_on;

@@ -4,11 +4,11 @@ ghost use Rattle.pf_entry.specs.Canonical.{IsCanonicalPacket};
 ghost use Rattle.pf_entry.specs.declared.packets.Packet.{Packet as PacketIs};
 ghost use Rattle.pf_wire.specs.Packets.{packet_bytes, PacketFits};
 ghost use Rattle.pf_protocol.specs.Servers.{Setup};
-ghost use Rattle.pf_protocol.specs.Histories.{History, replay};
+ghost use Rattle.pf_cluster.specs.Pasts.{Past};
 ghost use Rattle.pf_protocol.specs.declared.events.Event.TheVariants.{Deliver, Lose};
 ghost use Rattle.pf_cluster.specs.declared.kept.Parcel.{Parcel as ParcelIs};
 ghost use Rattle.pf_cluster.specs.Deliveries.{is_delivery};
-ghost use Rattle.pf_cluster.specs.Going.{Goes, HasGone, HasHistory, IsReached};
+ghost use Rattle.pf_cluster.specs.Going.{Goes, HasGone, HasPast, IsReached};
 
 use crate::{Cluster, Parcel};
 use pf_base::NoMemory;
@@ -59,8 +59,8 @@ impl<S: Store> Cluster<S> {
     /// of them that holds, and `NoMemory` (1) leave the group as it was. `Down` (51) where its server does not run, and `Halted` (52)
     /// where a disk failed: both mark the packet as delivered.
     pub fn deliver(&mut self, alloc: Global, k: u32) -> Result<Answer, NoMemory>
-        requires { HasHistory S.holds S.used S.format S.told self.old }
-        ensures { (setup : Setup) (history : History) → IsReached S.holds S.used S.format S.told setup history self.old → Goes S.holds S.used S.format S.told S.rose S.was setup (replay setup history) (Deliver k) self.old self.new result }
+        requires { HasPast S.holds S.used S.format S.told self.old }
+        ensures { (setup : Setup) (past : Past) → IsReached S.holds S.used S.format S.told setup past self.old → Goes S.holds S.used S.format S.told S.rose S.was setup past.group (Deliver k) self.old self.new result }
     {
         let place = k as usize;
         if place >= self.packets.len() {
@@ -83,8 +83,8 @@ impl<S: Store> Cluster<S> {
     ///
     /// `NoPacket` (53) where there is none, and `LostPacket` (54) where it was lost before, leave the group as it was.
     pub fn lose(&mut self, k: u32) -> Answer
-        requires { HasHistory S.holds S.used S.format S.told self.old }
-        ensures { (setup : Setup) (history : History) → IsReached S.holds S.used S.format S.told setup history self.old → HasGone S.holds S.used S.format S.told S.rose S.was setup (replay setup history) (Lose k) self.old self.new result }
+        requires { HasPast S.holds S.used S.format S.told self.old }
+        ensures { (setup : Setup) (past : Past) → IsReached S.holds S.used S.format S.told setup past self.old → HasGone S.holds S.used S.format S.told S.rose S.was setup past.group (Lose k) self.old self.new result }
     {
         let place = k as usize;
         if place >= self.packets.len() {

@@ -2,11 +2,11 @@
 ghost use Rattle.std.specs.Prelude.{◌≡◌, ◌<◌, vec_capacity, vec_len};
 ghost use Rattle.pf_base.specs.Span.{IsWritable};
 ghost use Rattle.pf_protocol.specs.Servers.{Setup};
-ghost use Rattle.pf_protocol.specs.Histories.{History, replay};
+ghost use Rattle.pf_cluster.specs.Pasts.{Past};
 ghost use Rattle.pf_protocol.specs.Answers.{IsSubmitted};
 ghost use Rattle.pf_protocol.specs.declared.events.Event.TheVariants.{Fetch, Submit};
 ghost use Rattle.pf_cluster.specs.Readings.{readings_with};
-ghost use Rattle.pf_cluster.specs.Going.{Goes, HasHistory, IsReached};
+ghost use Rattle.pf_cluster.specs.Going.{Goes, HasPast, IsReached};
 
 use crate::keeping::put;
 use crate::{Cluster, Reading};
@@ -37,8 +37,8 @@ impl<S: Store> Cluster<S> {
     pub fn submit(&mut self, alloc: Global, server: Number, op: Op) -> Result<Answer, NoMemory>
         requires server { server < 3 }
         requires op { IsSubmitted op }
-        requires reached { HasHistory S.holds S.used S.format S.told self.old }
-        ensures { (setup : Setup) (history : History) → IsReached S.holds S.used S.format S.told setup history self.old → Goes S.holds S.used S.format S.told S.rose S.was setup (replay setup history) (Submit server op) self.old self.new result }
+        requires reached { HasPast S.holds S.used S.format S.told self.old }
+        ensures { (setup : Setup) (past : Past) → IsReached S.holds S.used S.format S.told setup past self.old → Goes S.holds S.used S.format S.told S.rose S.was setup past.group (Submit server op) self.old self.new result }
     {
         self.acked.reserve()?;
         let mut out = self.outbox(alloc);
@@ -53,8 +53,8 @@ impl<S: Store> Cluster<S> {
     pub fn fetch(&mut self, alloc: Global, server: Number, range: Range) -> Result<Answer, NoMemory>
         requires server { server < 3 }
         requires range { IsWritable range.first range.count }
-        requires reached { HasHistory S.holds S.used S.format S.told self.old }
-        ensures { (setup : Setup) (history : History) → IsReached S.holds S.used S.format S.told setup history self.old → Goes S.holds S.used S.format S.told S.rose S.was setup (replay setup history) (Fetch server range) self.old self.new result }
+        requires reached { HasPast S.holds S.used S.format S.told self.old }
+        ensures { (setup : Setup) (past : Past) → IsReached S.holds S.used S.format S.told setup past self.old → Goes S.holds S.used S.format S.told S.rose S.was setup past.group (Fetch server range) self.old self.new result }
     {
         self.readings.reserve(1)?;
         self.acked.reserve()?;

@@ -1,10 +1,10 @@
 //! What keeps a group going: elections, packets that may have been missed, and checkpoints.
 ghost use Rattle.std.specs.Prelude.{◌≡◌, ◌<◌};
 ghost use Rattle.pf_protocol.specs.Servers.{Setup};
-ghost use Rattle.pf_protocol.specs.Histories.{History, replay};
+ghost use Rattle.pf_cluster.specs.Pasts.{Past};
 ghost use Rattle.pf_protocol.specs.declared.events.Event.TheVariants.{Checkpoint, Elect, Resend};
 ghost use Rattle.pf_cluster.specs.Elections.{elections_after};
-ghost use Rattle.pf_cluster.specs.Going.{Goes, HasHistory, IsReached};
+ghost use Rattle.pf_cluster.specs.Going.{Goes, HasPast, IsReached};
 
 use crate::Cluster;
 use pf_base::{NoMemory, Server as Number};
@@ -36,8 +36,8 @@ impl<S: Store> Cluster<S> {
     /// next restart finds the term or not, and the election counts.
     pub fn elect(&mut self, alloc: Global, server: Number) -> Result<Answer, NoMemory>
         requires server { server < 3 }
-        requires reached { HasHistory S.holds S.used S.format S.told self.old }
-        ensures { (setup : Setup) (history : History) → IsReached S.holds S.used S.format S.told setup history self.old → Goes S.holds S.used S.format S.told S.rose S.was setup (replay setup history) (Elect server) self.old self.new result }
+        requires reached { HasPast S.holds S.used S.format S.told self.old }
+        ensures { (setup : Setup) (past : Past) → IsReached S.holds S.used S.format S.told setup past self.old → Goes S.holds S.used S.format S.told S.rose S.was setup past.group (Elect server) self.old self.new result }
     {
         if !self.servers[server as usize].is_running() {
             return Ok(Answer::Refused(Refusal::Down));
@@ -58,8 +58,8 @@ impl<S: Store> Cluster<S> {
     /// `Down` (51), then `PacketsFull` (55), and `NoMemory` (1) leave the group as it was.
     pub fn resend(&mut self, alloc: Global, server: Number) -> Result<Answer, NoMemory>
         requires server { server < 3 }
-        requires reached { HasHistory S.holds S.used S.format S.told self.old }
-        ensures { (setup : Setup) (history : History) → IsReached S.holds S.used S.format S.told setup history self.old → Goes S.holds S.used S.format S.told S.rose S.was setup (replay setup history) (Resend server) self.old self.new result }
+        requires reached { HasPast S.holds S.used S.format S.told self.old }
+        ensures { (setup : Setup) (past : Past) → IsReached S.holds S.used S.format S.told setup past self.old → Goes S.holds S.used S.format S.told S.rose S.was setup past.group (Resend server) self.old self.new result }
     {
         self.acked.reserve()?;
         let mut out = self.outbox(alloc);
@@ -73,8 +73,8 @@ impl<S: Store> Cluster<S> {
     /// `Halted` (52) where a disk failed: the server is stopped, and its next restart finds the new image or not.
     pub fn checkpoint(&mut self, alloc: Global, server: Number) -> Result<Answer, NoMemory>
         requires server { server < 3 }
-        requires reached { HasHistory S.holds S.used S.format S.told self.old }
-        ensures { (setup : Setup) (history : History) → IsReached S.holds S.used S.format S.told setup history self.old → Goes S.holds S.used S.format S.told S.rose S.was setup (replay setup history) (Checkpoint server) self.old self.new result }
+        requires reached { HasPast S.holds S.used S.format S.told self.old }
+        ensures { (setup : Setup) (past : Past) → IsReached S.holds S.used S.format S.told setup past self.old → Goes S.holds S.used S.format S.told S.rose S.was setup past.group (Checkpoint server) self.old self.new result }
     {
         self.acked.reserve()?;
         let mut out = self.outbox(alloc);

@@ -1,4 +1,4 @@
--- The counts of faults of a group.
+-- The counts of the disks of a group.
 use Rattle.std.proofs.Common.{◌≡◌, ◌≢◌, ◌⊎◌, inl, inr, ℕ, suc, ◌≤◌, ◌<◌, Bool, List, [], ◌∷◌, length, Option, Some, None, option_map, slice_get, arith, refl, sym, ap, subst, ◌∙◌}
 use Rattle.std.proofs.lemmas.Bool.{cases_eq}
 use Rattle.std.proofs.lemmas.List.{length-map}
@@ -15,7 +15,7 @@ use Rattle.pf_cluster.specs.Going.{KeepsOthers, HasFault, Passes, Touches, WasTo
 use Rattle.pf_cluster.specs.Showing.{Shows}
 use Rattle.pf_cluster.proofs.Lists.{something_there}
 use Rattle.pf_opening.specs.Opening.{head_of}
-use Rattle.pf_group.specs.Halves.{AreLater, HasRisen, all_faults, format_in, holds_in, rose_in, told_in, used_in, was_in}
+use Rattle.pf_group.specs.Halves.{AreLater, HasRisen, all_counts, format_in, holds_in, rose_in, told_in, used_in, was_in}
 use Rattle.pf_group.specs.Inside.{HaveHeads}
 
 -- lists with the same elements
@@ -30,28 +30,28 @@ pub later_same : (counts : List (ℕ × ℕ)) → AreLater counts counts
 later_same counts = record { servers = refl; each = λ i was is was_there is_there. subst (λ (p : ℕ × ℕ). (was.0 ≤ p.0) × (was.1 ≤ p.1)) (same_Some was is (sym was_there ∙ is_there)) (omega arith, omega arith) }
 
 -- an event takes place at this server, or does not
-at_own : (own : Option ℕ) (i : ℕ) → (own ≡ Some i) ⊎ (own ≢ Some i)
+pub at_own : (own : Option ℕ) (i : ℕ) → (own ≡ Some i) ⊎ (own ≢ Some i)
 at_own None i = inr (none-some i)
 at_own (Some j) i = elim (cases_eq j i) [ inl is ↦ inl (ap Some is) | inr apart ↦ inr (λ same. apart (same_Some j i same)) ]
 
-some_mapped : {X Y : Type 0} → (f : X → Y) (o : Option X) (y : Y) → option_map f o ≡ Some y → (x : X) × (o ≡ Some x) × (f x ≡ y)
+pub some_mapped : {X Y : Type 0} → (f : X → Y) (o : Option X) (y : Y) → option_map f o ≡ Some y → (x : X) × (o ≡ Some x) × (f x ≡ y)
 some_mapped f None y is = absurd (none-some y is)
 some_mapped f (Some x) y is = (x, refl, same_Some (f x) y is)
 
 module _ {D : Type 0} (faults : D → ℕ) where
   -- the counts of one server are those of its store
-  counts_at : (cluster : Cluster (Kept D)) (i : ℕ) → slice_get (all_faults faults cluster) i ≡ option_map (faults_of faults) (store_at cluster i)
+  counts_at : (cluster : Cluster (Kept D)) (i : ℕ) → slice_get (all_counts faults cluster) i ≡ option_map (faults_of faults) (store_at cluster i)
   counts_at cluster i = slice_get-map (λ (s : Server (Kept D)). faults_of faults s.store) cluster.servers.items i ∙ both (slice_get cluster.servers.items i)
     where
       both : (o : Option (Server (Kept D))) → option_map (λ (s : Server (Kept D)). faults_of faults s.store) o ≡ option_map (faults_of faults) (option_map (λ (s : Server (Kept D)). s.store) o)
       both None = refl
       both (Some s) = refl
 
-  faults_at : (cluster : Cluster (Kept D)) (i : ℕ) (server : Server (Kept D)) → slice_get cluster.servers.items i ≡ Some server → slice_get (all_faults faults cluster) i ≡ Some (faults_of faults server.store)
+  pub faults_at : (cluster : Cluster (Kept D)) (i : ℕ) (server : Server (Kept D)) → slice_get cluster.servers.items i ≡ Some server → slice_get (all_counts faults cluster) i ≡ Some (faults_of faults server.store)
   faults_at cluster i server there = slice_get-map (λ (s : Server (Kept D)). faults_of faults s.store) cluster.servers.items i ∙ ap (option_map (λ (s : Server (Kept D)). faults_of faults s.store)) there
 
   -- a store whose count rose
-  pub has_risen : (old new : Cluster (Kept D)) (i : ℕ) → HasFault (rose_in faults) i old new → HasRisen i (all_faults faults old) (all_faults faults new)
+  pub has_risen : (old new : Cluster (Kept D)) (i : ℕ) → HasFault (rose_in faults) i old new → HasRisen i (all_counts faults old) (all_counts faults new)
   has_risen old new i fault = record {
     was = faults_of faults fault.before.store;
     is = faults_of faults fault.after.store;
@@ -61,10 +61,10 @@ module _ {D : Type 0} (faults : D → ℕ) where
   }
 
   -- the counts of stores that were not touched
-  pub others_same : (own : Option ℕ) (old new : Cluster (Kept D)) → KeepsOthers own old new → (j : ℕ) → own ≢ Some j → slice_get (all_faults faults new) j ≡ slice_get (all_faults faults old) j
+  pub others_same : (own : Option ℕ) (old new : Cluster (Kept D)) → KeepsOthers own old new → (j : ℕ) → own ≢ Some j → slice_get (all_counts faults new) j ≡ slice_get (all_counts faults old) j
   others_same own old new keeps j apart = counts_at new j ∙ ap (option_map (faults_of faults)) (keeps j apart) ∙ sym (counts_at old j)
 
-  pub all_same : (old new : Cluster (Kept D)) → KeepsOthers None old new → all_faults faults new ≡ all_faults faults old
+  pub all_same : (old new : Cluster (Kept D)) → KeepsOthers None old new → all_counts faults new ≡ all_counts faults old
   all_same old new keeps = same_gets _ _ (λ k. others_same None old new keeps k (λ is. none-some k is))
 
   -- a restart looks for the same head, and no count fell
@@ -100,7 +100,7 @@ module _ {D : Type 0} (seen : D → Option (List ℕ)) (may_leave : D → Images
     ]
 
     -- no count fell
-    pub all_later : AreLater (all_faults faults old) (all_faults faults new)
+    pub all_later : AreLater (all_counts faults old) (all_counts faults new)
     all_later = record {
       servers = length-map new.servers.items counts ∙ shows.three ∙ sym (length-map old.servers.items counts ∙ shown.three);
       each = λ i was is was_there is_there.

@@ -1,10 +1,10 @@
 -- A group after one more event.
-use Rattle.std.proofs.Common.{◌≡◌, ◌≢◌, ℕ, zero, suc, ◌<◌, ◌≤◌, ◌^◌, ◌||◌, inl, inr, Bool, true, false, List, [], ◌∷◌, ◌++◌, length, Option, Some, None, Result, Ok, Err, OnErr, slice_get, arith, refl, sym, ap, subst, ◌∙◌}
+use Rattle.std.proofs.Common.{◌≡◌, ℕ, zero, suc, ◌<◌, ◌≤◌, ◌^◌, ◌||◌, inl, inr, Bool, true, false, List, [], ◌∷◌, ◌++◌, length, Option, Some, None, Result, Ok, Err, OnErr, slice_get, refl, sym, ap, subst, ◌∙◌}
 use Rattle.std.specs.List.{list_any}
 use Rattle.std.proofs.lemmas.Option.{none-some, same_Some}
 use Rattle.std.proofs.lemmas.Bool.{and_from, and_parts, eq-eqb, eqb-true, false≢true}
 use Rattle.pf_disk.specs.Crashes.{Images}
-use Rattle.pf_entry.specs.Records.{Durable}
+use Rattle.pf_entry.specs.Lists.{Every}
 use Rattle.pf_entry.proofs.Lists.{every_get, some_of_any}
 use Rattle.pf_entry.specs.declared.ops.Op.{Op}
 use Rattle.pf_base.specs.declared.filled.Filled.{Filled}
@@ -13,39 +13,42 @@ use Rattle.pf_protocol.specs.declared.events.Event.{Event}
 use Rattle.pf_protocol.specs.declared.events.Happening.{Happening}
 use Rattle.pf_protocol.specs.Servers.{Setup}
 use Rattle.pf_protocol.specs.Histories.{History, replay}
-use Rattle.pf_protocol.specs.Answers.{Claimed, IsAnswer, IsLegal, MayHappen, answer_to, claims_of, is_claim, may_halt}
+use Rattle.pf_protocol.specs.Answers.{Claimed, IsAnswer, MayHappen, answer_to, claims_of, is_claim, may_halt}
 use Rattle.pf_protocol.specs.Groups.{Group, ending, happens}
 use Rattle.pf_protocol.specs.declared.answers.Answer.TheVariants.{Done}
 use Rattle.pf_protocol.specs.declared.events.Event.TheVariants.{GiveBack}
-use Rattle.pf_protocol.proofs.ForMoments.{legal_goes_on, replay_goes_on}
+use Rattle.pf_protocol.proofs.ForMoments.{replay_goes_on}
 use Rattle.pf_kept.specs.declared.kept.Kept.{Kept}
 use Rattle.pf_cluster.specs.declared.cluster.Cluster.{Cluster}
-use Rattle.pf_cluster.specs.Going.{HasGone, HasStayed, IsReached, acts_at}
-use Rattle.pf_cluster.specs.Readings.{taken_of}
+use Rattle.pf_cluster.specs.Going.{HasGone, HasStayed, KeepsTelling, acts_at}
 use Rattle.pf_cluster.specs.Showing.{Shows}
 use Rattle.pf_group.specs.declared.event.GroupEvent.{GroupEvent}
 use Rattle.pf_group.specs.declared.event.GroupEvent.TheVariants as asked
 use Rattle.pf_group.specs.Events.{Brings, MayAsk, event_of}
-use Rattle.pf_group.specs.GroupIs.{GroupIs}
-use Rattle.pf_group.specs.Halves.{AreLater, all_faults, format_in, holds_in, rose_in, told_in, used_in, was_in}
-use Rattle.pf_group.specs.Inside.{HaveHeads, group_of}
+use Rattle.pf_group.specs.GroupIs.{AddsOne, GroupIs}
+use Rattle.pf_group.specs.Halves.{AreLater, all_counts, format_in, holds_in, rose_in, told_in, used_in, was_in}
+use Rattle.pf_group.specs.Inside.{HaveHeads, IsSince, group_of}
+use Rattle.pf_group.specs.declared.began.Began.{Began}
 use Rattle.pf_group.specs.declared.past.Past.{Past}
+use Rattle.pf_group.specs.Beginning.{IsBegun, IsBegunIf}
 use Rattle.pf_group.specs.Pasts.{HasPlaceFor, HasRoomFor, IsKeepable}
 use Rattle.pf_group.specs.Reacting.{own_of}
-use Rattle.pf_group.specs.Steps.{IsLeft, Steps}
-use Rattle.pf_group.proofs.Faults.{all_later, all_same, has_risen, heads_kept, later_same, others_same}
-use Rattle.pf_group.proofs.Plain.{claims_low}
+use Rattle.pf_group.specs.Standing.{AllTell, StandsFor}
+use Rattle.pf_group.specs.Steps.{HasTried, IsLeft, Steps}
+use Rattle.pf_group.proofs.Faults.{all_later, all_same, has_risen, heads_kept, others_same}
+use Rattle.pf_group.proofs.Standing.{now_shows, stands_after, stands_still, stayed_now, tell_alike, went_now}
+use Rattle.pf_group.proofs.Since.{Stood, since_as, since_step, since_still}
 
 -- a job that comes back is of one of the three servers
-pub brings_low : (setup : Setup) (history : History) → IsLegal setup history → (filled : Filled) → Brings (claims_of [] history) filled → filled.server < 3
-brings_low setup history legal filled b =
+pub brings_low : (claims : List Claimed) → Every (λ c. c.server < 3) claims → (filled : Filled) → Brings claims filled → filled.server < 3
+brings_low claims low filled b =
     let claim : Claimed = record { server = filled.server; life = filled.life; slot = filled.slot; op = b.op } in
-    every_get (λ c. c.server < 3) (claims_of [] history) b.k claim (claims_low setup history legal) b.claim
+    every_get (λ c. c.server < 3) claims b.k claim low b.claim
 
 -- so is one that is given back
-pub found_low : (setup : Setup) (history : History) → IsLegal setup history → (server life slot : ℕ) → list_any (is_claim server life slot) (claims_of [] history) ≡ true → server < 3
-found_low setup history legal server life slot found =
-    let c = some_of_any (is_claim server life slot) (λ c. c.server < 3) (claims_of [] history) found (claims_low setup history legal) in
+pub found_low : (claims : List Claimed) → Every (λ c. c.server < 3) claims → (server life slot : ℕ) → list_any (is_claim server life slot) claims ≡ true → server < 3
+found_low claims low server life slot found =
+    let c = some_of_any (is_claim server life slot) (λ c. c.server < 3) claims found low in
     subst (λ n. n < 3) (eqb-true c.0.server server (and_parts _ _ (and_parts _ _ c.1).0).0) c.2
 
 pub gave_done : (setup : Setup) (g : Group) (server life slot : ℕ) (answer : Answer) → IsAnswer setup g (GiveBack server life slot) answer → answer ≡ Done
@@ -116,7 +119,7 @@ left_equal (asked.Lose k) old new is = is
 left_equal (asked.Elect server) old new is = is
 left_equal (asked.Resend server) old new is = is
 left_equal (asked.Stop server) old new is = is
-left_equal (asked.Restart server) old new is = subst (λ (n : GroupIs). (n ≡ record old { faults = n.faults }) × AreLater old.faults n.faults × ((j : ℕ) → j ≢ server → slice_get n.faults j ≡ slice_get old.faults j)) (sym is) (refl, later_same old.faults, λ j apart. refl)
+left_equal (asked.Restart server) old new is = inl is
 left_equal asked.Claim old new is = is
 left_equal (asked.Finish filled) old new is = is
 left_equal (asked.Checkpoint server) old new is = is
@@ -124,77 +127,179 @@ left_equal (asked.Checkpoint server) old new is = is
 pub same_happening : (e e' : Event) (a a' : Answer) → e ≡ e' → a ≡ a' → (let h : Happening = record { event = e; answer = a } in h) ≡ record { event = e'; answer = a' }
 same_happening e e' a a' p q = ap (λ x. let h : Happening = record { event = x; answer = a } in h) p ∙ ap (λ x. let h : Happening = record { event = e'; answer = x } in h) q
 
-module _ {S : Type 0} (holds : S → Durable → Durable → Type 0) (used format : S → ℕ) (told : S → Bool) (rose : S → S → Type 0) (was : S → S → Durable → Durable → Type 0) (setup : Setup) (history : History) (old new : Cluster S) (event : Event) (answer : Answer) where
-  abbrev happening : Happening
-  happening = record { event = event; answer = answer }
-
-  -- a history with it at its end
-  pub reached_longer : (later : History) → later ≡ history ++ happening ∷ [] → length later ≤ 2 ^ 32 → IsReached holds used format told setup history old → MayHappen (claims_of [] history) event → HasGone holds used format told rose was setup (replay setup history) event old new answer → IsReached holds used format told setup later new
-  reached_longer later is low reached may gone = subst (λ l. IsReached holds used format told setup l new) (sym is) (record {
-    legal = legal_goes_on setup history happening reached.legal (record { asked = may; answered = gone.answered });
-    short = let short : length (history ++ happening ∷ []) ≤ 2 ^ 32 = subst (λ l. length l ≤ 2 ^ 32) is low in omega (arith, short);
-    shows = subst (Shows holds used format told setup new) (sym (replay_goes_on setup history happening)) gone.shows;
-  })
-
-module _ {S : Type 0} (holds : S → Durable → Durable → Type 0) (used format : S → ℕ) (told : S → Bool) (rose : S → S → Type 0) (was : S → S → Durable → Durable → Type 0) (setup : Setup) (history : History) (old new : Cluster S) where
-  -- the same history
-  pub reached_still : (own : Option ℕ) (later : History) → later ≡ history → IsReached holds used format told setup history old → HasStayed holds used format told rose was setup (replay setup history) own old new → IsReached holds used format told setup later new
-  reached_still own later is reached stayed = subst (λ l. IsReached holds used format told setup l new) (sym is) (record { legal = reached.legal; short = reached.short; shows = stayed.shows })
+-- what holds of a group holds of the same one
+pub as_begun : {D : Type 0} → (faults moment : D → ℕ) (number : ℕ) (setup : Setup) (history later : History) (old new began : Cluster (Kept D)) (earlier : History) → began ≡ old → earlier ≡ history → (P : GroupIs → Type 0) → P (group_of faults moment number setup history old later new) → P (group_of faults moment number setup earlier began later new)
+as_begun {D = D} faults moment number setup history later old new began earlier same_cluster same_history P holds =
+    subst (λ h. P (group_of faults moment number setup h began later new)) (sym same_history)
+    (subst (λ (b : Cluster (Kept D)). P (group_of faults moment number setup history b later new)) (sym same_cluster) holds)
 
 module _ {D : Type 0} (seen : D → Option (List ℕ)) (may_leave : D → Images) (faults moment : D → ℕ) (left_since : D → ℕ → Images) (tells_moments : Bool) (setup : Setup) (history : History) (old new : Cluster (Kept D)) where
-  abbrev pub Went : Event → Answer → Type 0
-  Went event answer = HasGone (holds_in seen may_leave) used_in format_in (told_in seen) (rose_in faults) (was_in seen faults moment left_since tells_moments) setup (replay setup history) event old new answer
+  abbrev pub WentIn : Group → Event → Answer → Type 0
+  WentIn g event answer = HasGone (holds_in seen may_leave) used_in format_in (told_in seen) (rose_in faults) (was_in seen faults moment left_since tells_moments) setup g event old new answer
+
+  abbrev Went : Event → Answer → Type 0
+  Went event answer = WentIn (replay setup history) event answer
+
+  abbrev StayedIn : Group → Option ℕ → Type 0
+  StayedIn g own = HasStayed (holds_in seen may_leave) used_in format_in (told_in seen) (rose_in faults) (was_in seen faults moment left_since tells_moments) setup g own old new
 
   abbrev Stayed : Option ℕ → Type 0
-  Stayed own = HasStayed (holds_in seen may_leave) used_in format_in (told_in seen) (rose_in faults) (was_in seen faults moment left_since tells_moments) setup (replay setup history) own old new
+  Stayed own = StayedIn (replay setup history) own
 
-  module _ (reached : IsReached (holds_in seen may_leave) used_in format_in (told_in seen) setup history old) where
-    later_went : (event : Event) (answer : Answer) → Went event answer → AreLater (all_faults faults old) (all_faults faults new)
-    later_went event answer gone = all_later seen may_leave faults moment left_since tells_moments (replay setup history) (happens setup (replay setup history) event (ending answer)) setup (acts_at (replay setup history) event) old new reached.shows gone.shows gone.crash gone.others
+  module _ (stands : StandsFor (holds_in seen may_leave) used_in format_in (told_in seen) setup history old) (tell : AllTell (told_in seen) old) where
+    shows : Shows (holds_in seen may_leave) used_in format_in (told_in seen) setup old (replay setup history)
+    shows = now_shows (holds_in seen may_leave) used_in format_in (told_in seen) setup history old stands tell
 
-    later_stayed : (own : Option ℕ) → Stayed own → AreLater (all_faults faults old) (all_faults faults new)
-    later_stayed own stayed = all_later seen may_leave faults moment left_since tells_moments (replay setup history) (replay setup history) setup own old new reached.shows stayed.shows stayed.crash stayed.others
+    -- what is said of the past's group holds of the state after the history
+    went : (event : Event) (answer : Answer) → WentIn stands.past.group event answer → Went event answer
+    went = went_now (holds_in seen may_leave) used_in format_in (told_in seen) setup history old stands (rose_in faults) (was_in seen faults moment left_since tells_moments) new tell
+
+    stayed_so : (own : Option ℕ) → StayedIn stands.past.group own → Stayed own
+    stayed_so = stayed_now (holds_in seen may_leave) used_in format_in (told_in seen) setup history old stands (rose_in faults) (was_in seen faults moment left_since tells_moments) new tell
+
+    stands_gone : (event : Event) (answer : Answer) (later : History) → later ≡ history ++ record { event = event; answer = answer } ∷ [] → length later ≤ 2 ^ 32 → MayHappen (claims_of [] history) event → WentIn stands.past.group event answer → StandsFor (holds_in seen may_leave) used_in format_in (told_in seen) setup later new
+    stands_gone = stands_after (holds_in seen may_leave) used_in format_in (told_in seen) setup history old stands (rose_in faults) (was_in seen faults moment left_since tells_moments) new
+
+    stands_stayed : (own : Option ℕ) (later : History) → later ≡ history → StayedIn stands.past.group own → StandsFor (holds_in seen may_leave) used_in format_in (told_in seen) setup later new
+    stands_stayed = stands_still (holds_in seen may_leave) used_in format_in (told_in seen) setup history old stands (rose_in faults) (was_in seen faults moment left_since tells_moments) new
+
+    tell_now : KeepsTelling (told_in seen) old new → AllTell (told_in seen) new
+    tell_now keeps = tell_alike (told_in seen) old new keeps tell
+
+    later_went : (event : Event) (answer : Answer) → Went event answer → AreLater (all_counts faults old) (all_counts faults new)
+    later_went event answer gone = all_later seen may_leave faults moment left_since tells_moments (replay setup history) (happens setup (replay setup history) event (ending answer)) setup (acts_at (replay setup history) event) old new shows gone.shows gone.crash gone.others
+
+    later_stayed : (own : Option ℕ) → Stayed own → AreLater (all_counts faults old) (all_counts faults new)
+    later_stayed own stayed = all_later seen may_leave faults moment left_since tells_moments (replay setup history) (replay setup history) setup own old new shows stayed.shows stayed.crash stayed.others
 
     -- each server still has its own head
-    pub heads_went : (event : Event) (answer : Answer) → Went event answer → (number : ℕ) → HaveHeads number old → HaveHeads number new
-    heads_went event answer gone = heads_kept seen may_leave faults moment left_since tells_moments (replay setup history) (happens setup (replay setup history) event (ending answer)) setup (acts_at (replay setup history) event) old new reached.shows gone.shows gone.crash gone.others
+    heads_went : (event : Event) (answer : Answer) → Went event answer → (number : ℕ) → HaveHeads number old → HaveHeads number new
+    heads_went event answer gone = heads_kept seen may_leave faults moment left_since tells_moments (replay setup history) (happens setup (replay setup history) event (ending answer)) setup (acts_at (replay setup history) event) old new shows gone.shows gone.crash gone.others
 
-    pub heads_stayed : (own : Option ℕ) → Stayed own → (number : ℕ) → HaveHeads number old → HaveHeads number new
-    heads_stayed own stayed = heads_kept seen may_leave faults moment left_since tells_moments (replay setup history) (replay setup history) setup own old new reached.shows stayed.shows stayed.crash stayed.others
+    heads_stayed : (own : Option ℕ) → Stayed own → (number : ℕ) → HaveHeads number old → HaveHeads number new
+    heads_stayed own stayed = heads_kept seen may_leave faults moment left_since tells_moments (replay setup history) (replay setup history) setup own old new shows stayed.shows stayed.crash stayed.others
 
-    module _ (number : ℕ) (later : History) where
-      pub steps_of : (event : Event) (answer : Answer) (h : Happening) → later ≡ history ++ h ∷ [] → h.event ≡ event → h.answer ≡ answer → MayHappen (claims_of [] history) event → Went event answer → Steps (group_of faults number setup history old) event answer (group_of faults number setup later new)
-      steps_of event answer h is same_event same_answer may gone =
+    module _ (number : ℕ) (earlier : History) (began : Cluster (Kept D)) (later : History) where
+      -- as it was, and as it is after a step that began then
+      abbrev Was : GroupIs
+      Was = group_of faults moment number setup earlier began history old
+
+      abbrev Is : GroupIs
+      Is = group_of faults moment number setup history old later new
+
+      pub steps_of : (event : Event) (answer : Answer) (h : Happening) → later ≡ history ++ h ∷ [] → h.event ≡ event → h.answer ≡ answer → MayHappen (claims_of [] history) event → WentIn stands.past.group event answer → Steps Was event answer Is
+      steps_of event answer h is same_event same_answer may there =
+          let gone = went event answer there in
           let stamped = same_happening h.event event h.answer answer same_event same_answer in
           record {
             legal = record { asked = may; answered = gone.answered };
-            recorded = ap (λ l. let g : GroupIs = record { number = number; setup = setup; history = l; taken = taken_of new; faults = all_faults faults new } in g) (is ∙ ap (λ x. history ++ x ∷ []) stamped)
-                ∙ ap (λ t. let g : GroupIs = record { number = number; setup = setup; history = history ++ record { event = event; answer = answer } ∷ []; taken = t; faults = all_faults faults new } in g) gone.taken;
+            recorded = ap (λ l. record Is { history = l }) (is ∙ ap (λ x. history ++ x ∷ []) stamped)
+                ∙ ap (λ t. record Is { history = history ++ record { event = event; answer = answer } ∷ []; taken = t }) gone.taken;
             cause = λ halted. let c = gone.cause halted in (c.0, c.1, has_risen faults old new c.0 c.2);
             later = later_went event answer gone;
             others = λ j apart. others_same faults _ old new gone.others j apart;
+            begins = refl;
+            still = λ j apart. others_same moment _ old new gone.others j apart;
           }
 
-      left_same : later ≡ history → Stayed None → group_of faults number setup later new ≡ group_of faults number setup history old
-      left_same is stayed =
-          ap (λ l. group_of faults number setup l new) is
-          ∙ ap (λ t. let g : GroupIs = record { number = number; setup = setup; history = history; taken = t; faults = all_faults faults new } in g) stayed.taken
-          ∙ ap (λ f. let g : GroupIs = record { number = number; setup = setup; history = history; taken = taken_of old; faults = f } in g) (all_same faults old new stayed.others)
+      -- there was no memory for it
+      left_same : later ≡ history → StayedIn stands.past.group None → group_of faults moment number setup earlier began later new ≡ Was
+      left_same is there =
+          let stayed = stayed_so None there in
+          ap (λ l. group_of faults moment number setup earlier began l new) is
+          ∙ ap (λ t. record (group_of faults moment number setup earlier began history new) { taken = t }) stayed.taken
+          ∙ ap (λ f. record Was { faults = f; time = record Was.time { now = all_counts moment new } }) (all_same faults old new stayed.others)
+          ∙ ap (λ m. record Was { time = record Was.time { now = m } }) (all_same moment old new stayed.others)
 
-      pub left_of : (event : GroupEvent) → later ≡ history → Stayed (own_of event) → IsLeft (group_of faults number setup history old) event (group_of faults number setup later new)
-      left_of (asked.Submit server range payload) is stayed = left_same is stayed
-      left_of (asked.Mark server) is stayed = left_same is stayed
-      left_of (asked.Fetch server range) is stayed = left_same is stayed
-      left_of (asked.Deliver k) is stayed = left_same is stayed
-      left_of (asked.Lose k) is stayed = left_same is stayed
-      left_of (asked.Elect server) is stayed = left_same is stayed
-      left_of (asked.Resend server) is stayed = left_same is stayed
-      left_of (asked.Stop server) is stayed = left_same is stayed
-      left_of (asked.Restart server) is stayed = (
-        ap (λ l. group_of faults number setup l new) is ∙ ap (λ t. let g : GroupIs = record { number = number; setup = setup; history = history; taken = t; faults = all_faults faults new } in g) stayed.taken,
-        later_stayed (Some server) stayed,
-        λ j apart. others_same faults (Some server) old new stayed.others j (λ same. apart (sym (same_Some server j same))),
-      )
-      left_of asked.Claim is stayed = left_same is stayed
-      left_of (asked.Finish filled) is stayed = left_same is stayed
-      left_of (asked.Checkpoint server) is stayed = left_same is stayed
+      -- for a restart, which may have touched the disks of its server
+      has_tried : (server : ℕ) → later ≡ history → StayedIn stands.past.group (Some server) → HasTried Was server Is
+      has_tried server is there = let stayed = stayed_so (Some server) there in record {
+        is = ap (λ l. record Is { history = l }) is ∙ ap (λ t. record Is { history = history; taken = t }) stayed.taken;
+        later = later_stayed (Some server) stayed;
+        others = λ j apart. others_same faults (Some server) old new stayed.others j (λ same. apart (sym (same_Some server j same)));
+        begins = refl;
+        still = λ j apart. others_same moment (Some server) old new stayed.others j (λ same. apart (sym (same_Some server j same)));
+      }
+
+    since_went : (event : Event) (answer : Answer) → Went event answer → IsSince seen faults moment left_since tells_moments (replay setup history) (happens setup (replay setup history) event (ending answer)) old new
+    since_went event answer gone = since_step seen may_leave faults moment left_since tells_moments setup (replay setup history) (happens setup (replay setup history) event (ending answer)) (acts_at (replay setup history) event) old new shows tell gone.crash gone.others
+
+    since_stayed : (own : Option ℕ) → Stayed own → IsSince seen faults moment left_since tells_moments (replay setup history) (replay setup history) old new
+    since_stayed own stayed = since_step seen may_leave faults moment left_since tells_moments setup (replay setup history) (replay setup history) own old new shows tell stayed.crash stayed.others
+
+    module _ (number : ℕ) (heads : HaveHeads number old) (later : History) where
+      abbrev Stands : (earlier : History) (began : Cluster (Kept D)) → Type 0
+      Stands earlier began = Stood seen may_leave faults moment left_since tells_moments number setup earlier began later new
+
+      module _ (earlier : History) (began : Cluster (Kept D)) (same_cluster : began ≡ old) (same_history : earlier ≡ history) where
+        -- after a step that began here
+        pub stood_gone : (event : Event) (answer : Answer) → later ≡ history ++ record { event = event; answer = answer } ∷ [] → length later ≤ 2 ^ 32 → MayHappen (claims_of [] history) event → WentIn stands.past.group event answer → Stands earlier began
+        stood_gone event answer is low may there =
+            let gone = went event answer there in
+            let state = ap (replay setup) is ∙ replay_goes_on setup history (record { event = event; answer = answer }) in
+            record {
+              stands = stands_gone event answer later is low may there;
+              tell = tell_now there.tells;
+              heads = heads_went event answer gone number heads;
+              last = inr (record { event = event; answer = answer }, is ∙ ap (λ l. l ++ record { event = event; answer = answer } ∷ []) (sym same_history));
+              since = since_as seen may_leave faults moment left_since tells_moments setup history earlier later _ old new began same_cluster same_history state (since_went event answer gone);
+            }
+
+        stood_tried : (own : Option ℕ) → later ≡ history → StayedIn stands.past.group own → Stands earlier began
+        stood_tried own is there = let stayed = stayed_so own there in record {
+          stands = stands_stayed own later is there;
+          tell = tell_now there.tells;
+          heads = heads_stayed own stayed number heads;
+          last = inl (is ∙ sym same_history);
+          since = since_as seen may_leave faults moment left_since tells_moments setup history earlier later (replay setup history) old new began same_cluster same_history (ap (replay setup) is) (since_stayed own stayed);
+        }
+
+      -- as it stood, where no disk was touched
+      stood_still : (earlier : History) (began : Cluster (Kept D)) → later ≡ history → AddsOne earlier history → IsSince seen faults moment left_since tells_moments (replay setup earlier) (replay setup history) began old → StayedIn stands.past.group None → Stands earlier began
+      stood_still earlier began is last since there = let stayed = stayed_so None there in record {
+        stands = stands_stayed None later is there;
+        tell = tell_now there.tells;
+        heads = heads_stayed None stayed number heads;
+        last = subst (AddsOne earlier) (sym is) last;
+        since = since_still seen may_leave faults moment left_since tells_moments (replay setup earlier) (replay setup later) began old new stayed.others (subst (λ l. IsSince seen faults moment left_since tells_moments (replay setup earlier) (replay setup l) began old) (sym is) since);
+      }
+
+    -- There was no memory for an event: a step began with it only where it may have touched disks
+    module _ (number : ℕ) (before after : Began D) (later : History) (is : later ≡ history) where
+      abbrev Left : GroupIs
+      Left = group_of faults moment number setup after.happenings.value.items after.cluster.value later new
+
+      abbrev WasSo : GroupIs
+      WasSo = group_of faults moment number setup before.happenings.value.items before.cluster.value history old
+
+      stays : after ≡ before → StayedIn stands.past.group None → Left ≡ WasSo
+      stays same stayed =
+          ap (λ (b : Began D). group_of faults moment number setup b.happenings.value.items b.cluster.value later new) same
+          ∙ left_same number before.happenings.value.items before.cluster.value later is stayed
+
+      tries : (server : ℕ) → IsBegun old later after → StayedIn stands.past.group (Some server) → HasTried WasSo server Left
+      tries server begun stayed =
+          as_begun faults moment number setup history later old new after.cluster.value after.happenings.value.items begun.cluster_is (begun.history_is ∙ is) (HasTried WasSo server)
+          (has_tried number before.happenings.value.items before.cluster.value later server is stayed)
+
+      pub left_of : (event : GroupEvent) → IsBegunIf (own_of event) old later before after → StayedIn stands.past.group (own_of event) → IsLeft WasSo event Left
+      left_of (asked.Submit server range payload) begun stayed = stays begun stayed
+      left_of (asked.Mark server) begun stayed = stays begun stayed
+      left_of (asked.Fetch server range) begun stayed = stays begun stayed
+      left_of (asked.Deliver k) begun stayed = stays begun stayed
+      left_of (asked.Lose k) begun stayed = stays begun stayed
+      left_of (asked.Elect server) begun stayed = stays begun stayed
+      left_of (asked.Resend server) begun stayed = stays begun stayed
+      left_of (asked.Stop server) begun stayed = stays begun stayed
+      left_of (asked.Restart server) begun stayed = inr (tries server begun stayed)
+      left_of asked.Claim begun stayed = stays begun stayed
+      left_of (asked.Finish filled) begun stayed = stays begun stayed
+      left_of (asked.Checkpoint server) begun stayed = stays begun stayed
+
+      pub stood_left : HaveHeads number old → AddsOne before.happenings.value.items history → IsSince seen faults moment left_since tells_moments (replay setup before.happenings.value.items) (replay setup history) before.cluster.value old → (own : Option ℕ) → IsBegunIf own old later before after → StayedIn stands.past.group own
+          → Stood seen may_leave faults moment left_since tells_moments number setup after.happenings.value.items after.cluster.value later new
+      stood_left heads last since None begun stayed =
+          subst (λ (b : Began D). Stood seen may_leave faults moment left_since tells_moments number setup b.happenings.value.items b.cluster.value later new) (sym begun)
+          (stood_still number heads later before.happenings.value.items before.cluster.value is last since stayed)
+      stood_left heads last since (Some server) begun stayed =
+          stood_tried number heads later after.happenings.value.items after.cluster.value begun.cluster_is (begun.history_is ∙ is) (Some server) is stayed

@@ -1,7 +1,7 @@
 -- The least packet that is left.
 use Rattle.std.proofs.Common.{◌≡◌, ℕ, zero, suc, ◌+◌, ◌-◌, ◌<◌, ◌≤◌, Bool, true, false, length, find, max, Some, None, slice_get, arith, refl, sym, ap, ◌∙◌}
 use Rattle.std.specs.List.{range_with_len}
-use Rattle.std.proofs.lemmas.Bool.{cases_lt, cases_eq, cond-true, cond-false}
+use Rattle.std.proofs.lemmas.Bool.{cases_eq, cond-true, cond-false}
 use Rattle.std.proofs.Common.{inl, inr}
 use Rattle.pf_protocol.specs.Groups.{Group}
 use Rattle.pf_group.specs.Readers.{is_left}

@@ -1,5 +1,5 @@
 -- A new group stands for the opening state.
-use Rattle.std.proofs.Common.{◌≡◌, ℕ, zero, suc, ◌≤◌, ◌⊎◌, inl, inr, Bool, true, false, ◌==◌, if◌then◌else◌, List, [], ◌∷◌, ◌++◌, length, Some, slice_get, vec_capacity, arith, refl, sym, ap, subst, ◌∙◌}
+use Rattle.std.proofs.Common.{◌≡◌, ℕ, zero, suc, ◌≤◌, ◌⊎◌, inl, inr, Bool, true, false, ◌==◌, if◌then◌else◌, List, [], ◌∷◌, ◌++◌, length, IsTrue, Some, slice_get, vec_capacity, arith, refl, sym, ap, subst, ◌∙◌}
 use Rattle.std.specs.List.{list_any}
 use Rattle.std.proofs.lemmas.Bool.{false≢true}
 use Rattle.std.proofs.lemmas.Option.{same_Some}
@@ -12,8 +12,6 @@ use Rattle.pf_protocol.specs.declared.answers.Answer.TheVariants.{Done, Refused}
 use Rattle.pf_protocol.specs.declared.answers.Refusal.TheVariants.{Halted}
 use Rattle.pf_protocol.specs.Servers.{Setup, Running as RunningIs, Unformatted as UnformattedIs}
 use Rattle.pf_protocol.specs.Groups.{opening, unless_failed}
-use Rattle.pf_protocol.specs.Histories.{History}
-use Rattle.pf_protocol.specs.Answers.{IsSetup}
 use Rattle.pf_restart.specs.declared.seat.Seat.{Seat}
 use Rattle.pf_server.specs.declared.server.Server.{Server}
 use Rattle.pf_server.specs.declared.state.State.TheVariants.{Unformatted}
@@ -23,11 +21,11 @@ use Rattle.pf_opening.specs.Opening.{head_of, opening_server, seat_in}
 use Rattle.pf_opening.specs.Rooms.{Place}
 use Rattle.pf_opening.proofs.Opened.{opening_at}
 use Rattle.pf_cluster.specs.declared.cluster.Cluster.{Cluster}
-use Rattle.pf_cluster.specs.Going.{IsReached}
 use Rattle.pf_cluster.specs.Showing.{AreMembers, AreReadings, IsMember, Shows, seat_of}
 use Rattle.pf_group.specs.Halves.{AreLater}
 use Rattle.pf_group.specs.Inside.{HaveHeads}
 use Rattle.pf_group.specs.Rooms.{halted_of, picked, place_at}
+use Rattle.pf_group.specs.Standing.{AllTell}
 
 -- the servers whose making was halted
 abbrev pub all_picked : (a b c : Bool) → List ℕ
@@ -83,13 +81,13 @@ every_picked P a b c p q r = every_append P ([] ++ picked a 0 ++ picked b 1) (pi
 module _ {S : Type 0} (holds : S → Durable → Durable → Type 0) (used format : S → ℕ) (told : S → Bool) (setup : Setup) where
   -- a server that was opened, or whose disks failed, is as it is in the opening state
   pub opened_member : (i : ℕ) (server : Server S) (answer : Answer) → list_any (λ j. j == i) setup.failed ≡ halted_of answer → (answer ≡ Done) ⊎ (answer ≡ Refused Halted)
-      → (answer ≡ Done → Meets holds used format server.seat server.store server.state (RunningIs (opening_server setup i))) → (answer ≡ Refused Halted → server.state ≡ Unformatted) → server.seat ≡ seat_of setup i → told server.store ≡ true
+      → (answer ≡ Done → Meets holds used format server.seat server.store server.state (RunningIs (opening_server setup i))) → (answer ≡ Refused Halted → server.state ≡ Unformatted) → server.seat ≡ seat_of setup i
       → IsMember holds used format told setup i server (unless_failed setup i (opening_server setup i))
-  opened_member i server answer failed outcome opened halted seat tells = elim outcome [
+  opened_member i server answer failed outcome opened halted seat = elim outcome [
     | inl done ↦ subst (IsMember holds used format told setup i server) (sym (ap (λ b. if b then UnformattedIs else RunningIs (opening_server setup i)) (failed ∙ ap halted_of done)))
-        (record { seat = seat; meets = opened done; tells = tells })
+        (record { seat = seat; meets = opened done })
     | inr stopped ↦ subst (IsMember holds used format told setup i server) (sym (ap (λ b. if b then UnformattedIs else RunningIs (opening_server setup i)) (failed ∙ ap halted_of stopped)))
-        (record { seat = seat; meets = subst (λ s. Meets holds used format server.seat server.store s UnformattedIs) (sym (halted stopped)) tt; tells = tells })
+        (record { seat = seat; meets = subst (λ s. Meets holds used format server.seat server.store s UnformattedIs) (sym (halted stopped)) tt })
   ]
 
   pub opened_members : (zero one two : Server S) → IsMember holds used format told setup 0 zero (unless_failed setup 0 (opening_server setup 0)) → IsMember holds used format told setup 1 one (unless_failed setup 1 (opening_server setup 1)) → IsMember holds used format told setup 2 two (unless_failed setup 2 (opening_server setup 2))
@@ -124,22 +122,14 @@ module _ {S : Type 0} (holds : S → Durable → Durable → Type 0) (used forma
 
   -- a server that was made in its place
   pub opened_there : (i : ℕ) (place : Place) → place.seat ≡ seat_of setup i → (server : Server S) (answer : Answer) → list_any (λ j. j == i) setup.failed ≡ halted_of answer → (answer ≡ Done) ⊎ (answer ≡ Refused Halted)
-      → (answer ≡ Done → (made : Setup) → place.seat ≡ seat_in made place.seat.number → Meets holds used format server.seat server.store server.state (RunningIs (opening_server made place.seat.number))) → (answer ≡ Refused Halted → server.state ≡ Unformatted) → server.seat ≡ place.seat → told server.store ≡ true
+      → (answer ≡ Done → (made : Setup) → place.seat ≡ seat_in made place.seat.number → Meets holds used format server.seat server.store server.state (RunningIs (opening_server made place.seat.number))) → (answer ≡ Refused Halted → server.state ≡ Unformatted) → server.seat ≡ place.seat
       → IsMember holds used format told setup i server (unless_failed setup i (opening_server setup i))
-  opened_there i place is server answer failed outcome opened halted seat tells =
+  opened_there i place is server answer failed outcome opened halted seat =
       opened_member i server answer failed outcome (λ done. subst (λ n. Meets holds used format server.seat server.store server.state (RunningIs (opening_server setup n))) (ap (λ (s : Seat). s.number) is)
-      (opened done setup (subst (λ (s : Seat). s ≡ seat_in setup s.number) (sym is) refl))) halted (seat ∙ is) tells
+      (opened done setup (subst (λ (s : Seat). s ≡ seat_in setup s.number) (sym is) refl))) halted (seat ∙ is)
 
 pub was_halted : (answer : Answer) → (answer ≡ Done) ⊎ (answer ≡ Refused Halted) → halted_of answer ≡ true → answer ≡ Refused Halted
 was_halted answer outcome is = elim outcome [ inl done ↦ absurd (false≢true (sym (ap halted_of done) ∙ is)) | inr halted ↦ halted ]
-
--- the opening state of a setup is reached by no history
-pub reached_opening : {S : Type 0} → (holds : S → Durable → Durable → Type 0) (used format : S → ℕ) (told : S → Bool) (setup : Setup) (history : History) (cluster : Cluster S) → IsSetup (record setup { failed = [] }) → history ≡ [] → Shows holds used format told setup cluster (opening setup) → IsReached holds used format told setup history cluster
-reached_opening holds used format told setup history cluster is empty shows = subst (λ h. IsReached holds used format told setup h cluster) (sym empty) (record {
-  legal = record { is_setup = record { few_names = is.few_names; some_sectors = is.some_sectors; few_sectors = is.few_sectors; blocks = is.blocks; format = is.format; window = is.window }; legal = tt };
-  short = omega arith;
-  shows = shows;
-})
 
 -- the counts of three servers are later where those of each are
 pub three_later : (a b c x y z : ℕ × ℕ) → (a.0 ≤ x.0) × (a.1 ≤ x.1) → (b.0 ≤ y.0) × (b.1 ≤ y.1) → (c.0 ≤ z.0) × (c.1 ≤ z.1) → AreLater (a ∷ b ∷ c ∷ []) (x ∷ y ∷ z ∷ [])
@@ -167,4 +157,14 @@ three_heads {D = D} number cluster a b c servers first second third = λ i serve
     each zero server at = subst (λ (s : Server (Kept D)). s.store.pair.head ≡ head_of number s.seat) (same_Some a server at) first
     each (suc zero) server at = subst (λ (s : Server (Kept D)). s.store.pair.head ≡ head_of number s.seat) (same_Some b server at) second
     each (suc (suc zero)) server at = subst (λ (s : Server (Kept D)). s.store.pair.head ≡ head_of number s.seat) (same_Some c server at) third
+    each (suc (suc (suc i))) server at = absurd (grind (arith, at))
+
+-- and tells its content
+pub three_tell : {S : Type 0} → (told : S → Bool) (cluster : Cluster S) (zero one two : Server S) → cluster.servers.items ≡ zero ∷ one ∷ two ∷ [] → IsTrue (told zero.store) → IsTrue (told one.store) → IsTrue (told two.store) → AllTell told cluster
+three_tell {S = S} told cluster a b c servers first second third = λ i server at. each i server (sym (ap (λ xs. slice_get xs i) servers) ∙ at)
+  where
+    each : (i : ℕ) (server : Server S) → slice_get (a ∷ b ∷ c ∷ []) i ≡ Some server → IsTrue (told server.store)
+    each zero server at = subst (λ (s : Server S). IsTrue (told s.store)) (same_Some a server at) first
+    each (suc zero) server at = subst (λ (s : Server S). IsTrue (told s.store)) (same_Some b server at) second
+    each (suc (suc zero)) server at = subst (λ (s : Server S). IsTrue (told s.store)) (same_Some c server at) third
     each (suc (suc (suc i))) server at = absurd (grind (arith, at))

@@ -1,12 +1,9 @@
 -- Only a claim is answered by a job, and a job is of one of the three servers.
-use Rattle.std.proofs.Common.{◌≡◌, ℕ, ◌+◌, ◌<◌, Bool, true, false, not, if◌then◌else◌, List, [], ◌∷◌, ◌==◌, ◌||◌, nat_lt, Option, Some, None, slice_get, arith, sym, subst, inl, inr}
-use Rattle.std.proofs.lemmas.Bool.{false≢true}
+use Rattle.std.proofs.Common.{ℕ, ◌+◌, Bool, true, false, if◌then◌else◌, ◌==◌, ◌||◌, nat_lt, Option, Some, None, slice_get, sym, subst, inl, inr}
 use Rattle.pf_base.specs.Span.{Span}
-use Rattle.pf_entry.specs.Lists.{Every}
-use Rattle.pf_entry.proofs.Lists.{every_filter, every_more}
 use Rattle.pf_entry.specs.declared.ops.Op.{Op}
 use Rattle.pf_protocol.specs.declared.answers.Answer.{Answer}
-use Rattle.pf_protocol.specs.declared.answers.Answer.TheVariants.{Done, Refused}
+use Rattle.pf_protocol.specs.declared.answers.Answer.TheVariants.{Done, Slot as SlotIs, Term as TermIs, Read as ReadIs, Base as BaseIs, Job as JobIs, Refused}
 use Rattle.pf_protocol.specs.declared.answers.Refusal.{Refusal}
 use Rattle.pf_protocol.specs.declared.answers.Refusal.TheVariants.{NotOurs, LostPacket}
 use Rattle.pf_protocol.specs.declared.events.Event.{Event}
@@ -15,10 +12,12 @@ use Rattle.pf_protocol.specs.Servers.{Setup, Role, Follower, Candidate, Merging,
 use Rattle.pf_protocol.specs.Outcomes.{Outcome}
 use Rattle.pf_protocol.specs.Leading.{on_submit, on_fetch, on_elect, on_resend}
 use Rattle.pf_protocol.specs.Saving.{is_short_of, on_checkpoint, on_finish}
-use Rattle.pf_protocol.specs.Groups.{Group, Sent, claim_of, ending, happens, opening}
-use Rattle.pf_protocol.specs.Histories.{History}
-use Rattle.pf_protocol.specs.Answers.{Claimed, IsAnswer, IsLegal, IsLegalFrom, Turn, answer_at, answer_by, answer_to, claim_answer, claim_answer_at, claims_after, claims_of, claims_with, deliver_turn, delivery_answer, elect_turn, fetch_turn, finish_answer, is_claim, is_formatted, loss_answer, may_halt, plain, stop_answer, submit_turn}
+use Rattle.pf_protocol.specs.Groups.{Group, Sent}
+use Rattle.pf_protocol.specs.Answers.{IsAnswer, Turn, answer_at, answer_by, answer_to, deliver_turn, delivery_answer, elect_turn, fetch_turn, finish_answer, is_formatted, loss_answer, plain, stop_answer, submit_turn}
 use Rattle.pf_cluster.proofs.Deliveries.{packet_done}
+use Rattle.pf_cluster.specs.declared.cluster.Cluster.{Cluster}
+use Rattle.pf_cluster.specs.Going.{ShowsSomehow}
+use Rattle.pf_entry.specs.Records.{Durable}
 use Rattle.pf_group.specs.Plain.{IsPlain}
 
 either_plain : (b : Bool) (x y : Answer) → IsPlain x → IsPlain y → IsPlain (if b then x else y)
@@ -120,45 +119,13 @@ plain_answer setup g event answer other is =
       | inr cut ↦ subst IsPlain (sym cut.1) tt
     ]
 
--- each open claim is of one of the three servers
-abbrev IsLow : Claimed → Type 0
-IsLow c = c.server < 3
-
-low_with : (claims : List Claimed) (i : ℕ) (c : Option Condition) (slot : Option ℕ) (rest : Answer) → i < 3 → Every IsLow claims → Every IsLow (claims_with rest claims) → Every IsLow (claims_with (claim_answer_at i c slot rest) claims)
-low_with claims i (Some (Running s)) (Some slot) rest low all later = (low, all)
-low_with claims i (Some (Running s)) None rest low all later = later
-low_with claims i (Some (Stopped life before after)) slot rest low all later = later
-low_with claims i (Some Unformatted) slot rest low all later = later
-low_with claims i None slot rest low all later = later
-
-claim_low : (window : ℕ) (g : Group) (claims : List Claimed) → Every IsLow claims → Every IsLow (claims_with (claim_answer window g (0 ∷ 1 ∷ 2 ∷ [])) claims)
-claim_low window g claims all =
-    low_with claims 0 (slice_get g.servers 0) (claim_of window (slice_get g.servers 0)) (claim_answer window g (1 ∷ 2 ∷ [])) (omega arith) all
-    (low_with claims 1 (slice_get g.servers 1) (claim_of window (slice_get g.servers 1)) (claim_answer window g (2 ∷ [])) (omega arith) all
-    (low_with claims 2 (slice_get g.servers 2) (claim_of window (slice_get g.servers 2)) (claim_answer window g []) (omega arith) all all))
-
-after_low : (setup : Setup) (g : Group) (claims : List Claimed) (event : Event) (answer : Answer) → IsAnswer setup g event answer → Every IsLow claims → Every IsLow (claims_after claims event answer)
-unfolding answer_to may_halt
-after_low setup g claims (Submit i op) answer is all = all
-after_low setup g claims (Fetch i range) answer is all = all
-after_low setup g claims (Deliver k) answer is all = all
-after_low setup g claims (Lose k) answer is all = all
-after_low setup g claims (Elect i) answer is all = all
-after_low setup g claims (Resend i) answer is all = all
-after_low setup g claims (Stop i) answer is all = all
-after_low setup g claims (Restart i found) answer is all = all
-after_low setup g claims Claim answer is all =
-    elim is [
-      | inl right ↦ subst (λ a. Every IsLow (claims_with a claims)) (sym right) (claim_low setup.window g claims all)
-      | inr cut ↦ absurd (false≢true cut.0)
-    ]
-after_low setup g claims (Finish i life slot) answer is all = every_filter IsLow (λ c. not (is_claim i life slot c)) claims (every_more IsLow (λ c. not (is_claim i life slot c) ≡ true → IsLow c) (λ c low kept. low) claims all)
-after_low setup g claims (GiveBack i life slot) answer is all = every_filter IsLow (λ c. not (is_claim i life slot c)) claims (every_more IsLow (λ c. not (is_claim i life slot c) ≡ true → IsLow c) (λ c low kept. low) claims all)
-after_low setup g claims (Checkpoint i) answer is all = all
-
-low_from : (setup : Setup) (g : Group) (claims : List Claimed) (history : History) → IsLegalFrom setup g claims history → Every IsLow claims → Every IsLow (claims_of claims history)
-low_from setup g claims [] legal all = all
-low_from setup g claims (h ∷ hs) legal all = low_from setup (happens setup g h.event (ending h.answer)) (claims_after claims h.event h.answer) hs legal.1 (after_low setup g claims h.event h.answer legal.0.answered all)
-
-pub claims_low : (setup : Setup) (history : History) → IsLegal setup history → Every (λ c. c.server < 3) (claims_of [] history)
-claims_low setup history legal = low_from setup (opening setup) [] history legal.legal tt
+-- a restart over any disks is answered by no job
+module _ {S : Type 0} (holds : S → Durable → Durable → Type 0) (used format : S → ℕ) (told : S → Bool) (rose : S → S → Type 0) (was : S → S → Durable → Durable → Type 0) (setup : Setup) (g : Group) (i : ℕ) (new : Cluster S) where
+  pub somehow_plain : (answer : Answer) → ShowsSomehow holds used format told rose was setup g i new answer → IsPlain answer
+  somehow_plain (JobIs job) is = subst IsPlain (sym is.0) tt
+  somehow_plain Done is = tt
+  somehow_plain (SlotIs slot) is = tt
+  somehow_plain (TermIs term) is = tt
+  somehow_plain (ReadIs number) is = tt
+  somehow_plain (BaseIs base) is = tt
+  somehow_plain (Refused refusal) is = tt

@@ -22,7 +22,7 @@ use Rattle.pf_cluster.specs.Showing.{parcel_of}
 use Rattle.pf_cluster.specs.Shown.{Idles, IsMemoryOf, IsRunningAt, TakesRead}
 use Rattle.pf_group.specs.declared.errors.Down.{Down}
 use Rattle.pf_group.specs.GroupIs.{GroupIs}
-use Rattle.pf_group.specs.Halves.{all_faults}
+use Rattle.pf_group.specs.Halves.{all_counts}
 use Rattle.pf_group.specs.Inside.{group_of}
 use Rattle.pf_group.specs.Readers.{HasTaken, IsAppliedOf, LacksAnswer, OfRunning, TellsOf, holes_of, is_left}
 
@@ -104,16 +104,18 @@ pub if_none : {X A B : Type 0} → (o : Option X) → (A → B) → IfNone o A �
 if_none None then is = then is
 if_none (Some x) then is = tt
 
-module _ {D : Type 0} (faults : D → ℕ) (number : ℕ) (setup : Setup) (history : History) (old new : Cluster (Kept D)) where
+module _ {D : Type 0} (faults moment : D → ℕ) (number : ℕ) (setup : Setup) (earlier : History) (began : Cluster (Kept D)) (history : History) (old new : Cluster (Kept D)) where
   abbrev before : GroupIs
-  before = group_of faults number setup history old
+  before = group_of faults moment number setup earlier began history old
 
   abbrev after : GroupIs
-  after = group_of faults number setup history new
+  after = group_of faults moment number setup earlier began history new
 
   -- of the cluster, its reads alone have changed
   pub now_taken : (taken : List Bool) → new ≡ record old { readings = new.readings } → taken_of new ≡ taken → after ≡ record before { taken = taken }
-  now_taken taken same is = ap (λ taken. record after { taken = taken }) is ∙ ap (λ faults. record before { taken = taken; faults = faults }) (ap (all_faults faults) same)
+  now_taken taken same is =
+      ap (λ taken. record after { taken = taken }) is
+      ∙ ap (λ (servers : Cluster (Kept D)). record before { taken = taken; faults = all_counts faults servers; time = record before.time { now = all_counts moment servers } }) same
 
   module _ (read : ℕ) (same : new ≡ record old { readings = new.readings }) where
     pub has_taken : (o : Option (List Sector)) → TakesRead (replay setup history) read (taken_of old) (taken_of new) o → IfSome o (λ bytes. HasTaken before read bytes after)

@@ -30,9 +30,9 @@ module _ {D : Type 0} where
   abbrev pub was_in : (seen : D → Option (List ℕ)) (faults moment : D → ℕ) (left_since : D → ℕ → Images) (tells_moments : Bool) → Kept D → Kept D → Durable → Durable → Type 0
   was_in seen faults moment left_since tells_moments old new before after = WentOn seen faults moment left_since tells_moments old.pair new.pair before after
 
-  -- how often the disks of each have failed
-  abbrev pub all_faults : (D → ℕ) → Cluster (Kept D) → List (ℕ × ℕ)
-  all_faults faults cluster = map (λ (server : Server (Kept D)). faults_of faults server.store) cluster.servers.items
+  -- a count of each disk: how often it has failed, or its moment
+  abbrev pub all_counts : (D → ℕ) → Cluster (Kept D) → List (ℕ × ℕ)
+  all_counts count cluster = map (λ (server : Server (Kept D)). faults_of count server.store) cluster.servers.items
 
 -- a count of one of two disks rose
 abbrev pub EitherRose : (before after : ℕ × ℕ) → Type 0

@@ -1,37 +1,58 @@
 -- What a group's fields stand for.
-use Rattle.std.specs.Prelude.{◌≡◌, ℕ, Option, List, Some, slice_get}
+use Rattle.std.specs.Prelude.{◌≡◌, ℕ, Bool, Option, List, Some, length, slice_get}
 use Rattle.pf_disk.specs.Crashes.{Images}
 use Rattle.pf_protocol.specs.Servers.{Setup}
-use Rattle.pf_cluster.specs.Going.{IsReached}
+use Rattle.pf_protocol.specs.Groups.{Group}
+use Rattle.pf_cluster.specs.Going.{WasTouched}
 use Rattle.pf_cluster.specs.Readings.{taken_of}
 use Rattle.pf_group.specs.declared.group.Group.TheInside.{Inside}
-use Rattle.pf_group.specs.GroupIs.{GroupIs}
-use Rattle.pf_protocol.specs.Histories.{History}
+use Rattle.pf_group.specs.GroupIs.{AddsOne, GroupIs}
+use Rattle.pf_protocol.specs.Histories.{History, replay}
 use Rattle.pf_kept.specs.declared.kept.Kept.{Kept}
 use Rattle.pf_cluster.specs.declared.cluster.Cluster.{Cluster}
 use Rattle.pf_group.specs.Making.{setup_with}
-use Rattle.pf_group.specs.Halves.{all_faults, format_in, holds_in, told_in, used_in}
+use Rattle.pf_group.specs.Halves.{all_counts, format_in, holds_in, told_in, used_in, was_in}
 use Rattle.pf_group.specs.Pasts.{IsPast}
+use Rattle.pf_group.specs.Standing.{AllTell, StandsFor}
 use Rattle.pf_opening.specs.Opening.{head_of}
 use Rattle.pf_server.specs.declared.server.Server.{Server}
 
 module _ {D : Type 0} where
-  -- a group with this history and these servers
-  abbrev pub group_of : (D → ℕ) → (number : ℕ) → Setup → History → Cluster (Kept D) → GroupIs
-  group_of faults number setup history cluster = record { number = number; setup = setup; history = history; taken = taken_of cluster; faults = all_faults faults cluster }
+  -- a group with this history and these servers, whose last step began with those
+  abbrev pub group_of : (faults moment : D → ℕ) → (number : ℕ) → Setup → (earlier : History) (began : Cluster (Kept D)) → History → Cluster (Kept D) → GroupIs
+  group_of faults moment number setup earlier began history cluster = record {
+    number = number;
+    setup = setup;
+    history = history;
+    taken = taken_of cluster;
+    faults = all_counts faults cluster;
+    time = record { now = all_counts moment cluster; began = all_counts moment began; earlier = earlier };
+  }
 
   abbrev pub setup_in : Inside D → Setup
   setup_in g = setup_with g.sectors g.names g.format g.failed.items
 
-  abbrev pub group_in : (D → ℕ) → Inside D → GroupIs
-  group_in faults g = group_of faults g.number (setup_in g) g.past.happenings.items g.cluster
+  abbrev pub group_in : (faults moment : D → ℕ) → Inside D → GroupIs
+  group_in faults moment g = group_of faults moment g.number (setup_in g) g.began.happenings.value.items g.began.cluster.value g.past.happenings.items g.cluster
 
   -- a restart looks for each server's own head
   abbrev pub HaveHeads : (number : ℕ) → Cluster (Kept D) → Type 0
   HaveHeads number cluster = (i : ℕ) (server : Server (Kept D)) → slice_get cluster.servers.items i ≡ Some server → server.store.pair.head ≡ head_of number server.seat
 
-  -- the servers stand for the state after the history
-  pub record IsGroup (seen : D → Option (List ℕ)) (may_leave : D → Images) (g : Inside D) : Type 0 where
-    pub reached : IsReached (holds_in seen may_leave) used_in format_in (told_in seen) (setup_in g) g.past.happenings.items g.cluster
+  module _ (seen : D → Option (List ℕ)) (faults moment : D → ℕ) (left_since : D → ℕ → Images) (tells_moments : Bool) where
+    -- A step that began with these servers, whose disks told their content, led to those: a crash inside it left of each what it may hold
+    -- before it or after it
+    pub record IsSince (before after : Group) (began cluster : Cluster (Kept D)) : Type 0 where
+      pub three : length began.servers.items ≡ 3
+      pub told : AllTell (told_in seen) began
+      pub touched : (i : ℕ) (server next : Server (Kept D)) → slice_get began.servers.items i ≡ Some server → slice_get cluster.servers.items i ≡ Some next
+          → WasTouched (was_in seen faults moment left_since tells_moments) before after i server.store next.store
+
+  -- the servers stand for the state after the history, since the disks of each tell their content
+  pub record IsGroup (seen : D → Option (List ℕ)) (may_leave : D → Images) (faults moment : D → ℕ) (left_since : D → ℕ → Images) (tells_moments : Bool) (g : Inside D) : Type 0 where
+    pub stands : StandsFor (holds_in seen may_leave) used_in format_in (told_in seen) (setup_in g) g.past.happenings.items g.cluster
+    pub tell : AllTell (told_in seen) g.cluster
     pub heads : HaveHeads g.number g.cluster
     pub past : IsPast g.past
+    pub last : AddsOne g.began.happenings.value.items g.past.happenings.items
+    pub since : IsSince seen faults moment left_since tells_moments (replay (setup_in g) g.began.happenings.value.items) (replay (setup_in g) g.past.happenings.items) g.began.cluster.value g.cluster

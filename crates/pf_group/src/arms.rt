@@ -2,10 +2,10 @@
 ghost use Rattle.std.specs.Prelude.{◌≡◌, ◌<◌, Bool, IfOk};
 ghost use Rattle.pf_base.specs.Span.{IsWritable};
 ghost use Rattle.pf_protocol.specs.Servers.{Setup};
-ghost use Rattle.pf_protocol.specs.Histories.{History};
+ghost use Rattle.pf_cluster.specs.Pasts.{Past};
 ghost use Rattle.pf_protocol.specs.Answers.{IsSubmitted};
 ghost use Rattle.pf_protocol.specs.declared.events.Event.TheVariants.{Checkpoint, Claim, Deliver, Elect, Fetch, Finish, Lose, Resend, Restart, Stop, Submit};
-ghost use Rattle.pf_cluster.specs.Going.{HasHistory, IsBroughtBack, IsReached};
+ghost use Rattle.pf_cluster.specs.Going.{HasPast, IsBroughtBack, IsHonestAt, IsReached, IsToldAt};
 ghost use Rattle.pf_group.specs.Reacting.{Comes, ComesBack, Answers};
 
 use crate::Reaction;
@@ -25,8 +25,8 @@ pub fn submit<S: Store>(
 ) -> Result<Reaction, NoMemory>
     requires server { server < 3 }
     requires op { IsSubmitted op }
-    requires reached { HasHistory S.holds S.used S.format S.told cluster.old }
-    ensures { (setup : Setup) (history : History) → IsReached S.holds S.used S.format S.told setup history cluster.old → Comes S.holds S.used S.format S.told S.rose S.was setup history (Submit server op) cluster.old cluster.new result }
+    requires reached { HasPast S.holds S.used S.format S.told cluster.old }
+    ensures { (setup : Setup) (past : Past) → IsReached S.holds S.used S.format S.told setup past cluster.old → Comes S.holds S.used S.format S.told S.rose S.was setup past.group (Submit server op) cluster.old cluster.new result }
 {
     let kept = op.try_clone()?;
     let answer = cluster.submit(alloc, server, op)?;
@@ -42,8 +42,8 @@ pub fn fetch<S: Store>(
 ) -> Result<Reaction, NoMemory>
     requires server { server < 3 }
     requires range { IsWritable range.first range.count }
-    requires reached { HasHistory S.holds S.used S.format S.told cluster.old }
-    ensures { (setup : Setup) (history : History) → IsReached S.holds S.used S.format S.told setup history cluster.old → Comes S.holds S.used S.format S.told S.rose S.was setup history (Fetch server range) cluster.old cluster.new result }
+    requires reached { HasPast S.holds S.used S.format S.told cluster.old }
+    ensures { (setup : Setup) (past : Past) → IsReached S.holds S.used S.format S.told setup past cluster.old → Comes S.holds S.used S.format S.told S.rose S.was setup past.group (Fetch server range) cluster.old cluster.new result }
 {
     let answer = cluster.fetch(alloc, server, range)?;
     Ok(Reaction::plain(Event::Fetch { server, range }, answer))
@@ -55,8 +55,8 @@ pub fn deliver<S: Store>(
     alloc: Global,
     k: u32,
 ) -> Result<Reaction, NoMemory>
-    requires { HasHistory S.holds S.used S.format S.told cluster.old }
-    ensures { (setup : Setup) (history : History) → IsReached S.holds S.used S.format S.told setup history cluster.old → Comes S.holds S.used S.format S.told S.rose S.was setup history (Deliver k) cluster.old cluster.new result }
+    requires { HasPast S.holds S.used S.format S.told cluster.old }
+    ensures { (setup : Setup) (past : Past) → IsReached S.holds S.used S.format S.told setup past cluster.old → Comes S.holds S.used S.format S.told S.rose S.was setup past.group (Deliver k) cluster.old cluster.new result }
 {
     let answer = cluster.deliver(alloc, k)?;
     Ok(Reaction::plain(Event::Deliver(k), answer))
@@ -64,8 +64,8 @@ pub fn deliver<S: Store>(
 
 /// A packet is lost.
 pub fn lose<S: Store>(cluster: &mut Cluster<S>, k: u32) -> Reaction
-    requires { HasHistory S.holds S.used S.format S.told cluster.old }
-    ensures { (setup : Setup) (history : History) → IsReached S.holds S.used S.format S.told setup history cluster.old → Answers S.holds S.used S.format S.told S.rose S.was setup history (Lose k) cluster.old cluster.new result }
+    requires { HasPast S.holds S.used S.format S.told cluster.old }
+    ensures { (setup : Setup) (past : Past) → IsReached S.holds S.used S.format S.told setup past cluster.old → Answers S.holds S.used S.format S.told S.rose S.was setup past.group (Lose k) cluster.old cluster.new result }
 {
     let answer = cluster.lose(k);
     Reaction::plain(Event::Lose(k), answer)
@@ -78,8 +78,8 @@ pub fn elect<S: Store>(
     server: Server,
 ) -> Result<Reaction, NoMemory>
     requires server { server < 3 }
-    requires reached { HasHistory S.holds S.used S.format S.told cluster.old }
-    ensures { (setup : Setup) (history : History) → IsReached S.holds S.used S.format S.told setup history cluster.old → Comes S.holds S.used S.format S.told S.rose S.was setup history (Elect server) cluster.old cluster.new result }
+    requires reached { HasPast S.holds S.used S.format S.told cluster.old }
+    ensures { (setup : Setup) (past : Past) → IsReached S.holds S.used S.format S.told setup past cluster.old → Comes S.holds S.used S.format S.told S.rose S.was setup past.group (Elect server) cluster.old cluster.new result }
 {
     let answer = cluster.elect(alloc, server)?;
     Ok(Reaction::plain(Event::Elect(server), answer))
@@ -92,8 +92,8 @@ pub fn resend<S: Store>(
     server: Server,
 ) -> Result<Reaction, NoMemory>
     requires server { server < 3 }
-    requires reached { HasHistory S.holds S.used S.format S.told cluster.old }
-    ensures { (setup : Setup) (history : History) → IsReached S.holds S.used S.format S.told setup history cluster.old → Comes S.holds S.used S.format S.told S.rose S.was setup history (Resend server) cluster.old cluster.new result }
+    requires reached { HasPast S.holds S.used S.format S.told cluster.old }
+    ensures { (setup : Setup) (past : Past) → IsReached S.holds S.used S.format S.told setup past cluster.old → Comes S.holds S.used S.format S.told S.rose S.was setup past.group (Resend server) cluster.old cluster.new result }
 {
     let answer = cluster.resend(alloc, server)?;
     Ok(Reaction::plain(Event::Resend(server), answer))
@@ -102,8 +102,8 @@ pub fn resend<S: Store>(
 /// A server stops.
 pub fn stop<S: Store>(cluster: &mut Cluster<S>, server: Server) -> Reaction
     requires server { server < 3 }
-    requires reached { HasHistory S.holds S.used S.format S.told cluster.old }
-    ensures { (setup : Setup) (history : History) → IsReached S.holds S.used S.format S.told setup history cluster.old → Answers S.holds S.used S.format S.told S.rose S.was setup history (Stop server) cluster.old cluster.new result }
+    requires reached { HasPast S.holds S.used S.format S.told cluster.old }
+    ensures { (setup : Setup) (past : Past) → IsReached S.holds S.used S.format S.told setup past cluster.old → Answers S.holds S.used S.format S.told S.rose S.was setup past.group (Stop server) cluster.old cluster.new result }
 {
     let answer = cluster.stop(server);
     Reaction::plain(Event::Stop(server), answer)
@@ -116,8 +116,8 @@ pub fn restart<S: Store>(
     server: Server,
 ) -> Result<Reaction, NoMemory>
     requires server { server < 3 }
-    requires reached { HasHistory S.holds S.used S.format S.told cluster.old }
-    ensures { (setup : Setup) (history : History) → IsReached S.holds S.used S.format S.told setup history cluster.old → ComesBack S.holds S.used S.format S.told S.rose S.was setup history server cluster.old cluster.new result }
+    requires reached { HasPast S.holds S.used S.format S.told cluster.old }
+    ensures { (setup : Setup) (past : Past) → IsReached S.holds S.used S.format S.told setup past cluster.old → IsToldAt S.told cluster.old server → IsHonestAt setup past.group server → ComesBack S.holds S.used S.format S.told S.rose S.was setup past.group server cluster.old cluster.new result }
 {
     let (answer, found) = cluster.restart(alloc, server)?;
     Ok(Reaction::plain(Event::Restart { server, found }, answer))
@@ -125,8 +125,8 @@ pub fn restart<S: Store>(
 
 /// A job is claimed.
 pub fn claim<S: Store>(cluster: &mut Cluster<S>, alloc: Global) -> Result<Reaction, NoMemory>
-    requires { HasHistory S.holds S.used S.format S.told cluster.old }
-    ensures { (setup : Setup) (history : History) → IsReached S.holds S.used S.format S.told setup history cluster.old → Comes S.holds S.used S.format S.told S.rose S.was setup history Claim cluster.old cluster.new result }
+    requires { HasPast S.holds S.used S.format S.told cluster.old }
+    ensures { (setup : Setup) (past : Past) → IsReached S.holds S.used S.format S.told setup past cluster.old → Comes S.holds S.used S.format S.told S.rose S.was setup past.group Claim cluster.old cluster.new result }
 {
     let (answer, kept) = cluster.claim(alloc)?;
     Ok(Reaction {
@@ -139,8 +139,8 @@ pub fn claim<S: Store>(cluster: &mut Cluster<S>, alloc: Global) -> Result<Reacti
 /// A job is done. It takes no memory.
 pub fn finish<S: Store>(cluster: &mut Cluster<S>, filled: Filled) -> Reaction
     requires server { filled.server < 3 }
-    requires job { (setup : Setup) × ((history : History) × IsBroughtBack S.holds S.used S.format S.told setup history cluster.old filled) }
-    ensures { (setup : Setup) (history : History) → IsReached S.holds S.used S.format S.told setup history cluster.old → Answers S.holds S.used S.format S.told S.rose S.was setup history (Finish filled.server filled.life filled.slot) cluster.old cluster.new result }
+    requires job { (setup : Setup) × ((past : Past) × IsBroughtBack S.holds S.used S.format S.told setup past cluster.old filled) }
+    ensures { (setup : Setup) (past : Past) → IsReached S.holds S.used S.format S.told setup past cluster.old → Answers S.holds S.used S.format S.told S.rose S.was setup past.group (Finish filled.server filled.life filled.slot) cluster.old cluster.new result }
 {
     let event = Event::Finish {
         server: filled.server,
@@ -158,8 +158,8 @@ pub fn checkpoint<S: Store>(
     server: Server,
 ) -> Result<Reaction, NoMemory>
     requires server { server < 3 }
-    requires reached { HasHistory S.holds S.used S.format S.told cluster.old }
-    ensures { (setup : Setup) (history : History) → IsReached S.holds S.used S.format S.told setup history cluster.old → Comes S.holds S.used S.format S.told S.rose S.was setup history (Checkpoint server) cluster.old cluster.new result }
+    requires reached { HasPast S.holds S.used S.format S.told cluster.old }
+    ensures { (setup : Setup) (past : Past) → IsReached S.holds S.used S.format S.told setup past cluster.old → Comes S.holds S.used S.format S.told S.rose S.was setup past.group (Checkpoint server) cluster.old cluster.new result }
 {
     let answer = cluster.checkpoint(alloc, server)?;
     Ok(Reaction::plain(Event::Checkpoint(server), answer))

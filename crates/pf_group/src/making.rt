@@ -5,6 +5,7 @@ ghost use Rattle.pf_restart.specs.Beginning.{setup_at};
 ghost use Rattle.pf_group.specs.Making.{AreTold, IsMade, making_answer, setup_with, six_faults};
 ghost use Rattle.pf_group.specs.Rooms.{IsEmpty, IsPlan, IsPlanOf, halted_of, picked};
 
+use crate::began::Began;
 use crate::past::{Past, put};
 use crate::{Group, Six};
 use pf_base::{NoMemory, Server as Number};
@@ -181,6 +182,7 @@ impl<D: Disk + Drop> Plan<D> {
         put(&mut cluster.servers, one);
         put(&mut cluster.servers, two);
         let answer = making_answer(&failed);
+        let began = Began::now(&cluster, &past);
         let group = Group {
             number,
             sectors,
@@ -189,6 +191,7 @@ impl<D: Disk + Drop> Plan<D> {
             failed,
             cluster,
             past,
+            began,
         };
         (group, answer)
     }

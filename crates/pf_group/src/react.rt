@@ -1,10 +1,10 @@
 //! What comes of an event.
 ghost use Rattle.std.specs.Prelude.{OnErr};
 ghost use Rattle.pf_protocol.specs.Servers.{Setup};
-ghost use Rattle.pf_protocol.specs.Histories.{History};
+ghost use Rattle.pf_cluster.specs.Pasts.{Past};
 ghost use Rattle.pf_cluster.specs.Going.{IsReached};
 ghost use Rattle.pf_group.specs.Events.{MayWant};
-ghost use Rattle.pf_group.specs.Reacting.{MayReact, Reacts};
+ghost use Rattle.pf_group.specs.Reacting.{IsTold, MayReact, Reacts};
 
 use crate::{GroupEvent, Reaction, arms};
 use pf_base::NoMemory;
@@ -20,7 +20,7 @@ pub fn react<S: Store>(
     event: GroupEvent,
 ) -> Result<Reaction, NoMemory>
     requires { MayReact S.holds S.used S.format S.told cluster.old event }
-    ensures step { (setup : Setup) (history : History) → IsReached S.holds S.used S.format S.told setup history cluster.old → Reacts S.holds S.used S.format S.told S.rose S.was setup history event cluster.old cluster.new result }
+    ensures step { (setup : Setup) (past : Past) → IsReached S.holds S.used S.format S.told setup past cluster.old → IsTold S.told setup past.group cluster.old event → Reacts S.holds S.used S.format S.told S.rose S.was setup past.group event cluster.old cluster.new result }
     ensures sure { OnErr result (MayWant event) }
 {
     match event {

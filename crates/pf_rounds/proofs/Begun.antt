@@ -10,6 +10,7 @@ use Rattle.pf_protocol.specs.declared.events.Event.TheVariants.{Claim, Finish, G
 use Rattle.pf_protocol.specs.declared.events.Happening.{Happening}
 use Rattle.pf_protocol.specs.Answers.{IsLegal, claims_of}
 use Rattle.pf_protocol.specs.Histories.{History, IsPrefix, replay}
+use Rattle.pf_group.specs.Going.{Stays}
 use Rattle.pf_group.specs.GroupIs.{GroupIs, state_of}
 use Rattle.pf_group.specs.Steps.{Steps}
 use Rattle.pf_rounds.specs.Adding.{Adds, Goes, HasReturned, with_more}
@@ -23,24 +24,26 @@ use Rattle.pf_rounds.specs.Telling.{one_if}
 use Rattle.pf_rounds.proofs.Adding.{both_more, grown, nothing_more}
 use Rattle.pf_rounds.proofs.Extending.{rounds_extend}
 use Rattle.pf_rounds.proofs.Growing.{grown_tells}
+use Rattle.pf_group.proofs.Chains.{by_both, by_step}
 use Rattle.pf_rounds.proofs.Paying.{pays_refl, pays_trans, step_pays}
 use Rattle.pf_rounds.proofs.Rounding.{RoundsSoFar}
 use Rattle.pf_rounds.proofs.Told.{told_longer, told_replays}
 use Rattle.pf_rounds.proofs.Undone.{undone}
 
 pub returned_refl : (g : GroupIs) → HasReturned g g
-returned_refl g = record { more = []; recorded = nothing_more g; paid = pays_refl g; returned = tt }
+returned_refl g = record { more = []; recorded = nothing_more g; paid = pays_refl g; by = Stays; returned = tt }
 
 pub returned_trans : (a b c : GroupIs) → HasReturned a b → HasReturned b c → HasReturned a c
 returned_trans a b c first second = record {
   more = first.more ++ second.more;
   recorded = both_more a b c first.more second.more first.recorded second.recorded;
   paid = pays_trans a b c first.paid second.paid;
+  by = by_both a b c first.by second.by;
   returned = every_append (λ h. IsClaimOrReturn h.event) first.more second.more first.returned second.returned;
 }
 
 pub returned_goes : (a b : GroupIs) → HasReturned a b → Goes a b
-returned_goes a b returned = record { more = returned.more; recorded = returned.recorded; paid = returned.paid }
+returned_goes a b returned = record { more = returned.more; recorded = returned.recorded; paid = returned.paid; by = returned.by }
 
 -- one more job came back
 pub one_returned : (old now new : GroupIs) (job : Job) → Steps now (GiveBack job.server job.life job.slot) Done new → HasReturned old now → HasReturned old new
@@ -49,6 +52,7 @@ one_returned old now new job steps returned =
       more = record { event = GiveBack job.server job.life job.slot; answer = Done } ∷ [];
       recorded = steps.recorded;
       paid = step_pays now new (GiveBack job.server job.life job.slot) Done steps;
+      by = by_step now new (GiveBack job.server job.life job.slot) Done steps;
       returned = (tt, tt);
     })
 
@@ -67,7 +71,7 @@ only_claims (h ∷ hs) round none =
 -- the jobs of a round that were claimed came back
 pub claims_returned : (a b c : GroupIs) (n : ℕ) → Adds a b n 0 → HasReturned b c → HasReturned a c
 claims_returned a b c n adds returned =
-    returned_trans a b c (record { more = adds.more; recorded = adds.recorded; paid = adds.paid; returned = only_claims adds.more adds.round adds.finished }) returned
+    returned_trans a b c (record { more = adds.more; recorded = adds.recorded; paid = adds.paid; by = adds.by; returned = only_claims adds.more adds.round adds.finished }) returned
 
 -- the run's history has as much more
 told_grows : (halts : List Halt) (a b : GroupIs) (more : History) → b ≡ with_more a more b → told_history halts a ++ told_from halts a.number (0 + length a.history) more ≡ told_history halts b

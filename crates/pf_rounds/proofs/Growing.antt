@@ -1,22 +1,25 @@
 -- More happens to a group: what a list of halts tells of it, it told before.
 use Rattle.std.proofs.Common.{◌≡◌, ℕ, List, [], ◌∷◌, refl, sym, ap, subst, ◌∙◌}
+use Rattle.std.proofs.Math.Logic.{∥∥₁_map₂}
 use Rattle.pf_protocol.specs.declared.answers.Answer.{Answer}
 use Rattle.pf_protocol.specs.declared.events.Event.{Event}
 use Rattle.pf_protocol.specs.Servers.{Setup}
 use Rattle.pf_protocol.specs.Histories.{History, IsPrefix}
 use Rattle.pf_protocol.proofs.ForMoments.{prefix_of, whole_prefix}
 use Rattle.pf_group.specs.declared.event.GroupEvent.{GroupEvent}
+use Rattle.pf_group.specs.Going.{Stays, Takes}
 use Rattle.pf_group.specs.GroupIs.{GroupIs}
 use Rattle.pf_group.specs.Steps.{IsLeft, Steps}
 use Rattle.pf_rounds.specs.Halts.{Halt}
 use Rattle.pf_rounds.specs.Agreeing.{TellsOfGroup}
 use Rattle.pf_rounds.specs.Growing.{HasGrown}
 use Rattle.pf_rounds.proofs.Following.{tells_before}
+use Rattle.pf_group.proofs.Chains.{by_both, by_left, by_one, by_step}
 use Rattle.pf_rounds.proofs.Paying.{left_pays, only_faults, pays_refl, pays_same, pays_trans, step_pays}
 
 -- nothing else of a group matters to a list of halts
 abbrev bare : ℕ → Setup → History → GroupIs
-bare number setup history = record { number = number; setup = setup; history = history; taken = []; faults = [] }
+bare number setup history = record { number = number; setup = setup; history = history; taken = []; faults = []; time = record { now = []; began = []; earlier = [] } }
 
 -- the list tells of the group without its last events
 pub later_tells : (halts : List Halt) (was is : GroupIs) → is.number ≡ was.number → is.setup ≡ was.setup → IsPrefix was.history is.history → TellsOfGroup halts is → TellsOfGroup halts was
@@ -31,7 +34,7 @@ pub grown_tells : (halts : List Halt) (was is : GroupIs) → HasGrown was is →
 grown_tells halts was is grown tells = later_tells halts was is grown.number grown.setup grown.later tells
 
 pub grown_refl : (g : GroupIs) → HasGrown g g
-grown_refl g = record { number = refl; setup = refl; later = whole_prefix g.history; paid = pays_refl g }
+grown_refl g = record { number = refl; setup = refl; later = whole_prefix g.history; paid = pays_refl g; by = ∣ Stays ∣₁ }
 
 pub grown_trans : (a b c : GroupIs) → HasGrown a b → HasGrown b c → HasGrown a c
 grown_trans a b c first second = record {
@@ -39,6 +42,7 @@ grown_trans a b c first second = record {
   setup = second.setup ∙ first.setup;
   later = prefix_of a.history b.history c.history first.later second.later;
   paid = pays_trans a b c first.paid second.paid;
+  by = ∥∥₁_map₂ first.by second.by (by_both a b c);
 }
 
 -- an event was answered
@@ -48,6 +52,7 @@ step_grows old new event answer steps = record {
   setup = ap (λ (g : GroupIs). g.setup) steps.recorded;
   later = record { rest = record { event = event; answer = answer } ∷ []; whole = sym (ap (λ (g : GroupIs). g.history) steps.recorded) };
   paid = step_pays old new event answer steps;
+  by = ∣ by_step old new event answer steps ∣₁;
 }
 
 -- or there was no memory for it
@@ -58,6 +63,7 @@ left_grows old event new left =
       setup = ap (λ (g : GroupIs). g.setup) is;
       later = subst (IsPrefix old.history) (sym (ap (λ (g : GroupIs). g.history) is)) (whole_prefix old.history);
       paid = left_pays old event new left;
+      by = ∣ by_left old event new left ∣₁;
     }
 
 -- answers of reads are handed out
@@ -67,4 +73,5 @@ taken_grows old new is = record {
   setup = ap (λ (g : GroupIs). g.setup) is;
   later = subst (IsPrefix old.history) (sym (ap (λ (g : GroupIs). g.history) is)) (whole_prefix old.history);
   paid = pays_same old new is;
+  by = ∣ by_one old new (Takes is) ∣₁;
 }

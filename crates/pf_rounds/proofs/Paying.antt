@@ -100,12 +100,12 @@ pays_same old new is = pays_alike old new (λ i. ap (λ (g : GroupIs). halts_in 
 pub since_grown : (before : List (ℕ × ℕ)) (old new : GroupIs) → IsPaidSince before old → HasGrown old new → IsPaidSince before new
 since_grown before old new since grown = are_paid_on (λ i. 0) (halts_in old) (halts_in new) before old.faults new.faults since grown.paid
 
--- only the counts of faults may be others
+-- only what it tells of its disks may be another
 abbrev pub OnlyFaults : (old new : GroupIs) → Type 0
-OnlyFaults old new = (new ≡ record old { faults = new.faults }) × AreLater old.faults new.faults
+OnlyFaults old new = (new ≡ record old { faults = new.faults; time = new.time }) × AreLater old.faults new.faults
 
 not_even : (old new : GroupIs) → new ≡ old → OnlyFaults old new
-not_even old new is = (is ∙ ap (λ (g : GroupIs). record old { faults = g.faults }) (sym is), same_later old.faults new.faults (ap (λ (g : GroupIs). g.faults) is))
+not_even old new is = (is ∙ ap (λ (g : GroupIs). record old { faults = g.faults; time = g.time }) (sym is), same_later old.faults new.faults (ap (λ (g : GroupIs). g.faults) is))
 
 -- there was no memory for an event
 pub only_faults : (old : GroupIs) (event : GroupEvent) (new : GroupIs) → IsLeft old event new → OnlyFaults old new
@@ -117,7 +117,7 @@ only_faults old (asked.Lose k) new left = not_even old new left
 only_faults old (asked.Elect server) new left = not_even old new left
 only_faults old (asked.Resend server) new left = not_even old new left
 only_faults old (asked.Stop server) new left = not_even old new left
-only_faults old (asked.Restart server) new left = (left.0, left.1)
+only_faults old (asked.Restart server) new left = elim left [ inl same ↦ not_even old new same | inr tried ↦ (tried.is, tried.later) ]
 only_faults old asked.Claim new left = not_even old new left
 only_faults old (asked.Finish filled) new left = not_even old new left
 only_faults old (asked.Checkpoint server) new left = not_even old new left

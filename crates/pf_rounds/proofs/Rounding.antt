@@ -25,7 +25,7 @@ use Rattle.pf_rounds.proofs.Growing.{grown_tells}
 use Rattle.pf_rounds.proofs.Adding.{grown}
 use Rattle.pf_rounds.proofs.Free.{none_is_answer}
 
--- the list tells of the group without the counts of faults
+-- the list tells of the group without what it tells of its disks
 told : (halts : List Halt) (a b : GroupIs) (more : _) → b ≡ with_more a more b → TellsOfGroup halts b → TellsOfGroup halts (record a { history = a.history ++ more })
 told halts a b more recorded tells = let t = subst (TellsOfGroup halts) recorded tells in record { making = t.making; few = t.few; events = t.events }
 
@@ -60,7 +60,7 @@ one_claim old now new jobs job left claimed so_far halts tells =
     let h : Happening = record { event = Claim; answer = JobIs job } in
     let step = one_more halts now new h claimed.recorded claimed.answered tells in
     let rest = claims_to left halts (chunk_of halts new) in
-    so_far halts (told_before halts now new (record { more = h ∷ []; recorded = claimed.recorded; paid = claimed.paid }) tells)
+    so_far halts (told_before halts now new (record { more = h ∷ []; recorded = claimed.recorded; paid = claimed.paid; by = claimed.by }) tells)
     ∙ (ap (with_jobs jobs) (next_claim left halts (chunk_of halts now) (chunk_of halts new) (JobIs job) step.0 step.1)
     ∙ ap (λ js. record rest { jobs = js }) (sym (append_assoc jobs (job ∷ []) rest.jobs)))
 
@@ -69,7 +69,7 @@ pub last_claim : (old now new : GroupIs) (jobs : List Job) (left : ℕ) → HasC
 last_claim old now new jobs left claimed so_far halts tells =
     let h : Happening = record { event = Claim; answer = Refused NoneFree } in
     let step = one_more halts now new h claimed.recorded claimed.answered tells in
-    so_far halts (told_before halts now new (record { more = h ∷ []; recorded = claimed.recorded; paid = claimed.paid }) tells)
+    so_far halts (told_before halts now new (record { more = h ∷ []; recorded = claimed.recorded; paid = claimed.paid; by = claimed.by }) tells)
     ∙ (ap (with_jobs jobs) (next_claim left halts (chunk_of halts now) (chunk_of halts new) (Refused NoneFree) step.0 step.1)
     ∙ ap (λ js. record (no_jobs (chunk_of halts new)) { jobs = js }) (append-nil jobs))
 
@@ -94,7 +94,7 @@ FinishesSoFar old new all rest = (halts : List Halt) → TellsOfGroup halts new 
 pub one_finish : (old now new : GroupIs) (all : List Job) (job : Job) (rest : List Job) → HasFinished now job new → FinishesSoFar old now all (job ∷ rest) → FinishesSoFar old new all rest
 one_finish old now new all job rest done so_far halts tells =
     let h : Happening = record { event = finish_of job; answer = done.answer } in
-    so_far halts (told_before halts now new (record { more = h ∷ []; recorded = done.recorded; paid = done.paid }) tells)
+    so_far halts (told_before halts now new (record { more = h ∷ []; recorded = done.recorded; paid = done.paid; by = done.by }) tells)
     ∙ ap (λ c. fold (finished halts) c rest) (one_more halts now new h done.recorded done.answered tells).1
 
 -- a round of both

@@ -25,20 +25,21 @@ use Rattle.pf_rounds.proofs.Adding.{adds_trans}
 use Rattle.pf_rounds.proofs.Bound.{answer_is}
 use Rattle.pf_rounds.proofs.Free.{claimed_is_free, none_is_free}
 use Rattle.pf_rounds.proofs.Opened.{finished_first, not_opened, opened, returned_first}
+use Rattle.pf_group.proofs.Chains.{by_step}
 use Rattle.pf_rounds.proofs.Paying.{step_pays}
 
 -- a claim that got this job
 pub got_job : (old new : GroupIs) (answer : Answer) (job : Job) → answer ≡ JobIs job → IsLegal old.setup old.history → HasStepped old asked.Claim answer new → HasClaimed old (Some job) new
 got_job old new answer job is legal stepped =
     let steps = subst (λ (a : Answer). Steps old Claim a new) is stepped.steps in
-    record { recorded = steps.recorded; answered = steps.legal.answered; paid = step_pays old new Claim (JobIs job) steps; free = claimed_is_free old.setup old.history job legal steps.legal.answered }
+    record { recorded = steps.recorded; answered = steps.legal.answered; paid = step_pays old new Claim (JobIs job) steps; by = by_step old new Claim (JobIs job) steps; free = claimed_is_free old.setup old.history job legal steps.legal.answered }
 
 -- a claim that got none
 pub got_none : (old new : GroupIs) (answer : Answer) → ((job : Job) → answer ≡ JobIs job → ⊥) → HasStepped old asked.Claim answer new → HasClaimed old None new
 got_none old new answer no_jobs stepped =
     let is = none_is_free old.setup (state_of old) answer stepped.steps.legal.answered no_jobs in
     let steps = subst (λ (a : Answer). Steps old Claim a new) is stepped.steps in
-    record { recorded = steps.recorded; answered = steps.legal.answered; paid = step_pays old new Claim (Refused NoneFree) steps; free = tt }
+    record { recorded = steps.recorded; answered = steps.legal.answered; paid = step_pays old new Claim (Refused NoneFree) steps; by = by_step old new Claim (Refused NoneFree) steps; free = tt }
 
 -- a finish is answered with no job, and begins no read
 record IsQuiet (answer : Answer) : Type 0 where
@@ -75,20 +76,21 @@ finished_job old new filled answer job is stepped =
     let q = quiet old.setup (state_of old) job.server job.life job.slot answer steps.legal.answered in
     record {
       answer = answer;
-      recorded = steps.recorded ∙ ap (λ taken. record old { history = old.history ++ record { event = finish_of job; answer = answer } ∷ []; taken = taken; faults = new.faults }) (q.no_read old.taken);
+      recorded = steps.recorded ∙ ap (λ taken. record old { history = old.history ++ record { event = finish_of job; answer = answer } ∷ []; taken = taken; faults = new.faults; time = new.time }) (q.no_read old.taken);
       answered = steps.legal.answered;
       paid = step_pays old new (finish_of job) answer steps;
+      by = by_step old new (finish_of job) answer steps;
     }
 
 -- what a claim adds
 pub claim_adds : (old now new : GroupIs) (job : Job) (n : ℕ) → HasClaimed now (Some job) new → Adds old now n 0 → Adds old new (n + 1) 0
 claim_adds old now new job n claimed adds =
-    adds_trans old now new n 0 1 0 adds (record { more = record { event = Claim; answer = JobIs job } ∷ []; recorded = claimed.recorded; paid = claimed.paid; round = (tt, tt); jobs = refl; finished = refl })
+    adds_trans old now new n 0 1 0 adds (record { more = record { event = Claim; answer = JobIs job } ∷ []; recorded = claimed.recorded; paid = claimed.paid; by = claimed.by; round = (tt, tt); jobs = refl; finished = refl })
 
 pub none_adds : (old now new : GroupIs) (n : ℕ) → HasClaimed now None new → Adds old now n 0 → Adds old new n 0
 none_adds old now new n claimed adds =
     subst (λ m. Adds old new m 0) (add-zero n)
-    (adds_trans old now new n 0 0 0 adds (record { more = record { event = Claim; answer = Refused NoneFree } ∷ []; recorded = claimed.recorded; paid = claimed.paid; round = (tt, tt); jobs = refl; finished = refl }))
+    (adds_trans old now new n 0 0 0 adds (record { more = record { event = Claim; answer = Refused NoneFree } ∷ []; recorded = claimed.recorded; paid = claimed.paid; by = claimed.by; round = (tt, tt); jobs = refl; finished = refl }))
 
 -- what a finish adds
 pub finish_adds : (old now new : GroupIs) (job : Job) (n : ℕ) → HasFinished now job new → Adds old now 0 n → Adds old new 0 (n + 1)
@@ -98,6 +100,7 @@ finish_adds old now new job n done adds =
       more = record { event = finish_of job; answer = done.answer } ∷ [];
       recorded = done.recorded;
       paid = done.paid;
+      by = done.by;
       round = (tt, tt);
       jobs = ap (λ b. 0 + cond b 1 0) q.no_job;
       finished = refl;

@@ -4,9 +4,21 @@ use Rattle.pf_filling.specs.declared.work.Work.{Work}
 use Rattle.pf_rounds.specs.Adding.{Adds, HasClaimed}
 use Rattle.pf_rounds.specs.Following.{IsClaimed}
 use Rattle.pf_rounds.specs.Open.{AreOpen, jobs_of}
-use Rattle.pf_rounds.proofs.Rounding.{ClaimsSoFar, all_claims, last_claim, one_claim, still_none}
+use Rattle.pf_rounds.proofs.Adding.{adds_refl}
+use Rattle.pf_rounds.proofs.Rounding.{ClaimsSoFar, all_claims, last_claim, no_claims, one_claim, still_none}
 use Rattle.pf_rounds.proofs.Stepping.{claim_adds, claim_opens, none_adds, none_opens}
 use Rattle.pf_rounds.proofs.claiming.claim_all.Goals as goal
+
+pub loop-init : goal.loop-init
+loop-init g c =
+    let now = c.args.group.now in
+    let none : vec_len c.args.works.now ≡ 0 = search rules in
+    record {
+      adds = subst (λ n. Adds now now n 0) (sym none) (adds_refl now);
+      hand = subst (λ (works : List Work). AreOpen now.history (jobs_of works)) (sym c.requires.works) (record { claims = c.requires.none; apart = tt });
+      counted = none;
+      run = subst (λ (works : List Work). ClaimsSoFar now now (jobs_of works) 12289) (sym c.requires.works) (no_claims now);
+    }
 
 pub returns-in_default-clause-adds : goal.returns-in_default-clause-adds
 returns-in_default-clause-adds g c =

@@ -1,12 +1,21 @@
-use Rattle.std.proofs.Common.{◌≡◌, ◌+◌, ◌++◌, ◌∷◌, [], List, length, length-append, sym, ap, subst, arith}
+use Rattle.std.proofs.Common.{◌≡◌, ◌+◌, ◌++◌, ◌∷◌, [], List, length, length-append, sym, ap, subst, arith, rules}
 use Rattle.std.specs.Vec.Iter.{into_iter_items, into_iter_len}
 use Rattle.pf_filling.specs.declared.work.Work.{Work}
 use Rattle.pf_rounds.specs.Adding.{Adds}
 use Rattle.pf_rounds.specs.Open.{AreOpen, jobs_of}
+use Rattle.pf_rounds.proofs.Adding.{adds_refl}
 use Rattle.pf_rounds.proofs.Opened.{first_is_open, none_left}
 use Rattle.pf_rounds.proofs.Rounding.{FinishesSoFar, one_finish}
 use Rattle.pf_rounds.proofs.Stepping.{finish_adds, finish_closes}
 use Rattle.pf_rounds.proofs.ending.finish_all.Goals as goal
+
+pub loop-work-init : goal.loop-work-init
+loop-work-init g c = record {
+  adds = adds_refl c.args.group.now;
+  hand = search rules;
+  left = search rules;
+  run = search rules;
+}
 
 pub finish-requires-clause-hand : goal.finish-requires-clause-hand
 finish-requires-clause-hand g c =

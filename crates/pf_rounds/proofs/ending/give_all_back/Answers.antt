@@ -1,11 +1,18 @@
-use Rattle.std.proofs.Common.{List, length, ap, subst, arith}
+use Rattle.std.proofs.Common.{List, length, ap, subst, arith, rules}
 use Rattle.std.specs.Vec.Iter.{into_iter_items, into_iter_len}
 use Rattle.pf_filling.specs.declared.work.Work.{Work}
 use Rattle.pf_rounds.specs.Open.{AreOpen, jobs_of}
 use Rattle.pf_rounds.proofs.Opened.{first_may_return, none_left}
-use Rattle.pf_rounds.proofs.Begun.{one_returned}
+use Rattle.pf_rounds.proofs.Begun.{one_returned, returned_refl}
 use Rattle.pf_rounds.proofs.Stepping.{return_closes}
 use Rattle.pf_rounds.proofs.ending.give_all_back.Goals as goal
+
+pub loop-work-init : goal.loop-work-init
+loop-work-init g c = record {
+  returned = returned_refl c.args.group.now;
+  hand = search rules;
+  left = search rules;
+}
 
 pub give_back-requires : goal.give_back-requires
 give_back-requires g c =

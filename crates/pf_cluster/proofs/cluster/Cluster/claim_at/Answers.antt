@@ -9,8 +9,8 @@ pub claim-requires : goal.claim-requires
 claim-requires g c = in_order g.S.Store.holds g.S.Store.used g.S.Store.format g.S.Store.told c.requires.reached.0 c.requires.reached.1.0 c.args.self.now c.requires.reached.1.1 c.args.server c.index_mut.result.now (server_there g.S.Store.holds g.S.Store.used g.S.Store.format g.S.Store.told c.requires.reached.0 c.requires.reached.1.0 c.args.self.now c.requires.reached.1.1 c.args.server c.index_mut.result.now c.requires.server c.index_mut.ensures.value)
 
 pub returns-clause-step : goal.returns-clause-step
-returns-clause-step g c setup history reached =
-    claims_at g.S.Store.holds g.S.Store.used g.S.Store.format g.S.Store.told setup history c.args.self.now reached c.args.server c.index_mut.result.now c.claim.new.self (server_there g.S.Store.holds g.S.Store.used g.S.Store.format g.S.Store.told setup history c.args.self.now reached c.args.server c.index_mut.result.now c.requires.server c.index_mut.ensures.value) c.claim.ensures.seat (ap g.S.Store.told c.claim.ensures.store) c.claim.result c.claim.ensures.step c.claim.ensures.down
+returns-clause-step g c setup past reached =
+    claims_at g.S.Store.holds g.S.Store.used g.S.Store.format g.S.Store.told setup past c.args.self.now reached c.args.server c.index_mut.result.now c.claim.new.self (server_there g.S.Store.holds g.S.Store.used g.S.Store.format g.S.Store.told setup past c.args.self.now reached c.args.server c.index_mut.result.now c.requires.server c.index_mut.ensures.value) c.claim.ensures.seat (ap g.S.Store.told c.claim.ensures.store) c.claim.result c.claim.ensures.step c.claim.ensures.down
 
 pub returns-clause-stores : goal.returns-clause-stores
 returns-clause-stores g c =

@@ -1,5 +1,4 @@
 use Rattle.std.proofs.Common.{ap, ◌∙◌}
-use Rattle.pf_protocol.specs.Histories.{replay}
 use Rattle.pf_protocol.specs.Answers.{fetch_turn}
 use Rattle.pf_cluster.specs.Readings.{readings_with}
 use Rattle.pf_cluster.proofs.Beginning.{few_parcels, in_order, same_room_refusal, server_there}
@@ -22,9 +21,9 @@ end-requires g c =
     let room = same_room_refusal g.S.Store.holds g.S.Store.used g.S.Store.format g.S.Store.told c.requires.reached.0 c.requires.reached.1.0 c.args.self.now c.requires.reached.1.1 out c.outbox-out.ensures in (
       c.requires.reached.0,
       (
-        replay (c.requires.reached.0) (c.requires.reached.1.0),
+        c.requires.reached.1.0.group,
         (
-          fetch_turn (c.requires.reached.0) (replay (c.requires.reached.0) (c.requires.reached.1.0)) c.args.range,
+          fetch_turn (c.requires.reached.0) c.requires.reached.1.0.group c.args.range,
           fetch_turned g.S.Store.holds g.S.Store.used g.S.Store.format g.S.Store.told g.S.Store.rose g.S.Store.was c.requires.reached.0 c.requires.reached.1.0 c.args.self.now c.requires.reached.1.1 c.args.server c.args.range c.requires.range c.index_mut.result.now outcome.new.self c.reserve-2.new.self c.note_read.new.readings out outcome.new.out c.len-number.result (c.len-number.ensures ∙ c.reserve.ensures.len ∙ its_number g.S.Store.holds g.S.Store.used g.S.Store.format g.S.Store.told g.S.Store.rose g.S.Store.was c.requires.reached.0 c.requires.reached.1.0 c.args.self.now c.requires.reached.1.1) outcome.result
               (record {
                 low = c.requires.server;
@@ -42,11 +41,11 @@ end-requires g c =
     )
 
 pub returns : goal.returns
-returns g c setup history reached =
+returns g c setup past reached =
     let outcome = c.fetch-outcome in
     let out = c.outbox-out.result in
-    let room = same_room_refusal g.S.Store.holds g.S.Store.used g.S.Store.format g.S.Store.told setup history c.args.self.now reached out c.outbox-out.ensures in
-    fetch_goes g.S.Store.holds g.S.Store.used g.S.Store.format g.S.Store.told g.S.Store.rose g.S.Store.was setup history c.args.self.now reached c.args.server c.args.range c.requires.range c.index_mut.result.now outcome.new.self c.reserve-2.new.self c.note_read.new.readings out outcome.new.out c.len-number.result (c.len-number.ensures ∙ c.reserve.ensures.len ∙ its_number g.S.Store.holds g.S.Store.used g.S.Store.format g.S.Store.told g.S.Store.rose g.S.Store.was setup history c.args.self.now reached) outcome.result
+    let room = same_room_refusal g.S.Store.holds g.S.Store.used g.S.Store.format g.S.Store.told setup past c.args.self.now reached out c.outbox-out.ensures in
+    fetch_goes g.S.Store.holds g.S.Store.used g.S.Store.format g.S.Store.told g.S.Store.rose g.S.Store.was setup past c.args.self.now reached c.args.server c.args.range c.requires.range c.index_mut.result.now outcome.new.self c.reserve-2.new.self c.note_read.new.readings out outcome.new.out c.len-number.result (c.len-number.ensures ∙ c.reserve.ensures.len ∙ its_number g.S.Store.holds g.S.Store.used g.S.Store.format g.S.Store.told g.S.Store.rose g.S.Store.was setup past c.args.self.now reached) outcome.result
     (record {
       low = c.requires.server;
       read = c.index_mut.ensures.value;
@@ -58,4 +57,4 @@ returns g c setup history reached =
       tells = outcome.ensures.step;
       down = outcome.ensures.down;
     }) (c.note_read.ensures ∙ ap (λ xs. readings_with xs outcome.result) c.reserve.ensures.items) room
-    c.end.new.self c.end.ensures.halted c.end.ensures.stores c.end.ensures.taken c.end.result c.end.ensures.same (c.end.ensures.step setup (replay setup history) (fetch_turn setup (replay setup history) c.args.range))
+    c.end.new.self c.end.ensures.halted c.end.ensures.stores c.end.ensures.taken c.end.result c.end.ensures.same (c.end.ensures.step setup past.group (fetch_turn setup past.group c.args.range))

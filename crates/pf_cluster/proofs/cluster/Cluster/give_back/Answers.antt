@@ -34,19 +34,19 @@ keep_answers-requires-clause-places g c =
     job_places g.S.Store.holds g.S.Store.used g.S.Store.format g.S.Store.told g.S.Store.rose g.S.Store.was c.requires.reached.0 c.requires.reached.1.0 c.args.self.now c.requires.reached.1.1 c.args.server c.index_mut.result.now c.give_back.new.self c.requires.server (server_there g.S.Store.holds g.S.Store.used g.S.Store.format g.S.Store.told c.requires.reached.0 c.requires.reached.1.0 c.args.self.now c.requires.reached.1.1 c.args.server c.index_mut.result.now c.requires.server c.index_mut.ensures.value) c.give_back.ensures.seat (ap g.S.Store.told c.give_back.ensures.store) rule Done done c.index_mut-2.result.now c.index_mut-2.ensures.value
 
 pub returns-then-not-is_running : goal.returns-then-not-is_running
-returns-then-not-is_running g c setup history reached =
-    back_idle g.S.Store.holds g.S.Store.used g.S.Store.format g.S.Store.told g.S.Store.rose g.S.Store.was setup history c.args.self.now reached c.args.server c.index.result.now c.index.result.now c.requires.server (server_there g.S.Store.holds g.S.Store.used g.S.Store.format g.S.Store.told setup history c.args.self.now reached c.args.server c.index.result.now c.requires.server c.index.ensures) refl refl c.args.life c.args.slot
+returns-then-not-is_running g c setup past reached =
+    back_idle g.S.Store.holds g.S.Store.used g.S.Store.format g.S.Store.told g.S.Store.rose g.S.Store.was setup past c.args.self.now reached c.args.server c.index.result.now c.index.result.now c.requires.server (server_there g.S.Store.holds g.S.Store.used g.S.Store.format g.S.Store.told setup past c.args.self.now reached c.args.server c.index.result.now c.requires.server c.index.ensures) refl refl c.args.life c.args.slot
     (sym c.is_running.ensures ∙ c.if-not-is_running.true)
 
 pub returns : goal.returns
-returns g c setup history reached =
+returns g c setup past reached =
     let running = sym c.is_running.ensures ∙ c.if-not-is_running.false in
-    let same = read_there c.args.self.now.servers.items c.args.server c.index.result.now c.index_mut.result.now (server_there g.S.Store.holds g.S.Store.used g.S.Store.format g.S.Store.told setup history c.args.self.now reached c.args.server c.index.result.now c.requires.server c.index.ensures) c.index_mut.ensures.value in
+    let same = read_there c.args.self.now.servers.items c.args.server c.index.result.now c.index_mut.result.now (server_there g.S.Store.holds g.S.Store.used g.S.Store.format g.S.Store.told setup past c.args.self.now reached c.args.server c.index.result.now c.requires.server c.index.ensures) c.index_mut.ensures.value in
     let runs_here = ap (λ (x : Server g.row.S.Denot). runs x.state) same ∙ running in
-    let done = back_taken g.S.Store.holds g.S.Store.used g.S.Store.format g.S.Store.told g.S.Store.rose g.S.Store.was setup history c.args.self.now reached c.args.server c.index_mut.result.now c.give_back.new.self c.requires.server (server_there g.S.Store.holds g.S.Store.used g.S.Store.format g.S.Store.told setup history c.args.self.now reached c.args.server c.index_mut.result.now c.requires.server c.index_mut.ensures.value) c.give_back.ensures.seat (ap g.S.Store.told c.give_back.ensures.store) c.args.life c.args.slot runs_here c.give_back.ensures.step in
+    let done = back_taken g.S.Store.holds g.S.Store.used g.S.Store.format g.S.Store.told g.S.Store.rose g.S.Store.was setup past c.args.self.now reached c.args.server c.index_mut.result.now c.give_back.new.self c.requires.server (server_there g.S.Store.holds g.S.Store.used g.S.Store.format g.S.Store.told setup past c.args.self.now reached c.args.server c.index_mut.result.now c.requires.server c.index_mut.ensures.value) c.give_back.ensures.seat (ap g.S.Store.told c.give_back.ensures.store) c.args.life c.args.slot runs_here c.give_back.ensures.step in
     let rule : ServerIs → Outcome = λ s. on_give_back s c.args.life c.args.slot in
     let kept = c.keep_answers in
-    back_gone g.S.Store.holds g.S.Store.used g.S.Store.format g.S.Store.told g.S.Store.rose g.S.Store.was setup history c.args.self.now reached c.args.server c.index_mut.result.now c.give_back.new.self c.requires.server (server_there g.S.Store.holds g.S.Store.used g.S.Store.format g.S.Store.told setup history c.args.self.now reached c.args.server c.index_mut.result.now c.requires.server c.index_mut.ensures.value) c.give_back.ensures.seat (ap g.S.Store.told c.give_back.ensures.store) c.args.life c.args.slot _
-    (job_stores g.S.Store.holds g.S.Store.used g.S.Store.format g.S.Store.told g.S.Store.rose g.S.Store.was setup history c.args.self.now reached c.args.server c.index_mut.result.now c.give_back.new.self c.requires.server (server_there g.S.Store.holds g.S.Store.used g.S.Store.format g.S.Store.told setup history c.args.self.now reached c.args.server c.index_mut.result.now c.requires.server c.index_mut.ensures.value) c.give_back.ensures.seat (ap g.S.Store.told c.give_back.ensures.store) rule Done done c.index_mut-2.result.now c.index_mut-2.ensures.value c.give_back.ensures.store kept.new.server kept.new.readings kept.ensures.store)
+    back_gone g.S.Store.holds g.S.Store.used g.S.Store.format g.S.Store.told g.S.Store.rose g.S.Store.was setup past c.args.self.now reached c.args.server c.index_mut.result.now c.give_back.new.self c.requires.server (server_there g.S.Store.holds g.S.Store.used g.S.Store.format g.S.Store.told setup past c.args.self.now reached c.args.server c.index_mut.result.now c.requires.server c.index_mut.ensures.value) c.give_back.ensures.seat (ap g.S.Store.told c.give_back.ensures.store) c.args.life c.args.slot _
+    (job_stores g.S.Store.holds g.S.Store.used g.S.Store.format g.S.Store.told g.S.Store.rose g.S.Store.was setup past c.args.self.now reached c.args.server c.index_mut.result.now c.give_back.new.self c.requires.server (server_there g.S.Store.holds g.S.Store.used g.S.Store.format g.S.Store.told setup past c.args.self.now reached c.args.server c.index_mut.result.now c.requires.server c.index_mut.ensures.value) c.give_back.ensures.seat (ap g.S.Store.told c.give_back.ensures.store) rule Done done c.index_mut-2.result.now c.index_mut-2.ensures.value c.give_back.ensures.store kept.new.server kept.new.readings kept.ensures.store)
     (ap (map is_taken) kept.ensures.readings ∙ none_taken c.args.self.now.readings.items (answers_of c.index_mut-2.result.now.state))
-    (job_shows g.S.Store.holds g.S.Store.used g.S.Store.format g.S.Store.told g.S.Store.rose g.S.Store.was setup history c.args.self.now reached c.args.server c.index_mut.result.now c.give_back.new.self c.requires.server (server_there g.S.Store.holds g.S.Store.used g.S.Store.format g.S.Store.told setup history c.args.self.now reached c.args.server c.index_mut.result.now c.requires.server c.index_mut.ensures.value) c.give_back.ensures.seat (ap g.S.Store.told c.give_back.ensures.store) rule Done done c.index_mut-2.result.now c.index_mut-2.ensures.value kept.new.server kept.new.readings kept.ensures.seat kept.ensures.store kept.ensures.same kept.ensures.readings)
+    (job_shows g.S.Store.holds g.S.Store.used g.S.Store.format g.S.Store.told g.S.Store.rose g.S.Store.was setup past c.args.self.now reached c.args.server c.index_mut.result.now c.give_back.new.self c.requires.server (server_there g.S.Store.holds g.S.Store.used g.S.Store.format g.S.Store.told setup past c.args.self.now reached c.args.server c.index_mut.result.now c.requires.server c.index_mut.ensures.value) c.give_back.ensures.seat (ap g.S.Store.told c.give_back.ensures.store) rule Done done c.index_mut-2.result.now c.index_mut-2.ensures.value kept.new.server kept.new.readings kept.ensures.seat kept.ensures.store kept.ensures.same kept.ensures.readings)

@@ -10,7 +10,7 @@ stop-requires g c =
     (server_there g.S.Store.holds g.S.Store.used g.S.Store.format g.S.Store.told q.0 q.1.0 c.args.self.now q.1.1 c.args.server c.index_mut.result.now c.requires.server c.index_mut.ensures.value)
 
 pub returns : goal.returns
-returns g c setup history reached =
-    stops g.S.Store.holds g.S.Store.used g.S.Store.format g.S.Store.told g.S.Store.rose g.S.Store.was setup history c.args.self.now reached c.args.server c.index_mut.result.now c.stop.new.self
-    (server_there g.S.Store.holds g.S.Store.used g.S.Store.format g.S.Store.told setup history c.args.self.now reached c.args.server c.index_mut.result.now c.requires.server c.index_mut.ensures.value)
+returns g c setup past reached =
+    stops g.S.Store.holds g.S.Store.used g.S.Store.format g.S.Store.told g.S.Store.rose g.S.Store.was setup past c.args.self.now reached c.args.server c.index_mut.result.now c.stop.new.self
+    (server_there g.S.Store.holds g.S.Store.used g.S.Store.format g.S.Store.told setup past c.args.self.now reached c.args.server c.index_mut.result.now c.requires.server c.index_mut.ensures.value)
     c.stop.ensures.seat (ap g.S.Store.told c.stop.ensures.store) c.stop.result c.stop.ensures.step c.stop.ensures.down c.stop.ensures.store

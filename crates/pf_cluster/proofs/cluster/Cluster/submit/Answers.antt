@@ -1,5 +1,4 @@
 use Rattle.pf_protocol.specs.declared.events.Event.TheVariants.{Submit}
-use Rattle.pf_protocol.specs.Histories.{replay}
 use Rattle.pf_protocol.specs.Answers.{submit_turn}
 use Rattle.pf_cluster.proofs.Beginning.{few_parcels, in_order, its_condition, same_room_refusal, server_there}
 use Rattle.pf_cluster.proofs.Plain.{plain_goes, plain_turned}
@@ -26,9 +25,9 @@ end-requires g c =
     let room = same_room_refusal g.S.Store.holds g.S.Store.used g.S.Store.format g.S.Store.told q.0 q.1.0 c.args.self.now q.1.1 out c.outbox-out.ensures in (
       q.0,
       (
-        replay q.0 q.1.0,
+        q.1.0.group,
         (
-          submit_turn q.0 (replay q.0 q.1.0) c.args.op,
+          submit_turn q.0 q.1.0.group c.args.op,
           plain_turned g.S.Store.holds g.S.Store.used g.S.Store.format g.S.Store.told g.S.Store.rose g.S.Store.was q.0 q.1.0 c.args.self.now q.1.1 c.args.server me outcome.new.self c.reserve.new.self out outcome.new.out _ _ outcome.result
               (record {
                 low = c.requires.server;
@@ -40,21 +39,21 @@ end-requires g c =
                 fresh = c.outbox-out.ensures;
                 tells = outcome.ensures.step;
                 down = outcome.ensures.down;
-              }) (Submit c.args.server c.args.op) (submit_turn q.0 (replay q.0 q.1.0) c.args.op) (λ how. replay q.0 q.1.0)
-              (submits q.0 q.1.0 q.1.1.legal q.1.1.short c.args.server c.args.op c.requires.server c.requires.op out room me.seat m.2.seat),
+              }) (Submit c.args.server c.args.op) (submit_turn q.0 q.1.0.group c.args.op) (λ how. q.1.0.group)
+              (submits q.0 q.1.0 q.1.1.viable q.1.1.short c.args.server c.args.op c.requires.server c.requires.op out room me.seat m.2.seat),
         ),
       ),
     )
 
 pub returns : goal.returns
-returns g c setup history reached =
+returns g c setup past reached =
     let outcome = c.submit-outcome in
     let me = c.index_mut.result.now in
     let out = c.outbox-out.result in
-    let there = server_there g.S.Store.holds g.S.Store.used g.S.Store.format g.S.Store.told setup history c.args.self.now reached c.args.server me c.requires.server c.index_mut.ensures.value in
-    let m = its_condition g.S.Store.holds g.S.Store.used g.S.Store.format g.S.Store.told setup history c.args.self.now reached c.args.server me there in
-    let room = same_room_refusal g.S.Store.holds g.S.Store.used g.S.Store.format g.S.Store.told setup history c.args.self.now reached out c.outbox-out.ensures in
-    plain_goes g.S.Store.holds g.S.Store.used g.S.Store.format g.S.Store.told g.S.Store.rose g.S.Store.was setup history c.args.self.now reached c.args.server me outcome.new.self c.reserve.new.self out outcome.new.out _ _ outcome.result
+    let there = server_there g.S.Store.holds g.S.Store.used g.S.Store.format g.S.Store.told setup past c.args.self.now reached c.args.server me c.requires.server c.index_mut.ensures.value in
+    let m = its_condition g.S.Store.holds g.S.Store.used g.S.Store.format g.S.Store.told setup past c.args.self.now reached c.args.server me there in
+    let room = same_room_refusal g.S.Store.holds g.S.Store.used g.S.Store.format g.S.Store.told setup past c.args.self.now reached out c.outbox-out.ensures in
+    plain_goes g.S.Store.holds g.S.Store.used g.S.Store.format g.S.Store.told g.S.Store.rose g.S.Store.was setup past c.args.self.now reached c.args.server me outcome.new.self c.reserve.new.self out outcome.new.out _ _ outcome.result
     (record {
       low = c.requires.server;
       read = c.index_mut.ensures.value;
@@ -65,6 +64,6 @@ returns g c setup history reached =
       fresh = c.outbox-out.ensures;
       tells = outcome.ensures.step;
       down = outcome.ensures.down;
-    }) (Submit c.args.server c.args.op) (submit_turn setup (replay setup history) c.args.op)
-    (submits setup history reached.legal reached.short c.args.server c.args.op c.requires.server c.requires.op out room me.seat m.2.seat)
-    c.end.new.self c.end.ensures.halted c.end.ensures.stores c.end.ensures.taken c.end.result c.end.ensures.same (c.end.ensures.step setup (replay setup history) (submit_turn setup (replay setup history) c.args.op))
+    }) (Submit c.args.server c.args.op) (submit_turn setup past.group c.args.op)
+    (submits setup past reached.viable reached.short c.args.server c.args.op c.requires.server c.requires.op out room me.seat m.2.seat)
+    c.end.new.self c.end.ensures.halted c.end.ensures.stores c.end.ensures.taken c.end.result c.end.ensures.same (c.end.ensures.step setup past.group (submit_turn setup past.group c.args.op))

@@ -5,14 +5,16 @@ use Rattle.pf_group.specs.GroupIs.{GroupIs, state_of}
 use Rattle.pf_group.specs.Inside.{setup_in}
 use Rattle.pf_group.specs.Readers.{TellsOf}
 use Rattle.pf_group.proofs.Shown.{memory_told}
+use Rattle.pf_group.specs.Halves.{format_in, holds_in, told_in, used_in}
+use Rattle.pf_group.proofs.Standing.{now_shows}
 use Rattle.pf_group.proofs.group.Group.running_at.Goals as goal
 
 pub running-requires-clause-shown : goal.running-requires-clause-shown
-running-requires-clause-shown g c = (setup_in c.self.inside, (replay (setup_in c.self.inside) c.self.inside.past.happenings.items, c.self.invariant.reached.shows))
+running-requires-clause-shown g c = (setup_in c.self.inside, (replay (setup_in c.self.inside) c.self.inside.past.happenings.items, (now_shows (holds_in g.D.Disk.seen g.D.Disk.may_leave) used_in format_in (told_in g.D.Disk.seen) (setup_in c.self.inside) c.self.inside.past.happenings.items c.self.inside.cluster c.self.invariant.stands c.self.invariant.tell)))
 
 pub returns : goal.returns
 returns g c =
     let group = replay (setup_in c.self.inside) c.self.inside.past.happenings.items in
     subst (λ (v : GroupIs). TellsOf (state_of v) c.args.server c.ok_or.result (λ me s. IsMemoryOf me.now s)) c.self.view_is
     (subst (λ r. TellsOf group c.args.server r (λ me s. IsMemoryOf me.now s)) (sym c.ok_or.ensures.value)
-    (memory_told (λ me. me.now) group c.args.server c.running.result _ (c.running.ensures (setup_in c.self.inside) group c.self.invariant.reached.shows)))
+    (memory_told (λ me. me.now) group c.args.server c.running.result _ (c.running.ensures (setup_in c.self.inside) group (now_shows (holds_in g.D.Disk.seen g.D.Disk.may_leave) used_in format_in (told_in g.D.Disk.seen) (setup_in c.self.inside) c.self.inside.past.happenings.items c.self.inside.cluster c.self.invariant.stands c.self.invariant.tell))))

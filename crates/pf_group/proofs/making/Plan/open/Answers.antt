@@ -1,4 +1,4 @@
-use Rattle.std.proofs.Common.{ℕ, [], ◌∷◌, ◌++◌, ◌==◌, map, slice_get, refl, sym, ap, subst, ◌∙◌}
+use Rattle.std.proofs.Common.{ℕ, inl, [], ◌∷◌, ◌++◌, ◌==◌, map, slice_get, refl, sym, ap, subst, ◌∙◌}
 use Rattle.std.specs.List.{list_any}
 use Rattle.std.proofs.lemmas.Bool.{and_from}
 use Rattle.pf_entry.specs.Lists.{Every}
@@ -6,15 +6,19 @@ use Rattle.pf_entry.specs.Tables.{ascends}
 use Rattle.pf_kept.specs.declared.kept.Kept.{Kept}
 use Rattle.pf_kept.specs.Faults.{faults_of}
 use Rattle.pf_opening.specs.Rooms.{Place}
+use Rattle.pf_protocol.specs.Groups.{opening}
+use Rattle.pf_protocol.specs.Histories.{replay}
 use Rattle.pf_protocol.specs.Servers.{Setup}
 use Rattle.pf_server.specs.declared.server.Server.{Server}
 use Rattle.pf_cluster.specs.declared.cluster.Cluster.{Cluster}
 use Rattle.pf_cluster.specs.Readings.{is_taken}
-use Rattle.pf_group.specs.GroupIs.{GroupIs}
+use Rattle.pf_group.specs.GroupIs.{GroupIs, Times}
 use Rattle.pf_group.specs.Halves.{AreLater, HasRisen, format_in, holds_in, told_in, used_in}
 use Rattle.pf_group.specs.Making.{making_answer, setup_with, six_faults}
 use Rattle.pf_group.specs.Rooms.{halted_of, picked}
-use Rattle.pf_group.proofs.Made.{every_picked, opened_members, opened_there, own_head, picked_0, picked_1, picked_2, picks_ascend, reached_opening, shows_opening, three_heads, three_later, was_halted}
+use Rattle.pf_group.proofs.Made.{every_picked, opened_members, opened_there, own_head, picked_0, picked_1, picked_2, picks_ascend, shows_opening, three_heads, three_later, three_tell, was_halted}
+use Rattle.pf_group.proofs.Standing.{stands_opening}
+use Rattle.pf_group.proofs.Since.{since_now}
 use Rattle.pf_group.proofs.making.Plan.open.Goals as goal
 
 pub invariant_of-group : goal.invariant_of-group
@@ -25,25 +29,30 @@ invariant_of-group g c =
     let setup : Setup = setup_with p.sectors p.names p.format c.note-3.new.failed.items in
     let cluster : Cluster (Kept g.row.D.Denot) = record { servers = c.put-3.new.list; packets = p.cluster.packets; byte_room = p.cluster.byte_room; acked = p.cluster.acked; readings = p.cluster.readings; elections = p.cluster.elections } in
     let e = c.requires.plan.cluster in
+    let shows =
+    shows_opening (holds_in g.D.Disk.seen g.D.Disk.may_leave) used_in format_in (told_in g.D.Disk.seen) setup cluster c.open-zero.result.0 c.open-one.result.0 c.open-two.result.0 servers
+    (opened_members (holds_in g.D.Disk.seen g.D.Disk.may_leave) used_in format_in (told_in g.D.Disk.seen) setup c.open-zero.result.0 c.open-one.result.0 c.open-two.result.0
+    (opened_there (holds_in g.D.Disk.seen g.D.Disk.may_leave) used_in format_in (told_in g.D.Disk.seen) setup 0 p.zero (ap (λ (q : Place). q.seat) c.requires.plan.zero) c.open-zero.result.0 c.open-zero.result.1
+    (ap (list_any (λ j. j == 0)) failed ∙ picked_0 (halted_of c.open-zero.result.1) (halted_of c.open-one.result.1) (halted_of c.open-two.result.1)) c.open-zero.ensures.outcome c.open-zero.ensures.opened c.open-zero.ensures.halted c.open-zero.ensures.seat)
+    (opened_there (holds_in g.D.Disk.seen g.D.Disk.may_leave) used_in format_in (told_in g.D.Disk.seen) setup 1 p.one (ap (λ (q : Place). q.seat) c.requires.plan.one) c.open-one.result.0 c.open-one.result.1
+    (ap (list_any (λ j. j == 1)) failed ∙ picked_1 (halted_of c.open-zero.result.1) (halted_of c.open-one.result.1) (halted_of c.open-two.result.1)) c.open-one.ensures.outcome c.open-one.ensures.opened c.open-one.ensures.halted c.open-one.ensures.seat)
+    (opened_there (holds_in g.D.Disk.seen g.D.Disk.may_leave) used_in format_in (told_in g.D.Disk.seen) setup 2 p.two (ap (λ (q : Place). q.seat) c.requires.plan.two) c.open-two.result.0 c.open-two.result.1
+    (ap (list_any (λ j. j == 2)) failed ∙ picked_2 (halted_of c.open-zero.result.1) (halted_of c.open-one.result.1) (halted_of c.open-two.result.1)) c.open-two.ensures.outcome c.open-two.ensures.opened c.open-two.ensures.halted c.open-two.ensures.seat))
+    e.packets e.places e.bytes e.acked e.readings e.elections in
+    let tell = three_tell (told_in g.D.Disk.seen) cluster c.open-zero.result.0 c.open-one.result.0 c.open-two.result.0 servers
+    (c.open-zero.ensures.told ∙ and_from _ _ c.requires.told.s0h0 c.requires.told.s0h1)
+    (c.open-one.ensures.told ∙ and_from _ _ c.requires.told.s1h0 c.requires.told.s1h1)
+    (c.open-two.ensures.told ∙ and_from _ _ c.requires.told.s2h0 c.requires.told.s2h1) in
     record {
-      reached = reached_opening (holds_in g.D.Disk.seen g.D.Disk.may_leave) used_in format_in (told_in g.D.Disk.seen) setup p.past.happenings.items cluster c.requires.setup c.requires.plan.history
-          (shows_opening (holds_in g.D.Disk.seen g.D.Disk.may_leave) used_in format_in (told_in g.D.Disk.seen) setup cluster c.open-zero.result.0 c.open-one.result.0 c.open-two.result.0 servers
-          (opened_members (holds_in g.D.Disk.seen g.D.Disk.may_leave) used_in format_in (told_in g.D.Disk.seen) setup c.open-zero.result.0 c.open-one.result.0 c.open-two.result.0
-          (opened_there (holds_in g.D.Disk.seen g.D.Disk.may_leave) used_in format_in (told_in g.D.Disk.seen) setup 0 p.zero (ap (λ (q : Place). q.seat) c.requires.plan.zero) c.open-zero.result.0 c.open-zero.result.1
-          (ap (list_any (λ j. j == 0)) failed ∙ picked_0 (halted_of c.open-zero.result.1) (halted_of c.open-one.result.1) (halted_of c.open-two.result.1)) c.open-zero.ensures.outcome c.open-zero.ensures.opened c.open-zero.ensures.halted c.open-zero.ensures.seat
-          (c.open-zero.ensures.told ∙ and_from _ _ c.requires.told.s0h0 c.requires.told.s0h1))
-          (opened_there (holds_in g.D.Disk.seen g.D.Disk.may_leave) used_in format_in (told_in g.D.Disk.seen) setup 1 p.one (ap (λ (q : Place). q.seat) c.requires.plan.one) c.open-one.result.0 c.open-one.result.1
-          (ap (list_any (λ j. j == 1)) failed ∙ picked_1 (halted_of c.open-zero.result.1) (halted_of c.open-one.result.1) (halted_of c.open-two.result.1)) c.open-one.ensures.outcome c.open-one.ensures.opened c.open-one.ensures.halted c.open-one.ensures.seat
-          (c.open-one.ensures.told ∙ and_from _ _ c.requires.told.s1h0 c.requires.told.s1h1))
-          (opened_there (holds_in g.D.Disk.seen g.D.Disk.may_leave) used_in format_in (told_in g.D.Disk.seen) setup 2 p.two (ap (λ (q : Place). q.seat) c.requires.plan.two) c.open-two.result.0 c.open-two.result.1
-          (ap (list_any (λ j. j == 2)) failed ∙ picked_2 (halted_of c.open-zero.result.1) (halted_of c.open-one.result.1) (halted_of c.open-two.result.1)) c.open-two.ensures.outcome c.open-two.ensures.opened c.open-two.ensures.halted c.open-two.ensures.seat
-          (c.open-two.ensures.told ∙ and_from _ _ c.requires.told.s2h0 c.requires.told.s2h1)))
-          e.packets e.places e.bytes e.acked e.readings e.elections);
+      stands = stands_opening (holds_in g.D.Disk.seen g.D.Disk.may_leave) used_in format_in (told_in g.D.Disk.seen) setup p.past.happenings.items cluster c.requires.setup c.requires.plan.history shows;
+      tell = tell;
       heads = three_heads p.number cluster c.open-zero.result.0 c.open-one.result.0 c.open-two.result.0 servers
           (own_head p.number p.sectors p.names p.format 0 p.zero c.requires.plan.zero c.open-zero.result.0.seat c.open-zero.result.0.store.pair.head c.open-zero.ensures.seat c.open-zero.ensures.head)
           (own_head p.number p.sectors p.names p.format 1 p.one c.requires.plan.one c.open-one.result.0.seat c.open-one.result.0.store.pair.head c.open-one.ensures.seat c.open-one.ensures.head)
           (own_head p.number p.sectors p.names p.format 2 p.two c.requires.plan.two c.open-two.result.0.seat c.open-two.result.0.store.pair.head c.open-two.ensures.seat c.open-two.ensures.head);
       past = c.requires.plan.past;
+      last = inl (sym c.now-began.ensures.history_is);
+      since = since_now g.D.Disk.seen g.D.Disk.may_leave g.D.Disk.faults g.D.Disk.moment g.D.Disk.left_since g.D.Disk.tells_moments setup (opening setup) (replay setup c.now-began.result.happenings.value.items) (replay setup p.past.happenings.items) c.now-began.result.cluster.value cluster c.now-began.ensures.cluster_is shows tell;
     }
 
 pub returns : goal.returns
@@ -53,11 +62,13 @@ returns g c =
     let servers = c.put-3.ensures.items ∙ ap (λ l. l ++ c.open-two.result.0 ∷ []) (c.put-2.ensures.items ∙ ap (λ l. l ++ c.open-one.result.0 ∷ []) (c.put.ensures.items ∙ ap (λ l. l ++ c.open-zero.result.0 ∷ []) c.requires.plan.cluster.servers)) in
     let counts = λ (s : Server (Kept g.row.D.Denot)). faults_of g.D.Disk.faults s.store in
     let now = map counts c.put-3.new.list.items in
+    let moments = λ (s : Server (Kept g.row.D.Denot)). faults_of g.D.Disk.moment s.store in
+    let time : Times = record { now = map moments c.put-3.new.list.items; began = map moments c.now-began.result.cluster.value.servers.items; earlier = c.now-began.result.happenings.value.items } in
     let Risen = λ (i : ℕ). HasRisen i (six_faults g.D.Disk.faults c.args.disks) now in
     record {
       failed = c.note-3.new.failed.items;
-      is = ap (λ h. let v : GroupIs = record { number = p.number; setup = setup_with p.sectors p.names p.format c.note-3.new.failed.items; history = h; taken = map is_taken p.cluster.readings.items; faults = now } in v) c.requires.plan.history
-          ∙ ap (λ r. let v : GroupIs = record { number = p.number; setup = setup_with p.sectors p.names p.format c.note-3.new.failed.items; history = []; taken = map is_taken r; faults = now } in v) c.requires.plan.cluster.readings;
+      is = ap (λ h. let v : GroupIs = record { number = p.number; setup = setup_with p.sectors p.names p.format c.note-3.new.failed.items; history = h; taken = map is_taken p.cluster.readings.items; faults = now; time = time } in v) c.requires.plan.history
+          ∙ ap (λ r. let v : GroupIs = record { number = p.number; setup = setup_with p.sectors p.names p.format c.note-3.new.failed.items; history = []; taken = map is_taken r; faults = now; time = time } in v) c.requires.plan.cluster.readings;
       once = ap ascends failed ∙ picks_ascend (halted_of c.open-zero.result.1) (halted_of c.open-one.result.1) (halted_of c.open-two.result.1);
       cause = subst (Every Risen) (sym failed) (every_picked Risen (halted_of c.open-zero.result.1) (halted_of c.open-one.result.1) (halted_of c.open-two.result.1)
           (λ is. record {

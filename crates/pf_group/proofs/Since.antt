@@ -1,0 +1,175 @@
+-- What a crash since the last step of a group began left.
+use Rattle.std.proofs.Common.{◌≡◌, ◌⊎◌, inl, inr, ℕ, ◌<◌, ◌≤◌, ◌^◌, Bool, if◌then◌else◌, is_some, List, length, Option, Some, None, option_map, slice_get, arith, refl, sym, ap, subst, ◌∙◌}
+use Rattle.std.proofs.lemmas.Option.{none-some, same_Some, slice_get_within}
+use Rattle.pf_disk.specs.Crashes.{Images}
+use Rattle.pf_entry.specs.Records.{Durable}
+use Rattle.pf_protocol.specs.Groups.{Group}
+use Rattle.pf_protocol.specs.Histories.{History, replay}
+use Rattle.pf_protocol.specs.Servers.{Setup}
+use Rattle.pf_kept.specs.Kept.{LeavesStates}
+use Rattle.pf_kept.specs.declared.kept.Kept.{Kept}
+use Rattle.pf_server.specs.declared.server.Server.{Server}
+use Rattle.pf_cluster.specs.declared.cluster.Cluster.{Cluster}
+use Rattle.pf_cluster.specs.Going.{KeepsOthers, Passes, Touches, WasTouched, store_at}
+use Rattle.pf_cluster.specs.Showing.{Shows}
+use Rattle.pf_cluster.proofs.Lists.{something_there}
+use Rattle.pf_opening.specs.Opening.{head_of}
+use Rattle.pf_group.specs.declared.group.Group.TheInside.{Inside}
+use Rattle.pf_group.specs.declared.began.Began.{Began}
+use Rattle.pf_group.specs.declared.event.GroupEvent.{GroupEvent}
+use Rattle.pf_group.specs.Beginning.{IsBegun, IsBegunIf}
+use Rattle.pf_group.specs.Crashing.{AllLeaveAtCrash, LeavesAtCrash, WasLeft, WereTouched}
+use Rattle.pf_group.specs.GroupIs.{AddsOne, GroupIs}
+use Rattle.pf_group.specs.Halves.{format_in, holds_in, told_in, used_in, was_in}
+use Rattle.pf_group.specs.Inside.{HaveHeads, IsGroup, IsSince, group_of, setup_in}
+use Rattle.pf_group.specs.Leaving.{head_in}
+use Rattle.pf_group.specs.Reacting.{IsTold}
+use Rattle.pf_group.specs.Standing.{AllTell, StandsFor}
+use Rattle.pf_group.proofs.Standing.{is_told}
+use Rattle.pf_group.proofs.Faults.{at_own, faults_at, some_mapped}
+
+module _ {D : Type 0} where
+  abbrev store_of : Server (Kept D) → Kept D
+  store_of server = server.store
+
+  abbrev halves : Kept D → D × D
+  halves kept = (kept.pair.zero.disk, kept.pair.one.disk)
+
+  -- a store that another cluster has in this place too
+  kept_at : (old new : Cluster (Kept D)) (i : ℕ) (server next : Server (Kept D)) → store_at new i ≡ store_at old i → slice_get old.servers.items i ≡ Some server → slice_get new.servers.items i ≡ Some next → next.store ≡ server.store
+  kept_at old new i server next same there now = same_Some next.store server.store (sym (ap (option_map store_of) now) ∙ same ∙ ap (option_map store_of) there)
+
+  -- the beginning that was kept
+  pub begun_if : (cluster : Cluster (Kept D)) (history : History) (old now new : Began D) (own : Option ℕ) (may_touch : Bool) → may_touch ≡ is_some own → new ≡ (if may_touch then now else old) → IsBegun cluster history now → IsBegunIf own cluster history old new
+  begun_if cluster history old now new None may_touch may is begun = is ∙ ap (λ b. if b then now else old) may
+  begun_if cluster history old now new (Some server) may_touch may is begun = subst (IsBegun cluster history) (sym (is ∙ ap (λ b. if b then now else old) may)) begun
+
+module _ {D : Type 0} (seen : D → Option (List ℕ)) (may_leave : D → Images) (faults moment : D → ℕ) (left_since : D → ℕ → Images) (tells_moments : Bool) where
+  abbrev Was : Kept D → Kept D → Durable → Durable → Type 0
+  Was = was_in seen faults moment left_since tells_moments
+
+  abbrev Stands : Setup → Cluster (Kept D) → Group → Type 0
+  Stands setup cluster g = Shows (holds_in seen may_leave) used_in format_in (told_in seen) setup cluster g
+
+  abbrev Since : (before after : Group) (began cluster : Cluster (Kept D)) → Type 0
+  Since before after began cluster = IsSince seen faults moment left_since tells_moments before after began cluster
+
+  untouched : (before after : Group) (i : ℕ) (old new : Kept D) → new ≡ old → WasTouched Was before after i old new
+  untouched before after i old new same = record { between = old; first = inl refl; second = inl same }
+
+  -- a step that touched no disks but those of its own server
+  pub since_step : (setup : Setup) (before after : Group) (own : Option ℕ) (old new : Cluster (Kept D)) → Stands setup old before → AllTell (told_in seen) old → Touches Was before after own old new → KeepsOthers own old new → Since before after old new
+  since_step setup before after own old new shows tell crash others = record {
+    three = shows.three;
+    told = tell;
+    touched = λ i server next there now. elim (at_own own i) [
+      | inl is ↦ crash i server next is there now
+      | inr apart ↦ untouched before after i server.store next.store (kept_at old new i server next (others i apart) there now)
+    ];
+  }
+
+  -- a step that begins now
+  pub since_now : (setup : Setup) (shown g h : Group) (began cluster : Cluster (Kept D)) → began ≡ cluster → Stands setup cluster shown → AllTell (told_in seen) cluster → Since g h began cluster
+  since_now setup shown g h began cluster is shows tell = subst (λ (b : Cluster (Kept D)). Since g h b cluster) (sym is) (record {
+    three = shows.three;
+    told = tell;
+    touched = λ i server next there now. untouched g h i server.store next.store (kept_at cluster cluster i server next refl there now);
+  })
+
+  -- a step that began so
+  pub since_as : (setup : Setup) (history earlier now : History) (after : Group) (old new began : Cluster (Kept D)) → began ≡ old → earlier ≡ history → replay setup now ≡ after → Since (replay setup history) after old new → Since (replay setup earlier) (replay setup now) began new
+  since_as setup history earlier now after old new began same_cluster same_history same_state since =
+      subst (λ h. Since (replay setup h) (replay setup now) began new) (sym same_history)
+      (subst (λ g. Since (replay setup history) g began new) (sym same_state)
+      (subst (λ (b : Cluster (Kept D)). Since (replay setup history) after b new) (sym same_cluster) since))
+
+  -- no disk was touched since
+  pub since_still : (before after : Group) (began old new : Cluster (Kept D)) → KeepsOthers None old new → Since before after began old → Since before after began new
+  since_still before after began old new keeps since = record {
+    three = since.three;
+    told = since.told;
+    touched = λ i server next there now.
+        let at = some_mapped store_of (slice_get old.servers.items i) next.store (sym (keeps i (none-some i)) ∙ ap (option_map store_of) now) in
+        subst (λ (x : Kept D). WasTouched Was before after i server.store x) at.2 (since.touched i server at.0 there at.1);
+  }
+
+  module _ (before after : Group) (i : ℕ) (head : List ℕ) where
+    abbrev Left : D × D → D × D → Type 0
+    Left = WasLeft seen moment left_since tells_moments head before after i
+
+    abbrev head_at : Kept D → List ℕ
+    head_at kept = kept.pair.head
+
+    head_kept : (old new : Kept D) → (new ≡ old) ⊎ Passes Was before after i old new → head_at new ≡ head_at old
+    head_kept old new went = elim went [ inl same ↦ ap head_at same | inr passes ↦ passes.left.head ]
+
+    passed : (old new : Kept D) → head_at old ≡ head → (new ≡ old) ⊎ Passes Was before after i old new → (halves new ≡ halves old) ⊎ Left (halves old) (halves new)
+    passed old new is went = elim went [
+      | inl same ↦ inl (ap halves same)
+      | inr passes ↦ inr (record {
+        x = passes.x;
+        y = passes.y;
+        first = passes.first;
+        second = passes.second;
+        left = λ moments tell. subst (λ h. LeavesStates h (left_since new.pair.zero.disk (moment old.pair.zero.disk)) (left_since new.pair.one.disk (moment old.pair.one.disk)) passes.x passes.y) is (passes.left.left moments tell);
+      })
+    ]
+
+    were_touched : (old new : Kept D) → head_at new ≡ head → WasTouched Was before after i old new → WereTouched seen moment left_since tells_moments head before after i (halves old) (halves new)
+    were_touched old new is was =
+        let between = sym (head_kept was.between new was.second) ∙ is in
+        record {
+          between = halves was.between;
+          first = passed old was.between (sym (head_kept old was.between was.first) ∙ between) was.first;
+          second = passed was.between new between was.second;
+        }
+
+  -- what holds of the fields of a group, but for the room of its past
+  pub record Stood (number : ℕ) (setup : Setup) (earlier : History) (began : Cluster (Kept D)) (history : History) (cluster : Cluster (Kept D)) : Type 0 where
+    pub stands : StandsFor (holds_in seen may_leave) used_in format_in (told_in seen) setup history cluster
+    pub tell : AllTell (told_in seen) cluster
+    pub heads : HaveHeads number cluster
+    pub last : AddsOne earlier history
+    pub since : Since (replay setup earlier) (replay setup history) began cluster
+
+  pub stood : (g : Inside D) → IsGroup seen may_leave faults moment left_since tells_moments g → Stood g.number (setup_in g) g.began.happenings.value.items g.began.cluster.value g.past.happenings.items g.cluster
+  stood g is = record { stands = is.stands; tell = is.tell; heads = is.heads; last = is.last; since = is.since }
+
+  -- an event may be carried out by the rules
+  pub told_now : (g : Inside D) (is : IsGroup seen may_leave faults moment left_since tells_moments g) → (event : GroupEvent) → IsTold (told_in seen) (setup_in g) is.stands.past.group g.cluster event
+  told_now g is event =
+      let few : length g.past.happenings.items ≤ 2 ^ 32 = omega (arith, is.past.few, g.past.happenings.ok.0) in
+      is_told (holds_in seen may_leave) used_in format_in (told_in seen) (setup_in g) g.past.happenings.items g.cluster is.stands is.tell few event
+
+  module _ (number : ℕ) (setup : Setup) (earlier : History) (began : Cluster (Kept D)) (history : History) (cluster : Cluster (Kept D)) (is : Stood number setup earlier began history cluster) where
+    abbrev Now : GroupIs
+    Now = group_of faults moment number setup earlier began history cluster
+
+    abbrev Leaves : (i : ℕ) → (zero one : D) → Type 0
+    Leaves = LeavesAtCrash seen moment left_since tells_moments Now
+
+    own_head : (i : ℕ) (next : Server (Kept D)) → slice_get cluster.servers.items i ≡ Some next → next.store.pair.head ≡ head_in Now i
+    own_head i next now = is.heads i next now ∙ ap (head_of number) (is.stands.reached.shows.members i next now).2.seat
+
+    its_crash : (i : ℕ) (next : Server (Kept D)) → slice_get cluster.servers.items i ≡ Some next → Leaves i next.store.pair.zero.disk next.store.pair.one.disk
+    its_crash i next now =
+        let within : i < length began.servers.items = omega (arith, slice_get_within cluster.servers.items i next now, is.since.three, is.stands.reached.shows.three) in
+        let there = something_there began.servers.items i within in
+        record {
+          old = halves there.0.store;
+          told = is.since.told i there.0 there.1;
+          began = faults_at moment began i there.0 there.1;
+          now = faults_at moment cluster i next now;
+          step = is.last;
+          touched = were_touched (replay setup earlier) (replay setup history) i (head_in Now i) there.0.store next.store (own_head i next now) (is.since.touched i there.0 next there.1 now);
+        }
+
+    -- of a server whose disks were taken out
+    pub crash_leaves : (i : ℕ) (next : Server (Kept D)) → slice_get cluster.servers.items i ≡ Some next → (zero one : D) → zero ≡ next.store.pair.zero.disk → one ≡ next.store.pair.one.disk → Leaves i zero one
+    crash_leaves i next now zero one zero_is one_is = subst (λ d. Leaves i d one) (sym zero_is) (subst (λ d. Leaves i next.store.pair.zero.disk d) (sym one_is) (its_crash i next now))
+
+    pub all_leave : AllLeaveAtCrash seen moment left_since tells_moments Now
+    all_leave i low =
+        let within : i < length cluster.servers.items = omega (arith, low, is.stands.reached.shows.three) in
+        let at = something_there cluster.servers.items i within in
+        (at.0.store.pair.zero.disk, (at.0.store.pair.one.disk, its_crash i at.0 at.1))

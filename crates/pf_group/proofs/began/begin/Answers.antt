@@ -1,0 +1,13 @@
+use Rattle.pf_group.specs.Reacting.{own_of}
+use Rattle.pf_group.proofs.Since.{begun_if}
+use Rattle.pf_group.proofs.began.begin.Goals as goal
+
+pub returns-in-Err-clause-tried : goal.returns-in-Err-clause-tried
+returns-in-Err-clause-tried g c =
+    begun_if c.args.cluster.now c.args.past.now.happenings.items c.args.began.now c.now-now.result c.keep_if.new.began (own_of c.args.event) c.may_touch-may_touch.result c.may_touch-may_touch.ensures c.keep_if.ensures c.now-now.ensures
+
+pub returns-in-Err-clause-step : goal.returns-in-Err-clause-step
+returns-in-Err-clause-step g c setup came reached told = c.in-Err.ensures.step setup came reached told
+
+pub returns-in-Ok-clause-step : goal.returns-in-Ok-clause-step
+returns-in-Ok-clause-step g c setup came reached told = c.in-Ok.ensures.step setup came reached told

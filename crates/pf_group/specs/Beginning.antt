@@ -1,0 +1,17 @@
+-- Where a step of a group began.
+use Rattle.std.specs.Prelude.{◌≡◌, ℕ, Option, Some, None}
+use Rattle.pf_protocol.specs.Histories.{History}
+use Rattle.pf_kept.specs.declared.kept.Kept.{Kept}
+use Rattle.pf_cluster.specs.declared.cluster.Cluster.{Cluster}
+use Rattle.pf_group.specs.declared.began.Began.{Began}
+
+module _ {D : Type 0} where
+  -- with these servers, after this history
+  pub record IsBegun (cluster : Cluster (Kept D)) (history : History) (began : Began D) : Type 0 where
+    pub cluster_is : began.cluster.value ≡ cluster
+    pub history_is : began.happenings.value.items ≡ history
+
+  -- there, where a server's disks may have been touched
+  abbrev pub IsBegunIf : Option ℕ → Cluster (Kept D) → History → (old new : Began D) → Type 0
+  IsBegunIf (Some server) cluster history old new = IsBegun cluster history new
+  IsBegunIf None cluster history old new = new ≡ old

@@ -1,0 +1,29 @@
+-- What the cluster of a group stands for.
+use Rattle.std.specs.Prelude.{◌≡◌, ℕ, ◌+◌, ◌≤◌, ◌^◌, Bool, IsTrue, [], length, Some, slice_get}
+use Rattle.pf_entry.specs.Records.{Durable}
+use Rattle.pf_protocol.specs.Servers.{Setup}
+use Rattle.pf_protocol.specs.Histories.{History, replay}
+use Rattle.pf_protocol.specs.Answers.{IsLegal, claims_of}
+use Rattle.pf_server.specs.declared.server.Server.{Server}
+use Rattle.pf_cluster.specs.declared.cluster.Cluster.{Cluster}
+use Rattle.pf_cluster.specs.Going.{IsReached}
+use Rattle.pf_cluster.specs.Pasts.{CoversRestarts, Past}
+
+-- the past's group is the replay of the history, which is legal
+pub record IsReplay (setup : Setup) (history : History) (past : Past) : Type 0 where
+  pub same : past.group ≡ replay setup history
+  pub legal : IsLegal setup history
+
+-- the disks of each server tell their content
+abbrev pub AllTell : {S : Type 0} → (S → Bool) → Cluster S → Type 0
+AllTell {S = S} told cluster = (i : ℕ) (server : Server S) → slice_get cluster.servers.items i ≡ Some server → IsTrue (told server.store)
+
+-- It stands for the group of some past, whose open claims are those of the history. Where its disks tell their content, that group is the
+-- replay of the history; where they do not, restarts may have begun from any state that fits.
+pub record StandsFor {S : Type 0} (holds : S → Durable → Durable → Type 0) (used format : S → ℕ) (told : S → Bool) (setup : Setup) (history : History) (cluster : Cluster S) : Type 0 where
+  pub past : Past
+  pub reached : IsReached holds used format told setup past cluster
+  pub covers : CoversRestarts past
+  pub most : past.count ≤ 2 ^ 63 + 4096 + length history
+  pub claims : past.claims ≡ claims_of [] history
+  pub replays : AllTell told cluster → IsReplay setup history past
