@@ -1,5 +1,5 @@
 -- How each end of a run is told.
-use Rattle.std.proofs.Common.{◌≡◌, ℕ, List, [], Option, Some, None, Ok, Err, is_ok, refl, ap, sym, subst}
+use Rattle.std.proofs.Common.{◌≡◌, inl, ℕ, List, [], Option, Some, None, Ok, Err, is_ok, refl, ap, sym, subst}
 use Rattle.std.specs.Prelude.{is_err}
 use Rattle.std.specs.Io.KnownBytes.{Appends}
 use Rattle.pf_disk.specs.Crashes.{Images}
@@ -21,7 +21,8 @@ use Rattle.polar_cli.specs.Refusing.{EndsAtStop, Refuses, fault_text}
 use Rattle.polar_cli.specs.Checking.{HasChecked}
 use Rattle.polar_cli.specs.Running.{HasRunLines, HasRunTo}
 use Rattle.polar_cli.specs.Generating.{HasGenerated}
-use Rattle.polar_cli.specs.Outcomes.{Ending, IsLeft, Outcome}
+use Rattle.polar_cli.specs.Listing.{ListEnds}
+use Rattle.polar_cli.specs.Outcomes.{Ending, IsLeft, Outcome, left_by}
 use Rattle.polar_cli.proofs.Reading.{a_text, is_text}
 use Rattle.polar_cli.proofs.Taken.{appends_none}
 use Rattle.polar_cli.proofs.Whole.{Begins, script_begins, untouched}
@@ -36,18 +37,30 @@ lines_begin None script = tt
 lines_begin (Some (tasks.Run workers)) script = script_begins script
 lines_begin (Some (tasks.Gen number workers)) script = script_begins (generated number)
 lines_begin (Some tasks.Check) script = tt
+lines_begin (Some (tasks.Log group server)) script = tt
 
 left_same : (task : Option Task) (left : Option (List ℕ)) → IsLeft task left left
 left_same None left = refl
 left_same (Some (tasks.Run workers)) left = tt
 left_same (Some (tasks.Gen number workers)) left = refl
 left_same (Some tasks.Check) left = tt
+left_same (Some (tasks.Log group server)) left = refl
 
-none_told : {D : Type 0} (task : Option Task) (script : List ℕ) (behind : List Line) (w : World) (left rest : Option (List ℕ)) (failed : Type 0) (taken : Option (List ℕ)) (full : Type 0) (disks : List D) → Ending task statuses.NoMemory script behind [] w left rest failed taken taken full disks disks
-none_told None script behind w left rest failed taken full disks = appends_none taken
-none_told (Some (tasks.Run workers)) script behind w left rest failed taken full disks = appends_none taken
-none_told (Some (tasks.Gen number workers)) script behind w left rest failed taken full disks = appends_none taken
-none_told (Some tasks.Check) script behind w left rest failed taken full disks = (appends_none taken, refl)
+-- no line changed the disks
+none_changed : {D : Type 0} (task : Option Task) (disks : List D) → disks ≡ left_by task disks disks
+none_changed None disks = refl
+none_changed (Some (tasks.Run workers)) disks = refl
+none_changed (Some (tasks.Gen number workers)) disks = refl
+none_changed (Some tasks.Check) disks = refl
+none_changed (Some (tasks.Log group server)) disks = refl
+
+module _ {D : Type 0} (seen : D → Option (List ℕ)) (may_leave : D → Images) (faults : D → ℕ) where
+  none_told : (task : Option Task) (script : List ℕ) (behind : List Line) (w : World) (left rest : Option (List ℕ)) (failed : Type 0) (taken : Option (List ℕ)) (full : Type 0) (disks : List D) → Ending seen may_leave faults task statuses.NoMemory script behind [] w left rest failed taken taken full disks disks
+  none_told None script behind w left rest failed taken full disks = appends_none taken
+  none_told (Some (tasks.Run workers)) script behind w left rest failed taken full disks = appends_none taken
+  none_told (Some (tasks.Gen number workers)) script behind w left rest failed taken full disks = appends_none taken
+  none_told (Some tasks.Check) script behind w left rest failed taken full disks = (appends_none taken, refl)
+  none_told (Some (tasks.Log group server)) script behind w left rest failed taken full disks = (appends_none taken, inl refl)
 
 module _ {D : Type 0} (seen : D → Option (List ℕ)) (may_leave : D → Images) (faults : D → ℕ) (workers : ℕ) (left rest taken now : Option (List ℕ)) (failed full : Type 0) where
   abbrev Ran : Status → (before after : List D) → Type 0
@@ -151,8 +164,9 @@ module _ {D : Type 0} (seen : D → Option (List ℕ)) (may_leave : D → Images
     kept = left_same task left;
     behind = lines_for task (a_text left);
     text = [];
-    ran = untouched seen may_leave faults statuses.NoMemory (lines_for task (a_text left)) disks (lines_begin task (a_text left));
-    ending = none_told task (a_text left) (lines_for task (a_text left)) _ left left failed taken full disks;
+    ran = subst (λ l. HasRunTo seen may_leave faults statuses.NoMemory (lines_for task (a_text left)) (lines_for task (a_text left)) [] disks l) (none_changed task disks)
+        (untouched seen may_leave faults statuses.NoMemory (lines_for task (a_text left)) disks (lines_begin task (a_text left)));
+    ending = none_told seen may_leave faults task (a_text left) (lines_for task (a_text left)) _ left left failed taken full disks;
   }
 
 module _ {D : Type 0} (seen : D → Option (List ℕ)) (may_leave : D → Images) (faults : D → ℕ) (workers : ℕ) (left rest taken : Option (List ℕ)) (failed full : Type 0) (disks : List D) where
@@ -214,6 +228,19 @@ summed seen may_leave faults status number workers left taken now failed full be
   text = g.text;
   ran = g.ran;
   ending = g.sums;
+}
+
+-- the records of a server
+pub listed : {D : Type 0} (seen : D → Option (List ℕ)) (may_leave : D → Images) (faults : D → ℕ) (status : Status) (group server : ℕ) (left taken now : Option (List ℕ)) (failed full : Type 0) (before after : List D)
+    → ListEnds seen may_leave faults group server status taken now full before after → Outcome seen may_leave faults status (Some (tasks.Log group server)) left left failed taken now full before after
+listed seen may_leave faults status group server left taken now failed full before after ends = record {
+  script = a_text left;
+  source = is_text left;
+  kept = refl;
+  behind = [];
+  text = [];
+  ran = untouched seen may_leave faults status [] before tt;
+  ending = ends;
 }
 
 -- of the task that the words ask for

@@ -1,5 +1,5 @@
 -- What the words of the command line say.
-use Rattle.std.proofs.Common.{◌≡◌, ℕ, zero, suc, ◌+◌, ◌≤◌, ◌<◌, pos, Bool, true, false, ◌&&◌, cond, List, [], ◌∷◌, Option, Some, None, is_some, option_map, Result, Ok, Err, refl, sym, ap, ◌∙◌, arith, true≢false, codes}
+use Rattle.std.proofs.Common.{◌≡◌, ℕ, zero, suc, ◌+◌, ◌^◌, ◌≤◌, ◌<◌, pos, Bool, true, false, ◌&&◌, cond, List, [], ◌∷◌, Option, Some, None, is_some, option_map, Result, Ok, Err, refl, sym, ap, ◌∙◌, arith, true≢false, codes}
 use Rattle.std.specs.Prelude.{Box, if◌then◌else◌, option_and_then}
 use Rattle.std.specs.Box.{box_value}
 use Rattle.std.specs.Option.{option_map_or}
@@ -24,7 +24,7 @@ use Rattle.clap.specs.declared.parser.matches.SubCommand.{SubCommand}
 use Rattle.polar_cli.specs.declared.words.Task.{Task}
 use Rattle.polar_cli.specs.declared.words.Task.TheVariants as tasks
 use Rattle.pf_entry.specs.Lists.{Every}
-use Rattle.polar_cli.specs.Words.{command, is_accepted, number_rule, workers_rule}
+use Rattle.polar_cli.specs.Words.{command, group_rule, is_accepted, number_rule, server_rule, workers_rule}
 use Rattle.polar_cli.specs.Tasks.{number_at, task_at, task_of}
 use Rattle.polar_cli.proofs.Faultless.{taken}
 use Rattle.polar_cli.proofs.Rows.{HasOne, IsSet, defaulted, given_row, leaf, level_fit, one_fits}
@@ -45,17 +45,29 @@ workers_here = filled workers_rule
 abbrev number_here : Rule
 number_here = with_index 1 (filled number_rule)
 
-abbrev run_rules : List Rule
+abbrev pub run_rules : List Rule
 run_rules = workers_here ∷ []
 
-abbrev gen_rules : List Rule
+abbrev pub gen_rules : List Rule
 gen_rules = number_here ∷ workers_here ∷ []
+
+abbrev group_here : Rule
+group_here = with_index 1 (filled group_rule)
+
+abbrev server_here : Rule
+server_here = with_index 2 (filled server_rule)
+
+abbrev pub log_rules : List Rule
+log_rules = group_here ∷ server_here ∷ []
 
 run_set : Every (IsSet run_rules) run_rules
 run_set = (record { found = refl; action = refl; least = refl; most = refl; defaults = omega arith }, tt)
 
 gen_set : Every (IsSet gen_rules) gen_rules
 gen_set = (record { found = refl; action = refl; least = refl; most = refl; defaults = omega arith }, (record { found = refl; action = refl; least = refl; most = refl; defaults = omega arith }, tt))
+
+log_set : Every (IsSet log_rules) log_rules
+log_set = (record { found = refl; action = refl; least = refl; most = refl; defaults = omega arith }, (record { found = refl; action = refl; least = refl; most = refl; defaults = omega arith }, tt))
 
 -- `run` was met
 pub record IsRun (met : Option (Text × List Row)) : Type 0 where
@@ -75,11 +87,19 @@ pub record IsCheck (met : Option (Text × List Row)) : Type 0 where
   pub rows : List Row
   pub met_is : met ≡ Some (codes "check", rows)
 
+-- `log` was met
+pub record IsLog (met : Option (Text × List Row)) : Type 0 where
+  pub rows : List Row
+  pub met_is : met ≡ Some (codes "log", rows)
+  pub group : HasOne rows group_here
+  pub server : HasOne rows server_here
+
 -- one of the subcommands was met
 pub data IsMet (met : Option (Text × List Row)) : Type 0 where
   AsRun : IsRun met → IsMet met
   AsGen : IsGen met → IsMet met
   AsCheck : IsCheck met → IsMet met
+  AsLog : IsLog met → IsMet met
 
 run_good : (words : List Text) → level_passes (leaf (codes "run") run_rules) [] nothing_held words false ≡ true → HasOne (rows_after run_rules [] words) workers_here
 run_good words e =
@@ -95,26 +115,38 @@ gen_good words e =
       one_fits gen_rules workers_here rows gen_set.1.0 fit.0 (defaulted workers_here (codes "2") (with_default (settled gen_rules (walk gen_rules [] nothing_held words).held).rows number_here) refl),
     )
 
-abbrev met_of : Option Shape → List Text → Option (Text × List Row)
+log_good : (words : List Text) → level_passes (leaf (codes "log") log_rules) [] nothing_held words false ≡ true → HasOne (rows_after log_rules [] words) group_here × HasOne (rows_after log_rules [] words) server_here
+log_good words e =
+    let rows = rows_after log_rules [] words in
+    let fit = level_fit (codes "log") log_rules log_set words e in
+    let given = both (is_given (codes "G") rows) (is_given (codes "I") rows && true) fit.1 in
+    let given_server : is_given (codes "I") rows ≡ true = (both (is_given (codes "I") rows) true given.1).0 in (
+      one_fits log_rules group_here rows log_set.0 fit.0 (given_row (codes "G") rows given.0),
+      one_fits log_rules server_here rows log_set.1.0 fit.0 (given_row (codes "I") rows given_server),
+    )
+
+abbrev pub met_of : Option Shape → List Text → Option (Text × List Row)
 met_of found words = option_map (λ s. rows_at s words) found
 
 abbrev passes_at : Option Shape → List Text → Bool
 passes_at found words = option_map_or (λ s. level_passes s [] nothing_held words false) found true
 
-abbrev called : (run gen check : Bool) → Option Shape
-called run gen check = cond run (Some (leaf (codes "run") run_rules)) (cond gen (Some (leaf (codes "gen") gen_rules)) (cond check (Some (leaf (codes "check") [])) None))
+abbrev pub called : (run gen check log : Bool) → Option Shape
+called run gen check log =
+    cond run (Some (leaf (codes "run") run_rules)) (cond gen (Some (leaf (codes "gen") gen_rules)) (cond check (Some (leaf (codes "check") [])) (cond log (Some (leaf (codes "log") log_rules)) None)))
 
-by_name : (b c d : Bool) (words : List Text) → is_some (met_of (called b c d) words) ≡ true → passes_at (called b c d) words ≡ true → IsMet (met_of (called b c d) words)
-by_name true c d words some e = AsRun (record { rows = rows_after run_rules [] words; met_is = refl; workers = run_good words e })
-by_name false true d words some e = AsGen (record { rows = rows_after gen_rules [] words; met_is = refl; number = (gen_good words e).0; workers = (gen_good words e).1 })
-by_name false false true words some e = AsCheck (record { rows = rows_after [] [] words; met_is = refl })
-by_name false false false words some e = absurd (true≢false (sym some))
+by_name : (b c d l : Bool) (words : List Text) → is_some (met_of (called b c d l) words) ≡ true → passes_at (called b c d l) words ≡ true → IsMet (met_of (called b c d l) words)
+by_name true c d l words some e = AsRun (record { rows = rows_after run_rules [] words; met_is = refl; workers = run_good words e })
+by_name false true d l words some e = AsGen (record { rows = rows_after gen_rules [] words; met_is = refl; number = (gen_good words e).0; workers = (gen_good words e).1 })
+by_name false false true l words some e = AsCheck (record { rows = rows_after [] [] words; met_is = refl })
+by_name false false false true words some e = AsLog (record { rows = rows_after log_rules [] words; met_is = refl; group = (log_good words e).0; server = (log_good words e).1 })
+by_name false false false false words some e = absurd (true≢false (sym some))
 
 entered_good : (stop : Option (Text × List Text)) → is_some (entered (built command) stop) ≡ true → entered_passes (built command) stop ≡ true → IsMet (entered (built command) stop)
 entered_good None some e = absurd (true≢false (sym some))
-entered_good (Some p) some e = by_name (answers_to p.0 (codes "run", [])) (answers_to p.0 (codes "gen", [])) (answers_to p.0 (codes "check", [])) p.1 some e
+entered_good (Some p) some e = by_name (answers_to p.0 (codes "run", [])) (answers_to p.0 (codes "gen", [])) (answers_to p.0 (codes "check", [])) (answers_to p.0 (codes "log", [])) p.1 some e
 
-third : (a b c d : Bool) → (a && (b && (c && d))) ≡ true → c ≡ true
+pub third : (a b c d : Bool) → (a && (b && (c && d))) ≡ true → c ≡ true
 third a b c d e = (both c d (both b (c && d) (both a (b && (c && d)) e).1).1).0
 
 met_good : (words : List Text) → takes command words ≡ true → IsMet (subcommand_of command words)
@@ -135,7 +167,7 @@ met_of_words words e = met_good words e
 abbrev number : Text → ℕ
 number text = digits_value 10 (without_leading_plus text)
 
-accepted_task : (words : List Text) (met : Option (Text × List Row)) → is_accepted words ≡ true → subcommand_of command words ≡ met → task_of words ≡ option_and_then task_at met
+pub accepted_task : (words : List Text) (met : Option (Text × List Row)) → is_accepted words ≡ true → subcommand_of command words ≡ met → task_of words ≡ option_and_then task_at met
 unfolding task_of
 accepted_task words met good is = ap (λ (b : Bool). if b then option_and_then task_at (subcommand_of command words) else None) good ∙ ap (option_and_then task_at) is
 
@@ -152,6 +184,12 @@ gen_task words good gen =
 
 check_task : (words : List Text) → is_accepted words ≡ true → IsCheck (subcommand_of command words) → task_of words ≡ Some tasks.Check
 check_task words good check = accepted_task words (Some (codes "check", check.rows)) good check.met_is
+
+log_task : (words : List Text) → is_accepted words ≡ true → (log : IsLog (subcommand_of command words)) → task_of words ≡ Some (tasks.Log (number (without_minus log.group.text)) (number (without_minus log.server.text)))
+log_task words good log =
+    accepted_task words (Some (codes "log", log.rows)) good log.met_is
+    ∙ ap (λ (o : Option Text). option_and_then (λ group. option_map (λ server. tasks.Log group server) (number_at (codes "I") log.rows)) (option_map number o)) log.group.one
+    ∙ ap (λ (o : Option Text). option_map (λ server. tasks.Log (number (without_minus log.group.text)) server) (option_map number o)) log.server.one
 
 -- other words mean nothing
 none_of : (words : List Text) (b : Bool) → is_accepted words ≡ b → (b ≡ true → ⊥) → None ≡ task_of words
@@ -179,6 +217,7 @@ accepted_some words good = elim (met_of_words words good) [
   | AsRun run ↦ (tasks.Run (number (without_minus run.workers.text)), run_task words good run)
   | AsGen gen ↦ (tasks.Gen (number gen.number.text) (number (without_minus gen.workers.text)), gen_task words good gen)
   | AsCheck check ↦ (tasks.Check, check_task words good check)
+  | AsLog log ↦ (tasks.Log (number (without_minus log.group.text)) (number (without_minus log.server.text)), log_task words good log)
 ]
 
 none_means : (words : List Text) (b : Bool) → is_accepted words ≡ b → None ≡ task_of words → b ≡ false
@@ -211,6 +250,7 @@ has_run words m good is name = elim (met_of_words words good) [
   | AsRun run ↦ run
   | AsGen gen ↦ absurd (not_both (subcommand_name_of m) (codes "run") (codes "gen") refl refl name (named words m (Some (codes "gen", gen.rows)) is gen.met_is))
   | AsCheck check ↦ absurd (not_both (subcommand_name_of m) (codes "run") (codes "check") refl refl name (named words m (Some (codes "check", check.rows)) is check.met_is))
+  | AsLog log ↦ absurd (not_both (subcommand_name_of m) (codes "run") (codes "log") refl refl name (named words m (Some (codes "log", log.rows)) is log.met_is))
 ]
 
 pub has_gen : (words : List Text) (m : ArgMatches) → is_accepted words ≡ true → subcommand_rows_of m ≡ subcommand_of command words → subcommand_name_of m ≡ Some (codes "gen") → IsGen (subcommand_of command words)
@@ -218,6 +258,7 @@ has_gen words m good is name = elim (met_of_words words good) [
   | AsRun run ↦ absurd (not_both (subcommand_name_of m) (codes "gen") (codes "run") refl refl name (named words m (Some (codes "run", run.rows)) is run.met_is))
   | AsGen gen ↦ gen
   | AsCheck check ↦ absurd (not_both (subcommand_name_of m) (codes "gen") (codes "check") refl refl name (named words m (Some (codes "check", check.rows)) is check.met_is))
+  | AsLog log ↦ absurd (not_both (subcommand_name_of m) (codes "gen") (codes "log") refl refl name (named words m (Some (codes "log", log.rows)) is log.met_is))
 ]
 
 pub check_read : (words : List Text) (m : ArgMatches) → is_accepted words ≡ true → subcommand_rows_of m ≡ subcommand_of command words → subcommand_name_of m ≡ Some (codes "check") → Some tasks.Check ≡ task_of words
@@ -225,14 +266,24 @@ check_read words m good is name = elim (met_of_words words good) [
   | AsRun run ↦ absurd (not_both (subcommand_name_of m) (codes "check") (codes "run") refl refl name (named words m (Some (codes "run", run.rows)) is run.met_is))
   | AsGen gen ↦ absurd (not_both (subcommand_name_of m) (codes "check") (codes "gen") refl refl name (named words m (Some (codes "gen", gen.rows)) is gen.met_is))
   | AsCheck check ↦ sym (check_task words good check)
+  | AsLog log ↦ absurd (not_both (subcommand_name_of m) (codes "check") (codes "log") refl refl name (named words m (Some (codes "log", log.rows)) is log.met_is))
+]
+
+pub has_log : (words : List Text) (m : ArgMatches) → is_accepted words ≡ true → subcommand_rows_of m ≡ subcommand_of command words → subcommand_name_of m ≡ Some (codes "log") → IsLog (subcommand_of command words)
+has_log words m good is name = elim (met_of_words words good) [
+  | AsRun run ↦ absurd (not_both (subcommand_name_of m) (codes "log") (codes "run") refl refl name (named words m (Some (codes "run", run.rows)) is run.met_is))
+  | AsGen gen ↦ absurd (not_both (subcommand_name_of m) (codes "log") (codes "gen") refl refl name (named words m (Some (codes "gen", gen.rows)) is gen.met_is))
+  | AsCheck check ↦ absurd (not_both (subcommand_name_of m) (codes "log") (codes "check") refl refl name (named words m (Some (codes "check", check.rows)) is check.met_is))
+  | AsLog log ↦ log
 ]
 
 pub has_one : (words : List Text) (m : ArgMatches) → is_accepted words ≡ true → subcommand_rows_of m ≡ subcommand_of command words
-    → (subcommand_name_of m ≡ Some (codes "run") → ⊥) → (subcommand_name_of m ≡ Some (codes "gen") → ⊥) → (subcommand_name_of m ≡ Some (codes "check") → ⊥) → ⊥
-has_one words m good is not_run not_gen not_check = elim (met_of_words words good) [
+    → (subcommand_name_of m ≡ Some (codes "run") → ⊥) → (subcommand_name_of m ≡ Some (codes "gen") → ⊥) → (subcommand_name_of m ≡ Some (codes "check") → ⊥) → (subcommand_name_of m ≡ Some (codes "log") → ⊥) → ⊥
+has_one words m good is not_run not_gen not_check not_log = elim (met_of_words words good) [
   | AsRun run ↦ not_run (named words m (Some (codes "run", run.rows)) is run.met_is)
   | AsGen gen ↦ not_gen (named words m (Some (codes "gen", gen.rows)) is gen.met_is)
   | AsCheck check ↦ not_check (named words m (Some (codes "check", check.rows)) is check.met_is)
+  | AsLog log ↦ not_log (named words m (Some (codes "log", log.rows)) is log.met_is)
 ]
 
 -- the rows of a parse are those of the subcommand
@@ -256,6 +307,15 @@ module _ {E : Type 0} (G : List ℕ → Result ℕ E → Type 0) where
       let (n, is_n, low, high) = signed_reads E G 32 1 8 one.text r read only (omega arith) (accepts-Accepts false (parsers.Signed (pos 1) (pos 8)) one.text one.good) in
       let value = exact 32 only (without_minus one.text) r n read is_n in
       (n, is_n, cc (value, is_n), low, high)
+
+  -- a number that a place reads
+  pub place_read : ((u : List ℕ) (x : Result ℕ E) → G u x → ParsesUnsigned 8 10 u x) → (id text : Text) (last : ℕ) → last < 2 ^ 8 → fits false (parsers.Signed (pos 0) (pos last)) text ≡ true → (rows : List Row) (f : Found) (r : Option ℕ) → one_of id rows ≡ Some (without_minus text)
+      → rows_of f ≡ rows → ((text : Text) → one_text f id ≡ Some text → ReadsOne G text r) → (n : ℕ) × (r ≡ Some n) × (n ≡ number (without_minus text)) × (n ≤ last)
+  place_read only id text last small good rows f r one same reads =
+      let read : ReadsOne G (without_minus text) r = reads (without_minus text) (one_text-rows f id ∙ ap (one_of id) same ∙ one) in
+      let (n, is_n, low, high) = signed_reads E G 8 0 last text r read only small (accepts-Accepts false (parsers.Signed (pos 0) (pos last)) text good) in
+      let value = exact 8 only (without_minus text) r n read is_n in
+      (n, is_n, cc (value, is_n), high)
 
   unsigned : ((u : List ℕ) (x : Result ℕ E) → G u x → ParsesUnsigned 64 10 u x) → (text : Text) (r : Option ℕ) → ReadsOne G text r → fits false (parsers.Unsigned 0 18446744073709551615) text ≡ true → r ≡ Some (number text)
   unsigned only text (Some v) read good = ap Some (only text (Ok v) read).1
@@ -289,13 +349,17 @@ module _ {E : Type 0} (G : List ℕ → Result ℕ E → Type 0) (only : (u : Li
       let (n, is_n, value, low, high) = workers_read G only gen.rows f r gen.workers same reads in
       (number gen.number.text, n, number_read H only_64 gen.rows f q gen.number same reads_number, is_n, ap (λ k. Some (tasks.Gen (number gen.number.text) k)) value ∙ sym (gen_task words good gen), low, high)
 
--- the number alone
-pub gen_number : {F : Type 0} (H : List ℕ → Result ℕ F → Type 0) → ((u : List ℕ) (x : Result ℕ F) → H u x → ParsesUnsigned 64 10 u x) → (words : List Text) (m : ArgMatches) (f : Found) (q : Option ℕ) → is_accepted words ≡ true
-    → subcommand_rows_of m ≡ subcommand_of command words → option_map (λ p. p.1) (subcommand_rows (out-ArgMatches m).subcommand) ≡ Some (rows_of f) → subcommand_name_of m ≡ Some (codes "gen")
-    → ((text : Text) → one_text f (codes "N") ≡ Some text → ReadsOne H text q) → (k : ℕ) × (q ≡ Some k)
-gen_number H only words m f q good is found name reads =
-    let gen = has_gen words m good is name in
-    (number gen.number.text, number_read H only gen.rows f q gen.number (rows_met words m f (codes "gen") gen.rows is gen.met_is found) reads)
+-- one that met `log` reads its group and its server
+pub log_read : {E : Type 0} (G : List ℕ → Result ℕ E → Type 0) → ((u : List ℕ) (x : Result ℕ E) → G u x → ParsesUnsigned 8 10 u x) → (words : List Text) (m : ArgMatches) (f : Found) → is_accepted words ≡ true → subcommand_rows_of m ≡ subcommand_of command words
+    → option_map (λ p. p.1) (subcommand_rows (out-ArgMatches m).subcommand) ≡ Some (rows_of f) → (q r : Option ℕ) → subcommand_name_of m ≡ Some (codes "log")
+    → ((text : Text) → one_text f (codes "G") ≡ Some text → ReadsOne G text q) → ((text : Text) → one_text f (codes "I") ≡ Some text → ReadsOne G text r)
+    → (k : ℕ) × (n : ℕ) × (q ≡ Some k) × (r ≡ Some n) × (Some (tasks.Log k n) ≡ task_of words) × (k ≤ 7) × (n ≤ 2)
+log_read G only words m f good is found q r name reads_group reads_server =
+    let log = has_log words m good is name in
+    let same = rows_met words m f (codes "log") log.rows is log.met_is found in
+    let (k, is_k, group, low) = place_read G only (codes "G") log.group.text 7 (omega arith) log.group.good log.rows f q log.group.one same reads_group in
+    let (n, is_n, server, small) = place_read G only (codes "I") log.server.text 2 (omega arith) log.server.good log.rows f r log.server.one same reads_server in
+    (k, n, is_k, is_n, ap (λ g. Some (tasks.Log g n)) group ∙ ap (λ i. Some (tasks.Log (number (without_minus log.group.text)) i)) server ∙ sym (log_task words good log), low, small)
 
 -- ---- what was accepted before there was `gen`
 

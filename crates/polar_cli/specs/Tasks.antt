@@ -1,11 +1,11 @@
 -- What the words of the command line ask for.
-use Rattle.std.specs.Prelude.{ℕ, ◌≤◌, if◌then◌else◌, List, Option, Some, None, option_and_then, option_map, codes}
+use Rattle.std.specs.Prelude.{ℕ, ◌≡◌, ◌≤◌, true, if◌then◌else◌, List, Option, Some, None, option_and_then, option_map, codes}
 use Rattle.std.specs.Str.{bytes_eq}
 use Rattle.std.specs.Str.Parse.{digits_value, without_leading_plus}
-use Rattle.clap.specs.Words.{Row, Text, one_of, subcommand_of}
+use Rattle.clap.specs.Words.{Row, Text, one_of, subcommand_of, takes}
 use Rattle.polar_cli.specs.declared.words.Task.{Task}
 use Rattle.polar_cli.specs.declared.words.Task.TheVariants as tasks
-use Rattle.polar_cli.specs.Words.{command, is_accepted}
+use Rattle.polar_cli.specs.Words.{command, is_accepted, without_log}
 
 -- the number that is given to an argument, or stands for it
 abbrev pub number_at : Text → List Row → Option ℕ
@@ -17,19 +17,28 @@ worked_task_at met = option_and_then (λ workers.
     if bytes_eq met.0 (codes "gen") then option_map (λ number. tasks.Gen number workers) (number_at (codes "N") met.1)
     else Some (tasks.Run workers)) (number_at (codes "workers") met.1)
 
--- `check`, or else one of those two
+-- `log`, with its group and its server
+abbrev pub log_task_at : List Row → Option Task
+log_task_at rows = option_and_then (λ group. option_map (λ server. tasks.Log group server) (number_at (codes "I") rows)) (number_at (codes "G") rows)
+
+-- `check`, or `log`, or else one of those two
 abbrev pub task_at : Text × List Row → Option Task
-task_at met = if bytes_eq met.0 (codes "check") then Some tasks.Check else worked_task_at met
+task_at met = if bytes_eq met.0 (codes "check") then Some tasks.Check else if bytes_eq met.0 (codes "log") then log_task_at met.1 else worked_task_at met
 
 -- where the words are accepted
 unfoldable pub task_of : List Text → Option Task
 task_of words = if is_accepted words then option_and_then task_at (subcommand_of command words) else None
 
--- sectors are copied on 1 to 8 threads
-abbrev pub HasFewWorkers : Task → Type 0
-HasFewWorkers (tasks.Run workers) = (1 ≤ workers) × (workers ≤ 8)
-HasFewWorkers (tasks.Gen number workers) = (1 ≤ workers) × (workers ≤ 8)
-HasFewWorkers tasks.Check = Unit {0}
+-- words that the command takes without `log` are accepted, and ask for the same
+abbrev pub KeepsTask : List Text → Type 0
+KeepsTask words = takes without_log words ≡ true → (is_accepted words ≡ true) × (task_of words ≡ option_and_then task_at (subcommand_of without_log words))
+
+-- sectors are copied on 1 to 8 threads; there are 8 groups, each of 3 servers
+abbrev pub IsInRange : Task → Type 0
+IsInRange (tasks.Run workers) = (1 ≤ workers) × (workers ≤ 8)
+IsInRange (tasks.Gen number workers) = (1 ≤ workers) × (workers ≤ 8)
+IsInRange tasks.Check = Unit {0}
+IsInRange (tasks.Log group server) = (group ≤ 7) × (server ≤ 2)
 
 -- this holds where the script of the source is to be run
 abbrev pub IfRun : Option Task → Type 0 → Type 0
@@ -45,3 +54,8 @@ IfGen task P = Unit {0}
 abbrev pub IfCheck : Option Task → Type 0 → Type 0
 IfCheck (Some tasks.Check) P = P
 IfCheck task P = Unit {0}
+
+-- and this where the records of a server are to be listed
+abbrev pub IfLog : Option Task → ((group server : ℕ) → Type 0) → Type 0
+IfLog (Some (tasks.Log group server)) P = P group server
+IfLog task P = Unit {0}

@@ -18,6 +18,19 @@ number_rule = record (new_rule (codes "N")) {
   required = true;
 }
 
+-- `G` and `I`: whole numbers from 0 to 7 and from 0 to 2, which have to come
+abbrev pub group_rule : Rule
+group_rule = record (new_rule (codes "G")) {
+  parser = Some (parsers.Signed (pos 0) (pos 7));
+  required = true;
+}
+
+abbrev pub server_rule : Rule
+server_rule = record (new_rule (codes "I")) {
+  parser = Some (parsers.Signed (pos 0) (pos 2));
+  required = true;
+}
+
 abbrev pub run_shape : Shape
 run_shape = (with_rule (new_app (codes "run")) workers_rule).top
 
@@ -26,6 +39,9 @@ gen_shape = (with_rule (with_rule (new_app (codes "gen")) number_rule) workers_r
 
 abbrev pub check_shape : Shape
 check_shape = (new_app (codes "check")).top
+
+abbrev pub log_shape : Shape
+log_shape = (with_rule (with_rule (new_app (codes "log")) group_rule) server_rule).top
 
 -- the program's name, which is no word; one of its subcommands has to come, and it has no help
 abbrev pub bare : App
@@ -39,8 +55,12 @@ bare = record {
   subs = [];
 }
 
+-- `run`, `gen` and `check`
+abbrev pub without_log : App
+without_log = with_subcommand (with_subcommand (with_subcommand bare run_shape) gen_shape) check_shape
+
 abbrev pub command : App
-command = with_subcommand (with_subcommand (with_subcommand bare run_shape) gen_shape) check_shape
+command = with_subcommand without_log log_shape
 
 -- the words are those that clap takes of this command
 unfoldable pub is_accepted : List Text → Bool

@@ -1,8 +1,8 @@
 //! The words of the command line.
 ghost use Rattle.std.specs.Prelude.{◌≡◌, false, IfOk, IfSome, map, string_bytes};
 ghost use Rattle.clap.specs.Words.{app_of, rule_of};
-ghost use Rattle.polar_cli.specs.Words.{command, number_rule, workers_rule};
-ghost use Rattle.polar_cli.specs.Tasks.{HasFewWorkers, task_of};
+ghost use Rattle.polar_cli.specs.Words.{command, group_rule, number_rule, server_rule, workers_rule};
+ghost use Rattle.polar_cli.specs.Tasks.{IsInRange, task_of};
 
 use clap::error::ErrorKind;
 use clap::{Arg, Command};
@@ -18,6 +18,8 @@ pub enum Task {
     Gen { number: u64, workers: u32 },
     /// To judge the tables that the source's list of transactions makes, and to write one line.
     Check,
+    /// To list the records of a server of a group, as a restart would find them on its disks.
+    Log { group: u8, server: u8 },
 }
 
 /// `--workers`, with one whole number from 1 to 8.
@@ -41,7 +43,27 @@ fn number_place<'a>(alloc: Global) -> Arg<'a>
         .value_parser(clap::value_parser!(u64))
 }
 
-/// What the program reads of its words: `run`, or `gen N`, each with the option `--workers`, or `check`.
+/// `G`, a whole number from 0 to 7 that has to come.
+fn group_place<'a>(alloc: Global) -> Arg<'a>
+    ensures rule { rule_of result ≡ group_rule }
+    ensures global { result.global ≡ false }
+{
+    Arg::new(alloc, "G")
+        .required(true)
+        .value_parser(clap::value_parser!(u8).range(0..=7))
+}
+
+/// `I`, a whole number from 0 to 2 that has to come.
+fn server_place<'a>(alloc: Global) -> Arg<'a>
+    ensures rule { rule_of result ≡ server_rule }
+    ensures global { result.global ≡ false }
+{
+    Arg::new(alloc, "I")
+        .required(true)
+        .value_parser(clap::value_parser!(u8).range(0..=2))
+}
+
+/// What the program reads of its words: `run`, or `gen N`, each with the option `--workers`, `check`, or `log G I`.
 fn command<'a>(alloc: Global) -> Result<Command<'a>, AllocError>
     ensures { IfOk result (λ made. app_of made ≡ command) }
 {
@@ -49,6 +71,9 @@ fn command<'a>(alloc: Global) -> Result<Command<'a>, AllocError>
     let generate = Command::new(alloc, "gen")
         .arg(number_place(alloc))?
         .arg(workers_option(alloc))?;
+    let log = Command::new(alloc, "log")
+        .arg(group_place(alloc))?
+        .arg(server_place(alloc))?;
     Command::new(alloc, "polarfs")
         .no_binary_name(true)
         .disable_help_flag(true)
@@ -56,15 +81,16 @@ fn command<'a>(alloc: Global) -> Result<Command<'a>, AllocError>
         .subcommand_required(true)
         .subcommand(run)?
         .subcommand(generate)?
-        .subcommand(Command::new(alloc, "check"))
+        .subcommand(Command::new(alloc, "check"))?
+        .subcommand(log)
 }
 
-/// What the words ask for, where they are accepted, and else `None`. The workers are 1 to 8.
+/// What the words ask for, where they are accepted, and else `None`. The workers are 1 to 8, a group 0 to 7 and a server 0 to 2.
 ///
 /// `NoMemory` (1) where memory runs out before it is known.
 pub fn read_task(alloc: Global, words: &[String]) -> Result<Option<Task>, NoMemory>
     ensures told { IfOk result (λ told. told ≡ task_of (map string_bytes words.now)) }
-    ensures bound { IfOk result (λ told. IfSome told HasFewWorkers) }
+    ensures bound { IfOk result (λ told. IfSome told IsInRange) }
 {
     let matches = match command(alloc)?.try_get_matches_from(words) {
         Ok(matches) => matches,
@@ -76,23 +102,27 @@ pub fn read_task(alloc: Global, words: &[String]) -> Result<Option<Task>, NoMemo
             };
         }
     };
-    match matches.subcommand_matches("run") {
-        Some(met) => match met.get_one::<u32>("workers") {
-            Some(workers) => Ok(Some(Task::Run { workers })),
-            None => Ok(None),
-        },
-        None => match matches.subcommand_matches("gen") {
-            Some(met) => match met.get_one::<u64>("N") {
-                Some(number) => match met.get_one::<u32>("workers") {
-                    Some(workers) => Ok(Some(Task::Gen { number, workers })),
-                    None => Ok(None),
-                },
-                None => Ok(None),
-            },
-            None => match matches.subcommand_matches("check") {
-                Some(_) => Ok(Some(Task::Check)),
-                None => Ok(None),
-            },
-        },
+    if let Some(met) = matches.subcommand_matches("run") {
+        let Some(workers) = met.get_one::<u32>("workers") else {
+            return Ok(None);
+        };
+        return Ok(Some(Task::Run { workers }));
+    }
+    if let Some(met) = matches.subcommand_matches("gen") {
+        let (Some(number), Some(workers)) = (met.get_one::<u64>("N"), met.get_one::<u32>("workers"))
+        else {
+            return Ok(None);
+        };
+        return Ok(Some(Task::Gen { number, workers }));
+    }
+    if let Some(met) = matches.subcommand_matches("log") {
+        let (Some(group), Some(server)) = (met.get_one::<u8>("G"), met.get_one::<u8>("I")) else {
+            return Ok(None);
+        };
+        return Ok(Some(Task::Log { group, server }));
+    }
+    match matches.subcommand_matches("check") {
+        Some(_) => Ok(Some(Task::Check)),
+        None => Ok(None),
     }
 }

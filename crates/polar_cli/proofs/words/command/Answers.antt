@@ -3,7 +3,7 @@ use Rattle.std.proofs.lemmas.Result.{IfOk-weaker}
 use Rattle.clap.specs.Words.{App, app_of, new_app, with_rule, with_subcommand}
 use Rattle.clap.specs.declared.builder.command.Command.TheViews.{out-Command}
 use Rattle.clap.specs.Simple.{app_of_fields, on_top}
-use Rattle.polar_cli.specs.Words.{bare, gen_shape, number_rule, run_shape, workers_rule}
+use Rattle.polar_cli.specs.Words.{bare, check_shape, gen_shape, group_rule, number_rule, run_shape, server_rule, workers_rule}
 use Rattle.polar_cli.proofs.words.command.Goals as goal
 
 pub returns : goal.returns
@@ -24,9 +24,17 @@ returns c =
     ∙ ap (on_top (λ s. record s { disable_help_subcommand = true }))
     (ap app_of_fields c.disable_help_flag.ensures
     ∙ ap (on_top (λ s. record s { disable_help_flag = true }))
-    (ap app_of_fields c.no_binary_name.ensures ∙ ap (on_top (λ s. record s { no_binary_name = true })) c.new-3.ensures.app))) in
+    (ap app_of_fields c.no_binary_name.ensures ∙ ap (on_top (λ s. record s { no_binary_name = true })) c.new-4.ensures.app))) in
     let one_is : app_of c.in_ok-subcommand.field-0 ≡ with_subcommand bare run_shape =
     c.in_ok-subcommand.ensures.shape run_local ∙ ap₂ with_subcommand bare_is (ap (λ (a : App). a.top) run_is) in
     let two_is : app_of c.in_ok-subcommand-2.field-0 ≡ with_subcommand (with_subcommand bare run_shape) gen_shape =
     c.in_ok-subcommand-2.ensures.shape gen_local ∙ ap₂ with_subcommand one_is (ap (λ (a : App). a.top) gen_is) in
-    IfOk-weaker c.subcommand-3.result _ _ (λ made h. h.shape c.new-4.ensures.local ∙ ap₂ with_subcommand two_is (ap (λ (a : App). a.top) c.new-4.ensures.app)) c.subcommand-3.ensures
+    let group_is : app_of c.in_ok-arg-2.field-0 ≡ with_rule (new_app (codes "log")) group_rule =
+    c.in_ok-arg-2.ensures.shape c.group_place.ensures.global ∙ ap₂ with_rule c.new-3.ensures.app c.group_place.ensures.rule in
+    let group_local : (out-Command c.in_ok-arg-2.field-0).has_globals ≡ false = c.in_ok-arg-2.ensures.globals ∙ ap₂ ◌||◌ c.new-3.ensures.local c.group_place.ensures.global in
+    let log_is : app_of c.in_ok-log.log ≡ with_rule (with_rule (new_app (codes "log")) group_rule) server_rule =
+    c.in_ok-log.ensures.shape c.server_place.ensures.global ∙ ap₂ with_rule group_is c.server_place.ensures.rule in
+    let log_local : (out-Command c.in_ok-log.log).has_globals ≡ false = c.in_ok-log.ensures.globals ∙ ap₂ ◌||◌ group_local c.server_place.ensures.global in
+    let three_is : app_of c.in_ok-subcommand-3.field-0 ≡ with_subcommand (with_subcommand (with_subcommand bare run_shape) gen_shape) check_shape =
+    c.in_ok-subcommand-3.ensures.shape c.new-5.ensures.local ∙ ap₂ with_subcommand two_is (ap (λ (a : App). a.top) c.new-5.ensures.app) in
+    IfOk-weaker c.subcommand-4.result _ _ (λ made h. h.shape log_local ∙ ap₂ with_subcommand three_is (ap (λ (a : App). a.top) log_is)) c.subcommand-4.ensures
