@@ -1,0 +1,67 @@
+-- What may cross threads.
+use denote.RattleType.{RattleType}
+use denote.Enum.Declared as enums
+use denote.Param.Send.{IsSend, IsSync, enum_send, recorded_send, recorded_sync, sendable, struct_send, struct_sync}
+use denote.Struct.Declared.{shape}
+use Rattle.pf_disk.specs.declared.disk.Disk.{Ghosts}
+use Rattle.pf_group.specs.contracts.group.Group as Group
+use Rattle.pf_shared.specs.contracts.moment.Moment as Moment
+use Rattle.pf_shared.specs.contracts.start.Start as Start
+use Rattle.pf_shared.specs.contracts.behind.Behind as Behind
+use Rattle.pf_shared.specs.contracts.parts.GroupSeat as GroupSeat
+use Rattle.pf_shared.specs.contracts.parts.SharedGroup as SharedGroup
+use Rattle.pf_live.specs.contracts.applying.Applier as Applier
+use Rattle.pf_live.specs.contracts.line.Line as Line
+use Rattle.pf_live.specs.contracts.submitting.Submitter as Submitter
+use Rattle.pf_live.specs.contracts.switching.Switch as Switch
+use Rattle.pf_liveline.specs.contracts.worker.Worker as Worker
+use Rattle.pf_live.proofs.hosting.Host.TheSendSync as host
+use Rattle.pf_live.proofs.serving.Served.TheSendSync as served
+use Rattle.pf_leadercell.proofs.cell.LeaderPass.TheSendSync as pass
+use Rattle.std.proofs.sync.atomic.AtomicU64.TheSendSync as word
+use Rattle.std.proofs.sync.atomic.AtomicBool.TheSendSync as bit
+use Rattle.pf_turn.proofs.parts.TurnSeat.TheSendSync as seat
+use Rattle.pf_turn.proofs.parts.TurnLock.TheSendSync as lock
+use Rattle.pf_group.proofs.group.Group.TheSendSync as group
+use Rattle.pf_turn.proofs.log.Stamped.TheSendSync as stamped
+use Rattle.pf_shared.proofs.moment.Did.TheSendSync as did
+use Rattle.pf_leadercell.proofs.cell.LeaderCell.TheSendSync as cell
+use Rattle.pf_live.proofs.plan.Plan.TheSendSync as plan
+use Rattle.pf_rings.proofs.ring.Ring.TheSendSync as ring
+use Rattle.std.proofs.vec.Vec.TheSendSync as vec
+use Rattle.std.proofs.alloc.Global.TheSendSync as heap
+use Rattle.std.proofs.Crossing.{frees}
+
+pub group_send : (D : RattleType) (g : Ghosts D.Denot) → IsSend D → IsSend (Group.the_row D g)
+group_send D g d = group.the_send D g d
+
+pub start_send : (D : RattleType) (g : Ghosts D.Denot) → IsSend D → IsSend (Start.the_row D g)
+start_send D g d = search sendable depth 30
+
+pub behind_send : (D : RattleType) (g : Ghosts D.Denot) → IsSend D → IsSend (Group.the_row D g) → IsSend (Start.the_row D g) → IsSend (Behind.the_row D g)
+behind_send D g d s t = recorded_send _ _ _ (Behind.the_type D g).to_one (struct_send (shape (Behind.the_type D g)) (s, (t, ((let e = stamped.the_send _ did.the_send in search (sendable, vec.the_send, heap.the_send, frees) depth 30), (search sendable depth 30, (search sendable depth 30, tt))))))
+
+pub seat_send : (D : RattleType) (g : Ghosts D.Denot) → IsSend D → IsSend (GroupSeat.the_field D g).row
+seat_send D g d = let b = behind_send D g d (group_send D g d) (start_send D g d) in struct_send (shape (GroupSeat.the_type D g)) (seat.the_field_send Moment.the_row (Start.the_row D g) (Behind.the_row D g) b, tt)
+
+pub applier_send : (D : RattleType) (g : Ghosts D.Denot) → IsSend D → IsSend (Applier.the_field D g).row
+applier_send D g d = let s = seat_send D g d in struct_send (shape (Applier.the_type D g)) (s, (search sendable, (search sendable, (search sendable, (search sendable, tt)))))
+
+pub switch_send : (D : RattleType) (g : Ghosts D.Denot) → IsSend D → IsSend (Switch.the_field D g).row
+switch_send D g d = let s = seat_send D g d in struct_send (shape (Switch.the_type D g))
+    (s, (search sendable depth 30, (pass.the_field_send, (search sendable, (search sendable, (search sendable, (search sendable, (search sendable, (search sendable, tt)))))))))
+
+pub submitter_send : (D : RattleType) (g : Ghosts D.Denot) → IsSend D → IsSend (Submitter.the_field D g).row
+submitter_send D g d = let s = seat_send D g d in struct_send (shape (Submitter.the_type D g))
+    (s, (search sendable depth 30, (pass.the_field_send, (search (sendable, vec.the_send, served.the_send, heap.the_send, frees) depth 30, (search sendable, (search sendable, (search sendable, tt)))))))
+
+pub worker_send : (D : RattleType) (g : Ghosts D.Denot) → IsSend D → IsSend (Worker.the_row D g)
+worker_send D g d = recorded_send _ _ _ (Worker.the_type D g).to_one (enum_send (enums.shape (Worker.the_type D g))
+    ((host.the_field_send, tt), ((submitter_send D g d, tt), ((switch_send D g d, tt), ((applier_send D g d, tt), tt)))))
+
+pub shared_sync : (D : RattleType) (g : Ghosts D.Denot) → IsSend D → IsSync (SharedGroup.the_field D g).row
+shared_sync D g d = let b = behind_send D g d (group_send D g d) (start_send D g d) in struct_sync (shape (SharedGroup.the_type D g)) (lock.the_field_sync Moment.the_row (Start.the_row D g) (Behind.the_row D g) _ b, tt)
+
+pub line_sync : (D G : RattleType) (g : Ghosts D.Denot) → IsSend D → IsSync G → IsSync (Line.the_row D G g)
+line_sync D G g d y = let s = shared_sync D g d in
+    recorded_sync _ _ _ (Line.the_type D G g).to_one (struct_sync (shape (Line.the_type D G g)) (s, (y, (search (sendable, heap.the_field_sync), (cell.the_field_sync, (plan.the_field_sync, (search (sendable, vec.the_sync, ring.the_sync, heap.the_sync, frees) depth 30, (search (sendable, vec.the_sync, word.the_sync, heap.the_sync, frees) depth 30, (search (sendable, word.the_sync), (search (sendable, word.the_sync), (search (sendable, bit.the_sync, word.the_sync), tt)))))))))))

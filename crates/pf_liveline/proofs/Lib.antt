@@ -1,0 +1,4 @@
+pub mod Crossing
+pub mod Entries
+pub mod Runs
+pub mod Ends
