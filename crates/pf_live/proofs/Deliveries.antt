@@ -6,22 +6,22 @@ use Rattle.pf_turn.specs.declared.log.Stamped.{Stamped}
 use Rattle.pf_turn.specs.Lists.{Begins, entries_of}
 use Rattle.pf_turn.specs.Own.{EachOf}
 use Rattle.pf_protocol.specs.Groups.{Group}
-use Rattle.pf_protocol.specs.Histories.{History, run}
 use Rattle.pf_protocol.specs.declared.answers.Answer.{Answer}
 use Rattle.pf_protocol.specs.declared.events.Event.TheVariants.{Deliver}
-use Rattle.pf_protocol.proofs.ForMoments.{legal_before, run_parts}
+use Rattle.pf_protocol.proofs.ForMoments.{legal_before}
 use Rattle.pf_group.specs.GroupIs.{GroupIs}
 use Rattle.pf_group.specs.Packets.{IsPassedUpTo, is_passed_over, least_from}
 use Rattle.pf_group.proofs.Sending.{OnlySent, run_sent}
 use Rattle.pf_group.proofs.Passing.{IsFound, least_found, least_is, left_low, one_more_passed, passed_further, passed_later}
 use Rattle.pf_shared.specs.declared.moment.Moment.{Moment}
 use Rattle.pf_shared.specs.declared.moment.Moment.TheVariants.{Happened, Look}
-use Rattle.pf_shared.specs.Moments.{entry, happenings, with_moment}
+use Rattle.pf_shared.specs.Moments.{entry, happenings}
 use Rattle.pf_shared.specs.Since.{state_at, whole}
 use Rattle.pf_shared.specs.Calls.{Adds, Finds, IsHistory, Steps}
 use Rattle.pf_shared.specs.Delivering.{DeliversLeft}
 use Rattle.pf_live.specs.Deliveries.{Line, deliveries, delivers, is_passed, passes_over}
 use Rattle.pf_live.specs.Switches.{Delivers, HasDelivered, IsSwitch}
+use Rattle.pf_live.proofs.Happenings.{begins_snoc, state_more, whole_more}
 use Rattle.pf_live.proofs.Hands.{each_adds, each_finds}
 use Rattle.pf_disk.specs.declared.disk.Disk.{Ghosts}
 use Rattle.pf_leadercell.specs.Passes.{IsFirst, IsPassOf}
@@ -29,24 +29,6 @@ use Rattle.pf_leadercell.specs.declared.cell.LeaderCell.{LeaderCell}
 use Rattle.pf_shared.specs.declared.parts.SharedGroup.{SharedGroup}
 use Rattle.pf_shared.specs.Seats.{IsSeatOf, number_of, root_in, seen_by}
 use Rattle.pf_live.specs.declared.switching.Switch.{Switch}
-
-with-append : (what : Moment) (xs ys : History) → with_moment what (xs ++ ys) ≡ with_moment what xs ++ ys
-with-append (Happened h) xs ys = refl
-with-append (Look read) xs ys = refl
-
-pub happenings-append : (xs ys : Line) → happenings (xs ++ ys) ≡ happenings xs ++ happenings ys
-happenings-append [] ys = refl
-happenings-append (x ∷ xs) ys = ap (with_moment x.what) (happenings-append xs ys) ∙ with-append x.what (happenings xs) (happenings ys)
-
-pub begins_snoc : (seen found new : Line) (e : Stamped Moment) → Begins seen found → new ≡ found ++ e ∷ [] → Begins seen new
-begins_snoc seen found new e p is = (p.0 ++ e ∷ [], sym (append_assoc seen p.0 (e ∷ [])) ∙ (ap (λ l. l ++ e ∷ []) p.1 ∙ sym is))
-
--- what happened up to a longer list
-pub whole_more : (root : GroupIs) (seen rest new : Line) → seen ++ rest ≡ new → whole root seen ++ happenings rest ≡ whole root new
-whole_more root seen rest new is = append_assoc root.history (happenings seen) (happenings rest) ∙ (ap (λ l. root.history ++ l) (sym (happenings-append seen rest)) ∙ ap (whole root) is)
-
-pub state_more : (root : GroupIs) (seen rest new : Line) → seen ++ rest ≡ new → run root.setup (state_at root seen) (happenings rest) ≡ state_at root new
-state_more root seen rest new is = sym (run_parts root.setup _ (whole root seen) (happenings rest)) ∙ ap (λ l. Rattle.pf_protocol.specs.Histories.replay root.setup l) (whole_more root seen rest new is)
 
 -- packets are only sent and marked
 pub sent_later : (root : GroupIs) (seen new : Line) → Begins seen new → OnlySent (state_at root seen).packets (state_at root new).packets

@@ -5,8 +5,7 @@ use Rattle.pf_base.specs.Span.{IsWritable, Span}
 use Rattle.pf_entry.specs.Lists.{Every}
 use Rattle.pf_entry.specs.declared.ops.Op.{Op}
 use Rattle.pf_entry.specs.declared.ops.Op.TheVariants.{Write}
-use Rattle.pf_turn.specs.declared.log.Stamped.{Stamped}
-use Rattle.pf_turn.specs.Lists.{Begins, entries_of}
+use Rattle.pf_turn.specs.Lists.{Begins}
 use Rattle.pf_turn.specs.Own.{EachOf}
 use Rattle.pf_turn.proofs.Own.{each_longer, each_snoc}
 use Rattle.pf_protocol.specs.Servers.{Condition, Running, Stopped, Unformatted, Server}
@@ -17,7 +16,7 @@ use Rattle.pf_protocol.specs.declared.answers.Answer.TheVariants as answers
 use Rattle.pf_protocol.specs.declared.events.Event.TheVariants.{Submit}
 use Rattle.pf_group.specs.declared.errors.Down.{Down}
 use Rattle.pf_group.specs.GroupIs.{GroupIs}
-use Rattle.pf_group.specs.Readers.{IsDown, OfRunning, TellsOf}
+use Rattle.pf_group.specs.Readers.{TellsOf}
 use Rattle.pf_rings.specs.Passes.{taken_by}
 use Rattle.pf_rings.specs.declared.view.Request.{Request}
 use Rattle.pf_shared.specs.declared.moment.Moment.{Moment}
@@ -32,7 +31,7 @@ use Rattle.pf_live.specs.declared.serving.Standing.{Standing}
 use Rattle.pf_live.specs.declared.serving.Standing.TheVariants.{Asked, Placed, Settled}
 use Rattle.pf_live.specs.Deliveries.{Line}
 use Rattle.pf_live.specs.Submissions.{IsNextWrite, is_told, is_write_of, slot_at, slot_got, slot_with, slots_of}
-use Rattle.pf_live.specs.Submitters.{AllTold, IsCounted, IsFed, IsLast, Serves, ServesOn, Stands, Submits, SubmitsAlone, standing_after}
+use Rattle.pf_live.specs.Submitters.{AllTold, IsCounted, IsFed, IsLast, ServesOn, Stands, Submits, SubmitsAlone, standing_after}
 use Rattle.pf_live.specs.Writes.{byte_of, first_requests, op_of, request_of}
 use Rattle.pf_live.proofs.Submissions.{all_told_later, alone_before, every_snoc, others_quiet, slots_quiet, slots_snoc, told_later}
 

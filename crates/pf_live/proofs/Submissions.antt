@@ -1,28 +1,27 @@
 -- Slots of hosts' writes, as a list goes on.
-use Rattle.std.proofs.Common.{◌≡◌, ◌≢◌, ℕ, zero, suc, ◌+◌, ◌<◌, Bool, true, false, cond, ◌&&◌, ◌||◌, ◌==◌, eqb, eq-eqb, eqb-true, List, [], ◌∷◌, ◌++◌, length, Option, Some, None, slice_get, append_assoc, append-nil, arith, refl, sym, ap, ◌∙◌, subst}
+use Rattle.std.proofs.Common.{◌≡◌, ◌≢◌, ℕ, zero, suc, Bool, true, false, cond, ◌&&◌, ◌||◌, ◌==◌, eqb, eq-eqb, List, [], ◌∷◌, ◌++◌, Some, slice_get, append_assoc, append-nil, refl, sym, ap, ◌∙◌, subst}
 use Rattle.std.specs.List.{list_any}
 use Rattle.pf_entry.specs.Lists.{Every}
-use Rattle.pf_entry.specs.declared.ops.Op.{Op}
-use Rattle.pf_entry.specs.declared.ops.Op.TheVariants.{Write, Noop, Mark}
 use Rattle.pf_turn.specs.declared.log.Stamped.{Stamped}
 use Rattle.pf_turn.specs.Lists.{Begins, entries_of}
 use Rattle.pf_turn.proofs.Lists.{entries-append, nothing_more}
 use Rattle.pf_protocol.specs.Servers.{Setup}
-use Rattle.pf_protocol.specs.Groups.{Acked, Group, ending, happens}
-use Rattle.pf_protocol.specs.Histories.{History, replay, run}
+use Rattle.pf_protocol.specs.Groups.{Acked, Group, ending}
+use Rattle.pf_protocol.specs.Histories.{History, run}
 use Rattle.pf_protocol.specs.declared.answers.Answer.{Answer}
 use Rattle.pf_protocol.specs.declared.events.Event.{Event}
 use Rattle.pf_protocol.specs.declared.events.Event.TheVariants.{Submit, Fetch, Deliver, Lose, Elect, Resend, Stop, Restart, Claim, Finish, GiveBack, Checkpoint}
-use Rattle.pf_protocol.proofs.ForMoments.{acks_of, adds_stay, goes, run_parts}
+use Rattle.pf_protocol.proofs.ForMoments.{acks_of, adds_stay, goes}
 use Rattle.pf_group.specs.GroupIs.{GroupIs}
 use Rattle.pf_shared.specs.declared.moment.Moment.{Moment}
 use Rattle.pf_shared.specs.declared.moment.Moment.TheVariants.{Happened, Look}
-use Rattle.pf_shared.specs.Moments.{entry, happenings, with_moment}
-use Rattle.pf_shared.specs.Since.{rest_after, state_at, whole}
-use Rattle.pf_cluster.specs.Shown.{is_acked}
+use Rattle.pf_shared.specs.Moments.{happenings}
+use Rattle.pf_shared.specs.Since.{rest_after, state_at}
+use Rattle.pf_shared.proofs.Since.{rest_of_all}
 use Rattle.pf_live.specs.Deliveries.{Line}
 use Rattle.pf_live.specs.Submissions.{is_told, is_write_of, slot_got, slot_with, slots_after, slots_of}
 use Rattle.pf_live.specs.Submitters.{AllTold, SubmitsAlone, is_submit, submits}
+use Rattle.pf_live.proofs.Happenings.{state_more}
 
 -- what was acknowledged stays so
 pub record IsThere (p : Acked → Bool) (acked : List Acked) : Type 0 where
@@ -54,17 +53,6 @@ acks_stay setup (x ∷ xs) g k a at = acks_stay setup xs _ k a (adds_stay setup 
 
 run_acks : (p : Acked → Bool) (setup : Setup) (history : History) (g : Group) → list_any p g.acked ≡ true → list_any p (run setup g history).acked ≡ true
 run_acks p setup history g h = let t = there_is p g.acked h in any_is p (run setup g history).acked t.k t.a (acks_stay setup history g t.k t.a t.at) t.is
-
-with-append : (what : Moment) (xs ys : History) → with_moment what (xs ++ ys) ≡ with_moment what xs ++ ys
-with-append (Happened h) xs ys = refl
-with-append (Look read) xs ys = refl
-
-happenings-append : (xs ys : Line) → happenings (xs ++ ys) ≡ happenings xs ++ happenings ys
-happenings-append [] ys = refl
-happenings-append (x ∷ xs) ys = ap (with_moment x.what) (happenings-append xs ys) ∙ with-append x.what (happenings xs) (happenings ys)
-
-state_more : (root : GroupIs) (seen rest new : Line) → seen ++ rest ≡ new → run root.setup (state_at root seen) (happenings rest) ≡ state_at root new
-state_more root seen rest new is = sym (run_parts root.setup _ (whole root seen) (happenings rest)) ∙ ap (λ l. replay root.setup l) (append_assoc root.history (happenings seen) (happenings rest) ∙ (ap (λ l. root.history ++ l) (sym (happenings-append seen rest)) ∙ ap (whole root) is))
 
 module _ (root : GroupIs) where
   pub told_later : (seen new : Line) → Begins seen new → (a : Acked) → is_told (state_at root seen) a ≡ true → is_told (state_at root new) a ≡ true
@@ -118,11 +106,6 @@ module _ (root : GroupIs) (h : ℕ) where
   pub slots_snoc : (list : Line) (e : Stamped Moment) → slots_of root h (list ++ e ∷ []) ≡ slots_of root h list ++ slot_with (state_at root list) h e.what
   slots_snoc list e = slots-append [] list (e ∷ []) ∙ ap (λ l. slots_of root h list ++ l) (append-nil (slot_with (state_at root list) h e.what))
 
--- the rest after a list that begins another
-rest-append : (xs ys : Line) → rest_after xs (xs ++ ys) ≡ ys
-rest-append [] ys = refl
-rest-append (x ∷ xs) ys = rest-append xs ys
-
 -- none of these entries is of the seat
 none_of : (n : ℕ) (ys : Line) → entries_of n ys ≡ [] → Every (λ (e : Stamped Moment). e.seat ≢ n) ys
 none_of n [] is = tt
@@ -144,11 +127,11 @@ module _ (n : ℕ) (begun : Line) where
   -- it submitted alone up to an earlier moment too
   pub alone_before : (seen new : Line) → Begins begun seen → Begins seen new → SubmitsAlone n begun new → SubmitsAlone n begun seen
   alone_before seen new b p is =
-      subst (Every (λ (e : Stamped Moment). e.seat ≢ n → submits e.what ≡ false)) (sym (ap (rest_after begun) (sym b.1) ∙ rest-append begun b.0))
+      subst (Every (λ (e : Stamped Moment). e.seat ≢ n → submits e.what ≡ false)) (sym (ap (rest_after begun) (sym b.1) ∙ rest_of_all begun b.0))
       (every_head (λ (e : Stamped Moment). e.seat ≢ n → submits e.what ≡ false) b.0 p.0 (subst (Every (λ (e : Stamped Moment). e.seat ≢ n → submits e.what ≡ false)) (rest_is seen new b p) is))
     where
       rest_is : (seen new : Line) (b : Begins begun seen) (p : Begins seen new) → rest_after begun new ≡ b.0 ++ p.0
-      rest_is seen new b p = ap (rest_after begun) (sym p.1 ∙ (ap (λ l. l ++ p.0) (sym b.1) ∙ append_assoc begun b.0 p.0)) ∙ rest-append begun (b.0 ++ p.0)
+      rest_is seen new b p = ap (rest_after begun) (sym p.1 ∙ (ap (λ l. l ++ p.0) (sym b.1) ∙ append_assoc begun b.0 p.0)) ∙ rest_of_all begun (b.0 ++ p.0)
 
   -- what others added has no submission
   pub others_quiet : (seen new : Line) → Begins begun seen → (p : Begins seen new) → entries_of n new ≡ entries_of n seen → SubmitsAlone n begun new → Every (λ (e : Stamped Moment). submits e.what ≡ false) p.0
@@ -157,4 +140,4 @@ module _ (n : ℕ) (begun : Line) where
       (every_front (λ (e : Stamped Moment). e.seat ≢ n → submits e.what ≡ false) b.0 p.0 (subst (Every (λ (e : Stamped Moment). e.seat ≢ n → submits e.what ≡ false)) rest_is is))
     where
       rest_is : rest_after begun new ≡ b.0 ++ p.0
-      rest_is = ap (rest_after begun) (sym p.1 ∙ (ap (λ l. l ++ p.0) (sym b.1) ∙ append_assoc begun b.0 p.0)) ∙ rest-append begun (b.0 ++ p.0)
+      rest_is = ap (rest_after begun) (sym p.1 ∙ (ap (λ l. l ++ p.0) (sym b.1) ∙ append_assoc begun b.0 p.0)) ∙ rest_of_all begun (b.0 ++ p.0)

@@ -1,5 +1,5 @@
 -- The worker that submits, and what it keeps.
-use Rattle.std.specs.Prelude.{◌≡◌, ◌≢◌, ℕ, ◌+◌, ◌<◌, ◌≤◌, Bool, true, false, List, [], ◌∷◌, ◌++◌, length, None, Some, Result, Ok, slice_get}
+use Rattle.std.specs.Prelude.{◌≡◌, ◌≢◌, ℕ, ◌+◌, ◌≤◌, Bool, true, false, List, [], ◌∷◌, ◌++◌, length, None, Some, Result, Ok, slice_get}
 use Rattle.pf_entry.specs.Lists.{Every}
 use Rattle.pf_turn.specs.Lists.{Begins}
 use Rattle.pf_turn.specs.Own.{EachOf}

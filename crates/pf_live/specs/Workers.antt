@@ -9,8 +9,7 @@ use Rattle.pf_protocol.specs.declared.events.Event.TheVariants.{Claim}
 use Rattle.pf_shared.specs.declared.moment.Moment.{Moment}
 use Rattle.pf_shared.specs.declared.moment.Moment.TheVariants.{Happened}
 use Rattle.pf_shared.specs.Moments.{entry}
-use Rattle.std.proofs.Common.{◌∙◌, refl}
-use Rattle.pf_shared.specs.Seats.{IsSameSeat, IsSeatOf, number_of, seen_by}
+use Rattle.pf_shared.specs.Seats.{IsSeatOf, number_of, seen_by}
 use Rattle.pf_shared.specs.Hands.{HasInHand, Key, hand_of, key}
 use Rattle.pf_shared.specs.declared.parts.SharedGroup.{SharedGroup}
 use Rattle.pf_live.specs.declared.applying.Applier.{Applier}
@@ -40,13 +39,3 @@ module _ {D : Type 0} {disk : Ghosts D} where
   pub record HasNothing (group : SharedGroup D disk) (a : Applier D disk) : Type 0 where
     pub is : IsApplier group a
     pub last : EndsWith (entries_of (number_of a.seat) (seen_by a.seat)) (nothing_free (number_of a.seat))
-
-  -- what a worker has become
-  abbrev pub IsWorked : SharedGroup D disk → Applier D disk → Applier D disk → Type 0
-  IsWorked group x y = IsApplier group y × IsSameSeat x.seat y.seat
-
-  pub same_seat : (x : Applier D disk) → IsSameSeat x.seat x.seat
-  same_seat x = (refl, refl, refl, refl)
-
-  pub same_on : (x y z : Applier D disk) → IsSameSeat x.seat y.seat → IsSameSeat y.seat z.seat → IsSameSeat x.seat z.seat
-  same_on x y z p q = (q.0 ∙ p.0, q.1 ∙ p.1, q.2 ∙ p.2, q.3 ∙ p.3)

@@ -1,5 +1,5 @@
 //! Workers that apply what is free.
-ghost use Rattle.std.specs.Prelude.{◌≡◌, false, IfNone, IfOk, IfSome, OnErr};
+ghost use Rattle.std.specs.Prelude.{◌≡◌, false, true, IfNone, IfOk, IfSome, OnErr};
 ghost use Rattle.pf_shared.specs.Seats.{IsSameSeat};
 ghost use Rattle.pf_live.specs.Workers.{HasNothing, Holds, IsApplier};
 
@@ -16,14 +16,14 @@ use std::sync::Wait;
 /// A worker that applies what is free.
 #[derive(Drop)]
 pub struct Applier<D: Disk> {
-    pub(crate) seat: GroupSeat<D>,
+    pub seat: GroupSeat<D>,
     /// Its number, which the gate is told.
-    pub(crate) number: u32,
+    pub number: u32,
     /// How often the group had been changed when nothing was free.
-    pub(crate) moves: u64,
-    pub(crate) ended: bool,
+    pub moves: u64,
+    pub ended: bool,
     /// Memory ran out.
-    pub(crate) wants: bool,
+    pub wants: bool,
 }
 
 impl<D: Disk + Drop> Applier<D> {
@@ -80,7 +80,7 @@ impl<D: Disk + Drop> Applier<D> {
     }
 
     /// One turn: a claim, and then the end of its job. It ends where nothing is free and all are to end.
-    pub(crate) fn work<R: Wait, G: Gate>(&mut self, rt: &R, line: &Line<D, G>) -> Turned
+    pub fn work<R: Wait, G: Gate>(&mut self, rt: &R, line: &Line<D, G>) -> Turned
         requires { IsApplier line.now.group self.old }
         ensures is { IsApplier line.now.group self.new }
         ensures same { IsSameSeat self.old.seat self.new.seat }
@@ -102,5 +102,21 @@ impl<D: Disk + Drop> Applier<D> {
             }
             Err(NoMemory) => self.give_up(line),
         }
+    }
+
+    /// Takes its turns until it has ended.
+    pub fn end<R: Wait, G: Gate>(&mut self, rt: &R, line: &Line<D, G>)
+        requires { IsApplier line.now.group self.old }
+        ensures is { IsApplier line.now.group self.new }
+        ensures same { IsSameSeat self.old.seat self.new.seat }
+        ensures ended { self.new.ended ≡ true }
+    {
+        for _ in rt.forever() {
+            if self.ended {
+                return;
+            }
+            let _ = self.work(rt, line);
+        }
+        unreachable!()
     }
 }

@@ -18,10 +18,10 @@ const FIRST_HOST: u32 = 100;
 #[derive(Drop)]
 pub struct Host {
     /// The host's pass of its ring.
-    pub(crate) pass: RingPass,
-    pub(crate) host: u32,
+    pub pass: RingPass,
+    pub host: u32,
     /// How many requests it put.
-    pub(crate) next: u32,
+    pub next: u32,
 }
 
 impl Plan {
@@ -64,7 +64,7 @@ impl Host {
 
     /// One turn. It ends where it put all its requests, or where all are to end; it waits while the request that it put last is not
     /// acknowledged, or its ring is full.
-    pub(crate) fn work<R: Wait, D: Disk, G: Gate>(&mut self, rt: &R, line: &Line<D, G>) -> Turned
+    pub fn work<R: Wait, D: Disk, G: Gate>(&mut self, rt: &R, line: &Line<D, G>) -> Turned
         requires { IsHostIn line.now.plan line.now.rings.items self.old }
         ensures is { IsHostIn line.now.plan line.now.rings.items self.new }
         ensures host { self.new.host ≡ self.old.host }

@@ -10,24 +10,30 @@ use std::sync::atomic::{AtomicBool, AtomicU64, Ordering};
 /// What the workers share: the group, the leader that the switch published, the gate that is called round each step, and two signs that
 /// decide nothing but when to look.
 pub struct Line<D: Disk, G> {
-    pub(crate) group: SharedGroup<D>,
-    pub(crate) gate: G,
-    pub(crate) alloc: Global,
-    pub(crate) cell: LeaderCell,
-    pub(crate) plan: Plan,
+    pub group: SharedGroup<D>,
+    pub gate: G,
+    pub alloc: Global,
+    pub cell: LeaderCell,
+    pub plan: Plan,
     /// One of each host.
-    pub(crate) rings: Vec<Ring>,
+    pub rings: Vec<Ring>,
     /// How many requests of each host were acknowledged, as far as the server worker knows.
-    pub(crate) acked: Vec<AtomicU64>,
+    pub acked: Vec<AtomicU64>,
     /// How often the group was changed. A worker that found nothing to do waits until it was changed again.
-    pub(crate) moves: AtomicU64,
+    pub moves: AtomicU64,
     /// How often the group had been changed when the switch last found that no packet is left.
-    pub(crate) calm: AtomicU64,
+    pub calm: AtomicU64,
     /// Whether all are to end.
-    pub(crate) stops: AtomicBool,
+    pub stops: AtomicBool,
 }
 
 impl<D: Disk, G> Line<D, G> {
+    /// The workers are to begin.
+    pub fn begin(&self) {
+        self.calm.store(u64::MAX, Ordering::SeqCst);
+        self.stops.store(false, Ordering::SeqCst);
+    }
+
     /// The group was changed.
     pub(crate) fn moved(&self) {
         self.moves.fetch_add(1, Ordering::SeqCst);

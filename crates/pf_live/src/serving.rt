@@ -51,12 +51,12 @@ fn standing_after(term: Result<Term, Down>, answer: &Answer, request: Request) -
 #[derive(Drop)]
 pub struct Served {
     /// The server thread's pass of the host's ring.
-    pub(crate) pass: RingPass,
+    pub pass: RingPass,
     /// How many requests were taken.
-    pub(crate) taken: u32,
-    pub(crate) standing: Standing,
+    pub taken: u32,
+    pub standing: Standing,
     /// How often the group had been changed when the last request was handed to a server, or its slot was looked for.
-    pub(crate) moves: u64,
+    pub moves: u64,
 }
 
 impl Served {

@@ -17,17 +17,17 @@ use std::sync::Wait;
 /// slot.
 #[derive(Drop)]
 pub struct Submitter<D: Disk> {
-    pub(crate) seat: GroupSeat<D>,
+    pub seat: GroupSeat<D>,
     /// Its seat as it began.
-    pub(crate) begun: Snapshot<GroupSeat<D>>,
-    pub(crate) pass: LeaderPass,
+    pub begun: Snapshot<GroupSeat<D>>,
+    pub pass: LeaderPass,
     /// One of each host.
-    pub(crate) served: Vec<Served>,
+    pub served: Vec<Served>,
     /// The host whose turn is next.
-    pub(crate) next: usize,
-    pub(crate) ended: bool,
+    pub next: usize,
+    pub ended: bool,
     /// Memory ran out.
-    pub(crate) wants: bool,
+    pub wants: bool,
 }
 
 impl<D: Disk + Drop> Submitter<D> {
@@ -70,7 +70,7 @@ impl<D: Disk + Drop> Submitter<D> {
     }
 
     /// One turn, in which it serves one host. It ends where all are to end, or no host can get on.
-    pub(crate) fn work<R: Wait, G: Gate>(&mut self, rt: &R, line: &Line<D, G>) -> Turned
+    pub fn work<R: Wait, G: Gate>(&mut self, rt: &R, line: &Line<D, G>) -> Turned
         requires { IsSubmitter line.now.group line.now.cell line.now.plan line.now.rings.items self.old }
         ensures is { IsSubmitter line.now.group line.now.cell line.now.plan line.now.rings.items self.new }
         ensures same { IsSameSubmitter self.old self.new }

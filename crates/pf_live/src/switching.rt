@@ -19,22 +19,22 @@ const SWITCH: u32 = 300;
 /// The worker that delivers the least packet that is left, and then publishes the leader.
 #[derive(Drop)]
 pub struct Switch<D: Disk> {
-    pub(crate) seat: GroupSeat<D>,
+    pub seat: GroupSeat<D>,
     /// Its seat as it began.
-    pub(crate) begun: Snapshot<GroupSeat<D>>,
+    pub begun: Snapshot<GroupSeat<D>>,
     /// The leader cell's first pass.
-    pub(crate) pass: LeaderPass,
+    pub pass: LeaderPass,
     /// Of the packets below this one those that are left were passed over in this line.
-    pub(crate) next: u32,
+    pub next: u32,
     /// How many packets were delivered in this line.
-    pub(crate) made: u32,
+    pub made: u32,
     /// How often the group had been changed when no packet was left.
-    pub(crate) moves: u64,
+    pub moves: u64,
     /// Whether the leader was published once.
-    pub(crate) began: bool,
-    pub(crate) ended: bool,
+    pub began: bool,
+    pub ended: bool,
     /// Memory ran out.
-    pub(crate) wants: bool,
+    pub wants: bool,
 }
 
 impl<D: Disk + Drop> Switch<D> {
@@ -99,10 +99,10 @@ impl<D: Disk + Drop> Switch<D> {
         Ok(())
     }
 
-    /// One step: a delivery between the calls of the gate, and the leader that comes of it.
+    /// One step: a delivery between the calls of the gate, and the leader that comes of it. It ends where it made all its deliveries
+    /// and a packet is left.
     fn step<R: Wait, G: Gate>(&mut self, rt: &R, line: &Line<D, G>) -> Result<Turned, NoMemory>
-        requires is { IsSwitch line.now.group line.now.cell line.now.plan.turns self.old }
-        requires few { self.old.made < line.now.plan.turns }
+        requires { IsSwitch line.now.group line.now.cell line.now.plan.turns self.old }
         ensures is { IsSwitch line.now.group line.now.cell line.now.plan.turns self.new }
         ensures same { IsSameSwitch self.old self.new }
     {
@@ -119,6 +119,9 @@ impl<D: Disk + Drop> Switch<D> {
             line.calm_down(moves);
             return Ok(Turned::Waits);
         }
+        if self.made >= line.plan.turns {
+            return Ok(self.end(line, false));
+        }
         line.gate.before(SWITCH);
         let delivered = self.deliver(rt, line);
         line.gate.after(SWITCH);
@@ -128,8 +131,8 @@ impl<D: Disk + Drop> Switch<D> {
         Ok(Turned::Went)
     }
 
-    /// One turn. It ends where it made all its deliveries, or where all are to end.
-    pub(crate) fn work<R: Wait, G: Gate>(&mut self, rt: &R, line: &Line<D, G>) -> Turned
+    /// One turn. It ends where it made all its deliveries and a packet is left, or where all are to end.
+    pub fn work<R: Wait, G: Gate>(&mut self, rt: &R, line: &Line<D, G>) -> Turned
         requires { IsSwitch line.now.group line.now.cell line.now.plan.turns self.old }
         ensures is { IsSwitch line.now.group line.now.cell line.now.plan.turns self.new }
         ensures same { IsSameSwitch self.old self.new }
@@ -137,7 +140,7 @@ impl<D: Disk + Drop> Switch<D> {
         if self.ended {
             return Turned::Ends;
         }
-        if line.is_stopping() || self.made >= line.plan.turns {
+        if line.is_stopping() {
             return self.end(line, false);
         }
         match self.step(rt, line) {

@@ -1,4 +1,4 @@
-use Rattle.std.proofs.Common.{◌≡◌, ℕ, List, replicate, refl, sym, ap, subst, ◌∙◌}
+use Rattle.std.proofs.Common.{replicate, refl, sym, ap, subst, ◌∙◌}
 use Rattle.pf_base.specs.Span.{IsWritable, Span}
 use Rattle.pf_entry.specs.declared.ops.Op.TheVariants.{Write}
 use Rattle.pf_shared.specs.Seats.{IsAlone, number_of, root_in, seen_by}

@@ -1,6 +1,7 @@
 -- What may cross threads.
 use denote.RattleType.{RattleType}
-use denote.Param.Send.{IsSend, IsSync, recorded_send, recorded_sync, sendable, struct_send, struct_sync}
+use denote.Enum.Declared as enums
+use denote.Param.Send.{IsSend, IsSync, enum_send, recorded_send, recorded_sync, sendable, struct_send, struct_sync}
 use denote.Struct.Declared.{shape}
 use Rattle.pf_disk.specs.declared.disk.Disk.{Ghosts}
 use Rattle.pf_group.specs.contracts.group.Group as Group
@@ -11,6 +12,12 @@ use Rattle.pf_shared.specs.contracts.parts.GroupSeat as GroupSeat
 use Rattle.pf_shared.specs.contracts.parts.SharedGroup as SharedGroup
 use Rattle.pf_live.specs.contracts.applying.Applier as Applier
 use Rattle.pf_live.specs.contracts.line.Line as Line
+use Rattle.pf_live.specs.contracts.submitting.Submitter as Submitter
+use Rattle.pf_live.specs.contracts.switching.Switch as Switch
+use Rattle.pf_liveline.specs.contracts.worker.Worker as Worker
+use Rattle.pf_live.proofs.hosting.Host.TheSendSync as host
+use Rattle.pf_live.proofs.serving.Served.TheSendSync as served
+use Rattle.pf_leadercell.proofs.cell.LeaderPass.TheSendSync as pass
 use Rattle.std.proofs.sync.atomic.AtomicU64.TheSendSync as word
 use Rattle.std.proofs.sync.atomic.AtomicBool.TheSendSync as bit
 use Rattle.pf_turn.proofs.parts.TurnSeat.TheSendSync as seat
@@ -37,8 +44,20 @@ behind_send D g d s t = recorded_send _ _ _ (Behind.the_type D g).to_one (struct
 pub seat_send : (D : RattleType) (g : Ghosts D.Denot) → IsSend D → IsSend (GroupSeat.the_field D g).row
 seat_send D g d = let b = behind_send D g d (group_send D g d) (start_send D g d) in struct_send (shape (GroupSeat.the_type D g)) (seat.the_field_send Moment.the_row (Start.the_row D g) (Behind.the_row D g) b, tt)
 
-pub applier_send : (D : RattleType) (g : Ghosts D.Denot) → IsSend D → IsSend (Applier.the_row D g)
-applier_send D g d = let s = seat_send D g d in recorded_send _ _ _ (Applier.the_type D g).to_one (struct_send (shape (Applier.the_type D g)) (s, (search sendable, (search sendable, (search sendable, (search sendable, tt))))))
+pub applier_send : (D : RattleType) (g : Ghosts D.Denot) → IsSend D → IsSend (Applier.the_field D g).row
+applier_send D g d = let s = seat_send D g d in struct_send (shape (Applier.the_type D g)) (s, (search sendable, (search sendable, (search sendable, (search sendable, tt)))))
+
+pub switch_send : (D : RattleType) (g : Ghosts D.Denot) → IsSend D → IsSend (Switch.the_field D g).row
+switch_send D g d = let s = seat_send D g d in struct_send (shape (Switch.the_type D g))
+    (s, (search sendable depth 30, (pass.the_field_send, (search sendable, (search sendable, (search sendable, (search sendable, (search sendable, (search sendable, tt)))))))))
+
+pub submitter_send : (D : RattleType) (g : Ghosts D.Denot) → IsSend D → IsSend (Submitter.the_field D g).row
+submitter_send D g d = let s = seat_send D g d in struct_send (shape (Submitter.the_type D g))
+    (s, (search sendable depth 30, (pass.the_field_send, (search (sendable, vec.the_send, served.the_send, heap.the_send, frees) depth 30, (search sendable, (search sendable, (search sendable, tt)))))))
+
+pub worker_send : (D : RattleType) (g : Ghosts D.Denot) → IsSend D → IsSend (Worker.the_row D g)
+worker_send D g d = recorded_send _ _ _ (Worker.the_type D g).to_one (enum_send (enums.shape (Worker.the_type D g))
+    ((host.the_field_send, tt), ((submitter_send D g d, tt), ((switch_send D g d, tt), ((applier_send D g d, tt), tt)))))
 
 pub shared_sync : (D : RattleType) (g : Ghosts D.Denot) → IsSend D → IsSync (SharedGroup.the_field D g).row
 shared_sync D g d = let b = behind_send D g d (group_send D g d) (start_send D g d) in struct_sync (shape (SharedGroup.the_type D g)) (lock.the_field_sync Moment.the_row (Start.the_row D g) (Behind.the_row D g) _ b, tt)

@@ -1,0 +1,10 @@
+pub mod Crossing
+pub mod Entries
+pub mod Joins
+pub mod Runs
+pub mod Mustered
+pub mod Knowing
+pub mod PassesMet
+pub mod Regrouped
+pub mod Opened
+pub mod Ends

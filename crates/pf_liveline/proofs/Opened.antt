@@ -1,0 +1,103 @@
+-- A line as it is opened.
+use Rattle.std.proofs.Common.{◌≡◌, ℕ, zero, suc, ◌+◌, ◌<◌, List, [], ◌∷◌, ◌++◌, length, Some, slice_get, arith, refl, sym, ap, ◌∙◌, subst}
+use Rattle.pf_entry.specs.Lists.{Every}
+use Rattle.pf_turn.specs.Lists.{entries_of}
+use Rattle.pf_turn.specs.Own.{AllOfSeats, down_from}
+use Rattle.pf_disk.specs.declared.disk.Disk.{Ghosts}
+use Rattle.pf_group.specs.GroupIs.{GroupIs}
+use Rattle.pf_rings.specs.Passes.{IsHostOf, IsServerOf, put_by, taken_by}
+use Rattle.pf_rings.specs.declared.ring.Ring.{Ring}
+use Rattle.pf_shared.specs.declared.parts.GroupSeat.{GroupSeat}
+use Rattle.pf_shared.specs.declared.parts.SharedGroup.{SharedGroup}
+use Rattle.pf_shared.specs.Seats.{IsFirst, IsSeatOf, gone_of, out_of, root_in, seen_by, splits_of}
+use Rattle.pf_live.specs.declared.hosting.Host.{Host}
+use Rattle.pf_live.specs.declared.plan.Plan.{Plan}
+use Rattle.pf_live.specs.declared.serving.Served.{Served}
+use Rattle.pf_live.specs.Lines.{Does}
+use Rattle.pf_live.specs.Submitters.{AllStand, IsLast, Stands}
+use Rattle.pf_liveline.specs.Crews.{HasMade, IsLineSeat}
+use Rattle.pf_liveline.specs.Meeting.{AreMet, IsMet}
+use Rattle.pf_liveline.specs.Opening.{IsNew}
+
+get_more : {X : Type 0} → (xs ys : List X) (j : ℕ) (x : X) → slice_get xs j ≡ Some x → slice_get (xs ++ ys) j ≡ Some x
+get_more [] ys j x there = absurd cc
+get_more (z ∷ zs) ys zero x there = there
+get_more (z ∷ zs) ys (suc j) x there = get_more zs ys j x there
+
+get_last : {X : Type 0} → (xs : List X) (x : X) → slice_get (xs ++ x ∷ []) (length xs) ≡ Some x
+get_last [] x = refl
+get_last (z ∷ zs) x = get_last zs x
+
+module _ (plan : Plan) (rings : List Ring) (ring : Ring) where
+  more_met : (h : ℕ) (a : Host) (s : Served) → IsMet plan rings h a s → IsMet plan (rings ++ ring ∷ []) h a s
+  more_met h a s is = record {
+    number = is.number;
+    host = record { ring = is.host.ring; there = get_more rings (ring ∷ []) a.host is.host.ring is.host.there; is = is.host.is };
+    served = record { ring = is.served.ring; there = get_more rings (ring ∷ []) h is.served.ring is.served.there; is = is.served.is };
+    order = is.order;
+    fed = is.fed;
+  }
+
+  -- one more ring
+  pub more_rings : (end h : ℕ) (xs : List Host) (ss : List Served) → AreMet plan rings end h xs ss → AreMet plan (rings ++ ring ∷ []) end h xs ss
+  more_rings end h [] [] are = are
+  more_rings end h [] (t ∷ ts) are = absurd are
+  more_rings end h (b ∷ bs) [] are = absurd are
+  more_rings end h (b ∷ bs) (t ∷ ts) are = (more_met h b t are.0, more_rings end (h + 1) bs ts are.1)
+
+  pub new_met : (h : ℕ) (a : Host) (s : Served) → length rings ≡ h → a.host ≡ h → h < plan.hosts → a.next ≡ 0 → IsHostOf ring a.pass → IsServerOf ring s.pass → put_by a.pass ≡ [] → taken_by s.pass ≡ [] → IsNew s → IsMet plan (rings ++ ring ∷ []) h a s
+  new_met h a s count number low next puts takes put taken new = record {
+    number = number;
+    host = record {
+      ring = ring;
+      there = ap (slice_get (rings ++ ring ∷ [])) (number ∙ sym count) ∙ get_last rings ring;
+      is = record {
+        pass = puts;
+        host = omega (arith, number, low);
+        put = put ∙ ap (Rattle.pf_live.specs.Writes.first_requests plan.sectors a.host) (sym next);
+        within = omega (arith, next);
+      };
+    };
+    served = record {
+      ring = ring;
+      there = ap (slice_get (rings ++ ring ∷ [])) (sym count) ∙ get_last rings ring;
+      is = record {
+        pass = takes;
+        counted = record {
+          count = ap length taken ∙ sym new.0;
+          few = omega (arith, new.0);
+          last = subst (λ y. IsLast (taken_by s.pass) y) (sym new.1) tt;
+        };
+      };
+    };
+    order = (put_by a.pass, ap (λ l. l ++ put_by a.pass) taken);
+    fed = taken ∙ ap (Rattle.pf_live.specs.Writes.first_requests plan.sectors h) (sym new.0);
+  }
+
+new_at : (ss : List Served) → Every IsNew ss → (h : ℕ) (s : Served) → slice_get ss h ≡ Some s → IsNew s
+new_at [] all h s there = absurd cc
+new_at (t ∷ ts) all zero s there = let same : t ≡ s = cc in subst IsNew same all.0
+new_at (t ∷ ts) all (suc h) s there = new_at ts all.1 h s there
+
+-- nothing was taken and nothing stands
+pub new_stand : (root : GroupIs) (list : Rattle.pf_live.specs.Deliveries.Line) (ss : List Served) → list ≡ [] → Every IsNew ss → AllStand root list ss
+new_stand root list ss none all h s there = let new = new_at ss all h s there in
+    subst (λ l. Stands root h l s.taken s.standing) (sym none) (subst (λ y. Stands root h [] s.taken y) (sym new.1) (sym new.0, tt))
+
+pub new_made : (turns : ℕ) (root : GroupIs) (list : Rattle.pf_live.specs.Deliveries.Line) → list ≡ [] → HasMade turns root list 0 0
+new_made turns root list none = subst (λ l. HasMade turns root l 0 0) (sym none) record {
+  sent = omega arith;
+  passed = record { below = λ k is. absurd cc; all = λ k low left. absurd (omega arith) };
+  count = refl;
+  within = omega arith;
+}
+
+module _ {D : Type 0} {disk : Ghosts D} (group : SharedGroup D disk) (plan : Plan) (seat : GroupSeat D disk) where
+  pub new_seat : IsSeatOf group seat → IsFirst seat × (splits_of seat ≡ 0) × (out_of seat ≡ 0) × (gone_of seat ≡ []) → seen_by seat ≡ [] → IsLineSeat group plan seat
+  new_seat there first none = record {
+    at = (there, (first.0, first.2));
+    runs = (0, first.1 ∙ sym (Rattle.std.proofs.Math.Nat.zero-mul (plan.workers + 2)));
+    gone = first.3 ∙ ap down_from (sym first.1);
+    strangers = λ n above. ap (entries_of n) none;
+    live = subst (AllOfSeats (Does plan (root_in group))) (sym none) tt;
+  }

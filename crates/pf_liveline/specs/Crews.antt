@@ -1,0 +1,50 @@
+-- A live line between two runs of its threads.
+use Rattle.std.specs.Prelude.{◌≡◌, ℕ, ◌+◌, ◌*◌, ◌<◌, ◌≤◌, List, [], length}
+use Rattle.pf_turn.specs.Lists.{entries_of}
+use Rattle.pf_turn.specs.Own.{down_from}
+use Rattle.pf_disk.specs.declared.disk.Disk.{Ghosts}
+use Rattle.pf_group.specs.GroupIs.{GroupIs}
+use Rattle.pf_group.specs.Packets.{IsPassedUpTo}
+use Rattle.pf_leadercell.specs.Passes as cells
+use Rattle.pf_leadercell.specs.declared.cell.LeaderCell.{LeaderCell}
+use Rattle.pf_rings.specs.declared.ring.Ring.{Ring}
+use Rattle.pf_shared.specs.declared.parts.SharedGroup.{SharedGroup}
+use Rattle.pf_shared.specs.declared.parts.GroupSeat.{GroupSeat}
+use Rattle.pf_shared.specs.Seats.{IsAlone, IsSeatOf, gone_of, root_in, seen_by, splits_of}
+use Rattle.pf_shared.specs.Since.{state_at}
+use Rattle.pf_live.specs.declared.plan.Plan.{Plan}
+use Rattle.pf_live.specs.Deliveries.{Line, deliveries, is_passed}
+use Rattle.pf_live.specs.Lines.{Applying, IsLive, role_of}
+use Rattle.pf_live.specs.Roles.{EndsWith, nothing_free}
+use Rattle.pf_live.specs.Submitters.{AllStand}
+use Rattle.pf_liveline.specs.declared.crew.Crew.{Crew}
+use Rattle.pf_liveline.specs.Meeting.{AreMet}
+
+-- of the packets below `next` those that are left were passed over in the list, which has so many deliveries
+pub record HasMade (turns : ℕ) (root : GroupIs) (list : Line) (next made : ℕ) : Type 0 where
+  pub sent : next ≤ length (state_at root list).packets
+  pub passed : IsPassedUpTo (state_at root list) (λ k. is_passed k list) next
+  pub count : made ≡ deliveries list
+  pub within : made ≤ turns
+
+module _ {D : Type 0} {disk : Ghosts D} where
+  -- the last entry of each seat that applied is a claim that found nothing
+  abbrev pub AllEnded : Plan → GroupSeat D disk → Type 0
+  AllEnded plan seat = (n : ℕ) → n ≤ splits_of seat → role_of plan.workers n ≡ Applying → EndsWith (entries_of n (seen_by seat)) (nothing_free n)
+
+  -- The first seat, while no other is out: it split seats for some runs, and took all of them in
+  pub record IsLineSeat (group : SharedGroup D disk) (plan : Plan) (seat : GroupSeat D disk) : Type 0 where
+    pub at : IsSeatOf group seat × IsAlone seat
+    pub runs : (r : ℕ) × (splits_of seat ≡ r * (plan.workers + 2))
+    pub gone : gone_of seat ≡ down_from (splits_of seat)
+    pub strangers : (n : ℕ) → splits_of seat < n → entries_of n (seen_by seat) ≡ []
+    pub live : IsLive plan (root_in group) (seen_by seat)
+
+  pub record IsCrew (group : SharedGroup D disk) (cell : LeaderCell) (plan : Plan) (rings : List Ring) (a : Crew D disk) : Type 0 where
+    pub seat : IsLineSeat group plan a.seat
+    pub splits : a.splits ≡ splits_of a.seat
+    pub met : AreMet plan rings plan.hosts 0 a.hosts.items a.served.items
+    pub stand : AllStand (root_in group) (seen_by a.seat) a.served.items
+    pub first : cells.IsPassOf cell a.first × cells.IsFirst a.first
+    pub leaders : cells.IsPassOf cell a.leaders
+    pub made : HasMade plan.turns (root_in group) (seen_by a.seat) a.next a.made
