@@ -18,7 +18,7 @@ use Rattle.pf_shared.proofs.Acting.{claims_on, counted_on, handed_on, step_claim
 use Rattle.pf_shared.proofs.Ending.{acts}
 use Rattle.pf_shared.proofs.behind.Behind.step.Goals as goal
 
--- there was no memory for the event, and only counts of faults may be others
+-- there was no memory for the event, and only what the group tells of its disks may be others
 pub invariant_of-self : goal.invariant_of-self
 invariant_of-self g c = let b = c.make_room.new.self in let ds = b.turns.items in let after = c.step.new.self in let left = c.in_err-answer.ensures.err in
     let is = (only_faults b.group c.args.event after left).0 in
