@@ -1,5 +1,6 @@
 -- One event of a chunk is what the run makes of it.
 use Rattle.std.proofs.Common.{◌≡◌, ℕ, ◌<◌, inl, inr, Bool, true, false, IsSome, List, [], ◌∷◌, ◌++◌, arith, refl, sym, ap, subst, ◌∙◌}
+use Rattle.std.proofs.Math.Logic.{∥∥₁_map}
 use Rattle.std.specs.List.{filter}
 use Rattle.std.proofs.lemmas.List.{append-nil}
 use Rattle.pf_protocol.specs.declared.answers.Answer.{Answer}
@@ -10,6 +11,7 @@ use Rattle.pf_protocol.specs.Answers.{IsLegal, claims_of}
 use Rattle.pf_group.specs.declared.event.GroupEvent.{GroupEvent}
 use Rattle.pf_group.specs.declared.event.GroupEvent.TheVariants as asked
 use Rattle.pf_group.specs.Events.{event_of}
+use Rattle.pf_group.specs.Going.{Goes, Takes}
 use Rattle.pf_group.specs.GroupIs.{GroupIs, state_of}
 use Rattle.pf_group.specs.Packets.{NoneComesBack, is_left_in}
 use Rattle.pf_group.specs.Steps.{Steps}
@@ -176,7 +178,7 @@ module _ (fill : Fills) (old mid new : ChunkIs) (asked : GroupEvent) (answer : A
   pub comes : Comes fill old asked answer mid out put new
   comes =
       let to_then = grown_trans old.group mid.group f.then (step_grows old.group mid.group event answer is.steps) f.grown in record {
-        grown = subst (λ (c : ChunkIs). HasGrown old.group c.group) (sym f.is) (record { number = to_then.number; setup = to_then.setup; later = to_then.later; paid = to_then.paid });
+        grown = subst (λ (c : ChunkIs). HasGrown old.group c.group) (sym f.is) (record { number = to_then.number; setup = to_then.setup; later = to_then.later; paid = to_then.paid; by = ∥∥₁_map to_then.by (λ way. Goes f.then all_told way (Takes refl)) });
         ready = ready_group;
         left = subst (λ (c : ChunkIs). NoneComesBack (state_of old.group) (state_of c.group)) (sym f.is) (λ k at. they_follow.sent.none k at);
         first = ap (λ (c : ChunkIs). c.first_left) f.is ∙ is.first;

@@ -1,6 +1,7 @@
 //! A group, with what a report needs beside it.
 ghost use Rattle.std.specs.Prelude.{◌≡◌, [], IfErr, IfOk, List, replicate};
 ghost use Rattle.pf_protocol.specs.Answers.{IsLegal, IsSetup};
+ghost use Rattle.pf_group.specs.Crashing.{LeavesAtCrash};
 ghost use Rattle.pf_group.specs.Leaving.{LeavesIn, as_seen};
 ghost use Rattle.pf_group.specs.Sound.{IsSound};
 ghost use Rattle.pf_group.specs.Making.{AreTold, IsMade, setup_with, six_faults};
@@ -114,6 +115,9 @@ impl<D: Disk + Drop> ChunkGroup<D> {
         ensures seen_1 { LeavesIn self.group 1 (as_seen (D.seen result.s1h0)) (as_seen (D.seen result.s1h1)) }
         ensures seen_2 { LeavesIn self.group 2 (as_seen (D.seen result.s2h0)) (as_seen (D.seen result.s2h1)) }
         ensures faults { six_faults D.faults result ≡ self.group.faults }
+        ensures crash_0 { LeavesAtCrash D.seen D.moment D.left_since D.tells_moments self.group 0 result.s0h0 result.s0h1 }
+        ensures crash_1 { LeavesAtCrash D.seen D.moment D.left_since D.tells_moments self.group 1 result.s1h0 result.s1h1 }
+        ensures crash_2 { LeavesAtCrash D.seen D.moment D.left_since D.tells_moments self.group 2 result.s2h0 result.s2h1 }
     {
         let ChunkGroup { group, .. } = self;
         group.into_disks()

@@ -9,7 +9,9 @@ use Rattle.pf_protocol.specs.Servers.{Server}
 use Rattle.pf_protocol.specs.Groups.{Group}
 use Rattle.pf_protocol.specs.Histories.{History, replay}
 use Rattle.pf_group.specs.declared.errors.Down.{Down}
+use Rattle.pf_group.specs.Going.{Takes, WentBy}
 use Rattle.pf_group.specs.GroupIs.{GroupIs, state_of}
+use Rattle.pf_group.proofs.Chains.{by_one, by_same}
 use Rattle.pf_group.specs.Readers.{HasTaken, LacksAnswer, TellsOf}
 use Rattle.pf_group.specs.Roots.{root_of}
 use Rattle.pf_rounds.specs.Growing.{Pays}
@@ -68,6 +70,7 @@ pub record Took (number : ℕ) (answer : Option (List Sector)) (old new : GroupI
   pub taken : new.taken ≡ taken_with old.taken (Look (read_of number answer))
   pub handed : HandsOut (state_of old) old.taken number answer
   pub pays : Pays old new
+  pub by : WentBy old new
 
 pub took : (number : ℕ) (answer : Option (List Sector)) (old new : GroupIs) → IfSome answer (λ bytes. HasTaken old number bytes new) → IfNone answer (LacksAnswer old number) → IfNone answer (new ≡ old) → Took number answer old new
 took number (Some bytes) old new has lacks same = record {
@@ -76,6 +79,7 @@ took number (Some bytes) old new has lacks same = record {
   taken = ap (λ x. x.taken) has.is;
   handed = (has.first, has.answer);
   pays = pays_same old new (has.is ∙ ap (λ (g : GroupIs). record old { taken = g.taken }) (sym has.is));
+  by = by_one old new (Takes (has.is ∙ ap (λ (g : GroupIs). record old { taken = g.taken }) (sym has.is)));
 }
 took number None old new has lacks same = record {
   history = ap (λ x. x.history) same;
@@ -83,6 +87,7 @@ took number None old new has lacks same = record {
   taken = ap (λ x. x.taken) same;
   handed = lacks;
   pays = subst (Pays old) (sym same) (pays_refl old);
+  by = by_same old new same;
 }
 
 -- a look by seat n, which found the list of b

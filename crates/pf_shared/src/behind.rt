@@ -3,6 +3,7 @@ ghost use Rattle.std.specs.Prelude.{◌≡◌, ◌+◌, ◌++◌, ◌<◌, ◌�
 ghost use Rattle.pf_protocol.specs.Answers.{IsLegal, claims_of};
 ghost use Rattle.pf_protocol.specs.declared.answers.Answer.TheVariants.{Done};
 ghost use Rattle.pf_protocol.specs.declared.events.Event.TheVariants.{Claim, Finish, GiveBack};
+ghost use Rattle.pf_group.specs.Going.{WentBy};
 ghost use Rattle.pf_group.specs.GroupIs.{state_of};
 ghost use Rattle.pf_group.specs.Packets.{least_from};
 ghost use Rattle.pf_group.specs.Sound.{IsSound};
@@ -37,6 +38,7 @@ pub struct Behind<D: Disk> {
     ghost begun: { start.history ++ since start group ≡ group.history },
     ghost same_root: { root_of group ≡ root_of start },
     ghost paid: { ∥ Pays start group ∥₁ },
+    ghost by: { ∥ WentBy start group ∥₁ },
     ghost none_open: { claims_of [] start.history ≡ [] },
     ghost counted: { steps_in turns.items ≡ length (since start group) },
     ghost tidy: { (k : Key) → is_tidy k None (woven turns.items (since start group)) ≡ true },

@@ -68,10 +68,10 @@ made_is halts sectors names format k before g answer is tells =
     let number : g.number ≡ k = ap (λ (v : GroupIs). v.number) is.is in
     let setup : g.setup ≡ setup_with sectors names format is.failed = ap (λ (v : GroupIs). v.setup) is.is in
     let failed : failed_by halts k ≡ is.failed = ap (failed_by halts) (sym number) ∙ tells.making ∙ ap (λ s. s.failed) setup in
-    let new : GroupIs = record { number = k; setup = setup_with sectors names format is.failed; history = []; taken = []; faults = g.faults } in
+    let new : GroupIs = record { number = k; setup = setup_with sectors names format is.failed; history = []; taken = []; faults = g.faults; time = g.time } in
     made_with failed ∙ ap (chunk_of halts) (sym is.is) where
-      made_with : failed_by halts k ≡ is.failed → made_chunk halts sectors names format k ≡ chunk_of halts (record { number = k; setup = setup_with sectors names format is.failed; history = []; taken = []; faults = g.faults })
-      made_with failed = ap (λ fs. chunk_of halts (record { number = k; setup = setup_with sectors names format fs; history = []; taken = []; faults = g.faults })) failed
+      made_with : failed_by halts k ≡ is.failed → made_chunk halts sectors names format k ≡ chunk_of halts (record { number = k; setup = setup_with sectors names format is.failed; history = []; taken = []; faults = g.faults; time = g.time })
+      made_with failed = ap (λ fs. chunk_of halts (record { number = k; setup = setup_with sectors names format fs; history = []; taken = []; faults = g.faults; time = g.time })) failed
 
 mapped : (halts : List Halt) (f : ℕ → ChunkRun) (first : ℕ) (cs : List ChunkIs) → ((k : ℕ) (c : ChunkIs) → slice_get cs k ≡ Some c → f (first + k) ≡ run_of halts c) → map f (range_with_len first (length cs)) ≡ map (run_of halts) cs
 mapped halts f first [] each = refl

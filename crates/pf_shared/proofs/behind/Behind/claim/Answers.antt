@@ -6,6 +6,7 @@ use Rattle.pf_protocol.specs.declared.events.Happening.{Happening}
 use Rattle.pf_protocol.specs.Answers.{IsAnswer, IsLegal, claims_of}
 use Rattle.pf_shared.specs.declared.moment.Did.TheVariants.{Acted}
 use Rattle.pf_group.specs.Roots.{root_of}
+use Rattle.pf_group.proofs.Chains.{by_both, by_step}
 use Rattle.pf_rounds.proofs.Paying.{pays_trans, step_pays}
 use Rattle.pf_shared.specs.Since.{since, whole}
 use Rattle.pf_shared.specs.Woven.{woven}
@@ -30,6 +31,7 @@ invariant_of-self-2 g c = let s = c.in_ok-answer.ensures.went in let b = c.make_
       begun = begun_more b.start b.group b.begun c.step.new.self h more;
       same_root = ap root_of s.steps.recorded ∙ b.same_root;
       paid = ∥∥₁_map b.paid (λ p. pays_trans b.start b.group c.step.new.self p (step_pays b.group c.step.new.self Claim answer s.steps));
+      by = ∥∥₁_map b.by (λ w. by_both b.start b.group c.step.new.self w (by_step b.group c.step.new.self Claim answer s.steps));
       none_open = b.none_open;
       counted = counted_on ds hs b.counted c.args.seat h c.push.new.self.items grown next longer;
       tidy = λ k. tidy_on ds hs b.counted c.args.seat h c.push.new.self.items grown next longer k (tidy_claim b.group.setup b.start.history (woven ds hs) c.args.seat answer b.none_open legal answered k (b.tidy k));

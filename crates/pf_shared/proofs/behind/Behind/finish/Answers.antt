@@ -5,6 +5,7 @@ use Rattle.pf_protocol.specs.declared.events.Happening.{Happening}
 use Rattle.pf_protocol.specs.Answers.{claims_of}
 use Rattle.pf_shared.specs.declared.moment.Did.TheVariants.{Acted}
 use Rattle.pf_group.specs.Roots.{root_of}
+use Rattle.pf_group.proofs.Chains.{by_both, by_step}
 use Rattle.pf_rounds.proofs.Paying.{pays_trans, step_pays}
 use Rattle.pf_shared.specs.Since.{since}
 use Rattle.pf_shared.specs.Woven.{woven}
@@ -31,6 +32,7 @@ invariant_of-self g c = let s = c.in-Ok.ensures.went in let b = c.args.self.now 
       begun = begun_more b.start b.group b.begun c.step.new.self h more;
       same_root = ap root_of s.steps.recorded ∙ b.same_root;
       paid = ∥∥₁_map b.paid (λ p. pays_trans b.start b.group c.step.new.self p (step_pays b.group c.step.new.self (Finish f.server f.life f.slot) c.in-Ok.answer s.steps));
+      by = ∥∥₁_map b.by (λ w. by_both b.start b.group c.step.new.self w (by_step b.group c.step.new.self (Finish f.server f.life f.slot) c.in-Ok.answer s.steps));
       none_open = b.none_open;
       counted = counted_on ds hs b.counted c.args.seat h c.push.new.self.items grown next longer;
       tidy = λ k. tidy_on ds hs b.counted c.args.seat h c.push.new.self.items grown next longer k (tidy_finish c.args.seat f.server f.life f.slot r.op c.in-Ok.answer (woven ds hs) r.in_hand k (b.tidy k));

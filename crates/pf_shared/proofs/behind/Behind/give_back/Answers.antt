@@ -7,6 +7,7 @@ use Rattle.pf_protocol.specs.Answers.{claims_of, is_claim}
 use Rattle.std.specs.List.{list_any}
 use Rattle.pf_shared.specs.declared.moment.Did.TheVariants.{Acted}
 use Rattle.pf_group.specs.Roots.{root_of}
+use Rattle.pf_group.proofs.Chains.{by_both, by_step}
 use Rattle.pf_rounds.proofs.Paying.{pays_trans, step_pays}
 use Rattle.pf_shared.specs.Since.{since}
 use Rattle.pf_shared.specs.Woven.{woven}
@@ -32,6 +33,7 @@ invariant_of-self g c = let s = c.give_back.ensures.went in let b = c.args.self.
       begun = begun_more b.start b.group b.begun c.give_back.new.self h more;
       same_root = ap root_of s.recorded ∙ b.same_root;
       paid = ∥∥₁_map b.paid (λ p. pays_trans b.start b.group c.give_back.new.self p (step_pays b.group c.give_back.new.self (GiveBack j.server j.life j.slot) Done s));
+      by = ∥∥₁_map b.by (λ w. by_both b.start b.group c.give_back.new.self w (by_step b.group c.give_back.new.self (GiveBack j.server j.life j.slot) Done s));
       none_open = b.none_open;
       counted = counted_on ds hs b.counted c.args.seat h c.push.new.self.items grown next longer;
       tidy = λ k. tidy_on ds hs b.counted c.args.seat h c.push.new.self.items grown next longer k (tidy_return c.args.seat j.server j.life j.slot j.op Done (woven ds hs) c.requires k (b.tidy k));

@@ -11,6 +11,7 @@ invariant_of-self g c = let b = c.make_room.new.self in let ds = b.turns.items i
       begun = b.begun;
       same_root = b.same_root;
       paid = b.paid;
+      by = b.by;
       none_open = b.none_open;
       counted = looked_counted ds hs b.counted c.args.seat None c.push.new.self.items grown hs refl;
       tidy = λ k. looked_tidy ds hs b.counted c.args.seat None c.push.new.self.items grown hs refl k (b.tidy k);

@@ -1,4 +1,5 @@
 use Rattle.std.proofs.Common.{◌≡◌, ◌≤◌, ◌∙◌, ◌++◌, [], None, ap, append-nil, length, sym, subst, arith, rules}
+use Rattle.pf_group.specs.Going.{Stays, WentBy}
 use Rattle.pf_group.specs.GroupIs.{GroupIs}
 use Rattle.pf_group.specs.Roots.{root_of}
 use Rattle.pf_rounds.specs.Growing.{Pays}
@@ -16,6 +17,7 @@ invariant_of-result g c = let b : GroupIs = c.args.group in let e = c.of-start.e
   begun = subst (λ (s : GroupIs). s.history ++ since s b ≡ b.history) (sym e) (ap (λ l. b.history ++ l) none_since ∙ append-nil b.history);
   same_root = ap root_of (sym e);
   paid = subst (λ (s : GroupIs). ∥ Pays s b ∥₁) (sym e) ∣ pays_refl b ∣₁;
+  by = subst (λ (s : GroupIs). ∥ WentBy s b ∥₁) (sym e) ∣ Stays ∣₁;
   none_open = subst (λ (s : GroupIs). claims_of [] s.history ≡ []) (sym e) c.requires;
   counted = subst (λ (s : GroupIs). steps_in c.new.result.items ≡ length (since s b)) (sym e) (ap steps_in bare ∙ sym (ap length none_since));
   tidy = λ k. ap (λ l. is_tidy k None (woven l (since c.of-start.result b))) bare;

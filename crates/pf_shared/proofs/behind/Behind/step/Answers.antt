@@ -6,6 +6,7 @@ use Rattle.pf_group.specs.Events.{event_of}
 use Rattle.pf_group.specs.GroupIs.{GroupIs}
 use Rattle.pf_shared.specs.declared.moment.Did.TheVariants.{Acted}
 use Rattle.pf_group.specs.Roots.{root_of}
+use Rattle.pf_group.proofs.Chains.{by_both, by_left, by_step}
 use Rattle.pf_rounds.proofs.Paying.{left_pays, only_faults, pays_trans, step_pays}
 use Rattle.pf_shared.specs.Since.{since}
 use Rattle.pf_shared.specs.Woven.{woven}
@@ -17,7 +18,7 @@ use Rattle.pf_shared.proofs.Acting.{claims_on, counted_on, handed_on, step_claim
 use Rattle.pf_shared.proofs.Ending.{acts}
 use Rattle.pf_shared.proofs.behind.Behind.step.Goals as goal
 
--- there was no memory for the event, and only counts of faults may be others
+-- there was no memory for the event, and only what the group tells of its disks may be others
 pub invariant_of-self : goal.invariant_of-self
 invariant_of-self g c = let b = c.make_room.new.self in let ds = b.turns.items in let after = c.step.new.self in let left = c.in_err-answer.ensures.err in
     let is = (only_faults b.group c.args.event after left).0 in
@@ -26,6 +27,7 @@ invariant_of-self g c = let b = c.make_room.new.self in let ds = b.turns.items i
       begun = begun_same b.start b.group b.begun after kept;
       same_root = ap root_of is ∙ b.same_root;
       paid = ∥∥₁_map b.paid (λ p. pays_trans b.start b.group after p (left_pays b.group c.args.event after left));
+      by = ∥∥₁_map b.by (λ w. by_both b.start b.group after w (by_left b.group c.args.event after left));
       none_open = b.none_open;
       counted = b.counted ∙ sym (ap length same);
       tidy = λ k. ap (λ l. is_tidy k None (woven ds l)) same ∙ b.tidy k;
@@ -44,6 +46,7 @@ invariant_of-self-2 g c = let s = c.in_ok-answer.ensures.went in let b = c.make_
       begun = begun_more b.start b.group b.begun c.step.new.self h more;
       same_root = ap root_of s.steps.recorded ∙ b.same_root;
       paid = ∥∥₁_map b.paid (λ p. pays_trans b.start b.group c.step.new.self p (step_pays b.group c.step.new.self (event_of c.args.event s.found) c.in_ok-answer.answer s.steps));
+      by = ∥∥₁_map b.by (λ w. by_both b.start b.group c.step.new.self w (by_step b.group c.step.new.self (event_of c.args.event s.found) c.in_ok-answer.answer s.steps));
       none_open = b.none_open;
       counted = counted_on ds hs b.counted c.args.seat h c.push.new.self.items grown next longer;
       tidy = λ k. tidy_on ds hs b.counted c.args.seat h c.push.new.self.items grown next longer k (tidy_step c.args.event s.found c.in_ok-answer.answer c.args.seat (woven ds hs) c.requires k (b.tidy k));

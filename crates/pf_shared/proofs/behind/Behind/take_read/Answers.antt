@@ -4,6 +4,7 @@ use Rattle.std.specs.Bool.{then_some}
 use Rattle.pf_protocol.specs.Answers.{claims_of}
 use Rattle.pf_shared.specs.declared.moment.Did.TheVariants.{Looked}
 use Rattle.pf_group.specs.GroupIs.{GroupIs, state_of}
+use Rattle.pf_group.proofs.Chains.{by_both}
 use Rattle.pf_rounds.proofs.Paying.{pays_trans}
 use Rattle.pf_shared.specs.Looks.{HandsOut, read_of}
 use Rattle.pf_shared.proofs.Looking.{has_looked, looked_counted, looked_handed, looked_tidy, read_is, took}
@@ -22,6 +23,7 @@ invariant_of-self g c = let b = c.make_room.new.self in let ds = b.turns.items i
       begun = begun_same b.start b.group b.begun after t.history;
       same_root = t.root ∙ b.same_root;
       paid = ∥∥₁_map b.paid (λ p. pays_trans b.start b.group after p t.pays);
+      by = ∥∥₁_map b.by (λ w. by_both b.start b.group after w t.by);
       none_open = b.none_open;
       counted = looked_counted ds hs b.counted c.args.seat read c.push.new.self.items grown next same;
       tidy = λ k. looked_tidy ds hs b.counted c.args.seat read c.push.new.self.items grown next same k (b.tidy k);
