@@ -151,3 +151,9 @@ module _ {D : Type 0} {disk : Ghosts D} (n m : ℕ) (number_is : m ≡ n) (seen 
   pub grew_looked : {A : Type 0} → (r : Result A NoMemory) (read : A → Option ℕ) → IfOk r (λ a. HasLooked m (read a) old new) → OnErr r (Stays old new) → GrewBy n seen (list_of new)
   grew_looked (Ok a) read looked stays = grew_by n m seen (list_of old) (list_of new) (Look (read a)) number_is seen_is looked.listed
   grew_looked (Err e) read looked stays = grew_none n seen (list_of old) (list_of new) seen_is stays.listed
+
+-- a look, and want of memory for it, leave what the list began with
+module _ {D : Type 0} {disk : Ghosts D} (m : ℕ) (old new : Behind D disk) where
+  pub looked_root : {A : Type 0} → (r : Result A NoMemory) (read : A → Option ℕ) → IfOk r (λ a. HasLooked m (read a) old new) → OnErr r (Stays old new) → new.start ≡ old.start
+  looked_root (Ok a) read looked stays = looked.root
+  looked_root (Err e) read looked stays = stays.root

@@ -1,5 +1,3 @@
-use Rattle.std.proofs.Common.{◌≡◌, ◌∙◌, sym, subst}
-use Rattle.pf_turn.specs.Lists.{GrewBy}
 use Rattle.pf_group.specs.Events.{event_of}
 use Rattle.pf_shared.specs.Behinds.{ActsAs, list_of}
 use Rattle.pf_shared.specs.Calls.{Finds, HasStepped}

@@ -1,6 +1,4 @@
-use Rattle.pf_group.specs.Events.{event_of}
 use Rattle.pf_shared.specs.Behinds.{list_of}
-use Rattle.pf_shared.specs.Calls.{Finds}
 use Rattle.pf_shared.specs.Seats.{IsAlone, number_of, root_in, seen_by}
 use Rattle.pf_shared.proofs.Widening.{took_err, took_step}
 use Rattle.pf_shared.proofs.parts.SharedGroup.step.Goals as goal
