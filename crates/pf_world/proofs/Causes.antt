@@ -1,5 +1,5 @@
 -- Each halt of a world has its cause.
-use Rattle.std.proofs.Common.{◌≡◌, ◌≢◌, inl, inr, ℕ, zero, suc, ◌+◌, ◌*◌, ◌<◌, ◌≤◌, ◌&&◌, ◌==◌, false, List, [], ◌∷◌, ◌++◌, drop, length, Option, Some, flat_map, slice_get, arith, refl, sym, ap, subst, ◌∙◌}
+use Rattle.std.proofs.Common.{◌≡◌, ◌≢◌, inl, inr, ℕ, Bool, zero, suc, ◌+◌, ◌*◌, ◌<◌, ◌≤◌, ◌&&◌, ◌==◌, false, List, [], ◌∷◌, ◌++◌, drop, length, Option, Some, flat_map, slice_get, arith, refl, sym, ap, subst, ◌∙◌}
 use Rattle.std.proofs.lemmas.Bool.{ne_eqb}
 use Rattle.std.proofs.lemmas.List.{take-append-drop}
 use Rattle.std.proofs.lemmas.List.Sums.{sum_by-append, sum_by-cons}
@@ -79,14 +79,14 @@ failed_times n x y z paid le0 le1 = elim paid.enough [
   | inr last ↦ inr (elim last [ inl first ↦ inl (omega (arith, first, le0)) | inr second ↦ inr (omega (arith, second, le1)) ])
 ]
 
-module _ {D : Type 0} (seen : D → Option (List ℕ)) (may_leave : D → Images) (faults : D → ℕ) (disks after : List D) (first w : WorldIs) where
+module _ {D : Type 0} (seen : D → Option (List ℕ)) (may_leave : D → Images) (faults moment : D → ℕ) (left_since : D → ℕ → Images) (tells_moments : Bool) (disks after : List D) (first w : WorldIs) where
   -- a world that was made on these disks, perhaps in part, after more had happened to its chunks, which left the disks so
   pub record HasPassed : Type 0 where
     pub numbers : (k : ℕ) (c : ChunkIs) → slice_get first.chunks k ≡ Some c → c.group.number ≡ k
     pub sound : IsSoundWorld w
     pub fresh : AreNew faults disks first
     pub goes_on : GoesOn first w
-    pub left : AreLeft seen may_leave faults w.chunks disks after
+    pub left : AreLeft seen may_leave faults moment left_since tells_moments w.chunks disks after
 
   module _ (p : HasPassed) where
     -- a chunk, as it was when it was made

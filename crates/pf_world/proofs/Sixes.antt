@@ -1,10 +1,11 @@
 -- Disks by sixes, as their chunks left them.
-use Rattle.std.proofs.Common.{◌≡◌, ℕ, zero, suc, ◌+◌, ◌*◌, ◌<◌, ◌≤◌, List, [], ◌∷◌, ◌++◌, Option, Some, drop, length, length-drop, reverse, refl, sym, ap, subst, ◌∙◌, arith}
+use Rattle.std.proofs.Common.{◌≡◌, ℕ, Bool, zero, suc, ◌+◌, ◌*◌, ◌<◌, ◌≤◌, List, [], ◌∷◌, ◌++◌, Option, Some, drop, length, length-drop, reverse, refl, sym, ap, subst, ◌∙◌, arith}
 use Rattle.std.specs.List.{flat_map, slice_get}
 use Rattle.std.proofs.lemmas.List.{append_assoc, append-nil, length-append}
 use Rattle.std.proofs.lemmas.Option.{none-some, same_Some}
 use Rattle.pf_disk.specs.Crashes.{Images}
 use Rattle.pf_group.specs.declared.six.Six.{Six}
+use Rattle.pf_group.specs.Crashing.{LeavesAtCrash}
 use Rattle.pf_group.specs.Leaving.{LeavesIn, as_seen}
 use Rattle.pf_group.specs.Making.{six_faults}
 use Rattle.pf_chunk.specs.Views.{ChunkIs}
@@ -72,7 +73,7 @@ module _ {D : Type 0} where
     told_rest [] ys told = told
     told_rest (x ∷ xs) ys told = told_rest xs ys told.1
 
-    module _ (may_leave : D → Images) (faults : D → ℕ) where
+    module _ (may_leave : D → Images) (faults moment : D → ℕ) (left_since : D → ℕ → Images) (tells_moments : Bool) where
       -- six disks hold what a group left on them, and have failed as often as it knows
       pub record IsLeft (c : ChunkIs) (six : Six D) : Type 0 where
         pub left_0 : LeavesIn c.group 0 (may_leave six.s0h0) (may_leave six.s0h1)
@@ -81,6 +82,9 @@ module _ {D : Type 0} where
         pub seen_0 : LeavesIn c.group 0 (as_seen (seen six.s0h0)) (as_seen (seen six.s0h1))
         pub seen_1 : LeavesIn c.group 1 (as_seen (seen six.s1h0)) (as_seen (seen six.s1h1))
         pub seen_2 : LeavesIn c.group 2 (as_seen (seen six.s2h0)) (as_seen (seen six.s2h1))
+        pub crash_0 : LeavesAtCrash seen moment left_since tells_moments c.group 0 six.s0h0 six.s0h1
+        pub crash_1 : LeavesAtCrash seen moment left_since tells_moments c.group 1 six.s1h0 six.s1h1
+        pub crash_2 : LeavesAtCrash seen moment left_since tells_moments c.group 2 six.s2h0 six.s2h1
         pub counts : six_faults faults six ≡ c.group.faults
 
       -- each six those of its chunk
@@ -96,37 +100,38 @@ module _ {D : Type 0} where
       as_many (c ∷ cs) [] all = absurd all
       as_many (c ∷ cs) (six ∷ sixes) all = ap suc (as_many cs sixes all.1)
 
-      first_halves : (c : ChunkIs) (six : Six D) (rest : List D) (i : ℕ) → i < 3 → IsLeft c six → AreHalvesOf seen may_leave faults (six_list six ++ rest) c 0 i
-      first_halves c six rest zero low left = record { zero = six.s0h0; one = six.s0h1; zero_is = refl; one_is = refl; left = left.left_0; as_read = left.seen_0; counts = ap (λ fs. slice_get fs 0) (sym left.counts) }
-      first_halves c six rest (suc zero) low left = record { zero = six.s1h0; one = six.s1h1; zero_is = refl; one_is = refl; left = left.left_1; as_read = left.seen_1; counts = ap (λ fs. slice_get fs 1) (sym left.counts) }
-      first_halves c six rest (suc (suc zero)) low left = record { zero = six.s2h0; one = six.s2h1; zero_is = refl; one_is = refl; left = left.left_2; as_read = left.seen_2; counts = ap (λ fs. slice_get fs 2) (sym left.counts) }
+      first_halves : (c : ChunkIs) (six : Six D) (rest : List D) (i : ℕ) → i < 3 → IsLeft c six → AreHalvesOf seen may_leave faults moment left_since tells_moments (six_list six ++ rest) c 0 i
+      first_halves c six rest zero low left = record { zero = six.s0h0; one = six.s0h1; zero_is = refl; one_is = refl; left = left.left_0; as_read = left.seen_0; at_crash = left.crash_0; counts = ap (λ fs. slice_get fs 0) (sym left.counts) }
+      first_halves c six rest (suc zero) low left = record { zero = six.s1h0; one = six.s1h1; zero_is = refl; one_is = refl; left = left.left_1; as_read = left.seen_1; at_crash = left.crash_1; counts = ap (λ fs. slice_get fs 1) (sym left.counts) }
+      first_halves c six rest (suc (suc zero)) low left = record { zero = six.s2h0; one = six.s2h1; zero_is = refl; one_is = refl; left = left.left_2; as_read = left.seen_2; at_crash = left.crash_2; counts = ap (λ fs. slice_get fs 2) (sym left.counts) }
       first_halves c six rest (suc (suc (suc i))) low left = absurd (omega arith)
 
-      halves : (cs : List ChunkIs) (sixes : List (Six D)) (rest : List D) → AreAll cs sixes → (k i : ℕ) (c : ChunkIs) → slice_get cs k ≡ Some c → i < 3 → AreHalvesOf seen may_leave faults (flat_map six_list sixes ++ rest) c k i
+      halves : (cs : List ChunkIs) (sixes : List (Six D)) (rest : List D) → AreAll cs sixes → (k i : ℕ) (c : ChunkIs) → slice_get cs k ≡ Some c → i < 3 → AreHalvesOf seen may_leave faults moment left_since tells_moments (flat_map six_list sixes ++ rest) c k i
       halves [] sixes rest all k i c is low = absurd (cc)
       halves (first ∷ cs) [] rest all k i c is low = absurd all
       halves (first ∷ cs) (six ∷ sixes) rest all zero i c is low =
           let same : first ≡ c = cc in
-          subst (λ ds. AreHalvesOf seen may_leave faults ds c 0 i) (sym (append_assoc (six_list six) (flat_map six_list sixes) rest))
+          subst (λ ds. AreHalvesOf seen may_leave faults moment left_since tells_moments ds c 0 i) (sym (append_assoc (six_list six) (flat_map six_list sixes) rest))
           (first_halves c six (flat_map six_list sixes ++ rest) i low (subst (λ d. IsLeft d six) same all.0))
       halves (first ∷ cs) (six ∷ sixes) rest all (suc k) i c is low =
           let there = halves cs sixes rest all.1 k i c is low in
           let one : 6 * suc k + 2 * i + 1 ≡ 6 * suc k + (2 * i + 1) = omega arith in
           let back : 6 * k + (2 * i + 1) ≡ 6 * k + 2 * i + 1 = omega arith in
-          subst (λ ds. AreHalvesOf seen may_leave faults ds c (suc k) i) (sym (append_assoc (six_list six) (flat_map six_list sixes) rest)) (record {
+          subst (λ ds. AreHalvesOf seen may_leave faults moment left_since tells_moments ds c (suc k) i) (sym (append_assoc (six_list six) (flat_map six_list sixes) rest)) (record {
             zero = there.zero;
             one = there.one;
             zero_is = past_six six (flat_map six_list sixes ++ rest) k (2 * i) ∙ there.zero_is;
             one_is = ap (λ n. slice_get (six_list six ++ (flat_map six_list sixes ++ rest)) n) one ∙ past_six six (flat_map six_list sixes ++ rest) k (2 * i + 1) ∙ ap (λ n. slice_get (flat_map six_list sixes ++ rest) n) back ∙ there.one_is;
             left = there.left;
             as_read = there.as_read;
+            at_crash = there.at_crash;
             counts = there.counts;
           })
 
       -- the chunks have left the first disks so, and the others are there
-      pub are_left : (cs : List ChunkIs) (sixes : List (Six D)) (rest before disks : List D) → AreAll cs sixes → disks ≡ flat_map six_list sixes ++ rest → drop (6 * length cs) before ≡ rest → length disks ≡ length before → AreLeft seen may_leave faults cs before disks
+      pub are_left : (cs : List ChunkIs) (sixes : List (Six D)) (rest before disks : List D) → AreAll cs sixes → disks ≡ flat_map six_list sixes ++ rest → drop (6 * length cs) before ≡ rest → length disks ≡ length before → AreLeft seen may_leave faults moment left_since tells_moments cs before disks
       are_left cs sixes rest before disks all is others count = record {
-        halves = λ k i c there low. subst (λ ds. AreHalvesOf seen may_leave faults ds c k i) (sym is) (halves cs sixes rest all k i c there low);
+        halves = λ k i c there low. subst (λ ds. AreHalvesOf seen may_leave faults moment left_since tells_moments ds c k i) (sym is) (halves cs sixes rest all k i c there low);
         rest = ap (λ ds. drop (6 * length cs) ds) is ∙ drop_sixes sixes rest (length cs) (as_many cs sixes all) ∙ sym others;
         count = count;
       }
@@ -153,7 +158,7 @@ module _ {D : Type 0} where
       }
 
       -- all have, and the order is turned back
-      pub all_closed : (chunks : List ChunkIs) (spare : List D) (now : List ChunkIs) (disks before : List D) → Closing chunks spare now disks → length now ≡ 0 → drop (6 * length chunks) before ≡ reverse spare → 6 * length chunks ≤ length before → AreLeft seen may_leave faults chunks before (reverse disks)
+      pub all_closed : (chunks : List ChunkIs) (spare : List D) (now : List ChunkIs) (disks before : List D) → Closing chunks spare now disks → length now ≡ 0 → drop (6 * length chunks) before ≡ reverse spare → 6 * length chunks ≤ length before → AreLeft seen may_leave faults moment left_since tells_moments chunks before (reverse disks)
       all_closed chunks spare now disks before closing none others enough =
           let are : chunks ≡ closing.rest = closing.chunks_are ∙ ap (λ cs. cs ++ closing.rest) (is_empty now none) in
           let all : AreAll chunks closing.sixes = subst (λ cs. AreAll cs closing.sixes) (sym are) closing.all in

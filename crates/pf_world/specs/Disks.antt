@@ -1,8 +1,9 @@
 -- The disks of a world: disk 6k + 2i + h of a list is half h of server i of chunk k.
-use Rattle.std.specs.Prelude.{◌≡◌, ℕ, ◌+◌, ◌*◌, ◌<◌, IsTrue, is_some, List, [], ◌∷◌, Option, Some, drop, length, slice_get}
+use Rattle.std.specs.Prelude.{◌≡◌, ℕ, ◌+◌, ◌*◌, ◌<◌, Bool, IsTrue, is_some, List, [], ◌∷◌, Option, Some, drop, length, slice_get}
 use Rattle.pf_entry.specs.Lists.{Every}
 use Rattle.pf_disk.specs.Crashes.{Images}
 use Rattle.pf_group.specs.declared.six.Six.{Six}
+use Rattle.pf_group.specs.Crashing.{LeavesAtCrash}
 use Rattle.pf_group.specs.Leaving.{LeavesIn, as_seen}
 use Rattle.pf_chunk.specs.Views.{ChunkIs}
 
@@ -15,8 +16,9 @@ module _ {D : Type 0} (seen : D → Option (List ℕ)) where
   abbrev pub AreTold : List D → Type 0
   AreTold disks = Every (λ disk. IsTrue (is_some (seen disk))) disks
 
-  module _ (may_leave : D → Images) (faults : D → ℕ) where
-    -- the two halves of server i of chunk k hold what its group left there, and have failed as often as it knows
+  module _ (may_leave : D → Images) (faults moment : D → ℕ) (left_since : D → ℕ → Images) (tells_moments : Bool) where
+    -- The two halves of server i of chunk k hold what its group left there, now and at any moment since its last step began, and have failed
+    -- as often as it knows
     pub record AreHalvesOf (disks : List D) (c : ChunkIs) (k i : ℕ) : Type 0 where
       pub zero : D
       pub one : D
@@ -24,6 +26,7 @@ module _ {D : Type 0} (seen : D → Option (List ℕ)) where
       pub one_is : slice_get disks (6 * k + 2 * i + 1) ≡ Some one
       pub left : LeavesIn c.group i (may_leave zero) (may_leave one)
       pub as_read : LeavesIn c.group i (as_seen (seen zero)) (as_seen (seen one))
+      pub at_crash : LeavesAtCrash seen moment left_since tells_moments c.group i zero one
       pub counts : slice_get c.group.faults i ≡ Some (faults zero, faults one)
 
     -- these chunks left the first disks so, and all others are as they were

@@ -53,7 +53,7 @@ impl<D: Disk + Drop> World<D> {
         ensures sound { IfOk result (λ made. IsSoundWorld made.0.world) }
         ensures fresh { IfOk result (λ made. AreNew D.faults disks.items made.0.world) }
         ensures spare { IfOk result (λ made. made.0.spare ≡ drop (6 * chunks) disks.items) }
-        ensures back { IfErr result (λ back. (made : List ChunkIs) × AreBegun D.faults chunks sectors names format disks.items made × AreLeft D.seen D.may_leave D.faults made disks.items back.0.items) }
+        ensures back { IfErr result (λ back. (made : List ChunkIs) × AreBegun D.faults chunks sectors names format disks.items made × AreLeft D.seen D.may_leave D.faults D.moment D.left_since D.tells_moments made disks.items back.0.items) }
     {
         let mut spare = disks;
         spare.reverse();
@@ -105,7 +105,7 @@ impl<D: Disk + Drop> World<D> {
 
     /// Gives the disks back, in their order, with what the chunks left on them. It takes no memory.
     pub fn close(self) -> Vec<D>
-        ensures { (before : List D) → drop (6 * length self.world.chunks) before ≡ self.spare → 6 * length self.world.chunks ≤ length before → AreLeft D.seen D.may_leave D.faults self.world.chunks before result.items }
+        ensures { (before : List D) → drop (6 * length self.world.chunks) before ≡ self.spare → 6 * length self.world.chunks ≤ length before → AreLeft D.seen D.may_leave D.faults D.moment D.left_since D.tells_moments self.world.chunks before result.items }
     {
         let World {
             mut chunks,

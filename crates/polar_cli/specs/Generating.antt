@@ -1,5 +1,5 @@
 -- How the run of a generated script ends.
-use Rattle.std.specs.Prelude.{◌≡◌, ℕ, List, [], length, Option, IsOk, Ok}
+use Rattle.std.specs.Prelude.{◌≡◌, ℕ, Bool, List, [], length, Option, IsOk, Ok}
 use Rattle.std.specs.Io.KnownBytes.{Appends}
 use Rattle.pf_disk.specs.Crashes.{Images}
 use Rattle.pf_gen.specs.Generated.{generated}
@@ -29,11 +29,11 @@ Sums statuses.NoMemory number behind w taken now full = Appends taken now []
 Sums statuses.WriteFault number behind w taken now full = IsOk (script_of (generated number)) × (behind ≡ []) × full × AppendsFront taken now (summary_text number w)
 Sums status number behind w taken now full = ⊥
 
-module _ {D : Type 0} (seen : D → Option (List ℕ)) (may_leave : D → Images) (faults : D → ℕ) where
+module _ {D : Type 0} (seen : D → Option (List ℕ)) (may_leave : D → Images) (faults moment : D → ℕ) (left_since : D → ℕ → Images) (tells_moments : Bool) where
   pub record HasGenerated (status : Status) (number : ℕ) (taken now : Option (List ℕ)) (full : Type 0) (before after : List D) : Type 0 where
     pub behind : List Line
     pub text : List ℕ
-    pub ran : HasRunTo seen may_leave faults status (generated_lines number) behind text before after
+    pub ran : HasRunTo seen may_leave faults moment left_since tells_moments status (generated_lines number) behind text before after
     pub sums : Sums status number behind (world_run ran.halts ran.done).world taken now full
 
 -- the sink took the line of the run of which none was cut off

@@ -34,7 +34,7 @@ fn open<D: Disk + Drop>(
     requires disks { 48 ≤ length disks.items }
     requires told { AreTold D.seen disks.items }
     ensures opened { IfOk result (λ opened. HasOpened D.faults line.now opened.1.items disks.items opened.0) }
-    ensures back { IfErr result (λ back. HasNotOpened D.seen D.may_leave D.faults line.now disks.items back.items) }
+    ensures back { IfErr result (λ back. HasNotOpened D.seen D.may_leave D.faults D.moment D.left_since D.tells_moments line.now disks.items back.items) }
 {
     let Command::Volume {
         chunks,
@@ -111,7 +111,7 @@ pub fn run_lines<K: Sink, D: Disk + Drop, R: Threads + Sync, G: Gate + Sync>(
     requires workers { (1 ≤ workers) × (workers ≤ 8) }
     requires disks { 48 ≤ length disks.old.items }
     requires told { AreTold D.seen disks.old.items }
-    ensures { HasRunLines D.seen D.may_leave D.faults result.0 result.1 lines.now (K.taken sink.old) (K.taken sink.new) (Rose (K.faults sink.old) (K.faults sink.new)) disks.old.items disks.new.items }
+    ensures { HasRunLines D.seen D.may_leave D.faults D.moment D.left_since D.tells_moments result.0 result.1 lines.now (K.taken sink.old) (K.taken sink.new) (Rose (K.faults sink.old) (K.faults sink.new)) disks.old.items disks.new.items }
 {
     runs_have_one_list();
     let [volume, rest @ ..] = lines else {
