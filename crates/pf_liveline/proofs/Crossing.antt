@@ -1,10 +1,11 @@
 -- What may cross threads.
 use denote.RattleType.{RattleType}
 use denote.Enum.Declared as enums
-use denote.Param.Send.{IsSend, IsSync, enum_send, recorded_send, recorded_sync, sendable, struct_send, struct_sync}
+use denote.Param.Send.{IsSend, IsSync, enum_send, recorded_send, recorded_sync, sendable, struct_send, struct_sync, view_send}
 use denote.Struct.Declared.{shape}
 use Rattle.pf_disk.specs.declared.disk.Disk.{Ghosts}
 use Rattle.pf_group.specs.contracts.group.Group as Group
+use Rattle.pf_group.specs.contracts.group.Group.TheInside as Inside
 use Rattle.pf_shared.specs.contracts.moment.Moment as Moment
 use Rattle.pf_shared.specs.contracts.start.Start as Start
 use Rattle.pf_shared.specs.contracts.behind.Behind as Behind
@@ -22,8 +23,10 @@ use Rattle.std.proofs.sync.atomic.AtomicU64.TheSendSync as word
 use Rattle.std.proofs.sync.atomic.AtomicBool.TheSendSync as bit
 use Rattle.pf_turn.proofs.parts.TurnSeat.TheSendSync as seat
 use Rattle.pf_turn.proofs.parts.TurnLock.TheSendSync as lock
-use Rattle.pf_group.proofs.group.Group.TheSendSync as group
 use Rattle.pf_turn.proofs.log.Stamped.TheSendSync as stamped
+use Rattle.pf_cluster.proofs.cluster.Cluster.TheSendSync as cluster
+use Rattle.pf_kept.proofs.kept.Kept.TheSendSync as kept
+use Rattle.pf_group.proofs.past.Past.TheSendSync as past
 use Rattle.pf_shared.proofs.moment.Did.TheSendSync as did
 use Rattle.pf_leadercell.proofs.cell.LeaderCell.TheSendSync as cell
 use Rattle.pf_live.proofs.plan.Plan.TheSendSync as plan
@@ -33,7 +36,7 @@ use Rattle.std.proofs.alloc.Global.TheSendSync as heap
 use Rattle.std.proofs.Crossing.{frees}
 
 pub group_send : (D : RattleType) (g : Ghosts D.Denot) → IsSend D → IsSend (Group.the_row D g)
-group_send D g d = group.the_send D g d
+group_send D g d = view_send _ _ _ _ _ (recorded_send _ _ _ (Inside.the_type D g).to_one (struct_send (shape (Inside.the_type D g)) (search sendable, (search sendable, (search sendable, (search sendable, (search (sendable, vec.the_send, heap.the_send, frees) depth 30, (cluster.the_field_send _ (kept.the_send D d), (past.the_field_send, (search sendable depth 30, tt))))))))))
 
 pub start_send : (D : RattleType) (g : Ghosts D.Denot) → IsSend D → IsSend (Start.the_row D g)
 start_send D g d = search sendable depth 30
