@@ -12,16 +12,16 @@ use Rattle.pf_protocol.specs.Saving.{claimable, is_claimable}
 use Rattle.pf_protocol.specs.Groups.{Group, claim_of}
 use Rattle.pf_protocol.specs.declared.answers.Answer.{Answer}
 use Rattle.pf_protocol.specs.declared.answers.Answer.TheVariants.{Done, Slot as SlotIs, Term as TermIs, Read as ReadIs, Base as BaseIs, Job as JobIs, Refused}
-use Rattle.pf_protocol.specs.declared.answers.Refusal.TheVariants.{NoneFree, NotOurs}
+use Rattle.pf_protocol.specs.declared.answers.Refusal.TheVariants.{Halted, NoneFree, NotOurs}
 use Rattle.pf_entry.specs.Records.{Durable}
 use Rattle.pf_cluster.specs.declared.cluster.Cluster.{Cluster}
 use Rattle.pf_cluster.specs.Going.{ShowsSomehow}
 use Rattle.pf_cluster.specs.Readings.{taken_after}
 use Rattle.pf_protocol.specs.declared.events.Event.TheVariants.{Submit, Fetch, Deliver, Lose, Elect, Resend, Stop, Restart, Claim, Finish, GiveBack, Checkpoint}
 use Rattle.pf_protocol.specs.declared.events.Event.{Event}
-use Rattle.pf_group.specs.Steps.{IsNew}
+use Rattle.pf_group.specs.Steps.{EndsSo, IsNew}
 use Rattle.pf_group.proofs.Plain.{IsNoClaim, next_read, plain_answer}
-use Rattle.pf_protocol.specs.Answers.{Claimed, IsAnswer, IsOpen, answer_to, claim_answer, claim_answer_at, is_claim, may_halt}
+use Rattle.pf_protocol.specs.Answers.{Claimed, IsAnswer, IsOpen, answer_to, claim_answer, claim_answer_at, is_claim, may_halt, restart_answer}
 
 abbrev IsClaimOr : Event → Type 0
 IsClaimOr event = (event ≡ Claim) ⊎ IsNoClaim event
@@ -139,6 +139,34 @@ fresh_answer setup g claims event (TermIs term) opened is = tt
 fresh_answer setup g claims event (BaseIs base) opened is = tt
 fresh_answer setup g claims event (Refused refusal) opened is = tt
 
+-- how a restart ends
+back_ends : (c : Option Condition) → (restart_answer c ≡ Done) ⊎ ((restart_answer c ≡ Refused Halted) ⊎ (restart_answer c ≡ Refused NotOurs))
+back_ends (Some (Running s)) = inl refl
+back_ends (Some (Stopped life before after)) = inl refl
+back_ends (Some Unformatted) = inr (inr refl)
+back_ends None = inr (inr refl)
+
+restart_ends : (setup : Setup) (g : Group) (i : ℕ) (found : Bool) (answer : Answer) → IsAnswer setup g (Restart i found) answer → EndsSo (Restart i found) answer
+unfolding answer_to
+restart_ends setup g i found answer is = elim is [
+  | inl right ↦ subst (λ a. (a ≡ Done) ⊎ ((a ≡ Refused Halted) ⊎ (a ≡ Refused NotOurs))) (sym right) (back_ends (slice_get g.servers i))
+  | inr cut ↦ inr (inl cut.1)
+]
+
+pub ends_by_rules : (setup : Setup) (g : Group) (event : Event) (answer : Answer) → IsAnswer setup g event answer → EndsSo event answer
+ends_by_rules setup g (Restart i found) answer is = restart_ends setup g i found answer is
+ends_by_rules setup g (Submit i op) answer is = tt
+ends_by_rules setup g (Fetch i range) answer is = tt
+ends_by_rules setup g (Deliver k) answer is = tt
+ends_by_rules setup g (Lose k) answer is = tt
+ends_by_rules setup g (Elect i) answer is = tt
+ends_by_rules setup g (Resend i) answer is = tt
+ends_by_rules setup g (Stop i) answer is = tt
+ends_by_rules setup g Claim answer is = tt
+ends_by_rules setup g (Finish i life slot) answer is = tt
+ends_by_rules setup g (GiveBack i life slot) answer is = tt
+ends_by_rules setup g (Checkpoint i) answer is = tt
+
 -- a restart is answered by no job, and by no number of a read
 not_read : (number : ℕ) → ReadIs number ≡ Refused NotOurs → ⊥
 not_read number e = cc
@@ -167,3 +195,8 @@ module _ {S : Type 0} (holds : S → Durable → Durable → Type 0) (used forma
   taken_somehow taken (TermIs term) is = refl
   taken_somehow taken (BaseIs base) is = refl
   taken_somehow taken (Refused refusal) is = refl
+
+  pub ends_somehow : (answer : Answer) → ShowsSo answer → (answer ≡ Done) ⊎ ((answer ≡ Refused Halted) ⊎ (answer ≡ Refused NotOurs))
+  ends_somehow Done is = inl refl
+  ends_somehow (Refused Halted) is = inr (inl refl)
+  ends_somehow _ is = inr (inr is.0)

@@ -38,9 +38,9 @@ use Rattle.pf_group.specs.Pasts.{HasPlaceFor, HasRoomFor, IsKeepable}
 use Rattle.pf_group.specs.Reacting.{Answers, HasAnsweredSomehow, own_of}
 use Rattle.pf_group.specs.declared.reaction.Reaction.{Reaction}
 use Rattle.pf_group.specs.Standing.{StandsFor}
-use Rattle.pf_group.specs.Steps.{CountsOn, HasTried, IsLeft, IsNew, Steps}
+use Rattle.pf_group.specs.Steps.{EndsSo, GoesByRules, HasTried, IsLeft, IsNew, Steps}
 use Rattle.pf_group.proofs.Faults.{all_later, all_same, has_risen, heads_kept, others_same}
-use Rattle.pf_group.proofs.Fresh.{fresh_answer, fresh_somehow, taken_somehow}
+use Rattle.pf_group.proofs.Fresh.{ends_by_rules, ends_somehow, fresh_answer, fresh_somehow, taken_somehow}
 use Rattle.pf_group.proofs.Standing.{now_shows, stands_after, stands_led, stands_still, stayed_now, went_now}
 use Rattle.pf_group.proofs.Since.{Law, Stood, since_as, since_step, since_still, tell_all}
 
@@ -174,7 +174,9 @@ module _ {D : Type 0} (seen : D → Option (List ℕ)) (may_leave : D → Images
       pub others : KeepsOthers (acts_at stands.past.group event) old new
       pub taken : taken_of new ≡ taken_after (taken_of old) answer
       pub cause : answer ≡ Refused Halted → (i : ℕ) × (acts_at stands.past.group event ≡ Some i) × HasFault (rose_in faults) i old new
-      pub later : CountsOn tells event → AreLater (all_counts faults old) (all_counts faults new)
+      pub answered : GoesByRules tells event → IsAnswer setup stands.past.group event answer
+      pub ends : EndsSo event answer
+      pub later : GoesByRules tells event → AreLater (all_counts faults old) (all_counts faults new)
       pub fresh : IsNew stands.past.claims stands.past.group.reads answer
       pub stands_then : (later : History) → later ≡ history ++ record { event = event; answer = answer } ∷ [] → length later ≤ 2 ^ 32 → MayHappen (claims_of [] history) event → Standing later new
       pub went : IsTrue tells → Went event answer
@@ -191,18 +193,25 @@ module _ {D : Type 0} (seen : D → Option (List ℕ)) (may_leave : D → Images
       others = gone.others;
       taken = gone.taken;
       cause = gone.cause;
-      later = λ counts. all_later seen may_leave faults moment left_since tells_moments stands.past.group (happens setup stands.past.group event (ending answer)) setup (acts_at stands.past.group event) old new stands.reached.shows gone.shows gone.crash gone.others;
+      answered = λ by. gone.answered;
+      ends = ends_by_rules setup stands.past.group event answer gone.answered;
+      later = λ by. all_later seen may_leave faults moment left_since tells_moments stands.past.group (happens setup stands.past.group event (ending answer)) setup (acts_at stands.past.group event) old new stands.reached.shows gone.shows gone.crash gone.others;
       fresh = fresh_answer setup stands.past.group stands.past.claims event answer stands.reached.viable.group.opened gone.answered;
       stands_then = λ later is low may. stands_after (holds_in seen may_leave) used_in format_in (told_in seen) tells setup history old stands (rose_in faults) (was_in seen faults moment left_since tells_moments) new event answer later is low may gone;
       went = λ tell. went_now (holds_in seen may_leave) used_in format_in (told_in seen) tells setup history old stands (rose_in faults) (was_in seen faults moment left_since tells_moments) new tell event answer gone;
     }
+
+    no_rules : tells ≡ false → IsTrue tells ⊎ ⊥ → ⊥
+    no_rules none by = elim by [ inl tell ↦ false≢true (sym none ∙ tell) | inr other ↦ other ]
 
     came_begun : tells ≡ false → (i : ℕ) (found : Bool) (answer : Answer) → BegunIn stands.past.group i answer → Came (Restart i found) answer
     came_begun none i found answer begun = record {
       others = begun.others;
       taken = begun.taken ∙ sym (taken_somehow (holds_in seen may_leave) used_in format_in (told_in seen) (rose_in faults) (was_in seen faults moment left_since tells_moments) setup stands.past.group i new (taken_of old) answer begun.shows);
       cause = λ halted. (i, refl, begun.cause halted);
-      later = λ tell. absurd (false≢true (sym none ∙ tell));
+      answered = λ by. absurd (no_rules none by);
+      ends = ends_somehow (holds_in seen may_leave) used_in format_in (told_in seen) (rose_in faults) (was_in seen faults moment left_since tells_moments) setup stands.past.group i new answer begun.shows;
+      later = λ by. absurd (no_rules none by);
       fresh = fresh_somehow (holds_in seen may_leave) used_in format_in (told_in seen) (rose_in faults) (was_in seen faults moment left_since tells_moments) setup stands.past.group i new stands.past.claims stands.past.group.reads answer begun.shows;
       stands_then = λ later is low may. stands_led (holds_in seen may_leave) used_in format_in (told_in seen) tells setup history old stands (rose_in faults) (was_in seen faults moment left_since tells_moments) new none i found answer later is low may begun;
       went = λ tell. absurd (false≢true (sym none ∙ tell));
@@ -298,12 +307,13 @@ module _ {D : Type 0} (seen : D → Option (List ℕ)) (may_leave : D → Images
           let stamped = same_happening h.event event h.answer answer same_event same_answer in
           record {
             asked = may;
-            answered = λ tell. let gone = came.went tell in gone.answered;
+            before = stands.past.group;
+            same = λ tell. (stands.replays tell).same;
+            answered = came.answered;
+            ends = came.ends;
             fresh = fresh_here answer came.fresh;
             recorded = ap (λ l. record Is { history = l }) (is ∙ ap (λ x. history ++ x ∷ []) stamped)
                 ∙ ap (λ t. record Is { history = history ++ record { event = event; answer = answer } ∷ []; taken = t }) came.taken;
-            before = stands.past.group;
-            same = λ tell. (stands.replays tell).same;
             cause = λ halted. let c = came.cause halted in (c.0, c.1, has_risen faults old new c.0 c.2);
             later = came.later;
             others = λ j apart. others_same faults _ old new came.others j apart;

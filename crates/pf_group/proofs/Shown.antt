@@ -20,7 +20,7 @@ use Rattle.pf_cluster.specs.declared.kept.Parcel.{Parcel}
 use Rattle.pf_cluster.specs.Readings.{taken_of}
 use Rattle.pf_cluster.specs.Showing.{HasAnswer, parcel_of}
 use Rattle.pf_entry.specs.Lists.{Every}
-use Rattle.pf_cluster.specs.Shown.{Idles, IsMemoryOf, IsRunningAt, TakesRead}
+use Rattle.pf_cluster.specs.Shown.{Idles, IsLeader, IsMemoryOf, IsRunningAt, TakesRead}
 use Rattle.pf_group.specs.declared.errors.Down.{Down}
 use Rattle.pf_group.specs.GroupIs.{GroupIs}
 use Rattle.pf_group.specs.Halves.{all_counts}
@@ -56,6 +56,11 @@ left_is packets parcels k result are told = by result (slice_get packets k) (ap 
 -- and it was sent
 pub left_there : (parcels : List Parcel) (k : ℕ) (result : Bool) → (IsTrue result ↔ IsLeftIn parcels k) → IsTrue result → k < length parcels
 left_there parcels k result told is = let there = told.0 is in slice_get_within parcels k there.0 there.1
+
+-- whoever serves is one of the three
+pub leader_low : (g : Group) (o : Option (ℕ × ℕ)) → IsLeader g o → IfSome o (λ served. served.1 < 3)
+leader_low g (Some (term, i)) is = is.0.low
+leader_low g None is = tt
 
 -- what a server has in memory, if it runs
 pub memory_told : {X : Type 0} → (running : X → Running) (g : Group) (i : ℕ) (o : Option X) (down : Down) → MatchOption o (Idles g i) (λ x. IsRunningAt g i (running x)) → TellsOf g i (ok_or o down) (λ x s. IsMemoryOf (running x) s)

@@ -27,7 +27,8 @@ impl<D: Disk> Group<D> {
 
     /// Of the running servers that serve the one of the greatest term: that term, and its number. `None` exactly where none serves.
     pub fn leader(&self) -> Option<(Term, Number)>
-        ensures { IsTrue self.now.told → IsLeader (state_of self.now) result }
+        ensures low { IfSome result (λ served. served.1 < 3) }
+        ensures leader { IsTrue self.now.told → IsLeader (state_of self.now) result }
     {
         self.cluster.leader()
     }
