@@ -111,7 +111,7 @@ claim_or_none : (window : ℕ) (g : Group) (is : List ℕ) (a : Answer) → clai
 claim_or_none window g [] a e no_jobs = sym e
 claim_or_none window g (i ∷ is) a e no_jobs = here_or_next window i (slice_get g.servers i) (claim_answer window g is) a (λ f. claim_or_none window g is a f no_jobs) no_jobs e
 
-none_is_free : (setup : Setup) (g : Group) (a : Answer) → IsAnswer setup g Claim a → ((job : Job) → a ≡ JobIs job → ⊥) → a ≡ Refused NoneFree
+pub none_is_free : (setup : Setup) (g : Group) (a : Answer) → IsAnswer setup g Claim a → ((job : Job) → a ≡ JobIs job → ⊥) → a ≡ Refused NoneFree
 unfolding answer_to may_halt
 none_is_free setup g a is no_jobs = ⊎_elim (λ (e : a ≡ answer_to setup g Claim). claim_or_none setup.window g (0 ∷ 1 ∷ 2 ∷ []) a (sym e) no_jobs) (λ h. absurd (false≢true h.0)) is
 
