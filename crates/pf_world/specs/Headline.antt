@@ -1,5 +1,5 @@
 -- What holds of every world that a script leads to.
-use Rattle.std.specs.Prelude.{◌≡◌, ◌⊎◌, ℕ, ◌+◌, ◌-◌, ◌*◌, ◌^◌, ◌<◌, ◌≤◌, List, [], ◌∷◌, length, Some, slice_get}
+use Rattle.std.specs.Prelude.{◌≡◌, ◌⊎◌, ℕ, ◌+◌, ◌-◌, ◌*◌, ◌^◌, ◌<◌, ◌≤◌, IsTrue, List, [], ◌∷◌, length, Some, slice_get}
 use Rattle.pf_entry.specs.Lists.{Every}
 use Rattle.pf_protocol.specs.Answers.{IsLegal}
 use Rattle.pf_protocol.specs.Safety.{IsSafe}
@@ -34,9 +34,9 @@ pub record IsLawful (c : Chunk) : Type 0 where
 abbrev pub IsLawfulRun : World → Type 0
 IsLawfulRun w = (k : ℕ) (c : ChunkRun) → slice_get w.volume.chunks k ≡ Some c → IsLawful c.group
 
--- the same of the histories that the groups of a world keep
+-- every law holds of the histories that the groups of a world keep, and they are legal where disks tell their content
 pub record IsLawfulGroup (g : GroupIs) : Type 0 where
-  pub legal : IsLegal g.setup g.history
+  pub legal : IsTrue g.told → IsLegal g.setup g.history
   pub sound : IsSound g.setup g.history
 
 -- which a world keeps from line to line
@@ -98,8 +98,8 @@ pub record StandsIn (w : WorldIs) (h : Halt) : Type 0 where
   pub there : slice_get w.chunks h.group ≡ Some chunk
   pub place : IsPlaceOf chunk.group h.place
 
--- A list of halts that tells of the world and has none of anything else; each has its cause. Where no disk failed it is empty, and the run
--- is a function of the lines alone.
+-- A list of halts that tells of the world, whose disks tell their content, and has none of anything else; each has its cause. Where no disk
+-- failed it is empty, and the run is a function of the lines alone.
 pub record AreHalts {D : Type 0} (faults : D → ℕ) (halts : List Halt) (before after : List D) (w : WorldIs) : Type 0 where
   pub tells : Tells halts w
   pub within : Every (StandsIn w) halts

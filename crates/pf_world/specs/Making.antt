@@ -1,5 +1,5 @@
 -- How the chunks of a world are made.
-use Rattle.std.specs.Prelude.{◌≡◌, ℕ, ◌*◌, ◌<◌, ◌≤◌, List, [], ◌∷◌, ◌++◌, Some, length, slice_get, take}
+use Rattle.std.specs.Prelude.{◌≡◌, ℕ, ◌*◌, ◌<◌, ◌≤◌, Bool, List, [], ◌∷◌, ◌++◌, Some, length, slice_get, take}
 use Rattle.std.specs.List.{flat_map}
 use Rattle.pf_entry.specs.Lists.{Every}
 use Rattle.pf_protocol.specs.declared.answers.Answer.{Answer}
@@ -21,12 +21,12 @@ unless_done first second = second
 
 module _ {D : Type 0} (faults : D → ℕ) where
   -- the next chunk was made on the next six disks
-  pub record HasAdded (old : WorldOn D) (answer : Answer) (new : WorldOn D) : Type 0 where
+  pub record HasAdded (told : Bool) (old : WorldOn D) (answer : Answer) (new : WorldOn D) : Type 0 where
     pub chunk : ChunkIs
     pub six : Six D
     pub given : old.spare ≡ six_list six ++ new.spare
     pub world : new.world ≡ record old.world { chunks = old.world.chunks ++ chunk ∷ [] }
-    pub made : groups.IsMade (length old.world.chunks) old.world.sectors old.world.names old.world.format (groups.six_faults faults six) chunk.group answer
+    pub made : groups.IsMade (length old.world.chunks) old.world.sectors old.world.names old.world.format told (groups.six_faults faults six) chunk.group answer
     pub ready : IsReady chunk
     pub run : (halts : List Halt) → run_of halts chunk ≡ new_run (chunk_of halts chunk.group)
 

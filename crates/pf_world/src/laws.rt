@@ -5,7 +5,8 @@ use crate::World;
 use pf_disk::Disk;
 
 impl<D: Disk + Drop> World<D> {
-    /// The histories of all groups are legal, and every law holds of them. It does nothing: that it is so is asked of the proof alone.
+    /// Every law holds of the histories of all groups, and they are legal where disks tell their content. It does nothing: that it is so is
+    /// asked of the proof alone.
     pub fn laws(&self)
         ensures { IsSoundWorld self.now.world }
     {

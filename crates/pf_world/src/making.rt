@@ -4,7 +4,7 @@ ghost use Rattle.pf_script.specs.Lines.{is_volume};
 ghost use Rattle.pf_protocol.specs.Answers.{IsSetup};
 ghost use Rattle.pf_group.specs.Making.{setup_with};
 ghost use Rattle.pf_chunk.specs.Views.{ChunkIs};
-ghost use Rattle.pf_world.specs.Disks.{AreLeft, AreTold};
+ghost use Rattle.pf_world.specs.Disks.{AreLeft};
 ghost use Rattle.pf_world.specs.Making.{AreBegun, AreNew, HasAdded, unless_done};
 ghost use Rattle.pf_world.specs.Headline.{IsSoundWorld};
 ghost use Rattle.pf_world.specs.Steps.{IsMade};
@@ -31,8 +31,8 @@ fn unless_done(first: Answer, second: Answer) -> Answer
 
 impl<D: Disk + Drop> World<D> {
     /// Makes a volume of 1 to 8 chunks, each of 16 to 4,096 sectors, a multiple of 8, with look-behind lists of up to `names` names and
-    /// disks of the given format. Disk 6g + 2i + h is half h of server i of chunk g; there are enough, and each tells its content. Sectors are copied on at
-    /// most `workers` threads, 1 to 8. `Done`, or `Halted` (52) where a disk failed while it was formatted.
+    /// disks of the given format. Disk 6g + 2i + h is half h of server i of chunk g; there are enough, whatever they held and whatever they
+    /// tell. Sectors are copied on at most `workers` threads, 1 to 8. `Done`, or `Halted` (52) where a disk failed while it was formatted.
     ///
     /// `NoMemory` (1) gives the disks back in their order, those of the first chunks, which were made, with what these left on them, and the
     /// others as they were.
@@ -48,12 +48,11 @@ impl<D: Disk + Drop> World<D> {
         requires volume { is_volume chunks sectors names format ≡ true }
         requires workers { (1 ≤ workers) × (workers ≤ 8) }
         requires disks { 6 * chunks ≤ length disks.items }
-        requires told { AreTold D.seen disks.items }
         ensures made { IfOk result (λ made. IsMade chunks sectors names format made.0.world made.1) }
         ensures sound { IfOk result (λ made. IsSoundWorld made.0.world) }
         ensures fresh { IfOk result (λ made. AreNew D.faults disks.items made.0.world) }
         ensures spare { IfOk result (λ made. made.0.spare ≡ drop (6 * chunks) disks.items) }
-        ensures back { IfErr result (λ back. (made : List ChunkIs) × AreBegun D.faults chunks sectors names format disks.items made × AreLeft D.seen D.may_leave D.faults D.moment D.left_since D.tells_moments made disks.items back.0.items) }
+        ensures back { IfErr result (λ back. (made : List ChunkIs) × AreBegun D.faults chunks sectors names format disks.items made × AreLeft D.seen D.may_leave D.faults D.moment D.left_since D.tells D.tells_moments made disks.items back.0.items) }
     {
         let mut spare = disks;
         spare.reverse();
@@ -83,8 +82,7 @@ impl<D: Disk + Drop> World<D> {
         requires setup { IsSetup (setup_with self.old.world.sectors self.old.world.names self.old.world.format []) }
         requires number { number ≡ length self.old.world.chunks }
         requires disks { 6 ≤ length self.old.spare }
-        requires told { AreTold D.seen self.old.spare }
-        ensures added { IfOk result (λ answer. HasAdded D.faults self.old answer self.new) }
+        ensures added { IfOk result (λ answer. HasAdded D.faults D.tells self.old answer self.new) }
         ensures err { OnErr result (self.new ≡ self.old) }
     {
         self.chunks.reserve(1)?;
@@ -103,9 +101,9 @@ impl<D: Disk + Drop> World<D> {
         }
     }
 
-    /// Gives the disks back, in their order, with what the chunks left on them. It takes no memory.
+    /// Gives the disks back, in their order, with what the chunks left on them, where disks of their type tell it. It takes no memory.
     pub fn close(self) -> Vec<D>
-        ensures { (before : List D) → drop (6 * length self.world.chunks) before ≡ self.spare → 6 * length self.world.chunks ≤ length before → AreLeft D.seen D.may_leave D.faults D.moment D.left_since D.tells_moments self.world.chunks before result.items }
+        ensures { (before : List D) → drop (6 * length self.world.chunks) before ≡ self.spare → 6 * length self.world.chunks ≤ length before → AreLeft D.seen D.may_leave D.faults D.moment D.left_since D.tells D.tells_moments self.world.chunks before result.items }
     {
         let World {
             mut chunks,
@@ -114,6 +112,8 @@ impl<D: Disk + Drop> World<D> {
         } = self;
         let mut disks = spare;
         while let Some(chunk) = chunks.pop() {
+            // That the group knows whether its disks tell is asked of the proof alone.
+            let _told = chunk.history();
             put_six(&mut disks, chunk.into_disks());
         }
         disks.reverse();

@@ -1,5 +1,5 @@
 //! Lines that show a group or a mount.
-ghost use Rattle.std.specs.Prelude.{◌≡◌, ◌<◌, OnErr, OnOk, Some, length, slice_get};
+ghost use Rattle.std.specs.Prelude.{◌≡◌, ◌<◌, IsTrue, OnErr, OnOk, Some, length, slice_get};
 ghost use Rattle.std.specs.Option.{option_map_or};
 ghost use Rattle.pf_script.specs.declared.command.Command.TheVariants.{ShowMount};
 ghost use Rattle.pf_group.specs.GroupIs.{state_of};
@@ -59,12 +59,16 @@ impl<D: Disk + Drop> World<D> {
         &self.chunks[number as usize]
     }
 
-    /// How many slots of a group were acknowledged to hosts, and 0 where there is no such group.
+    /// How many slots of a group, whose disks tell their content, were acknowledged to hosts, and 0 where there is no such group.
     pub fn acked_count(&self, group: u8) -> usize
-        ensures { result ≡ option_map_or (λ c. length (state_of c.group).acked) (slice_get self.now.world.chunks group) 0 }
+        ensures { IsTrue D.tells → result ≡ option_map_or (λ c. length (state_of c.group).acked) (slice_get self.now.world.chunks group) 0 }
     {
         match self.chunks.get(group as usize) {
-            Some(chunk) => chunk.acked_count(),
+            Some(chunk) => {
+                // That the group knows whether its disks tell is asked of the proof alone.
+                let _told = chunk.history();
+                chunk.acked_count()
+            }
             None => 0,
         }
     }
