@@ -12,6 +12,7 @@ use Rattle.pf_fleet.specs.Settling.{HasEnded, IsEnd, Name, Settled, ends, enough
 use Rattle.pf_fleet.specs.Steps.{FleetIs, HasStopped, stands_at}
 use Rattle.pf_fleet.specs.Volumes.{VolumeRun}
 use Rattle.pf_fleet.proofs.Events.{event_and_steps}
+use Rattle.pf_fleet.proofs.Growing.{all_told, tells_before}
 use Rattle.pf_fleet.proofs.SoFar.{HasNext, SoFar}
 use Rattle.pf_fleet.proofs.Tries.{delivery, next_there, none_next, settle_suc, try_is}
 
@@ -21,8 +22,8 @@ settled_is halts limit v = refl
 
 module _ (limit : ℕ) (old : List ChunkIs) (fleet : FleetIs) (before : List ℕ) (left : ℕ) (out : List ℕ) (now : List ChunkIs) (next : FleetIs) (so_far : SoFar limit old fleet before left out now next) where
   -- one try more is enough
-  module _ (stopped : Bool) (ending : (halts : List Halt) (m : ℕ) → settle_to (suc m) halts left so_far.passed (stands_at halts now next) ≡ ends stopped left so_far.passed (stands_at halts now next))
-      (end : (halts : List Halt) → IsEnd stopped left (next_of so_far.passed (runs halts now))) where
+  module _ (stopped : Bool) (ending : (halts : List Halt) → TellsAll halts now → (m : ℕ) → settle_to (suc m) halts left so_far.passed (stands_at halts now next) ≡ ends stopped left so_far.passed (stands_at halts now next))
+      (end : (halts : List Halt) → TellsAll halts now → IsEnd stopped left (next_of so_far.passed (runs halts now))) where
     whole : (halts : List Halt) → TellsAll halts now → settled halts limit (stands_at halts old fleet) ≡ record { volume = stands_at halts now next; told = so_far.told; stopped = stopped; spare = left; passed = so_far.passed }
     whole halts tells =
         let m = (limit + 8 * most_packets) - so_far.tries in
@@ -30,7 +31,7 @@ module _ (limit : ℕ) (old : List ChunkIs) (fleet : FleetIs) (before : List ℕ
         settled_is halts limit (stands_at halts old fleet)
         ∙ ap (λ n. settle_to n halts limit [] (stands_at halts old fleet)) count
         ∙ so_far.run halts tells (suc m)
-        ∙ ap (having_told so_far.told) (ending halts m)
+        ∙ ap (having_told so_far.told) (ending halts tells m)
         ∙ ap (λ (told : List Moment). record (ends stopped left so_far.passed (stands_at halts now next)) { told = told }) (append-nil so_far.told)
 
     ended : HasSettled limit old fleet before stopped now next out
@@ -45,25 +46,25 @@ module _ (limit : ℕ) (old : List ChunkIs) (fleet : FleetIs) (before : List ℕ
       };
       same = so_far.same;
       answered = λ halts tells. ap (λ (s : Settled). s.stopped) (whole halts tells);
-      ends = λ halts tells. subst HasEnded (sym (whole halts tells)) (end halts);
+      ends = λ halts tells. subst HasEnded (sym (whole halts tells)) (end halts tells);
     }
 
   -- no packet is left
   pub all_quiet : AreQuietBelow (length now) now → HasSettled limit old fleet before false now next out
   all_quiet quiet =
-      let none : (halts : List Halt) → next_of so_far.passed (runs halts now) ≡ _ = λ halts. none_next halts so_far.passed now so_far.up_to next quiet in
+      let none : (halts : List Halt) → TellsAll halts now → next_of so_far.passed (runs halts now) ≡ _ = λ halts tells. none_next halts so_far.passed now so_far.up_to (all_told halts now tells) next quiet in
       ended false
-      (λ halts m. settle_suc m halts left so_far.passed (stands_at halts now next) ∙ ap (λ o. settle_next halts o (settle_to m halts) left so_far.passed (stands_at halts now next)) (none halts))
-      (λ halts. subst (IsEnd false left) (sym (none halts)) tt)
+      (λ halts tells m. settle_suc m halts left so_far.passed (stands_at halts now next) ∙ ap (λ o. settle_next halts o (settle_to m halts) left so_far.passed (stands_at halts now next)) (none halts tells))
+      (λ halts tells. subst (IsEnd false left) (sym (none halts tells)) tt)
 
 -- a packet is left, and no delivery
 pub all_made : (limit : ℕ) (old : List ChunkIs) (fleet : FleetIs) (before : List ℕ) (out : List ℕ) (now : List ChunkIs) (mid : FleetIs) (place : ℕ) (c : ChunkIs) → HasNext limit old fleet before 0 out now mid place c → HasSettled limit old fleet before true now mid out
 all_made limit old fleet before out now mid place c has =
     let s = has.so_far in
-    let it : (halts : List Halt) → next_of s.passed (runs halts now) ≡ Some (record { chunk = run_of halts c; packet = c.next }) = λ halts. next_there halts s.passed now s.up_to mid place c has.there has.next in
+    let it : (halts : List Halt) → TellsAll halts now → next_of s.passed (runs halts now) ≡ Some (record { chunk = run_of halts c; packet = c.next }) = λ halts tells. next_there halts s.passed now s.up_to (all_told halts now tells) mid place c has.there has.next in
     ended limit old fleet before 0 out now mid s true
-    (λ halts m. settle_suc m halts 0 s.passed (stands_at halts now mid) ∙ ap (λ o. settle_next halts o (settle_to m halts) 0 s.passed (stands_at halts now mid)) (it halts))
-    (λ halts. subst (IsEnd true 0) (sym (it halts)) refl)
+    (λ halts tells m. settle_suc m halts 0 s.passed (stands_at halts now mid) ∙ ap (λ o. settle_next halts o (settle_to m halts) 0 s.passed (stands_at halts now mid)) (it halts tells))
+    (λ halts tells. subst (IsEnd true 0) (sym (it halts tells)) refl)
 
 -- nothing follows on the only try
 pub goes_nowhere : (halts : List Halt) (over : Bool) (name : Name) (left : ℕ) (passed : List Name) (v : VolumeRun) → (goes_on over name left passed v (settle_to 0 halts)).volume ≡ v
@@ -86,10 +87,10 @@ not_settled limit old fleet before left out now mid place c has new f = record {
   run = has.so_far.run;
   stopped = record {
     grown = f.grown;
-    begun = λ halts tells. subst (λ (v : VolumeRun). HaveBegun halts now v.chunks new) (sym (comes_to halts)) (f.begun halts tells);
+    begun = λ halts tells. subst (λ (v : VolumeRun). HaveBegun halts now v.chunks new) (sym (comes_to halts (tells_before halts now new f.grown tells))) (f.begun halts tells);
   };
 } where
-  comes_to : (halts : List Halt) → (trying (suc left) has.so_far.passed halts (stands_at halts now mid)).volume ≡ (event_and_steps (delivery c) c halts (stands_at halts now mid)).volume
-  comes_to halts =
-      ap (λ (s : Settled). s.volume) (try_is halts has.so_far.passed now has.so_far.up_to mid place c has.there has.next left 0)
+  comes_to : (halts : List Halt) → TellsAll halts now → (trying (suc left) has.so_far.passed halts (stands_at halts now mid)).volume ≡ (event_and_steps (delivery c) c halts (stands_at halts now mid)).volume
+  comes_to halts tells =
+      ap (λ (s : Settled). s.volume) (try_is halts has.so_far.passed now has.so_far.up_to (all_told halts now tells) mid place c has.there has.next left 0)
       ∙ goes_nowhere halts (is_passed_over (delivery c halts (run_of halts c)).answer) (record { chunk = c.group.number; packet = c.next }) left has.so_far.passed (event_and_steps (delivery c) c halts (stands_at halts now mid)).volume

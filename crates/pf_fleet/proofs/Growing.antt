@@ -1,5 +1,5 @@
 -- More happens to the chunks of a volume.
-use Rattle.std.proofs.Common.{◌≡◌, ℕ, ◌<◌, List, [], ◌∷◌, length, Option, Some, None, slice_get, slice_set, inl, inr, refl, sym, ap, subst, ◌∙◌}
+use Rattle.std.proofs.Common.{◌≡◌, ℕ, ◌<◌, Bool, IsTrue, List, [], ◌∷◌, length, Option, Some, None, slice_get, slice_set, inl, inr, refl, sym, ap, subst, ◌∙◌}
 use Rattle.std.proofs.lemmas.List.{length-map}
 use Rattle.std.proofs.lemmas.Option.{same_Some, slice_get_within}
 use Rattle.std.specs.List.{range_with_len}
@@ -47,6 +47,16 @@ pub tells_before : (halts : List Halt) (a b : List ChunkIs) → HaveGrown a b �
 tells_before halts a b grown tells k x at =
     let after = between a b grown k x at in
     grown_tells halts x.group after.0.group (grown.each k x after.0 at after.1) (tells k after.0 after.1)
+
+-- the disks of each chunk tell their content
+abbrev pub AreTold : List ChunkIs → Type 0
+AreTold chunks = (k : ℕ) (c : ChunkIs) → slice_get chunks k ≡ Some c → IsTrue c.group.told
+
+pub all_told : (halts : List Halt) (chunks : List ChunkIs) → TellsAll halts chunks → AreTold chunks
+all_told halts chunks tells k c at = (tells k c at).told
+
+pub told_before : (a b : GroupIs) → HasGrown a b → IsTrue b.told → IsTrue a.told
+told_before a b grown = subst (λ (b : Bool). IsTrue b) grown.told
 
 -- one chunk has grown
 pub one_grown : (old : List ChunkIs) (k : ℕ) (was is : ChunkIs) → slice_get old k ≡ Some was → HasGrown was.group is.group → HaveGrown old (slice_set old k is)

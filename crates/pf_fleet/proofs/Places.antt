@@ -1,10 +1,11 @@
 -- Where the settlings of chunks begin and go on.
-use Rattle.std.proofs.Common.{◌≡◌, inl, inr, ℕ, ◌+◌, ◌-◌, ◌<◌, ◌≤◌, true, false, List, length, find, Option, Some, None, MatchOption, is_some, slice_get, slice_set, arith, refl, sym, ap, subst, ◌∙◌}
+use Rattle.std.proofs.Common.{◌≡◌, inl, inr, ℕ, ◌+◌, ◌-◌, ◌<◌, ◌≤◌, true, false, IsTrue, List, length, find, Option, Some, None, IfSome, MatchOption, is_some, slice_get, slice_set, arith, refl, sym, ap, subst, ◌∙◌}
 use Rattle.std.specs.List.{range_with_len}
 use Rattle.std.proofs.lemmas.Bool.{cases_lt, false≢true}
 use Rattle.std.proofs.lemmas.Option.{none-some, same_Some, slice_get_within}
 use Rattle.pf_entry.proofs.Lists.{set_cases, set_there}
 use Rattle.pf_cluster.proofs.Lists.{set_elsewhere, set_length, something_there}
+use Rattle.pf_protocol.specs.Answers.{most_packets}
 use Rattle.pf_protocol.specs.Groups.{Group}
 use Rattle.pf_group.specs.GroupIs.{GroupIs, state_of}
 use Rattle.pf_group.specs.Packets.{IsFirstLeft, is_left_in, least_from}
@@ -46,18 +47,19 @@ begin_ready old new b ready k is at =
 
 -- it moves up
 moves_nowhere : (c : ChunkIs) → MovesUp c c
-moves_nowhere c = record { same = refl; above = omega arith; sent = λ low. low; none = λ j low high. absurd (omega (arith, low, high)) }
+moves_nowhere c = record { same = refl; above = omega arith; sent = λ tells low. low; none = λ tells j low high. absurd (omega (arith, low, high)) }
 
 moves_on : (a b c : ChunkIs) → MovesUp a b → MovesUp b c → MovesUp a c
 moves_on a b c first second =
-    let group : b.group ≡ a.group = ap (λ (x : ChunkIs). x.group) first.same in record {
+    let group : b.group ≡ a.group = ap (λ (x : ChunkIs). x.group) first.same in
+    let told : IsTrue a.group.told → IsTrue b.group.told = subst (λ (g : GroupIs). IsTrue g.told) (sym group) in record {
       same = second.same ∙ ap (λ (x : ChunkIs). record x { next = c.next }) first.same;
       above = omega (arith, first.above, second.above);
-      sent = λ low. subst (λ (g : GroupIs). c.next ≤ length (state_of g).packets) group
-          (second.sent (subst (λ (g : GroupIs). b.next ≤ length (state_of g).packets) (sym group) (first.sent low)));
-      none = λ j low high. elim (cases_lt j b.next) [
-        | inl under ↦ first.none j low under
-        | inr from ↦ subst (λ (g : GroupIs). is_left_in (state_of g) j ≡ false) group (second.none j from high)
+      sent = λ tells low. subst (λ (g : GroupIs). c.next ≤ length (state_of g).packets) group
+          (second.sent (told tells) (subst (λ (g : GroupIs). b.next ≤ length (state_of g).packets) (sym group) (first.sent tells low)));
+      none = λ tells j low high. elim (cases_lt j b.next) [
+        | inl under ↦ first.none tells j low under
+        | inr from ↦ subst (λ (g : GroupIs). is_left_in (state_of g) j ≡ false) group (second.none (told tells) j from high)
       ];
     }
 
@@ -108,39 +110,43 @@ pub looks_begin : (chunks : List ChunkIs) → LooksBelow 0 chunks chunks
 looks_begin chunks = record { moved = none_moves chunks; quiet = λ k c low at. absurd (omega (arith, low)) }
 
 module _ (place : ℕ) (old now : List ChunkIs) (so_far : LooksBelow place old now) (c is : ChunkIs) (there : slice_get now place ≡ Some c)
-    (same : is ≡ record c { next = is.next }) (first : IsFirstLeft (state_of c.group) c.next is.next) where
+    (same : is ≡ record c { next = is.next }) (above : c.next ≤ is.next) (first : IsTrue c.group.told → IsFirstLeft (state_of c.group) c.next is.next) where
   moves : MovesUp c is
-  moves = record { same = same; above = first.above; sent = first.sent; none = first.none }
+  moves = record { same = same; above = above; sent = λ tells. (first tells).sent; none = λ tells. (first tells).none }
+
 
   pub all_moved : AllMoveUp old (slice_set now place is)
   all_moved = all_move_on old now (slice_set now place is) so_far.moved
       (record { count = set_length now place is; each = one_by_one 0 place now c is there MovesUp moves moves_nowhere })
 
   -- no packet of this one is left
-  pub looks_on : (r : Option ℕ) → r ≡ least_from c.next (state_of c.group) → is_some r ≡ false → LooksBelow (place + 1) old (slice_set now place is)
+  pub looks_on : (r : Option ℕ) → (IsTrue c.group.told → r ≡ least_from c.next (state_of c.group)) → is_some r ≡ false → LooksBelow (place + 1) old (slice_set now place is)
   looks_on (Some k) least none = absurd (false≢true (sym none))
   looks_on None least none = record {
     moved = all_moved;
     quiet = λ k d low at. elim (set_cases now place is k d at) [
-      | inl here ↦ subst (λ (x : ChunkIs). least_from x.next (state_of x.group) ≡ None) here.1
-          (subst (λ (x : ChunkIs). least_from x.next (state_of x.group) ≡ None) (sym same) (quiet_from (state_of c.group) c.next is.next first least))
+      | inl here ↦ subst (λ (x : ChunkIs). IsTrue x.group.told → least_from x.next (state_of x.group) ≡ None) here.1
+          (subst (λ (x : ChunkIs). IsTrue x.group.told → least_from x.next (state_of x.group) ≡ None) (sym same)
+          (λ tells. quiet_from (state_of c.group) c.next is.next (first tells) (least tells)))
       | inr other ↦ so_far.quiet k d (omega (arith, low, other.0)) other.1
     ];
   }
 
   -- one is
-  pub found_next : (r : Option ℕ) → r ≡ least_from c.next (state_of c.group) → MatchOption r (is.next ≡ is.next) (λ k. is.next ≡ k) → is_some r ≡ true → IsNext place (slice_set now place is)
-  found_next None least found some = absurd (false≢true some)
-  found_next (Some k) least found some =
+  pub found_next : (r : Option ℕ) → (IsTrue c.group.told → r ≡ least_from c.next (state_of c.group)) → MatchOption r (is.next ≡ is.next) (λ k. is.next ≡ k) → IfSome r (λ k. k < most_packets) → is_some r ≡ true → IsNext place (slice_set now place is)
+  found_next None least found few some = absurd (false≢true some)
+  found_next (Some k) least found few some =
       let g = state_of c.group in
-      let it = least_found g c.next k (sym least) in
-      let at_k : least_from k g ≡ Some k = sym (least_is g k k (record { above = omega arith; sent = λ low. low; none = λ j low high. absurd (omega (arith, low, high)); here = λ low. it.passes }) it.under) in
-      let next : least_from is.next g ≡ Some is.next = subst (λ n. least_from n g ≡ Some n) (sym found) at_k in
-      let own : least_from is.next (state_of is.group) ≡ Some is.next = subst (λ (x : ChunkIs). least_from is.next (state_of x.group) ≡ Some is.next) (sym same) next in
       let low : place < length now = slice_get_within now place c there in
+      let last : (d : ChunkIs) → slice_get (slice_set now place is) place ≡ Some d → is ≡ d = λ d at. same_Some is d (sym (set_there now place c is there) ∙ at) in
       record {
         inside = omega (arith, low, set_length now place is);
-        least = λ d at. subst (λ (x : ChunkIs). least_from x.next (state_of x.group) ≡ Some x.next) (same_Some is d (sym (set_there now place c is there) ∙ at)) own;
+        low = λ d at. subst (λ (x : ChunkIs). x.next < most_packets) (last d at) (subst (λ n. n < most_packets) (sym found) few);
+        least = λ d at. subst (λ (x : ChunkIs). IsTrue x.group.told → least_from x.next (state_of x.group) ≡ Some x.next) (last d at)
+            (subst (λ (x : ChunkIs). IsTrue x.group.told → least_from is.next (state_of x.group) ≡ Some is.next) (sym same) (λ tells.
+            let it = least_found g c.next k (sym (least tells)) in
+            let at_k : least_from k g ≡ Some k = sym (least_is g k k (record { above = omega arith; sent = λ low. low; none = λ j low high. absurd (omega (arith, low, high)); here = λ low. it.passes }) it.under) in
+            subst (λ n. least_from n g ≡ Some n) (sym found) at_k));
         below = λ j d under at. so_far.quiet j d under (sym (set_elsewhere now place j is (λ e. omega (arith, under, e))) ∙ at);
       }
 

@@ -1,5 +1,5 @@
 -- How far a settling of a volume is.
-use Rattle.std.proofs.Common.{◌≡◌, ◌≢◌, inl, inr, ℕ, suc, ◌+◌, ◌*◌, ◌<◌, ◌≤◌, true, false, List, [], ◌∷◌, ◌++◌, length, get_or, Some, slice_get, slice_set, append-nil, append_assoc, arith, sym, ap, subst, ◌∙◌}
+use Rattle.std.proofs.Common.{◌≡◌, ◌≢◌, inl, inr, ℕ, suc, ◌+◌, ◌*◌, ◌<◌, ◌≤◌, IsTrue, true, false, List, [], ◌∷◌, ◌++◌, length, get_or, Some, slice_get, slice_set, append-nil, append_assoc, arith, sym, ap, subst, ◌∙◌}
 use Rattle.std.proofs.lemmas.Bool.{cases_eq}
 use Rattle.std.proofs.lemmas.Option.{slice_get-get_or, slice_get_within}
 use Rattle.pf_entry.proofs.Lists.{set_there}
@@ -21,7 +21,7 @@ use Rattle.pf_fleet.specs.Settling.{Name, goes_on, having_told, settle_to, tried
 use Rattle.pf_fleet.specs.Steps.{AllStay, AreSameHosts, FleetIs, HasGone, IsFleetOf, stands_at}
 use Rattle.pf_fleet.specs.Volumes.{Told, hosts_step}
 use Rattle.pf_fleet.proofs.Events.{event_and_steps, event_then_steps}
-use Rattle.pf_fleet.proofs.Growing.{grown_trans_all, tells_before}
+use Rattle.pf_fleet.proofs.Growing.{all_told, grown_trans_all, tells_before, told_before}
 use Rattle.pf_fleet.proofs.Places.{begin_ready, begin_same, move_ready, move_same}
 use Rattle.pf_fleet.proofs.Rooms.{room, room_few, room_less, room_one}
 use Rattle.pf_fleet.proofs.SameChunks.{same_fleet, same_grown, same_stands}
@@ -59,7 +59,7 @@ begins limit old fleet out now ready is_fleet b =
       tries = 0;
       few = omega (arith, room_few now 8 few);
       passed = [];
-      up_to = λ k c at. begun k c at (are_ready k c at).1.first_sent (are_ready k c at).1.none_left;
+      up_to = λ k c at told. begun k c at ((are_ready k c at).1.first_sent told) ((are_ready k c at).1.none_left told);
       run = λ halts tells more.
           let none : 0 + more ≡ more = omega arith in
           ap (λ n. settle_to n halts limit [] (stands_at halts old fleet)) none ∙ ap (settle_to more halts limit []) (sym (same_stands old now same halts fleet));
@@ -91,9 +91,11 @@ module _ (limit : ℕ) (old : List ChunkIs) (fleet : FleetIs) (before : List ℕ
         tries = so_far.tries;
         few = omega (arith, so_far.few, room_moved);
         passed = so_far.passed;
-        up_to = λ k c at.
+        up_to = λ k c at told.
             let was = something_there head k (subst (λ n. k < n) m.count (slice_get_within now k c at)) in
-            up_to_moved so_far.passed was.0 c (so_far.up_to k was.0 was.1) (m.each k was.0 c was.1 at);
+            let moves = m.each k was.0 c was.1 at in
+            let tells = subst (λ (x : ChunkIs). IsTrue x.group.told) moves.same told in
+            up_to_moved so_far.passed was.0 c tells (so_far.up_to k was.0 was.1 tells) moves;
         run = λ halts tells more.
             so_far.run halts (tells_before halts head now grown tells) more
             ∙ ap (λ v. having_told so_far.told (settle_to more halts left so_far.passed v)) (sym (same_stands head now same halts next));
@@ -128,7 +130,7 @@ module _ (limit : ℕ) (old : List ChunkIs) (fleet : FleetIs) (before : List ℕ
 
   try_runs : (halts : List Halt) → TellsAll halts new → (m : ℕ) → settle_to (suc m) halts (suc left) has.so_far.passed (stands_at halts now mid) ≡ having_told went.told (goes_on (is_passed_over t.answer) name left has.so_far.passed (stands_at halts new last) (settle_to m halts))
   try_runs halts tells m =
-      try_is halts has.so_far.passed now has.so_far.up_to mid place c has.there has.next left m
+      try_is halts has.so_far.passed now has.so_far.up_to (all_told halts now (tells_before halts now new went.grown tells)) mid place c has.there has.next left m
       ∙ ap (λ (told : Told). tried told (is_passed_over (delivery c halts (run_of halts c)).answer) name left has.so_far.passed (settle_to m halts)) (went.run halts tells)
       ∙ ap (λ answer. having_told went.told (goes_on (is_passed_over answer) name left has.so_far.passed (stands_at halts new last) (settle_to m halts))) (answered halts tells)
 
@@ -147,13 +149,15 @@ module _ (limit : ℕ) (old : List ChunkIs) (fleet : FleetIs) (before : List ℕ
   next_elsewhere : (k : ℕ) (was x : ChunkIs) → k ≢ place → slice_get now k ≡ Some was → slice_get new k ≡ Some x → x.next ≡ was.next
   next_elsewhere k was x other at to = (stay k was x (set_elsewhere now place k is other ∙ at) to).next
 
-  module _ (more : List Name) (here : (x : ChunkIs) → slice_get new place ≡ Some x → IsUpTo more x) (elsewhere : (k : ℕ) (was x : ChunkIs) → k ≢ place → slice_get now k ≡ Some was → slice_get new k ≡ Some x → IsUpTo more x) where
+  module _ (more : List Name) (here : (x : ChunkIs) → slice_get new place ≡ Some x → IsTrue c.group.told → IsUpTo more x) (elsewhere : (k : ℕ) (was x : ChunkIs) → k ≢ place → slice_get now k ≡ Some was → slice_get new k ≡ Some x → IsTrue was.group.told → IsUpTo more x) where
     each_up_to : AreUpTo more new
-    each_up_to k x at = elim (cases_eq k place) [
-      | inl it ↦ here x (subst (λ j. slice_get new j ≡ Some x) it at)
+    each_up_to k x at told = elim (cases_eq k place) [
+      | inl it ↦
+          let here_at : slice_get new place ≡ Some x = subst (λ j. slice_get new j ≡ Some x) it at in
+          here x here_at (told_before c.group x.group (went.grown.each place c x has.there here_at) told)
       | inr other ↦
           let was = something_there now k (subst (λ n. k < n) went.grown.count (slice_get_within new k x at)) in
-          elsewhere k was.0 x other was.1 at
+          elsewhere k was.0 x other was.1 at (told_before was.0.group x.group (went.grown.each k was.0 x was.1 at) told)
     ]
 
   -- the packet was passed over
@@ -163,9 +167,9 @@ module _ (limit : ℕ) (old : List ChunkIs) (fleet : FleetIs) (before : List ℕ
   up_to_passed : is.next ≡ c.next + 1 → AreUpTo (name ∷ has.so_far.passed) new
   up_to_passed further =
       each_up_to (name ∷ has.so_far.passed)
-      (λ x at. up_to_more has.so_far.passed c x (has.so_far.up_to place c has.there) (went.grown.each place c x has.there at)
-      (least_found (state_of c.group) c.next c.next (has.next.least c has.there)).under (next_here x at ∙ further))
-      (λ k was x other at to. up_to_other has.so_far.passed was x (has.so_far.up_to k was at) (went.grown.each k was x at to) name
+      (λ x at told. up_to_more has.so_far.passed c x (has.so_far.up_to place c has.there told) (went.grown.each place c x has.there at)
+      (least_found (state_of c.group) c.next c.next (has.next.least c has.there told)).under (next_here x at ∙ further))
+      (λ k was x other at to told. up_to_other has.so_far.passed was x (has.so_far.up_to k was at told) (went.grown.each k was x at to) name
       (λ e. other (sym (has.so_far.ready k was at).0 ∙ sym e ∙ (has.so_far.ready place c has.there).0)) (next_elsewhere k was x other at to))
 
   pub passed_one : is_passed_over t.answer ≡ true → is.next ≡ c.next + 1 → SoFar limit old fleet before (suc left) after new last
@@ -195,8 +199,8 @@ module _ (limit : ℕ) (old : List ChunkIs) (fleet : FleetIs) (before : List ℕ
   up_to_delivered : is.next ≡ c.next → AreUpTo has.so_far.passed new
   up_to_delivered still =
       each_up_to has.so_far.passed
-      (λ x at. up_to_later has.so_far.passed c x (has.so_far.up_to place c has.there) (went.grown.each place c x has.there at) (next_here x at ∙ still))
-      (λ k was x other at to. up_to_later has.so_far.passed was x (has.so_far.up_to k was at) (went.grown.each k was x at to) (next_elsewhere k was x other at to))
+      (λ x at told. up_to_later has.so_far.passed c x (has.so_far.up_to place c has.there told) (went.grown.each place c x has.there at) (next_here x at ∙ still))
+      (λ k was x other at to told. up_to_later has.so_far.passed was x (has.so_far.up_to k was at told) (went.grown.each k was x at to) (next_elsewhere k was x other at to))
 
   pub delivered_one : is_passed_over t.answer ≡ false → is.next ≡ c.next → SoFar limit old fleet before left after new last
   delivered_one not_over still = record {

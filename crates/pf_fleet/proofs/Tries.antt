@@ -1,5 +1,5 @@
 -- Tries of a settling, in the run and in the chunks.
-use Rattle.std.proofs.Common.{◌≡◌, ◌≢◌, inl, inr, ℕ, zero, suc, ◌+◌, ◌<◌, ◌≤◌, Bool, true, false, ◌&&◌, ◌||◌, ◌==◌, List, [], ◌∷◌, ◌++◌, length, Some, None, slice_get, append_assoc, arith, refl, sym, ap, subst, ◌∙◌}
+use Rattle.std.proofs.Common.{◌≡◌, ◌≢◌, inl, inr, ℕ, zero, suc, ◌+◌, ◌<◌, ◌≤◌, Bool, true, false, IsTrue, ◌&&◌, ◌||◌, ◌==◌, List, [], ◌∷◌, ◌++◌, length, Some, None, slice_get, append_assoc, arith, refl, sym, ap, subst, ◌∙◌}
 use Rattle.std.proofs.lemmas.Bool.{cases_lt, eq-eqb, ne_eqb, false≢true}
 use Rattle.std.proofs.lemmas.Option.{none-some, same_Some}
 use Rattle.pf_protocol.specs.declared.events.Event.TheVariants.{Deliver}
@@ -18,7 +18,7 @@ use Rattle.pf_fleet.specs.Nexts.{AreQuietBelow, IsNext, MovesUp}
 use Rattle.pf_fleet.specs.Settling.{Name, Settled, having_told, is_among, least_left, next_in, next_of, settle_next, settle_to, tried}
 use Rattle.pf_fleet.specs.Steps.{FleetIs, stands_at}
 use Rattle.pf_fleet.specs.Volumes.{VolumeRun, happens}
-use Rattle.pf_fleet.proofs.Growing.{grown_left, only_sent}
+use Rattle.pf_fleet.proofs.Growing.{AreTold, grown_left, only_sent}
 
 pub settle_suc : (m : ℕ) (halts : List Halt) (limit : ℕ) (passed : List Name) (v : VolumeRun) → settle_to (suc m) halts limit passed v ≡ settle_next halts (next_of passed v.chunks) (settle_to m halts) limit passed v
 unfolding settle_to
@@ -34,7 +34,7 @@ pub record IsUpTo (passed : List Name) (c : ChunkIs) : Type 0 where
   pub sent : c.next ≤ length (state_of c.group).packets
 
 abbrev pub AreUpTo : List Name → List ChunkIs → Type 0
-AreUpTo passed chunks = (k : ℕ) (c : ChunkIs) → slice_get chunks k ≡ Some c → IsUpTo passed c
+AreUpTo passed chunks = (k : ℕ) (c : ChunkIs) → slice_get chunks k ≡ Some c → IsTrue c.group.told → IsUpTo passed c
 
 -- no packet was passed over, and none below is left
 pub none_passed : (c : ChunkIs) → c.next ≤ length (state_of c.group).packets → ((k : ℕ) → k < c.next → is_left_in (state_of c.group) k ≡ false) → IsUpTo [] c
@@ -44,16 +44,16 @@ none_passed c sent none = record {
 }
 
 -- it moves up
-pub up_to_moved : (passed : List Name) (was is : ChunkIs) → IsUpTo passed was → MovesUp was is → IsUpTo passed is
-up_to_moved passed was is up m = subst (IsUpTo passed) (sym m.same) (record {
+pub up_to_moved : (passed : List Name) (was is : ChunkIs) → IsTrue was.group.told → IsUpTo passed was → MovesUp was is → IsUpTo passed is
+up_to_moved passed was is told up m = subst (IsUpTo passed) (sym m.same) (record {
   over = record {
     below = λ j among. omega (arith, m.above, up.over.below j among);
     all = λ j low left. elim (cases_lt j was.next) [
       | inl under ↦ up.over.all j under left
-      | inr from ↦ absurd (false≢true (sym (m.none j from low) ∙ left))
+      | inr from ↦ absurd (false≢true (sym (m.none told j from low) ∙ left))
     ];
   };
-  sent = m.sent up.sent;
+  sent = m.sent told up.sent;
 })
 
 over_is : (g : Group) (next : ℕ) (p q : ℕ → Bool) → ((k : ℕ) → q k ≡ p k) → IsPassedUpTo g p next → IsPassedUpTo g q next
@@ -122,15 +122,16 @@ least_there halts passed c up = least_is (state_of c.group) (is_among passed c.g
 abbrev pub delivery : ChunkIs → Event
 delivery c halts d = happened halts d (Deliver c.next)
 
-module _ (halts : List Halt) (passed : List Name) (chunks : List ChunkIs) (up : AreUpTo passed chunks) (f : FleetIs) where
+module _ (halts : List Halt) (passed : List Name) (chunks : List ChunkIs) (up : AreUpTo passed chunks) (told : AreTold chunks) (f : FleetIs) where
   -- no packet is left
   pub none_next : AreQuietBelow (length chunks) chunks → next_of passed (runs halts chunks) ≡ None
-  none_next quiet = none_found halts passed chunks (λ k d low at. least_there halts passed d (up k d at) ∙ quiet k d low at)
+  none_next quiet = none_found halts passed chunks (λ k d low at. least_there halts passed d (up k d at (told k d at)) ∙ quiet k d low at (told k d at))
 
   module _ (place : ℕ) (c : ChunkIs) (there : slice_get chunks place ≡ Some c) (next : IsNext place chunks) where
     pub next_there : next_of passed (runs halts chunks) ≡ Some (record { chunk = run_of halts c; packet = c.next })
     next_there = next_found halts passed chunks place c c.next there
-        (λ k d low at. least_there halts passed d (up k d at) ∙ next.below k d low at) (least_there halts passed c (up place c there) ∙ next.least c there)
+        (λ k d low at. least_there halts passed d (up k d at (told k d at)) ∙ next.below k d low at (told k d at))
+        (least_there halts passed c (up place c there (told place c there)) ∙ next.least c there (told place c there))
 
     -- one try
     pub try_is : (left m : ℕ) → settle_to (suc m) halts (suc left) passed (stands_at halts chunks f)

@@ -1,5 +1,6 @@
--- Where the settlings of chunks begin and go on.
-use Rattle.std.specs.Prelude.{◌≡◌, ℕ, ◌<◌, ◌≤◌, false, List, length, Some, None, slice_get}
+-- Where the settlings of chunks begin and go on. What is left is known of groups whose disks tell their content.
+use Rattle.std.specs.Prelude.{◌≡◌, ℕ, ◌<◌, ◌≤◌, IsTrue, false, List, length, Some, None, slice_get}
+use Rattle.pf_protocol.specs.Answers.{most_packets}
 use Rattle.pf_group.specs.GroupIs.{state_of}
 use Rattle.pf_group.specs.Packets.{is_left_in, least_from}
 use Rattle.pf_chunk.specs.Views.{ChunkIs, IsReady}
@@ -17,8 +18,8 @@ pub record AllBegin (old new : List ChunkIs) : Type 0 where
 pub record MovesUp (was is : ChunkIs) : Type 0 where
   pub same : is ≡ record was { next = is.next }
   pub above : was.next ≤ is.next
-  pub sent : was.next ≤ length (state_of was.group).packets → is.next ≤ length (state_of was.group).packets
-  pub none : (j : ℕ) → was.next ≤ j → j < is.next → is_left_in (state_of was.group) j ≡ false
+  pub sent : IsTrue was.group.told → was.next ≤ length (state_of was.group).packets → is.next ≤ length (state_of was.group).packets
+  pub none : IsTrue was.group.told → (j : ℕ) → was.next ≤ j → j < is.next → is_left_in (state_of was.group) j ≡ false
 
 pub record AllMoveUp (old new : List ChunkIs) : Type 0 where
   pub count : length new ≡ length old
@@ -26,10 +27,11 @@ pub record AllMoveUp (old new : List ChunkIs) : Type 0 where
 
 -- chunks below this one have no packet that is left from where their settlings go on
 abbrev pub AreQuietBelow : (place : ℕ) → List ChunkIs → Type 0
-AreQuietBelow place chunks = (k : ℕ) (c : ChunkIs) → k < place → slice_get chunks k ≡ Some c → least_from c.next (state_of c.group) ≡ None
+AreQuietBelow place chunks = (k : ℕ) (c : ChunkIs) → k < place → slice_get chunks k ≡ Some c → IsTrue c.group.told → least_from c.next (state_of c.group) ≡ None
 
 -- the least chunk of which a packet is left, and its settling goes on with that
 pub record IsNext (place : ℕ) (chunks : List ChunkIs) : Type 0 where
   pub inside : place < length chunks
-  pub least : (c : ChunkIs) → slice_get chunks place ≡ Some c → least_from c.next (state_of c.group) ≡ Some c.next
+  pub low : (c : ChunkIs) → slice_get chunks place ≡ Some c → c.next < most_packets
+  pub least : (c : ChunkIs) → slice_get chunks place ≡ Some c → IsTrue c.group.told → least_from c.next (state_of c.group) ≡ Some c.next
   pub below : AreQuietBelow place chunks

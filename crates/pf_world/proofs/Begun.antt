@@ -63,15 +63,13 @@ answered_more [] (i ∷ is) answer other was new = ap (unless_done answer) new
 answered_more (x ∷ xs) (i ∷ is) answer other was new = ap (unless_done answer) new
 
 -- a list that tells of a new group makes it
-made_is : (halts : List Halt) (sectors names format k : ℕ) (before : List (ℕ × ℕ)) (g : GroupIs) (answer : Answer) → groups.IsMade k sectors names format before g answer → TellsOfGroup halts g → made_chunk halts sectors names format k ≡ chunk_of halts g
-made_is halts sectors names format k before g answer is tells =
+made_is : (halts : List Halt) (sectors names format k : ℕ) (told : Bool) (before : List (ℕ × ℕ)) (g : GroupIs) (answer : Answer) → groups.IsMade k sectors names format told before g answer → TellsOfGroup halts g → made_chunk halts sectors names format k ≡ chunk_of halts g
+made_is halts sectors names format k told before g answer is tells =
     let number : g.number ≡ k = ap (λ (v : GroupIs). v.number) is.is in
     let setup : g.setup ≡ setup_with sectors names format is.failed = ap (λ (v : GroupIs). v.setup) is.is in
     let failed : failed_by halts k ≡ is.failed = ap (failed_by halts) (sym number) ∙ tells.making ∙ ap (λ s. s.failed) setup in
-    let new : GroupIs = record { number = k; setup = setup_with sectors names format is.failed; history = []; taken = []; faults = g.faults; time = g.time } in
-    made_with failed ∙ ap (chunk_of halts) (sym is.is) where
-      made_with : failed_by halts k ≡ is.failed → made_chunk halts sectors names format k ≡ chunk_of halts (record { number = k; setup = setup_with sectors names format is.failed; history = []; taken = []; faults = g.faults; time = g.time })
-      made_with failed = ap (λ fs. chunk_of halts (record { number = k; setup = setup_with sectors names format fs; history = []; taken = []; faults = g.faults; time = g.time })) failed
+    let new : List ℕ → GroupIs = λ fs. record { number = k; told = told; setup = setup_with sectors names format fs; history = []; taken = []; faults = g.faults; time = g.time } in
+    ap (λ fs. chunk_of halts (new fs)) failed ∙ ap (chunk_of halts) (sym is.is)
 
 mapped : (halts : List Halt) (f : ℕ → ChunkRun) (first : ℕ) (cs : List ChunkIs) → ((k : ℕ) (c : ChunkIs) → slice_get cs k ≡ Some c → f (first + k) ≡ run_of halts c) → map f (range_with_len first (length cs)) ≡ map (run_of halts) cs
 mapped halts f first [] each = refl
@@ -124,13 +122,13 @@ new_stands : (halts : List Halt) (chunks sectors : ℕ) (w : WorldIs) (runs : Li
     → record { volume = new_volume (record { chunks = chunks; sectors = sectors }) runs; kind = None } ≡ stands_at halts w
 new_stands halts chunks sectors w runs extent hosts kind same = cc
 
-module _ {D : Type 0} (faults : D → ℕ) where
+module _ {D : Type 0} (faults : D → ℕ) (told : Bool) where
   -- chunk k was made on its six disks
   pub record IsMadeOn (sectors names format : ℕ) (sixes : List (Six D)) (k : ℕ) (c : ChunkIs) : Type 0 where
     pub six : Six D
     pub there : slice_get sixes k ≡ Some six
     pub answer : Answer
-    pub made : groups.IsMade k sectors names format (groups.six_faults faults six) c.group answer
+    pub made : groups.IsMade k sectors names format told (groups.six_faults faults six) c.group answer
     pub ready : IsReady c
     pub run : (halts : List Halt) → run_of halts c ≡ new_run (chunk_of halts c.group)
 
@@ -167,11 +165,11 @@ module _ {D : Type 0} (faults : D → ℕ) where
   }
 
   -- one more
-  pub begun_more : (disks : List D) (sectors names format number : ℕ) (old new : WorldOn D) (answer other : Answer) → Begun disks sectors names format number old answer → HasAdded faults old other new → Begun disks sectors names format (number + 1) new (unless_done answer other)
+  pub begun_more : (disks : List D) (sectors names format number : ℕ) (old new : WorldOn D) (answer other : Answer) → Begun disks sectors names format number old answer → HasAdded faults told old other new → Begun disks sectors names format (number + 1) new (unless_done answer other)
   begun_more disks sectors names format number old new answer other b a =
       let chunks : new.world.chunks ≡ old.world.chunks ++ a.chunk ∷ [] = ap (λ (w : WorldIs). w.chunks) a.world in
       let failed : a.chunk.group.setup.failed ≡ a.made.failed = ap (λ (v : GroupIs). v.setup.failed) a.made.is in
-      let Made = λ (n s m f : ℕ). groups.IsMade n s m f (groups.six_faults faults a.six) a.chunk.group other in
+      let Made = λ (n s m f : ℕ). groups.IsMade n s m f told (groups.six_faults faults a.six) a.chunk.group other in
       let made_0 : Made number old.world.sectors old.world.names old.world.format = subst (λ n. Made n old.world.sectors old.world.names old.world.format) b.count a.made in
       let made_1 : Made number sectors old.world.names old.world.format = subst (λ n. Made number n old.world.names old.world.format) b.sectors_are made_0 in
       let made_2 : Made number sectors names old.world.format = subst (λ n. Made number sectors n old.world.format) b.names_are made_1 in
@@ -199,10 +197,10 @@ module _ {D : Type 0} (faults : D → ℕ) where
         kept : (k : ℕ) (c : ChunkIs) → IsMadeOn sectors names format b.sixes k c → IsMadeOn sectors names format (b.sixes ++ a.six ∷ []) k c
         kept k c was = record { six = was.six; there = at_front b.sixes (a.six ∷ []) k was.six was.there; answer = was.answer; made = was.made; ready = was.ready; run = was.run }
 
-        added : (k : ℕ) (c : ChunkIs) → k ≡ number → a.chunk ≡ c → groups.IsMade number sectors names format (groups.six_faults faults a.six) a.chunk.group other → IsMadeOn sectors names format (b.sixes ++ a.six ∷ []) k c
+        added : (k : ℕ) (c : ChunkIs) → k ≡ number → a.chunk ≡ c → groups.IsMade number sectors names format told (groups.six_faults faults a.six) a.chunk.group other → IsMadeOn sectors names format (b.sixes ++ a.six ∷ []) k c
         added k c is same made =
             let last : slice_get (b.sixes ++ a.six ∷ []) k ≡ Some a.six = ap (λ n. slice_get (b.sixes ++ a.six ∷ []) n) (is ∙ sym b.many) ∙ at_end b.sixes a.six in
-            let new_made = subst (λ n. groups.IsMade n sectors names format (groups.six_faults faults a.six) a.chunk.group other) (sym is) made in
+            let new_made = subst (λ n. groups.IsMade n sectors names format told (groups.six_faults faults a.six) a.chunk.group other) (sym is) made in
             subst (λ (d : ChunkIs). IsMadeOn sectors names format (b.sixes ++ a.six ∷ []) k d) same (record { six = a.six; there = last; answer = other; made = new_made; ready = a.ready; run = a.run })
 
   module _ (disks : List D) (chunks sectors names format : ℕ) (w : WorldOn D) (answer : Answer) (b : Begun disks sectors names format chunks w answer) where
@@ -240,7 +238,7 @@ module _ {D : Type 0} (faults : D → ℕ) where
           ap (λ n. map (λ k. new_run (made_chunk halts sectors names format k)) (range_with_len 0 n)) (sym b.count)
           ∙ mapped halts (λ k. new_run (made_chunk halts sectors names format k)) 0 w.world.chunks (λ k c there.
           let m = b.each k c there in
-          ap (λ n. new_run (made_chunk halts sectors names format n)) (omega arith) ∙ ap new_run (made_is halts sectors names format k (groups.six_faults faults m.six) c.group m.answer m.made (tells k c there)) ∙ sym (m.run halts)));
+          ap (λ n. new_run (made_chunk halts sectors names format n)) (omega arith) ∙ ap new_run (made_is halts sectors names format k told (groups.six_faults faults m.six) c.group m.answer m.made (tells k c there)) ∙ sym (m.run halts)));
       answered = b.answered;
     }
 
@@ -251,7 +249,7 @@ module _ {D : Type 0} (faults : D → ℕ) where
           six = m.six;
           there = m.there;
           history = ap (λ (v : GroupIs). v.history) m.made.is;
-          paid = made_paid k sectors names format (groups.six_faults faults m.six) c.group m.answer m.made;
+          paid = made_paid k sectors names format told (groups.six_faults faults m.six) c.group m.answer m.made;
           few = subst (Every (λ i. i < 3)) (sym failed) (every_more (λ i. HasRisen i (groups.six_faults faults m.six) c.group.faults) (λ i. i < 3) (λ i risen. slice_get_within (groups.six_faults faults m.six) i risen.was risen.then_is) m.made.failed m.made.cause);
         }
 

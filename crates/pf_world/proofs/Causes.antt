@@ -1,5 +1,5 @@
 -- Each halt of a world has its cause.
-use Rattle.std.proofs.Common.{◌≡◌, ◌≢◌, inl, inr, ℕ, Bool, zero, suc, ◌+◌, ◌*◌, ◌<◌, ◌≤◌, ◌&&◌, ◌==◌, false, List, [], ◌∷◌, ◌++◌, drop, length, Option, Some, flat_map, slice_get, arith, refl, sym, ap, subst, ◌∙◌}
+use Rattle.std.proofs.Common.{◌≡◌, ◌≢◌, inl, inr, ℕ, Bool, zero, suc, ◌+◌, ◌*◌, ◌<◌, ◌≤◌, ◌&&◌, ◌==◌, IsTrue, false, List, [], ◌∷◌, ◌++◌, drop, length, Option, Some, flat_map, slice_get, arith, refl, sym, ap, subst, ◌∙◌}
 use Rattle.std.proofs.lemmas.Bool.{ne_eqb}
 use Rattle.std.proofs.lemmas.List.{take-append-drop}
 use Rattle.std.proofs.lemmas.List.Sums.{sum_by-append, sum_by-cons}
@@ -24,7 +24,7 @@ use Rattle.pf_world.specs.Steps.{GoesOn}
 use Rattle.pf_world.specs.Views.{WorldIs}
 use Rattle.pf_world.proofs.Servers.{IsOwn, halts_own, halts_placed}
 use Rattle.pf_world.proofs.Sixes.{six_there}
-use Rattle.pf_world.proofs.Told.{AreNumbered, all_tell, groups_of, world_halts}
+use Rattle.pf_world.proofs.Told.{AreNumbered, AreTold, all_tell, groups_of, world_halts}
 
 -- each halt of these groups is of one of the three servers of the group of its number
 abbrev AreOwn : List GroupIs → Type 0
@@ -79,16 +79,20 @@ failed_times n x y z paid le0 le1 = elim paid.enough [
   | inr last ↦ inr (elim last [ inl first ↦ inl (omega (arith, first, le0)) | inr second ↦ inr (omega (arith, second, le1)) ])
 ]
 
-module _ {D : Type 0} (seen : D → Option (List ℕ)) (may_leave : D → Images) (faults moment : D → ℕ) (left_since : D → ℕ → Images) (tells_moments : Bool) (disks after : List D) (first w : WorldIs) where
+module _ {D : Type 0} (seen : D → Option (List ℕ)) (may_leave : D → Images) (faults moment : D → ℕ) (left_since : D → ℕ → Images) (tells tells_moments : Bool) (disks after : List D) (first w : WorldIs) where
   -- a world that was made on these disks, perhaps in part, after more had happened to its chunks, which left the disks so
   pub record HasPassed : Type 0 where
     pub numbers : (k : ℕ) (c : ChunkIs) → slice_get first.chunks k ≡ Some c → c.group.number ≡ k
     pub sound : IsSoundWorld w
     pub fresh : AreNew faults disks first
     pub goes_on : GoesOn first w
-    pub left : AreLeft seen may_leave faults moment left_since tells_moments w.chunks disks after
+    pub left : AreLeft seen may_leave faults moment left_since tells tells_moments w.chunks disks after
 
-  module _ (p : HasPassed) where
+  -- where disks tell their content
+  module _ (p : HasPassed) (tell : IsTrue tells) where
+    told : AreTold w
+    told k c there = subst (λ b. IsTrue b) (sym (p.left.told k c there)) tell
+
     -- a chunk, as it was when it was made
     record Lives (k : ℕ) (c : ChunkIs) : Type 0 where
       made : ChunkIs
@@ -111,7 +115,7 @@ module _ {D : Type 0} (seen : D → Option (List ℕ)) (may_leave : D → Images
         let at = get_mapped (λ (c : ChunkIs). c.group) w.chunks k g there in
         let is = are_numbered k at.0 at.1 in
         subst (λ (x : GroupIs). (x.number ≡ k) × Every (IsOwn k) (halts_of_group x)) (sym at.2)
-        (is.0, subst (λ n. Every (IsOwn n) (halts_of_group at.0.group)) is.0 (halts_own at.0.group (p.sound k at.0 at.1).legal is.1))
+        (is.0, subst (λ n. Every (IsOwn n) (halts_of_group at.0.group)) is.0 (halts_own at.0.group ((p.sound k at.0 at.1).legal (told k at.0 at.1)) is.1))
 
     disks_are : flat_map six_list p.fresh.sixes ++ drop (6 * length first.chunks) disks ≡ disks
     disks_are = ap (λ ds. ds ++ drop (6 * length first.chunks) disks) (sym p.fresh.given) ∙ take-append-drop (6 * length first.chunks) disks
@@ -123,7 +127,7 @@ module _ {D : Type 0} (seen : D → Option (List ℕ)) (may_leave : D → Images
         let life = lives k at.0 at.1 in
         let new = p.fresh.each k life.made life.made_there in
         let six = six_there faults p.fresh.sixes (drop (6 * length first.chunks) disks) k i new.six new.there low in
-        let paid = since_grown (six_faults faults new.six) life.made.group at.0.group new.paid life.before in
+        let paid = since_grown (six_faults faults new.six) life.made.group at.0.group new.paid life.before (subst (λ b. IsTrue b) life.before.told (told k at.0 at.1)) in
         let halves = p.left.halves k i at.0 at.1 low in
         let times = failed_times (halts_at (halts_of_group at.0.group) at.0.group.number i) (faults six.zero, faults six.one) (faults halves.zero, faults halves.one) (faults halves.zero, faults halves.one) (paid.each i (faults six.zero, faults six.one) (faults halves.zero, faults halves.one) six.counts halves.counts) (omega arith) (omega arith) in
         let all = counted (groups_of w.chunks) own k i g there ∙ ap (λ (x : GroupIs). halts_at (halts_of_group x) x.number i) at.2 in
@@ -159,4 +163,4 @@ module _ {D : Type 0} (seen : D → Option (List ℕ)) (may_leave : D → Images
         (subst (λ n. Every (λ h. (h.group ≡ n) × IsPlaceOf at.0.group h.place) (halts_of_group at.0.group)) (are_numbered k at.0 at.1).0 (halts_placed at.0.group)))))
 
     pub are_halts : AreHalts faults (world_halts w) disks after w
-    are_halts = record { tells = all_tell w are_numbered p.sound; within = all_within; causes = all_caused }
+    are_halts = record { tells = all_tell w are_numbered told p.sound; within = all_within; causes = all_caused }

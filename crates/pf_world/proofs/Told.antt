@@ -1,5 +1,5 @@
 -- The halts of all groups of a world tell of it, and every run that leads to it is lawful.
-use Rattle.std.proofs.Common.{◌≡◌, ℕ, ◌<◌, List, map, Some, slice_get, sym, subst}
+use Rattle.std.proofs.Common.{◌≡◌, ℕ, ◌<◌, IsTrue, List, map, Some, slice_get, sym, subst}
 use Rattle.std.specs.List.{flat_map}
 use Rattle.pf_entry.specs.Lists.{Every}
 use Rattle.pf_cluster.proofs.Alone.{get_mapped}
@@ -29,15 +29,19 @@ world_halts w = flat_map halts_of_group (groups_of w.chunks)
 abbrev pub AreNumbered : WorldIs → Type 0
 AreNumbered w = (k : ℕ) (c : ChunkIs) → slice_get w.chunks k ≡ Some c → (c.group.number ≡ k) × Every (λ i. i < 3) c.group.setup.failed
 
-abbrev Numbered : ℕ → GroupIs → Type 0
-Numbered k g = (g.number ≡ k) × Every (λ i. i < 3) g.setup.failed × IsLegal g.setup g.history
+-- their disks tell their content
+abbrev pub AreTold : WorldIs → Type 0
+AreTold w = (k : ℕ) (c : ChunkIs) → slice_get w.chunks k ≡ Some c → IsTrue c.group.told
 
-module _ (w : WorldIs) (is : AreNumbered w) (legal : IsSoundWorld w) where
+abbrev Numbered : ℕ → GroupIs → Type 0
+Numbered k g = (g.number ≡ k) × IsTrue g.told × Every (λ i. i < 3) g.setup.failed × IsLegal g.setup g.history
+
+module _ (w : WorldIs) (is : AreNumbered w) (told : AreTold w) (legal : IsSoundWorld w) where
   numbered : (k : ℕ) (g : GroupIs) → slice_get (groups_of w.chunks) k ≡ Some g → Numbered k g
   numbered k g there =
       let at = get_mapped (λ (c : ChunkIs). c.group) w.chunks k g there in
       let own = is k at.0 at.1 in
-      subst (Numbered k) (sym at.2) (own.0, own.1, (legal k at.0 at.1).legal)
+      subst (Numbered k) (sym at.2) (own.0, told k at.0 at.1, own.1, (legal k at.0 at.1).legal (told k at.0 at.1))
 
   pub all_tell : Tells (world_halts w) w
   all_tell k c there = tells_of_all (groups_of w.chunks) numbered k c.group (mapped_get (λ (x : ChunkIs). x.group) w.chunks k c there)
@@ -51,7 +55,7 @@ module _ (halts : List Halt) (w : WorldIs) (tells : Tells halts w) (legal : IsSo
       let told = tells k at.0 at.1 in
       subst (λ (x : ChunkRun). IsLawful x.group) (sym at.2) (record {
         stands = sym (told_replays halts g told);
-        legal = told_legal halts g told (legal k at.0 at.1).legal;
+        legal = told_legal halts g told ((legal k at.0 at.1).legal told.told);
         sound = sound g.setup (told_history halts g);
       })
 

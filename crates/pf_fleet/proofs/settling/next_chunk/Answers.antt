@@ -9,7 +9,7 @@ returns-then-is_some-clause-moved g c =
     let place = c.loop-place.place in
     let chunk = get_or now place c.index-chunks-place.result in
     let there : slice_get now place ≡ Some chunk = slice_get-get_or now place c.index-chunks-place.result (omega arith) in
-    all_moved place c.args.chunks.now now c.loop-place.invariant chunk c.next_left.new.self there c.next_left.ensures.same c.next_left.ensures.first
+    all_moved place c.args.chunks.now now c.loop-place.invariant chunk c.next_left.new.self there c.next_left.ensures.same c.next_left.ensures.above c.next_left.ensures.first
 
 pub returns-then-is_some-clause-next : goal.returns-then-is_some-clause-next
 returns-then-is_some-clause-next g c =
@@ -18,8 +18,8 @@ returns-then-is_some-clause-next g c =
     let chunk = get_or now place c.index-chunks-place.result in
     let there : slice_get now place ≡ Some chunk = slice_get-get_or now place c.index-chunks-place.result (omega arith) in
     let some : is_some c.next_left.result ≡ true = cc in
-    found_next place c.args.chunks.now now c.loop-place.invariant chunk c.next_left.new.self there c.next_left.ensures.same c.next_left.ensures.first
-    c.next_left.result c.next_left.ensures.least c.next_left.ensures.found some
+    found_next place c.args.chunks.now now c.loop-place.invariant chunk c.next_left.new.self there c.next_left.ensures.same c.next_left.ensures.above c.next_left.ensures.first
+    c.next_left.result c.next_left.ensures.least c.next_left.ensures.found c.next_left.ensures.few some
 
 pub loop-place-preserved : goal.loop-place-preserved
 loop-place-preserved g c =
@@ -28,5 +28,5 @@ loop-place-preserved g c =
     let chunk = get_or now place c.index-chunks-place.result in
     let there : slice_get now place ≡ Some chunk = slice_get-get_or now place c.index-chunks-place.result (omega arith) in
     let none : is_some c.next_left.result ≡ false = cc in
-    looks_on place c.args.chunks.now now c.loop-place.invariant chunk c.next_left.new.self there c.next_left.ensures.same c.next_left.ensures.first
+    looks_on place c.args.chunks.now now c.loop-place.invariant chunk c.next_left.new.self there c.next_left.ensures.same c.next_left.ensures.above c.next_left.ensures.first
     c.next_left.result c.next_left.ensures.least none
