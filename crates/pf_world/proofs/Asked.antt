@@ -1,5 +1,5 @@
 -- Lines that write and read sectors.
-use Rattle.std.proofs.Common.{◌≡◌, ℕ, true, false, if◌then◌else◌, IfSome, IsSome, IsTrue, List, ◌++◌, Option, Some, slice_get, refl, sym, ap, subst, ◌∙◌}
+use Rattle.std.proofs.Common.{◌≡◌, ℕ, true, false, if◌then◌else◌, IfSome, IsSome, IsTrue, List, ◌++◌, Option, Some, slice_get, refl, sym, ap, ◌∙◌}
 use Rattle.pf_script.specs.declared.command.Command.{Command}
 use Rattle.pf_protocol.specs.declared.answers.Answer.{Answer}
 use Rattle.pf_group.specs.GroupIs.{state_of}
