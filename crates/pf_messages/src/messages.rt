@@ -45,8 +45,10 @@ pub fn usage() -> &'static [u8] {
   polarfs gen N           runs the script that the number N generates, and writes one line of it
   polarfs check           judges the tables that the transactions of standard input make
   polarfs log G I         lists the records that a restart of server I of group G would find
-The first two have this option:
+run and gen have this option:
   --workers W             copies sectors on at most W threads, 1 to 8 (2 where it is not given)
+run and log have this option:
+  --dir PATH              keeps the disks as files in this folder (in memory where it is not given)
 docs/script.md describes the language of scripts and of their reports, and the lists of transactions.
 "
 }

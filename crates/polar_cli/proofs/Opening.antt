@@ -96,13 +96,13 @@ module _ {D : Type 0} (faults : D → ℕ) (command : Command) (before : List D)
     -- the histories of the first chunks are empty, and legal
     pub begun_sound : IsSoundWorld made
     begun_sound k c there = record {
-      legal = subst (λ history. IsLegal c.group.setup history) (sym (chunks_begun.each k c there).history)
+      legal = λ told. subst (λ history. IsLegal c.group.setup history) (sym (chunks_begun.each k c there).history)
           (new_legal c.group.setup v.sectors v.names v.format (volume_setup v.chunks v.sectors v.names v.format v.fits) (chunks_begun.numbers k c there).1);
       sound = sound c.group.setup c.group.history;
     }
 
-    pub begun_passed : (seen : D → Option (List ℕ)) (may_leave : D → Images) (moment : D → ℕ) (left_since : D → ℕ → Images) (tells_moments : Bool) (after : List D) → AreLeft seen may_leave faults moment left_since tells_moments made.chunks before after → HasPassed seen may_leave faults moment left_since tells_moments before after made made
-    begun_passed seen may_leave moment left_since tells_moments after left = record {
+    pub begun_passed : (seen : D → Option (List ℕ)) (may_leave : D → Images) (moment : D → ℕ) (left_since : D → ℕ → Images) (tells tells_moments : Bool) (after : List D) → AreLeft seen may_leave faults moment left_since tells tells_moments made.chunks before after → HasPassed seen may_leave faults moment left_since tells tells_moments before after made made
+    begun_passed seen may_leave moment left_since tells tells_moments after left = record {
       numbers = λ k c there. (chunks_begun.numbers k c there).0;
       sound = begun_sound;
       fresh = record { sixes = chunks_begun.sixes; given = chunks_begun.given; each = chunks_begun.each };
@@ -110,7 +110,7 @@ module _ {D : Type 0} (faults : D → ℕ) (command : Command) (before : List D)
       left = left;
     }
 
-module _ {D : Type 0} (seen : D → Option (List ℕ)) (may_leave : D → Images) (faults moment : D → ℕ) (left_since : D → ℕ → Images) (tells_moments : Bool) (line : Line) (chunks sectors names format : ℕ) (is : line.command ≡ commands.Volume chunks sectors names format) (requires : (n : ℕ) × IsVolume n line.command) where
+module _ {D : Type 0} (seen : D → Option (List ℕ)) (may_leave : D → Images) (faults moment : D → ℕ) (left_since : D → ℕ → Images) (tells tells_moments : Bool) (line : Line) (chunks sectors names format : ℕ) (is : line.command ≡ commands.Volume chunks sectors names format) (requires : (n : ℕ) × IsVolume n line.command) where
   fits : is_volume chunks sectors names format ≡ true
   fits = (subst (λ (c : Command). (n : ℕ) × IsVolume n c) is requires).1.1
 
@@ -130,14 +130,14 @@ module _ {D : Type 0} (seen : D → Option (List ℕ)) (may_leave : D → Images
       })
 
   -- only the first were
-  pub not_opened : (before after : List D) → (made : List ChunkIs) × AreBegun faults chunks sectors names format before made × AreLeft seen may_leave faults moment left_since tells_moments made before after → HasNotOpened seen may_leave faults moment left_since tells_moments line before after
+  pub not_opened : (before after : List D) → (made : List ChunkIs) × AreBegun faults chunks sectors names format before made × AreLeft seen may_leave faults moment left_since tells tells_moments made before after → HasNotOpened seen may_leave faults moment left_since tells tells_moments line before after
   not_opened before after back =
       let made : WorldIs = record (bare sectors names format) { chunks = back.0 } in
       record { made = made; begun = subst (λ c. HasBegunVolume faults c before made) (sym is) (refl, refl, refl, back.1); left = back.2 }
 
   -- all were, but there was no memory for the text
   pub untold : (answer : Answer) (on : WorldOn D) (before after : List D) → IsMade chunks sectors names format on.world answer → AreNew faults before on.world → on.spare ≡ drop (6 * chunks) before → 48 ≤ length before
-      → ((given : List D) → drop (6 * length on.world.chunks) given ≡ on.spare → 6 * length on.world.chunks ≤ length given → AreLeft seen may_leave faults moment left_since tells_moments on.world.chunks given after) → HasNotOpened seen may_leave faults moment left_since tells_moments line before after
+      → ((given : List D) → drop (6 * length on.world.chunks) given ≡ on.spare → 6 * length on.world.chunks ≤ length given → AreLeft seen may_leave faults moment left_since tells tells_moments on.world.chunks given after) → HasNotOpened seen may_leave faults moment left_since tells tells_moments line before after
   untold answer on before after made fresh spare enough closed =
       let begun : AreBegun faults chunks sectors names format before on.world.chunks = record {
         few = omega (arith, made.count);

@@ -1,6 +1,6 @@
 -- How each end of a run is told.
 use Rattle.std.proofs.Common.{◌≡◌, inl, ℕ, Bool, List, [], Option, Some, None, Ok, Err, is_ok, refl, ap, sym, subst}
-use Rattle.std.specs.Prelude.{is_err}
+use Rattle.std.specs.Prelude.{IsTrue, is_err}
 use Rattle.std.specs.Io.KnownBytes.{Appends}
 use Rattle.pf_disk.specs.Crashes.{Images}
 use Rattle.pf_gen.specs.Generated.{generated}
@@ -54,27 +54,27 @@ none_changed (Some (tasks.Gen number workers)) disks = refl
 none_changed (Some tasks.Check) disks = refl
 none_changed (Some (tasks.Log group server)) disks = refl
 
-module _ {D : Type 0} (seen : D → Option (List ℕ)) (may_leave : D → Images) (faults moment : D → ℕ) (left_since : D → ℕ → Images) (tells_moments : Bool) where
-  none_told : (task : Option Task) (script : List ℕ) (behind : List Line) (w : World) (left rest : Option (List ℕ)) (failed : Type 0) (taken : Option (List ℕ)) (full : Type 0) (disks : List D) → Ending seen may_leave faults moment left_since tells_moments task statuses.NoMemory script behind [] w left rest failed taken taken full disks disks
-  none_told None script behind w left rest failed taken full disks = appends_none taken
-  none_told (Some (tasks.Run workers)) script behind w left rest failed taken full disks = appends_none taken
-  none_told (Some (tasks.Gen number workers)) script behind w left rest failed taken full disks = appends_none taken
-  none_told (Some tasks.Check) script behind w left rest failed taken full disks = (appends_none taken, refl)
-  none_told (Some (tasks.Log group server)) script behind w left rest failed taken full disks = (appends_none taken, inl refl)
+module _ {D : Type 0} (seen : D → Option (List ℕ)) (may_leave : D → Images) (faults moment : D → ℕ) (left_since : D → ℕ → Images) (tells tells_moments : Bool) where
+  none_told : (task : Option Task) (script : List ℕ) (behind : List Line) (run : IsTrue tells → World) (left rest : Option (List ℕ)) (failed : Type 0) (taken : Option (List ℕ)) (full : Type 0) (disks : List D) → Ending seen may_leave faults moment left_since tells tells_moments task statuses.NoMemory script behind [] run left rest failed taken taken full disks disks
+  none_told None script behind run left rest failed taken full disks = appends_none taken
+  none_told (Some (tasks.Run workers)) script behind run left rest failed taken full disks = appends_none taken
+  none_told (Some (tasks.Gen number workers)) script behind run left rest failed taken full disks = record { acked = (0, 0); sums = appends_none taken; counted = λ told. tt }
+  none_told (Some tasks.Check) script behind run left rest failed taken full disks = (appends_none taken, refl)
+  none_told (Some (tasks.Log group server)) script behind run left rest failed taken full disks = (appends_none taken, inl refl)
 
-module _ {D : Type 0} (seen : D → Option (List ℕ)) (may_leave : D → Images) (faults moment : D → ℕ) (left_since : D → ℕ → Images) (tells_moments : Bool) (workers : ℕ) (left rest taken now : Option (List ℕ)) (failed full : Type 0) where
+module _ {D : Type 0} (seen : D → Option (List ℕ)) (may_leave : D → Images) (faults moment : D → ℕ) (left_since : D → ℕ → Images) (tells tells_moments : Bool) (workers : ℕ) (left rest taken now : Option (List ℕ)) (failed full : Type 0) where
   abbrev Ran : Status → (before after : List D) → Type 0
-  Ran status before after = Outcome seen may_leave faults moment left_since tells_moments status (Some (tasks.Run workers)) left rest failed taken now full before after
+  Ran status before after = Outcome seen may_leave faults moment left_since tells tells_moments status (Some (tasks.Run workers)) left rest failed taken now full before after
 
   -- the lines of an accepted script
-  pub ran : (status : Status) (acked : ℕ × ℕ) (lines : List Line) (before after : List D) → IsText script_rules None left rest lines → HasRunLines seen may_leave faults moment left_since tells_moments status acked lines taken now full before after → Ran status before after
+  pub ran : (status : Status) (acked : ℕ × ℕ) (lines : List Line) (before after : List D) → IsText script_rules None left rest lines → HasRunLines seen may_leave faults moment left_since tells tells_moments status acked lines taken now full before after → Ran status before after
   ran statuses.Ok acked lines before after s w = record {
     script = s.text;
     source = s.source;
     kept = tt;
     behind = w.rest;
     text = w.text;
-    ran = subst (λ ls. HasRunTo seen may_leave faults moment left_since tells_moments statuses.Ok ls w.rest w.text before after) (sym (ap judged_lines s.accepted)) w.ran;
+    ran = subst (λ ls. HasRunTo seen may_leave faults moment left_since tells tells_moments statuses.Ok ls w.rest w.text before after) (sym (ap judged_lines s.accepted)) w.ran;
     ending = (ap is_ok s.accepted, s.whole, w.wrote.0, w.wrote.1);
   }
   ran statuses.NoMemory acked lines before after s w = record {
@@ -83,7 +83,7 @@ module _ {D : Type 0} (seen : D → Option (List ℕ)) (may_leave : D → Images
     kept = tt;
     behind = w.rest;
     text = w.text;
-    ran = subst (λ ls. HasRunTo seen may_leave faults moment left_since tells_moments statuses.NoMemory ls w.rest w.text before after) (sym (ap judged_lines s.accepted)) w.ran;
+    ran = subst (λ ls. HasRunTo seen may_leave faults moment left_since tells tells_moments statuses.NoMemory ls w.rest w.text before after) (sym (ap judged_lines s.accepted)) w.ran;
     ending = w.wrote;
   }
   ran statuses.WriteFault acked lines before after s w = record {
@@ -92,7 +92,7 @@ module _ {D : Type 0} (seen : D → Option (List ℕ)) (may_leave : D → Images
     kept = tt;
     behind = w.rest;
     text = w.text;
-    ran = subst (λ ls. HasRunTo seen may_leave faults moment left_since tells_moments statuses.WriteFault ls w.rest w.text before after) (sym (ap judged_lines s.accepted)) w.ran;
+    ran = subst (λ ls. HasRunTo seen may_leave faults moment left_since tells tells_moments statuses.WriteFault ls w.rest w.text before after) (sym (ap judged_lines s.accepted)) w.ran;
     ending = (w.wrote.0, subst (AppendsFront taken now) (text_of s.text w.text (Ok lines) s.accepted) w.wrote.1);
   }
   ran statuses.Usage acked lines before after s w = absurd w.wrote
@@ -107,7 +107,7 @@ module _ {D : Type 0} (seen : D → Option (List ℕ)) (may_leave : D → Images
     kept = tt;
     behind = judged_lines (script_of s.text);
     text = [];
-    ran = untouched seen may_leave faults moment left_since tells_moments statuses.Script (judged_lines (script_of s.text)) disks (script_begins s.text);
+    ran = untouched seen may_leave faults moment left_since tells tells_moments statuses.Script (judged_lines (script_of s.text)) disks (script_begins s.text);
     ending = (ap is_err s.refused, subst (Appends taken now) (text_of s.text [] (Err (line, fault)) s.refused) w, refl);
   }
   refused statuses.NoMemory disks line fault s w = record {
@@ -116,7 +116,7 @@ module _ {D : Type 0} (seen : D → Option (List ℕ)) (may_leave : D → Images
     kept = tt;
     behind = judged_lines (script_of s.text);
     text = [];
-    ran = untouched seen may_leave faults moment left_since tells_moments statuses.NoMemory (judged_lines (script_of s.text)) disks (script_begins s.text);
+    ran = untouched seen may_leave faults moment left_since tells tells_moments statuses.NoMemory (judged_lines (script_of s.text)) disks (script_begins s.text);
     ending = w;
   }
   refused statuses.WriteFault disks line fault s w = record {
@@ -125,102 +125,102 @@ module _ {D : Type 0} (seen : D → Option (List ℕ)) (may_leave : D → Images
     kept = tt;
     behind = judged_lines (script_of s.text);
     text = [];
-    ran = untouched seen may_leave faults moment left_since tells_moments statuses.WriteFault (judged_lines (script_of s.text)) disks (script_begins s.text);
+    ran = untouched seen may_leave faults moment left_since tells tells_moments statuses.WriteFault (judged_lines (script_of s.text)) disks (script_begins s.text);
     ending = (w.0, subst (AppendsFront taken now) (text_of s.text [] (Err (line, fault)) s.refused) w.1);
   }
   refused statuses.Usage disks line fault s w = absurd w
   refused statuses.Ok disks line fault s w = absurd w
   refused statuses.ReadFault disks line fault s w = absurd w
 
-module _ {D : Type 0} (seen : D → Option (List ℕ)) (may_leave : D → Images) (faults moment : D → ℕ) (left_since : D → ℕ → Images) (tells_moments : Bool) (left taken now : Option (List ℕ)) (failed full : Type 0) (disks : List D) where
+module _ {D : Type 0} (seen : D → Option (List ℕ)) (may_leave : D → Images) (faults moment : D → ℕ) (left_since : D → ℕ → Images) (tells tells_moments : Bool) (left taken now : Option (List ℕ)) (failed full : Type 0) (disks : List D) where
   -- the usage
-  pub told_usage : Appends taken now usage_text → Outcome seen may_leave faults moment left_since tells_moments statuses.Usage None left left failed taken now full disks disks
+  pub told_usage : Appends taken now usage_text → Outcome seen may_leave faults moment left_since tells tells_moments statuses.Usage None left left failed taken now full disks disks
   told_usage put = record {
     script = a_text left;
     source = is_text left;
     kept = refl;
     behind = [];
     text = [];
-    ran = untouched seen may_leave faults moment left_since tells_moments statuses.Usage [] disks tt;
+    ran = untouched seen may_leave faults moment left_since tells tells_moments statuses.Usage [] disks tt;
     ending = (put, refl);
   }
 
-  pub cut_usage : full → AppendsFront taken now usage_text → Outcome seen may_leave faults moment left_since tells_moments statuses.WriteFault None left left failed taken now full disks disks
+  pub cut_usage : full → AppendsFront taken now usage_text → Outcome seen may_leave faults moment left_since tells tells_moments statuses.WriteFault None left left failed taken now full disks disks
   cut_usage rose front = record {
     script = a_text left;
     source = is_text left;
     kept = refl;
     behind = [];
     text = [];
-    ran = untouched seen may_leave faults moment left_since tells_moments statuses.WriteFault [] disks tt;
+    ran = untouched seen may_leave faults moment left_since tells tells_moments statuses.WriteFault [] disks tt;
     ending = (rose, front);
   }
 
   -- the words were not read whole
-  pub unread : (task : Option Task) → Outcome seen may_leave faults moment left_since tells_moments statuses.NoMemory task left left failed taken taken full disks disks
+  pub unread : (task : Option Task) → Outcome seen may_leave faults moment left_since tells tells_moments statuses.NoMemory task left left failed taken taken full disks disks
   unread task = record {
     script = a_text left;
     source = is_text left;
     kept = left_same task left;
     behind = lines_for task (a_text left);
     text = [];
-    ran = subst (λ l. HasRunTo seen may_leave faults moment left_since tells_moments statuses.NoMemory (lines_for task (a_text left)) (lines_for task (a_text left)) [] disks l) (none_changed task disks)
-        (untouched seen may_leave faults moment left_since tells_moments statuses.NoMemory (lines_for task (a_text left)) disks (lines_begin task (a_text left)));
-    ending = none_told seen may_leave faults moment left_since tells_moments task (a_text left) (lines_for task (a_text left)) _ left left failed taken full disks;
+    ran = subst (λ l. HasRunTo seen may_leave faults moment left_since tells tells_moments statuses.NoMemory (lines_for task (a_text left)) (lines_for task (a_text left)) [] disks l) (none_changed task disks)
+        (untouched seen may_leave faults moment left_since tells tells_moments statuses.NoMemory (lines_for task (a_text left)) disks (lines_begin task (a_text left)));
+    ending = none_told seen may_leave faults moment left_since tells tells_moments task (a_text left) (lines_for task (a_text left)) _ left left failed taken full disks;
   }
 
-module _ {D : Type 0} (seen : D → Option (List ℕ)) (may_leave : D → Images) (faults moment : D → ℕ) (left_since : D → ℕ → Images) (tells_moments : Bool) (workers : ℕ) (left rest taken : Option (List ℕ)) (failed full : Type 0) (disks : List D) where
+module _ {D : Type 0} (seen : D → Option (List ℕ)) (may_leave : D → Images) (faults moment : D → ℕ) (left_since : D → ℕ → Images) (tells tells_moments : Bool) (workers : ℕ) (left rest taken : Option (List ℕ)) (failed full : Type 0) (disks : List D) where
   -- the script was not read whole
-  cut_off : Outcome seen may_leave faults moment left_since tells_moments statuses.NoMemory (Some (tasks.Run workers)) left rest failed taken taken full disks disks
+  cut_off : Outcome seen may_leave faults moment left_since tells tells_moments statuses.NoMemory (Some (tasks.Run workers)) left rest failed taken taken full disks disks
   cut_off = record {
     script = a_text left;
     source = is_text left;
     kept = tt;
     behind = judged_lines (script_of (a_text left));
     text = [];
-    ran = untouched seen may_leave faults moment left_since tells_moments statuses.NoMemory (judged_lines (script_of (a_text left))) disks (script_begins (a_text left));
+    ran = untouched seen may_leave faults moment left_since tells tells_moments statuses.NoMemory (judged_lines (script_of (a_text left))) disks (script_begins (a_text left));
     ending = appends_none taken;
   }
 
-  unreadable : failed × IsUndecided script_rules None left rest → Outcome seen may_leave faults moment left_since tells_moments statuses.ReadFault (Some (tasks.Run workers)) left rest failed taken taken full disks disks
+  unreadable : failed × IsUndecided script_rules None left rest → Outcome seen may_leave faults moment left_since tells tells_moments statuses.ReadFault (Some (tasks.Run workers)) left rest failed taken taken full disks disks
   unreadable cause = record {
     script = a_text left;
     source = is_text left;
     kept = tt;
     behind = judged_lines (script_of (a_text left));
     text = [];
-    ran = untouched seen may_leave faults moment left_since tells_moments statuses.ReadFault (judged_lines (script_of (a_text left))) disks (script_begins (a_text left));
+    ran = untouched seen may_leave faults moment left_since tells tells_moments statuses.ReadFault (judged_lines (script_of (a_text left))) disks (script_begins (a_text left));
     ending = (cause.0, cause.1, appends_none taken, refl);
   }
 
 -- the lines of a script were not read whole, or one of them is refused
-pub stopped : {D : Type 0} (seen : D → Option (List ℕ)) (may_leave : D → Images) (faults moment : D → ℕ) (left_since : D → ℕ → Images) (tells_moments : Bool) (workers : ℕ) (left rest taken now : Option (List ℕ)) (failed full : Type 0) (status : Status) (disks : List D) (stop : Stop)
-    → StopSays stop (IsRefused script_rules None left) (failed × IsUndecided script_rules None left rest) → EndsAtStop status stop taken now full → Outcome seen may_leave faults moment left_since tells_moments status (Some (tasks.Run workers)) left rest failed taken now full disks disks
-stopped seen may_leave faults moment left_since tells_moments workers left rest taken now failed full status disks stops.NoMemory says ends =
-    subst (λ n. Outcome seen may_leave faults moment left_since tells_moments status (Some (tasks.Run workers)) left rest failed taken n full disks disks) (sym ends.1)
-    (subst (λ (s : Status). Outcome seen may_leave faults moment left_since tells_moments s (Some (tasks.Run workers)) left rest failed taken taken full disks disks) (sym ends.0) (cut_off seen may_leave faults moment left_since tells_moments workers left rest taken failed full disks))
-stopped seen may_leave faults moment left_since tells_moments workers left rest taken now failed full status disks stops.Failed says ends =
-    subst (λ n. Outcome seen may_leave faults moment left_since tells_moments status (Some (tasks.Run workers)) left rest failed taken n full disks disks) (sym ends.1)
-    (subst (λ (s : Status). Outcome seen may_leave faults moment left_since tells_moments s (Some (tasks.Run workers)) left rest failed taken taken full disks disks) (sym ends.0) (unreadable seen may_leave faults moment left_since tells_moments workers left rest taken failed full disks says))
-stopped seen may_leave faults moment left_since tells_moments workers left rest taken now failed full status disks (stops.Refused line fault) says ends = refused seen may_leave faults moment left_since tells_moments workers left rest taken now failed full status disks line fault says ends
+pub stopped : {D : Type 0} (seen : D → Option (List ℕ)) (may_leave : D → Images) (faults moment : D → ℕ) (left_since : D → ℕ → Images) (tells tells_moments : Bool) (workers : ℕ) (left rest taken now : Option (List ℕ)) (failed full : Type 0) (status : Status) (disks : List D) (stop : Stop)
+    → StopSays stop (IsRefused script_rules None left) (failed × IsUndecided script_rules None left rest) → EndsAtStop status stop taken now full → Outcome seen may_leave faults moment left_since tells tells_moments status (Some (tasks.Run workers)) left rest failed taken now full disks disks
+stopped seen may_leave faults moment left_since tells tells_moments workers left rest taken now failed full status disks stops.NoMemory says ends =
+    subst (λ n. Outcome seen may_leave faults moment left_since tells tells_moments status (Some (tasks.Run workers)) left rest failed taken n full disks disks) (sym ends.1)
+    (subst (λ (s : Status). Outcome seen may_leave faults moment left_since tells tells_moments s (Some (tasks.Run workers)) left rest failed taken taken full disks disks) (sym ends.0) (cut_off seen may_leave faults moment left_since tells tells_moments workers left rest taken failed full disks))
+stopped seen may_leave faults moment left_since tells tells_moments workers left rest taken now failed full status disks stops.Failed says ends =
+    subst (λ n. Outcome seen may_leave faults moment left_since tells tells_moments status (Some (tasks.Run workers)) left rest failed taken n full disks disks) (sym ends.1)
+    (subst (λ (s : Status). Outcome seen may_leave faults moment left_since tells tells_moments s (Some (tasks.Run workers)) left rest failed taken taken full disks disks) (sym ends.0) (unreadable seen may_leave faults moment left_since tells tells_moments workers left rest taken failed full disks says))
+stopped seen may_leave faults moment left_since tells tells_moments workers left rest taken now failed full status disks (stops.Refused line fault) says ends = refused seen may_leave faults moment left_since tells tells_moments workers left rest taken now failed full status disks line fault says ends
 
 -- a checked list
-pub checked : {D : Type 0} (seen : D → Option (List ℕ)) (may_leave : D → Images) (faults moment : D → ℕ) (left_since : D → ℕ → Images) (tells_moments : Bool) (status : Status) (left rest taken now : Option (List ℕ)) (failed full : Type 0) (disks : List D) → HasChecked status left rest failed taken now full
-    → Outcome seen may_leave faults moment left_since tells_moments status (Some tasks.Check) left rest failed taken now full disks disks
-checked seen may_leave faults moment left_since tells_moments status left rest taken now failed full disks h = record {
+pub checked : {D : Type 0} (seen : D → Option (List ℕ)) (may_leave : D → Images) (faults moment : D → ℕ) (left_since : D → ℕ → Images) (tells tells_moments : Bool) (status : Status) (left rest taken now : Option (List ℕ)) (failed full : Type 0) (disks : List D) → HasChecked status left rest failed taken now full
+    → Outcome seen may_leave faults moment left_since tells tells_moments status (Some tasks.Check) left rest failed taken now full disks disks
+checked seen may_leave faults moment left_since tells tells_moments status left rest taken now failed full disks h = record {
   script = h.list;
   source = h.source;
   kept = tt;
   behind = [];
   text = [];
-  ran = untouched seen may_leave faults moment left_since tells_moments status [] disks tt;
+  ran = untouched seen may_leave faults moment left_since tells tells_moments status [] disks tt;
   ending = (h.ends, refl);
 }
 
 -- a generated script
-pub summed : {D : Type 0} (seen : D → Option (List ℕ)) (may_leave : D → Images) (faults moment : D → ℕ) (left_since : D → ℕ → Images) (tells_moments : Bool) (status : Status) (number workers : ℕ) (left taken now : Option (List ℕ)) (failed full : Type 0) (before after : List D) → HasGenerated seen may_leave faults moment left_since tells_moments status number taken now full before after
-    → Outcome seen may_leave faults moment left_since tells_moments status (Some (tasks.Gen number workers)) left left failed taken now full before after
-summed seen may_leave faults moment left_since tells_moments status number workers left taken now failed full before after g = record {
+pub summed : {D : Type 0} (seen : D → Option (List ℕ)) (may_leave : D → Images) (faults moment : D → ℕ) (left_since : D → ℕ → Images) (tells tells_moments : Bool) (status : Status) (number workers : ℕ) (left taken now : Option (List ℕ)) (failed full : Type 0) (before after : List D) → HasGenerated seen may_leave faults moment left_since tells tells_moments status number taken now full before after
+    → Outcome seen may_leave faults moment left_since tells tells_moments status (Some (tasks.Gen number workers)) left left failed taken now full before after
+summed seen may_leave faults moment left_since tells tells_moments status number workers left taken now failed full before after g = record {
   script = a_text left;
   source = is_text left;
   kept = refl;
@@ -231,19 +231,19 @@ summed seen may_leave faults moment left_since tells_moments status number worke
 }
 
 -- the records of a server
-pub listed : {D : Type 0} (seen : D → Option (List ℕ)) (may_leave : D → Images) (faults moment : D → ℕ) (left_since : D → ℕ → Images) (tells_moments : Bool) (status : Status) (group server : ℕ) (left taken now : Option (List ℕ)) (failed full : Type 0) (before after : List D)
-    → ListEnds seen may_leave faults group server status taken now full before after → Outcome seen may_leave faults moment left_since tells_moments status (Some (tasks.Log group server)) left left failed taken now full before after
-listed seen may_leave faults moment left_since tells_moments status group server left taken now failed full before after ends = record {
+pub listed : {D : Type 0} (seen : D → Option (List ℕ)) (may_leave : D → Images) (faults moment : D → ℕ) (left_since : D → ℕ → Images) (tells tells_moments : Bool) (status : Status) (group server : ℕ) (left taken now : Option (List ℕ)) (failed full : Type 0) (before after : List D)
+    → ListEnds seen may_leave faults group server status taken now full before after → Outcome seen may_leave faults moment left_since tells tells_moments status (Some (tasks.Log group server)) left left failed taken now full before after
+listed seen may_leave faults moment left_since tells tells_moments status group server left taken now failed full before after ends = record {
   script = a_text left;
   source = is_text left;
   kept = refl;
   behind = [];
   text = [];
-  ran = untouched seen may_leave faults moment left_since tells_moments status [] before tt;
+  ran = untouched seen may_leave faults moment left_since tells tells_moments status [] before tt;
   ending = ends;
 }
 
 -- of the task that the words ask for
-pub asked : {D : Type 0} {seen : D → Option (List ℕ)} {may_leave : D → Images} {faults moment : D → ℕ} {left_since : D → ℕ → Images} {tells_moments : Bool} {status : Status} {left rest : Option (List ℕ)} {failed : Type 0} {taken now : Option (List ℕ)} {full : Type 0} {before after : List D} (one task : Option Task)
-    → one ≡ task → Outcome seen may_leave faults moment left_since tells_moments status one left rest failed taken now full before after → Outcome seen may_leave faults moment left_since tells_moments status task left rest failed taken now full before after
-asked {D} {seen} {may_leave} {faults} {moment} {left_since} {tells_moments} {status} {left} {rest} {failed} {taken} {now} {full} {before} {after} one task is o = subst (λ t. Outcome seen may_leave faults moment left_since tells_moments status t left rest failed taken now full before after) is o
+pub asked : {D : Type 0} {seen : D → Option (List ℕ)} {may_leave : D → Images} {faults moment : D → ℕ} {left_since : D → ℕ → Images} {tells tells_moments : Bool} {status : Status} {left rest : Option (List ℕ)} {failed : Type 0} {taken now : Option (List ℕ)} {full : Type 0} {before after : List D} (one task : Option Task)
+    → one ≡ task → Outcome seen may_leave faults moment left_since tells tells_moments status one left rest failed taken now full before after → Outcome seen may_leave faults moment left_since tells tells_moments status task left rest failed taken now full before after
+asked {D} {seen} {may_leave} {faults} {moment} {left_since} {tells} {tells_moments} {status} {left} {rest} {failed} {taken} {now} {full} {before} {after} one task is o = subst (λ t. Outcome seen may_leave faults moment left_since tells tells_moments status t left rest failed taken now full before after) is o

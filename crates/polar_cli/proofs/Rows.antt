@@ -30,9 +30,9 @@ found_of P p [] all = tt
 found_of P p (x ∷ xs) all =
     by_test (p x) (λ b. IfSome (cond b (Some x) (find p xs)) (λ y. P y × (p y ≡ true))) (λ is. (all.0, is)) (λ _. found_of P p xs all.1)
 
-first_of : {X : Type 0} (P Q : X → Type 0) (o : Option X) → IfSome o (λ x. P x × Q x) → IfSome o P
-first_of P Q None all = tt
-first_of P Q (Some x) all = all.0
+pub first_part : {X : Type 0} (P Q : X → Type 0) (o : Option X) → IfSome o (λ x. P x × Q x) → IfSome o P
+first_part P Q None all = tt
+first_part P Q (Some x) all = all.0
 
 find_some : {X : Type 0} (p : X → Bool) (xs : List X) → list_any p xs ≡ true → is_some (find p xs) ≡ true
 find_some p [] any = any
@@ -187,7 +187,7 @@ module _ (name : Text) (rules : List Rule) (own : Every (IsSet rules) rules) whe
   Fit rows = AreFit rules rows
 
   owned : (p : Rule → Bool) → IfSome (find p rules) (IsSet rules)
-  owned p = first_of (IsSet rules) (λ a. p a ≡ true) (find p rules) (found_of (IsSet rules) p rules own)
+  owned p = first_part (IsSet rules) (λ a. p a ≡ true) (find p rules) (found_of (IsSet rules) p rules own)
 
   pending_fit : (pending : Option (Text × List Text)) (rows : List Row) → Fit rows
       → option_map_or (λ p. option_map_or (λ a. use_passes false a p.1 rows) (arg_by_id rules p.0) true) pending true ≡ true → Fit (settled_rows rules pending rows)

@@ -1,5 +1,5 @@
 -- The lines of a script are run on disks.
-use Rattle.std.proofs.Common.{◌≡◌, ℕ, Bool, ◌*◌, ◌<◌, ◌≤◌, List, [], ◌∷◌, ◌++◌, length, drop, get_or, Option, Some, Ok, Err, slice_get, refl, ap, sym, subst, ◌∙◌, arith, drop-cons, length-append, length-drop}
+use Rattle.std.proofs.Common.{◌≡◌, ℕ, Bool, IsTrue, ◌*◌, ◌<◌, ◌≤◌, List, [], ◌∷◌, ◌++◌, length, drop, get_or, Option, Some, Ok, Err, slice_get, refl, ap, sym, subst, ◌∙◌, arith, drop-cons, length-append, length-drop}
 use Rattle.std.proofs.lemmas.Option.{slice_get_within}
 use Rattle.pf_disk.specs.Crashes.{Images}
 use Rattle.pf_entry.specs.Lists.{Every}
@@ -24,7 +24,7 @@ use Rattle.polar_cli.specs.declared.status.Status.TheVariants as statuses
 use Rattle.polar_cli.specs.Placed.{ArePlaced, IsVolume, IsWhole}
 use Rattle.polar_cli.specs.Scripts.{Judged, script_of}
 use Rattle.polar_cli.specs.Reports.{judged_lines}
-use Rattle.polar_cli.specs.Running.{Counts, HasGoneOn, HasNotOpened, HasOpened, HasRunLines, HasRunTo, LeavesWorld, Stops, acked_count}
+use Rattle.polar_cli.specs.Running.{Counts, HasGoneOn, HasNotOpened, HasOpened, HasRunLines, HasRunTo, IsRuled, LeavesWorld, Stops, acked_count}
 use Rattle.pf_mounted.specs.Lists.{HasOneList}
 use Rattle.polar_cli.proofs.Lists.{HaveLists, lists_of}
 use Rattle.polar_cli.proofs.Opening.{bare, begun_passed, begun_sound, none_begun, volume_of}
@@ -115,54 +115,44 @@ counts statuses.WriteFault acked w is = tt
 no_such : (k : ℕ) (c : ChunkIs) → slice_get [] k ≡ Some c → ⊥
 no_such k c there = let low : k < 0 = slice_get_within [] k c there in absurd (omega arith)
 
-module _ {D : Type 0} (seen : D → Option (List ℕ)) (may_leave : D → Images) (faults moment : D → ℕ) (left_since : D → ℕ → Images) (tells_moments : Bool) where
+module _ {D : Type 0} (seen : D → Option (List ℕ)) (may_leave : D → Images) (faults moment : D → ℕ) (left_since : D → ℕ → Images) (tells tells_moments : Bool) where
   abbrev HasLists : List Halt → List Line → Type 0
   HasLists halts done = let run = world_run halts done in 0 < length run.world.volume.hosts → HasOneList run.world.volume.extent run.world.volume.chunks run.told
 
   -- what a list of halts that tells of the world that is left says of the run
-  has_run : (status : Status) (lines done rest : List Line) (text : List ℕ) (before after : List D) (world left : WorldIs) (halts : List Halt) → done ++ rest ≡ lines → RunsTo done text world → (done ≡ [] → world.chunks ≡ []) → IsSoundWorld world → IsSoundWorld left
-      → Tells halts world → AreHalts faults halts before after left → Stops faults status before done rest world left → AreLeft seen may_leave faults moment left_since tells_moments left.chunks before after
-      → (IsLawfulRun (world_run halts done).world → HasLists halts done) → HasRunTo seen may_leave faults moment left_since tells_moments status lines rest text before after
-  has_run status lines done rest text before after world left halts first run none sound sound_left tells told stops disks lists =
-      let same : stands_at halts world ≡ (world_run halts done).world = sym (run halts tells).world in
-      let safe = subst IsSafeRun same (safe_run halts world tells sound) in
-      let lawful = subst IsLawfulRun same (lawful_run halts world tells sound) in
+  went_by_rules : (done : List Line) (text : List ℕ) (before after : List D) (world left : WorldIs) (halts : List Halt) → RunsTo done text world → IsSoundWorld world → IsSoundWorld left → Tells halts world → AreHalts faults halts before after left
+      → (IsLawfulRun (world_run halts done).world → HasLists halts done) → IsRuled faults done text before after world left
+  went_by_rules done text before after world left halts run sound sound_left tell told lists =
+      let same : stands_at halts world ≡ (world_run halts done).world = sym (run halts tell).world in
+      let safe = subst IsSafeRun same (safe_run halts world tell sound) in
+      let lawful = subst IsLawfulRun same (lawful_run halts world tell sound) in
       record {
-        done = done;
-        first = first;
-        world = world;
-        run = run;
-        none = none;
-        left = left;
         halts = halts;
         told = told;
-        ran = run halts tells;
-        stops = stops;
+        ran = run halts tell;
         headline = record {
           one_write_in_a_slot = λ k c earlier at part. (safe k c at earlier part).agrees;
           sectors_are_applied_writes = λ k c earlier at part. (safe k c at earlier part).in_order;
           acknowledged_writes_stay = λ k c earlier at part. (safe k c at earlier part).acknowledged;
           one_list = lists lawful;
-          shown = (run halts tells).report;
+          shown = (run halts tell).report;
         };
         lawful = lawful;
         safe_left = safe_run halts left told.tells sound_left;
         lawful_left = lawful_run halts left told.tells sound_left;
-        disks = disks;
       }
 
   -- the volume was made, lines were run, and the world was closed
   pub ran_lines : HaveLists → (status : Status) (acked : ℕ × ℕ) (lines : List Line) (d : Line) (text : List ℕ) (taken now : Option (List ℕ)) (full : Type 0) (before after : List D) (old new : WorldOn D) → IsWhole lines → 0 < length lines → 48 ≤ length before
-      → HasOpened faults (get_or lines 0 d) text before old → HasGoneOn status (get_or lines 0 d) (drop 1 lines) taken now full old.world new.world → new.spare ≡ old.spare → acked ≡ (acked_count new.world 0, acked_count new.world 1)
-      → ((given : List D) → drop (6 * length new.world.chunks) given ≡ new.spare → 6 * length new.world.chunks ≤ length given → AreLeft seen may_leave faults moment left_since tells_moments new.world.chunks given after)
-      → HasRunLines seen may_leave faults moment left_since tells_moments status acked lines taken now full before after
-  unfolding has_run
+      → HasOpened faults (get_or lines 0 d) text before old → HasGoneOn status (get_or lines 0 d) (drop 1 lines) taken now full old.world new.world → new.spare ≡ old.spare → (IsTrue tells → acked ≡ (acked_count new.world 0, acked_count new.world 1))
+      → ((given : List D) → drop (6 * length new.world.chunks) given ≡ new.spare → 6 * length new.world.chunks ≤ length given → AreLeft seen may_leave faults moment left_since tells tells_moments new.world.chunks given after)
+      → HasRunLines seen may_leave faults moment left_since tells tells_moments status acked lines taken now full before after
   ran_lines have status acked lines d text taken now full before after old new whole some enough opened gone spare counted closed =
       let small : length old.world.chunks ≤ 8 = some_chunks (length old.world.chunks) old.world.sectors old.world.names old.world.format opened.is_world.volume in
       let count = gone.count in
       let left = closed before (ap (λ n. drop (6 * n) before) count ∙ sym opened.spare ∙ sym spare) (omega (arith, count, small, enough)) in
       let more : GoesOn gone.world new.world = left_goes_on status gone.rest gone.world new.world gone.leaves in
-      let passed : HasPassed seen may_leave faults moment left_since tells_moments before after old.world new.world = record {
+      let passed : HasPassed seen may_leave faults moment left_since tells tells_moments before after old.world new.world = record {
         numbers = λ k c there. (opened.is_world.each k c there).number;
         sound = gone.lawful_left;
         fresh = opened.fresh;
@@ -170,50 +160,74 @@ module _ {D : Type 0} (seen : D → Option (List ℕ)) (may_leave : D → Images
         left = left;
       } in
       let halts = world_halts new.world in
-      let told : AreHalts faults halts before after new.world = are_halts seen may_leave faults moment left_since tells_moments before after old.world new.world passed in
+      let first : get_or lines 0 d ∷ gone.done ++ gone.rest ≡ lines = ap (λ l. get_or lines 0 d ∷ l) gone.first ∙ sym (drop-cons lines 0 d some) in
+      let by_rules : IsTrue tells → IsRuled faults (get_or lines 0 d ∷ gone.done) gone.text before after gone.world new.world = λ tell.
+      let told : AreHalts faults halts before after new.world = are_halts seen may_leave faults moment left_since tells tells_moments before after old.world new.world passed tell in
+      let earlier = tells_earlier halts gone.world new.world more told.tells in
+      went_by_rules (get_or lines 0 d ∷ gone.done) gone.text before after gone.world new.world halts gone.run gone.lawful gone.lawful_left earlier told
+      (lists_of have halts (get_or lines 0 d) gone.done gone.rest (length old.world.chunks) gone.world opened.volume
+      (subst (Every (λ line. MayRun (length old.world.chunks) line.command)) (sym gone.first) (rest_may_run lines d (length old.world.chunks) whole opened.volume))
+      gone.is_world (gone.run halts earlier).world
+      (omega (arith, whole.few, ap length gone.first, length-append gone.done gone.rest, length-drop 1 lines))) in
       record {
         rest = gone.rest;
         text = gone.text;
-        ran = has_run status lines (get_or lines 0 d ∷ gone.done) gone.rest gone.text before after gone.world new.world halts
-            (ap (λ l. get_or lines 0 d ∷ l) gone.first ∙ sym (drop-cons lines 0 d some)) gone.run (λ none. absurd (cc none)) gone.lawful gone.lawful_left
-            (tells_earlier halts gone.world new.world more told.tells) told (stopped faults before status (get_or lines 0 d) gone.done gone.rest gone.world new.world gone.leaves) left
-            (lists_of have halts (get_or lines 0 d) gone.done gone.rest (length old.world.chunks) gone.world opened.volume
-            (subst (Every (λ line. MayRun (length old.world.chunks) line.command)) (sym gone.first) (rest_may_run lines d (length old.world.chunks) whole opened.volume))
-            gone.is_world (gone.run halts (tells_earlier halts gone.world new.world more told.tells)).world
-            (omega (arith, whole.few, ap length gone.first, length-append gone.done gone.rest, length-drop 1 lines)));
+        ran = record {
+          done = get_or lines 0 d ∷ gone.done;
+          first = first;
+          world = gone.world;
+          run = gone.run;
+          none = λ none. absurd (cc none);
+          left = new.world;
+          stops = stopped faults before status (get_or lines 0 d) gone.done gone.rest gone.world new.world gone.leaves;
+          ruled = by_rules;
+          disks = left;
+        };
         wrote = gone.wrote;
-        counted = counts status acked new.world counted;
+        counted = λ tell. counts status acked new.world (counted tell);
       }
 
   -- no line was run
-  none_ran : (status : Status) (lines : List Line) (before after : List D) (sectors names format : ℕ) (left : WorldIs) (halts : List Halt) → IsSoundWorld left → AreHalts faults halts before after left → Stops faults status before [] lines (bare sectors names format) left → AreLeft seen may_leave faults moment left_since tells_moments left.chunks before after
-      → HasRunTo seen may_leave faults moment left_since tells_moments status lines lines [] before after
+  none_ran : (status : Status) (lines : List Line) (before after : List D) (sectors names format : ℕ) (left : WorldIs) (halts : List Halt) → IsSoundWorld left → (IsTrue tells → AreHalts faults halts before after left) → Stops faults status before [] lines (bare sectors names format) left
+      → AreLeft seen may_leave faults moment left_since tells tells_moments left.chunks before after → HasRunTo seen may_leave faults moment left_since tells tells_moments status lines lines [] before after
   none_ran status lines before after sectors names format left halts sound told stops disks =
-      has_run status lines [] lines [] before after (bare sectors names format) left halts refl (λ hs tells. record { world = refl; report = refl; ends = tt }) (λ none. refl) (λ k c there. absurd (no_such k c there)) sound (λ k c there. absurd (no_such k c there)) told stops disks (λ lawful some. absurd (omega (arith, some)))
+      let world = bare sectors names format in
+      let run : RunsTo [] [] world = λ hs tell. record { world = refl; report = refl; ends = tt } in
+      record {
+        done = [];
+        first = refl;
+        world = world;
+        run = run;
+        none = λ none. refl;
+        left = left;
+        stops = stops;
+        ruled = λ tell. went_by_rules [] [] before after world left halts run (λ k c there. absurd (no_such k c there)) sound (λ k c there. absurd (no_such k c there)) (told tell) (λ lawful some. absurd (omega (arith, some)));
+        disks = disks;
+      }
 
   -- memory ran out as the volume was made
-  pub none_made : (acked : ℕ × ℕ) (lines : List Line) (d : Line) (taken : Option (List ℕ)) (full : Type 0) (before after : List D) → IsWhole lines → HasNotOpened seen may_leave faults moment left_since tells_moments (get_or lines 0 d) before after → HasRunLines seen may_leave faults moment left_since tells_moments statuses.NoMemory acked lines taken taken full before after
+  pub none_made : (acked : ℕ × ℕ) (lines : List Line) (d : Line) (taken : Option (List ℕ)) (full : Type 0) (before after : List D) → IsWhole lines → HasNotOpened seen may_leave faults moment left_since tells tells_moments (get_or lines 0 d) before after → HasRunLines seen may_leave faults moment left_since tells tells_moments statuses.NoMemory acked lines taken taken full before after
   none_made acked [] d taken full before after whole not = absurd whole.placed
   none_made acked (line ∷ lines) d taken full before after whole not =
       let volume = volume_of whole.chunks line.command whole.placed.0 in
       let sound = begun_sound faults line.command before not.made volume not.begun in
-      let told = are_halts seen may_leave faults moment left_since tells_moments before after not.made not.made (begun_passed faults line.command before not.made volume not.begun seen may_leave moment left_since tells_moments after not.left) in
+      let told = λ (tell : IsTrue tells). are_halts seen may_leave faults moment left_since tells tells_moments before after not.made not.made (begun_passed faults line.command before not.made volume not.begun seen may_leave moment left_since tells tells_moments after not.left) tell in
       record {
         rest = line ∷ lines;
         text = [];
         ran = none_ran statuses.NoMemory (line ∷ lines) before after 0 0 0 not.made (world_halts not.made) sound told not.begun not.left;
         wrote = appends_none taken;
-        counted = tt;
+        counted = λ tell. tt;
       }
 
   -- a world without chunks, where a run stops that has no line
-  untouched_in : (status : Status) (lines : List Line) (disks : List D) (sectors names format : ℕ) → Stops faults status disks [] lines (bare sectors names format) (bare sectors names format) → HasRunTo seen may_leave faults moment left_since tells_moments status lines lines [] disks disks
+  untouched_in : (status : Status) (lines : List Line) (disks : List D) (sectors names format : ℕ) → Stops faults status disks [] lines (bare sectors names format) (bare sectors names format) → HasRunTo seen may_leave faults moment left_since tells tells_moments status lines lines [] disks disks
   untouched_in status lines disks sectors names format stops =
-      none_ran status lines disks disks sectors names format (bare sectors names format) [] (λ k c there. absurd (no_such k c there)) (record { tells = λ k c there. absurd (no_such k c there); within = tt; causes = tt }) stops
-      (record { halves = λ k i c there low. absurd (no_such k c there); rest = refl; count = refl })
+      none_ran status lines disks disks sectors names format (bare sectors names format) [] (λ k c there. absurd (no_such k c there)) (λ tell. record { tells = λ k c there. absurd (no_such k c there); within = tt; causes = tt }) stops
+      (record { told = λ k c there. absurd (no_such k c there); halves = λ k i c there low. absurd (no_such k c there); rest = refl; count = refl })
 
   -- nothing was run, and the disks are as they were
-  pub untouched : (status : Status) (lines : List Line) (disks : List D) → Begins lines → HasRunTo seen may_leave faults moment left_since tells_moments status lines lines [] disks disks
+  pub untouched : (status : Status) (lines : List Line) (disks : List D) → Begins lines → HasRunTo seen may_leave faults moment left_since tells tells_moments status lines lines [] disks disks
   untouched statuses.NoMemory [] disks begins = untouched_in statuses.NoMemory [] disks 0 0 0 refl
   untouched statuses.NoMemory (line ∷ lines) disks begins =
       let volume = volume_of begins.0 line.command begins.1 in

@@ -7,7 +7,7 @@ use Rattle.std.specs.Str.{bytes_eq}
 use Rattle.std.specs.Str.Parse.{ParsesUnsigned, digits_value, without_leading_plus}
 use Rattle.clap.specs.Lexer.{without_minus}
 use Rattle.clap.specs.Matches.{ReadsOne, one_text, subcommand_name_of}
-use Rattle.clap.specs.Walk.{Row, Rule, Text, answers_to, nothing_held, one_of, rows_after, rows_of, settled, stop_after, walk, with_default}
+use Rattle.clap.specs.Walk.{Row, Rule, Text, answers_to, first_of, nothing_held, one_of, rows_after, rows_of, settled, stop_after, walk, with_default}
 use Rattle.clap.specs.Simple.{Shape, built, entered, filled, names_of, rows_at, subcommand_of, subcommand_rows, subcommand_rows_of, with_index, is_simple}
 use Rattle.clap.specs.Takes.{entered_passes, is_given, level_passes, takes}
 use Rattle.clap.specs.ValueTests.{accepts as fits}
@@ -23,9 +23,10 @@ use Rattle.clap.specs.declared.parser.matches.Found.{Found}
 use Rattle.clap.specs.declared.parser.matches.SubCommand.{SubCommand}
 use Rattle.polar_cli.specs.declared.words.Task.{Task}
 use Rattle.polar_cli.specs.declared.words.Task.TheVariants as tasks
+use Rattle.pf_entry.proofs.Cases.{by_test}
 use Rattle.pf_entry.specs.Lists.{Every}
-use Rattle.polar_cli.specs.Words.{command, group_rule, is_accepted, number_rule, server_rule, workers_rule}
-use Rattle.polar_cli.specs.Tasks.{number_at, task_at, task_of}
+use Rattle.polar_cli.specs.Words.{command, dir_rule, group_rule, is_accepted, number_rule, server_rule, workers_rule}
+use Rattle.polar_cli.specs.Tasks.{HasParsed, dir_at, dir_of, number_at, task_at, task_of}
 use Rattle.polar_cli.proofs.Faultless.{taken}
 use Rattle.polar_cli.proofs.Rows.{HasOne, IsSet, defaulted, given_row, leaf, level_fit, one_fits}
 
@@ -39,35 +40,38 @@ accepted words none = taken command words refl refl refl none
 
 -- ---- the subcommands
 
-abbrev workers_here : Rule
+abbrev pub dir_here : Rule
+dir_here = filled dir_rule
+
+abbrev pub workers_here : Rule
 workers_here = filled workers_rule
 
-abbrev number_here : Rule
+abbrev pub number_here : Rule
 number_here = with_index 1 (filled number_rule)
 
 abbrev pub run_rules : List Rule
-run_rules = workers_here ∷ []
+run_rules = dir_here ∷ workers_here ∷ []
 
 abbrev pub gen_rules : List Rule
 gen_rules = number_here ∷ workers_here ∷ []
 
-abbrev group_here : Rule
+abbrev pub group_here : Rule
 group_here = with_index 1 (filled group_rule)
 
-abbrev server_here : Rule
+abbrev pub server_here : Rule
 server_here = with_index 2 (filled server_rule)
 
 abbrev pub log_rules : List Rule
-log_rules = group_here ∷ server_here ∷ []
+log_rules = dir_here ∷ group_here ∷ server_here ∷ []
 
 run_set : Every (IsSet run_rules) run_rules
-run_set = (record { found = refl; action = refl; least = refl; most = refl; defaults = omega arith }, tt)
+run_set = (record { found = refl; action = refl; least = refl; most = refl; defaults = omega arith }, (record { found = refl; action = refl; least = refl; most = refl; defaults = omega arith }, tt))
 
 gen_set : Every (IsSet gen_rules) gen_rules
 gen_set = (record { found = refl; action = refl; least = refl; most = refl; defaults = omega arith }, (record { found = refl; action = refl; least = refl; most = refl; defaults = omega arith }, tt))
 
 log_set : Every (IsSet log_rules) log_rules
-log_set = (record { found = refl; action = refl; least = refl; most = refl; defaults = omega arith }, (record { found = refl; action = refl; least = refl; most = refl; defaults = omega arith }, tt))
+log_set = (record { found = refl; action = refl; least = refl; most = refl; defaults = omega arith }, (record { found = refl; action = refl; least = refl; most = refl; defaults = omega arith }, (record { found = refl; action = refl; least = refl; most = refl; defaults = omega arith }, tt)))
 
 -- `run` was met
 pub record IsRun (met : Option (Text × List Row)) : Type 0 where
@@ -104,7 +108,7 @@ pub data IsMet (met : Option (Text × List Row)) : Type 0 where
 run_good : (words : List Text) → level_passes (leaf (codes "run") run_rules) [] nothing_held words false ≡ true → HasOne (rows_after run_rules [] words) workers_here
 run_good words e =
     let fit = level_fit (codes "run") run_rules run_set words e in
-    one_fits run_rules workers_here (rows_after run_rules [] words) run_set.0 fit.0 (defaulted workers_here (codes "2") (settled run_rules (walk run_rules [] nothing_held words).held).rows refl)
+    one_fits run_rules workers_here (rows_after run_rules [] words) run_set.1.0 fit.0 (defaulted workers_here (codes "2") (with_default (settled run_rules (walk run_rules [] nothing_held words).held).rows dir_here) refl)
 
 gen_good : (words : List Text) → level_passes (leaf (codes "gen") gen_rules) [] nothing_held words false ≡ true → HasOne (rows_after gen_rules [] words) number_here × HasOne (rows_after gen_rules [] words) workers_here
 gen_good words e =
@@ -121,14 +125,14 @@ log_good words e =
     let fit = level_fit (codes "log") log_rules log_set words e in
     let given = both (is_given (codes "G") rows) (is_given (codes "I") rows && true) fit.1 in
     let given_server : is_given (codes "I") rows ≡ true = (both (is_given (codes "I") rows) true given.1).0 in (
-      one_fits log_rules group_here rows log_set.0 fit.0 (given_row (codes "G") rows given.0),
-      one_fits log_rules server_here rows log_set.1.0 fit.0 (given_row (codes "I") rows given_server),
+      one_fits log_rules group_here rows log_set.1.0 fit.0 (given_row (codes "G") rows given.0),
+      one_fits log_rules server_here rows log_set.1.1.0 fit.0 (given_row (codes "I") rows given_server),
     )
 
 abbrev pub met_of : Option Shape → List Text → Option (Text × List Row)
 met_of found words = option_map (λ s. rows_at s words) found
 
-abbrev passes_at : Option Shape → List Text → Bool
+abbrev pub passes_at : Option Shape → List Text → Bool
 passes_at found words = option_map_or (λ s. level_passes s [] nothing_held words false) found true
 
 abbrev pub called : (run gen check log : Bool) → Option Shape
@@ -200,9 +204,9 @@ none_of words false is never = sym (ap (λ (b : Bool). if b then option_and_then
 pub means_none : (words : List Text) → is_accepted words ≡ false → None ≡ task_of words
 means_none words not = none_of words false not (λ e. true≢false (sym e))
 
-pub unaccepted : (words : List Text) → (takes command words ≡ true → ⊥) → None ≡ task_of words
+pub unaccepted : (words : List Text) → (takes command words ≡ true → ⊥) → is_accepted words ≡ false
 unfolding is_accepted
-unaccepted words never = none_of words (is_accepted words) refl never
+unaccepted words never = by_test (is_accepted words) (λ b. b ≡ false) (λ is. absurd (never is)) (λ _. refl)
 
 some_means : (words : List Text) (b : Bool) (task : Task) → is_accepted words ≡ b → Some task ≡ task_of words → b ≡ true
 some_means words true task is some = refl
@@ -360,6 +364,28 @@ log_read G only words m f good is found q r name reads_group reads_server =
     let (k, is_k, group, low) = place_read G only (codes "G") log.group.text 7 (omega arith) log.group.good log.rows f q log.group.one same reads_group in
     let (n, is_n, server, small) = place_read G only (codes "I") log.server.text 2 (omega arith) log.server.good log.rows f r log.server.one same reads_server in
     (k, n, is_k, is_n, ap (λ g. Some (tasks.Log g n)) group ∙ ap (λ i. Some (tasks.Log (number (without_minus log.group.text)) i)) server ∙ sym (log_task words good log), low, small)
+
+-- ---- the folder
+
+-- that of accepted words
+pub accepted_dir : (words : List Text) → is_accepted words ≡ true → dir_of words ≡ option_and_then dir_at (subcommand_of command words)
+unfolding dir_of
+accepted_dir words good = ap (λ (b : Bool). if b then option_and_then dir_at (subcommand_of command words) else None) good
+
+-- others have none
+pub dir_none : (words : List Text) → is_accepted words ≡ false → dir_of words ≡ None
+unfolding dir_of
+dir_none words bad = ap (λ (b : Bool). if b then option_and_then dir_at (subcommand_of command words) else None) bad
+
+by_rows : (met : Option (Text × List Row)) → option_and_then dir_at met ≡ option_and_then (first_of (codes "dir")) (option_map (λ p. p.1) met)
+by_rows None = refl
+by_rows (Some met) = refl
+
+-- it is read of the rows of a parse
+pub dir_read : (words : List Text) (m : ArgMatches) (rows : Option (List Row)) → HasParsed words (Some m) → rows ≡ option_map (λ p. p.1) (subcommand_rows (out-ArgMatches m).subcommand)
+    → option_and_then (first_of (codes "dir")) rows ≡ dir_of words
+dir_read words m rows (good, is) read =
+    ap (option_and_then (first_of (codes "dir"))) (read ∙ ap (option_map (λ p. p.1)) is) ∙ sym (by_rows (subcommand_of command words)) ∙ sym (accepted_dir words good)
 
 -- ---- what was accepted before there was `gen`
 

@@ -1,11 +1,12 @@
 -- What the words of the command line ask for.
-use Rattle.std.specs.Prelude.{ℕ, ◌≡◌, ◌≤◌, true, if◌then◌else◌, List, Option, Some, None, option_and_then, option_map, codes}
+use Rattle.std.specs.Prelude.{ℕ, ◌≡◌, ◌≤◌, true, false, if◌then◌else◌, List, Option, Some, None, option_and_then, option_map, codes}
 use Rattle.std.specs.Str.{bytes_eq}
 use Rattle.std.specs.Str.Parse.{digits_value, without_leading_plus}
-use Rattle.clap.specs.Words.{Row, Text, one_of, subcommand_of, takes}
+use Rattle.clap.specs.Words.{App, Row, Text, first_of, one_of, subcommand_of, subcommand_rows_of, takes}
+use Rattle.clap.specs.declared.parser.matches.ArgMatches.{ArgMatches}
 use Rattle.polar_cli.specs.declared.words.Task.{Task}
 use Rattle.polar_cli.specs.declared.words.Task.TheVariants as tasks
-use Rattle.polar_cli.specs.Words.{command, is_accepted, without_log}
+use Rattle.polar_cli.specs.Words.{command, is_accepted, without_dir, without_log}
 
 -- the number that is given to an argument, or stands for it
 abbrev pub number_at : Text → List Row → Option ℕ
@@ -29,9 +30,27 @@ task_at met = if bytes_eq met.0 (codes "check") then Some tasks.Check else if by
 unfoldable pub task_of : List Text → Option Task
 task_of words = if is_accepted words then option_and_then task_at (subcommand_of command words) else None
 
--- words that the command takes without `log` are accepted, and ask for the same
+-- the value of `--dir`, where it is given
+abbrev pub dir_at : Text × List Row → Option Text
+dir_at met = first_of (codes "dir") met.1
+
+-- where the words are accepted
+unfoldable pub dir_of : List Text → Option Text
+dir_of words = if is_accepted words then option_and_then dir_at (subcommand_of command words) else None
+
+-- what a parse found: the subcommand of the words, where they are accepted, and else nothing
+abbrev pub HasParsed : List Text → Option ArgMatches → Type 0
+HasParsed words (Some found) = (is_accepted words ≡ true) × (subcommand_rows_of found ≡ subcommand_of command words)
+HasParsed words None = is_accepted words ≡ false
+
+-- words that an older command takes are accepted, ask for the same, and name no folder
+abbrev pub KeepsWords : App → List Text → Type 0
+KeepsWords older words =
+    takes older words ≡ true → (is_accepted words ≡ true) × (task_of words ≡ option_and_then task_at (subcommand_of older words)) × (dir_of words ≡ None)
+
+-- so do those of the command without `log`, and without `--dir`
 abbrev pub KeepsTask : List Text → Type 0
-KeepsTask words = takes without_log words ≡ true → (is_accepted words ≡ true) × (task_of words ≡ option_and_then task_at (subcommand_of without_log words))
+KeepsTask words = KeepsWords without_log words × KeepsWords without_dir words
 
 -- sectors are copied on 1 to 8 threads; there are 8 groups, each of 3 servers
 abbrev pub IsInRange : Task → Type 0

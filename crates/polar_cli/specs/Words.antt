@@ -11,6 +11,10 @@ workers_rule = record (new_rule (codes "workers")) {
   parser = Some (parsers.Signed (pos 1) (pos 8));
 }
 
+-- `--dir PATH`: one value, whatever it is
+abbrev pub dir_rule : Rule
+dir_rule = record (new_rule (codes "dir")) { long = Some (codes "dir") }
+
 -- `N`: one whole number below 2^64, which has to come
 abbrev pub number_rule : Rule
 number_rule = record (new_rule (codes "N")) {
@@ -32,7 +36,7 @@ server_rule = record (new_rule (codes "I")) {
 }
 
 abbrev pub run_shape : Shape
-run_shape = (with_rule (new_app (codes "run")) workers_rule).top
+run_shape = (with_rule (with_rule (new_app (codes "run")) dir_rule) workers_rule).top
 
 abbrev pub gen_shape : Shape
 gen_shape = (with_rule (with_rule (new_app (codes "gen")) number_rule) workers_rule).top
@@ -41,7 +45,7 @@ abbrev pub check_shape : Shape
 check_shape = (new_app (codes "check")).top
 
 abbrev pub log_shape : Shape
-log_shape = (with_rule (with_rule (new_app (codes "log")) group_rule) server_rule).top
+log_shape = (with_rule (with_rule (with_rule (new_app (codes "log")) dir_rule) group_rule) server_rule).top
 
 -- the program's name, which is no word; one of its subcommands has to come, and it has no help
 abbrev pub bare : App
@@ -55,12 +59,22 @@ bare = record {
   subs = [];
 }
 
--- `run`, `gen` and `check`
-abbrev pub without_log : App
-without_log = with_subcommand (with_subcommand (with_subcommand bare run_shape) gen_shape) check_shape
-
 abbrev pub command : App
-command = with_subcommand without_log log_shape
+command = with_subcommand (with_subcommand (with_subcommand (with_subcommand bare run_shape) gen_shape) check_shape) log_shape
+
+-- the command before there was `--dir`
+abbrev pub run_without_dir : Shape
+run_without_dir = (with_rule (new_app (codes "run")) workers_rule).top
+
+abbrev pub log_without_dir : Shape
+log_without_dir = (with_rule (with_rule (new_app (codes "log")) group_rule) server_rule).top
+
+-- and before there was `log`
+abbrev pub without_log : App
+without_log = with_subcommand (with_subcommand (with_subcommand bare run_without_dir) gen_shape) check_shape
+
+abbrev pub without_dir : App
+without_dir = with_subcommand without_log log_without_dir
 
 -- the words are those that clap takes of this command
 unfoldable pub is_accepted : List Text → Bool

@@ -1,7 +1,6 @@
 //! The run of a generated script.
 ghost use Rattle.std.specs.Prelude.{◌≡◌, ◌≤◌, IfOk, length};
 ghost use Rattle.pf_io.specs.Causes.{Rose};
-ghost use Rattle.pf_world.specs.Disks.{AreTold};
 ghost use Rattle.polar_cli.specs.Reports.{sum_text};
 ghost use Rattle.polar_cli.specs.Generating.{HasGenerated};
 
@@ -43,8 +42,7 @@ pub fn generate<K: Sink, D: Disk + Drop, R: Threads + Sync, G: Gate + Sync>(
 ) -> Status
     requires workers { (1 ≤ workers) × (workers ≤ 8) }
     requires disks { 48 ≤ length disks.old.items }
-    requires told { AreTold D.seen disks.old.items }
-    ensures { HasGenerated D.seen D.may_leave D.faults D.moment D.left_since D.tells_moments result number (K.taken sink.old) (K.taken sink.new) (Rose (K.faults sink.old) (K.faults sink.new)) disks.old.items disks.new.items }
+    ensures { HasGenerated D.seen D.may_leave D.faults D.moment D.left_since D.tells D.tells_moments result number (K.taken sink.old) (K.taken sink.new) (Rose (K.faults sink.old) (K.faults sink.new)) disks.old.items disks.new.items }
 {
     let Ok(text) = script(alloc, number) else {
         return Status::NoMemory;

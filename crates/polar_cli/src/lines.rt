@@ -2,7 +2,6 @@
 ghost use Rattle.std.specs.Prelude.{◌≡◌, ◌≤◌, ◌<◌, ◌+◌, ◌^◌, ℕ, List, [], ◌∷◌, IfErr, IfOk, length};
 ghost use Rattle.pf_io.specs.Causes.{Rose};
 ghost use Rattle.pf_entry.specs.Lists.{Every};
-ghost use Rattle.pf_world.specs.Disks.{AreTold};
 ghost use Rattle.pf_world.specs.Headline.{IsSoundWorld, RunsTo};
 ghost use Rattle.pf_world.specs.Steps.{MayRun};
 ghost use Rattle.pf_world.specs.Views.{IsWorld};
@@ -32,9 +31,8 @@ fn open<D: Disk + Drop>(
     requires volume { (chunks : ℕ) × IsVolume chunks line.now.command }
     requires workers { (1 ≤ workers) × (workers ≤ 8) }
     requires disks { 48 ≤ length disks.items }
-    requires told { AreTold D.seen disks.items }
     ensures opened { IfOk result (λ opened. HasOpened D.faults line.now opened.1.items disks.items opened.0) }
-    ensures back { IfErr result (λ back. HasNotOpened D.seen D.may_leave D.faults D.moment D.left_since D.tells_moments line.now disks.items back.items) }
+    ensures back { IfErr result (λ back. HasNotOpened D.seen D.may_leave D.faults D.moment D.left_since D.tells D.tells_moments line.now disks.items back.items) }
 {
     let Command::Volume {
         chunks,
@@ -110,8 +108,7 @@ pub fn run_lines<K: Sink, D: Disk + Drop, R: Threads + Sync, G: Gate + Sync>(
     requires lines { IsWhole lines.now }
     requires workers { (1 ≤ workers) × (workers ≤ 8) }
     requires disks { 48 ≤ length disks.old.items }
-    requires told { AreTold D.seen disks.old.items }
-    ensures { HasRunLines D.seen D.may_leave D.faults D.moment D.left_since D.tells_moments result.0 result.1 lines.now (K.taken sink.old) (K.taken sink.new) (Rose (K.faults sink.old) (K.faults sink.new)) disks.old.items disks.new.items }
+    ensures { HasRunLines D.seen D.may_leave D.faults D.moment D.left_since D.tells D.tells_moments result.0 result.1 lines.now (K.taken sink.old) (K.taken sink.new) (Rose (K.faults sink.old) (K.faults sink.new)) disks.old.items disks.new.items }
 {
     runs_have_one_list();
     let [volume, rest @ ..] = lines else {

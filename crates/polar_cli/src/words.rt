@@ -1,11 +1,11 @@
 //! The words of the command line.
-ghost use Rattle.std.specs.Prelude.{◌≡◌, false, IfOk, IfSome, map, string_bytes};
+ghost use Rattle.std.specs.Prelude.{◌≡◌, false, IfOk, IfSome, map, option_map, string_bytes};
 ghost use Rattle.clap.specs.Words.{app_of, rule_of};
-ghost use Rattle.polar_cli.specs.Words.{command, group_rule, number_rule, server_rule, workers_rule};
-ghost use Rattle.polar_cli.specs.Tasks.{IsInRange, task_of};
+ghost use Rattle.polar_cli.specs.Words.{command, dir_rule, group_rule, number_rule, server_rule, workers_rule};
+ghost use Rattle.polar_cli.specs.Tasks.{HasParsed, IsInRange, dir_of, task_of};
 
 use clap::error::ErrorKind;
-use clap::{Arg, Command};
+use clap::{Arg, ArgMatches, Command};
 use pf_base::NoMemory;
 use std::alloc::{AllocError, Global};
 
@@ -31,6 +31,14 @@ fn workers_option<'a>(alloc: Global) -> Arg<'a>
         .long("workers")
         .default_value("2")
         .value_parser(clap::value_parser!(u32).range(1..=8))
+}
+
+/// `--dir`, with one value.
+fn dir_option<'a>(alloc: Global) -> Arg<'a>
+    ensures rule { rule_of result ≡ dir_rule }
+    ensures global { result.global ≡ false }
+{
+    Arg::new(alloc, "dir").long("dir")
 }
 
 /// `N`, a whole number of 64 bits that has to come.
@@ -63,15 +71,19 @@ fn server_place<'a>(alloc: Global) -> Arg<'a>
         .value_parser(clap::value_parser!(u8).range(0..=2))
 }
 
-/// What the program reads of its words: `run`, or `gen N`, each with the option `--workers`, `check`, or `log G I`.
+/// What the program reads of its words: `run` or `gen N`, each with the option `--workers`, `check`, or `log G I`; `run` and `log` have the
+/// option `--dir`.
 fn command<'a>(alloc: Global) -> Result<Command<'a>, AllocError>
     ensures { IfOk result (λ made. app_of made ≡ command) }
 {
-    let run = Command::new(alloc, "run").arg(workers_option(alloc))?;
+    let run = Command::new(alloc, "run")
+        .arg(dir_option(alloc))?
+        .arg(workers_option(alloc))?;
     let generate = Command::new(alloc, "gen")
         .arg(number_place(alloc))?
         .arg(workers_option(alloc))?;
     let log = Command::new(alloc, "log")
+        .arg(dir_option(alloc))?
         .arg(group_place(alloc))?
         .arg(server_place(alloc))?;
     Command::new(alloc, "polarfs")
@@ -85,6 +97,22 @@ fn command<'a>(alloc: Global) -> Result<Command<'a>, AllocError>
         .subcommand(log)
 }
 
+/// What a parse finds, where the words are accepted, and else `None`.
+fn parsed<'a>(alloc: Global, words: &'a [String]) -> Result<Option<ArgMatches<'a>>, NoMemory>
+    ensures { IfOk result (HasParsed (map string_bytes words.now)) }
+{
+    match command(alloc)?.try_get_matches_from(words) {
+        Ok(found) => Ok(Some(found)),
+        Err(error) => {
+            if error.kind() == ErrorKind::OutOfMemory {
+                Err(NoMemory)
+            } else {
+                Ok(None)
+            }
+        }
+    }
+}
+
 /// What the words ask for, where they are accepted, and else `None`. The workers are 1 to 8, a group 0 to 7 and a server 0 to 2.
 ///
 /// `NoMemory` (1) where memory runs out before it is known.
@@ -92,15 +120,9 @@ pub fn read_task(alloc: Global, words: &[String]) -> Result<Option<Task>, NoMemo
     ensures told { IfOk result (λ told. told ≡ task_of (map string_bytes words.now)) }
     ensures bound { IfOk result (λ told. IfSome told IsInRange) }
 {
-    let matches = match command(alloc)?.try_get_matches_from(words) {
-        Ok(matches) => matches,
-        Err(error) => {
-            return if error.kind() == ErrorKind::OutOfMemory {
-                Err(NoMemory)
-            } else {
-                Ok(None)
-            };
-        }
+    let found = parsed(alloc, words)?;
+    let Some(matches) = found else {
+        return Ok(None);
     };
     if let Some(met) = matches.subcommand_matches("run") {
         let Some(workers) = met.get_one::<u32>("workers") else {
@@ -123,6 +145,28 @@ pub fn read_task(alloc: Global, words: &[String]) -> Result<Option<Task>, NoMemo
     }
     match matches.subcommand_matches("check") {
         Some(_) => Ok(Some(Task::Check)),
+        None => Ok(None),
+    }
+}
+
+/// The value of `--dir`: a folder, where the words are accepted and name one, and else `None`.
+///
+/// `NoMemory` (1) where memory runs out before it is known.
+pub fn dir_of(alloc: Global, words: &[String]) -> Result<Option<String>, NoMemory>
+    ensures { IfOk result (λ told. option_map string_bytes told ≡ dir_of (map string_bytes words.now)) }
+{
+    let found = parsed(alloc, words)?;
+    let Some(matches) = found else {
+        return Ok(None);
+    };
+    let Some(met) = matches.subcommand() else {
+        return Ok(None);
+    };
+    match met.1.get_str("dir") {
+        Some(value) => {
+            let folder = String::from_str(alloc, value)?;
+            Ok(Some(folder))
+        }
         None => Ok(None),
     }
 }

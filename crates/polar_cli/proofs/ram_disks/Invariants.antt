@@ -1,9 +1,5 @@
-use Rattle.std.proofs.Common.{◌≡◌, Some, length}
-use Rattle.pf_world.specs.Disks.{AreTold}
+use Rattle.std.proofs.Common.{◌≡◌, length}
 use Rattle.polar_cli.proofs.ram_disks.Given as goal
 
 abbrev pub invariant-loop : goal.invariant-loop
-invariant-loop l = record {
-  count : length l.disks.items ≡ l.counter;
-  told : AreTold (λ d. Some d.bytes.items) l.disks.items;
-}
+invariant-loop l = length l.disks.items ≡ l.counter

@@ -26,18 +26,18 @@ returns-in-Ok g c =
     let lines = c.args.lines.now in
     let disks = c.args.disks.now.items in
     let at = item_is lines 0 c.volume-item.result (omega (arith, c.in-len1-up.len_at_least)) c.volume-item.is in
-    ran_lines g.D.Disk.seen g.D.Disk.may_leave g.D.Disk.faults g.D.Disk.moment g.D.Disk.left_since g.D.Disk.tells_moments c.runs_have_one_list.ensures c.go_on-status.result (c.acked_count.result, c.acked_count-in-Ok.result) lines no_line c.in-Ok.text.items (taken c.args.sink.now) (taken c.go_on-status.new.sink) (Rose (g.K.Sink.faults c.args.sink.now) (g.K.Sink.faults c.go_on-status.new.sink))
+    ran_lines g.D.Disk.seen g.D.Disk.may_leave g.D.Disk.faults g.D.Disk.moment g.D.Disk.left_since g.D.Disk.tells g.D.Disk.tells_moments c.runs_have_one_list.ensures c.go_on-status.result (c.acked_count.result, c.acked_count-in-Ok.result) lines no_line c.in-Ok.text.items (taken c.args.sink.now) (taken c.go_on-status.new.sink) (Rose (g.K.Sink.faults c.args.sink.now) (g.K.Sink.faults c.go_on-status.new.sink))
     disks c.close.result.items c.in-Ok.world c.go_on-status.new.world c.requires.lines (omega (arith, c.in-len1-up.len_at_least)) c.requires.disks
     (subst (λ given. HasOpened g.D.Disk.faults (get_or lines 0 no_line) c.in-Ok.text.items given c.in-Ok.world) (ap (λ v. v.items) c.replace.ensures.value)
     (subst (λ (l : Line). HasOpened g.D.Disk.faults l c.in-Ok.text.items c.replace.result.items c.in-Ok.world) at c.in-Ok.ensures.opened))
     (subst (λ (l : Line). HasGoneOn c.go_on-status.result l (drop 1 lines) (taken c.args.sink.now) (taken c.go_on-status.new.sink) (Rose (g.K.Sink.faults c.args.sink.now) (g.K.Sink.faults c.go_on-status.new.sink)) c.in-Ok.world.world c.go_on-status.new.world.world) at
     (subst (λ rest. HasGoneOn c.go_on-status.result c.volume-item.result rest (taken c.args.sink.now) (taken c.go_on-status.new.sink) (Rose (g.K.Sink.faults c.args.sink.now) (g.K.Sink.faults c.go_on-status.new.sink)) c.in-Ok.world.world c.go_on-status.new.world.world) (take_rest lines 1) c.go_on-status.ensures.gone))
-    c.go_on-status.ensures.spare (ap₂ (λ (a b : ℕ). (a, b)) c.acked_count.ensures c.acked_count-in-Ok.ensures) c.close.ensures
+    c.go_on-status.ensures.spare (λ told. ap₂ (λ (a b : ℕ). (a, b)) (c.acked_count.ensures told) (c.acked_count-in-Ok.ensures told)) c.close.ensures
 
 pub returns-in-Err : goal.returns-in-Err
 returns-in-Err g c =
     let lines = c.args.lines.now in
     let at = item_is lines 0 c.volume-item.result (omega (arith, c.in-len1-up.len_at_least)) c.volume-item.is in
-    none_made g.D.Disk.seen g.D.Disk.may_leave g.D.Disk.faults g.D.Disk.moment g.D.Disk.left_since g.D.Disk.tells_moments (0, 0) lines no_line (g.K.Sink.taken c.args.sink.now) (Rose (g.K.Sink.faults c.args.sink.now) (g.K.Sink.faults c.args.sink.now)) c.args.disks.now.items c.in-Err.back.items c.requires.lines
-    (subst (λ given. HasNotOpened g.D.Disk.seen g.D.Disk.may_leave g.D.Disk.faults g.D.Disk.moment g.D.Disk.left_since g.D.Disk.tells_moments (get_or lines 0 no_line) given c.in-Err.back.items) (ap (λ v. v.items) c.replace.ensures.value)
-    (subst (λ (l : Line). HasNotOpened g.D.Disk.seen g.D.Disk.may_leave g.D.Disk.faults g.D.Disk.moment g.D.Disk.left_since g.D.Disk.tells_moments l c.replace.result.items c.in-Err.back.items) at c.in-Err.ensures.back))
+    none_made g.D.Disk.seen g.D.Disk.may_leave g.D.Disk.faults g.D.Disk.moment g.D.Disk.left_since g.D.Disk.tells g.D.Disk.tells_moments (0, 0) lines no_line (g.K.Sink.taken c.args.sink.now) (Rose (g.K.Sink.faults c.args.sink.now) (g.K.Sink.faults c.args.sink.now)) c.args.disks.now.items c.in-Err.back.items c.requires.lines
+    (subst (λ given. HasNotOpened g.D.Disk.seen g.D.Disk.may_leave g.D.Disk.faults g.D.Disk.moment g.D.Disk.left_since g.D.Disk.tells g.D.Disk.tells_moments (get_or lines 0 no_line) given c.in-Err.back.items) (ap (λ v. v.items) c.replace.ensures.value)
+    (subst (λ (l : Line). HasNotOpened g.D.Disk.seen g.D.Disk.may_leave g.D.Disk.faults g.D.Disk.moment g.D.Disk.left_since g.D.Disk.tells g.D.Disk.tells_moments l c.replace.result.items c.in-Err.back.items) at c.in-Err.ensures.back))

@@ -1,0 +1,46 @@
+//! Which file of a folder is which disk.
+ghost use Rattle.std.specs.Prelude.{◌≡◌, IfOk, length};
+ghost use Rattle.std.specs.List.{All};
+ghost use Rattle.std.specs.Path.{path_buf_bytes, path_join};
+ghost use Rattle.pf_folder.specs.Files.{file_name};
+
+use pf_base::NoMemory;
+use pf_disk::Disk;
+use pf_disk_file::FileDisk;
+use std::alloc::Global;
+use std::fs::{File, Files};
+use std::path::{Path, PathBuf};
+
+/// Two halves for each of the three servers of eight groups.
+const DISKS: usize = 48;
+
+/// The file of a disk in a folder: `gGsIhH` is half H of server I of group G, and disk 6G + 2I + H.
+///
+/// `NoMemory` (1) where memory runs out.
+pub fn file_in(alloc: Global, folder: &str, disk: usize) -> Result<PathBuf, NoMemory>
+    ensures { IfOk result (λ path. path_buf_bytes path ≡ path_join folder.now (file_name disk)) }
+{
+    let (group, server, half) = (disk / 6, disk % 6 / 2, disk % 2);
+    let name = format!(in alloc; "g{group}s{server}h{half}")?;
+    Ok(Path::new(folder).join(alloc, name.as_str())?)
+}
+
+/// The 48 disks of the volumes in a folder, each over its file, which is made where it is missing. A disk whose file cannot be
+/// opened is there, and fails in each call: so all of them where there is no such folder.
+///
+/// `NoMemory` (1) where memory runs out; some files may have been made by then.
+pub fn disks_in<R: Files<File = File>>(
+    rt: &R,
+    alloc: Global,
+    folder: &str,
+) -> Result<Vec<FileDisk>, NoMemory>
+    ensures count { IfOk result (λ disks. length disks.items ≡ 48) }
+    ensures sound { IfOk result (λ disks. All (λ disk. ⟦<FileDisk as Disk>⟧.faults disk ≡ 0) disks.items) }
+{
+    let mut disks = Vec::new(alloc);
+    for disk in 0..DISKS {
+        let path = file_in(alloc, folder, disk)?;
+        disks.push(FileDisk::at(rt, path.as_str()))?;
+    }
+    Ok(disks)
+}
