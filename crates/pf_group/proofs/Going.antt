@@ -1,5 +1,5 @@
 -- A group after one more event.
-use Rattle.std.proofs.Common.{◌≡◌, ℕ, zero, suc, ◌<◌, ◌≤◌, ◌^◌, ◌||◌, inl, inr, Bool, true, false, List, [], ◌∷◌, ◌++◌, length, Option, Some, None, Result, Ok, Err, OnErr, slice_get, refl, sym, ap, subst, ◌∙◌}
+use Rattle.std.proofs.Common.{◌≡◌, ℕ, zero, suc, ◌<◌, ◌≤◌, ◌^◌, ◌||◌, inl, inr, Bool, true, false, not, is_some, List, [], ◌∷◌, ◌++◌, length, Option, Some, None, Result, Ok, Err, OnErr, MatchBool, slice_get, append-nil, refl, sym, ap, subst, ◌∙◌}
 use Rattle.std.specs.List.{list_any}
 use Rattle.std.proofs.lemmas.Option.{none-some, same_Some}
 use Rattle.std.proofs.lemmas.Bool.{and_from, and_parts, eq-eqb, eqb-true, false≢true}
@@ -20,12 +20,12 @@ use Rattle.pf_protocol.specs.declared.events.Event.TheVariants.{GiveBack}
 use Rattle.pf_protocol.proofs.ForMoments.{replay_goes_on}
 use Rattle.pf_kept.specs.declared.kept.Kept.{Kept}
 use Rattle.pf_cluster.specs.declared.cluster.Cluster.{Cluster}
-use Rattle.pf_cluster.specs.Going.{HasGone, HasStayed, KeepsTelling, acts_at}
+use Rattle.pf_cluster.specs.Going.{HasGone, HasStayed, KeepsTelling, acts_at, is_quiet}
 use Rattle.pf_cluster.specs.Showing.{Shows}
 use Rattle.pf_group.specs.declared.event.GroupEvent.{GroupEvent}
 use Rattle.pf_group.specs.declared.event.GroupEvent.TheVariants as asked
 use Rattle.pf_group.specs.Events.{Brings, MayAsk, event_of}
-use Rattle.pf_group.specs.GroupIs.{AddsOne, GroupIs}
+use Rattle.pf_group.specs.GroupIs.{GroupIs, IsLastStep}
 use Rattle.pf_group.specs.Halves.{AreLater, all_counts, format_in, holds_in, rose_in, told_in, used_in, was_in}
 use Rattle.pf_group.specs.Inside.{HaveHeads, IsSince, group_of}
 use Rattle.pf_group.specs.declared.began.Began.{Began}
@@ -34,10 +34,10 @@ use Rattle.pf_group.specs.Beginning.{IsBegun, IsBegunIf}
 use Rattle.pf_group.specs.Pasts.{HasPlaceFor, HasRoomFor, IsKeepable}
 use Rattle.pf_group.specs.Reacting.{own_of}
 use Rattle.pf_group.specs.Standing.{AllTell, StandsFor}
-use Rattle.pf_group.specs.Steps.{HasTried, IsLeft, Steps}
+use Rattle.pf_group.specs.Steps.{BeginsHere, HasTried, IsLeft, Steps}
 use Rattle.pf_group.proofs.Faults.{all_later, all_same, has_risen, heads_kept, others_same}
 use Rattle.pf_group.proofs.Standing.{now_shows, stands_after, stands_still, stayed_now, tell_alike, went_now}
-use Rattle.pf_group.proofs.Since.{Stood, since_as, since_step, since_still}
+use Rattle.pf_group.proofs.Since.{Stood, quiet_more, since_as, since_step, since_still}
 
 -- a job that comes back is of one of the three servers
 pub brings_low : (claims : List Claimed) → Every (λ c. c.server < 3) claims → (filled : Filled) → Brings claims filled → filled.server < 3
@@ -127,12 +127,6 @@ left_equal (asked.Checkpoint server) old new is = is
 pub same_happening : (e e' : Event) (a a' : Answer) → e ≡ e' → a ≡ a' → (let h : Happening = record { event = e; answer = a } in h) ≡ record { event = e'; answer = a' }
 same_happening e e' a a' p q = ap (λ x. let h : Happening = record { event = x; answer = a } in h) p ∙ ap (λ x. let h : Happening = record { event = e'; answer = x } in h) q
 
--- what holds of a group holds of the same one
-pub as_begun : {D : Type 0} → (faults moment : D → ℕ) (number : ℕ) (setup : Setup) (history later : History) (old new began : Cluster (Kept D)) (earlier : History) → began ≡ old → earlier ≡ history → (P : GroupIs → Type 0) → P (group_of faults moment number setup history old later new) → P (group_of faults moment number setup earlier began later new)
-as_begun {D = D} faults moment number setup history later old new began earlier same_cluster same_history P holds =
-    subst (λ h. P (group_of faults moment number setup h began later new)) (sym same_history)
-    (subst (λ (b : Cluster (Kept D)). P (group_of faults moment number setup history b later new)) (sym same_cluster) holds)
-
 module _ {D : Type 0} (seen : D → Option (List ℕ)) (may_leave : D → Images) (faults moment : D → ℕ) (left_since : D → ℕ → Images) (tells_moments : Bool) (setup : Setup) (history : History) (old new : Cluster (Kept D)) where
   abbrev pub WentIn : Group → Event → Answer → Type 0
   WentIn g event answer = HasGone (holds_in seen may_leave) used_in format_in (told_in seen) (rose_in faults) (was_in seen faults moment left_since tells_moments) setup g event old new answer
@@ -179,16 +173,35 @@ module _ {D : Type 0} (seen : D → Option (List ℕ)) (may_leave : D → Images
     heads_stayed : (own : Option ℕ) → Stayed own → (number : ℕ) → HaveHeads number old → HaveHeads number new
     heads_stayed own stayed = heads_kept seen may_leave faults moment left_since tells_moments (replay setup history) (replay setup history) setup own old new shows stayed.shows stayed.crash stayed.others
 
-    module _ (number : ℕ) (earlier : History) (began : Cluster (Kept D)) (later : History) where
-      -- as it was, and as it is after a step that began then
+    since_went : (event : Event) (answer : Answer) → Went event answer → IsSince seen faults moment left_since tells_moments (replay setup history) (happens setup (replay setup history) event (ending answer)) old new
+    since_went event answer gone = since_step seen may_leave faults moment left_since tells_moments setup (replay setup history) (happens setup (replay setup history) event (ending answer)) (acts_at (replay setup history) event) old new shows tell gone.crash gone.others
+
+    since_stayed : (own : Option ℕ) → Stayed own → IsSince seen faults moment left_since tells_moments (replay setup history) (replay setup history) old new
+    since_stayed own stayed = since_step seen may_leave faults moment left_since tells_moments setup (replay setup history) (replay setup history) own old new shows tell stayed.crash stayed.others
+
+    -- as it was, and as it is now
+    module _ (number : ℕ) (before after : Began D) (later : History) where
       abbrev Was : GroupIs
-      Was = group_of faults moment number setup earlier began history old
+      Was = group_of faults moment number setup before.happenings.value.items before.cluster.value history old
 
       abbrev Is : GroupIs
-      Is = group_of faults moment number setup history old later new
+      Is = group_of faults moment number setup after.happenings.value.items after.cluster.value later new
 
-      pub steps_of : (event : Event) (answer : Answer) (h : Happening) → later ≡ history ++ h ∷ [] → h.event ≡ event → h.answer ≡ answer → MayHappen (claims_of [] history) event → WentIn stands.past.group event answer → Steps Was event answer Is
-      steps_of event answer h is same_event same_answer may there =
+      begins_here : IsBegun old history after → BeginsHere Was Is
+      begins_here begun =
+          ap (λ (b : Cluster (Kept D)). record Is.time { began = all_counts moment b }) begun.cluster_is
+          ∙ ap (λ (h : History). record Is.time { began = all_counts moment old; earlier = h }) begun.history_is
+
+      begins_so : (event : Event) (answer : Answer) → Went event answer → (b : Bool) → is_quiet event ≡ b → IsBegunIf (not b) old history before after → MatchBool b ((Is.faults ≡ Was.faults) × (Is.time ≡ Was.time)) (BeginsHere Was Is)
+      begins_so event answer gone true quiet same = (
+        all_same faults old new (λ i own. gone.quiet quiet i),
+        ap (λ (b : Began D). record Was.time { now = all_counts moment new; began = all_counts moment b.cluster.value; earlier = b.happenings.value.items }) same
+            ∙ ap (λ m. record Was.time { now = m }) (all_same moment old new (λ i own. gone.quiet quiet i)),
+      )
+      begins_so event answer gone false loud begun = begins_here begun
+
+      pub steps_of : (event : Event) (answer : Answer) (h : Happening) → later ≡ history ++ h ∷ [] → h.event ≡ event → h.answer ≡ answer → MayHappen (claims_of [] history) event → IsBegunIf (not (is_quiet event)) old history before after → WentIn stands.past.group event answer → Steps Was event answer Is
+      steps_of event answer h is same_event same_answer may begun there =
           let gone = went event answer there in
           let stamped = same_happening h.event event h.answer answer same_event same_answer in
           record {
@@ -198,108 +211,94 @@ module _ {D : Type 0} (seen : D → Option (List ℕ)) (may_leave : D → Images
             cause = λ halted. let c = gone.cause halted in (c.0, c.1, has_risen faults old new c.0 c.2);
             later = later_went event answer gone;
             others = λ j apart. others_same faults _ old new gone.others j apart;
-            begins = refl;
+            begins = begins_so event answer gone (is_quiet event) refl begun;
             still = λ j apart. others_same moment _ old new gone.others j apart;
           }
 
       -- there was no memory for it
-      left_same : later ≡ history → StayedIn stands.past.group None → group_of faults moment number setup earlier began later new ≡ Was
-      left_same is there =
+      stays : later ≡ history → after ≡ before → StayedIn stands.past.group None → Is ≡ Was
+      stays is same there =
           let stayed = stayed_so None there in
-          ap (λ l. group_of faults moment number setup earlier began l new) is
-          ∙ ap (λ t. record (group_of faults moment number setup earlier began history new) { taken = t }) stayed.taken
+          ap (λ (b : Began D). group_of faults moment number setup b.happenings.value.items b.cluster.value later new) same
+          ∙ ap (λ l. group_of faults moment number setup before.happenings.value.items before.cluster.value l new) is
+          ∙ ap (λ t. record (group_of faults moment number setup before.happenings.value.items before.cluster.value history new) { taken = t }) stayed.taken
           ∙ ap (λ f. record Was { faults = f; time = record Was.time { now = all_counts moment new } }) (all_same faults old new stayed.others)
           ∙ ap (λ m. record Was { time = record Was.time { now = m } }) (all_same moment old new stayed.others)
 
       -- for a restart, which may have touched the disks of its server
-      has_tried : (server : ℕ) → later ≡ history → StayedIn stands.past.group (Some server) → HasTried Was server Is
-      has_tried server is there = let stayed = stayed_so (Some server) there in record {
+      tries : (server : ℕ) → later ≡ history → IsBegun old history after → StayedIn stands.past.group (Some server) → HasTried Was server Is
+      tries server is begun there = let stayed = stayed_so (Some server) there in record {
         is = ap (λ l. record Is { history = l }) is ∙ ap (λ t. record Is { history = history; taken = t }) stayed.taken;
         later = later_stayed (Some server) stayed;
         others = λ j apart. others_same faults (Some server) old new stayed.others j (λ same. apart (sym (same_Some server j same)));
-        begins = refl;
+        begins = begins_here begun;
         still = λ j apart. others_same moment (Some server) old new stayed.others j (λ same. apart (sym (same_Some server j same)));
       }
 
-    since_went : (event : Event) (answer : Answer) → Went event answer → IsSince seen faults moment left_since tells_moments (replay setup history) (happens setup (replay setup history) event (ending answer)) old new
-    since_went event answer gone = since_step seen may_leave faults moment left_since tells_moments setup (replay setup history) (happens setup (replay setup history) event (ending answer)) (acts_at (replay setup history) event) old new shows tell gone.crash gone.others
+      pub left_of : (event : GroupEvent) → later ≡ history → IsBegunIf (is_some (own_of event)) old history before after → StayedIn stands.past.group (own_of event) → IsLeft Was event Is
+      left_of (asked.Submit server range payload) is begun stayed = stays is begun stayed
+      left_of (asked.Mark server) is begun stayed = stays is begun stayed
+      left_of (asked.Fetch server range) is begun stayed = stays is begun stayed
+      left_of (asked.Deliver k) is begun stayed = stays is begun stayed
+      left_of (asked.Lose k) is begun stayed = stays is begun stayed
+      left_of (asked.Elect server) is begun stayed = stays is begun stayed
+      left_of (asked.Resend server) is begun stayed = stays is begun stayed
+      left_of (asked.Stop server) is begun stayed = stays is begun stayed
+      left_of (asked.Restart server) is begun stayed = inr (tries server is begun stayed)
+      left_of asked.Claim is begun stayed = stays is begun stayed
+      left_of (asked.Finish filled) is begun stayed = stays is begun stayed
+      left_of (asked.Checkpoint server) is begun stayed = stays is begun stayed
 
-    since_stayed : (own : Option ℕ) → Stayed own → IsSince seen faults moment left_since tells_moments (replay setup history) (replay setup history) old new
-    since_stayed own stayed = since_step seen may_leave faults moment left_since tells_moments setup (replay setup history) (replay setup history) own old new shows tell stayed.crash stayed.others
+      abbrev StoodAt : Began D → (history : History) → Cluster (Kept D) → Type 0
+      StoodAt began now cluster = Stood seen may_leave faults moment left_since tells_moments number setup began.happenings.value.items began.cluster.value now cluster
 
-    module _ (number : ℕ) (heads : HaveHeads number old) (later : History) where
-      abbrev Stands : (earlier : History) (began : Cluster (Kept D)) → Type 0
-      Stands earlier began = Stood seen may_leave faults moment left_since tells_moments number setup earlier began later new
+      abbrev SinceAt : (right : History) → Began D → Type 0
+      SinceAt right began = IsSince seen faults moment left_since tells_moments (replay setup began.happenings.value.items) (replay setup right) began.cluster.value new
 
-      module _ (earlier : History) (began : Cluster (Kept D)) (same_cluster : began ≡ old) (same_history : earlier ≡ history) where
-        -- after a step that began here
-        pub stood_gone : (event : Event) (answer : Answer) → later ≡ history ++ record { event = event; answer = answer } ∷ [] → length later ≤ 2 ^ 32 → MayHappen (claims_of [] history) event → WentIn stands.past.group event answer → Stands earlier began
-        stood_gone event answer is low may there =
-            let gone = went event answer there in
-            let state = ap (replay setup) is ∙ replay_goes_on setup history (record { event = event; answer = answer }) in
-            record {
-              stands = stands_gone event answer later is low may there;
-              tell = tell_now there.tells;
-              heads = heads_went event answer gone number heads;
-              last = inr (record { event = event; answer = answer }, is ∙ ap (λ l. l ++ record { event = event; answer = answer } ∷ []) (sym same_history));
-              since = since_as seen may_leave faults moment left_since tells_moments setup history earlier later _ old new began same_cluster same_history state (since_went event answer gone);
-            }
-
-        stood_tried : (own : Option ℕ) → later ≡ history → StayedIn stands.past.group own → Stands earlier began
-        stood_tried own is there = let stayed = stayed_so own there in record {
-          stands = stands_stayed own later is there;
+      -- after one more event
+      module _ (was : StoodAt before history old) (event : Event) (answer : Answer) (is : later ≡ history ++ record { event = event; answer = answer } ∷ []) (low : length later ≤ 2 ^ 32) (may : MayHappen (claims_of [] history) event) (there : WentIn stands.past.group event answer) where
+        so_gone : (began : Began D) (right : History) → IsLastStep began.happenings.value.items right later → SinceAt right began → StoodAt began later new
+        so_gone began right last since = record {
+          stands = stands_gone event answer later is low may there;
           tell = tell_now there.tells;
-          heads = heads_stayed own stayed number heads;
-          last = inl (is ∙ sym same_history);
-          since = since_as seen may_leave faults moment left_since tells_moments setup history earlier later (replay setup history) old new began same_cluster same_history (ap (replay setup) is) (since_stayed own stayed);
+          heads = heads_went event answer (went event answer there) number was.heads;
+          after = right;
+          last = last;
+          since = since;
         }
 
-      -- as it stood, where no disk was touched
-      stood_still : (earlier : History) (began : Cluster (Kept D)) → later ≡ history → AddsOne earlier history → IsSince seen faults moment left_since tells_moments (replay setup earlier) (replay setup history) began old → StayedIn stands.past.group None → Stands earlier began
-      stood_still earlier began is last since there = let stayed = stayed_so None there in record {
-        stands = stands_stayed None later is there;
-        tell = tell_now there.tells;
-        heads = heads_stayed None stayed number heads;
-        last = subst (AddsOne earlier) (sym is) last;
-        since = since_still seen may_leave faults moment left_since tells_moments (replay setup earlier) (replay setup later) began old new stayed.others (subst (λ l. IsSince seen faults moment left_since tells_moments (replay setup earlier) (replay setup l) began old) (sym is) since);
-      }
+        by_quiet : (b : Bool) → is_quiet event ≡ b → IsBegunIf (not b) old history before after → StoodAt after later new
+        by_quiet true quiet same =
+            subst (λ (b : Began D). StoodAt b later new) (sym same) (so_gone before was.after
+            (quiet_more before.happenings.value.items was.after history later (record { event = event; answer = answer }) was.last quiet is)
+            (since_still seen may_leave faults moment left_since tells_moments (replay setup before.happenings.value.items) (replay setup was.after) before.cluster.value old new (λ i own. there.quiet quiet i) was.since))
+        by_quiet false loud begun =
+            let h : Happening = record { event = event; answer = answer } in
+            so_gone after later
+            (record { step = inr (h, loud, is ∙ ap (λ l. l ++ h ∷ []) (sym begun.history_is)); since = []; quiet = tt; whole = sym (append-nil later) })
+            (since_as seen may_leave faults moment left_since tells_moments setup history after.happenings.value.items later _ old new after.cluster.value begun.cluster_is begun.history_is (ap (replay setup) is ∙ replay_goes_on setup history h) (since_went event answer (went event answer there)))
 
-    -- There was no memory for an event: a step began with it only where it may have touched disks
-    module _ (number : ℕ) (before after : Began D) (later : History) (is : later ≡ history) where
-      abbrev Left : GroupIs
-      Left = group_of faults moment number setup after.happenings.value.items after.cluster.value later new
+        pub stood_gone : IsBegunIf (not (is_quiet event)) old history before after → StoodAt after later new
+        stood_gone begun = by_quiet (is_quiet event) refl begun
 
-      abbrev WasSo : GroupIs
-      WasSo = group_of faults moment number setup before.happenings.value.items before.cluster.value history old
+      -- where there was no memory for it
+      module _ (was : StoodAt before history old) (is : later ≡ history) where
+        so_left : (own : Option ℕ) → StayedIn stands.past.group own → (began : Began D) (right : History) → IsLastStep began.happenings.value.items right later → SinceAt right began → StoodAt began later new
+        so_left own there began right last since = record {
+          stands = stands_stayed own later is there;
+          tell = tell_now there.tells;
+          heads = heads_stayed own (stayed_so own there) number was.heads;
+          after = right;
+          last = last;
+          since = since;
+        }
 
-      stays : after ≡ before → StayedIn stands.past.group None → Left ≡ WasSo
-      stays same stayed =
-          ap (λ (b : Began D). group_of faults moment number setup b.happenings.value.items b.cluster.value later new) same
-          ∙ left_same number before.happenings.value.items before.cluster.value later is stayed
-
-      tries : (server : ℕ) → IsBegun old later after → StayedIn stands.past.group (Some server) → HasTried WasSo server Left
-      tries server begun stayed =
-          as_begun faults moment number setup history later old new after.cluster.value after.happenings.value.items begun.cluster_is (begun.history_is ∙ is) (HasTried WasSo server)
-          (has_tried number before.happenings.value.items before.cluster.value later server is stayed)
-
-      pub left_of : (event : GroupEvent) → IsBegunIf (own_of event) old later before after → StayedIn stands.past.group (own_of event) → IsLeft WasSo event Left
-      left_of (asked.Submit server range payload) begun stayed = stays begun stayed
-      left_of (asked.Mark server) begun stayed = stays begun stayed
-      left_of (asked.Fetch server range) begun stayed = stays begun stayed
-      left_of (asked.Deliver k) begun stayed = stays begun stayed
-      left_of (asked.Lose k) begun stayed = stays begun stayed
-      left_of (asked.Elect server) begun stayed = stays begun stayed
-      left_of (asked.Resend server) begun stayed = stays begun stayed
-      left_of (asked.Stop server) begun stayed = stays begun stayed
-      left_of (asked.Restart server) begun stayed = inr (tries server begun stayed)
-      left_of asked.Claim begun stayed = stays begun stayed
-      left_of (asked.Finish filled) begun stayed = stays begun stayed
-      left_of (asked.Checkpoint server) begun stayed = stays begun stayed
-
-      pub stood_left : HaveHeads number old → AddsOne before.happenings.value.items history → IsSince seen faults moment left_since tells_moments (replay setup before.happenings.value.items) (replay setup history) before.cluster.value old → (own : Option ℕ) → IsBegunIf own old later before after → StayedIn stands.past.group own
-          → Stood seen may_leave faults moment left_since tells_moments number setup after.happenings.value.items after.cluster.value later new
-      stood_left heads last since None begun stayed =
-          subst (λ (b : Began D). Stood seen may_leave faults moment left_since tells_moments number setup b.happenings.value.items b.cluster.value later new) (sym begun)
-          (stood_still number heads later before.happenings.value.items before.cluster.value is last since stayed)
-      stood_left heads last since (Some server) begun stayed =
-          stood_tried number heads later after.happenings.value.items after.cluster.value begun.cluster_is (begun.history_is ∙ is) (Some server) is stayed
+        pub stood_left : (own : Option ℕ) → IsBegunIf (is_some own) old history before after → StayedIn stands.past.group own → StoodAt after later new
+        stood_left None same there =
+            subst (λ (b : Began D). StoodAt b later new) (sym same) (so_left None there before was.after
+            (subst (IsLastStep before.happenings.value.items was.after) (sym is) was.last)
+            (since_still seen may_leave faults moment left_since tells_moments (replay setup before.happenings.value.items) (replay setup was.after) before.cluster.value old new there.others was.since))
+        stood_left (Some server) begun there =
+            so_left (Some server) there after later
+            (record { step = inl (is ∙ sym begun.history_is); since = []; quiet = tt; whole = sym (append-nil later) })
+            (since_as seen may_leave faults moment left_since tells_moments setup history after.happenings.value.items later (replay setup history) old new after.cluster.value begun.cluster_is begun.history_is (ap (replay setup) is) (since_stayed (Some server) (stayed_so (Some server) there)))
