@@ -1,5 +1,6 @@
 //! A port of a host into one group.
 ghost use Rattle.std.specs.Prelude.{◌≡◌, ◌↔◌, ◌<◌, ◌≤◌, List, None, Some, IsSome, IsTrue, IfOk, IfSome, OnErr};
+ghost use Rattle.std.specs.Option.{option_copied};
 ghost use Rattle.pf_entry.specs.Lists.{Every};
 ghost use Rattle.pf_base.specs.Asks.{Answers, IsValid};
 ghost use Rattle.pf_base.specs.declared.asks.Ask.{Ask as AskIs};
@@ -59,6 +60,14 @@ impl Port {
     {
         self.ask = Some(ask);
         self.sent = None;
+    }
+
+    /// The ask that is pending.
+    pub fn ask(&self) -> Option<&Ask>
+        ensures ask { option_copied result ≡ self.now.ask }
+        ensures valid { IfSome self.now.ask IsValid }
+    {
+        self.ask.as_ref()
     }
 
     /// Whether an ask is pending.

@@ -1,5 +1,5 @@
 -- What a chunk tells a port, as a desk.
-use Rattle.std.specs.Prelude.{◌≡◌, ℕ, Bool, Option, Some, None, slice_get}
+use Rattle.std.specs.Prelude.{◌≡◌, ℕ, Bool, IsTrue, Option, Some, None, slice_get}
 use Rattle.std.specs.Option.{option_map}
 use Rattle.pf_base.specs.declared.asks.Reply.{Reply}
 use Rattle.pf_base.specs.declared.asks.Reply.TheVariants.{Bytes}
@@ -54,15 +54,16 @@ pub record HasTold {A : Type 0} (old : ChunkIs) (event : GroupEvent) (told_in : 
   pub rest : OfGroup old new
   pub tells : told ≡ told_in answer
 
--- the chunk before a call of a port, the call with what it answered, and the chunk after it
+-- The chunk before a call of a port, the call with what it answered, and the chunk after it. What is told of the state of its group is so
+-- where the disks tell their content
 abbrev pub Says : (old : ChunkIs) → Call → (new : ChunkIs) → Type 0
-Says old (Led leader) new = (new ≡ old) × (leader ≡ leader_of (state_of old.group))
+Says old (Led leader) new = (new ≡ old) × (IsTrue old.group.told → leader ≡ leader_of (state_of old.group))
 Says old (Submitted server range sectors slot) new = HasTold old (asked.Submit server range sectors) slot_in slot new
 Says old (Fetched server range number) new = HasTold old (asked.Fetch server range) number_in number new
-Says old (WasAcked term slot is) new = (new ≡ old) × (is ≡ is_acked (state_of old.group) term slot)
+Says old (WasAcked term slot is) new = (new ≡ old) × (IsTrue old.group.told → is ≡ is_acked (state_of old.group) term slot)
 Says old (Took number None) new = (new ≡ old) × LacksAnswer old.group number
 Says old (Took number (Some sectors)) new = HasTaken old.group number sectors new.group × OfGroup old new
 
--- the read of this number was asked for so many sectors
+-- the read of this number was asked for so many sectors, which its answer has where the disks tell their content
 abbrev pub Counts : ChunkIs → (number count : ℕ) → Type 0
-Counts c number count = (range : Span) × IsFetched c.group.history number range × (range.count ≡ count)
+Counts c number count = IsTrue c.group.told × ((range : Span) × IsFetched c.group.history number range × (range.count ≡ count))

@@ -1,6 +1,8 @@
 -- A step of a port of a chunk.
-use Rattle.std.specs.Prelude.{◌≡◌, ℕ, ◌++◌, List, [], Option, Some, None, if◌then◌else◌, length, slice_get, slice_set}
+use Rattle.std.specs.Prelude.{◌≡◌, ℕ, ◌++◌, IsTrue, List, [], Option, Some, None, ◌⊎◌, if◌then◌else◌, length, slice_get, slice_set}
 use Rattle.std.specs.Option.{option_and_then}
+use Rattle.pf_base.specs.Asks.{Answers}
+use Rattle.pf_base.specs.Span.{Span}
 use Rattle.pf_base.specs.declared.asks.Ask.{Ask}
 use Rattle.pf_base.specs.declared.asks.Ask.TheVariants as asks
 use Rattle.pf_base.specs.declared.asks.Reply.{Reply}
@@ -97,7 +99,7 @@ driven halts c m = driven_at halts c m (slice_get c.ports m)
 pub record HasDriven (m : ℕ) (old : ChunkIs) (before : List ℕ) (reply : Option Reply) (after : List ℕ) (new : ChunkIs) : Type 0 where
   pub grown : HasGrown old.group new.group
   pub ready : IsReady new
-  pub left : NoneComesBack (state_of old.group) (state_of new.group)
+  pub left : IsTrue old.group.told → NoneComesBack (state_of old.group) (state_of new.group)
   pub first : new.first_left ≡ old.first_left
   pub text : List ℕ
   pub place : Option ℕ
@@ -117,6 +119,18 @@ pub record PortDrove (m : ℕ) (reply : Option Reply) (old new : ChunkIs) : Type
   pub asks : (before : PortIs) → slice_get old.ports m ≡ Some before → port.ask ≡ ask_after reply before.ask
   pub unsent : (before : PortIs) → slice_get old.ports m ≡ Some before → before.sent ≡ None → reply ≡ None
 
+-- the chunk and the range of a read
+abbrev pub read_in : Ask → Option (ℕ × Span)
+read_in (asks.Write chunk range sectors) = None
+read_in (asks.Read chunk range) = Some (chunk, range)
+
+-- A reply that does not fit its ask, as a read of other sectors than were asked for, is not heeded: the ask is pending again, as a new one.
+-- Where the disks tell their content there is none such.
+abbrev pub Heeds : Ask → (given : Option Reply) → (left : PortIs) → Option Reply → (next : PortIs) → Type 0
+Heeds ask None left reply next = (reply ≡ None) × (next ≡ left)
+Heeds ask (Some given) left reply next =
+    (Answers ask given × (reply ≡ Some given) × (next ≡ left)) ⊎ ((Answers ask given → ⊥) × (reply ≡ None) × (next ≡ record left { ask = Some ask; sent = None }))
+
 -- the port was driven over the rest of the chunk, and stands in its place again; nothing is followed up
 pub record HandsOn (m : ℕ) (old : ChunkIs) (reply : Option Reply) (new : ChunkIs) : Type 0 where
   pub port : PortIs
@@ -126,6 +140,9 @@ pub record HandsOn (m : ℕ) (old : ChunkIs) (reply : Option Reply) (new : Chunk
   pub calls : List Call
   pub after : ChunkIs
   pub leads : CallsLead Says (record old { ports = slice_set old.ports m new_port }) calls after
+  pub given : Option Reply
+  pub left : PortIs
+  pub drives : Drives port ask calls given left
   pub next : PortIs
-  pub drives : Drives port ask calls reply next
+  pub heeds : Heeds ask given left reply next
   pub is : new ≡ record after { ports = slice_set after.ports m next }

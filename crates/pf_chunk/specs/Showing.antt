@@ -1,5 +1,5 @@
 -- What lines show of a chunk.
-use Rattle.std.specs.Prelude.{ℕ, List, map, Option, Some, None, slice_get}
+use Rattle.std.specs.Prelude.{◌≡◌, ℕ, Bool, IsTrue, List, ◌++◌, map, Option, Some, None, slice_get}
 use Rattle.std.specs.FinMap
 use Rattle.pf_entry.specs.Ops.{Sector}
 use Rattle.pf_protocol.specs.Servers.{Condition, Running, Server}
@@ -7,8 +7,14 @@ use Rattle.pf_protocol.specs.Groups.{Group}
 use Rattle.pf_protocol.specs.Shown.{log_of}
 use Rattle.pf_protocol.specs.declared.answers.Answer.TheVariants.{Refused}
 use Rattle.pf_protocol.specs.declared.answers.Refusal.TheVariants.{Down}
-use Rattle.pf_report.specs.Texts.{acked_text, applied_text, log_text, no_snapshot_text, sectors_text, snapshot_text}
+use Rattle.pf_report.specs.Texts.{acked_text, applied_text, line_of, log_text, no_snapshot_text, sectors_text, snapshot_text}
 use Rattle.pf_chunk.specs.Saying.{said}
+
+-- a line of this number was put at the end: it shows this, where the disks tell their content
+pub record IsShown (told : Bool) (number : ℕ) (shown before after : List ℕ) : Type 0 where
+  pub text : List ℕ
+  pub put : after ≡ before ++ line_of number text
+  pub same : IsTrue told → text ≡ shown
 
 -- a server that does not run is down
 abbrev pub if_runs : Option Condition → (Server → List ℕ) → List ℕ

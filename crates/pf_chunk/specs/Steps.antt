@@ -1,6 +1,8 @@
 -- What one event of a chunk comes to.
-use Rattle.std.specs.Prelude.{◌≡◌, ℕ, IsSome, List, [], ◌++◌, filter}
+use Rattle.std.specs.Prelude.{◌≡◌, ◌≢◌, ℕ, Bool, IsSome, IsTrue, List, [], ◌++◌, filter, slice_get}
+use Rattle.pf_entry.specs.Lists.{Every}
 use Rattle.pf_protocol.specs.Answers.{IsLegal, claims_of}
+use Rattle.pf_protocol.specs.Groups.{Group}
 use Rattle.pf_protocol.specs.declared.answers.Answer.{Answer}
 use Rattle.pf_group.specs.GroupIs.{GroupIs, state_of}
 use Rattle.pf_report.specs.Texts.{answer_text}
@@ -15,9 +17,23 @@ use Rattle.pf_chunk.specs.Happenings.{Happened}
 use Rattle.pf_group.specs.Packets.{NoneComesBack}
 use Rattle.pf_chunk.specs.Telling.{may_wait, now_taken, taken_all, told_of}
 use Rattle.pf_chunk.specs.Runs.{ChunkRun}
-use Rattle.pf_chunk.specs.Views.{ChunkIs, IsReady, run_of}
+use Rattle.pf_chunk.specs.Views.{ChunkIs, IsListed, IsReady, run_of}
+use Rattle.pf_chunk.specs.declared.waiting.Waiting.{Waiting}
 
--- what followed on an event: all that can be applied is, and the reads that were answered are told
+-- Reads were gone through, each of which was handed out at most once: those that wait on are some of them, and no other was handed out
+pub record AreGoneThrough (taken : List Bool) (waiting : List Waiting) (now : List Bool) (left : List Waiting) : Type 0 where
+  pub listed : IsListed now left
+  pub some : (number : ℕ) → Every (λ w. w.number ≢ number) waiting → Every (λ w. w.number ≢ number) left
+  pub others : (number : ℕ) → Every (λ w. w.number ≢ number) waiting → slice_get now number ≡ slice_get taken number
+
+-- the reads that were answered are told, and those wait on that still may be
+pub record ReadsAreTold (chunk : ℕ) (g : Group) (taken : List Bool) (waiting : List Waiting) (now : List Bool) (left : List Waiting) (text : List ℕ) : Type 0 where
+  pub taken_is : now ≡ taken_all g taken waiting
+  pub left_is : left ≡ filter (may_wait g) waiting
+  pub text_is : text ≡ told_of chunk g waiting
+
+-- What followed on an event: jobs were finished, and reads gone through. Where the disks tell their content, all that can be applied is, and
+-- the reads that were answered are told
 pub record HasFollowed (old : ChunkIs) (before after : List ℕ) (new : ChunkIs) : Type 0 where
   pub then : GroupIs
   pub count : ℕ
@@ -25,14 +41,14 @@ pub record HasFollowed (old : ChunkIs) (before after : List ℕ) (new : ChunkIs)
   pub taken : then.taken ≡ old.group.taken
   pub none : claims_of [] then.history ≡ []
   pub run : (halts : List Halt) → TellsOfGroup halts then → applied halts (chunk_of halts old.group) ≡ chunk_of halts then
-  pub applied_all : IsApplied then.setup (state_of then)
+  pub applied_all : IsTrue then.told → IsApplied then.setup (state_of then)
   pub adds : Adds old.group then count count
-  pub legal : IsLegal then.setup then.history
-  pub is : new ≡ record old {
-    group = now_taken then (taken_all (state_of then) then.taken old.waiting);
-    waiting = filter (may_wait (state_of then)) old.waiting;
-  }
-  pub put : after ≡ before ++ told_of old.group.number (state_of then) old.waiting
+  pub legal : IsTrue then.told → IsLegal then.setup then.history
+  pub is : new ≡ record old { group = now_taken then new.group.taken; waiting = new.waiting }
+  pub through : AreGoneThrough then.taken old.waiting new.group.taken new.waiting
+  pub text : List ℕ
+  pub put : after ≡ before ++ text
+  pub told : IsTrue then.told → ReadsAreTold old.group.number (state_of then) then.taken old.waiting new.group.taken new.waiting text
 
 -- what a list of halts makes of a chunk
 abbrev pub Event : Type 0
@@ -43,7 +59,7 @@ Event = List Halt → ChunkRun → Happened
 pub record HasHappened (event : Event) (old : ChunkIs) (before : List ℕ) (answer : Answer) (after : List ℕ) (new : ChunkIs) : Type 0 where
   pub grown : HasGrown old.group new.group
   pub ready : IsReady new
-  pub left : NoneComesBack (state_of old.group) (state_of new.group)
+  pub left : IsTrue old.group.told → NoneComesBack (state_of old.group) (state_of new.group)
   pub first : new.first_left ≡ old.first_left
   pub ports : new.ports ≡ old.ports
   pub said : IsSome (answer_text answer)

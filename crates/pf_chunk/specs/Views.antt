@@ -1,5 +1,5 @@
 -- A chunk on its disks, as contracts see it.
-use Rattle.std.specs.Prelude.{◌≡◌, ◌≢◌, ℕ, ◌<◌, ◌≤◌, Bool, true, false, List, [], length, map, Some, slice_get}
+use Rattle.std.specs.Prelude.{◌≡◌, ◌≢◌, ℕ, ◌<◌, ◌≤◌, Bool, true, false, IsTrue, List, [], length, map, Some, slice_get}
 use Rattle.pf_base.specs.Span.{Span}
 use Rattle.pf_base.specs.declared.asks.Ask.TheVariants.{Read}
 use Rattle.pf_entry.specs.Lists.{Every}
@@ -55,14 +55,16 @@ pub record ArePorts (group : GroupIs) (waiting : List Waiting) (ports : List Por
 
 -- what is kept beside a group fits it
 pub record IsKept (group : GroupIs) (waiting : List Waiting) (ports : List PortIs) : Type 0 where
-  pub numbered : length group.taken ≡ (state_of group).reads
+  pub numbered : IsTrue group.told → length group.taken ≡ (state_of group).reads
   pub listed : IsListed group.taken waiting
   pub ports_fit : ArePorts group waiting ports
 
--- between two events: no job is in hand, and what can be applied is applied
+-- Between two events: no job is in hand; and where the disks tell their content, what can be applied is applied, and no packet below the first
+-- one that is left is
 pub record IsReady (c : ChunkIs) : Type 0 where
   pub claims : claims_of [] c.group.history ≡ []
-  pub applied : IsApplied c.group.setup (state_of c.group)
+  pub applied : IsTrue c.group.told → IsApplied c.group.setup (state_of c.group)
   pub kept : IsKept c.group c.waiting c.ports
-  pub first_sent : c.first_left ≤ length (state_of c.group).packets
-  pub none_left : (k : ℕ) → k < c.first_left → is_left_in (state_of c.group) k ≡ false
+  pub few : c.first_left ≤ 65536
+  pub first_sent : IsTrue c.group.told → c.first_left ≤ length (state_of c.group).packets
+  pub none_left : IsTrue c.group.told → (k : ℕ) → k < c.first_left → is_left_in (state_of c.group) k ≡ false

@@ -1,7 +1,9 @@
 //! Lines that write and read sectors.
-ghost use Rattle.std.specs.Prelude.{◌≡◌, ◌≤◌, ◌<◌, ◌++◌, IfOk, OnErr, slice_get, vec_capacity, vec_len};
+ghost use Rattle.std.specs.Prelude.{◌≡◌, ◌≤◌, ◌<◌, ◌++◌, IfOk, IfSome, IsSome, IsTrue, OnErr, slice_get, vec_capacity, vec_len};
 ghost use Rattle.std.specs.Option.{option_to_list};
 ghost use Rattle.pf_group.specs.GroupIs.{state_of};
+ghost use Rattle.pf_protocol.specs.declared.answers.Answer.TheVariants.{Read};
+ghost use Rattle.pf_report.specs.Texts.{answer_text};
 ghost use Rattle.pf_chunk.specs.Asking.{fetches, no_range_answer, submits};
 ghost use Rattle.pf_chunk.specs.Steps.{HasFailed, HasHappened};
 ghost use Rattle.pf_chunk.specs.Telling.{read_of};
@@ -30,7 +32,8 @@ impl<D: Disk + Drop> ChunkGroup<D> {
     /// The read that an answer of the server tells of, if it was taken up.
     fn taken_up(&self, server: Server, answer: &Answer) -> Option<Waiting>
         requires { server < 3 }
-        ensures { result ≡ read_of (slice_get (state_of self.now.group).servers server) server answer.now }
+        ensures of { IfSome result (λ one. (one.server ≡ server) × (answer.now ≡ Read one.number)) }
+        ensures read { IsTrue self.now.group.told → result ≡ read_of (slice_get (state_of self.now.group).servers server) server answer.now }
     {
         let Answer::Read(number) = answer else {
             return None;
@@ -48,7 +51,8 @@ impl<D: Disk + Drop> ChunkGroup<D> {
     /// How a line is refused whose numbers are no range, which is no event: `BadRange` (10) at a running server, else `Down` (51).
     pub fn no_range(&self, server: Server) -> Answer
         requires { server < 3 }
-        ensures { result ≡ no_range_answer (slice_get (state_of self.now.group).servers server) }
+        ensures said { IsSome (answer_text result) }
+        ensures answer { IsTrue self.now.group.told → result ≡ no_range_answer (slice_get (state_of self.now.group).servers server) }
     {
         match self.group.term_of(server) {
             Ok(_) => Answer::Refused(Refusal::BadRange),

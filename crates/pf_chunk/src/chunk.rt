@@ -1,10 +1,10 @@
 //! A group, with what a report needs beside it.
-ghost use Rattle.std.specs.Prelude.{◌≡◌, [], IfErr, IfOk, List, replicate};
+ghost use Rattle.std.specs.Prelude.{◌≡◌, [], IfErr, IfOk, IsTrue, List, replicate};
 ghost use Rattle.pf_protocol.specs.Answers.{IsLegal, IsSetup};
 ghost use Rattle.pf_group.specs.Crashing.{LeavesAtCrash};
 ghost use Rattle.pf_group.specs.Leaving.{LeavesIn, as_seen};
 ghost use Rattle.pf_group.specs.Sound.{IsSound};
-ghost use Rattle.pf_group.specs.Making.{AreTold, IsMade, setup_with, six_faults};
+ghost use Rattle.pf_group.specs.Making.{IsMade, setup_with, six_faults};
 ghost use Rattle.pf_asks.specs.Ports.{new_port};
 ghost use Rattle.pf_rounds.specs.Agreeing.{chunk_of};
 ghost use Rattle.pf_rounds.specs.Halts.{Halt};
@@ -61,7 +61,7 @@ fn new_ports(alloc: Global) -> Result<Vec<Port>, NoMemory>
 }
 
 impl<D: Disk + Drop> ChunkGroup<D> {
-    /// Makes the group of a chunk on these disks, whatever they held: its number in its volume, the sectors of the chunk, the most slots
+    /// Makes the group of a chunk on these disks, whatever they held and whatever they tell: its number in its volume, the sectors of the chunk, the most slots
     /// that a log entry names, and the format of the first halves, 1 or 2. `Done`, or `Halted` (52) where a disk of a server failed
     /// while it was formatted: such a server never runs.
     ///
@@ -74,9 +74,8 @@ impl<D: Disk + Drop> ChunkGroup<D> {
         format: u8,
         disks: Six<D>,
     ) -> Result<(ChunkGroup<D>, Answer), (Six<D>, NoMemory)>
-        requires setup { IsSetup (setup_with sectors names format []) }
-        requires told { AreTold D.seen disks }
-        ensures made { IfOk result (λ made. IsMade number sectors names format (six_faults D.faults disks) made.0.group made.1) }
+        requires { IsSetup (setup_with sectors names format []) }
+        ensures made { IfOk result (λ made. IsMade number sectors names format D.tells (six_faults D.faults disks) made.0.group made.1) }
         ensures ready { IfOk result (λ made. IsReady made.0) }
         ensures run { IfOk result (λ made. (halts : List Halt) → run_of halts made.0 ≡ new_run (chunk_of halts made.0.group)) }
         ensures err { IfErr result (λ back. back.0 ≡ disks) }
@@ -97,27 +96,28 @@ impl<D: Disk + Drop> ChunkGroup<D> {
         Ok((chunk, answer))
     }
 
-    /// All that happened to the group, in order.
+    /// All that happened to the group, in order: a legal history, where its disks tell their content.
     pub fn history(&self) -> &[Happening]
         ensures items { result.now ≡ self.now.group.history }
-        ensures legal { IsLegal self.now.group.setup self.now.group.history }
+        ensures told { self.now.group.told ≡ D.tells }
+        ensures legal { IsTrue self.now.group.told → IsLegal self.now.group.setup self.now.group.history }
         ensures sound { IsSound self.now.group.setup self.now.group.history }
     {
         self.group.history()
     }
 
-    /// Gives the disks back, with what the group left on them.
+    /// Gives the disks back. What the group left on them is said of disks that tell their content.
     pub fn into_disks(self) -> Six<D>
-        ensures left_0 { LeavesIn self.group 0 (D.may_leave result.s0h0) (D.may_leave result.s0h1) }
-        ensures left_1 { LeavesIn self.group 1 (D.may_leave result.s1h0) (D.may_leave result.s1h1) }
-        ensures left_2 { LeavesIn self.group 2 (D.may_leave result.s2h0) (D.may_leave result.s2h1) }
-        ensures seen_0 { LeavesIn self.group 0 (as_seen (D.seen result.s0h0)) (as_seen (D.seen result.s0h1)) }
-        ensures seen_1 { LeavesIn self.group 1 (as_seen (D.seen result.s1h0)) (as_seen (D.seen result.s1h1)) }
-        ensures seen_2 { LeavesIn self.group 2 (as_seen (D.seen result.s2h0)) (as_seen (D.seen result.s2h1)) }
+        ensures left_0 { IsTrue self.group.told → LeavesIn self.group 0 (D.may_leave result.s0h0) (D.may_leave result.s0h1) }
+        ensures left_1 { IsTrue self.group.told → LeavesIn self.group 1 (D.may_leave result.s1h0) (D.may_leave result.s1h1) }
+        ensures left_2 { IsTrue self.group.told → LeavesIn self.group 2 (D.may_leave result.s2h0) (D.may_leave result.s2h1) }
+        ensures seen_0 { IsTrue self.group.told → LeavesIn self.group 0 (as_seen (D.seen result.s0h0)) (as_seen (D.seen result.s0h1)) }
+        ensures seen_1 { IsTrue self.group.told → LeavesIn self.group 1 (as_seen (D.seen result.s1h0)) (as_seen (D.seen result.s1h1)) }
+        ensures seen_2 { IsTrue self.group.told → LeavesIn self.group 2 (as_seen (D.seen result.s2h0)) (as_seen (D.seen result.s2h1)) }
         ensures faults { six_faults D.faults result ≡ self.group.faults }
-        ensures crash_0 { LeavesAtCrash D.seen D.moment D.left_since D.tells_moments self.group 0 result.s0h0 result.s0h1 }
-        ensures crash_1 { LeavesAtCrash D.seen D.moment D.left_since D.tells_moments self.group 1 result.s1h0 result.s1h1 }
-        ensures crash_2 { LeavesAtCrash D.seen D.moment D.left_since D.tells_moments self.group 2 result.s2h0 result.s2h1 }
+        ensures crash_0 { IsTrue self.group.told → LeavesAtCrash D.seen D.moment D.left_since D.tells_moments self.group 0 result.s0h0 result.s0h1 }
+        ensures crash_1 { IsTrue self.group.told → LeavesAtCrash D.seen D.moment D.left_since D.tells_moments self.group 1 result.s1h0 result.s1h1 }
+        ensures crash_2 { IsTrue self.group.told → LeavesAtCrash D.seen D.moment D.left_since D.tells_moments self.group 2 result.s2h0 result.s2h1 }
     {
         let ChunkGroup { group, .. } = self;
         group.into_disks()

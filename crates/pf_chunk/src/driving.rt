@@ -1,20 +1,54 @@
 //! Ports of hosts into a chunk.
 ghost use Rattle.std.specs.Prelude.{◌≡◌, ◌≤◌, ◌<◌, IfOk, IfSome, IsSome, List, None, OnErr, OnOk, Some};
+ghost use Rattle.std.specs.Option.{option_and_then};
+ghost use Rattle.pf_asks.specs.Ports.{IsOfKind};
 ghost use Rattle.pf_base.specs.Asks.{Answers, IsValid};
+ghost use Rattle.pf_base.specs.Span.{IsWritable};
 ghost use Rattle.pf_base.specs.declared.asks.Ask.{Ask as AskIs};
 ghost use Rattle.pf_rounds.specs.Halts.{Halt};
-ghost use Rattle.pf_chunk.specs.Driving.{HasDriven, HandsOn, PortDrove, ask_of, asked, driven};
+ghost use Rattle.pf_chunk.specs.Driving.{HasDriven, HandsOn, Heeds, PortDrove, ask_of, asked, driven, read_in};
 ghost use Rattle.pf_chunk.specs.Steps.{HasFailed};
 ghost use Rattle.pf_chunk.specs.Views.{IsReady, run_of};
 
 use crate::ChunkGroup;
 use pf_asks::Port;
-use pf_base::{Ask, NoMemory, Reply};
+use pf_base::{Ask, NoMemory, Range, Reply};
 use pf_disk::Disk;
 use pf_filling::Gate;
 use std::alloc::Global;
 use std::mem::replace;
 use std::thread::Threads;
+
+/// The chunk and the range of a pending read.
+fn pending_read(port: &Port) -> Option<(u8, Range)>
+    ensures read { result ≡ option_and_then read_in port.now.ask }
+    ensures valid { IfSome result (λ read. IsWritable read.1.first read.1.count) }
+{
+    let Some(Ask::Read { chunk, range }) = port.ask() else {
+        return None;
+    };
+    Some((*chunk, *range))
+}
+
+/// The reply to a port's ask, of which this is known if it was a read. An answer of other sectors than were asked for is dropped, and the
+/// read is pending again.
+fn heed(port: &mut Port, read: Option<(u8, Range)>, reply: Option<Reply>) -> Option<Reply>
+    requires none { IsSome reply → port.old.ask ≡ None }
+    requires valid { IfSome read (λ read. IsWritable read.1.first read.1.count) }
+    ensures { (ask : AskIs) → read ≡ read_in ask → IfSome reply (IsOfKind ask) → Heeds ask reply port.old result port.new }
+{
+    let Some((chunk, range)) = read else {
+        return reply;
+    };
+    let Some(Reply::Bytes(data)) = &reply else {
+        return reply;
+    };
+    if data.len() == range.count() as usize {
+        return reply;
+    }
+    port.put(Ask::Read { chunk, range });
+    None
+}
 
 impl<D: Disk + Drop> ChunkGroup<D> {
     /// Puts an ask into the port of a mount, which has none. Nothing happens to the group yet.
@@ -33,6 +67,8 @@ impl<D: Disk + Drop> ChunkGroup<D> {
 
     /// One step of the port of a mount for its pending ask: its reply, if the group has answered its last submission. Else the ask is
     /// handed to the leader of the greatest term, if it goes there, which is one event of the group; what follows on it is as in `happen`.
+    /// A reply is of its ask's kind, and has as many sectors: disks that do not tell their content may lead a group to answer a read with
+    /// others, which is not heeded.
     ///
     /// After `NoMemory` (1) the group stands after its last whole step, with no job in hand: a beginning of what would have happened.
     pub fn drive<R: Threads + Sync, G: Gate + Sync>(
@@ -73,8 +109,16 @@ impl<D: Disk + Drop> ChunkGroup<D> {
         ensures err { OnErr result (self.new ≡ self.old) }
     {
         let mut port = replace(&mut self.ports[mount as usize], Port::new());
-        let driven = port.drive(alloc, self);
+        let read = pending_read(&port);
+        let reply = match port.drive(alloc, self) {
+            Ok(reply) => reply,
+            Err(fault) => {
+                self.ports[mount as usize] = port;
+                return Err(fault);
+            }
+        };
+        let reply = heed(&mut port, read, reply);
         self.ports[mount as usize] = port;
-        driven
+        Ok(reply)
     }
 }

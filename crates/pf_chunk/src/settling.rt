@@ -1,5 +1,5 @@
 //! Packets are delivered until none is left.
-ghost use Rattle.std.specs.Prelude.{◌≡◌, ◌≤◌, ◌<◌, ◌+◌, IfOk, OnErr, OnOk, MatchOption, None, Some, false, true, length};
+ghost use Rattle.std.specs.Prelude.{◌≡◌, ◌≤◌, ◌<◌, ◌+◌, IfOk, IfSome, IsTrue, OnErr, OnOk, MatchOption, None, Some, false, true, length};
 ghost use Rattle.pf_group.specs.GroupIs.{state_of};
 ghost use Rattle.pf_protocol.specs.Answers.{most_packets};
 ghost use Rattle.pf_protocol.specs.declared.events.Event.TheVariants.{Deliver};
@@ -30,18 +30,22 @@ impl<D: Disk + Drop> ChunkGroup<D> {
     pub fn begin_settling(&mut self)
         requires ready { IsReady self.old }
         ensures ready { IsReady self.new }
+        ensures few { self.new.next ≤ 65536 }
         ensures same { self.new ≡ record self.old { first_left = self.new.next; next = self.new.next } }
     {
         self.first_left = self.group.left_from(self.first_left);
         self.next = self.first_left;
     }
 
-    /// The least packet that is left and was not passed over.
+    /// The least packet that is left and was not passed over, where the disks tell their content; and one that may be, where they do not.
     pub fn next_left(&mut self) -> Option<u32>
-        ensures least { result ≡ least_from self.old.next (state_of self.old.group) }
-        ensures first { IsFirstLeft (state_of self.old.group) self.old.next self.new.next }
+        ensures least { IsTrue self.old.group.told → result ≡ least_from self.old.next (state_of self.old.group) }
+        ensures first { IsTrue self.old.group.told → IsFirstLeft (state_of self.old.group) self.old.next self.new.next }
         ensures same { self.new ≡ record self.old { next = self.new.next } }
-        ensures found { MatchOption result (self.new.next ≡ self.new.next) (λ k. self.new.next ≡ k) }
+        ensures found { IfSome result (λ k. self.new.next ≡ k) }
+        ensures sent { IfSome result (λ k. k < 65536) }
+        ensures above { self.old.next ≤ self.new.next }
+        ensures few { self.old.next ≤ 65536 → self.new.next ≤ 65536 }
     {
         self.next = self.group.left_from(self.next);
         if self.next < self.group.packets() {
@@ -51,7 +55,7 @@ impl<D: Disk + Drop> ChunkGroup<D> {
         }
     }
 
-    /// Delivers the next packet, which is left. Where its record or its packets have no room it is passed over. For the rest see `happen`.
+    /// Delivers the next packet, which is left where the disks tell their content. Where its record or its packets have no room it is passed over. For the rest see `happen`.
     pub fn settle_one<R: Threads + Sync, G: Gate + Sync>(
         &mut self,
         rt: &R,
@@ -62,7 +66,8 @@ impl<D: Disk + Drop> ChunkGroup<D> {
     ) -> Result<Try, NoMemory>
         requires workers { (1 ≤ workers) × (workers ≤ 8) }
         requires ready { IsReady self.old }
-        requires left { is_left_in (state_of self.old.group) self.old.next ≡ true }
+        requires next { self.old.next < 65536 }
+        requires left { IsTrue self.old.group.told → is_left_in (state_of self.old.group) self.old.next ≡ true }
         ensures went { IfOk result (λ tried. HasTried self.old out.old.items tried out.new.items self.new) }
         ensures few { OnOk result (self.old.next < most_packets) }
         ensures err { OnErr result (HasFailed (λ halts. (happened halts (run_of halts self.old) (Deliver self.old.next)).chunk.group) self.old.group self.new.group) }

@@ -1,8 +1,7 @@
-//! Lines that show a group. A server that does not run is told as `down`.
-ghost use Rattle.std.specs.Prelude.{◌≡◌, ◌<◌, ◌++◌, IfOk, OnErr, OnOk, length, map};
+//! Lines that show a group, as it is where its disks tell their content. A server that does not run is told as `down`.
+ghost use Rattle.std.specs.Prelude.{◌≡◌, ◌<◌, IfOk, IsTrue, OnErr, OnOk, length, map};
 ghost use Rattle.pf_group.specs.GroupIs.{state_of};
-ghost use Rattle.pf_report.specs.Texts.{line_of};
-ghost use Rattle.pf_chunk.specs.Showing.{acked_shown, applied_shown, log_shown, mark_shown, of_server, sectors_shown};
+ghost use Rattle.pf_chunk.specs.Showing.{IsShown, acked_shown, applied_shown, log_shown, mark_shown, of_server, sectors_shown};
 
 use crate::ChunkGroup;
 use pf_base::{NoMemory, Server, Slot};
@@ -29,7 +28,7 @@ impl<D: Disk + Drop> ChunkGroup<D> {
     /// Puts a line with the server's term, its checkpoint, and its log. `NoMemory` (1) puts nothing.
     pub fn show_log(&self, line: u32, server: Server, out: &mut Vec<u8>) -> Result<(), NoMemory>
         requires { server < 3 }
-        ensures ok { OnOk result (out.new.items ≡ out.old.items ++ line_of line (of_server (state_of self.now.group) server log_shown)) }
+        ensures ok { OnOk result (IsShown self.now.group.told line (of_server (state_of self.now.group) server log_shown) out.old.items out.new.items) }
         ensures err { OnErr result (out.new.items ≡ out.old.items) }
     {
         let Ok(term) = self.group.term_of(server) else {
@@ -44,7 +43,7 @@ impl<D: Disk + Drop> ChunkGroup<D> {
     /// Puts a line with the server's checkpoint, and what it applied above it. `NoMemory` (1) puts nothing.
     pub fn show_applied(&self, line: u32, server: Server, out: &mut Vec<u8>) -> Result<(), NoMemory>
         requires { server < 3 }
-        ensures ok { OnOk result (out.new.items ≡ out.old.items ++ line_of line (of_server (state_of self.now.group) server applied_shown)) }
+        ensures ok { OnOk result (IsShown self.now.group.told line (of_server (state_of self.now.group) server applied_shown) out.old.items out.new.items) }
         ensures err { OnErr result (out.new.items ≡ out.old.items) }
     {
         let Ok(base) = self.group.base_of(server) else {
@@ -59,7 +58,7 @@ impl<D: Disk + Drop> ChunkGroup<D> {
     /// Puts a line with the bytes of the server's sectors. `NoMemory` (1) puts nothing.
     pub fn show_sectors(&self, line: u32, server: Server, out: &mut Vec<u8>) -> Result<(), NoMemory>
         requires { server < 3 }
-        ensures ok { OnOk result (out.new.items ≡ out.old.items ++ line_of line (of_server (state_of self.now.group) server sectors_shown)) }
+        ensures ok { OnOk result (IsShown self.now.group.told line (of_server (state_of self.now.group) server sectors_shown) out.old.items out.new.items) }
         ensures err { OnErr result (out.new.items ≡ out.old.items) }
     {
         match self.group.sectors_of(server) {
@@ -77,7 +76,7 @@ impl<D: Disk + Drop> ChunkGroup<D> {
         out: &mut Vec<u8>,
     ) -> Result<(), NoMemory>
         requires { server < 3 }
-        ensures ok { OnOk result (out.new.items ≡ out.old.items ++ line_of line (of_server (state_of self.now.group) server (mark_shown slot))) }
+        ensures ok { OnOk result (IsShown self.now.group.told line (of_server (state_of self.now.group) server (mark_shown slot)) out.old.items out.new.items) }
         ensures err { OnErr result (out.new.items ≡ out.old.items) }
     {
         match self.group.term_of(server) {
@@ -88,15 +87,16 @@ impl<D: Disk + Drop> ChunkGroup<D> {
 
     /// Puts a line with the slots that were acknowledged to hosts. `NoMemory` (1) puts nothing.
     pub fn show_acked(&self, line: u32, out: &mut Vec<u8>) -> Result<(), NoMemory>
-        ensures ok { OnOk result (out.new.items ≡ out.old.items ++ line_of line (acked_shown (state_of self.now.group))) }
+        ensures ok { OnOk result (IsShown self.now.group.told line (acked_shown (state_of self.now.group)) out.old.items out.new.items) }
         ensures err { OnErr result (out.new.items ≡ out.old.items) }
     {
         let slots = slots_of(*out.allocator(), self.group.acked())?;
         put_acked(out, line, &slots)
     }
-    /// How many slots were acknowledged to hosts.
+
+    /// How many slots were acknowledged to hosts, where the disks tell their content.
     pub fn acked_count(&self) -> usize
-        ensures { result ≡ length (state_of self.now.group).acked }
+        ensures { IsTrue self.now.group.told → result ≡ length (state_of self.now.group).acked }
     {
         self.group.acked().len()
     }

@@ -1,9 +1,10 @@
 //! Reads that were answered are told.
-ghost use Rattle.std.specs.Prelude.{◌≡◌, ◌<◌, ◌++◌, false, true, IfOk, OnErr, OnOk, Some, filter, map, slice_get};
+ghost use Rattle.std.specs.Prelude.{◌≡◌, ◌≢◌, ℕ, ◌<◌, ◌++◌, List, false, true, IfOk, IsTrue, OnOk, Some, map, slice_get};
 ghost use Rattle.pf_entry.specs.Lists.{Every};
 ghost use Rattle.pf_entry.specs.Tables.{ascends};
 ghost use Rattle.pf_group.specs.GroupIs.{state_of};
-ghost use Rattle.pf_chunk.specs.Telling.{lines_of, may_wait, now_taken, taken_all, taken_with, told_of};
+ghost use Rattle.pf_chunk.specs.Steps.{AreGoneThrough, ReadsAreTold};
+ghost use Rattle.pf_chunk.specs.Telling.{lines_of, may_wait, now_taken, taken_with};
 
 use crate::Waiting;
 use pf_base::NoMemory;
@@ -11,7 +12,8 @@ use pf_disk::Disk;
 use pf_group::Group;
 use pf_report::put_read;
 
-/// Puts a line for the read if it was answered. Whether it waits on: not where its server runs in its term no more.
+/// Puts a line for the read if it was answered. Whether it waits on: not where its server runs in its term no more. It is handed out at
+/// most, and no other is.
 fn tell_read<D: Disk + Drop>(
     group: &mut Group<D>,
     one: Waiting,
@@ -20,10 +22,13 @@ fn tell_read<D: Disk + Drop>(
 ) -> Result<bool, NoMemory>
     requires server { one.server < 3 }
     requires pending { slice_get group.old.taken one.number ≡ Some false }
-    ensures kept { IfOk result (λ kept. kept ≡ may_wait (state_of group.old) one) }
-    ensures taken { OnOk result (group.new ≡ now_taken group.old (taken_with (state_of group.old) group.old.taken one)) }
-    ensures told { OnOk result (out.new.items ≡ out.old.items ++ lines_of number (state_of group.old) one.number) }
-    ensures err { OnErr result (group.new ≡ now_taken group.old group.new.taken) }
+    ensures kept { IfOk result (λ kept. IsTrue group.old.told → kept ≡ may_wait (state_of group.old) one) }
+    ensures taken { OnOk result (IsTrue group.old.told → group.new.taken ≡ taken_with (state_of group.old) group.old.taken one) }
+    ensures told { OnOk result (IsTrue group.old.told → out.new.items ≡ out.old.items ++ lines_of number (state_of group.old) one.number) }
+    ensures put { OnOk result ((text : List ℕ) × (out.new.items ≡ out.old.items ++ text)) }
+    ensures still { IfOk result (λ kept. IsTrue kept → group.new.taken ≡ group.old.taken) }
+    ensures others { (number : ℕ) → one.number ≢ number → slice_get group.new.taken number ≡ slice_get group.old.taken number }
+    ensures same { group.new ≡ now_taken group.old group.new.taken }
 {
     // That the history is legal is asked of the proof alone.
     let _legal = group.history();
@@ -47,10 +52,9 @@ pub(crate) fn tell_reads<D: Disk + Drop>(
     requires ascending { ascends (map (λ w. w.number) waiting.old.items) ≡ true }
     requires servers { Every (λ w. w.server < 3) waiting.old.items }
     requires pending { Every (λ w. slice_get group.old.taken w.number ≡ Some false) waiting.old.items }
-    ensures kept { OnOk result (waiting.new.items ≡ filter (may_wait (state_of group.old)) waiting.old.items) }
-    ensures taken { OnOk result (group.new ≡ now_taken group.old (taken_all (state_of group.old) group.old.taken waiting.old.items)) }
-    ensures told { OnOk result (out.new.items ≡ out.old.items ++ told_of number (state_of group.old) waiting.old.items) }
-    ensures err { OnErr result (group.new ≡ now_taken group.old group.new.taken) }
+    ensures through { OnOk result (AreGoneThrough group.old.taken waiting.old.items group.new.taken waiting.new.items) }
+    ensures told { OnOk result ((text : List ℕ) × (out.new.items ≡ out.old.items ++ text) × (IsTrue group.old.told → ReadsAreTold number (state_of group.old) group.old.taken waiting.old.items group.new.taken waiting.new.items text)) }
+    ensures same { group.new ≡ now_taken group.old group.new.taken }
 {
     let mut kept = 0;
     for place in 0..waiting.len() {

@@ -8,14 +8,14 @@ use Rattle.pf_protocol.specs.declared.answers.Answer.{Answer}
 use Rattle.pf_protocol.specs.declared.events.Event.{Event}
 use Rattle.pf_protocol.specs.declared.events.Event.TheVariants.{Claim, Restart}
 use Rattle.pf_cluster.specs.declared.cluster.Cluster.{Cluster}
-use Rattle.pf_cluster.specs.Going.{Goes, GoesBack, GoesTwice, HasStayed}
+use Rattle.pf_cluster.specs.Going.{Goes, GoesBack, GoesSomehow, GoesTwice, HasStayed}
 use Rattle.pf_cluster.specs.Showing.{Shows}
 use Rattle.pf_cluster.proofs.Touching.{touches_none}
 use Rattle.pf_group.specs.declared.reaction.Reaction.{Reaction}
 use Rattle.pf_group.specs.declared.event.GroupEvent.{GroupEvent}
 use Rattle.pf_group.specs.declared.event.GroupEvent.TheVariants as asked
 use Rattle.pf_group.specs.Events.{event_of}
-use Rattle.pf_group.specs.Reacting.{Answers, Comes, ComesBack, Reacts, own_of}
+use Rattle.pf_group.specs.Reacting.{Answers, Comes, ComesBack, ComesBackSomehow, Reacts, own_of}
 
 module _ {S : Type 0} (holds : S → Durable → Durable → Type 0) (used format : S → ℕ) (told : S → Bool) (rose : S → S → Type 0) (was : S → S → Durable → Durable → Type 0) (setup : Setup) (g : Group) (old : Cluster S) where
   -- nothing was called
@@ -61,3 +61,14 @@ module _ {S : Type 0} (holds : S → Durable → Durable → Type 0) (used forma
   pub reacts_back : (event : GroupEvent) (i : ℕ) → event ≡ asked.Restart i → (r : Result Reaction NoMemory) → ComesBack holds used format told rose was setup g i old new r → Reacts holds used format told rose was setup g event old new r
   reacts_back event i is (Ok r) comes = (comes.0, subst (λ x. Answers holds used format told rose was setup g (event_of x comes.0) old new r) (sym is) comes.1)
   reacts_back event i is (Err fault) comes = subst (λ own. HasStayed holds used format told rose was setup g own old new) (sym (ap own_of is)) comes
+
+  -- a restart over any disks
+  abbrev WentSomehow : ℕ → Result (Answer × Bool) NoMemory → Type 0
+  WentSomehow i called = GoesSomehow holds used format told rose was setup g i old new called
+
+  pub somehow_short : (i : ℕ) (called : Result (Answer × Bool) NoMemory) (e : NoMemory) → called ≡ Err e → WentSomehow i called → (r : Result Reaction NoMemory) (e' : NoMemory) → r ≡ Err e' → ComesBackSomehow holds used format told rose was setup g i old new r
+  somehow_short i called e failed goes r e' is = subst (ComesBackSomehow holds used format told rose was setup g i old new) (sym is) (subst (WentSomehow i) failed goes)
+
+  pub somehow_answered : (i : ℕ) (called : Result (Answer × Bool) NoMemory) (answer : Answer) (found : Bool) → called ≡ Ok (answer, found) → WentSomehow i called → (r : Reaction) → r.event ≡ Restart i found → r.answer ≡ answer → r.kept ≡ answer → ComesBackSomehow holds used format told rose was setup g i old new (Ok r)
+  somehow_answered i called answer found went goes r event_is answer_is kept_is =
+      record { found = found; event_is = event_is; twice = kept_is ∙ sym answer_is; begun = subst (λ a. WentSomehow i (Ok (a, found))) (sym answer_is) (subst (WentSomehow i) went goes) }

@@ -1,6 +1,7 @@
 -- A group after one more event.
-use Rattle.std.proofs.Common.{◌≡◌, ℕ, zero, suc, ◌<◌, ◌≤◌, ◌^◌, ◌||◌, inl, inr, Bool, true, false, not, is_some, List, [], ◌∷◌, ◌++◌, length, Option, Some, None, Result, Ok, Err, OnErr, MatchBool, slice_get, append-nil, refl, sym, ap, subst, ◌∙◌}
+use Rattle.std.proofs.Common.{◌≡◌, ℕ, zero, suc, ◌<◌, ◌≤◌, ◌^◌, ◌||◌, ◌⊎◌, inl, inr, Bool, IsTrue, true, false, not, is_some, List, [], ◌∷◌, ◌++◌, length, Option, Some, None, Result, Ok, Err, OnErr, MatchBool, slice_get, append-nil, refl, sym, ap, subst, ◌∙◌}
 use Rattle.std.specs.List.{list_any}
+use Rattle.std.proofs.lemmas.List.{length-map}
 use Rattle.std.proofs.lemmas.Option.{none-some, same_Some}
 use Rattle.std.proofs.lemmas.Bool.{and_from, and_parts, eq-eqb, eqb-true, false≢true}
 use Rattle.pf_disk.specs.Crashes.{Images}
@@ -15,12 +16,14 @@ use Rattle.pf_protocol.specs.Servers.{Setup}
 use Rattle.pf_protocol.specs.Histories.{History, replay}
 use Rattle.pf_protocol.specs.Answers.{Claimed, IsAnswer, MayHappen, answer_to, claims_of, is_claim, may_halt}
 use Rattle.pf_protocol.specs.Groups.{Group, ending, happens}
-use Rattle.pf_protocol.specs.declared.answers.Answer.TheVariants.{Done}
-use Rattle.pf_protocol.specs.declared.events.Event.TheVariants.{GiveBack}
+use Rattle.pf_protocol.specs.declared.answers.Answer.TheVariants.{Done, Refused}
+use Rattle.pf_protocol.specs.declared.answers.Refusal.TheVariants.{Halted}
+use Rattle.pf_protocol.specs.declared.events.Event.TheVariants.{GiveBack, Restart}
 use Rattle.pf_protocol.proofs.ForMoments.{replay_goes_on}
 use Rattle.pf_kept.specs.declared.kept.Kept.{Kept}
 use Rattle.pf_cluster.specs.declared.cluster.Cluster.{Cluster}
-use Rattle.pf_cluster.specs.Going.{HasGone, HasStayed, KeepsTelling, acts_at, is_quiet}
+use Rattle.pf_cluster.specs.Going.{HasBegunSomehow, HasFault, HasGone, HasKept, HasStayed, KeepsOthers, KeepsStores, acts_at, is_quiet}
+use Rattle.pf_cluster.specs.Readings.{is_taken, taken_after, taken_of}
 use Rattle.pf_cluster.specs.Showing.{Shows}
 use Rattle.pf_group.specs.declared.event.GroupEvent.{GroupEvent}
 use Rattle.pf_group.specs.declared.event.GroupEvent.TheVariants as asked
@@ -32,12 +35,14 @@ use Rattle.pf_group.specs.declared.began.Began.{Began}
 use Rattle.pf_group.specs.declared.past.Past.{Past}
 use Rattle.pf_group.specs.Beginning.{IsBegun, IsBegunIf}
 use Rattle.pf_group.specs.Pasts.{HasPlaceFor, HasRoomFor, IsKeepable}
-use Rattle.pf_group.specs.Reacting.{own_of}
-use Rattle.pf_group.specs.Standing.{AllTell, StandsFor}
-use Rattle.pf_group.specs.Steps.{BeginsHere, HasTried, IsLeft, Steps}
+use Rattle.pf_group.specs.Reacting.{Answers, HasAnsweredSomehow, own_of}
+use Rattle.pf_group.specs.declared.reaction.Reaction.{Reaction}
+use Rattle.pf_group.specs.Standing.{StandsFor}
+use Rattle.pf_group.specs.Steps.{BeginsHere, EndsSo, GoesByRules, HasTried, IsLeft, IsNew, Steps}
 use Rattle.pf_group.proofs.Faults.{all_later, all_same, has_risen, heads_kept, others_same}
-use Rattle.pf_group.proofs.Standing.{now_shows, stands_after, stands_still, stayed_now, tell_alike, went_now}
-use Rattle.pf_group.proofs.Since.{Stood, quiet_more, since_as, since_step, since_still}
+use Rattle.pf_group.proofs.Fresh.{ends_by_rules, ends_somehow, fresh_answer, fresh_somehow, taken_somehow}
+use Rattle.pf_group.proofs.Standing.{now_shows, stands_after, stands_led, stands_still, stayed_now, went_now}
+use Rattle.pf_group.proofs.Since.{Law, Stood, quiet_more, since_as, since_step, since_still, tell_all}
 
 -- a job that comes back is of one of the three servers
 pub brings_low : (claims : List Claimed) → Every (λ c. c.server < 3) claims → (filled : Filled) → Brings claims filled → filled.server < 3
@@ -127,115 +132,225 @@ left_equal (asked.Checkpoint server) old new is = is
 pub same_happening : (e e' : Event) (a a' : Answer) → e ≡ e' → a ≡ a' → (let h : Happening = record { event = e; answer = a } in h) ≡ record { event = e'; answer = a' }
 same_happening e e' a a' p q = ap (λ x. let h : Happening = record { event = x; answer = a } in h) p ∙ ap (λ x. let h : Happening = record { event = e'; answer = x } in h) q
 
-module _ {D : Type 0} (seen : D → Option (List ℕ)) (may_leave : D → Images) (faults moment : D → ℕ) (left_since : D → ℕ → Images) (tells_moments : Bool) (setup : Setup) (history : History) (old new : Cluster (Kept D)) where
+either : (b : Bool) → (b ≡ true) ⊎ (b ≡ false)
+either true = inl refl
+either false = inr refl
+
+module _ {D : Type 0} (seen : D → Option (List ℕ)) (may_leave : D → Images) (faults moment : D → ℕ) (left_since : D → ℕ → Images) (tells tells_moments : Bool) (setup : Setup) (history : History) (old new : Cluster (Kept D)) where
+  abbrev Shown : Cluster (Kept D) → Group → Type 0
+  Shown cluster g = Shows (holds_in seen may_leave) used_in format_in (told_in seen) setup cluster g
+
+  abbrev Standing : History → Cluster (Kept D) → Type 0
+  Standing events cluster = StandsFor (holds_in seen may_leave) used_in format_in (told_in seen) tells setup events cluster
+
   abbrev pub WentIn : Group → Event → Answer → Type 0
   WentIn g event answer = HasGone (holds_in seen may_leave) used_in format_in (told_in seen) (rose_in faults) (was_in seen faults moment left_since tells_moments) setup g event old new answer
 
   abbrev Went : Event → Answer → Type 0
   Went event answer = WentIn (replay setup history) event answer
 
-  abbrev StayedIn : Group → Option ℕ → Type 0
+  abbrev pub StayedIn : Group → Option ℕ → Type 0
   StayedIn g own = HasStayed (holds_in seen may_leave) used_in format_in (told_in seen) (rose_in faults) (was_in seen faults moment left_since tells_moments) setup g own old new
 
   abbrev Stayed : Option ℕ → Type 0
   Stayed own = StayedIn (replay setup history) own
 
-  module _ (stands : StandsFor (holds_in seen may_leave) used_in format_in (told_in seen) setup history old) (tell : AllTell (told_in seen) old) where
-    shows : Shows (holds_in seen may_leave) used_in format_in (told_in seen) setup old (replay setup history)
-    shows = now_shows (holds_in seen may_leave) used_in format_in (told_in seen) setup history old stands tell
+  -- a restart over any disks
+  abbrev pub BegunIn : Group → ℕ → Answer → Type 0
+  BegunIn g i answer = HasBegunSomehow (holds_in seen may_leave) used_in format_in (told_in seen) (rose_in faults) (was_in seen faults moment left_since tells_moments) setup g i old new answer
 
-    -- what is said of the past's group holds of the state after the history
-    went : (event : Event) (answer : Answer) → WentIn stands.past.group event answer → Went event answer
-    went = went_now (holds_in seen may_leave) used_in format_in (told_in seen) setup history old stands (rose_in faults) (was_in seen faults moment left_since tells_moments) new tell
+  abbrev pub KeptIn : Group → ℕ → Type 0
+  KeptIn g i = HasKept (holds_in seen may_leave) used_in format_in (told_in seen) (rose_in faults) (was_in seen faults moment left_since tells_moments) setup g i old new
 
-    stayed_so : (own : Option ℕ) → StayedIn stands.past.group own → Stayed own
-    stayed_so = stayed_now (holds_in seen may_leave) used_in format_in (told_in seen) setup history old stands (rose_in faults) (was_in seen faults moment left_since tells_moments) new tell
+  module _ (stands : Standing history old) (law : Law seen may_leave faults moment left_since tells tells_moments) where
+    -- What came of an event over any disks, said of the past's group; and of the state after the history, where disks tell their content
+    pub record Came (event : Event) (answer : Answer) : Type 0 where
+      pub others : KeepsOthers (acts_at stands.past.group event) old new
+      pub quiet : is_quiet event ≡ true → KeepsStores old new
+      pub taken : taken_of new ≡ taken_after (taken_of old) answer
+      pub cause : answer ≡ Refused Halted → (i : ℕ) × (acts_at stands.past.group event ≡ Some i) × HasFault (rose_in faults) i old new
+      pub answered : GoesByRules tells event → IsAnswer setup stands.past.group event answer
+      pub ends : EndsSo event answer
+      pub later : GoesByRules tells event → AreLater (all_counts faults old) (all_counts faults new)
+      pub fresh : IsNew stands.past.claims stands.past.group.reads answer
+      pub stands_then : (later : History) → later ≡ history ++ record { event = event; answer = answer } ∷ [] → length later ≤ 2 ^ 32 → MayHappen (claims_of [] history) event → Standing later new
+      pub went : IsTrue tells → Went event answer
 
-    stands_gone : (event : Event) (answer : Answer) (later : History) → later ≡ history ++ record { event = event; answer = answer } ∷ [] → length later ≤ 2 ^ 32 → MayHappen (claims_of [] history) event → WentIn stands.past.group event answer → StandsFor (holds_in seen may_leave) used_in format_in (told_in seen) setup later new
-    stands_gone = stands_after (holds_in seen may_leave) used_in format_in (told_in seen) setup history old stands (rose_in faults) (was_in seen faults moment left_since tells_moments) new
+    -- where there was no memory for it
+    pub record Left (own : Option ℕ) : Type 0 where
+      pub shows : Shown new stands.past.group
+      pub others : KeepsOthers own old new
+      pub taken : taken_of new ≡ taken_of old
+      pub stayed : IsTrue tells → Stayed own
 
-    stands_stayed : (own : Option ℕ) (later : History) → later ≡ history → StayedIn stands.past.group own → StandsFor (holds_in seen may_leave) used_in format_in (told_in seen) setup later new
-    stands_stayed = stands_still (holds_in seen may_leave) used_in format_in (told_in seen) setup history old stands (rose_in faults) (was_in seen faults moment left_since tells_moments) new
+    pub came_went : (event : Event) (answer : Answer) → WentIn stands.past.group event answer → Came event answer
+    came_went event answer gone = record {
+      others = gone.others;
+      quiet = gone.quiet;
+      taken = gone.taken;
+      cause = gone.cause;
+      answered = λ by. gone.answered;
+      ends = ends_by_rules setup stands.past.group event answer gone.answered;
+      later = λ by. all_later seen may_leave faults moment left_since tells_moments stands.past.group (happens setup stands.past.group event (ending answer)) setup (acts_at stands.past.group event) old new stands.reached.shows gone.shows gone.crash gone.others;
+      fresh = fresh_answer setup stands.past.group stands.past.claims event answer stands.reached.viable.group.opened gone.answered;
+      stands_then = λ later is low may. stands_after (holds_in seen may_leave) used_in format_in (told_in seen) tells setup history old stands (rose_in faults) (was_in seen faults moment left_since tells_moments) new event answer later is low may gone;
+      went = λ tell. went_now (holds_in seen may_leave) used_in format_in (told_in seen) tells setup history old stands (rose_in faults) (was_in seen faults moment left_since tells_moments) new tell event answer gone;
+    }
 
-    tell_now : KeepsTelling (told_in seen) old new → AllTell (told_in seen) new
-    tell_now keeps = tell_alike (told_in seen) old new keeps tell
+    no_rules : tells ≡ false → IsTrue tells ⊎ ⊥ → ⊥
+    no_rules none by = elim by [ inl tell ↦ false≢true (sym none ∙ tell) | inr other ↦ other ]
 
-    later_went : (event : Event) (answer : Answer) → Went event answer → AreLater (all_counts faults old) (all_counts faults new)
-    later_went event answer gone = all_later seen may_leave faults moment left_since tells_moments (replay setup history) (happens setup (replay setup history) event (ending answer)) setup (acts_at (replay setup history) event) old new shows gone.shows gone.crash gone.others
+    came_begun : tells ≡ false → (i : ℕ) (found : Bool) (answer : Answer) → BegunIn stands.past.group i answer → Came (Restart i found) answer
+    came_begun none i found answer begun = record {
+      others = begun.others;
+      quiet = λ quiet. absurd (false≢true quiet);
+      taken = begun.taken ∙ sym (taken_somehow (holds_in seen may_leave) used_in format_in (told_in seen) (rose_in faults) (was_in seen faults moment left_since tells_moments) setup stands.past.group i new (taken_of old) answer begun.shows);
+      cause = λ halted. (i, refl, begun.cause halted);
+      answered = λ by. absurd (no_rules none by);
+      ends = ends_somehow (holds_in seen may_leave) used_in format_in (told_in seen) (rose_in faults) (was_in seen faults moment left_since tells_moments) setup stands.past.group i new answer begun.shows;
+      later = λ by. absurd (no_rules none by);
+      fresh = fresh_somehow (holds_in seen may_leave) used_in format_in (told_in seen) (rose_in faults) (was_in seen faults moment left_since tells_moments) setup stands.past.group i new stands.past.claims stands.past.group.reads answer begun.shows;
+      stands_then = λ later is low may. stands_led (holds_in seen may_leave) used_in format_in (told_in seen) tells setup history old stands (rose_in faults) (was_in seen faults moment left_since tells_moments) new none i found answer later is low may begun;
+      went = λ tell. absurd (false≢true (sym none ∙ tell));
+    }
 
-    later_stayed : (own : Option ℕ) → Stayed own → AreLater (all_counts faults old) (all_counts faults new)
-    later_stayed own stayed = all_later seen may_leave faults moment left_since tells_moments (replay setup history) (replay setup history) setup own old new shows stayed.shows stayed.crash stayed.others
+    left_stayed : (own : Option ℕ) → StayedIn stands.past.group own → Left own
+    left_stayed own stayed = record {
+      shows = stayed.shows;
+      others = stayed.others;
+      taken = stayed.taken;
+      stayed = λ tell. stayed_now (holds_in seen may_leave) used_in format_in (told_in seen) tells setup history old stands (rose_in faults) (was_in seen faults moment left_since tells_moments) new tell own stayed;
+    }
 
-    -- each server still has its own head
-    heads_went : (event : Event) (answer : Answer) → Went event answer → (number : ℕ) → HaveHeads number old → HaveHeads number new
-    heads_went event answer gone = heads_kept seen may_leave faults moment left_since tells_moments (replay setup history) (happens setup (replay setup history) event (ending answer)) setup (acts_at (replay setup history) event) old new shows gone.shows gone.crash gone.others
+    left_kept : tells ≡ false → (i : ℕ) → KeptIn stands.past.group i → Left (Some i)
+    left_kept none i kept = record { shows = kept.shows; others = kept.others; taken = kept.taken; stayed = λ tell. absurd (false≢true (sym none ∙ tell)) }
 
-    heads_stayed : (own : Option ℕ) → Stayed own → (number : ℕ) → HaveHeads number old → HaveHeads number new
-    heads_stayed own stayed = heads_kept seen may_leave faults moment left_since tells_moments (replay setup history) (replay setup history) setup own old new shows stayed.shows stayed.crash stayed.others
+    abbrev ReactsIn : GroupEvent → Reaction → Type 0
+    ReactsIn event r = (found : Bool) × Answers (holds_in seen may_leave) used_in format_in (told_in seen) (rose_in faults) (was_in seen faults moment left_since tells_moments) setup stands.past.group (event_of event found) old new r
 
-    since_went : (event : Event) (answer : Answer) → Went event answer → IsSince seen faults moment left_since tells_moments (replay setup history) (happens setup (replay setup history) event (ending answer)) old new
-    since_went event answer gone = since_step seen may_leave faults moment left_since tells_moments setup (replay setup history) (happens setup (replay setup history) event (ending answer)) (acts_at (replay setup history) event) old new shows tell gone.crash gone.others
+    abbrev BeginsIn : GroupEvent → Reaction → Type 0
+    BeginsIn event r = (i : ℕ) × (event ≡ asked.Restart i) × HasAnsweredSomehow (holds_in seen may_leave) used_in format_in (told_in seen) (rose_in faults) (was_in seen faults moment left_since tells_moments) setup stands.past.group i old new r
 
-    since_stayed : (own : Option ℕ) → Stayed own → IsSince seen faults moment left_since tells_moments (replay setup history) (replay setup history) old new
-    since_stayed own stayed = since_step seen may_leave faults moment left_since tells_moments setup (replay setup history) (replay setup history) own old new shows tell stayed.crash stayed.others
+    -- what a reaction is of
+    pub record Reacted (event : GroupEvent) (r : Reaction) : Type 0 where
+      pub found : Bool
+      pub event_is : r.event ≡ event_of event found
+      pub twice : r.kept ≡ r.answer
+      pub came : Came (event_of event found) r.answer
+
+    by_rules : (event : GroupEvent) (r : Reaction) → ReactsIn event r → Reacted event r
+    by_rules event r is = record { found = is.0; event_is = is.1.event_is; twice = is.1.twice; came = came_went (event_of event is.0) r.answer is.1.gone }
+
+    by_disks : (event : GroupEvent) (r : Reaction) → tells ≡ false → BeginsIn event r → Reacted event r
+    by_disks event r none is =
+        let found = is.2.found in
+        let same : event_of event found ≡ Restart is.0 found = ap (λ e. event_of e found) is.1 in
+        record {
+          found = found;
+          event_is = is.2.event_is ∙ sym same;
+          twice = is.2.twice;
+          came = subst (λ e. Came e r.answer) (sym same) (came_begun none is.0 found r.answer is.2.begun);
+        }
+
+    pub reacted : (event : GroupEvent) (r : Reaction) → (IsTrue tells → ReactsIn event r) → ReactsIn event r ⊎ BeginsIn event r → Reacted event r
+    reacted event r step somehow = elim (either tells) [
+      | inl tell ↦ by_rules event r (step tell)
+      | inr none ↦ elim somehow [ inl went ↦ by_rules event r went | inr begun ↦ by_disks event r none begun ]
+    ]
+
+    pub left_so : (event : GroupEvent) → (IsTrue tells → StayedIn stands.past.group (own_of event)) → StayedIn stands.past.group (own_of event) ⊎ ((i : ℕ) × (event ≡ asked.Restart i) × KeptIn stands.past.group i) → Left (own_of event)
+    left_so event step somehow = elim (either tells) [
+      | inl tell ↦ left_stayed (own_of event) (step tell)
+      | inr none ↦ elim somehow [ inl stayed ↦ left_stayed (own_of event) stayed | inr kept ↦ subst Left (sym (ap own_of kept.1)) (left_kept none kept.0 kept.2) ]
+    ]
+
+    -- what it says of the past holds of the view
+    fresh_here : (answer : Answer) → IsNew stands.past.claims stands.past.group.reads answer → IsNew (claims_of [] history) (length (taken_of old)) answer
+    fresh_here answer is =
+        subst (λ reads. IsNew (claims_of [] history) reads answer) (sym (length-map old.readings.items is_taken ∙ stands.reached.shows.reads))
+        (subst (λ claims. IsNew claims stands.past.group.reads answer) stands.claims is)
+
+    -- where the disks tell their content
+    module _ (tell : IsTrue tells) where
+      shows : Shown old (replay setup history)
+      shows = now_shows (holds_in seen may_leave) used_in format_in (told_in seen) tells setup history old stands tell
+
+      later_stayed : (own : Option ℕ) → Stayed own → AreLater (all_counts faults old) (all_counts faults new)
+      later_stayed own stayed = all_later seen may_leave faults moment left_since tells_moments (replay setup history) (replay setup history) setup own old new shows stayed.shows stayed.crash stayed.others
+
+      -- each server still has its own head
+      heads_went : (event : Event) (answer : Answer) → Went event answer → (number : ℕ) → HaveHeads number old → HaveHeads number new
+      heads_went event answer gone = heads_kept seen may_leave faults moment left_since tells_moments (replay setup history) (happens setup (replay setup history) event (ending answer)) setup (acts_at (replay setup history) event) old new shows gone.shows gone.crash gone.others
+
+      heads_stayed : (own : Option ℕ) → Stayed own → (number : ℕ) → HaveHeads number old → HaveHeads number new
+      heads_stayed own stayed = heads_kept seen may_leave faults moment left_since tells_moments (replay setup history) (replay setup history) setup own old new shows stayed.shows stayed.crash stayed.others
+
+      since_went : (event : Event) (answer : Answer) → Went event answer → IsSince seen faults moment left_since tells_moments (replay setup history) (happens setup (replay setup history) event (ending answer)) old new
+      since_went event answer gone = since_step seen may_leave faults moment left_since tells tells_moments setup (replay setup history) (happens setup (replay setup history) event (ending answer)) (acts_at (replay setup history) event) old new shows (tell_all seen may_leave faults moment left_since tells tells_moments law tell old) gone.crash gone.others
+
+      since_stayed : (own : Option ℕ) → Stayed own → IsSince seen faults moment left_since tells_moments (replay setup history) (replay setup history) old new
+      since_stayed own stayed = since_step seen may_leave faults moment left_since tells tells_moments setup (replay setup history) (replay setup history) own old new shows (tell_all seen may_leave faults moment left_since tells tells_moments law tell old) stayed.crash stayed.others
 
     -- as it was, and as it is now
     module _ (number : ℕ) (before after : Began D) (later : History) where
       abbrev Was : GroupIs
-      Was = group_of faults moment number setup before.happenings.value.items before.cluster.value history old
+      Was = group_of tells faults moment number setup before.happenings.value.items before.cluster.value history old
 
       abbrev Is : GroupIs
-      Is = group_of faults moment number setup after.happenings.value.items after.cluster.value later new
+      Is = group_of tells faults moment number setup after.happenings.value.items after.cluster.value later new
 
       begins_here : IsBegun old history after → BeginsHere Was Is
       begins_here begun =
           ap (λ (b : Cluster (Kept D)). record Is.time { began = all_counts moment b }) begun.cluster_is
           ∙ ap (λ (h : History). record Is.time { began = all_counts moment old; earlier = h }) begun.history_is
 
-      begins_so : (event : Event) (answer : Answer) → Went event answer → (b : Bool) → is_quiet event ≡ b → IsBegunIf (not b) old history before after → MatchBool b ((Is.faults ≡ Was.faults) × (Is.time ≡ Was.time)) (BeginsHere Was Is)
-      begins_so event answer gone true quiet same = (
-        all_same faults old new (λ i own. gone.quiet quiet i),
+      begins_so : (event : Event) (answer : Answer) → Came event answer → (b : Bool) → is_quiet event ≡ b → IsBegunIf (not b) old history before after → MatchBool b ((Is.faults ≡ Was.faults) × (Is.time ≡ Was.time)) (BeginsHere Was Is)
+      begins_so event answer came true quiet same = (
+        all_same faults old new (λ i own. came.quiet quiet i),
         ap (λ (b : Began D). record Was.time { now = all_counts moment new; began = all_counts moment b.cluster.value; earlier = b.happenings.value.items }) same
-            ∙ ap (λ m. record Was.time { now = m }) (all_same moment old new (λ i own. gone.quiet quiet i)),
+            ∙ ap (λ m. record Was.time { now = m }) (all_same moment old new (λ i own. came.quiet quiet i)),
       )
-      begins_so event answer gone false loud begun = begins_here begun
+      begins_so event answer came false loud begun = begins_here begun
 
-      pub steps_of : (event : Event) (answer : Answer) (h : Happening) → later ≡ history ++ h ∷ [] → h.event ≡ event → h.answer ≡ answer → MayHappen (claims_of [] history) event → IsBegunIf (not (is_quiet event)) old history before after → WentIn stands.past.group event answer → Steps Was event answer Is
-      steps_of event answer h is same_event same_answer may begun there =
-          let gone = went event answer there in
+      pub steps_of : (event : Event) (answer : Answer) (h : Happening) → later ≡ history ++ h ∷ [] → h.event ≡ event → h.answer ≡ answer → MayHappen (claims_of [] history) event → IsBegunIf (not (is_quiet event)) old history before after → Came event answer → Steps Was event answer Is
+      steps_of event answer h is same_event same_answer may begun came =
           let stamped = same_happening h.event event h.answer answer same_event same_answer in
           record {
-            legal = record { asked = may; answered = gone.answered };
+            asked = may;
+            before = stands.past.group;
+            same = λ tell. (stands.replays tell).same;
+            answered = came.answered;
+            ends = came.ends;
+            fresh = fresh_here answer came.fresh;
             recorded = ap (λ l. record Is { history = l }) (is ∙ ap (λ x. history ++ x ∷ []) stamped)
-                ∙ ap (λ t. record Is { history = history ++ record { event = event; answer = answer } ∷ []; taken = t }) gone.taken;
-            cause = λ halted. let c = gone.cause halted in (c.0, c.1, has_risen faults old new c.0 c.2);
-            later = later_went event answer gone;
-            others = λ j apart. others_same faults _ old new gone.others j apart;
-            begins = begins_so event answer gone (is_quiet event) refl begun;
-            still = λ j apart. others_same moment _ old new gone.others j apart;
+                ∙ ap (λ t. record Is { history = history ++ record { event = event; answer = answer } ∷ []; taken = t }) came.taken;
+            cause = λ halted. let c = came.cause halted in (c.0, c.1, has_risen faults old new c.0 c.2);
+            later = came.later;
+            others = λ j apart. others_same faults _ old new came.others j apart;
+            begins = begins_so event answer came (is_quiet event) refl begun;
+            still = λ j apart. others_same moment _ old new came.others j apart;
           }
 
       -- there was no memory for it
-      stays : later ≡ history → after ≡ before → StayedIn stands.past.group None → Is ≡ Was
-      stays is same there =
-          let stayed = stayed_so None there in
-          ap (λ (b : Began D). group_of faults moment number setup b.happenings.value.items b.cluster.value later new) same
-          ∙ ap (λ l. group_of faults moment number setup before.happenings.value.items before.cluster.value l new) is
-          ∙ ap (λ t. record (group_of faults moment number setup before.happenings.value.items before.cluster.value history new) { taken = t }) stayed.taken
-          ∙ ap (λ f. record Was { faults = f; time = record Was.time { now = all_counts moment new } }) (all_same faults old new stayed.others)
-          ∙ ap (λ m. record Was { time = record Was.time { now = m } }) (all_same moment old new stayed.others)
+      stays : later ≡ history → after ≡ before → Left None → Is ≡ Was
+      stays is same left =
+          ap (λ (b : Began D). group_of tells faults moment number setup b.happenings.value.items b.cluster.value later new) same
+          ∙ ap (λ l. group_of tells faults moment number setup before.happenings.value.items before.cluster.value l new) is
+          ∙ ap (λ t. record (group_of tells faults moment number setup before.happenings.value.items before.cluster.value history new) { taken = t }) left.taken
+          ∙ ap (λ f. record Was { faults = f; time = record Was.time { now = all_counts moment new } }) (all_same faults old new left.others)
+          ∙ ap (λ m. record Was { time = record Was.time { now = m } }) (all_same moment old new left.others)
 
       -- for a restart, which may have touched the disks of its server
-      tries : (server : ℕ) → later ≡ history → IsBegun old history after → StayedIn stands.past.group (Some server) → HasTried Was server Is
-      tries server is begun there = let stayed = stayed_so (Some server) there in record {
-        is = ap (λ l. record Is { history = l }) is ∙ ap (λ t. record Is { history = history; taken = t }) stayed.taken;
-        later = later_stayed (Some server) stayed;
-        others = λ j apart. others_same faults (Some server) old new stayed.others j (λ same. apart (sym (same_Some server j same)));
+      tries : (server : ℕ) → later ≡ history → IsBegun old history after → Left (Some server) → HasTried Was server Is
+      tries server is begun left = record {
+        is = ap (λ l. record Is { history = l }) is ∙ ap (λ t. record Is { history = history; taken = t }) left.taken;
+        later = λ tell. later_stayed tell (Some server) (left.stayed tell);
+        others = λ j apart. others_same faults (Some server) old new left.others j (λ same. apart (sym (same_Some server j same)));
         begins = begins_here begun;
-        still = λ j apart. others_same moment (Some server) old new stayed.others j (λ same. apart (sym (same_Some server j same)));
+        still = λ j apart. others_same moment (Some server) old new left.others j (λ same. apart (sym (same_Some server j same)));
       }
 
-      pub left_of : (event : GroupEvent) → later ≡ history → IsBegunIf (is_some (own_of event)) old history before after → StayedIn stands.past.group (own_of event) → IsLeft Was event Is
+      pub left_of : (event : GroupEvent) → later ≡ history → IsBegunIf (is_some (own_of event)) old history before after → Left (own_of event) → IsLeft Was event Is
       left_of (asked.Submit server range payload) is begun stayed = stays is begun stayed
       left_of (asked.Mark server) is begun stayed = stays is begun stayed
       left_of (asked.Fetch server range) is begun stayed = stays is begun stayed
@@ -250,18 +365,17 @@ module _ {D : Type 0} (seen : D → Option (List ℕ)) (may_leave : D → Images
       left_of (asked.Checkpoint server) is begun stayed = stays is begun stayed
 
       abbrev StoodAt : Began D → (history : History) → Cluster (Kept D) → Type 0
-      StoodAt began now cluster = Stood seen may_leave faults moment left_since tells_moments number setup began.happenings.value.items began.cluster.value now cluster
+      StoodAt began now cluster = Stood seen may_leave faults moment left_since tells tells_moments number setup began.happenings.value.items began.cluster.value now cluster
 
       abbrev SinceAt : (right : History) → Began D → Type 0
-      SinceAt right began = IsSince seen faults moment left_since tells_moments (replay setup began.happenings.value.items) (replay setup right) began.cluster.value new
+      SinceAt right began = IsTrue tells → IsSince seen faults moment left_since tells_moments (replay setup began.happenings.value.items) (replay setup right) began.cluster.value new
 
       -- after one more event
-      module _ (was : StoodAt before history old) (event : Event) (answer : Answer) (is : later ≡ history ++ record { event = event; answer = answer } ∷ []) (low : length later ≤ 2 ^ 32) (may : MayHappen (claims_of [] history) event) (there : WentIn stands.past.group event answer) where
+      module _ (was : StoodAt before history old) (event : Event) (answer : Answer) (is : later ≡ history ++ record { event = event; answer = answer } ∷ []) (low : length later ≤ 2 ^ 32) (may : MayHappen (claims_of [] history) event) (came : Came event answer) where
         so_gone : (began : Began D) (right : History) → IsLastStep began.happenings.value.items right later → SinceAt right began → StoodAt began later new
         so_gone began right last since = record {
-          stands = stands_gone event answer later is low may there;
-          tell = tell_now there.tells;
-          heads = heads_went event answer (went event answer there) number was.heads;
+          stands = came.stands_then later is low may;
+          heads = λ tell. heads_went tell event answer (came.went tell) number (was.heads tell);
           after = right;
           last = last;
           since = since;
@@ -271,34 +385,33 @@ module _ {D : Type 0} (seen : D → Option (List ℕ)) (may_leave : D → Images
         by_quiet true quiet same =
             subst (λ (b : Began D). StoodAt b later new) (sym same) (so_gone before was.after
             (quiet_more before.happenings.value.items was.after history later (record { event = event; answer = answer }) was.last quiet is)
-            (since_still seen may_leave faults moment left_since tells_moments (replay setup before.happenings.value.items) (replay setup was.after) before.cluster.value old new (λ i own. there.quiet quiet i) was.since))
+            (λ tell. since_still seen may_leave faults moment left_since tells tells_moments (replay setup before.happenings.value.items) (replay setup was.after) before.cluster.value old new (λ i own. came.quiet quiet i) (was.since tell)))
         by_quiet false loud begun =
             let h : Happening = record { event = event; answer = answer } in
             so_gone after later
             (record { step = inr (h, loud, is ∙ ap (λ l. l ++ h ∷ []) (sym begun.history_is)); since = []; quiet = tt; whole = sym (append-nil later) })
-            (since_as seen may_leave faults moment left_since tells_moments setup history after.happenings.value.items later _ old new after.cluster.value begun.cluster_is begun.history_is (ap (replay setup) is ∙ replay_goes_on setup history h) (since_went event answer (went event answer there)))
+            (λ tell. since_as seen may_leave faults moment left_since tells tells_moments setup history after.happenings.value.items later _ old new after.cluster.value begun.cluster_is begun.history_is (ap (replay setup) is ∙ replay_goes_on setup history h) (since_went tell event answer (came.went tell)))
 
         pub stood_gone : IsBegunIf (not (is_quiet event)) old history before after → StoodAt after later new
         stood_gone begun = by_quiet (is_quiet event) refl begun
 
       -- where there was no memory for it
       module _ (was : StoodAt before history old) (is : later ≡ history) where
-        so_left : (own : Option ℕ) → StayedIn stands.past.group own → (began : Began D) (right : History) → IsLastStep began.happenings.value.items right later → SinceAt right began → StoodAt began later new
-        so_left own there began right last since = record {
-          stands = stands_stayed own later is there;
-          tell = tell_now there.tells;
-          heads = heads_stayed own (stayed_so own there) number was.heads;
+        so_left : (own : Option ℕ) → Left own → (began : Began D) (right : History) → IsLastStep began.happenings.value.items right later → SinceAt right began → StoodAt began later new
+        so_left own left began right last since = record {
+          stands = stands_still (holds_in seen may_leave) used_in format_in (told_in seen) tells setup history old stands (rose_in faults) (was_in seen faults moment left_since tells_moments) new later is left.shows;
+          heads = λ tell. heads_stayed tell own (left.stayed tell) number (was.heads tell);
           after = right;
           last = last;
           since = since;
         }
 
-        pub stood_left : (own : Option ℕ) → IsBegunIf (is_some own) old history before after → StayedIn stands.past.group own → StoodAt after later new
-        stood_left None same there =
-            subst (λ (b : Began D). StoodAt b later new) (sym same) (so_left None there before was.after
+        pub stood_left : (own : Option ℕ) → IsBegunIf (is_some own) old history before after → Left own → StoodAt after later new
+        stood_left None same left =
+            subst (λ (b : Began D). StoodAt b later new) (sym same) (so_left None left before was.after
             (subst (IsLastStep before.happenings.value.items was.after) (sym is) was.last)
-            (since_still seen may_leave faults moment left_since tells_moments (replay setup before.happenings.value.items) (replay setup was.after) before.cluster.value old new there.others was.since))
-        stood_left (Some server) begun there =
-            so_left (Some server) there after later
+            (λ tell. since_still seen may_leave faults moment left_since tells tells_moments (replay setup before.happenings.value.items) (replay setup was.after) before.cluster.value old new left.others (was.since tell)))
+        stood_left (Some server) begun left =
+            so_left (Some server) left after later
             (record { step = inl (is ∙ sym begun.history_is); since = []; quiet = tt; whole = sym (append-nil later) })
-            (since_as seen may_leave faults moment left_since tells_moments setup history after.happenings.value.items later (replay setup history) old new after.cluster.value begun.cluster_is begun.history_is (ap (replay setup) is) (since_stayed (Some server) (stayed_so (Some server) there)))
+            (λ tell. since_as seen may_leave faults moment left_since tells tells_moments setup history after.happenings.value.items later (replay setup history) old new after.cluster.value begun.cluster_is begun.history_is (ap (replay setup) is) (since_stayed tell (Some server) (left.stayed tell)))

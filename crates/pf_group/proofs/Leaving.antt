@@ -21,6 +21,7 @@ use Rattle.pf_group.specs.Halves.{format_in, holds_in, told_in, used_in}
 use Rattle.pf_group.specs.Inside.{IsGroup, group_in, setup_in}
 use Rattle.pf_group.specs.Leaving.{HasLeft, LeavesIn, LeavesOf, as_seen}
 use Rattle.pf_group.proofs.Standing.{now_shows}
+use Rattle.pf_group.proofs.Since.{Law, tell_all}
 
 module _ {S : Type 0} (holds : S → Durable → Durable → Type 0) (used format : S → ℕ) (seat : Seat) (store : S) (head : List ℕ) (zero one : Images) (gives : (x y : Durable) → holds store x y → LeavesStates head zero one x y) where
   one_of : (d before after x : Durable) → (d ≡ before) ⊎ (d ≡ after) → IsOf d x → IsOf before x ⊎ IsOf after x
@@ -70,10 +71,10 @@ three_of xs rest a b c {ys} {zs} last middle first three =
     none_left (y ∷ ys) is = absurd (omega arith)
 
 -- a server of a group leaves what its condition says, for a restart that looks for its own head
-pub group_leaves : {D : Type 0} → (seen : D → Option (List ℕ)) (may_leave : D → Images) (faults moment : D → ℕ) (left_since : D → ℕ → Images) (tells_moments : Bool) (g : Inside D) → IsGroup seen may_leave faults moment left_since tells_moments g → (i : ℕ) (server : Server (Kept D)) → slice_get g.cluster.servers.items i ≡ Some server → (zero one : Images)
-    → ((c : Condition) → Meets (holds_in seen may_leave) used_in format_in server.seat server.store server.state c → IsTrue (told_in seen server.store) → LeavesOf server.store.pair.head (Some c) zero one) → LeavesIn (group_in faults moment g) i zero one
-group_leaves seen may_leave faults moment left_since tells_moments g is i server there zero one leaves =
-    let shows = now_shows (holds_in seen may_leave) used_in format_in (told_in seen) (setup_in g) g.past.happenings.items g.cluster is.stands is.tell in
+pub group_leaves : {D : Type 0} → (seen : D → Option (List ℕ)) (may_leave : D → Images) (faults moment : D → ℕ) (left_since : D → ℕ → Images) (tells tells_moments : Bool) (g : Inside D) → IsGroup seen may_leave faults moment left_since tells tells_moments g → Law seen may_leave faults moment left_since tells tells_moments → IsTrue tells → (i : ℕ) (server : Server (Kept D)) → slice_get g.cluster.servers.items i ≡ Some server → (zero one : Images)
+    → ((c : Condition) → Meets (holds_in seen may_leave) used_in format_in server.seat server.store server.state c → IsTrue (told_in seen server.store) → LeavesOf server.store.pair.head (Some c) zero one) → LeavesIn (group_in tells faults moment g) i zero one
+group_leaves seen may_leave faults moment left_since tells tells_moments g is law tell i server there zero one leaves =
+    let shows = now_shows (holds_in seen may_leave) used_in format_in (told_in seen) tells (setup_in g) g.past.happenings.items g.cluster is.stands tell in
     let m = shows.members i server there in
-    subst (λ head. LeavesOf head (slice_get (replay (setup_in g) g.past.happenings.items).servers i) zero one) (is.heads i server there ∙ ap (head_of g.number) m.2.seat)
-    (subst (λ c. LeavesOf server.store.pair.head c zero one) (sym m.1) (leaves m.0 m.2.meets (is.tell i server there)))
+    subst (λ head. LeavesOf head (slice_get (replay (setup_in g) g.past.happenings.items).servers i) zero one) (is.heads tell i server there ∙ ap (head_of g.number) m.2.seat)
+    (subst (λ c. LeavesOf server.store.pair.head c zero one) (sym m.1) (leaves m.0 m.2.meets (tell_all seen may_leave faults moment left_since tells tells_moments law tell g.cluster i server there)))

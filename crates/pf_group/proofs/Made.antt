@@ -1,5 +1,5 @@
 -- A new group stands for the opening state.
-use Rattle.std.proofs.Common.{◌≡◌, ℕ, zero, suc, ◌≤◌, ◌⊎◌, inl, inr, Bool, true, false, ◌==◌, if◌then◌else◌, List, [], ◌∷◌, ◌++◌, length, IsTrue, Some, slice_get, vec_capacity, arith, refl, sym, ap, subst, ◌∙◌}
+use Rattle.std.proofs.Common.{◌≡◌, ℕ, zero, suc, ◌≤◌, ◌⊎◌, inl, inr, Bool, true, false, ◌==◌, if◌then◌else◌, List, [], ◌∷◌, ◌++◌, length, Some, slice_get, vec_capacity, arith, refl, sym, ap, subst, ◌∙◌}
 use Rattle.std.specs.List.{list_any}
 use Rattle.std.proofs.lemmas.Bool.{false≢true}
 use Rattle.std.proofs.lemmas.Option.{same_Some}
@@ -25,7 +25,6 @@ use Rattle.pf_cluster.specs.Showing.{AreMembers, AreReadings, IsMember, Shows, s
 use Rattle.pf_group.specs.Halves.{AreLater}
 use Rattle.pf_group.specs.Inside.{HaveHeads}
 use Rattle.pf_group.specs.Rooms.{halted_of, picked, place_at}
-use Rattle.pf_group.specs.Standing.{AllTell}
 
 -- the servers whose making was halted
 abbrev pub all_picked : (a b c : Bool) → List ℕ
@@ -157,14 +156,4 @@ three_heads {D = D} number cluster a b c servers first second third = λ i serve
     each zero server at = subst (λ (s : Server (Kept D)). s.store.pair.head ≡ head_of number s.seat) (same_Some a server at) first
     each (suc zero) server at = subst (λ (s : Server (Kept D)). s.store.pair.head ≡ head_of number s.seat) (same_Some b server at) second
     each (suc (suc zero)) server at = subst (λ (s : Server (Kept D)). s.store.pair.head ≡ head_of number s.seat) (same_Some c server at) third
-    each (suc (suc (suc i))) server at = absurd (grind (arith, at))
-
--- and tells its content
-pub three_tell : {S : Type 0} → (told : S → Bool) (cluster : Cluster S) (zero one two : Server S) → cluster.servers.items ≡ zero ∷ one ∷ two ∷ [] → IsTrue (told zero.store) → IsTrue (told one.store) → IsTrue (told two.store) → AllTell told cluster
-three_tell {S = S} told cluster a b c servers first second third = λ i server at. each i server (sym (ap (λ xs. slice_get xs i) servers) ∙ at)
-  where
-    each : (i : ℕ) (server : Server S) → slice_get (a ∷ b ∷ c ∷ []) i ≡ Some server → IsTrue (told server.store)
-    each zero server at = subst (λ (s : Server S). IsTrue (told s.store)) (same_Some a server at) first
-    each (suc zero) server at = subst (λ (s : Server S). IsTrue (told s.store)) (same_Some b server at) second
-    each (suc (suc zero)) server at = subst (λ (s : Server S). IsTrue (told s.store)) (same_Some c server at) third
     each (suc (suc (suc i))) server at = absurd (grind (arith, at))

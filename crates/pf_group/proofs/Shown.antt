@@ -1,7 +1,7 @@
 -- What a group shows is what its cluster does.
-use Rattle.std.proofs.Common.{◌≡◌, Bor, ℕ, ◌≤◌, ◌↔◌, Bool, true, false, not, ◌||◌, IfNone, IfSome, IsTrue, MatchOption, List, map, Option, Some, None, Result, Ok, Err, option_copied, ok_or, option_map, nat_lt, slice_get, slice_set, refl, sym, ap, subst, ◌∙◌}
+use Rattle.std.proofs.Common.{◌≡◌, ◌≢◌, Bor, ℕ, ◌<◌, ◌≤◌, ◌↔◌, Bool, true, false, not, ◌||◌, IfNone, IfSome, IsTrue, MatchOption, List, length, map, Option, Some, None, Result, Ok, Err, option_copied, ok_or, option_map, nat_lt, slice_get, slice_set, refl, sym, ap, subst, ◌∙◌}
 use Rattle.std.proofs.lemmas.Bool.{true≢false}
-use Rattle.std.proofs.lemmas.Option.{none-some, same_Some, slice_get-map}
+use Rattle.std.proofs.lemmas.Option.{none-some, same_Some, slice_get-map, slice_get_within}
 use Rattle.std.specs.Result.{result_ok}
 use Rattle.pf_entry.specs.declared.entries.Entry.{Entry}
 use Rattle.pf_entry.specs.Maps.{Map, Numbers}
@@ -18,8 +18,9 @@ use Rattle.pf_kept.specs.declared.kept.Kept.{Kept}
 use Rattle.pf_cluster.specs.declared.cluster.Cluster.{Cluster}
 use Rattle.pf_cluster.specs.declared.kept.Parcel.{Parcel}
 use Rattle.pf_cluster.specs.Readings.{taken_of}
-use Rattle.pf_cluster.specs.Showing.{parcel_of}
-use Rattle.pf_cluster.specs.Shown.{Idles, IsMemoryOf, IsRunningAt, TakesRead}
+use Rattle.pf_cluster.specs.Showing.{HasAnswer, parcel_of}
+use Rattle.pf_entry.specs.Lists.{Every}
+use Rattle.pf_cluster.specs.Shown.{Idles, IsLeader, IsMemoryOf, IsRunningAt, TakesRead}
 use Rattle.pf_group.specs.declared.errors.Down.{Down}
 use Rattle.pf_group.specs.GroupIs.{GroupIs}
 use Rattle.pf_group.specs.Halves.{all_counts}
@@ -51,6 +52,15 @@ left_is packets parcels k result are told = by result (slice_get packets k) (ap 
     by true None at told = let there = told.0 refl in absurd (none-some there.0 (sym at ∙ there.1))
     by false (Some sent) at told = some sent.delivered sent.lost (λ first second. told.1 (parcel_of sent, at, first, second))
     by false None at told = refl
+
+-- and it was sent
+pub left_there : (parcels : List Parcel) (k : ℕ) (result : Bool) → (IsTrue result ↔ IsLeftIn parcels k) → IsTrue result → k < length parcels
+left_there parcels k result told is = let there = told.0 is in slice_get_within parcels k there.0 there.1
+
+-- whoever serves is one of the three
+pub leader_low : (g : Group) (o : Option (ℕ × ℕ)) → IsLeader g o → IfSome o (λ served. served.1 < 3)
+leader_low g (Some (term, i)) is = is.0.low
+leader_low g None is = tt
 
 -- what a server has in memory, if it runs
 pub memory_told : {X : Type 0} → (running : X → Running) (g : Group) (i : ℕ) (o : Option X) (down : Down) → MatchOption o (Idles g i) (λ x. IsRunningAt g i (running x)) → TellsOf g i (ok_or o down) (λ x s. IsMemoryOf (running x) s)
@@ -104,12 +114,12 @@ pub if_none : {X A B : Type 0} → (o : Option X) → (A → B) → IfNone o A �
 if_none None then is = then is
 if_none (Some x) then is = tt
 
-module _ {D : Type 0} (faults moment : D → ℕ) (number : ℕ) (setup : Setup) (earlier : History) (began : Cluster (Kept D)) (history : History) (old new : Cluster (Kept D)) where
+module _ {D : Type 0} (tells : Bool) (faults moment : D → ℕ) (number : ℕ) (setup : Setup) (earlier : History) (began : Cluster (Kept D)) (history : History) (old new : Cluster (Kept D)) where
   abbrev before : GroupIs
-  before = group_of faults moment number setup earlier began history old
+  before = group_of tells faults moment number setup earlier began history old
 
   abbrev after : GroupIs
-  after = group_of faults moment number setup earlier began history new
+  after = group_of tells faults moment number setup earlier began history new
 
   -- of the cluster, its reads alone have changed
   pub now_taken : (taken : List Bool) → new ≡ record old { readings = new.readings } → taken_of new ≡ taken → after ≡ record before { taken = taken }
@@ -117,11 +127,12 @@ module _ {D : Type 0} (faults moment : D → ℕ) (number : ℕ) (setup : Setup)
       ap (λ taken. record after { taken = taken }) is
       ∙ ap (λ (servers : Cluster (Kept D)). record before { taken = taken; faults = all_counts faults servers; time = record before.time { now = all_counts moment servers } }) same
 
-  module _ (read : ℕ) (same : new ≡ record old { readings = new.readings }) where
-    pub has_taken : (o : Option (List Sector)) → TakesRead (replay setup history) read (taken_of old) (taken_of new) o → IfSome o (λ bytes. HasTaken before read bytes after)
-    has_taken (Some bytes) takes = record { first = takes.0; answer = takes.1; is = now_taken (slice_set before.taken read true) same takes.2 }
+  -- where its disks tell their content, the group is the state after the history
+  module _ (g : Group) (is : IsTrue tells → g ≡ replay setup history) (read : ℕ) (same : new ≡ record old { readings = new.readings }) where
+    pub has_taken : (o : Option (List Sector)) → TakesRead g read (taken_of old) (taken_of new) o → IfSome o (λ bytes. HasTaken before read bytes after)
+    has_taken (Some bytes) takes = record { first = takes.0; answer = λ tell. subst (λ (x : Group). HasAnswer x.answered read bytes) (is tell) takes.1; is = now_taken (slice_set before.taken read true) same takes.2 }
     has_taken None takes = tt
 
-    pub lacks_answer : (o : Option (List Sector)) → TakesRead (replay setup history) read (taken_of old) (taken_of new) o → IfNone o (LacksAnswer before read)
+    pub lacks_answer : (o : Option (List Sector)) → TakesRead g read (taken_of old) (taken_of new) o → IfNone o (LacksAnswer before read)
     lacks_answer (Some bytes) takes = tt
-    lacks_answer None takes = takes.0
+    lacks_answer None takes = λ tell. subst (λ (x : Group). slice_get (taken_of old) read ≡ Some false → Every (λ a. a.number ≢ read) x.answered) (is tell) takes.0

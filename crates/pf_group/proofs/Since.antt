@@ -1,5 +1,6 @@
 -- What a crash left since the last step of a group began that may have touched disks.
-use Rattle.std.proofs.Common.{◌≡◌, ◌⊎◌, inl, inr, ℕ, ◌<◌, ◌≤◌, ◌^◌, Bool, true, false, if◌then◌else◌, List, [], ◌∷◌, ◌++◌, length, Option, Some, None, option_map, slice_get, append_assoc, arith, refl, sym, ap, subst, ◌∙◌}
+use Rattle.std.proofs.Common.{◌≡◌, ◌⊎◌, inl, inr, ℕ, ◌<◌, ◌≤◌, ◌^◌, Bool, true, false, IsTrue, if◌then◌else◌, is_some, List, [], ◌∷◌, ◌++◌, length, Option, Some, None, option_map, slice_get, append_assoc, arith, refl, sym, ap, subst, ◌∙◌}
+use Rattle.std.proofs.lemmas.Bool.{and_from}
 use Rattle.std.proofs.lemmas.Option.{none-some, same_Some, slice_get_within}
 use Rattle.pf_disk.specs.Crashes.{Images}
 use Rattle.pf_entry.proofs.Lists.{every_append}
@@ -56,7 +57,7 @@ module _ {D : Type 0} where
   begun_if cluster history old now new false may_touch may is begun = is ∙ ap (λ b. if b then now else old) may
   begun_if cluster history old now new true may_touch may is begun = subst (IsBegun cluster history) (sym (is ∙ ap (λ b. if b then now else old) may)) begun
 
-module _ {D : Type 0} (seen : D → Option (List ℕ)) (may_leave : D → Images) (faults moment : D → ℕ) (left_since : D → ℕ → Images) (tells_moments : Bool) where
+module _ {D : Type 0} (seen : D → Option (List ℕ)) (may_leave : D → Images) (faults moment : D → ℕ) (left_since : D → ℕ → Images) (tells tells_moments : Bool) where
   abbrev Was : Kept D → Kept D → Durable → Durable → Type 0
   Was = was_in seen faults moment left_since tells_moments
 
@@ -136,46 +137,53 @@ module _ {D : Type 0} (seen : D → Option (List ℕ)) (may_leave : D → Images
           second = passed was.between new between was.second;
         }
 
+  -- where disks of this type tell their content, those of each server do
+  abbrev pub Law : Type 0
+  Law = IsTrue tells → (disk : D) → IsTrue (is_some (seen disk))
+
+  pub tell_all : Law → IsTrue tells → (cluster : Cluster (Kept D)) → AllTell (told_in seen) cluster
+  tell_all law is cluster i server at = and_from _ _ (law is server.store.pair.zero.disk) (law is server.store.pair.one.disk)
+
   -- what holds of the fields of a group, but for the room of its past
   pub record Stood (number : ℕ) (setup : Setup) (earlier : History) (began : Cluster (Kept D)) (history : History) (cluster : Cluster (Kept D)) : Type 0 where
-    pub stands : StandsFor (holds_in seen may_leave) used_in format_in (told_in seen) setup history cluster
-    pub tell : AllTell (told_in seen) cluster
-    pub heads : HaveHeads number cluster
+    pub stands : StandsFor (holds_in seen may_leave) used_in format_in (told_in seen) tells setup history cluster
+    pub heads : IsTrue tells → HaveHeads number cluster
     pub after : History
     pub last : IsLastStep earlier after history
-    pub since : Since (replay setup earlier) (replay setup after) began cluster
+    pub since : IsTrue tells → Since (replay setup earlier) (replay setup after) began cluster
 
-  pub stood : (g : Inside D) → IsGroup seen may_leave faults moment left_since tells_moments g → Stood g.number (setup_in g) g.began.happenings.value.items g.began.cluster.value g.past.happenings.items g.cluster
-  stood g is = record { stands = is.stands; tell = is.tell; heads = is.heads; after = is.after; last = is.last; since = is.since }
+  pub stood : (g : Inside D) → IsGroup seen may_leave faults moment left_since tells tells_moments g → Stood g.number (setup_in g) g.began.happenings.value.items g.began.cluster.value g.past.happenings.items g.cluster
+  stood g is = record { stands = is.stands; heads = is.heads; after = is.after; last = is.last; since = is.since }
 
   -- an event may be carried out by the rules
-  pub told_now : (g : Inside D) (is : IsGroup seen may_leave faults moment left_since tells_moments g) → (event : GroupEvent) → IsTold (told_in seen) (setup_in g) is.stands.past.group g.cluster event
-  told_now g is event =
+  pub told_now : (g : Inside D) (is : IsGroup seen may_leave faults moment left_since tells tells_moments g) → Law → IsTrue tells → (event : GroupEvent) → IsTold (told_in seen) (setup_in g) is.stands.past.group g.cluster event
+  told_now g is law tell event =
       let few : length g.past.happenings.items ≤ 2 ^ 32 = omega (arith, is.past.few, g.past.happenings.ok.0) in
-      is_told (holds_in seen may_leave) used_in format_in (told_in seen) (setup_in g) g.past.happenings.items g.cluster is.stands is.tell few event
+      is_told (holds_in seen may_leave) used_in format_in (told_in seen) tells (setup_in g) g.past.happenings.items g.cluster is.stands tell (tell_all law tell g.cluster) few event
 
-  module _ (number : ℕ) (setup : Setup) (earlier : History) (began : Cluster (Kept D)) (history : History) (cluster : Cluster (Kept D)) (is : Stood number setup earlier began history cluster) where
+  module _ (number : ℕ) (setup : Setup) (earlier : History) (began : Cluster (Kept D)) (history : History) (cluster : Cluster (Kept D)) (is : Stood number setup earlier began history cluster) (told : Bool) (tell : IsTrue tells) where
     abbrev Now : GroupIs
-    Now = group_of faults moment number setup earlier began history cluster
+    Now = group_of told faults moment number setup earlier began history cluster
 
     abbrev Leaves : (i : ℕ) → (zero one : D) → Type 0
     Leaves = LeavesAtCrash seen moment left_since tells_moments Now
 
     own_head : (i : ℕ) (next : Server (Kept D)) → slice_get cluster.servers.items i ≡ Some next → next.store.pair.head ≡ head_in Now i
-    own_head i next now = is.heads i next now ∙ ap (head_of number) (is.stands.reached.shows.members i next now).2.seat
+    own_head i next now = is.heads tell i next now ∙ ap (head_of number) (is.stands.reached.shows.members i next now).2.seat
 
     its_crash : (i : ℕ) (next : Server (Kept D)) → slice_get cluster.servers.items i ≡ Some next → Leaves i next.store.pair.zero.disk next.store.pair.one.disk
     its_crash i next now =
-        let within : i < length began.servers.items = omega (arith, slice_get_within cluster.servers.items i next now, is.since.three, is.stands.reached.shows.three) in
+        let since = is.since tell in
+        let within : i < length began.servers.items = omega (arith, slice_get_within cluster.servers.items i next now, since.three, is.stands.reached.shows.three) in
         let there = something_there began.servers.items i within in
         record {
           old = halves there.0.store;
-          told = is.since.told i there.0 there.1;
+          told = since.told i there.0 there.1;
           began = faults_at moment began i there.0 there.1;
           now = faults_at moment cluster i next now;
           after = is.after;
           step = is.last;
-          touched = were_touched (replay setup earlier) (replay setup is.after) i (head_in Now i) there.0.store next.store (own_head i next now) (is.since.touched i there.0 next there.1 now);
+          touched = were_touched (replay setup earlier) (replay setup is.after) i (head_in Now i) there.0.store next.store (own_head i next now) (since.touched i there.0 next there.1 now);
           same = held_since setup earlier is.after history is.last i;
         }
 

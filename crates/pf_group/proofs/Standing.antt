@@ -1,8 +1,7 @@
 -- What the cluster of a group stands for, before an event and after it.
-use Rattle.std.proofs.Common.{◌≡◌, ℕ, suc, ◌+◌, ◌≤◌, ◌^◌, [], ◌∷◌, ◌++◌, length, Bool, Option, Some, None, IfSome, IsTrue, slice_get, arith, refl, sym, ap, subst, ◌∙◌}
-use Rattle.std.specs.Option.{option_map}
+use Rattle.std.proofs.Common.{◌≡◌, ℕ, suc, ◌+◌, ◌<◌, ◌≤◌, ◌^◌, [], ◌∷◌, ◌++◌, length, Bool, false, Option, Some, None, IfSome, IsTrue, Ok, slice_get, arith, refl, sym, ap, subst, ◌∙◌}
+use Rattle.std.proofs.lemmas.Bool.{false≢true}
 use Rattle.std.proofs.lemmas.List.{length-append}
-use Rattle.std.proofs.lemmas.Option.{none-some, same_Some}
 use Rattle.pf_entry.specs.Records.{Durable}
 use Rattle.pf_protocol.specs.Servers.{Setup, Condition, Running, Stopped, Unformatted}
 use Rattle.pf_protocol.specs.Groups.{Group, ending, happens, opening}
@@ -10,6 +9,7 @@ use Rattle.pf_protocol.specs.Histories.{History, replay}
 use Rattle.pf_protocol.specs.Answers.{IsAnswer, IsLegal, IsSetup, MayHappen, claims_after, claims_of}
 use Rattle.pf_protocol.specs.declared.answers.Answer.{Answer}
 use Rattle.pf_protocol.specs.declared.events.Event.{Event}
+use Rattle.pf_protocol.specs.declared.events.Event.TheVariants.{Restart}
 use Rattle.pf_protocol.specs.declared.events.Happening.{Happening}
 use Rattle.pf_protocol.specs.Fitting.{ConditionFits, DurableFits}
 use Rattle.pf_protocol.proofs.ForMoments.{legal_goes_on, replay_goes_on}
@@ -18,11 +18,11 @@ use Rattle.pf_protocol.proofs.ForHistories.{legal_fits, viable_opening}
 use Rattle.pf_server.specs.Conditions.{IsFit, IsHonest}
 use Rattle.pf_server.specs.declared.server.Server.{Server}
 use Rattle.pf_cluster.specs.declared.cluster.Cluster.{Cluster}
-use Rattle.pf_cluster.specs.Going.{HasGone, HasStayed, IsHonestAt, IsToldAt, KeepsTelling}
+use Rattle.pf_cluster.specs.Going.{HasBegunSomehow, HasGone, HasStayed, IsHonestAt, IsToldAt}
 use Rattle.pf_cluster.specs.Pasts.{Past}
 use Rattle.pf_cluster.specs.Showing.{Shows, seat_of}
 use Rattle.pf_cluster.proofs.Fits.{durable_fits}
-use Rattle.pf_cluster.proofs.Next.{past_after, reached_after}
+use Rattle.pf_cluster.proofs.Next.{past_after, reached_after, somehow_leads_on}
 use Rattle.pf_group.specs.declared.event.GroupEvent.{GroupEvent}
 use Rattle.pf_group.specs.declared.event.GroupEvent.TheVariants as asked
 use Rattle.pf_group.specs.Reacting.{IsTold}
@@ -57,18 +57,6 @@ module _ (setup : Setup) (history : History) (legal : IsLegal setup history) (sh
   honest_at past same i = subst (λ g. IsHonestAt setup g i) (sym same) (honest_here i (slice_get (replay setup history).servers i) refl)
 
 module _ {S : Type 0} (told : S → Bool) where
-  its_told : Option (Server S) → Option Bool
-  its_told o = option_map told (option_map (λ (server : Server S). server.store) o)
-
-  -- the disks of two clusters tell alike
-  pub tell_alike : (one other : Cluster S) → KeepsTelling told one other → AllTell told one → AllTell told other
-  unfolding its_told
-  tell_alike one other keeps tell i server at = by (slice_get one.servers.items i) refl (sym (keeps i) ∙ ap its_told at)
-    where
-      by : (o : Option (Server S)) → slice_get one.servers.items i ≡ o → its_told (slice_get one.servers.items i) ≡ Some (told server.store) → IsTrue (told server.store)
-      by (Some x) there same = subst IsTrue (same_Some (told x.store) (told server.store) (sym (ap its_told there) ∙ same)) (tell i x there)
-      by None there same = absurd (none-some (told server.store) (sym (ap its_told there) ∙ same))
-
   pub told_at : (cluster : Cluster S) → AllTell told cluster → (i : ℕ) → IsToldAt told cluster i
   told_at cluster tell i = by (slice_get cluster.servers.items i) refl
     where
@@ -76,12 +64,12 @@ module _ {S : Type 0} (told : S → Bool) where
       by (Some server) there = tell i server there
       by None there = tt
 
-module _ {S : Type 0} (holds : S → Durable → Durable → Type 0) (used format : S → ℕ) (told : S → Bool) (setup : Setup) where
+module _ {S : Type 0} (holds : S → Durable → Durable → Type 0) (used format : S → ℕ) (told : S → Bool) (tells : Bool) (setup : Setup) where
   -- a new group
-  pub stands_opening : (history : History) (cluster : Cluster S) → IsSetup (record setup { failed = [] }) → history ≡ [] → Shows holds used format told setup cluster (opening setup) → StandsFor holds used format told setup history cluster
+  pub stands_opening : (history : History) (cluster : Cluster S) → IsSetup (record setup { failed = [] }) → history ≡ [] → Shows holds used format told setup cluster (opening setup) → StandsFor holds used format told tells setup history cluster
   stands_opening history cluster is empty shows =
       let its : IsSetup setup = record { few_names = is.few_names; some_sectors = is.some_sectors; few_sectors = is.few_sectors; blocks = is.blocks; format = is.format; window = is.window } in
-      subst (λ h. StandsFor holds used format told setup h cluster) (sym empty) (record {
+      subst (λ h. StandsFor holds used format told tells setup h cluster) (sym empty) (record {
         past = record { group = opening setup; top = 2 ^ 63; count = 2 ^ 63 + 4096; terms = 1 ∷ []; claims = [] };
         reached = record {
           viable = record { is_setup = its; group = viable_opening setup (2 ^ 63) (2 ^ 63 + 4096) };
@@ -94,64 +82,80 @@ module _ {S : Type 0} (holds : S → Durable → Durable → Type 0) (used forma
         replays = λ tell. record { same = refl; legal = record { is_setup = its; legal = tt } };
       })
 
-  module _ (history : History) (old : Cluster S) (stands : StandsFor holds used format told setup history old) where
+  module _ (history : History) (old : Cluster S) (stands : StandsFor holds used format told tells setup history old) where
     -- the cluster stands for the state after the history
-    pub now_shows : AllTell told old → Shows holds used format told setup old (replay setup history)
+    pub now_shows : IsTrue tells → Shows holds used format told setup old (replay setup history)
     now_shows tell = subst (Shows holds used format told setup old) (stands.replays tell).same stands.reached.shows
 
     -- a server that begins again is one that no restart refuses
-    pub is_told : AllTell told old → length history ≤ 2 ^ 32 → (event : GroupEvent) → IsTold told setup stands.past.group old event
-    is_told tell short (asked.Submit server range payload) = tt
-    is_told tell short (asked.Mark server) = tt
-    is_told tell short (asked.Fetch server range) = tt
-    is_told tell short (asked.Deliver k) = tt
-    is_told tell short (asked.Lose k) = tt
-    is_told tell short (asked.Elect server) = tt
-    is_told tell short (asked.Resend server) = tt
-    is_told tell short (asked.Stop server) = tt
-    is_told tell short (asked.Restart server) = let r = stands.replays tell in (told_at told old tell server, honest_at setup history r.legal short stands.past r.same server)
-    is_told tell short asked.Claim = tt
-    is_told tell short (asked.Finish filled) = tt
-    is_told tell short (asked.Checkpoint server) = tt
+    pub is_told : IsTrue tells → AllTell told old → length history ≤ 2 ^ 32 → (event : GroupEvent) → IsTold told setup stands.past.group old event
+    is_told tell all short (asked.Submit server range payload) = tt
+    is_told tell all short (asked.Mark server) = tt
+    is_told tell all short (asked.Fetch server range) = tt
+    is_told tell all short (asked.Deliver k) = tt
+    is_told tell all short (asked.Lose k) = tt
+    is_told tell all short (asked.Elect server) = tt
+    is_told tell all short (asked.Resend server) = tt
+    is_told tell all short (asked.Stop server) = tt
+    is_told tell all short (asked.Restart server) = let r = stands.replays tell in (told_at told old all server, honest_at setup history r.legal short stands.past r.same server)
+    is_told tell all short asked.Claim = tt
+    is_told tell all short (asked.Finish filled) = tt
+    is_told tell all short (asked.Checkpoint server) = tt
 
     module _ (rose : S → S → Type 0) (was : S → S → Durable → Durable → Type 0) (new : Cluster S) where
       abbrev Went : Group → Event → Answer → Type 0
       Went g event answer = HasGone holds used format told rose was setup g event old new answer
 
       -- after one more event
-      pub stands_after : (event : Event) (answer : Answer) (later : History) → later ≡ history ++ record { event = event; answer = answer } ∷ [] → length later ≤ 2 ^ 32 → MayHappen (claims_of [] history) event → Went stands.past.group event answer → StandsFor holds used format told setup later new
+      pub stands_after : (event : Event) (answer : Answer) (later : History) → later ≡ history ++ record { event = event; answer = answer } ∷ [] → length later ≤ 2 ^ 32 → MayHappen (claims_of [] history) event → Went stands.past.group event answer → StandsFor holds used format told tells setup later new
       stands_after event answer later is low asked gone =
           let h : Happening = record { event = event; answer = answer } in
           let one_more = length-append history (h ∷ []) in
           let short : length (history ++ h ∷ []) ≤ 2 ^ 32 = subst (λ l. length l ≤ 2 ^ 32) is low in
-          subst (λ l. StandsFor holds used format told setup l new) (sym is) (record {
+          subst (λ l. StandsFor holds used format told tells setup l new) (sym is) (record {
             past = past_after setup stands.past event answer;
             reached = reached_after holds used format told rose was setup stands.past old new stands.reached (omega (arith, stands.most, one_more, short)) event answer (subst (λ claims. MayHappen claims event) (sym stands.claims) asked) gone;
             covers = record { count = omega (arith, stands.covers.count); top = stands.covers.top };
             most = omega (arith, stands.most, one_more);
             claims = ap (λ claims. claims_after claims event answer) stands.claims ∙ sym (claims_more history [] h);
             replays = λ tell.
-                let r = stands.replays (tell_alike told new old (λ i. sym (gone.tells i)) tell) in
+                let r = stands.replays tell in
                 record {
                   same = ap (λ g. happens setup g event (ending answer)) r.same ∙ sym (replay_goes_on setup history h);
                   legal = legal_goes_on setup history h r.legal (record { asked = asked; answered = subst (λ g. IsAnswer setup g event answer) r.same gone.answered });
                 };
           })
 
+      -- after a restart over disks that tell nothing
+      pub stands_led : tells ≡ false → (i : ℕ) (found : Bool) (answer : Answer) (later : History) → later ≡ history ++ record { event = Restart i found; answer = answer } ∷ [] → length later ≤ 2 ^ 32 → i < 3 → HasBegunSomehow holds used format told rose was setup stands.past.group i old new answer → StandsFor holds used format told tells setup later new
+      stands_led none i found answer later is low three begun =
+          let h : Happening = record { event = Restart i found; answer = answer } in
+          let one_more = length-append history (h ∷ []) in
+          let short : length (history ++ h ∷ []) ≤ 2 ^ 32 = subst (λ l. length l ≤ 2 ^ 32) is low in
+          let led = somehow_leads_on holds used format told rose was setup stands.past old new stands.reached (omega (arith, stands.most, one_more, short)) stands.covers i three (Ok (answer, found)) begun in
+          subst (λ l. StandsFor holds used format told tells setup l new) (sym is) (record {
+            past = led.later;
+            reached = led.reached;
+            covers = record { count = omega (arith, stands.covers.count, led.least); top = subst (λ t. 2 ^ 63 ≤ t) (sym led.top) stands.covers.top };
+            most = omega (arith, stands.most, led.most, one_more);
+            claims = led.claims ∙ stands.claims ∙ sym (claims_more history [] h);
+            replays = λ tell. absurd (false≢true (sym none ∙ tell));
+          })
+
       -- where there was no memory for it
-      pub stands_still : (own : Option ℕ) (later : History) → later ≡ history → HasStayed holds used format told rose was setup stands.past.group own old new → StandsFor holds used format told setup later new
-      stands_still own later is stayed = subst (λ l. StandsFor holds used format told setup l new) (sym is) (record {
+      pub stands_still : (later : History) → later ≡ history → Shows holds used format told setup new stands.past.group → StandsFor holds used format told tells setup later new
+      stands_still later is shows = subst (λ l. StandsFor holds used format told tells setup l new) (sym is) (record {
         past = stands.past;
-        reached = record { viable = stands.reached.viable; short = stands.reached.short; shows = stayed.shows };
+        reached = record { viable = stands.reached.viable; short = stands.reached.short; shows = shows };
         covers = stands.covers;
         most = stands.most;
         claims = stands.claims;
-        replays = λ tell. stands.replays (tell_alike told new old (λ i. sym (stayed.tells i)) tell);
+        replays = stands.replays;
       })
 
       -- what came of an event, said of the state after the history
-      pub went_now : AllTell told old → (event : Event) (answer : Answer) → Went stands.past.group event answer → Went (replay setup history) event answer
+      pub went_now : IsTrue tells → (event : Event) (answer : Answer) → Went stands.past.group event answer → Went (replay setup history) event answer
       went_now tell event answer gone = subst (λ g. Went g event answer) (stands.replays tell).same gone
 
-      pub stayed_now : AllTell told old → (own : Option ℕ) → HasStayed holds used format told rose was setup stands.past.group own old new → HasStayed holds used format told rose was setup (replay setup history) own old new
+      pub stayed_now : IsTrue tells → (own : Option ℕ) → HasStayed holds used format told rose was setup stands.past.group own old new → HasStayed holds used format told rose was setup (replay setup history) own old new
       stayed_now tell own stayed = subst (λ g. HasStayed holds used format told rose was setup g own old new) (stands.replays tell).same stayed

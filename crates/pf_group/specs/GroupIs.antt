@@ -15,13 +15,14 @@ pub record Times : Type 0 where
 
 pub record GroupIs : Type 0 where
   pub number : ℕ  -- of the group in its volume
+  pub told : Bool  -- whether disks of its type tell their content
   pub setup : Setup
   pub history : History
   pub taken : List Bool  -- for each read by its number, whether its answer was handed out
   pub faults : List (ℕ × ℕ)  -- for each server, how often the disks of its halves 0 and 1 have failed
   pub time : Times
 
--- the state after the history
+-- the state after the history, for which the group stands where its disks tell their content
 abbrev pub state_of : GroupIs → Group
 state_of g = replay g.setup g.history
 

@@ -1,5 +1,5 @@
 -- What a group's fields stand for.
-use Rattle.std.specs.Prelude.{◌≡◌, ℕ, Bool, Option, List, Some, length, slice_get}
+use Rattle.std.specs.Prelude.{◌≡◌, ℕ, Bool, IsTrue, Option, List, Some, length, slice_get}
 use Rattle.pf_disk.specs.Crashes.{Images}
 use Rattle.pf_protocol.specs.Servers.{Setup}
 use Rattle.pf_protocol.specs.Groups.{Group}
@@ -19,9 +19,10 @@ use Rattle.pf_server.specs.declared.server.Server.{Server}
 
 module _ {D : Type 0} where
   -- a group with this history and these servers, whose last step that may have touched disks began with those
-  abbrev pub group_of : (faults moment : D → ℕ) → (number : ℕ) → Setup → (earlier : History) (began : Cluster (Kept D)) → History → Cluster (Kept D) → GroupIs
-  group_of faults moment number setup earlier began history cluster = record {
+  abbrev pub group_of : (told : Bool) → (faults moment : D → ℕ) → (number : ℕ) → Setup → (earlier : History) (began : Cluster (Kept D)) → History → Cluster (Kept D) → GroupIs
+  group_of told faults moment number setup earlier began history cluster = record {
     number = number;
+    told = told;
     setup = setup;
     history = history;
     taken = taken_of cluster;
@@ -32,8 +33,8 @@ module _ {D : Type 0} where
   abbrev pub setup_in : Inside D → Setup
   setup_in g = setup_with g.sectors g.names g.format g.failed.items
 
-  abbrev pub group_in : (faults moment : D → ℕ) → Inside D → GroupIs
-  group_in faults moment g = group_of faults moment g.number (setup_in g) g.began.happenings.value.items g.began.cluster.value g.past.happenings.items g.cluster
+  abbrev pub group_in : (told : Bool) → (faults moment : D → ℕ) → Inside D → GroupIs
+  group_in told faults moment g = group_of told faults moment g.number (setup_in g) g.began.happenings.value.items g.began.cluster.value g.past.happenings.items g.cluster
 
   -- a restart looks for each server's own head
   abbrev pub HaveHeads : (number : ℕ) → Cluster (Kept D) → Type 0
@@ -48,12 +49,12 @@ module _ {D : Type 0} where
       pub touched : (i : ℕ) (server next : Server (Kept D)) → slice_get began.servers.items i ≡ Some server → slice_get cluster.servers.items i ≡ Some next
           → WasTouched (was_in seen faults moment left_since tells_moments) before after i server.store next.store
 
-  -- the servers stand for the state after the history, since the disks of each tell their content
-  pub record IsGroup (seen : D → Option (List ℕ)) (may_leave : D → Images) (faults moment : D → ℕ) (left_since : D → ℕ → Images) (tells_moments : Bool) (g : Inside D) : Type 0 where
-    pub stands : StandsFor (holds_in seen may_leave) used_in format_in (told_in seen) (setup_in g) g.past.happenings.items g.cluster
-    pub tell : AllTell (told_in seen) g.cluster
-    pub heads : HaveHeads g.number g.cluster
+  -- The servers stand for what the history led to. Where their disks tell their content, that is the state after it, and it is known what a
+  -- crash leaves.
+  pub record IsGroup (seen : D → Option (List ℕ)) (may_leave : D → Images) (faults moment : D → ℕ) (left_since : D → ℕ → Images) (tells tells_moments : Bool) (g : Inside D) : Type 0 where
+    pub stands : StandsFor (holds_in seen may_leave) used_in format_in (told_in seen) tells (setup_in g) g.past.happenings.items g.cluster
+    pub heads : IsTrue tells → HaveHeads g.number g.cluster
     pub past : IsPast g.past
     pub after : History
     pub last : IsLastStep g.began.happenings.value.items after g.past.happenings.items
-    pub since : IsSince seen faults moment left_since tells_moments (replay (setup_in g) g.began.happenings.value.items) (replay (setup_in g) after) g.began.cluster.value g.cluster
+    pub since : IsTrue tells → IsSince seen faults moment left_since tells_moments (replay (setup_in g) g.began.happenings.value.items) (replay (setup_in g) after) g.began.cluster.value g.cluster

@@ -1,5 +1,5 @@
 -- How a group is made.
-use Rattle.std.specs.Prelude.{◌≡◌, ℕ, true, IsTrue, List, [], ◌∷◌, Option, is_some}
+use Rattle.std.specs.Prelude.{◌≡◌, ℕ, Bool, true, List, [], ◌∷◌}
 use Rattle.pf_entry.specs.Lists.{Every}
 use Rattle.pf_entry.specs.Tables.{ascends}
 use Rattle.pf_protocol.specs.declared.answers.Answer.{Answer}
@@ -14,19 +14,9 @@ use Rattle.pf_group.specs.Halves.{AreLater, HasRisen}
 abbrev pub setup_with : (sectors names format : ℕ) → (failed : List ℕ) → Setup
 setup_with sectors names format failed = record { names = names; window = 4096; chunk = sectors; format = format; failed = failed }
 
-module _ {D : Type 0} where
-  -- each disk tells its content
-  pub record AreTold (seen : D → Option (List ℕ)) (disks : Six D) : Type 0 where
-    pub s0h0 : IsTrue (is_some (seen disks.s0h0))
-    pub s0h1 : IsTrue (is_some (seen disks.s0h1))
-    pub s1h0 : IsTrue (is_some (seen disks.s1h0))
-    pub s1h1 : IsTrue (is_some (seen disks.s1h1))
-    pub s2h0 : IsTrue (is_some (seen disks.s2h0))
-    pub s2h1 : IsTrue (is_some (seen disks.s2h1))
-
-  -- how often each has failed, server by server
-  abbrev pub six_faults : (D → ℕ) → Six D → List (ℕ × ℕ)
-  six_faults faults disks = (faults disks.s0h0, faults disks.s0h1) ∷ (faults disks.s1h0, faults disks.s1h1) ∷ (faults disks.s2h0, faults disks.s2h1) ∷ []
+-- how often each disk has failed, server by server
+abbrev pub six_faults : {D : Type 0} → (D → ℕ) → Six D → List (ℕ × ℕ)
+six_faults faults disks = (faults disks.s0h0, faults disks.s0h1) ∷ (faults disks.s1h0, faults disks.s1h1) ∷ (faults disks.s2h0, faults disks.s2h1) ∷ []
 
 -- the making is halted where some server could not be formatted
 abbrev pub making_answer : List ℕ → Answer
@@ -34,9 +24,9 @@ making_answer [] = Done
 making_answer (i ∷ is) = Refused Halted
 
 -- a new group, whose servers could be formatted but for those of which a disk failed
-pub record IsMade (number sectors names format : ℕ) (before : List (ℕ × ℕ)) (g : GroupIs) (answer : Answer) : Type 0 where
+pub record IsMade (number sectors names format : ℕ) (told : Bool) (before : List (ℕ × ℕ)) (g : GroupIs) (answer : Answer) : Type 0 where
   pub failed : List ℕ
-  pub is : g ≡ record { number = number; setup = setup_with sectors names format failed; history = []; taken = []; faults = g.faults; time = g.time }
+  pub is : g ≡ record { number = number; told = told; setup = setup_with sectors names format failed; history = []; taken = []; faults = g.faults; time = g.time }
   pub once : ascends failed ≡ true
   pub cause : Every (λ i. HasRisen i before g.faults) failed
   pub later : AreLater before g.faults

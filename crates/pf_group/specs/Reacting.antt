@@ -1,5 +1,5 @@
 -- What comes of one event of a cluster.
-use Rattle.std.specs.Prelude.{◌≡◌, ℕ, Bool, Option, Some, None, Result, Ok, Err}
+use Rattle.std.specs.Prelude.{◌≡◌, ◌⊎◌, ℕ, Bool, Option, Some, None, Result, Ok, Err}
 use Rattle.pf_base.specs.declared.errors.NoMemory.{NoMemory}
 use Rattle.pf_entry.specs.Records.{Durable}
 use Rattle.pf_protocol.specs.declared.events.Event.{Event}
@@ -8,7 +8,7 @@ use Rattle.pf_protocol.specs.Servers.{Setup}
 use Rattle.pf_cluster.specs.Pasts.{Past}
 use Rattle.pf_protocol.specs.Groups.{Group}
 use Rattle.pf_cluster.specs.declared.cluster.Cluster.{Cluster}
-use Rattle.pf_cluster.specs.Going.{HasGone, HasStayed, IsHonestAt, IsReached, IsToldAt}
+use Rattle.pf_cluster.specs.Going.{HasBegunSomehow, HasGone, HasKept, HasStayed, IsHonestAt, IsReached, IsToldAt}
 use Rattle.pf_group.specs.declared.event.GroupEvent.{GroupEvent}
 use Rattle.pf_group.specs.declared.event.GroupEvent.TheVariants as asked
 use Rattle.pf_group.specs.declared.reaction.Reaction.{Reaction}
@@ -49,3 +49,18 @@ module _ {S : Type 0} (holds : S → Durable → Durable → Type 0) (used forma
     abbrev pub ComesBack : Setup → Group → (i : ℕ) → (old new : Cluster S) → Result Reaction NoMemory → Type 0
     ComesBack setup g i old new (Ok r) = (found : Bool) × Answers setup g (Restart i found) old new r
     ComesBack setup g i old new (Err e) = HasStayed holds used format told rose was setup g (Some i) old new
+
+    -- over any disks: whatever state that fits it began from, or was cut off over
+    pub record HasAnsweredSomehow (setup : Setup) (g : Group) (i : ℕ) (old new : Cluster S) (r : Reaction) : Type 0 where
+      pub found : Bool
+      pub event_is : r.event ≡ Restart i found
+      pub twice : r.kept ≡ r.answer
+      pub begun : HasBegunSomehow holds used format told rose was setup g i old new r.answer
+
+    abbrev pub ComesBackSomehow : Setup → Group → (i : ℕ) → (old new : Cluster S) → Result Reaction NoMemory → Type 0
+    ComesBackSomehow setup g i old new (Ok r) = HasAnsweredSomehow setup g i old new r
+    ComesBackSomehow setup g i old new (Err e) = HasKept holds used format told rose was setup g i old new
+
+    -- it came to what the rules say, or it is a restart, which came to something
+    abbrev pub ReactsSomehow : Setup → Group → GroupEvent → (old new : Cluster S) → Result Reaction NoMemory → Type 0
+    ReactsSomehow setup g event old new r = Reacts setup g event old new r ⊎ ((i : ℕ) × (event ≡ asked.Restart i) × ComesBackSomehow setup g i old new r)

@@ -1,5 +1,5 @@
 -- What a group shows.
-use Rattle.std.specs.Prelude.{◌≡◌, ◌≢◌, ℕ, ◌<◌, Bool, true, false, not, ◌||◌, List, Option, Some, None, Result, Ok, Err, nat_lt, slice_get, slice_set}
+use Rattle.std.specs.Prelude.{◌≡◌, ◌≢◌, ℕ, ◌<◌, Bool, true, false, IsTrue, not, ◌||◌, List, Option, Some, None, Result, Ok, Err, nat_lt, slice_get, slice_set}
 use Rattle.std.specs.FinMap
 use Rattle.pf_entry.specs.Lists.{Every}
 use Rattle.pf_entry.specs.Maps.{Numbers}
@@ -44,9 +44,9 @@ snapshot_in _ slot = None
 -- an answer of a read is handed out for the first time
 pub record HasTaken (old : GroupIs) (number : ℕ) (bytes : List Sector) (new : GroupIs) : Type 0 where
   pub first : slice_get old.taken number ≡ Some false
-  pub answer : HasAnswer (state_of old).answered number bytes
+  pub answer : IsTrue old.told → HasAnswer (state_of old).answered number bytes
   pub is : new ≡ record old { taken = slice_set old.taken number true }
 
--- no read has the number, or its answer was handed out, or it waits
+-- no read has the number, or its answer was handed out, or it waits; where the disks tell their content
 abbrev pub LacksAnswer : GroupIs → (number : ℕ) → Type 0
-LacksAnswer g number = slice_get g.taken number ≡ Some false → Every (λ a. a.number ≢ number) (state_of g).answered
+LacksAnswer g number = IsTrue g.told → slice_get g.taken number ≡ Some false → Every (λ a. a.number ≢ number) (state_of g).answered

@@ -18,12 +18,12 @@ pub record IsReplay (setup : Setup) (history : History) (past : Past) : Type 0 w
 abbrev pub AllTell : {S : Type 0} → (S → Bool) → Cluster S → Type 0
 AllTell {S = S} told cluster = (i : ℕ) (server : Server S) → slice_get cluster.servers.items i ≡ Some server → IsTrue (told server.store)
 
--- It stands for the group of some past, whose open claims are those of the history. Where its disks tell their content, that group is the
--- replay of the history; where they do not, restarts may have begun from any state that fits.
-pub record StandsFor {S : Type 0} (holds : S → Durable → Durable → Type 0) (used format : S → ℕ) (told : S → Bool) (setup : Setup) (history : History) (cluster : Cluster S) : Type 0 where
+-- It stands for the group of some past, whose open claims are those of the history. Where disks of its type tell their content, that group is
+-- the replay of the history; where they do not, restarts may have begun from any state that fits.
+pub record StandsFor {S : Type 0} (holds : S → Durable → Durable → Type 0) (used format : S → ℕ) (told : S → Bool) (tells : Bool) (setup : Setup) (history : History) (cluster : Cluster S) : Type 0 where
   pub past : Past
   pub reached : IsReached holds used format told setup past cluster
   pub covers : CoversRestarts past
   pub most : past.count ≤ 2 ^ 63 + 4096 + length history
   pub claims : past.claims ≡ claims_of [] history
-  pub replays : AllTell told cluster → IsReplay setup history past
+  pub replays : IsTrue tells → IsReplay setup history past

@@ -6,7 +6,7 @@ ghost use Rattle.pf_cluster.specs.Pasts.{Past};
 ghost use Rattle.pf_protocol.specs.Answers.{IsSubmitted};
 ghost use Rattle.pf_protocol.specs.declared.events.Event.TheVariants.{Checkpoint, Claim, Deliver, Elect, Fetch, Finish, Lose, Resend, Restart, Stop, Submit};
 ghost use Rattle.pf_cluster.specs.Going.{HasPast, IsBroughtBack, IsHonestAt, IsReached, IsToldAt};
-ghost use Rattle.pf_group.specs.Reacting.{Comes, ComesBack, Answers};
+ghost use Rattle.pf_group.specs.Reacting.{Comes, ComesBack, ComesBackSomehow, Answers};
 
 use crate::Reaction;
 use pf_base::{Filled, NoMemory, Range, Server};
@@ -117,7 +117,8 @@ pub fn restart<S: Store>(
 ) -> Result<Reaction, NoMemory>
     requires server { server < 3 }
     requires reached { HasPast S.holds S.used S.format S.told cluster.old }
-    ensures { (setup : Setup) (past : Past) → IsReached S.holds S.used S.format S.told setup past cluster.old → IsToldAt S.told cluster.old server → IsHonestAt setup past.group server → ComesBack S.holds S.used S.format S.told S.rose S.was setup past.group server cluster.old cluster.new result }
+    ensures told { (setup : Setup) (past : Past) → IsReached S.holds S.used S.format S.told setup past cluster.old → IsToldAt S.told cluster.old server → IsHonestAt setup past.group server → ComesBack S.holds S.used S.format S.told S.rose S.was setup past.group server cluster.old cluster.new result }
+    ensures somehow { (setup : Setup) (past : Past) → IsReached S.holds S.used S.format S.told setup past cluster.old → ComesBackSomehow S.holds S.used S.format S.told S.rose S.was setup past.group server cluster.old cluster.new result }
 {
     let (answer, found) = cluster.restart(alloc, server)?;
     Ok(Reaction::plain(Event::Restart { server, found }, answer))

@@ -6,7 +6,7 @@ ghost use Rattle.pf_cluster.specs.Pasts.{Past as PastIs};
 ghost use Rattle.pf_group.specs.Beginning.{IsBegun, IsBegunIf};
 ghost use Rattle.pf_group.specs.Events.{MayWant};
 ghost use Rattle.pf_group.specs.Halves.{format_in, holds_in, rose_in, told_in, used_in, was_in};
-ghost use Rattle.pf_group.specs.Reacting.{IsTold, MayReact, Reacts, own_of};
+ghost use Rattle.pf_group.specs.Reacting.{IsTold, MayReact, Reacts, ReactsSomehow, own_of};
 
 use crate::past::Past;
 use crate::react::react;
@@ -59,6 +59,8 @@ pub fn begin<D: Disk + Drop>(
     requires { MayReact (holds_in D.seen D.may_leave) used_in format_in (told_in D.seen) cluster.old event }
     ensures step { (setup : Setup) (came : PastIs) → IsReached (holds_in D.seen D.may_leave) used_in format_in (told_in D.seen) setup came cluster.old → IsTold (told_in D.seen) setup came.group cluster.old event
         → Reacts (holds_in D.seen D.may_leave) used_in format_in (told_in D.seen) (rose_in D.faults) (was_in D.seen D.faults D.moment D.left_since D.tells_moments) setup came.group event cluster.old cluster.new result }
+    ensures somehow { (setup : Setup) (came : PastIs) → IsReached (holds_in D.seen D.may_leave) used_in format_in (told_in D.seen) setup came cluster.old
+        → ReactsSomehow (holds_in D.seen D.may_leave) used_in format_in (told_in D.seen) (rose_in D.faults) (was_in D.seen D.faults D.moment D.left_since D.tells_moments) setup came.group event cluster.old cluster.new result }
     ensures sure { OnErr result (MayWant event) }
     ensures began { IfOk result (λ r. IsBegunIf (not (is_quiet r.event)) cluster.old past.now.happenings.items began.old began.new) }
     ensures tried { OnErr result (IsBegunIf (is_some (own_of event)) cluster.old past.now.happenings.items began.old began.new) }

@@ -2,7 +2,7 @@
 ghost use Rattle.std.specs.Prelude.{◌≡◌, ◌+◌, ◌<◌, ◌≤◌, ◌++◌, [], IfOk, vec_capacity, vec_len};
 ghost use Rattle.pf_protocol.specs.Answers.{IsSetup};
 ghost use Rattle.pf_restart.specs.Beginning.{setup_at};
-ghost use Rattle.pf_group.specs.Making.{AreTold, IsMade, making_answer, setup_with, six_faults};
+ghost use Rattle.pf_group.specs.Making.{IsMade, making_answer, setup_with, six_faults};
 ghost use Rattle.pf_group.specs.Rooms.{IsEmpty, IsPlan, IsPlanOf, halted_of, picked};
 
 use crate::began::Began;
@@ -157,8 +157,7 @@ impl<D: Disk + Drop> Plan<D> {
     pub fn open(self, disks: Six<D>) -> (Group<D>, Answer)
         requires setup { IsSetup (setup_with self.sectors self.names self.format []) }
         requires plan { IsPlan self }
-        requires told { AreTold D.seen disks }
-        ensures { IsMade self.number self.sectors self.names self.format (six_faults D.faults disks) result.0 result.1 }
+        ensures { IsMade self.number self.sectors self.names self.format D.tells (six_faults D.faults disks) result.0 result.1 }
     {
         let Plan {
             number,

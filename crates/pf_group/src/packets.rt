@@ -1,5 +1,5 @@
 //! Packets that are left.
-ghost use Rattle.std.specs.Prelude.{◌≡◌};
+ghost use Rattle.std.specs.Prelude.{◌≡◌, ◌≤◌, IsTrue};
 ghost use Rattle.pf_group.specs.GroupIs.{state_of};
 ghost use Rattle.pf_group.specs.Packets.{IsFirstLeft, is_passed_over};
 
@@ -20,7 +20,9 @@ pub fn is_passed_over(answer: &Answer) -> bool
 impl<D: Disk> Group<D> {
     /// The least packet from `from` on that is left, or how many there are, where none is.
     pub fn left_from(&self, from: u32) -> u32
-        ensures { IsFirstLeft (state_of self.now) from result }
+        ensures first { IsTrue self.now.told → IsFirstLeft (state_of self.now) from result }
+        ensures above { from ≤ result }
+        ensures few { from ≤ 65536 → result ≤ 65536 }
     {
         let packets = self.packets();
         for k in from..packets {

@@ -4,7 +4,7 @@ ghost use Rattle.pf_protocol.specs.Servers.{Setup};
 ghost use Rattle.pf_cluster.specs.Pasts.{Past};
 ghost use Rattle.pf_cluster.specs.Going.{IsReached};
 ghost use Rattle.pf_group.specs.Events.{MayWant};
-ghost use Rattle.pf_group.specs.Reacting.{IsTold, MayReact, Reacts};
+ghost use Rattle.pf_group.specs.Reacting.{IsTold, MayReact, Reacts, ReactsSomehow};
 
 use crate::{GroupEvent, Reaction, arms};
 use pf_base::NoMemory;
@@ -21,6 +21,7 @@ pub fn react<S: Store>(
 ) -> Result<Reaction, NoMemory>
     requires { MayReact S.holds S.used S.format S.told cluster.old event }
     ensures step { (setup : Setup) (past : Past) → IsReached S.holds S.used S.format S.told setup past cluster.old → IsTold S.told setup past.group cluster.old event → Reacts S.holds S.used S.format S.told S.rose S.was setup past.group event cluster.old cluster.new result }
+    ensures somehow { (setup : Setup) (past : Past) → IsReached S.holds S.used S.format S.told setup past cluster.old → ReactsSomehow S.holds S.used S.format S.told S.rose S.was setup past.group event cluster.old cluster.new result }
     ensures sure { OnErr result (MayWant event) }
 {
     match event {

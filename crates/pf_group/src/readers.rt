@@ -1,5 +1,5 @@
-//! What a group shows.
-ghost use Rattle.std.specs.Prelude.{◌≡◌, IfNone, IfSome, length, map, slice_get};
+//! What a group shows. Where its disks tell their content, that is of the state after its history.
+ghost use Rattle.std.specs.Prelude.{◌≡◌, ◌<◌, ◌≤◌, IfNone, IfSome, IsTrue, length, map, slice_get};
 ghost use Rattle.pf_cluster.specs.Showing.{acked_of};
 ghost use Rattle.pf_cluster.specs.Shown.{IsLeader, is_acked};
 ghost use Rattle.pf_group.specs.GroupIs.{state_of};
@@ -13,35 +13,38 @@ use pf_disk::Disk;
 impl<D: Disk> Group<D> {
     /// The slots that were acknowledged to hosts, in order.
     pub fn acked(&self) -> &[Acked]
-        ensures { result.now ≡ map acked_of (state_of self.now).acked }
+        ensures { IsTrue self.now.told → result.now ≡ map acked_of (state_of self.now).acked }
     {
         self.cluster.acked()
     }
 
     /// Whether the slot was acknowledged in this term. It is found without going through the others.
     pub fn is_acked(&self, term: Term, slot: Slot) -> bool
-        ensures { result ≡ is_acked (state_of self.now) term slot }
+        ensures { IsTrue self.now.told → result ≡ is_acked (state_of self.now) term slot }
     {
         self.cluster.is_acked(term, slot)
     }
 
     /// Of the running servers that serve the one of the greatest term: that term, and its number. `None` exactly where none serves.
     pub fn leader(&self) -> Option<(Term, Number)>
-        ensures { IsLeader (state_of self.now) result }
+        ensures low { IfSome result (λ served. served.1 < 3) }
+        ensures leader { IsTrue self.now.told → IsLeader (state_of self.now) result }
     {
         self.cluster.leader()
     }
 
     /// How many packets were ever sent, at most 65,536. They have the numbers below it.
     pub fn packets(&self) -> u32
-        ensures { result ≡ length (state_of self.now).packets }
+        ensures few { result ≤ 65536 }
+        ensures count { IsTrue self.now.told → result ≡ length (state_of self.now).packets }
     {
         self.cluster.packet_count()
     }
 
     /// Whether packet `k` was sent, and neither delivered nor lost.
     pub fn is_left(&self, k: u32) -> bool
-        ensures { result ≡ is_left (slice_get (state_of self.now).packets k) }
+        ensures sent { IsTrue result → k < 65536 }
+        ensures left { IsTrue self.now.told → result ≡ is_left (slice_get (state_of self.now).packets k) }
     {
         self.cluster.is_left(k)
     }
@@ -52,7 +55,7 @@ impl<D: Disk> Group<D> {
         ensures taken { IfSome result (λ bytes. HasTaken self.old number bytes self.new) }
         ensures none { IfNone result (LacksAnswer self.old number) }
         ensures same { IfNone result (self.new ≡ self.old) }
-        ensures numbered { length self.old.taken ≡ (state_of self.old).reads }
+        ensures numbered { IsTrue self.old.told → length self.old.taken ≡ (state_of self.old).reads }
     {
         self.cluster.take_read(number)
     }

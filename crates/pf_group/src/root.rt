@@ -1,6 +1,7 @@
 //! What never changes of a group, and what happened to it.
-ghost use Rattle.std.specs.Prelude.{◌≡◌, IfOk};
-ghost use Rattle.pf_protocol.specs.Answers.{IsLegal};
+ghost use Rattle.std.specs.Prelude.{◌≡◌, ◌<◌, [], IfOk, IsTrue};
+ghost use Rattle.pf_entry.specs.Lists.{Every};
+ghost use Rattle.pf_protocol.specs.Answers.{IsLegal, claims_of};
 ghost use Rattle.pf_group.specs.Roots.{root_of};
 ghost use Rattle.pf_group.specs.Sound.{IsSound};
 
@@ -31,10 +32,12 @@ impl Model for Root {
 }
 
 impl<D: Disk + Drop> Group<D> {
-    /// All that happened, in order.
+    /// All that happened, in order: a legal history, where the disks tell their content. Its open claims are of the three servers.
     pub fn history(&self) -> &[Happening]
         ensures items { result.now ≡ self.now.history }
-        ensures legal { IsLegal self.now.setup self.now.history }
+        ensures told { self.now.told ≡ D.tells }
+        ensures legal { IsTrue self.now.told → IsLegal self.now.setup self.now.history }
+        ensures low { Every (λ c. c.server < 3) (claims_of [] self.now.history) }
         ensures sound { IsSound self.now.setup self.now.history }
     {
         &self.past.happenings

@@ -1,5 +1,5 @@
-//! What a group shows of one server.
-ghost use Rattle.std.specs.Prelude.{◌≡◌, ◌<◌, slice_get};
+//! What a group shows of one server. Where its disks tell their content, that is of the state after its history.
+ghost use Rattle.std.specs.Prelude.{◌≡◌, ◌<◌, IsTrue, slice_get};
 ghost use Rattle.std.specs.FinMap as map;
 ghost use Rattle.std.specs.Option.{option_copied};
 ghost use Rattle.pf_entry.specs.Sets as set;
@@ -18,7 +18,7 @@ impl<D: Disk> Group<D> {
     /// What the server has in memory. `Down` (51) exactly where it does not run.
     fn running_at(&self, server: Number) -> Result<&Running, Down>
         requires { server < 3 }
-        ensures { TellsOf (state_of self.now) server result (λ me s. IsMemoryOf me.now s) }
+        ensures { IsTrue self.now.told → TellsOf (state_of self.now) server result (λ me s. IsMemoryOf me.now s) }
     {
         self.cluster.running(server).ok_or(Down)
     }
@@ -26,7 +26,7 @@ impl<D: Disk> Group<D> {
     /// The term of the server. `Down` (51) exactly where it does not run.
     pub fn term_of(&self, server: Number) -> Result<Term, Down>
         requires { server < 3 }
-        ensures { TellsOf (state_of self.now) server result (λ term s. term ≡ s.durable.term) }
+        ensures { IsTrue self.now.told → TellsOf (state_of self.now) server result (λ term s. term ≡ s.durable.term) }
     {
         Ok(self.running_at(server)?.term)
     }
@@ -35,7 +35,7 @@ impl<D: Disk> Group<D> {
     /// exactly where it does not run.
     pub fn base_of(&self, server: Number) -> Result<Slot, Down>
         requires { server < 3 }
-        ensures { TellsOf (state_of self.now) server result (λ base s. base ≡ s.durable.base) }
+        ensures { IsTrue self.now.told → TellsOf (state_of self.now) server result (λ base s. base ≡ s.durable.base) }
     {
         Ok(self.running_at(server)?.log.base())
     }
@@ -44,7 +44,7 @@ impl<D: Disk> Group<D> {
     /// does not run.
     pub fn log_of(&self, server: Number) -> Result<&HoleLog, Down>
         requires { server < 3 }
-        ensures { TellsOf (state_of self.now) server result (λ log s. log.now ≡ holes_of s) }
+        ensures { IsTrue self.now.told → TellsOf (state_of self.now) server result (λ log s. log.now ≡ holes_of s) }
     {
         Ok(&self.running_at(server)?.log)
     }
@@ -53,7 +53,7 @@ impl<D: Disk> Group<D> {
     /// not run.
     pub fn entry_of(&self, server: Number, slot: Slot) -> Result<Option<&Entry>, Down>
         requires { server < 3 }
-        ensures { TellsOf (state_of self.now) server result (λ entry s. option_copied entry ≡ map.get s.durable.log slot) }
+        ensures { IsTrue self.now.told → TellsOf (state_of self.now) server result (λ entry s. option_copied entry ≡ map.get s.durable.log slot) }
     {
         Ok(self.running_at(server)?.log.get(slot))
     }
@@ -61,7 +61,7 @@ impl<D: Disk> Group<D> {
     /// Whether the server knows the slot above its checkpoint to be committed. `Down` (51) exactly where the server does not run.
     pub fn is_committed_of(&self, server: Number, slot: Slot) -> Result<bool, Down>
         requires { server < 3 }
-        ensures { TellsOf (state_of self.now) server result (λ is s. is ≡ set.contains s.committed slot) }
+        ensures { IsTrue self.now.told → TellsOf (state_of self.now) server result (λ is s. is ≡ set.contains s.committed slot) }
     {
         Ok(self.running_at(server)?.log.is_committed(slot))
     }
@@ -69,7 +69,7 @@ impl<D: Disk> Group<D> {
     /// The slots that the server has applied, those up to its checkpoint too. `Down` (51) exactly where it does not run.
     pub fn applied_of(&self, server: Number) -> Result<&SlotSet, Down>
         requires { server < 3 }
-        ensures { TellsOf (state_of self.now) server result (λ slots s. IsAppliedOf slots.now.slots s) }
+        ensures { IsTrue self.now.told → TellsOf (state_of self.now) server result (λ slots s. IsAppliedOf slots.now.slots s) }
     {
         Ok(&self.running_at(server)?.applied)
     }
@@ -77,7 +77,7 @@ impl<D: Disk> Group<D> {
     /// The sectors of the server's chunk. `Down` (51) exactly where it does not run.
     pub fn sectors_of(&self, server: Number) -> Result<&[Sector], Down>
         requires { server < 3 }
-        ensures { TellsOf (state_of self.now) server result (λ sectors s. sectors.now ≡ s.sectors) }
+        ensures { IsTrue self.now.told → TellsOf (state_of self.now) server result (λ sectors s. sectors.now ≡ s.sectors) }
     {
         Ok(self.running_at(server)?.sectors.as_slice())
     }
@@ -86,7 +86,7 @@ impl<D: Disk> Group<D> {
     /// slot: it keeps those of its four greatest marks.
     pub fn snapshot(&self, server: Number, slot: Slot) -> Option<&[Sector]>
         requires { server < 3 }
-        ensures { option_copied result ≡ snapshot_in (slice_get (state_of self.now).servers server) slot }
+        ensures { IsTrue self.now.told → option_copied result ≡ snapshot_in (slice_get (state_of self.now).servers server) slot }
     {
         self.running_at(server).ok()?.snapshots.get(slot)
     }

@@ -1,5 +1,5 @@
 -- What a call adds to the history of a group.
-use Rattle.std.specs.Prelude.{◌≡◌, ℕ, false, [], ◌∷◌, ◌++◌, Option, Some, None, IfSome}
+use Rattle.std.specs.Prelude.{◌≡◌, ℕ, false, IsTrue, [], ◌∷◌, ◌++◌, Option, Some, None, IfSome}
 use Rattle.pf_entry.specs.Lists.{Every}
 use Rattle.pf_entry.specs.declared.ops.Job.{Job}
 use Rattle.pf_protocol.specs.declared.answers.Answer.{Answer}
@@ -13,7 +13,7 @@ use Rattle.pf_group.specs.Going.{WentBy}
 use Rattle.pf_group.specs.GroupIs.{GroupIs, state_of}
 use Rattle.pf_rounds.specs.Begun.{IsClaimOrReturn}
 use Rattle.pf_rounds.specs.Growing.{Pays}
-use Rattle.pf_rounds.specs.Jobs.{IsOfRound, jobs_in}
+use Rattle.pf_rounds.specs.Jobs.{IsOfRound, is_job, jobs_in}
 use Rattle.pf_rounds.specs.Rounds.{finishes}
 
 -- the group, after more has happened to it; time went on for its disks, which may have failed more often
@@ -51,7 +51,7 @@ claim_answer_of None = Refused NoneFree
 -- a job was claimed, which was in nobody's hand, or none was free
 pub record HasClaimed (old : GroupIs) (job : Option Job) (new : GroupIs) : Type 0 where
   pub recorded : new ≡ with_more old (record { event = Claim; answer = claim_answer_of job } ∷ []) new
-  pub answered : IsAnswer old.setup (state_of old) Claim (claim_answer_of job)
+  pub answered : IsTrue old.told → IsAnswer old.setup (state_of old) Claim (claim_answer_of job)
   pub paid : Pays old new
   pub by : WentBy old new
   pub free : IfSome job (λ j. Every (λ c. is_claim j.server j.life j.slot c ≡ false) (claims_of [] old.history))
@@ -59,10 +59,11 @@ pub record HasClaimed (old : GroupIs) (job : Option Job) (new : GroupIs) : Type 
 abbrev pub finish_of : Job → Event
 finish_of job = Finish job.server job.life job.slot
 
--- the job was finished
+-- the job was finished, and the answer is no job
 pub record HasFinished (old : GroupIs) (job : Job) (new : GroupIs) : Type 0 where
   pub answer : Answer
   pub recorded : new ≡ with_more old (record { event = finish_of job; answer = answer } ∷ []) new
-  pub answered : IsAnswer old.setup (state_of old) (finish_of job) answer
+  pub quiet : is_job answer ≡ false
+  pub answered : IsTrue old.told → IsAnswer old.setup (state_of old) (finish_of job) answer
   pub paid : Pays old new
   pub by : WentBy old new

@@ -1,5 +1,5 @@
 -- Which lists of halts tell of a group.
-use Rattle.std.specs.Prelude.{◌≡◌, ℕ, suc, ◌<◌, Bool, true, false, ◌&&◌, ◌==◌, List, [], ◌∷◌, ◌++◌, Some, length}
+use Rattle.std.specs.Prelude.{◌≡◌, ℕ, suc, ◌<◌, Bool, true, false, IsTrue, ◌&&◌, ◌==◌, List, [], ◌∷◌, ◌++◌, Some, length}
 use Rattle.pf_entry.specs.Lists.{Every}
 use Rattle.pf_protocol.specs.declared.answers.Answer.{Answer}
 use Rattle.pf_protocol.specs.declared.answers.Answer.TheVariants.{Refused}
@@ -54,8 +54,9 @@ pub record TellsOf (halts : List Halt) (c : Chunk) (h : Happening) : Type 0 wher
 abbrev pub at_moment : List Halt → GroupIs → History → Chunk
 at_moment halts g earlier = chunk_of halts (record g { history = earlier })
 
--- of the making of the group, which failed at some of three servers, and of each event of its history
+-- of the making of the group, which failed at some of three servers, and of each event of its history; its disks tell their content
 pub record TellsOfGroup (halts : List Halt) (g : GroupIs) : Type 0 where
+  pub told : IsTrue g.told
   pub making : failed_by halts g.number ≡ g.setup.failed
   pub few : Every (λ i. i < 3) g.setup.failed
   pub events : (earlier : History) (h : Happening) → IsPrefix (earlier ++ h ∷ []) g.history → TellsOf halts (at_moment halts g earlier) h

@@ -1,5 +1,5 @@
 -- More happens to a group, and each step that is cut off has its cause.
-use Rattle.std.specs.Prelude.{◌≡◌, ◌⊎◌, ℕ, ◌+◌, ◌-◌, ◌^◌, ◌≤◌, List, length, Some, slice_get}
+use Rattle.std.specs.Prelude.{◌≡◌, ◌⊎◌, ℕ, ◌+◌, ◌-◌, ◌^◌, ◌≤◌, IsTrue, List, length, Some, slice_get}
 use Rattle.pf_protocol.specs.Histories.{IsPrefix}
 use Rattle.pf_group.specs.Going.{WentBy}
 use Rattle.pf_group.specs.GroupIs.{GroupIs}
@@ -32,10 +32,11 @@ Pays old new = ArePaid (halts_in old) (halts_in new) old.faults new.faults
 abbrev pub IsPaidSince : List (ℕ × ℕ) → GroupIs → Type 0
 IsPaidSince before g = ArePaid (λ i. 0) (halts_in g) before g.faults
 
--- more happened to the group, event by event, and as many faults of the disks of a server as steps of it were cut off
+-- More happened to the group, event by event. Where its disks tell their content, those of a server failed as often as its steps were cut off
 pub record HasGrown (old new : GroupIs) : Type 0 where
   pub number : new.number ≡ old.number
+  pub told : new.told ≡ old.told
   pub setup : new.setup ≡ old.setup
   pub later : IsPrefix old.history new.history
-  pub paid : Pays old new
+  pub paid : IsTrue old.told → Pays old new
   pub by : ∥ WentBy old new ∥₁

@@ -1,5 +1,5 @@
 //! Rounds of claims and finishes.
-ghost use Rattle.std.specs.Prelude.{◌≡◌, ◌≤◌, ℕ, List, [], IfOk, OnErr, OnOk, is_some};
+ghost use Rattle.std.specs.Prelude.{◌≡◌, ◌≤◌, ℕ, List, [], IfOk, IsTrue, OnErr, OnOk, is_some};
 ghost use Rattle.std.specs.List.{list_all};
 ghost use Rattle.pf_protocol.specs.Answers.{claims_of};
 ghost use Rattle.pf_protocol.specs.Histories.{Runs};
@@ -67,7 +67,7 @@ fn round<D: Disk + Drop, R: Threads + Sync, G: Gate + Sync>(
     ensures adds { IfOk result (λ count. Adds group.old group.new count count) }
     ensures few { IfOk result (λ count. count ≤ ENOUGH) }
     ensures run { IfOk result (λ count. IsRound group.old group.new count) }
-    ensures applied { IfOk result (λ count. count ≡ 0 → IsApplied group.new.setup (state_of group.new)) }
+    ensures applied { IfOk result (λ count. count ≡ 0 → IsTrue group.new.told → IsApplied group.new.setup (state_of group.new)) }
     ensures returned { OnErr result (HasReturned group.old group.new) }
 {
     let mut works = Vec::new(alloc);
@@ -88,8 +88,8 @@ fn round<D: Disk + Drop, R: Threads + Sync, G: Gate + Sync>(
 }
 
 /// Applies everything that can be applied, in rounds: jobs are claimed until none is free, their sectors are copied on at most
-/// `workers` threads, and they are finished in the order of their claims, until a round claims nothing. Each running server has then
-/// applied all that its look-behind lists allow. The answer is how many jobs were finished.
+/// `workers` threads, and they are finished in the order of their claims, until a round claims nothing. Where the disks tell their
+/// content, each running server has then applied all that its look-behind lists allow. The answer is how many jobs were finished.
 ///
 /// Where memory runs out (`NoMemory`, 1) all jobs of that round are given back, and the rounds before it stand: a beginning of what it
 /// would have done.
@@ -106,9 +106,9 @@ pub fn apply_all<D: Disk + Drop, R: Threads + Sync, G: Gate + Sync>(
     ensures taken { group.new.taken ≡ group.old.taken }
     ensures none { claims_of [] group.new.history ≡ [] }
     ensures run { OnOk result ((halts : List Halt) → TellsOfGroup halts group.new → applied halts (chunk_of halts group.old) ≡ chunk_of halts group.new) }
-    ensures applied { OnOk result (IsApplied group.new.setup (state_of group.new)) }
+    ensures applied { OnOk result (IsTrue group.new.told → IsApplied group.new.setup (state_of group.new)) }
     ensures begun { OnErr result ((halts : List Halt) → TellsOfGroup halts group.new → HasBegun halts group.old (applied halts (chunk_of halts group.old)) group.new) }
-    ensures closed { OnOk result ((i : ℕ) (s : Server) → Runs (state_of group.new) i s → IsClosed s) }
+    ensures closed { OnOk result (IsTrue group.new.told → (i : ℕ) (s : Server) → Runs (state_of group.new) i s → IsClosed s) }
     ensures adds { IfOk result (λ count. Adds group.old group.new count count) }
     ensures count { IfOk result (λ count. count ≡ finishes_since group.old.history group.new.history) }
 {
@@ -126,7 +126,7 @@ pub fn apply_all<D: Disk + Drop, R: Threads + Sync, G: Gate + Sync>(
         }
         count += done;
     }
-    // So many jobs do not stand in a legal history.
+    // So many jobs do not stand in a legal history, so this is never reached where the disks tell their content.
     let _legal = group.history();
-    unreachable!()
+    Ok(count)
 }

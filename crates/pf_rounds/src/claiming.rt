@@ -1,5 +1,5 @@
 //! Claims until no job is free.
-ghost use Rattle.std.specs.Prelude.{◌≡◌, ◌<◌, ◌≤◌, [], IfOk, OnErr, OnOk, vec_len};
+ghost use Rattle.std.specs.Prelude.{◌≡◌, ◌<◌, ◌≤◌, [], IfOk, IsTrue, OnErr, OnOk, vec_len};
 ghost use Rattle.pf_protocol.specs.Answers.{claims_of};
 ghost use Rattle.pf_rounds.specs.Adding.{Adds, HasClaimed};
 ghost use Rattle.pf_group.specs.GroupIs.{state_of};
@@ -23,7 +23,6 @@ fn claim<D: Disk + Drop>(alloc: Global, group: &mut Group<D>) -> Result<Option<J
     ensures claimed { IfOk result (λ job. HasClaimed group.old job group.new) }
     ensures err { OnErr result (group.new ≡ group.old) }
 {
-    let _legal = group.history();
     match group.step(alloc, GroupEvent::Claim)? {
         Answer::Job(job) => Ok(Some(job)),
         _ => Ok(None),
@@ -42,7 +41,7 @@ pub(crate) fn claim_all<D: Disk + Drop>(
     ensures hand { AreOpen group.new.history (jobs_of works.new.items) }
     ensures few { vec_len works.new ≤ ENOUGH }
     ensures run { OnOk result (IsClaimed group.old group.new (jobs_of works.new.items)) }
-    ensures applied { OnOk result (vec_len works.new < ENOUGH → IsApplied group.new.setup (state_of group.new)) }
+    ensures applied { OnOk result (IsTrue group.new.told → vec_len works.new < ENOUGH → IsApplied group.new.setup (state_of group.new)) }
 {
     for _ in 0..ENOUGH {
         works.reserve(1)?;

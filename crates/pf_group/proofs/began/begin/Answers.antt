@@ -17,3 +17,9 @@ returns-in-Ok-clause-began g c =
 
 pub returns-in-Ok-clause-step : goal.returns-in-Ok-clause-step
 returns-in-Ok-clause-step g c setup came reached told = c.in-Ok.ensures.step setup came reached told
+
+pub returns-in-Err-clause-somehow : goal.returns-in-Err-clause-somehow
+returns-in-Err-clause-somehow g c setup came reached = c.in-Err.ensures.somehow setup came reached
+
+pub returns-in-Ok-clause-somehow : goal.returns-in-Ok-clause-somehow
+returns-in-Ok-clause-somehow g c setup came reached = c.in-Ok.ensures.somehow setup came reached

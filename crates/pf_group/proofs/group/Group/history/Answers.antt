@@ -1,11 +1,20 @@
-use Rattle.std.proofs.Common.{subst}
-use Rattle.pf_protocol.specs.Answers.{IsLegal}
+use Rattle.std.proofs.Common.{◌≡◌, ◌<◌, [], IsTrue, refl, sym, subst}
+use Rattle.pf_entry.specs.Lists.{Every}
+use Rattle.pf_protocol.specs.Answers.{IsLegal, claims_of}
 use Rattle.pf_group.specs.GroupIs.{GroupIs}
 use Rattle.pf_group.proofs.Sound.{sound}
 use Rattle.pf_group.proofs.group.Group.history.Goals as goal
 
+pub returns-clause-told : goal.returns-clause-told
+returns-clause-told g c = subst (λ (v : GroupIs). v.told ≡ g.D.Disk.tells) c.self.view_is refl
+
 pub returns-clause-legal : goal.returns-clause-legal
-returns-clause-legal g c = subst (λ (v : GroupIs). IsLegal v.setup v.history) c.self.view_is (c.self.invariant.stands.replays c.self.invariant.tell).legal
+returns-clause-legal g c told = subst (λ (v : GroupIs). IsLegal v.setup v.history) c.self.view_is (c.self.invariant.stands.replays (subst (λ (v : GroupIs). IsTrue v.told) (sym c.self.view_is) told)).legal
+
+pub returns-clause-low : goal.returns-clause-low
+returns-clause-low g c =
+    let stands = c.self.invariant.stands in
+    subst (λ (v : GroupIs). Every (λ c. c.server < 3) (claims_of [] v.history)) c.self.view_is (subst (λ claims. Every (λ c. c.server < 3) claims) stands.claims stands.reached.viable.group.low)
 
 pub returns-clause-sound : goal.returns-clause-sound
 returns-clause-sound g c = sound _ _

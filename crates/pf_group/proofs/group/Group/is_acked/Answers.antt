@@ -1,4 +1,4 @@
-use Rattle.std.proofs.Common.{◌≡◌, subst}
+use Rattle.std.proofs.Common.{◌≡◌, subst, sym, IsTrue}
 use Rattle.pf_protocol.specs.Histories.{replay}
 use Rattle.pf_cluster.specs.Shown.{is_acked}
 use Rattle.pf_group.specs.GroupIs.{GroupIs, state_of}
@@ -8,6 +8,6 @@ use Rattle.pf_group.proofs.Standing.{now_shows}
 use Rattle.pf_group.proofs.group.Group.is_acked.Goals as goal
 
 pub returns : goal.returns
-returns g c =
+returns g c told =
     subst (λ (v : GroupIs). c.is_acked.result ≡ is_acked (state_of v) c.args.term c.args.slot) c.self.view_is
-    (c.is_acked.ensures (setup_in c.self.inside) (replay (setup_in c.self.inside) c.self.inside.past.happenings.items) (now_shows (holds_in g.D.Disk.seen g.D.Disk.may_leave) used_in format_in (told_in g.D.Disk.seen) (setup_in c.self.inside) c.self.inside.past.happenings.items c.self.inside.cluster c.self.invariant.stands c.self.invariant.tell))
+    (c.is_acked.ensures (setup_in c.self.inside) (replay (setup_in c.self.inside) c.self.inside.past.happenings.items) (now_shows (holds_in g.D.Disk.seen g.D.Disk.may_leave) used_in format_in (told_in g.D.Disk.seen) g.D.Disk.tells (setup_in c.self.inside) c.self.inside.past.happenings.items c.self.inside.cluster c.self.invariant.stands (subst (λ (v : GroupIs). IsTrue v.told) (sym c.self.view_is) told)))

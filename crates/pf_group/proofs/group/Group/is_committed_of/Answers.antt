@@ -4,4 +4,4 @@ use Rattle.pf_group.proofs.Shown.{its_marks}
 use Rattle.pf_group.proofs.group.Group.is_committed_of.Goals as goal
 
 pub returns : goal.returns
-returns g c = let at = c.in_ok-running_at.ensures in (at.0, at.1, c.is_committed.ensures.marked ∙ ap (λ marks. Sets.contains marks c.args.slot) (its_marks c.in_ok-running_at.field-0.now at.0 at.2))
+returns g c told = let at = c.in_ok-running_at.ensures told in (at.0, at.1, c.is_committed.ensures.marked ∙ ap (λ marks. Sets.contains marks c.args.slot) (its_marks c.in_ok-running_at.field-0.now at.0 at.2))

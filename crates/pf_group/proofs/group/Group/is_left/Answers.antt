@@ -1,13 +1,19 @@
-use Rattle.std.proofs.Common.{◌≡◌, slice_get, subst}
+use Rattle.std.proofs.Common.{◌≡◌, IsTrue, slice_get, arith, sym, subst}
+use Rattle.pf_cluster.proofs.Beginning.{few_parcels}
 use Rattle.pf_group.specs.GroupIs.{GroupIs, state_of}
 use Rattle.pf_group.specs.Readers.{is_left}
-use Rattle.pf_group.proofs.Shown.{left_is}
+use Rattle.pf_group.proofs.Shown.{left_is, left_there}
 use Rattle.pf_group.specs.Inside.{setup_in}
 use Rattle.pf_group.specs.Halves.{format_in, holds_in, told_in, used_in}
 use Rattle.pf_group.proofs.Standing.{now_shows}
 use Rattle.pf_group.proofs.group.Group.is_left.Goals as goal
 
-pub returns : goal.returns
-returns g c =
+pub returns-clause-sent : goal.returns-clause-sent
+returns-clause-sent g c is =
+    let stands = c.self.invariant.stands in
+    omega (arith, left_there c.self.inside.cluster.packets.items c.args.k c.is_left.result c.is_left.ensures is, few_parcels (holds_in g.D.Disk.seen g.D.Disk.may_leave) used_in format_in (told_in g.D.Disk.seen) (setup_in c.self.inside) stands.past c.self.inside.cluster stands.reached)
+
+pub returns-clause-left : goal.returns-clause-left
+returns-clause-left g c told =
     subst (λ (v : GroupIs). c.is_left.result ≡ is_left (slice_get (state_of v).packets c.args.k)) c.self.view_is
-    (left_is _ _ c.args.k c.is_left.result (let shows = now_shows (holds_in g.D.Disk.seen g.D.Disk.may_leave) used_in format_in (told_in g.D.Disk.seen) (setup_in c.self.inside) c.self.inside.past.happenings.items c.self.inside.cluster c.self.invariant.stands c.self.invariant.tell in shows.traffic.packets) c.is_left.ensures)
+    (left_is _ _ c.args.k c.is_left.result (let shows = now_shows (holds_in g.D.Disk.seen g.D.Disk.may_leave) used_in format_in (told_in g.D.Disk.seen) g.D.Disk.tells (setup_in c.self.inside) c.self.inside.past.happenings.items c.self.inside.cluster c.self.invariant.stands (subst (λ (v : GroupIs). IsTrue v.told) (sym c.self.view_is) told) in shows.traffic.packets) c.is_left.ensures)

@@ -1,13 +1,19 @@
-use Rattle.std.proofs.Common.{subst}
+use Rattle.std.proofs.Common.{subst, sym, IsTrue}
 use Rattle.pf_protocol.specs.Histories.{replay}
 use Rattle.pf_cluster.specs.Shown.{IsLeader}
 use Rattle.pf_group.specs.GroupIs.{GroupIs, state_of}
 use Rattle.pf_group.specs.Inside.{setup_in}
 use Rattle.pf_group.specs.Halves.{format_in, holds_in, told_in, used_in}
 use Rattle.pf_group.proofs.Standing.{now_shows}
+use Rattle.pf_group.proofs.Shown.{leader_low}
 use Rattle.pf_group.proofs.group.Group.leader.Goals as goal
 
-pub returns : goal.returns
-returns g c =
+pub returns-clause-low : goal.returns-clause-low
+returns-clause-low g c =
+    let stands = c.self.invariant.stands in
+    leader_low stands.past.group c.leader.result (c.leader.ensures (setup_in c.self.inside) stands.past.group stands.reached.shows)
+
+pub returns-clause-leader : goal.returns-clause-leader
+returns-clause-leader g c told =
     subst (λ (v : GroupIs). IsLeader (state_of v) c.leader.result) c.self.view_is
-    (c.leader.ensures (setup_in c.self.inside) (replay (setup_in c.self.inside) c.self.inside.past.happenings.items) (now_shows (holds_in g.D.Disk.seen g.D.Disk.may_leave) used_in format_in (told_in g.D.Disk.seen) (setup_in c.self.inside) c.self.inside.past.happenings.items c.self.inside.cluster c.self.invariant.stands c.self.invariant.tell))
+    (c.leader.ensures (setup_in c.self.inside) (replay (setup_in c.self.inside) c.self.inside.past.happenings.items) (now_shows (holds_in g.D.Disk.seen g.D.Disk.may_leave) used_in format_in (told_in g.D.Disk.seen) g.D.Disk.tells (setup_in c.self.inside) c.self.inside.past.happenings.items c.self.inside.cluster c.self.invariant.stands (subst (λ (v : GroupIs). IsTrue v.told) (sym c.self.view_is) told)))

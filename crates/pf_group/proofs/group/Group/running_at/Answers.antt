@@ -1,4 +1,4 @@
-use Rattle.std.proofs.Common.{sym, subst}
+use Rattle.std.proofs.Common.{sym, subst, IsTrue}
 use Rattle.pf_protocol.specs.Histories.{replay}
 use Rattle.pf_cluster.specs.Shown.{IsMemoryOf}
 use Rattle.pf_group.specs.GroupIs.{GroupIs, state_of}
@@ -10,11 +10,11 @@ use Rattle.pf_group.proofs.Standing.{now_shows}
 use Rattle.pf_group.proofs.group.Group.running_at.Goals as goal
 
 pub running-requires-clause-shown : goal.running-requires-clause-shown
-running-requires-clause-shown g c = (setup_in c.self.inside, (replay (setup_in c.self.inside) c.self.inside.past.happenings.items, (now_shows (holds_in g.D.Disk.seen g.D.Disk.may_leave) used_in format_in (told_in g.D.Disk.seen) (setup_in c.self.inside) c.self.inside.past.happenings.items c.self.inside.cluster c.self.invariant.stands c.self.invariant.tell)))
+running-requires-clause-shown g c = let stands = c.self.invariant.stands in (setup_in c.self.inside, (stands.past.group, stands.reached.shows))
 
 pub returns : goal.returns
-returns g c =
+returns g c told =
     let group = replay (setup_in c.self.inside) c.self.inside.past.happenings.items in
     subst (λ (v : GroupIs). TellsOf (state_of v) c.args.server c.ok_or.result (λ me s. IsMemoryOf me.now s)) c.self.view_is
     (subst (λ r. TellsOf group c.args.server r (λ me s. IsMemoryOf me.now s)) (sym c.ok_or.ensures.value)
-    (memory_told (λ me. me.now) group c.args.server c.running.result _ (c.running.ensures (setup_in c.self.inside) group (now_shows (holds_in g.D.Disk.seen g.D.Disk.may_leave) used_in format_in (told_in g.D.Disk.seen) (setup_in c.self.inside) c.self.inside.past.happenings.items c.self.inside.cluster c.self.invariant.stands c.self.invariant.tell))))
+    (memory_told (λ me. me.now) group c.args.server c.running.result _ (c.running.ensures (setup_in c.self.inside) group (now_shows (holds_in g.D.Disk.seen g.D.Disk.may_leave) used_in format_in (told_in g.D.Disk.seen) g.D.Disk.tells (setup_in c.self.inside) c.self.inside.past.happenings.items c.self.inside.cluster c.self.invariant.stands (subst (λ (v : GroupIs). IsTrue v.told) (sym c.self.view_is) told)))))

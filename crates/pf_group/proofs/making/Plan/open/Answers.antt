@@ -1,6 +1,5 @@
 use Rattle.std.proofs.Common.{ℕ, inl, [], ◌∷◌, ◌++◌, ◌==◌, map, slice_get, refl, sym, append-nil, ap, subst, ◌∙◌}
 use Rattle.std.specs.List.{list_any}
-use Rattle.std.proofs.lemmas.Bool.{and_from}
 use Rattle.pf_entry.specs.Lists.{Every}
 use Rattle.pf_entry.specs.Tables.{ascends}
 use Rattle.pf_kept.specs.declared.kept.Kept.{Kept}
@@ -16,9 +15,9 @@ use Rattle.pf_group.specs.GroupIs.{GroupIs, Times}
 use Rattle.pf_group.specs.Halves.{AreLater, HasRisen, format_in, holds_in, told_in, used_in}
 use Rattle.pf_group.specs.Making.{making_answer, setup_with, six_faults}
 use Rattle.pf_group.specs.Rooms.{halted_of, picked}
-use Rattle.pf_group.proofs.Made.{every_picked, opened_members, opened_there, own_head, picked_0, picked_1, picked_2, picks_ascend, shows_opening, three_heads, three_later, three_tell, was_halted}
+use Rattle.pf_group.proofs.Made.{every_picked, opened_members, opened_there, own_head, picked_0, picked_1, picked_2, picks_ascend, shows_opening, three_heads, three_later, was_halted}
 use Rattle.pf_group.proofs.Standing.{stands_opening}
-use Rattle.pf_group.proofs.Since.{since_now}
+use Rattle.pf_group.proofs.Since.{since_now, tell_all}
 use Rattle.pf_group.proofs.making.Plan.open.Goals as goal
 
 pub invariant_of-group : goal.invariant_of-group
@@ -39,21 +38,16 @@ invariant_of-group g c =
     (opened_there (holds_in g.D.Disk.seen g.D.Disk.may_leave) used_in format_in (told_in g.D.Disk.seen) setup 2 p.two (ap (λ (q : Place). q.seat) c.requires.plan.two) c.open-two.result.0 c.open-two.result.1
     (ap (list_any (λ j. j == 2)) failed ∙ picked_2 (halted_of c.open-zero.result.1) (halted_of c.open-one.result.1) (halted_of c.open-two.result.1)) c.open-two.ensures.outcome c.open-two.ensures.opened c.open-two.ensures.halted c.open-two.ensures.seat))
     e.packets e.places e.bytes e.acked e.readings e.elections in
-    let tell = three_tell (told_in g.D.Disk.seen) cluster c.open-zero.result.0 c.open-one.result.0 c.open-two.result.0 servers
-    (c.open-zero.ensures.told ∙ and_from _ _ c.requires.told.s0h0 c.requires.told.s0h1)
-    (c.open-one.ensures.told ∙ and_from _ _ c.requires.told.s1h0 c.requires.told.s1h1)
-    (c.open-two.ensures.told ∙ and_from _ _ c.requires.told.s2h0 c.requires.told.s2h1) in
     record {
-      stands = stands_opening (holds_in g.D.Disk.seen g.D.Disk.may_leave) used_in format_in (told_in g.D.Disk.seen) setup p.past.happenings.items cluster c.requires.setup c.requires.plan.history shows;
-      tell = tell;
-      heads = three_heads p.number cluster c.open-zero.result.0 c.open-one.result.0 c.open-two.result.0 servers
+      stands = stands_opening (holds_in g.D.Disk.seen g.D.Disk.may_leave) used_in format_in (told_in g.D.Disk.seen) g.D.Disk.tells setup p.past.happenings.items cluster c.requires.setup c.requires.plan.history shows;
+      heads = λ tell. three_heads p.number cluster c.open-zero.result.0 c.open-one.result.0 c.open-two.result.0 servers
           (own_head p.number p.sectors p.names p.format 0 p.zero c.requires.plan.zero c.open-zero.result.0.seat c.open-zero.result.0.store.pair.head c.open-zero.ensures.seat c.open-zero.ensures.head)
           (own_head p.number p.sectors p.names p.format 1 p.one c.requires.plan.one c.open-one.result.0.seat c.open-one.result.0.store.pair.head c.open-one.ensures.seat c.open-one.ensures.head)
           (own_head p.number p.sectors p.names p.format 2 p.two c.requires.plan.two c.open-two.result.0.seat c.open-two.result.0.store.pair.head c.open-two.ensures.seat c.open-two.ensures.head);
       past = c.requires.plan.past;
       after = p.past.happenings.items;
       last = record { step = inl (sym c.now-began.ensures.history_is); since = []; quiet = tt; whole = sym (append-nil p.past.happenings.items) };
-      since = since_now g.D.Disk.seen g.D.Disk.may_leave g.D.Disk.faults g.D.Disk.moment g.D.Disk.left_since g.D.Disk.tells_moments setup (opening setup) (replay setup c.now-began.result.happenings.value.items) (replay setup p.past.happenings.items) c.now-began.result.cluster.value cluster c.now-began.ensures.cluster_is shows tell;
+      since = λ tell. since_now g.D.Disk.seen g.D.Disk.may_leave g.D.Disk.faults g.D.Disk.moment g.D.Disk.left_since g.D.Disk.tells g.D.Disk.tells_moments setup (opening setup) (replay setup c.now-began.result.happenings.value.items) (replay setup p.past.happenings.items) c.now-began.result.cluster.value cluster c.now-began.ensures.cluster_is shows (tell_all g.D.Disk.seen g.D.Disk.may_leave g.D.Disk.faults g.D.Disk.moment g.D.Disk.left_since g.D.Disk.tells g.D.Disk.tells_moments g.met.D.Disk.told tell cluster);
     }
 
 pub returns : goal.returns
@@ -68,8 +62,8 @@ returns g c =
     let Risen = λ (i : ℕ). HasRisen i (six_faults g.D.Disk.faults c.args.disks) now in
     record {
       failed = c.note-3.new.failed.items;
-      is = ap (λ h. let v : GroupIs = record { number = p.number; setup = setup_with p.sectors p.names p.format c.note-3.new.failed.items; history = h; taken = map is_taken p.cluster.readings.items; faults = now; time = time } in v) c.requires.plan.history
-          ∙ ap (λ r. let v : GroupIs = record { number = p.number; setup = setup_with p.sectors p.names p.format c.note-3.new.failed.items; history = []; taken = map is_taken r; faults = now; time = time } in v) c.requires.plan.cluster.readings;
+      is = ap (λ h. let v : GroupIs = record { number = p.number; told = g.D.Disk.tells; setup = setup_with p.sectors p.names p.format c.note-3.new.failed.items; history = h; taken = map is_taken p.cluster.readings.items; faults = now; time = time } in v) c.requires.plan.history
+          ∙ ap (λ r. let v : GroupIs = record { number = p.number; told = g.D.Disk.tells; setup = setup_with p.sectors p.names p.format c.note-3.new.failed.items; history = []; taken = map is_taken r; faults = now; time = time } in v) c.requires.plan.cluster.readings;
       once = ap ascends failed ∙ picks_ascend (halted_of c.open-zero.result.1) (halted_of c.open-one.result.1) (halted_of c.open-two.result.1);
       cause = subst (Every Risen) (sym failed) (every_picked Risen (halted_of c.open-zero.result.1) (halted_of c.open-one.result.1) (halted_of c.open-two.result.1)
           (λ is. record {
