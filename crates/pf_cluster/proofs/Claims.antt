@@ -111,6 +111,7 @@ module _ {S : Type 0} (holds : S → Durable → Durable → Type 0) (used forma
       cause = λ halted. absurd (apart halted);
       crash = touches_kept was _ _ _ old later stores;
       others = λ i own. stores i;
+      quiet = λ quiet. stores;
       tells = λ i. ap (option_map told) (stores i);
       taken = taken;
     }),
@@ -122,7 +123,7 @@ module _ {S : Type 0} (holds : S → Durable → Durable → Type 0) (used forma
   -- no server has one
   pub claims_none : Every (HasNone setup.window g) (0 ∷ 1 ∷ 2 ∷ []) → Shows holds used format told setup later g → HasGone holds used format told rose was setup g Claim old later (Refused NoneFree)
   unfolding answer_to happens
-  claims_none none shows = record { answered = inl (sym (none_answer setup.window g (0 ∷ 1 ∷ 2 ∷ []) none)); shows = shows; cause = λ halted. absurd (apart halted); crash = touches_kept was _ _ _ old later stores; others = λ i own. stores i; tells = λ i. ap (option_map told) (stores i); taken = taken }
+  claims_none none shows = record { answered = inl (sym (none_answer setup.window g (0 ∷ 1 ∷ 2 ∷ []) none)); shows = shows; cause = λ halted. absurd (apart halted); crash = touches_kept was _ _ _ old later stores; others = λ i own. stores i; quiet = λ quiet. stores; tells = λ i. ap (option_map told) (stores i); taken = taken }
     where
       apart : Refused NoneFree ≡ Refused Halted → ⊥
       apart is = cc

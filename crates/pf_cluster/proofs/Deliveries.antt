@@ -120,6 +120,7 @@ deliver_event setup g k p at here = record {
   goes = λ how. ap (delivered setup how g k) at ∙ ap (λ b. if b then g else at_server how (marked_in how g k p) p.packet.to (λ s. on_packet setup s p.packet)) here;
   servers = λ how. marked_servers how g k p;
   acts = ap receiver at;
+  loud = refl;
 }
 
 pub delivers : (setup : Setup) (past : Past) → IsViablePast setup past → IsShort past → (k : ℕ) (p : Sent) → slice_get past.group.packets k ≡ Some p → p.lost ≡ false → (packet : Packet) → packet ≡ p.packet → (out : Outgoing) → ((o : Outcome) → room_refusal out o ≡ group_room_refusal past.group o) → (seat : Seat) → seat ≡ seat_of setup p.packet.to
@@ -239,7 +240,7 @@ module _ {S : Type 0} (owns : S → Durable → Durable → Type 0) (used format
 
     pub loses_none : length old.packets.items ≤ k → HasGone owns used format told rose was setup past.group (Lose k) old old (Refused NoPacket)
     unfolding answer_to happens
-    loses_none beyond = record { answered = inl (sym (ap loss_answer (no_packet beyond))); shows = reached.shows; cause = λ halted. absurd (apart halted); crash = touches_kept was _ _ _ old old (λ j. refl); others = λ i own. refl; tells = λ i. refl; taken = refl }
+    loses_none beyond = record { answered = inl (sym (ap loss_answer (no_packet beyond))); shows = reached.shows; cause = λ halted. absurd (apart halted); crash = touches_kept was _ _ _ old old (λ j. refl); others = λ i own. refl; quiet = λ quiet i. refl; tells = λ i. refl; taken = refl }
       where
         apart : Refused NoPacket ≡ Refused Halted → ⊥
         apart is = cc
@@ -252,6 +253,7 @@ module _ {S : Type 0} (owns : S → Durable → Durable → Type 0) (used format
       cause = λ halted. absurd (apart halted);
       crash = touches_kept was _ _ _ old old (λ j. refl);
       others = λ i own. refl;
+      quiet = λ quiet i. refl;
       tells = λ i. refl;
       taken = refl;
     }
@@ -268,7 +270,7 @@ module _ {S : Type 0} (owns : S → Durable → Durable → Type 0) (used format
       unfolding answer_to happens
       loses_again is =
           let gone : sent_there.0.lost ≡ true = sym (ap (λ (x : Parcel). x.lost) sent_there.2) ∙ is in
-          record { answered = inl (sym (ap loss_answer sent_there.1 ∙ ap (λ b. if b then Refused LostPacket else Done) gone)); shows = reached.shows; cause = λ halted. absurd (apart halted); crash = touches_kept was _ _ _ old old (λ j. refl); others = λ i own. refl; tells = λ i. refl; taken = refl }
+          record { answered = inl (sym (ap loss_answer sent_there.1 ∙ ap (λ b. if b then Refused LostPacket else Done) gone)); shows = reached.shows; cause = λ halted. absurd (apart halted); crash = touches_kept was _ _ _ old old (λ j. refl); others = λ i own. refl; quiet = λ quiet i. refl; tells = λ i. refl; taken = refl }
         where
           apart : Refused LostPacket ≡ Refused Halted → ⊥
           apart is = cc
@@ -284,6 +286,7 @@ module _ {S : Type 0} (owns : S → Durable → Durable → Type 0) (used format
             cause = λ halted. absurd (apart halted);
             crash = touches_kept was _ _ _ old old (λ j. refl);
             others = λ i own. refl;
+            quiet = λ quiet i. refl;
             tells = λ i. refl;
             taken = refl;
           }
@@ -303,6 +306,7 @@ module _ {S : Type 0} (owns : S → Durable → Durable → Type 0) (used format
             cause = λ halted. absurd (apart halted);
             crash = touches_kept was _ _ _ old (record old { packets = packets }) (λ j. refl);
             others = λ i own. refl;
+            quiet = λ quiet i. refl;
             tells = λ i. refl;
             taken = refl;
           }

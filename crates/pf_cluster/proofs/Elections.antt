@@ -51,7 +51,7 @@ same_servers g Untouched = refl
 
 pub elect_event : (setup : Setup) (g : Group) (i : ℕ) → IsTurnEvent setup g (Elect i) i (elect_turn g) (λ how. counted_election how g)
 unfolding answer_to may_halt happens
-elect_event setup g i = record { answers = refl; halts = λ is. is; goes = λ how. refl; servers = same_servers g; acts = refl }
+elect_event setup g i = record { answers = refl; halts = λ is. is; goes = λ how. refl; servers = same_servers g; acts = refl; loud = refl }
 
 -- the group has had less than 64 elections
 few_judged : (g : Group) (s : ServerIs) → g.elections < 64 → elect_refusal g s ≡ group_room_refusal g (on_elect s)
@@ -168,6 +168,7 @@ module _ {S : Type 0} (holds : S → Durable → Durable → Type 0) (used forma
           cause = λ halted. absurd (apart halted);
           crash = touches_kept was _ _ _ old old (λ j. refl);
           others = λ j own. refl;
+          quiet = λ quiet j. refl;
           tells = λ j. refl;
           taken = refl;
         }
@@ -190,6 +191,7 @@ module _ {S : Type 0} (holds : S → Durable → Durable → Type 0) (used forma
           cause = λ halted. absurd (apart halted);
           crash = touches_kept was _ _ _ old old (λ j. refl);
           others = λ j own. refl;
+          quiet = λ quiet j. refl;
           tells = λ j. refl;
           taken = refl;
         }

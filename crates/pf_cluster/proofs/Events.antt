@@ -1,5 +1,5 @@
 -- Events that are one server's turn.
-use Rattle.std.proofs.Common.{◌≡◌, ℕ, Bool, true, inl, inr, ◌++◌, length, Option, Some, None, Result, slice_get, slice_set, refl, sym, ap, subst, ◌∙◌}
+use Rattle.std.proofs.Common.{◌≡◌, ℕ, Bool, true, false, inl, inr, ◌++◌, length, Option, Some, None, Result, slice_get, slice_set, refl, sym, ap, subst, ◌∙◌}
 use Rattle.pf_base.specs.declared.errors.NoMemory.{NoMemory}
 use Rattle.pf_entry.specs.Lists.{Every}
 use Rattle.pf_entry.specs.Records.{Durable}
@@ -17,7 +17,7 @@ use Rattle.pf_state.specs.Outgoing.{Outgoing}
 use Rattle.pf_server.specs.declared.server.Server.{Server}
 use Rattle.pf_cluster.specs.AckedSlots.{HasRoom}
 use Rattle.pf_cluster.specs.declared.cluster.Cluster.{Cluster}
-use Rattle.pf_cluster.specs.Going.{IsReached, acts_at}
+use Rattle.pf_cluster.specs.Going.{IsReached, acts_at, is_quiet}
 use Rattle.pf_cluster.specs.Showing.{AreMembers, HasTraffic}
 use Rattle.pf_cluster.specs.Turned.{HasTurned, IsTurnOf, IsTurned, Took, outbox_of, reads_with}
 use Rattle.pf_cluster.proofs.Beginning.{its_condition}
@@ -31,6 +31,7 @@ pub record IsTurnEvent (setup : Setup) (g : Group) (event : Event) (i : ℕ) (tu
   pub goes : (how : Ending) → happens setup g event how ≡ at_server how (pre how) i turn.rule
   pub servers : (how : Ending) → (pre how).servers ≡ g.servers
   pub acts : acts_at g event ≡ Some i
+  pub loud : is_quiet event ≡ false
 
 acted_packets : (g : Group) (i : ℕ) (o : Outcome) → (acted g i o).packets ≡ g.packets ++ send o.packets
 unfolding acted

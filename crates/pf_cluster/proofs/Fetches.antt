@@ -1,7 +1,7 @@
 -- A read as the turn of a server.
 use Rattle.std.proofs.Common.{◌≡◌, ℕ, ◌<◌, Bool, true, false, not, List, [], ◌∷◌, length, map, Option, Some, None, Result, Ok, Err, slice_get, vec_len, arith, refl, sym, ap, subst, ◌∙◌}
 use Rattle.std.specs.Global.{Vec}
-use Rattle.std.proofs.lemmas.Bool.{true≢false}
+use Rattle.std.proofs.lemmas.Bool.{false≢true, true≢false}
 use Rattle.std.proofs.lemmas.List.{length-append}
 use Rattle.std.specs.Option.{option_map}
 use Rattle.pf_base.specs.Span.{Span, IsWritable, fits_in}
@@ -82,7 +82,7 @@ may_go setup g range s none =
 
 pub fetch_event : (setup : Setup) (g : Group) (i : ℕ) (range : Span) → IsTurnEvent setup g (Fetch i range) i (fetch_turn setup g range) (λ how. g)
 unfolding answer_to may_halt happens
-fetch_event setup g i range = record { answers = refl; halts = never_halts (fetch_turn setup g range) (λ s. fetch_disk s range g.reads s.role) (slice_get g.servers i); goes = λ how. refl; servers = λ how. refl; acts = refl }
+fetch_event setup g i range = record { answers = refl; halts = never_halts (fetch_turn setup g range) (λ s. fetch_disk s range g.reads s.role) (slice_get g.servers i); goes = λ how. refl; servers = λ how. refl; acts = refl; loud = refl }
 
 pub fetch_known : (setup : Setup) (past : Past) → IsViablePast setup past → IsShort past → (i : ℕ) (range : Span) → i < 3 → IsWritable range.first range.count → (s : ServerIs) → Runs past.group i s → IsTurnOf past.group (fetch_turn setup past.group range) s
 fetch_known setup past viable short i range low writable s at =
@@ -197,6 +197,7 @@ module _ {S : Type 0} (holds : S → Durable → Durable → Type 0) (used forma
             cause = λ halted. (i, refl, cause (so ∙ ap Ok halted));
             crash = subst (λ later. Touches was g later (Some i) old after) (sym (event_is.goes (ending answer))) (crash answer so);
             others = λ j apart. stores j ∙ others_kept old mid i next refl j apart;
+            quiet = λ quiet. absurd (false≢true quiet);
             tells = telling;
             taken = taken ∙ ap (map is_taken) kept ∙ ap (λ o. map is_taken (readings_with old.readings.items o)) so ∙ one_more_taken old.readings.items answer;
           }

@@ -1,5 +1,6 @@
 -- Events that are the turn of one server, and no more.
 use Rattle.std.proofs.Common.{◌≡◌, ℕ, ◌<◌, Bool, Option, Some, None, Result, Ok, Err, slice_get, get_or, refl, sym, ap, subst, ◌∙◌}
+use Rattle.std.proofs.lemmas.Bool.{false≢true}
 use Rattle.std.specs.Vec.{with_item}
 use Rattle.std.specs.Option.{option_map}
 use Rattle.pf_base.specs.declared.errors.NoMemory.{NoMemory}
@@ -116,6 +117,7 @@ module _ {S : Type 0} (holds : S → Durable → Durable → Type 0) (used forma
             cause = λ halted. cause (so ∙ ap Ok halted);
             crash = crash answer so;
             others = others;
+            quiet = λ quiet. absurd (false≢true (sym is.event_is.loud ∙ quiet));
             tells = telling;
             taken = taken ∙ sym (no_more (taken_of old) past.group.reads answer (ap (reads_with past.group.reads) (sym so) ∙ sym (plain_turned event turn pre is).reads ∙ reached.shows.reads));
           }

@@ -203,7 +203,7 @@ module _ {S : Type 0} (holds : S → Durable → Durable → Type 0) (used forma
 
   pub back_gone : (after : Cluster S) → KeepsStores old after → taken_of after ≡ taken_of old → Shows holds used format told setup after (at_server Whole grp i (λ s. on_give_back s life slot)) → HasGone holds used format told rose was setup grp (GiveBack i life slot) old after Done
   unfolding answer_to happens
-  back_gone after stores taken shows = record { answered = inl refl; shows = shows; cause = λ halted. absurd (done_apart halted); crash = touches_kept was _ _ _ old after stores; others = λ j own. stores j; tells = λ j. ap (option_map told) (stores j); taken = taken }
+  back_gone after stores taken shows = record { answered = inl refl; shows = shows; cause = λ halted. absurd (done_apart halted); crash = touches_kept was _ _ _ old after stores; others = λ j own. stores j; quiet = λ quiet. stores; tells = λ j. ap (option_map told) (stores j); taken = taken }
 
   pub back_idle : runs me.state ≡ false → HasGone holds used format told rose was setup grp (GiveBack i life slot) old old Done
   back_idle idle =
@@ -298,6 +298,7 @@ module _ {S : Type 0} (holds : S → Durable → Durable → Type 0) (used forma
         cause = λ halted. absurd (done_apart (sym is ∙ halted));
         crash = touches_kept was _ _ _ old after stores;
         others = λ j own. stores j;
+        quiet = λ quiet. stores;
         tells = λ j. ap (option_map told) (stores j);
         taken = taken ∙ ap (taken_after (taken_of old)) (sym is);
       }
@@ -319,6 +320,7 @@ module _ {S : Type 0} (holds : S → Durable → Durable → Type 0) (used forma
         cause = λ halted. absurd (apart (sym same ∙ halted));
         crash = touches_kept was _ _ _ old middle stores;
         others = λ j own. stores j;
+        quiet = λ quiet. stores;
         tells = λ j. ap (option_map told) (stores j);
         taken = sym (ap (taken_after (taken_of old)) same ∙ quiet);
       }

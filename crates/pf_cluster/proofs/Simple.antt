@@ -81,7 +81,7 @@ resent_disk s (Serving l) = refl
 
 resend_event : (setup : Setup) (g : Group) (i : ℕ) → IsTurnEvent setup g (Resend i) i (plain g (λ s. on_resend s s.role)) (λ how. g)
 unfolding answer_to may_halt happens
-resend_event setup g i = record { answers = refl; halts = never_halts (plain g (λ s. on_resend s s.role)) (λ s. resent_disk s s.role) (slice_get g.servers i); goes = λ how. refl; servers = λ how. refl; acts = refl }
+resend_event setup g i = record { answers = refl; halts = never_halts (plain g (λ s. on_resend s s.role)) (λ s. resent_disk s s.role) (slice_get g.servers i); goes = λ how. refl; servers = λ how. refl; acts = refl; loud = refl }
 
 pub resends : (setup : Setup) (past : Past) → IsViablePast setup past → IsShort past → (i : ℕ) → i < 3 → (out : Outgoing) → ((o : Outcome) → room_refusal out o ≡ group_room_refusal past.group o)
     → IsTurnAs setup past (Resend i) i (plain past.group (λ s. on_resend s s.role)) (λ how. past.group) (λ s. room_refusal out (on_resend s s.role)) (λ s. on_resend s s.role)
@@ -98,7 +98,7 @@ saved_quiet s reads = by_test (upto s == s.durable.base || is_short_of s.role (u
 
 checkpoint_event : (setup : Setup) (g : Group) (i : ℕ) → IsTurnEvent setup g (Checkpoint i) i (plain g on_checkpoint) (λ how. g)
 unfolding answer_to may_halt happens
-checkpoint_event setup g i = record { answers = refl; halts = λ is. is; goes = λ how. refl; servers = λ how. refl; acts = refl }
+checkpoint_event setup g i = record { answers = refl; halts = λ is. is; goes = λ how. refl; servers = λ how. refl; acts = refl; loud = refl }
 
 pub checkpoints : (setup : Setup) (past : Past) → IsViablePast setup past → IsShort past → (i : ℕ) → i < 3 → (out : Outgoing) → ((o : Outcome) → room_refusal out o ≡ group_room_refusal past.group o)
     → IsTurnAs setup past (Checkpoint i) i (plain past.group on_checkpoint) (λ how. past.group) (λ s. room_refusal out (on_checkpoint s)) on_checkpoint

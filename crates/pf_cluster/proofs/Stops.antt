@@ -1,6 +1,7 @@
 -- A server stops, and begins again.
 use Rattle.std.proofs.Common.{◌≡◌, ◌⊎◌, ℕ, suc, Bool, true, false, cond, inl, inr, Some, IfOk, IfSome, IsTrue, Result, Ok, Err, slice_get, slice_set, refl, sym, ap, subst, ◌∙◌}
 use Rattle.std.proofs.lemmas.Option.{slice_get_within}
+use Rattle.std.proofs.lemmas.Bool.{false≢true}
 use Rattle.std.specs.Option.{option_map}
 use Rattle.std.specs.Vec.{with_item}
 use Rattle.pf_base.specs.declared.errors.NoMemory.{NoMemory}
@@ -68,6 +69,7 @@ module _ {S : Type 0} (holds : S → Durable → Durable → Type 0) (used forma
       cause = λ halted. absurd (down_apart (sym d.0 ∙ halted));
       crash = touches_kept was _ _ _ old new stores;
       others = elsewhere;
+      quiet = λ quiet. stores;
       tells = telling;
       taken = ap (taken_after (taken_of old)) (sym d.0);
     }
@@ -85,6 +87,7 @@ module _ {S : Type 0} (holds : S → Durable → Durable → Type 0) (used forma
           cause = λ halted. absurd (done_apart (sym d.0 ∙ halted));
           crash = touches_kept was _ _ _ old new stores;
           others = elsewhere;
+          quiet = λ quiet. stores;
           tells = telling;
           taken = ap (taken_after (taken_of old)) (sym d.0);
         }
@@ -134,6 +137,7 @@ module _ {S : Type 0} (holds : S → Durable → Durable → Type 0) (used forma
       cause = λ halted. absurd (done_apart (sym done.0 ∙ halted));
       crash = touch _ c there left;
       others = elsewhere;
+      quiet = λ quiet. absurd (false≢true quiet);
       tells = telling;
       taken = ap (taken_after (taken_of old)) (sym done.0);
     }
@@ -144,6 +148,7 @@ module _ {S : Type 0} (holds : S → Durable → Durable → Type 0) (used forma
       cause = λ halted. (i, refl, fault halt.2);
       crash = touch _ c there left;
       others = elsewhere;
+      quiet = λ quiet. absurd (false≢true quiet);
       tells = telling;
       taken = ap (taken_after (taken_of old)) (sym halt.0);
     }
@@ -173,6 +178,7 @@ module _ {S : Type 0} (holds : S → Durable → Durable → Type 0) (used forma
     cause = λ halted. absurd (ours_apart (sym b.0 ∙ halted));
     crash = touch _ UnformattedIs there left;
     others = elsewhere;
+    quiet = λ quiet. absurd (false≢true quiet);
     tells = telling;
     taken = ap (taken_after (taken_of old)) (sym b.0);
   }

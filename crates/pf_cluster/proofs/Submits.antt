@@ -88,7 +88,7 @@ goes_whole setup op s (Serving l) serves within =
 -- a submission is the turn of its server
 pub submit_event : (setup : Setup) (g : Group) (i : ℕ) (op : Op) → IsTurnEvent setup g (Submit i op) i (submit_turn setup g op) (λ how. g)
 unfolding answer_to may_halt happens
-submit_event setup g i op = record { answers = refl; halts = λ is. is; goes = λ how. refl; servers = λ how. refl; acts = refl }
+submit_event setup g i op = record { answers = refl; halts = λ is. is; goes = λ how. refl; servers = λ how. refl; acts = refl; loud = refl }
 
 pub submit_known : (setup : Setup) (past : Past) → IsViablePast setup past → IsShort past → (i : ℕ) (op : Op) → i < 3 → IsSubmitted op → (s : Server) → Runs past.group i s → IsTurnOf past.group (submit_turn setup past.group op) s
 submit_known setup past viable short i op low submitted_so s at =

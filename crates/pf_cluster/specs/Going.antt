@@ -1,5 +1,5 @@
 -- One event of a cluster.
-use Rattle.std.specs.Prelude.{◌≡◌, ◌≢◌, ◌⊎◌, ℕ, suc, ◌≤◌, Bool, false, Option, Some, None, IfSome, IsTrue, Result, Ok, Err, slice_get, slice_set}
+use Rattle.std.specs.Prelude.{◌≡◌, ◌≢◌, ◌⊎◌, ℕ, suc, ◌≤◌, Bool, true, false, Option, Some, None, IfSome, IsTrue, Result, Ok, Err, slice_get, slice_set}
 use Rattle.std.specs.Option.{option_map}
 use Rattle.pf_base.specs.declared.errors.NoMemory.{NoMemory}
 use Rattle.pf_base.specs.declared.filled.Filled.{Filled}
@@ -44,6 +44,15 @@ acts_at g Claim = None
 acts_at g (Finish i life slot) = Some i
 acts_at g (GiveBack i life slot) = Some i
 acts_at g (Checkpoint i) = Some i
+
+-- the event touches no disk: nothing is stored by it, and nothing read
+abbrev pub is_quiet : Event → Bool
+is_quiet (Lose k) = true
+is_quiet (Stop i) = true
+is_quiet Claim = true
+is_quiet (Finish i life slot) = true
+is_quiet (GiveBack i life slot) = true
+is_quiet event = false
 
 module _ {S : Type 0} where
   abbrev pub store_at : Cluster S → ℕ → Option S
@@ -126,13 +135,14 @@ module _ {S : Type 0} (holds : S → Durable → Durable → Type 0) (used forma
   module _ (rose : S → S → Type 0) (was : S → S → Durable → Durable → Type 0) where
     -- The event was answered as the rules say, and the cluster stands for the group after it. A step is cut off only where a disk of
     -- its own server failed; a crash inside it leaves what its server may hold before it or after it; no other server's disks are
-    -- touched, none tells less or more of its content, and no answer of a read is handed out.
+    -- touched, nor are its own by a quiet event; none tells less or more of its content, and no answer of a read is handed out.
     pub record HasGone (setup : Setup) (g : Group) (event : Event) (old new : Cluster S) (answer : Answer) : Type 0 where
       pub answered : IsAnswer setup g event answer
       pub shows : Shows holds used format told setup new (happens setup g event (ending answer))
       pub cause : answer ≡ Refused Halted → (i : ℕ) × (acts_at g event ≡ Some i) × HasFault rose i old new
       pub crash : Touches was g (happens setup g event (ending answer)) (acts_at g event) old new
       pub others : KeepsOthers (acts_at g event) old new
+      pub quiet : is_quiet event ≡ true → KeepsStores old new
       pub tells : KeepsTelling told old new
       pub taken : taken_of new ≡ taken_after (taken_of old) answer
 

@@ -1,5 +1,5 @@
 -- A group after one more event.
-use Rattle.std.proofs.Common.{◌≡◌, ℕ, zero, suc, ◌<◌, ◌≤◌, ◌^◌, ◌||◌, ◌⊎◌, inl, inr, Bool, IsTrue, true, false, List, [], ◌∷◌, ◌++◌, length, Option, Some, None, Result, Ok, Err, OnErr, slice_get, refl, sym, ap, subst, ◌∙◌}
+use Rattle.std.proofs.Common.{◌≡◌, ℕ, zero, suc, ◌<◌, ◌≤◌, ◌^◌, ◌||◌, ◌⊎◌, inl, inr, Bool, IsTrue, true, false, not, is_some, List, [], ◌∷◌, ◌++◌, length, Option, Some, None, Result, Ok, Err, OnErr, MatchBool, slice_get, append-nil, refl, sym, ap, subst, ◌∙◌}
 use Rattle.std.specs.List.{list_any}
 use Rattle.std.proofs.lemmas.List.{length-map}
 use Rattle.std.proofs.lemmas.Option.{none-some, same_Some}
@@ -22,13 +22,13 @@ use Rattle.pf_protocol.specs.declared.events.Event.TheVariants.{GiveBack, Restar
 use Rattle.pf_protocol.proofs.ForMoments.{replay_goes_on}
 use Rattle.pf_kept.specs.declared.kept.Kept.{Kept}
 use Rattle.pf_cluster.specs.declared.cluster.Cluster.{Cluster}
-use Rattle.pf_cluster.specs.Going.{HasBegunSomehow, HasFault, HasGone, HasKept, HasStayed, KeepsOthers, acts_at}
+use Rattle.pf_cluster.specs.Going.{HasBegunSomehow, HasFault, HasGone, HasKept, HasStayed, KeepsOthers, KeepsStores, acts_at, is_quiet}
 use Rattle.pf_cluster.specs.Readings.{is_taken, taken_after, taken_of}
 use Rattle.pf_cluster.specs.Showing.{Shows}
 use Rattle.pf_group.specs.declared.event.GroupEvent.{GroupEvent}
 use Rattle.pf_group.specs.declared.event.GroupEvent.TheVariants as asked
 use Rattle.pf_group.specs.Events.{Brings, MayAsk, event_of}
-use Rattle.pf_group.specs.GroupIs.{AddsOne, GroupIs}
+use Rattle.pf_group.specs.GroupIs.{GroupIs, IsLastStep}
 use Rattle.pf_group.specs.Halves.{AreLater, all_counts, format_in, holds_in, rose_in, told_in, used_in, was_in}
 use Rattle.pf_group.specs.Inside.{HaveHeads, IsSince, group_of}
 use Rattle.pf_group.specs.declared.began.Began.{Began}
@@ -38,11 +38,11 @@ use Rattle.pf_group.specs.Pasts.{HasPlaceFor, HasRoomFor, IsKeepable}
 use Rattle.pf_group.specs.Reacting.{Answers, HasAnsweredSomehow, own_of}
 use Rattle.pf_group.specs.declared.reaction.Reaction.{Reaction}
 use Rattle.pf_group.specs.Standing.{StandsFor}
-use Rattle.pf_group.specs.Steps.{EndsSo, GoesByRules, HasTried, IsLeft, IsNew, Steps}
+use Rattle.pf_group.specs.Steps.{BeginsHere, EndsSo, GoesByRules, HasTried, IsLeft, IsNew, Steps}
 use Rattle.pf_group.proofs.Faults.{all_later, all_same, has_risen, heads_kept, others_same}
 use Rattle.pf_group.proofs.Fresh.{ends_by_rules, ends_somehow, fresh_answer, fresh_somehow, taken_somehow}
 use Rattle.pf_group.proofs.Standing.{now_shows, stands_after, stands_led, stands_still, stayed_now, went_now}
-use Rattle.pf_group.proofs.Since.{Law, Stood, since_as, since_step, since_still, tell_all}
+use Rattle.pf_group.proofs.Since.{Law, Stood, quiet_more, since_as, since_step, since_still, tell_all}
 
 -- a job that comes back is of one of the three servers
 pub brings_low : (claims : List Claimed) → Every (λ c. c.server < 3) claims → (filled : Filled) → Brings claims filled → filled.server < 3
@@ -132,12 +132,6 @@ left_equal (asked.Checkpoint server) old new is = is
 pub same_happening : (e e' : Event) (a a' : Answer) → e ≡ e' → a ≡ a' → (let h : Happening = record { event = e; answer = a } in h) ≡ record { event = e'; answer = a' }
 same_happening e e' a a' p q = ap (λ x. let h : Happening = record { event = x; answer = a } in h) p ∙ ap (λ x. let h : Happening = record { event = e'; answer = x } in h) q
 
--- what holds of a group holds of the same one
-pub as_begun : {D : Type 0} → (tells : Bool) (faults moment : D → ℕ) (number : ℕ) (setup : Setup) (history later : History) (old new began : Cluster (Kept D)) (earlier : History) → began ≡ old → earlier ≡ history → (P : GroupIs → Type 0) → P (group_of tells faults moment number setup history old later new) → P (group_of tells faults moment number setup earlier began later new)
-as_begun {D = D} tells faults moment number setup history later old new began earlier same_cluster same_history P holds =
-    subst (λ h. P (group_of tells faults moment number setup h began later new)) (sym same_history)
-    (subst (λ (b : Cluster (Kept D)). P (group_of tells faults moment number setup history b later new)) (sym same_cluster) holds)
-
 either : (b : Bool) → (b ≡ true) ⊎ (b ≡ false)
 either true = inl refl
 either false = inr refl
@@ -172,6 +166,7 @@ module _ {D : Type 0} (seen : D → Option (List ℕ)) (may_leave : D → Images
     -- What came of an event over any disks, said of the past's group; and of the state after the history, where disks tell their content
     pub record Came (event : Event) (answer : Answer) : Type 0 where
       pub others : KeepsOthers (acts_at stands.past.group event) old new
+      pub quiet : is_quiet event ≡ true → KeepsStores old new
       pub taken : taken_of new ≡ taken_after (taken_of old) answer
       pub cause : answer ≡ Refused Halted → (i : ℕ) × (acts_at stands.past.group event ≡ Some i) × HasFault (rose_in faults) i old new
       pub answered : GoesByRules tells event → IsAnswer setup stands.past.group event answer
@@ -191,6 +186,7 @@ module _ {D : Type 0} (seen : D → Option (List ℕ)) (may_leave : D → Images
     pub came_went : (event : Event) (answer : Answer) → WentIn stands.past.group event answer → Came event answer
     came_went event answer gone = record {
       others = gone.others;
+      quiet = gone.quiet;
       taken = gone.taken;
       cause = gone.cause;
       answered = λ by. gone.answered;
@@ -207,6 +203,7 @@ module _ {D : Type 0} (seen : D → Option (List ℕ)) (may_leave : D → Images
     came_begun : tells ≡ false → (i : ℕ) (found : Bool) (answer : Answer) → BegunIn stands.past.group i answer → Came (Restart i found) answer
     came_begun none i found answer begun = record {
       others = begun.others;
+      quiet = λ quiet. absurd (false≢true quiet);
       taken = begun.taken ∙ sym (taken_somehow (holds_in seen may_leave) used_in format_in (told_in seen) (rose_in faults) (was_in seen faults moment left_since tells_moments) setup stands.past.group i new (taken_of old) answer begun.shows);
       cause = λ halted. (i, refl, begun.cause halted);
       answered = λ by. absurd (no_rules none by);
@@ -294,16 +291,29 @@ module _ {D : Type 0} (seen : D → Option (List ℕ)) (may_leave : D → Images
       since_stayed : (own : Option ℕ) → Stayed own → IsSince seen faults moment left_since tells_moments (replay setup history) (replay setup history) old new
       since_stayed own stayed = since_step seen may_leave faults moment left_since tells tells_moments setup (replay setup history) (replay setup history) own old new shows (tell_all seen may_leave faults moment left_since tells tells_moments law tell old) stayed.crash stayed.others
 
-    module _ (number : ℕ) (earlier : History) (began : Cluster (Kept D)) (later : History) where
-      -- as it was, and as it is after a step that began then
+    -- as it was, and as it is now
+    module _ (number : ℕ) (before after : Began D) (later : History) where
       abbrev Was : GroupIs
-      Was = group_of tells faults moment number setup earlier began history old
+      Was = group_of tells faults moment number setup before.happenings.value.items before.cluster.value history old
 
       abbrev Is : GroupIs
-      Is = group_of tells faults moment number setup history old later new
+      Is = group_of tells faults moment number setup after.happenings.value.items after.cluster.value later new
 
-      pub steps_of : (event : Event) (answer : Answer) (h : Happening) → later ≡ history ++ h ∷ [] → h.event ≡ event → h.answer ≡ answer → MayHappen (claims_of [] history) event → Came event answer → Steps Was event answer Is
-      steps_of event answer h is same_event same_answer may came =
+      begins_here : IsBegun old history after → BeginsHere Was Is
+      begins_here begun =
+          ap (λ (b : Cluster (Kept D)). record Is.time { began = all_counts moment b }) begun.cluster_is
+          ∙ ap (λ (h : History). record Is.time { began = all_counts moment old; earlier = h }) begun.history_is
+
+      begins_so : (event : Event) (answer : Answer) → Came event answer → (b : Bool) → is_quiet event ≡ b → IsBegunIf (not b) old history before after → MatchBool b ((Is.faults ≡ Was.faults) × (Is.time ≡ Was.time)) (BeginsHere Was Is)
+      begins_so event answer came true quiet same = (
+        all_same faults old new (λ i own. came.quiet quiet i),
+        ap (λ (b : Began D). record Was.time { now = all_counts moment new; began = all_counts moment b.cluster.value; earlier = b.happenings.value.items }) same
+            ∙ ap (λ m. record Was.time { now = m }) (all_same moment old new (λ i own. came.quiet quiet i)),
+      )
+      begins_so event answer came false loud begun = begins_here begun
+
+      pub steps_of : (event : Event) (answer : Answer) (h : Happening) → later ≡ history ++ h ∷ [] → h.event ≡ event → h.answer ≡ answer → MayHappen (claims_of [] history) event → IsBegunIf (not (is_quiet event)) old history before after → Came event answer → Steps Was event answer Is
+      steps_of event answer h is same_event same_answer may begun came =
           let stamped = same_happening h.event event h.answer answer same_event same_answer in
           record {
             asked = may;
@@ -317,100 +327,91 @@ module _ {D : Type 0} (seen : D → Option (List ℕ)) (may_leave : D → Images
             cause = λ halted. let c = came.cause halted in (c.0, c.1, has_risen faults old new c.0 c.2);
             later = came.later;
             others = λ j apart. others_same faults _ old new came.others j apart;
-            begins = refl;
+            begins = begins_so event answer came (is_quiet event) refl begun;
             still = λ j apart. others_same moment _ old new came.others j apart;
           }
 
       -- there was no memory for it
-      left_same : later ≡ history → Left None → group_of tells faults moment number setup earlier began later new ≡ Was
-      left_same is left =
-          ap (λ l. group_of tells faults moment number setup earlier began l new) is
-          ∙ ap (λ t. record (group_of tells faults moment number setup earlier began history new) { taken = t }) left.taken
+      stays : later ≡ history → after ≡ before → Left None → Is ≡ Was
+      stays is same left =
+          ap (λ (b : Began D). group_of tells faults moment number setup b.happenings.value.items b.cluster.value later new) same
+          ∙ ap (λ l. group_of tells faults moment number setup before.happenings.value.items before.cluster.value l new) is
+          ∙ ap (λ t. record (group_of tells faults moment number setup before.happenings.value.items before.cluster.value history new) { taken = t }) left.taken
           ∙ ap (λ f. record Was { faults = f; time = record Was.time { now = all_counts moment new } }) (all_same faults old new left.others)
           ∙ ap (λ m. record Was { time = record Was.time { now = m } }) (all_same moment old new left.others)
 
       -- for a restart, which may have touched the disks of its server
-      has_tried : (server : ℕ) → later ≡ history → Left (Some server) → HasTried Was server Is
-      has_tried server is left = record {
+      tries : (server : ℕ) → later ≡ history → IsBegun old history after → Left (Some server) → HasTried Was server Is
+      tries server is begun left = record {
         is = ap (λ l. record Is { history = l }) is ∙ ap (λ t. record Is { history = history; taken = t }) left.taken;
         later = λ tell. later_stayed tell (Some server) (left.stayed tell);
         others = λ j apart. others_same faults (Some server) old new left.others j (λ same. apart (sym (same_Some server j same)));
-        begins = refl;
+        begins = begins_here begun;
         still = λ j apart. others_same moment (Some server) old new left.others j (λ same. apart (sym (same_Some server j same)));
       }
 
-    module _ (number : ℕ) (heads : IsTrue tells → HaveHeads number old) (later : History) where
-      abbrev Stands : (earlier : History) (began : Cluster (Kept D)) → Type 0
-      Stands earlier began = Stood seen may_leave faults moment left_since tells tells_moments number setup earlier began later new
+      pub left_of : (event : GroupEvent) → later ≡ history → IsBegunIf (is_some (own_of event)) old history before after → Left (own_of event) → IsLeft Was event Is
+      left_of (asked.Submit server range payload) is begun stayed = stays is begun stayed
+      left_of (asked.Mark server) is begun stayed = stays is begun stayed
+      left_of (asked.Fetch server range) is begun stayed = stays is begun stayed
+      left_of (asked.Deliver k) is begun stayed = stays is begun stayed
+      left_of (asked.Lose k) is begun stayed = stays is begun stayed
+      left_of (asked.Elect server) is begun stayed = stays is begun stayed
+      left_of (asked.Resend server) is begun stayed = stays is begun stayed
+      left_of (asked.Stop server) is begun stayed = stays is begun stayed
+      left_of (asked.Restart server) is begun stayed = inr (tries server is begun stayed)
+      left_of asked.Claim is begun stayed = stays is begun stayed
+      left_of (asked.Finish filled) is begun stayed = stays is begun stayed
+      left_of (asked.Checkpoint server) is begun stayed = stays is begun stayed
 
-      still_stands : later ≡ history → (own : Option ℕ) → Left own → Standing later new
-      still_stands is own left = stands_still (holds_in seen may_leave) used_in format_in (told_in seen) tells setup history old stands (rose_in faults) (was_in seen faults moment left_since tells_moments) new later is left.shows
+      abbrev StoodAt : Began D → (history : History) → Cluster (Kept D) → Type 0
+      StoodAt began now cluster = Stood seen may_leave faults moment left_since tells tells_moments number setup began.happenings.value.items began.cluster.value now cluster
 
-      module _ (earlier : History) (began : Cluster (Kept D)) (same_cluster : began ≡ old) (same_history : earlier ≡ history) where
-        -- after a step that began here
-        pub stood_gone : (event : Event) (answer : Answer) → later ≡ history ++ record { event = event; answer = answer } ∷ [] → length later ≤ 2 ^ 32 → MayHappen (claims_of [] history) event → Came event answer → Stands earlier began
-        stood_gone event answer is low may came =
-            let state = ap (replay setup) is ∙ replay_goes_on setup history (record { event = event; answer = answer }) in
-            record {
-              stands = came.stands_then later is low may;
-              heads = λ tell. heads_went tell event answer (came.went tell) number (heads tell);
-              last = inr (record { event = event; answer = answer }, is ∙ ap (λ l. l ++ record { event = event; answer = answer } ∷ []) (sym same_history));
-              since = λ tell. since_as seen may_leave faults moment left_since tells tells_moments setup history earlier later _ old new began same_cluster same_history state (since_went tell event answer (came.went tell));
-            }
+      abbrev SinceAt : (right : History) → Began D → Type 0
+      SinceAt right began = IsTrue tells → IsSince seen faults moment left_since tells_moments (replay setup began.happenings.value.items) (replay setup right) began.cluster.value new
 
-        stood_tried : (own : Option ℕ) → later ≡ history → Left own → Stands earlier began
-        stood_tried own is left = record {
-          stands = still_stands is own left;
-          heads = λ tell. heads_stayed tell own (left.stayed tell) number (heads tell);
-          last = inl (is ∙ sym same_history);
-          since = λ tell. since_as seen may_leave faults moment left_since tells tells_moments setup history earlier later (replay setup history) old new began same_cluster same_history (ap (replay setup) is) (since_stayed tell own (left.stayed tell));
+      -- after one more event
+      module _ (was : StoodAt before history old) (event : Event) (answer : Answer) (is : later ≡ history ++ record { event = event; answer = answer } ∷ []) (low : length later ≤ 2 ^ 32) (may : MayHappen (claims_of [] history) event) (came : Came event answer) where
+        so_gone : (began : Began D) (right : History) → IsLastStep began.happenings.value.items right later → SinceAt right began → StoodAt began later new
+        so_gone began right last since = record {
+          stands = came.stands_then later is low may;
+          heads = λ tell. heads_went tell event answer (came.went tell) number (was.heads tell);
+          after = right;
+          last = last;
+          since = since;
         }
 
-      -- as it stood, where no disk was touched
-      stood_still : (earlier : History) (began : Cluster (Kept D)) → later ≡ history → AddsOne earlier history → (IsTrue tells → IsSince seen faults moment left_since tells_moments (replay setup earlier) (replay setup history) began old) → Left None → Stands earlier began
-      stood_still earlier began is last since left = record {
-        stands = still_stands is None left;
-        heads = λ tell. heads_stayed tell None (left.stayed tell) number (heads tell);
-        last = subst (AddsOne earlier) (sym is) last;
-        since = λ tell. since_still seen may_leave faults moment left_since tells tells_moments (replay setup earlier) (replay setup later) began old new left.others (subst (λ l. IsSince seen faults moment left_since tells_moments (replay setup earlier) (replay setup l) began old) (sym is) (since tell));
-      }
+        by_quiet : (b : Bool) → is_quiet event ≡ b → IsBegunIf (not b) old history before after → StoodAt after later new
+        by_quiet true quiet same =
+            subst (λ (b : Began D). StoodAt b later new) (sym same) (so_gone before was.after
+            (quiet_more before.happenings.value.items was.after history later (record { event = event; answer = answer }) was.last quiet is)
+            (λ tell. since_still seen may_leave faults moment left_since tells tells_moments (replay setup before.happenings.value.items) (replay setup was.after) before.cluster.value old new (λ i own. came.quiet quiet i) (was.since tell)))
+        by_quiet false loud begun =
+            let h : Happening = record { event = event; answer = answer } in
+            so_gone after later
+            (record { step = inr (h, loud, is ∙ ap (λ l. l ++ h ∷ []) (sym begun.history_is)); since = []; quiet = tt; whole = sym (append-nil later) })
+            (λ tell. since_as seen may_leave faults moment left_since tells tells_moments setup history after.happenings.value.items later _ old new after.cluster.value begun.cluster_is begun.history_is (ap (replay setup) is ∙ replay_goes_on setup history h) (since_went tell event answer (came.went tell)))
 
-    -- There was no memory for an event: a step began with it only where it may have touched disks
-    module _ (number : ℕ) (before after : Began D) (later : History) (is : later ≡ history) where
-      abbrev LeftIs : GroupIs
-      LeftIs = group_of tells faults moment number setup after.happenings.value.items after.cluster.value later new
+        pub stood_gone : IsBegunIf (not (is_quiet event)) old history before after → StoodAt after later new
+        stood_gone begun = by_quiet (is_quiet event) refl begun
 
-      abbrev WasSo : GroupIs
-      WasSo = group_of tells faults moment number setup before.happenings.value.items before.cluster.value history old
+      -- where there was no memory for it
+      module _ (was : StoodAt before history old) (is : later ≡ history) where
+        so_left : (own : Option ℕ) → Left own → (began : Began D) (right : History) → IsLastStep began.happenings.value.items right later → SinceAt right began → StoodAt began later new
+        so_left own left began right last since = record {
+          stands = stands_still (holds_in seen may_leave) used_in format_in (told_in seen) tells setup history old stands (rose_in faults) (was_in seen faults moment left_since tells_moments) new later is left.shows;
+          heads = λ tell. heads_stayed tell own (left.stayed tell) number (was.heads tell);
+          after = right;
+          last = last;
+          since = since;
+        }
 
-      stays : after ≡ before → Left None → LeftIs ≡ WasSo
-      stays same left =
-          ap (λ (b : Began D). group_of tells faults moment number setup b.happenings.value.items b.cluster.value later new) same
-          ∙ left_same number before.happenings.value.items before.cluster.value later is left
-
-      tries : (server : ℕ) → IsBegun old later after → Left (Some server) → HasTried WasSo server LeftIs
-      tries server begun left =
-          as_begun tells faults moment number setup history later old new after.cluster.value after.happenings.value.items begun.cluster_is (begun.history_is ∙ is) (HasTried WasSo server)
-          (has_tried number before.happenings.value.items before.cluster.value later server is left)
-
-      pub left_of : (event : GroupEvent) → IsBegunIf (own_of event) old later before after → Left (own_of event) → IsLeft WasSo event LeftIs
-      left_of (asked.Submit server range payload) begun stayed = stays begun stayed
-      left_of (asked.Mark server) begun stayed = stays begun stayed
-      left_of (asked.Fetch server range) begun stayed = stays begun stayed
-      left_of (asked.Deliver k) begun stayed = stays begun stayed
-      left_of (asked.Lose k) begun stayed = stays begun stayed
-      left_of (asked.Elect server) begun stayed = stays begun stayed
-      left_of (asked.Resend server) begun stayed = stays begun stayed
-      left_of (asked.Stop server) begun stayed = stays begun stayed
-      left_of (asked.Restart server) begun stayed = inr (tries server begun stayed)
-      left_of asked.Claim begun stayed = stays begun stayed
-      left_of (asked.Finish filled) begun stayed = stays begun stayed
-      left_of (asked.Checkpoint server) begun stayed = stays begun stayed
-
-      pub stood_left : (IsTrue tells → HaveHeads number old) → AddsOne before.happenings.value.items history → (IsTrue tells → IsSince seen faults moment left_since tells_moments (replay setup before.happenings.value.items) (replay setup history) before.cluster.value old) → (own : Option ℕ) → IsBegunIf own old later before after → Left own
-          → Stood seen may_leave faults moment left_since tells tells_moments number setup after.happenings.value.items after.cluster.value later new
-      stood_left heads last since None begun left =
-          subst (λ (b : Began D). Stood seen may_leave faults moment left_since tells tells_moments number setup b.happenings.value.items b.cluster.value later new) (sym begun)
-          (stood_still number heads later before.happenings.value.items before.cluster.value is last since left)
-      stood_left heads last since (Some server) begun left =
-          stood_tried number heads later after.happenings.value.items after.cluster.value begun.cluster_is (begun.history_is ∙ is) (Some server) is left
+        pub stood_left : (own : Option ℕ) → IsBegunIf (is_some own) old history before after → Left own → StoodAt after later new
+        stood_left None same left =
+            subst (λ (b : Began D). StoodAt b later new) (sym same) (so_left None left before was.after
+            (subst (IsLastStep before.happenings.value.items was.after) (sym is) was.last)
+            (λ tell. since_still seen may_leave faults moment left_since tells tells_moments (replay setup before.happenings.value.items) (replay setup was.after) before.cluster.value old new left.others (was.since tell)))
+        stood_left (Some server) begun left =
+            so_left (Some server) left after later
+            (record { step = inl (is ∙ sym begun.history_is); since = []; quiet = tt; whole = sym (append-nil later) })
+            (λ tell. since_as seen may_leave faults moment left_since tells tells_moments setup history after.happenings.value.items later (replay setup history) old new after.cluster.value begun.cluster_is begun.history_is (ap (replay setup) is) (since_stayed tell (Some server) (left.stayed tell)))

@@ -1,9 +1,11 @@
--- What a crash since the last step of a group began left.
-use Rattle.std.proofs.Common.{◌≡◌, ◌⊎◌, inl, inr, ℕ, ◌<◌, ◌≤◌, ◌^◌, Bool, IsTrue, if◌then◌else◌, is_some, List, length, Option, Some, None, option_map, slice_get, arith, refl, sym, ap, subst, ◌∙◌}
+-- What a crash left since the last step of a group began that may have touched disks.
+use Rattle.std.proofs.Common.{◌≡◌, ◌⊎◌, inl, inr, ℕ, ◌<◌, ◌≤◌, ◌^◌, Bool, true, false, IsTrue, if◌then◌else◌, is_some, List, [], ◌∷◌, ◌++◌, length, Option, Some, None, option_map, slice_get, append_assoc, arith, refl, sym, ap, subst, ◌∙◌}
 use Rattle.std.proofs.lemmas.Bool.{and_from}
 use Rattle.std.proofs.lemmas.Option.{none-some, same_Some, slice_get_within}
 use Rattle.pf_disk.specs.Crashes.{Images}
+use Rattle.pf_entry.proofs.Lists.{every_append}
 use Rattle.pf_entry.specs.Records.{Durable}
+use Rattle.pf_protocol.specs.declared.events.Happening.{Happening}
 use Rattle.pf_protocol.specs.Groups.{Group}
 use Rattle.pf_protocol.specs.Histories.{History, replay}
 use Rattle.pf_protocol.specs.Servers.{Setup}
@@ -11,7 +13,7 @@ use Rattle.pf_kept.specs.Kept.{LeavesStates}
 use Rattle.pf_kept.specs.declared.kept.Kept.{Kept}
 use Rattle.pf_server.specs.declared.server.Server.{Server}
 use Rattle.pf_cluster.specs.declared.cluster.Cluster.{Cluster}
-use Rattle.pf_cluster.specs.Going.{KeepsOthers, Passes, Touches, WasTouched, store_at}
+use Rattle.pf_cluster.specs.Going.{KeepsOthers, Passes, Touches, WasTouched, is_quiet, store_at}
 use Rattle.pf_cluster.specs.Showing.{Shows}
 use Rattle.pf_cluster.proofs.Lists.{something_there}
 use Rattle.pf_opening.specs.Opening.{head_of}
@@ -20,7 +22,7 @@ use Rattle.pf_group.specs.declared.began.Began.{Began}
 use Rattle.pf_group.specs.declared.event.GroupEvent.{GroupEvent}
 use Rattle.pf_group.specs.Beginning.{IsBegun, IsBegunIf}
 use Rattle.pf_group.specs.Crashing.{AllLeaveAtCrash, LeavesAtCrash, WasLeft, WereTouched}
-use Rattle.pf_group.specs.GroupIs.{AddsOne, GroupIs}
+use Rattle.pf_group.specs.GroupIs.{GroupIs, IsLastStep}
 use Rattle.pf_group.specs.Halves.{format_in, holds_in, told_in, used_in, was_in}
 use Rattle.pf_group.specs.Inside.{HaveHeads, IsGroup, IsSince, group_of, setup_in}
 use Rattle.pf_group.specs.Leaving.{head_in}
@@ -28,6 +30,16 @@ use Rattle.pf_group.specs.Reacting.{IsTold}
 use Rattle.pf_group.specs.Standing.{AllTell, StandsFor}
 use Rattle.pf_group.proofs.Standing.{is_told}
 use Rattle.pf_group.proofs.Faults.{at_own, faults_at, some_mapped}
+use Rattle.pf_group.proofs.Quiet.{held_since}
+
+-- one more quiet event
+pub quiet_more : (earlier after history later : History) (h : Happening) → IsLastStep earlier after history → is_quiet h.event ≡ true → later ≡ history ++ h ∷ [] → IsLastStep earlier after later
+quiet_more earlier after history later h last quiet is = record {
+  step = last.step;
+  since = last.since ++ h ∷ [];
+  quiet = every_append (λ h. is_quiet h.event ≡ true) last.since (h ∷ []) last.quiet (quiet, tt);
+  whole = is ∙ ap (λ l. l ++ h ∷ []) last.whole ∙ append_assoc after last.since (h ∷ []);
+}
 
 module _ {D : Type 0} where
   abbrev store_of : Server (Kept D) → Kept D
@@ -41,9 +53,9 @@ module _ {D : Type 0} where
   kept_at old new i server next same there now = same_Some next.store server.store (sym (ap (option_map store_of) now) ∙ same ∙ ap (option_map store_of) there)
 
   -- the beginning that was kept
-  pub begun_if : (cluster : Cluster (Kept D)) (history : History) (old now new : Began D) (own : Option ℕ) (may_touch : Bool) → may_touch ≡ is_some own → new ≡ (if may_touch then now else old) → IsBegun cluster history now → IsBegunIf own cluster history old new
-  begun_if cluster history old now new None may_touch may is begun = is ∙ ap (λ b. if b then now else old) may
-  begun_if cluster history old now new (Some server) may_touch may is begun = subst (IsBegun cluster history) (sym (is ∙ ap (λ b. if b then now else old) may)) begun
+  pub begun_if : (cluster : Cluster (Kept D)) (history : History) (old now new : Began D) (touches may_touch : Bool) → may_touch ≡ touches → new ≡ (if may_touch then now else old) → IsBegun cluster history now → IsBegunIf touches cluster history old new
+  begun_if cluster history old now new false may_touch may is begun = is ∙ ap (λ b. if b then now else old) may
+  begun_if cluster history old now new true may_touch may is begun = subst (IsBegun cluster history) (sym (is ∙ ap (λ b. if b then now else old) may)) begun
 
 module _ {D : Type 0} (seen : D → Option (List ℕ)) (may_leave : D → Images) (faults moment : D → ℕ) (left_since : D → ℕ → Images) (tells tells_moments : Bool) where
   abbrev Was : Kept D → Kept D → Durable → Durable → Type 0
@@ -136,11 +148,12 @@ module _ {D : Type 0} (seen : D → Option (List ℕ)) (may_leave : D → Images
   pub record Stood (number : ℕ) (setup : Setup) (earlier : History) (began : Cluster (Kept D)) (history : History) (cluster : Cluster (Kept D)) : Type 0 where
     pub stands : StandsFor (holds_in seen may_leave) used_in format_in (told_in seen) tells setup history cluster
     pub heads : IsTrue tells → HaveHeads number cluster
-    pub last : AddsOne earlier history
-    pub since : IsTrue tells → Since (replay setup earlier) (replay setup history) began cluster
+    pub after : History
+    pub last : IsLastStep earlier after history
+    pub since : IsTrue tells → Since (replay setup earlier) (replay setup after) began cluster
 
   pub stood : (g : Inside D) → IsGroup seen may_leave faults moment left_since tells tells_moments g → Stood g.number (setup_in g) g.began.happenings.value.items g.began.cluster.value g.past.happenings.items g.cluster
-  stood g is = record { stands = is.stands; heads = is.heads; last = is.last; since = is.since }
+  stood g is = record { stands = is.stands; heads = is.heads; after = is.after; last = is.last; since = is.since }
 
   -- an event may be carried out by the rules
   pub told_now : (g : Inside D) (is : IsGroup seen may_leave faults moment left_since tells tells_moments g) → Law → IsTrue tells → (event : GroupEvent) → IsTold (told_in seen) (setup_in g) is.stands.past.group g.cluster event
@@ -168,8 +181,10 @@ module _ {D : Type 0} (seen : D → Option (List ℕ)) (may_leave : D → Images
           told = since.told i there.0 there.1;
           began = faults_at moment began i there.0 there.1;
           now = faults_at moment cluster i next now;
+          after = is.after;
           step = is.last;
-          touched = were_touched (replay setup earlier) (replay setup history) i (head_in Now i) there.0.store next.store (own_head i next now) (since.touched i there.0 next there.1 now);
+          touched = were_touched (replay setup earlier) (replay setup is.after) i (head_in Now i) there.0.store next.store (own_head i next now) (since.touched i there.0 next there.1 now);
+          same = held_since setup earlier is.after history is.last i;
         }
 
     -- of a server whose disks were taken out

@@ -1,5 +1,5 @@
--- Where a step of a group began.
-use Rattle.std.specs.Prelude.{◌≡◌, ℕ, Option, Some, None}
+-- Where the last step of a group began that may have touched disks.
+use Rattle.std.specs.Prelude.{◌≡◌, Bool, true, false}
 use Rattle.pf_protocol.specs.Histories.{History}
 use Rattle.pf_kept.specs.declared.kept.Kept.{Kept}
 use Rattle.pf_cluster.specs.declared.cluster.Cluster.{Cluster}
@@ -11,7 +11,7 @@ module _ {D : Type 0} where
     pub cluster_is : began.cluster.value ≡ cluster
     pub history_is : began.happenings.value.items ≡ history
 
-  -- there, where a server's disks may have been touched
-  abbrev pub IsBegunIf : Option ℕ → Cluster (Kept D) → History → (old new : Began D) → Type 0
-  IsBegunIf (Some server) cluster history old new = IsBegun cluster history new
-  IsBegunIf None cluster history old new = new ≡ old
+  -- there, where disks may have been touched since
+  abbrev pub IsBegunIf : (may_touch : Bool) → Cluster (Kept D) → History → (old new : Began D) → Type 0
+  IsBegunIf true cluster history old new = IsBegun cluster history new
+  IsBegunIf false cluster history old new = new ≡ old

@@ -1,11 +1,13 @@
--- What a crash at any moment inside a step leaves on the disks of a group.
-use Rattle.std.specs.Prelude.{◌≡◌, ◌⊎◌, ℕ, ◌<◌, Bool, ◌&&◌, IsTrue, List, Option, Some, is_some, slice_get}
+-- What a crash at any moment of the last step that may have touched disks, or after it, leaves on the disks of a group.
+use Rattle.std.specs.Prelude.{◌≡◌, ◌⊎◌, ◌↔◌, ℕ, ◌<◌, Bool, ◌&&◌, IsTrue, List, Option, Some, is_some, slice_get}
 use Rattle.pf_disk.specs.Crashes.{Images}
 use Rattle.pf_entry.specs.Records.{Durable}
 use Rattle.pf_kept.specs.Kept.{LeavesStates}
 use Rattle.pf_protocol.specs.Groups.{Group}
+use Rattle.pf_protocol.specs.Kept.{MayHold}
 use Rattle.pf_cluster.specs.Going.{IsHeld}
-use Rattle.pf_group.specs.GroupIs.{AddsOne, GroupIs, state_before, state_of}
+use Rattle.pf_protocol.specs.Histories.{History, replay}
+use Rattle.pf_group.specs.GroupIs.{GroupIs, IsLastStep, state_before, state_of}
 use Rattle.pf_group.specs.Leaving.{head_in}
 
 module _ {D : Type 0} (seen : D → Option (List ℕ)) (moment : D → ℕ) (left_since : D → ℕ → Images) (tells_moments : Bool) where
@@ -34,16 +36,19 @@ module _ {D : Type 0} (seen : D → Option (List ℕ)) (moment : D → ℕ) (lef
       pub first : (between ≡ old) ⊎ WasLeft old between
       pub second : (new ≡ between) ⊎ WasLeft between new
 
-  -- What a crash at any moment since the last step of the group began left of server i, whose disks are these now: a state that it may
-  -- hold before that step or after it. Where the step did not touch them, a crash leaves what it leaves now.
+  -- What a crash at any moment since that step began left of server i, whose disks are these now: a state that it may hold before the step or
+  -- right after it; the quiet events since then have changed nothing of that. Where the step did not touch them, a crash leaves what it leaves now.
   pub record LeavesAtCrash (g : GroupIs) (i : ℕ) (zero one : D) : Type 0 where
     pub old : D × D
     pub told : IsTrue (both_tell old)
     pub began : slice_get g.time.began i ≡ Some (moment old.0, moment old.1)
     pub now : slice_get g.time.now i ≡ Some (moment zero, moment one)
-    pub step : AddsOne g.time.earlier g.history
-    pub touched : WereTouched (head_in g i) (state_before g) (state_of g) i old (zero, one)
+    pub after : History
+    pub step : IsLastStep g.time.earlier after g.history
+    pub touched : WereTouched (head_in g i) (state_before g) (replay g.setup after) i old (zero, one)
+    pub same : (d : Durable) → MayHold (state_of g) i d ↔ MayHold (replay g.setup after) i d
 
-  -- so do the disks of each of the three servers
+  -- So do some two disks of each of the three servers that stand at the moments of the group's own. No value that a contract sees holds a
+  -- disk, so of its own this is told where they are given back.
   abbrev pub AllLeaveAtCrash : GroupIs → Type 0
   AllLeaveAtCrash g = (i : ℕ) → i < 3 → (zero : D) × ((one : D) × LeavesAtCrash g i zero one)

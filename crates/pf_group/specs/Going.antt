@@ -6,7 +6,7 @@ use Rattle.pf_group.specs.GroupIs.{GroupIs}
 use Rattle.pf_group.specs.Steps.{HasTried, Steps}
 
 -- One event was answered, a restart wanted memory, or an answer of a read was handed out. Each of the first two is a step, with its
--- beginning: what a crash inside it leaves is told from there on.
+-- beginning, unless it is quiet: what a crash inside it leaves is told from there on.
 pub data GoesTo (old new : GroupIs) : Type 0 where
   Answers : (event : Event) (answer : Answer) → Steps old event answer new → GoesTo old new
   Tries : (server : ℕ) → HasTried old server new → GoesTo old new

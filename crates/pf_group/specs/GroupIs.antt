@@ -1,14 +1,16 @@
 -- A group, as contracts see it.
-use Rattle.std.specs.Prelude.{◌≡◌, ◌⊎◌, ℕ, Bool, List, [], ◌∷◌, ◌++◌}
+use Rattle.std.specs.Prelude.{◌≡◌, ◌⊎◌, ℕ, Bool, true, false, List, [], ◌∷◌, ◌++◌}
+use Rattle.pf_entry.specs.Lists.{Every}
 use Rattle.pf_protocol.specs.declared.events.Happening.{Happening}
 use Rattle.pf_protocol.specs.Servers.{Setup}
 use Rattle.pf_protocol.specs.Groups.{Group}
 use Rattle.pf_protocol.specs.Histories.{History, replay}
+use Rattle.pf_cluster.specs.Going.{is_quiet}
 
 -- How far its disks are in time: for each server, the moments of the disks of its halves 0 and 1
 pub record Times : Type 0 where
   pub now : List (ℕ × ℕ)
-  pub began : List (ℕ × ℕ)  -- when the last step of the group began
+  pub began : List (ℕ × ℕ)  -- when the last step began that may have touched disks
   pub earlier : History  -- what had happened by then
 
 pub record GroupIs : Type 0 where
@@ -24,10 +26,14 @@ pub record GroupIs : Type 0 where
 abbrev pub state_of : GroupIs → Group
 state_of g = replay g.setup g.history
 
--- the last step added one happening; or none, where there was no memory for a restart, or where no step was taken yet
-abbrev pub AddsOne : (earlier history : History) → Type 0
-AddsOne earlier history = (history ≡ earlier) ⊎ ((h : Happening) × (history ≡ earlier ++ h ∷ []))
+-- The last step that may have touched disks led from the earlier history to the one after it by one happening; or by none, where there was no
+-- memory for a restart, or where no such step was taken yet. Since then quiet events alone happened.
+pub record IsLastStep (earlier after history : History) : Type 0 where
+  pub step : (after ≡ earlier) ⊎ ((h : Happening) × (is_quiet h.event ≡ false) × (after ≡ earlier ++ h ∷ []))
+  pub since : History
+  pub quiet : Every (λ h. is_quiet h.event ≡ true) since
+  pub whole : history ≡ after ++ since
 
--- the state when the last step began
+-- the state when it began
 abbrev pub state_before : GroupIs → Group
 state_before g = replay g.setup g.time.earlier

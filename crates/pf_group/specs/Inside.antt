@@ -6,7 +6,7 @@ use Rattle.pf_protocol.specs.Groups.{Group}
 use Rattle.pf_cluster.specs.Going.{WasTouched}
 use Rattle.pf_cluster.specs.Readings.{taken_of}
 use Rattle.pf_group.specs.declared.group.Group.TheInside.{Inside}
-use Rattle.pf_group.specs.GroupIs.{AddsOne, GroupIs}
+use Rattle.pf_group.specs.GroupIs.{GroupIs, IsLastStep}
 use Rattle.pf_protocol.specs.Histories.{History, replay}
 use Rattle.pf_kept.specs.declared.kept.Kept.{Kept}
 use Rattle.pf_cluster.specs.declared.cluster.Cluster.{Cluster}
@@ -18,7 +18,7 @@ use Rattle.pf_opening.specs.Opening.{head_of}
 use Rattle.pf_server.specs.declared.server.Server.{Server}
 
 module _ {D : Type 0} where
-  -- a group with this history and these servers, whose last step began with those
+  -- a group with this history and these servers, whose last step that may have touched disks began with those
   abbrev pub group_of : (told : Bool) → (faults moment : D → ℕ) → (number : ℕ) → Setup → (earlier : History) (began : Cluster (Kept D)) → History → Cluster (Kept D) → GroupIs
   group_of told faults moment number setup earlier began history cluster = record {
     number = number;
@@ -55,5 +55,6 @@ module _ {D : Type 0} where
     pub stands : StandsFor (holds_in seen may_leave) used_in format_in (told_in seen) tells (setup_in g) g.past.happenings.items g.cluster
     pub heads : IsTrue tells → HaveHeads g.number g.cluster
     pub past : IsPast g.past
-    pub last : AddsOne g.began.happenings.value.items g.past.happenings.items
-    pub since : IsTrue tells → IsSince seen faults moment left_since tells_moments (replay (setup_in g) g.began.happenings.value.items) (replay (setup_in g) g.past.happenings.items) g.began.cluster.value g.cluster
+    pub after : History
+    pub last : IsLastStep g.began.happenings.value.items after g.past.happenings.items
+    pub since : IsTrue tells → IsSince seen faults moment left_since tells_moments (replay (setup_in g) g.began.happenings.value.items) (replay (setup_in g) after) g.began.cluster.value g.cluster

@@ -7,8 +7,8 @@ use Rattle.pf_protocol.specs.Answers.{MayHappen, claims_of}
 use Rattle.pf_group.specs.GroupIs.{GroupIs}
 use Rattle.pf_group.specs.Inside.{group_of, setup_in}
 use Rattle.pf_group.specs.Steps.{Steps}
-use Rattle.pf_group.proofs.Going.{WentIn, as_begun, came_went, found_low, gave_done, steps_of, stood_gone}
-use Rattle.pf_group.proofs.Since.{all_leave}
+use Rattle.pf_group.proofs.Going.{WentIn, came_went, found_low, gave_done, steps_of, stood_gone}
+use Rattle.pf_group.proofs.Since.{all_leave, stood}
 use Rattle.pf_group.proofs.Sound.{sound}
 use Rattle.pf_group.proofs.group.Group.give_back.Goals as goal
 
@@ -28,8 +28,8 @@ invariant_of-self g c =
     let came = came_went g.D.Disk.seen g.D.Disk.may_leave g.D.Disk.faults g.D.Disk.moment g.D.Disk.left_since g.D.Disk.tells g.D.Disk.tells_moments (setup_in c.self.inside) c.self.inside.past.happenings.items c.self.inside.cluster c.give_back.new.self c.self.invariant.stands g.met.D.Disk.told e Done went in
     let may = subst (λ (v : GroupIs). MayHappen (claims_of [] v.history) e) (sym c.self.view_is) c.requires in
     let low : length c.keep.new.self.happenings.items ≤ 2 ^ 32 = omega (arith, c.keep.ensures.past.few, c.keep.new.self.happenings.ok.0) in
-    let s = stood_gone g.D.Disk.seen g.D.Disk.may_leave g.D.Disk.faults g.D.Disk.moment g.D.Disk.left_since g.D.Disk.tells g.D.Disk.tells_moments (setup_in c.self.inside) c.self.inside.past.happenings.items c.self.inside.cluster c.give_back.new.self c.self.invariant.stands g.met.D.Disk.told c.self.inside.number c.self.invariant.heads c.keep.new.self.happenings.items c.now.result.happenings.value.items c.now.result.cluster.value c.now.ensures.cluster_is c.now.ensures.history_is e Done c.keep.ensures.items low may came in
-    record { stands = s.stands; heads = s.heads; past = c.keep.ensures.past; last = s.last; since = s.since }
+    let s = stood_gone g.D.Disk.seen g.D.Disk.may_leave g.D.Disk.faults g.D.Disk.moment g.D.Disk.left_since g.D.Disk.tells g.D.Disk.tells_moments (setup_in c.self.inside) c.self.inside.past.happenings.items c.self.inside.cluster c.give_back.new.self c.self.invariant.stands g.met.D.Disk.told c.self.inside.number c.self.inside.began c.self.inside.began c.keep.new.self.happenings.items (stood g.D.Disk.seen g.D.Disk.may_leave g.D.Disk.faults g.D.Disk.moment g.D.Disk.left_since g.D.Disk.tells g.D.Disk.tells_moments c.self.inside c.self.invariant) e Done c.keep.ensures.items low may came refl in
+    record { stands = s.stands; heads = s.heads; past = c.keep.ensures.past; after = s.after; last = s.last; since = s.since }
 
 pub returns-clause-went : goal.returns-clause-went
 returns-clause-went g c =
@@ -40,10 +40,8 @@ returns-clause-went g c =
     let came = came_went g.D.Disk.seen g.D.Disk.may_leave g.D.Disk.faults g.D.Disk.moment g.D.Disk.left_since g.D.Disk.tells g.D.Disk.tells_moments (setup_in c.self.inside) c.self.inside.past.happenings.items c.self.inside.cluster c.give_back.new.self c.self.invariant.stands g.met.D.Disk.told e Done went in
     let may = subst (λ (v : GroupIs). MayHappen (claims_of [] v.history) e) (sym c.self.view_is) c.requires in
     let h : Happening = record { event = e; answer = Done } in
-    subst (λ (v : GroupIs). Steps v e Done (group_of g.D.Disk.tells g.D.Disk.faults g.D.Disk.moment c.self.inside.number (setup_in c.self.inside) c.now.result.happenings.value.items c.now.result.cluster.value c.keep.new.self.happenings.items c.give_back.new.self)) c.self.view_is
-    (as_begun g.D.Disk.tells g.D.Disk.faults g.D.Disk.moment c.self.inside.number (setup_in c.self.inside) c.self.inside.past.happenings.items c.keep.new.self.happenings.items c.self.inside.cluster c.give_back.new.self c.now.result.cluster.value c.now.result.happenings.value.items c.now.ensures.cluster_is c.now.ensures.history_is
-    (Steps (group_of g.D.Disk.tells g.D.Disk.faults g.D.Disk.moment c.self.inside.number (setup_in c.self.inside) c.self.inside.began.happenings.value.items c.self.inside.began.cluster.value c.self.inside.past.happenings.items c.self.inside.cluster) e Done)
-    (steps_of g.D.Disk.seen g.D.Disk.may_leave g.D.Disk.faults g.D.Disk.moment g.D.Disk.left_since g.D.Disk.tells g.D.Disk.tells_moments (setup_in c.self.inside) c.self.inside.past.happenings.items c.self.inside.cluster c.give_back.new.self c.self.invariant.stands g.met.D.Disk.told c.self.inside.number c.self.inside.began.happenings.value.items c.self.inside.began.cluster.value c.keep.new.self.happenings.items e Done h c.keep.ensures.items refl refl may came))
+    subst (λ (v : GroupIs). Steps v e Done (group_of g.D.Disk.tells g.D.Disk.faults g.D.Disk.moment c.self.inside.number (setup_in c.self.inside) c.self.inside.began.happenings.value.items c.self.inside.began.cluster.value c.keep.new.self.happenings.items c.give_back.new.self)) c.self.view_is
+    (steps_of g.D.Disk.seen g.D.Disk.may_leave g.D.Disk.faults g.D.Disk.moment g.D.Disk.left_since g.D.Disk.tells g.D.Disk.tells_moments (setup_in c.self.inside) c.self.inside.past.happenings.items c.self.inside.cluster c.give_back.new.self c.self.invariant.stands g.met.D.Disk.told c.self.inside.number c.self.inside.began c.self.inside.began c.keep.new.self.happenings.items e Done h c.keep.ensures.items refl refl may refl came)
 
 pub returns-clause-sound : goal.returns-clause-sound
 returns-clause-sound g c = sound _ _
@@ -57,5 +55,5 @@ returns-clause-crash g c told =
     let came = came_went g.D.Disk.seen g.D.Disk.may_leave g.D.Disk.faults g.D.Disk.moment g.D.Disk.left_since g.D.Disk.tells g.D.Disk.tells_moments (setup_in c.self.inside) c.self.inside.past.happenings.items c.self.inside.cluster c.give_back.new.self c.self.invariant.stands g.met.D.Disk.told e Done went in
     let may = subst (λ (v : GroupIs). MayHappen (claims_of [] v.history) e) (sym c.self.view_is) c.requires in
     let low : length c.keep.new.self.happenings.items ≤ 2 ^ 32 = omega (arith, c.keep.ensures.past.few, c.keep.new.self.happenings.ok.0) in
-    all_leave g.D.Disk.seen g.D.Disk.may_leave g.D.Disk.faults g.D.Disk.moment g.D.Disk.left_since g.D.Disk.tells g.D.Disk.tells_moments c.self.inside.number (setup_in c.self.inside) c.now.result.happenings.value.items c.now.result.cluster.value c.keep.new.self.happenings.items c.give_back.new.self
-    (stood_gone g.D.Disk.seen g.D.Disk.may_leave g.D.Disk.faults g.D.Disk.moment g.D.Disk.left_since g.D.Disk.tells g.D.Disk.tells_moments (setup_in c.self.inside) c.self.inside.past.happenings.items c.self.inside.cluster c.give_back.new.self c.self.invariant.stands g.met.D.Disk.told c.self.inside.number c.self.invariant.heads c.keep.new.self.happenings.items c.now.result.happenings.value.items c.now.result.cluster.value c.now.ensures.cluster_is c.now.ensures.history_is e Done c.keep.ensures.items low may came) g.D.Disk.tells told
+    all_leave g.D.Disk.seen g.D.Disk.may_leave g.D.Disk.faults g.D.Disk.moment g.D.Disk.left_since g.D.Disk.tells g.D.Disk.tells_moments c.self.inside.number (setup_in c.self.inside) c.self.inside.began.happenings.value.items c.self.inside.began.cluster.value c.keep.new.self.happenings.items c.give_back.new.self
+    (stood_gone g.D.Disk.seen g.D.Disk.may_leave g.D.Disk.faults g.D.Disk.moment g.D.Disk.left_since g.D.Disk.tells g.D.Disk.tells_moments (setup_in c.self.inside) c.self.inside.past.happenings.items c.self.inside.cluster c.give_back.new.self c.self.invariant.stands g.met.D.Disk.told c.self.inside.number c.self.inside.began c.self.inside.began c.keep.new.self.happenings.items (stood g.D.Disk.seen g.D.Disk.may_leave g.D.Disk.faults g.D.Disk.moment g.D.Disk.left_since g.D.Disk.tells g.D.Disk.tells_moments c.self.inside c.self.invariant) e Done c.keep.ensures.items low may came refl) g.D.Disk.tells told

@@ -30,8 +30,9 @@ invariant_of-self g c = record {
   };
   heads = λ tell. subst (HaveHeads c.self.inside.number) (sym c.take_read.ensures.same) (c.self.invariant.heads tell);
   past = c.self.invariant.past;
+  after = c.self.invariant.after;
   last = c.self.invariant.last;
-  since = λ tell. since_still g.D.Disk.seen g.D.Disk.may_leave g.D.Disk.faults g.D.Disk.moment g.D.Disk.left_since g.D.Disk.tells g.D.Disk.tells_moments (replay (setup_in c.self.inside) c.self.inside.began.happenings.value.items) (replay (setup_in c.self.inside) c.self.inside.past.happenings.items) c.self.inside.began.cluster.value c.self.inside.cluster c.take_read.new.self (λ i apart. ap (λ (x : Cluster (Kept g.row.D.Denot)). store_at x i) c.take_read.ensures.same) (c.self.invariant.since tell);
+  since = λ tell. since_still g.D.Disk.seen g.D.Disk.may_leave g.D.Disk.faults g.D.Disk.moment g.D.Disk.left_since g.D.Disk.tells g.D.Disk.tells_moments (replay (setup_in c.self.inside) c.self.inside.began.happenings.value.items) (replay (setup_in c.self.inside) c.self.invariant.after) c.self.inside.began.cluster.value c.self.inside.cluster c.take_read.new.self (λ i apart. ap (λ (x : Cluster (Kept g.row.D.Denot)). store_at x i) c.take_read.ensures.same) (c.self.invariant.since tell);
 }
 
 pub returns-clause-taken : goal.returns-clause-taken

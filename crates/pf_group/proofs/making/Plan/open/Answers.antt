@@ -1,4 +1,4 @@
-use Rattle.std.proofs.Common.{ℕ, inl, [], ◌∷◌, ◌++◌, ◌==◌, map, slice_get, refl, sym, ap, subst, ◌∙◌}
+use Rattle.std.proofs.Common.{ℕ, inl, [], ◌∷◌, ◌++◌, ◌==◌, map, slice_get, refl, sym, append-nil, ap, subst, ◌∙◌}
 use Rattle.std.specs.List.{list_any}
 use Rattle.pf_entry.specs.Lists.{Every}
 use Rattle.pf_entry.specs.Tables.{ascends}
@@ -45,7 +45,8 @@ invariant_of-group g c =
           (own_head p.number p.sectors p.names p.format 1 p.one c.requires.plan.one c.open-one.result.0.seat c.open-one.result.0.store.pair.head c.open-one.ensures.seat c.open-one.ensures.head)
           (own_head p.number p.sectors p.names p.format 2 p.two c.requires.plan.two c.open-two.result.0.seat c.open-two.result.0.store.pair.head c.open-two.ensures.seat c.open-two.ensures.head);
       past = c.requires.plan.past;
-      last = inl (sym c.now-began.ensures.history_is);
+      after = p.past.happenings.items;
+      last = record { step = inl (sym c.now-began.ensures.history_is); since = []; quiet = tt; whole = sym (append-nil p.past.happenings.items) };
       since = λ tell. since_now g.D.Disk.seen g.D.Disk.may_leave g.D.Disk.faults g.D.Disk.moment g.D.Disk.left_since g.D.Disk.tells g.D.Disk.tells_moments setup (opening setup) (replay setup c.now-began.result.happenings.value.items) (replay setup p.past.happenings.items) c.now-began.result.cluster.value cluster c.now-began.ensures.cluster_is shows (tell_all g.D.Disk.seen g.D.Disk.may_leave g.D.Disk.faults g.D.Disk.moment g.D.Disk.left_since g.D.Disk.tells g.D.Disk.tells_moments g.met.D.Disk.told tell cluster);
     }
 
