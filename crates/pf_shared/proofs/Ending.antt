@@ -1,5 +1,5 @@
 -- What a turn with an event does, and one without.
-use Rattle.std.proofs.Common.{◌≡◌, ℕ, zero, suc, Bool, true, false, ◌||◌, List, [], ◌∷◌, ◌++◌, length, None, Some, slice_get, refl, ap, ◌∙◌, subst}
+use Rattle.std.proofs.Common.{◌≡◌, ℕ, zero, suc, Bool, IsTrue, true, false, ◌||◌, List, [], ◌∷◌, ◌++◌, length, None, Some, slice_get, refl, ap, ◌∙◌, subst}
 use Rattle.std.specs.List.{list_any}
 use Rattle.std.proofs.lemmas.Option.{none-some, same_Some}
 use Rattle.pf_turn.specs.declared.log.Stamped.{Stamped}
@@ -25,6 +25,11 @@ use Rattle.pf_shared.proofs.Since.{claims_since, since_more, since_same}
 use Rattle.pf_shared.proofs.Weaving.{did, happenings-woven}
 use Rattle.pf_shared.proofs.Acting.{is_itself, listed_on}
 use Rattle.pf_shared.proofs.Claiming.{open_claim}
+use Rattle.pf_rounds.proofs.Stepping.{answered_now}
+
+-- the event could be asked for, and was answered by the rules, where the disks tell their content
+is_legal : (old new : GroupIs) (event : Event) (answer : Answer) → Steps old event answer new → IsTrue old.told → IsLegalNext old.setup (state_of old) (claims_of [] old.history) (record { event = event; answer = answer })
+is_legal old new event answer steps told = record { asked = steps.asked; answered = answered_now old new event answer steps told }
 
 module _ {D : Type 0} {disk : Ghosts D} (old mid new : Behind D disk) (same_group : (mid.group ≡ old.group) × (mid.start ≡ old.start)) (same_turns : mid.turns.items ≡ old.turns.items) where
   pub same_list : list_of mid ≡ list_of old
@@ -34,7 +39,7 @@ module _ {D : Type 0} {disk : Ghosts D} (old mid new : Behind D disk) (same_grou
   acts seat event answer grown same_start s = let h : Happening = record { event = event; answer = answer } in record {
     listed = listed_on mid.turns.items (since mid.start mid.group) mid.counted seat h new.turns.items grown (since new.start new.group)
         (ap (λ (x : GroupIs). since x new.group) same_start ∙ since_more mid.start mid.group mid.begun new.group h (ap (λ (x : GroupIs). x.history) s.recorded)) ∙ ap (λ l. l ++ entry seat (Happened h) ∷ []) same_list;
-    legal = subst (λ (x : GroupIs). IsLegalNext x.setup (state_of x) (claims_of [] x.history) h) same_group.0 s.legal;
+    legal = subst (λ (x : GroupIs). IsLegalNext x.setup (state_of x) (claims_of [] x.history) h) same_group.0 (is_legal mid.group new.group event answer s mid.told);
     root = same_start ∙ same_group.1;
   }
 

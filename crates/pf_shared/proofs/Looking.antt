@@ -1,5 +1,5 @@
 -- A look: one more entry, and what it tells.
-use Rattle.std.proofs.Common.{◌≡◌, ℕ, Bool, true, List, [], ◌∷◌, ◌++◌, length, Option, Some, None, is_some, Result, Ok, Err, IfNone, IfOk, IfSome, OnErr, OnOk, sym, refl, ap, ◌∙◌, subst, arith}
+use Rattle.std.proofs.Common.{◌≡◌, ℕ, Bool, IsTrue, true, List, [], ◌∷◌, ◌++◌, length, Option, Some, None, is_some, Result, Ok, Err, IfNone, IfOk, IfSome, OnErr, OnOk, sym, refl, ap, ◌∙◌, subst, arith}
 use Rattle.std.specs.Bool.{then_some}
 use Rattle.pf_base.specs.declared.errors.NoMemory.{NoMemory}
 use Rattle.pf_turn.specs.declared.log.Stamped.{Stamped}
@@ -67,25 +67,28 @@ read_is number None = refl
 pub record Took (number : ℕ) (answer : Option (List Sector)) (old new : GroupIs) : Type 0 where
   pub history : new.history ≡ old.history
   pub root : root_of new ≡ root_of old
+  pub told : new.told ≡ old.told
   pub taken : new.taken ≡ taken_with old.taken (Look (read_of number answer))
   pub handed : HandsOut (state_of old) old.taken number answer
   pub pays : Pays old new
   pub by : WentBy old new
 
-pub took : (number : ℕ) (answer : Option (List Sector)) (old new : GroupIs) → IfSome answer (λ bytes. HasTaken old number bytes new) → IfNone answer (LacksAnswer old number) → IfNone answer (new ≡ old) → Took number answer old new
-took number (Some bytes) old new has lacks same = record {
+pub took : (number : ℕ) (answer : Option (List Sector)) (old new : GroupIs) → IsTrue old.told → IfSome answer (λ bytes. HasTaken old number bytes new) → IfNone answer (LacksAnswer old number) → IfNone answer (new ≡ old) → Took number answer old new
+took number (Some bytes) old new told has lacks same = record {
   history = ap (λ x. x.history) has.is;
   root = ap root_of has.is;
+  told = ap (λ x. x.told) has.is;
   taken = ap (λ x. x.taken) has.is;
-  handed = (has.first, has.answer);
+  handed = (has.first, has.answer told);
   pays = pays_same old new (has.is ∙ ap (λ (g : GroupIs). record old { taken = g.taken }) (sym has.is));
   by = by_one old new (Takes (has.is ∙ ap (λ (g : GroupIs). record old { taken = g.taken }) (sym has.is)));
 }
-took number None old new has lacks same = record {
+took number None old new told has lacks same = record {
   history = ap (λ x. x.history) same;
   root = ap root_of same;
+  told = ap (λ x. x.told) same;
   taken = ap (λ x. x.taken) same;
-  handed = lacks;
+  handed = lacks told;
   pays = subst (Pays old) (sym same) (pays_refl old);
   by = by_same old new same;
 }

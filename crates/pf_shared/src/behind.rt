@@ -1,5 +1,5 @@
 //! What lies behind the turn.
-ghost use Rattle.std.specs.Prelude.{◌≡◌, ◌+◌, ◌++◌, ◌<◌, ◌≤◌, ◌^◌, ℕ, [], length, None, Ok, Some, true, vec_capacity, vec_len, IfOk, OnErr, OnOk, slice_get};
+ghost use Rattle.std.specs.Prelude.{◌≡◌, ◌+◌, ◌++◌, ◌<◌, ◌≤◌, ◌^◌, ℕ, [], length, None, Ok, Some, true, vec_capacity, vec_len, IfOk, IsTrue, OnErr, OnOk, slice_get};
 ghost use Rattle.pf_protocol.specs.Answers.{IsLegal, claims_of};
 ghost use Rattle.pf_protocol.specs.declared.answers.Answer.TheVariants.{Done};
 ghost use Rattle.pf_protocol.specs.declared.events.Event.TheVariants.{Claim, Finish, GiveBack};
@@ -37,6 +37,8 @@ pub struct Behind<D: Disk> {
     pub(crate) alloc: Global,
     ghost begun: { start.history ++ since start group ≡ group.history },
     ghost same_root: { root_of group ≡ root_of start },
+    ghost told: { IsTrue group.told },
+    ghost same_told: { group.told ≡ start.told },
     ghost paid: { ∥ Pays start group ∥₁ },
     ghost by: { ∥ WentBy start group ∥₁ },
     ghost none_open: { claims_of [] start.history ≡ [] },
@@ -69,7 +71,8 @@ impl<D: Disk + Drop> Behind<D> {
 
     /// A group, before its first turn. No claim is open in its history.
     pub(crate) fn new(alloc: Global, group: Group<D>) -> Behind<D>
-        requires { claims_of [] group.history ≡ [] }
+        requires told { IsTrue group.told }
+        requires none { claims_of [] group.history ≡ [] }
         ensures list { list_of result ≡ [] }
         ensures group { (result.group ≡ group) × (result.start ≡ group) }
     {

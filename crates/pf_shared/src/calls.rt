@@ -1,5 +1,5 @@
 //! The calls, each in one turn.
-ghost use Rattle.std.specs.Prelude.{◌≡◌, ◌≢◌, ℕ, ◌+◌, ◌<◌, ◌^◌, [], ◌∷◌, IfErr, IfOk, OnErr};
+ghost use Rattle.std.specs.Prelude.{◌≡◌, ◌≢◌, ℕ, ◌+◌, ◌<◌, ◌^◌, [], ◌∷◌, IfErr, IfOk, IsTrue, OnErr};
 ghost use Rattle.pf_protocol.specs.Answers.{claims_of};
 ghost use Rattle.pf_protocol.specs.declared.answers.Answer.TheVariants.{Done};
 ghost use Rattle.pf_protocol.specs.declared.events.Event.TheVariants.{Claim, Finish, GiveBack};
@@ -26,13 +26,14 @@ use std::alloc::Global;
 use std::sync::Wait;
 
 impl<D: Disk + Drop> SharedGroup<D> {
-    /// A group behind a turn, and its first seat. No claim is open in the group's history, which becomes the root of the lock: the list
+    /// A group behind a turn, and its first seat. Its disks tell their content, and no claim is open in its history, which becomes the root of the lock: the list
     /// behind the turn is what happens from then on. Where memory runs out (`NoMemory`, 1) the group comes back.
     pub fn new(
         alloc: Global,
         group: Group<D>,
     ) -> Result<(SharedGroup<D>, GroupSeat<D>), (Group<D>, NoMemory)>
-        requires { claims_of [] group.history ≡ [] }
+        requires told { IsTrue group.told }
+        requires none { claims_of [] group.history ≡ [] }
         ensures seat { IfOk result (λ made. IsSeatOf made.0 made.1) }
         ensures first { IfOk result (λ made. IsFirst made.1 × (splits_of made.1 ≡ 0) × (out_of made.1 ≡ 0) × (gone_of made.1 ≡ [])) }
         ensures list { IfOk result (λ made. seen_by made.1 ≡ []) }

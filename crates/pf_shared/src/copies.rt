@@ -1,5 +1,5 @@
 //! Copies of what a group shows. Where there is no memory for one (`NoMemory`, 1), nothing is told.
-ghost use Rattle.std.specs.Prelude.{◌≡◌, ◌<◌, IfOk, map, slice_get};
+ghost use Rattle.std.specs.Prelude.{◌≡◌, ◌<◌, IfOk, IsTrue, map, slice_get};
 ghost use Rattle.std.specs.FinMap as finite;
 ghost use Rattle.pf_cluster.specs.Showing.{acked_of};
 ghost use Rattle.pf_cluster.specs.Shown.{is_acked};
@@ -16,6 +16,7 @@ use std::alloc::Global;
 
 /// The slots that were acknowledged to hosts, in order.
 pub(crate) fn acked<D: Disk>(alloc: Global, group: &Group<D>) -> Result<Vec<Acked>, NoMemory>
+    requires { IsTrue group.now.told }
     ensures { IfOk result (λ acked. acked.items ≡ map acked_of (state_of group.now).acked) }
 {
     Ok(Vec::from_slice(alloc, group.acked())?)
@@ -23,6 +24,7 @@ pub(crate) fn acked<D: Disk>(alloc: Global, group: &Group<D>) -> Result<Vec<Acke
 
 /// Whether the slot was acknowledged in this term.
 pub(crate) fn is_acked<D: Disk>(group: &Group<D>, term: Term, slot: Slot) -> bool
+    requires { IsTrue group.now.told }
     ensures { result ≡ is_acked (state_of group.now) term slot }
 {
     group.is_acked(term, slot)
@@ -35,7 +37,8 @@ pub(crate) fn entry_of<D: Disk>(
     server: Server,
     slot: Slot,
 ) -> Result<Result<Option<Entry>, Down>, NoMemory>
-    requires { server < 3 }
+    requires server { server < 3 }
+    requires told { IsTrue group.now.told }
     ensures { IfOk result (λ told. TellsOf (state_of group.now) server told (λ entry s. entry ≡ finite.get s.durable.log slot)) }
 {
     match group.entry_of(server, slot) {
@@ -51,7 +54,8 @@ pub(crate) fn applied_of<D: Disk>(
     group: &Group<D>,
     server: Server,
 ) -> Result<Result<SlotSet, Down>, NoMemory>
-    requires { server < 3 }
+    requires server { server < 3 }
+    requires told { IsTrue group.now.told }
     ensures { IfOk result (λ told. TellsOf (state_of group.now) server told (λ slots s. IsAppliedOf slots.slots s)) }
 {
     match group.applied_of(server) {
@@ -66,7 +70,8 @@ pub(crate) fn sectors_of<D: Disk>(
     group: &Group<D>,
     server: Server,
 ) -> Result<Result<Sectors, Down>, NoMemory>
-    requires { server < 3 }
+    requires server { server < 3 }
+    requires told { IsTrue group.now.told }
     ensures { IfOk result (λ told. TellsOf (state_of group.now) server told (λ sectors s. sectors ≡ s.sectors)) }
 {
     match group.sectors_of(server) {
@@ -82,7 +87,8 @@ pub(crate) fn snapshot<D: Disk>(
     server: Server,
     slot: Slot,
 ) -> Result<Option<Sectors>, NoMemory>
-    requires { server < 3 }
+    requires server { server < 3 }
+    requires told { IsTrue group.now.told }
     ensures { IfOk result (λ sectors. sectors ≡ snapshot_in (slice_get (state_of group.now).servers server) slot) }
 {
     match group.snapshot(server, slot) {

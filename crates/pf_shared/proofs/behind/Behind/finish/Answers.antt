@@ -1,4 +1,5 @@
-use Rattle.std.proofs.Common.{◌≡◌, [], ◌∷◌, ◌++◌, ap, ◌∙◌, slice_get, length, refl, rules, arith}
+use Rattle.std.proofs.Common.{◌≡◌, [], ◌∷◌, ◌++◌, ap, ◌∙◌, slice_get, length, refl, rules, arith, IsTrue, subst, sym}
+use Rattle.pf_group.specs.GroupIs.{GroupIs}
 use Rattle.std.proofs.Math.Logic.{∥∥₁_map}
 use Rattle.pf_protocol.specs.declared.events.Event.TheVariants.{Finish}
 use Rattle.pf_protocol.specs.declared.events.Happening.{Happening}
@@ -31,7 +32,9 @@ invariant_of-self g c = let s = c.in-Ok.ensures.went in let b = c.args.self.now 
     let claims = claims_on ds hs b.counted c.args.seat h c.push.new.self.items grown next longer in record {
       begun = begun_more b.start b.group b.begun c.step.new.self h more;
       same_root = ap root_of s.steps.recorded ∙ b.same_root;
-      paid = ∥∥₁_map b.paid (λ p. pays_trans b.start b.group c.step.new.self p (step_pays b.group c.step.new.self (Finish f.server f.life f.slot) c.in-Ok.answer s.steps));
+      told = subst (λ (x : GroupIs). IsTrue x.told) (sym s.steps.recorded) b.told;
+      same_told = ap (λ (x : GroupIs). x.told) s.steps.recorded ∙ b.same_told;
+      paid = ∥∥₁_map b.paid (λ p. pays_trans b.start b.group c.step.new.self p (step_pays b.group c.step.new.self (Finish f.server f.life f.slot) c.in-Ok.answer s.steps b.told));
       by = ∥∥₁_map b.by (λ w. by_both b.start b.group c.step.new.self w (by_step b.group c.step.new.self (Finish f.server f.life f.slot) c.in-Ok.answer s.steps));
       none_open = b.none_open;
       counted = counted_on ds hs b.counted c.args.seat h c.push.new.self.items grown next longer;

@@ -1,4 +1,5 @@
-use Rattle.std.proofs.Common.{◌≡◌, [], ◌∷◌, ◌++◌, ap, ◌∙◌, subst, sym, true, length, refl, rules, arith}
+use Rattle.std.proofs.Common.{◌≡◌, [], ◌∷◌, ◌++◌, ap, ◌∙◌, subst, sym, true, length, refl, rules, arith, IsTrue}
+use Rattle.pf_group.specs.GroupIs.{GroupIs}
 use Rattle.std.proofs.Math.Logic.{∥∥₁_map}
 use Rattle.pf_protocol.specs.declared.answers.Answer.TheVariants.{Done}
 use Rattle.pf_protocol.specs.declared.events.Event.TheVariants.{GiveBack}
@@ -32,7 +33,9 @@ invariant_of-self g c = let s = c.give_back.ensures.went in let b = c.args.self.
     let claims = claims_on ds hs b.counted c.args.seat h c.push.new.self.items grown next longer in record {
       begun = begun_more b.start b.group b.begun c.give_back.new.self h more;
       same_root = ap root_of s.recorded ∙ b.same_root;
-      paid = ∥∥₁_map b.paid (λ p. pays_trans b.start b.group c.give_back.new.self p (step_pays b.group c.give_back.new.self (GiveBack j.server j.life j.slot) Done s));
+      told = subst (λ (x : GroupIs). IsTrue x.told) (sym s.recorded) b.told;
+      same_told = ap (λ (x : GroupIs). x.told) s.recorded ∙ b.same_told;
+      paid = ∥∥₁_map b.paid (λ p. pays_trans b.start b.group c.give_back.new.self p (step_pays b.group c.give_back.new.self (GiveBack j.server j.life j.slot) Done s b.told));
       by = ∥∥₁_map b.by (λ w. by_both b.start b.group c.give_back.new.self w (by_step b.group c.give_back.new.self (GiveBack j.server j.life j.slot) Done s));
       none_open = b.none_open;
       counted = counted_on ds hs b.counted c.args.seat h c.push.new.self.items grown next longer;

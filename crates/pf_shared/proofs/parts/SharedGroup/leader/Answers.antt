@@ -9,7 +9,7 @@ use Rattle.pf_shared.proofs.parts.SharedGroup.leader.Goals as goal
 pub returns-clause-look : goal.returns-clause-look
 returns-clause-look g c = let t = c.take-turn.ensures in let s = c.args.seat.now in let b = c.take-turn.result.value in let n = number_of s in
     let finds : Finds n (IsAlone s) (seen_by s) (list_of b) = record { begins = t.seen.1; own = t.own; exact = λ a. t.alone a.0 a.1 } in
-    look_ok (root_in c.args.self.now) n _ t.seat.2.0 (IsAlone s) (seen_by s) b t.root finds (seen_by c.end_look.new.seat) (λ a g. IsLeader g a) (Ok c.leader.result) c.end_look.result c.leader.ensures c.end_look.ensures.told c.end_look.ensures.ok
+    look_ok (root_in c.args.self.now) n _ t.seat.2.0 (IsAlone s) (seen_by s) b t.root finds (seen_by c.end_look.new.seat) (λ a g. IsLeader g a) (Ok c.leader.result) c.end_look.result (c.leader.ensures.leader b.told) c.end_look.ensures.told c.end_look.ensures.ok
 
 pub returns-clause-err : goal.returns-clause-err
 returns-clause-err g c = let t = c.take-turn.ensures in let s = c.args.seat.now in let b = c.take-turn.result.value in let n = number_of s in

@@ -17,7 +17,7 @@ returns-clause-submits g c = let t = c.take-turn.ensures in let s = c.args.seat.
     let finds : Finds n (IsAlone s) (seen_by s) (list_of b) = record { begins = t.seen.1; own = t.own; exact = λ a. t.alone a.0 a.1 } in
     let mid = seen_by (record { seat = c.take-turn.new.seat }) in
     let P : Group → Type 0 = λ x. TellsOf x c.args.server c.term_of-term.result (λ term s. term ≡ s.durable.term) in
-    let here : P (state_at root mid) = subst (λ l. P (state_at root l)) (sym t.seen.0) (subst P (group_is root n _ t.seat.2.0 (IsAlone s) (seen_by s) b t.root finds new) c.term_of-term.ensures) in
+    let here : P (state_at root mid) = subst (λ l. P (state_at root l)) (sym t.seen.0) (subst P (group_is root n _ t.seat.2.0 (IsAlone s) (seen_by s) b t.root finds new) (c.term_of-term.ensures b.told)) in
     let w = took_with n _ t.seat.2.0 (IsAlone s) (seen_by s) mid (list_of b) finds t.seen.0 root P (asked.Submit c.args.server c.args.range c.args.payload) c.in_ok-answer.answer new c.in_ok-answer.ensures.step here in
     (w.1.0, w.1.1)
 
