@@ -61,9 +61,9 @@ fn new_ports(alloc: Global) -> Result<Vec<Port>, NoMemory>
 }
 
 impl<D: Disk + Drop> ChunkGroup<D> {
-    /// Makes the group of a chunk on these disks, whatever they held and whatever they tell: its number in its volume, the sectors of the chunk, the most slots
-    /// that a log entry names, and the format of the first halves, 1 or 2. `Done`, or `Halted` (52) where a disk of a server failed
-    /// while it was formatted: such a server never runs.
+    /// Makes the group of a chunk on these disks, whatever they held and whatever they tell: its number in its volume, the sectors of the
+    /// chunk, the most slots that a log entry names, and the format of the first halves, 1 or 2. `Done`, or `Halted` (52) where a disk of
+    /// a server failed while it was formatted: such a server never runs.
     ///
     /// `NoMemory` (1) gives the disks back; nothing was called.
     pub fn new(

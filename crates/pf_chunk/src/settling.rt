@@ -55,7 +55,8 @@ impl<D: Disk + Drop> ChunkGroup<D> {
         }
     }
 
-    /// Delivers the next packet, which is left where the disks tell their content. Where its record or its packets have no room it is passed over. For the rest see `happen`.
+    /// Delivers the next packet, which is left where the disks tell their content. Where its record or its packets have no room it is
+    /// passed over. For the rest see `happen`.
     pub fn settle_one<R: Threads + Sync, G: Gate + Sync>(
         &mut self,
         rt: &R,

@@ -12,7 +12,7 @@ six_list six = six.s0h0 ∷ six.s0h1 ∷ six.s1h0 ∷ six.s1h1 ∷ six.s2h0 ∷ 
 
 module _ {D : Type 0} (seen : D → Option (List ℕ)) (may_leave : D → Images) (faults moment : D → ℕ) (left_since : D → ℕ → Images) (tells tells_moments : Bool) where
   -- The two halves of server i of chunk k have failed as often as its group knows. Where disks of their type tell their content, they hold
-  -- what the group left there, now and at any moment since its last step began
+  -- what the group left there, now and at any moment since its last step began that may have touched disks
   pub record AreHalvesOf (disks : List D) (c : ChunkIs) (k i : ℕ) : Type 0 where
     pub zero : D
     pub one : D
