@@ -1,11 +1,10 @@
 -- Where the settlings of chunks begin and go on.
-use Rattle.std.proofs.Common.{◌≡◌, inl, inr, ℕ, ◌+◌, ◌-◌, ◌<◌, ◌≤◌, true, false, IsTrue, List, length, find, Option, Some, None, IfSome, MatchOption, is_some, slice_get, slice_set, arith, refl, sym, ap, subst, ◌∙◌}
+use Rattle.std.proofs.Common.{◌≡◌, inl, inr, ℕ, ◌+◌, ◌-◌, ◌<◌, ◌≤◌, true, false, IsTrue, List, length, find, Option, Some, None, IfSome, is_some, slice_get, slice_set, arith, refl, sym, ap, subst, ◌∙◌}
 use Rattle.std.specs.List.{range_with_len}
 use Rattle.std.proofs.lemmas.Bool.{cases_lt, false≢true}
 use Rattle.std.proofs.lemmas.Option.{none-some, same_Some, slice_get_within}
 use Rattle.pf_entry.proofs.Lists.{set_cases, set_there}
 use Rattle.pf_cluster.proofs.Lists.{set_elsewhere, set_length, something_there}
-use Rattle.pf_protocol.specs.Answers.{most_packets}
 use Rattle.pf_protocol.specs.Groups.{Group}
 use Rattle.pf_group.specs.GroupIs.{GroupIs, state_of}
 use Rattle.pf_group.specs.Packets.{IsFirstLeft, is_left_in, least_from}
@@ -23,6 +22,7 @@ ready_with c n ready = record {
   claims = ready.claims;
   applied = ready.applied;
   kept = ready.kept;
+  few = ready.few;
   first_sent = ready.first_sent;
   none_left = ready.none_left;
 }
@@ -133,7 +133,7 @@ module _ (place : ℕ) (old now : List ChunkIs) (so_far : LooksBelow place old n
   }
 
   -- one is
-  pub found_next : (r : Option ℕ) → (IsTrue c.group.told → r ≡ least_from c.next (state_of c.group)) → MatchOption r (is.next ≡ is.next) (λ k. is.next ≡ k) → IfSome r (λ k. k < most_packets) → is_some r ≡ true → IsNext place (slice_set now place is)
+  pub found_next : (r : Option ℕ) → (IsTrue c.group.told → r ≡ least_from c.next (state_of c.group)) → IfSome r (λ k. is.next ≡ k) → IfSome r (λ k. k < 65536) → is_some r ≡ true → IsNext place (slice_set now place is)
   found_next None least found few some = absurd (false≢true some)
   found_next (Some k) least found few some =
       let g = state_of c.group in
@@ -141,7 +141,7 @@ module _ (place : ℕ) (old now : List ChunkIs) (so_far : LooksBelow place old n
       let last : (d : ChunkIs) → slice_get (slice_set now place is) place ≡ Some d → is ≡ d = λ d at. same_Some is d (sym (set_there now place c is there) ∙ at) in
       record {
         inside = omega (arith, low, set_length now place is);
-        low = λ d at. subst (λ (x : ChunkIs). x.next < most_packets) (last d at) (subst (λ n. n < most_packets) (sym found) few);
+        low = λ d at. subst (λ (x : ChunkIs). x.next < 65536) (last d at) (subst (λ n. n < 65536) (sym found) few);
         least = λ d at. subst (λ (x : ChunkIs). IsTrue x.group.told → least_from x.next (state_of x.group) ≡ Some x.next) (last d at)
             (subst (λ (x : ChunkIs). IsTrue x.group.told → least_from is.next (state_of x.group) ≡ Some is.next) (sym same) (λ tells.
             let it = least_found g c.next k (sym (least tells)) in

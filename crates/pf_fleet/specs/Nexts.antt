@@ -1,6 +1,5 @@
 -- Where the settlings of chunks begin and go on. What is left is known of groups whose disks tell their content.
 use Rattle.std.specs.Prelude.{◌≡◌, ℕ, ◌<◌, ◌≤◌, IsTrue, false, List, length, Some, None, slice_get}
-use Rattle.pf_protocol.specs.Answers.{most_packets}
 use Rattle.pf_group.specs.GroupIs.{state_of}
 use Rattle.pf_group.specs.Packets.{is_left_in, least_from}
 use Rattle.pf_chunk.specs.Views.{ChunkIs, IsReady}
@@ -32,6 +31,6 @@ AreQuietBelow place chunks = (k : ℕ) (c : ChunkIs) → k < place → slice_get
 -- the least chunk of which a packet is left, and its settling goes on with that
 pub record IsNext (place : ℕ) (chunks : List ChunkIs) : Type 0 where
   pub inside : place < length chunks
-  pub low : (c : ChunkIs) → slice_get chunks place ≡ Some c → c.next < most_packets
+  pub low : (c : ChunkIs) → slice_get chunks place ≡ Some c → c.next < 65536
   pub least : (c : ChunkIs) → slice_get chunks place ≡ Some c → IsTrue c.group.told → least_from c.next (state_of c.group) ≡ Some c.next
   pub below : AreQuietBelow place chunks

@@ -19,7 +19,7 @@ use Rattle.pf_hosts.specs.Moments.{Writes, text_of}
 use Rattle.pf_hosts.specs.Hosts.{Drove, drove, drove_as, drove_of, handed}
 use Rattle.pf_hosts.specs.Steps.{AreReady, Goes, HaveBegun, TellsAll, runs}
 use Rattle.pf_hosts.specs.Parts.{HasDrove, HasNotDrove}
-use Rattle.pf_hosts.proofs.Groups.{all_begun, goes_refl, run_there}
+use Rattle.pf_hosts.proofs.Groups.{all_begun, goes_refl, grown_left, run_there}
 
 handed_text : (mount k : ℕ) (place : Option ℕ) (text : List ℕ) → text_of (handed mount k place ++ Writes text ∷ []) ≡ text
 handed_text mount k None text = append-nil text
@@ -53,7 +53,7 @@ module _ (mount k : ℕ) (old : List ChunkIs) (was is : ChunkIs) (there : slice_
     goes_one : is.next ≡ was.next → Goes mount was is
     goes_one next = record {
       grown = d.grown;
-      left = d.left;
+      left = grown_left was.group is.group d.grown;
       first = d.first;
       next = next;
       others = λ m other. ap (λ ports. slice_get ports m) p.ports ∙ set_elsewhere was.ports mount m p.port other;

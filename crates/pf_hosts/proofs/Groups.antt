@@ -1,11 +1,15 @@
 -- What happens to the chunks of a volume.
-use Rattle.std.proofs.Common.{◌≡◌, ℕ, ◌+◌, List, [], length, Some, slice_get, inl, refl, sym, ap, ◌∙◌, append-nil}
+use Rattle.std.proofs.Common.{◌≡◌, ℕ, ◌+◌, List, [], ◌∷◌, ◌++◌, length, Some, slice_get, inl, refl, sym, ap, ◌∙◌, append-nil}
 use Rattle.std.specs.Option.{option_map}
 use Rattle.std.proofs.lemmas.Option.{slice_get-map}
-use Rattle.pf_protocol.specs.Histories.{IsPrefix}
+use Rattle.pf_protocol.specs.Groups.{Group, ending, happens, opening}
+use Rattle.pf_protocol.specs.Histories.{History, IsPrefix, replay, run}
+use Rattle.pf_protocol.specs.Servers.{Setup}
 use Rattle.pf_protocol.proofs.ForMoments.{prefix_of}
 use Rattle.pf_group.specs.GroupIs.{GroupIs, state_of}
 use Rattle.pf_group.specs.Packets.{NoneComesBack}
+use Rattle.pf_group.specs.Readers.{is_left}
+use Rattle.pf_group.proofs.Sending.{run_sent}
 use Rattle.pf_rounds.specs.Agreeing.{TellsOfGroup, chunk_of, told_from, told_history}
 use Rattle.pf_rounds.specs.Begun.{HasBegun}
 use Rattle.pf_rounds.specs.Chunks.{Chunk}
@@ -19,6 +23,18 @@ use Rattle.pf_hosts.specs.Steps.{Goes, runs}
 
 pub left_refl : (g : GroupIs) → NoneComesBack (state_of g) (state_of g)
 left_refl g k is = inl is
+
+-- more happened: packets were only sent and marked
+run_on : (setup : Setup) (g : Group) (xs ys : History) → run setup g (xs ++ ys) ≡ run setup (run setup g xs) ys
+run_on setup g [] ys = refl
+run_on setup g (x ∷ xs) ys = run_on setup (happens setup g x.event (ending x.answer)) xs ys
+
+pub grown_left : (a b : GroupIs) → HasGrown a b → NoneComesBack (state_of a) (state_of b)
+grown_left a b grown k is =
+    let rest = grown.later.rest in
+    let same : state_of b ≡ run a.setup (state_of a) rest =
+    ap (λ setup. replay setup b.history) grown.setup ∙ ap (replay a.setup) (sym grown.later.whole) ∙ run_on a.setup (opening a.setup) a.history rest in
+    (run_sent a.setup rest (state_of a)).none k (ap (λ (g : Group). is_left (slice_get g.packets k)) (sym same) ∙ is)
 
 pub goes_refl : (mount : ℕ) (c : ChunkIs) → Goes mount c c
 goes_refl mount c = record { grown = grown_refl c.group; left = left_refl c.group; first = refl; next = refl; others = λ m other. refl }

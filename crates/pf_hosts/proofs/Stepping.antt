@@ -1,5 +1,5 @@
 -- A step of a host, part by part.
-use Rattle.std.proofs.Common.{◌≡◌, ℕ, ◌<◌, List, [], ◌∷◌, ◌++◌, length, Option, Some, None, slice_get, inl, inr, refl, sym, ap, subst, ◌∙◌, append-nil, append_assoc}
+use Rattle.std.proofs.Common.{◌≡◌, ℕ, ◌<◌, List, [], ◌++◌, length, Option, Some, None, slice_get, inl, inr, refl, sym, ap, subst, ◌∙◌, append-nil, append_assoc}
 use Rattle.std.specs.Option.{option_map}
 use Rattle.std.proofs.lemmas.Grind.{flat_map-append}
 use Rattle.std.proofs.lemmas.Option.{same_Some, slice_get_within}
@@ -8,11 +8,6 @@ use Rattle.pf_files.specs.CallNames.{name_of}
 use Rattle.pf_files.specs.declared.calls.Pending.{Pending}
 use Rattle.pf_entry.proofs.Lists.{set_cases, set_there}
 use Rattle.pf_cluster.proofs.Lists.{set_elsewhere, something_there}
-use Rattle.pf_protocol.specs.Groups.{Group, ending, happens, opening}
-use Rattle.pf_protocol.specs.Histories.{History, replay, run}
-use Rattle.pf_protocol.specs.Servers.{Setup}
-use Rattle.pf_group.specs.Readers.{is_left}
-use Rattle.pf_group.proofs.Sending.{run_sent}
 use Rattle.pf_group.specs.GroupIs.{GroupIs, state_of}
 use Rattle.pf_group.specs.Packets.{NoneComesBack}
 use Rattle.pf_asks.specs.Ports.{PortIs}
@@ -26,23 +21,11 @@ use Rattle.pf_hosts.specs.Moments.{Heard, Moment, lines_in, text_of}
 use Rattle.pf_hosts.specs.Hosts.{Drove, HostIs, Stepped, after_telling, call_of, comes_of, events_of, hands_at, hands_on, number_of, replied, stepped, stepped_at}
 use Rattle.pf_hosts.specs.Steps.{AreReady, Goes, HasStepped, HaveGone, HaveGrown, IsAsking, IsHostOf, TellsAll, runs}
 use Rattle.pf_hosts.specs.Parts.{AllQuiet, ArePut, HasCome, HasDrove, IsPending, IsPut, name_in}
-use Rattle.pf_hosts.proofs.Groups.{goes_refl, left_refl, run_there}
+use Rattle.pf_hosts.proofs.Groups.{goes_refl, grown_left, left_refl, run_there}
 use Rattle.pf_hosts.proofs.Machine.{answered_keeps}
 
 pub told_both : (a b : List Moment) → text_of (a ++ b) ≡ text_of a ++ text_of b
 told_both a b = flat_map-append lines_in a b
-
--- more happened: packets were only sent and marked
-run_on : (setup : Setup) (g : Group) (xs ys : History) → run setup g (xs ++ ys) ≡ run setup (run setup g xs) ys
-run_on setup g [] ys = refl
-run_on setup g (x ∷ xs) ys = run_on setup (happens setup g x.event (ending x.answer)) xs ys
-
-grown_left : (a b : GroupIs) → HasGrown a b → NoneComesBack (state_of a) (state_of b)
-grown_left a b grown k is =
-    let rest = grown.later.rest in
-    let same : state_of b ≡ run a.setup (state_of a) rest =
-    ap (λ setup. replay setup b.history) grown.setup ∙ ap (replay a.setup) (sym grown.later.whole) ∙ run_on a.setup (opening a.setup) a.history rest in
-    (run_sent a.setup rest (state_of a)).none k (ap (λ (g : Group). is_left (slice_get g.packets k)) (sym same) ∙ is)
 
 goes_trans : (n : ℕ) (a b c : ChunkIs) → Goes n a b → Goes n b c → Goes n a c
 goes_trans n a b c first second = record {

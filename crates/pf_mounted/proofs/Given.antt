@@ -27,10 +27,10 @@ whole_read : (setup : Setup) (history : History) → IsLegal setup history → (
     → length a.bytes ≡ range.count
 whole_read setup history legal number range fetched k a there numbered =
     let waits = replicate number false ++ false ∷ [] in
-    let g : GroupIs = record { number = 0; setup = setup; history = history; taken = waits; faults = []; time = record { now = []; began = []; earlier = [] } } in
-    counted g legal number a.bytes (record g { taken = slice_set waits number true }) (record {
+    let g : GroupIs = record { number = 0; told = true; setup = setup; history = history; taken = waits; faults = []; time = record { now = []; began = []; earlier = [] } } in
+    counted g refl legal number a.bytes (record g { taken = slice_set waits number true }) (record {
       first = ap (slice_get waits) (sym (length-replicate number false)) ∙ at_end (replicate number false) false;
-      answer = record { k = k; answer = a; there = there; numbered = numbered; sectors = refl };
+      answer = λ told. record { k = k; answer = a; there = there; numbered = numbered; sectors = refl };
       is = refl;
     }) range fetched
 

@@ -56,9 +56,10 @@ goes_on a b c i j adds goes = goes_trans a b c (adds_goes a b i j adds) goes
 pub grown : (a b : GroupIs) → Goes a b → HasGrown a b
 grown a b goes = record {
   number = ap (λ (g : GroupIs). g.number) goes.recorded;
+  told = ap (λ (g : GroupIs). g.told) goes.recorded;
   setup = ap (λ (g : GroupIs). g.setup) goes.recorded;
   later = record { rest = goes.more; whole = sym (ap (λ (g : GroupIs). g.history) goes.recorded) };
-  paid = goes.paid;
+  paid = λ told. goes.paid;
   by = ∣ goes.by ∣₁;
 }
 

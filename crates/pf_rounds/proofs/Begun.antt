@@ -1,5 +1,6 @@
 -- After want of memory a group stands at a beginning of what a run would have done.
-use Rattle.std.proofs.Common.{◌≡◌, ℕ, suc, ◌+◌, List, [], ◌∷◌, ◌++◌, length, sym, ap, subst, ◌∙◌, arith}
+use Rattle.std.proofs.Common.{◌≡◌, ℕ, suc, ◌+◌, List, [], ◌∷◌, ◌++◌, length, refl, sym, ap, subst, ◌∙◌, arith}
+use Rattle.std.specs.Prelude.{IsTrue}
 use Rattle.std.proofs.lemmas.List.Sums.{sum_by-cons}
 use Rattle.pf_entry.specs.declared.ops.Job.{Job}
 use Rattle.pf_entry.specs.Lists.{Every}
@@ -25,7 +26,7 @@ use Rattle.pf_rounds.proofs.Adding.{both_more, grown, nothing_more}
 use Rattle.pf_rounds.proofs.Extending.{rounds_extend}
 use Rattle.pf_rounds.proofs.Growing.{grown_tells}
 use Rattle.pf_group.proofs.Chains.{by_both, by_step}
-use Rattle.pf_rounds.proofs.Paying.{pays_refl, pays_trans, step_pays}
+use Rattle.pf_rounds.proofs.Paying.{pays_refl, pays_trans, whole_pays}
 use Rattle.pf_rounds.proofs.Rounding.{RoundsSoFar}
 use Rattle.pf_rounds.proofs.Told.{told_longer, told_replays}
 use Rattle.pf_rounds.proofs.Undone.{undone}
@@ -51,7 +52,7 @@ one_returned old now new job steps returned =
     returned_trans old now new returned (record {
       more = record { event = GiveBack job.server job.life job.slot; answer = Done } ∷ [];
       recorded = steps.recorded;
-      paid = step_pays now new (GiveBack job.server job.life job.slot) Done steps;
+      paid = whole_pays now new (GiveBack job.server job.life job.slot) Done steps tt refl;
       by = by_step now new (GiveBack job.server job.life job.slot) Done steps;
       returned = (tt, tt);
     })
@@ -93,7 +94,7 @@ returned_state now new back legal before after =
     ap state_of back.recorded ∙ undone now.setup now.history back.more legally back.returned before none
 
 -- the rounds before it stand
-pub begun : (old now new : GroupIs) (left : ℕ) → Goes old now → RoundsSoFar old now left → HasReturned now new → IsLegal new.setup new.history → claims_of [] now.history ≡ [] → claims_of [] new.history ≡ []
+pub begun : (old now new : GroupIs) (left : ℕ) → Goes old now → RoundsSoFar old now left → HasReturned now new → (IsTrue new.told → IsLegal new.setup new.history) → claims_of [] now.history ≡ [] → claims_of [] new.history ≡ []
     → (halts : List Halt) → TellsOfGroup halts new → HasBegun halts old (applied halts (chunk_of halts old)) new
 begun old now new left goes so_far back legal before after halts tells =
     let tells_now = grown_tells halts now new (grown now new (returned_goes now new back)) tells in
@@ -105,5 +106,5 @@ begun old now new left goes so_far back legal before after halts tells =
       part = subst (λ (c : Chunk). IsPrefix (told_history halts now) c.history) (sym (so_far halts tells_now)) (rounds_extend left halts (chunk_of halts now)).1;
       recorded = sym (told_grows halts now new back.more back.recorded);
       returned = returned_told halts now.number (0 + length now.history) back.more back.returned;
-      state = returned_state now new back legal before after ∙ sym (told_replays halts now tells_now) ∙ ap (λ setup. replay setup (told_history halts now)) (sym same);
+      state = returned_state now new back (legal tells.told) before after ∙ sym (told_replays halts now tells_now) ∙ ap (λ setup. replay setup (told_history halts now)) (sym same);
     }

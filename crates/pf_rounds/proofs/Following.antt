@@ -74,6 +74,7 @@ restart_is halts c i found = refl
 -- a list that tells of a group tells of it at every earlier moment
 pub tells_before : (halts : List Halt) (g : GroupIs) (earlier : History) → IsPrefix earlier g.history → TellsOfGroup halts g → TellsOfGroup halts (record g { history = earlier })
 tells_before halts g earlier before tells = record {
+  told = tells.told;
   making = tells.making;
   few = tells.few;
   events = λ first h is. tells.events first h (prefix_of (first ++ h ∷ []) earlier g.history is before);

@@ -4,7 +4,6 @@ pub mod Following
 pub mod Opening
 pub mod Growing
 pub mod Bound
-pub mod Free
 pub mod Opened
 pub mod Adding
 pub mod Stepping

@@ -1,5 +1,6 @@
 -- As many faults of the disks of a server as steps of it that were cut off.
 use Rattle.std.proofs.Common.{◌≡◌, ◌⊎◌, inl, inr, ℕ, suc, ◌+◌, ◌≤◌, Bool, true, false, ◌==◌, nat_lt, List, [], ◌∷◌, ◌++◌, length, count_by, Some, slice_get, arith, refl, sym, ap, subst, ◌∙◌}
+use Rattle.std.specs.Prelude.{IsTrue}
 use Rattle.std.proofs.lemmas.Bool.{and_parts, eqb-false, eqb-true, ltb-false, ltb-true, ne_eqb}
 use Rattle.std.proofs.lemmas.List.Sums.{sum_by-cons}
 use Rattle.std.proofs.lemmas.Option.{none-some, same_Some, slice_get_cases, slice_get_past}
@@ -18,7 +19,7 @@ use Rattle.pf_group.specs.declared.event.GroupEvent.TheVariants as asked
 use Rattle.pf_group.specs.GroupIs.{GroupIs, state_of}
 use Rattle.pf_group.specs.Halves.{AreLater, EitherRose, HasRisen}
 use Rattle.pf_group.specs.Making.{IsMade}
-use Rattle.pf_group.specs.Steps.{IsLeft, Steps}
+use Rattle.pf_group.specs.Steps.{IsLeft, IsNoRestart, Steps}
 use Rattle.pf_rounds.specs.Agreeing.{is_halted}
 use Rattle.pf_rounds.specs.Growing.{ArePaid, HasGrown, IsLast, IsPaid, IsPaidSince, Pays, halts_in}
 use Rattle.pf_rounds.specs.Telling.{halted_at, one_if}
@@ -97,57 +98,78 @@ pays_trans a b c = are_paid_on (halts_in a) (halts_in b) (halts_in c) a.faults b
 pub pays_same : (old new : GroupIs) → new ≡ record old { taken = new.taken } → Pays old new
 pays_same old new is = pays_alike old new (λ i. ap (λ (g : GroupIs). halts_in g i) is) (ap (λ (g : GroupIs). g.faults) is)
 
-pub since_grown : (before : List (ℕ × ℕ)) (old new : GroupIs) → IsPaidSince before old → HasGrown old new → IsPaidSince before new
-since_grown before old new since grown = are_paid_on (λ i. 0) (halts_in old) (halts_in new) before old.faults new.faults since grown.paid
+pub since_grown : (before : List (ℕ × ℕ)) (old new : GroupIs) → IsTrue old.told → IsPaidSince before old → HasGrown old new → IsPaidSince before new
+since_grown before old new told since grown = are_paid_on (λ i. 0) (halts_in old) (halts_in new) before old.faults new.faults since (grown.paid told)
 
 -- only what it tells of its disks may be another
 abbrev pub OnlyFaults : (old new : GroupIs) → Type 0
-OnlyFaults old new = (new ≡ record old { faults = new.faults; time = new.time }) × AreLater old.faults new.faults
+OnlyFaults old new = new ≡ record old { faults = new.faults; time = new.time }
 
-not_even : (old new : GroupIs) → new ≡ old → OnlyFaults old new
-not_even old new is = (is ∙ ap (λ (g : GroupIs). record old { faults = g.faults; time = g.time }) (sym is), same_later old.faults new.faults (ap (λ (g : GroupIs). g.faults) is))
+record HasOnlyFaults (old new : GroupIs) : Type 0 where
+  only : OnlyFaults old new
+  later : IsTrue old.told → AreLater old.faults new.faults
+
+not_even : (old new : GroupIs) → new ≡ old → HasOnlyFaults old new
+not_even old new is = record {
+  only = is ∙ ap (λ (g : GroupIs). record old { faults = g.faults; time = g.time }) (sym is);
+  later = λ told. same_later old.faults new.faults (ap (λ (g : GroupIs). g.faults) is);
+}
 
 -- there was no memory for an event
+left_alone : (old : GroupIs) (event : GroupEvent) (new : GroupIs) → IsLeft old event new → HasOnlyFaults old new
+left_alone old (asked.Submit server range payload) new left = not_even old new left
+left_alone old (asked.Mark server) new left = not_even old new left
+left_alone old (asked.Fetch server range) new left = not_even old new left
+left_alone old (asked.Deliver k) new left = not_even old new left
+left_alone old (asked.Lose k) new left = not_even old new left
+left_alone old (asked.Elect server) new left = not_even old new left
+left_alone old (asked.Resend server) new left = not_even old new left
+left_alone old (asked.Stop server) new left = not_even old new left
+left_alone old (asked.Restart server) new left = elim left [ inl same ↦ not_even old new same | inr tried ↦ record { only = tried.is; later = tried.later } ]
+left_alone old asked.Claim new left = not_even old new left
+left_alone old (asked.Finish filled) new left = not_even old new left
+left_alone old (asked.Checkpoint server) new left = not_even old new left
+
 pub only_faults : (old : GroupIs) (event : GroupEvent) (new : GroupIs) → IsLeft old event new → OnlyFaults old new
-only_faults old (asked.Submit server range payload) new left = not_even old new left
-only_faults old (asked.Mark server) new left = not_even old new left
-only_faults old (asked.Fetch server range) new left = not_even old new left
-only_faults old (asked.Deliver k) new left = not_even old new left
-only_faults old (asked.Lose k) new left = not_even old new left
-only_faults old (asked.Elect server) new left = not_even old new left
-only_faults old (asked.Resend server) new left = not_even old new left
-only_faults old (asked.Stop server) new left = not_even old new left
-only_faults old (asked.Restart server) new left = elim left [ inl same ↦ not_even old new same | inr tried ↦ (tried.is, tried.later) ]
-only_faults old asked.Claim new left = not_even old new left
-only_faults old (asked.Finish filled) new left = not_even old new left
-only_faults old (asked.Checkpoint server) new left = not_even old new left
+only_faults old event new left = (left_alone old event new left).only
 
-pub left_pays : (old : GroupIs) (event : GroupEvent) (new : GroupIs) → IsLeft old event new → Pays old new
-left_pays old event new left =
-    let only = only_faults old event new left in
-    are_paid_still (halts_in old) (halts_in new) old.faults new.faults (λ i. ap (λ (g : GroupIs). halts_in g i) only.0) only.1
+pub left_pays : (old : GroupIs) (event : GroupEvent) (new : GroupIs) → IsTrue old.told → IsLeft old event new → Pays old new
+left_pays old event new told left =
+    let alone = left_alone old event new left in
+    are_paid_still (halts_in old) (halts_in new) old.faults new.faults (λ i. ap (λ (g : GroupIs). halts_in g i) alone.only) (alone.later told)
 
--- an event that was answered
-pub step_pays : (old new : GroupIs) (event : Event) (answer : Answer) → Steps old event answer new → Pays old new
-step_pays old new event answer steps = record { servers = steps.later.servers; each = λ i x y was is. by i x y was is (is_halted answer) refl }
-  where
-    h : Happening
-    h = record { event = event; answer = answer }
+module _ (old new : GroupIs) (event : Event) (answer : Answer) (steps : Steps old event answer new) where
+  abbrev happened : Happening
+  happened = record { event = event; answer = answer }
 
-    counted : (i n : ℕ) → halts_in (record old { history = old.history ++ h ∷ [] }) i ≡ n → halts_in new i ≡ n
-    counted i n is = ap (λ (g : GroupIs). halts_in g i) steps.recorded ∙ is
+  counted : (i n : ℕ) → halts_in (record old { history = old.history ++ happened ∷ [] }) i ≡ n → halts_in new i ≡ n
+  counted i n is = ap (λ (g : GroupIs). halts_in g i) steps.recorded ∙ is
 
-    cut_off : (i : ℕ) (x y : ℕ × ℕ) → slice_get old.faults i ≡ Some x → slice_get new.faults i ≡ Some y → answer ≡ Refused Halted → (k : ℕ) → acts_at (state_of old) event ≡ Some k → HasRisen k old.faults new.faults → (b : Bool) → (k == i) ≡ b → IsPaid (halts_in old i) (halts_in new i) x y
-    cut_off i x y was is halted k there rose true here =
-        let same = eqb-true k i here in
-        paid_risen (halts_in old i) (halts_in new i) x y (counted i (suc (halts_in old i)) (halts_rise old h i halted (there ∙ ap Some same))) (steps.later.each i x y was is)
-        (risen_there i old.faults new.faults x y was is (subst (λ j. HasRisen j old.faults new.faults) same rose))
-    cut_off i x y was is halted k there rose false apart =
-        paid_still (halts_in old i) (halts_in new i) x y (counted i (halts_in old i) (halts_elsewhere old h i k there (eqb-false k i apart))) (steps.later.each i x y was is)
+  -- an event that was not cut off, over any disks
+  pub whole_pays : IsNoRestart event → is_halted answer ≡ false → Pays old new
+  whole_pays no_restart whole =
+      are_paid_still (halts_in old) (halts_in new) old.faults new.faults (λ i. counted i (halts_in old i) (halts_stay old happened i whole)) (steps.later (inr no_restart))
 
-    by : (i : ℕ) (x y : ℕ × ℕ) → slice_get old.faults i ≡ Some x → slice_get new.faults i ≡ Some y → (b : Bool) → is_halted answer ≡ b → IsPaid (halts_in old i) (halts_in new i) x y
-    by i x y was is false whole = paid_still (halts_in old i) (halts_in new i) x y (counted i (halts_in old i) (halts_stay old h i whole)) (steps.later.each i x y was is)
-    by i x y was is true cut = let halted = halted_is answer cut in let cause = steps.cause halted in cut_off i x y was is halted cause.0 cause.1 cause.2 (cause.0 == i) refl
+  -- an event that was answered
+  pub step_pays : IsTrue old.told → Pays old new
+  step_pays told = record { servers = later.servers; each = λ i x y was is. by i x y was is (is_halted answer) refl }
+    where
+      later : AreLater old.faults new.faults
+      later = steps.later (inl told)
+
+      cut_off : (i : ℕ) (x y : ℕ × ℕ) → slice_get old.faults i ≡ Some x → slice_get new.faults i ≡ Some y → answer ≡ Refused Halted → (k : ℕ) → acts_at (state_of old) event ≡ Some k → HasRisen k old.faults new.faults → (b : Bool) → (k == i) ≡ b → IsPaid (halts_in old i) (halts_in new i) x y
+      cut_off i x y was is halted k there rose true here =
+          let same = eqb-true k i here in
+          paid_risen (halts_in old i) (halts_in new i) x y (counted i (suc (halts_in old i)) (halts_rise old happened i halted (there ∙ ap Some same))) (later.each i x y was is)
+          (risen_there i old.faults new.faults x y was is (subst (λ j. HasRisen j old.faults new.faults) same rose))
+      cut_off i x y was is halted k there rose false apart =
+          paid_still (halts_in old i) (halts_in new i) x y (counted i (halts_in old i) (halts_elsewhere old happened i k there (eqb-false k i apart))) (later.each i x y was is)
+
+      by : (i : ℕ) (x y : ℕ × ℕ) → slice_get old.faults i ≡ Some x → slice_get new.faults i ≡ Some y → (b : Bool) → is_halted answer ≡ b → IsPaid (halts_in old i) (halts_in new i) x y
+      by i x y was is false whole = paid_still (halts_in old i) (halts_in new i) x y (counted i (halts_in old i) (halts_stay old happened i whole)) (later.each i x y was is)
+      by i x y was is true cut =
+          let halted = halted_is answer cut in let cause = steps.cause halted in
+          cut_off i x y was is halted cause.0 (ap (λ g. acts_at g event) (sym (steps.same told)) ∙ cause.1) cause.2 (cause.0 == i) refl
 
 -- the servers whose disks failed in the making ascend, so that each is counted once
 module _ (P : ℕ → Type 0) (i : ℕ) where
@@ -185,8 +207,8 @@ module _ (P : ℕ → Type 0) (i : ℕ) where
   counted_once (j ∷ js) up all = one_more j js (j == i) refl up all.0 (counted_once js (rest_ascends j js up) all.1)
 
 -- a new group
-pub made_paid : (number sectors names format : ℕ) (before : List (ℕ × ℕ)) (g : GroupIs) (answer : Answer) → IsMade number sectors names format before g answer → IsPaidSince before g
-made_paid number sectors names format before g answer made = record { servers = made.later.servers; each = by }
+pub made_paid : (number sectors names format : ℕ) (told : Bool) (before : List (ℕ × ℕ)) (g : GroupIs) (answer : Answer) → IsMade number sectors names format told before g answer → IsPaidSince before g
+made_paid number sectors names format told before g answer made = record { servers = made.later.servers; each = by }
   where
     halts : (i : ℕ) → halts_in g i ≡ count_by (λ j. j == i) made.failed + 0
     halts i = halts_counted g i ∙ ap (λ (x : GroupIs). count_by (λ j. j == i) x.setup.failed + halted_at i x.setup (opening x.setup) x.history) made.is

@@ -1,7 +1,8 @@
 -- A run that follows a group, claim by claim, finish by finish and round by round.
-use Rattle.std.proofs.Common.{◌≡◌, ◌≢◌, ℕ, suc, ◌==◌, if◌then◌else◌, List, [], ◌∷◌, ◌++◌, Some, None, length, refl, sym, ap, subst, ◌∙◌, append_assoc, arith}
+use Rattle.std.proofs.Common.{◌≡◌, ◌≢◌, ℕ, suc, ◌==◌, if◌then◌else◌, List, [], ◌∷◌, ◌++◌, Some, None, length, refl, sym, ap, subst, ◌∙◌, append_assoc, arith, ⊎_elim}
 use Rattle.std.specs.List.{fold}
-use Rattle.std.proofs.lemmas.Bool.{ne_eqb}
+use Rattle.std.specs.Prelude.{IsTrue}
+use Rattle.std.proofs.lemmas.Bool.{false≢true, ne_eqb}
 use Rattle.std.proofs.lemmas.List.{append-nil}
 use Rattle.pf_entry.specs.declared.ops.Job.{Job}
 use Rattle.pf_protocol.specs.declared.answers.Answer.{Answer}
@@ -11,7 +12,7 @@ use Rattle.pf_protocol.specs.declared.events.Event.TheVariants.{Claim}
 use Rattle.pf_protocol.specs.declared.events.Happening.{Happening}
 use Rattle.pf_protocol.specs.Servers.{Setup}
 use Rattle.pf_protocol.specs.Groups.{Group, happens}
-use Rattle.pf_protocol.specs.Answers.{IsAnswer, answer_to}
+use Rattle.pf_protocol.specs.Answers.{IsAnswer, answer_to, may_halt}
 use Rattle.pf_protocol.proofs.ForMoments.{replay_goes_on}
 use Rattle.pf_group.specs.GroupIs.{GroupIs, state_of}
 use Rattle.pf_rounds.specs.Adding.{Goes, HasClaimed, HasFinished, finish_of, with_more}
@@ -23,20 +24,20 @@ use Rattle.pf_rounds.specs.Rounds.{Claims, IsApplied, applied, claim_on, claims_
 use Rattle.pf_rounds.proofs.Following.{step_is}
 use Rattle.pf_rounds.proofs.Growing.{grown_tells}
 use Rattle.pf_rounds.proofs.Adding.{grown}
-use Rattle.pf_rounds.proofs.Free.{none_is_answer}
 
 -- the list tells of the group without what it tells of its disks
 told : (halts : List Halt) (a b : GroupIs) (more : _) → b ≡ with_more a more b → TellsOfGroup halts b → TellsOfGroup halts (record a { history = a.history ++ more })
-told halts a b more recorded tells = let t = subst (TellsOfGroup halts) recorded tells in record { making = t.making; few = t.few; events = t.events }
+told halts a b more recorded tells = let t = subst (TellsOfGroup halts) recorded tells in record { told = t.told; making = t.making; few = t.few; events = t.events }
 
 -- and of it at an earlier moment
 told_before : (halts : List Halt) (a b : GroupIs) → Goes a b → TellsOfGroup halts b → TellsOfGroup halts a
 told_before halts a b goes tells = grown_tells halts a b (grown a b goes) tells
 
 -- one more event of both
-one_more : (halts : List Halt) (a b : GroupIs) (h : Happening) → b ≡ with_more a (h ∷ []) b → IsAnswer a.setup (state_of a) h.event h.answer → TellsOfGroup halts b → (answered halts (chunk_of halts a) h.event ≡ h.answer) × (after halts (chunk_of halts a) h.event ≡ chunk_of halts b)
+one_more : (halts : List Halt) (a b : GroupIs) (h : Happening) → b ≡ with_more a (h ∷ []) b → (IsTrue a.told → IsAnswer a.setup (state_of a) h.event h.answer) → TellsOfGroup halts b → (answered halts (chunk_of halts a) h.event ≡ h.answer) × (after halts (chunk_of halts a) h.event ≡ chunk_of halts b)
 one_more halts a b h recorded is tells =
-    let step = step_is halts a h is (told halts a b (h ∷ []) recorded tells) in
+    let before = told halts a b (h ∷ []) recorded tells in
+    let step = step_is halts a h (is before.told) before in
     (step.0, step.1 ∙ sym (ap (chunk_of halts) recorded))
 
 -- claims after these
@@ -78,14 +79,20 @@ pub all_claims : (old now : GroupIs) (jobs : List Job) → ClaimsSoFar old now j
 unfolding claims_to
 all_claims old now jobs so_far halts tells = so_far halts tells ∙ ap (λ js. record (no_jobs (chunk_of halts now)) { jobs = js }) (append-nil jobs)
 
+-- a claim that found none is answered so again
+none_is_answer : (setup : Setup) (g : Group) → IsAnswer setup g Claim (Refused NoneFree) → answer_to setup g Claim ≡ Refused NoneFree
+unfolding may_halt
+none_is_answer setup g is = ⊎_elim (λ (e : Refused NoneFree ≡ answer_to setup g Claim). sym e) (λ h. absurd (false≢true h.0)) is
+
 -- a claim for which none was free changes nothing
-pub still_none : (now new : GroupIs) → HasClaimed now None new → IsApplied new.setup (state_of new)
+pub still_none : (now new : GroupIs) → HasClaimed now None new → IsTrue new.told → IsApplied new.setup (state_of new)
 unfolding happens
-still_none now new claimed =
+still_none now new claimed told_new =
     let h : Happening = record { event = Claim; answer = Refused NoneFree } in
+    let told_now = subst IsTrue (ap (λ (g : GroupIs). g.told) claimed.recorded) told_new in
     let same : state_of new ≡ state_of now = ap state_of claimed.recorded ∙ replay_goes_on now.setup now.history h in
     ap (λ (setup : Setup). answer_to setup (state_of new) Claim) (ap (λ (g : GroupIs). g.setup) claimed.recorded)
-    ∙ (ap (λ (state : Group). answer_to now.setup state Claim) same ∙ none_is_answer now.setup (state_of now) claimed.answered)
+    ∙ (ap (λ (state : Group). answer_to now.setup state Claim) same ∙ none_is_answer now.setup (state_of now) (claimed.answered told_now))
 
 -- the finishes so far, with these jobs to come
 abbrev pub FinishesSoFar : (old new : GroupIs) → (all rest : List Job) → Type 0

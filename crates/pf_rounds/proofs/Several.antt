@@ -1,5 +1,6 @@
 -- The halts of several groups tell of each.
 use Rattle.std.proofs.Common.{◌≡◌, ℕ, zero, suc, ◌+◌, ◌<◌, ◌==◌, true, false, List, [], ◌∷◌, ◌++◌, flat_map, Some, slice_get, arith, refl, sym, ap, ◌∙◌}
+use Rattle.std.specs.Prelude.{IsTrue}
 use Rattle.std.proofs.lemmas.Bool.{eq-eqb, ne_eqb}
 use Rattle.std.proofs.lemmas.List.{append-nil}
 use Rattle.std.proofs.lemmas.List.Elements.{filter-append}
@@ -54,8 +55,8 @@ own_halts n (x ∷ xs) all (suc k) g at =
     ∙ ap (of_group (flat_map halts_of_group xs)) (sym later)
     ∙ own_halts (suc n) xs (rest_numbered n x xs all) k g at
 
--- groups that are numbered by their places, each with a legal history, and made with three servers
-pub tells_of_all : (gs : List GroupIs) → ((k : ℕ) (g : GroupIs) → slice_get gs k ≡ Some g → (g.number ≡ k) × Every (λ i. i < 3) g.setup.failed × IsLegal g.setup g.history) → (k : ℕ) (g : GroupIs) → slice_get gs k ≡ Some g → TellsOfGroup (flat_map halts_of_group gs) g
+-- groups that are numbered by their places, whose disks tell their content, each with a legal history, and made with three servers
+pub tells_of_all : (gs : List GroupIs) → ((k : ℕ) (g : GroupIs) → slice_get gs k ≡ Some g → (g.number ≡ k) × IsTrue g.told × Every (λ i. i < 3) g.setup.failed × IsLegal g.setup g.history) → (k : ℕ) (g : GroupIs) → slice_get gs k ≡ Some g → TellsOfGroup (flat_map halts_of_group gs) g
 tells_of_all gs all k g at =
     let number : g.number ≡ 0 + k = (all k g at).0 ∙ omega arith in
-    tells_among (flat_map halts_of_group gs) g (ap (of_group (flat_map halts_of_group gs)) number ∙ own_halts 0 gs (λ j x there. (all j x there).0 ∙ omega arith) k g at) (all k g at).1 (all k g at).2
+    tells_among (flat_map halts_of_group gs) g (ap (of_group (flat_map halts_of_group gs)) number ∙ own_halts 0 gs (λ j x there. (all j x there).0 ∙ omega arith) k g at) (all k g at).1 (all k g at).2 (all k g at).3

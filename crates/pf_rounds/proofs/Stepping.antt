@@ -1,6 +1,7 @@
 -- One claim, one finish, one job that comes back undone.
-use Rattle.std.proofs.Common.{◌≡◌, ℕ, ◌+◌, Bool, true, false, cond, if◌then◌else◌, ◌==◌, List, [], ◌∷◌, ◌++◌, Option, Some, None, slice_get, refl, sym, ap, subst, ◌∙◌, add-zero}
+use Rattle.std.proofs.Common.{◌≡◌, inl, inr, ℕ, ◌+◌, Bool, true, false, cond, if◌then◌else◌, ◌==◌, List, [], ◌∷◌, ◌++◌, Option, Some, None, slice_get, refl, sym, ap, subst, ◌∙◌, add-zero}
 use Rattle.std.specs.FinMap
+use Rattle.std.specs.Prelude.{IsTrue}
 use Rattle.pf_base.specs.declared.filled.Filled.{Filled}
 use Rattle.pf_entry.specs.declared.ops.Job.{Job}
 use Rattle.pf_protocol.specs.Servers.{Condition, Running, Server, Setup, Stopped, Unformatted}
@@ -11,46 +12,53 @@ use Rattle.pf_protocol.specs.declared.answers.Answer.{Answer}
 use Rattle.pf_protocol.specs.declared.answers.Answer.TheVariants.{Done, Job as JobIs, Refused}
 use Rattle.pf_protocol.specs.declared.answers.Refusal.{Refusal}
 use Rattle.pf_protocol.specs.declared.answers.Refusal.TheVariants.{Down, NoneFree, Stale}
+use Rattle.pf_protocol.specs.declared.events.Event.{Event}
 use Rattle.pf_protocol.specs.declared.events.Event.TheVariants.{Claim, Finish, GiveBack}
-use Rattle.pf_protocol.specs.Answers.{IsAnswer, IsLegal, answer_to, finish_answer, may_halt}
+use Rattle.pf_protocol.specs.Answers.{IsAnswer, answer_to, finish_answer, may_halt}
 use Rattle.pf_cluster.specs.Readings.{taken_after}
 use Rattle.pf_group.specs.declared.event.GroupEvent.TheVariants as asked
 use Rattle.pf_group.specs.GroupIs.{GroupIs, state_of}
 use Rattle.pf_group.specs.Steps.{HasStepped, Steps}
 use Rattle.pf_filling.specs.Filling.{filled_of}
 use Rattle.pf_rounds.specs.Adding.{Adds, HasClaimed, HasFinished, finish_of}
+use Rattle.pf_rounds.specs.Agreeing.{is_halt, is_halted}
 use Rattle.pf_rounds.specs.Jobs.{is_job}
 use Rattle.pf_rounds.specs.Open.{AreOpen}
 use Rattle.pf_rounds.proofs.Adding.{adds_trans}
 use Rattle.pf_rounds.proofs.Bound.{answer_is}
-use Rattle.pf_rounds.proofs.Free.{claimed_is_free, none_is_free}
 use Rattle.pf_rounds.proofs.Opened.{finished_first, not_opened, opened, returned_first}
 use Rattle.pf_group.proofs.Chains.{by_step}
-use Rattle.pf_rounds.proofs.Paying.{step_pays}
+use Rattle.pf_group.proofs.Fresh.{none_is_free}
+use Rattle.pf_rounds.proofs.Paying.{whole_pays}
+
+-- the answer that the rules give in the state after the history, where the disks tell their content
+pub answered_now : (old new : GroupIs) (event : Event) (answer : Answer) → Steps old event answer new → IsTrue old.told → IsAnswer old.setup (state_of old) event answer
+answered_now old new event answer steps told = subst (λ g. IsAnswer old.setup g event answer) (steps.same told) (steps.answered (inl told))
 
 -- a claim that got this job
-pub got_job : (old new : GroupIs) (answer : Answer) (job : Job) → answer ≡ JobIs job → IsLegal old.setup old.history → HasStepped old asked.Claim answer new → HasClaimed old (Some job) new
-got_job old new answer job is legal stepped =
+pub got_job : (old new : GroupIs) (answer : Answer) (job : Job) → answer ≡ JobIs job → HasStepped old asked.Claim answer new → HasClaimed old (Some job) new
+got_job old new answer job is stepped =
     let steps = subst (λ (a : Answer). Steps old Claim a new) is stepped.steps in
-    record { recorded = steps.recorded; answered = steps.legal.answered; paid = step_pays old new Claim (JobIs job) steps; by = by_step old new Claim (JobIs job) steps; free = claimed_is_free old.setup old.history job legal steps.legal.answered }
+    record { recorded = steps.recorded; answered = answered_now old new Claim (JobIs job) steps; paid = whole_pays old new Claim (JobIs job) steps tt refl; by = by_step old new Claim (JobIs job) steps; free = steps.fresh }
 
 -- a claim that got none
 pub got_none : (old new : GroupIs) (answer : Answer) → ((job : Job) → answer ≡ JobIs job → ⊥) → HasStepped old asked.Claim answer new → HasClaimed old None new
 got_none old new answer no_jobs stepped =
-    let is = none_is_free old.setup (state_of old) answer stepped.steps.legal.answered no_jobs in
+    let is = none_is_free old.setup stepped.steps.before answer (stepped.steps.answered (inr tt)) no_jobs in
     let steps = subst (λ (a : Answer). Steps old Claim a new) is stepped.steps in
-    record { recorded = steps.recorded; answered = steps.legal.answered; paid = step_pays old new Claim (Refused NoneFree) steps; by = by_step old new Claim (Refused NoneFree) steps; free = tt }
+    record { recorded = steps.recorded; answered = answered_now old new Claim (Refused NoneFree) steps; paid = whole_pays old new Claim (Refused NoneFree) steps tt refl; by = by_step old new Claim (Refused NoneFree) steps; free = tt }
 
--- a finish is answered with no job, and begins no read
+-- a finish is answered with no job, begins no read, and is not cut off
 record IsQuiet (answer : Answer) : Type 0 where
   no_job : is_job answer ≡ false
   no_read : (taken : List Bool) → taken_after taken answer ≡ taken
+  whole : is_halted answer ≡ false
 
 quiet_done : IsQuiet Done
-quiet_done = record { no_job = refl; no_read = λ taken. refl }
+quiet_done = record { no_job = refl; no_read = λ taken. refl; whole = refl }
 
-quiet_refused : (refusal : Refusal) → IsQuiet (Refused refusal)
-quiet_refused refusal = record { no_job = refl; no_read = λ taken. refl }
+quiet_refused : (refusal : Refusal) → is_halt refusal ≡ false → IsQuiet (Refused refusal)
+quiet_refused refusal whole = record { no_job = refl; no_read = λ taken. refl; whole = whole }
 
 quiet_finish : (s : Server) (life slot : ℕ) → IsQuiet (on_finish s life slot).answer
 unfolding on_finish
@@ -58,13 +66,13 @@ quiet_finish s life slot = by (life == s.life)
   where
     by : (b : Bool) → IsQuiet (if b then sends (applied_op s slot (FinMap.get s.in_hand slot)) [] else refused s (Refused (Stale s.life))).answer
     by true = quiet_done
-    by false = quiet_refused (Stale s.life)
+    by false = quiet_refused (Stale s.life) refl
 
 quiet_at : (c : Option Condition) (life slot : ℕ) → IsQuiet (finish_answer c life slot)
 quiet_at (Some (Running s)) life slot = quiet_finish s life slot
-quiet_at (Some (Stopped now before after)) life slot = quiet_refused (Stale now)
-quiet_at (Some Unformatted) life slot = quiet_refused Down
-quiet_at None life slot = quiet_refused Down
+quiet_at (Some (Stopped now before after)) life slot = quiet_refused (Stale now) refl
+quiet_at (Some Unformatted) life slot = quiet_refused Down refl
+quiet_at None life slot = quiet_refused Down refl
 
 quiet : (setup : Setup) (g : Group) (i life slot : ℕ) (answer : Answer) → IsAnswer setup g (Finish i life slot) answer → IsQuiet answer
 unfolding answer_to may_halt
@@ -73,12 +81,13 @@ quiet setup g i life slot answer is = subst IsQuiet (sym (answer_is answer (fini
 pub finished_job : (old new : GroupIs) (filled : Filled) (answer : Answer) (job : Job) → filled ≡ filled_of job → HasStepped old (asked.Finish filled) answer new → HasFinished old job new
 finished_job old new filled answer job is stepped =
     let steps = subst (λ (f : Filled). Steps old (Finish f.server f.life f.slot) answer new) is stepped.steps in
-    let q = quiet old.setup (state_of old) job.server job.life job.slot answer steps.legal.answered in
+    let q = quiet old.setup steps.before job.server job.life job.slot answer (steps.answered (inr tt)) in
     record {
       answer = answer;
       recorded = steps.recorded ∙ ap (λ taken. record old { history = old.history ++ record { event = finish_of job; answer = answer } ∷ []; taken = taken; faults = new.faults; time = new.time }) (q.no_read old.taken);
-      answered = steps.legal.answered;
-      paid = step_pays old new (finish_of job) answer steps;
+      quiet = q.no_job;
+      answered = answered_now old new (finish_of job) answer steps;
+      paid = whole_pays old new (finish_of job) answer steps tt q.whole;
       by = by_step old new (finish_of job) answer steps;
     }
 
@@ -95,14 +104,13 @@ none_adds old now new n claimed adds =
 -- what a finish adds
 pub finish_adds : (old now new : GroupIs) (job : Job) (n : ℕ) → HasFinished now job new → Adds old now 0 n → Adds old new 0 (n + 1)
 finish_adds old now new job n done adds =
-    let q = quiet now.setup (state_of now) job.server job.life job.slot done.answer done.answered in
     adds_trans old now new 0 n 0 1 adds (record {
       more = record { event = finish_of job; answer = done.answer } ∷ [];
       recorded = done.recorded;
       paid = done.paid;
       by = done.by;
       round = (tt, tt);
-      jobs = ap (λ b. 0 + cond b 1 0) q.no_job;
+      jobs = ap (λ b. 0 + cond b 1 0) done.quiet;
       finished = refl;
     })
 

@@ -1,6 +1,7 @@
 -- The halts of a group tell of it.
 use Rattle.std.proofs.Common.{◌≡◌, ℕ, suc, ◌<◌, Bool, true, ◌&&◌, ◌==◌, List, [], ◌∷◌, ◌++◌, length, map, Some, None, refl, sym, ap, subst, ◌∙◌, append_assoc}
 use Rattle.std.specs.List.{last_or}
+use Rattle.std.specs.Prelude.{IsTrue}
 use Rattle.std.proofs.lemmas.Bool.{false≢true}
 use Rattle.pf_entry.specs.Lists.{Every}
 use Rattle.pf_protocol.specs.Answers.{Claimed, IsAnswer, IsLegal, IsLegalFrom, claims_after}
@@ -60,8 +61,8 @@ module _ (g : GroupIs) where
       subst (λ history. TellsOf (halts_after history) (at_moment (halts_after history) g earlier) h) whole (tells_here earlier before.rest h was (answered_in g.setup g.history earlier h legal before))
 
   -- some list tells of every group
-  pub tells_of_group : Every (λ i. i < 3) g.setup.failed → IsLegal g.setup g.history → TellsOfGroup (halts_of_group g) g
-  tells_of_group few legal = record { making = made_in g.number g.setup g.history; few = few; events = λ earlier h before. tells_at earlier h legal before }
+  pub tells_of_group : IsTrue g.told → Every (λ i. i < 3) g.setup.failed → IsLegal g.setup g.history → TellsOfGroup (halts_of_group g) g
+  tells_of_group told few legal = record { told = told; making = made_in g.number g.setup g.history; few = few; events = λ earlier h before. tells_at earlier h legal before }
 
 -- a group is told of by the halts that are of it
 module _ (halts : List Halt) (number : ℕ) where
@@ -94,6 +95,7 @@ own_event halts c h tells = record {
 
 pub own_tells : (halts : List Halt) (g : GroupIs) → TellsOfGroup (of_group halts g.number) g → TellsOfGroup halts g
 own_tells halts g tells = record {
+  told = tells.told;
   making = sym (own_failed halts g.number) ∙ tells.making;
   few = tells.few;
   events = λ earlier h before.
@@ -102,5 +104,5 @@ own_tells halts g tells = record {
 }
 
 -- a list in which the halts of a group are those of its history tells of it
-pub tells_among : (halts : List Halt) (g : GroupIs) → of_group halts g.number ≡ halts_of_group g → Every (λ i. i < 3) g.setup.failed → IsLegal g.setup g.history → TellsOfGroup halts g
-tells_among halts g same few legal = own_tells halts g (subst (λ xs. TellsOfGroup xs g) (sym same) (tells_of_group g few legal))
+pub tells_among : (halts : List Halt) (g : GroupIs) → of_group halts g.number ≡ halts_of_group g → IsTrue g.told → Every (λ i. i < 3) g.setup.failed → IsLegal g.setup g.history → TellsOfGroup halts g
+tells_among halts g same told few legal = own_tells halts g (subst (λ xs. TellsOfGroup xs g) (sym same) (tells_of_group g told few legal))

@@ -23,7 +23,6 @@ fn claim<D: Disk + Drop>(alloc: Global, group: &mut Group<D>) -> Result<Option<J
     ensures claimed { IfOk result (λ job. HasClaimed group.old job group.new) }
     ensures err { OnErr result (group.new ≡ group.old) }
 {
-    let _legal = group.history();
     match group.step(alloc, GroupEvent::Claim)? {
         Answer::Job(job) => Ok(Some(job)),
         _ => Ok(None),

@@ -1,5 +1,5 @@
 -- Lines that write and read sectors.
-use Rattle.std.proofs.Common.{◌≡◌, ℕ, true, false, if◌then◌else◌, IfSome, List, ◌++◌, Option, Some, slice_get, refl, sym, ap, subst, ◌∙◌}
+use Rattle.std.proofs.Common.{◌≡◌, ℕ, true, false, if◌then◌else◌, IfSome, IsSome, IsTrue, List, ◌++◌, Option, Some, slice_get, refl, sym, ap, ◌∙◌}
 use Rattle.pf_script.specs.declared.command.Command.{Command}
 use Rattle.pf_protocol.specs.declared.answers.Answer.{Answer}
 use Rattle.pf_group.specs.GroupIs.{state_of}
@@ -11,7 +11,6 @@ use Rattle.pf_chunk.specs.Happenings.{Happened}
 use Rattle.pf_chunk.specs.Runs.{ChunkRun}
 use Rattle.pf_chunk.specs.Saying.{said}
 use Rattle.pf_chunk.specs.Views.{ChunkIs}
-use Rattle.pf_chunk.proofs.Ranges.{no_range_said}
 use Rattle.pf_hosts.proofs.Groups.{run_there}
 use Rattle.pf_fleet.specs.Volumes.{quietly}
 use Rattle.pf_world.specs.declared.kind.Kind.{Kind}
@@ -43,11 +42,11 @@ module _ (old : WorldIs) (number chunk server first count : ℕ) (command : Comm
       line halts ∙ no_range_told halts (record (stands_at halts old) { kind = kind }) number chunk server first count (event halts) not
       ∙ ap (no_event_of (record (stands_at halts old) { kind = kind }) number server) (run_there halts old.chunks chunk c there)
 
-  pub no_range_runs : IsWorld old → (before after : List ℕ) (answer : Answer) → answer ≡ refusal → IfSome (answer_text answer) (λ text. after ≡ before ++ line_of number text) → ((halts : List Halt) → Ends halts (stands_at halts old) command) → HasRun old number command before after (becomes old old.chunks old.fleet kind)
-  no_range_runs world before after answer is put ends =
-      said_runs old number command world kind before after (said refusal) (λ halts v. quietly v) (λ halts. refl)
-      (answer_put (answer_text refusal) number before after (no_range_said (slice_get (state_of c.group).servers server)) (subst (λ a. IfSome (answer_text a) (λ text. after ≡ before ++ line_of number text)) is put))
-      tells ends
+  pub no_range_runs : IsWorld old → (before after : List ℕ) (answer : Answer) → IsSome (answer_text answer) → (IsTrue c.group.told → answer ≡ refusal) → IfSome (answer_text answer) (λ text. after ≡ before ++ line_of number text)
+      → ((halts : List Halt) → Ends halts (stands_at halts old) command) → HasRun old number command before after (becomes old old.chunks old.fleet kind)
+  no_range_runs world before after answer some is put ends =
+      said_runs old number command world kind before after (said answer) (λ halts v. quietly v) (λ halts. refl) (answer_put (answer_text answer) number before after some put)
+      (λ halts all. tells halts ∙ ap (λ a. said_only (record (stands_at halts old) { kind = kind }) number (said a)) (sym (is (all chunk c there).told))) ends
 
   pub no_range_fails : ((new : WorldIs) → IsWithin old number command new → StopsIn old number command new) → HasFailed old number command (becomes old old.chunks old.fleet kind)
   no_range_fails within = said_fails old number command within kind old.fleet (λ halts. ap (λ (t : Told). t.world.volume.chunks) (tells halts))

@@ -127,7 +127,7 @@ module _ {D : Type 0} (seen : D → Option (List ℕ)) (may_leave : D → Images
         let life = lives k at.0 at.1 in
         let new = p.fresh.each k life.made life.made_there in
         let six = six_there faults p.fresh.sixes (drop (6 * length first.chunks) disks) k i new.six new.there low in
-        let paid = since_grown (six_faults faults new.six) life.made.group at.0.group new.paid life.before (subst (λ b. IsTrue b) life.before.told (told k at.0 at.1)) in
+        let paid = since_grown (six_faults faults new.six) life.made.group at.0.group (subst (λ b. IsTrue b) life.before.told (told k at.0 at.1)) new.paid life.before in
         let halves = p.left.halves k i at.0 at.1 low in
         let times = failed_times (halts_at (halts_of_group at.0.group) at.0.group.number i) (faults six.zero, faults six.one) (faults halves.zero, faults halves.one) (faults halves.zero, faults halves.one) (paid.each i (faults six.zero, faults six.one) (faults halves.zero, faults halves.one) six.counts halves.counts) (omega arith) (omega arith) in
         let all = counted (groups_of w.chunks) own k i g there ∙ ap (λ (x : GroupIs). halts_at (halts_of_group x) x.number i) at.2 in

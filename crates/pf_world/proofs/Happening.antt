@@ -92,7 +92,7 @@ module _ (old : WorldIs) (number : ℕ) (command : Command) (world : IsWorld old
 
   -- nothing happened, and the line's text was put
   pub said_runs : (kind : Option Kind) (before after text : List ℕ) (part : Part) → ((halts : List Halt) → part halts (fleets.stands_at halts old.chunks old.fleet) ≡ record { volume = fleets.stands_at halts old.chunks old.fleet; told = [] }) → after ≡ before ++ line_of number text
-      → ((halts : List Halt) → line_told halts (stands_at halts old) number command ≡ ended (record (stands_at halts old) { kind = kind }) number (part halts (fleets.stands_at halts old.chunks old.fleet)) text)
+      → ((halts : List Halt) → TellsAll halts old.chunks → line_told halts (stands_at halts old) number command ≡ ended (record (stands_at halts old) { kind = kind }) number (part halts (fleets.stands_at halts old.chunks old.fleet)) text)
       → ((halts : List Halt) → Ends halts (stands_at halts old) command) → HasRun old number command before after (becomes old old.chunks old.fleet kind)
   said_runs kind before after text part none put line ends =
       gone_runs part kind old.chunks old.fleet before before after text (record {
@@ -102,7 +102,7 @@ module _ (old : WorldIs) (number : ℕ) (command : Command) (world : IsWorld old
         told = [];
         put = sym (append-nil before);
         run = λ halts tells. none halts;
-      }) put refl (le_suc old.fleet.calls) (λ halts tells. line halts) (λ halts tells. ends halts)
+      }) put refl (le_suc old.fleet.calls) line (λ halts tells. ends halts)
 
   -- an event was answered, and the answer was put
   pub answered_runs : (event : Event) (k : ℕ) (kind : Option Kind) (chunks : List ChunkIs) (fleet : FleetIs) (before middle after : List ℕ) (answer : Answer) → HasAnswered event k old.chunks old.fleet before answer chunks fleet middle

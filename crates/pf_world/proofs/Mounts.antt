@@ -58,7 +58,7 @@ module _ (old : WorldIs) (number mount : ℕ) (world : IsWorld old) (before afte
   pub none_killed_runs : (next : FleetIs) → next ≡ old.fleet → host_at old.fleet.hosts mount ≡ None → after ≡ before ++ line_of number (refused_text 96) → HasRun old number (commands.Kill mount) before after (becomes old old.chunks next old.kind)
   none_killed_runs next same none put =
       subst (λ f. HasRun old number (commands.Kill mount) before after (becomes old old.chunks f old.kind)) (sym same)
-      (said_runs old number (commands.Kill mount) world old.kind before after (refused_text 96) (λ halts v. quietly v) (λ halts. refl) put (λ halts. ap (kill_of (stands_at halts old) number mount) none) (λ halts. tt))
+      (said_runs old number (commands.Kill mount) world old.kind before after (refused_text 96) (λ halts v. quietly v) (λ halts. refl) put (λ halts tells. ap (kill_of (stands_at halts old) number mount) none) (λ halts. tt))
 
 chunks_killed : (w : World) (number mount : ℕ) (host : Option HostIs) → (kill_of w number mount host).world.volume.chunks ≡ w.volume.chunks
 chunks_killed w number mount None = refl
@@ -225,7 +225,7 @@ pub raw_runs : (old : WorldIs) (number : ℕ) (before after : List ℕ) → IsWo
     → HasRun old number commands.Mount before after (becomes old old.chunks old.fleet (Some (decided old.kind Mounted)))
 raw_runs old number before after world raw put =
     said_runs old number commands.Mount world (Some (decided old.kind Mounted)) before after (refused_text 95) (λ halts v. quietly v) (λ halts. refl) put
-    (λ halts. ap (λ kind. mounts_as kind halts (with_kind (stands_at halts old) (decided old.kind Mounted)) number) raw) (λ halts. tt)
+    (λ halts tells. ap (λ kind. mounts_as kind halts (with_kind (stands_at halts old) (decided old.kind Mounted)) number) raw) (λ halts. tt)
 
 -- A call begins
 

@@ -13,6 +13,7 @@ use Rattle.pf_report.specs.Mounts.{state_text, tree_lines}
 use Rattle.pf_rounds.specs.Chunks.{Chunk}
 use Rattle.pf_rounds.specs.Halts.{Halt}
 use Rattle.pf_chunk.specs.Runs.{ChunkRun}
+use Rattle.pf_chunk.specs.Showing.{IsShown}
 use Rattle.pf_chunk.specs.Views.{ChunkIs}
 use Rattle.pf_hosts.specs.Hosts.{HostIs}
 use Rattle.pf_hosts.specs.Moments.{Moment, Writes, text_of}
@@ -21,7 +22,7 @@ use Rattle.pf_fleet.specs.Steps.{FleetIs, HasGone, IsFleetOf, Part}
 use Rattle.pf_fleet.specs.Steps as fleets
 use Rattle.pf_fleet.specs.Volumes.{host_at, quietly, saying}
 use Rattle.pf_world.specs.Asked.{IsShow}
-use Rattle.pf_world.specs.Worlds.{World, refused_text}
+use Rattle.pf_world.specs.Worlds.{World, refused_text, said_only}
 use Rattle.pf_world.specs.Lines.{line_told, rests, show_of, shown_of, shows}
 use Rattle.pf_world.specs.Views.{IsWorld, WorldIs, stands_at}
 use Rattle.pf_world.specs.Steps.{Ends, HasFailed, HasRun, IsWithin, StopsIn}
@@ -42,12 +43,14 @@ still_gone old world part next is_fleet told before after put run = record {
 
 -- Groups
 
-pub shown_runs : (w : WorldIs) (number : ℕ) (command : Command) (k : ℕ) (c : ChunkIs) (text : Group → List ℕ) (before after : List ℕ) → IsWorld w → slice_get w.chunks k ≡ Some c → after ≡ before ++ line_of number (text (state_of c.group))
+pub shown_runs : (w : WorldIs) (number : ℕ) (command : Command) (k : ℕ) (c : ChunkIs) (text : Group → List ℕ) (before after : List ℕ) → IsWorld w → slice_get w.chunks k ≡ Some c → IsShown c.group.told number (text (state_of c.group)) before after
     → ((halts : List Halt) → line_told halts (stands_at halts w) number command ≡ shows (stands_at halts w) number k (λ d. text d.state))
     → ((halts : List Halt) → Ends halts (stands_at halts w) command) → HasRun w number command before after w
-shown_runs w number command k c text before after world there put line ends =
-    said_runs w number command world w.kind before after (text (state_of c.group)) (λ halts v. quietly v) (λ halts. refl) put
-    (λ halts. line halts ∙ ap (λ d. shown_of (stands_at halts w) number d (λ x. text x.state)) (run_there halts w.chunks k c there)) ends
+shown_runs w number command k c text before after world there shown line ends =
+    said_runs w number command world w.kind before after shown.text (λ halts v. quietly v) (λ halts. refl) shown.put
+    (λ halts tells.
+    line halts ∙ ap (λ d. shown_of (stands_at halts w) number d (λ x. text x.state)) (run_there halts w.chunks k c there)
+    ∙ ap (said_only (stands_at halts w) number) (sym (shown.same (tells k c there).told))) ends
 
 shown_within : (command : Command) → IsShow command → (old : WorldIs) (number : ℕ) (new : WorldIs) → IsWithin old number command new → StopsIn old number command new
 shown_within (commands.Settle limit) shows old number new within = absurd shows
@@ -88,7 +91,7 @@ pending_is pending work both = pending_by pending (rests work) work refl both
 module _ (w : WorldIs) (number mount : ℕ) (world : IsWorld w) (before after : List ℕ) where
   pub no_mount_runs : host_at w.fleet.hosts mount ≡ None → after ≡ before ++ line_of number (refused_text 96) → HasRun w number (commands.ShowMount mount) before after w
   no_mount_runs none put =
-      said_runs w number (commands.ShowMount mount) world w.kind before after (refused_text 96) (λ halts v. quietly v) (λ halts. refl) put (λ halts. ap (show_of (stands_at halts w) number mount) none) (λ halts. tt)
+      said_runs w number (commands.ShowMount mount) world w.kind before after (refused_text 96) (λ halts v. quietly v) (λ halts. refl) put (λ halts tells. ap (show_of (stands_at halts w) number mount) none) (λ halts. tt)
 
   pub tree_shown : (host : HostIs) (middle : List ℕ) → host_at w.fleet.hosts mount ≡ Some host → middle ≡ before ++ tree_lines (listing host.mount.files.tables)
       → after ≡ middle ++ line_of number (state_text mount host.mount.upto (not (rests host.mount.work))) → HasRun w number (commands.ShowMount mount) before after w

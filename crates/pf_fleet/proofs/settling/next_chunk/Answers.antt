@@ -19,7 +19,7 @@ returns-then-is_some-clause-next g c =
     let there : slice_get now place ≡ Some chunk = slice_get-get_or now place c.index-chunks-place.result (omega arith) in
     let some : is_some c.next_left.result ≡ true = cc in
     found_next place c.args.chunks.now now c.loop-place.invariant chunk c.next_left.new.self there c.next_left.ensures.same c.next_left.ensures.above c.next_left.ensures.first
-    c.next_left.result c.next_left.ensures.least c.next_left.ensures.found c.next_left.ensures.few some
+    c.next_left.result c.next_left.ensures.least c.next_left.ensures.found c.next_left.ensures.sent some
 
 pub loop-place-preserved : goal.loop-place-preserved
 loop-place-preserved g c =

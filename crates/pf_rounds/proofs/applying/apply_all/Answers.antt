@@ -1,4 +1,5 @@
-use Rattle.std.proofs.Common.{◌≡◌, ◌+◌, ◌-◌, suc, subst, arith}
+use Rattle.std.proofs.Common.{◌≡◌, ◌≤◌, ◌+◌, ◌-◌, ℕ, suc, subst, arith}
+use Rattle.std.specs.Prelude.{IsTrue}
 use Rattle.pf_protocol.specs.Answers.{IsLegal}
 use Rattle.pf_group.specs.GroupIs.{GroupIs}
 use Rattle.pf_rounds.proofs.Adding.{adds_goes, adds_refl, adds_trans, goes_on, grown}
@@ -33,10 +34,13 @@ returns-then-done-eq0-clause-run g c =
     let left : 12289 - c.loop.counter ≡ suc (12288 - c.loop.counter) = omega arith in
     last_round old now c.round.new.group (12288 - c.loop.counter) c.in-Ok.done c.if-done-eq0.true c.in-Ok.ensures.run c.round.ensures.goes (subst (RoundsSoFar old now) left c.loop.invariant.run)
 
+pub returns-then-done-eq0-clause-applied : goal.returns-then-done-eq0-clause-applied
+returns-then-done-eq0-clause-applied g c told = c.in-Ok.ensures.applied c.if-done-eq0.true told
+
 pub returns-then-done-eq0-clause-closed : goal.returns-then-done-eq0-clause-closed
-returns-then-done-eq0-clause-closed g c i s runs =
+returns-then-done-eq0-clause-closed g c told i s runs =
     let new = c.round.new.group in
-    legal_closed new.setup new.history i s c.history-legal-then-done-eq0.ensures.legal c.round.ensures.none (c.in-Ok.ensures.applied c.if-done-eq0.true) runs
+    legal_closed new.setup new.history i s (c.history-legal-then-done-eq0.ensures.legal told) c.round.ensures.none (c.in-Ok.ensures.applied c.if-done-eq0.true told) runs
 
 pub returns-then-done-eq0-clause-adds : goal.returns-then-done-eq0-clause-adds
 returns-then-done-eq0-clause-adds g c =
@@ -57,9 +61,20 @@ loop-preserved g c =
       run = more_rounds old now new (12289 - (c.loop.counter + 1)) done c.if-done-eq0.false c.in-Ok.ensures.run c.round.ensures.goes (subst (RoundsSoFar old now) left i.run);
     }
 
-pub unreachable-requires : goal.unreachable-requires
-unreachable-requires g c =
-    let adds = c.loop.invariant.adds in
-    let legal = c.history-legal-2.ensures.legal in
-    let few = few_jobs c.args.group.now.setup c.args.group.now.history adds.more (subst (λ (x : GroupIs). IsLegal x.setup x.history) adds.recorded legal).is_setup.window (subst (λ (x : GroupIs). IsLegal x.setup x.history) adds.recorded legal) adds.round in
-    omega (arith, few, adds.jobs, c.loop.invariant.some)
+-- so many jobs do not stand in a legal history
+too_many : (old new : GroupIs) (count : ℕ) → Adds old new count count → 12289 ≤ count → (IsTrue new.told → IsLegal new.setup new.history) → IsTrue new.told → ⊥
+too_many old new count adds many legal told =
+    let is = subst (λ (g : GroupIs). IsLegal g.setup g.history) adds.recorded (legal told) in
+    omega (arith, few_jobs old.setup old.history adds.more is.is_setup.window is adds.round, adds.jobs, many)
+
+pub returns-clause-grown : goal.returns-clause-grown
+returns-clause-grown g c = grown c.args.group.now c.loop.group (adds_goes c.args.group.now c.loop.group _ _ c.loop.invariant.adds)
+
+pub returns-clause-run : goal.returns-clause-run
+returns-clause-run g c halts tells = absurd (too_many c.args.group.now c.loop.group c.loop.count c.loop.invariant.adds (omega (arith, c.loop.invariant.some)) c.history-legal-2.ensures.legal tells.told)
+
+pub returns-clause-applied : goal.returns-clause-applied
+returns-clause-applied g c told = absurd (too_many c.args.group.now c.loop.group c.loop.count c.loop.invariant.adds (omega (arith, c.loop.invariant.some)) c.history-legal-2.ensures.legal told)
+
+pub returns-clause-closed : goal.returns-clause-closed
+returns-clause-closed g c told i s runs = absurd (too_many c.args.group.now c.loop.group c.loop.count c.loop.invariant.adds (omega (arith, c.loop.invariant.some)) c.history-legal-2.ensures.legal told)

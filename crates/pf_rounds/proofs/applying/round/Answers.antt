@@ -29,9 +29,9 @@ returns-then-is_empty-clause-run g c =
     empty_round c.args.group.now c.claim_all.new.group (jobs_of works.items) (ap jobs_of (none_left (vec_len works) works.items none works.ok.0)) c.in_default.ensures.run
 
 pub returns-then-is_empty-clause-applied : goal.returns-then-is_empty-clause-applied
-returns-then-is_empty-clause-applied g c zero =
+returns-then-is_empty-clause-applied g c zero told =
     let none = eqb-true (vec_len c.claim_all.new.works) 0 (sym c.is_empty.ensures ∙ c.if-is_empty.true) in
-    c.in_default.ensures.applied (omega (arith, none))
+    c.in_default.ensures.applied told (omega (arith, none))
 
 pub returns-in-Err-copy_all-clause-goes : goal.returns-in-Err-copy_all-clause-goes
 returns-in-Err-copy_all-clause-goes g c =
@@ -73,7 +73,7 @@ returns-clause-run g c =
     (one_round old mid new (jobs_of ws.items) c.in_default.ensures.run (adds_goes mid new 0 (vec_len vs) c.finish_all.ensures.adds) (subst (IsFinished mid new) c.copy_all.ensures.jobs c.finish_all.ensures.run))
 
 pub returns-clause-applied : goal.returns-clause-applied
-returns-clause-applied g c none =
+returns-clause-applied g c none told =
     let ws = c.claim_all.new.works in let vs = c.copy_all.new.works in
     let same = same_count (vec_len ws) (vec_len vs) ws.items vs.items ws.ok.0 vs.ok.0 c.copy_all.ensures.jobs in
     absurd (eqb-false (vec_len ws) 0 (sym c.is_empty.ensures ∙ c.if-is_empty.false) (same ∙ (sym c.len-count.ensures ∙ none)))

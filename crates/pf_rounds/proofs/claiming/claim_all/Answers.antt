@@ -42,9 +42,9 @@ returns-in_default-clause-run g c =
     (last_claim old now new jobs (12288 - c.loop.counter) claimed (subst (ClaimsSoFar old now jobs) left c.loop.invariant.run))
 
 pub returns-in_default-clause-applied : goal.returns-in_default-clause-applied
-returns-in_default-clause-applied g c few =
+returns-in_default-clause-applied g c told few =
     let now = c.loop.group in let new = c.claim.new.group in
-    still_none now new (subst (λ o. HasClaimed now o new) c.in_default.is c.in_ok-job.ensures.claimed)
+    still_none now new (subst (λ o. HasClaimed now o new) c.in_default.is c.in_ok-job.ensures.claimed) told
 
 pub loop-preserved : goal.loop-preserved
 loop-preserved g c =

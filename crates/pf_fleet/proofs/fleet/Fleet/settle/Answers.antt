@@ -52,8 +52,8 @@ settle_one-requires-clause-left g c κs within =
     now c.next_chunk.ensures.moved place c.index-chunks-place.result c.in-Some.ensures.next in
     λ told. (least_found (state_of chunk.group) chunk.next chunk.next (has.next.least chunk has.there told)).passes
 
-pub settle_one-requires-clause-low : goal.settle_one-requires-clause-low
-settle_one-requires-clause-low g c κs within =
+pub settle_one-requires-clause-next : goal.settle_one-requires-clause-next
+settle_one-requires-clause-next g c κs within =
     let now = c.next_chunk.new.chunks in let place = c.in-Some.place in let chunk = get_or now place c.index-chunks-place.result in
     let has = found c.args.limit c.args.chunks.now c.args.self.now c.args.out.now.items c.loop-place.left c.loop-place.out.items c.loop-place.chunks c.loop-place.self c.loop-place.invariant
     now c.next_chunk.ensures.moved place c.index-chunks-place.result c.in-Some.ensures.next in

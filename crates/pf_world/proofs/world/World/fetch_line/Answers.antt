@@ -17,7 +17,7 @@ returns-then-not-is_range-clause-ran g c =
     let old = c.args.self.now.world in
     on_ok c.put_answer.result _ _ (λ put.
     no_range_runs old c.args.number c.args.group c.args.server c.args.sector c.args.count (Fetch c.args.group c.args.server c.args.sector c.args.count) (λ halts chunk. fetches halts c.args.server c.args.sector c.args.count chunk)
-    (sym c.if-not-is_range.ensures) c.chunk.result.now c.chunk.ensures old.kind (λ halts. refl) c.requires.world c.args.out.now.items c.put_answer.new.out.items c.no_range-answer.result c.no_range-answer.ensures put (λ halts. tt)) c.put_answer.ensures.ok
+    (sym c.if-not-is_range.ensures) c.chunk.result.now c.chunk.ensures old.kind (λ halts. refl) c.requires.world c.args.out.now.items c.put_answer.new.out.items c.no_range-answer.result c.no_range-answer.ensures.said c.no_range-answer.ensures.answer put (λ halts. tt)) c.put_answer.ensures.ok
 
 pub returns-then-not-is_range-clause-err : goal.returns-then-not-is_range-clause-err
 returns-then-not-is_range-clause-err g c =

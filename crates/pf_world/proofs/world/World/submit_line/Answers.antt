@@ -28,7 +28,7 @@ returns-then-is_mounted-clause-ran g c =
     on_ok c.put_refusal.result _ _ (λ put.
     subst (HasRun old c.args.number command c.args.out.now.items c.put_refusal.new.out.items) stays
     (said_runs old c.args.number command c.requires.world (Some kind) c.args.out.now.items c.put_refusal.new.out.items (refused_text 94) (λ halts v. quietly v) (λ halts. refl) put
-    (λ halts. mounted_told halts (stands_at halts old) c.args.number c.args.group c.args.server c.args.sector c.args.byte c.args.count kind is (mounted_kind kind (sym c.if-is_mounted.ensures))) (λ halts. tt))) c.put_refusal.ensures.ok
+    (λ halts tells. mounted_told halts (stands_at halts old) c.args.number c.args.group c.args.server c.args.sector c.args.byte c.args.count kind is (mounted_kind kind (sym c.if-is_mounted.ensures))) (λ halts. tt))) c.put_refusal.ensures.ok
 
 pub returns-then-is_mounted-clause-err : goal.returns-then-is_mounted-clause-err
 returns-then-is_mounted-clause-err g c =
@@ -56,7 +56,7 @@ returns-then-not-is_range-clause-ran g c =
     on_ok c.put_answer.result _ _ (λ put.
     subst (HasRun old c.args.number command c.args.out.now.items c.put_answer.new.out.items) stays
     (no_range_runs old c.args.number c.args.group c.args.server c.args.sector c.args.count command (λ halts chunk. submits halts c.args.server c.args.sector c.args.byte c.args.count chunk)
-    (sym c.if-not-is_range.ensures) c.chunk.result.now (ap (λ (v : WorldIs). slice_get v.chunks c.args.group) (sym same) ∙ c.chunk.ensures) (Some kind) (λ halts. raw_told halts (stands_at halts old) c.args.number c.args.group c.args.server c.args.sector c.args.byte c.args.count kind is (raw_kind kind (sym c.if-is_mounted.ensures))) c.requires.world c.args.out.now.items c.put_answer.new.out.items c.no_range-answer.result c.no_range-answer.ensures put (λ halts. tt))) c.put_answer.ensures.ok
+    (sym c.if-not-is_range.ensures) c.chunk.result.now (ap (λ (v : WorldIs). slice_get v.chunks c.args.group) (sym same) ∙ c.chunk.ensures) (Some kind) (λ halts. raw_told halts (stands_at halts old) c.args.number c.args.group c.args.server c.args.sector c.args.byte c.args.count kind is (raw_kind kind (sym c.if-is_mounted.ensures))) c.requires.world c.args.out.now.items c.put_answer.new.out.items c.no_range-answer.result c.no_range-answer.ensures.said c.no_range-answer.ensures.answer put (λ halts. tt))) c.put_answer.ensures.ok
 
 pub returns-then-not-is_range-clause-err : goal.returns-then-not-is_range-clause-err
 returns-then-not-is_range-clause-err g c =
