@@ -91,7 +91,7 @@ module _ (would : List Halt → Chunk) (old new : GroupIs) (longer : (halts : Li
   }
 
   pub left_so : (asked : GroupEvent) → IsLeft old asked new → HasFailed would old new
-  left_so asked left = nothing_began (left_grows old asked new left) (ap (λ (g : GroupIs). g.history) (only_faults old asked new left).0)
+  left_so asked left = nothing_began (left_grows old asked new left) (ap (λ (g : GroupIs). g.history) (only_faults old asked new left))
 
 pub nothing_failed : (would : List Halt → Chunk) (old : GroupIs) → ((halts : List Halt) → Extends (chunk_of halts old) (would halts)) → HasFailed would old old
 nothing_failed would old longer = nothing_began would old old longer (grown_refl old) refl
@@ -135,8 +135,8 @@ not_followed fill old mid new asked answer group stepped f =
     }
 
 -- an event that is told otherwise
-pub failed_same : (would other : List Halt → Chunk) (old new : GroupIs) → ((halts : List Halt) → other halts ≡ would halts) → HasFailed would old new → HasFailed other old new
+pub failed_same : (would other : List Halt → Chunk) (old new : GroupIs) → ((halts : List Halt) → TellsOfGroup halts new → other halts ≡ would halts) → HasFailed would old new → HasFailed other old new
 failed_same would other old new same f = record {
   grown = f.grown;
-  begun = λ halts tells. subst (λ (x : Chunk). HasBegun halts old x new) (sym (same halts)) (f.begun halts tells);
+  begun = λ halts tells. subst (λ (x : Chunk). HasBegun halts old x new) (sym (same halts tells)) (f.begun halts tells);
 }

@@ -1,6 +1,7 @@
 -- What the calls of a port's step come to.
 use Rattle.std.proofs.Common.{◌≡◌, ◌≢◌, ◌⊎◌, inl, inr, ℕ, true, false, Bool, cond, List, [], ◌∷◌, Option, Some, None, slice_get, slice_set, refl, sym, ap, subst, ◌∙◌}
 use Rattle.std.specs.Option.{option_map}
+use Rattle.std.specs.Prelude.{IsTrue}
 use Rattle.pf_base.specs.Span.{Span}
 use Rattle.pf_base.specs.declared.asks.Ask.{Ask}
 use Rattle.pf_base.specs.declared.asks.Ask.TheVariants as asks
@@ -135,7 +136,7 @@ hands_to old (asks.Write chunk range sectors) server (Submitted i span payload s
       answer = says.answer;
       stepped = stepped;
       rest = says.rest;
-      sent_is = hands.3 ∙ ap (option_map Slot) says.tells ∙ write_sent old.group.setup (state_of old.group) server _ says.answer stepped.steps.legal.answered;
+      sent_is = hands.3 ∙ ap (option_map Slot) says.tells ∙ write_sent old.group.setup stepped.steps.before server _ says.answer (stepped.steps.answered (inr tt));
     }
 hands_to old (asks.Read chunk range) server (Fetched i span number) sent new hands says =
     let stepped = subst (λ n. HasStepped old.group (asked.Fetch n range) says.answer new.group) hands.0
@@ -143,7 +144,7 @@ hands_to old (asks.Read chunk range) server (Fetched i span number) sent new han
       answer = says.answer;
       stepped = stepped;
       rest = says.rest;
-      sent_is = hands.2 ∙ ap (option_map Number) says.tells ∙ read_sent old.group.setup (state_of old.group) server range says.answer stepped.steps.legal.answered;
+      sent_is = hands.2 ∙ ap (option_map Number) says.tells ∙ read_sent old.group.setup stepped.steps.before server range says.answer (stepped.steps.answered (inr tt));
     }
 hands_to old ask server call sent new hands says = absurd hands
 
@@ -155,19 +156,21 @@ module _ (old : ChunkIs) (p : PortIs) (ask : Ask) (reply : Option Reply) (next :
   pub record Replies : Type 0 where
     pub given : Reply
     pub is : reply ≡ Some given
-    pub told : reply_to g p.sent p.last ≡ Some given
+    pub sent : Sent
+    pub was : p.sent ≡ Some sent
+    pub told : IsTrue old.group.told → reply_to g p.sent p.last ≡ Some given
     pub takes : (after ≡ old) ⊎ ((n : ℕ) × (p.sent ≡ Some (Number n)) × (after ≡ record old { group = record old.group { taken = slice_set old.group.taken n true } }))
     pub next_is : next ≡ answered p
 
   pub record IsNotTold : Type 0 where
     pub none : reply ≡ None
-    pub untold : reply_to g p.sent p.last ≡ None
+    pub untold : IsTrue old.group.told → reply_to g p.sent p.last ≡ None
 
   -- it stays
   pub record Keeps : Type 0 where
     pub not_told : IsNotTold
     pub leader : Option (ℕ × ℕ)
-    pub led : leader_of g ≡ leader
+    pub led : IsTrue old.group.told → leader_of g ≡ leader
     pub goes : Goes p ask leader [] p
     pub next_is : next ≡ p
     pub same : after ≡ old
@@ -177,7 +180,7 @@ module _ (old : ChunkIs) (p : PortIs) (ask : Ask) (reply : Option Reply) (next :
     pub not_told : IsNotTold
     pub term : ℕ
     pub server : ℕ
-    pub led : leader_of g ≡ Some (term, server)
+    pub led : IsTrue old.group.told → leader_of g ≡ Some (term, server)
     pub goes : goes_to p.sent p.last term ≡ true
     pub sent : Option Sent
     pub hands : HandsTo old ask server sent after
@@ -188,8 +191,8 @@ module _ (old : ChunkIs) (p : PortIs) (ask : Ask) (reply : Option Reply) (next :
     StaysThere : Keeps → WentOn
     WasHanded : HandsIt → WentOn
 
-  module _ (legal : IsLegal old.group.setup old.group.history) (fresh : (n : ℕ) → p.sent ≡ Some (Number n) → slice_get old.group.taken n ≡ Some false) where
-    by_leader : (mid : ChunkIs) → mid ≡ old → IsNotTold → (leader : Option (ℕ × ℕ)) → leader_of g ≡ leader → (rest : List Call) → Goes p ask leader rest next → CallsLead Says mid rest after → WentOn
+  module _ (legal : IsTrue old.group.told → IsLegal old.group.setup old.group.history) (fresh : (n : ℕ) → p.sent ≡ Some (Number n) → slice_get old.group.taken n ≡ Some false) where
+    by_leader : (mid : ChunkIs) → mid ≡ old → IsNotTold → (leader : Option (ℕ × ℕ)) → (IsTrue old.group.told → leader_of g ≡ leader) → (rest : List Call) → Goes p ask leader rest next → CallsLead Says mid rest after → WentOn
     by_leader mid same un None led rest goes lead =
         let here : after ≡ mid = subst (λ calls. CallsLead Says mid calls after) goes.none lead in
         StaysThere (record { not_told = un; leader = None; led = led; goes = record { none = refl; same = refl }; next_is = goes.same; same = here ∙ same })
@@ -224,11 +227,11 @@ module _ (old : ChunkIs) (p : PortIs) (ask : Ask) (reply : Option Reply) (next :
     led : (mid : ChunkIs) → mid ≡ old → IsNotTold → (calls : List Call) → IsLed p ask calls next → CallsLead Says mid calls after → WentOn
     led mid same un calls is lead =
         let l = subst (λ all. CallsLead Says mid all after) is.asked lead in
-        by_leader l.0 (l.1.0 ∙ same) un is.leader (sym (l.1.1 ∙ ap (λ (c : ChunkIs). leader_of (state_of c.group)) same)) is.rest is.goes l.2
+        by_leader l.0 (l.1.0 ∙ same) un is.leader (λ told. sym (l.1.1 (subst (λ (c : ChunkIs). IsTrue c.group.told) (sym same) told) ∙ ap (λ (c : ChunkIs). leader_of (state_of c.group)) same)) is.rest is.goes l.2
 
     -- what a look tells
     record Looked (sent : Sent) (mid : ChunkIs) (r : Option Reply) : Type 0 where
-      told : reply_to g (Some sent) p.last ≡ r
+      told : IsTrue old.group.told → reply_to g (Some sent) p.last ≡ r
       idle : r ≡ None → mid ≡ old
       takes : (mid ≡ old) ⊎ ((n : ℕ) × (sent ≡ Number n) × (mid ≡ record old { group = record old.group { taken = slice_set old.group.taken n true } }))
 
@@ -237,21 +240,23 @@ module _ (old : ChunkIs) (p : PortIs) (ask : Ask) (reply : Option Reply) (next :
 
     looked : (sent : Sent) → p.sent ≡ Some sent → (look : Call) (mid : ChunkIs) (r : Option Reply) → LooksFor sent p.last look r → Says old look mid → Looked sent mid r
     looked (Slot slot) is (WasAcked t s acked) mid r looks says = record {
-      told = ap (λ b. reply_if b) (ap (λ n. is_acked g n slot) (sym looks.0) ∙ ap (is_acked g t) (sym looks.1) ∙ sym says.1) ∙ sym looks.2;
+      told = λ told. ap (λ b. reply_if b) (ap (λ n. is_acked g n slot) (sym looks.0) ∙ ap (is_acked g t) (sym looks.1) ∙ sym (says.1 told)) ∙ sym looks.2;
       idle = λ _. says.0;
       takes = inl says.0;
     }
     looked (Number n) is (Took k None) mid r looks says =
         let lacks = subst (LacksAnswer old.group) looks.0 says.1 in
-        let none = no_answers g n (λ x. every_get (λ a. a.number ≢ n) g.answered x.place x.answer (lacks (fresh n is)) x.there x.numbered) in record {
-          told = ap (λ found. option_map (λ (a : Answered). Bytes a.bytes) (slice_get found 0)) none ∙ sym looks.1;
+        let none : IsTrue old.group.told → answers_of g n ≡ [] = λ told. no_answers g n (λ x. every_get (λ a. a.number ≢ n) g.answered x.place x.answer (lacks told (fresh n is)) x.there x.numbered) in record {
+          told = λ told. ap (λ found. option_map (λ (a : Answered). Bytes a.bytes) (slice_get found 0)) (none told) ∙ sym looks.1;
           idle = λ _. says.0;
           takes = inl says.0;
         }
     looked (Number n) is (Took k (Some sectors)) mid r looks says =
-        let a = says.0.answer in
-        let one = ap (answers_of g) (sym (a.numbered ∙ looks.0)) ∙ its_answer g (reads_wait_once old.group.setup old.group.history legal) a.k a.answer a.there in record {
-          told = ap (λ found. option_map (λ (x : Answered). Bytes x.bytes) (slice_get found 0)) one ∙ ap (λ bytes. Some (Bytes bytes)) a.sectors ∙ sym looks.1;
+        record {
+          told = λ told.
+              let a = says.0.answer told in
+              let one = ap (answers_of g) (sym (a.numbered ∙ looks.0)) ∙ its_answer g (reads_wait_once old.group.setup old.group.history (legal told)) a.k a.answer a.there in
+              ap (λ found. option_map (λ (x : Answered). Bytes x.bytes) (slice_get found 0)) one ∙ ap (λ bytes. Some (Bytes bytes)) a.sectors ∙ sym looks.1;
           idle = λ none. absurd (no_bytes sectors (sym looks.1 ∙ none));
           takes = inr (n, refl, says.1 ∙ ap (λ group. let c : ChunkIs = record old { group = group } in c) (says.0.is ∙ ap (λ x. let h : GroupIs = record old.group { taken = slice_set old.group.taken x true } in h) looks.0));
         }
@@ -259,19 +264,21 @@ module _ (old : ChunkIs) (p : PortIs) (ask : Ask) (reply : Option Reply) (next :
     looked (Number n) is look mid r looks says = absurd looks
 
     by_reply : (sent : Sent) → p.sent ≡ Some sent → (mid : ChunkIs) (r : Option Reply) → reply ≡ r → Looked sent mid r → (rest : List Call) → GoesOn r p ask rest next → CallsLead Says mid rest after → WentOn
-    by_reply sent is mid None none l rest goes lead = led mid (l.idle refl) (record { none = none; untold = ap (λ s. reply_to g s p.last) is ∙ l.told }) rest goes lead
+    by_reply sent is mid None none l rest goes lead = led mid (l.idle refl) (record { none = none; untold = λ told. ap (λ s. reply_to g s p.last) is ∙ l.told told }) rest goes lead
     by_reply sent is mid (Some given) some l rest goes lead =
         let here : after ≡ mid = subst (λ calls. CallsLead Says mid calls after) goes.0 lead in
         GivesReply (record {
           given = given;
           is = some;
-          told = ap (λ s. reply_to g s p.last) is ∙ l.told;
+          sent = sent;
+          was = is;
+          told = λ told. ap (λ s. reply_to g s p.last) is ∙ l.told told;
           takes = elim l.takes [ inl same ↦ inl (here ∙ same) | inr took ↦ inr (took.0, is ∙ ap Some took.1, here ∙ took.2) ];
           next_is = goes.1;
         })
 
     by_sent : (sent : Option Sent) → p.sent ≡ sent → (calls : List Call) → DrivesFrom sent p ask calls reply next → CallsLead Says old calls after → WentOn
-    by_sent None is calls drives lead = led old refl (record { none = drives.0; untold = ap (λ s. reply_to g s p.last) is }) calls drives.1 lead
+    by_sent None is calls drives lead = led old refl (record { none = drives.0; untold = λ told. ap (λ s. reply_to g s p.last) is }) calls drives.1 lead
     by_sent (Some sent) is calls drives lead =
         let l = subst (λ all. CallsLead Says old all after) drives.asked lead in
         by_reply sent is l.0 reply refl (looked sent is drives.look l.0 reply drives.looks l.1) drives.rest drives.goes l.2

@@ -1,6 +1,6 @@
 -- An answered read has as many sectors as it was asked for.
 use Rattle.std.proofs.Common.{◌≡◌, ℕ, zero, suc, ◌+◌, ◌≤◌, inl, inr, Bool, true, false, not, nat_le, ◌||◌, List, [], ◌∷◌, length, Option, Some, None, slice_get, arith, refl, sym, ap, subst, ◌∙◌}
-use Rattle.std.specs.Prelude.{IfSome}
+use Rattle.std.specs.Prelude.{IfSome, IsTrue}
 use Rattle.std.proofs.lemmas.Bool.{eqb-true, leb-true}
 use Rattle.std.proofs.lemmas.Option.{none-some, same_Some}
 use Rattle.pf_base.specs.Span.{IsWritable, Span, fits_in, is_whole}
@@ -64,18 +64,19 @@ within range sectors writable is = by (is_whole range) refl
     by true whole = absurd (omega (arith, eqb-true range.count 255 whole, writable.few))
     by false whole = leb-true (range.first + range.count) sectors (sym (ap (λ w. w || nat_le (range.first + range.count) sectors) whole) ∙ is)
 
-pub counted : (g : GroupIs) → IsLegal g.setup g.history → (number : ℕ) (bytes : List Sector) (new : GroupIs) → HasTaken g number bytes new → (range : Span) → IsFetched g.history number range → length bytes ≡ range.count
-counted g legal number bytes new taken range fetched =
-    let a = taken.answer.answer in
-    let up = answered_taken_up g.setup g.history fetched.place fetched.server taken.answer.k range a legal (fetched.happened ∙ ap (λ n. Some (record { event = Fetch fetched.server range; answer = ReadIs n })) (sym taken.answer.numbered)) taken.answer.there in
+pub counted : (g : GroupIs) → IsTrue g.told → IsLegal g.setup g.history → (number : ℕ) (bytes : List Sector) (new : GroupIs) → HasTaken g number bytes new → (range : Span) → IsFetched g.history number range → length bytes ≡ range.count
+counted g told legal number bytes new taken range fetched =
+    let its = taken.answer told in
+    let a = its.answer in
+    let up = answered_taken_up g.setup g.history fetched.place fetched.server its.k range a legal (fetched.happened ∙ ap (λ n. Some (record { event = Fetch fetched.server range; answer = ReadIs n })) (sym its.numbered)) its.there in
     let s = stood g.setup g.history (opening g.setup) [] fetched.place (record { event = Fetch fetched.server range; answer = ReadIs number }) legal.legal fetched.happened in
     let low = within range g.setup.chunk s.next.asked.1 (fits g.setup s.before fetched.server number range s.next.answered) in
     let same = up.same_range in
-    ap length (sym taken.answer.sectors)
-    ∙ eight_given g.setup g.history taken.answer.k a legal taken.answer.there (subst (λ (r : Span). r.first + r.count ≤ g.setup.chunk) (sym same) low)
+    ap length (sym its.sectors)
+    ∙ eight_given g.setup g.history its.k a legal its.there (subst (λ (r : Span). r.first + r.count ≤ g.setup.chunk) (sym same) low)
     ∙ ap (λ (r : Span). r.count) same
 
-pub whole : (g : GroupIs) → IsLegal g.setup g.history → (number : ℕ) (answer : Option (List Sector)) (new : GroupIs) → IfSome answer (λ bytes. HasTaken g number bytes new)
-    → IfSome answer (λ sectors. (count : ℕ) → (range : Span) × IsFetched g.history number range × (range.count ≡ count) → length sectors ≡ count)
+pub whole : (g : GroupIs) → (IsTrue g.told → IsLegal g.setup g.history) → (number : ℕ) (answer : Option (List Sector)) (new : GroupIs) → IfSome answer (λ bytes. HasTaken g number bytes new)
+    → IfSome answer (λ sectors. (count : ℕ) → IsTrue g.told × ((range : Span) × IsFetched g.history number range × (range.count ≡ count)) → length sectors ≡ count)
 whole g legal number None new taken = tt
-whole g legal number (Some sectors) new taken = λ count c. counted g legal number sectors new taken c.0 c.1 ∙ c.2
+whole g legal number (Some sectors) new taken = λ count c. counted g c.0 (legal c.0) number sectors new taken c.1.0 c.1.1 ∙ c.1.2

@@ -1,9 +1,11 @@
 -- A step of a port is what the run makes of it.
 use Rattle.std.proofs.Common.{◌≡◌, ◌≢◌, ℕ, inl, inr, Bool, true, false, cond, if◌then◌else◌, List, [], ◌∷◌, ◌++◌, Option, Some, None, length, slice_get, slice_set, arith, refl, sym, ap, subst, ◌∙◌, append-nil}
+use Rattle.std.specs.Prelude.{IfSome, IsTrue}
 use Rattle.std.proofs.lemmas.Bool.{cases_eq}
 use Rattle.std.proofs.lemmas.List.{length-append}
 use Rattle.std.proofs.lemmas.Option.{none-some, same_Some, slice_get_within}
 use Rattle.pf_base.specs.Span.{Span}
+use Rattle.pf_base.specs.Asks.{Answers}
 use Rattle.pf_base.specs.declared.asks.Ask.{Ask}
 use Rattle.pf_base.specs.declared.asks.Ask.TheVariants as asks
 use Rattle.pf_base.specs.declared.asks.Reply.{Reply}
@@ -16,12 +18,12 @@ use Rattle.pf_protocol.specs.declared.events.Happening.{Happening}
 use Rattle.pf_protocol.specs.Answers.{IsLegal, claims_after}
 use Rattle.pf_cluster.specs.Readings.{taken_after}
 use Rattle.pf_cluster.proofs.Lists.{at_end, set_again, set_elsewhere, set_length, set_same, set_there}
-use Rattle.pf_asks.specs.declared.port.Sent.{Sent}
 use Rattle.pf_asks.specs.declared.port.Sent.TheVariants.{Number}
 use Rattle.pf_asks.specs.Ports.{Goes, IsHanded, PortIs, Stays, answered as answered_port, goes_to, new_port}
 use Rattle.pf_group.specs.Events.{event_of}
 use Rattle.pf_group.specs.GroupIs.{GroupIs, state_of}
 use Rattle.pf_group.specs.Steps.{HasStepped}
+use Rattle.pf_rounds.specs.Agreeing.{chunk_of}
 use Rattle.pf_rounds.specs.Chunks.{answered}
 use Rattle.pf_rounds.specs.Halts.{Halt}
 use Rattle.pf_rounds.proofs.Extending.{Extends, extends_refl}
@@ -29,14 +31,14 @@ use Rattle.pf_rounds.proofs.Growing.{grown_refl, taken_grows}
 use Rattle.pf_rounds.proofs.Told.{told_length}
 use Rattle.pf_chunk.specs.declared.waiting.Waiting.{Waiting}
 use Rattle.pf_chunk.specs.Asks.{leader_of, reply_to}
-use Rattle.pf_chunk.specs.Driving.{HandsOn, HasDriven, PortDrove, ask_after, driven, driven_at, driven_for, event_of_ask, handed, handed_to, idle, led_to, replied, sent_of, with_port}
+use Rattle.pf_chunk.specs.Driving.{Driven, HandsOn, HasDriven, Heeds, PortDrove, ask_after, driven, driven_at, driven_for, event_of_ask, handed, handed_to, idle, led_to, replied, sent_of, with_port}
 use Rattle.pf_chunk.specs.Runs.{ChunkRun}
 use Rattle.pf_chunk.specs.Views.{ArePorts, ChunkIs, IsFetched, IsKept, IsReady, run_of}
 use Rattle.pf_chunk.proofs.Begun.{happened_extends}
 use Rattle.pf_chunk.proofs.Calls.{GivesReply, HandsIt, Keeps, Replies, StaysThere, WasHanded, WentOn, hand, went_on}
 use Rattle.pf_chunk.proofs.Happened.{Comes, Fills, IsMidway, filled_up}
 use Rattle.pf_chunk.proofs.Members.{every_place}
-use Rattle.pf_chunk.proofs.Midway.{claims, kept_quietly, reads}
+use Rattle.pf_chunk.proofs.Midway.{claims, kept_quietly, next_read}
 use Rattle.pf_chunk.proofs.Ready.{IsFor, port_put}
 
 -- the port goes on with what tells the answer
@@ -93,36 +95,38 @@ module _ (m : ℕ) (old : ChunkIs) (p : PortIs) (ask : Ask) (there : slice_get o
   looks_for halts r told =
       ap (driven_at halts (run_of halts old) m) there ∙ ap (driven_for halts (run_of halts old) m p) pending ∙ ap (replied halts (run_of halts old) m p ask) told
 
-  -- there is one
-  module _ (taken : List Bool) (count : length taken ≡ length old.group.taken) (same : (j : ℕ) → (p.sent ≡ Some (Number j) → ⊥) → slice_get taken j ≡ slice_get old.group.taken j) where
+  -- there is one, and the port is silent then
+  module _ (taken : List Bool) (count : length taken ≡ length old.group.taken) (same : (j : ℕ) → (p.sent ≡ Some (Number j) → ⊥) → slice_get taken j ≡ slice_get old.group.taken j) (q : PortIs) (silent : q.sent ≡ None) where
     abbrev told_group : GroupIs
     told_group = record old.group { taken = taken }
 
     abbrev told_ports : List PortIs
-    told_ports = slice_set old.ports m (answered_port p)
+    told_ports = slice_set old.ports m q
 
     line_still : (k : ℕ) (w : Waiting) → slice_get old.waiting k ≡ Some w → slice_get taken w.number ≡ Some false
     line_still k w at =
         same w.number (λ sent. every_get (λ x. x.number ≢ w.number) old.waiting k w (ready.kept.ports_fit.reads m p w.number there sent).no_line at refl)
         ∙ every_get (λ x. slice_get old.group.taken x.number ≡ Some false) old.waiting k w ready.kept.listed.pending at
 
+    -- no number is sent at its place
+    none_there : (other : PortIs) (n : ℕ) → slice_get told_ports m ≡ Some other → other.sent ≡ Some (Number n) → ⊥
+    none_there other n at sent =
+        let is : other ≡ q = same_Some other q (sym at ∙ set_there old.ports m q (slice_get_within old.ports m p there)) in
+        no_number n (sym silent ∙ ap (λ (x : PortIs). x.sent) (sym is) ∙ sent)
+
     ports_still : ArePorts told_group old.waiting told_ports
     ports_still = record {
-      count = set_length old.ports m (answered_port p) ∙ ready.kept.ports_fit.count;
-      reads = λ k q n at sent. elim (cases_eq k m) [
-        | inl here ↦
-            let is : q ≡ answered_port p = same_Some q (answered_port p) (sym (ap (slice_get told_ports) (sym here) ∙ at) ∙ set_there old.ports m (answered_port p) (slice_get_within old.ports m p there)) in
-            absurd (no_number n (ap (λ (x : PortIs). x.sent) (sym is) ∙ sent))
+      count = set_length old.ports m q ∙ ready.kept.ports_fit.count;
+      reads = λ k x n at sent. elim (cases_eq k m) [
+        | inl here ↦ absurd (none_there x n (ap (slice_get told_ports) (sym here) ∙ at) sent)
         | inr apart ↦
-            let was = sym (set_elsewhere old.ports m k (answered_port p) apart) ∙ at in
-            let r = ready.kept.ports_fit.reads k q n was sent in record {
-              pending = same n (λ its. apart ((ready.kept.ports_fit.reads m p n there its).alone k q was sent)) ∙ r.pending;
+            let was = sym (set_elsewhere old.ports m k q apart) ∙ at in
+            let r = ready.kept.ports_fit.reads k x n was sent in record {
+              pending = same n (λ its. apart ((ready.kept.ports_fit.reads m p n there its).alone k x was sent)) ∙ r.pending;
               no_line = r.no_line;
               alone = λ j other other_at other_sent. elim (cases_eq j m) [
-                | inl here ↦
-                    let is : other ≡ answered_port p = same_Some other (answered_port p) (sym (ap (slice_get told_ports) (sym here) ∙ other_at) ∙ set_there old.ports m (answered_port p) (slice_get_within old.ports m p there)) in
-                    absurd (no_number n (ap (λ (x : PortIs). x.sent) (sym is) ∙ other_sent))
-                | inr away ↦ r.alone j other (sym (set_elsewhere old.ports m j (answered_port p) away) ∙ other_at) other_sent
+                | inl here ↦ absurd (none_there other n (ap (slice_get told_ports) (sym here) ∙ other_at) other_sent)
+                | inr away ↦ r.alone j other (sym (set_elsewhere old.ports m j q away) ∙ other_at) other_sent
               ];
               asked = r.asked;
             }
@@ -132,27 +136,28 @@ module _ (m : ℕ) (old : ChunkIs) (p : PortIs) (ask : Ask) (there : slice_get o
     abbrev told_chunk : ChunkIs
     told_chunk = record old { group = told_group; ports = told_ports }
 
-    has_replied : (given : Reply) → reply_to (state_of old.group) p.sent p.last ≡ Some given → (before : List ℕ) → HasDriven m old before (Some given) before told_chunk
-    has_replied given told before =
+    has_taken : (reply : Option Reply) → ((halts : List Halt) → IsTrue old.group.told → driven halts (run_of halts old) m ≡ record { chunk = run_of halts told_chunk; reply = reply; text = []; place = None }) → (before : List ℕ) → HasDriven m old before reply before told_chunk
+    has_taken reply run before =
         let grown = taken_grows old.group told_group refl in record {
           grown = grown;
           ready = record {
             claims = ready.claims;
             applied = ready.applied;
             kept = record {
-              numbered = count ∙ ready.kept.numbered;
+              numbered = λ told. count ∙ ready.kept.numbered told;
               listed = record { ascending = ready.kept.listed.ascending; servers = ready.kept.listed.servers; pending = every_place (λ w. slice_get taken w.number ≡ Some false) old.waiting line_still };
               ports_fit = ports_still;
             };
+            few = ready.few;
             first_sent = ready.first_sent;
             none_left = ready.none_left;
           };
-          left = λ k is. inl is;
+          left = λ told k is. inl is;
           first = refl;
           text = [];
           place = None;
           put = sym (append-nil before);
-          run = λ halts tells. looks_for halts (Some given) told;
+          run = λ halts tells. run halts tells.told;
         }
 
   -- it stays
@@ -165,16 +170,16 @@ module _ (m : ℕ) (old : ChunkIs) (p : PortIs) (ask : Ask) (there : slice_get o
   by_leader halts None goes = refl
   by_leader halts (Some (term, server)) goes = by_goes halts term server (goes_to p.sent p.last term) goes
 
-  has_stayed : reply_to (state_of old.group) p.sent p.last ≡ None → (leader : Option (ℕ × ℕ)) → leader_of (state_of old.group) ≡ leader → Goes p ask leader [] p → (before : List ℕ) → HasDriven m old before None before old
+  has_stayed : (IsTrue old.group.told → reply_to (state_of old.group) p.sent p.last ≡ None) → (leader : Option (ℕ × ℕ)) → (IsTrue old.group.told → leader_of (state_of old.group) ≡ leader) → Goes p ask leader [] p → (before : List ℕ) → HasDriven m old before None before old
   has_stayed untold leader led goes before = record {
     grown = grown_refl old.group;
     ready = ready;
-    left = λ k is. inl is;
+    left = λ told k is. inl is;
     first = refl;
     text = [];
     place = None;
     put = sym (append-nil before);
-    run = λ halts tells. looks_for halts None untold ∙ ap (led_to halts (run_of halts old) m p ask) led ∙ by_leader halts leader goes;
+    run = λ halts tells. looks_for halts None (untold tells.told) ∙ ap (led_to halts (run_of halts old) m p ask) (led tells.told) ∙ by_leader halts leader goes;
   }
 
   -- it is handed on
@@ -199,7 +204,7 @@ module _ (m : ℕ) (old : ChunkIs) (p : PortIs) (ask : Ask) (there : slice_get o
     kept_now = kept_quietly old.group new (event_of (hand ask server) stepped.found) answer stepped.steps old.waiting old.ports ready.kept
 
     is_next : (n : ℕ) → answer ≡ ReadIs n → n ≡ length old.group.taken
-    is_next n told = (reads old.group new (event_of (hand ask server) stepped.found) answer stepped.steps).next n told ∙ sym ready.kept.numbered
+    is_next n told = next_read old.group new (event_of (hand ask server) stepped.found) answer stepped.steps n told
 
     its_place : (n chunk : ℕ) (range : Span) → answer ≡ ReadIs n → p.ask ≡ Some (asks.Read chunk range) → IsFetched new.history n range
     its_place n chunk range told is =
@@ -233,7 +238,7 @@ module _ (m : ℕ) (old : ChunkIs) (p : PortIs) (ask : Ask) (there : slice_get o
       first = refl;
       kept = record { numbered = kept_now.numbered; listed = kept_now.listed; ports_fit = port_put new old.waiting old.ports m next kept_now.ports_fit fits };
       none = claims old.group new (event_of (hand ask server) stepped.found) answer stepped.steps ready.claims (no_claim ask server stepped.found answer);
-      fills = λ halts. refl;
+      fills = λ told halts. refl;
     }
 
 -- the ask was handed on by one event
@@ -246,14 +251,22 @@ pub record IsHandedOn (m : ℕ) (old : ChunkIs) (reply : Option Reply) (new : Ch
   pub none : reply ≡ None
   pub stepped : HasStepped old.group (hand ask server) answer new.group
   pub midway : IsMidway (sends m p term) old (hand ask server) answer new
-  pub run : (halts : List Halt) → driven halts (run_of halts old) m ≡ handed (length old.group.history) (filled_up (sends m p term) (event_of (hand ask server) false) halts (run_of halts old))
+  pub run : IsTrue old.group.told → (halts : List Halt) → driven halts (run_of halts old) m ≡ handed (length old.group.history) (filled_up (sends m p term) (event_of (hand ask server) false) halts (run_of halts old))
 
-module _ (m : ℕ) (old new : ChunkIs) (reply : Option Reply) (h : HandsOn m old reply new) (ready : IsReady old) (legal : IsLegal old.group.setup old.group.history) where
+-- a reply that is not heeded is none that fits, and there is none such where the disks tell their content
+record IsHeeded (m : ℕ) (old : ChunkIs) (reply : Option Reply) (new : ChunkIs) (h : HandsOn m old reply new) (given : Reply) : Type 0 where
+  next : PortIs
+  is : h.next ≡ next
+  silent : next.sent ≡ None
+  asks : next.ask ≡ ask_after reply h.port.ask
+  heeded : IsTrue old.group.told → (reply ≡ Some given) × (next ≡ answered_port h.port)
+
+module _ (m : ℕ) (old new : ChunkIs) (reply : Option Reply) (h : HandsOn m old reply new) (ready : IsReady old) (legal : IsTrue old.group.told → IsLegal old.group.setup old.group.history) where
   abbrev out : ChunkIs
   out = record old { ports = slice_set old.ports m new_port }
 
-  went : WentOn out h.port h.ask reply h.next h.after
-  went = went_on out h.port h.ask reply h.next h.after legal (λ n sent. (ready.kept.ports_fit.reads m h.port n h.there sent).pending) h.calls h.drives h.leads
+  went : WentOn out h.port h.ask h.given h.left h.after
+  went = went_on out h.port h.ask h.given h.left h.after legal (λ n sent. (ready.kept.ports_fit.reads m h.port n h.there sent).pending) h.calls h.drives h.leads
 
   -- where it stands in its place again
   back : (group : GroupIs) (port : PortIs) → h.after ≡ record out { group = group } → h.next ≡ port → new ≡ record old { group = group; ports = slice_set old.ports m port }
@@ -262,30 +275,67 @@ module _ (m : ℕ) (old new : ChunkIs) (reply : Option Reply) (h : HandsOn m old
       ∙ ap (λ (c : ChunkIs). let x : ChunkIs = record c { ports = slice_set c.ports m h.next } in x) after_is
       ∙ ap (λ (ps : List PortIs). let x : ChunkIs = record old { group = group; ports = ps } in x) (set_again old.ports m new_port h.next ∙ ap (slice_set old.ports m) next_is)
 
-  stayed : Keeps out h.port h.ask reply h.next h.after → new ≡ old
-  stayed k = back old.group h.port k.same k.next_is ∙ ap (λ (ps : List PortIs). let x : ChunkIs = record old { ports = ps } in x) (set_same old.ports m h.port h.there)
+  -- no reply was given
+  none_given : h.given ≡ None → (reply ≡ None) × (h.next ≡ h.left)
+  none_given none = subst (λ o. Heeds h.ask o h.left reply h.next) none h.heeds
 
-  handed_is : (k : HandsIt out h.port h.ask reply h.next h.after) → new ≡ record old { group = h.after.group; ports = slice_set old.ports m (record h.port { sent = sent_of k.hands.answer; last = k.term }) }
-  handed_is k = back h.after.group _ k.hands.rest k.next_is
+  stayed : Keeps out h.port h.ask h.given h.left h.after → new ≡ old
+  stayed k = back old.group h.port k.same ((none_given k.not_told.none).1 ∙ k.next_is) ∙ ap (λ (ps : List PortIs). let x : ChunkIs = record old { ports = ps } in x) (set_same old.ports m h.port h.there)
 
-  longer : HandsIt out h.port h.ask reply h.next h.after → length new.group.history ≡ length old.group.history → ⊥
+  handed_is : (k : HandsIt out h.port h.ask h.given h.left h.after) → new ≡ record old { group = h.after.group; ports = slice_set old.ports m (record h.port { sent = sent_of k.hands.answer; last = k.term }) }
+  handed_is k = back h.after.group _ k.hands.rest ((none_given k.not_told.none).1 ∙ k.next_is)
+
+  longer : HandsIt out h.port h.ask h.given h.left h.after → length new.group.history ≡ length old.group.history → ⊥
   longer k same =
       omega (arith, same, ap (λ (c : ChunkIs). length c.group.history) (handed_is k), ap (λ (g : GroupIs). length g.history) k.hands.stepped.steps.recorded, length-append old.group.history (record { event = event_of (hand h.ask k.server) k.hands.stepped.found; answer = k.hands.answer } ∷ []))
 
-  replied_so : (r : Replies out h.port h.ask reply h.next h.after) (before : List ℕ) → HasDriven m old before reply before new × (new.group.history ≡ old.group.history)
+  -- one was
+  heeded : (r : Replies out h.port h.ask h.given h.left h.after) → IsHeeded m old reply new h r.given
+  heeded r = elim (subst (λ o. Heeds h.ask o h.left reply h.next) r.is h.heeds) [
+    | inl fits ↦ record {
+      next = answered_port h.port;
+      is = fits.2 ∙ r.next_is;
+      silent = refl;
+      asks = ap (λ (o : Option Reply). ask_after o h.port.ask) (sym fits.1);
+      heeded = λ told. (fits.1, refl);
+    }
+    | inr other ↦ record {
+      next = record h.port { ask = Some h.ask; sent = None };
+      is = other.2 ∙ ap (λ (q : PortIs). let x : PortIs = record q { ask = Some h.ask; sent = None } in x) r.next_is;
+      silent = refl;
+      asks = sym h.pending ∙ ap (λ (o : Option Reply). ask_after o h.port.ask) (sym other.1);
+      heeded = λ told. absurd (other.0 (subst (λ o. IfSome o (Answers h.ask)) r.is (h.fits told)));
+    }
+  ]
+
+  -- the run gives that reply
+  module _ (r : Replies out h.port h.ask h.given h.left h.after) (group : GroupIs) where
+    abbrev ends_at : ChunkIs
+    ends_at = record old { group = group; ports = slice_set old.ports m (heeded r).next }
+
+    run_replies : ((halts : List Halt) → chunk_of halts group ≡ chunk_of halts old.group) → (halts : List Halt) → IsTrue old.group.told → driven halts (run_of halts old) m ≡ record { chunk = run_of halts ends_at; reply = reply; text = []; place = None }
+    run_replies same halts told =
+        let its = (heeded r).heeded told in
+        looks_for m old h.port h.ask h.there h.pending ready halts (Some r.given) (r.told told)
+        ∙ ap (λ o. let d : Driven = record { chunk = with_port (run_of halts old) m (answered_port h.port); reply = o; text = []; place = None } in d) (sym its.0)
+        ∙ ap (λ q. let d : Driven = record { chunk = with_port (run_of halts old) m q; reply = reply; text = []; place = None } in d) (sym its.1)
+        ∙ ap (λ c. let d : Driven = record { chunk = record { group = c; waiting = old.waiting; ports = slice_set old.ports m (heeded r).next }; reply = reply; text = []; place = None } in d) (sym (same halts))
+
+  replied_so : (r : Replies out h.port h.ask h.given h.left h.after) (before : List ℕ) → HasDriven m old before reply before new × (new.group.history ≡ old.group.history)
   replied_so r before = elim r.takes [
     | inl same ↦
-        let is = back old.group (answered_port h.port) same r.next_is in (
-          subst (λ o. HasDriven m old before o before new) (sym r.is) (subst (HasDriven m old before (Some r.given) before) (sym is)
-              (has_replied m old h.port h.ask h.there h.pending ready old.group.taken refl (λ j _. refl) r.given r.told before)),
+        let is = back old.group (heeded r).next same (heeded r).is in (
+          subst (HasDriven m old before reply before) (sym is)
+              (has_taken m old h.port h.ask h.there h.pending ready old.group.taken refl (λ j _. refl) (heeded r).next (heeded r).silent reply (run_replies r old.group (λ halts. refl)) before),
           ap (λ (c : ChunkIs). c.group.history) is,
         )
     | inr took ↦
         let taken = slice_set old.group.taken took.0 true in
-        let is = back (record old.group { taken = taken }) (answered_port h.port) took.2 r.next_is in (
-          subst (λ o. HasDriven m old before o before new) (sym r.is) (subst (HasDriven m old before (Some r.given) before) (sym is)
-              (has_replied m old h.port h.ask h.there h.pending ready taken (set_length old.group.taken took.0 true)
-              (λ j other. set_elsewhere old.group.taken took.0 j true (λ same. other (took.1 ∙ ap (λ n. Some (Number n)) (sym same)))) r.given r.told before)),
+        let is = back (record old.group { taken = taken }) (heeded r).next took.2 (heeded r).is in (
+          subst (HasDriven m old before reply before) (sym is)
+              (has_taken m old h.port h.ask h.there h.pending ready taken (set_length old.group.taken took.0 true)
+              (λ j other. set_elsewhere old.group.taken took.0 j true (λ same. other (took.1 ∙ ap (λ n. Some (Number n)) (sym same)))) (heeded r).next (heeded r).silent reply
+              (run_replies r (record old.group { taken = taken }) (λ halts. refl)) before),
           ap (λ (c : ChunkIs). c.group.history) is,
         )
   ]
@@ -299,23 +349,21 @@ module _ (m : ℕ) (old new : ChunkIs) (reply : Option Reply) (h : HandsOn m old
     unsent = λ before at none. unsent (ap (λ (q : PortIs). q.sent) (same_Some h.port before (sym h.there ∙ at)) ∙ none);
   }
 
-  replied_port : Replies out h.port h.ask reply h.next h.after → new.ports ≡ slice_set old.ports m (answered_port h.port)
+  replied_port : (r : Replies out h.port h.ask h.given h.left h.after) → new.ports ≡ slice_set old.ports m (heeded r).next
   replied_port r = elim r.takes [
-    | inl same ↦ ap (λ (c : ChunkIs). c.ports) (back old.group (answered_port h.port) same r.next_is)
-    | inr took ↦ ap (λ (c : ChunkIs). c.ports) (back (record old.group { taken = slice_set old.group.taken took.0 true }) (answered_port h.port) took.2 r.next_is)
+    | inl same ↦ ap (λ (c : ChunkIs). c.ports) (back old.group (heeded r).next same (heeded r).is)
+    | inr took ↦ ap (λ (c : ChunkIs). c.ports) (back (record old.group { taken = slice_set old.group.taken took.0 true }) (heeded r).next took.2 (heeded r).is)
   ]
 
   pub port_drove : PortDrove m reply old new
   port_drove = elim went [
-    | GivesReply r ↦
-        port_facts (answered_port h.port) (replied_port r) (ap (λ (o : Option Reply). ask_after o h.port.ask) (sym r.is))
-        (λ none. absurd (none-some r.given (ap (λ (s : Option Sent). reply_to (state_of old.group) s h.port.last) (sym none) ∙ r.told)))
+    | GivesReply r ↦ port_facts (heeded r).next (replied_port r) (heeded r).asks (λ none. absurd (none-some r.sent (sym none ∙ r.was)))
     | StaysThere k ↦
-        port_facts h.port (ap (λ (c : ChunkIs). c.ports) (stayed k) ∙ sym (set_same old.ports m h.port h.there)) (ap (λ (o : Option Reply). ask_after o h.port.ask) (sym k.not_told.none))
-        (λ none. k.not_told.none)
+        let none = (none_given k.not_told.none).0 in
+        port_facts h.port (ap (λ (c : ChunkIs). c.ports) (stayed k) ∙ sym (set_same old.ports m h.port h.there)) (ap (λ (o : Option Reply). ask_after o h.port.ask) (sym none)) (λ _. none)
     | WasHanded k ↦
-        port_facts (record h.port { sent = sent_of k.hands.answer; last = k.term }) (ap (λ (c : ChunkIs). c.ports) (handed_is k))
-        (ap (λ (o : Option Reply). ask_after o h.port.ask) (sym k.not_told.none)) (λ none. k.not_told.none)
+        let none = (none_given k.not_told.none).0 in
+        port_facts (record h.port { sent = sent_of k.hands.answer; last = k.term }) (ap (λ (c : ChunkIs). c.ports) (handed_is k)) (ap (λ (o : Option Reply). ask_after o h.port.ask) (sym none)) (λ _. none)
   ]
 
   -- no event took place
@@ -323,7 +371,7 @@ module _ (m : ℕ) (old new : ChunkIs) (reply : Option Reply) (h : HandsOn m old
   no_event same before = elim went [
     | GivesReply r ↦ (replied_so r before).0
     | StaysThere k ↦
-        subst (λ o. HasDriven m old before o before new) (sym k.not_told.none) (subst (HasDriven m old before None before) (sym (stayed k))
+        subst (λ o. HasDriven m old before o before new) (sym (none_given k.not_told.none).0) (subst (HasDriven m old before None before) (sym (stayed k))
         (has_stayed m old h.port h.ask h.there h.pending ready k.not_told.untold k.leader k.led k.goes before))
     | WasHanded k ↦ absurd (longer k same)
   ]
@@ -340,11 +388,11 @@ module _ (m : ℕ) (old new : ChunkIs) (reply : Option Reply) (h : HandsOn m old
           term = k.term;
           server = k.server;
           answer = k.hands.answer;
-          none = k.not_told.none;
+          none = (none_given k.not_told.none).0;
           stepped = subst (λ (c : ChunkIs). HasStepped old.group (hand h.ask k.server) k.hands.answer c.group) (sym is) k.hands.stepped;
           midway = subst (IsMidway (sends m h.port k.term) old (hand h.ask k.server) k.hands.answer) (sym is)
               (midway_handed m old h.port h.ask h.there h.pending ready k.term k.server k.hands.answer h.after.group k.hands.stepped);
-          run = λ halts. driven_handed m old h.port h.ask h.there h.pending ready halts k.term k.server k.not_told.untold k.led k.goes;
+          run = λ told halts. driven_handed m old h.port h.ask h.there h.pending ready halts k.term k.server (k.not_told.untold told) (k.led told) k.goes;
         }
   ]
 
@@ -359,7 +407,7 @@ has_driven m old mid new reply h before after comes =
       text = comes.text;
       place = Some (length old.group.history);
       put = comes.put_is;
-      run = λ halts tells. h.run halts ∙ ap (handed (length old.group.history)) (comes.run halts tells);
+      run = λ halts tells. h.run (subst IsTrue comes.grown.told tells.told) halts ∙ ap (handed (length old.group.history)) (comes.run halts tells);
     })
 
 -- what follows on it leaves the ports alone
@@ -376,6 +424,7 @@ put_ready m c port ready none = record {
     listed = ready.kept.listed;
     ports_fit = port_put c.group c.waiting c.ports m port ready.kept.ports_fit (λ n sent. absurd (no_number n (sym none ∙ sent)));
   };
+  few = ready.few;
   first_sent = ready.first_sent;
   none_left = ready.none_left;
 }

@@ -1,21 +1,20 @@
 -- A port that is driven over the rest of its chunk.
-use Rattle.std.proofs.Common.{◌≡◌, ℕ, ◌<◌, List, Option, Some, None, Result, Ok, Err, IfOk, OnErr, length, slice_get, slice_set, arith, refl, sym, ap, subst, ◌∙◌}
-use Rattle.std.specs.Prelude.{IfSome, IsSome}
+use Rattle.std.proofs.Common.{◌≡◌, ℕ, ◌<◌, inl, inr, List, Option, Some, None, length, slice_get, slice_set, arith, refl, sym, ap, subst, ◌∙◌}
+use Rattle.std.specs.Prelude.{IfSome, IsSome, IsTrue}
 use Rattle.std.specs.Option.{option_and_then}
 use Rattle.std.proofs.lemmas.Bool.{false≢true}
 use Rattle.pf_base.specs.Asks.{Answers}
 use Rattle.pf_base.specs.declared.asks.Ask.{Ask}
 use Rattle.pf_base.specs.declared.asks.Ask.TheVariants as asks
 use Rattle.pf_base.specs.declared.asks.Reply.{Reply}
-use Rattle.pf_base.specs.declared.errors.NoMemory.{NoMemory}
 use Rattle.pf_entry.specs.Lists.{Every}
 use Rattle.pf_cluster.proofs.Lists.{set_again, set_length, set_same}
 use Rattle.pf_asks.specs.declared.port.Sent.{Sent}
 use Rattle.pf_asks.specs.declared.port.Sent.TheVariants.{Slot, Number}
 use Rattle.pf_asks.specs.Desks.{Call, CallsLead, IsLook}
-use Rattle.pf_asks.specs.Ports.{Drives, IsCounted, PortIs, new_port}
+use Rattle.pf_asks.specs.Ports.{Drives, DrivesFrom, IsCounted, IsOfKind, PortIs, new_port}
 use Rattle.pf_chunk.specs.Asks.{Counts, Says}
-use Rattle.pf_chunk.specs.Driving.{HandsOn, ask_of}
+use Rattle.pf_chunk.specs.Driving.{HandsOn, Heeds, ask_of}
 use Rattle.pf_chunk.specs.Views.{ChunkIs, IsReady}
 use Rattle.pf_chunk.proofs.Calls.{lead_ports, looks_same}
 
@@ -23,12 +22,22 @@ pub some_ask : (ask : Option Ask) → IsSome ask → (a : Ask) × (ask ≡ Some 
 some_ask None is = absurd (false≢true is)
 some_ask (Some a) is = (a, refl)
 
--- what the calls of a port say it did, where there was memory for them and where there was not
-abbrev pub Drove : (start after : ChunkIs) (p next : PortIs) → Result (Option Reply) NoMemory → Type 0
-Drove start after p next result = IfOk result (λ reply. (ask : Ask) → p.ask ≡ Some ask → (calls : List Call) × CallsLead Says start calls after × Drives p ask calls reply next)
+silent_by : (p left : PortIs) (ask : Ask) (calls : List Call) (sent : Option Sent) (given : Option Reply) → DrivesFrom sent p ask calls given left → IsSome given → left.ask ≡ None
+silent_by p left ask calls None given drives is = absurd (false≢true (subst IsSome drives.0 is))
+silent_by p left ask calls (Some sent) None drives is = absurd (false≢true is)
+silent_by p left ask calls (Some sent) (Some reply) drives is = ap (λ (q : PortIs). q.ask) drives.goes.1
 
-abbrev pub Looked : (start after : ChunkIs) (p next : PortIs) → Result (Option Reply) NoMemory → Type 0
-Looked start after p next result = OnErr result ((next ≡ p) × ((calls : List Call) × CallsLead Says start calls after × Every IsLook calls))
+pub kind_of : (p : PortIs) (given : Option Reply) (ask : Ask) → p.ask ≡ Some ask → IfSome given (λ r. (ask : Ask) → p.ask ≡ Some ask → IsOfKind ask r) → IfSome given (IsOfKind ask)
+kind_of p None ask is kind = tt
+kind_of p (Some r) ask is kind = kind ask is
+
+-- a reply that is heeded fits its ask
+heeded_fits : (ask : Ask) (given : Option Reply) (left : PortIs) (reply : Option Reply) (next : PortIs) → Heeds ask given left reply next → IfSome reply (Answers ask)
+heeded_fits ask None left reply next heeds = subst (λ o. IfSome o (Answers ask)) (sym heeds.0) tt
+heeded_fits ask (Some given) left reply next heeds = elim heeds [
+  | inl fits ↦ subst (λ o. IfSome o (Answers ask)) (sym fits.1) fits.0
+  | inr other ↦ subst (λ o. IfSome o (Answers ask)) (sym other.1) tt
+]
 
 module _ (m : ℕ) (old : ChunkIs) (p : PortIs) (there : slice_get old.ports m ≡ Some p) (start : ChunkIs) (start_is : start ≡ record old { ports = slice_set old.ports m new_port }) where
   abbrev out : ChunkIs
@@ -40,32 +49,37 @@ module _ (m : ℕ) (old : ChunkIs) (p : PortIs) (there : slice_get old.ports m �
   pub pending : IsSome (ask_of old.ports m) → (ask : Ask) × (p.ask ≡ Some ask)
   pending is = some_ask p.ask (subst IsSome asks_this is)
 
-  by_sent : IsReady old → (sent : Option Sent) (ask : Option Ask) → p.sent ≡ sent → p.ask ≡ ask → IsCounted (Counts out) sent ask
-  by_sent ready None ask is asks = tt
-  by_sent ready (Some (Slot slot)) ask is asks = tt
-  by_sent ready (Some (Number n)) None is asks = tt
-  by_sent ready (Some (Number n)) (Some (asks.Write chunk range sectors)) is asks = tt
-  by_sent ready (Some (Number n)) (Some (asks.Read chunk range)) is asks = (range, (ready.kept.ports_fit.reads m p n there is).asked chunk range asks, refl)
+  by_sent : IsReady old → IsTrue old.group.told → (sent : Option Sent) (ask : Option Ask) → p.sent ≡ sent → p.ask ≡ ask → IsCounted (Counts out) sent ask
+  by_sent ready told None ask is asks = tt
+  by_sent ready told (Some (Slot slot)) ask is asks = tt
+  by_sent ready told (Some (Number n)) None is asks = tt
+  by_sent ready told (Some (Number n)) (Some (asks.Write chunk range sectors)) is asks = tt
+  by_sent ready told (Some (Number n)) (Some (asks.Read chunk range)) is asks = (told, (range, (ready.kept.ports_fit.reads m p n there is).asked chunk range asks, refl))
 
-  pub is_counted : IsReady old → IsCounted (Counts start) p.sent p.ask
-  is_counted ready = subst (λ (c : ChunkIs). IsCounted (Counts c) p.sent p.ask) (sym start_is) (by_sent ready p.sent p.ask refl refl)
+  pub is_counted : IsReady old → IsTrue old.group.told → IsCounted (Counts start) p.sent p.ask
+  is_counted ready told = subst (λ (c : ChunkIs). IsCounted (Counts c) p.sent p.ask) (sym start_is) (by_sent ready told p.sent p.ask refl refl)
 
-  pub answers_it : (result : Result (Option Reply) NoMemory) → IfOk result (λ reply. IfSome reply (λ r. (ask : Ask) → p.ask ≡ Some ask → Answers ask r)) → IfOk result (λ reply. IfSome reply (λ r. (ask : Ask) → ask_of old.ports m ≡ Some ask → Answers ask r))
-  answers_it result whole = subst (λ a. IfOk result (λ reply. IfSome reply (λ r. (ask : Ask) → a ≡ Some ask → Answers ask r))) (sym asks_this) whole
+  pub answers_it : (given : Option Reply) (left : PortIs) (reply : Option Reply) (next : PortIs) → ((ask : Ask) → p.ask ≡ Some ask → Heeds ask given left reply next) → IfSome reply (λ r. (ask : Ask) → ask_of old.ports m ≡ Some ask → Answers ask r)
+  answers_it given left None next heeds = tt
+  answers_it given left (Some r) next heeds = λ ask is. heeded_fits ask given left (Some r) next (heeds ask (sym asks_this ∙ is))
 
-  module _ (after : ChunkIs) (next : PortIs) where
+  module _ (after : ChunkIs) (left : PortIs) where
     inside_by : (calls : List Call) → CallsLead Says start calls after → m < length old.ports → m < length after.ports
     inside_by calls lead low = omega (arith, low, ap (λ (ps : List PortIs). length ps) (lead_ports start calls after lead ∙ ap (λ (c : ChunkIs). c.ports) start_is), set_length old.ports m new_port)
 
-    pub inside : (result : Result (Option Reply) NoMemory) → Drove start after p next result → Looked start after p next result → IsSome (ask_of old.ports m) → m < length old.ports → m < length after.ports
-    inside (Ok reply) drove looked is low = let a = pending is in let d = drove a.0 a.1 in inside_by d.0 d.1 low
-    inside (Err e) drove looked is low = inside_by looked.1.0 looked.1.1 low
+    -- the port was driven, and what it gave is heeded
+    module _ (given : Option Reply) (drove : (ask : Ask) → p.ask ≡ Some ask → (calls : List Call) × CallsLead Says start calls after × Drives p ask calls given left) (asks : IsSome (ask_of old.ports m)) where
+      pub inside : m < length old.ports → m < length after.ports
+      inside low = let a = pending asks in let d = drove a.0 a.1 in inside_by d.0 d.1 low
 
-    module _ (final : ChunkIs) (final_is : final ≡ record after { ports = slice_set after.ports m next }) where
-      pub hands_on : (result : Result (Option Reply) NoMemory) → Drove start after p next result → IsSome (ask_of old.ports m) → IfOk result (λ reply. HandsOn m old reply final)
-      hands_on (Err e) drove is = tt
-      hands_on (Ok reply) drove is =
-          let a = pending is in
+      -- an answered ask is pending no more
+      pub silent_then : IsSome given → left.ask ≡ None
+      silent_then is = let a = pending asks in let d = drove a.0 a.1 in silent_by p left a.0 d.0 p.sent given d.2 is
+
+      pub hands_on : (next : PortIs) (reply : Option Reply) (final : ChunkIs) → final ≡ record after { ports = slice_set after.ports m next }
+          → (IsTrue old.group.told → IfSome given (λ r. (ask : Ask) → p.ask ≡ Some ask → Answers ask r)) → ((ask : Ask) → p.ask ≡ Some ask → Heeds ask given left reply next) → HandsOn m old reply final
+      hands_on next reply final final_is fits heeds =
+          let a = pending asks in
           let d = drove a.0 a.1 in record {
             port = p;
             there = there;
@@ -74,16 +88,28 @@ module _ (m : ℕ) (old : ChunkIs) (p : PortIs) (there : slice_get old.ports m �
             calls = d.0;
             after = after;
             leads = subst (λ (c : ChunkIs). CallsLead Says c d.0 after) start_is d.1;
-            next = next;
+            given = given;
+            left = left;
             drives = d.2;
+            fits = λ told. fits_it given a.0 a.1 (fits told);
+            next = next;
+            heeds = heeds a.0 a.1;
             is = final_is;
           }
+        where
+          fits_it : (given : Option Reply) (ask : Ask) → p.ask ≡ Some ask → IfSome given (λ r. (ask : Ask) → p.ask ≡ Some ask → Answers ask r) → IfSome given (Answers ask)
+          fits_it None ask is whole = tt
+          fits_it (Some r) ask is whole = whole ask is
 
-      pub left_alone : (result : Result (Option Reply) NoMemory) → Looked start after p next result → OnErr result (final ≡ old)
-      left_alone (Ok reply) looked = tt
-      left_alone (Err e) looked =
-          let same : after ≡ out = looks_same start looked.1.0 after looked.1.2 looked.1.1 ∙ start_is in
+    -- there was no memory for it
+    module _ (same : left ≡ p) (looked : (calls : List Call) × CallsLead Says start calls after × Every IsLook calls) where
+      pub inside_still : m < length old.ports → m < length after.ports
+      inside_still low = inside_by looked.0 looked.1 low
+
+      pub left_alone : (final : ChunkIs) → final ≡ record after { ports = slice_set after.ports m left } → final ≡ old
+      left_alone final final_is =
+          let out_is : after ≡ out = looks_same start looked.0 after looked.2 looked.1 ∙ start_is in
           final_is
-          ∙ ap (λ (c : ChunkIs). let x : ChunkIs = record c { ports = slice_set c.ports m next } in x) same
+          ∙ ap (λ (c : ChunkIs). let x : ChunkIs = record c { ports = slice_set c.ports m left } in x) out_is
           ∙ ap (λ (ps : List PortIs). let x : ChunkIs = record old { ports = ps } in x)
-          (set_again old.ports m new_port next ∙ ap (slice_set old.ports m) looked.0 ∙ set_same old.ports m p there)
+          (set_again old.ports m new_port left ∙ ap (slice_set old.ports m) same ∙ set_same old.ports m p there)

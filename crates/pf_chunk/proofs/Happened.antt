@@ -1,7 +1,8 @@
 -- One event of a chunk is what the run makes of it.
-use Rattle.std.proofs.Common.{◌≡◌, ℕ, ◌<◌, inl, inr, Bool, true, false, IsSome, List, [], ◌∷◌, ◌++◌, arith, refl, sym, ap, subst, ◌∙◌}
+use Rattle.std.proofs.Common.{◌≡◌, ℕ, ◌<◌, ◌≤◌, inl, inr, Bool, true, false, IsSome, List, [], ◌∷◌, ◌++◌, length, arith, refl, sym, ap, subst, ◌∙◌}
 use Rattle.std.proofs.Math.Logic.{∥∥₁_map}
 use Rattle.std.specs.List.{filter}
+use Rattle.std.specs.Prelude.{IsTrue}
 use Rattle.std.proofs.lemmas.List.{append-nil}
 use Rattle.pf_protocol.specs.declared.answers.Answer.{Answer}
 use Rattle.pf_protocol.specs.declared.events.Event.{Event}
@@ -22,14 +23,16 @@ use Rattle.pf_rounds.specs.Chunks.{Chunk, after, answered}
 use Rattle.pf_rounds.specs.Halts.{Halt}
 use Rattle.pf_rounds.specs.Rounds.{applied}
 use Rattle.pf_rounds.proofs.Following.{restart_answer_is, restart_is, step_is}
+use Rattle.pf_rounds.proofs.Stepping.{answered_now}
 use Rattle.pf_rounds.proofs.Growing.{grown_tells, grown_trans, later_tells, step_grows}
 use Rattle.pf_chunk.specs.Happenings.{Happened, followed}
 use Rattle.pf_chunk.specs.Runs.{ChunkRun}
-use Rattle.pf_chunk.specs.Steps.{HasFollowed, HasHappened}
-use Rattle.pf_chunk.specs.Telling.{may_wait, now_taken, taken_all, told_of}
+use Rattle.pf_chunk.specs.Steps.{AreGoneThrough, HasFollowed, HasHappened}
+use Rattle.pf_chunk.specs.Telling.{may_wait, now_taken, told_of}
 use Rattle.pf_chunk.specs.Views.{ChunkIs, IsKept, IsReady, run_of}
 use Rattle.pf_chunk.proofs.Following.{Follows, follows}
 use Rattle.pf_chunk.proofs.Ready.{kept_after}
+use Rattle.pf_chunk.proofs.Told.{length_all}
 
 same_answer : (halts : List Halt) (c : Chunk) (asked : GroupEvent) (found : Bool) → answered halts c (event_of asked found) ≡ answered halts c (event_of asked false)
 same_answer halts c (asked.Submit server range payload) found = refl
@@ -67,8 +70,8 @@ run_followed halts c answer next ends =
     ap (λ (x : Chunk). let h : Happened = record { chunk = record c { group = x; waiting = filter (may_wait x.state) c.waiting }; answer = answer; text = told_of c.group.number x.state c.waiting } in h) ends
 
 -- lists of halts look at no more than this
-tells_same : (halts : List Halt) (a b : GroupIs) → b.number ≡ a.number → b.setup ≡ a.setup → b.history ≡ a.history → TellsOfGroup halts b → TellsOfGroup halts a
-tells_same halts a b number setup history tells = later_tells halts a b number setup (record { rest = []; whole = append-nil a.history ∙ sym history }) tells
+tells_same : (halts : List Halt) (a b : GroupIs) → b.number ≡ a.number → b.told ≡ a.told → b.setup ≡ a.setup → b.history ≡ a.history → TellsOfGroup halts b → TellsOfGroup halts a
+tells_same halts a b number told setup history tells = later_tells halts a b number told setup (record { rest = []; whole = append-nil a.history ∙ sym history }) tells
 
 -- the run gives the event its answer, and comes to the group after it
 pub event_is : (old mid : GroupIs) (asked : GroupEvent) (found : Bool) (answer : Answer) → Steps old (event_of asked found) answer mid → (halts : List Halt) → TellsOfGroup halts mid
@@ -76,8 +79,8 @@ pub event_is : (old mid : GroupIs) (asked : GroupEvent) (found : Bool) (answer :
 event_is old mid asked found answer steps halts tells =
     let c = chunk_of halts old in
     let h : Happening = record { event = event_of asked found; answer = answer } in
-    let longer = tells_same halts (record old { history = old.history ++ h ∷ [] }) mid (ap (λ (g : GroupIs). g.number) steps.recorded) (ap (λ (g : GroupIs). g.setup) steps.recorded) (ap (λ (g : GroupIs). g.history) steps.recorded) tells in
-    let one = step_is halts old h steps.legal.answered longer in (
+    let longer = tells_same halts (record old { history = old.history ++ h ∷ [] }) mid (ap (λ (g : GroupIs). g.number) steps.recorded) (ap (λ (g : GroupIs). g.told) steps.recorded) (ap (λ (g : GroupIs). g.setup) steps.recorded) (ap (λ (g : GroupIs). g.history) steps.recorded) tells in
+    let one = step_is halts old h (answered_now old mid (event_of asked found) answer steps longer.told) longer in (
       sym (same_answer halts c asked found) ∙ one.0,
       sym (same_after halts c asked found) ∙ one.1 ∙ ap (chunk_of halts) (sym steps.recorded),
     )
@@ -97,13 +100,13 @@ pub record IsMidway (fill : Fills) (old : ChunkIs) (asked : GroupEvent) (answer 
   pub first : mid.first_left ≡ old.first_left
   pub kept : IsKept mid.group mid.waiting mid.ports
   pub none : claims_of [] mid.group.history ≡ []
-  pub fills : (halts : List Halt) → fill (run_of halts old) (chunk_of halts mid.group) answer ≡ run_of halts mid
+  pub fills : IsTrue mid.group.told → (halts : List Halt) → fill (run_of halts old) (chunk_of halts mid.group) answer ≡ run_of halts mid
 
 -- what comes of it when it is followed up
 pub record Comes (fill : Fills) (old : ChunkIs) (asked : GroupEvent) (answer : Answer) (mid : ChunkIs) (out put : List ℕ) (new : ChunkIs) : Type 0 where
   pub grown : HasGrown old.group new.group
   pub ready : IsReady new
-  pub left : NoneComesBack (state_of old.group) (state_of new.group)
+  pub left : IsTrue old.group.told → NoneComesBack (state_of old.group) (state_of new.group)
   pub first : new.first_left ≡ old.first_left
   pub ports : new.ports ≡ mid.ports
   pub text : List ℕ
@@ -138,56 +141,76 @@ module _ (fill : Fills) (old mid new : ChunkIs) (asked : GroupEvent) (answer : A
   state_then : replay old.group.setup ((old.group.history ++ h ∷ []) ++ f.adds.more) ≡ state_of f.then
   state_then = ap (replay old.group.setup) (sym then_history) ∙ ap (λ setup. replay setup f.then.history) (sym then_setup)
 
-  they_follow : Follows (state_of old.group) event answer (state_of mid.group) (state_of f.then)
-  they_follow =
-      let legal = subst (λ l. IsLegal old.group.setup l) then_history (subst (λ setup. IsLegal setup f.then.history) then_setup f.legal) in
+  mid_told : mid.group.told ≡ old.group.told
+  mid_told = ap (λ (g : GroupIs). g.told) is.steps.recorded
+
+  then_told : f.then.told ≡ old.group.told
+  then_told = f.grown.told ∙ mid_told
+
+  was_told : IsTrue f.then.told → IsTrue old.group.told
+  was_told told = subst IsTrue then_told told
+
+  they_follow : IsTrue old.group.told → Follows (state_of old.group) event answer (state_of mid.group) (state_of f.then)
+  they_follow told =
+      let legal = subst (λ l. IsLegal old.group.setup l) then_history (subst (λ setup. IsLegal setup f.then.history) then_setup (f.legal (subst IsTrue (sym then_told) told))) in
       subst (λ g. Follows (state_of old.group) event answer g (state_of f.then)) state_mid
       (subst (λ g. Follows (state_of old.group) event answer (replay old.group.setup (old.group.history ++ h ∷ [])) g) state_then
-      (follows old.group.setup old.group.history event answer f.adds.more legal f.adds.round is.steps.legal.answered))
+      (follows old.group.setup old.group.history event answer f.adds.more legal f.adds.round (answered_now old.group mid.group event answer is.steps told)))
 
-  by_left : (b : Bool) (k : ℕ) → is_left_in (state_of f.then) k ≡ b → k < old.first_left → b ≡ false
-  by_left false k at low = refl
-  by_left true k at low = elim (they_follow.sent.none k at) [
-    | inl was ↦ sym was ∙ ready.none_left k low
-    | inr high ↦ absurd (omega (arith, high, low, ready.first_sent))
+  by_left : IsTrue old.group.told → (b : Bool) (k : ℕ) → is_left_in (state_of f.then) k ≡ b → k < old.first_left → b ≡ false
+  by_left told false k at low = refl
+  by_left told true k at low = elim ((they_follow told).sent.none k at) [
+    | inl was ↦ sym was ∙ ready.none_left told k low
+    | inr high ↦ absurd (omega (arith, high, low, ready.first_sent told))
   ]
 
+  -- the group with what was handed out
   abbrev all_told : GroupIs
-  all_told = now_taken f.then (taken_all (state_of f.then) f.then.taken mid.waiting)
+  all_told = now_taken f.then new.group.taken
+
+  count_told : IsTrue f.then.told → length new.group.taken ≡ (state_of f.then).reads
+  count_told told =
+      let was = was_told told in
+      ap length (f.told told).taken_is
+      ∙ length_all (state_of f.then) f.then.taken mid.waiting
+      ∙ ap length f.taken
+      ∙ is.kept.numbered (subst IsTrue (sym mid_told) was)
+      ∙ sym (they_follow was).quiet.reads
 
   ready_group : IsReady new
   ready_group = subst IsReady (sym f.is) (record {
     claims = f.none;
     applied = f.applied_all;
-    kept = kept_after mid.group all_told mid.waiting mid.ports is.kept f.adds.more (state_of f.then) more_history (ap (λ t. taken_all (state_of f.then) t mid.waiting) f.taken) they_follow.quiet.reads;
-    first_sent = omega (arith, is.first, ready.first_sent, they_follow.sent.longer);
-    none_left = λ k low. by_left (is_left_in (state_of f.then) k) k refl (omega (arith, low, is.first));
+    kept = kept_after mid.group all_told mid.waiting new.waiting mid.ports is.kept f.adds.more more_history (subst (λ t. AreGoneThrough t mid.waiting new.group.taken new.waiting) f.taken f.through) count_told;
+    few = subst (λ n. n ≤ 65536) (sym is.first) ready.few;
+    first_sent = λ told. omega (arith, is.first, ready.first_sent (was_told told), (they_follow (was_told told)).sent.longer);
+    none_left = λ told k low. by_left (was_told told) (is_left_in (state_of f.then) k) k refl (omega (arith, low, is.first));
   })
 
-  abbrev text : List ℕ
-  text = told_of mid.group.number (state_of f.then) mid.waiting
-
-  run_is : (halts : List Halt) → TellsOfGroup halts f.then → filled_up fill (event_of asked false) halts (run_of halts old) ≡ record { chunk = run_of halts (record mid { group = all_told; waiting = filter (may_wait (state_of f.then)) mid.waiting }); answer = answer; text = text }
+  run_is : (halts : List Halt) → TellsOfGroup halts f.then → filled_up fill (event_of asked false) halts (run_of halts old) ≡ record { chunk = run_of halts (record mid { group = all_told; waiting = new.waiting }); answer = answer; text = f.text }
   run_is halts tells =
       let one = event_is old.group mid.group asked is.found answer is.steps halts (grown_tells halts mid.group f.then f.grown tells) in
+      let read = f.told tells.told in
       ap (λ m. followed halts (fill (run_of halts old) m (answered halts (chunk_of halts old.group) (event_of asked false))) (answered halts (chunk_of halts old.group) (event_of asked false))) one.1
       ∙ ap (λ a. followed halts (fill (run_of halts old) (chunk_of halts mid.group) a) a) one.0
-      ∙ ap (λ c. followed halts c answer) (is.fills halts)
+      ∙ ap (λ c. followed halts c answer) (is.fills (subst IsTrue (f.grown.told) tells.told) halts)
       ∙ run_followed halts (run_of halts mid) answer (chunk_of halts f.then) (f.run halts tells)
+      ∙ ap (λ ws. let x : Happened = record { chunk = record { group = chunk_of halts f.then; waiting = ws; ports = mid.ports }; answer = answer; text = told_of mid.group.number (state_of f.then) mid.waiting } in x) (sym read.left_is)
+      ∙ ap (λ text. let x : Happened = record { chunk = record { group = chunk_of halts f.then; waiting = new.waiting; ports = mid.ports }; answer = answer; text = text } in x) (sym read.text_is)
 
   pub comes : Comes fill old asked answer mid out put new
   comes =
       let to_then = grown_trans old.group mid.group f.then (step_grows old.group mid.group event answer is.steps) f.grown in record {
-        grown = subst (λ (c : ChunkIs). HasGrown old.group c.group) (sym f.is) (record { number = to_then.number; setup = to_then.setup; later = to_then.later; paid = to_then.paid; by = ∥∥₁_map to_then.by (λ way. Goes f.then all_told way (Takes refl)) });
+        grown = subst (λ (c : ChunkIs). HasGrown old.group c.group) (sym f.is) (record { number = to_then.number; told = to_then.told; setup = to_then.setup; later = to_then.later; paid = to_then.paid; by = ∥∥₁_map to_then.by (λ way. Goes f.then all_told way (Takes refl)) });
         ready = ready_group;
-        left = subst (λ (c : ChunkIs). NoneComesBack (state_of old.group) (state_of c.group)) (sym f.is) (λ k at. they_follow.sent.none k at);
+        left = subst (λ (c : ChunkIs). IsTrue old.group.told → NoneComesBack (state_of old.group) (state_of c.group)) (sym f.is) (λ told k at. (they_follow told).sent.none k at);
         first = ap (λ (c : ChunkIs). c.first_left) f.is ∙ is.first;
         ports = ap (λ (c : ChunkIs). c.ports) f.is;
-        text = text;
+        text = f.text;
         put_is = f.put;
         run = λ halts tells.
-            run_is halts (tells_same halts f.then new.group (ap (λ (c : ChunkIs). c.group.number) f.is) (ap (λ (c : ChunkIs). c.group.setup) f.is) (ap (λ (c : ChunkIs). c.group.history) f.is) tells)
-            ∙ ap (λ (c : ChunkIs). let x : Happened = record { chunk = run_of halts c; answer = answer; text = text } in x) (sym f.is);
+            run_is halts (tells_same halts f.then new.group (ap (λ (c : ChunkIs). c.group.number) f.is) (ap (λ (c : ChunkIs). c.group.told) f.is) (ap (λ (c : ChunkIs). c.group.setup) f.is) (ap (λ (c : ChunkIs). c.group.history) f.is) tells)
+            ∙ ap (λ (c : ChunkIs). let x : Happened = record { chunk = run_of halts c; answer = answer; text = f.text } in x) (sym f.is);
       }
 
 -- a line

@@ -7,6 +7,7 @@ pub mod Answers
 pub mod Keeping
 pub mod Saying
 pub mod Told
+pub mod Through
 pub mod Taking
 pub mod Awaited
 pub mod Following

@@ -1,6 +1,7 @@
--- What a group shows of what its servers applied.
+-- What lines show of a group.
 use Rattle.std.proofs.Common.{◌≡◌, ℕ, Bool, true, false, ◌&&◌, List, [], ◌∷◌, ◌++◌, codes, map, nat_lt, Some, slice_get, arith, refl, sym, ap, ◌∙◌}
 use Rattle.std.specs.Fmt.{decimal}
+use Rattle.std.specs.Prelude.{IsTrue}
 use Rattle.std.specs.List.{flat_map}
 use Rattle.std.specs.declared.cmp.Ordering.TheVariants.{Equal}
 use Rattle.std.specs.Ordering.{nat_cmp}
@@ -13,8 +14,8 @@ use Rattle.pf_protocol.specs.Groups.{Acked as AckedIs, Group}
 use Rattle.pf_cluster.specs.declared.kept.Acked.{Acked}
 use Rattle.pf_cluster.specs.Showing.{acked_of}
 use Rattle.pf_group.specs.Readers.{IsAppliedOf, OfRunning}
-use Rattle.pf_report.specs.Texts.{applied_text, spaced}
-use Rattle.pf_chunk.specs.Showing.{applied_shown, if_runs}
+use Rattle.pf_report.specs.Texts.{applied_text, line_of, spaced}
+use Rattle.pf_chunk.specs.Showing.{IsShown, applied_shown, if_runs}
 
 same_running : (x y : Server) → Some (Running x) ≡ Some (Running y) → x ≡ y
 same_running x y e = cc
@@ -57,3 +58,7 @@ applied_is g i base slots a b =
 pub same_slots : (acked : List AckedIs) → map (λ (a : Acked). a.slot) (map acked_of acked) ≡ map (λ (a : AckedIs). a.slot) acked
 same_slots [] = refl
 same_slots (a ∷ rest) = ap (λ slots. a.slot ∷ slots) (same_slots rest)
+
+-- a line was put that shows this, where the disks tell their content
+pub shown_so : (told : Bool) (number : ℕ) (text shown before after : List ℕ) → after ≡ before ++ line_of number text → (IsTrue told → text ≡ shown) → IsShown told number shown before after
+shown_so told number text shown before after put same = record { text = text; put = put; same = same }

@@ -1,5 +1,5 @@
 -- A new chunk is ready.
-use Rattle.std.proofs.Common.{◌≡◌, ℕ, zero, suc, false, List, [], Some, replicate, slice_get, arith, refl, sym, ap, subst, ◌∙◌}
+use Rattle.std.proofs.Common.{◌≡◌, ℕ, zero, suc, Bool, false, List, [], Some, replicate, slice_get, arith, refl, sym, ap, subst, ◌∙◌}
 use Rattle.std.proofs.lemmas.List.{length-replicate}
 use Rattle.std.proofs.lemmas.Option.{none-some, same_Some}
 use Rattle.pf_protocol.specs.declared.answers.Answer.{Answer}
@@ -27,18 +27,19 @@ no_read zero k p at number sent = none-some p at
 no_read (suc n) zero p at number sent = none-some (Number number) (ap (λ (x : PortIs). x.sent) (same_Some new_port p at) ∙ sent)
 no_read (suc n) (suc k) p at number sent = no_read n k p at number sent
 
-pub made_ready : (number sectors names format : ℕ) (before : List (ℕ × ℕ)) (g : GroupIs) (answer : Answer) → IsMade number sectors names format before g answer → IsReady (record { group = g; waiting = []; first_left = 0; next = 0; ports = replicate most_ports new_port })
-made_ready number sectors names format before g answer made =
+pub made_ready : (number sectors names format : ℕ) (told : Bool) (before : List (ℕ × ℕ)) (g : GroupIs) (answer : Answer) → IsMade number sectors names format told before g answer → IsReady (record { group = g; waiting = []; first_left = 0; next = 0; ports = replicate most_ports new_port })
+made_ready number sectors names format told before g answer made =
     let setup = setup_with sectors names format made.failed in
     let P : GroupIs → Type 0 = λ g. IsReady (record { group = g; waiting = []; first_left = 0; next = 0; ports = replicate most_ports new_port }) in
     subst P (sym made.is) (record {
       claims = refl;
-      applied = opening_is_applied setup;
+      applied = λ told. opening_is_applied setup;
       kept = record {
-        numbered = no_reads setup;
+        numbered = λ told. no_reads setup;
         listed = record { ascending = refl; servers = tt; pending = tt };
         ports_fit = record { count = length-replicate most_ports new_port; reads = λ m p n at sent. absurd (no_read most_ports m p at n sent) };
       };
-      first_sent = omega arith;
-      none_left = λ k _. none_left setup k;
+      few = omega arith;
+      first_sent = λ told. omega arith;
+      none_left = λ told k _. none_left setup k;
     })

@@ -1,12 +1,12 @@
 -- A chunk after an event, before what it made free is applied.
-use Rattle.std.proofs.Common.{◌≡◌, ℕ, ◌<◌, Bool, IsSome, List, [], ◌∷◌, ◌++◌, Option, Some, None, slice_get, refl, sym, ap, subst, ◌∙◌, append-nil}
+use Rattle.std.proofs.Common.{◌≡◌, ℕ, ◌<◌, Bool, IsSome, List, [], ◌∷◌, ◌++◌, length, Option, Some, None, slice_get, refl, sym, ap, subst, ◌∙◌, append-nil}
 use Rattle.std.specs.Option.{option_to_list}
+use Rattle.std.specs.Prelude.{IfSome, IsTrue}
 use Rattle.pf_base.specs.Span.{Span}
 use Rattle.pf_protocol.specs.declared.answers.Answer.{Answer}
-use Rattle.pf_protocol.specs.declared.answers.Answer.TheVariants.{Done, Slot as SlotIs, Term as TermIs, Read as ReadIs, Base as BaseIs, Job as JobIs, Refused}
+use Rattle.pf_protocol.specs.declared.answers.Answer.TheVariants.{Read as ReadIs}
 use Rattle.pf_protocol.specs.declared.events.Event.{Event}
 use Rattle.pf_protocol.specs.declared.events.Event.TheVariants.{Fetch}
-use Rattle.pf_protocol.specs.Servers.{Condition, Running, Stopped, Unformatted}
 use Rattle.pf_protocol.specs.Groups.{ending, happens}
 use Rattle.pf_protocol.specs.Answers.{claims_after, claims_of}
 use Rattle.pf_protocol.proofs.ForMoments.{replay_goes_on}
@@ -15,10 +15,11 @@ use Rattle.pf_group.specs.declared.event.GroupEvent.{GroupEvent}
 use Rattle.pf_group.specs.declared.event.GroupEvent.TheVariants as asked
 use Rattle.pf_group.specs.Events.{event_of}
 use Rattle.pf_group.specs.GroupIs.{GroupIs, state_of}
-use Rattle.pf_group.specs.Steps.{HasStepped, Steps}
+use Rattle.pf_group.specs.Steps.{HasStepped, IsNew as IsFresh, Steps}
 use Rattle.pf_group.proofs.Claims.{claims_more}
 use Rattle.pf_report.specs.Texts.{answer_text}
 use Rattle.pf_rounds.specs.Agreeing.{chunk_of}
+use Rattle.pf_rounds.proofs.Stepping.{answered_now}
 use Rattle.pf_chunk.specs.declared.waiting.Waiting.{Waiting}
 use Rattle.pf_chunk.specs.Events.{IsStep}
 use Rattle.pf_chunk.specs.Runs.{ChunkRun}
@@ -27,15 +28,15 @@ use Rattle.pf_chunk.specs.Views.{ChunkIs, IsKept, IsReady}
 use Rattle.pf_chunk.specs.Waiting.{StepsReads}
 use Rattle.pf_chunk.proofs.Happened.{Fills, IsMidway}
 use Rattle.pf_chunk.proofs.Ready.{IsNew, kept_on}
-use Rattle.pf_chunk.proofs.Saying.{HasText, IsAsked, said_of}
+use Rattle.pf_chunk.proofs.Saying.{HasText, IsAsked, said_somehow}
 use Rattle.pf_chunk.proofs.Stepped.{steps_reads}
 
 module _ (old mid : GroupIs) (event : Event) (answer : Answer) (steps : Steps old event answer mid) where
   state_mid : happens old.setup (state_of old) event (ending answer) ≡ state_of mid
   state_mid = sym (replay_goes_on old.setup old.history (record { event = event; answer = answer })) ∙ ap (λ (g : GroupIs). state_of g) (sym steps.recorded)
 
-  pub reads : StepsReads (state_of old) event answer (state_of mid)
-  reads = subst (StepsReads (state_of old) event answer) state_mid (steps_reads old.setup (state_of old) event answer steps.legal.answered)
+  pub reads : IsTrue old.told → StepsReads (state_of old) event answer (state_of mid)
+  reads told = subst (StepsReads (state_of old) event answer) state_mid (steps_reads old.setup (state_of old) event answer (answered_now old mid event answer steps told))
 
   pub claims : claims_of [] old.history ≡ [] → claims_after [] event answer ≡ [] → claims_of [] mid.history ≡ []
   claims before none =
@@ -44,30 +45,26 @@ module _ (old mid : GroupIs) (event : Event) (answer : Answer) (steps : Steps ol
       ∙ ap (λ cs. claims_after cs event answer) before
       ∙ none
 
-  kept_so : (waiting more : List Waiting) (ports : List PortIs) → IsKept old waiting ports → IsNew (state_of old).reads answer more → IsKept mid (waiting ++ more) ports
+  kept_so : (waiting more : List Waiting) (ports : List PortIs) → IsKept old waiting ports → IsNew (length old.taken) answer more → IsKept mid (waiting ++ more) ports
   kept_so waiting more ports kept new =
-      kept_on old mid waiting more ports kept answer new (record { event = event; answer = answer } ∷ []) (ap (λ (g : GroupIs). g.taken) steps.recorded) (ap (λ (g : GroupIs). g.history) steps.recorded) reads.reads
+      kept_on old mid waiting more ports kept answer new (record { event = event; answer = answer } ∷ []) (ap (λ (g : GroupIs). g.taken) steps.recorded) (ap (λ (g : GroupIs). g.history) steps.recorded) (ap (λ (g : GroupIs). g.told) steps.recorded) (λ told. (reads told).reads)
 
   pub kept_quietly : (waiting : List Waiting) (ports : List PortIs) → IsKept old waiting ports → IsKept mid waiting ports
   kept_quietly waiting ports kept = subst (λ ws. IsKept mid ws ports) (append-nil waiting) (kept_so waiting [] ports kept tt)
 
-  new_read : (c : Option Condition) (i : ℕ) → i < 3 → (a : Answer) → a ≡ answer → IsNew (state_of old).reads a (option_to_list (read_of c i a))
-  new_read (Some (Running s)) i low (ReadIs n) same = (reads.next n (sym same), refl, low)
-  new_read (Some (Running s)) i low Done same = tt
-  new_read (Some (Running s)) i low (SlotIs slot) same = tt
-  new_read (Some (Running s)) i low (TermIs term) same = tt
-  new_read (Some (Running s)) i low (BaseIs base) same = tt
-  new_read (Some (Running s)) i low (JobIs job) same = tt
-  new_read (Some (Running s)) i low (Refused refusal) same = tt
-  new_read (Some (Stopped life before after)) i low a same = tt
-  new_read (Some Unformatted) i low a same = tt
-  new_read None i low a same = tt
+  -- a read that is taken up has the next number
+  pub next_read : (n : ℕ) → answer ≡ ReadIs n → n ≡ length old.taken
+  next_read n told = subst (IsFresh (claims_of [] old.history) (length old.taken)) told steps.fresh
 
-  kept_fetched : (waiting : List Waiting) (ports : List PortIs) → IsKept old waiting ports → (i : ℕ) → i < 3 → IsKept mid (waiting ++ option_to_list (read_of (slice_get (state_of mid).servers i) i answer)) ports
-  kept_fetched waiting ports kept i low = kept_so waiting _ ports kept (new_read (slice_get (state_of mid).servers i) i low answer refl)
+  new_read : (i : ℕ) → i < 3 → (read : Option Waiting) → IfSome read (λ one. (one.server ≡ i) × (answer ≡ ReadIs one.number)) → IsNew (length old.taken) answer (option_to_list read)
+  new_read i low None is = tt
+  new_read i low (Some one) is = (next_read one.number is.1, is.1, subst (λ server. server < 3) (sym is.0) low)
+
+  kept_fetched : (waiting : List Waiting) (ports : List PortIs) → IsKept old waiting ports → (i : ℕ) → i < 3 → (read : Option Waiting) → IfSome read (λ one. (one.server ≡ i) × (answer ≡ ReadIs one.number)) → IsKept mid (waiting ++ option_to_list read) ports
+  kept_fetched waiting ports kept i low read is = kept_so waiting _ ports kept (new_read i low read is)
 
   texts : IsAsked event → HasText answer
-  texts asks = said_of old.setup (state_of old) event answer asks steps.legal.answered
+  texts asks = said_somehow old.setup steps.before old.told event answer asks steps.answered steps.ends
 
 -- no job is in hand after a line's event
 no_claim : (asked : GroupEvent) (found : Bool) (answer : Answer) → IsStep asked → claims_after [] (event_of asked found) answer ≡ []
@@ -112,7 +109,7 @@ module _ (old : ChunkIs) (asked : GroupEvent) (answer : Answer) (mid : ChunkIs) 
     kept = subst (λ ws. IsKept mid.group ws mid.ports) (sym waiting) (subst (λ ps. IsKept mid.group old.waiting ps) (sym ports)
         (kept_quietly old.group mid.group (event_of asked stepped.found) answer stepped.steps old.waiting old.ports ready.kept));
     none = claims old.group mid.group (event_of asked stepped.found) answer stepped.steps ready.claims (no_claim asked stepped.found answer is);
-    fills = λ halts.
+    fills = λ told halts.
         ap (λ ws. let c : ChunkRun = record { group = chunk_of halts mid.group; waiting = ws; ports = old.ports } in c) (sym waiting)
         ∙ ap (λ ps. let c : ChunkRun = record { group = chunk_of halts mid.group; waiting = mid.waiting; ports = ps } in c) (sym ports);
   }
@@ -125,15 +122,16 @@ abbrev pub waits : (server : ℕ) → Fills
 waits server c m answer = record c { group = m; waiting = c.waiting ++ option_to_list (read_of (slice_get m.state.servers server) server answer) }
 
 module _ (old : ChunkIs) (i : ℕ) (range : Span) (answer : Answer) (mid : ChunkIs) (ready : IsReady old) (low : i < 3) (stepped : HasStepped old.group (asked.Fetch i range) answer mid.group) where
-  pub midway_fetch : mid.first_left ≡ old.first_left → mid.waiting ≡ old.waiting ++ option_to_list (read_of (slice_get (state_of mid.group).servers i) i answer) → mid.ports ≡ old.ports → IsMidway (waits i) old (asked.Fetch i range) answer mid
-  midway_fetch first waiting ports = record {
+  pub midway_fetch : (read : Option Waiting) → IfSome read (λ one. (one.server ≡ i) × (answer ≡ ReadIs one.number)) → (IsTrue mid.group.told → read ≡ read_of (slice_get (state_of mid.group).servers i) i answer)
+      → mid.first_left ≡ old.first_left → mid.waiting ≡ old.waiting ++ option_to_list read → mid.ports ≡ old.ports → IsMidway (waits i) old (asked.Fetch i range) answer mid
+  midway_fetch read is_its is_read first waiting ports = record {
     found = stepped.found;
     steps = stepped.steps;
     first = first;
-    kept = subst (λ ws. IsKept mid.group ws mid.ports) (sym waiting) (subst (IsKept mid.group _) (sym ports) (kept_fetched old.group mid.group (Fetch i range) answer stepped.steps old.waiting old.ports ready.kept i low));
+    kept = subst (λ ws. IsKept mid.group ws mid.ports) (sym waiting) (subst (IsKept mid.group _) (sym ports) (kept_fetched old.group mid.group (Fetch i range) answer stepped.steps old.waiting old.ports ready.kept i low read is_its));
     none = claims old.group mid.group (Fetch i range) answer stepped.steps ready.claims refl;
-    fills = λ halts.
-        ap (λ ws. let c : ChunkRun = record { group = chunk_of halts mid.group; waiting = ws; ports = old.ports } in c) (sym waiting)
+    fills = λ told halts.
+        ap (λ ws. let c : ChunkRun = record { group = chunk_of halts mid.group; waiting = ws; ports = old.ports } in c) (ap (λ o. old.waiting ++ option_to_list o) (sym (is_read told)) ∙ sym waiting)
         ∙ ap (λ ps. let c : ChunkRun = record { group = chunk_of halts mid.group; waiting = mid.waiting; ports = ps } in c) (sym ports);
   }
 

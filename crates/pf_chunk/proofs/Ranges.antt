@@ -1,5 +1,6 @@
 -- Lines whose numbers are a range, or are none.
 use Rattle.std.proofs.Common.{◌≡◌, ℕ, zero, suc, ◌+◌, Bool, true, false, ◌&&◌, nat_le, IfOk, IsSome, if◌then◌else◌, List, [], length, replicate, Option, Some, None, Result, Ok, Err, slice_get, refl, sym, ap, subst, ◌∙◌, append-nil, inl}
+use Rattle.std.specs.Prelude.{IsTrue}
 use Rattle.std.proofs.lemmas.Bool.{and_parts, and_from, leb-true, le-leb, false≢true}
 use Rattle.std.proofs.lemmas.List.{length-replicate}
 use Rattle.pf_base.specs.Span.{Span, IsWritable}
@@ -46,27 +47,27 @@ no_range_said (Some Unformatted) = refl
 no_range_said None = refl
 
 -- no event happens
-nothing : (event : EventIs) (server : ℕ) (old : ChunkIs) (out : List ℕ) (answer : Answer) → IsReady old → answer ≡ no_range_answer (slice_get (state_of old.group).servers server) → ((halts : List Halt) → event halts (run_of halts old) ≡ no_range server (run_of halts old)) → HasHappened event old out answer out old
-nothing event server old out answer ready is none = record {
+nothing : (event : EventIs) (server : ℕ) (old : ChunkIs) (out : List ℕ) (answer : Answer) → IsReady old → IsSome (answer_text answer) → (IsTrue old.group.told → answer ≡ no_range_answer (slice_get (state_of old.group).servers server)) → ((halts : List Halt) → event halts (run_of halts old) ≡ no_range server (run_of halts old)) → HasHappened event old out answer out old
+nothing event server old out answer ready said is none = record {
   grown = grown_refl old.group;
   ready = ready;
-  left = λ k left. inl left;
+  left = λ told k left. inl left;
   first = refl;
   ports = refl;
-  said = subst (λ a. IsSome (answer_text a)) (sym is) (no_range_said (slice_get (state_of old.group).servers server));
+  said = said;
   text = [];
   put = sym (append-nil out);
-  run = λ halts _. none halts ∙ ap (λ a. let h : Happened = record { chunk = run_of halts old; answer = a; text = [] } in h) (sym is);
+  run = λ halts tells. none halts ∙ ap (λ a. let h : Happened = record { chunk = run_of halts old; answer = a; text = [] } in h) (sym (is tells.told));
 }
 
-pub no_fetch_is : (server first count : ℕ) (old : ChunkIs) (out : List ℕ) (answer : Answer) → IsReady old → (IsWritable first count → false ≡ true) → answer ≡ no_range_answer (slice_get (state_of old.group).servers server) → HasHappened (λ halts c. fetches halts server first count c) old out answer out old
-no_fetch_is server first count old out answer ready exact is =
-    nothing (λ halts c. fetches halts server first count c) server old out answer ready is
+pub no_fetch_is : (server first count : ℕ) (old : ChunkIs) (out : List ℕ) (answer : Answer) → IsReady old → (IsWritable first count → false ≡ true) → IsSome (answer_text answer) → (IsTrue old.group.told → answer ≡ no_range_answer (slice_get (state_of old.group).servers server)) → HasHappened (λ halts c. fetches halts server first count c) old out answer out old
+no_fetch_is server first count old out answer ready exact said is =
+    nothing (λ halts c. fetches halts server first count c) server old out answer ready said is
     (λ halts. ap (λ b. if b then fetched halts server (record { first = first; count = count }) (run_of halts old) else no_range server (run_of halts old)) (range_false first count (λ w. false≢true (exact w))))
 
-pub no_submit_is : (server first byte count : ℕ) (old : ChunkIs) (out : List ℕ) (answer : Answer) → IsReady old → (IsWritable first count → false ≡ true) → answer ≡ no_range_answer (slice_get (state_of old.group).servers server) → HasHappened (λ halts c. submits halts server first byte count c) old out answer out old
-no_submit_is server first byte count old out answer ready exact is =
-    nothing (λ halts c. submits halts server first byte count c) server old out answer ready is
+pub no_submit_is : (server first byte count : ℕ) (old : ChunkIs) (out : List ℕ) (answer : Answer) → IsReady old → (IsWritable first count → false ≡ true) → IsSome (answer_text answer) → (IsTrue old.group.told → answer ≡ no_range_answer (slice_get (state_of old.group).servers server)) → HasHappened (λ halts c. submits halts server first byte count c) old out answer out old
+no_submit_is server first byte count old out answer ready exact said is =
+    nothing (λ halts c. submits halts server first byte count c) server old out answer ready said is
     (λ halts. ap (λ b. if b then happened halts (run_of halts old) (events.Submit server (filled first byte count)) else no_range server (run_of halts old)) (range_false first count (λ w. false≢true (exact w))))
 
 -- one event happens, as it is told
@@ -98,7 +99,7 @@ module _ (server first count : ℕ) (range : Span) (writable : IsWritable first 
       same_event (λ halts c. fetched halts server range c) (λ halts c. fetches halts server first count c) old out answer put new (λ halts. fetch_is halts (run_of halts old))
 
   pub fetch_failed : (old : ChunkIs) (new : GroupIs) → HasFailed (λ halts. (fetched halts server range (run_of halts old)).chunk.group) old.group new → HasFailed (λ halts. (fetches halts server first count (run_of halts old)).chunk.group) old.group new
-  fetch_failed old new = failed_same (λ halts. group_in (fetched halts server range (run_of halts old))) (λ halts. group_in (fetches halts server first count (run_of halts old))) old.group new (λ halts. ap group_in (fetch_is halts (run_of halts old)))
+  fetch_failed old new = failed_same (λ halts. group_in (fetched halts server range (run_of halts old))) (λ halts. group_in (fetches halts server first count (run_of halts old))) old.group new (λ halts tells. ap group_in (fetch_is halts (run_of halts old)))
 
 module _ (server first byte count : ℕ) (range : Span) (payload : List Sector) (writable : IsWritable first count) (is : range ≡ record { first = first; count = count }) (bytes : payload ≡ replicate count (replicate 512 byte)) where
   submit_is : (halts : List Halt) (c : ChunkRun) → submits halts server first byte count c ≡ happened halts c (events.Submit server (Write range payload))
@@ -118,7 +119,7 @@ module _ (server first byte count : ℕ) (range : Span) (payload : List Sector) 
   submitted_is old out put new (Err e) went = tt
 
   pub submit_failed : (old : ChunkIs) (new : GroupIs) → HasFailed (λ halts. (happened halts (run_of halts old) (events.Submit server (Write range payload))).chunk.group) old.group new → HasFailed (λ halts. (submits halts server first byte count (run_of halts old)).chunk.group) old.group new
-  submit_failed old new = failed_same (λ halts. group_in (happened halts (run_of halts old) (events.Submit server (Write range payload)))) (λ halts. group_in (submits halts server first byte count (run_of halts old))) old.group new (λ halts. ap group_in (submit_is halts (run_of halts old)))
+  submit_failed old new = failed_same (λ halts. group_in (happened halts (run_of halts old) (events.Submit server (Write range payload)))) (λ halts. group_in (submits halts server first byte count (run_of halts old))) old.group new (λ halts tells. ap group_in (submit_is halts (run_of halts old)))
 
 pub may_submit : (first byte count : ℕ) (range : Span) (payload : List Sector) → IsWritable first count → range ≡ record { first = first; count = count } → payload ≡ replicate count (replicate 512 byte)
     → IsWritable range.first range.count × (length payload ≡ range.count) × Every (λ bytes. length bytes ≡ 512) payload

@@ -1,7 +1,6 @@
 -- What is kept beside a group goes on to fit it.
-use Rattle.std.proofs.Common.{◌≡◌, ◌≢◌, ℕ, ◌<◌, inl, inr, Bool, true, false, not, List, [], ◌∷◌, ◌++◌, append-nil, length, Some, slice_get, slice_set, arith, sym, ap, subst, ◌∙◌}
-use Rattle.std.specs.List.{filter}
-use Rattle.std.proofs.lemmas.Bool.{and_parts, not-true}
+use Rattle.std.proofs.Common.{◌≡◌, ◌≢◌, ℕ, ◌<◌, inl, inr, Bool, true, false, List, [], ◌∷◌, ◌++◌, append-nil, length, Some, slice_get, slice_set, arith, sym, ap, subst, ◌∙◌}
+use Rattle.std.specs.Prelude.{IsTrue}
 use Rattle.std.proofs.lemmas.List.{length-append, map-append}
 use Rattle.std.proofs.lemmas.Option.{same_Some, slice_get_within}
 use Rattle.std.proofs.lemmas.Bool.{cases_eq}
@@ -9,10 +8,10 @@ use Rattle.pf_base.specs.Span.{Span}
 use Rattle.pf_base.specs.declared.asks.Ask.TheVariants.{Read}
 use Rattle.pf_entry.specs.Lists.{Every}
 use Rattle.pf_entry.specs.Tables.{ascends}
-use Rattle.pf_entry.proofs.Lists.{every_append, every_filter, every_map, every_more}
+use Rattle.pf_entry.proofs.Lists.{every_append, every_map, every_more}
 use Rattle.pf_protocol.specs.declared.answers.Answer.{Answer}
 use Rattle.pf_protocol.specs.declared.answers.Answer.TheVariants.{Done, Slot as SlotIs, Term as TermIs, Read as ReadIs, Base as BaseIs, Job as JobIs, Refused}
-use Rattle.pf_protocol.specs.Groups.{Group, reads_after}
+use Rattle.pf_protocol.specs.Groups.{reads_after}
 use Rattle.pf_protocol.specs.Histories.{History}
 use Rattle.pf_cluster.specs.Readings.{taken_after}
 use Rattle.pf_cluster.proofs.Lists.{at_end, at_front, set_elsewhere, set_length, set_there}
@@ -20,10 +19,10 @@ use Rattle.pf_asks.specs.declared.port.Sent.TheVariants.{Number}
 use Rattle.pf_asks.specs.Ports.{PortIs}
 use Rattle.pf_group.specs.GroupIs.{GroupIs, state_of}
 use Rattle.pf_chunk.specs.declared.waiting.Waiting.{Waiting}
-use Rattle.pf_chunk.specs.Telling.{is_answered, may_wait, taken_all}
+use Rattle.pf_chunk.specs.Steps.{AreGoneThrough}
 use Rattle.pf_chunk.specs.Views.{ArePorts, IsFetched, IsKept}
-use Rattle.pf_chunk.proofs.Awaited.{fewer_ascend, last_greatest}
-use Rattle.pf_chunk.proofs.Told.{length_all, none_taken, numbers_of, untaken}
+use Rattle.pf_chunk.proofs.Awaited.{last_greatest}
+use Rattle.pf_chunk.proofs.Told.{numbers_of}
 
 -- whether a read was handed out
 pub taken_reads : (taken : List Bool) (reads : ℕ) (answer : Answer) → length taken ≡ reads → length (taken_after taken answer) ≡ reads_after reads answer
@@ -54,15 +53,15 @@ IsNew reads answer (w ∷ []) = (w.number ≡ reads) × (answer ≡ ReadIs w.num
 IsNew reads answer ws = ⊥
 
 -- after an event
-module _ (old mid : GroupIs) (waiting more : List Waiting) (ports : List PortIs) (kept : IsKept old waiting ports) (answer : Answer) (new : IsNew (state_of old).reads answer more) (added : History)
-    (taken_is : mid.taken ≡ taken_after old.taken answer) (history_is : mid.history ≡ old.history ++ added) (reads_is : (state_of mid).reads ≡ reads_after (state_of old).reads answer) where
-  below : (n : ℕ) (b : Bool) → slice_get old.taken n ≡ Some b → n < (state_of old).reads
-  below n b is = omega (arith, slice_get_within old.taken n b is, kept.numbered)
+module _ (old mid : GroupIs) (waiting more : List Waiting) (ports : List PortIs) (kept : IsKept old waiting ports) (answer : Answer) (new : IsNew (length old.taken) answer more) (added : History)
+    (taken_is : mid.taken ≡ taken_after old.taken answer) (history_is : mid.history ≡ old.history ++ added) (told_is : mid.told ≡ old.told) (reads_is : IsTrue old.told → (state_of mid).reads ≡ reads_after (state_of old).reads answer) where
+  below : (n : ℕ) (b : Bool) → slice_get old.taken n ≡ Some b → n < length old.taken
+  below n b is = slice_get_within old.taken n b is
 
   still : (n : ℕ) → slice_get old.taken n ≡ Some false → slice_get mid.taken n ≡ Some false
   still n is = ap (λ t. slice_get t n) taken_is ∙ taken_still old.taken answer n false is
 
-  ascend : (more : List Waiting) → IsNew (state_of old).reads answer more → ascends (numbers_of (waiting ++ more)) ≡ true
+  ascend : (more : List Waiting) → IsNew (length old.taken) answer more → ascends (numbers_of (waiting ++ more)) ≡ true
   ascend [] new = ap (λ ws. ascends (numbers_of ws)) (append-nil waiting) ∙ kept.listed.ascending
   ascend (w ∷ []) new =
       ap ascends (map-append (λ (x : Waiting). x.number) waiting (w ∷ []))
@@ -71,29 +70,31 @@ module _ (old mid : GroupIs) (waiting more : List Waiting) (ports : List PortIs)
       (every_more (λ x. slice_get old.taken x.number ≡ Some false) (λ x. x.number < w.number) (λ x is. omega (arith, below x.number false is, new.0)) waiting kept.listed.pending))
   ascend (w ∷ x ∷ ws) new = absurd new
 
-  serve : (more : List Waiting) → IsNew (state_of old).reads answer more → Every (λ (w : Waiting). w.server < 3) more
+  serve : (more : List Waiting) → IsNew (length old.taken) answer more → Every (λ (w : Waiting). w.server < 3) more
   serve [] new = tt
   serve (w ∷ []) new = (new.2, tt)
   serve (w ∷ x ∷ ws) new = absurd new
 
-  pend : (more : List Waiting) → IsNew (state_of old).reads answer more → Every (λ (w : Waiting). slice_get mid.taken w.number ≡ Some false) more
+  pend : (more : List Waiting) → IsNew (length old.taken) answer more → Every (λ (w : Waiting). slice_get mid.taken w.number ≡ Some false) more
   pend [] new = tt
   pend (w ∷ []) new = (
     ap (λ t. slice_get t w.number) taken_is
         ∙ ap (λ a. slice_get (taken_after old.taken a) w.number) new.1
-        ∙ ap (slice_get (old.taken ++ false ∷ [])) (new.0 ∙ sym kept.numbered) ∙ at_end old.taken false,
+        ∙ ap (slice_get (old.taken ++ false ∷ [])) new.0 ∙ at_end old.taken false,
     tt,
   )
   pend (w ∷ x ∷ ws) new = absurd new
 
-  others : (more : List Waiting) → IsNew (state_of old).reads answer more → (n : ℕ) → n < (state_of old).reads → Every (λ (w : Waiting). w.number ≢ n) more
+  others : (more : List Waiting) → IsNew (length old.taken) answer more → (n : ℕ) → n < length old.taken → Every (λ (w : Waiting). w.number ≢ n) more
   others [] new n low = tt
   others (w ∷ []) new n low = ((λ same. omega (arith, same, low, new.0)), tt)
   others (w ∷ x ∷ ws) new n low = absurd new
 
   pub kept_on : IsKept mid (waiting ++ more) ports
   kept_on = record {
-    numbered = ap length taken_is ∙ taken_reads old.taken (state_of old).reads answer kept.numbered ∙ sym reads_is;
+    numbered = λ told.
+        let was = subst IsTrue told_is told in
+        ap length taken_is ∙ taken_reads old.taken (state_of old).reads answer (kept.numbered was) ∙ sym (reads_is was);
     listed = record {
       ascending = ascend more new;
       servers = every_append (λ w. w.server < 3) waiting more kept.listed.servers (serve more new);
@@ -154,33 +155,20 @@ module _ (group : GroupIs) (waiting : List Waiting) (ports : List PortIs) (m : �
     ];
   }
 
--- after all was applied, and the reads that were answered were told
-module _ (mid now : GroupIs) (waiting : List Waiting) (ports : List PortIs) (kept : IsKept mid waiting ports) (added : History) (g : Group) (history_is : now.history ≡ mid.history ++ added)
-    (taken_is : now.taken ≡ taken_all g mid.taken waiting) (reads_is : (state_of now).reads ≡ (state_of mid).reads) where
-  waits_on : (w : Waiting) → may_wait g w ≡ true → is_answered g w.number ≡ false
-  waits_on w may = not-true (is_answered g w.number) (and_parts (not (is_answered g w.number)) _ may).0
-
-  fewer : (P : Waiting → Type 0) → Every P waiting → Every P (filter (may_wait g) waiting)
-  fewer P each = every_filter P (may_wait g) waiting (every_more P (λ w. may_wait g w ≡ true → P w) (λ w is _. is) waiting each)
-
-  pub kept_after : IsKept now (filter (may_wait g) waiting) ports
-  kept_after = record {
-    numbered = ap length taken_is ∙ length_all g mid.taken waiting ∙ kept.numbered ∙ sym reads_is;
-    listed = record {
-      ascending = fewer_ascend (may_wait g) waiting kept.listed.ascending;
-      servers = fewer (λ w. w.server < 3) kept.listed.servers;
-      pending = every_filter (λ w. slice_get now.taken w.number ≡ Some false) (may_wait g) waiting
-          (every_more (λ w. slice_get mid.taken w.number ≡ Some false) (λ w. may_wait g w ≡ true → slice_get now.taken w.number ≡ Some false)
-          (λ w is may. ap (λ t. slice_get t w.number) taken_is ∙ untaken g mid.taken waiting w.number (waits_on w may) ∙ is) waiting kept.listed.pending);
-    };
-    ports_fit = record {
-      count = kept.ports_fit.count;
-      reads = λ m p n at sent.
-          let r = kept.ports_fit.reads m p n at sent in record {
-            pending = ap (λ t. slice_get t n) taken_is ∙ none_taken g mid.taken waiting n r.no_line ∙ r.pending;
-            no_line = fewer (λ w. w.number ≢ n) r.no_line;
-            alone = r.alone;
-            asked = λ chunk range ask. subst (λ history. IsFetched history n range) (sym history_is) (fetched_still mid.history added n range (r.asked chunk range ask));
-          };
-    };
-  }
+-- after all was applied, and the reads were gone through
+pub kept_after : (mid now : GroupIs) (waiting left : List Waiting) (ports : List PortIs) → IsKept mid waiting ports → (added : History) → now.history ≡ mid.history ++ added → AreGoneThrough mid.taken waiting now.taken left
+    → (IsTrue now.told → length now.taken ≡ (state_of now).reads) → IsKept now left ports
+kept_after mid now waiting left ports kept added history_is through numbered = record {
+  numbered = numbered;
+  listed = through.listed;
+  ports_fit = record {
+    count = kept.ports_fit.count;
+    reads = λ m p n at sent.
+        let r = kept.ports_fit.reads m p n at sent in record {
+          pending = through.others n r.no_line ∙ r.pending;
+          no_line = through.some n r.no_line;
+          alone = r.alone;
+          asked = λ chunk range ask. subst (λ history. IsFetched history n range) (sym history_is) (fetched_still mid.history added n range (r.asked chunk range ask));
+        };
+  };
+}

@@ -22,6 +22,7 @@ use Rattle.pf_protocol.specs.Rows.{on_message, on_packet}
 use Rattle.pf_protocol.specs.Groups.{Group, Sent}
 use Rattle.pf_protocol.specs.Answers.{Turn, IsAnswer, answer_at, answer_by, answer_to, delivery_answer, deliver_turn, elect_refusal, elect_turn, fetch_refusal, fetch_turn, is_mark, is_serving, loss_answer, most_elections, packets_full, half_size, plain, refuse, restart_answer, room_refusal, stop_answer, submit_refusal, submit_turn, window_full}
 use Rattle.pf_entry.proofs.Cases.{by_test}
+use Rattle.pf_group.specs.Steps.{EndsSo, GoesByRules}
 use Rattle.pf_report.specs.Texts.{answer_text}
 
 abbrev pub HasText : Answer → Type 0
@@ -192,3 +193,11 @@ said_of setup g event answer asks is = elim is [
   | inl right ↦ subst HasText (sym right) (answer_said setup g event asks)
   | inr cut ↦ subst HasText (sym (cut.1)) refl
 ]
+
+-- so has each over any disks
+pub said_somehow : (setup : Setup) (g : Group) (told : Bool) (event : Event) (answer : Answer) → IsAsked event → (GoesByRules told event → IsAnswer setup g event answer) → EndsSo event answer → HasText answer
+said_somehow setup g told (Restart i found) answer asks rules ends = elim ends [
+  | inl done ↦ subst HasText (sym done) refl
+  | inr rest ↦ elim rest [ inl halted ↦ subst HasText (sym halted) refl | inr not_ours ↦ subst HasText (sym not_ours) refl ]
+]
+said_somehow setup g told event answer asks rules ends = said_of setup g event answer asks (rules (inr tt))

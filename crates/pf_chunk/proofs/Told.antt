@@ -1,21 +1,19 @@
 -- Reads that wait are gone through one after another.
-use Rattle.std.proofs.Common.{◌≡◌, ◌≢◌, ℕ, zero, suc, ◌+◌, ◌<◌, ◌≤◌, Bool, true, false, cond, List, [], ◌∷◌, ◌++◌, drop, length, map, take, Some, slice_get, slice_set, set, arith, refl, sym, ap, ◌∙◌, append_assoc, append-nil, add-one}
+use Rattle.std.proofs.Common.{◌≡◌, ℕ, zero, suc, ◌+◌, ◌<◌, ◌≤◌, Bool, true, false, cond, List, [], ◌∷◌, ◌++◌, drop, length, map, take, Some, slice_get, slice_set, set, arith, refl, sym, ap, ◌∙◌, append_assoc, append-nil, add-one}
 use Rattle.std.specs.List.{filter, flat_map}
-use Rattle.std.proofs.Math.Seq.{take-length, take-suc, take-suc-set, drop-cons}
+use Rattle.std.proofs.Math.Seq.{drop-append_seam, take-length, take-suc, take-suc-set, drop-cons}
 use Rattle.std.proofs.lemmas.Bool.{cond-true, cond-false}
 use Rattle.std.proofs.lemmas.Grind.{flat_map-append}
 use Rattle.std.proofs.lemmas.List.{drop-set-lt, length-set}
 use Rattle.std.proofs.lemmas.List.Elements.{filter-append}
 use Rattle.std.proofs.lemmas.List.Sums.{fold-append}
-use Rattle.std.proofs.lemmas.Option.{get_or_from_slice_get, same_Some, slice_get_within}
-use Rattle.pf_entry.specs.Lists.{Every}
-use Rattle.pf_cluster.proofs.Lists.{set_elsewhere}
+use Rattle.std.proofs.lemmas.Option.{get_or_from_slice_get, slice_get_within}
 use Rattle.pf_protocol.specs.Groups.{Group}
 use Rattle.pf_entry.proofs.Cases.{by_test}
 use Rattle.pf_group.specs.GroupIs.{GroupIs, state_of}
 use Rattle.pf_chunk.specs.declared.waiting.Waiting.{Waiting}
+use Rattle.pf_chunk.specs.Steps.{ReadsAreTold}
 use Rattle.pf_chunk.specs.Telling.{is_answered, lines_of, may_wait, now_taken, taken_all, taken_with, told_of}
-use Rattle.pf_chunk.proofs.Members.{AreApart}
 
 abbrev pub numbers_of : List Waiting → List ℕ
 numbers_of waiting = map (λ w. w.number) waiting
@@ -36,39 +34,10 @@ at_front [] rest (suc k) x is = absurd (cc)
 at_front (y ∷ ys) rest zero x is = let same : y ≡ x = cc in ap Some same
 at_front (y ∷ ys) rest (suc k) x is = at_front ys rest k x is
 
-same_rest : {X : Type 0} → (x y : X) (xs ys : List X) → x ∷ xs ≡ y ∷ ys → xs ≡ ys
+pub same_rest : {X : Type 0} → (x y : X) (xs ys : List X) → x ∷ xs ≡ y ∷ ys → xs ≡ ys
 same_rest x y xs ys is = cc
 
 module _ (g : Group) where
-  -- an answer that is handed out is no other's
-  taken_apart : (taken : List Bool) (w : Waiting) (n : ℕ) → n ≢ w.number → slice_get (taken_with g taken w) n ≡ slice_get taken n
-  taken_apart taken w n apart =
-      by_test (is_answered g w.number) (λ c. slice_get (cond c (slice_set taken w.number true) taken) n ≡ slice_get taken n)
-      (λ _. set_elsewhere taken w.number n true apart) (λ _. refl)
-
-  pending_apart : (taken : List Bool) (x : Waiting) (ws : List Waiting) → Every (λ m. m ≢ x.number) (numbers_of ws) → Every (λ w. slice_get taken w.number ≡ Some false) ws → Every (λ w. slice_get (taken_with g taken x) w.number ≡ Some false) ws
-  pending_apart taken x [] apart pending = tt
-  pending_apart taken x (w ∷ ws) apart pending = (taken_apart taken x w.number apart.0 ∙ pending.0, pending_apart taken x ws apart.1 pending.1)
-
-  -- the next one was not handed out
-  pub next_pending : (taken : List Bool) (ws : List Waiting) (k : ℕ) (w : Waiting) → AreApart (numbers_of ws) → Every (λ w. slice_get taken w.number ≡ Some false) ws → slice_get ws k ≡ Some w → slice_get (taken_all g taken (take k ws)) w.number ≡ Some false
-  next_pending taken [] k w apart pending at = absurd (grind (arith, at))
-  next_pending taken (x ∷ xs) zero w apart pending at = ap (λ y. slice_get taken y.number) (sym (same_Some x w at)) ∙ pending.0
-  next_pending taken (x ∷ xs) (suc k) w apart pending at = next_pending (taken_with g taken x) xs k w apart.1 (pending_apart taken x xs apart.0 pending.1) at
-
-  -- no other is handed out
-  pub none_taken : (taken : List Bool) (ws : List Waiting) (n : ℕ) → Every (λ w. w.number ≢ n) ws → slice_get (taken_all g taken ws) n ≡ slice_get taken n
-  none_taken taken [] n apart = refl
-  none_taken taken (w ∷ ws) n apart = none_taken (taken_with g taken w) ws n apart.1 ∙ taken_apart taken w n (λ same. apart.0 (sym same))
-
-  -- what is not answered is not handed out
-  pub untaken : (taken : List Bool) (ws : List Waiting) (n : ℕ) → is_answered g n ≡ false → slice_get (taken_all g taken ws) n ≡ slice_get taken n
-  untaken taken [] n none = refl
-  untaken taken (w ∷ ws) n none =
-      untaken (taken_with g taken w) ws n none
-      ∙ by_test (is_answered g w.number) (λ c. (c ≡ is_answered g w.number) → slice_get (cond c (slice_set taken w.number true) taken) n ≡ slice_get taken n)
-      (λ told _. set_elsewhere taken w.number n true (λ same. let t : true ≡ false = sym told ∙ ap (is_answered g) (sym same) ∙ none in absurd (cc))) (λ _ _. refl) refl
-
   length_with : (taken : List Bool) (w : Waiting) → length (taken_with g taken w) ≡ length taken
   length_with taken w = by_test (is_answered g w.number) (λ c. length (cond c (slice_set taken w.number true) taken) ≡ length taken) (λ _. length-set taken w.number true) (λ _. refl)
 
@@ -92,9 +61,6 @@ module _ (chunk : ℕ) (first : GroupIs) (ws : List Waiting) (before : List ℕ)
 
     rest_on : drop (place + 1) items ≡ drop (place + 1) ws
     rest_on = same_rest w w _ _ (sym (front_of items place w at) ∙ is.rest ∙ front_of ws place w there)
-
-    pub pending_here : AreApart (numbers_of ws) → Every (λ w. slice_get first.taken w.number ≡ Some false) ws → slice_get now.taken w.number ≡ Some false
-    pending_here apart pending = ap (λ (g : GroupIs). slice_get g.taken w.number) is.group ∙ next_pending (state_of first) first.taken ws place w apart pending there
 
     pub same_state : state_of now ≡ state_of first
     same_state = ap (λ (g : GroupIs). state_of g) is.group
@@ -153,13 +119,15 @@ module _ (chunk : ℕ) (first : GroupIs) (ws : List Waiting) (before : List ℕ)
             put = put_on;
           }
 
+  pub begins_gone : IsGoneThrough chunk first ws before 0 0 first ws before
+  begins_gone = record { low = omega arith; count = refl; kept_are = refl; rest = refl; group = refl; put = sym (append-nil before) }
+
   -- all of them
-  module _ (kept : ℕ) (now : GroupIs) (items : List Waiting) (out : List ℕ) (is : IsGoneThrough chunk first ws before (length ws) kept now items out) where
-    pub all_kept : take kept items ≡ filter (may_wait (state_of first)) ws
-    all_kept = is.kept_are ∙ ap (filter (may_wait (state_of first))) (take-length ws)
-
-    pub all_taken : now ≡ now_taken first (taken_all (state_of first) first.taken ws)
-    all_taken = is.group ∙ ap (λ xs. now_taken first (taken_all (state_of first) first.taken xs)) (take-length ws)
-
-    pub all_told : out ≡ before ++ told_of chunk (state_of first) ws
-    all_told = is.put ∙ ap (λ xs. before ++ told_of chunk (state_of first) xs) (take-length ws)
+  pub all_told_so : (kept : ℕ) (now : GroupIs) (items : List Waiting) (text : List ℕ) → IsGoneThrough chunk first ws before (length ws) kept now items (before ++ text) → ReadsAreTold chunk (state_of first) first.taken ws now.taken (take kept items) text
+  all_told_so kept now items text is = record {
+    taken_is = ap (λ (g : GroupIs). g.taken) is.group ∙ ap (taken_all (state_of first) first.taken) (take-length ws);
+    left_is = is.kept_are ∙ ap (filter (may_wait (state_of first))) (take-length ws);
+    text_is =
+        let same = is.put ∙ ap (λ xs. before ++ told_of chunk (state_of first) xs) (take-length ws) in
+        sym (drop-append_seam before text) ∙ ap (drop (length before)) same ∙ drop-append_seam before (told_of chunk (state_of first) ws);
+  }

@@ -1,6 +1,7 @@
 -- One delivery of a settling.
-use Rattle.std.proofs.Common.{◌≡◌, ℕ, ◌+◌, true, false, List, refl}
+use Rattle.std.proofs.Common.{◌≡◌, ℕ, ◌<◌, ◌+◌, true, false, List, refl}
 use Rattle.pf_protocol.specs.declared.answers.Answer.{Answer}
+use Rattle.pf_protocol.specs.Answers.{most_packets}
 use Rattle.pf_protocol.specs.declared.events.Event.TheVariants.{Deliver}
 use Rattle.pf_chunk.specs.declared.settling.Try.TheVariants.{Delivered, Passed}
 use Rattle.pf_chunk.specs.Happenings.{happened}
@@ -17,6 +18,7 @@ with_next event old out answer put new n h = record {
     claims = h.ready.claims;
     applied = h.ready.applied;
     kept = h.ready.kept;
+    few = h.ready.few;
     first_sent = h.ready.first_sent;
     none_left = h.ready.none_left;
   };
@@ -35,3 +37,8 @@ module _ (old : ChunkIs) (out : List ℕ) (answer : Answer) (put : List ℕ) (ne
 
   pub delivered : is_passed_over answer ≡ false → new.next ≡ old.next → HasTried old out Delivered put new
   delivered not_over same = record { answer = answer; went = went; moved = (not_over, same) }
+
+-- a packet below the most
+pub below_most : (k : ℕ) → k < 65536 → k < most_packets
+unfolding most_packets
+below_most k low = low

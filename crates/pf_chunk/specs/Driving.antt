@@ -1,5 +1,5 @@
 -- A step of a port of a chunk.
-use Rattle.std.specs.Prelude.{◌≡◌, ℕ, ◌++◌, IsTrue, List, [], Option, Some, None, ◌⊎◌, if◌then◌else◌, length, slice_get, slice_set}
+use Rattle.std.specs.Prelude.{◌≡◌, ℕ, ◌++◌, IfSome, IsTrue, List, [], Option, Some, None, ◌⊎◌, if◌then◌else◌, length, slice_get, slice_set}
 use Rattle.std.specs.Option.{option_and_then}
 use Rattle.pf_base.specs.Asks.{Answers}
 use Rattle.pf_base.specs.Span.{Span}
@@ -143,6 +143,7 @@ pub record HandsOn (m : ℕ) (old : ChunkIs) (reply : Option Reply) (new : Chunk
   pub given : Option Reply
   pub left : PortIs
   pub drives : Drives port ask calls given left
+  pub fits : IsTrue old.group.told → IfSome given (Answers ask)
   pub next : PortIs
   pub heeds : Heeds ask given left reply next
   pub is : new ≡ record after { ports = slice_set after.ports m next }

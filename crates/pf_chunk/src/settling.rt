@@ -1,5 +1,5 @@
 //! Packets are delivered until none is left.
-ghost use Rattle.std.specs.Prelude.{◌≡◌, ◌≤◌, ◌<◌, ◌+◌, IfOk, IfSome, IsTrue, OnErr, OnOk, MatchOption, None, Some, false, true, length};
+ghost use Rattle.std.specs.Prelude.{◌≡◌, ◌≤◌, ◌<◌, ◌+◌, IfOk, IfSome, IsTrue, OnErr, OnOk, None, Some, true};
 ghost use Rattle.pf_group.specs.GroupIs.{state_of};
 ghost use Rattle.pf_protocol.specs.Answers.{most_packets};
 ghost use Rattle.pf_protocol.specs.declared.events.Event.TheVariants.{Deliver};

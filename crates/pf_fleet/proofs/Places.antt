@@ -114,7 +114,6 @@ module _ (place : ℕ) (old now : List ChunkIs) (so_far : LooksBelow place old n
   moves : MovesUp c is
   moves = record { same = same; above = above; sent = λ tells. (first tells).sent; none = λ tells. (first tells).none }
 
-
   pub all_moved : AllMoveUp old (slice_set now place is)
   all_moved = all_move_on old now (slice_set now place is) so_far.moved
       (record { count = set_length now place is; each = one_by_one 0 place now c is there MovesUp moves moves_nowhere })

@@ -1,3 +1,4 @@
+use Rattle.std.specs.Prelude.{IsTrue}
 use Rattle.std.proofs.Common.{false, length, refl, sym, ap, subst, ◌∙◌}
 use Rattle.pf_group.proofs.Going.{on_err}
 use Rattle.pf_group.specs.Events.{event_of}
@@ -39,9 +40,10 @@ returns-in_err-follow-clause-err g c =
     let e = an_event c.args.mount now mid c.in_ok-reply.reply c.in_ok-reply.ensures.went c.requires.ready c.history-before.ensures.legal
     (λ same. c.if-history-before.false (ap length c.history.ensures.items ∙ same ∙ ap length (sym c.history-before.ensures.items))) in
     on_err c.from_residual-in_err-follow.result _
-    (failed_same (λ halts. (filled_up (sends c.args.mount e.p e.term) (event_of (hand e.ask e.server) false) halts (run_of halts now)).chunk.group) (λ halts. (driven halts (run_of halts now) c.args.mount).chunk.group) now.group c.follow.new.self.group
-    (λ halts. ap (λ (d : Driven). d.chunk.group) (e.run halts))
-    (not_followed (sends c.args.mount e.p e.term) now mid.group c.follow.new.self.group (hand e.ask e.server) e.answer (λ k m a. refl) e.stepped c.in_err-follow.ensures.err))
+    (let failed = not_followed (sends c.args.mount e.p e.term) now mid.group c.follow.new.self.group (hand e.ask e.server) e.answer (λ k m a. refl) e.stepped c.in_err-follow.ensures.err in
+    failed_same (λ halts. (filled_up (sends c.args.mount e.p e.term) (event_of (hand e.ask e.server) false) halts (run_of halts now)).chunk.group) (λ halts. (driven halts (run_of halts now) c.args.mount).chunk.group) now.group c.follow.new.self.group
+    (λ halts tells. ap (λ (d : Driven). d.chunk.group) (e.run (subst IsTrue failed.grown.told tells.told) halts))
+    failed)
 
 pub returns-clause-went : goal.returns-clause-went
 returns-clause-went g c =

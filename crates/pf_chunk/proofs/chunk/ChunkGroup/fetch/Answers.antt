@@ -14,7 +14,7 @@ use Rattle.pf_chunk.proofs.chunk.ChunkGroup.fetch.Goals as goal
 
 pub returns-in_default-clause-went : goal.returns-in_default-clause-went
 returns-in_default-clause-went g c =
-    no_fetch_is c.args.server c.args.sector c.args.count c.args.self.now c.args.out.now.items c.no_range.result c.requires.ready c.in_default.ensures.exact.1 c.no_range.ensures
+    no_fetch_is c.args.server c.args.sector c.args.count c.args.self.now c.args.out.now.items c.no_range.result c.requires.ready c.in_default.ensures.exact.1 c.no_range.ensures.said c.no_range.ensures.answer
 
 pub returns-in_err-reserve-clause-err : goal.returns-in_err-reserve-clause-err
 returns-in_err-reserve-clause-err g c =
@@ -36,9 +36,9 @@ follow-requires-clause-none g c _ _ =
     let mid : ChunkIs = record { group = c.step.new.self; waiting = c.keep.new.waiting.items; first_left = c.self.inside.first_left; next = c.self.inside.next; ports = c.self.inside.ports.items } in
     let stepped = subst (λ (v : ChunkIs). HasStepped v.group (asked.Fetch c.args.server c.in-Ok.range) c.in_ok-answer.answer c.step.new.self) c.self.view_is c.in_ok-answer.ensures.went in
     let midway = midway_fetch now c.args.server c.in-Ok.range answer mid c.requires.ready c.requires.server stepped
+    c.taken_up-read.result c.taken_up-read.ensures.of c.taken_up-read.ensures.read
     (ap (λ (v : ChunkIs). v.first_left) c.self.view_is)
-    (c.keep.ensures ∙ ap (λ items. items ++ option_to_list c.taken_up-read.result) (c.reserve.ensures.items ∙ ap (λ (v : ChunkIs). v.waiting) c.self.view_is)
-    ∙ ap (λ o. now.waiting ++ option_to_list o) c.taken_up-read.ensures)
+    (c.keep.ensures ∙ ap (λ items. items ++ option_to_list c.taken_up-read.result) (c.reserve.ensures.items ∙ ap (λ (v : ChunkIs). v.waiting) c.self.view_is))
     (ap (λ (v : ChunkIs). v.ports) c.self.view_is) in
     midway.none
 
@@ -49,9 +49,9 @@ follow-requires-clause-listed g c _ _ =
     let mid : ChunkIs = record { group = c.step.new.self; waiting = c.keep.new.waiting.items; first_left = c.self.inside.first_left; next = c.self.inside.next; ports = c.self.inside.ports.items } in
     let stepped = subst (λ (v : ChunkIs). HasStepped v.group (asked.Fetch c.args.server c.in-Ok.range) c.in_ok-answer.answer c.step.new.self) c.self.view_is c.in_ok-answer.ensures.went in
     let midway = midway_fetch now c.args.server c.in-Ok.range answer mid c.requires.ready c.requires.server stepped
+    c.taken_up-read.result c.taken_up-read.ensures.of c.taken_up-read.ensures.read
     (ap (λ (v : ChunkIs). v.first_left) c.self.view_is)
-    (c.keep.ensures ∙ ap (λ items. items ++ option_to_list c.taken_up-read.result) (c.reserve.ensures.items ∙ ap (λ (v : ChunkIs). v.waiting) c.self.view_is)
-    ∙ ap (λ o. now.waiting ++ option_to_list o) c.taken_up-read.ensures)
+    (c.keep.ensures ∙ ap (λ items. items ++ option_to_list c.taken_up-read.result) (c.reserve.ensures.items ∙ ap (λ (v : ChunkIs). v.waiting) c.self.view_is))
     (ap (λ (v : ChunkIs). v.ports) c.self.view_is) in
     midway.kept.listed
 
@@ -70,9 +70,9 @@ returns-clause-went g c =
     let mid : ChunkIs = record { group = c.step.new.self; waiting = c.keep.new.waiting.items; first_left = c.self.inside.first_left; next = c.self.inside.next; ports = c.self.inside.ports.items } in
     let stepped = subst (λ (v : ChunkIs). HasStepped v.group (asked.Fetch c.args.server c.in-Ok.range) c.in_ok-answer.answer c.step.new.self) c.self.view_is c.in_ok-answer.ensures.went in
     let midway = midway_fetch now c.args.server c.in-Ok.range answer mid c.requires.ready c.requires.server stepped
+    c.taken_up-read.result c.taken_up-read.ensures.of c.taken_up-read.ensures.read
     (ap (λ (v : ChunkIs). v.first_left) c.self.view_is)
-    (c.keep.ensures ∙ ap (λ items. items ++ option_to_list c.taken_up-read.result) (c.reserve.ensures.items ∙ ap (λ (v : ChunkIs). v.waiting) c.self.view_is)
-    ∙ ap (λ o. now.waiting ++ option_to_list o) c.taken_up-read.ensures)
+    (c.keep.ensures ∙ ap (λ items. items ++ option_to_list c.taken_up-read.result) (c.reserve.ensures.items ∙ ap (λ (v : ChunkIs). v.waiting) c.self.view_is))
     (ap (λ (v : ChunkIs). v.ports) c.self.view_is) in
     fetched_is c.args.server c.args.sector c.args.count c.in-Ok.range (c.in-Ok.ensures.exact.0 refl) c.in-Ok.ensures.range now c.args.out.now.items answer c.follow.new.out.items c.follow.new.self
     (has_happened (waits c.args.server) now mid c.follow.new.self (asked.Fetch c.args.server c.in-Ok.range) answer c.args.out.now.items c.follow.new.out.items

@@ -1,5 +1,4 @@
 use Rattle.std.proofs.Common.{subst}
-use Rattle.std.proofs.lemmas.Result.{on_err_weaker}
 use Rattle.pf_group.proofs.Going.{on_err}
 use Rattle.pf_chunk.specs.Steps.{HasFailed}
 use Rattle.pf_chunk.specs.Views.{ChunkIs}
@@ -16,4 +15,4 @@ returns-clause-err g c =
     let was = c.self.inside.group in
     let then = c.apply_all.new.group in
     let new = c.tell_reads.new.group in
-    on_err_weaker c.tell_reads.result (λ taken. subst (λ (v : ChunkIs). HasFailed (apply_of v.group) v.group new) c.self.view_is (not_told was then new c.apply_all.ensures.grown c.in_ok-apply_all.ensures.run taken)) c.tell_reads.ensures.err
+    on_err c.tell_reads.result _ (subst (λ (v : ChunkIs). HasFailed (apply_of v.group) v.group new) c.self.view_is (not_told was then new c.apply_all.ensures.grown c.in_ok-apply_all.ensures.run c.tell_reads.ensures.same))

@@ -11,4 +11,4 @@ returns-clause-ready g c =
     let ports : c.in-Ok.ports.items ≡ replicate most_ports new_port = c.in-Ok.ensures in
     subst (λ (ps : List PortIs). IsReady (record { group = c.in_ok-group.group; waiting = c.new-2.result.items; first_left = 0; next = 0; ports = ps })) (sym ports)
     (subst (λ (ws : List Waiting). IsReady (record { group = c.in_ok-group.group; waiting = ws; first_left = 0; next = 0; ports = replicate most_ports new_port })) (sym c.new-2.ensures.items)
-    (made_ready _ _ _ _ _ _ _ c.in_ok-group.ensures.made))
+    (made_ready _ _ _ _ _ _ _ _ c.in_ok-group.ensures.made))

@@ -1,20 +1,16 @@
 use Rattle.std.proofs.Common.{◌<◌, ◌+◌, arith, sym, subst, ◌∙◌}
 use Rattle.pf_protocol.specs.declared.events.Event.TheVariants.{Deliver}
-use Rattle.pf_protocol.specs.Answers.{IsLegal}
 use Rattle.pf_chunk.specs.declared.settling.Try.TheVariants.{Passed}
 use Rattle.pf_chunk.specs.Happenings.{happened}
 use Rattle.pf_chunk.specs.Settling.{HasTried}
 use Rattle.pf_chunk.specs.Steps.{HasHappened}
 use Rattle.pf_chunk.specs.Views.{ChunkIs}
-use Rattle.pf_group.proofs.Passing.{left_few, left_low}
-use Rattle.pf_chunk.proofs.Tried.{passed}
+use Rattle.pf_chunk.proofs.Tried.{below_most, passed}
 use Rattle.pf_chunk.proofs.chunk.ChunkGroup.settle_one.Goals as goal
 
 pub overflow_add-self : goal.overflow_add-self
 overflow_add-self g c =
-    let now = c.args.self.now in
-    let legal = subst (λ (v : ChunkIs). IsLegal v.group.setup v.group.history) c.self.view_is c.history-legal.ensures.legal in
-    let low : c.self.inside.next < 65536 = subst (λ (v : ChunkIs). v.next < 65536) (sym c.self.view_is) (left_low now.group.setup now.group.history now.next legal c.requires.left) in
+    let low : c.self.inside.next < 65536 = subst (λ (v : ChunkIs). v.next < 65536) (sym c.self.view_is) c.requires.next in
     omega arith
 
 pub returns-then-is_passed_over-clause-went : goal.returns-then-is_passed_over-clause-went
@@ -28,9 +24,7 @@ returns-then-is_passed_over-clause-went g c =
     (passed now out c.in_ok-answer.answer put c.happen.new.self went (sym c.is_passed_over.ensures ∙ c.if-is_passed_over.true)))
 
 pub returns-then-is_passed_over-clause-few : goal.returns-then-is_passed_over-clause-few
-returns-then-is_passed_over-clause-few g c =
-    left_few c.args.self.now.group.setup c.args.self.now.group.history c.args.self.now.next (subst (λ (v : ChunkIs). IsLegal v.group.setup v.group.history) c.self.view_is c.history-legal.ensures.legal) c.requires.left
+returns-then-is_passed_over-clause-few g c = below_most c.args.self.now.next c.requires.next
 
 pub returns-clause-few : goal.returns-clause-few
-returns-clause-few g c =
-    left_few c.args.self.now.group.setup c.args.self.now.group.history c.args.self.now.next (subst (λ (v : ChunkIs). IsLegal v.group.setup v.group.history) c.self.view_is c.history-legal.ensures.legal) c.requires.left
+returns-clause-few g c = below_most c.args.self.now.next c.requires.next

@@ -9,7 +9,7 @@ use Rattle.pf_chunk.proofs.chunk.ChunkGroup.submit.Goals as goal
 
 pub returns-in_default-clause-went : goal.returns-in_default-clause-went
 returns-in_default-clause-went g c =
-    no_submit_is c.args.server c.args.sector c.args.byte c.args.count c.args.self.now c.args.out.now.items c.no_range.result c.requires.ready c.in_default.ensures.exact.1 c.no_range.ensures
+    no_submit_is c.args.server c.args.sector c.args.byte c.args.count c.args.self.now c.args.out.now.items c.no_range.result c.requires.ready c.in_default.ensures.exact.1 c.no_range.ensures.said c.no_range.ensures.answer
 
 pub happen-requires-clause-event : goal.happen-requires-clause-event
 happen-requires-clause-event g c _ _ =

@@ -1,4 +1,5 @@
 use Rattle.std.proofs.Common.{◌≡◌, refl, subst}
+use Rattle.std.specs.Prelude.{IsTrue}
 use Rattle.pf_group.specs.GroupIs.{state_of}
 use Rattle.pf_chunk.specs.Asks.{leader_of}
 use Rattle.pf_chunk.specs.Views.{ChunkIs}
@@ -8,5 +9,6 @@ use Rattle.pf_chunk.proofs.desk.ChunkGroupDesk.leader.Goals as goal
 pub returns-clause-ok : goal.returns-clause-ok
 returns-clause-ok g c = (
   refl,
-  subst (λ (v : ChunkIs). c.leader.result ≡ leader_of (state_of v.group)) c.self.view_is (the_leader c.self.inside.group.setup c.self.inside.group.history c.history-sound.ensures.sound.leaders c.leader.result c.leader.ensures),
+  subst (λ (v : ChunkIs). IsTrue v.group.told → c.leader.result ≡ leader_of (state_of v.group)) c.self.view_is
+      (λ told. the_leader c.self.inside.group.setup c.self.inside.group.history c.history-sound.ensures.sound.leaders c.leader.result (c.leader.ensures.leader told)),
 )
