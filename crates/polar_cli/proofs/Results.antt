@@ -11,8 +11,8 @@ use Rattle.polar_cli.specs.declared.scan.Stop.{Stop}
 use Rattle.polar_cli.specs.declared.scan.Stop.TheVariants as stops
 use Rattle.polar_cli.specs.declared.status.Status.{Status}
 use Rattle.polar_cli.specs.declared.status.Status.TheVariants as statuses
-use Rattle.polar_cli.specs.declared.words.Task.{Task}
-use Rattle.polar_cli.specs.declared.words.Task.TheVariants as tasks
+use Rattle.pf_words.specs.declared.words.Task.{Task}
+use Rattle.pf_words.specs.declared.words.Task.TheVariants as tasks
 use Rattle.polar_cli.specs.Scripts.{Judged, script_of, script_rules}
 use Rattle.polar_cli.specs.Runs.{IsRefused, IsText, IsUndecided, StopSays}
 use Rattle.polar_cli.specs.Ends.{AppendsFront}

@@ -13,8 +13,8 @@ use Rattle.pf_world.specs.Worlds.{World}
 use Rattle.pf_world.specs.declared.line.Line.{Line}
 use Rattle.pf_mounted.specs.Lists.{HasOneList}
 use Rattle.polar_cli.specs.Reports.{lines_for}
-use Rattle.polar_cli.specs.Tasks.{IfRun}
-use Rattle.polar_cli.specs.declared.words.Task.{Task}
+use Rattle.pf_words.specs.Tasks.{IfRun}
+use Rattle.pf_words.specs.declared.words.Task.{Task}
 use Rattle.polar_cli.specs.declared.status.Status.{Status}
 use Rattle.polar_cli.specs.declared.status.Status.TheVariants as statuses
 

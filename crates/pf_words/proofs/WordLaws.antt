@@ -21,14 +21,14 @@ use Rattle.clap.specs.declared.parser.matches.ArgMatches.{ArgMatches}
 use Rattle.clap.specs.declared.parser.matches.ArgMatches.TheViews.{out-ArgMatches, out-SubCommand}
 use Rattle.clap.specs.declared.parser.matches.Found.{Found}
 use Rattle.clap.specs.declared.parser.matches.SubCommand.{SubCommand}
-use Rattle.polar_cli.specs.declared.words.Task.{Task}
-use Rattle.polar_cli.specs.declared.words.Task.TheVariants as tasks
+use Rattle.pf_words.specs.declared.words.Task.{Task}
+use Rattle.pf_words.specs.declared.words.Task.TheVariants as tasks
 use Rattle.pf_entry.proofs.Cases.{by_test}
 use Rattle.pf_entry.specs.Lists.{Every}
-use Rattle.polar_cli.specs.Words.{command, dir_rule, group_rule, is_accepted, number_rule, server_rule, workers_rule}
-use Rattle.polar_cli.specs.Tasks.{HasParsed, dir_at, dir_of, number_at, task_at, task_of}
-use Rattle.polar_cli.proofs.Faultless.{taken}
-use Rattle.polar_cli.proofs.Rows.{HasOne, IsSet, defaulted, given_row, leaf, level_fit, one_fits}
+use Rattle.pf_words.specs.Words.{command, dir_rule, group_rule, is_accepted, number_rule, server_rule, workers_rule}
+use Rattle.pf_words.specs.Tasks.{HasParsed, dir_at, dir_of, number_at, task_at, task_of}
+use Rattle.pf_words.proofs.Faultless.{taken}
+use Rattle.pf_words.proofs.Rows.{HasOne, IsSet, defaulted, given_row, leaf, level_fit, one_fits}
 
 pub command_is_simple : is_simple_and_free command ≡ true
 command_is_simple = refl

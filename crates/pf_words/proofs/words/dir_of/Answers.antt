@@ -3,9 +3,9 @@ use Rattle.std.specs.Prelude.{option_and_then, option_map}
 use Rattle.clap.specs.Matches.{found_of}
 use Rattle.clap.specs.Walk.{first_of, rows_of}
 use Rattle.clap.proofs.WalkLemmas.{first_value-rows}
-use Rattle.polar_cli.specs.Tasks.{HasParsed}
-use Rattle.polar_cli.proofs.WordLaws.{dir_none, dir_read}
-use Rattle.polar_cli.proofs.words.dir_of.Goals as goal
+use Rattle.pf_words.specs.Tasks.{HasParsed}
+use Rattle.pf_words.proofs.WordLaws.{dir_none, dir_read}
+use Rattle.pf_words.proofs.words.dir_of.Goals as goal
 
 pub returns-in_default : goal.returns-in_default
 returns-in_default c = let words = map string_bytes c.args.words.now in sym (dir_none words (subst (HasParsed words) c.in_default.is c.in_ok-found.ensures))

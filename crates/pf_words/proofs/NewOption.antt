@@ -15,8 +15,8 @@ use Rattle.clap.specs.declared.builder.value_parser.Reading.{Reading}
 use Rattle.clap.proofs.WalkLemmas.{both}
 use Rattle.pf_entry.proofs.Cases.{by_test}
 use Rattle.pf_entry.specs.Lists.{Every}
-use Rattle.polar_cli.proofs.Rows.{first_part, found_of, leaf}
-use Rattle.polar_cli.proofs.WordLaws.{dir_here}
+use Rattle.pf_words.proofs.Rows.{first_part, found_of, leaf}
+use Rattle.pf_words.proofs.WordLaws.{dir_here}
 
 abbrev dir : Text
 dir = codes "dir"

@@ -2,11 +2,11 @@ use Rattle.std.proofs.Common.{◌∙◌, ◌≤◌, ap, ap₂, sym, subst, refl,
 use Rattle.std.proofs.lemmas.Option.{same_Some}
 use Rattle.std.specs.Str.Parse.{ParsesUnsigned, ExplainsUnsignedError, HasUnsignedDigitsIfOk}
 use Rattle.clap.specs.Matches.{found_of}
-use Rattle.polar_cli.specs.Tasks.{HasParsed}
-use Rattle.polar_cli.specs.declared.words.Task.TheVariants as tasks
-use Rattle.polar_cli.proofs.WordLaws.{check_read, gen_read, has_one, log_read, means_none, run_read}
-use Rattle.polar_cli.proofs.words.read_task.Goals as goal
-use Rattle.polar_cli.proofs.words.read_task.Goals.{in_default-2-via-in-Some+in_default, in_default-2-via-in_default, in_default-3-via-in-Some+in_default, in_default-3-via-in_default}
+use Rattle.pf_words.specs.Tasks.{HasParsed}
+use Rattle.pf_words.specs.declared.words.Task.TheVariants as tasks
+use Rattle.pf_words.proofs.WordLaws.{check_read, gen_read, has_one, log_read, means_none, run_read}
+use Rattle.pf_words.proofs.words.read_task.Goals as goal
+use Rattle.pf_words.proofs.words.read_task.Goals.{in_default-2-via-in-Some+in_default, in_default-2-via-in_default, in_default-3-via-in-Some+in_default, in_default-3-via-in_default}
 
 pub returns-in_default-clause-told : goal.returns-in_default-clause-told
 returns-in_default-clause-told c = let words = map string_bytes c.args.words.now in means_none words (subst (HasParsed words) c.in_default.is c.in_ok-found.ensures)

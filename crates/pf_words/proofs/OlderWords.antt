@@ -12,11 +12,11 @@ use Rattle.std.specs.List.{list_all}
 use Rattle.std.specs.Option.{option_map_or}
 use Rattle.pf_entry.proofs.Cases.{by_test}
 use Rattle.pf_entry.specs.Lists.{Every}
-use Rattle.polar_cli.specs.Words.{command, is_accepted, without_dir, without_log}
-use Rattle.polar_cli.specs.Tasks.{KeepsTask, dir_at, task_at}
-use Rattle.polar_cli.proofs.NewOption.{IsOlder, level_more as more_of_level}
-use Rattle.polar_cli.proofs.Rows.{leaf}
-use Rattle.polar_cli.proofs.WordLaws.{accepted_dir, accepted_task, called, gen_rules, group_here, met_of, passes_at, server_here, third, workers_here}
+use Rattle.pf_words.specs.Words.{command, is_accepted, without_dir, without_log}
+use Rattle.pf_words.specs.Tasks.{KeepsTask, dir_at, task_at}
+use Rattle.pf_words.proofs.NewOption.{IsOlder, level_more as more_of_level}
+use Rattle.pf_words.proofs.Rows.{leaf}
+use Rattle.pf_words.proofs.WordLaws.{accepted_dir, accepted_task, called, gen_rules, group_here, met_of, passes_at, server_here, third, workers_here}
 
 abbrev names_before : Names
 names_before = (codes "run", []) ∷ (codes "gen", []) ∷ (codes "check", []) ∷ []

@@ -4,7 +4,7 @@ use Rattle.std.specs.Int.{int_max, int_min}
 use Rattle.clap.specs.Values.{signed_between}
 use Rattle.clap.specs.declared.builder.value_parser.ValueParser.{ValueParser}
 use Rattle.clap.specs.declared.builder.value_parser.ValueParser.TheVariants as parsers
-use Rattle.polar_cli.proofs.words.workers_option.Goals as goal
+use Rattle.pf_words.proofs.words.workers_option.Goals as goal
 
 abbrev with_long : Rule
 with_long = record (new_rule (codes "workers")) { long = Some (codes "workers") }

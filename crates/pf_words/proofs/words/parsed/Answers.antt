@@ -2,9 +2,9 @@ use Rattle.std.proofs.Common.{◌≡◌, ◌∙◌, ap, sym, true, true≢false,
 use Rattle.clap.specs.Simple.{App, is_simple, subcommand_of}
 use Rattle.clap.specs.Faults.{fault_of, is_simple_and_free}
 use Rattle.clap.specs.Takes.{takes}
-use Rattle.polar_cli.specs.Words.{command}
-use Rattle.polar_cli.proofs.WordLaws.{accepted, command_is_simple, unaccepted}
-use Rattle.polar_cli.proofs.words.parsed.Goals as goal
+use Rattle.pf_words.specs.Words.{command}
+use Rattle.pf_words.proofs.WordLaws.{accepted, command_is_simple, unaccepted}
+use Rattle.pf_words.proofs.words.parsed.Goals as goal
 
 pub returns-in-Ok : goal.returns-in-Ok
 returns-in-Ok c =

@@ -3,8 +3,8 @@ use Rattle.std.proofs.lemmas.Result.{IfOk-weaker}
 use Rattle.clap.specs.Words.{App, app_of, new_app, with_rule, with_subcommand}
 use Rattle.clap.specs.declared.builder.command.Command.TheViews.{out-Command}
 use Rattle.clap.specs.Simple.{app_of_fields, on_top}
-use Rattle.polar_cli.specs.Words.{bare, check_shape, dir_rule, gen_shape, group_rule, number_rule, run_shape, server_rule, workers_rule}
-use Rattle.polar_cli.proofs.words.command.Goals as goal
+use Rattle.pf_words.specs.Words.{bare, check_shape, dir_rule, gen_shape, group_rule, number_rule, run_shape, server_rule, workers_rule}
+use Rattle.pf_words.proofs.words.command.Goals as goal
 
 pub returns : goal.returns
 returns c =

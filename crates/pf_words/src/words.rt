@@ -1,8 +1,8 @@
 //! The words of the command line.
 ghost use Rattle.std.specs.Prelude.{◌≡◌, false, IfOk, IfSome, map, option_map, string_bytes};
 ghost use Rattle.clap.specs.Words.{app_of, rule_of};
-ghost use Rattle.polar_cli.specs.Words.{command, dir_rule, group_rule, number_rule, server_rule, workers_rule};
-ghost use Rattle.polar_cli.specs.Tasks.{HasParsed, IsInRange, dir_of, task_of};
+ghost use Rattle.pf_words.specs.Words.{command, dir_rule, group_rule, number_rule, server_rule, workers_rule};
+ghost use Rattle.pf_words.specs.Tasks.{HasParsed, IsInRange, dir_of, task_of};
 
 use clap::error::ErrorKind;
 use clap::{Arg, ArgMatches, Command};

@@ -4,9 +4,9 @@ use Rattle.std.specs.Str.{bytes_eq}
 use Rattle.std.specs.Str.Parse.{digits_value, without_leading_plus}
 use Rattle.clap.specs.Words.{App, Row, Text, first_of, one_of, subcommand_of, subcommand_rows_of, takes}
 use Rattle.clap.specs.declared.parser.matches.ArgMatches.{ArgMatches}
-use Rattle.polar_cli.specs.declared.words.Task.{Task}
-use Rattle.polar_cli.specs.declared.words.Task.TheVariants as tasks
-use Rattle.polar_cli.specs.Words.{command, is_accepted, without_dir, without_log}
+use Rattle.pf_words.specs.declared.words.Task.{Task}
+use Rattle.pf_words.specs.declared.words.Task.TheVariants as tasks
+use Rattle.pf_words.specs.Words.{command, is_accepted, without_dir, without_log}
 
 -- the number that is given to an argument, or stands for it
 abbrev pub number_at : Text → List Row → Option ℕ

@@ -1,0 +1,5 @@
+pub mod Rows
+pub mod Faultless
+pub mod WordLaws
+pub mod NewOption
+pub mod OlderWords
