@@ -1,5 +1,5 @@
 -- Blocks keep their form.
-use Rattle.std.proofs.Common.{◌≡◌, ℕ, List, ◌==◌, Bool, true, false, cond, nat_lt, subst}
+use Rattle.std.proofs.Common.{ℕ, List, ◌==◌, Bool, true, false, cond, nat_lt}
 use Rattle.pf_paxos.specs.declared.block.Block.{Block}
 use Rattle.pf_paxos.specs.Blocks.{IsBlock}
 use Rattle.pf_anchors.specs.declared.anchors.Part.{Part}

@@ -1,1 +1,10 @@
 pub mod Forms
+pub mod Moments
+pub mod Stepping
+pub mod Steady
+pub mod Quorums
+pub mod Keeping
+pub mod Picking
+pub mod Choosing
+pub mod Agreement
+pub mod Telling

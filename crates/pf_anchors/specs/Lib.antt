@@ -1,2 +1,4 @@
 pub mod Anchors
 pub mod Standing
+pub mod Deciding
+pub mod Runs

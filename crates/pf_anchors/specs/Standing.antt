@@ -1,5 +1,5 @@
 -- What is true of every mount's part, and what its calls give besides the phase table.
-use Rattle.std.specs.Prelude.{◌≡◌, ℕ, ◌<◌, List}
+use Rattle.std.specs.Prelude.{ℕ, ◌<◌, List}
 use Rattle.pf_paxos.specs.declared.block.Block.{Block}
 use Rattle.pf_paxos.specs.Blocks.{IsBlock}
 use Rattle.pf_paxos.specs.Standing.{IsInput, IsOutrunBy}

@@ -2,5 +2,7 @@
 #![tactic(auto)]
 
 mod anchors;
+mod laws;
 
 pub use anchors::{AnchorNext, AnchorStep, Anchors};
+pub use laws::{no_two_decisions, told_values_are_decided};

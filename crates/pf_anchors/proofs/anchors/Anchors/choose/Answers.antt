@@ -1,9 +1,8 @@
 use Rattle.std.proofs.Common.{◌≡◌, ◌<◌, None, arith, sym, subst}
 use Rattle.pf_paxos.specs.declared.block.Block.{Block}
 use Rattle.pf_paxos.specs.Blocks.{IsBlock}
-use Rattle.pf_paxos.specs.Proposers.{value_of}
 use Rattle.pf_paxos.proofs.Forms as forms
-use Rattle.pf_anchors.specs.Anchors.{AnchorsIs, best_done}
+use Rattle.pf_anchors.specs.Anchors.{AnchorsIs}
 use Rattle.pf_anchors.specs.Standing.{AreBests}
 use Rattle.pf_anchors.proofs.Forms.{best_block}
 use Rattle.pf_anchors.proofs.anchors.Anchors.choose.Goals as goal

@@ -1,6 +1,5 @@
 use Rattle.std.proofs.Common.{sym, subst}
 use Rattle.pf_paxos.specs.Blocks.{IsBlock}
-use Rattle.pf_anchors.specs.Anchors.{part_at, written}
 use Rattle.pf_anchors.specs.declared.anchors.Part.{Part}
 use Rattle.pf_anchors.specs.Standing.{AreBests}
 use Rattle.pf_anchors.proofs.Forms.{bests_with, best_at, written_block}
