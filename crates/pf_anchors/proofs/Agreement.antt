@@ -7,7 +7,7 @@ use Rattle.pf_anchors.specs.Runs.{Event, history_of}
 use Rattle.pf_anchors.proofs.Steady.{own, lags_at, there_grows, own_sound}
 use Rattle.pf_anchors.proofs.Picking.{turns}
 use Rattle.pf_anchors.proofs.Choosing.{Two, IsOf, picks_at, within}
-use Rattle.pf_anchors.proofs.Quorums.{DecidesOn, one_value_decided}
+use Rattle.pf_paxos.proofs.Quorums.{DecidesOn, one_value_decided}
 
 -- any two pairs of three anchors share one
 share : (q r : Two) → (a : ℕ) × (IsOf q a × IsOf r a)

@@ -20,7 +20,7 @@ use Rattle.pf_anchors.proofs.Stepping.{advanced_at, IsReading, Late, Aborts, Goe
 use Rattle.pf_anchors.proofs.Steady.{own, IsSteady, steady_at, first_less}
 use Rattle.pf_anchors.proofs.Keeping.{Kept, AllDone, kept_done}
 use Rattle.pf_anchors.proofs.Picking.{IsSeen, turns, PartKept, AllKept, all_at, all_seen, all_advanced, here_turn}
-use Rattle.pf_anchors.proofs.Quorums.{Gathers, Picks}
+use Rattle.pf_paxos.proofs.Quorums.{Gathers, Picks}
 
 -- two anchors
 pub record Two : Type 0 where

@@ -2,7 +2,6 @@ pub mod Forms
 pub mod Moments
 pub mod Stepping
 pub mod Steady
-pub mod Quorums
 pub mod Keeping
 pub mod Picking
 pub mod Choosing

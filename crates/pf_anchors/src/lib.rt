@@ -2,7 +2,9 @@
 #![tactic(auto)]
 
 mod anchors;
+mod examples;
 mod laws;
 
 pub use anchors::{AnchorNext, AnchorStep, Anchors};
+pub use examples::ballots_may_lack_values;
 pub use laws::{no_two_decisions, told_values_are_decided};
