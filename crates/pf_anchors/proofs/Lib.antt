@@ -7,3 +7,4 @@ pub mod Picking
 pub mod Choosing
 pub mod Agreement
 pub mod Telling
+pub mod Worked

@@ -6,5 +6,5 @@ mod examples;
 mod laws;
 
 pub use anchors::{AnchorNext, AnchorStep, Anchors};
-pub use examples::ballots_may_lack_values;
+pub use examples::{ballots_may_lack_values, two_anchors_decide};
 pub use laws::{no_two_decisions, told_values_are_decided};
