@@ -1,0 +1,10 @@
+pub mod Forms
+pub mod Moments
+pub mod Stepping
+pub mod Steady
+pub mod Keeping
+pub mod Picking
+pub mod Choosing
+pub mod Agreement
+pub mod Telling
+pub mod Worked
