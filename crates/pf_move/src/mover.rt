@@ -1,5 +1,5 @@
 //! Copies the sectors of a chunk from one group to another.
-ghost use Rattle.std.specs.Prelude.{◌≡◌, ◌↔◌, ◌+◌, ◌*◌, ◌/◌, ◌%◌, ◌<◌, ◌≤◌, IfOk, IsTrue, None, OnErr};
+ghost use Rattle.std.specs.Prelude.{◌≡◌, ◌↔◌, ◌+◌, ◌*◌, ◌/◌, ◌%◌, ◌<◌, ◌≤◌, IfOk, IsSome, IsTrue, None, OnErr};
 ghost use Rattle.pf_move.specs.Movers.{AsksFor, Fits, is_zero, is_zero_sector, new_mover, piece, reads_on, step, to_write};
 
 use pf_base::{Data, NoMemory, Payload, Range, Reply, Sector};
@@ -90,7 +90,7 @@ impl Mover {
     /// that was read, unless it is all zeros, or switches, exactly where every piece was read and each that is not all zeros was
     /// written and answered.
     ///
-    /// `NoMemory` (1) leaves the mover and the reply as they were.
+    /// `NoMemory` (1) leaves the mover and the reply as they were. It comes only where what was read is to be written.
     pub fn next(&mut self, alloc: Global, reply: &mut Option<Reply>) -> Result<MoveNext, NoMemory>
         requires going { self.old.done < self.old.pieces }
         requires reply { Fits self.old.asked reply.old }
@@ -99,6 +99,7 @@ impl Mover {
         ensures taken { IfOk result (λ _. reply.new ≡ None) }
         ensures mover { OnErr result (self.new ≡ self.old) }
         ensures kept { OnErr result (reply.new ≡ reply.old) }
+        ensures memory { OnErr result (IsSome (to_write reply.old)) }
     {
         let payload = payload_of(alloc, reply)?;
         let was_answered = reply.is_some();
@@ -140,7 +141,8 @@ fn piece(index: u32) -> Range
 
 /// What is to be written after a reply: what was read, unless it is all zeros.
 fn payload_of(alloc: Global, reply: &Option<Reply>) -> Result<Option<Payload>, NoMemory>
-    ensures { IfOk result (λ payload. payload ≡ to_write reply.now) }
+    ensures payload { IfOk result (λ payload. payload ≡ to_write reply.now) }
+    ensures memory { OnErr result (IsSome (to_write reply.now)) }
 {
     let Some(Reply::Bytes(data)) = reply else {
         return Ok(None);
