@@ -1,5 +1,5 @@
 -- What calls of a mover come to, from any of its states.
-use Rattle.std.proofs.Common.{◌≡◌, ◌↔◌, ℕ, suc, ◌+◌, ◌<◌, ◌≤◌, ◌||◌, nat_eq, Bool, true, false, cond, List, [], ◌∷◌, length, Option, Some, None, refl, sym, ◌∙◌, ap, subst, arith}
+use Rattle.std.proofs.Common.{◌≡◌, ◌↔◌, ℕ, suc, ◌+◌, ◌<◌, ◌≤◌, ◌||◌, nat_eq, Bool, true, false, cond, List, [], ◌∷◌, ◌++◌, length, Option, Some, None, refl, sym, ◌∙◌, ap, subst, arith}
 use Rattle.pf_base.specs.Span.{Span}
 use Rattle.pf_base.specs.declared.asks.Reply.{Reply}
 use Rattle.pf_base.specs.declared.asks.Reply.TheVariants.{Written, Bytes}
@@ -11,42 +11,42 @@ use Rattle.pf_move.specs.Movers.{Fits, MoverIs, Step, is_zero, new_mover, piece,
 use Rattle.pf_move.specs.Turns.{Copy, IsCopied, Turn, Turns, answers, copies, given, is_switch, is_switched, pieces, read, read_by, written, written_by}
 
 -- the pieces that were given
-abbrev pub base : (done : ℕ) → Option Asked → ℕ
+abbrev base : (done : ℕ) → Option Asked → ℕ
 base done (Some Writing) = done + 1
 base done _ = done
 
 -- the pieces that were asked to be read
-abbrev pub asked_for : (done : ℕ) → Option Asked → ℕ
+abbrev asked_for : (done : ℕ) → Option Asked → ℕ
 asked_for done None = done
 asked_for done (Some _) = done + 1
 
 -- the writes that are not answered
-abbrev pub writing : Option Asked → ℕ
+abbrev writing : Option Asked → ℕ
 writing (Some Writing) = 1
 writing _ = 0
 
-abbrev pub mover : (chunk count done : ℕ) → Option Asked → MoverIs
+abbrev mover : (chunk count done : ℕ) → Option Asked → MoverIs
 mover chunk count done asked = record { chunk = chunk; pieces = count; done = done; asked = asked }
 
 -- what calls come to that begin where so many pieces are done, and this ask is waited for
-pub record Goes (done : ℕ) (asked : Option Asked) (count : ℕ) (turns : List Turn) (new : MoverIs) : Type 0 where
-  pub reads : (n : ℕ) × (asked_for done asked + n ≤ count) × (read turns ≡ pieces (asked_for done asked) n)
-  pub writes : written turns ≡ copies (base done asked) (given turns)
-  pub gave : base done asked + length (given turns) ≡ base new.done new.asked
-  pub answered : writing asked + length (written turns) ≡ answers turns + writing new.asked
-  pub switch : (is_switched turns ≡ true) ↔ (new.done ≡ count)
-  pub fits : asked_for new.done new.asked ≤ count
+record Goes (done : ℕ) (asked : Option Asked) (count : ℕ) (turns : List Turn) (new : MoverIs) : Type 0 where
+  reads : (n : ℕ) × (asked_for done asked + n ≤ count) × (read turns ≡ pieces (asked_for done asked) n)
+  writes : written turns ≡ copies (base done asked) (given turns)
+  gave : base done asked + length (given turns) ≡ base new.done new.asked
+  answered : writing asked + length (written turns) ≡ answers turns + writing new.asked
+  switch : (is_switched turns ≡ true) ↔ (new.done ≡ count)
+  fits : asked_for new.done new.asked ≤ count
 
 -- the same of what a call wants done where no ask is waited for, and the calls after it
-pub record Follows (done count : ℕ) (next : MoveNext) (turns : List Turn) (new : MoverIs) : Type 0 where
-  pub reads : (n : ℕ) × (done + n ≤ count) × (read_by next (read turns) ≡ pieces done n)
-  pub writes : written_by next (written turns) ≡ copies done (given turns)
-  pub gave : done + length (given turns) ≡ base new.done new.asked
-  pub answered : length (written_by next (written turns)) ≡ answers turns + writing new.asked
-  pub switch : ((is_switch next || is_switched turns) ≡ true) ↔ (new.done ≡ count)
-  pub fits : asked_for new.done new.asked ≤ count
+record Follows (done count : ℕ) (next : MoveNext) (turns : List Turn) (new : MoverIs) : Type 0 where
+  reads : (n : ℕ) × (done + n ≤ count) × (read_by next (read turns) ≡ pieces done n)
+  writes : written_by next (written turns) ≡ copies done (given turns)
+  gave : done + length (given turns) ≡ base new.done new.asked
+  answered : length (written_by next (written turns)) ≡ answers turns + writing new.asked
+  switch : ((is_switch next || is_switched turns) ≡ true) ↔ (new.done ≡ count)
+  fits : asked_for new.done new.asked ≤ count
 
-abbrev pub Later : (chunk count : ℕ) (turns : List Turn) (new : MoverIs) → Type 0
+abbrev Later : (chunk count : ℕ) (turns : List Turn) (new : MoverIs) → Type 0
 Later chunk count turns new = (done : ℕ) (asked : Option Asked) → asked_for done asked ≤ count → done < count → Turns (mover chunk count done asked) turns new → Goes done asked count turns new
 
 switched : (chunk done count : ℕ) → done ≡ count → Follows done count Switch [] (mover chunk count done None)
@@ -206,3 +206,10 @@ is_copied chunk count turns new some t =
       few = end.0;
       switch = ((λ h. end.1.0 (g.switch.0 h)), (λ h. g.switch.1 (end.1.1 h)));
     }
+
+-- calls that follow others
+pub turns_append : (earlier later : List Turn) (old mid new : MoverIs) → Turns old earlier mid → Turns mid later new → Turns old (earlier ++ later) new
+turns_append [] later old mid new e t =
+    let P : MoverIs → Type 0 = λ m. Turns m later new in
+    subst P e t
+turns_append (turn ∷ earlier) later old mid new e t = (e.0, e.1, e.2, e.3, turns_append earlier later e.2 mid new e.4 t)

@@ -95,7 +95,7 @@ impl Routes {
         self.moving = Some(Moving { chunk, to });
     }
 
-    /// Ends the move: from here on the chunk's new group serves it, in the next epoch. All else stays.
+    /// Ends the move: from here on the chunk's new group serves it, in the next epoch, or in epoch 2^64 - 1 for good. All else stays.
     pub fn switch(&mut self)
         requires { IsSome self.old.moving }
         ensures { Switches self.old self.new }
