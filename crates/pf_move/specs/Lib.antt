@@ -1,0 +1,3 @@
+pub mod Movers
+pub mod Routes
+pub mod Turns
