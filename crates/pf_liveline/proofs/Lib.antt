@@ -8,3 +8,5 @@ pub mod PassesMet
 pub mod Regrouped
 pub mod Opened
 pub mod Ends
+pub mod Looked
+pub mod Judged

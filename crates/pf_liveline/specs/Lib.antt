@@ -6,3 +6,4 @@ pub mod Meeting
 pub mod Taking
 pub mod Crews
 pub mod Opening
+pub mod Judging

@@ -1,8 +1,19 @@
-//! A live line between two runs of its threads.
+//! A live line between two runs of its threads, and whether it has come to an end.
+ghost use Rattle.std.specs.Prelude.{◌≡◌, ◌<◌, IfOk};
+ghost use Rattle.pf_cluster.specs.Shown.{IsLeader, is_acked};
+ghost use Rattle.pf_shared.specs.Seats.{root_in, seen_by};
+ghost use Rattle.pf_shared.specs.Since.{state_at};
+ghost use Rattle.pf_live.specs.Deliveries.{least_left};
+ghost use Rattle.pf_live.specs.Ends.{NoneIsLeft};
+ghost use Rattle.pf_liveline.specs.Crews.{IsCrew};
+ghost use Rattle.pf_liveline.specs.Judging.{HasCount, HasLooked, IsJudged};
+
+use pf_base::{NoMemory, Server, Slot, Term};
 use pf_disk::Disk;
 use pf_leadercell::LeaderPass;
-use pf_live::{Host, Served};
+use pf_live::{Host, Line, LiveEnd, Served, Standing};
 use pf_shared::GroupSeat;
+use std::sync::Wait;
 
 /// A live line between two runs of its threads: the group's first seat, and what its workers keep.
 #[derive(Drop)]
@@ -20,4 +31,128 @@ pub struct Crew<D: Disk> {
     pub(crate) next: u32,
     /// How many packets were delivered.
     pub(crate) made: u32,
+}
+
+impl<D: Disk + Drop> Crew<D> {
+    /// The least packet that is left and was not passed over. Where memory runs out (`NoMemory`, 1) it is not known.
+    fn least_left<R: Wait, G>(&mut self, rt: &R, line: &Line<D, G>) -> Result<Option<u32>, NoMemory>
+        requires { IsCrew line.now.group line.now.cell line.now.plan line.now.rings.items self.old }
+        ensures looked { HasLooked line.now.group line.now.cell line.now.plan line.now.rings.items self.old self.new }
+        ensures left { IfOk result (λ left. least_left (state_at (root_in line.now.group) (seen_by self.new.seat)) (seen_by self.new.seat) ≡ left) }
+    {
+        line.group
+            .left_from(rt, line.alloc, &mut self.seat, self.next)
+    }
+
+    /// The serving server of the greatest term, with its term. Where memory runs out (`NoMemory`, 1) it is not known.
+    fn leader<R: Wait, G>(
+        &mut self,
+        rt: &R,
+        line: &Line<D, G>,
+    ) -> Result<Option<(Term, Server)>, NoMemory>
+        requires { IsCrew line.now.group line.now.cell line.now.plan line.now.rings.items self.old }
+        ensures looked { HasLooked line.now.group line.now.cell line.now.plan line.now.rings.items self.old self.new }
+        ensures leader { IfOk result (λ leader. IsLeader (state_at (root_in line.now.group) (seen_by self.new.seat)) leader) }
+    {
+        line.group.leader(rt, line.alloc, &mut self.seat)
+    }
+
+    /// Whether the slot was acknowledged in this term. Where memory runs out (`NoMemory`, 1) it is not known.
+    fn is_acked<R: Wait, G>(
+        &mut self,
+        rt: &R,
+        line: &Line<D, G>,
+        term: Term,
+        slot: Slot,
+    ) -> Result<bool, NoMemory>
+        requires { IsCrew line.now.group line.now.cell line.now.plan line.now.rings.items self.old }
+        ensures looked { HasLooked line.now.group line.now.cell line.now.plan line.now.rings.items self.old self.new }
+        ensures acked { IfOk result (λ is. is ≡ is_acked (state_at (root_in line.now.group) (seen_by self.new.seat)) term slot) }
+    {
+        line.group
+            .is_acked(rt, line.alloc, &mut self.seat, term, slot)
+    }
+
+    /// How many writes of the host are acknowledged, and whether one more has a slot. Where memory runs out (`NoMemory`, 1) it is not
+    /// known.
+    fn count<R: Wait, G>(
+        &mut self,
+        rt: &R,
+        line: &Line<D, G>,
+        host: u32,
+    ) -> Result<(u32, bool), NoMemory>
+        requires crew { IsCrew line.now.group line.now.cell line.now.plan line.now.rings.items self.old }
+        requires host { host < line.now.plan.hosts }
+        ensures looked { HasLooked line.now.group line.now.cell line.now.plan line.now.rings.items self.old self.new }
+        ensures count { IfOk result (λ told. HasCount line.now.plan (root_in line.now.group) (seen_by self.new.seat) host told) }
+    {
+        let Some(served) = self.served.get(host as usize) else {
+            unreachable!()
+        };
+        let taken = served.taken;
+        match served.standing {
+            Standing::Settled => Ok((taken, false)),
+            Standing::Asked(_) => Ok((taken - 1, false)),
+            Standing::Placed { term, slot } => {
+                if self.is_acked(rt, line, term, slot)? {
+                    Ok((taken, false))
+                } else {
+                    Ok((taken - 1, true))
+                }
+            }
+        }
+    }
+
+    /// Which end it is where no packet is left and this is the leader. `None` where a write can be handed to the leader that has no slot.
+    /// Where memory runs out (`NoMemory`, 1) it is not known.
+    fn judge_hosts<R: Wait, G>(
+        &mut self,
+        rt: &R,
+        line: &Line<D, G>,
+        leader: Option<(Term, Server)>,
+    ) -> Result<Option<LiveEnd>, NoMemory>
+        requires crew { IsCrew line.now.group line.now.cell line.now.plan line.now.rings.items self.old }
+        requires none { NoneIsLeft (root_in line.now.group) (seen_by self.old.seat) }
+        requires leader { IsLeader (state_at (root_in line.now.group) (seen_by self.old.seat)) leader }
+        ensures looked { HasLooked line.now.group line.now.cell line.now.plan line.now.rings.items self.old self.new }
+        ensures end { IfOk result (IsJudged line.now.plan (root_in line.now.group) (seen_by self.new.seat)) }
+    {
+        let mut waits = false;
+        for host in 0..line.plan.hosts {
+            let (acked, placed) = self.count(rt, line, host)?;
+            if acked < line.plan.writes {
+                if leader.is_some() && !placed {
+                    return Ok(None);
+                }
+                waits = true;
+            }
+        }
+        if waits {
+            Ok(Some(LiveEnd::Stalled))
+        } else {
+            Ok(Some(LiveEnd::Done))
+        }
+    }
+
+    /// The end that the line has come to, by looks of the first seat alone. `None` where it may go on: a packet is left that may be
+    /// delivered, or none is left and a server serves to which a write can be handed that has no slot. Where memory runs out (`NoMemory`,
+    /// 1) it is not known.
+    pub fn judge<R: Wait, G>(
+        &mut self,
+        rt: &R,
+        line: &Line<D, G>,
+    ) -> Result<Option<LiveEnd>, NoMemory>
+        requires { IsCrew line.now.group line.now.cell line.now.plan line.now.rings.items self.old }
+        ensures looked { HasLooked line.now.group line.now.cell line.now.plan line.now.rings.items self.old self.new }
+        ensures end { IfOk result (IsJudged line.now.plan (root_in line.now.group) (seen_by self.new.seat)) }
+    {
+        if self.least_left(rt, line)?.is_some() {
+            if self.made < line.plan.turns {
+                return Ok(None);
+            }
+            return Ok(Some(LiveEnd::TurnsSpent));
+        }
+        let leader = self.leader(rt, line)?;
+        self.judge_hosts(rt, line, leader)
+    }
 }

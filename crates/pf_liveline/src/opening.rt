@@ -1,5 +1,5 @@
 //! A live line is opened over a group, and closed.
-ghost use Rattle.std.specs.Prelude.{◌≡◌, [], IfErr, IfOk};
+ghost use Rattle.std.specs.Prelude.{◌≡◌, [], IfErr, IfOk, IsTrue};
 ghost use Rattle.pf_entry.specs.Lists.{Every};
 ghost use Rattle.pf_protocol.specs.Answers.{claims_of};
 ghost use Rattle.pf_group.specs.Roots.{root_of};
@@ -76,15 +76,16 @@ impl Rings {
     }
 }
 
-/// Opens a line over a group in whose history no claim is open. Its list is empty. Where memory runs out (`NoMemory`, 1) the group comes
-/// back as it was.
+/// Opens a line over a group whose disks tell their content, and in whose history no claim is open. Its list is empty. Where memory runs
+/// out (`NoMemory`, 1) the group comes back as it was.
 pub fn open<D: Disk + Drop, G: Drop>(
     alloc: Global,
     group: Group<D>,
     plan: Plan,
     gate: G,
 ) -> Result<(Line<D, G>, Crew<D>), (Group<D>, NoMemory)>
-    requires { claims_of [] group.history ≡ [] }
+    requires told { IsTrue group.told }
+    requires none { claims_of [] group.history ≡ [] }
     ensures crew { IfOk result (λ made. IsCrew made.0.group made.0.cell made.0.plan made.0.rings.items made.1) }
     ensures list { IfOk result (λ made. seen_by made.1.seat ≡ []) }
     ensures root { IfOk result (λ made. (root_in made.0.group ≡ group) × (made.0.plan ≡ plan)) }

@@ -1,19 +1,16 @@
 //! Looks at a group over disks in memory, by its first seat.
 ghost use Rattle.std.specs.Prelude.{IfOk};
-ghost use Rattle.pf_group.specs.Making.{AreTold};
 ghost use Rattle.pf_shared.specs.Seats.{IsSeatOf};
 
 use pf_base::NoMemory;
-use pf_disk::{Disk, RamDisk};
+use pf_disk::RamDisk;
 use pf_group::{Group, GroupEvent, Six};
 use pf_shared::{GroupSeat, SharedGroup};
 use std::alloc::Global;
 use std::test::Fail;
 
 /// Six empty disks.
-fn disks(alloc: Global) -> Result<Six<RamDisk>, NoMemory>
-    ensures { IfOk result (λ disks. AreTold ⟦<RamDisk as Disk>⟧.seen disks) }
-{
+fn disks(alloc: Global) -> Result<Six<RamDisk>, NoMemory> {
     Ok(Six {
         s0h0: RamDisk::new(alloc, 20_000)?,
         s0h1: RamDisk::new(alloc, 20_000)?,

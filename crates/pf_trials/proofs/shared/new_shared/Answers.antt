@@ -1,12 +1,14 @@
 use Rattle.std.proofs.Common.{arith, inr, refl}
 use Rattle.pf_trials.proofs.shared.new_shared.Goals as goal
 
-pub new-requires-clause-setup : goal.new-requires-clause-setup
-new-requires-clause-setup c = record {
-  few_names = omega arith;
-  some_sectors = omega arith;
-  few_sectors = omega arith;
-  blocks = (2, refl);
-  format = inr refl;
-  window = refl;
+pub new-requires : goal.new-requires
+new-requires c = record {
+  setup = record {
+    few_names = omega arith;
+    some_sectors = omega arith;
+    few_sectors = omega arith;
+    blocks = (2, refl);
+    format = inr refl;
+    window = refl;
+  };
 }

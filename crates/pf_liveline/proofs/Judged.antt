@@ -1,0 +1,195 @@
+-- What the looks of the first seat tell of a line's end.
+use native.Mathlib.Decide.{ℕ_discrete}
+use mathlib.Core.Logic.{dite}
+use Rattle.std.proofs.Common.{◌≡◌, ◌⊎◌, inl, inr, ℕ, zero, suc, ◌+◌, ◌-◌, ◌<◌, ◌≤◌, Bool, true, false, not, cond, ◌&&◌, List, [], ◌∷◌, ◌++◌, length, length-append, Option, Some, None, is_some, nat_lt, lt-ltb, true≢false, slice_get, sum_by, append_assoc, arith, refl, sym, ap, ◌∙◌, subst}
+use Rattle.std.proofs.lemmas.List.Sums.{sum_by-append, sum_by-cons}
+use Rattle.pf_entry.specs.Lists.{Every}
+use Rattle.pf_turn.specs.declared.log.Stamped.{Stamped}
+use Rattle.pf_protocol.specs.Groups.{Acked}
+use Rattle.pf_protocol.specs.declared.answers.Answer.TheVariants.{Refused}
+use Rattle.pf_protocol.specs.declared.events.Event.TheVariants.{Submit}
+use Rattle.pf_cluster.specs.Shown.{IsLeader, is_acked}
+use Rattle.pf_group.specs.GroupIs.{GroupIs}
+use Rattle.pf_rings.specs.declared.ring.Ring.{Ring}
+use Rattle.pf_shared.specs.declared.moment.Moment.{Moment}
+use Rattle.pf_shared.specs.declared.moment.Moment.TheVariants.{Happened}
+use Rattle.pf_shared.specs.Moments.{entry}
+use Rattle.pf_shared.specs.Since.{state_at}
+use Rattle.pf_live.specs.declared.ending.LiveEnd.TheVariants.{Done, Stalled}
+use Rattle.pf_live.specs.declared.hosting.Host.{Host}
+use Rattle.pf_live.specs.declared.plan.Plan.{Plan}
+use Rattle.pf_live.specs.declared.serving.Served.{Served}
+use Rattle.pf_live.specs.declared.serving.Standing.TheVariants.{Asked, Placed, Settled}
+use Rattle.pf_live.specs.Deliveries.{Line, delivers, is_passed, least_left}
+use Rattle.pf_live.specs.Ends.{HasEnd, IsOpen, NoneIsLeft, WaitsInVain, WasRefused}
+use Rattle.pf_live.specs.Submissions.{acked_of, is_told, slots_of}
+use Rattle.pf_live.specs.Submitters.{AllTold, IsServedIn, Stands}
+use Rattle.pf_live.specs.Writes.{op_of, request_of}
+use Rattle.pf_liveline.specs.Judging.{HasCount, IsUnchanged, MayGoOn}
+use Rattle.pf_liveline.specs.Meeting.{AreMet}
+use Rattle.pf_liveline.proofs.Looked.{weigh}
+
+-- as many hosts as passes
+pub met_count : (plan : Plan) (rings : List Ring) (end h : ℕ) (xs : List Host) (ss : List Served) → AreMet plan rings end h xs ss → h + length ss ≡ end
+met_count plan rings end h [] [] are = omega (arith, are)
+met_count plan rings end h [] (t ∷ ts) are = absurd are
+met_count plan rings end h (b ∷ bs) [] are = absurd are
+met_count plan rings end h (b ∷ bs) (t ∷ ts) are = let rest = met_count plan rings end (h + 1) bs ts are.1 in omega (arith, rest)
+
+met_at : (plan : Plan) (rings : List Ring) (end h : ℕ) (xs : List Host) (ss : List Served) → AreMet plan rings end h xs ss → (j : ℕ) (s : Served) → slice_get ss j ≡ Some s → IsServedIn plan rings (h + j) s
+met_at plan rings end h [] [] are j s there = absurd cc
+met_at plan rings end h [] (t ∷ ts) are j s there = absurd are
+met_at plan rings end h (b ∷ bs) [] are j s there = absurd are
+met_at plan rings end h (b ∷ bs) (t ∷ ts) are zero s there = let same : t ≡ s = cc in subst (λ x. IsServedIn plan rings (h + 0) x) same (subst (λ m. IsServedIn plan rings m t) (sym (Rattle.std.proofs.Common.add-zero h)) are.0.served)
+met_at plan rings end h (b ∷ bs) (t ∷ ts) are (suc j) s there = let shifted : (h + 1) + j ≡ h + suc j = omega arith in subst (λ m. IsServedIn plan rings m s) shifted (met_at plan rings end (h + 1) bs ts are.1 j s there)
+
+-- no more were taken than a host has
+pub met_few : (plan : Plan) (rings : List Ring) (end : ℕ) (xs : List Host) (ss : List Served) → AreMet plan rings end 0 xs ss → (j : ℕ) (s : Served) → slice_get ss j ≡ Some s → s.taken ≤ plan.writes
+met_few plan rings end xs ss are j s there = (met_at plan rings end 0 xs ss are j s there).is.counted.few
+
+sum_told : (p : Acked → Bool) (slots : List Acked) → Every (λ a. p a ≡ true) slots → sum_by (λ a. cond (p a) 1 0) slots ≡ length slots
+sum_told p [] all = refl
+sum_told p (a ∷ rest) all = let f : Acked → ℕ = λ x. weigh (p x) in let c : sum_by f (a ∷ rest) ≡ weigh (p a) + sum_by f rest = sum_by-cons f a rest in let one : weigh (p a) ≡ 1 = ap weigh all.0 in let tail : sum_by f rest ≡ length rest = sum_told p rest all.1 in omega (arith, c, one, tail)
+
+pub not_below : (i n : ℕ) → i < n → false ≡ nat_lt i n → ⊥
+not_below i n low is = true≢false (sym (lt-ltb i n low) ∙ sym is)
+
+-- how many writes of a host are acknowledged
+module _ (plan : Plan) (root : GroupIs) (h : ℕ) (list : Line) (taken : ℕ) (few : taken ≤ plan.writes) where
+  all_acked : AllTold root list (slots_of root h list) → acked_of root h list ≡ length (slots_of root h list)
+  all_acked all = sum_told (is_told (state_at root list)) (slots_of root h list) all
+
+  last_acked : (front : List Acked) (a : Acked) → front ++ a ∷ [] ≡ slots_of root h list → AllTold root list front → acked_of root h list ≡ length front + weigh (is_told (state_at root list) a)
+  last_acked front a is all = let f : Acked → ℕ = λ x. weigh (is_told (state_at root list) x) in
+      let s : sum_by f (front ++ a ∷ []) ≡ sum_by f front + (0 + weigh (is_told (state_at root list) a)) = sum_by-append f front (a ∷ []) in
+      let t : sum_by f front ≡ length front = sum_told (is_told (state_at root list)) front all in
+      ap (sum_by f) (sym is) ∙ (let total : sum_by f (front ++ a ∷ []) ≡ length front + weigh (is_told (state_at root list) a) = omega (arith, s, t) in total)
+
+  pub count_settled : Stands root h list taken Settled → HasCount plan root list h (taken, false)
+  count_settled s = record { acked = all_acked s.1 ∙ s.0; within = few; placed = λ e. absurd cc; settled = λ e. sym s.0 }
+
+  pub count_asked : (request : Rattle.pf_rings.specs.declared.view.Request.Request) → Stands root h list taken (Asked request) → HasCount plan root list h (taken - 1, false)
+  count_asked request s = let less : length (slots_of root h list) ≡ taken - 1 = let is = s.0 in omega arith in record { acked = all_acked s.1 ∙ less; within = omega arith; placed = λ e. absurd cc; settled = λ e. sym less }
+
+  pub count_told : (term slot : ℕ) → is_acked (state_at root list) term slot ≡ true → Stands root h list taken (Placed term slot) → HasCount plan root list h (taken, false)
+  count_told term slot told s = let last = last_acked s.1 (record { term = term; slot = slot }) s.2 s.3 in let one : weigh (is_acked (state_at root list) term slot) ≡ 1 = ap weigh told in let count : length s.1 + 1 ≡ length (slots_of root h list) = sym (length-append s.1 (record { term = term; slot = slot } ∷ [])) ∙ ap length s.2 in record {
+    acked = omega (arith, last, one, count, s.0);
+    within = few;
+    placed = λ e. absurd cc;
+    settled = λ e. sym s.0;
+  }
+
+  pub count_placed : (term slot : ℕ) → is_acked (state_at root list) term slot ≡ false → Stands root h list taken (Placed term slot) → HasCount plan root list h (taken - 1, true)
+  count_placed term slot told s = let last = last_acked s.1 (record { term = term; slot = slot }) s.2 s.3 in let none : weigh (is_acked (state_at root list) term slot) ≡ 0 = ap weigh told in let count : length s.1 + 1 ≡ length (slots_of root h list) = sym (length-append s.1 (record { term = term; slot = slot } ∷ [])) ∙ ap length s.2 in record {
+    acked = omega (arith, last, none, count, s.0);
+    within = omega arith;
+    placed = λ e. omega (arith, count, s.0);
+    settled = λ e. absurd cc;
+  }
+
+pub placed_some : (root : GroupIs) (h : ℕ) (list : Line) (taken term slot : ℕ) → Stands root h list taken (Placed term slot) → 1 ≤ taken
+placed_some root h list taken term slot s = let count : length s.1 + 1 ≡ length (slots_of root h list) = sym (length-append s.1 (record { term = term; slot = slot } ∷ [])) ∙ ap length s.2 in omega (arith, count, s.0)
+
+-- what was found is so after looks
+module _ (plan : Plan) (root : GroupIs) (old new : Line) (un : IsUnchanged root old new) where
+  pub acked_same : (h : ℕ) → acked_of root h new ≡ acked_of root h old
+  acked_same h = ap (λ g. sum_by (λ a. weigh (is_told g a)) (slots_of root h new)) un.state ∙ ap (sum_by (λ a. weigh (is_told (state_at root old) a))) (un.slots h)
+
+  pub least_same : least_left (state_at root new) new ≡ least_left (state_at root old) old
+  least_same = let alike : (λ (k : ℕ). is_passed k new) ≡ (λ (k : ℕ). is_passed k old) = λ i k. un.passed k i in
+      ap (λ g. least_left g new) un.state ∙ ap (λ (p : ℕ → Bool). Rattle.std.proofs.Common.find (λ k. Rattle.pf_group.specs.Packets.is_left_in (state_at root old) k && not (p k)) (Rattle.std.specs.List.range_with_len 0 (length (state_at root old).packets))) alike
+
+  refused_on : (h : ℕ) → WasRefused plan root old h → WasRefused plan root new h
+  refused_on h r = record {
+    before = r.before;
+    seat = r.seat;
+    server = r.server;
+    term = r.term;
+    refusal = r.refusal;
+    after = r.after ++ un.begins.0;
+    there = ap (λ n. r.before ++ refused_at n ∷ (r.after ++ un.begins.0)) (acked_same h) ∙ (sym (append_assoc r.before (refused_at (acked_of root h old) ∷ r.after) un.begins.0) ∙ (ap (λ l. l ++ un.begins.0) r.there ∙ un.begins.1));
+    leads = subst (λ g. IsLeader g (Some (r.term, r.server))) (sym un.state) r.leads;
+    since = let f : Stamped Moment → ℕ = λ e. weigh (delivers e.what) in let a : sum_by f (r.after ++ un.begins.0) ≡ sum_by f r.after + sum_by f un.begins.0 = sum_by-append f r.after un.begins.0 in
+        let b : sum_by f (old ++ un.begins.0) ≡ sum_by f old + sum_by f un.begins.0 = sum_by-append f old un.begins.0 in let c : sum_by f (old ++ un.begins.0) ≡ sum_by f new = ap (sum_by f) un.begins.1 in let d : sum_by f new ≡ sum_by f old = un.count in let z : sum_by f r.after ≡ 0 = r.since in omega (arith, a, b, c, d, z);
+  }
+    where
+      refused_at : ℕ → Stamped Moment
+      refused_at n = entry r.seat (Happened (record { event = Submit r.server (op_of (request_of plan.sectors h n)); answer = Refused r.refusal }))
+
+  vain_on : (h : ℕ) → WaitsInVain plan root old h → WaitsInVain plan root new h
+  vain_on h (inl low) = inl (let a = acked_same h in let b = ap length (un.slots h) in omega (arith, a, b, low))
+  vain_on h (inr (inl none)) = inr (inl (subst (λ g. IsLeader g None) (sym un.state) none))
+  vain_on h (inr (inr refused)) = inr (inr (refused_on h refused))
+
+-- of the hosts below this one: each that has a write left waits in vain
+pub record SoFar (plan : Plan) (root : GroupIs) (list : Line) (leader : Option (ℕ × ℕ)) (waits : Bool) (end : ℕ) : Type 0 where
+  pub none : NoneIsLeft root list
+  pub leads : IsLeader (state_at root list) leader
+  pub vain : (h : ℕ) → h < end → IsOpen plan root list h → WaitsInVain plan root list h
+  pub found : waits ≡ true → (h : ℕ) × IsOpen plan root list h
+  pub all : waits ≡ false → (h : ℕ) → h < end → acked_of root h list ≡ plan.writes
+
+pub so_far_on : (plan : Plan) (root : GroupIs) (old new : Line) (leader : Option (ℕ × ℕ)) (waits : Bool) (end : ℕ) → IsUnchanged root old new → SoFar plan root old leader waits end → SoFar plan root new leader waits end
+so_far_on plan root old new leader waits end un was = record {
+  none = least_same plan root old new un ∙ was.none;
+  leads = subst (λ g. IsLeader g leader) (sym un.state) was.leads;
+  vain = λ h low unacked. vain_on plan root old new un h (was.vain h low (unacked.0, subst (λ n. n < plan.writes) (acked_same plan root old new un h) unacked.1));
+  found = λ e. let f = was.found e in (f.0, (f.1.0, subst (λ n. n < plan.writes) (sym (acked_same plan root old new un f.0)) f.1.1));
+  all = λ e h low. acked_same plan root old new un h ∙ was.all e h low;
+}
+
+pub none_there : (left : Option ℕ) → is_some left ≡ false → left ≡ None
+none_there None e = refl
+none_there (Some k) e = absurd cc
+
+leads_none : (g : Rattle.pf_protocol.specs.Groups.Group) (leader : Option (ℕ × ℕ)) → is_some leader ≡ false → IsLeader g leader → IsLeader g None
+leads_none g None e is = is
+leads_none g (Some one) e is = absurd cc
+
+leads_one : (g : Rattle.pf_protocol.specs.Groups.Group) (leader : Option (ℕ × ℕ)) → is_some leader ≡ true → IsLeader g leader → (one : ℕ × ℕ) × IsLeader g (Some one)
+leads_one g None e is = absurd cc
+leads_one g (Some one) e is = (one, is)
+
+module _ (plan : Plan) (root : GroupIs) (list : Line) (leader : Option (ℕ × ℕ)) (waits : Bool) (h : ℕ) (told : ℕ × Bool) (low : h < plan.hosts) (count : HasCount plan root list h told) (was : SoFar plan root list leader waits h) where
+  -- all writes of one more host are acknowledged
+  pub so_far_acked : (told.0 < plan.writes → ⊥) → SoFar plan root list leader waits (h + 1)
+  so_far_acked full = let is : acked_of root h list ≡ plan.writes = omega (arith, full, count.within, count.acked) in record {
+    none = was.none;
+    leads = was.leads;
+    vain = λ j under unacked. dite (ℕ_discrete j h) (λ here. absurd (let o = unacked.1 in let same : acked_of root j list ≡ plan.writes = ap (λ x. acked_of root x list) here ∙ is in omega arith)) (λ other. was.vain j (omega (arith, under, other)) unacked);
+    found = was.found;
+    all = λ e j under. dite (ℕ_discrete j h) (λ here. ap (λ x. acked_of root x list) here ∙ is) (λ other. was.all e j (omega (arith, under, other)));
+  }
+
+  open_now : told.0 < plan.writes → IsOpen plan root list h
+  open_now less = (low, omega (arith, less, count.acked))
+
+  -- or it waits in vain
+  vain_now : told.1 ≡ true → WaitsInVain plan root list h
+  vain_now placed = inl (let p = count.placed placed in let a = count.acked in omega arith)
+
+  so_far_waits : told.0 < plan.writes → WaitsInVain plan root list h → SoFar plan root list leader true (h + 1)
+  so_far_waits less vain = record {
+    none = was.none;
+    leads = was.leads;
+    vain = λ j under unacked. dite (ℕ_discrete j h) (λ here. subst (WaitsInVain plan root list) (sym here) vain) (λ other. was.vain j (omega (arith, under, other)) unacked);
+    found = λ e. (h, open_now less);
+    all = λ e. absurd cc;
+  }
+
+  pub so_far_placed : told.0 < plan.writes → told.1 ≡ true → SoFar plan root list leader true (h + 1)
+  so_far_placed less placed = so_far_waits less (vain_now placed)
+
+  pub so_far_idle : told.0 < plan.writes → is_some leader ≡ false → SoFar plan root list leader true (h + 1)
+  so_far_idle less idle = so_far_waits less (inr (inl (leads_none (state_at root list) leader idle was.leads)))
+
+  -- or its next write can be handed over
+  pub goes_on : told.0 < plan.writes → is_some leader ≡ true → told.1 ≡ false → MayGoOn plan root list
+  goes_on less serving free = let l = leads_one (state_at root list) leader serving was.leads in inr (was.none, h, open_now less, count.acked ∙ count.settled free, l.0, l.1)
+
+module _ (plan : Plan) (root : GroupIs) (list : Line) (leader : Option (ℕ × ℕ)) where
+  pub ends_stalled : SoFar plan root list leader true plan.hosts → HasEnd plan root list Stalled
+  ends_stalled s = (s.none, s.found refl, λ h unacked. s.vain h unacked.0 unacked)
+
+  pub ends_done : SoFar plan root list leader false plan.hosts → HasEnd plan root list Done
+  ends_done s = (s.all refl, s.none)

@@ -1,0 +1,229 @@
+-- The list goes on by an entry of the first seat.
+use Rattle.std.proofs.Common.{◌≡◌, ◌≢◌, ℕ, zero, suc, ◌+◌, Bool, true, false, cond, ◌||◌, eqb, eqb-true, List, [], ◌∷◌, ◌++◌, Option, None, Result, Ok, Err, IfOk, OnErr, sum_by, append-nil, arith, refl, sym, ap, ◌∙◌, subst}
+use Rattle.std.proofs.lemmas.List.Folds.{list_any-append}
+use Rattle.std.proofs.lemmas.List.Sums.{sum_by-append}
+use Rattle.pf_turn.specs.declared.log.Stamped.{Stamped}
+use Rattle.pf_turn.specs.Lists.{entries_of}
+use Rattle.pf_turn.specs.Own.{AllOfSeats, down_from}
+use Rattle.pf_turn.proofs.Lists.{begins_refl, begins_trans, entries-append}
+use Rattle.pf_base.specs.declared.errors.NoMemory.{NoMemory}
+use Rattle.pf_disk.specs.declared.disk.Disk.{Ghosts}
+use Rattle.pf_protocol.specs.Groups.{Group}
+use Rattle.pf_group.specs.GroupIs.{GroupIs}
+use Rattle.pf_group.specs.Packets.{IsPassedUpTo, least_from}
+use Rattle.pf_group.proofs.Passing.{least_is, passed_later}
+use Rattle.pf_leadercell.specs.declared.cell.LeaderCell.{LeaderCell}
+use Rattle.pf_rings.specs.declared.ring.Ring.{Ring}
+use Rattle.pf_shared.specs.declared.moment.Moment.{Moment}
+use Rattle.pf_shared.specs.declared.moment.Moment.TheVariants.{Look}
+use Rattle.pf_shared.specs.declared.parts.GroupSeat.{GroupSeat}
+use Rattle.pf_shared.specs.declared.parts.SharedGroup.{SharedGroup}
+use Rattle.pf_shared.specs.Calls.{Finds}
+use Rattle.pf_shared.specs.Looks.{Looks}
+use Rattle.pf_shared.specs.Moments.{entry}
+use Rattle.pf_shared.specs.Seats.{IsAlone, IsSameSeat, IsSeatOf, number_of, root_in, seen_by}
+use Rattle.pf_shared.specs.Since.{state_at}
+use Rattle.pf_live.specs.declared.plan.Plan.{Plan}
+use Rattle.pf_live.specs.Deliveries.{Line, deliveries, delivers, is_passed, least_left, passes_over}
+use Rattle.pf_live.specs.Lines.{Does, IsLive}
+use Rattle.pf_live.specs.Roles.{EndsWith, nothing_free}
+use Rattle.pf_live.specs.Submissions.{slots_of}
+use Rattle.pf_live.specs.Submitters.{AllStand}
+use Rattle.pf_live.proofs.Deliveries.{sent_later}
+use Rattle.pf_live.proofs.Happenings.{state_more}
+use Rattle.pf_live.proofs.Stands.{stands_on}
+use Rattle.pf_live.proofs.Submissions.{slots_snoc}
+use Rattle.pf_liveline.specs.declared.crew.Crew.{Crew}
+use Rattle.pf_liveline.specs.Crews.{AllEnded, HasMade, IsCrew, IsLineSeat}
+use Rattle.pf_liveline.specs.Judging.{HasLooked, IsUnchanged}
+use Rattle.pf_liveline.proofs.Entries.{all_join}
+
+abbrev pub weigh : Bool → ℕ
+weigh b = cond b 1 0
+
+or_false : (b : Bool) → (b || false) ≡ b
+or_false true = refl
+or_false false = refl
+
+apart : (n m : ℕ) → n ≢ m → eqb n m ≡ false
+apart n m other = by (eqb n m) refl
+  where
+    by : (b : Bool) → eqb n m ≡ b → eqb n m ≡ false
+    by true e = absurd (other (eqb-true n m e))
+    by false e = e
+
+-- an entry of seat n
+module _ (n : ℕ) (list : Line) (what : Moment) where
+  abbrev more : Line
+  more = list ++ entry n what ∷ []
+
+  pub others_same : (m : ℕ) → n ≢ m → entries_of m more ≡ entries_of m list
+  others_same m other = entries-append m list (entry n what ∷ []) ∙ (ap (λ b. entries_of m list ++ cond b (entry n what ∷ []) []) (apart n m other) ∙ append-nil (entries_of m list))
+
+  pub live_more : (P : ℕ → Line → Moment → Type 0) → AllOfSeats P list → P n list what → AllOfSeats P more
+  live_more P all here = all_join P [] list (entry n what ∷ []) all (here, tt)
+
+  -- that delivers nothing
+  module _ (none : (k : ℕ) → passes_over k what ≡ false) (uncounted : delivers what ≡ false) where
+    pub passed_same : (k : ℕ) → is_passed k more ≡ is_passed k list
+    passed_same k = list_any-append (λ (e : Stamped Moment). passes_over k e.what) list (entry n what ∷ []) ∙ (ap (λ b. is_passed k list || (b || false)) (none k) ∙ or_false (is_passed k list))
+
+    pub count_same : deliveries more ≡ deliveries list
+    count_same = let f : Stamped Moment → ℕ = λ e. weigh (delivers e.what) in let s : sum_by f more ≡ sum_by f list + (0 + weigh (delivers what)) = sum_by-append f list (entry n what ∷ []) in let c : weigh (delivers what) ≡ 0 = ap weigh uncounted in omega (arith, s, c)
+
+    pub made_more : (turns : ℕ) (root : GroupIs) (next made : ℕ) → HasMade turns root list next made → HasMade turns root more next made
+    made_more turns root next made h = let sent = sent_later root list more (entry n what ∷ [], refl) in
+        let later : IsPassedUpTo (state_at root more) (λ k. is_passed k list) next = passed_later (state_at root list) (λ k. is_passed k list) next h.passed (state_at root more) (λ k is. sent.none k is) h.sent in record {
+          sent = omega (arith, h.sent, sent.longer);
+          passed = record { below = λ k is. later.below k (sym (passed_same k) ∙ is); all = λ k low left. passed_same k ∙ later.all k low left };
+          count = h.count ∙ sym count_same;
+          within = h.within;
+        }
+
+-- a look
+module _ (root : GroupIs) (n : ℕ) (list : Line) where
+  abbrev looked : Line
+  looked = list ++ entry n (Look None) ∷ []
+
+  state_same : state_at root looked ≡ state_at root list
+  state_same = sym (state_more root list (entry n (Look None) ∷ []) looked refl)
+
+  slots_same : (h : ℕ) → slots_of root h looked ≡ slots_of root h list
+  slots_same h = slots_snoc root h list (entry n (Look None)) ∙ append-nil (slots_of root h list)
+
+  pub look_unchanged : IsUnchanged root list looked
+  look_unchanged = record {
+    begins = (entry n (Look None) ∷ [], refl);
+    state = state_same;
+    passed = passed_same n list (Look None) (λ k. refl) refl;
+    count = count_same n list (Look None) (λ k. refl) refl;
+    slots = slots_same;
+  }
+
+pub unchanged_refl : (root : GroupIs) (list : Line) → IsUnchanged root list list
+unchanged_refl root list = record { begins = begins_refl list; state = refl; passed = λ k. refl; count = refl; slots = λ h. refl }
+
+pub unchanged_trans : (root : GroupIs) (a b c : Line) → IsUnchanged root a b → IsUnchanged root b c → IsUnchanged root a c
+unchanged_trans root a b c p q = record {
+  begins = begins_trans a b c p.begins q.begins;
+  state = q.state ∙ p.state;
+  passed = λ k. q.passed k ∙ p.passed k;
+  count = q.count ∙ p.count;
+  slots = λ h. q.slots h ∙ p.slots h;
+}
+
+-- where it alone is, the look stands at the end of what it had seen
+pub alone_look : (root : GroupIs) (n : ℕ) (alone : Type 0) (seen new : Line) (P : Group → Type 0) → alone → Looks root n alone seen P new → (new ≡ seen ++ entry n (Look None) ∷ []) × P (state_at root new)
+alone_look root n alone seen new P is look =
+    let there : look.adds.found ≡ seen = look.adds.finds.exact is in
+    let listed : new ≡ seen ++ entry n (Look None) ∷ [] = look.adds.listed ∙ ap (λ l. l ++ entry n (Look None) ∷ []) there in
+    let state : state_at root look.adds.found ≡ state_at root new = ap (state_at root) there ∙ (sym (look_unchanged root n seen).state ∙ ap (state_at root) (sym listed)) in
+    (listed, subst P state look.shown)
+
+module _ {D : Type 0} {disk : Ghosts D} (group : SharedGroup D disk) (plan : Plan) (a b : GroupSeat D disk) (is : IsLineSeat group plan a) (at : IsSeatOf group b) (same : IsSameSeat a b) where
+  -- the seat made an entry
+  pub seat_more : (what : Moment) → seen_by b ≡ seen_by a ++ entry (number_of a) what ∷ [] → Does plan (root_in group) 0 (seen_by a) what → IsLineSeat group plan b
+  seat_more what listed does = record {
+    at = (at, (same.0 ∙ is.at.1.0, same.2 ∙ is.at.1.1));
+    runs = (is.runs.0, same.1 ∙ is.runs.1);
+    gone = same.3 ∙ (is.gone ∙ ap down_from (sym same.1));
+    strangers = λ m above. ap (entries_of m) listed ∙ (others_same (number_of a) (seen_by a) what m (λ e. absurd (omega (arith, above, same.1, is.at.1.0, e))) ∙ is.strangers m (omega (arith, above, same.1)));
+    live = subst (IsLive plan (root_in group)) (sym listed) (live_more (number_of a) (seen_by a) what (Does plan (root_in group)) is.live (subst (λ m. Does plan (root_in group) m (seen_by a) what) (sym is.at.1.0) does));
+  }
+
+  pub ended_more : (what : Moment) → seen_by b ≡ seen_by a ++ entry (number_of a) what ∷ [] → AllEnded plan a → AllEnded plan b
+  ended_more what listed ended zero low role = absurd cc
+  ended_more what listed ended (suc m) low role = subst (λ l. EndsWith l (nothing_free (suc m))) (sym (ap (entries_of (suc m)) listed ∙ others_same (number_of a) (seen_by a) what (suc m) (λ e. absurd (omega (arith, is.at.1.0, e))))) (ended (suc m) (omega (arith, low, same.1)) role)
+
+  -- or none
+  pub seat_same : seen_by b ≡ seen_by a → IsLineSeat group plan b
+  seat_same seen = record {
+    at = (at, (same.0 ∙ is.at.1.0, same.2 ∙ is.at.1.1));
+    runs = (is.runs.0, same.1 ∙ is.runs.1);
+    gone = same.3 ∙ (is.gone ∙ ap down_from (sym same.1));
+    strangers = λ m above. ap (entries_of m) seen ∙ is.strangers m (omega (arith, above, same.1));
+    live = subst (IsLive plan (root_in group)) (sym seen) is.live;
+  }
+
+  pub ended_same : seen_by b ≡ seen_by a → AllEnded plan a → AllEnded plan b
+  ended_same seen ended m low role = subst (λ l. EndsWith (entries_of m l) (nothing_free m)) (sym seen) (ended m (omega (arith, low, same.1)) role)
+
+module _ {D : Type 0} {disk : Ghosts D} (group : SharedGroup D disk) (cell : LeaderCell) (plan : Plan) (rings : List Ring) (a : Crew D disk) (is : IsCrew group cell plan rings a) where
+  module _ (seat : GroupSeat D disk) (at : IsSeatOf group seat) (same : IsSameSeat a.seat seat) where
+    -- it looked
+    pub looked_more : seen_by seat ≡ seen_by a.seat ++ entry (number_of a.seat) (Look None) ∷ [] → HasLooked group cell plan rings a (record a { seat = seat })
+    looked_more listed = let un = look_unchanged (root_in group) (number_of a.seat) (seen_by a.seat) in record {
+      is = record {
+        seat = seat_more group plan a.seat seat is.seat at same (Look None) listed refl;
+        splits = is.splits ∙ sym same.1;
+        met = is.met;
+        stand = subst (λ l. AllStand (root_in group) l a.served.items) (sym listed) (λ h s there. stands_on (root_in group) h (seen_by a.seat) _ un.begins (un.slots h) s.taken s.standing (is.stand h s there));
+        first = is.first;
+        leaders = is.leaders;
+        made = subst (λ l. HasMade plan.turns (root_in group) l a.next a.made) (sym listed) (made_more (number_of a.seat) (seen_by a.seat) (Look None) (λ k. refl) refl plan.turns (root_in group) a.next a.made is.made);
+      };
+      unchanged = subst (IsUnchanged (root_in group) (seen_by a.seat)) (sym listed) un;
+      served = refl;
+      ended = ended_more group plan a.seat seat is.seat at same (Look None) listed;
+    }
+
+    -- or there was no memory for it
+    pub looked_none : seen_by seat ≡ seen_by a.seat → HasLooked group cell plan rings a (record a { seat = seat })
+    looked_none seen = record {
+      is = record {
+        seat = seat_same group plan a.seat seat is.seat at same seen;
+        splits = is.splits ∙ sym same.1;
+        met = is.met;
+        stand = subst (λ l. AllStand (root_in group) l a.served.items) (sym seen) is.stand;
+        first = is.first;
+        leaders = is.leaders;
+        made = subst (λ l. HasMade plan.turns (root_in group) l a.next a.made) (sym seen) is.made;
+      };
+      unchanged = subst (IsUnchanged (root_in group) (seen_by a.seat)) (sym seen) (unchanged_refl (root_in group) (seen_by a.seat));
+      served = refl;
+      ended = ended_same group plan a.seat seat is.seat at same seen;
+    }
+
+    -- what a look told is so of the list as it is now
+    module _ (P : Group → Type 0) (look : Looks (root_in group) (number_of a.seat) (IsAlone a.seat) (seen_by a.seat) P (seen_by seat)) where
+      now : (seen_by seat ≡ seen_by a.seat ++ entry (number_of a.seat) (Look None) ∷ []) × P (state_at (root_in group) (seen_by seat))
+      now = alone_look (root_in group) (number_of a.seat) (IsAlone a.seat) (seen_by a.seat) (seen_by seat) P is.seat.at.1 look
+
+      pub looks_on : HasLooked group cell plan rings a (record a { seat = seat })
+      looks_on = looked_more now.0
+
+      pub shown_now : P (state_at (root_in group) (seen_by seat))
+      shown_now = now.1
+
+    pub finds_on : Finds (number_of a.seat) (IsAlone a.seat) (seen_by a.seat) (seen_by seat) → HasLooked group cell plan rings a (record a { seat = seat })
+    finds_on f = looked_none (f.exact is.seat.at.1)
+
+    module _ {A : Type 0} (P : A → Group → Type 0) where
+      -- where there was memory for it, or not
+      pub look_result : (r : Result A NoMemory) → IfOk r (λ x. Looks (root_in group) (number_of a.seat) (IsAlone a.seat) (seen_by a.seat) (P x) (seen_by seat)) → OnErr r (Finds (number_of a.seat) (IsAlone a.seat) (seen_by a.seat) (seen_by seat)) → HasLooked group cell plan rings a (record a { seat = seat })
+      look_result (Ok x) look none = looks_on (P x) look
+      look_result (Err e) look none = finds_on none
+
+      pub look_shows : (r : Result A NoMemory) → IfOk r (λ x. Looks (root_in group) (number_of a.seat) (IsAlone a.seat) (seen_by a.seat) (P x) (seen_by seat)) → IfOk r (λ x. P x (state_at (root_in group) (seen_by seat)))
+      look_shows (Ok x) look = shown_now (P x) look
+      look_shows (Err e) look = tt
+
+  pub looked_refl : HasLooked group cell plan rings a a
+  looked_refl = record { is = is; unchanged = unchanged_refl (root_in group) (seen_by a.seat); served = refl; ended = λ e. e }
+
+  -- the least packet from the switch's next one on is the least that was not passed over
+  pub least_now : least_left (state_at (root_in group) (seen_by a.seat)) (seen_by a.seat) ≡ least_from a.next (state_at (root_in group) (seen_by a.seat))
+  least_now = least_is (state_at (root_in group) (seen_by a.seat)) (λ k. is_passed k (seen_by a.seat)) a.next is.made.passed
+
+pub least_shows : {D : Type 0} {disk : Ghosts D} (group : SharedGroup D disk) (cell : LeaderCell) (plan : Plan) (rings : List Ring) (a : Crew D disk) (is : IsCrew group cell plan rings a) (r : Result (Option ℕ) NoMemory)
+    → IfOk r (λ left. left ≡ least_from a.next (state_at (root_in group) (seen_by a.seat))) → IfOk r (λ left. least_left (state_at (root_in group) (seen_by a.seat)) (seen_by a.seat) ≡ left)
+least_shows group cell plan rings a is (Ok left) told = least_now group cell plan rings a is ∙ sym told
+least_shows group cell plan rings a is (Err e) told = tt
+
+pub looked_trans : {D : Type 0} {disk : Ghosts D} (group : SharedGroup D disk) (cell : LeaderCell) (plan : Plan) (rings : List Ring) (a b c : Crew D disk) → HasLooked group cell plan rings a b → HasLooked group cell plan rings b c → HasLooked group cell plan rings a c
+looked_trans group cell plan rings a b c p q = record {
+  is = q.is;
+  unchanged = unchanged_trans (root_in group) (seen_by a.seat) (seen_by b.seat) (seen_by c.seat) p.unchanged q.unchanged;
+  served = q.served ∙ p.served;
+  ended = λ e. q.ended (p.ended e);
+}
