@@ -10,3 +10,4 @@ pub mod Opened
 pub mod Ends
 pub mod Looked
 pub mod Judged
+pub mod Rounds

@@ -7,3 +7,4 @@ pub mod Taking
 pub mod Crews
 pub mod Opening
 pub mod Judging
+pub mod Rounds

@@ -1,7 +1,8 @@
-//! A live line: how its threads run over one shared group, and what its list is afterwards.
+//! A live line: how its threads run over one shared group, what its list is afterwards, and how it ends.
 #![tactic(auto)]
 
 mod crew;
+mod ending;
 mod joining;
 mod meeting;
 mod mustering;
@@ -11,6 +12,7 @@ mod taking;
 mod worker;
 
 pub use crew::Crew;
+pub use ending::run_to_end;
 pub use opening::{Passes, close, open};
 pub use running::run;
 pub use worker::{Worker, run_workers};
