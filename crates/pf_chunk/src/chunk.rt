@@ -1,7 +1,7 @@
 //! A group, with what a report needs beside it.
 ghost use Rattle.std.specs.Prelude.{◌≡◌, [], IfErr, IfOk, IsTrue, List, replicate};
 ghost use Rattle.pf_protocol.specs.Answers.{IsLegal, IsSetup};
-ghost use Rattle.pf_group.specs.Crashing.{LeavesAtCrash};
+ghost use Rattle.pf_group.specs.Crashing.{AllLeaveAtCrash, LeavesAtCrash};
 ghost use Rattle.pf_group.specs.Leaving.{LeavesIn, as_seen};
 ghost use Rattle.pf_group.specs.Sound.{IsSound};
 ghost use Rattle.pf_group.specs.Making.{IsMade, setup_with, six_faults};
@@ -96,12 +96,14 @@ impl<D: Disk + Drop> ChunkGroup<D> {
         Ok((chunk, answer))
     }
 
-    /// All that happened to the group, in order: a legal history, where its disks tell their content.
+    /// All that happened to the group, in order: a legal history, where its disks tell their content. Where they do, a crash at any moment
+    /// since its last step began that may have touched disks left of each server what that may hold before that step or right after it.
     pub fn history(&self) -> &[Happening]
         ensures items { result.now ≡ self.now.group.history }
         ensures told { self.now.group.told ≡ D.tells }
         ensures legal { IsTrue self.now.group.told → IsLegal self.now.group.setup self.now.group.history }
         ensures sound { IsSound self.now.group.setup self.now.group.history }
+        ensures crash { IsTrue self.now.group.told → AllLeaveAtCrash D.seen D.moment D.left_since D.tells_moments self.now.group }
     {
         self.group.history()
     }

@@ -2,6 +2,7 @@
 ghost use Rattle.std.specs.Prelude.{◌≡◌, ◌<◌, [], IfOk, IsTrue};
 ghost use Rattle.pf_entry.specs.Lists.{Every};
 ghost use Rattle.pf_protocol.specs.Answers.{IsLegal, claims_of};
+ghost use Rattle.pf_group.specs.Crashing.{AllLeaveAtCrash};
 ghost use Rattle.pf_group.specs.Roots.{root_of};
 ghost use Rattle.pf_group.specs.Sound.{IsSound};
 
@@ -33,12 +34,16 @@ impl Model for Root {
 
 impl<D: Disk + Drop> Group<D> {
     /// All that happened, in order: a legal history, where the disks tell their content. Its open claims are of the three servers.
+    ///
+    /// Where they do, a crash at any moment since the last step began that may have touched disks left of each server what that may hold
+    /// before that step or right after it.
     pub fn history(&self) -> &[Happening]
         ensures items { result.now ≡ self.now.history }
         ensures told { self.now.told ≡ D.tells }
         ensures legal { IsTrue self.now.told → IsLegal self.now.setup self.now.history }
         ensures low { Every (λ c. c.server < 3) (claims_of [] self.now.history) }
         ensures sound { IsSound self.now.setup self.now.history }
+        ensures crash { IsTrue self.now.told → AllLeaveAtCrash D.seen D.moment D.left_since D.tells_moments self.now }
     {
         &self.past.happenings
     }

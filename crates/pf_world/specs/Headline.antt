@@ -1,9 +1,11 @@
 -- What holds of every world that a script leads to.
-use Rattle.std.specs.Prelude.{◌≡◌, ◌⊎◌, ℕ, ◌+◌, ◌-◌, ◌*◌, ◌^◌, ◌<◌, ◌≤◌, IsTrue, List, [], ◌∷◌, length, Some, slice_get}
+use Rattle.std.specs.Prelude.{◌≡◌, ◌⊎◌, ℕ, ◌+◌, ◌-◌, ◌*◌, ◌^◌, ◌<◌, ◌≤◌, Bool, IsTrue, List, [], ◌∷◌, length, Option, Some, slice_get}
+use Rattle.pf_disk.specs.Crashes.{Images}
 use Rattle.pf_entry.specs.Lists.{Every}
 use Rattle.pf_protocol.specs.Answers.{IsLegal}
 use Rattle.pf_protocol.specs.Safety.{IsSafe}
 use Rattle.pf_protocol.specs.Histories.{replay}
+use Rattle.pf_group.specs.Crashing.{AllLeaveAtCrash}
 use Rattle.pf_group.specs.GroupIs.{GroupIs}
 use Rattle.pf_group.specs.Sound.{IsSound}
 use Rattle.pf_rounds.specs.Halts.{At, Halt, Making, Place}
@@ -42,6 +44,11 @@ pub record IsLawfulGroup (g : GroupIs) : Type 0 where
 -- which a world keeps from line to line
 abbrev pub IsSoundWorld : WorldIs → Type 0
 IsSoundWorld w = (k : ℕ) (c : ChunkIs) → slice_get w.chunks k ≡ Some c → IsLawfulGroup c.group
+
+-- in each group a crash at any moment since the last step began that may have touched disks left of each server what it may hold before that
+-- step or right after it
+abbrev pub WorldLeavesAtCrash : {D : Type 0} (seen : D → Option (List ℕ)) (moment : D → ℕ) (left_since : D → ℕ → Images) (tells_moments : Bool) → WorldIs → Type 0
+WorldLeavesAtCrash seen moment left_since tells_moments w = (k : ℕ) (c : ChunkIs) → slice_get w.chunks k ≡ Some c → AllLeaveAtCrash seen moment left_since tells_moments c.group
 
 -- two disks failed at least so often
 abbrev pub FailedTimes : (n : ℕ) → (was is : ℕ × ℕ) → Type 0

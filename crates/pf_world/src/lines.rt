@@ -1,11 +1,11 @@
 //! The lines of a script.
-ghost use Rattle.std.specs.Prelude.{◌≡◌, ◌<◌, ◌≤◌, ◌+◌, ◌^◌, OnErr, OnOk, Some, length};
+ghost use Rattle.std.specs.Prelude.{◌≡◌, ◌<◌, ◌≤◌, ◌+◌, ◌^◌, IsTrue, OnErr, OnOk, Some, length};
 ghost use Rattle.pf_script.specs.declared.command.Command.{Command as CommandIs};
 ghost use Rattle.pf_script.specs.declared.command.Command.TheVariants.{Fetch, Settle, Submit};
 ghost use Rattle.pf_chunk.specs.Asking.{is_range};
 ghost use Rattle.pf_chunk.specs.Events.{IsStep};
 ghost use Rattle.pf_world.specs.Asked.{asked_of};
-ghost use Rattle.pf_world.specs.Headline.{IsSoundWorld};
+ghost use Rattle.pf_world.specs.Headline.{IsSoundWorld, WorldLeavesAtCrash};
 ghost use Rattle.pf_world.specs.Steps.{HasFailed, HasRun, MayRun};
 ghost use Rattle.pf_world.specs.Views.{IsWorld};
 
@@ -56,6 +56,9 @@ impl<D: Disk + Drop> World<D> {
     ///
     /// A packet that a settling passed over is left again from the next line on. After `NoMemory` (1) the world stands in the middle of
     /// the line, and only `close` may be called.
+    ///
+    /// Then too, where disks tell their content, a crash at any moment since a group's last step began that may have touched disks, in
+    /// this line or before it, left of each of its servers what that may hold before that step or right after it.
     pub fn line<R: Threads + Sync, G: Gate + Sync>(
         &mut self,
         rt: &R,
@@ -72,6 +75,7 @@ impl<D: Disk + Drop> World<D> {
         ensures err { OnErr result (HasFailed self.old.world number command.now self.new.world) }
         ensures spare { self.new.spare ≡ self.old.spare }
         ensures sound { IsSoundWorld self.new.world }
+        ensures crash { IsTrue D.tells → WorldLeavesAtCrash D.seen D.moment D.left_since D.tells_moments self.new.world }
     {
         let done = self.run(rt, alloc, number, command, gate, out);
         self.laws();
