@@ -1,7 +1,10 @@
 use Rattle.std.proofs.Common.{◌≡◌, ◌<◌, [], IsTrue, refl, sym, subst}
 use Rattle.pf_entry.specs.Lists.{Every}
 use Rattle.pf_protocol.specs.Answers.{IsLegal, claims_of}
+use Rattle.pf_group.specs.Crashing.{AllLeaveAtCrash}
 use Rattle.pf_group.specs.GroupIs.{GroupIs}
+use Rattle.pf_group.specs.Inside.{setup_in}
+use Rattle.pf_group.proofs.Since.{all_leave, stood}
 use Rattle.pf_group.proofs.Sound.{sound}
 use Rattle.pf_group.proofs.group.Group.history.Goals as goal
 
@@ -18,3 +21,9 @@ returns-clause-low g c =
 
 pub returns-clause-sound : goal.returns-clause-sound
 returns-clause-sound g c = sound _ _
+
+pub returns-clause-crash : goal.returns-clause-crash
+returns-clause-crash g c told =
+    subst (AllLeaveAtCrash g.D.Disk.seen g.D.Disk.moment g.D.Disk.left_since g.D.Disk.tells_moments) c.self.view_is
+    (all_leave g.D.Disk.seen g.D.Disk.may_leave g.D.Disk.faults g.D.Disk.moment g.D.Disk.left_since g.D.Disk.tells g.D.Disk.tells_moments c.self.inside.number (setup_in c.self.inside) c.self.inside.began.happenings.value.items c.self.inside.began.cluster.value c.self.inside.past.happenings.items c.self.inside.cluster
+    (stood g.D.Disk.seen g.D.Disk.may_leave g.D.Disk.faults g.D.Disk.moment g.D.Disk.left_since g.D.Disk.tells g.D.Disk.tells_moments c.self.inside c.self.invariant) g.D.Disk.tells (subst (λ (v : GroupIs). IsTrue v.told) (sym c.self.view_is) told))
