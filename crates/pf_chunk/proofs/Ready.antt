@@ -34,7 +34,7 @@ taken_reads taken reads (BaseIs base) is = is
 taken_reads taken reads (JobIs job) is = is
 taken_reads taken reads (Refused refusal) is = is
 
-taken_still : (taken : List Bool) (answer : Answer) (n : ℕ) (b : Bool) → slice_get taken n ≡ Some b → slice_get (taken_after taken answer) n ≡ Some b
+pub taken_still : (taken : List Bool) (answer : Answer) (n : ℕ) (b : Bool) → slice_get taken n ≡ Some b → slice_get (taken_after taken answer) n ≡ Some b
 taken_still taken (ReadIs m) n b is = at_front taken (false ∷ []) n b is
 taken_still taken Done n b is = is
 taken_still taken (SlotIs slot) n b is = is
@@ -43,7 +43,7 @@ taken_still taken (BaseIs base) n b is = is
 taken_still taken (JobIs job) n b is = is
 taken_still taken (Refused refusal) n b is = is
 
-fetched_still : (history more : History) (n : ℕ) (range : Span) → IsFetched history n range → IsFetched (history ++ more) n range
+pub fetched_still : (history more : History) (n : ℕ) (range : Span) → IsFetched history n range → IsFetched (history ++ more) n range
 fetched_still history more n range is = record { server = is.server; place = is.place; happened = at_front history more is.place _ is.happened }
 
 -- what an event adds to the reads that wait: nothing, or the one that it took up

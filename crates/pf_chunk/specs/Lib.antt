@@ -11,3 +11,4 @@ pub mod Steps
 pub mod Settling
 pub mod Asks
 pub mod Driving
+pub mod Lending

@@ -2,6 +2,7 @@
 //!
 //! After each event of the group what can be applied is applied; then each read of a line that was answered is told by a line of its
 //! own. Hosts have ports into it, one for each mount: what they hand on are events like any other, and what they read is told to them alone.
+//! The group may be handed out for a while, and what happened to it then is followed up once it is back.
 #![tactic(auto)]
 
 mod asking;
@@ -10,6 +11,7 @@ mod desk;
 mod driving;
 mod happening;
 mod laws;
+mod lending;
 mod settling;
 mod showing;
 mod telling;
@@ -17,5 +19,6 @@ mod waiting;
 
 pub use chunk::ChunkGroup;
 pub use laws::reads_are_answered_while_they_wait;
+pub use lending::Lent;
 pub use settling::Try;
 pub use waiting::Waiting;

@@ -1,5 +1,5 @@
 -- What the switch has done, as others add entries and it adds its own.
-use Rattle.std.proofs.Common.{◌≡◌, ℕ, ◌+◌, ◌<◌, Bool, true, false, not, cond, ◌&&◌, ◌||◌, ◌==◌, [], ◌∷◌, ◌++◌, Option, Some, None, length, sum_by, append_assoc, arith, refl, sym, ap, ◌∙◌, subst}
+use Rattle.std.proofs.Common.{◌≡◌, ℕ, ◌+◌, ◌<◌, Bool, IsTrue, true, false, not, cond, ◌&&◌, ◌||◌, ◌==◌, [], ◌∷◌, ◌++◌, Option, Some, None, length, sum_by, append_assoc, arith, refl, sym, ap, ◌∙◌, subst}
 use Rattle.std.proofs.lemmas.List.Folds.{list_any-append}
 use Rattle.std.proofs.lemmas.List.Sums.{sum_by-append}
 use Rattle.pf_turn.specs.declared.log.Stamped.{Stamped}
@@ -8,20 +8,19 @@ use Rattle.pf_turn.specs.Own.{EachOf}
 use Rattle.pf_protocol.specs.Groups.{Group}
 use Rattle.pf_protocol.specs.declared.answers.Answer.{Answer}
 use Rattle.pf_protocol.specs.declared.events.Event.TheVariants.{Deliver}
-use Rattle.pf_protocol.proofs.ForMoments.{legal_before}
 use Rattle.pf_group.specs.GroupIs.{GroupIs}
 use Rattle.pf_group.specs.Packets.{IsPassedUpTo, is_passed_over, least_from}
 use Rattle.pf_group.proofs.Sending.{OnlySent, run_sent}
-use Rattle.pf_group.proofs.Passing.{IsFound, least_found, least_is, left_low, one_more_passed, passed_further, passed_later}
+use Rattle.pf_group.proofs.Passing.{IsFound, least_found, least_is, one_more_passed, passed_further, passed_later}
 use Rattle.pf_shared.specs.declared.moment.Moment.{Moment}
 use Rattle.pf_shared.specs.declared.moment.Moment.TheVariants.{Happened, Look}
 use Rattle.pf_shared.specs.Moments.{entry, happenings}
-use Rattle.pf_shared.specs.Since.{state_at, whole}
-use Rattle.pf_shared.specs.Calls.{Adds, Finds, IsHistory, Steps}
+use Rattle.pf_shared.specs.Since.{state_at}
+use Rattle.pf_shared.specs.Calls.{Adds, Finds, Steps}
 use Rattle.pf_shared.specs.Delivering.{DeliversLeft}
 use Rattle.pf_live.specs.Deliveries.{Line, deliveries, delivers, is_passed, passes_over}
 use Rattle.pf_live.specs.Switches.{Delivers, HasDelivered, IsSwitch}
-use Rattle.pf_live.proofs.Happenings.{begins_snoc, state_more, whole_more}
+use Rattle.pf_live.proofs.Happenings.{begins_snoc, state_more}
 use Rattle.pf_live.proofs.Hands.{each_adds, each_finds}
 use Rattle.pf_disk.specs.declared.disk.Disk.{Ghosts}
 use Rattle.pf_leadercell.specs.Passes.{IsFirst, IsPassOf}
@@ -66,9 +65,9 @@ module _ (turns : ℕ) (root : GroupIs) (begun : Line) (n : ℕ) (alone : Type 0
   pub delivered_finds : (seen new : Line) (next made : ℕ) → Finds n alone seen new → HasDelivered turns root begun n seen next made → HasDelivered turns root begun n new next made
   delivered_finds seen new next made f h = let sent = sent_later root seen new f.begins in record {
     steps = each_finds n (Delivers turns root begun n) alone seen new f h.steps;
-    sent = omega (arith, h.sent, sent.longer);
-    passed = passed_alike (state_at root new) (λ k. is_passed k (begun ++ entries_of n seen)) (λ k. is_passed k (begun ++ entries_of n new)) next (λ k. ap (λ l. is_passed k (begun ++ l)) f.own)
-        (passed_later (state_at root seen) (λ k. is_passed k (begun ++ entries_of n seen)) next h.passed (state_at root new) (λ k is. sent.none k is) h.sent);
+    sent = λ told. omega (arith, h.sent told, sent.longer);
+    passed = λ told. passed_alike (state_at root new) (λ k. is_passed k (begun ++ entries_of n seen)) (λ k. is_passed k (begun ++ entries_of n new)) next (λ k. ap (λ l. is_passed k (begun ++ l)) f.own)
+        (passed_later (state_at root seen) (λ k. is_passed k (begun ++ entries_of n seen)) next (h.passed told) (state_at root new) (λ k is. sent.none k is) (h.sent told));
     count = h.count ∙ ap (λ l. deliveries (begun ++ l)) (sym f.own);
     within = h.within;
   }
@@ -84,24 +83,24 @@ module _ (turns : ℕ) (root : GroupIs) (begun : Line) (n : ℕ) (alone : Type 0
   pub delivered_look : (seen new : Line) (next made : ℕ) → Adds n alone seen (Look None) new → HasDelivered turns root begun n seen next made → HasDelivered turns root begun n new next made
   delivered_look seen new next made a h = let sent = sent_later root seen new (begins_snoc seen a.found new _ a.finds.begins a.listed) in record {
     steps = each_adds n (Delivers turns root begun n) alone seen new (Look None) a h.steps refl;
-    sent = omega (arith, h.sent, sent.longer);
-    passed = passed_alike (state_at root new) (λ k. is_passed k (begun ++ entries_of n seen)) (λ k. is_passed k (begun ++ entries_of n new)) next
+    sent = λ told. omega (arith, h.sent told, sent.longer);
+    passed = λ told. passed_alike (state_at root new) (λ k. is_passed k (begun ++ entries_of n seen)) (λ k. is_passed k (begun ++ entries_of n new)) next
         (λ k. passed_more seen new (Look None) a.own k ∙ or_none (is_passed k (begun ++ entries_of n seen)) false refl)
-        (passed_later (state_at root seen) (λ k. is_passed k (begun ++ entries_of n seen)) next h.passed (state_at root new) (λ k is. sent.none k is) h.sent);
+        (passed_later (state_at root seen) (λ k. is_passed k (begun ++ entries_of n seen)) next (h.passed told) (state_at root new) (λ k is. sent.none k is) (h.sent told));
     count = let c = ap deliveries (own_more seen new (Look None) a.own) ∙ deliveries_snoc (begun ++ entries_of n seen) (entry n (Look None)) 0 refl in omega (arith, c, h.count);
     within = h.within;
   }
 
-  -- it delivered the least packet from `next` on
-  module _ (seen new : Line) (next made k : ℕ) (answer : Answer) (h : HasDelivered turns root begun n seen next made) (s : Steps root n alone seen (Deliver k) answer new) (least : least_from next (state_at root s.adds.found) ≡ Some k) where
+  -- it delivered the least packet from `next` on, where the disks tell their content
+  module _ (seen new : Line) (next made k : ℕ) (answer : Answer) (h : HasDelivered turns root begun n seen next made) (s : Steps root n alone seen (Deliver k) answer new) (least : IsTrue root.told → least_from next (state_at root s.adds.found) ≡ Some k) where
     abbrev what : Moment
     what = Happened (record { event = Deliver k; answer = answer })
 
     there : HasDelivered turns root begun n s.adds.found next made
     there = delivered_finds seen s.adds.found next made s.adds.finds h
 
-    found_it : IsFound (Rattle.pf_group.specs.Packets.is_left_in (state_at root s.adds.found)) next (length (state_at root s.adds.found).packets) k
-    found_it = least_found (state_at root s.adds.found) next k least
+    found_it : IsTrue root.told → IsFound (Rattle.pf_group.specs.Packets.is_left_in (state_at root s.adds.found)) next (length (state_at root s.adds.found).packets) k
+    found_it told = least_found (state_at root s.adds.found) next k (least told)
 
     sent_on : OnlySent (state_at root s.adds.found).packets (state_at root new).packets
     sent_on = sent_later root s.adds.found new (entry n what ∷ [], sym s.adds.listed)
@@ -113,21 +112,21 @@ module _ (turns : ℕ) (root : GroupIs) (begun : Line) (n : ℕ) (alone : Type 0
     steps_on few = each_adds n (Delivers turns root begun n) alone seen new what s.adds h.steps record {
       k = k;
       is = refl;
-      least = least_is (state_at root s.adds.found) (λ j. is_passed j (begun ++ entries_of n s.adds.found)) next there.passed ∙ least;
+      least = λ told. least_is (state_at root s.adds.found) (λ j. is_passed j (begun ++ entries_of n s.adds.found)) next (there.passed told) ∙ least told;
       few = subst (λ m. m < turns) there.count few;
     }
 
-    further : IsPassedUpTo (state_at root s.adds.found) (λ j. is_passed j (begun ++ entries_of n s.adds.found)) k
-    further = passed_further (state_at root s.adds.found) (λ j. is_passed j (begun ++ entries_of n s.adds.found)) next there.passed k found_it
+    further : IsTrue root.told → IsPassedUpTo (state_at root s.adds.found) (λ j. is_passed j (begun ++ entries_of n s.adds.found)) k
+    further told = passed_further (state_at root s.adds.found) (λ j. is_passed j (begun ++ entries_of n s.adds.found)) next (there.passed told) k (found_it told)
 
     pub delivered_one : made < turns → is_passed_over answer ≡ false → HasDelivered turns root begun n new k (made + 1)
     delivered_one few not_over = record {
       steps = steps_on few;
-      sent = omega (arith, found_it.under, sent_on.longer);
-      passed = passed_later (state_at root s.adds.found) (λ j. is_passed j (begun ++ entries_of n new)) k
+      sent = λ told. omega (arith, (found_it told).under, sent_on.longer);
+      passed = λ told. passed_later (state_at root s.adds.found) (λ j. is_passed j (begun ++ entries_of n new)) k
           (passed_alike (state_at root s.adds.found) (λ j. is_passed j (begun ++ entries_of n s.adds.found)) (λ j. is_passed j (begun ++ entries_of n new)) k
-          (λ j. passed_more s.adds.found new what own_on j ∙ or_none (is_passed j (begun ++ entries_of n s.adds.found)) (passes_over j what) (and_false (k == j) (is_passed_over answer) not_over)) further)
-          (state_at root new) (λ j is. sent_on.none j is) (omega (arith, found_it.under));
+          (λ j. passed_more s.adds.found new what own_on j ∙ or_none (is_passed j (begun ++ entries_of n s.adds.found)) (passes_over j what) (and_false (k == j) (is_passed_over answer) not_over)) (further told))
+          (state_at root new) (λ j is. sent_on.none j is) (omega (arith, (found_it told).under));
       count = let c = ap deliveries (own_more s.adds.found new what own_on) ∙ deliveries_snoc (begun ++ entries_of n s.adds.found) (entry n what) 1 (ap (λ b. cond (not b) 1 0) not_over) in omega (arith, c, there.count);
       within = omega (arith, few);
     }
@@ -135,19 +134,14 @@ module _ (turns : ℕ) (root : GroupIs) (begun : Line) (n : ℕ) (alone : Type 0
     pub delivered_none : made < turns → is_passed_over answer ≡ true → HasDelivered turns root begun n new (k + 1) made
     delivered_none few over = record {
       steps = steps_on few;
-      sent = omega (arith, found_it.under, sent_on.longer);
-      passed = passed_later (state_at root s.adds.found) (λ j. is_passed j (begun ++ entries_of n new)) (k + 1)
-          (one_more_passed (state_at root s.adds.found) (λ j. is_passed j (begun ++ entries_of n s.adds.found)) k further (λ j. is_passed j (begun ++ entries_of n new))
+      sent = λ told. omega (arith, (found_it told).under, sent_on.longer);
+      passed = λ told. passed_later (state_at root s.adds.found) (λ j. is_passed j (begun ++ entries_of n new)) (k + 1)
+          (one_more_passed (state_at root s.adds.found) (λ j. is_passed j (begun ++ entries_of n s.adds.found)) k (further told) (λ j. is_passed j (begun ++ entries_of n new))
           (λ j. passed_more s.adds.found new what own_on j ∙ or_last (is_passed j (begun ++ entries_of n s.adds.found)) (passes_over j what) (k == j) (and_true (k == j) (is_passed_over answer) over)))
-          (state_at root new) (λ j is. sent_on.none j is) (omega (arith, found_it.under));
+          (state_at root new) (λ j is. sent_on.none j is) (omega (arith, (found_it told).under));
       count = let c = ap deliveries (own_more s.adds.found new what own_on) ∙ deliveries_snoc (begun ++ entries_of n s.adds.found) (entry n what) 0 (ap (λ b. cond (not b) 1 0) over) in omega (arith, c, there.count);
       within = h.within;
     }
-
-    -- few packets are ever sent
-    pub delivered_low : IsHistory root new → k < 65536
-    delivered_low is = left_low root.setup (whole root s.adds.found) k
-        (legal_before root.setup (whole root s.adds.found) (whole root new) (record { rest = happenings (entry n what ∷ []); whole = whole_more root s.adds.found (entry n what ∷ []) new (sym s.adds.listed) }) is.legal) found_it.passes
 
 -- none was left
 pub looked_none : (root : GroupIs) (n : ℕ) (alone : Type 0) (seen : Line) (next : ℕ) (told : Option (ℕ × Answer)) (new : Line) → ((k : ℕ) (answer : Answer) → told ≡ Some (k, answer) → ⊥) → DeliversLeft root n alone seen next told new → Adds n alone seen (Look None) new

@@ -1,10 +1,11 @@
 -- What an apply seat's calls do to its own entries.
-use Rattle.std.proofs.Common.{◌≡◌, ℕ, Bool, true, false, true≢false, cond, List, [], ◌∷◌, ◌++◌, None, Some, refl, sym, ap, ◌∙◌, subst}
+use Rattle.std.proofs.Common.{◌≡◌, ℕ, inr, Bool, true, false, true≢false, cond, List, [], ◌∷◌, ◌++◌, None, Some, refl, sym, ap, ◌∙◌, subst}
 use Rattle.pf_turn.specs.declared.log.Stamped.{Stamped}
 use Rattle.pf_turn.specs.Lists.{entries_of}
 use Rattle.pf_turn.specs.Own.{EachOf}
 use Rattle.pf_turn.proofs.Own.{each_longer, each_snoc}
 use Rattle.pf_group.specs.GroupIs.{GroupIs}
+use Rattle.pf_group.proofs.Fresh.{none_is_free}
 use Rattle.pf_entry.specs.declared.ops.Op.{Op}
 use Rattle.pf_entry.specs.declared.ops.Op.TheVariants.{Write, Noop, Mark}
 use Rattle.pf_entry.specs.declared.ops.Job.{Job}
@@ -25,7 +26,6 @@ use Rattle.pf_protocol.specs.declared.answers.Refusal.TheVariants.{NoneFree}
 use Rattle.pf_shared.specs.Seats.{IsSeatOf, number_of, seen_by}
 use Rattle.pf_shared.specs.declared.parts.SharedGroup.{SharedGroup}
 use Rattle.pf_shared.proofs.Owning.{hand-append}
-use Rattle.pf_shared.proofs.Claiming.{none_is_free}
 use Rattle.pf_live.specs.declared.applying.Applier.{Applier}
 use Rattle.pf_live.specs.Roles.{Applies, nothing_free}
 use Rattle.pf_live.specs.Workers.{HasNothing, Holds, IsApplier}
@@ -97,7 +97,7 @@ module _ {D : Type 0} {disk : Ghosts D} (group : SharedGroup D disk) (n : ℕ) (
     }
 
     pub finds_nothing : (answer : Answer) → IsApplier group a → Steps root n alone (seen_by a.seat) Claim answer (seen_by b.seat) → ((job : Job) → answer ≡ JobIs job → ⊥) → b.ended ≡ false → HasNothing group b
-    finds_nothing answer is s no_job on = let none : answer ≡ Refused NoneFree = none_is_free root.setup _ answer s.legal.answered no_job in
+    finds_nothing answer is s no_job on = let none : answer ≡ Refused NoneFree = none_is_free root.setup _ answer (s.answered.answered (inr tt)) no_job in
         let own : entries_of (number_of b.seat) (seen_by b.seat) ≡ entries_of n (seen_by a.seat) ++ nothing_free (number_of b.seat) ∷ [] =
         own_is _ s.adds.own ∙ (ap (λ x. entries_of n (seen_by a.seat) ++ entry n (Happened (record { event = Claim; answer = x })) ∷ []) none ∙ ap (λ m. entries_of n (seen_by a.seat) ++ nothing_free m ∷ []) (sym same)) in record {
           is = record {

@@ -1,5 +1,5 @@
 -- What became of a host by one call of the seat that submits.
-use Rattle.std.proofs.Common.{◌≡◌, ◌≢◌, ℕ, zero, suc, ◌+◌, ◌<◌, ◌≤◌, Bool, true, false, cond, ◌==◌, eqb, eq-eqb, eqb-true, List, [], ◌∷◌, ◌++◌, length, replicate, Option, Some, None, Result, Ok, Err, slice_get, append_assoc, append-nil, arith, refl, sym, ap, ◌∙◌, subst}
+use Rattle.std.proofs.Common.{◌≡◌, ◌≢◌, ℕ, zero, suc, ◌+◌, ◌<◌, Bool, IsTrue, true, false, cond, ◌==◌, eqb, eq-eqb, eqb-true, List, [], ◌∷◌, ◌++◌, length, replicate, Option, Some, None, Result, Ok, Err, slice_get, append_assoc, append-nil, length-append, arith, refl, sym, ap, ◌∙◌, subst}
 use Rattle.std.proofs.lemmas.List.{length-replicate}
 use Rattle.pf_base.specs.Span.{IsWritable, Span}
 use Rattle.pf_entry.specs.Lists.{Every}
@@ -31,8 +31,8 @@ use Rattle.pf_live.specs.declared.serving.Standing.{Standing}
 use Rattle.pf_live.specs.declared.serving.Standing.TheVariants.{Asked, Placed, Settled}
 use Rattle.pf_live.specs.Deliveries.{Line}
 use Rattle.pf_live.specs.Submissions.{IsNextWrite, is_told, is_write_of, slot_at, slot_got, slot_with, slots_of}
-use Rattle.pf_live.specs.Submitters.{AllTold, IsCounted, IsFed, IsLast, ServesOn, Stands, Submits, SubmitsAlone, standing_after}
-use Rattle.pf_live.specs.Writes.{byte_of, first_requests, op_of, request_of}
+use Rattle.pf_live.specs.Submitters.{AllTold, IsCounted, IsFed, IsHanded, IsLast, ServesOn, Stands, Submits, SubmitsAlone, standing_after}
+use Rattle.pf_live.specs.Writes.{byte_of, first_requests, op_of, request_of, write_for}
 use Rattle.pf_live.proofs.Submissions.{all_told_later, alone_before, every_snoc, others_quiet, slots_quiet, slots_snoc, told_later}
 
 pub begins_on : (xs ys zs : Line) → Begins xs ys → Begins ys zs → Begins xs zs
@@ -61,18 +61,15 @@ stands_as : (root : GroupIs) (h : ℕ) (list : Line) (a b : Served) → b.taken 
 stands_as root h list a b t st s = subst (λ x. Stands root h list x b.standing) (sym t) (subst (λ y. Stands root h list a.taken y) (sym st) s)
 
 -- the request that has no slot yet is the host's next one
-request_is : (plan : Plan) (h m : ℕ) (a : Served) (request : Request) → IsCounted plan a → IsFed plan.sectors h a → a.standing ≡ Asked request → m + 1 ≡ a.taken → request ≡ request_of plan.sectors h m
+pub request_is : (plan : Plan) (h m : ℕ) (a : Served) (request : Request) → IsCounted plan a → IsFed plan.sectors h a → a.standing ≡ Asked request → m + 1 ≡ a.taken → request ≡ request_of plan.sectors h m
 request_is plan h m a request counted fed st count =
     let last : IsLast (taken_by a.pass) (Asked request) = subst (IsLast (taken_by a.pass)) st counted.last in
     let now : a.taken ≡ suc m = omega arith in
     (snoc_last last.0 (first_requests plan.sectors h m) request (request_of plan.sectors h m) (last.1 ∙ (fed ∙ ap (first_requests plan.sectors h) now))).1
 
-abbrev pub asks : Request → Op
-asks request = Write request.range (replicate request.range.count (replicate 512 request.byte))
-
 -- and its op is that of the request
-asks_is : (sectors h m : ℕ) (request : Request) → request ≡ request_of sectors h m → asks request ≡ op_of (request_of sectors h m)
-asks_is sectors h m request is = ap asks is
+asks_is : (sectors h m : ℕ) (request : Request) → request ≡ request_of sectors h m → write_for request ≡ op_of (request_of sectors h m)
+asks_is sectors h m request is = ap write_for is
 
 is_own : (h k : ℕ) → k ≡ h → (byte_of h == byte_of k) ≡ true
 is_own h k is = eq-eqb (byte_of h) (byte_of k) (omega arith)
@@ -140,8 +137,8 @@ module _ (plan : Plan) (root : GroupIs) (n h : ℕ) (a b : Served) (alone : Type
     begins = f.begins;
     fed = fed_kept p t;
     steps = λ al fed each s. each_longer n (Submits plan root) seen new f.begins f.own each;
-    stands = λ al fed s. stands_as root h new a b t st (stands_on root h seen new f.begins (slots_found f begun begins al h) a.taken a.standing s);
-    others = λ al fed s k other. slots_found f begun begins al k;
+    stands = λ told al fed s. stands_as root h new a b t st (stands_on root h seen new f.begins (slots_found f begun begins al h) a.taken a.standing s);
+    others = λ told al fed s k other. slots_found f begun begins al k;
   }
 
   module _ (what : Moment) (adds : Adds n alone seen what new) (begun : Line) (begins : Begins begun seen) where
@@ -176,54 +173,63 @@ module _ (plan : Plan) (root : GroupIs) (n h : ℕ) (a b : Served) (alone : Type
     begins = begins_new (Look None) adds begun begins;
     fed = fed_kept p t;
     steps = λ al fed each s. each_on (Look None) adds begun begins each refl;
-    stands = λ al fed s. stands_as root h new a b t st (stands_on root h seen new (begins_new (Look None) adds begun begins) (no_more (Look None) adds begun begins al h refl) a.taken a.standing s);
-    others = λ al fed s k other. no_more (Look None) adds begun begins al k refl;
+    stands = λ told al fed s. stands_as root h new a b t st (stands_on root h seen new (begins_new (Look None) adds begun begins) (no_more (Look None) adds begun begins al h refl) a.taken a.standing s);
+    others = λ told al fed s k other. no_more (Look None) adds begun begins al k refl;
   }
 
-  -- and found that its slot is acknowledged
-  pub serves_told : (term slot : ℕ) (adds : Adds n alone seen (Look None) new) → is_acked (state_at root adds.found) term slot ≡ true → a.standing ≡ Placed term slot → b.pass ≡ a.pass → b.taken ≡ a.taken → b.standing ≡ Settled → ServesOn plan root n h a seen b new
-  serves_told term slot adds told was p t st begun begins = record {
+  -- and found that its slot is acknowledged, where the disks tell their content
+  pub serves_told : (term slot : ℕ) (adds : Adds n alone seen (Look None) new) → (IsTrue root.told → is_acked (state_at root adds.found) term slot ≡ true) → a.standing ≡ Placed term slot → b.pass ≡ a.pass → b.taken ≡ a.taken → b.standing ≡ Settled → ServesOn plan root n h a seen b new
+  serves_told term slot adds acked was p t st begun begins = record {
     begins = begins_new (Look None) adds begun begins;
     fed = fed_kept p t;
     steps = λ al fed each s. each_on (Look None) adds begun begins each refl;
-    stands = λ al fed s. subst (λ y. Stands root h new b.taken y) (sym st) (settles al (subst (λ y. Stands root h seen a.taken y) was s));
-    others = λ al fed s k other. no_more (Look None) adds begun begins al k refl;
+    stands = λ told al fed s. subst (λ y. Stands root h new b.taken y) (sym st) (settles told al (subst (λ y. Stands root h seen a.taken y) was s));
+    others = λ told al fed s k other. no_more (Look None) adds begun begins al k refl;
   }
     where
-      settles : SubmitsAlone n begun new → Stands root h seen a.taken (Placed term slot) → Stands root h new b.taken Settled
-      settles al s = let same = no_more (Look None) adds begun begins al h refl in (
+      settles : IsTrue root.told → SubmitsAlone n begun new → Stands root h seen a.taken (Placed term slot) → Stands root h new b.taken Settled
+      settles told al s = let same = no_more (Look None) adds begun begins al h refl in (
         ap length same ∙ (s.0 ∙ sym t),
         subst (AllTold root new) (s.2 ∙ sym same) (every_snoc (λ (x : Acked). is_told (state_at root new) x ≡ true) s.1 (record { term = term; slot = slot })
             (all_told_later root seen new (begins_new (Look None) adds begun begins) s.1 s.3)
-            (told_later root adds.found new (found_on (Look None) adds begun begins) (record { term = term; slot = slot }) told)),
+            (told_later root adds.found new (found_on (Look None) adds begun begins) (record { term = term; slot = slot }) (acked told))),
       )
 
   -- it handed a request to a server
-  module _ (server : ℕ) (request : Request) (told : Result ℕ Down) (answer : Answer) (op : Op) (op_is : op ≡ asks request) (steps : Steps root n alone seen (Submit server op) answer new)
-      (tells : TellsOf (state_at root steps.adds.found) server told (λ term s. term ≡ s.durable.term)) (low : h < plan.hosts) (counted : IsCounted plan a) (was : a.standing ≡ Asked request)
+  module _ (server : ℕ) (request : Request) (told : Result ℕ Down) (answer : Answer) (op : Op) (op_is : op ≡ write_for request) (steps : Steps root n alone seen (Submit server op) answer new)
+      (tells : IsTrue root.told → TellsOf (state_at root steps.adds.found) server told (λ term s. term ≡ s.durable.term)) (low : h < plan.hosts) (counted : IsCounted plan a) (was : a.standing ≡ Asked request)
       (p : b.pass ≡ a.pass) (t : b.taken ≡ a.taken) (st : b.standing ≡ standing_after told answer request) where
     abbrev what : Moment
     what = Happened (record { event = Submit server op; answer = answer })
 
+    -- the request is the last one that was taken
+    asked_last : IsLast (taken_by a.pass) (Asked request)
+    asked_last = subst (IsLast (taken_by a.pass)) was counted.last
+
+    abbrev m : ℕ
+    m = length asked_last.0
+
+    one_less : m + 1 ≡ a.taken
+    one_less = sym (length-append asked_last.0 (request ∷ [])) ∙ (ap length asked_last.1 ∙ counted.count)
+
+    op_next : IsFed plan.sectors h b → op ≡ op_of (request_of plan.sectors h m)
+    op_next fed = op_is ∙ asks_is plan.sectors h m request (request_is plan h m a request counted (fed_kept p t fed) was one_less)
+
+    next_write : (begun : Line) (begins : Begins begun seen) → SubmitsAlone n begun new → IsFed plan.sectors h b → (IsTrue root.told → Stands root h seen a.taken (Asked request)) → IsNextWrite plan root steps.adds.found (Submit server op)
+    next_write begun begins al fed s = let same = slots_there what steps.adds begun begins al h in record {
+      h = h;
+      low = low;
+      number = m;
+      few = let few = counted.few in let less = one_less in omega arith;
+      server = server;
+      is = ap (Submit server) (op_next fed);
+      next = λ told. let c = ap length same in let is = (s told).0 in let less = one_less in omega arith;
+      acked = λ told. subst (AllTold root steps.adds.found) (sym same) (all_told_later root seen steps.adds.found steps.adds.finds.begins (slots_of root h seen) (s told).1);
+    }
+
     module _ (begun : Line) (begins : Begins begun seen) (al : SubmitsAlone n begun new) (fed : IsFed plan.sectors h b) (s : Stands root h seen a.taken (Asked request)) where
-      abbrev m : ℕ
-      m = length (slots_of root h seen)
-
-      op_next : op ≡ op_of (request_of plan.sectors h m)
-      op_next = op_is ∙ asks_is plan.sectors h m request (request_is plan h m a request counted (fed_kept p t fed) was s.0)
-
       writes_as : (k : ℕ) → is_write_of k (Submit server op) ≡ (byte_of h == byte_of k)
-      writes_as k = ap (λ o. is_write_of k (Submit server o)) op_next
-
-      next_write : IsNextWrite plan root steps.adds.found (Submit server op)
-      next_write = let same = slots_there what steps.adds begun begins al h in record {
-        h = h;
-        low = low;
-        more = let c = ap length same in let few = counted.few in let is = s.0 in omega arith;
-        server = server;
-        is = ap (Submit server) (op_next ∙ ap (λ l. op_of (request_of plan.sectors h (length l))) (sym same));
-        acked = subst (AllTold root steps.adds.found) (sym same) (all_told_later root seen steps.adds.found steps.adds.finds.begins (slots_of root h seen) s.1);
-      }
+      writes_as k = ap (λ o. is_write_of k (Submit server o)) (op_next fed)
 
       none_else : (k : ℕ) → k ≢ h → slots_of root k new ≡ slots_of root k seen
       none_else k other = no_more what steps.adds begun begins al k (cond_false (is_write_of k (Submit server op)) (slot_got (state_at root steps.adds.found) (Submit server op) answer) [] (writes_as k ∙ is_other h k other))
@@ -242,16 +248,16 @@ module _ (plan : Plan) (root : GroupIs) (n h : ℕ) (a b : Served) (alone : Type
           )
         where
           length_snoc : (xs : List Acked) (x : Acked) → length (xs ++ x ∷ []) ≡ length xs + 1
-          length_snoc xs x = Rattle.std.proofs.Common.length-append xs (x ∷ [])
+          length_snoc xs x = length-append xs (x ∷ [])
 
     pub serves_handed : ServesOn plan root n h a seen b new
     serves_handed begun begins = record {
       begins = begins_new what steps.adds begun begins;
       fed = fed_kept p t;
-      steps = λ al fed each s. each_on what steps.adds begun begins each (next_write begun begins al fed (subst (λ y. Stands root h seen a.taken y) was s));
-      stands = λ al fed s. subst (λ x. Stands root h new x b.standing) (sym t) (subst (λ y. Stands root h new a.taken y) (sym st)
-          (stands_then begun begins al fed (subst (λ y. Stands root h seen a.taken y) was s) (standing_after told answer request) (got (state_at root steps.adds.found) server op request told answer tells)));
-      others = λ al fed s k other. none_else begun begins al fed (subst (λ y. Stands root h seen a.taken y) was s) k other;
+      steps = λ al fed each s. each_on what steps.adds begun begins each (next_write begun begins al fed (λ told. subst (λ y. Stands root h seen a.taken y) was (s told)));
+      stands = λ yes al fed s. subst (λ x. Stands root h new x b.standing) (sym t) (subst (λ y. Stands root h new a.taken y) (sym st)
+          (stands_then begun begins al fed (subst (λ y. Stands root h seen a.taken y) was s) (standing_after told answer request) (got (state_at root steps.adds.found) server op request told answer (tells yes))));
+      others = λ yes al fed s k other. none_else begun begins al fed (subst (λ y. Stands root h seen a.taken y) was s) k other;
     }
 
   -- it took the host's next request
@@ -260,8 +266,8 @@ module _ (plan : Plan) (root : GroupIs) (n h : ℕ) (a b : Served) (alone : Type
     begins = ([], append-nil seen ∙ sym is);
     fed = λ f. let now : b.taken ≡ suc a.taken = omega arith in (snoc_last (taken_by a.pass) (first_requests plan.sectors h a.taken) request (request_of plan.sectors h a.taken) (sym p ∙ (f ∙ ap (first_requests plan.sectors h) now))).0;
     steps = λ al fed each s. subst (EachOf n (Submits plan root)) (sym is) each;
-    stands = λ al fed s. subst (λ y. Stands root h new b.taken y) (sym st) (asked (subst (λ y. Stands root h seen a.taken y) was s));
-    others = λ al fed s k other. ap (slots_of root k) is;
+    stands = λ told al fed s. subst (λ y. Stands root h new b.taken y) (sym st) (asked (subst (λ y. Stands root h seen a.taken y) was s));
+    others = λ told al fed s k other. ap (slots_of root k) is;
   }
     where
       asked : Stands root h seen a.taken Settled → Stands root h new b.taken (Asked request)
@@ -285,5 +291,9 @@ spanned first count = record { first = first; count = count }
 pub span_as : (range : Span) (first count : ℕ) → first ≡ range.first → count ≡ range.count → record { first = first; count = count } ≡ range
 span_as range first count is also = ap (λ x. spanned x count) is ∙ ap (spanned range.first) also
 
-pub asks_as : (range : Span) (request : Request) (payload : List (List ℕ)) → range ≡ request.range → payload ≡ replicate range.count (replicate 512 request.byte) → Write range payload ≡ asks request
+pub asks_as : (range : Span) (request : Request) (payload : List (List ℕ)) → range ≡ request.range → payload ≡ replicate range.count (replicate 512 request.byte) → Write range payload ≡ write_for request
 asks_as range request payload is bytes = ap (Write range) bytes ∙ ap (λ (r : Span). Write r (replicate r.count (replicate 512 request.byte))) is
+
+-- the submission stands in the list
+pub handed_as : (n : ℕ) (alone : Type 0) (seen new : Line) (server : ℕ) (request : Request) (answer : Answer) (op : Op) → op ≡ write_for request → Adds n alone seen (Happened (record { event = Submit server op; answer = answer })) new → IsHanded n alone seen server request (Some answer) new
+handed_as n alone seen new server request answer op is adds = subst (λ o. Adds n alone seen (Happened (record { event = Submit server o; answer = answer })) new) is adds

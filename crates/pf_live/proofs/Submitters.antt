@@ -1,5 +1,5 @@
 -- What the worker that submits keeps, as it serves one host after another.
-use Rattle.std.proofs.Common.{◌≡◌, ◌≢◌, ℕ, zero, suc, inl, inr, List, [], ◌∷◌, length, Some, slice_get, slice_set, refl, sym, ap, ◌∙◌, subst}
+use Rattle.std.proofs.Common.{◌≡◌, ◌≢◌, ℕ, zero, suc, inl, inr, IsTrue, List, [], ◌∷◌, length, Some, slice_get, slice_set, refl, sym, ap, ◌∙◌, subst}
 use mathlib.Core.Logic.{dite}
 use native.Mathlib.Decide.{ℕ_discrete}
 use Rattle.std.proofs.lemmas.List.{length-set}
@@ -34,7 +34,7 @@ same_some x y is = cc
 -- all that it knows of its own submissions
 pub record Knows (plan : Plan) (root : GroupIs) (n : ℕ) (begun seen : Line) (served : List Served) : Type 0 where
   pub steps : SubmitsAlone n begun seen → AllFed plan served → EachOf n (Submits plan root) seen
-  pub stand : SubmitsAlone n begun seen → AllFed plan served → AllStand root seen served
+  pub stand : IsTrue root.told → SubmitsAlone n begun seen → AllFed plan served → AllStand root seen served
 
 module _ (plan : Plan) (root : GroupIs) (n : ℕ) (begun seen later : Line) (served : List Served) (since : Begins begun seen) (host : ℕ) (old new : Served) (at : slice_get served host ≡ Some old) (on : ServesOn plan root n host old seen new later) where
   s : Serves plan root n begun host old seen new later
@@ -55,19 +55,19 @@ module _ (plan : Plan) (root : GroupIs) (n : ℕ) (begun seen later : Line) (ser
     fed_new : IsFed plan.sectors host new
     fed_new = fed host new at_new
 
-    stood : Knows plan root n begun seen served → Stands root host seen old.taken old.standing
-    stood k = k.stand alone_then fed_then host old at
+    stood : Knows plan root n begun seen served → IsTrue root.told → Stands root host seen old.taken old.standing
+    stood k told = k.stand told alone_then fed_then host old at
 
-    stand_then : Knows plan root n begun seen served → AllStand root later (slice_set served host new)
-    stand_then k h a there = elim (set_cases served host new h a there) [
-      | inl here ↦ subst (λ j. Stands root j later a.taken a.standing) (sym here.0) (subst (λ (x : Served). Stands root host later x.taken x.standing) here.1 (s.stands al fed_new (stood k)))
-      | inr other ↦ stands_on root h seen later s.begins (s.others al fed_new (stood k) h other.0) a.taken a.standing (k.stand alone_then fed_then h a other.1)
+    stand_then : Knows plan root n begun seen served → IsTrue root.told → AllStand root later (slice_set served host new)
+    stand_then k told h a there = elim (set_cases served host new h a there) [
+      | inl here ↦ subst (λ j. Stands root j later a.taken a.standing) (sym here.0) (subst (λ (x : Served). Stands root host later x.taken x.standing) here.1 (s.stands told al fed_new (stood k told)))
+      | inr other ↦ stands_on root h seen later s.begins (s.others told al fed_new (stood k told) h other.0) a.taken a.standing (k.stand told alone_then fed_then h a other.1)
     ]
 
   pub knows_on : Knows plan root n begun seen served → Knows plan root n begun later (slice_set served host new)
   knows_on k = record {
     steps = λ al fed. s.steps al (fed_new al fed) (k.steps (alone_then al fed) (fed_then al fed)) (stood al fed k);
-    stand = λ al fed. stand_then al fed k;
+    stand = λ told al fed. stand_then al fed k told;
   }
 
 -- the worker has served one host

@@ -1,5 +1,5 @@
 -- Deliveries of a live line, and the packets that are left.
-use Rattle.std.specs.Prelude.{◌≡◌, ℕ, ◌<◌, Bool, true, false, not, ◌&&◌, ◌==◌, if◌then◌else◌, List, find, length, Option, Some, sum_by}
+use Rattle.std.specs.Prelude.{◌≡◌, ℕ, ◌<◌, Bool, true, false, IsTrue, not, ◌&&◌, ◌==◌, if◌then◌else◌, List, find, length, Option, Some, sum_by}
 use Rattle.std.specs.List.{list_any, range_with_len}
 use Rattle.pf_turn.specs.declared.log.Stamped.{Stamped}
 use Rattle.pf_protocol.specs.Groups.{Group}
@@ -40,9 +40,9 @@ deliveries list = sum_by (λ (e : Stamped Moment). if delivers e.what then 1 els
 abbrev pub least_left : Group → Line → Option ℕ
 least_left g list = find (λ k. is_left_in g k && not (is_passed k list)) (range_with_len 0 (length g.packets))
 
--- the least packet left is delivered, after fewer than so many deliveries in the list
-pub record IsNextDelivery (turns : ℕ) (g : Group) (list : Line) (event : Event) : Type 0 where
+-- A packet is delivered, after fewer than so many deliveries in the list: the least one left, where the disks tell their content
+pub record IsNextDelivery (told : Bool) (turns : ℕ) (g : Group) (list : Line) (event : Event) : Type 0 where
   pub k : ℕ
   pub is : event ≡ Deliver k
-  pub least : least_left g list ≡ Some k
+  pub least : IsTrue told → least_left g list ≡ Some k
   pub few : deliveries list < turns

@@ -15,21 +15,25 @@ use Rattle.pf_live.specs.Deliveries.{Line, deliveries, least_left}
 use Rattle.pf_live.specs.Submissions.{acked_of, slots_of}
 use Rattle.pf_live.specs.Writes.{op_of, request_of}
 
--- the serving leader of the greatest term refused the host's first write that is not acknowledged, and nothing was delivered since
-pub record WasRefused (plan : Plan) (root : GroupIs) (list : Line) (h : ℕ) : Type 0 where
+-- the server refused write j of the host, and nothing was delivered since
+pub record IsRefused (plan : Plan) (list : Line) (h j server : ℕ) : Type 0 where
   pub before : Line
   pub seat : ℕ
-  pub server : ℕ
-  pub term : ℕ
   pub refusal : Refusal
   pub after : Line
-  pub there : before ++ entry seat (Happened (record { event = Submit server (op_of (request_of plan.sectors h (acked_of root h list))); answer = Refused refusal })) ∷ after ≡ list
-  pub leads : IsLeader (state_at root list) (Some (term, server))
+  pub there : before ++ entry seat (Happened (record { event = Submit server (op_of (request_of plan.sectors h j)); answer = Refused refusal })) ∷ after ≡ list
   pub since : deliveries after ≡ 0
 
--- it got a slot, or no server serves, or it was refused
+-- the serving leader of the greatest term did
+pub record WasRefused (plan : Plan) (root : GroupIs) (list : Line) (h j : ℕ) : Type 0 where
+  pub server : ℕ
+  pub term : ℕ
+  pub leads : IsLeader (state_at root list) (Some (term, server))
+  pub refused : IsRefused plan list h j server
+
+-- the host's first write that is not acknowledged got a slot, or no server serves, or it was refused
 abbrev pub WaitsInVain : Plan → GroupIs → Line → (h : ℕ) → Type 0
-WaitsInVain plan root list h = (acked_of root h list < length (slots_of root h list)) ⊎ (IsLeader (state_at root list) None ⊎ WasRefused plan root list h)
+WaitsInVain plan root list h = (acked_of root h list < length (slots_of root h list)) ⊎ (IsLeader (state_at root list) None ⊎ WasRefused plan root list h (acked_of root h list))
 
 -- a write of the host is not acknowledged
 abbrev pub IsOpen : Plan → GroupIs → Line → (h : ℕ) → Type 0

@@ -32,7 +32,7 @@ role_of workers (suc n) = role_at (n % (workers + 2))
 -- the event, after the list
 abbrev pub DoesAs : Role → Plan → GroupIs → Line → Event → Type 0
 DoesAs Submitting plan root list event = IsNextWrite plan root list event
-DoesAs Delivering plan root list event = IsNextDelivery plan.turns (state_at root list) list event
+DoesAs Delivering plan root list event = IsNextDelivery root.told plan.turns (state_at root list) list event
 DoesAs Applying plan root list event = is_applying event ≡ true
 
 abbrev pub Does : Plan → GroupIs → (seat : ℕ) → Line → Moment → Type 0

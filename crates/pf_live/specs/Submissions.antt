@@ -1,5 +1,5 @@
 -- Submissions of a live line, and the slots that the writes of its hosts got.
-use Rattle.std.specs.Prelude.{◌≡◌, ℕ, ◌<◌, Bool, true, false, ◌==◌, if◌then◌else◌, List, [], ◌∷◌, ◌++◌, length, Option, Some, slice_get, slice_index_or, sum_by}
+use Rattle.std.specs.Prelude.{◌≡◌, ℕ, ◌<◌, Bool, true, false, IsTrue, ◌==◌, if◌then◌else◌, List, [], ◌∷◌, ◌++◌, length, Option, Some, slice_get, slice_index_or, sum_by}
 use Rattle.pf_entry.specs.Lists.{Every}
 use Rattle.pf_entry.specs.declared.ops.Op.TheVariants.{Write}
 use Rattle.pf_protocol.specs.Servers.{Condition, Running}
@@ -50,11 +50,14 @@ is_told g a = is_acked g a.term a.slot
 abbrev pub acked_of : GroupIs → (h : ℕ) → Line → ℕ
 acked_of root h list = sum_by (λ a. if is_told (state_at root list) a then 1 else 0) (slots_of root h list)
 
--- A host's next write is submitted, once each slot that its writes got was acknowledged. So one that was refused or halted comes again
+-- A write of a host is submitted. Where the disks tell their content, it is its next one, and each slot that its writes got was acknowledged. So
+-- one that was refused or halted comes again
 pub record IsNextWrite (plan : Plan) (root : GroupIs) (list : Line) (event : Event) : Type 0 where
   pub h : ℕ
   pub low : h < plan.hosts
-  pub more : length (slots_of root h list) < plan.writes
+  pub number : ℕ
+  pub few : number < plan.writes
   pub server : ℕ
-  pub is : event ≡ Submit server (op_of (request_of plan.sectors h (length (slots_of root h list))))
-  pub acked : Every (λ a. is_told (state_at root list) a ≡ true) (slots_of root h list)
+  pub is : event ≡ Submit server (op_of (request_of plan.sectors h number))
+  pub next : IsTrue root.told → number ≡ length (slots_of root h list)
+  pub acked : IsTrue root.told → Every (λ a. is_told (state_at root list) a ≡ true) (slots_of root h list)

@@ -1,5 +1,6 @@
 -- The worker that submits, and what it keeps.
-use Rattle.std.specs.Prelude.{◌≡◌, ◌≢◌, ℕ, ◌+◌, ◌≤◌, Bool, true, false, List, [], ◌∷◌, ◌++◌, length, None, Some, Result, Ok, slice_get}
+use Rattle.std.specs.Prelude.{◌≡◌, ◌≢◌, ℕ, ◌+◌, ◌≤◌, Bool, true, false, IsTrue, List, [], ◌∷◌, ◌++◌, length, Option, None, Some, Result, Ok, slice_get}
+use Rattle.pf_base.specs.Span.{IsWritable}
 use Rattle.pf_entry.specs.Lists.{Every}
 use Rattle.pf_turn.specs.Lists.{Begins}
 use Rattle.pf_turn.specs.Own.{EachOf}
@@ -19,6 +20,7 @@ use Rattle.pf_rings.specs.declared.view.Request.{Request}
 use Rattle.pf_shared.specs.declared.moment.Moment.{Moment}
 use Rattle.pf_shared.specs.declared.moment.Moment.TheVariants.{Happened, Look}
 use Rattle.pf_shared.specs.declared.parts.SharedGroup.{SharedGroup}
+use Rattle.pf_shared.specs.Calls.{Adds}
 use Rattle.pf_shared.specs.Seats.{IsSameSeat, IsSeatOf, number_of, root_in, seen_by}
 use Rattle.pf_shared.specs.Since.{rest_after, state_at}
 use Rattle.pf_live.specs.declared.plan.Plan.{Plan}
@@ -28,7 +30,7 @@ use Rattle.pf_live.specs.declared.serving.Standing.TheVariants.{Asked, Placed, S
 use Rattle.pf_live.specs.declared.submitting.Submitter.{Submitter}
 use Rattle.pf_live.specs.Deliveries.{Line}
 use Rattle.pf_live.specs.Submissions.{IsNextWrite, is_told, slots_of}
-use Rattle.pf_live.specs.Writes.{first_requests}
+use Rattle.pf_live.specs.Writes.{first_requests, write_for}
 
 abbrev pub is_submit : Event → Bool
 is_submit (Submit server op) = true
@@ -42,7 +44,7 @@ submits (Look read) = false
 abbrev pub SubmitsAlone : (n : ℕ) (begun list : Line) → Type 0
 SubmitsAlone n begun list = Every (λ e. e.seat ≢ n → submits e.what ≡ false) (rest_after begun list)
 
--- the next write of a host is submitted. Looks take no answer
+-- a write of a host is submitted. Looks take no answer
 abbrev pub Submits : Plan → GroupIs → Line → Moment → Type 0
 Submits plan root before (Happened h) = IsNextWrite plan root before h.event
 Submits plan root before (Look read) = read ≡ None
@@ -61,6 +63,12 @@ Stands root h list taken (Placed term slot) = (length (slots_of root h list) ≡
 abbrev pub standing_after : Result ℕ Down → Answer → Request → Standing
 standing_after (Ok term) (SlotIs slot) request = Placed term slot
 standing_after told answer request = Asked request
+
+-- The request was handed to a server, which gave this answer: the submission is an entry of the seat. Without an answer its range is none that
+-- may be written, and there is no entry
+abbrev pub IsHanded : (n : ℕ) (alone : Type 0) (seen : Line) (server : ℕ) → Request → Option Answer → (new : Line) → Type 0
+IsHanded n alone seen server request (Some answer) new = Adds n alone seen (Happened (record { event = Submit server (write_for request); answer = answer })) new
+IsHanded n alone seen server request None new = (IsWritable request.range.first request.range.count → ⊥) × (new ≡ seen)
 
 -- the requests that were taken are the host's first ones
 abbrev pub IsFed : (sectors h : ℕ) → Served → Type 0
@@ -87,13 +95,13 @@ pub record IsServedIn (plan : Plan) (rings : List Ring) (h : ℕ) (a : Served) :
   pub is : IsServed plan ring a
 
 -- What became of host h, as the seat went on from what it had seen. Where no other seat submitted, and the requests are the host's first
--- ones, what was submitted was the next write each time
+-- ones, what was submitted was a write of the host each time: the next one, where the disks tell their content
 pub record Serves (plan : Plan) (root : GroupIs) (n : ℕ) (begun : Line) (h : ℕ) (a : Served) (seen : Line) (b : Served) (later : Line) : Type 0 where
   pub begins : Begins seen later
   pub fed : IsFed plan.sectors h b → IsFed plan.sectors h a
-  pub steps : SubmitsAlone n begun later → IsFed plan.sectors h b → EachOf n (Submits plan root) seen → Stands root h seen a.taken a.standing → EachOf n (Submits plan root) later
-  pub stands : SubmitsAlone n begun later → IsFed plan.sectors h b → Stands root h seen a.taken a.standing → Stands root h later b.taken b.standing
-  pub others : SubmitsAlone n begun later → IsFed plan.sectors h b → Stands root h seen a.taken a.standing → (k : ℕ) → k ≢ h → slots_of root k later ≡ slots_of root k seen
+  pub steps : SubmitsAlone n begun later → IsFed plan.sectors h b → EachOf n (Submits plan root) seen → (IsTrue root.told → Stands root h seen a.taken a.standing) → EachOf n (Submits plan root) later
+  pub stands : IsTrue root.told → SubmitsAlone n begun later → IsFed plan.sectors h b → Stands root h seen a.taken a.standing → Stands root h later b.taken b.standing
+  pub others : IsTrue root.told → SubmitsAlone n begun later → IsFed plan.sectors h b → Stands root h seen a.taken a.standing → (k : ℕ) → k ≢ h → slots_of root k later ≡ slots_of root k seen
 
 -- whatever the list was from which on it submits alone
 abbrev pub ServesOn : Plan → GroupIs → (n h : ℕ) → Served → (seen : Line) → Served → (later : Line) → Type 0
@@ -113,7 +121,7 @@ module _ {D : Type 0} {disk : Ghosts D} where
     pub hosts : length a.served.items ≡ plan.hosts
     pub each : (h : ℕ) (s : Served) → slice_get a.served.items h ≡ Some s → IsServedIn plan rings h s
     pub steps : SubmitsAlone (number_of a.seat) (seen_by a.begun.value) (seen_by a.seat) → AllFed plan a.served.items → EachOf (number_of a.seat) (Submits plan (root_in group)) (seen_by a.seat)
-    pub stand : SubmitsAlone (number_of a.seat) (seen_by a.begun.value) (seen_by a.seat) → AllFed plan a.served.items → AllStand (root_in group) (seen_by a.seat) a.served.items
+    pub stand : IsTrue (root_in group).told → SubmitsAlone (number_of a.seat) (seen_by a.begun.value) (seen_by a.seat) → AllFed plan a.served.items → AllStand (root_in group) (seen_by a.seat) a.served.items
 
   -- nothing changes but what it has seen and done
   abbrev pub IsSameSubmitter : Submitter D disk → Submitter D disk → Type 0

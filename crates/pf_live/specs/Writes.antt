@@ -18,6 +18,10 @@ request_of sectors h j = record { host = h; number = j; range = record { first =
 abbrev pub op_of : Request → Op
 op_of request = Write request.range (replicate 512 request.byte ∷ [])
 
+-- what is written for any request: its sectors, each filled with its byte
+abbrev pub write_for : Request → Op
+write_for request = Write request.range (replicate request.range.count (replicate 512 request.byte))
+
 -- the first n of them, in order
 abbrev pub first_requests : (sectors h n : ℕ) → List Request
 first_requests sectors h zero = []

@@ -40,7 +40,7 @@ impl<D: Disk, G> Line<D, G> {
     }
 
     /// How often it was changed.
-    pub(crate) fn count(&self) -> u64 {
+    pub fn count(&self) -> u64 {
         self.moves.load(Ordering::SeqCst)
     }
 

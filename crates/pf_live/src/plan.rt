@@ -16,6 +16,8 @@ pub struct Plan {
     pub sectors: u32,
     ghost few_hosts: { hosts ≤ 8 },
     ghost few_writes: { writes ≤ 64 },
+    ghost some_workers: { 1 ≤ workers },
+    ghost few_workers: { workers ≤ 8 },
     ghost some_sectors: { 0 < sectors },
     ghost few_sectors: { sectors ≤ 4096 },
 }

@@ -1,12 +1,13 @@
 //! A host, as the worker that submits knows it.
-ghost use Rattle.std.specs.Prelude.{◌≡◌, ℕ, ◌<◌, OnErr};
+ghost use Rattle.std.specs.Prelude.{◌≡◌, ℕ, ◌<◌, IfOk, OnErr};
 ghost use Rattle.pf_turn.specs.Lists.{Begins};
 ghost use Rattle.pf_group.specs.GroupIs.{GroupIs};
 ghost use Rattle.pf_leadercell.specs.Passes.{IsPassOf};
-ghost use Rattle.pf_shared.specs.Seats.{IsSameSeat, IsSeatOf, number_of, root_in, seen_by};
+ghost use Rattle.pf_shared.specs.Calls.{Finds};
+ghost use Rattle.pf_shared.specs.Seats.{IsAlone, IsSameSeat, IsSeatOf, number_of, root_in, seen_by};
 ghost use Rattle.pf_live.specs.declared.serving.Standing.TheVariants.{Asked, Placed, Settled};
 ghost use Rattle.pf_live.specs.Deliveries.{Line as Entries};
-ghost use Rattle.pf_live.specs.Submitters.{IsCounted, IsServed, IsServedIn, ServesOn, standing_after};
+ghost use Rattle.pf_live.specs.Submitters.{IsCounted, IsHanded, IsServed, IsServedIn, ServesOn, standing_after};
 
 use crate::line::Line;
 use crate::plan::Plan;
@@ -135,10 +136,10 @@ impl Served {
         Ok(is_acked)
     }
 
-    /// Hands a request to a server, after so many changes of the group. Whether it has a slot now. Where memory runs out (`NoMemory`, 1), or
-    /// its range is none that may be written, it was not handed over.
+    /// Hands a request to a server, after so many changes of the group, and tells the answer. `None` where its range is none that may be
+    /// written: then it was not handed over. Where memory runs out (`NoMemory`, 1) it was not either.
     #[allow(clippy::too_many_arguments)]
-    fn hand<R: Wait, D: Disk + Drop, G>(
+    pub fn hand<R: Wait, D: Disk + Drop, G>(
         &mut self,
         rt: &R,
         line: &Line<D, G>,
@@ -147,7 +148,7 @@ impl Served {
         server: Server,
         request: Request,
         moves: u64,
-    ) -> Result<bool, NoMemory>
+    ) -> Result<Option<Answer>, NoMemory>
         requires seat { IsSeatOf line.now.group seat.old }
         requires counted { IsCounted line.now.plan self.old }
         requires host { host < line.now.plan.hosts }
@@ -157,9 +158,11 @@ impl Served {
         ensures pass { self.new.pass ≡ self.old.pass }
         ensures counted { IsCounted line.now.plan self.new }
         ensures serves { ServesOn line.now.plan (root_in line.now.group) (number_of seat.old) host self.old (seen_by seat.old) self.new (seen_by seat.new) }
+        ensures handed { IfOk result (λ told. IsHanded (number_of seat.old) (IsAlone seat.old) (seen_by seat.old) server request told (seen_by seat.new)) }
+        ensures err { OnErr result (Finds (number_of seat.old) (IsAlone seat.old) (seen_by seat.old) (seen_by seat.new)) }
     {
         let Ok(range) = Range::new(request.range.first(), request.range.count()) else {
-            return Ok(false);
+            return Ok(None);
         };
         let data = Data::filled(line.alloc, request.byte, range.count())?;
         let payload = Payload::new(line.alloc, data)?;
@@ -168,11 +171,15 @@ impl Served {
             .submit(rt, line.alloc, seat, server, range, payload)?;
         self.standing = standing_after(term, &answer, request);
         self.moves = moves;
-        let placed = matches!(self.standing, Standing::Placed { .. });
-        if placed {
+        if self.is_placed() {
             line.moved();
         }
-        Ok(placed)
+        Ok(Some(answer))
+    }
+
+    /// Whether its last request has a slot that was not acknowledged yet.
+    fn is_placed(&self) -> bool {
+        matches!(self.standing, Standing::Placed { .. })
     }
 
     /// Hands a request to the server that was published last as the leader, between the calls of the gate, if the group was changed since it
@@ -205,7 +212,8 @@ impl Served {
         line.gate.before(SERVER);
         let handed = self.hand(rt, line, seat, host, server, request, moves);
         line.gate.after(SERVER);
-        handed
+        handed?;
+        Ok(self.is_placed())
     }
 
     /// Does what is next for the host: takes its next request, hands it to a server, or looks whether its slot is acknowledged. Whether

@@ -4,6 +4,7 @@ use mathlib.Core.Logic.{dite}
 use Rattle.std.proofs.Common.{◌≡◌, ◌⊎◌, inl, inr, ℕ, zero, suc, ◌+◌, ◌-◌, ◌<◌, ◌≤◌, Bool, true, false, not, cond, ◌&&◌, List, [], ◌∷◌, ◌++◌, length, length-append, Option, Some, None, is_some, nat_lt, lt-ltb, true≢false, slice_get, sum_by, append_assoc, arith, refl, sym, ap, ◌∙◌, subst}
 use Rattle.std.proofs.lemmas.List.Sums.{sum_by-append, sum_by-cons}
 use Rattle.pf_entry.specs.Lists.{Every}
+use Rattle.pf_turn.specs.Lists.{Begins}
 use Rattle.pf_turn.specs.declared.log.Stamped.{Stamped}
 use Rattle.pf_protocol.specs.Groups.{Acked}
 use Rattle.pf_protocol.specs.declared.answers.Answer.TheVariants.{Refused}
@@ -11,21 +12,23 @@ use Rattle.pf_protocol.specs.declared.events.Event.TheVariants.{Submit}
 use Rattle.pf_cluster.specs.Shown.{IsLeader, is_acked}
 use Rattle.pf_group.specs.GroupIs.{GroupIs}
 use Rattle.pf_rings.specs.declared.ring.Ring.{Ring}
+use Rattle.pf_rings.specs.declared.view.Request.{Request}
 use Rattle.pf_shared.specs.declared.moment.Moment.{Moment}
 use Rattle.pf_shared.specs.declared.moment.Moment.TheVariants.{Happened}
 use Rattle.pf_shared.specs.Moments.{entry}
 use Rattle.pf_shared.specs.Since.{state_at}
-use Rattle.pf_live.specs.declared.ending.LiveEnd.TheVariants.{Done, Stalled}
+use Rattle.pf_live.specs.declared.ending.LiveEnd.TheVariants.{Done, Stalled, TurnsSpent}
 use Rattle.pf_live.specs.declared.hosting.Host.{Host}
 use Rattle.pf_live.specs.declared.plan.Plan.{Plan}
 use Rattle.pf_live.specs.declared.serving.Served.{Served}
 use Rattle.pf_live.specs.declared.serving.Standing.TheVariants.{Asked, Placed, Settled}
-use Rattle.pf_live.specs.Deliveries.{Line, delivers, is_passed, least_left}
-use Rattle.pf_live.specs.Ends.{HasEnd, IsOpen, NoneIsLeft, WaitsInVain, WasRefused}
+use Rattle.pf_live.specs.Deliveries.{Line, deliveries, delivers, is_passed, least_left}
+use Rattle.pf_live.specs.Ends.{HasEnd, IsOpen, IsRefused, NoneIsLeft, WaitsInVain, WasRefused}
 use Rattle.pf_live.specs.Submissions.{acked_of, is_told, slots_of}
-use Rattle.pf_live.specs.Submitters.{AllTold, IsServedIn, Stands}
+use Rattle.pf_rings.specs.Passes.{taken_by}
+use Rattle.pf_live.specs.Submitters.{AllTold, IsCounted, IsLast, IsServedIn, Stands}
 use Rattle.pf_live.specs.Writes.{op_of, request_of}
-use Rattle.pf_liveline.specs.Judging.{HasCount, IsUnchanged, MayGoOn}
+use Rattle.pf_liveline.specs.Judging.{AreRefused, HasCount, IsUnchanged, MayGoOn}
 use Rattle.pf_liveline.specs.Meeting.{AreMet}
 use Rattle.pf_liveline.proofs.Looked.{weigh}
 
@@ -47,6 +50,14 @@ met_at plan rings end h (b ∷ bs) (t ∷ ts) are (suc j) s there = let shifted 
 pub met_few : (plan : Plan) (rings : List Ring) (end : ℕ) (xs : List Host) (ss : List Served) → AreMet plan rings end 0 xs ss → (j : ℕ) (s : Served) → slice_get ss j ≡ Some s → s.taken ≤ plan.writes
 met_few plan rings end xs ss are j s there = (met_at plan rings end 0 xs ss are j s there).is.counted.few
 
+-- and each pass counts what it took
+pub met_counted : (plan : Plan) (rings : List Ring) (end : ℕ) (xs : List Host) (ss : List Served) → AreMet plan rings end 0 xs ss → (j : ℕ) (s : Served) → slice_get ss j ≡ Some s → IsCounted plan s
+met_counted plan rings end xs ss are j s there = (met_at plan rings end 0 xs ss are j s there).is.counted
+
+-- one that has no slot was taken
+pub asked_some : (plan : Plan) (s : Served) (request : Request) → IsCounted plan s → s.standing ≡ Asked request → 0 < s.taken
+asked_some plan s request counted asked = let last : IsLast (taken_by s.pass) (Asked request) = subst (IsLast (taken_by s.pass)) asked counted.last in let count : length last.0 + 1 ≡ s.taken = sym (length-append last.0 (request ∷ [])) ∙ (ap length last.1 ∙ counted.count) in omega (arith, count)
+
 sum_told : (p : Acked → Bool) (slots : List Acked) → Every (λ a. p a ≡ true) slots → sum_by (λ a. cond (p a) 1 0) slots ≡ length slots
 sum_told p [] all = refl
 sum_told p (a ∷ rest) all = let f : Acked → ℕ = λ x. weigh (p x) in let c : sum_by f (a ∷ rest) ≡ weigh (p a) + sum_by f rest = sum_by-cons f a rest in let one : weigh (p a) ≡ 1 = ap weigh all.0 in let tail : sum_by f rest ≡ length rest = sum_told p rest all.1 in omega (arith, c, one, tail)
@@ -66,16 +77,21 @@ module _ (plan : Plan) (root : GroupIs) (h : ℕ) (list : Line) (taken : ℕ) (f
       ap (sum_by f) (sym is) ∙ (let total : sum_by f (front ++ a ∷ []) ≡ length front + weigh (is_told (state_at root list) a) = omega (arith, s, t) in total)
 
   pub count_settled : Stands root h list taken Settled → HasCount plan root list h (taken, false)
-  count_settled s = record { acked = all_acked s.1 ∙ s.0; within = few; placed = λ e. absurd cc; settled = λ e. sym s.0 }
+  count_settled s = record { acked = all_acked s.1 ∙ s.0; within = few; vain = λ e. absurd cc; settled = λ e. sym s.0 }
 
-  pub count_asked : (request : Rattle.pf_rings.specs.declared.view.Request.Request) → Stands root h list taken (Asked request) → HasCount plan root list h (taken - 1, false)
-  count_asked request s = let less : length (slots_of root h list) ≡ taken - 1 = let is = s.0 in omega arith in record { acked = all_acked s.1 ∙ less; within = omega arith; placed = λ e. absurd cc; settled = λ e. sym less }
+  pub count_asked : (request : Request) (refused : Bool) → (refused ≡ true → WasRefused plan root list h (taken - 1)) → Stands root h list taken (Asked request) → HasCount plan root list h (taken - 1, refused)
+  count_asked request refused was s = let less : length (slots_of root h list) ≡ taken - 1 = let is = s.0 in omega arith in let acked : acked_of root h list ≡ taken - 1 = all_acked s.1 ∙ less in record {
+    acked = acked;
+    within = omega arith;
+    vain = λ e. inr (inr (subst (WasRefused plan root list h) (sym acked) (was e)));
+    settled = λ e. sym less;
+  }
 
   pub count_told : (term slot : ℕ) → is_acked (state_at root list) term slot ≡ true → Stands root h list taken (Placed term slot) → HasCount plan root list h (taken, false)
   count_told term slot told s = let last = last_acked s.1 (record { term = term; slot = slot }) s.2 s.3 in let one : weigh (is_acked (state_at root list) term slot) ≡ 1 = ap weigh told in let count : length s.1 + 1 ≡ length (slots_of root h list) = sym (length-append s.1 (record { term = term; slot = slot } ∷ [])) ∙ ap length s.2 in record {
     acked = omega (arith, last, one, count, s.0);
     within = few;
-    placed = λ e. absurd cc;
+    vain = λ e. absurd cc;
     settled = λ e. sym s.0;
   }
 
@@ -83,12 +99,24 @@ module _ (plan : Plan) (root : GroupIs) (h : ℕ) (list : Line) (taken : ℕ) (f
   count_placed term slot told s = let last = last_acked s.1 (record { term = term; slot = slot }) s.2 s.3 in let none : weigh (is_acked (state_at root list) term slot) ≡ 0 = ap weigh told in let count : length s.1 + 1 ≡ length (slots_of root h list) = sym (length-append s.1 (record { term = term; slot = slot } ∷ [])) ∙ ap length s.2 in record {
     acked = omega (arith, last, none, count, s.0);
     within = omega arith;
-    placed = λ e. omega (arith, count, s.0);
+    vain = λ e. let acked : acked_of root h list ≡ taken - 1 = omega (arith, last, none, count, s.0) in inl (omega (arith, acked, count, s.0));
     settled = λ e. absurd cc;
   }
 
-pub placed_some : (root : GroupIs) (h : ℕ) (list : Line) (taken term slot : ℕ) → Stands root h list taken (Placed term slot) → 1 ≤ taken
-placed_some root h list taken term slot s = let count : length s.1 + 1 ≡ length (slots_of root h list) = sym (length-append s.1 (record { term = term; slot = slot } ∷ [])) ∙ ap length s.2 in omega (arith, count, s.0)
+-- nothing was delivered since
+pub refused_later : (plan : Plan) (old new : Line) → Begins old new → deliveries new ≡ deliveries old → (h j server : ℕ) → IsRefused plan old h j server → IsRefused plan new h j server
+refused_later plan old new begins count h j server r = record {
+  before = r.before;
+  seat = r.seat;
+  refusal = r.refusal;
+  after = r.after ++ begins.0;
+  there = sym (append_assoc r.before (refused_at ∷ r.after) begins.0) ∙ (ap (λ l. l ++ begins.0) r.there ∙ begins.1);
+  since = let f : Stamped Moment → ℕ = λ e. weigh (delivers e.what) in let a : sum_by f (r.after ++ begins.0) ≡ sum_by f r.after + sum_by f begins.0 = sum_by-append f r.after begins.0 in
+      let b : sum_by f (old ++ begins.0) ≡ sum_by f old + sum_by f begins.0 = sum_by-append f old begins.0 in let c : sum_by f (old ++ begins.0) ≡ sum_by f new = ap (sum_by f) begins.1 in let d : sum_by f new ≡ sum_by f old = count in let z : sum_by f r.after ≡ 0 = r.since in omega (arith, a, b, c, d, z);
+}
+  where
+    refused_at : Stamped Moment
+    refused_at = entry r.seat (Happened (record { event = Submit server (op_of (request_of plan.sectors h j)); answer = Refused r.refusal }))
 
 -- what was found is so after looks
 module _ (plan : Plan) (root : GroupIs) (old new : Line) (un : IsUnchanged root old new) where
@@ -99,27 +127,13 @@ module _ (plan : Plan) (root : GroupIs) (old new : Line) (un : IsUnchanged root 
   least_same = let alike : (λ (k : ℕ). is_passed k new) ≡ (λ (k : ℕ). is_passed k old) = λ i k. un.passed k i in
       ap (λ g. least_left g new) un.state ∙ ap (λ (p : ℕ → Bool). Rattle.std.proofs.Common.find (λ k. Rattle.pf_group.specs.Packets.is_left_in (state_at root old) k && not (p k)) (Rattle.std.specs.List.range_with_len 0 (length (state_at root old).packets))) alike
 
-  refused_on : (h : ℕ) → WasRefused plan root old h → WasRefused plan root new h
-  refused_on h r = record {
-    before = r.before;
-    seat = r.seat;
-    server = r.server;
-    term = r.term;
-    refusal = r.refusal;
-    after = r.after ++ un.begins.0;
-    there = ap (λ n. r.before ++ refused_at n ∷ (r.after ++ un.begins.0)) (acked_same h) ∙ (sym (append_assoc r.before (refused_at (acked_of root h old) ∷ r.after) un.begins.0) ∙ (ap (λ l. l ++ un.begins.0) r.there ∙ un.begins.1));
-    leads = subst (λ g. IsLeader g (Some (r.term, r.server))) (sym un.state) r.leads;
-    since = let f : Stamped Moment → ℕ = λ e. weigh (delivers e.what) in let a : sum_by f (r.after ++ un.begins.0) ≡ sum_by f r.after + sum_by f un.begins.0 = sum_by-append f r.after un.begins.0 in
-        let b : sum_by f (old ++ un.begins.0) ≡ sum_by f old + sum_by f un.begins.0 = sum_by-append f old un.begins.0 in let c : sum_by f (old ++ un.begins.0) ≡ sum_by f new = ap (sum_by f) un.begins.1 in let d : sum_by f new ≡ sum_by f old = un.count in let z : sum_by f r.after ≡ 0 = r.since in omega (arith, a, b, c, d, z);
-  }
-    where
-      refused_at : ℕ → Stamped Moment
-      refused_at n = entry r.seat (Happened (record { event = Submit r.server (op_of (request_of plan.sectors h n)); answer = Refused r.refusal }))
+  pub refused_on : (h j : ℕ) → WasRefused plan root old h j → WasRefused plan root new h j
+  refused_on h j r = record { server = r.server; term = r.term; leads = subst (λ g. IsLeader g (Some (r.term, r.server))) (sym un.state) r.leads; refused = refused_later plan old new un.begins un.count h j r.server r.refused }
 
   vain_on : (h : ℕ) → WaitsInVain plan root old h → WaitsInVain plan root new h
   vain_on h (inl low) = inl (let a = acked_same h in let b = ap length (un.slots h) in omega (arith, a, b, low))
   vain_on h (inr (inl none)) = inr (inl (subst (λ g. IsLeader g None) (sym un.state) none))
-  vain_on h (inr (inr refused)) = inr (inr (refused_on h refused))
+  vain_on h (inr (inr refused)) = inr (inr (subst (WasRefused plan root new h) (sym (acked_same h)) (refused_on h (acked_of root h old) refused)))
 
 -- of the hosts below this one: each that has a write left waits in vain
 pub record SoFar (plan : Plan) (root : GroupIs) (list : Line) (leader : Option (ℕ × ℕ)) (waits : Bool) (end : ℕ) : Type 0 where
@@ -141,6 +155,16 @@ so_far_on plan root old new leader waits end un was = record {
 pub none_there : (left : Option ℕ) → is_some left ≡ false → left ≡ None
 none_there None e = refl
 none_there (Some k) e = absurd cc
+
+-- a packet is left
+module _ (plan : Plan) (root : GroupIs) (list : Line) where
+  pub goes_on_left : (left : Option ℕ) → is_some left ≡ true → least_left (state_at root list) list ≡ left → deliveries list < plan.turns → MayGoOn plan root list
+  goes_on_left None some is few = absurd cc
+  goes_on_left (Some k) some is few = inl (k, is, few)
+
+  pub ends_spent : (left : Option ℕ) → is_some left ≡ true → least_left (state_at root list) list ≡ left → deliveries list ≡ plan.turns → HasEnd plan root list TurnsSpent
+  ends_spent None some is spent = absurd cc
+  ends_spent (Some k) some is spent = (spent, (k, is))
 
 leads_none : (g : Rattle.pf_protocol.specs.Groups.Group) (leader : Option (ℕ × ℕ)) → is_some leader ≡ false → IsLeader g leader → IsLeader g None
 leads_none g None e is = is
@@ -165,9 +189,6 @@ module _ (plan : Plan) (root : GroupIs) (list : Line) (leader : Option (ℕ × �
   open_now less = (low, omega (arith, less, count.acked))
 
   -- or it waits in vain
-  vain_now : told.1 ≡ true → WaitsInVain plan root list h
-  vain_now placed = inl (let p = count.placed placed in let a = count.acked in omega arith)
-
   so_far_waits : told.0 < plan.writes → WaitsInVain plan root list h → SoFar plan root list leader true (h + 1)
   so_far_waits less vain = record {
     none = was.none;
@@ -178,7 +199,7 @@ module _ (plan : Plan) (root : GroupIs) (list : Line) (leader : Option (ℕ × �
   }
 
   pub so_far_placed : told.0 < plan.writes → told.1 ≡ true → SoFar plan root list leader true (h + 1)
-  so_far_placed less placed = so_far_waits less (vain_now placed)
+  so_far_placed less placed = so_far_waits less (count.vain placed)
 
   pub so_far_idle : told.0 < plan.writes → is_some leader ≡ false → SoFar plan root list leader true (h + 1)
   so_far_idle less idle = so_far_waits less (inr (inl (leads_none (state_at root list) leader idle was.leads)))
@@ -193,3 +214,7 @@ module _ (plan : Plan) (root : GroupIs) (list : Line) (leader : Option (ℕ × �
 
   pub ends_done : SoFar plan root list leader false plan.hosts → HasEnd plan root list Done
   ends_done s = (s.all refl, s.none)
+
+-- that the leader refused requests is so after looks
+pub are_refused_on : (plan : Plan) (root : GroupIs) (old new : Line) (served : List Served) → IsUnchanged root old new → AreRefused plan root old served → AreRefused plan root new served
+are_refused_on plan root old new served un are told h s request low there is = refused_on plan root old new un h (s.taken - 1) (are told h s request low there is)

@@ -1,5 +1,5 @@
 -- What is known of the seats of a run, as they are taken in.
-use Rattle.std.proofs.Common.{◌≡◌, ◌⊎◌, inl, inr, ℕ, zero, suc, ◌+◌, ◌-◌, ◌<◌, ◌≤◌, Bool, true, false, ◌||◌, List, [], ◌∷◌, ◌++◌, length, Some, slice_get, arith, refl, sym, ap, ◌∙◌, subst}
+use Rattle.std.proofs.Common.{◌≡◌, ◌⊎◌, inl, inr, ℕ, zero, suc, ◌+◌, ◌-◌, ◌<◌, ◌≤◌, Bool, true, false, ◌||◌, List, [], ◌∷◌, ◌++◌, length, None, Some, slice_get, arith, refl, sym, ap, ◌∙◌, subst}
 use mathlib.Core.Logic.{dite}
 use native.Mathlib.Decide.{ℕ_discrete}
 use Rattle.pf_turn.specs.Lists.{Begins, entries_of}
@@ -9,6 +9,7 @@ use Rattle.pf_disk.specs.declared.disk.Disk.{Ghosts}
 use Rattle.pf_group.specs.GroupIs.{GroupIs}
 use Rattle.pf_leadercell.specs.declared.cell.LeaderCell.{LeaderCell}
 use Rattle.pf_rings.specs.declared.ring.Ring.{Ring}
+use Rattle.pf_shared.specs.Hands.{Key, hand_of}
 use Rattle.pf_shared.specs.Moments.{entry}
 use Rattle.pf_shared.specs.declared.parts.GroupSeat.{GroupSeat}
 use Rattle.pf_shared.specs.declared.parts.SharedGroup.{SharedGroup}
@@ -78,6 +79,7 @@ module _ {D : Type 0} {disk : Ghosts D} (group : SharedGroup D disk) (cell : Lea
     pub low : splits_of begun + 3 ≤ n
     pub on : Begins (seen_by mid) (seen_by first)
     pub same : (m : ℕ) → m ≤ splits_of begun + 2 → entries_of m (seen_by first) ≡ entries_of m (seen_by mid)
+    pub free : (m : ℕ) → splits_of begun + 2 < m → m < n → (k : Key) → hand_of k None (entries_of m (seen_by first)) ≡ None
     pub lasts : wants ≡ false → (m : ℕ) → splits_of begun + 2 < m → m < n → EndsWith (entries_of m (seen_by first)) (nothing_free m)
     pub fits : plan.hosts ≤ room
 
@@ -99,6 +101,7 @@ module _ {D : Type 0} {disk : Ghosts D} (group : SharedGroup D disk) (cell : Lea
     low = was.low;
     on = was.on;
     same = was.same;
+    free = was.free;
     lasts = was.lasts;
     fits = was.fits;
   }
@@ -117,8 +120,8 @@ module _ {D : Type 0} {disk : Ghosts D} (group : SharedGroup D disk) (cell : Lea
 
   -- a seat that applied came back
   pub takes_apply : (first new : GroupSeat D disk) (a : Applier D disk) (rest : List (Worker D disk)) (hosts : List Host) (room : ℕ) (wants told : Bool) → TakesBack first (any.Apply a ∷ rest) hosts room wants → IsJoining group plan begun submitted (number_of a.seat) new → Begins (seen_by first) (seen_by new)
-      → ((n : ℕ) → n < number_of a.seat → entries_of n (seen_by new) ≡ entries_of n (seen_by first)) → (told ≡ false → EndsWith (entries_of (number_of a.seat) (seen_by new)) (nothing_free (number_of a.seat))) → TakesBack new rest hosts room (wants || told)
-  takes_apply first new a rest hosts room wants told was joining on others last = let is : number_of a.seat ≡ was.n = was.counted.0 in let low = was.low in record {
+      → ((n : ℕ) → n < number_of a.seat → entries_of n (seen_by new) ≡ entries_of n (seen_by first)) → ((k : Key) → hand_of k None (entries_of (number_of a.seat) (seen_by new)) ≡ None) → (told ≡ false → EndsWith (entries_of (number_of a.seat) (seen_by new)) (nothing_free (number_of a.seat))) → TakesBack new rest hosts room (wants || told)
+  takes_apply first new a rest hosts room wants told was joining on others free last = let is : number_of a.seat ≡ was.n = was.counted.0 in let low = was.low in record {
     h = was.h;
     n = was.n + 1;
     counted = was.counted.2;
@@ -127,6 +130,9 @@ module _ {D : Type 0} {disk : Ghosts D} (group : SharedGroup D disk) (cell : Lea
     low = omega arith;
     on = begins_trans (seen_by mid) (seen_by first) (seen_by new) was.on on;
     same = λ m under. others m (omega arith) ∙ was.same m under;
+    free = λ m above under k. dite (ℕ_discrete m (number_of a.seat))
+        (λ here. subst (λ x. hand_of k None (entries_of x (seen_by new)) ≡ None) (sym here) (free k))
+        (λ other. ap (hand_of k None) (others m (omega arith)) ∙ was.free m above (omega arith) k);
     lasts = λ none m above under. dite (ℕ_discrete m (number_of a.seat))
         (λ here. subst (λ x. EndsWith (entries_of x (seen_by new)) (nothing_free x)) (sym here) (last (neither_second wants told none)))
         (λ other. subst (λ l. EndsWith l (nothing_free m)) (sym (others m (omega arith))) (was.lasts (neither_first wants told none) m above (omega arith)));
@@ -169,8 +175,8 @@ module _ {D : Type 0} {disk : Ghosts D} (group : SharedGroup D disk) (cell : Lea
     served = subst (λ v. AreServed plan rings plan.hosts 0 v.items) (sym served) (served_from 0 s.served.items (omega (arith, p.is.hosts)) (λ j x there. subst (λ m. IsServedIn plan rings m x) (sym (Rattle.std.proofs.Common.zero-add j)) (p.is.each j x there)));
     steps = λ al fed. subst (λ x. EachOf (splits_of begun + 1) (Submits plan (root_in group)) (seen_by x)) (sym is) (subst (λ m. EachOf m (Submits plan (root_in group)) (seen_by s.seat)) p.number
         (p.is.steps (submitted_as (subst (λ x. SubmitsAlone (splits_of begun + 1) (seen_by begun) (seen_by x)) is al)) (subst (λ v. AllFed plan v.items) served fed)));
-    stand = λ al fed. subst (λ x. AllStand (root_in group) (seen_by x) a.served.items) (sym is) (subst (λ v. AllStand (root_in group) (seen_by s.seat) v.items) (sym served)
-        (p.is.stand (submitted_as (subst (λ x. SubmitsAlone (splits_of begun + 1) (seen_by begun) (seen_by x)) is al)) (subst (λ v. AllFed plan v.items) served fed)));
+    stand = λ told al fed. subst (λ x. AllStand (root_in group) (seen_by x) a.served.items) (sym is) (subst (λ v. AllStand (root_in group) (seen_by s.seat) v.items) (sym served)
+        (p.is.stand told (submitted_as (subst (λ x. SubmitsAlone (splits_of begun + 1) (seen_by begun) (seen_by x)) is al)) (subst (λ v. AllFed plan v.items) served fed)));
     delivered = subst (λ m. HasDelivered plan.turns (root_in group) (seen_by begun) (splits_of begun + 2) (seen_by two) m a.made) (sym next) (subst (λ m. HasDelivered plan.turns (root_in group) (seen_by begun) (splits_of begun + 2) (seen_by two) t.next m) (sym made)
         (delivered_finds plan.turns (root_in group) (seen_by begun) (splits_of begun + 2) ⊥ (seen_by t.seat) (seen_by two) t.next t.made (record { begins = to_two; own = subst (λ m. entries_of m (seen_by two) ≡ entries_of m (seen_by t.seat)) q.number own_two; exact = λ no. absurd no }) did_as));
     publishes = subst (λ x. IsPassOf cell x × cells.IsFirst x) (sym first) q.is.pass;

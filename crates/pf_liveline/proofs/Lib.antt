@@ -11,3 +11,5 @@ pub mod Ends
 pub mod Looked
 pub mod Judged
 pub mod Rounds
+pub mod Handed
+pub mod Tidy

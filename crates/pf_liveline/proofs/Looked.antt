@@ -1,5 +1,5 @@
 -- The list goes on by an entry of the first seat.
-use Rattle.std.proofs.Common.{◌≡◌, ◌≢◌, ℕ, zero, suc, ◌+◌, Bool, true, false, cond, ◌||◌, eqb, eqb-true, List, [], ◌∷◌, ◌++◌, Option, None, Result, Ok, Err, IfOk, OnErr, sum_by, append-nil, arith, refl, sym, ap, ◌∙◌, subst}
+use Rattle.std.proofs.Common.{◌≡◌, ◌≢◌, ℕ, zero, suc, ◌+◌, Bool, true, false, cond, ◌||◌, eqb, eqb-true, List, [], ◌∷◌, ◌++◌, Option, None, Result, Ok, Err, IfOk, IsTrue, OnErr, sum_by, append-nil, arith, refl, sym, ap, ◌∙◌, subst}
 use Rattle.std.proofs.lemmas.List.Folds.{list_any-append}
 use Rattle.std.proofs.lemmas.List.Sums.{sum_by-append}
 use Rattle.pf_turn.specs.declared.log.Stamped.{Stamped}
@@ -20,6 +20,7 @@ use Rattle.pf_shared.specs.declared.parts.GroupSeat.{GroupSeat}
 use Rattle.pf_shared.specs.declared.parts.SharedGroup.{SharedGroup}
 use Rattle.pf_shared.specs.Calls.{Finds}
 use Rattle.pf_shared.specs.Looks.{Looks}
+use Rattle.pf_shared.specs.Hands.{hand_of}
 use Rattle.pf_shared.specs.Moments.{entry}
 use Rattle.pf_shared.specs.Seats.{IsAlone, IsSameSeat, IsSeatOf, number_of, root_in, seen_by}
 use Rattle.pf_shared.specs.Since.{state_at}
@@ -34,7 +35,7 @@ use Rattle.pf_live.proofs.Happenings.{state_more}
 use Rattle.pf_live.proofs.Stands.{stands_on}
 use Rattle.pf_live.proofs.Submissions.{slots_snoc}
 use Rattle.pf_liveline.specs.declared.crew.Crew.{Crew}
-use Rattle.pf_liveline.specs.Crews.{AllEnded, HasMade, IsCrew, IsLineSeat}
+use Rattle.pf_liveline.specs.Crews.{AllEnded, AllFree, HasMade, IsCrew, IsLineSeat}
 use Rattle.pf_liveline.specs.Judging.{HasLooked, IsUnchanged}
 use Rattle.pf_liveline.proofs.Entries.{all_join}
 
@@ -73,9 +74,9 @@ module _ (n : ℕ) (list : Line) (what : Moment) where
 
     pub made_more : (turns : ℕ) (root : GroupIs) (next made : ℕ) → HasMade turns root list next made → HasMade turns root more next made
     made_more turns root next made h = let sent = sent_later root list more (entry n what ∷ [], refl) in
-        let later : IsPassedUpTo (state_at root more) (λ k. is_passed k list) next = passed_later (state_at root list) (λ k. is_passed k list) next h.passed (state_at root more) (λ k is. sent.none k is) h.sent in record {
-          sent = omega (arith, h.sent, sent.longer);
-          passed = record { below = λ k is. later.below k (sym (passed_same k) ∙ is); all = λ k low left. passed_same k ∙ later.all k low left };
+        let later : IsTrue root.told → IsPassedUpTo (state_at root more) (λ k. is_passed k list) next = λ told. passed_later (state_at root list) (λ k. is_passed k list) next (h.passed told) (state_at root more) (λ k is. sent.none k is) (h.sent told) in record {
+          sent = λ told. omega (arith, h.sent told, sent.longer);
+          passed = λ told. record { below = λ k is. (later told).below k (sym (passed_same k) ∙ is); all = λ k low left. passed_same k ∙ (later told).all k low left };
           count = h.count ∙ sym count_same;
           within = h.within;
         }
@@ -113,14 +114,18 @@ unchanged_trans root a b c p q = record {
 }
 
 -- where it alone is, the look stands at the end of what it had seen
-pub alone_look : (root : GroupIs) (n : ℕ) (alone : Type 0) (seen new : Line) (P : Group → Type 0) → alone → Looks root n alone seen P new → (new ≡ seen ++ entry n (Look None) ∷ []) × P (state_at root new)
+pub alone_look : (root : GroupIs) (n : ℕ) (alone : Type 0) (seen new : Line) (P : Group → Type 0) → alone → Looks root n alone seen P new → (new ≡ seen ++ entry n (Look None) ∷ []) × (IsTrue root.told → P (state_at root new))
 alone_look root n alone seen new P is look =
     let there : look.adds.found ≡ seen = look.adds.finds.exact is in
     let listed : new ≡ seen ++ entry n (Look None) ∷ [] = look.adds.listed ∙ ap (λ l. l ++ entry n (Look None) ∷ []) there in
     let state : state_at root look.adds.found ≡ state_at root new = ap (state_at root) there ∙ (sym (look_unchanged root n seen).state ∙ ap (state_at root) (sym listed)) in
-    (listed, subst P state look.shown)
+    (listed, λ told. subst P state (look.shown told))
 
 module _ {D : Type 0} {disk : Ghosts D} (group : SharedGroup D disk) (plan : Plan) (a b : GroupSeat D disk) (is : IsLineSeat group plan a) (at : IsSeatOf group b) (same : IsSameSeat a b) where
+  free_more : (what : Moment) → seen_by b ≡ seen_by a ++ entry (number_of a) what ∷ [] → AllFree plan b
+  free_more what listed zero low role k = absurd cc
+  free_more what listed (suc m) low role k = ap (λ l. hand_of k None (entries_of (suc m) l)) listed ∙ (ap (hand_of k None) (others_same (number_of a) (seen_by a) what (suc m) (λ e. absurd (omega (arith, is.at.1.0, e)))) ∙ is.free (suc m) (omega (arith, low, same.1)) role k)
+
   -- the seat made an entry
   pub seat_more : (what : Moment) → seen_by b ≡ seen_by a ++ entry (number_of a) what ∷ [] → Does plan (root_in group) 0 (seen_by a) what → IsLineSeat group plan b
   seat_more what listed does = record {
@@ -128,6 +133,7 @@ module _ {D : Type 0} {disk : Ghosts D} (group : SharedGroup D disk) (plan : Pla
     runs = (is.runs.0, same.1 ∙ is.runs.1);
     gone = same.3 ∙ (is.gone ∙ ap down_from (sym same.1));
     strangers = λ m above. ap (entries_of m) listed ∙ (others_same (number_of a) (seen_by a) what m (λ e. absurd (omega (arith, above, same.1, is.at.1.0, e))) ∙ is.strangers m (omega (arith, above, same.1)));
+    free = free_more what listed;
     live = subst (IsLive plan (root_in group)) (sym listed) (live_more (number_of a) (seen_by a) what (Does plan (root_in group)) is.live (subst (λ m. Does plan (root_in group) m (seen_by a) what) (sym is.at.1.0) does));
   }
 
@@ -143,6 +149,7 @@ module _ {D : Type 0} {disk : Ghosts D} (group : SharedGroup D disk) (plan : Pla
     gone = same.3 ∙ (is.gone ∙ ap down_from (sym same.1));
     strangers = λ m above. ap (entries_of m) seen ∙ is.strangers m (omega (arith, above, same.1));
     live = subst (IsLive plan (root_in group)) (sym seen) is.live;
+    free = λ m low role k. ap (λ l. hand_of k None (entries_of m l)) seen ∙ is.free m (omega (arith, low, same.1)) role k;
   }
 
   pub ended_same : seen_by b ≡ seen_by a → AllEnded plan a → AllEnded plan b
@@ -157,13 +164,14 @@ module _ {D : Type 0} {disk : Ghosts D} (group : SharedGroup D disk) (cell : Lea
         seat = seat_more group plan a.seat seat is.seat at same (Look None) listed refl;
         splits = is.splits ∙ sym same.1;
         met = is.met;
-        stand = subst (λ l. AllStand (root_in group) l a.served.items) (sym listed) (λ h s there. stands_on (root_in group) h (seen_by a.seat) _ un.begins (un.slots h) s.taken s.standing (is.stand h s there));
+        stand = λ told. subst (λ l. AllStand (root_in group) l a.served.items) (sym listed) (λ h s there. stands_on (root_in group) h (seen_by a.seat) _ un.begins (un.slots h) s.taken s.standing (is.stand told h s there));
         first = is.first;
         leaders = is.leaders;
         made = subst (λ l. HasMade plan.turns (root_in group) l a.next a.made) (sym listed) (made_more (number_of a.seat) (seen_by a.seat) (Look None) (λ k. refl) refl plan.turns (root_in group) a.next a.made is.made);
       };
       unchanged = subst (IsUnchanged (root_in group) (seen_by a.seat)) (sym listed) un;
       served = refl;
+      seats = same.1;
       ended = ended_more group plan a.seat seat is.seat at same (Look None) listed;
     }
 
@@ -174,25 +182,26 @@ module _ {D : Type 0} {disk : Ghosts D} (group : SharedGroup D disk) (cell : Lea
         seat = seat_same group plan a.seat seat is.seat at same seen;
         splits = is.splits ∙ sym same.1;
         met = is.met;
-        stand = subst (λ l. AllStand (root_in group) l a.served.items) (sym seen) is.stand;
+        stand = λ told. subst (λ l. AllStand (root_in group) l a.served.items) (sym seen) (is.stand told);
         first = is.first;
         leaders = is.leaders;
         made = subst (λ l. HasMade plan.turns (root_in group) l a.next a.made) (sym seen) is.made;
       };
       unchanged = subst (IsUnchanged (root_in group) (seen_by a.seat)) (sym seen) (unchanged_refl (root_in group) (seen_by a.seat));
       served = refl;
+      seats = same.1;
       ended = ended_same group plan a.seat seat is.seat at same seen;
     }
 
     -- what a look told is so of the list as it is now
     module _ (P : Group → Type 0) (look : Looks (root_in group) (number_of a.seat) (IsAlone a.seat) (seen_by a.seat) P (seen_by seat)) where
-      now : (seen_by seat ≡ seen_by a.seat ++ entry (number_of a.seat) (Look None) ∷ []) × P (state_at (root_in group) (seen_by seat))
+      now : (seen_by seat ≡ seen_by a.seat ++ entry (number_of a.seat) (Look None) ∷ []) × (IsTrue (root_in group).told → P (state_at (root_in group) (seen_by seat)))
       now = alone_look (root_in group) (number_of a.seat) (IsAlone a.seat) (seen_by a.seat) (seen_by seat) P is.seat.at.1 look
 
       pub looks_on : HasLooked group cell plan rings a (record a { seat = seat })
       looks_on = looked_more now.0
 
-      pub shown_now : P (state_at (root_in group) (seen_by seat))
+      pub shown_now : IsTrue (root_in group).told → P (state_at (root_in group) (seen_by seat))
       shown_now = now.1
 
     pub finds_on : Finds (number_of a.seat) (IsAlone a.seat) (seen_by a.seat) (seen_by seat) → HasLooked group cell plan rings a (record a { seat = seat })
@@ -204,26 +213,27 @@ module _ {D : Type 0} {disk : Ghosts D} (group : SharedGroup D disk) (cell : Lea
       look_result (Ok x) look none = looks_on (P x) look
       look_result (Err e) look none = finds_on none
 
-      pub look_shows : (r : Result A NoMemory) → IfOk r (λ x. Looks (root_in group) (number_of a.seat) (IsAlone a.seat) (seen_by a.seat) (P x) (seen_by seat)) → IfOk r (λ x. P x (state_at (root_in group) (seen_by seat)))
+      pub look_shows : (r : Result A NoMemory) → IfOk r (λ x. Looks (root_in group) (number_of a.seat) (IsAlone a.seat) (seen_by a.seat) (P x) (seen_by seat)) → IfOk r (λ x. IsTrue (root_in group).told → P x (state_at (root_in group) (seen_by seat)))
       look_shows (Ok x) look = shown_now (P x) look
       look_shows (Err e) look = tt
 
   pub looked_refl : HasLooked group cell plan rings a a
-  looked_refl = record { is = is; unchanged = unchanged_refl (root_in group) (seen_by a.seat); served = refl; ended = λ e. e }
+  looked_refl = record { is = is; unchanged = unchanged_refl (root_in group) (seen_by a.seat); served = refl; seats = refl; ended = λ e. e }
 
   -- the least packet from the switch's next one on is the least that was not passed over
-  pub least_now : least_left (state_at (root_in group) (seen_by a.seat)) (seen_by a.seat) ≡ least_from a.next (state_at (root_in group) (seen_by a.seat))
-  least_now = least_is (state_at (root_in group) (seen_by a.seat)) (λ k. is_passed k (seen_by a.seat)) a.next is.made.passed
+  pub least_now : IsTrue (root_in group).told → least_left (state_at (root_in group) (seen_by a.seat)) (seen_by a.seat) ≡ least_from a.next (state_at (root_in group) (seen_by a.seat))
+  least_now told = least_is (state_at (root_in group) (seen_by a.seat)) (λ k. is_passed k (seen_by a.seat)) a.next (is.made.passed told)
 
 pub least_shows : {D : Type 0} {disk : Ghosts D} (group : SharedGroup D disk) (cell : LeaderCell) (plan : Plan) (rings : List Ring) (a : Crew D disk) (is : IsCrew group cell plan rings a) (r : Result (Option ℕ) NoMemory)
-    → IfOk r (λ left. left ≡ least_from a.next (state_at (root_in group) (seen_by a.seat))) → IfOk r (λ left. least_left (state_at (root_in group) (seen_by a.seat)) (seen_by a.seat) ≡ left)
-least_shows group cell plan rings a is (Ok left) told = least_now group cell plan rings a is ∙ sym told
-least_shows group cell plan rings a is (Err e) told = tt
+    → IfOk r (λ left. IsTrue (root_in group).told → left ≡ least_from a.next (state_at (root_in group) (seen_by a.seat))) → IfOk r (λ left. IsTrue (root_in group).told → least_left (state_at (root_in group) (seen_by a.seat)) (seen_by a.seat) ≡ left)
+least_shows group cell plan rings a is (Ok left) shown = λ told. least_now group cell plan rings a is told ∙ sym (shown told)
+least_shows group cell plan rings a is (Err e) shown = tt
 
 pub looked_trans : {D : Type 0} {disk : Ghosts D} (group : SharedGroup D disk) (cell : LeaderCell) (plan : Plan) (rings : List Ring) (a b c : Crew D disk) → HasLooked group cell plan rings a b → HasLooked group cell plan rings b c → HasLooked group cell plan rings a c
 looked_trans group cell plan rings a b c p q = record {
   is = q.is;
   unchanged = unchanged_trans (root_in group) (seen_by a.seat) (seen_by b.seat) (seen_by c.seat) p.unchanged q.unchanged;
   served = q.served ∙ p.served;
+  seats = q.seats ∙ p.seats;
   ended = λ e. q.ended (p.ended e);
 }

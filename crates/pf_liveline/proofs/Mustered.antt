@@ -1,5 +1,5 @@
 -- The workers of a run, as they are mustered and as they come back.
-use Rattle.std.proofs.Common.{◌≡◌, ℕ, zero, suc, ◌+◌, ◌<◌, ◌≤◌, Bool, true, false, true≢false, List, [], ◌∷◌, ◌++◌, length, Some, None, slice_get, append-nil, arith, refl, sym, ap, ◌∙◌, subst}
+use Rattle.std.proofs.Common.{IsTrue, ◌≡◌, ℕ, zero, suc, ◌+◌, ◌<◌, ◌≤◌, Bool, true, false, true≢false, List, [], ◌∷◌, ◌++◌, length, Some, None, slice_get, append-nil, arith, refl, sym, ap, ◌∙◌, subst}
 use Rattle.pf_crew.specs.Places.{Each, Pairs}
 use Rattle.pf_turn.specs.Lists.{Begins, entries_of}
 use Rattle.pf_turn.proofs.Lists.{begins_refl}
@@ -60,7 +60,7 @@ pub has_begun : (turns : ℕ) (root : GroupIs) (list : Line) (n next made : ℕ)
 has_begun turns root list n next made fresh h = let same : list ≡ list ++ entries_of n list = sym (append-nil list) ∙ ap (λ l. list ++ l) (sym fresh) in record {
   steps = each_none n (Delivers turns root list n) [] list fresh;
   sent = h.sent;
-  passed = subst (λ l. IsPassedUpTo (state_at root list) (λ k. is_passed k l) next) same h.passed;
+  passed = λ told. subst (λ l. IsPassedUpTo (state_at root list) (λ k. is_passed k l) next) same (h.passed told);
   count = h.count ∙ ap deliveries same;
   within = h.within;
 }
@@ -81,7 +81,7 @@ module _ {D : Type 0} {disk : Ghosts D} (group : SharedGroup D disk) (cell : Lea
     pass = pass;
   }
 
-  pub new_submitter : (a : Submitter D disk) → IsSeatOf group a.seat → entries_of (number_of a.seat) (seen_by a.seat) ≡ [] → a.begun.value ≡ a.seat → IsPassOf cell a.pass → AreServed plan rings plan.hosts 0 a.served.items → AllStand (root_in group) (seen_by a.seat) a.served.items → IsSubmitter group cell plan rings a
+  pub new_submitter : (a : Submitter D disk) → IsSeatOf group a.seat → entries_of (number_of a.seat) (seen_by a.seat) ≡ [] → a.begun.value ≡ a.seat → IsPassOf cell a.pass → AreServed plan rings plan.hosts 0 a.served.items → (IsTrue (root_in group).told → AllStand (root_in group) (seen_by a.seat) a.served.items) → IsSubmitter group cell plan rings a
   new_submitter a at fresh begun pass served stand = record {
     seat = at;
     pass = pass;
@@ -89,7 +89,7 @@ module _ {D : Type 0} {disk : Ghosts D} (group : SharedGroup D disk) (cell : Lea
     hosts = let count = served_count plan rings plan.hosts 0 a.served.items served in omega (arith, count);
     each = λ h s there. subst (λ m. IsServedIn plan rings m s) (Rattle.std.proofs.Common.zero-add h) (served_at plan rings plan.hosts 0 a.served.items served h s there);
     steps = λ alone fed. each_none (number_of a.seat) (Submits plan (root_in group)) [] (seen_by a.seat) fresh;
-    stand = λ alone fed. stand;
+    stand = λ told alone fed. stand told;
   }
 
   -- one more, at the end

@@ -1,5 +1,5 @@
 -- A line as it is opened.
-use Rattle.std.proofs.Common.{◌≡◌, ℕ, zero, suc, ◌+◌, ◌<◌, List, [], ◌∷◌, ◌++◌, length, Some, slice_get, arith, refl, sym, ap, ◌∙◌, subst}
+use Rattle.std.proofs.Common.{◌≡◌, ℕ, zero, suc, ◌+◌, ◌<◌, List, [], ◌∷◌, ◌++◌, length, None, Some, slice_get, arith, refl, sym, ap, ◌∙◌, subst}
 use Rattle.pf_entry.specs.Lists.{Every}
 use Rattle.pf_turn.specs.Lists.{entries_of}
 use Rattle.pf_turn.specs.Own.{AllOfSeats, down_from}
@@ -9,6 +9,7 @@ use Rattle.pf_rings.specs.Passes.{IsHostOf, IsServerOf, put_by, taken_by}
 use Rattle.pf_rings.specs.declared.ring.Ring.{Ring}
 use Rattle.pf_shared.specs.declared.parts.GroupSeat.{GroupSeat}
 use Rattle.pf_shared.specs.declared.parts.SharedGroup.{SharedGroup}
+use Rattle.pf_shared.specs.Hands.{hand_of}
 use Rattle.pf_shared.specs.Seats.{IsFirst, IsSeatOf, gone_of, out_of, root_in, seen_by, splits_of}
 use Rattle.pf_live.specs.declared.hosting.Host.{Host}
 use Rattle.pf_live.specs.declared.plan.Plan.{Plan}
@@ -86,8 +87,8 @@ new_stand root list ss none all h s there = let new = new_at ss all h s there in
 
 pub new_made : (turns : ℕ) (root : GroupIs) (list : Rattle.pf_live.specs.Deliveries.Line) → list ≡ [] → HasMade turns root list 0 0
 new_made turns root list none = subst (λ l. HasMade turns root l 0 0) (sym none) record {
-  sent = omega arith;
-  passed = record { below = λ k is. absurd cc; all = λ k low left. absurd (omega arith) };
+  sent = λ told. omega arith;
+  passed = λ told. record { below = λ k is. absurd cc; all = λ k low left. absurd (omega arith) };
   count = refl;
   within = omega arith;
 }
@@ -100,4 +101,5 @@ module _ {D : Type 0} {disk : Ghosts D} (group : SharedGroup D disk) (plan : Pla
     gone = first.3 ∙ ap down_from (sym first.1);
     strangers = λ n above. ap (entries_of n) none;
     live = subst (AllOfSeats (Does plan (root_in group))) (sym none) tt;
+    free = λ n low role k. ap (λ l. hand_of k None (entries_of n l)) none;
   }

@@ -1,5 +1,5 @@
 -- The first seat, once it took in all seats of a run.
-use Rattle.std.proofs.Common.{◌≡◌, ◌||◌, ℕ, zero, suc, Bool, true, false, ◌+◌, ◌*◌, ◌<◌, ◌≤◌, List, [], ◌∷◌, ◌++◌, length, slice_get, Some, arith, refl, sym, ap, ◌∙◌, subst}
+use Rattle.std.proofs.Common.{◌≡◌, ◌||◌, ℕ, zero, suc, Bool, IsTrue, true, false, ◌+◌, ◌*◌, ◌<◌, ◌≤◌, List, [], ◌∷◌, ◌++◌, length, slice_get, None, Some, arith, refl, sym, ap, ◌∙◌, subst}
 use mathlib.Core.Logic.{dite}
 use native.Mathlib.Decide.{ℕ_discrete}
 use Rattle.pf_turn.specs.Lists.{Begins, entries_of}
@@ -12,10 +12,11 @@ use Rattle.pf_leadercell.specs.declared.cell.LeaderCell.{LeaderCell}
 use Rattle.pf_rings.specs.declared.ring.Ring.{Ring}
 use Rattle.pf_shared.specs.declared.parts.GroupSeat.{GroupSeat}
 use Rattle.pf_shared.specs.declared.parts.SharedGroup.{SharedGroup}
+use Rattle.pf_shared.specs.Hands.{Key, hand_of}
 use Rattle.pf_shared.specs.Seats.{root_in, seen_by, splits_of}
 use Rattle.pf_live.specs.declared.plan.Plan.{Plan}
 use Rattle.pf_live.specs.Deliveries.{Line}
-use Rattle.pf_live.specs.Lines.{IsLive}
+use Rattle.pf_live.specs.Lines.{Applying, IsLive, role_of}
 use Rattle.pf_live.specs.Roles.{EndsWith, nothing_free}
 use Rattle.pf_live.specs.Submissions.{slots_of}
 use Rattle.pf_live.specs.Submitters.{AllFed, AllStand, Submits, SubmitsAlone}
@@ -24,7 +25,7 @@ use Rattle.pf_live.proofs.Deliveries.{delivered_finds}
 use Rattle.pf_live.proofs.Stands.{stands_on}
 use Rattle.pf_live.proofs.Submissions.{alone_before, others_quiet, slots_quiet}
 use Rattle.pf_liveline.specs.declared.taking.Taken.{Taken}
-use Rattle.pf_liveline.specs.Crews.{AllEnded, HasMade, IsLineSeat}
+use Rattle.pf_liveline.specs.Crews.{AllEnded, AllFree, HasMade, IsLineSeat}
 use Rattle.pf_liveline.specs.Joining.{IsJoining}
 use Rattle.pf_liveline.specs.Runs.{IsSince}
 use Rattle.pf_liveline.specs.Taking.{IsTaken}
@@ -40,7 +41,7 @@ made_as turns root begun rest list n next made is fresh alone d = subst (λ l. H
     at : HasDelivered turns root begun n (begun ++ rest) next made → HasMade turns root (begun ++ rest) next made
     at h = record {
       sent = h.sent;
-      passed = record { below = λ j e. h.passed.below j (all_passed n begun rest fresh alone j ∙ e); all = λ j low left. sym (all_passed n begun rest fresh alone j) ∙ h.passed.all j low left };
+      passed = λ told. record { below = λ j e. (h.passed told).below j (all_passed n begun rest fresh alone j ∙ e); all = λ j low left. sym (all_passed n begun rest fresh alone j) ∙ (h.passed told).all j low left };
       count = h.count ∙ all_deliveries n begun rest fresh alone;
       within = h.within;
     }
@@ -73,13 +74,31 @@ module _ {D : Type 0} {disk : Ghosts D} (group : SharedGroup D disk) (cell : Lea
   live : IsLive plan (root_in group) (seen_by first)
   live = subst (IsLive plan (root_in group)) joining.since.1 (line_on plan (root_in group) (seen_by begun) (splits_of begun) is.runs.0 (seen_by a.submitted.value) is.runs.1 fresh joining.since.0 all steps is.live)
 
-  pub line_again : IsLineSeat group plan first
-  line_again = record {
+  -- a seat that applied is one of an earlier run, or of this one
+  elsewhere : {X : Type 0} → (n : ℕ) → n ≤ splits_of first → role_of plan.workers n ≡ Applying → (n ≤ splits_of begun → X) → (splits_of begun + 2 < n → X) → X
+  elsewhere {X} n low role before now = by (Rattle.std.proofs.Common.nat_le n (splits_of begun)) refl
+    where
+      by : (b : Bool) → Rattle.std.proofs.Common.nat_le n (splits_of begun) ≡ b → X
+      by true e = before (Rattle.std.proofs.Common.leb-true n (splits_of begun) e)
+      by false e = later (Rattle.std.proofs.Common.leb-false n (splits_of begun) e)
+        where
+          later : splits_of begun < n → X
+          later above = dite (ℕ_discrete n (splits_of begun + 1)) (λ is1. absurd (let r = first_role plan.workers (splits_of begun) is.runs.0 n is.runs.1 is1 in cc))
+              (λ no1. dite (ℕ_discrete n (splits_of begun + 2)) (λ is2. absurd (let r = second_role plan.workers (splits_of begun) is.runs.0 n is.runs.1 is2 in cc))
+              (λ no2. now (omega arith)))
+
+  -- no seat up to the last has a job in hand
+  all_free : ((n : ℕ) → n ≤ splits_of begun → entries_of n (seen_by mid) ≡ entries_of n (seen_by begun)) → ((n : ℕ) → splits_of begun + 2 < n → n ≤ splits_of begun + plan.workers + 2 → (k : Key) → hand_of k None (entries_of n (seen_by first)) ≡ None) → AllFree plan first
+  all_free before free n low role k = elsewhere n low role (λ under. ap (hand_of k None) (same n (omega arith) ∙ before n under) ∙ is.free n under role k) (λ above. free n above (omega (arith, low, joining.splits)) k)
+
+  pub line_again : ((n : ℕ) → n ≤ splits_of begun → entries_of n (seen_by mid) ≡ entries_of n (seen_by begun)) → ((n : ℕ) → splits_of begun + 2 < n → n ≤ splits_of begun + plan.workers + 2 → (k : Key) → hand_of k None (entries_of n (seen_by first)) ≡ None) → IsLineSeat group plan first
+  line_again before free = record {
     at = (joining.seat.0, (joining.seat.1, omega (arith, joining.out, joining.splits)));
     runs = (suc is.runs.0, joining.splits ∙ (sym_split ∙ ap (λ m. m + (plan.workers + 2)) is.runs.1) ∙ sym (more is.runs.0 (plan.workers + 2)));
     gone = joining.gone ∙ ap down_from (omega (arith, joining.splits));
     strangers = joining.strangers;
     live = live;
+    free = all_free before free;
   }
     where
       sym_split : splits_of begun + plan.workers + 2 ≡ splits_of begun + (plan.workers + 2)
@@ -92,8 +111,8 @@ module _ {D : Type 0} {disk : Ghosts D} (group : SharedGroup D disk) (cell : Lea
   slots_on h = slots_quiet (root_in group) h (seen_by a.submitted.value) to_first.0 (seen_by first) to_first.1
       (others_quiet (splits_of begun + 1) (seen_by begun) (seen_by a.submitted.value) (seen_by first) taken.since to_first (same (splits_of begun + 1) (omega arith) ∙ taken.own) alone)
 
-  pub stand_again : AllStand (root_in group) (seen_by first) a.served.items
-  stand_again h s there = stands_on (root_in group) h (seen_by a.submitted.value) (seen_by first) to_first (slots_on h) s.taken s.standing (taken.stand alone_there fed h s there)
+  pub stand_again : IsTrue (root_in group).told → AllStand (root_in group) (seen_by first) a.served.items
+  stand_again told h s there = stands_on (root_in group) h (seen_by a.submitted.value) (seen_by first) to_first (slots_on h) s.taken s.standing (taken.stand told alone_there fed h s there)
 
   pub made_again : HasMade plan.turns (root_in group) (seen_by first) a.next a.made
   made_again = made_as plan.turns (root_in group) (seen_by begun) joining.since.0 (seen_by first) (splits_of begun + 2) a.next a.made joining.since.1 fresh
@@ -102,14 +121,4 @@ module _ {D : Type 0} {disk : Ghosts D} (group : SharedGroup D disk) (cell : Lea
 
   -- and the seats that applied have ended
   pub ended_again : ((n : ℕ) → n ≤ splits_of begun → entries_of n (seen_by mid) ≡ entries_of n (seen_by begun)) → ((n : ℕ) → splits_of begun + 2 < n → n ≤ splits_of begun + plan.workers + 2 → EndsWith (entries_of n (seen_by first)) (nothing_free n)) → AllEnded plan begun → AllEnded plan first
-  ended_again before lasts old n low role = by (Rattle.std.proofs.Common.nat_le n (splits_of begun)) refl
-    where
-      by : (b : Bool) → Rattle.std.proofs.Common.nat_le n (splits_of begun) ≡ b → EndsWith (entries_of n (seen_by first)) (nothing_free n)
-      by true e = let under : n ≤ splits_of begun = Rattle.std.proofs.Common.leb-true n (splits_of begun) e in
-          subst (λ l. EndsWith l (nothing_free n)) (sym (same n (omega arith) ∙ before n under)) (old n under role)
-      by false e = later (Rattle.std.proofs.Common.leb-false n (splits_of begun) e)
-        where
-          later : splits_of begun < n → EndsWith (entries_of n (seen_by first)) (nothing_free n)
-          later above = dite (ℕ_discrete n (splits_of begun + 1)) (λ is1. absurd (let r = first_role plan.workers (splits_of begun) is.runs.0 n is.runs.1 is1 in cc))
-              (λ no1. dite (ℕ_discrete n (splits_of begun + 2)) (λ is2. absurd (let r = second_role plan.workers (splits_of begun) is.runs.0 n is.runs.1 is2 in cc))
-              (λ no2. lasts n (omega arith) (omega (arith, low, joining.splits))))
+  ended_again before lasts old n low role = elsewhere n low role (λ under. subst (λ l. EndsWith l (nothing_free n)) (sym (same n (omega arith) ∙ before n under)) (old n under role)) (λ above. lasts n above (omega (arith, low, joining.splits)))

@@ -113,11 +113,11 @@ module _ (n : ℕ) (begun done : Line) (fresh : entries_of n begun ≡ []) (alon
   all_passed k = ap (is_passed k) own_is ∙ (list_any-append (λ (x : Stamped Moment). passes_over k x.what) begun (entries_of n done)
       ∙ (ap (λ c. is_passed k begun || c) (own_passed n k done alone) ∙ sym (list_any-append (λ (x : Stamped Moment). passes_over k x.what) begun done)))
 
-  next_delivery : (turns : ℕ) (g : Group) (event : Event) → IsNextDelivery turns g (begun ++ entries_of n (begun ++ done)) event → IsNextDelivery turns g (begun ++ done) event
-  next_delivery turns g event d = let alike : (λ (k : ℕ). is_passed k (begun ++ done)) ≡ (λ (k : ℕ). is_passed k (begun ++ entries_of n (begun ++ done))) = λ i k. sym (all_passed k) i in record {
+  next_delivery : (told : Bool) (turns : ℕ) (g : Group) (event : Event) → IsNextDelivery told turns g (begun ++ entries_of n (begun ++ done)) event → IsNextDelivery told turns g (begun ++ done) event
+  next_delivery told turns g event d = let alike : (λ (k : ℕ). is_passed k (begun ++ done)) ≡ (λ (k : ℕ). is_passed k (begun ++ entries_of n (begun ++ done))) = λ i k. sym (all_passed k) i in record {
     k = d.k;
     is = d.is;
-    least = ap (λ (p : ℕ → Bool). find (λ k. is_left_in g k && not (p k)) (range_with_len 0 (length g.packets))) alike ∙ d.least;
+    least = λ yes. ap (λ (p : ℕ → Bool). find (λ k. is_left_in g k && not (p k)) (range_with_len 0 (length g.packets))) alike ∙ d.least yes;
     few = subst (λ m. m < turns) all_deliveries d.few;
   }
 
@@ -178,7 +178,7 @@ module _ (plan : Plan) (root : GroupIs) (begun : Line) (k r : ℕ) (submitted : 
 
   module _ (fresh : entries_of (k + 2) begun ≡ []) where
     does_deliver : (done : Line) → DeliversAlone (k + 2) done → (what : Moment) → Delivers plan.turns root begun (k + 2) (begun ++ done) what → Does plan root (k + 2) (begun ++ done) what
-    does_deliver done alone (Happened h) d = subst (λ x. DoesAs x plan root (begun ++ done) h.event) (sym (second_role plan.workers k r (k + 2) runs refl)) (next_delivery (k + 2) begun done fresh alone plan.turns (state_at root (begun ++ done)) h.event d)
+    does_deliver done alone (Happened h) d = subst (λ x. DoesAs x plan root (begun ++ done) h.event) (sym (second_role plan.workers k r (k + 2) runs refl)) (next_delivery (k + 2) begun done fresh alone root.told plan.turns (state_at root (begun ++ done)) h.event d)
     does_deliver done alone (Look read) d = d
 
     does_one : (n : ℕ) (done : Line) → DeliversAlone (k + 2) done → (what : Moment) → Did n (begun ++ done) what → Does plan root n (begun ++ done) what

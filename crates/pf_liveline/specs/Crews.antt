@@ -1,5 +1,5 @@
 -- A live line between two runs of its threads.
-use Rattle.std.specs.Prelude.{◌≡◌, ℕ, ◌+◌, ◌*◌, ◌<◌, ◌≤◌, List, [], length}
+use Rattle.std.specs.Prelude.{◌≡◌, ℕ, ◌+◌, ◌*◌, ◌<◌, ◌≤◌, IsTrue, List, [], None, length}
 use Rattle.pf_turn.specs.Lists.{entries_of}
 use Rattle.pf_turn.specs.Own.{down_from}
 use Rattle.pf_disk.specs.declared.disk.Disk.{Ghosts}
@@ -10,6 +10,7 @@ use Rattle.pf_leadercell.specs.declared.cell.LeaderCell.{LeaderCell}
 use Rattle.pf_rings.specs.declared.ring.Ring.{Ring}
 use Rattle.pf_shared.specs.declared.parts.SharedGroup.{SharedGroup}
 use Rattle.pf_shared.specs.declared.parts.GroupSeat.{GroupSeat}
+use Rattle.pf_shared.specs.Hands.{Key, hand_of}
 use Rattle.pf_shared.specs.Seats.{IsAlone, IsSeatOf, gone_of, root_in, seen_by, splits_of}
 use Rattle.pf_shared.specs.Since.{state_at}
 use Rattle.pf_live.specs.declared.plan.Plan.{Plan}
@@ -20,10 +21,10 @@ use Rattle.pf_live.specs.Submitters.{AllStand}
 use Rattle.pf_liveline.specs.declared.crew.Crew.{Crew}
 use Rattle.pf_liveline.specs.Meeting.{AreMet}
 
--- of the packets below `next` those that are left were passed over in the list, which has so many deliveries
+-- The list has so many deliveries. Where the disks tell their content, of the packets below `next` those that are left were passed over in it
 pub record HasMade (turns : ℕ) (root : GroupIs) (list : Line) (next made : ℕ) : Type 0 where
-  pub sent : next ≤ length (state_at root list).packets
-  pub passed : IsPassedUpTo (state_at root list) (λ k. is_passed k list) next
+  pub sent : IsTrue root.told → next ≤ length (state_at root list).packets
+  pub passed : IsTrue root.told → IsPassedUpTo (state_at root list) (λ k. is_passed k list) next
   pub count : made ≡ deliveries list
   pub within : made ≤ turns
 
@@ -32,6 +33,10 @@ module _ {D : Type 0} {disk : Ghosts D} where
   abbrev pub AllEnded : Plan → GroupSeat D disk → Type 0
   AllEnded plan seat = (n : ℕ) → n ≤ splits_of seat → role_of plan.workers n ≡ Applying → EndsWith (entries_of n (seen_by seat)) (nothing_free n)
 
+  -- no seat that applied has a job in hand
+  abbrev pub AllFree : Plan → GroupSeat D disk → Type 0
+  AllFree plan seat = (n : ℕ) → n ≤ splits_of seat → role_of plan.workers n ≡ Applying → (k : Key) → hand_of k None (entries_of n (seen_by seat)) ≡ None
+
   -- The first seat, while no other is out: it split seats for some runs, and took all of them in
   pub record IsLineSeat (group : SharedGroup D disk) (plan : Plan) (seat : GroupSeat D disk) : Type 0 where
     pub at : IsSeatOf group seat × IsAlone seat
@@ -39,12 +44,13 @@ module _ {D : Type 0} {disk : Ghosts D} where
     pub gone : gone_of seat ≡ down_from (splits_of seat)
     pub strangers : (n : ℕ) → splits_of seat < n → entries_of n (seen_by seat) ≡ []
     pub live : IsLive plan (root_in group) (seen_by seat)
+    pub free : AllFree plan seat
 
   pub record IsCrew (group : SharedGroup D disk) (cell : LeaderCell) (plan : Plan) (rings : List Ring) (a : Crew D disk) : Type 0 where
     pub seat : IsLineSeat group plan a.seat
     pub splits : a.splits ≡ splits_of a.seat
     pub met : AreMet plan rings plan.hosts 0 a.hosts.items a.served.items
-    pub stand : AllStand (root_in group) (seen_by a.seat) a.served.items
+    pub stand : IsTrue (root_in group).told → AllStand (root_in group) (seen_by a.seat) a.served.items
     pub first : cells.IsPassOf cell a.first × cells.IsFirst a.first
     pub leaders : cells.IsPassOf cell a.leaders
     pub made : HasMade plan.turns (root_in group) (seen_by a.seat) a.next a.made

@@ -1,18 +1,24 @@
 -- What the looks of the first seat tell of a line's end.
-use Rattle.std.specs.Prelude.{◌≡◌, ◌⊎◌, ℕ, ◌<◌, ◌≤◌, Bool, true, false, List, length, Option, Some, None}
+use Rattle.std.specs.Prelude.{◌≡◌, ◌⊎◌, ℕ, ◌-◌, ◌<◌, ◌≤◌, Bool, true, false, IsTrue, List, length, Option, Some, None, slice_get}
 use Rattle.pf_turn.specs.Lists.{Begins}
 use Rattle.pf_disk.specs.declared.disk.Disk.{Ghosts}
 use Rattle.pf_cluster.specs.Shown.{IsLeader}
 use Rattle.pf_group.specs.GroupIs.{GroupIs}
+use Rattle.pf_leadercell.specs.Passes as cells
+use Rattle.pf_leadercell.specs.Published.{last_of}
 use Rattle.pf_leadercell.specs.declared.cell.LeaderCell.{LeaderCell}
+use Rattle.pf_leadercell.specs.declared.cell.LeaderPass.{LeaderPass}
 use Rattle.pf_rings.specs.declared.ring.Ring.{Ring}
+use Rattle.pf_rings.specs.declared.view.Request.{Request}
 use Rattle.pf_shared.specs.declared.parts.SharedGroup.{SharedGroup}
-use Rattle.pf_shared.specs.Seats.{root_in, seen_by}
+use Rattle.pf_shared.specs.Seats.{root_in, seen_by, splits_of}
 use Rattle.pf_shared.specs.Since.{state_at}
 use Rattle.pf_live.specs.declared.ending.LiveEnd.{LiveEnd}
 use Rattle.pf_live.specs.declared.plan.Plan.{Plan}
+use Rattle.pf_live.specs.declared.serving.Served.{Served}
+use Rattle.pf_live.specs.declared.serving.Standing.TheVariants.{Asked}
 use Rattle.pf_live.specs.Deliveries.{Line, deliveries, is_passed, least_left}
-use Rattle.pf_live.specs.Ends.{HasEnd, IsOpen, NoneIsLeft}
+use Rattle.pf_live.specs.Ends.{HasEnd, IsOpen, IsRefused, NoneIsLeft, WaitsInVain, WasRefused}
 use Rattle.pf_live.specs.Submissions.{acked_of, slots_of}
 use Rattle.pf_liveline.specs.declared.crew.Crew.{Crew}
 use Rattle.pf_liveline.specs.Crews.{AllEnded, IsCrew}
@@ -31,13 +37,34 @@ module _ {D : Type 0} {disk : Ghosts D} where
     pub is : IsCrew group cell plan rings b
     pub unchanged : IsUnchanged (root_in group) (seen_by a.seat) (seen_by b.seat)
     pub served : b.served ≡ a.served
+    pub seats : splits_of b.seat ≡ splits_of a.seat
     pub ended : AllEnded plan a.seat → AllEnded plan b.seat
 
--- so many writes of the host are acknowledged, and whether one more has a slot
+  -- nothing was delivered, and no run was made
+  pub record HasJudged (group : SharedGroup D disk) (cell : LeaderCell) (plan : Plan) (rings : List Ring) (a b : Crew D disk) : Type 0 where
+    pub is : IsCrew group cell plan rings b
+    pub begins : Begins (seen_by a.seat) (seen_by b.seat)
+    pub count : deliveries (seen_by b.seat) ≡ deliveries (seen_by a.seat)
+    pub seats : splits_of b.seat ≡ splits_of a.seat
+    pub ended : AllEnded plan a.seat → AllEnded plan b.seat
+
+-- the last request of the host, if it has no slot, was refused by the server, and nothing was delivered since
+abbrev pub IsRefusedBy : Plan → Line → (server : ℕ) → List Served → (h : ℕ) → Type 0
+IsRefusedBy plan list server served h = (s : Served) (request : Request) → slice_get served h ≡ Some s → s.standing ≡ Asked request → IsRefused plan list h (s.taken - 1) server
+
+-- that of each host was, by the leader, where the disks tell their content
+abbrev pub AreRefused : Plan → GroupIs → Line → List Served → Type 0
+AreRefused plan root list served = IsTrue root.told → (h : ℕ) (s : Served) (request : Request) → h < plan.hosts → slice_get served h ≡ Some s → s.standing ≡ Asked request → WasRefused plan root list h (s.taken - 1)
+
+-- the pass has seen a term that is not below that of the leader, where the disks tell their content
+abbrev pub IsPublished : GroupIs → Line → LeaderPass → Type 0
+IsPublished root list first = IsTrue root.told → (term server : ℕ) → IsLeader (state_at root list) (Some (term, server)) → term ≤ (last_of (cells.seen_by first)).0
+
+-- so many writes of the host are acknowledged, and whether it is known to wait in vain for one more
 pub record HasCount (plan : Plan) (root : GroupIs) (list : Line) (h : ℕ) (told : ℕ × Bool) : Type 0 where
   pub acked : acked_of root h list ≡ told.0
   pub within : told.0 ≤ plan.writes
-  pub placed : told.1 ≡ true → told.0 < length (slots_of root h list)
+  pub vain : told.1 ≡ true → WaitsInVain plan root list h
   pub settled : told.1 ≡ false → told.0 ≡ length (slots_of root h list)
 
 -- A turn can still be taken: a packet is left that may be delivered, or none is left, and a server serves to which a write can be handed

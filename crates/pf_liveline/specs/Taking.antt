@@ -1,5 +1,5 @@
 -- The first seat, once it took in the seat that submitted and that of the switch.
-use Rattle.std.specs.Prelude.{◌≡◌, ◌+◌, List}
+use Rattle.std.specs.Prelude.{◌≡◌, ◌+◌, IsTrue, List}
 use Rattle.pf_turn.specs.Lists.{Begins, entries_of}
 use Rattle.pf_turn.specs.Own.{EachOf}
 use Rattle.pf_disk.specs.declared.disk.Disk.{Ghosts}
@@ -24,7 +24,7 @@ module _ {D : Type 0} {disk : Ghosts D} where
     pub own : entries_of (splits_of begun + 1) (seen_by first) ≡ entries_of (splits_of begun + 1) (seen_by a.submitted.value)
     pub served : AreServed plan rings plan.hosts 0 a.served.items
     pub steps : SubmitsAlone (splits_of begun + 1) (seen_by begun) (seen_by a.submitted.value) → AllFed plan a.served.items → EachOf (splits_of begun + 1) (Submits plan (root_in group)) (seen_by a.submitted.value)
-    pub stand : SubmitsAlone (splits_of begun + 1) (seen_by begun) (seen_by a.submitted.value) → AllFed plan a.served.items → AllStand (root_in group) (seen_by a.submitted.value) a.served.items
+    pub stand : IsTrue (root_in group).told → SubmitsAlone (splits_of begun + 1) (seen_by begun) (seen_by a.submitted.value) → AllFed plan a.served.items → AllStand (root_in group) (seen_by a.submitted.value) a.served.items
     pub delivered : HasDelivered plan.turns (root_in group) (seen_by begun) (splits_of begun + 2) (seen_by first) a.next a.made
     pub publishes : cells.IsPassOf cell a.first × cells.IsFirst a.first
     pub asks : cells.IsPassOf cell a.leaders

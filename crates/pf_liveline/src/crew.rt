@@ -1,12 +1,12 @@
 //! A live line between two runs of its threads, and whether it has come to an end.
-ghost use Rattle.std.specs.Prelude.{◌≡◌, ◌<◌, IfOk};
+ghost use Rattle.std.specs.Prelude.{◌≡◌, ℕ, ◌<◌, IfOk, IfSome, IsTrue, Some, true};
 ghost use Rattle.pf_cluster.specs.Shown.{IsLeader, is_acked};
 ghost use Rattle.pf_shared.specs.Seats.{root_in, seen_by};
 ghost use Rattle.pf_shared.specs.Since.{state_at};
 ghost use Rattle.pf_live.specs.Deliveries.{least_left};
 ghost use Rattle.pf_live.specs.Ends.{NoneIsLeft};
 ghost use Rattle.pf_liveline.specs.Crews.{IsCrew};
-ghost use Rattle.pf_liveline.specs.Judging.{HasCount, HasLooked, IsJudged};
+ghost use Rattle.pf_liveline.specs.Judging.{AreRefused, HasCount, HasJudged, HasLooked, IsJudged, IsPublished};
 
 use pf_base::{NoMemory, Server, Slot, Term};
 use pf_disk::Disk;
@@ -38,21 +38,23 @@ impl<D: Disk + Drop> Crew<D> {
     fn least_left<R: Wait, G>(&mut self, rt: &R, line: &Line<D, G>) -> Result<Option<u32>, NoMemory>
         requires { IsCrew line.now.group line.now.cell line.now.plan line.now.rings.items self.old }
         ensures looked { HasLooked line.now.group line.now.cell line.now.plan line.now.rings.items self.old self.new }
-        ensures left { IfOk result (λ left. least_left (state_at (root_in line.now.group) (seen_by self.new.seat)) (seen_by self.new.seat) ≡ left) }
+        ensures first { self.new.first ≡ self.old.first }
+        ensures left { IfOk result (λ left. IsTrue (root_in line.now.group).told → least_left (state_at (root_in line.now.group) (seen_by self.new.seat)) (seen_by self.new.seat) ≡ left) }
     {
         line.group
             .left_from(rt, line.alloc, &mut self.seat, self.next)
     }
 
     /// The serving server of the greatest term, with its term. Where memory runs out (`NoMemory`, 1) it is not known.
-    fn leader<R: Wait, G>(
+    pub(crate) fn leader<R: Wait, G>(
         &mut self,
         rt: &R,
         line: &Line<D, G>,
     ) -> Result<Option<(Term, Server)>, NoMemory>
         requires { IsCrew line.now.group line.now.cell line.now.plan line.now.rings.items self.old }
         ensures looked { HasLooked line.now.group line.now.cell line.now.plan line.now.rings.items self.old self.new }
-        ensures leader { IfOk result (λ leader. IsLeader (state_at (root_in line.now.group) (seen_by self.new.seat)) leader) }
+        ensures low { IfOk result (λ leader. IfSome leader (λ served. served.1 < 3)) }
+        ensures leader { IfOk result (λ leader. IsTrue (root_in line.now.group).told → IsLeader (state_at (root_in line.now.group) (seen_by self.new.seat)) leader) }
     {
         line.group.leader(rt, line.alloc, &mut self.seat)
     }
@@ -67,24 +69,28 @@ impl<D: Disk + Drop> Crew<D> {
     ) -> Result<bool, NoMemory>
         requires { IsCrew line.now.group line.now.cell line.now.plan line.now.rings.items self.old }
         ensures looked { HasLooked line.now.group line.now.cell line.now.plan line.now.rings.items self.old self.new }
-        ensures acked { IfOk result (λ is. is ≡ is_acked (state_at (root_in line.now.group) (seen_by self.new.seat)) term slot) }
+        ensures first { self.new.first ≡ self.old.first }
+        ensures acked { IfOk result (λ is. IsTrue (root_in line.now.group).told → is ≡ is_acked (state_at (root_in line.now.group) (seen_by self.new.seat)) term slot) }
     {
         line.group
             .is_acked(rt, line.alloc, &mut self.seat, term, slot)
     }
 
-    /// How many writes of the host are acknowledged, and whether one more has a slot. Where memory runs out (`NoMemory`, 1) it is not
-    /// known.
+    /// How many writes of the host are acknowledged, and whether it waits in vain for one more, where it is told whether the leader refused
+    /// each request that has no slot. Where memory runs out (`NoMemory`, 1) it is not known.
     fn count<R: Wait, G>(
         &mut self,
         rt: &R,
         line: &Line<D, G>,
         host: u32,
+        refused: bool,
     ) -> Result<(u32, bool), NoMemory>
         requires crew { IsCrew line.now.group line.now.cell line.now.plan line.now.rings.items self.old }
         requires host { host < line.now.plan.hosts }
+        requires refused { refused ≡ true → AreRefused line.now.plan (root_in line.now.group) (seen_by self.old.seat) self.old.served.items }
         ensures looked { HasLooked line.now.group line.now.cell line.now.plan line.now.rings.items self.old self.new }
-        ensures count { IfOk result (λ told. HasCount line.now.plan (root_in line.now.group) (seen_by self.new.seat) host told) }
+        ensures first { self.new.first ≡ self.old.first }
+        ensures count { IfOk result (λ count. IsTrue (root_in line.now.group).told → HasCount line.now.plan (root_in line.now.group) (seen_by self.new.seat) host count) }
     {
         let Some(served) = self.served.get(host as usize) else {
             unreachable!()
@@ -92,36 +98,39 @@ impl<D: Disk + Drop> Crew<D> {
         let taken = served.taken;
         match served.standing {
             Standing::Settled => Ok((taken, false)),
-            Standing::Asked(_) => Ok((taken - 1, false)),
+            Standing::Asked(_) => Ok((taken - 1, refused)),
             Standing::Placed { term, slot } => {
                 if self.is_acked(rt, line, term, slot)? {
                     Ok((taken, false))
                 } else {
-                    Ok((taken - 1, true))
+                    Ok((taken.saturating_sub(1), true))
                 }
             }
         }
     }
 
-    /// Which end it is where no packet is left and this is the leader. `None` where a write can be handed to the leader that has no slot.
-    /// Where memory runs out (`NoMemory`, 1) it is not known.
+    /// Which end it is where no packet is left and this is the leader, where it is told whether that refused each request that has no slot.
+    /// `None` where a write can be handed to the leader that has no slot. Where memory runs out (`NoMemory`, 1) it is not known.
     fn judge_hosts<R: Wait, G>(
         &mut self,
         rt: &R,
         line: &Line<D, G>,
         leader: Option<(Term, Server)>,
+        refused: bool,
     ) -> Result<Option<LiveEnd>, NoMemory>
         requires crew { IsCrew line.now.group line.now.cell line.now.plan line.now.rings.items self.old }
-        requires none { NoneIsLeft (root_in line.now.group) (seen_by self.old.seat) }
-        requires leader { IsLeader (state_at (root_in line.now.group) (seen_by self.old.seat)) leader }
+        requires none { IsTrue (root_in line.now.group).told → NoneIsLeft (root_in line.now.group) (seen_by self.old.seat) }
+        requires leader { IsTrue (root_in line.now.group).told → IsLeader (state_at (root_in line.now.group) (seen_by self.old.seat)) leader }
+        requires refused { refused ≡ true → AreRefused line.now.plan (root_in line.now.group) (seen_by self.old.seat) self.old.served.items }
         ensures looked { HasLooked line.now.group line.now.cell line.now.plan line.now.rings.items self.old self.new }
-        ensures end { IfOk result (IsJudged line.now.plan (root_in line.now.group) (seen_by self.new.seat)) }
+        ensures first { self.new.first ≡ self.old.first }
+        ensures end { IfOk result (λ told. IsTrue (root_in line.now.group).told → IsJudged line.now.plan (root_in line.now.group) (seen_by self.new.seat) told) }
     {
         let mut waits = false;
         for host in 0..line.plan.hosts {
-            let (acked, placed) = self.count(rt, line, host)?;
+            let (acked, in_vain) = self.count(rt, line, host, refused)?;
             if acked < line.plan.writes {
-                if leader.is_some() && !placed {
+                if leader.is_some() && !in_vain {
                     return Ok(None);
                 }
                 waits = true;
@@ -134,25 +143,50 @@ impl<D: Disk + Drop> Crew<D> {
         }
     }
 
-    /// The end that the line has come to, by looks of the first seat alone. `None` where it may go on: a packet is left that may be
-    /// delivered, or none is left and a server serves to which a write can be handed that has no slot. Where memory runs out (`NoMemory`,
-    /// 1) it is not known.
+    /// The end that the line has come to. Requests that have no slot are handed to the leader once more by the first seat, the leader is
+    /// published, and then looks decide. `None` where the line may go on: a packet is left that may be delivered, or none is left and a
+    /// server serves to which a write can be handed that has no slot. Where memory runs out (`NoMemory`, 1) it is not known.
     pub fn judge<R: Wait, G>(
         &mut self,
         rt: &R,
         line: &Line<D, G>,
     ) -> Result<Option<LiveEnd>, NoMemory>
         requires { IsCrew line.now.group line.now.cell line.now.plan line.now.rings.items self.old }
-        ensures looked { HasLooked line.now.group line.now.cell line.now.plan line.now.rings.items self.old self.new }
-        ensures end { IfOk result (IsJudged line.now.plan (root_in line.now.group) (seen_by self.new.seat)) }
+        ensures judged { HasJudged line.now.group line.now.cell line.now.plan line.now.rings.items self.old self.new }
+        ensures end { IfOk result (λ told. IsTrue (root_in line.now.group).told → IsJudged line.now.plan (root_in line.now.group) (seen_by self.new.seat) told) }
+        ensures published { IfOk result (λ told. IsPublished (root_in line.now.group) (seen_by self.new.seat) self.new.first) }
     {
+        let found = self.leader(rt, line)?;
+        let server = taker(found);
+        let refused = self.hand_all(rt, line, server)?;
+        let leader = self.publish(rt, line)?;
         if self.least_left(rt, line)?.is_some() {
             if self.made < line.plan.turns {
                 return Ok(None);
             }
             return Ok(Some(LiveEnd::TurnsSpent));
         }
-        let leader = self.leader(rt, line)?;
-        self.judge_hosts(rt, line, leader)
+        self.judge_hosts(rt, line, leader, refused & leads(leader, server))
+    }
+}
+
+/// The server to which writes are handed: the leader, or any where none serves.
+fn taker(leader: Option<(Term, Server)>) -> Server
+    requires { IfSome leader (λ served. served.1 < 3) }
+    ensures { result < 3 }
+{
+    match leader {
+        Some((_, server)) => server,
+        None => 0,
+    }
+}
+
+/// Whether this server is the leader.
+fn leads(leader: Option<(Term, Server)>, server: Server) -> bool
+    ensures { result ≡ true → (term : ℕ) × (leader ≡ Some (term, server)) }
+{
+    match leader {
+        Some((_, leading)) => leading == server,
+        None => false,
     }
 }

@@ -3,6 +3,7 @@
 
 mod crew;
 mod ending;
+mod handing;
 mod joining;
 mod meeting;
 mod mustering;

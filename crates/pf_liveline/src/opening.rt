@@ -5,7 +5,7 @@ ghost use Rattle.pf_protocol.specs.Answers.{claims_of};
 ghost use Rattle.pf_group.specs.Roots.{root_of};
 ghost use Rattle.pf_rounds.specs.Growing.{HasGrown};
 ghost use Rattle.pf_shared.specs.Moments.{handed_out};
-ghost use Rattle.pf_shared.specs.Seats.{root_in, seen_by};
+ghost use Rattle.pf_shared.specs.Seats.{root_in, seen_by, splits_of};
 ghost use Rattle.pf_shared.specs.Since.{whole};
 ghost use Rattle.pf_leadercell.specs.Passes as cells;
 ghost use Rattle.pf_liveline.specs.Crews.{IsCrew};
@@ -33,7 +33,6 @@ struct Rings {
 }
 
 /// The rings and the leader cell of a line, with their passes.
-#[derive(Drop)]
 pub struct Passes {
     pub rings: Vec<Ring>,
     pub hosts: Vec<Host>,
@@ -41,6 +40,19 @@ pub struct Passes {
     pub cell: LeaderCell,
     /// The cell's first pass.
     pub first: LeaderPass,
+}
+
+// Written out, so that what it drops is no function of each crate above.
+impl Drop for Passes {
+    fn drop(self) {
+        let Passes {
+            rings: _,
+            hosts: _,
+            served: _,
+            cell: _,
+            first: _,
+        } = self;
+    }
 }
 
 impl Rings {
@@ -76,7 +88,7 @@ impl Rings {
     }
 }
 
-/// Opens a line over a group whose disks tell their content, and in whose history no claim is open. Its list is empty. Where memory runs
+/// Opens a line over a group in whose history no claim is open, over any disks. Its list is empty. Where memory runs
 /// out (`NoMemory`, 1) the group comes back as it was.
 pub fn open<D: Disk + Drop, G: Drop>(
     alloc: Global,
@@ -84,10 +96,9 @@ pub fn open<D: Disk + Drop, G: Drop>(
     plan: Plan,
     gate: G,
 ) -> Result<(Line<D, G>, Crew<D>), (Group<D>, NoMemory)>
-    requires told { IsTrue group.told }
     requires none { claims_of [] group.history ≡ [] }
     ensures crew { IfOk result (λ made. IsCrew made.0.group made.0.cell made.0.plan made.0.rings.items made.1) }
-    ensures list { IfOk result (λ made. seen_by made.1.seat ≡ []) }
+    ensures list { IfOk result (λ made. (seen_by made.1.seat ≡ []) × (splits_of made.1.seat ≡ 0)) }
     ensures root { IfOk result (λ made. (root_in made.0.group ≡ group) × (made.0.plan ≡ plan)) }
     ensures back { IfErr result (λ back. back.0 ≡ group) }
 {
@@ -135,10 +146,11 @@ pub fn close<D: Disk + Drop, G: Drop>(line: Line<D, G>, crew: Crew<D>) -> (Group
     requires { IsCrew line.group line.cell line.plan line.rings.items crew }
     ensures root { root_of result.0 ≡ root_of (root_in line.group) }
     ensures history { result.0.history ≡ whole (root_in line.group) (seen_by crew.seat) }
+    ensures none { claims_of [] (root_in line.group).history ≡ [] → claims_of [] result.0.history ≡ [] }
     ensures taken { result.0.taken ≡ handed_out (root_in line.group).taken (seen_by crew.seat) }
     ensures grown { HasGrown (root_in line.group) result.0 }
     ensures met { AreMet line.plan result.1.rings.items line.plan.hosts 0 result.1.hosts.items result.1.served.items }
-    ensures first { cells.IsPassOf result.1.cell result.1.first × cells.IsFirst result.1.first }
+    ensures first { cells.IsPassOf result.1.cell result.1.first × cells.IsFirst result.1.first × (result.1.first ≡ crew.first) }
 {
     let Line {
         group,

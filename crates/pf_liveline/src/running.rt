@@ -74,6 +74,7 @@ fn regroup<R: Wait, D: Disk + Drop, G: Gate>(
     requires served { (room.2.items ≡ []) × (line.now.plan.hosts ≤ vec_capacity room.2) }
     ensures crew { IsCrew line.now.group line.now.cell line.now.plan line.now.rings.items result.0 }
     ensures begins { Begins (seen_by begun.now.value) (seen_by result.0.seat) }
+    ensures seats { splits_of result.0.seat ≡ splits_of begun.now.value + line.now.plan.workers + 2 }
     ensures ended { result.1 ≡ false → AllEnded line.now.plan begun.now.value → AllEnded line.now.plan result.0.seat }
 {
     let mut workers = VecDeque::from_vec(workers);
@@ -123,6 +124,7 @@ pub fn run<R: Threads + Wait + Sync, D: Disk + Drop + Send, G: Gate + Sync>(
     requires { IsCrew line.now.group line.now.cell line.now.plan line.now.rings.items crew }
     ensures crew { IsCrew line.now.group line.now.cell line.now.plan line.now.rings.items result.0 }
     ensures begins { Begins (seen_by crew.seat) (seen_by result.0.seat) }
+    ensures seats { result.1 ≡ false → splits_of result.0.seat ≡ splits_of crew.seat + line.now.plan.workers + 2 }
     ensures ended { result.1 ≡ false → AllEnded line.now.plan crew.seat → AllEnded line.now.plan result.0.seat }
 {
     let count = u64::from(line.plan.workers) + 2;

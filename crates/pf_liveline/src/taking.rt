@@ -1,6 +1,7 @@
 //! The workers of a run come back.
-ghost use Rattle.std.specs.Prelude.{◌≡◌, ℕ, ◌+◌, ◌-◌, ◌<◌, ◌≤◌, [], false, vec_capacity};
+ghost use Rattle.std.specs.Prelude.{◌≡◌, ℕ, ◌+◌, ◌-◌, ◌<◌, ◌≤◌, [], None, false, vec_capacity};
 ghost use Rattle.pf_turn.specs.Lists.{Begins, entries_of};
+ghost use Rattle.pf_shared.specs.Hands.{Key, hand_of};
 ghost use Rattle.pf_shared.specs.Seats.{IsFirst, IsSeatOf, gone_of, number_of, out_of, seen_by, splits_of};
 ghost use Rattle.pf_live.specs.Roles.{EndsWith, nothing_free};
 ghost use Rattle.pf_live.specs.Workers.{IsApplier};
@@ -126,6 +127,7 @@ fn take_applier<R: Wait, D: Disk + Drop, G: Gate>(
     ensures joining { IsJoining line.now.group line.now.plan begun.now.value submitted.now.value (number_of applier.seat) first.new }
     ensures begins { Begins (seen_by first.old) (seen_by first.new) }
     ensures others { (n : ℕ) → n < number_of applier.seat → entries_of n (seen_by first.new) ≡ entries_of n (seen_by first.old) }
+    ensures free { (k : Key) → hand_of k None (entries_of (number_of applier.seat) (seen_by first.new)) ≡ None }
     ensures last { result ≡ false → EndsWith (entries_of (number_of applier.seat) (seen_by first.new)) (nothing_free (number_of applier.seat)) }
 {
     applier.end(rt, line);
@@ -151,6 +153,7 @@ pub(crate) fn take_back<R: Wait, D: Disk + Drop, G: Gate>(
     ensures joining { IsJoining line.now.group line.now.plan begun.now.value submitted.now.value (splits_of begun.now.value + line.now.plan.workers + 2) first.new }
     ensures begins { Begins (seen_by first.old) (seen_by first.new) }
     ensures others { (n : ℕ) → n ≤ splits_of begun.now.value + 2 → entries_of n (seen_by first.new) ≡ entries_of n (seen_by first.old) }
+    ensures free { (n : ℕ) → splits_of begun.now.value + 2 < n → n ≤ splits_of begun.now.value + line.now.plan.workers + 2 → (k : Key) → hand_of k None (entries_of n (seen_by first.new)) ≡ None }
     ensures lasts { result.1 ≡ false → (n : ℕ) → splits_of begun.now.value + 2 < n → n ≤ splits_of begun.now.value + line.now.plan.workers + 2 → EndsWith (entries_of n (seen_by first.new)) (nothing_free n) }
 {
     let mut wants = false;

@@ -2,3 +2,4 @@ pub mod Texts
 pub mod Refusals
 pub mod Mounts
 pub mod Records
+pub mod Live

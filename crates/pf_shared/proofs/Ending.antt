@@ -1,5 +1,5 @@
 -- What a turn with an event does, and one without.
-use Rattle.std.proofs.Common.{◌≡◌, ℕ, zero, suc, Bool, IsTrue, true, false, ◌||◌, List, [], ◌∷◌, ◌++◌, length, None, Some, slice_get, refl, ap, ◌∙◌, subst}
+use Rattle.std.proofs.Common.{◌≡◌, ℕ, zero, suc, Bool, IsTrue, true, false, ◌||◌, List, [], ◌∷◌, ◌++◌, length, None, Some, slice_get, refl, sym, ap, ◌∙◌, subst}
 use Rattle.std.specs.List.{list_any}
 use Rattle.std.proofs.lemmas.Option.{none-some, same_Some}
 use Rattle.pf_turn.specs.declared.log.Stamped.{Stamped}
@@ -9,13 +9,14 @@ use Rattle.pf_disk.specs.declared.disk.Disk.{Ghosts}
 use Rattle.pf_protocol.specs.declared.answers.Answer.{Answer}
 use Rattle.pf_protocol.specs.declared.events.Event.{Event}
 use Rattle.pf_protocol.specs.declared.events.Happening.{Happening}
-use Rattle.pf_protocol.specs.Answers.{IsLegalNext, claims_of, is_claim}
-use Rattle.pf_group.specs.GroupIs.{GroupIs, state_of}
+use Rattle.pf_protocol.specs.Answers.{claims_of, is_claim}
+use Rattle.pf_group.specs.GroupIs.{GroupIs}
 use Rattle.pf_group.specs.Steps.{Steps}
 use Rattle.pf_shared.specs.declared.moment.Moment.TheVariants.{Happened}
 use Rattle.pf_shared.specs.declared.moment.Did.{Did}
 use Rattle.pf_shared.specs.declared.moment.Did.TheVariants.{Acted}
 use Rattle.pf_shared.specs.declared.behind.Behind.{Behind}
+use Rattle.pf_shared.specs.Answering.{IsAnswered}
 use Rattle.pf_shared.specs.Moments.{entry}
 use Rattle.pf_shared.specs.Since.{since, whole}
 use Rattle.pf_shared.specs.Woven.{steps_in, woven}
@@ -25,11 +26,6 @@ use Rattle.pf_shared.proofs.Since.{claims_since, since_more, since_same}
 use Rattle.pf_shared.proofs.Weaving.{did, happenings-woven}
 use Rattle.pf_shared.proofs.Acting.{is_itself, listed_on}
 use Rattle.pf_shared.proofs.Claiming.{open_claim}
-use Rattle.pf_rounds.proofs.Stepping.{answered_now}
-
--- the event could be asked for, and was answered by the rules, where the disks tell their content
-is_legal : (old new : GroupIs) (event : Event) (answer : Answer) → Steps old event answer new → IsTrue old.told → IsLegalNext old.setup (state_of old) (claims_of [] old.history) (record { event = event; answer = answer })
-is_legal old new event answer steps told = record { asked = steps.asked; answered = answered_now old new event answer steps told }
 
 module _ {D : Type 0} {disk : Ghosts D} (old mid new : Behind D disk) (same_group : (mid.group ≡ old.group) × (mid.start ≡ old.start)) (same_turns : mid.turns.items ≡ old.turns.items) where
   pub same_list : list_of mid ≡ list_of old
@@ -39,7 +35,8 @@ module _ {D : Type 0} {disk : Ghosts D} (old mid new : Behind D disk) (same_grou
   acts seat event answer grown same_start s = let h : Happening = record { event = event; answer = answer } in record {
     listed = listed_on mid.turns.items (since mid.start mid.group) mid.counted seat h new.turns.items grown (since new.start new.group)
         (ap (λ (x : GroupIs). since x new.group) same_start ∙ since_more mid.start mid.group mid.begun new.group h (ap (λ (x : GroupIs). x.history) s.recorded)) ∙ ap (λ l. l ++ entry seat (Happened h) ∷ []) same_list;
-    legal = subst (λ (x : GroupIs). IsLegalNext x.setup (state_of x) (claims_of [] x.history) h) same_group.0 (is_legal mid.group new.group event answer s mid.told);
+    answered = subst (λ (x : GroupIs). IsAnswered x.told x.setup x.taken x.history event answer) same_group.0
+        (record { asked = s.asked; before = s.before; same = s.same; answered = s.answered; ends = s.ends; fresh = s.fresh });
     root = same_start ∙ same_group.1;
   }
 
@@ -54,6 +51,9 @@ module _ {D : Type 0} {disk : Ghosts D} (old mid new : Behind D disk) (same_grou
 module _ {D : Type 0} {disk : Ghosts D} (b : Behind D disk) where
   pub whole_is : whole b.start (list_of b) ≡ b.group.history
   whole_is = ap (λ l. b.start.history ++ l) (happenings-woven b.turns.items (since b.start b.group) b.counted) ∙ b.begun
+
+  pub told_now : IsTrue b.start.told → IsTrue b.group.told
+  told_now told = subst IsTrue (sym b.same_told) told
 
   -- an open claim since the first turn is one of all
   pub all_claims : claims_of [] b.group.history ≡ claims_of [] (since b.start b.group)

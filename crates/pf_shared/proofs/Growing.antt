@@ -48,6 +48,6 @@ module _ {D : Type 0} {disk : Ghosts D} (b : Behind D disk) where
     setup = ap (λ r. r.setup) b.same_root;
     told = b.same_told;
     later = record { rest = since b.start b.group; whole = b.begun };
-    paid = λ told. are_paid_had (halts_in b.start) (halts_in b.group) b.start.faults b.group.faults b.paid;
+    paid = λ told. are_paid_had (halts_in b.start) (halts_in b.group) b.start.faults b.group.faults (b.paid told);
     by = b.by;
   }

@@ -1,8 +1,9 @@
 pub mod Since
 pub mod Weaving
 pub mod Owning
-pub mod Claiming
 pub mod Acting
+pub mod Claiming
+pub mod Closing
 pub mod Ending
 pub mod Taking
 pub mod Looking

@@ -69,26 +69,26 @@ pub record Took (number : ℕ) (answer : Option (List Sector)) (old new : GroupI
   pub root : root_of new ≡ root_of old
   pub told : new.told ≡ old.told
   pub taken : new.taken ≡ taken_with old.taken (Look (read_of number answer))
-  pub handed : HandsOut (state_of old) old.taken number answer
+  pub handed : HandsOut old.told (state_of old) old.taken number answer
   pub pays : Pays old new
   pub by : WentBy old new
 
-pub took : (number : ℕ) (answer : Option (List Sector)) (old new : GroupIs) → IsTrue old.told → IfSome answer (λ bytes. HasTaken old number bytes new) → IfNone answer (LacksAnswer old number) → IfNone answer (new ≡ old) → Took number answer old new
-took number (Some bytes) old new told has lacks same = record {
+pub took : (number : ℕ) (answer : Option (List Sector)) (old new : GroupIs) → IfSome answer (λ bytes. HasTaken old number bytes new) → IfNone answer (LacksAnswer old number) → IfNone answer (new ≡ old) → Took number answer old new
+took number (Some bytes) old new has lacks same = record {
   history = ap (λ x. x.history) has.is;
   root = ap root_of has.is;
   told = ap (λ x. x.told) has.is;
   taken = ap (λ x. x.taken) has.is;
-  handed = (has.first, has.answer told);
+  handed = (has.first, has.answer);
   pays = pays_same old new (has.is ∙ ap (λ (g : GroupIs). record old { taken = g.taken }) (sym has.is));
   by = by_one old new (Takes (has.is ∙ ap (λ (g : GroupIs). record old { taken = g.taken }) (sym has.is)));
 }
-took number None old new told has lacks same = record {
+took number None old new has lacks same = record {
   history = ap (λ x. x.history) same;
   root = ap root_of same;
   told = ap (λ x. x.told) same;
   taken = ap (λ x. x.taken) same;
-  handed = lacks told;
+  handed = lacks;
   pays = subst (Pays old) (sym same) (pays_refl old);
   by = by_same old new same;
 }
@@ -104,17 +104,23 @@ module _ {D : Type 0} {disk : Ghosts D} (root : GroupIs) (n m : ℕ) (number_is 
   handed_is : b.group.taken ≡ handed_out root.taken (list_of b)
   handed_is = b.handed ∙ ap (λ (x : GroupIs). handed_out x.taken (list_of b)) rooted
 
+  told_is : b.group.told ≡ root.told
+  told_is = b.same_told ∙ ap (λ (x : GroupIs). x.told) rooted
+
+  pub told_back : IsTrue root.told → IsTrue b.group.told
+  told_back told = subst IsTrue (sym told_is) told
+
   -- the group behind the turn is that of the list
   pub group_is : state_of b.group ≡ state_at root (list_of b)
   group_is = ap (λ l. replay b.group.setup l) history_is ∙ ap (λ s. replay s (whole root (list_of b))) setup_is
 
-  look : (P : Group → Type 0) → P (state_of b.group) → new ≡ list_of b ++ entry m (Look None) ∷ [] → Looks root n alone seen P new
+  look : (P : Group → Type 0) → (IsTrue b.group.told → P (state_of b.group)) → new ≡ list_of b ++ entry m (Look None) ∷ [] → Looks root n alone seen P new
   unfolding adds_of
-  look P shown is = record { adds = adds_of n m alone seen (list_of b) new (Look None) number_is finds is; shown = subst P group_is shown }
+  look P shown is = record { adds = adds_of n m alone seen (list_of b) new (Look None) number_is finds is; shown = λ told. subst P group_is (shown (told_back told)) }
 
   -- what was told, where there was memory for it
-  pub look_ok : {A : Type 0} → (P : A → Group → Type 0) (told r : Result A NoMemory) → IfOk told (λ a. P a (state_of b.group)) → IfOk r (λ a. told ≡ Ok a) → OnOk r (new ≡ list_of b ++ entry m (Look None) ∷ []) → IfOk r (λ a. Looks root n alone seen (P a) new)
-  look_ok {A} P told (Ok a) so from is = look (P a) (subst (λ (t : Result A NoMemory). IfOk t (λ a. P a (state_of b.group))) from so) is
+  pub look_ok : {A : Type 0} → (P : A → Group → Type 0) (told r : Result A NoMemory) → IfOk told (λ a. IsTrue b.group.told → P a (state_of b.group)) → IfOk r (λ a. told ≡ Ok a) → OnOk r (new ≡ list_of b ++ entry m (Look None) ∷ []) → IfOk r (λ a. Looks root n alone seen (P a) new)
+  look_ok {A} P told (Ok a) so from is = look (P a) (subst (λ (t : Result A NoMemory). IfOk t (λ a. IsTrue b.group.told → P a (state_of b.group))) from so) is
   look_ok P told (Err e) so from is = tt
 
   pub look_err : {A : Type 0} → (r : Result A NoMemory) → OnErr r (new ≡ list_of b) → OnErr r (Finds n alone seen new)
@@ -122,32 +128,38 @@ module _ {D : Type 0} {disk : Ghosts D} (root : GroupIs) (n m : ℕ) (number_is 
   look_err (Err e) is = subst (Finds n alone seen) (sym is) finds
 
   -- the same of one server
-  look_of : {A : Type 0} → (i : ℕ) (P : A → Server → Type 0) (r : Result A Down) → TellsOf (state_of b.group) i r P → new ≡ list_of b ++ entry m (Look None) ∷ [] → LooksAt root n alone seen i (told_of (Ok r)) P new
+  look_of : {A : Type 0} → (i : ℕ) (P : A → Server → Type 0) (r : Result A Down) → (IsTrue b.group.told → TellsOf (state_of b.group) i r P) → new ≡ list_of b ++ entry m (Look None) ∷ [] → LooksAt root n alone seen i (told_of (Ok r)) P new
   look_of i P (Ok a) so is = look _ so is
   look_of i P (Err down) so is = look _ so is
 
-  told_at : {A : Type 0} → (i : ℕ) (P : A → Server → Type 0) (told r : Result (Result A Down) NoMemory) → IfOk told (λ t. TellsOf (state_of b.group) i t P) → IfOk r (λ t. told ≡ Ok t) → OnOk r (new ≡ list_of b ++ entry m (Look None) ∷ []) → OnErr r (new ≡ list_of b) → LooksAt root n alone seen i (told_of r) P new
-  told_at {A} i P told (Ok t) so from is none = look_of i P t (subst (λ (x : Result (Result A Down) NoMemory). IfOk x (λ t. TellsOf (state_of b.group) i t P)) from so) is
+  told_at : {A : Type 0} → (i : ℕ) (P : A → Server → Type 0) (told r : Result (Result A Down) NoMemory) → IfOk told (λ t. IsTrue b.group.told → TellsOf (state_of b.group) i t P) → IfOk r (λ t. told ≡ Ok t) → OnOk r (new ≡ list_of b ++ entry m (Look None) ∷ []) → OnErr r (new ≡ list_of b) → LooksAt root n alone seen i (told_of r) P new
+  told_at {A} i P told (Ok t) so from is none = look_of i P t (subst (λ (x : Result (Result A Down) NoMemory). IfOk x (λ t. IsTrue b.group.told → TellsOf (state_of b.group) i t P)) from so) is
   told_at i P told (Err e) so from is none = subst (Finds n alone seen) (sym none) finds
 
-  pub look_at : {A : Type 0} → (i : ℕ) (P : A → Server → Type 0) (told r : Result (Result A Down) NoMemory) → IfOk told (λ t. TellsOf (state_of b.group) i t P) → IfOk r (λ t. told ≡ Ok t) → OnOk r (new ≡ list_of b ++ entry m (Look None) ∷ []) → OnErr r (new ≡ list_of b)
+  pub look_at : {A : Type 0} → (i : ℕ) (P : A → Server → Type 0) (told r : Result (Result A Down) NoMemory) → IfOk told (λ t. IsTrue b.group.told → TellsOf (state_of b.group) i t P) → IfOk r (λ t. told ≡ Ok t) → OnOk r (new ≡ list_of b ++ entry m (Look None) ∷ []) → OnErr r (new ≡ list_of b)
       → (out : Result A LookFault) → out ≡ told_of r → LooksAt root n alone seen i out P new
   look_at {A} i P told r so from is none out out_is = subst (λ (o : Result A LookFault). LooksAt root n alone seen i o P new) (sym out_is) (told_at i P told r so from is none)
 
   -- the answer of a read
-  pub take_ok : (number : ℕ) (r : Result (Option (List Sector)) NoMemory) (after : Behind D disk) → new ≡ list_of after → IfOk r (λ answer. HasLooked m (read_of number answer) b after) → IfOk r (HandsOut (state_of b.group) b.group.taken number) → OnOk r (length b.group.taken ≡ (state_of b.group).reads)
+  pub take_ok : (number : ℕ) (r : Result (Option (List Sector)) NoMemory) (after : Behind D disk) → new ≡ list_of after → IfOk r (λ answer. HasLooked m (read_of number answer) b after) → IfOk r (HandsOut b.group.told (state_of b.group) b.group.taken number) → OnOk r (IsTrue b.group.told → length b.group.taken ≡ (state_of b.group).reads)
       → IfOk r (λ answer. TakesRead root n alone seen number answer new)
   unfolding adds_of
   take_ok number (Ok answer) after new_is looked handed numbered = record {
     adds = adds_of n m alone seen (list_of b) new (Look (read_of number answer)) number_is finds (new_is ∙ looked.listed);
-    numbered = subst (λ (g : Group). length (handed_out root.taken (list_of b)) ≡ g.reads) group_is (subst (λ (l : List Bool). length l ≡ (state_of b.group).reads) handed_is numbered);
-    handed = subst (λ (g : Group). HandsOut g (handed_out root.taken (list_of b)) number answer) group_is (subst (λ (l : List Bool). HandsOut (state_of b.group) l number answer) handed_is handed);
+    numbered = λ told. subst (λ (g : Group). length (handed_out root.taken (list_of b)) ≡ g.reads) group_is (subst (λ (l : List Bool). length l ≡ (state_of b.group).reads) handed_is (numbered (told_back told)));
+    handed = subst (λ (t : Bool). HandsOut t (state_at root (list_of b)) (handed_out root.taken (list_of b)) number answer) told_is
+        (subst (λ (g : Group). HandsOut b.group.told g (handed_out root.taken (list_of b)) number answer) group_is (subst (λ (l : List Bool). HandsOut b.group.told (state_of b.group) l number answer) handed_is handed));
   }
   take_ok number (Err e) after new_is looked handed numbered = tt
 
   pub take_err : {A : Type 0} → (r : Result A NoMemory) (after : Behind D disk) → new ≡ list_of after → OnErr r (Stays b after) → OnErr r (Finds n alone seen new)
   take_err (Ok a) after new_is stays = tt
   take_err (Err e) after new_is stays = subst (Finds n alone seen) (sym (new_is ∙ stays.listed)) finds
+
+-- what is so of the value is so of what is told
+pub told_so : {A : Type 0} → (P : A → Type 0) (told r : Result A NoMemory) → IfOk told P → IfOk r (λ it. told ≡ Ok it) → IfOk r P
+told_so {A} P told (Ok it) so is = subst (λ (t : Result A NoMemory). IfOk t P) is so
+told_so P told (Err e) so is = tt
 
 -- the list grew by the look of a seat, if at all
 module _ {D : Type 0} {disk : Ghosts D} (n m : ℕ) (number_is : m ≡ n) (seen : List (Stamped Moment)) (old new : Behind D disk) (seen_is : seen ≡ list_of old) where

@@ -1,5 +1,5 @@
 -- What a call of a seat says, from what its turn found and did.
-use Rattle.std.proofs.Common.{◌≡◌, ℕ, true, cond, eq-eqb, List, [], ◌∷◌, ◌++◌, Some, None, Result, Ok, Err, IfOk, OnErr, sym, refl, ap, ◌∙◌, subst, append-nil, append_assoc}
+use Rattle.std.proofs.Common.{◌≡◌, ℕ, Bool, IsTrue, true, cond, eq-eqb, List, [], ◌∷◌, ◌++◌, Some, None, Result, Ok, Err, IfOk, OnErr, sym, refl, ap, ◌∙◌, subst, append-nil}
 use Rattle.std.proofs.lemmas.Bool.{and_from}
 use Rattle.pf_base.specs.declared.errors.NoMemory.{NoMemory}
 use Rattle.pf_base.specs.declared.filled.Filled.{Filled}
@@ -14,15 +14,15 @@ use Rattle.pf_protocol.specs.declared.answers.Answer.TheVariants.{Job as JobIs}
 use Rattle.pf_protocol.specs.declared.events.Event.{Event}
 use Rattle.pf_protocol.specs.declared.events.Event.TheVariants.{Claim}
 use Rattle.pf_protocol.specs.declared.events.Happening.{Happening}
-use Rattle.pf_protocol.specs.Histories.{History, replay}
-use Rattle.pf_protocol.specs.Answers.{IsLegal, IsLegalNext, claims_of}
-use Rattle.pf_protocol.proofs.ForMoments.{legal_before}
+use Rattle.pf_protocol.specs.Histories.{History}
+use Rattle.pf_protocol.specs.Answers.{IsLegal, claims_of}
 use Rattle.pf_group.specs.GroupIs.{GroupIs}
 use Rattle.pf_group.specs.Sound.{IsSound}
 use Rattle.pf_shared.specs.declared.moment.Moment.{Moment}
-use Rattle.pf_shared.specs.declared.moment.Moment.TheVariants.{Happened, Look}
+use Rattle.pf_shared.specs.declared.moment.Moment.TheVariants.{Happened}
 use Rattle.pf_shared.specs.declared.behind.Behind.{Behind}
-use Rattle.pf_shared.specs.Moments.{entry, happenings, with_moment}
+use Rattle.pf_shared.specs.Answering.{IsAnswered}
+use Rattle.pf_shared.specs.Moments.{entry, handed_out}
 use Rattle.pf_shared.specs.Hands.{HasInHand, Key, hand, hand_of, is_of, is_tidy, key}
 use Rattle.pf_shared.specs.Behinds.{Acts, BringsBack, Stays, list_of}
 use Rattle.pf_shared.specs.Calls.{Adds, Finds, HasClaimed, IsHistory, IsTaken, OnJob, Steps}
@@ -31,10 +31,10 @@ use Rattle.pf_shared.proofs.Ending.{whole_is}
 use Rattle.pf_shared.proofs.Owning.{free_is_none, hand-append, in_hand, mine, own_hand}
 use Rattle.pf_shared.proofs.Claiming.{claimed_is_free}
 
--- the list is a history
-pub history_is : (root : GroupIs) (setup : Setup) (list : List (Stamped Moment)) (history : History) → setup ≡ root.setup → whole root list ≡ history → IsLegal setup history → IsSound setup history → IsHistory root list
+-- the list is a history of the group
+pub history_is : (root : GroupIs) (setup : Setup) (list : List (Stamped Moment)) (history : History) → setup ≡ root.setup → whole root list ≡ history → (IsTrue root.told → IsLegal setup history) → IsSound setup history → IsHistory root list
 history_is root setup list history same is legal sound = record {
-  legal = subst (λ s. IsLegal s (whole root list)) same (subst (IsLegal setup) (sym is) legal);
+  legal = λ told. subst (λ s. IsLegal s (whole root list)) same (subst (IsLegal setup) (sym is) (legal told));
   sound = subst (λ s. IsSound s (whole root list)) same (subst (IsSound setup) (sym is) sound);
 }
 
@@ -61,8 +61,10 @@ module _ {D : Type 0} {disk : Ghosts D} (root : GroupIs) (n m : ℕ) (same : m �
   unfolding adds_of
   steps_of event answer after acts is = let h : Happening = record { event = event; answer = answer } in record {
     adds = adds_of n m alone seen (list_of old) after (Happened h) same finds (is ∙ acts.listed);
-    legal = subst (λ (s : Setup). IsLegalNext s (replay s (whole root (list_of old))) (claims_of [] (whole root (list_of old))) h) (ap (λ r. r.setup) old.same_root ∙ ap (λ (x : GroupIs). x.setup) rooted)
-        (subst (λ (l : History). IsLegalNext old.group.setup (replay old.group.setup l) (claims_of [] l) h) (sym (whole_is old) ∙ ap (λ (x : GroupIs). whole x (list_of old)) rooted) acts.legal);
+    answered = subst (λ (t : Bool). IsAnswered t root.setup (handed_out root.taken (list_of old)) (whole root (list_of old)) event answer) (old.same_told ∙ ap (λ (x : GroupIs). x.told) rooted)
+        (subst (λ (s : Setup). IsAnswered old.group.told s (handed_out root.taken (list_of old)) (whole root (list_of old)) event answer) (ap (λ r. r.setup) old.same_root ∙ ap (λ (x : GroupIs). x.setup) rooted)
+        (subst (λ (t : List Bool). IsAnswered old.group.told old.group.setup t (whole root (list_of old)) event answer) (old.handed ∙ ap (λ (x : GroupIs). handed_out x.taken (list_of old)) rooted)
+        (subst (λ (l : History). IsAnswered old.group.told old.group.setup old.group.taken l event answer) (sym (whole_is old) ∙ ap (λ (x : GroupIs). whole x (list_of old)) rooted) acts.answered)));
   }
 
   -- a turn that answers an event, or has no memory for it
@@ -98,27 +100,17 @@ module _ {D : Type 0} {disk : Ghosts D} (root : GroupIs) (n m : ℕ) (same : m �
   is_key : (server life slot : ℕ) → is_of (key server life slot) server life slot ≡ true
   is_key server life slot = and_from _ _ (and_from _ _ (eq-eqb server server refl) (eq-eqb life life refl)) (eq-eqb slot slot refl)
 
-  happenings-snoc : (list : List (Stamped Moment)) (h : Happening) (i : ℕ) → happenings (list ++ entry i (Happened h) ∷ []) ≡ happenings list ++ h ∷ []
-  happenings-snoc [] h i = refl
-  happenings-snoc (e ∷ es) h i = ap (with_moment e.what) (happenings-snoc es h i) ∙ by e.what
-    where
-      by : (what : Moment) → with_moment what (happenings es ++ h ∷ []) ≡ with_moment what (happenings es) ++ h ∷ []
-      by (Happened x) = refl
-      by (Look read) = refl
-
-  taken_now : (a : Answer) (after : List (Stamped Moment)) → IsHistory root after → (s : Steps root n alone seen Claim a after) → ((k : Key) → is_tidy k None s.adds.found ≡ true) → OnJob a (IsTaken n seen after)
-  taken_now (JobIs job) after history s tidy = let k : Key = key job.server job.life job.slot in let h : Happening = record { event = Claim; answer = JobIs job } in
-      let longer : whole root after ≡ whole root s.adds.found ++ h ∷ [] = ap (whole root) s.adds.listed ∙ (ap (λ l. root.history ++ l) (happenings-snoc s.adds.found h n) ∙ sym (append_assoc root.history (happenings s.adds.found) (h ∷ []))) in
-      let legal : IsLegal root.setup (whole root s.adds.found) = legal_before root.setup (whole root s.adds.found) (whole root after) (record { rest = h ∷ []; whole = sym longer }) history.legal in
+  taken_now : (a : Answer) (after : List (Stamped Moment)) → (s : Steps root n alone seen Claim a after) → ((k : Key) → is_tidy k None s.adds.found ≡ true) → OnJob a (IsTaken n seen after)
+  taken_now (JobIs job) after s tidy = let k : Key = key job.server job.life job.slot in let h : Happening = record { event = Claim; answer = JobIs job } in
       let bare : claims_of [] root.history ≡ [] = ap (λ (x : GroupIs). claims_of [] x.history) (sym rooted) ∙ old.none_open in
-      let nobody : hand_of k None s.adds.found ≡ None = free_is_none (hand_of k None s.adds.found) (claimed_is_free root.setup root.history s.adds.found job bare legal s.legal.answered) in
+      let nobody : hand_of k None s.adds.found ≡ None = free_is_none (hand_of k None s.adds.found) (claimed_is_free root.history s.adds.found job bare s.answered.fresh) in
       let free : hand_of k None (entries_of n seen) ≡ None = ap (hand_of k None) (sym s.adds.finds.own) ∙ (own_hand k n None s.adds.found (tidy k) ∙ ap (mine n) nobody) in record {
         free = free;
         in_hand = ap (hand_of k None) s.adds.own ∙ (hand-append k None (entries_of n seen) (entry n (Happened h) ∷ []) ∙ ap (λ b. cond b (Some (hand n job.op)) (hand_of k None (entries_of n seen))) (is_key job.server job.life job.slot));
       }
-  taken_now _ after history s tidy = tt
+  taken_now _ after s tidy = tt
 
-  pub claim_taken : (r : Result Answer NoMemory) (after : List (Stamped Moment)) → IfOk r (λ a. Acts m Claim a old new) → after ≡ list_of new → IsHistory root after → IfOk r (λ a. OnJob a (IsTaken n seen after))
+  pub claim_taken : (r : Result Answer NoMemory) (after : List (Stamped Moment)) → IfOk r (λ a. Acts m Claim a old new) → after ≡ list_of new → IfOk r (λ a. OnJob a (IsTaken n seen after))
   unfolding adds_of steps_of
-  claim_taken (Ok a) after acts is history = taken_now a after history (steps_of Claim a after acts is) (λ k. old.tidy k)
-  claim_taken (Err e) after acts is history = tt
+  claim_taken (Ok a) after acts is = taken_now a after (steps_of Claim a after acts is) (λ k. old.tidy k)
+  claim_taken (Err e) after acts is = tt

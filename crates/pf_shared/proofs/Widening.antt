@@ -30,7 +30,7 @@ module _ (n m : ℕ) (number : m ≡ n) (alone : Type 0) (seen mid : List (Stamp
   adds_on what new a = record { found = a.found; finds = finds_on a.found a.finds; listed = a.listed; own = a.own ∙ ap (λ l. l ++ entry n what ∷ []) to_mid.own }
 
   abbrev steps_on : (root : GroupIs) (event : Event) (answer : Answer) (new : List (Stamped Moment)) → Steps root n (Unit {0}) mid event answer new → Steps root n alone seen event answer new
-  steps_on root event answer new s = record { adds = adds_on _ new s.adds; legal = s.legal }
+  steps_on root event answer new s = record { adds = adds_on _ new s.adds; answered = s.answered }
 
   pub took_step : (root : GroupIs) (event : GroupEvent) (r : Result Answer NoMemory) (new : List (Stamped Moment)) → IfOk r (λ a. HasStepped root m (Unit {0}) mid event a new) → IfOk r (λ a. HasStepped root n alone seen event a new)
   took_step root event (Ok a) new h = let k = subst (λ i. HasStepped root i (Unit {0}) mid event a new) number h in record { found = k.found; steps = steps_on root _ a new k.steps }

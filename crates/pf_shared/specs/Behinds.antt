@@ -7,13 +7,12 @@ use Rattle.pf_entry.specs.declared.ops.Op.{Op}
 use Rattle.pf_applying.specs.Jobs.{IsFilledFor}
 use Rattle.pf_protocol.specs.declared.answers.Answer.{Answer}
 use Rattle.pf_protocol.specs.declared.events.Event.{Event}
-use Rattle.pf_protocol.specs.Answers.{IsLegalNext, claims_of}
 use Rattle.pf_group.specs.declared.event.GroupEvent.{GroupEvent}
 use Rattle.pf_group.specs.Events.{event_of}
-use Rattle.pf_group.specs.GroupIs.{state_of}
 use Rattle.pf_shared.specs.declared.moment.Moment.{Moment}
 use Rattle.pf_shared.specs.declared.moment.Moment.TheVariants.{Happened, Look}
 use Rattle.pf_shared.specs.declared.behind.Behind.{Behind}
+use Rattle.pf_shared.specs.Answering.{IsAnswered}
 use Rattle.pf_shared.specs.Moments.{entry}
 use Rattle.pf_shared.specs.Since.{since}
 use Rattle.pf_shared.specs.Woven.{woven}
@@ -29,10 +28,10 @@ module _ {D : Type 0} {disk : Ghosts D} where
   abbrev pub list_of : Behind D disk → List (Stamped Moment)
   list_of b = woven b.turns.items (since b.start b.group)
 
-  -- the event was answered as the rules say, and is one more entry of this seat
+  -- the event was answered, and is one more entry of this seat
   pub record Acts (seat : ℕ) (event : Event) (answer : Answer) (old new : Behind D disk) : Type 0 where
     pub listed : list_of new ≡ list_of old ++ entry seat (Happened (record { event = event; answer = answer })) ∷ []
-    pub legal : IsLegalNext old.group.setup (state_of old.group) (claims_of [] old.group.history) (record { event = event; answer = answer })
+    pub answered : IsAnswered old.group.told old.group.setup old.group.taken old.group.history event answer
     pub root : new.start ≡ old.start
 
   pub record ActsAs (seat : ℕ) (event : GroupEvent) (answer : Answer) (old new : Behind D disk) : Type 0 where

@@ -1,5 +1,5 @@
 -- What one call of a seat does to the list that it has seen.
-use Rattle.std.specs.Prelude.{◌≡◌, ℕ, Bool, List, [], ◌∷◌, ◌++◌, None}
+use Rattle.std.specs.Prelude.{◌≡◌, ℕ, Bool, IsTrue, List, [], ◌∷◌, ◌++◌, None}
 use Rattle.pf_turn.specs.declared.log.Stamped.{Stamped}
 use Rattle.pf_turn.specs.Lists.{Begins, entries_of}
 use Rattle.pf_base.specs.declared.filled.Filled.{Filled}
@@ -9,20 +9,21 @@ use Rattle.pf_applying.specs.Jobs.{IsFilledFor}
 use Rattle.pf_protocol.specs.declared.answers.Answer.{Answer}
 use Rattle.pf_protocol.specs.declared.answers.Answer.TheVariants.{Job as JobIs}
 use Rattle.pf_protocol.specs.declared.events.Event.{Event}
-use Rattle.pf_protocol.specs.Answers.{IsLegal, IsLegalNext, claims_of}
+use Rattle.pf_protocol.specs.Answers.{IsLegal}
 use Rattle.pf_group.specs.declared.event.GroupEvent.{GroupEvent}
 use Rattle.pf_group.specs.Events.{event_of}
 use Rattle.pf_group.specs.GroupIs.{GroupIs}
 use Rattle.pf_group.specs.Sound.{IsSound}
 use Rattle.pf_shared.specs.declared.moment.Moment.{Moment}
 use Rattle.pf_shared.specs.declared.moment.Moment.TheVariants.{Happened}
-use Rattle.pf_shared.specs.Moments.{entry}
-use Rattle.pf_shared.specs.Since.{state_at, whole}
+use Rattle.pf_shared.specs.Answering.{IsAnswered}
+use Rattle.pf_shared.specs.Moments.{entry, handed_out}
+use Rattle.pf_shared.specs.Since.{whole}
 use Rattle.pf_shared.specs.Hands.{HasInHand, hand_of, key}
 
--- what happened is one legal history of the group, and the laws hold of it
+-- The laws hold of what happened. It is one legal history of the group, where its disks tell their content
 pub record IsHistory (root : GroupIs) (list : List (Stamped Moment)) : Type 0 where
-  pub legal : IsLegal root.setup (whole root list)
+  pub legal : IsTrue root.told → IsLegal root.setup (whole root list)
   pub sound : IsSound root.setup (whole root list)
 
 -- the list that seat n finds: others may have added entries, but none of its own; none did where it is alone
@@ -38,10 +39,10 @@ pub record Adds (n : ℕ) (alone : Type 0) (seen : List (Stamped Moment)) (what 
   pub listed : new ≡ found ++ entry n what ∷ []
   pub own : entries_of n new ≡ entries_of n seen ++ entry n what ∷ []
 
--- the event was answered as the rules say, where it stands in the list
+-- the event was answered, where it stands in the list
 pub record Steps (root : GroupIs) (n : ℕ) (alone : Type 0) (seen : List (Stamped Moment)) (event : Event) (answer : Answer) (new : List (Stamped Moment)) : Type 0 where
   pub adds : Adds n alone seen (Happened (record { event = event; answer = answer })) new
-  pub legal : IsLegalNext root.setup (state_at root adds.found) (claims_of [] (whole root adds.found)) (record { event = event; answer = answer })
+  pub answered : IsAnswered root.told root.setup (handed_out root.taken adds.found) (whole root adds.found) event answer
 
 -- where a server begins again, it finds the record of a step that was cut off, or not
 pub record HasStepped (root : GroupIs) (n : ℕ) (alone : Type 0) (seen : List (Stamped Moment)) (event : GroupEvent) (answer : Answer) (new : List (Stamped Moment)) : Type 0 where

@@ -3,6 +3,7 @@ pub mod Since
 pub mod Woven
 pub mod Hands
 pub mod Events
+pub mod Answering
 pub mod Behinds
 pub mod Seats
 pub mod Calls

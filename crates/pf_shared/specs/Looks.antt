@@ -1,5 +1,5 @@
 -- What one look of a seat tells.
-use Rattle.std.specs.Prelude.{◌≡◌, ◌≢◌, ℕ, Bool, false, List, length, Option, Some, None, Result, Ok, Err, slice_get}
+use Rattle.std.specs.Prelude.{◌≡◌, ◌≢◌, ℕ, Bool, false, IsTrue, List, length, Option, Some, None, Result, Ok, Err, slice_get}
 use Rattle.pf_turn.specs.declared.log.Stamped.{Stamped}
 use Rattle.pf_base.specs.declared.errors.NoMemory.{NoMemory}
 use Rattle.pf_entry.specs.Lists.{Every}
@@ -18,10 +18,10 @@ use Rattle.pf_shared.specs.Calls.{Adds, Finds}
 use Rattle.pf_shared.specs.Moments.{handed_out}
 use Rattle.pf_shared.specs.Since.{state_at}
 
--- the seat added one look, which took no answer, and this was so of the group where it stands in the list
+-- The seat added one look, which took no answer. This was so of the group where it stands in the list, if its disks tell their content
 pub record Looks (root : GroupIs) (n : ℕ) (alone : Type 0) (seen : List (Stamped Moment)) (P : Group → Type 0) (new : List (Stamped Moment)) : Type 0 where
   pub adds : Adds n alone seen (Look None) new
-  pub shown : P (state_at root adds.found)
+  pub shown : IsTrue root.told → P (state_at root adds.found)
 
 -- what is told of server i is so of its state where the look stands, or it does not run there; where memory ran out there is no look
 abbrev pub LooksAt : {A : Type 0} → (root : GroupIs) (n : ℕ) (alone : Type 0) (seen : List (Stamped Moment)) (i : ℕ) → Result A LookFault → (A → Server → Type 0) → (new : List (Stamped Moment)) → Type 0
@@ -40,13 +40,14 @@ abbrev pub read_of : (number : ℕ) → Option (List Sector) → Option ℕ
 read_of number (Some bytes) = Some number
 read_of number None = None
 
--- an answer of the read is handed out for the first time; or no read has the number, its answer was handed out before, or it waits
-abbrev pub HandsOut : Group → (taken : List Bool) → (number : ℕ) → Option (List Sector) → Type 0
-HandsOut g taken number (Some bytes) = (slice_get taken number ≡ Some false) × HasAnswer g.answered number bytes
-HandsOut g taken number None = slice_get taken number ≡ Some false → Every (λ a. a.number ≢ number) g.answered
+-- Sectors are handed out for the read, the first time: its answer, where the disks tell their content. Or none are: where they do, no read has
+-- the number, its answer was handed out before, or it waits
+abbrev pub HandsOut : (told : Bool) → Group → (taken : List Bool) → (number : ℕ) → Option (List Sector) → Type 0
+HandsOut told g taken number (Some bytes) = (slice_get taken number ≡ Some false) × (IsTrue told → HasAnswer g.answered number bytes)
+HandsOut told g taken number None = IsTrue told → slice_get taken number ≡ Some false → Every (λ a. a.number ≢ number) g.answered
 
 -- the seat added one look, with the number of the read whose answer it took
 pub record TakesRead (root : GroupIs) (n : ℕ) (alone : Type 0) (seen : List (Stamped Moment)) (number : ℕ) (answer : Option (List Sector)) (new : List (Stamped Moment)) : Type 0 where
   pub adds : Adds n alone seen (Look (read_of number answer)) new
-  pub numbered : length (handed_out root.taken adds.found) ≡ (state_at root adds.found).reads
-  pub handed : HandsOut (state_at root adds.found) (handed_out root.taken adds.found) number answer
+  pub numbered : IsTrue root.told → length (handed_out root.taken adds.found) ≡ (state_at root adds.found).reads
+  pub handed : HandsOut root.told (state_at root adds.found) (handed_out root.taken adds.found) number answer

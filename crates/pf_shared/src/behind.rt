@@ -1,5 +1,5 @@
 //! What lies behind the turn.
-ghost use Rattle.std.specs.Prelude.{◌≡◌, ◌+◌, ◌++◌, ◌<◌, ◌≤◌, ◌^◌, ℕ, [], length, None, Ok, Some, true, vec_capacity, vec_len, IfOk, IsTrue, OnErr, OnOk, slice_get};
+ghost use Rattle.std.specs.Prelude.{◌≡◌, ◌+◌, ◌++◌, ◌<◌, ◌≤◌, ◌^◌, ℕ, [], length, None, Ok, Some, true, vec_capacity, vec_len, IfOk, IfSome, IsTrue, OnErr, OnOk, slice_get};
 ghost use Rattle.pf_protocol.specs.Answers.{IsLegal, claims_of};
 ghost use Rattle.pf_protocol.specs.declared.answers.Answer.TheVariants.{Done};
 ghost use Rattle.pf_protocol.specs.declared.events.Event.TheVariants.{Claim, Finish, GiveBack};
@@ -37,9 +37,8 @@ pub struct Behind<D: Disk> {
     pub(crate) alloc: Global,
     ghost begun: { start.history ++ since start group ≡ group.history },
     ghost same_root: { root_of group ≡ root_of start },
-    ghost told: { IsTrue group.told },
     ghost same_told: { group.told ≡ start.told },
-    ghost paid: { ∥ Pays start group ∥₁ },
+    ghost paid: { IsTrue start.told → ∥ Pays start group ∥₁ },
     ghost by: { ∥ WentBy start group ∥₁ },
     ghost none_open: { claims_of [] start.history ≡ [] },
     ghost counted: { steps_in turns.items ≡ length (since start group) },
@@ -71,7 +70,6 @@ impl<D: Disk + Drop> Behind<D> {
 
     /// A group, before its first turn. No claim is open in its history.
     pub(crate) fn new(alloc: Global, group: Group<D>) -> Behind<D>
-        requires told { IsTrue group.told }
         requires none { claims_of [] group.history ≡ [] }
         ensures list { list_of result ≡ [] }
         ensures group { (result.group ≡ group) × (result.start ≡ group) }
@@ -100,10 +98,10 @@ impl<D: Disk + Drop> Behind<D> {
         group
     }
 
-    /// All that happened to the group, in order.
+    /// All that happened to the group, in order. It is a legal history, where its disks tell their content.
     pub(crate) fn happenings(&self) -> &[Happening]
         ensures items { result.now ≡ self.now.group.history }
-        ensures legal { IsLegal self.now.group.setup self.now.group.history }
+        ensures legal { IsTrue self.now.group.told → IsLegal self.now.group.setup self.now.group.history }
         ensures sound { IsSound self.now.group.setup self.now.group.history }
     {
         self.group.history()
@@ -111,7 +109,8 @@ impl<D: Disk + Drop> Behind<D> {
 
     /// The least packet from `from` on that is left.
     pub(crate) fn least_from(&self, from: u32) -> Option<u32>
-        ensures { result ≡ least_from from (state_of self.now.group) }
+        ensures least { IsTrue self.now.group.told → result ≡ least_from from (state_of self.now.group) }
+        ensures few { IfSome result (λ k. (from ≤ k) × (k < 65536)) }
     {
         let k = self.group.left_from(from);
         if k < self.group.packets() {
@@ -162,7 +161,6 @@ impl<D: Disk + Drop> Behind<D> {
         ensures err { OnErr result (Stays self.old self.new) }
     {
         self.make_room()?;
-        let _legal = self.group.history();
         let answer = self.group.step(alloc, GroupEvent::Claim)?;
         self.open_ends = ends_after(self.open_ends, &answer);
         let _ = self.turns.push(Stamped {
@@ -223,8 +221,8 @@ impl<D: Disk + Drop> Behind<D> {
     /// Hands out the answer of a read, as one more entry of this seat. Where there is no memory for it (`NoMemory`, 1) there is none.
     pub(crate) fn take_read(&mut self, seat: u64, number: u64) -> Result<Option<Data>, NoMemory>
         ensures ok { IfOk result (λ answer. HasLooked seat (read_of number answer) self.old self.new) }
-        ensures handed { IfOk result (HandsOut (state_of self.old.group) self.old.group.taken number) }
-        ensures numbered { OnOk result (length self.old.group.taken ≡ (state_of self.old.group).reads) }
+        ensures handed { IfOk result (HandsOut self.old.group.told (state_of self.old.group) self.old.group.taken number) }
+        ensures numbered { OnOk result (IsTrue self.old.group.told → length self.old.group.taken ≡ (state_of self.old.group).reads) }
         ensures err { OnErr result (Stays self.old self.new) }
     {
         self.make_room()?;

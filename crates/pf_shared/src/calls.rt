@@ -1,5 +1,5 @@
 //! The calls, each in one turn.
-ghost use Rattle.std.specs.Prelude.{◌≡◌, ◌≢◌, ℕ, ◌+◌, ◌<◌, ◌^◌, [], ◌∷◌, IfErr, IfOk, IsTrue, OnErr};
+ghost use Rattle.std.specs.Prelude.{◌≡◌, ◌≢◌, ℕ, ◌+◌, ◌<◌, ◌^◌, [], ◌∷◌, None, true, IfErr, IfOk, OnErr};
 ghost use Rattle.pf_protocol.specs.Answers.{claims_of};
 ghost use Rattle.pf_protocol.specs.declared.answers.Answer.TheVariants.{Done};
 ghost use Rattle.pf_protocol.specs.declared.events.Event.TheVariants.{Claim, Finish, GiveBack};
@@ -10,7 +10,7 @@ ghost use Rattle.pf_rounds.specs.Growing.{HasGrown};
 ghost use Rattle.pf_shared.specs.Behinds.{list_of};
 ghost use Rattle.pf_shared.specs.Calls.{Finds, HasClaimed, HasStepped, IsHistory, IsTaken, OnJob, Steps};
 ghost use Rattle.pf_shared.specs.Events.{IsStep};
-ghost use Rattle.pf_shared.specs.Hands.{HasInHand, key};
+ghost use Rattle.pf_shared.specs.Hands.{HasInHand, Key, hand_of, is_tidy, key};
 ghost use Rattle.pf_shared.specs.Moments.{handed_out};
 ghost use Rattle.pf_shared.specs.Since.{whole};
 ghost use Rattle.pf_shared.specs.Seats.{IsAlone, IsFirst, IsSameSeat, IsSeatOf, gone_of, number_of, out_of, root_in, seen_by, splits_of};
@@ -26,13 +26,13 @@ use std::alloc::Global;
 use std::sync::Wait;
 
 impl<D: Disk + Drop> SharedGroup<D> {
-    /// A group behind a turn, and its first seat. Its disks tell their content, and no claim is open in its history, which becomes the root of the lock: the list
-    /// behind the turn is what happens from then on. Where memory runs out (`NoMemory`, 1) the group comes back.
+    /// A group behind a turn, and its first seat. No claim is open in its history, which becomes the root of the lock: the list behind the
+    /// turn is what happens from then on. What its calls say of the group's state is said of disks that tell their content. Where memory
+    /// runs out (`NoMemory`, 1) the group comes back.
     pub fn new(
         alloc: Global,
         group: Group<D>,
     ) -> Result<(SharedGroup<D>, GroupSeat<D>), (Group<D>, NoMemory)>
-        requires told { IsTrue group.told }
         requires none { claims_of [] group.history ≡ [] }
         ensures seat { IfOk result (λ made. IsSeatOf made.0 made.1) }
         ensures first { IfOk result (λ made. IsFirst made.1 × (splits_of made.1 ≡ 0) × (out_of made.1 ≡ 0) × (gone_of made.1 ≡ [])) }
@@ -80,7 +80,7 @@ impl<D: Disk + Drop> SharedGroup<D> {
         self.lock.join(&mut seat.seat, other);
     }
 
-    /// Ends a turn. What the list holds then is one legal history, and the laws hold of it.
+    /// Ends a turn. The laws hold of what the list holds then, which is one legal history, where the disks tell their content.
     pub(crate) fn end(&self, seat: &mut GroupSeat<D>, turn: Turn<Behind<D>>)
         requires seat { turns.IsSeatOf self.now.lock seat.old.seat × turns.HasTurn seat.old.seat }
         requires root { turn.value.start ≡ root_in self.now }
@@ -190,8 +190,9 @@ impl<D: Disk + Drop> SharedGroup<D> {
     }
 
     /// The group, once every seat has been joined: its history is that before the first turn, and then what the first seat has seen,
-    /// without looks. The disks of a server failed at least as often since then as steps of it were halted, unless a count stands at
-    /// its last value.
+    /// without looks. Each job was claimed while nobody had it in hand, and brought back by the seat that had. No claim is open where no
+    /// seat has a job in hand. Where the disks tell their content, those of a server failed at least as often since then as steps of it
+    /// were halted, unless a count stands at its last value.
     pub fn close(self, seat: GroupSeat<D>) -> Group<D>
         requires seat { IsSeatOf self seat }
         requires first { IsAlone seat }
@@ -200,6 +201,8 @@ impl<D: Disk + Drop> SharedGroup<D> {
         ensures strangers { (n : ℕ) → splits_of seat < n → entries_of n (seen_by seat) ≡ [] }
         ensures taken { result.taken ≡ handed_out (root_in self).taken (seen_by seat) }
         ensures grown { HasGrown (root_in self) result }
+        ensures tidy { (k : Key) → is_tidy k None (seen_by seat) ≡ true }
+        ensures claims { ((n : ℕ) (k : Key) → hand_of k None (entries_of n (seen_by seat)) ≡ None) → claims_of [] result.history ≡ [] }
     {
         let SharedGroup { lock } = self;
         let GroupSeat { seat } = seat;

@@ -1,4 +1,5 @@
-//! Copies of what a group shows. Where there is no memory for one (`NoMemory`, 1), nothing is told.
+//! Copies of what a group shows, which is of its state where its disks tell their content. Where there is no memory for one
+//! (`NoMemory`, 1), nothing is told.
 ghost use Rattle.std.specs.Prelude.{◌≡◌, ◌<◌, IfOk, IsTrue, map, slice_get};
 ghost use Rattle.std.specs.FinMap as finite;
 ghost use Rattle.pf_cluster.specs.Showing.{acked_of};
@@ -16,16 +17,14 @@ use std::alloc::Global;
 
 /// The slots that were acknowledged to hosts, in order.
 pub(crate) fn acked<D: Disk>(alloc: Global, group: &Group<D>) -> Result<Vec<Acked>, NoMemory>
-    requires { IsTrue group.now.told }
-    ensures { IfOk result (λ acked. acked.items ≡ map acked_of (state_of group.now).acked) }
+    ensures { IfOk result (λ acked. IsTrue group.now.told → acked.items ≡ map acked_of (state_of group.now).acked) }
 {
     Ok(Vec::from_slice(alloc, group.acked())?)
 }
 
 /// Whether the slot was acknowledged in this term.
 pub(crate) fn is_acked<D: Disk>(group: &Group<D>, term: Term, slot: Slot) -> bool
-    requires { IsTrue group.now.told }
-    ensures { result ≡ is_acked (state_of group.now) term slot }
+    ensures { IsTrue group.now.told → result ≡ is_acked (state_of group.now) term slot }
 {
     group.is_acked(term, slot)
 }
@@ -37,9 +36,8 @@ pub(crate) fn entry_of<D: Disk>(
     server: Server,
     slot: Slot,
 ) -> Result<Result<Option<Entry>, Down>, NoMemory>
-    requires server { server < 3 }
-    requires told { IsTrue group.now.told }
-    ensures { IfOk result (λ told. TellsOf (state_of group.now) server told (λ entry s. entry ≡ finite.get s.durable.log slot)) }
+    requires { server < 3 }
+    ensures { IfOk result (λ told. IsTrue group.now.told → TellsOf (state_of group.now) server told (λ entry s. entry ≡ finite.get s.durable.log slot)) }
 {
     match group.entry_of(server, slot) {
         Ok(Some(entry)) => Ok(Ok(Some(entry.try_clone(alloc)?))),
@@ -54,9 +52,8 @@ pub(crate) fn applied_of<D: Disk>(
     group: &Group<D>,
     server: Server,
 ) -> Result<Result<SlotSet, Down>, NoMemory>
-    requires server { server < 3 }
-    requires told { IsTrue group.now.told }
-    ensures { IfOk result (λ told. TellsOf (state_of group.now) server told (λ slots s. IsAppliedOf slots.slots s)) }
+    requires { server < 3 }
+    ensures { IfOk result (λ told. IsTrue group.now.told → TellsOf (state_of group.now) server told (λ slots s. IsAppliedOf slots.slots s)) }
 {
     match group.applied_of(server) {
         Ok(slots) => Ok(Ok(slots.try_clone(alloc)?)),
@@ -70,9 +67,8 @@ pub(crate) fn sectors_of<D: Disk>(
     group: &Group<D>,
     server: Server,
 ) -> Result<Result<Sectors, Down>, NoMemory>
-    requires server { server < 3 }
-    requires told { IsTrue group.now.told }
-    ensures { IfOk result (λ told. TellsOf (state_of group.now) server told (λ sectors s. sectors ≡ s.sectors)) }
+    requires { server < 3 }
+    ensures { IfOk result (λ told. IsTrue group.now.told → TellsOf (state_of group.now) server told (λ sectors s. sectors ≡ s.sectors)) }
 {
     match group.sectors_of(server) {
         Ok(sectors) => Ok(Ok(Sectors::new(Vec::from_slice(alloc, sectors)?))),
@@ -87,9 +83,8 @@ pub(crate) fn snapshot<D: Disk>(
     server: Server,
     slot: Slot,
 ) -> Result<Option<Sectors>, NoMemory>
-    requires server { server < 3 }
-    requires told { IsTrue group.now.told }
-    ensures { IfOk result (λ sectors. sectors ≡ snapshot_in (slice_get (state_of group.now).servers server) slot) }
+    requires { server < 3 }
+    ensures { IfOk result (λ sectors. IsTrue group.now.told → sectors ≡ snapshot_in (slice_get (state_of group.now).servers server) slot) }
 {
     match group.snapshot(server, slot) {
         Some(sectors) => Ok(Some(Sectors::new(Vec::from_slice(alloc, sectors)?))),

@@ -1,9 +1,9 @@
 //! Looks: what the group shows, each in one turn.
 //!
-//! A look adds one entry of the seat to the list, and tells what is so of the group where that entry stands. Where there is no memory
-//! for the entry or for what the look tells (`NoMemory`, 1), nothing is told and there is no entry. That a server does not run
-//! (`Down`, 51) is told as well, and has its entry.
-ghost use Rattle.std.specs.Prelude.{◌≡◌, ◌<◌, ◌++◌, ◌∷◌, [], IfOk, None, Ok, OnErr, OnOk, length, map, slice_get};
+//! A look adds one entry of the seat to the list, and tells what is so of the group where that entry stands, if its disks tell their
+//! content. Where there is no memory for the entry or for what the look tells (`NoMemory`, 1), nothing is told and there is no entry.
+//! That a server does not run (`Down`, 51) is told as well, and has its entry.
+ghost use Rattle.std.specs.Prelude.{◌≡◌, ◌<◌, ◌≤◌, ◌++◌, ◌∷◌, [], IfOk, IfSome, IsTrue, None, Ok, OnErr, OnOk, length, map, slice_get};
 ghost use Rattle.std.specs.FinMap as finite;
 ghost use Rattle.pf_entry.specs.Sets as set;
 ghost use Rattle.pf_cluster.specs.Showing.{acked_of};
@@ -132,6 +132,7 @@ impl<D: Disk + Drop> SharedGroup<D> {
         requires { IsSeatOf self.now seat.old }
         ensures seat { IsSeatOf self.now seat.new × IsSameSeat seat.old seat.new }
         ensures look { IfOk result (λ leader. Looks (root_in self.now) (number_of seat.old) (IsAlone seat.old) (seen_by seat.old) (λ g. IsLeader g leader) (seen_by seat.new)) }
+        ensures low { IfOk result (λ leader. IfSome leader (λ served. served.1 < 3)) }
         ensures err { OnErr result (Finds (number_of seat.old) (IsAlone seat.old) (seen_by seat.old) (seen_by seat.new)) }
         ensures history { IsHistory (root_in self.now) (seen_by seat.new) }
     {
@@ -150,6 +151,7 @@ impl<D: Disk + Drop> SharedGroup<D> {
         requires { IsSeatOf self.now seat.old }
         ensures seat { IsSeatOf self.now seat.new × IsSameSeat seat.old seat.new }
         ensures look { IfOk result (λ count. Looks (root_in self.now) (number_of seat.old) (IsAlone seat.old) (seen_by seat.old) (λ g. count ≡ length g.packets) (seen_by seat.new)) }
+        ensures few { IfOk result (λ count. count ≤ 65536) }
         ensures err { OnErr result (Finds (number_of seat.old) (IsAlone seat.old) (seen_by seat.old) (seen_by seat.new)) }
         ensures history { IsHistory (root_in self.now) (seen_by seat.new) }
     {
@@ -169,6 +171,7 @@ impl<D: Disk + Drop> SharedGroup<D> {
         requires { IsSeatOf self.now seat.old }
         ensures seat { IsSeatOf self.now seat.new × IsSameSeat seat.old seat.new }
         ensures look { IfOk result (λ left. Looks (root_in self.now) (number_of seat.old) (IsAlone seat.old) (seen_by seat.old) (λ g. left ≡ least_from from g) (seen_by seat.new)) }
+        ensures few { IfOk result (λ left. IfSome left (λ k. (from ≤ k) × (k < 65536))) }
         ensures err { OnErr result (Finds (number_of seat.old) (IsAlone seat.old) (seen_by seat.old) (seen_by seat.new)) }
         ensures history { IsHistory (root_in self.now) (seen_by seat.new) }
     {
@@ -188,6 +191,7 @@ impl<D: Disk + Drop> SharedGroup<D> {
         requires { IsSeatOf self.now seat.old }
         ensures seat { IsSeatOf self.now seat.new × IsSameSeat seat.old seat.new }
         ensures look { IfOk result (λ left. Looks (root_in self.now) (number_of seat.old) (IsAlone seat.old) (seen_by seat.old) (λ g. left ≡ is_left (slice_get g.packets number)) (seen_by seat.new)) }
+        ensures sent { IfOk result (λ left. IsTrue left → number < 65536) }
         ensures err { OnErr result (Finds (number_of seat.old) (IsAlone seat.old) (seen_by seat.old) (seen_by seat.new)) }
         ensures history { IsHistory (root_in self.now) (seen_by seat.new) }
     {

@@ -12,7 +12,7 @@ muster_hosts-workers-requires-clause-workers g c = let line = c.args.line.now in
     two_mustered line.group line.cell line.plan line.rings.items begun _ _ c.args.workers.items c.push_reserved.new.self.items c.push_reserved-2.new.self.items c.requires.room.0 c.push_reserved.ensures.items c.push_reserved-2.ensures.items
     (record {
       is = new_submitter line.group line.cell line.plan line.rings.items _ e.given.0 e.none_made c.of.ensures is.leaders (met_served line.plan line.rings.items line.plan.hosts 0 crew.hosts.items crew.served.items is.met)
-          (subst (λ l. AllStand (root_in line.group) l crew.served.items) (sym e.seen.1) is.stand);
+          (λ told. subst (λ l. AllStand (root_in line.group) l crew.served.items) (sym e.seen.1) (is.stand told));
       number = omega (arith, e.given.1, same);
       since = ap seen_by c.of.ensures ∙ (e.seen.1 ∙ ap seen_by (sym c.requires.begun));
     })

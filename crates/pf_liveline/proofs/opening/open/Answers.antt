@@ -8,7 +8,7 @@ returns-clause-crew g c = let e = c.in_ok-group.ensures in let group = c.in_ok-g
   seat = new_seat group plan seat e.seat e.first e.list;
   splits = sym e.first.1;
   met = made.ensures.met;
-  stand = new_stand (root_in group) (seen_by seat) made.made.served.items e.list made.ensures.new;
+  stand = λ told. new_stand (root_in group) (seen_by seat) made.made.served.items e.list made.ensures.new;
   first = (k.kept.0, k.kept.2 c.in-Ok.ensures.pass.1);
   leaders = k.given.0;
   made = new_made plan.turns (root_in group) (seen_by seat) e.list;

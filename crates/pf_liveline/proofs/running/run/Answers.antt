@@ -1,4 +1,4 @@
-use Rattle.std.proofs.Common.{◌+◌, sym, subst}
+use Rattle.std.proofs.Common.{◌+◌, ap, sym, subst, ◌∙◌}
 use Rattle.pf_shared.specs.Seats.{splits_of}
 use Rattle.pf_liveline.specs.Crews.{AllEnded}
 use Rattle.pf_liveline.proofs.Mustered.{each_mustered, mustered_on}
@@ -15,3 +15,6 @@ regroup-crew-requires-clause-workers g c = let line = c.args.line.now in let beg
 
 pub returns-clause-ended : goal.returns-clause-ended
 returns-clause-ended g c none old = c.regroup-crew.ensures.ended (neither c.regroup-crew.result.1 c.run_or_keep-workers.result.1 none) (subst (AllEnded c.args.line.now.plan) (sym c.of-begun.ensures) old)
+
+pub returns-clause-seats : goal.returns-clause-seats
+returns-clause-seats g c none = c.regroup-crew.ensures.seats ∙ ap (λ s. splits_of s + c.args.line.now.plan.workers + 2) c.of-begun.ensures

@@ -1,4 +1,6 @@
-use Rattle.std.proofs.Common.{arith}
+use Rattle.std.proofs.Common.{◌≡◌, None, arith, ap, ◌∙◌, subst}
+use Rattle.pf_turn.specs.Lists.{entries_of}
+use Rattle.pf_shared.specs.Hands.{hand_of}
 use Rattle.pf_shared.specs.Seats.{number_of, root_in, seen_by, splits_of}
 use Rattle.pf_liveline.proofs.Knowing.{knows_applier}
 use Rattle.pf_liveline.proofs.taking.take_applier.Goals as goal
@@ -6,3 +8,6 @@ use Rattle.pf_liveline.proofs.taking.take_applier.Goals as goal
 pub take_in-requires-clause-known : goal.take_in-requires-clause-known
 take_in-requires-clause-known g c = let a = c.end.new.self in let e = c.end.ensures in let line = c.args.line.now in let begun = c.args.begun.now.value in let r = c.requires.number in
     knows_applier line.plan (root_in line.group) (seen_by begun) (splits_of begun) (seen_by c.args.submitted.now.value) (number_of a.seat) (seen_by a.seat) (omega (arith, e.same.0, r.0)) (omega (arith, e.same.0, r.1)) e.is.steps
+
+pub returns-clause-free : goal.returns-clause-free
+returns-clause-free g c k = let e = c.end.ensures in subst (λ m. hand_of k None (entries_of m (seen_by c.take_in.new.first)) ≡ None) e.same.0 (ap (hand_of k None) c.take_in.ensures.brought ∙ e.is.free k)

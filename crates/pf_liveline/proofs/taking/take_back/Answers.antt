@@ -16,6 +16,7 @@ loop-worker-init g c = let line = c.args.line.now in let begun = c.args.begun.no
   low = omega arith;
   on = begins_refl (seen_by c.args.first.now);
   same = λ m under. refl;
+  free = λ m above under. absurd (omega arith);
   lasts = λ none m above under. absurd (omega arith);
   fits = r.room.1;
 }
@@ -46,4 +47,4 @@ pub loop-worker-preserved : goal.loop-worker-preserved
 loop-worker-preserved g c = let line = c.args.line.now in let begun = c.args.begun.now.value in let l = c.loop-worker in let sub = c.args.submitted.now.value in let mid = c.args.first.now in let e = c.take_applier-wants.ensures in
     takes_apply line.group line.cell line.plan line.rings.items begun sub mid l.first c.take_applier-wants.new.first c.in-Apply.applier c.pop_front.new.self.items l.hosts.items (vec_capacity l.hosts) l.wants c.take_applier-wants.result
     (subst (λ r. TakesBack line.group line.cell line.plan line.rings.items begun sub mid l.first r l.hosts.items (vec_capacity l.hosts) l.wants) (c.in-Some.ensures.items ∙ ap (λ w. w ∷ c.pop_front.new.self.items) c.in-Apply.is) l.invariant)
-    e.joining e.begins e.others e.last
+    e.joining e.begins e.others e.free e.last

@@ -1,8 +1,8 @@
-use Rattle.std.proofs.Common.{replicate, refl, sym, ap, subst, ◌∙◌}
+use Rattle.std.proofs.Common.{replicate, true≢false, refl, sym, ap, subst, ◌∙◌}
 use Rattle.pf_base.specs.Span.{IsWritable, Span}
 use Rattle.pf_entry.specs.declared.ops.Op.TheVariants.{Write}
 use Rattle.pf_shared.specs.Seats.{IsAlone, number_of, root_in, seen_by}
-use Rattle.pf_live.proofs.Stands.{asks_as, may_submit, serves_handed, serves_kept, span_as}
+use Rattle.pf_live.proofs.Stands.{asks_as, handed_as, may_submit, serves_handed, serves_kept, span_as}
 use Rattle.pf_live.proofs.serving.Served.hand.Goals as goal
 
 pub submit-requires-clause-write : goal.submit-requires-clause-write
@@ -21,3 +21,16 @@ returns-clause-serves g c = let a = c.args.self.now in let s = c.args.seat.now i
     (asks_as c.in-Ok.range request c.in_ok-payload.payload (c.in-Ok.ensures.range ∙ span_as request.range c.first.result c.count.result c.first.ensures c.count.ensures)
     (c.in_ok-payload.ensures ∙ (c.in_ok-data.ensures ∙ ap (λ n. replicate n (replicate 512 request.byte)) c.count-2.ensures)))
     h.0 h.1 c.requires.host c.requires.counted c.requires.asked refl refl c.standing_after-self.ensures
+
+pub returns-in_default-clause-handed : goal.returns-in_default-clause-handed
+returns-in_default-clause-handed g c = let range = c.args.request.range in (
+  λ w. true≢false (sym (c.in_default.ensures.exact.1 (subst (λ x. IsWritable x c.count.result) (sym c.first.ensures) (subst (λ x. IsWritable range.first x) (sym c.count.ensures) w)))),
+  refl,
+)
+
+pub returns-clause-handed : goal.returns-clause-handed
+returns-clause-handed g c = let request = c.args.request in let h = c.in_ok-term.ensures.submits in
+    handed_as (number_of c.args.seat.now) (IsAlone c.args.seat.now) (seen_by c.args.seat.now) (seen_by c.submit.new.seat) c.args.server request c.in_ok-term.answer (Write c.in-Ok.range c.in_ok-payload.payload)
+    (asks_as c.in-Ok.range request c.in_ok-payload.payload (c.in-Ok.ensures.range ∙ span_as request.range c.first.result c.count.result c.first.ensures c.count.ensures)
+    (c.in_ok-payload.ensures ∙ (c.in_ok-data.ensures ∙ ap (λ n. replicate n (replicate 512 request.byte)) c.count-2.ensures)))
+    h.0.adds

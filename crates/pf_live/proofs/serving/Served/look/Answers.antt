@@ -10,7 +10,7 @@ returns-in_err-is_acked-clause-serves g c = let a = c.args.self.now in let s = c
 
 pub returns-then-is_acked-clause-serves : goal.returns-then-is_acked-clause-serves
 returns-then-is_acked-clause-serves g c = let a = c.args.self.now in let s = c.args.seat.now in let line = c.args.line.now in let l = c.in_ok-is_acked.ensures.look in
-    serves_told line.plan (root_in line.group) (number_of s) c.args.host a (record a { standing = Settled; moves = c.count-moves.result }) (IsAlone s) (seen_by s) (seen_by c.is_acked.new.seat) c.args.term c.args.slot l.adds (sym l.shown ∙ c.if-is_acked.true) c.requires.placed refl refl refl
+    serves_told line.plan (root_in line.group) (number_of s) c.args.host a (record a { standing = Settled; moves = c.count-moves.result }) (IsAlone s) (seen_by s) (seen_by c.is_acked.new.seat) c.args.term c.args.slot l.adds (λ told. sym (l.shown told) ∙ c.if-is_acked.true) c.requires.placed refl refl refl
 
 pub returns-else-is_acked-clause-serves : goal.returns-else-is_acked-clause-serves
 returns-else-is_acked-clause-serves g c = let a = c.args.self.now in let s = c.args.seat.now in let line = c.args.line.now in

@@ -1,4 +1,4 @@
-use Rattle.std.proofs.Common.{◌≡◌, [], ◌∷◌, ◌++◌, ap, ◌∙◌, slice_get, length, refl, rules, arith, IsTrue, subst, sym}
+use Rattle.std.proofs.Common.{◌≡◌, [], ◌∷◌, ◌++◌, ap, ◌∙◌, slice_get, length, refl, rules, arith}
 use Rattle.pf_group.specs.GroupIs.{GroupIs}
 use Rattle.std.proofs.Math.Logic.{∥∥₁_map}
 use Rattle.pf_protocol.specs.declared.events.Event.TheVariants.{Finish}
@@ -15,7 +15,7 @@ use Rattle.pf_shared.proofs.Weaving.{did}
 use Rattle.pf_shared.proofs.Acting.{claims_on, counted_on, handed_on, tidy_on}
 use Rattle.pf_shared.proofs.Claiming.{open_claim, tidy_finish}
 use Rattle.pf_group.proofs.Claims.{one_closed}
-use Rattle.pf_shared.proofs.Ending.{acts, all_claims, open_any}
+use Rattle.pf_shared.proofs.Ending.{acts, all_claims, open_any, told_now}
 use Rattle.pf_shared.proofs.behind.Behind.finish.Goals as goal
 
 pub step-requires : goal.step-requires
@@ -32,9 +32,8 @@ invariant_of-self g c = let s = c.in-Ok.ensures.went in let b = c.args.self.now 
     let claims = claims_on ds hs b.counted c.args.seat h c.push.new.self.items grown next longer in record {
       begun = begun_more b.start b.group b.begun c.step.new.self h more;
       same_root = ap root_of s.steps.recorded ∙ b.same_root;
-      told = subst (λ (x : GroupIs). IsTrue x.told) (sym s.steps.recorded) b.told;
       same_told = ap (λ (x : GroupIs). x.told) s.steps.recorded ∙ b.same_told;
-      paid = ∥∥₁_map b.paid (λ p. pays_trans b.start b.group c.step.new.self p (step_pays b.group c.step.new.self (Finish f.server f.life f.slot) c.in-Ok.answer s.steps b.told));
+      paid = λ told. ∥∥₁_map (b.paid told) (λ p. pays_trans b.start b.group c.step.new.self p (step_pays b.group c.step.new.self (Finish f.server f.life f.slot) c.in-Ok.answer s.steps (told_now b told)));
       by = ∥∥₁_map b.by (λ w. by_both b.start b.group c.step.new.self w (by_step b.group c.step.new.self (Finish f.server f.life f.slot) c.in-Ok.answer s.steps));
       none_open = b.none_open;
       counted = counted_on ds hs b.counted c.args.seat h c.push.new.self.items grown next longer;

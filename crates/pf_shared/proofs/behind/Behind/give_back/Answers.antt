@@ -1,4 +1,4 @@
-use Rattle.std.proofs.Common.{◌≡◌, [], ◌∷◌, ◌++◌, ap, ◌∙◌, subst, sym, true, length, refl, rules, arith, IsTrue}
+use Rattle.std.proofs.Common.{◌≡◌, [], ◌∷◌, ◌++◌, ap, ◌∙◌, subst, sym, true, length, refl, rules, arith}
 use Rattle.pf_group.specs.GroupIs.{GroupIs}
 use Rattle.std.proofs.Math.Logic.{∥∥₁_map}
 use Rattle.pf_protocol.specs.declared.answers.Answer.TheVariants.{Done}
@@ -17,7 +17,7 @@ use Rattle.pf_shared.proofs.Weaving.{did}
 use Rattle.pf_shared.proofs.Acting.{claims_on, counted_on, handed_on, tidy_on}
 use Rattle.pf_shared.proofs.Claiming.{tidy_return}
 use Rattle.pf_group.proofs.Claims.{one_closed}
-use Rattle.pf_shared.proofs.Ending.{acts, all_claims, open_any}
+use Rattle.pf_shared.proofs.Ending.{acts, all_claims, open_any, told_now}
 use Rattle.pf_shared.proofs.behind.Behind.give_back.Goals as goal
 
 pub give_back-requires : goal.give_back-requires
@@ -33,9 +33,8 @@ invariant_of-self g c = let s = c.give_back.ensures.went in let b = c.args.self.
     let claims = claims_on ds hs b.counted c.args.seat h c.push.new.self.items grown next longer in record {
       begun = begun_more b.start b.group b.begun c.give_back.new.self h more;
       same_root = ap root_of s.recorded ∙ b.same_root;
-      told = subst (λ (x : GroupIs). IsTrue x.told) (sym s.recorded) b.told;
       same_told = ap (λ (x : GroupIs). x.told) s.recorded ∙ b.same_told;
-      paid = ∥∥₁_map b.paid (λ p. pays_trans b.start b.group c.give_back.new.self p (step_pays b.group c.give_back.new.self (GiveBack j.server j.life j.slot) Done s b.told));
+      paid = λ told. ∥∥₁_map (b.paid told) (λ p. pays_trans b.start b.group c.give_back.new.self p (step_pays b.group c.give_back.new.self (GiveBack j.server j.life j.slot) Done s (told_now b told)));
       by = ∥∥₁_map b.by (λ w. by_both b.start b.group c.give_back.new.self w (by_step b.group c.give_back.new.self (GiveBack j.server j.life j.slot) Done s));
       none_open = b.none_open;
       counted = counted_on ds hs b.counted c.args.seat h c.push.new.self.items grown next longer;

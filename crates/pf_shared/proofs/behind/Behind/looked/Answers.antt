@@ -10,7 +10,6 @@ invariant_of-self g c = let b = c.make_room.new.self in let ds = b.turns.items i
     let grown : c.push.new.self.items ≡ ds ++ did c.args.seat (Looked None) ∷ [] = search rules in record {
       begun = b.begun;
       same_root = b.same_root;
-      told = b.told;
       same_told = b.same_told;
       paid = b.paid;
       by = b.by;

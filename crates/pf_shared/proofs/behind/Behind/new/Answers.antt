@@ -16,9 +16,8 @@ pub invariant_of-result : goal.invariant_of-result
 invariant_of-result g c = let b : GroupIs = c.args.group in let e = c.of-start.ensures in let none_since : since b b ≡ [] = nothing_since b.history in let bare = c.new.ensures.items in record {
   begun = subst (λ (s : GroupIs). s.history ++ since s b ≡ b.history) (sym e) (ap (λ l. b.history ++ l) none_since ∙ append-nil b.history);
   same_root = ap root_of (sym e);
-  told = c.requires.told;
   same_told = ap (λ (x : GroupIs). x.told) (sym e);
-  paid = subst (λ (s : GroupIs). ∥ Pays s b ∥₁) (sym e) ∣ pays_refl b ∣₁;
+  paid = λ told. subst (λ (s : GroupIs). ∥ Pays s b ∥₁) (sym e) ∣ pays_refl b ∣₁;
   by = subst (λ (s : GroupIs). ∥ WentBy s b ∥₁) (sym e) ∣ Stays ∣₁;
   none_open = subst (λ (s : GroupIs). claims_of [] s.history ≡ []) (sym e) c.requires.none;
   counted = subst (λ (s : GroupIs). steps_in c.new.result.items ≡ length (since s b)) (sym e) (ap steps_in bare ∙ sym (ap length none_since));

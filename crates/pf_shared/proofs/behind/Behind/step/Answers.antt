@@ -1,4 +1,4 @@
-use Rattle.std.proofs.Common.{◌≡◌, [], ◌∷◌, ◌++◌, None, ap, ◌∙◌, length, refl, sym, rules, arith, IsTrue, subst}
+use Rattle.std.proofs.Common.{◌≡◌, [], ◌∷◌, ◌++◌, None, ap, ◌∙◌, length, refl, sym, rules, arith}
 use Rattle.std.proofs.Math.Logic.{∥∥₁_map}
 use Rattle.pf_protocol.specs.declared.events.Happening.{Happening}
 use Rattle.pf_protocol.specs.Answers.{claims_of}
@@ -15,7 +15,7 @@ use Rattle.pf_shared.specs.Moments.{handed_out}
 use Rattle.pf_shared.proofs.Since.{begun_more, begun_same, since_more, since_same}
 use Rattle.pf_shared.proofs.Weaving.{did}
 use Rattle.pf_shared.proofs.Acting.{claims_on, counted_on, handed_on, step_claims, tidy_on, tidy_step}
-use Rattle.pf_shared.proofs.Ending.{acts}
+use Rattle.pf_shared.proofs.Ending.{acts, told_now}
 use Rattle.pf_shared.proofs.behind.Behind.step.Goals as goal
 
 -- there was no memory for the event, and only what the group tells of its disks may be others
@@ -26,9 +26,8 @@ invariant_of-self g c = let b = c.make_room.new.self in let ds = b.turns.items i
     let same = since_same b.start b.group b.begun after kept in record {
       begun = begun_same b.start b.group b.begun after kept;
       same_root = ap root_of is ∙ b.same_root;
-      told = subst (λ (x : GroupIs). IsTrue x.told) (sym is) b.told;
       same_told = ap (λ (x : GroupIs). x.told) is ∙ b.same_told;
-      paid = ∥∥₁_map b.paid (λ p. pays_trans b.start b.group after p (left_pays b.group c.args.event after b.told left));
+      paid = λ told. ∥∥₁_map (b.paid told) (λ p. pays_trans b.start b.group after p (left_pays b.group c.args.event after (told_now b told) left));
       by = ∥∥₁_map b.by (λ w. by_both b.start b.group after w (by_left b.group c.args.event after left));
       none_open = b.none_open;
       counted = b.counted ∙ sym (ap length same);
@@ -47,9 +46,8 @@ invariant_of-self-2 g c = let s = c.in_ok-answer.ensures.went in let b = c.make_
     let claims = claims_on ds hs b.counted c.args.seat h c.push.new.self.items grown next longer ∙ step_claims c.args.event s.found c.in_ok-answer.answer (claims_of [] hs) c.requires in record {
       begun = begun_more b.start b.group b.begun c.step.new.self h more;
       same_root = ap root_of s.steps.recorded ∙ b.same_root;
-      told = subst (λ (x : GroupIs). IsTrue x.told) (sym s.steps.recorded) b.told;
       same_told = ap (λ (x : GroupIs). x.told) s.steps.recorded ∙ b.same_told;
-      paid = ∥∥₁_map b.paid (λ p. pays_trans b.start b.group c.step.new.self p (step_pays b.group c.step.new.self (event_of c.args.event s.found) c.in_ok-answer.answer s.steps b.told));
+      paid = λ told. ∥∥₁_map (b.paid told) (λ p. pays_trans b.start b.group c.step.new.self p (step_pays b.group c.step.new.self (event_of c.args.event s.found) c.in_ok-answer.answer s.steps (told_now b told)));
       by = ∥∥₁_map b.by (λ w. by_both b.start b.group c.step.new.self w (by_step b.group c.step.new.self (event_of c.args.event s.found) c.in_ok-answer.answer s.steps));
       none_open = b.none_open;
       counted = counted_on ds hs b.counted c.args.seat h c.push.new.self.items grown next longer;

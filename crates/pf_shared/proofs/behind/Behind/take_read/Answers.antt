@@ -1,4 +1,4 @@
-use Rattle.std.proofs.Common.{◌≡◌, ◌∙◌, [], ◌∷◌, ◌++◌, ap, subst, refl, length, rules, arith, IsTrue, sym}
+use Rattle.std.proofs.Common.{◌≡◌, ◌∙◌, [], ◌∷◌, ◌++◌, ap, subst, refl, length, rules, arith}
 use Rattle.std.proofs.Math.Logic.{∥∥₁_map}
 use Rattle.std.specs.Bool.{then_some}
 use Rattle.pf_protocol.specs.Answers.{claims_of}
@@ -15,16 +15,15 @@ use Rattle.pf_shared.proofs.behind.Behind.take_read.Goals as goal
 
 pub invariant_of-self : goal.invariant_of-self
 invariant_of-self g c = let b = c.make_room.new.self in let ds = b.turns.items in let hs = since b.start b.group in let answer = c.take_read-answer.result in let read = read_of c.args.number answer in
-    let e = c.take_read-answer.ensures in let t = took c.args.number answer b.group c.take_read-answer.new.self b.told e.taken e.none e.same in
+    let e = c.take_read-answer.ensures in let t = took c.args.number answer b.group c.take_read-answer.new.self e.taken e.none e.same in
     let named : c.then_some-read.result ≡ read = c.then_some-read.ensures ∙ (ap (λ i. then_some i c.args.number) c.is_some.ensures ∙ read_is c.args.number answer) in
     let pushed : c.push.new.self.items ≡ ds ++ did c.args.seat (Looked c.then_some-read.result) ∷ [] = search rules in
     let grown : c.push.new.self.items ≡ ds ++ did c.args.seat (Looked read) ∷ [] = pushed ∙ ap (λ r. ds ++ did c.args.seat (Looked r) ∷ []) named in
     let after = c.take_read-answer.new.self in let next = since b.start after in let same : next ≡ hs = since_same b.start b.group b.begun after t.history in record {
       begun = begun_same b.start b.group b.begun after t.history;
       same_root = t.root ∙ b.same_root;
-      told = subst IsTrue (sym t.told) b.told;
       same_told = t.told ∙ b.same_told;
-      paid = ∥∥₁_map b.paid (λ p. pays_trans b.start b.group after p t.pays);
+      paid = λ told. ∥∥₁_map (b.paid told) (λ p. pays_trans b.start b.group after p t.pays);
       by = ∥∥₁_map b.by (λ w. by_both b.start b.group after w t.by);
       none_open = b.none_open;
       counted = looked_counted ds hs b.counted c.args.seat read c.push.new.self.items grown next same;
@@ -36,7 +35,7 @@ invariant_of-self g c = let b = c.make_room.new.self in let ds = b.turns.items i
 
 pub returns-clause-ok : goal.returns-clause-ok
 returns-clause-ok g c = let b = c.make_room.new.self in let ds = b.turns.items in let answer = c.take_read-answer.result in let read = read_of c.args.number answer in
-    let e = c.take_read-answer.ensures in let t = took c.args.number answer b.group c.take_read-answer.new.self b.told e.taken e.none e.same in
+    let e = c.take_read-answer.ensures in let t = took c.args.number answer b.group c.take_read-answer.new.self e.taken e.none e.same in
     let named : c.then_some-read.result ≡ read = c.then_some-read.ensures ∙ (ap (λ i. then_some i c.args.number) c.is_some.ensures ∙ read_is c.args.number answer) in
     let pushed : c.push.new.self.items ≡ ds ++ did c.args.seat (Looked c.then_some-read.result) ∷ [] = search rules in
     let grown : c.push.new.self.items ≡ ds ++ did c.args.seat (Looked read) ∷ [] = pushed ∙ ap (λ r. ds ++ did c.args.seat (Looked r) ∷ []) named in
@@ -44,5 +43,5 @@ returns-clause-ok g c = let b = c.make_room.new.self in let ds = b.turns.items i
 
 pub returns-clause-handed : goal.returns-clause-handed
 returns-clause-handed g c = let e = c.take_read-answer.ensures in
-    let t = took c.args.number c.take_read-answer.result c.make_room.new.self.group c.take_read-answer.new.self c.make_room.new.self.told e.taken e.none e.same in
-    subst (λ (x : GroupIs). HandsOut (state_of x) x.taken c.args.number c.take_read-answer.result) c.make_room.ensures.group.0 t.handed
+    let t = took c.args.number c.take_read-answer.result c.make_room.new.self.group c.take_read-answer.new.self e.taken e.none e.same in
+    subst (λ (x : GroupIs). HandsOut x.told (state_of x) x.taken c.args.number c.take_read-answer.result) c.make_room.ensures.group.0 t.handed

@@ -29,4 +29,4 @@ returns-clause-err g c = let t = c.take-turn.ensures in let s = c.args.seat.now 
 pub returns-clause-taken : goal.returns-clause-taken
 returns-clause-taken g c = let t = c.take-turn.ensures in let s = c.args.seat.now in let old = c.take-turn.result.value in let new = c.claim-answer.new.self in let n = number_of s in let m = c.number-number.result in let root = root_in c.args.self.now in
     let same : m ≡ n = c.number-number.ensures ∙ t.seat.2.0 in let finds : Finds n (IsAlone s) (seen_by s) (list_of old) = record { begins = t.seen.1; own = t.own; exact = λ a. t.alone a.0 a.1 } in
-    claim_taken root n m same (IsAlone s) (seen_by s) old new t.root finds c.claim-answer.result (seen_by c.end.new.seat) c.claim-answer.ensures.ok c.end.ensures.seen c.end.ensures.history
+    claim_taken root n m same (IsAlone s) (seen_by s) old new t.root finds c.claim-answer.result (seen_by c.end.new.seat) c.claim-answer.ensures.ok c.end.ensures.seen

@@ -1,12 +1,15 @@
-use Rattle.std.proofs.Common.{ap, ◌∙◌, subst, sym}
+use Rattle.std.proofs.Common.{◌≡◌, [], None, ap, ◌∙◌, subst, sym}
 use Rattle.pf_turn.specs.Lists.{entries_of}
+use Rattle.pf_protocol.specs.Answers.{claims_of}
 use Rattle.pf_group.specs.GroupIs.{GroupIs}
 use Rattle.pf_group.specs.Roots.{root_of}
 use Rattle.pf_rounds.specs.Growing.{HasGrown}
 use Rattle.pf_shared.specs.Behinds.{list_of}
-use Rattle.pf_shared.specs.Seats.{root_in}
+use Rattle.pf_shared.specs.Seats.{root_in, seen_by}
+use Rattle.pf_shared.specs.Hands.{is_tidy}
 use Rattle.pf_shared.specs.Moments.{handed_out}
 use Rattle.pf_shared.specs.Since.{whole}
+use Rattle.pf_shared.proofs.Closing.{all_closed}
 use Rattle.pf_shared.proofs.Ending.{whole_is}
 use Rattle.pf_shared.proofs.Growing.{has_grown}
 use Rattle.pf_shared.proofs.parts.SharedGroup.close.Goals as goal
@@ -28,3 +31,11 @@ returns-clause-strangers g c n above = ap (entries_of n) (sym c.close.ensures.se
 pub returns-clause-grown : goal.returns-clause-grown
 returns-clause-grown g c = let b = c.close.result in
     subst (HasGrown (root_in c.args.self)) (sym c.into_group.ensures) (subst (λ (x : GroupIs). HasGrown x b.group) c.close.ensures.root (has_grown b))
+
+pub returns-clause-tidy : goal.returns-clause-tidy
+returns-clause-tidy g c k = ap (is_tidy k None) (sym c.close.ensures.seen) ∙ c.close.result.tidy k
+
+pub returns-clause-claims : goal.returns-clause-claims
+returns-clause-claims g c none = let b = c.close.result in let root : GroupIs = root_in c.args.self in
+    let bare : claims_of [] root.history ≡ [] = ap (λ (x : GroupIs). claims_of [] x.history) (sym c.close.ensures.root) ∙ b.none_open in
+    ap (claims_of []) (returns-clause-history g c) ∙ all_closed root.history (seen_by c.args.seat) bare (returns-clause-tidy g c) none

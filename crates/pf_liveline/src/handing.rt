@@ -1,0 +1,94 @@
+//! What the first seat does before a line is judged, beside looks.
+ghost use Rattle.std.specs.Prelude.{◌≡◌, ◌≢◌, ℕ, ◌<◌, IfOk, IsTrue, Some, slice_get, true};
+ghost use Rattle.pf_protocol.specs.declared.answers.Answer.TheVariants.{Refused};
+ghost use Rattle.pf_protocol.specs.declared.answers.Refusal.{Refusal};
+ghost use Rattle.pf_cluster.specs.Shown.{IsLeader};
+ghost use Rattle.pf_shared.specs.Seats.{root_in, seen_by};
+ghost use Rattle.pf_shared.specs.Since.{state_at};
+ghost use Rattle.pf_liveline.specs.Crews.{IsCrew};
+ghost use Rattle.pf_liveline.specs.Judging.{HasJudged, HasLooked, IsPublished, IsRefusedBy};
+
+use crate::crew::Crew;
+use pf_base::{NoMemory, Server, Term};
+use pf_disk::Disk;
+use pf_live::{Line, Standing};
+use pf_protocol::Answer;
+use std::sync::Wait;
+
+/// Whether a request that was handed over was refused.
+fn is_refused(told: &Option<Answer>) -> bool
+    ensures { result ≡ true → (refusal : Refusal) × (told.now ≡ Some (Refused refusal)) }
+{
+    matches!(told, Some(Answer::Refused(_)))
+}
+
+impl<D: Disk + Drop> Crew<D> {
+    /// Hands the last request of a host to a server, if it has no slot. Whether there is none such, or it has a slot now, or was refused.
+    /// Where memory runs out (`NoMemory`, 1) it was not handed over.
+    fn hand<R: Wait, G>(
+        &mut self,
+        rt: &R,
+        line: &Line<D, G>,
+        host: u32,
+        server: Server,
+    ) -> Result<bool, NoMemory>
+        requires crew { IsCrew line.now.group line.now.cell line.now.plan line.now.rings.items self.old }
+        requires host { host < line.now.plan.hosts }
+        requires server { server < 3 }
+        ensures judged { HasJudged line.now.group line.now.cell line.now.plan line.now.rings.items self.old self.new }
+        ensures others { (h : ℕ) → h ≢ host → slice_get self.new.served.items h ≡ slice_get self.old.served.items h }
+        ensures refused { IfOk result (λ told. told ≡ true → IsRefusedBy line.now.plan (seen_by self.new.seat) server self.new.served.items host) }
+    {
+        let place = host as usize;
+        let Standing::Asked(request) = self.served[place].standing else {
+            return Ok(true);
+        };
+        let moves = line.count();
+        let told = self.served[place].hand(rt, line, &mut self.seat, host, server, request, moves)?;
+        if is_refused(&told) {
+            return Ok(true);
+        }
+        match self.served[place].standing {
+            Standing::Placed { .. } => Ok(true),
+            _ => Ok(false),
+        }
+    }
+
+    /// Hands the last request of each host to a server, if it has no slot. Whether it refused all that have none now. Where memory runs out
+    /// (`NoMemory`, 1) some were not handed over.
+    pub(crate) fn hand_all<R: Wait, G>(
+        &mut self,
+        rt: &R,
+        line: &Line<D, G>,
+        server: Server,
+    ) -> Result<bool, NoMemory>
+        requires crew { IsCrew line.now.group line.now.cell line.now.plan line.now.rings.items self.old }
+        requires server { server < 3 }
+        ensures judged { HasJudged line.now.group line.now.cell line.now.plan line.now.rings.items self.old self.new }
+        ensures refused { IfOk result (λ told. told ≡ true → (h : ℕ) → h < line.now.plan.hosts → IsRefusedBy line.now.plan (seen_by self.new.seat) server self.new.served.items h) }
+    {
+        let mut refused = true;
+        for host in 0..line.plan.hosts {
+            refused &= self.hand(rt, line, host, server)?;
+        }
+        Ok(refused)
+    }
+
+    /// Publishes the leader, if one serves, and tells it. Where memory runs out (`NoMemory`, 1) it is not known.
+    pub(crate) fn publish<R: Wait, G>(
+        &mut self,
+        rt: &R,
+        line: &Line<D, G>,
+    ) -> Result<Option<(Term, Server)>, NoMemory>
+        requires { IsCrew line.now.group line.now.cell line.now.plan line.now.rings.items self.old }
+        ensures looked { HasLooked line.now.group line.now.cell line.now.plan line.now.rings.items self.old self.new }
+        ensures leader { IfOk result (λ leader. IsTrue (root_in line.now.group).told → IsLeader (state_at (root_in line.now.group) (seen_by self.new.seat)) leader) }
+        ensures published { IfOk result (λ leader. IsPublished (root_in line.now.group) (seen_by self.new.seat) self.new.first) }
+    {
+        let leader = self.leader(rt, line)?;
+        if let Some((term, server)) = leader {
+            line.cell.publish(rt, &mut self.first, term, server);
+        }
+        Ok(leader)
+    }
+}

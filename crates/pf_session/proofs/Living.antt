@@ -1,0 +1,100 @@
+-- A line that has come to its end.
+use Rattle.std.proofs.Common.{◌≡◌, ℕ, zero, suc, ◌-◌, ◌≤◌, IsTrue, List, [], drop, length, length-append, append-nil, ◌++◌, inl, inr, arith, refl, sym, ap, ◌∙◌, subst}
+use Rattle.pf_disk.specs.declared.disk.Disk.{Ghosts}
+use Rattle.pf_protocol.specs.Answers.{claims_of}
+use Rattle.pf_protocol.specs.Histories.{History, IsPrefix, Runs}
+use Rattle.pf_protocol.specs.Servers.{Server}
+use Rattle.pf_group.specs.GroupIs.{GroupIs, state_of}
+use Rattle.pf_leadercell.specs.Passes as cells
+use Rattle.pf_leadercell.specs.declared.cell.LeaderCell.{LeaderCell}
+use Rattle.pf_rings.specs.declared.ring.Ring.{Ring}
+use Rattle.pf_rounds.specs.Adding.{Adds}
+use Rattle.pf_rounds.specs.Agreeing.{TellsOfGroup, chunk_of}
+use Rattle.pf_rounds.specs.Begun.{HasBegun}
+use Rattle.pf_rounds.specs.Closed.{IsClosed}
+use Rattle.pf_rounds.specs.Growing.{HasGrown}
+use Rattle.pf_rounds.specs.Halts.{Halt}
+use Rattle.pf_rounds.specs.Rounds.{IsApplied, applied}
+use Rattle.pf_rounds.proofs.Growing.{grown_refl}
+use Rattle.pf_shared.specs.declared.parts.GroupSeat.{GroupSeat}
+use Rattle.pf_shared.specs.declared.parts.SharedGroup.{SharedGroup}
+use Rattle.pf_shared.specs.Moments.{handed_out}
+use Rattle.pf_shared.specs.Seats.{root_in, seen_by, splits_of}
+use Rattle.pf_shared.specs.Since.{whole}
+use Rattle.pf_live.specs.declared.ending.LiveEnd.{LiveEnd}
+use Rattle.pf_live.specs.declared.plan.Plan.{Plan}
+use Rattle.pf_liveline.specs.declared.crew.Crew.{Crew}
+use Rattle.pf_liveline.specs.Crews.{AllEnded, IsCrew}
+use Rattle.pf_liveline.specs.Judging.{IsPublished}
+use Rattle.pf_liveline.specs.Meeting.{AreMet}
+use Rattle.pf_liveline.specs.Rounds.{HasRun}
+use Rattle.pf_session.specs.declared.session.Lived.{Lived}
+use Rattle.pf_session.specs.declared.totals.Totals.{Totals}
+use Rattle.pf_session.specs.Sessions.{HasApplied, HasList, HasLived, HasStopped, IsRunOut}
+use Rattle.pf_session.specs.Totals.{AreTotals, applied_on_each}
+
+module _ {D : Type 0} {disk : Ghosts D} (plan : Plan) where
+  none_ended : (seat : GroupSeat D disk) → splits_of seat ≡ 0 → AllEnded plan seat
+  none_ended seat none zero low role = absurd cc
+  none_ended seat none (suc n) low role = absurd (omega (arith, low, none))
+
+  module _ (group : SharedGroup D disk) (cell : LeaderCell) (rings : List Ring) (b : Crew D disk) (is : IsCrew group cell plan rings b) where
+    -- the group as it is closed
+    pub listed : (new : GroupIs) → new.history ≡ whole (root_in group) (seen_by b.seat) → HasGrown (root_in group) new → new.taken ≡ handed_out (root_in group).taken (seen_by b.seat) → claims_of [] new.history ≡ [] → HasList plan (root_in group) (seen_by b.seat) new
+    listed new history grown taken none = record { history = history; grown = grown; taken = taken; none = none; live = is.seat.live }
+
+    -- the list, once the runs are over
+    pub run_out : (a : Crew D disk) (end : LiveEnd) → splits_of a.seat ≡ 0 → HasRun group cell plan rings a b end → IsRunOut plan (seen_by b.seat)
+    run_out a end none run = record {
+      seats = splits_of b.seat;
+      runs = (run.more, let s = run.ran.seats in omega (arith, s, none));
+      strangers = is.seat.strangers;
+      ended = run.ran.ended (none_ended a.seat none);
+    }
+
+    pub lived : (a : Crew D disk) (then new : GroupIs) (it : Lived) → splits_of a.seat ≡ 0 → HasRun group cell plan rings a b it.end → HasList plan (root_in group) (seen_by b.seat) then → AreMet plan it.passes.rings.items plan.hosts 0 it.passes.hosts.items it.passes.served.items
+        → cells.IsPassOf it.passes.cell it.passes.first × cells.IsFirst it.passes.first → it.passes.first ≡ b.first → HasApplied then new → AreTotals (root_in group) new it.totals → HasLived plan (root_in group) it new
+    lived a then new it none run list met first same done totals = record {
+      list = seen_by b.seat;
+      then = then;
+      listed = list;
+      out = run_out a it.end none run;
+      end = run.end;
+      kept = record { met = met; first = first; published = subst (IsPublished (root_in group) (seen_by b.seat)) (sym same) run.published };
+      applied_then = done;
+      totals = totals;
+    }
+
+    -- there was no memory to go on
+    pub stopped_there : (then : GroupIs) → HasList plan (root_in group) (seen_by b.seat) then → HasStopped plan (root_in group) then
+    stopped_there then list = record { list = seen_by b.seat; then = then; listed = list; grown = grown_refl then; part = inl refl }
+
+    pub stopped_begun : (then new : GroupIs) → HasList plan (root_in group) (seen_by b.seat) then → HasGrown then new → ((halts : List Halt) → TellsOfGroup halts new → HasBegun halts then (applied halts (chunk_of halts then)) new) → HasStopped plan (root_in group) new
+    stopped_begun then new list grown begun = record { list = seen_by b.seat; then = then; listed = list; grown = grown; part = inr begun }
+
+-- nor to begin
+pub stopped_none : (plan : Plan) (g : GroupIs) → claims_of [] g.history ≡ [] → HasStopped plan g g
+stopped_none plan g none = record {
+  list = [];
+  then = g;
+  listed = record { history = sym (append-nil g.history); grown = grown_refl g; taken = refl; none = none; live = tt };
+  grown = grown_refl g;
+  part = inl refl;
+}
+
+-- what is free was applied, and nothing else happened
+pub has_applied : (old new : GroupIs) (count : ℕ) → HasGrown old new → new.taken ≡ old.taken → claims_of [] new.history ≡ [] → ((halts : List Halt) → TellsOfGroup halts new → applied halts (chunk_of halts old) ≡ chunk_of halts new) → (IsTrue new.told → IsApplied new.setup (state_of new)) → Adds old new count count
+    → (IsTrue new.told → (i : ℕ) (s : Server) → Runs (state_of new) i s → IsClosed s) → HasApplied old new
+has_applied old new count grown taken none run all adds closed = record { grown = grown; taken = taken; none = none; run = run; applied_all = all; count = count; adds = adds; closed = closed }
+
+-- a history that went on is no shorter
+pub longer : (xs ys : History) → IsPrefix xs ys → length xs ≤ length ys
+longer xs ys p = let l : length (xs ++ p.rest) ≡ length ys = ap length p.whole in omega (arith, l, length-append xs p.rest)
+
+-- the totals, by what the counts were
+pub are_totals : (old new : GroupIs) (totals : Totals) (acked happened : ℕ) → HasGrown old new → happened ≡ length old.history → (IsTrue old.told → acked ≡ length (state_of old).acked) → (IsTrue new.told → totals.acked ≡ length (state_of new).acked - acked)
+    → totals.applied ≡ applied_on_each (drop happened new.history) → AreTotals old new totals
+are_totals old new totals acked happened grown at was now applied = record {
+  acked = λ told. now (subst IsTrue (sym grown.told) told) ∙ ap (λ n. length (state_of new).acked - n) (was told);
+  applied = applied ∙ ap (λ n. applied_on_each (drop n new.history)) at;
+}

@@ -1,0 +1,11 @@
+//! A live line over one group, from its beginning to its end.
+#![tactic(auto)]
+
+mod lent;
+mod session;
+#[cfg(test)]
+mod tests;
+mod totals;
+
+pub use session::{Lived, live};
+pub use totals::Totals;

@@ -1,0 +1,66 @@
+-- What the threads of one live line did to a group.
+use Rattle.std.specs.Prelude.{◌≡◌, ℕ, ◌-◌, List, [], ◌∷◌, ◌++◌, drop, length}
+use Rattle.pf_protocol.specs.declared.events.Event.{Event}
+use Rattle.pf_group.specs.GroupIs.{GroupIs}
+use Rattle.pf_report.specs.Live.{live_text}
+use Rattle.pf_report.specs.declared.live.LiveEnd as reports
+use Rattle.pf_report.specs.declared.live.LiveEnd.TheVariants as told
+use Rattle.pf_rounds.specs.Halts.{Halt}
+use Rattle.pf_rounds.specs.Chunks.{Chunk}
+use Rattle.pf_rounds.specs.Agreeing.{chunk_of}
+use Rattle.pf_shared.specs.Moments.{happenings}
+use Rattle.pf_live.specs.declared.ending.LiveEnd.{LiveEnd}
+use Rattle.pf_live.specs.declared.ending.LiveEnd.TheVariants.{Done, Stalled, TurnsSpent}
+use Rattle.pf_live.specs.declared.plan.Plan.{Plan}
+use Rattle.pf_live.specs.Deliveries.{Line}
+use Rattle.pf_live.specs.Ends.{HasEnd}
+use Rattle.pf_live.specs.Lines.{IsLive}
+use Rattle.pf_session.specs.Totals.{applied_on_each}
+use Rattle.pf_chunk.specs.Lending.{after_all}
+
+-- the events that its seats made, in their order, and how it ended
+pub record Session : Type 0 where
+  pub events : List Event
+  pub ended : LiveEnd
+
+-- of a list that has run out
+abbrev pub no_session : Session
+no_session = record { events = []; ended = Done }
+
+-- the next one of a list
+abbrev pub next_session : List Session → Session
+next_session [] = no_session
+next_session (session ∷ sessions) = session
+
+-- the word of an end in a report
+abbrev pub told_end : LiveEnd → reports.LiveEnd
+told_end Done = told.Done
+told_end Stalled = told.Stalled
+told_end TurnsSpent = told.TurnsSpent
+
+-- A line that had this end is told by the slots that were acknowledged from the one state to the other, and by the jobs that were finished on
+-- servers 0, 1 and 2
+abbrev pub session_text : (old new : Chunk) → LiveEnd → List ℕ
+session_text old new end = live_text (length new.state.acked - length old.state.acked) (applied_on_each (drop (length old.history) new.history)) (told_end end)
+
+-- the plan has these numbers, over a chunk of so many sectors
+pub record IsPlan (hosts writes workers turns sectors : ℕ) (plan : Plan) : Type 0 where
+  pub hosts_are : plan.hosts ≡ hosts
+  pub writes_are : plan.writes ≡ writes
+  pub workers_are : plan.workers ≡ workers
+  pub turns_are : plan.turns ≡ turns
+  pub sectors_are : plan.sectors ≡ sectors
+
+-- Under a list of halts these events, over a group that stands where the chunk does, are those of a list of entries each of which is a step
+-- or a look by one of the line's seats; they are answered as the entries tell.
+pub record IsPartOfSession (halts : List Halt) (plan : Plan) (c : Chunk) (events : List Event) : Type 0 where
+  pub root : GroupIs
+  pub stands : chunk_of halts root ≡ c
+  pub list : Line
+  pub live : IsLive plan root list
+  pub happened : (after_all halts c events).history ≡ c.history ++ happenings list
+
+-- all of a line did so, and it has the end that this list and the state after it give
+pub record IsSession (halts : List Halt) (plan : Plan) (c : Chunk) (session : Session) : Type 0 where
+  pub part : IsPartOfSession halts plan c session.events
+  pub ends : HasEnd plan part.root part.list session.ended

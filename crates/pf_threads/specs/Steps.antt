@@ -1,0 +1,38 @@
+-- What a live line over a chunk comes to.
+use Rattle.std.specs.Prelude.{◌≡◌, ℕ, ◌<◌, List, Some, length, slice_get, slice_set}
+use Rattle.pf_protocol.specs.declared.answers.Answer.TheVariants.{Done}
+use Rattle.pf_protocol.specs.declared.events.Event.{Event}
+use Rattle.pf_rounds.specs.Halts.{Halt}
+use Rattle.pf_rounds.specs.Agreeing.{TellsOfGroup, chunk_of}
+use Rattle.pf_live.specs.declared.plan.Plan.{Plan}
+use Rattle.pf_session.specs.declared.session.Lived.{Lived}
+use Rattle.pf_session.specs.Totals.{AreTotals}
+use Rattle.pf_chunk.specs.Lending.{all_happened}
+use Rattle.pf_chunk.specs.Steps.{HasFailed, HasHappened}
+use Rattle.pf_chunk.specs.Views.{ChunkIs, run_of}
+use Rattle.pf_threads.specs.Sessions.{IsSession, IsPartOfSession, Session}
+
+-- The threads did this to the group, and then it was followed up: under every list of halts that tells of it, the run comes to the chunk that
+-- there is now, what they did is a line's, and the end and the totals that are told are those of that
+pub record HasHeld (plan : Plan) (old : ChunkIs) (before : List ℕ) (told : Lived) (after : List ℕ) (new : ChunkIs) : Type 0 where
+  pub session : Session
+  pub went : HasHappened (λ halts c. all_happened halts session.events c) old before Done after new
+  pub next : new.next ≡ old.next
+  pub is_session : (halts : List Halt) → TellsOfGroup halts new.group → IsSession halts plan (chunk_of halts old.group) session
+  pub ended : told.end ≡ session.ended
+  pub totals : AreTotals old.group new.group told.totals
+
+-- There was no memory for the whole of it: the threads did some of a line, and the group stands at a beginning of what comes of that when it is
+-- followed up
+pub record HasNotLived (plan : Plan) (old new : ChunkIs) : Type 0 where
+  pub events : List Event
+  pub failed : HasFailed (λ halts. (all_happened halts events (run_of halts old)).chunk.group) old.group new.group
+  pub is_part : (halts : List Halt) → TellsOfGroup halts new.group → IsPartOfSession halts plan (chunk_of halts old.group) events
+
+-- this became of one of some chunks, and the others are as they were
+pub record IsAt (at : ℕ) (old new : List ChunkIs) (Became : ChunkIs → ChunkIs → Type 0) : Type 0 where
+  pub was : ChunkIs
+  pub is : ChunkIs
+  pub there : slice_get old at ≡ Some was
+  pub put : new ≡ slice_set old at is
+  pub became : Became was is
