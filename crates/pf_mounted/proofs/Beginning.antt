@@ -17,6 +17,7 @@ use Rattle.pf_hosts.specs.Hosts.{Drove, HostIs, Stepped, begun, call_of, comes_o
 use Rattle.pf_hosts.proofs.Machine.{starting_keeps}
 use Rattle.pf_world.specs.Reports.{world_run}
 use Rattle.pf_world.specs.Worlds.{made}
+use Rattle.pf_threads.specs.Sessions.{Session}
 use Rattle.pf_world.specs.declared.line.Line.{Line}
 use Rattle.pf_fleet.specs.Volumes.{VolumeRun}
 use Rattle.pf_mounted.specs.Mounts.{last_ask, life_of}
@@ -125,6 +126,7 @@ module _ (halts : List Halt) where
       let hosts = all_told halts in record {
         writing = λ v told text is. record { hosts = hosts.writing v told text is.hosts; each = one_more (IsNew v.extent) told (Writes text) is.each tt };
         happening = λ v told k c event at is. record { hosts = hosts.happening v told k c event at is.hosts; each = is.each };
+        threading = λ v told k c its at is. record { hosts = hosts.threading v told k c its at is.hosts; each = is.each };
         reading = λ v told k c server range at is. record { hosts = hosts.reading v told k c server range at is.hosts; each = is.each };
         stepping = λ v told m host at is. record {
           hosts = hosts.stepping v told m host at is.hosts;
@@ -144,16 +146,16 @@ module _ (halts : List Halt) where
       }
 
   -- a turn in which nothing was heard is new
-  turn_new : (lines : List Line) → IsScript lines → (before after : List Moment) (m : ℕ) (next : Option Ask) → (world_run halts lines).told ≡ before ++ Turns m None next ∷ after
-      → IsNew (world_run halts lines).world.volume.extent before (Turns m None next)
-  turn_new lines script before after m next same =
-      let run = world_run halts lines in
-      let new = λ (chunks sectors names format : ℕ). let is : IsTurned (made halts chunks sectors names format).volume [] = record { hosts = new_told halts chunks sectors names format; each = none_told (IsNew (record { chunks = chunks; sectors = sectors })) } in is in
-      each_at (IsNew run.world.volume.extent) run.told before (Turns m None next) after (running halts IsTurned kept new lines script).each same
+  turn_new : (sessions : List Session) (lines : List Line) → IsScript lines → (before after : List Moment) (m : ℕ) (next : Option Ask) → (world_run halts sessions lines).told ≡ before ++ Turns m None next ∷ after
+      → IsNew (world_run halts sessions lines).world.volume.extent before (Turns m None next)
+  turn_new sessions lines script before after m next same =
+      let run = world_run halts sessions lines in
+      let new = λ (sessions : List Session) (chunks sectors names format : ℕ). let is : IsTurned (made halts sessions chunks sectors names format).volume [] = record { hosts = new_told halts sessions chunks sectors names format; each = none_told (IsNew (record { chunks = chunks; sectors = sectors })) } in is in
+      each_at (IsNew run.world.volume.extent) run.told before (Turns m None next) after (running halts IsTurned kept new sessions lines script).each same
 
-  pub turns_new : (lines : List Line) → IsScript lines → (before after : List Moment) (m : ℕ) (next : Option Ask) → (world_run halts lines).told ≡ before ++ Turns m None next ∷ after → IsNewAt (world_run halts lines).world.volume.extent before m
-  turns_new lines script before after m next same = (turn_new lines script before after m next same).0
+  pub turns_new : (sessions : List Session) (lines : List Line) → IsScript lines → (before after : List Moment) (m : ℕ) (next : Option Ask) → (world_run halts sessions lines).told ≡ before ++ Turns m None next ∷ after → IsNewAt (world_run halts sessions lines).world.volume.extent before m
+  turns_new sessions lines script before after m next same = (turn_new sessions lines script before after m next same).0
 
   -- and its mount asked nothing before
-  pub turns_free : (lines : List Line) → IsScript lines → (before after : List Moment) (m : ℕ) (next : Option Ask) → (world_run halts lines).told ≡ before ++ Turns m None next ∷ after → last_ask before m ≡ None
-  turns_free lines script before after m next same = (turn_new lines script before after m next same).1
+  pub turns_free : (sessions : List Session) (lines : List Line) → IsScript lines → (before after : List Moment) (m : ℕ) (next : Option Ask) → (world_run halts sessions lines).told ≡ before ++ Turns m None next ∷ after → last_ask before m ≡ None
+  turns_free sessions lines script before after m next same = (turn_new sessions lines script before after m next same).1

@@ -13,6 +13,7 @@ use Rattle.pf_hosts.specs.Moments.{Moment, Begins, Ends}
 use Rattle.pf_rounds.specs.Halts.{Halt}
 use Rattle.pf_world.specs.Headline.{IsLawfulRun}
 use Rattle.pf_world.specs.Reports.{world_run}
+use Rattle.pf_threads.specs.Sessions.{Session}
 use Rattle.pf_world.specs.declared.line.Line.{Line}
 use Rattle.pf_mounted.specs.Hosted.{groups_of}
 use Rattle.pf_mounted.specs.Journals.{deeds, doings}
@@ -29,48 +30,48 @@ use Rattle.pf_mounted.proofs.Sizing.{has_room}
 use Rattle.pf_mounted.proofs.Standing.{each_done, hosts_are_told}
 use Rattle.pf_mounted.proofs.Together.{held}
 
-module _ (halts : List Halt) (lines : List Line) (script : IsScript lines) (lawful : IsLawfulRun (world_run halts lines).world) (volume : IsVolume (world_run halts lines).world.volume.extent)
-    (some : 0 < length (world_run halts lines).world.volume.hosts) where
-  all_registers : AreAllRegisters (doings (world_run halts lines).world.volume.extent (answers halts lines script lawful) (world_run halts lines).told)
+module _ (halts : List Halt) (sessions : List Session) (lines : List Line) (script : IsScript lines) (lawful : IsLawfulRun (world_run halts sessions lines).world) (volume : IsVolume (world_run halts sessions lines).world.volume.extent)
+    (some : 0 < length (world_run halts sessions lines).world.volume.hosts) where
+  all_registers : AreAllRegisters (doings (world_run halts sessions lines).world.volume.extent (answers halts sessions lines script lawful) (world_run halts sessions lines).told)
   all_registers =
-      let run = world_run halts lines in
+      let run = world_run halts sessions lines in
       let v = run.world.volume.extent in
       let chunks = run.world.volume.chunks in
-      let its = answers halts lines script lawful in
-      let room = has_room halts lines script in
+      let its = answers halts sessions lines script lawful in
+      let room = has_room halts sessions lines script in
       journal (groups_of v its chunks run.told) block_in v.sectors 256 (deeds v its run.told) (doings v its run.told)
-      (held v chunks its run.told (known halts lines script lawful) volume (room.room some) room.chunks (mounts_alone halts lines script (room.mounted some)) (calls_of_words halts lines script) (asks_told halts lines script lawful))
+      (held v chunks its run.told (known halts sessions lines script lawful) volume (room.room some) room.chunks (mounts_alone halts sessions lines script (room.mounted some)) (calls_of_words halts sessions lines script) (asks_told halts sessions lines script lawful))
 
-  pub planned_late : (before mid after : List Moment) (m : ℕ) (call : FileCall) → (world_run halts lines).told ≡ before ++ Begins m call ∷ (mid ++ after)
-      → (mount : MountIs) → mount_after (world_run halts lines).world.volume.extent (before ++ Begins m call ∷ mid) m ≡ Some mount → IsPlanned mount.work
-      → (n : ℕ) (its : MountIs) → mount_after (world_run halts lines).world.volume.extent before n ≡ Some its → its.upto ≤ mount.upto
+  pub planned_late : (before mid after : List Moment) (m : ℕ) (call : FileCall) → (world_run halts sessions lines).told ≡ before ++ Begins m call ∷ (mid ++ after)
+      → (mount : MountIs) → mount_after (world_run halts sessions lines).world.volume.extent (before ++ Begins m call ∷ mid) m ≡ Some mount → IsPlanned mount.work
+      → (n : ℕ) (its : MountIs) → mount_after (world_run halts sessions lines).world.volume.extent before n ≡ Some its → its.upto ≤ mount.upto
   planned_late =
-      let run = world_run halts lines in
-      planned_late_of_all run.world.volume.extent (answers halts lines script lawful) run.told volume (known halts lines script lawful).turns (can_be halts lines script lawful volume some) all_registers
+      let run = world_run halts sessions lines in
+      planned_late_of_all run.world.volume.extent (answers halts sessions lines script lawful) run.told volume (known halts sessions lines script lawful).turns (can_be halts sessions lines script lawful volume some) all_registers
 
 -- of a list of the run
-module _ (halts : List Halt) (lines : List Line) (script : IsScript lines) (lawful : IsLawfulRun (world_run halts lines).world) (volume : IsVolume (world_run halts lines).world.volume.extent)
-    (few : length lines < 2 ^ 32) (some : 0 < length (world_run halts lines).world.volume.hosts)
-    (list : List (List ℕ)) (is : IsListOf (world_run halts lines).world.volume.extent (world_run halts lines).world.volume.chunks (world_run halts lines).told list) where
-  registers : AreAllRegisters (doings (world_run halts lines).world.volume.extent is.answer_at (world_run halts lines).told)
+module _ (halts : List Halt) (sessions : List Session) (lines : List Line) (script : IsScript lines) (lawful : IsLawfulRun (world_run halts sessions lines).world) (volume : IsVolume (world_run halts sessions lines).world.volume.extent)
+    (few : length lines < 2 ^ 32) (some : 0 < length (world_run halts sessions lines).world.volume.hosts)
+    (list : List (List ℕ)) (is : IsListOf (world_run halts sessions lines).world.volume.extent (world_run halts sessions lines).world.volume.chunks (world_run halts sessions lines).told list) where
+  registers : AreAllRegisters (doings (world_run halts sessions lines).world.volume.extent is.answer_at (world_run halts sessions lines).told)
   registers =
-      let run = world_run halts lines in
+      let run = world_run halts sessions lines in
       let v = run.world.volume.extent in
       journal (groups_of v is.answer_at run.world.volume.chunks run.told) block_in v.sectors 256 (deeds v is.answer_at run.told) (doings v is.answer_at run.told) is.hosted
 
-  numbers : (m : ℕ) (mount : MountIs) → mount_after (world_run halts lines).world.volume.extent (world_run halts lines).told m ≡ Some mount → mount.files.calls < 2 ^ 32
-  numbers m mount made = let most = calls_of_lines halts lines m mount made in omega (arith, most, few)
+  numbers : (m : ℕ) (mount : MountIs) → mount_after (world_run halts sessions lines).world.volume.extent (world_run halts sessions lines).told m ≡ Some mount → mount.files.calls < 2 ^ 32
+  numbers m mount made = let most = calls_of_lines halts sessions lines m mount made in omega (arith, most, few)
 
-  ends : AreEndsTold (world_run halts lines).world.volume.extent (world_run halts lines).told
-  ends m before after answer same = let run = world_run halts lines in each_done run.world.volume run.told (hosts_are_told halts lines script) m before (Ends m answer) after same refl
+  ends : AreEndsTold (world_run halts sessions lines).world.volume.extent (world_run halts sessions lines).told
+  ends m before after answer same = let run = world_run halts sessions lines in each_done run.world.volume run.told (hosts_are_told halts sessions lines script) m before (Ends m answer) after same refl
 
-  pub ended_below : (before after : List Moment) (n : ℕ) (answer : CallAnswer) → (world_run halts lines).told ≡ before ++ Ends n answer ∷ after
-      → (its : MountIs) → mount_after (world_run halts lines).world.volume.extent before n ≡ Some its
+  pub ended_below : (before after : List Moment) (n : ℕ) (answer : CallAnswer) → (world_run halts sessions lines).told ≡ before ++ Ends n answer ∷ after
+      → (its : MountIs) → mount_after (world_run halts sessions lines).world.volume.extent before n ≡ Some its
       → (position : ℕ) (value : List ℕ) (txn : Txn) → slice_get list position ≡ Some value → txn_in value ≡ Some txn → txn.mount ≡ n → txn.number ≤ its.files.calls → position < its.upto
-  ended_below = let run = world_run halts lines in below_ended run.world.volume.extent is.answer_at run.told volume is.mounts (can_be halts lines script lawful volume some) registers numbers list is.is ends
+  ended_below = let run = world_run halts sessions lines in below_ended run.world.volume.extent is.answer_at run.told volume is.mounts (can_be halts sessions lines script lawful volume some) registers numbers list is.is ends
 
-  pub planned_behind : (first rest mid after : List Moment) (n m : ℕ) (answer : CallAnswer) (call : FileCall) → (world_run halts lines).told ≡ (first ++ Ends n answer ∷ rest) ++ Begins m call ∷ (mid ++ after)
-      → (its : MountIs) → mount_after (world_run halts lines).world.volume.extent first n ≡ Some its
-      → (mount : MountIs) → mount_after (world_run halts lines).world.volume.extent ((first ++ Ends n answer ∷ rest) ++ Begins m call ∷ mid) m ≡ Some mount → IsPlanned mount.work
+  pub planned_behind : (first rest mid after : List Moment) (n m : ℕ) (answer : CallAnswer) (call : FileCall) → (world_run halts sessions lines).told ≡ (first ++ Ends n answer ∷ rest) ++ Begins m call ∷ (mid ++ after)
+      → (its : MountIs) → mount_after (world_run halts sessions lines).world.volume.extent first n ≡ Some its
+      → (mount : MountIs) → mount_after (world_run halts sessions lines).world.volume.extent ((first ++ Ends n answer ∷ rest) ++ Begins m call ∷ mid) m ≡ Some mount → IsPlanned mount.work
       → (position : ℕ) (value : List ℕ) (txn : Txn) → slice_get list position ≡ Some value → txn_in value ≡ Some txn → txn.mount ≡ n → txn.number ≤ its.files.calls → position < mount.upto
-  planned_behind = let run = world_run halts lines in below_planned run.world.volume.extent is.answer_at run.told volume is.mounts (can_be halts lines script lawful volume some) registers numbers list is.is ends
+  planned_behind = let run = world_run halts sessions lines in below_planned run.world.volume.extent is.answer_at run.told volume is.mounts (can_be halts sessions lines script lawful volume some) registers numbers list is.is ends

@@ -1,5 +1,5 @@
 -- Each line of a script begins one call at most, so no mount has started more calls than there are lines.
-use Rattle.std.proofs.Common.{◌≡◌, ℕ, zero, suc, ◌+◌, ◌≤◌, ◌==◌, Bool, true, false, nat_le, nat_lt, if◌then◌else◌, List, [], ◌∷◌, ◌++◌, length, Option, Some, None, slice_get, arith, refl, sym, ap}
+use Rattle.std.proofs.Common.{◌≡◌, ℕ, zero, suc, ◌+◌, ◌≤◌, ◌==◌, Bool, true, false, nat_le, nat_lt, if◌then◌else◌, List, [], ◌∷◌, ◌++◌, drop, length, Option, Some, None, slice_get, arith, refl, sym, ap}
 use Rattle.std.specs.List.{fold, range_with_len}
 use Rattle.std.specs.Option.{option_map}
 use Rattle.std.proofs.lemmas.Option.{none-some, same_Some}
@@ -22,6 +22,7 @@ use Rattle.pf_rounds.specs.Chunks.{Chunk}
 use Rattle.pf_rounds.specs.Halts.{Halt}
 use Rattle.pf_chunk.specs.Asking.{fetches, is_range, submits}
 use Rattle.pf_chunk.specs.Happenings.{Happened}
+use Rattle.pf_chunk.specs.Lending.{all_happened}
 use Rattle.pf_chunk.specs.Runs.{ChunkRun}
 use Rattle.pf_hosts.specs.Moments.{Begins, Ends, Hands, Heard, Moment, Turns, Writes}
 use Rattle.pf_hosts.specs.Hosts.{Drove, HostIs, Stepped, call_of, comes_of, drove, events_of, hands_at, hands_on, next_of, number_of, replied, stepped, stepped_at}
@@ -32,10 +33,11 @@ use Rattle.pf_fleet.specs.Volumes.{VolumeRun, begins, happens, host_at, host_ste
 use Rattle.pf_fleet.specs.Volumes as volumes
 use Rattle.pf_world.specs.declared.kind.Kind.{Kind}
 use Rattle.pf_world.specs.declared.kind.Kind.TheVariants.{Mounted, Raw}
+use Rattle.pf_threads.specs.Sessions.{Session, next_session}
 use Rattle.pf_world.specs.declared.line.Line.{Line}
 use Rattle.pf_world.specs.Worlds.{World, at_chunk, refused_text, told_of}
 use Rattle.pf_world.specs.Worlds as worlds
-use Rattle.pf_world.specs.Lines.{asked, begins_if, decided, joins, kill_of, line_told, mounts_as, no_event_of, rests, show_of, shown_of, submits_as, with_kind}
+use Rattle.pf_world.specs.Lines.{asked, begins_if, decided, held_told, joins, kill_of, line_told, live_as, mounts_as, no_event_of, rests, show_of, shown_of, submits_as, with_kind}
 use Rattle.pf_world.specs.Lines as lines_specs
 use Rattle.pf_world.specs.Reports.{run_from, world_run}
 use Rattle.pf_mounted.specs.Mounts.{Life, calling, life_of, lived, mount_after, mount_in, turned}
@@ -230,6 +232,14 @@ module _ (halts : List Halt) where
     submit_none Mounted chunk server first byte count = (tt, tt)
     submit_none Raw chunk server first byte count = asked_none chunk server first count (submits halts server first byte count)
 
+    held_none : (rest : List Session) (session : Session) (o : Option ChunkRun) → AreNone (held_told halts (record w { sessions = rest }) number session o).told
+    held_none rest session None = tt
+    held_none rest session (Some c) = let now = all_happened halts session.events c in ended_none (happens halts w.volume now) _ (happens_none w.volume now)
+
+    live_none : (kind : Kind) (chunk : ℕ) → AreNone (live_as kind halts w number chunk).told
+    live_none Mounted chunk = (tt, tt)
+    live_none Raw chunk = held_none (drop 1 w.sessions) (next_session w.sessions) (slice_get w.volume.chunks chunk)
+
     shown_none : (o : Option ChunkRun) (text : Chunk → List ℕ) → AreNone (shown_of w number o text).told
     shown_none None text = tt
     shown_none (Some c) text = (tt, tt)
@@ -283,6 +293,7 @@ module _ (halts : List Halt) where
   line_one w number (commands.Fetch g i s n) = few _ (asked_none w number g i s n (fetches halts i s n))
   line_one w number (commands.Mark g i) = few _ (chunk_none w number g _)
   line_one w number (commands.Settle limit) = few _ (both (settled halts limit w.volume).told _ (settled_none limit w.volume) (tt, tt))
+  line_one w number (commands.Live g hosts writes workers turns) = let kind : Kind = decided w.kind Raw in few _ (live_none (with_kind w kind) number kind g)
   line_one w number commands.Mount = let kind : Kind = decided w.kind Mounted in few _ (mount_none (with_kind w kind) number kind)
   line_one w number (commands.Kill m) = few _ (kill_none w number m (host_at w.volume.hosts m))
   line_one w number (commands.Call m words) = call_one w number m words (host_at w.volume.hosts m)
@@ -302,9 +313,9 @@ module _ (halts : List Halt) where
       let all = begun_on t.told (run_from halts t.world lines).told in
       omega (arith, here, later, all)
 
-  pub calls_of_lines : (lines : List Line) (m : ℕ) (mount : MountIs) → mount_after (world_run halts lines).world.volume.extent (world_run halts lines).told m ≡ Some mount → mount.files.calls ≤ length lines
-  calls_of_lines lines m mount made =
-      let run = world_run halts lines in
+  pub calls_of_lines : (sessions : List Session) (lines : List Line) (m : ℕ) (mount : MountIs) → mount_after (world_run halts sessions lines).world.volume.extent (world_run halts sessions lines).told m ≡ Some mount → mount.files.calls ≤ length lines
+  calls_of_lines sessions lines m mount made =
+      let run = world_run halts sessions lines in
       let of_mount = mount_calls run.world.volume.extent m run.told mount made in
-      let of_lines = lines_begin worlds.no_world lines in
+      let of_lines = lines_begin (worlds.no_world sessions) lines in
       omega (arith, of_mount, of_lines)

@@ -2,6 +2,7 @@
 use Rattle.std.proofs.Common.{◌≡◌, ℕ, List, [], ◌∷◌, ◌++◌, refl, sym, ap, subst, ◌∙◌}
 use Rattle.pf_base.specs.Span.{Span}
 use Rattle.pf_protocol.specs.declared.answers.Answer.{Answer}
+use Rattle.pf_protocol.specs.declared.answers.Answer.TheVariants.{Done}
 use Rattle.pf_protocol.specs.declared.events.Event.{Event}
 use Rattle.pf_protocol.specs.declared.events.Event.TheVariants as events
 use Rattle.pf_protocol.specs.Groups.{ending, happens}
@@ -12,6 +13,7 @@ use Rattle.pf_rounds.specs.Chunks.{Chunk, after, answered, listed}
 use Rattle.pf_rounds.specs.Rounds.{applied}
 use Rattle.pf_chunk.specs.Asking.{fetched}
 use Rattle.pf_chunk.specs.Happenings.{followed, happened}
+use Rattle.pf_chunk.specs.Lending.{after_all, all_happened}
 use Rattle.pf_chunk.specs.Runs.{ChunkRun}
 use Rattle.pf_chunk.proofs.Begun.{filled_group}
 use Rattle.pf_mounted.proofs.Applying.{all_applied}
@@ -71,3 +73,16 @@ module _ (halts : List Halt) where
   fetched_grows c server range =
       let event : Event = events.Fetch server range in
       grows_on c.group (after halts c.group event) (fetched halts server range c).chunk.group (after_grows c.group event) (followed_grows _ (answered halts c.group event))
+
+  all_after_grow : (its : List Event) (c : Chunk) → Grows c (after_all halts c its)
+  all_after_grow [] c = grows_refl c
+  all_after_grow (event ∷ its) c = let next = after halts c event in grows_on c next (after_all halts next its) (after_grows c event) (all_after_grow its next)
+
+  -- a session of threads
+  pub all_grow : (c : ChunkRun) (its : List Event) → Grows c.group (all_happened halts its c).chunk.group
+  all_grow c its =
+      let next = after_all halts c.group its in
+      grows_on c.group next (all_happened halts its c).chunk.group (all_after_grow its c.group) (followed_grows (record c { group = next }) Done)
+
+  pub all_ports : (c : ChunkRun) (its : List Event) → (all_happened halts its c).chunk.ports ≡ c.ports
+  all_ports c its = followed_ports (record c { group = after_all halts c.group its }) Done

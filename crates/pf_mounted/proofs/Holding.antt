@@ -19,6 +19,7 @@ use Rattle.pf_rounds.specs.Halts.{Halt}
 use Rattle.pf_rounds.specs.Chunks.{made_chunk}
 use Rattle.pf_chunk.specs.Asking.{fetched}
 use Rattle.pf_chunk.specs.Happenings.{happened}
+use Rattle.pf_chunk.specs.Lending.{all_happened}
 use Rattle.pf_chunk.specs.Runs.{ChunkRun, most_ports, new_run}
 use Rattle.pf_hosts.specs.Moments.{Begins, Hands, Heard, Moment, Turns, Writes}
 use Rattle.pf_hosts.specs.Hosts.{HostIs, Stepped, comes_of, number_of, stepped}
@@ -30,6 +31,7 @@ use Rattle.pf_world.specs.Reports.{world_run}
 use Rattle.pf_world.specs.Worlds.{Told, made}
 use Rattle.pf_world.specs.declared.kind.Kind.{Kind}
 use Rattle.pf_world.specs.declared.kind.Kind.TheVariants.{Mounted, Raw}
+use Rattle.pf_threads.specs.Sessions.{Session}
 use Rattle.pf_world.specs.declared.line.Line.{Line}
 use Rattle.pf_mounted.specs.Handing.{AreCallsOfWords, AreHandedOn, AreMountsAlone, reached}
 use Rattle.pf_mounted.specs.Hearing.{IsHeard}
@@ -38,7 +40,7 @@ use Rattle.pf_mounted.specs.Pasts.{past_of}
 use Rattle.pf_mounted.specs.Scripts.{IsScript}
 use Rattle.pf_mounted.proofs.Writers.{adds_none, alone_set, alone_told}
 use Rattle.pf_mounted.proofs.Each.{AreEach, each_at, none_told, one_more}
-use Rattle.pf_mounted.proofs.Growing.{Grows, fetched_grows, happened_grows}
+use Rattle.pf_mounted.proofs.Growing.{all_grow, all_ports, Grows, fetched_grows, happened_grows}
 use Rattle.pf_mounted.proofs.Hearing.{IsSo, all_grown, grow_set, told_low}
 use Rattle.pf_mounted.proofs.Hosting.{AreSo, behind, comes_so, stepped_so}
 use Rattle.pf_mounted.proofs.Hosts.{WorksAt}
@@ -135,6 +137,11 @@ module _ (halts : List Halt) where
               so = event_so (Some Raw) v told k c (happened halts c event).chunk at (happened_ports halts c event) (happened_grows halts c event) (λ own. absurd (own refl)) is.so;
               none = is.none;
             };
+        threading = λ v told k c its at is. record {
+          hosts = hosts.threading v told k c its at is.hosts;
+          so = event_so (Some Raw) v told k c (all_happened halts its c).chunk at (all_ports halts c its) (all_grow halts c its) (λ own. absurd (own refl)) is.so;
+          none = is.none;
+        };
         reading = λ kind v told k c server range at is. record {
           hosts = hosts.reading v told k c server range at is.hosts;
           so = event_so kind v told k c (fetched halts server range c).chunk at (fetched_ports halts server range c) (fetched_grows halts c server range) (λ own. fetched_adds halts c server range) is.so;
@@ -169,40 +176,40 @@ module _ (halts : List Halt) where
     driven = λ m port at. subst (λ (p : PortIs). IsDriven (made_chunk halts sectors names format k).setup (past_of [] m k []) p) (new_port_at most_ports m port at) (BeginsDriven []);
   }
 
-  new : (chunks sectors names format : ℕ) → IsAsRun None (made halts chunks sectors names format).volume []
-  new chunks sectors names format =
-      let is : (k : ℕ) (c : ChunkRun) → slice_get (made halts chunks sectors names format).volume.chunks k ≡ Some c → new_run (made_chunk halts sectors names format k) ≡ c =
+  new : (sessions : List Session) (chunks sectors names format : ℕ) → IsAsRun None (made halts sessions chunks sectors names format).volume []
+  new sessions chunks sectors names format =
+      let is : (k : ℕ) (c : ChunkRun) → slice_get (made halts sessions chunks sectors names format).volume.chunks k ≡ Some c → new_run (made_chunk halts sectors names format k) ≡ c =
       λ k c at. let same : 0 + k ≡ k = omega arith in ap (λ i. new_run (made_chunk halts sectors names format i)) (sym same) ∙ new_chunk (λ i. new_run (made_chunk halts sectors names format i)) chunks 0 k c at in record {
-        hosts = new_told halts chunks sectors names format;
+        hosts = new_told halts sessions chunks sectors names format;
         so = record {
           ports = λ k c at. subst (λ (x : ChunkRun). IsAsTold [] k x) (is k c at) (new_so sectors names format k);
-          each = none_told (IsSo (made halts chunks sectors names format).volume.chunks);
+          each = none_told (IsSo (made halts sessions chunks sectors names format).volume.chunks);
           alone = λ own k place server c range sectors_of answer there at.
               absurd (none-some (record { event = Submit server (Write range sectors_of); answer = answer }) (ap (λ (x : ChunkRun). slice_get x.group.history place) (is k c there) ∙ at));
         };
         none = λ other. (refl, none_told (λ before. IsQuiet));
       }
 
-  as_run : (lines : List Line) → IsScript lines → IsAsRun (world_run halts lines).world.kind (world_run halts lines).world.volume (world_run halts lines).told
-  as_run lines script = running_in halts IsAsRun kept new lines script
+  as_run : (sessions : List Session) (lines : List Line) → IsScript lines → IsAsRun (world_run halts sessions lines).world.kind (world_run halts sessions lines).world.volume (world_run halts sessions lines).told
+  as_run sessions lines script = running_in halts IsAsRun kept new sessions lines script
 
-  module _ (lines : List Line) (script : IsScript lines) where
+  module _ (sessions : List Session) (lines : List Line) (script : IsScript lines) where
     abbrev run : Told
-    run = world_run halts lines
+    run = world_run halts sessions lines
 
     abbrev chunks : List ChunkRun
     chunks = run.world.volume.chunks
 
     -- each moment is so
     pub moments_so : AreEach (IsSo chunks) run.told
-    moments_so = (as_run lines script).so.each
+    moments_so = (as_run sessions lines script).so.each
 
     each_so : (before : List Moment) (y : Moment) (after : List Moment) → run.told ≡ before ++ y ∷ after → IsSo chunks before y
     each_so before y after same = each_at (IsSo chunks) run.told before y after moments_so same
 
     -- each port was driven as was told
     pub ports_driven : (k m : ℕ) (c : ChunkRun) (port : PortIs) → slice_get chunks k ≡ Some c → slice_get c.ports m ≡ Some port → IsDriven c.group.setup (past_of c.group.history m k run.told) port
-    ports_driven k m c port at its = ((as_run lines script).so.ports k c at).driven m port its
+    ports_driven k m c port at its = ((as_run sessions lines script).so.ports k c at).driven m port its
 
     -- whatever a mount heard is its group's answer
     pub replies_heard : (m : ℕ) (before after : List Moment) (heard : Heard) (next : Option Ask) → run.told ≡ before ++ Turns m (Some heard) next ∷ after → IsHeard chunks m before heard
@@ -213,7 +220,7 @@ module _ (halts : List Halt) where
     replies_since m before after heard next ask same pending = (each_so before (Turns m (Some heard) next) after same).1 ask pending
 
     pub ports_full : (k : ℕ) (c : ChunkRun) → slice_get chunks k ≡ Some c → length c.ports ≡ most_ports
-    ports_full k c there = ((as_run lines script).hosts.placed k c there).ports
+    ports_full k c there = ((as_run sessions lines script).hosts.placed k c there).ports
 
     -- what ports handed on is told
     pub handed_on : AreHandedOn chunks run.told
@@ -223,20 +230,20 @@ module _ (halts : List Halt) where
     }
 
     pub reached_within : (k : ℕ) (c : ChunkRun) → slice_get chunks k ≡ Some c → reached k run.told ≤ length c.group.history
-    reached_within k c there = let is = (as_run lines script).so in told_low run.told chunks k c there is.each (is.ports k c there)
+    reached_within k c there = let is = (as_run sessions lines script).so in told_low run.told chunks k c there is.each (is.ports k c there)
 
     raw_apart : Some Mounted ≡ Some Raw → ⊥
     raw_apart same = cc
 
     pub mounts_alone : run.world.kind ≡ Some Mounted → AreMountsAlone chunks run.told
-    mounts_alone mounted = (as_run lines script).so.alone (λ raw. raw_apart (sym mounted ∙ raw))
+    mounts_alone mounted = (as_run sessions lines script).so.alone (λ raw. raw_apart (sym mounted ∙ raw))
 
     -- but in a run with mounts there is none
     pub none_turns : run.world.kind ≢ Some Mounted → (before after : List Moment) (m : ℕ) (heard : Option Heard) (next : Option Ask) → run.told ≡ before ++ Turns m heard next ∷ after → ⊥
-    none_turns other before after m heard next same = each_at (λ before. IsQuiet) run.told before (Turns m heard next) after ((as_run lines script).none other).1 same
+    none_turns other before after m heard next same = each_at (λ before. IsQuiet) run.told before (Turns m heard next) after ((as_run sessions lines script).none other).1 same
 
     pub none_lives : run.world.kind ≢ Some Mounted → (m : ℕ) → life_of run.world.volume.extent run.told m ≡ None
-    none_lives other m = let is = as_run lines script in (is.hosts.past m (omega (arith, ap length (is.none other).0))).0
+    none_lives other m = let is = as_run sessions lines script in (is.hosts.past m (omega (arith, ap length (is.none other).0))).0
 
     pub calls_of_words : AreCallsOfWords run.told
     calls_of_words before after m call same = each_so before (Begins m call) after same

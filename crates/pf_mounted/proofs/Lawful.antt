@@ -6,6 +6,7 @@ use Rattle.pf_hosts.specs.Moments.{Turns}
 use Rattle.pf_rounds.specs.Halts.{Halt}
 use Rattle.pf_world.specs.Headline.{IsLawfulRun}
 use Rattle.pf_world.specs.Reports.{world_run}
+use Rattle.pf_threads.specs.Sessions.{Session}
 use Rattle.pf_world.specs.declared.line.Line.{Line}
 use Rattle.pf_mounted.specs.Fitting.{IsOfRun}
 use Rattle.pf_mounted.specs.Journals.{CanBeDoings}
@@ -17,34 +18,34 @@ use Rattle.pf_mounted.proofs.Sizing.{has_room}
 use Rattle.pf_mounted.proofs.Standing.{each_done, hosts_are_told}
 use Rattle.pf_mounted.proofs.Together.{AsksTold, can_all}
 
-module _ (halts : List Halt) (lines : List Line) (script : IsScript lines) (lawful : IsLawfulRun (world_run halts lines).world) where
+module _ (halts : List Halt) (sessions : List Session) (lines : List Line) (script : IsScript lines) (lawful : IsLawfulRun (world_run halts sessions lines).world) where
   -- the answers whose bytes were heard
   abbrev pub answers : ℕ → Answered
-  answers = (run_of_mounts halts lines script lawful).0
+  answers = (run_of_mounts halts sessions lines script lawful).0
 
-  pub known : let run = world_run halts lines in IsOfRun run.world.volume.extent run.world.volume.chunks answers run.told
+  pub known : let run = world_run halts sessions lines in IsOfRun run.world.volume.extent run.world.volume.chunks answers run.told
   known =
-      let moments = run_of_mounts halts lines script lawful in record {
-        handed = handed_on halts lines script;
-        reach = reached_within halts lines script;
+      let moments = run_of_mounts halts sessions lines script lawful in record {
+        handed = handed_on halts sessions lines script;
+        reach = reached_within halts sessions lines script;
         turns = moments.1;
-        begins = λ m before after next same. turns_free halts lines script before after m next same;
+        begins = λ m before after next same. turns_free halts sessions lines script before after m next same;
         reads = moments.2;
-        heard = λ m before after heard next same. replies_heard halts lines script m before after heard next same;
-        since = λ m before after heard next ask same asked. replies_since halts lines script m before after heard next ask same asked;
+        heard = λ m before after heard next same. replies_heard halts sessions lines script m before after heard next same;
+        since = λ m before after heard next ask same asked. replies_since halts sessions lines script m before after heard next ask same asked;
         legal = λ k c at. (lawful k c at).legal;
-        driven = ports_driven halts lines script;
-        ports = ports_full halts lines script;
+        driven = ports_driven halts sessions lines script;
+        ports = ports_full halts sessions lines script;
       }
 
   -- each turn asks what its mount asks
-  pub asks_told : let run = world_run halts lines in AsksTold run.world.volume.extent run.told
-  asks_told m before after heard next same = let run = world_run halts lines in each_done run.world.volume run.told (hosts_are_told halts lines script) m before (Turns m heard next) after same refl
+  pub asks_told : let run = world_run halts sessions lines in AsksTold run.world.volume.extent run.told
+  asks_told m before after heard next same = let run = world_run halts sessions lines in each_done run.world.volume run.told (hosts_are_told halts sessions lines script) m before (Turns m heard next) after same refl
 
-  module _ (volume : IsVolume (world_run halts lines).world.volume.extent) (some : 0 < length (world_run halts lines).world.volume.hosts) where
+  module _ (volume : IsVolume (world_run halts sessions lines).world.volume.extent) (some : 0 < length (world_run halts sessions lines).world.volume.hosts) where
     -- what mounts ask can stand in a journal
-    pub can_be : CanBeDoings (world_run halts lines).world.volume.extent [] (world_run halts lines).told
+    pub can_be : CanBeDoings (world_run halts sessions lines).world.volume.extent [] (world_run halts sessions lines).told
     can_be =
-        let run = world_run halts lines in
-        let room = has_room halts lines script in
-        can_all run.world.volume.extent run.world.volume.chunks answers run.told known volume (room.room some) room.chunks (mounts_alone halts lines script (room.mounted some)) (calls_of_words halts lines script) asks_told
+        let run = world_run halts sessions lines in
+        let room = has_room halts sessions lines script in
+        can_all run.world.volume.extent run.world.volume.chunks answers run.told known volume (room.room some) room.chunks (mounts_alone halts sessions lines script (room.mounted some)) (calls_of_words halts sessions lines script) asks_told

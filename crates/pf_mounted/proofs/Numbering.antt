@@ -1,5 +1,5 @@
 -- No line begins more than one call, so no mount has more calls than a script has lines.
-use Rattle.std.proofs.Common.{◌≡◌, ℕ, zero, suc, ◌+◌, ◌≤◌, Bool, true, false, ◌==◌, if◌then◌else◌, List, [], ◌∷◌, ◌++◌, length, Option, Some, None, slice_get, arith, refl, ap, ◌∙◌, length-append}
+use Rattle.std.proofs.Common.{◌≡◌, ℕ, zero, suc, ◌+◌, ◌≤◌, Bool, true, false, ◌==◌, if◌then◌else◌, List, [], ◌∷◌, ◌++◌, drop, length, Option, Some, None, slice_get, arith, refl, ap, ◌∙◌, length-append}
 use Rattle.std.specs.Prelude.{nat_le, nat_lt}
 use Rattle.std.specs.List.{cons_option, range_with_len}
 use Rattle.pf_base.specs.declared.asks.Reply.{Reply}
@@ -19,6 +19,7 @@ use Rattle.pf_rounds.specs.Halts.{Halt}
 use Rattle.pf_chunk.specs.Asking.{fetches, is_range, submits}
 use Rattle.pf_chunk.specs.Driving.{driven}
 use Rattle.pf_chunk.specs.Happenings.{Happened}
+use Rattle.pf_chunk.specs.Lending.{all_happened}
 use Rattle.pf_chunk.specs.Runs.{ChunkRun}
 use Rattle.pf_hosts.specs.Hosts.{Drove, HostIs, Stepped, call_of as pending_call, comes_of, drove, drove_of, events_of, hands_at, hands_on, handed, next_of, number_of, replied, stepped, stepped_at}
 use Rattle.pf_hosts.specs.Moments.{Heard, Moment, Begins, Writes}
@@ -27,9 +28,10 @@ use Rattle.pf_fleet.specs.Settling.{Goes, Name, Next, delivered, enough_tries, g
 use Rattle.pf_fleet.specs.Volumes.{Told, VolumeRun, begins, happens, host_at, host_steps, hosts_step, mounts, quietly, step_of, these_step}
 use Rattle.pf_world.specs.declared.kind.Kind.{Kind}
 use Rattle.pf_world.specs.declared.kind.Kind.TheVariants.{Mounted, Raw}
+use Rattle.pf_threads.specs.Sessions.{Session, next_session}
 use Rattle.pf_world.specs.declared.line.Line.{Line}
 use Rattle.pf_world.specs.Worlds.{World, at_chunk, refused_text, no_world, stepped as line_stepped, told_of}
-use Rattle.pf_world.specs.Lines.{asked, begins_if, call_of, decided, joins, kill_of, line_told, mounts_as, no_event_of, rests, show_of, shown_of, submits_as, with_kind}
+use Rattle.pf_world.specs.Lines.{asked, begins_if, call_of, decided, held_told, joins, kill_of, line_told, live_as, mounts_as, no_event_of, rests, show_of, shown_of, submits_as, with_kind}
 use Rattle.pf_world.specs.Reports.{run_from, world_run}
 use Rattle.pf_mounted.specs.Trees.{calls_of}
 use Rattle.pf_mounted.proofs.Naming.{calls_on}
@@ -204,6 +206,14 @@ module _ (m : ℕ) where
       submits_few Mounted chunk server first byte many = omega arith
       submits_few Raw chunk server first byte many = asked_few chunk server first many (submits halts server first byte many)
 
+      held_few : (rest : List Session) (session : Session) (o : Option ChunkRun) → IsFew (held_told halts (record w { sessions = rest }) number session o).told
+      held_few rest session None = omega arith
+      held_few rest session (Some c) = let now = all_happened halts session.events c in still_few (happens halts w.volume now).told _ (happens_still w.volume now)
+
+      live_few : (kind : Kind) (chunk : ℕ) → IsFew (live_as kind halts w number chunk).told
+      live_few Mounted chunk = omega arith
+      live_few Raw chunk = held_few (drop 1 w.sessions) (next_session w.sessions) (slice_get w.volume.chunks chunk)
+
       joined_few : IsFew (joins halts w number).told
       joined_few =
           let new = line_stepped halts w number (mounts w.volume) (mount_text (length w.volume.hosts)) in
@@ -232,6 +242,7 @@ module _ (m : ℕ) where
     line_few w number (commands.Fetch g i s n) = asked_few w number g i s n (fetches halts i s n)
     line_few w number (commands.Mark g i) = at_few w number g _
     line_few w number (commands.Settle limit) = still_few (settled halts limit w.volume).told _ (settled_still limit w.volume)
+    line_few w number (commands.Live g hosts writes workers turns) = live_few (with_kind w (decided w.kind Raw)) number (decided w.kind Raw) g
     line_few w number commands.Mount = mounted_few (with_kind w (decided w.kind Mounted)) number (decided w.kind Mounted)
     line_few w number (commands.Kill k) = killed_few w number k (host_at w.volume.hosts k)
     line_few w number (commands.Call k call) = called_few w number k call (host_at w.volume.hosts k)
@@ -251,5 +262,5 @@ module _ (m : ℕ) where
         let rest = lines_few t.world lines in
         omega (arith, all, first, rest)
 
-    pub run_few : (lines : List Line) → count (world_run halts lines).told ≤ length lines
-    run_few lines = lines_few no_world lines
+    pub run_few : (sessions : List Session) (lines : List Line) → count (world_run halts sessions lines).told ≤ length lines
+    run_few sessions lines = lines_few (no_world sessions) lines

@@ -30,6 +30,7 @@ use Rattle.pf_world.specs.Headline.{IsLawfulRun}
 use Rattle.pf_world.specs.Lines.{rests}
 use Rattle.pf_world.specs.Reports.{world_run}
 use Rattle.pf_world.specs.Worlds.{Told}
+use Rattle.pf_threads.specs.Sessions.{Session}
 use Rattle.pf_world.specs.declared.line.Line.{Line}
 use Rattle.pf_mounted.specs.Hearing.{IsHeard}
 use Rattle.pf_mounted.specs.Hosted.{AreOfReads, IsOfRead}
@@ -141,9 +142,9 @@ module _ (v : Extent) (m : ℕ) where
 
 -- Runs
 
-module _ (halts : List Halt) (lines : List Line) (script : IsScript lines) where
+module _ (halts : List Halt) (sessions : List Session) (lines : List Line) (script : IsScript lines) where
   abbrev run : Told
-  run = world_run halts lines
+  run = world_run halts sessions lines
 
   abbrev e : Extent
   e = run.world.volume.extent
@@ -152,7 +153,7 @@ module _ (halts : List Halt) (lines : List Line) (script : IsScript lines) where
   chunks = run.world.volume.chunks
 
   are : AreTold run.world.volume run.told
-  are = hosts_are_told halts lines script
+  are = hosts_are_told halts sessions lines script
 
   done : (before : List Moment) (y : Moment) (after : List Moment) (m : ℕ) → run.told ≡ before ++ y ∷ after → IsDone m (life_of e before m) (life_of e (before ++ y ∷ []) m) y
   done before y after m same = each_done run.world.volume run.told are m before y after same
@@ -173,7 +174,7 @@ module _ (halts : List Halt) (lines : List Line) (script : IsScript lines) where
     -- nothing was heard
     silent_turn : (was : Option Life) (last : Option Ask) → run.told ≡ before ++ Turns m None next ∷ after → life ≡ was → IsTurn e m was last answer None next
     silent_turn None last same there = (few before after m None next same, refl, asked None None same there)
-    silent_turn (Some its) last same there = elim (turns_new halts lines script before after m next same) [
+    silent_turn (Some its) last same there = elim (turns_new halts sessions lines script before after m next same) [
       | inl none ↦ absurd (none-some its (sym none ∙ there))
       | inr called ↦
           called_begun life (life_of e called.0 m) its called.1 next there (ap (λ (told : List Moment). life_of e told m) called.2 ∙ called_life e m m refl called.0 called.1) (asked None (Some its) same there)
@@ -220,7 +221,7 @@ module _ (halts : List Halt) (lines : List Line) (script : IsScript lines) where
         by : (o : Option Moment) → slice_get run.told place ≡ o → (answer : Answered) × IsAnswered place answer
         by None none = (any_answer, λ y at. absurd (none-some y (sym none ∙ at)))
         by (Some x) at =
-            let a = moment_answer (take place run.told) x (moments_so halts lines script place x at) in
+            let a = moment_answer (take place run.told) x (moments_so halts sessions lines script place x at) in
             (a.0, λ y there. subst (λ (z : Moment). IsReadIn chunks (take place run.told) z a.0) (same_Some x y (sym at ∙ there)) a.1)
 
     abbrev answer_at : ℕ → Answered
@@ -243,7 +244,7 @@ module _ (halts : List Halt) (lines : List Line) (script : IsScript lines) where
     of_mount before (Begins m call) after same = can_begin (life_of e before m) (done before (Begins m call) after m same refl)
     of_mount before (Turns m None next) after same = silent_turn before after m next (answer_at (length before)) (life_of e before m) (last_ask before m) same refl
     of_mount before (Turns m (Some heard) next) after same =
-        heard_turn before after m next (answer_at (length before)) lawful (life_of e before m) (last_ask before m) heard same refl refl (replies_heard halts lines script m before after heard next same) (read_in before (Turns m (Some heard) next) after same)
+        heard_turn before after m next (answer_at (length before)) lawful (life_of e before m) (last_ask before m) heard same refl refl (replies_heard halts sessions lines script m before after heard next same) (read_in before (Turns m (Some heard) next) after same)
     of_mount before (Hands m k place) after same = tt
     of_mount before (Writes text) after same = tt
     of_mount before (Ends m answer) after same = tt

@@ -1,5 +1,5 @@
 -- What holds of a new volume, and is kept by all that lines and hosts do to one, holds of the run of every script.
-use Rattle.std.proofs.Common.{◌≡◌, ℕ, zero, suc, Bool, true, false, not, if◌then◌else◌, List, [], ◌∷◌, ◌++◌, length, Option, Some, None, slice_get, refl, sym, ap, subst, append-nil}
+use Rattle.std.proofs.Common.{◌≡◌, ℕ, zero, suc, Bool, true, false, not, if◌then◌else◌, List, [], ◌∷◌, ◌++◌, drop, length, Option, Some, None, slice_get, refl, sym, ap, subst, append-nil}
 use Rattle.std.specs.Prelude.{nat_le, nat_lt}
 use Rattle.std.specs.List.{range_with_len}
 use Rattle.std.proofs.lemmas.Bool.{false≢true}
@@ -27,6 +27,7 @@ use Rattle.pf_rounds.specs.Chunks.{Chunk}
 use Rattle.pf_chunk.specs.Asking.{fetched, fetches, filled, is_range, no_range_answer, submits}
 use Rattle.pf_chunk.specs.Asking.{no_range as no_event}
 use Rattle.pf_chunk.specs.Happenings.{Happened, happened}
+use Rattle.pf_chunk.specs.Lending.{all_happened}
 use Rattle.pf_chunk.specs.Runs.{ChunkRun}
 use Rattle.pf_chunk.specs.Saying.{answer_line, said}
 use Rattle.pf_hosts.specs.Moments.{Moment, Writes}
@@ -39,15 +40,16 @@ use Rattle.pf_fleet.specs.Volumes.{VolumeRun, begins, happens, host_at, host_ste
 use Rattle.pf_fleet.specs.Volumes as volumes
 use Rattle.pf_world.specs.declared.kind.Kind.{Kind}
 use Rattle.pf_world.specs.declared.kind.Kind.TheVariants.{Mounted, Raw}
+use Rattle.pf_threads.specs.Sessions.{Session, next_session, session_text}
 use Rattle.pf_world.specs.declared.line.Line.{Line}
 use Rattle.pf_world.specs.Worlds.{Told, World, at_chunk, ended, made, made_answer, no_world, refused_text, said_only, stepped, told_of}
-use Rattle.pf_world.specs.Lines.{asked, begins_if, call_of, decided, joins, kill_of, line_told, mounts_as, no_event_of, rests, show_of, shown_of, submits_as}
+use Rattle.pf_world.specs.Lines.{asked, begins_if, call_of, decided, held_told, joins, kill_of, line_told, live_as, mounts_as, no_event_of, rests, show_of, shown_of, submits_as}
 use Rattle.pf_world.specs.Reports.{run_from, world_run}
 use Rattle.pf_mounted.specs.Scripts.{IsScript, makes_volume}
 use Rattle.pf_mounted.proofs.Writing.{IsNoWrite}
 
 -- A property of a run's kind, its volume and all that was told so far is kept where the kind is decided, by lines of text, by an event of a
--- chunk, by a write that a line submits in a raw run, by a read that a line takes up, by the step of a host, and where one comes in a run
+-- chunk, by a write that a line submits or a session of threads in a raw run, by a read that a line takes up, by the step of a host, and where one comes in a run
 -- with mounts, begins the call of words or goes
 pub record IsKeptIn (halts : List Halt) (P : Option Kind → VolumeRun → List Moment → Type 0) : Type 0 where
   pub deciding : (kind : Kind) (v : VolumeRun) (told : List Moment) → P None v told → P (Some kind) v told
@@ -55,6 +57,7 @@ pub record IsKeptIn (halts : List Halt) (P : Option Kind → VolumeRun → List 
   pub happening : (kind : Option Kind) (v : VolumeRun) (told : List Moment) (k : ℕ) (c : ChunkRun) (event : Event) → slice_get v.chunks k ≡ Some c → IsNoWrite event → P kind v told → P kind (with_chunk v (happened halts c event).chunk) told
   pub submitting : (v : VolumeRun) (told : List Moment) (k : ℕ) (c : ChunkRun) (server : ℕ) (op : Op) → slice_get v.chunks k ≡ Some c → P (Some Raw) v told
       → P (Some Raw) (with_chunk v (happened halts c (events.Submit server op)).chunk) told
+  pub threading : (v : VolumeRun) (told : List Moment) (k : ℕ) (c : ChunkRun) (its : List Event) → slice_get v.chunks k ≡ Some c → P (Some Raw) v told → P (Some Raw) (with_chunk v (all_happened halts its c).chunk) told
   pub reading : (kind : Option Kind) (v : VolumeRun) (told : List Moment) (k : ℕ) (c : ChunkRun) (server : ℕ) (range : Span) → slice_get v.chunks k ≡ Some c → P kind v told → P kind (with_chunk v (fetched halts server range c).chunk) told
   pub stepping : (kind : Option Kind) (v : VolumeRun) (told : List Moment) (m : ℕ) (host : HostIs) → host_at v.hosts m ≡ Some host → P kind v told
       → P kind (with_host v m (hosts.stepped halts v.chunks host)).volume (told ++ (hosts.stepped halts v.chunks host).told)
@@ -67,6 +70,7 @@ pub record IsKeptIn (halts : List Halt) (P : Option Kind → VolumeRun → List 
 pub record IsKept (halts : List Halt) (P : VolumeRun → List Moment → Type 0) : Type 0 where
   pub writing : (v : VolumeRun) (told : List Moment) (text : List ℕ) → P v told → P v (told ++ Writes text ∷ [])
   pub happening : (v : VolumeRun) (told : List Moment) (k : ℕ) (c : ChunkRun) (event : Event) → slice_get v.chunks k ≡ Some c → P v told → P (with_chunk v (happened halts c event).chunk) told
+  pub threading : (v : VolumeRun) (told : List Moment) (k : ℕ) (c : ChunkRun) (its : List Event) → slice_get v.chunks k ≡ Some c → P v told → P (with_chunk v (all_happened halts its c).chunk) told
   pub reading : (v : VolumeRun) (told : List Moment) (k : ℕ) (c : ChunkRun) (server : ℕ) (range : Span) → slice_get v.chunks k ≡ Some c → P v told → P (with_chunk v (fetched halts server range c).chunk) told
   pub stepping : (v : VolumeRun) (told : List Moment) (m : ℕ) (host : HostIs) → host_at v.hosts m ≡ Some host → P v told
       → P (with_host v m (hosts.stepped halts v.chunks host)).volume (told ++ (hosts.stepped halts v.chunks host).told)
@@ -81,6 +85,7 @@ in_any_kind halts P kept = record {
   writing = λ kind. kept.writing;
   happening = λ kind v told k c event at never. kept.happening v told k c event at;
   submitting = λ v told k c server op. kept.happening v told k c (events.Submit server op);
+  threading = kept.threading;
   reading = λ kind. kept.reading;
   stepping = λ kind. kept.stepping;
   mounting = kept.mounting;
@@ -246,35 +251,46 @@ module _ (halts : List Halt) (P : Option Kind → VolumeRun → List Moment → 
   decide None kind v told is = kept.deciding kind v told is
   decide (Some was) kind v told is = is
 
-  abbrev of_kind : Kind → VolumeRun → World
-  of_kind kind v = record { volume = v; kind = Some kind }
+  module _ (v : VolumeRun) (sessions : List Session) (number : ℕ) (told : List Moment) where
+    abbrev of_kind : Kind → World
+    of_kind kind = record { volume = v; kind = Some kind; sessions = sessions }
 
-  module _ (v : VolumeRun) (number : ℕ) (told : List Moment) where
-    submit : P (Some Raw) v told → (chunk server first byte count : ℕ) → Tells told (asked halts (of_kind Raw v) number chunk server first count (submits halts server first byte count))
-    submit is chunk server first byte count = ask (of_kind Raw v) number told is chunk server first count (submits halts server first byte count) (λ ranges c there.
+    submit : P (Some Raw) v told → (chunk server first byte count : ℕ) → Tells told (asked halts (of_kind Raw) number chunk server first count (submits halts server first byte count))
+    submit is chunk server first byte count = ask (of_kind Raw) number told is chunk server first count (submits halts server first byte count) (λ ranges c there.
         subst (λ b. P (Some Raw) (with_chunk v (if b then happened halts c (events.Submit server (filled first byte count)) else no_event server c).chunk) told) (sym ranges)
         (kept.submitting v told chunk c server (filled first byte count) there is))
 
-    submit_as : (kind : Kind) → P (Some kind) v told → (chunk server first byte count : ℕ) → Tells told (submits_as kind halts (of_kind kind v) number chunk server first byte count)
-    submit_as Mounted is chunk server first byte count = say (of_kind Mounted v) number (refused_text 94) told is
+    submit_as : (kind : Kind) → P (Some kind) v told → (chunk server first byte count : ℕ) → Tells told (submits_as kind halts (of_kind kind) number chunk server first byte count)
+    submit_as Mounted is chunk server first byte count = say (of_kind Mounted) number (refused_text 94) told is
     submit_as Raw is chunk server first byte count = submit is chunk server first byte count
 
+    hold : P (Some Raw) v told → (session : Session) (k : ℕ) (o : Option ChunkRun) → slice_get v.chunks k ≡ o → Tells told (held_told halts (of_kind Raw) number session o)
+    hold is session k None there = nothing_told (Some Raw) v told is
+    hold is session k (Some c) there =
+        let now = all_happened halts session.events c in
+        end (of_kind Raw) number (happens halts v now) (session_text c.group now.chunk.group session.ended) told (after_event (Some Raw) v told now (kept.threading v told k c session.events there is))
+
     abbrev new_mount : Told
-    new_mount = stepped halts (of_kind Mounted v) number (mounts v) (mount_text (length v.hosts))
+    new_mount = stepped halts (of_kind Mounted) number (mounts v) (mount_text (length v.hosts))
 
     abbrev if_few : Told
-    if_few = if nat_le 16 (length v.hosts) then stepped halts (of_kind Mounted v) number (quietly v) (refused_text 92) else new_mount
+    if_few = if nat_le 16 (length v.hosts) then stepped halts (of_kind Mounted) number (quietly v) (refused_text 92) else new_mount
 
-    join : P (Some Mounted) v told → Tells told (joins halts (of_kind Mounted v) number)
+    join : P (Some Mounted) v told → Tells told (joins halts (of_kind Mounted) number)
     join is =
-        let w : World = of_kind Mounted v in
+        let w : World = of_kind Mounted in
         by_test (nat_lt (size_of v.extent) 4112) (λ b. Tells told (if b then stepped halts w number (quietly v) (refused_text 93) else if_few)) (λ _. refuse w number (refused_text 93) told is)
         (λ large. by_test (nat_le 16 (length v.hosts)) (λ b. Tells told (if b then stepped halts w number (quietly v) (refused_text 92) else new_mount)) (λ _. refuse w number (refused_text 92) told is)
         (λ few. step w number (mounts v) (mount_text (length v.hosts)) told (kept.mounting v told large few is)))
 
-    mount_as : (kind : Kind) → P (Some kind) v told → Tells told (mounts_as kind halts (of_kind kind v) number)
-    mount_as Raw is = say (of_kind Raw v) number (refused_text 95) told is
+    mount_as : (kind : Kind) → P (Some kind) v told → Tells told (mounts_as kind halts (of_kind kind) number)
+    mount_as Raw is = say (of_kind Raw) number (refused_text 95) told is
     mount_as Mounted is = join is
+
+  -- a session of threads, of which the next one stands first
+  hold_as : (v : VolumeRun) (sessions : List Session) (number : ℕ) (told : List Moment) (kind : Kind) → P (Some kind) v told → (k : ℕ) → Tells told (live_as kind halts (record { volume = v; kind = Some kind; sessions = sessions }) number k)
+  hold_as v sessions number told Mounted is k = say (record { volume = v; kind = Some Mounted; sessions = sessions }) number (refused_text 94) told is
+  hold_as v sessions number told Raw is k = hold v (drop 1 sessions) number told is (next_session sessions) k (slice_get v.chunks k) refl
 
   -- any line but a volume
   line : (w : World) (number : ℕ) (told : List Moment) → P w.kind w.volume told → (command : Command) → makes_volume command ≡ false → Tells told (line_told halts w number command)
@@ -286,13 +302,14 @@ module _ (halts : List Halt) (P : Option Kind → VolumeRun → List Moment → 
   line w number told is (commands.Checkpoint g i) none = plain w number told is g (events.Checkpoint i) tt
   line w number told is (commands.Deliver g k) none = plain w number told is g (events.Deliver k) tt
   line w number told is (commands.Lose g k) none = plain w number told is g (events.Lose k) tt
-  line w number told is (commands.Submit g i s b n) none = let kind : Kind = decided w.kind Raw in submit_as w.volume number told kind (decide w.kind Raw w.volume told is) g i s b n
+  line w number told is (commands.Submit g i s b n) none = let kind : Kind = decided w.kind Raw in submit_as w.volume w.sessions number told kind (decide w.kind Raw w.volume told is) g i s b n
   line w number told is (commands.Fetch g i s n) none = fetch w number told is g i s n
   line w number told is (commands.Mark g i) none = plain w number told is g (events.Submit i Mark) tt
   line w number told is (commands.Settle limit) none =
       let s : Settled = settled halts limit w.volume in
       end w number (settling limit halts w.volume) (settle_text s.stopped) told (settles w.kind limit w.volume told is)
-  line w number told is commands.Mount none = let kind : Kind = decided w.kind Mounted in mount_as w.volume number told kind (decide w.kind Mounted w.volume told is)
+  line w number told is (commands.Live g hosts writes workers turns) none = let kind : Kind = decided w.kind Raw in hold_as w.volume w.sessions number told kind (decide w.kind Raw w.volume told is) g
+  line w number told is commands.Mount none = let kind : Kind = decided w.kind Mounted in mount_as w.volume w.sessions number told kind (decide w.kind Mounted w.volume told is)
   line w number told is (commands.Kill m) none = kill w number told is m (host_at w.volume.hosts m) refl
   line w number told is (commands.Call m words) none = call w number told is m words (host_at w.volume.hosts m) refl
   line w number told is (commands.ShowLog g i) none = show w number told is (slice_get w.volume.chunks g) _
@@ -309,19 +326,19 @@ module _ (halts : List Halt) (P : Option Kind → VolumeRun → List Moment → 
       let rest : Told = run_from halts t.world lines in
       behind rest.world.kind rest.world.volume told t.told rest.told (run lines t.world (told ++ t.told) none.1 (line w first.number told is first.command none.0))
 
-  module _ (new : (chunks sectors names format : ℕ) → P None (made halts chunks sectors names format).volume []) where
-    first_line : (number : ℕ) (command : Command) → makes_volume command ≡ true → Tells [] (line_told halts no_world number command)
-    first_line number (commands.Volume chunks sectors names format) is =
-        let w : World = made halts chunks sectors names format in
-        kept.writing None w.volume [] (answer_line number (made_answer w)) (new chunks sectors names format)
-    first_line number command is = absurd (false≢true is)
+  module _ (new : (sessions : List Session) (chunks sectors names format : ℕ) → P None (made halts sessions chunks sectors names format).volume []) where
+    first_line : (sessions : List Session) (number : ℕ) (command : Command) → makes_volume command ≡ true → Tells [] (line_told halts (no_world sessions) number command)
+    first_line sessions number (commands.Volume chunks sectors names format) is =
+        let w : World = made halts sessions chunks sectors names format in
+        kept.writing None w.volume [] (answer_line number (made_answer w)) (new sessions chunks sectors names format)
+    first_line sessions number command is = absurd (false≢true is)
 
-    pub running_in : (lines : List Line) → IsScript lines → P (world_run halts lines).world.kind (world_run halts lines).world.volume (world_run halts lines).told
-    running_in [] is = absurd is
-    running_in (first ∷ lines) is =
-        let t : Told = line_told halts no_world first.number first.command in
-        run lines t.world t.told is.1 (first_line first.number first.command is.0)
+    pub running_in : (sessions : List Session) (lines : List Line) → IsScript lines → P (world_run halts sessions lines).world.kind (world_run halts sessions lines).world.volume (world_run halts sessions lines).told
+    running_in sessions [] is = absurd is
+    running_in sessions (first ∷ lines) is =
+        let t : Told = line_told halts (no_world sessions) first.number first.command in
+        run lines t.world t.told is.1 (first_line sessions first.number first.command is.0)
 
-pub running : (halts : List Halt) (P : VolumeRun → List Moment → Type 0) → IsKept halts P → ((chunks sectors names format : ℕ) → P (made halts chunks sectors names format).volume [])
-    → (lines : List Line) → IsScript lines → P (world_run halts lines).world.volume (world_run halts lines).told
-running halts P kept new lines is = running_in halts (λ kind v told. P v told) (in_any_kind halts P kept) new lines is
+pub running : (halts : List Halt) (P : VolumeRun → List Moment → Type 0) → IsKept halts P → ((sessions : List Session) (chunks sectors names format : ℕ) → P (made halts sessions chunks sectors names format).volume [])
+    → (sessions : List Session) (lines : List Line) → IsScript lines → P (world_run halts sessions lines).world.volume (world_run halts sessions lines).told
+running halts P kept new sessions lines is = running_in halts (λ kind v told. P v told) (in_any_kind halts P kept) new sessions lines is

@@ -22,6 +22,7 @@ use Rattle.pf_rounds.specs.Halts.{Halt}
 use Rattle.pf_chunk.specs.Driving.{asked, asked_at, driven}
 use Rattle.pf_chunk.specs.Asking.{fetched}
 use Rattle.pf_chunk.specs.Happenings.{happened}
+use Rattle.pf_chunk.specs.Lending.{all_happened}
 use Rattle.pf_chunk.specs.Runs.{ChunkRun, new_run}
 use Rattle.pf_hosts.specs.Moments.{Heard, Moment}
 use Rattle.pf_hosts.specs.Hosts.{Drove, HostIs, Stepped, begun, call_of, comes_of, drove, drove_of, events_of, hands_at, next_of, number_of, replied, run_after, stepped, stepped_at, with_run}
@@ -30,9 +31,10 @@ use Rattle.pf_world.specs.declared.kind.Kind.{Kind}
 use Rattle.pf_world.specs.declared.kind.Kind.TheVariants.{Mounted, Raw}
 use Rattle.pf_world.specs.Worlds.{made}
 use Rattle.pf_world.specs.Reports.{world_run}
+use Rattle.pf_threads.specs.Sessions.{Session}
 use Rattle.pf_world.specs.declared.line.Line.{Line}
 use Rattle.pf_mounted.specs.Scripts.{IsScript}
-use Rattle.pf_mounted.proofs.Growing.{fetched_grows, happened_grows}
+use Rattle.pf_mounted.proofs.Growing.{all_grow, fetched_grows, happened_grows}
 use Rattle.pf_mounted.proofs.Replying.{driven_grows}
 use Rattle.pf_mounted.proofs.Running.{IsKeptIn, running_in}
 use Rattle.pf_mounted.proofs.Standing.{new_chunk}
@@ -125,6 +127,7 @@ module _ (halts : List Halt) where
     writing = λ kind v told text is. is;
     happening = λ kind v told k c event at no_write is. same_volume kind v k c (happened halts c event).chunk at (happened_grows halts c event).setup is;
     submitting = λ v told k c server op at is. same_volume (Some Raw) v k c (happened halts c (events.Submit server op)).chunk at (happened_grows halts c (events.Submit server op)).setup is;
+    threading = λ v told k c its at is. same_volume (Some Raw) v k c (all_happened halts its c).chunk at (all_grow halts c its).setup is;
     reading = λ kind v told k c server range at is. same_volume kind v k c (fetched halts server range c).chunk at (fetched_grows halts c server range).setup is;
     stepping = λ kind v told m host at is. let s = stepped halts v.chunks host in same_hosts kind v s.chunks m (Some s.host) (step_sized halts v.extent v.chunks host is.chunks) is;
     mounting = λ v told large few is. record {
@@ -139,8 +142,8 @@ module _ (halts : List Halt) where
     killing = λ kind v told m host at is. same_hosts kind v v.chunks m None is.chunks is;
   }
 
-  new : (chunks sectors names format : ℕ) → HasRoomFor None (made halts chunks sectors names format).volume
-  new chunks sectors names format = record {
+  new : (sessions : List Session) (chunks sectors names format : ℕ) → HasRoomFor None (made halts sessions chunks sectors names format).volume
+  new sessions chunks sectors names format = record {
     room = λ some. absurd (omega (arith, some));
     mounted = λ some. absurd (omega (arith, some));
     chunks = record {
@@ -150,5 +153,5 @@ module _ (halts : List Halt) where
   }
 
   -- after each script
-  pub has_room : (lines : List Line) → IsScript lines → HasRoomFor (world_run halts lines).world.kind (world_run halts lines).world.volume
-  has_room lines is = running_in halts Kept kept new lines is
+  pub has_room : (sessions : List Session) (lines : List Line) → IsScript lines → HasRoomFor (world_run halts sessions lines).world.kind (world_run halts sessions lines).world.volume
+  has_room sessions lines is = running_in halts Kept kept new sessions lines is

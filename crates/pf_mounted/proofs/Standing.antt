@@ -18,16 +18,19 @@ use Rattle.pf_rounds.proofs.Extending.{after_extends, applied_extends}
 use Rattle.pf_chunk.specs.Asking.{fetched}
 use Rattle.pf_chunk.specs.Driving.{ask_of}
 use Rattle.pf_chunk.specs.Happenings.{followed, happened}
+use Rattle.pf_chunk.specs.Lending.{all_happened}
 use Rattle.pf_chunk.specs.Runs.{ChunkRun, most_ports, new_run}
 use Rattle.pf_chunk.proofs.Begun.{happened_extends}
 use Rattle.pf_hosts.specs.Moments.{Moment, Writes}
 use Rattle.pf_hosts.specs.Hosts.{HostIs, Stepped, begun, made_host, stepped}
 use Rattle.pf_fleet.specs.Volumes.{Hosts, VolumeRun, host_at, killed, there, with_chunk}
+use Rattle.pf_threads.specs.Sessions.{Session}
 use Rattle.pf_world.specs.declared.line.Line.{Line}
 use Rattle.pf_world.specs.Worlds.{made}
 use Rattle.pf_world.specs.Reports.{world_run}
 use Rattle.pf_mounted.specs.Mounts.{AreDone, IsDone, Life, last_ask, life_of, mount_in, of_chunk}
 use Rattle.pf_mounted.specs.Scripts.{IsScript}
+use Rattle.pf_mounted.proofs.Growing.{all_grow, all_ports}
 use Rattle.pf_mounted.proofs.Hosts.{IsTold, StepsTo, begins_to, makes_to, steps_to, told_quietly}
 use Rattle.pf_mounted.proofs.Lives.{AreQuiet, IsOf, done_at, done_on, life_on, others_done, other_ask, other_life, same_ask, same_life}
 use Rattle.pf_mounted.proofs.Ports.{ArePlaced, HasAsked, asked_still, fetched_ports, happened_ports, placed_with}
@@ -161,6 +164,7 @@ module _ (halts : List Halt) where
   all_told = record {
     writing = λ v told text are. more_quietly v told (Writes text ∷ []) (tt, tt) (λ m life. (tt, tt)) are;
     happening = λ v told k c event at are. chunk_told v told k c (happened halts c event).chunk at (happened_ports halts c event) (happened_extends halts c event).0 are;
+    threading = λ v told k c its at are. chunk_told v told k c (all_happened halts its c).chunk at (all_ports halts c its) (all_grow halts c its).number are;
     reading = λ v told k c server range at are. chunk_told v told k c (fetched halts server range c).chunk at (fetched_ports halts server range c) (fetched_number server range c) are;
     stepping = λ v told m host at are.
         hosts_told v told m host (stepped halts v.chunks host) at are (steps_to halts v.extent m told v.chunks host (are.hosts m host at) (are.ports m) are.placed);
@@ -186,8 +190,8 @@ new_chunk f (suc n) first zero c is = let same : first + 0 ≡ first = omega ari
 new_chunk f (suc n) first (suc k) c is = let same : first + suc k ≡ first + 1 + k = omega arith in ap f same ∙ new_chunk f n (first + 1) k c is
 
 module _ (halts : List Halt) where
-  pub new_told : (chunks sectors names format : ℕ) → AreTold (made halts chunks sectors names format).volume []
-  new_told chunks sectors names format =
+  pub new_told : (sessions : List Session) (chunks sectors names format : ℕ) → AreTold (made halts sessions chunks sectors names format).volume []
+  new_told sessions chunks sectors names format =
       let f : ℕ → ChunkRun = λ k. new_run (made_chunk halts sectors names format k) in
       let is : (k : ℕ) (c : ChunkRun) → slice_get (map f (range_with_len 0 chunks)) k ≡ Some c → f k ≡ c =
       λ k c at. let same : k ≡ 0 + k = omega arith in ap f same ∙ new_chunk f chunks 0 k c at in record {
@@ -203,8 +207,8 @@ module _ (halts : List Halt) where
       }
 
   -- after each script
-  pub hosts_are_told : (lines : List Line) → IsScript lines → AreTold (world_run halts lines).world.volume (world_run halts lines).told
-  hosts_are_told lines is = running halts AreTold (all_told halts) new_told lines is
+  pub hosts_are_told : (sessions : List Session) (lines : List Line) → IsScript lines → AreTold (world_run halts sessions lines).world.volume (world_run halts sessions lines).told
+  hosts_are_told sessions lines is = running halts AreTold (all_told halts) new_told sessions lines is
 
 -- The asks in ports
 

@@ -25,43 +25,44 @@ ghost use Rattle.pf_journal.specs.Sectors.{block_in};
 ghost use Rattle.pf_paxos.specs.Journals.{journal_from, new_journal};
 ghost use Rattle.pf_protocol.specs.Groups.{Answered};
 ghost use Rattle.pf_world.specs.Reports.{world_run};
+ghost use Rattle.pf_threads.specs.Sessions.{Session};
 ghost use Rattle.pf_world.specs.declared.line.Line.{Line as LineIs};
 
 /// Each port of each chunk of the volume did, in the order in which it was told, what a port does whose steps find no event of anybody
 /// else between their calls. So it follows the rule of ports in every legal history of its group, and each reply is the group's answer to
 /// the last time that it handed on the ask.
 pub fn ports_of_runs_are_driven()
-    ensures { (halts : List Halt) (lines : List LineIs) → IsScript lines → (k m : ℕ) (c : ChunkRun) (port : PortIs) → slice_get (world_run halts lines).world.volume.chunks k ≡ Some c → slice_get c.ports m ≡ Some port → IsDriven c.group.setup (past_of c.group.history m k (world_run halts lines).told) port }
+    ensures { (halts : List Halt) (sessions : List Session) (lines : List LineIs) → IsScript lines → (k m : ℕ) (c : ChunkRun) (port : PortIs) → slice_get (world_run halts sessions lines).world.volume.chunks k ≡ Some c → slice_get c.ports m ≡ Some port → IsDriven c.group.setup (past_of c.group.history m k (world_run halts sessions lines).told) port }
 {}
 
 /// Whatever a mount was told to have heard is, in every legal history of the group of its ask's chunk, the group's answer to the last time
 /// that the ask was handed to it: a write was acknowledged, a read was answered with these sectors.
 pub fn replies_of_runs_are_the_groups()
-    ensures { (halts : List Halt) (lines : List LineIs) → IsScript lines → let run = world_run halts lines in (m : ℕ) (before after : List Moment) (heard : Heard) (next : Option AskIs) → run.told ≡ before ++ Turns m (Some heard) next ∷ after → IsHeard run.world.volume.chunks m before heard }
+    ensures { (halts : List Halt) (sessions : List Session) (lines : List LineIs) → IsScript lines → let run = world_run halts sessions lines in (m : ℕ) (before after : List Moment) (heard : Heard) (next : Option AskIs) → run.told ≡ before ++ Turns m (Some heard) next ∷ after → IsHeard run.world.volume.chunks m before heard }
 {}
 
 /// Each host that is there is the mount that what was told of its number makes, and it waits for the chunk that its last turn asked, if that
 /// asked one. In each port pends what the mount of its number asked last, if that was of the port's chunk: so of a mount's ports one has an
 /// ask, or none. (The ask of a mount that was killed pends as before.)
 pub fn hosts_are_told()
-    ensures mounts { (halts : List Halt) (lines : List LineIs) → IsScript lines → let run = world_run halts lines in (m : ℕ) (host : HostIs) → host_at run.world.volume.hosts m ≡ Some host → mount_after run.world.volume.extent run.told m ≡ Some host.mount }
-    ensures asks { (halts : List Halt) (lines : List LineIs) → IsScript lines → let run = world_run halts lines in (m : ℕ) (host : HostIs) → host_at run.world.volume.hosts m ≡ Some host → host.at ≡ option_map chunk_of (last_ask run.told m) }
-    ensures ports { (halts : List Halt) (lines : List LineIs) → IsScript lines → let run = world_run halts lines in (k m : ℕ) (c : ChunkRun) → slice_get run.world.volume.chunks k ≡ Some c → ask_of c.ports m ≡ of_chunk k (last_ask run.told m) }
+    ensures mounts { (halts : List Halt) (sessions : List Session) (lines : List LineIs) → IsScript lines → let run = world_run halts sessions lines in (m : ℕ) (host : HostIs) → host_at run.world.volume.hosts m ≡ Some host → mount_after run.world.volume.extent run.told m ≡ Some host.mount }
+    ensures asks { (halts : List Halt) (sessions : List Session) (lines : List LineIs) → IsScript lines → let run = world_run halts sessions lines in (m : ℕ) (host : HostIs) → host_at run.world.volume.hosts m ≡ Some host → host.at ≡ option_map chunk_of (last_ask run.told m) }
+    ensures ports { (halts : List Halt) (sessions : List Session) (lines : List LineIs) → IsScript lines → let run = world_run halts sessions lines in (k m : ℕ) (c : ChunkRun) → slice_get run.world.volume.chunks k ≡ Some c → ask_of c.ports m ≡ of_chunk k (last_ask run.told m) }
 {}
 
 /// What is told of a mount is what it did: a call begins while it rests, a turn asks what the mount then asks, if it asks anything, and a
 /// call ends with the answer that the mount gave it.
 pub fn mounts_do_what_is_told()
-    ensures calls { (halts : List Halt) (lines : List LineIs) → IsScript lines → let run = world_run halts lines in (m : ℕ) (before after : List Moment) (call : FileCall) → run.told ≡ before ++ Begins m call ∷ after → RestsIn (life_of run.world.volume.extent before m) }
-    ensures turns { (halts : List Halt) (lines : List LineIs) → IsScript lines → let run = world_run halts lines in (m : ℕ) (before after : List Moment) (heard : Option Heard) (next : Option AskIs) → run.told ≡ before ++ Turns m heard next ∷ after → next ≡ next_ask (life_of run.world.volume.extent (before ++ Turns m heard next ∷ []) m) }
-    ensures ends { (halts : List Halt) (lines : List LineIs) → IsScript lines → let run = world_run halts lines in (m : ℕ) (before after : List Moment) (answer : CallAnswer) → run.told ≡ before ++ Ends m answer ∷ after → last_answer (life_of run.world.volume.extent before m) ≡ Some answer }
+    ensures calls { (halts : List Halt) (sessions : List Session) (lines : List LineIs) → IsScript lines → let run = world_run halts sessions lines in (m : ℕ) (before after : List Moment) (call : FileCall) → run.told ≡ before ++ Begins m call ∷ after → RestsIn (life_of run.world.volume.extent before m) }
+    ensures turns { (halts : List Halt) (sessions : List Session) (lines : List LineIs) → IsScript lines → let run = world_run halts sessions lines in (m : ℕ) (before after : List Moment) (heard : Option Heard) (next : Option AskIs) → run.told ≡ before ++ Turns m heard next ∷ after → next ≡ next_ask (life_of run.world.volume.extent (before ++ Turns m heard next ∷ []) m) }
+    ensures ends { (halts : List Halt) (sessions : List Session) (lines : List LineIs) → IsScript lines → let run = world_run halts sessions lines in (m : ℕ) (before after : List Moment) (answer : CallAnswer) → run.told ≡ before ++ Ends m answer ∷ after → last_answer (life_of run.world.volume.extent before m) ≡ Some answer }
 {}
 
 /// The tables of a mount are those of a new volume after the transactions that its own decided values spell, in the order in which it
 /// decided them, and it stands at the position that is their count: whatever was told, and so of each host of a run.
 pub fn tables_are_those_of_decisions()
     ensures mounts { (v : Extent) (told : List Moment) (m : ℕ) (mount : MountIs) → mount_after v told m ≡ Some mount → (mount.files.tables ≡ tables_from v (decisions v told m)) × (mount.upto ≡ length (decisions v told m)) }
-    ensures hosts { (halts : List Halt) (lines : List LineIs) → IsScript lines → let run = world_run halts lines in let v = run.world.volume in (m : ℕ) (host : HostIs) → host_at v.hosts m ≡ Some host → (host.mount.files.tables ≡ tables_from v.extent (decisions v.extent run.told m)) × (host.mount.upto ≡ length (decisions v.extent run.told m)) }
+    ensures hosts { (halts : List Halt) (sessions : List Session) (lines : List LineIs) → IsScript lines → let run = world_run halts sessions lines in let v = run.world.volume in (m : ℕ) (host : HostIs) → host_at v.hosts m ≡ Some host → (host.mount.files.tables ≡ tables_from v.extent (decisions v.extent run.told m)) × (host.mount.upto ≡ length (decisions v.extent run.told m)) }
 {}
 
 /// Each value that a mount decided was decided by its own ballot, when the mount stood at the position of this value, with a reply that it

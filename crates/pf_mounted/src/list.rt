@@ -10,6 +10,7 @@ ghost use Rattle.pf_rounds.specs.Halts.{Halt};
 ghost use Rattle.pf_volume.specs.Volumes.{IsVolume};
 ghost use Rattle.pf_world.specs.Headline.{IsLawfulRun};
 ghost use Rattle.pf_world.specs.Reports.{world_run};
+ghost use Rattle.pf_threads.specs.Sessions.{Session};
 ghost use Rattle.pf_world.specs.declared.line.Line.{Line as LineIs};
 
 use pf_journal::journals_in_chunks_have_one_list;
@@ -20,7 +21,7 @@ use pf_journal::journals_in_chunks_have_one_list;
 /// mount's position then. (A transaction's spelling has room for 2^32 calls of a
 /// mount, so a script is to have fewer lines.)
 pub fn runs_have_one_list()
-    ensures { (halts : List Halt) (lines : List LineIs) → IsScript lines → let run = world_run halts lines in IsLawfulRun run.world → IsVolume run.world.volume.extent → length lines < 2 ^ 32 → 0 < length run.world.volume.hosts → HasOneList run.world.volume.extent run.world.volume.chunks run.told }
+    ensures { (halts : List Halt) (sessions : List Session) (lines : List LineIs) → IsScript lines → let run = world_run halts sessions lines in IsLawfulRun run.world → IsVolume run.world.volume.extent → length lines < 2 ^ 32 → 0 < length run.world.volume.hosts → HasOneList run.world.volume.extent run.world.volume.chunks run.told }
 {
     journals_in_chunks_have_one_list();
 }
@@ -28,5 +29,5 @@ pub fn runs_have_one_list()
 /// No mount of such a run ever fails for good: what it reads as the superblock is the volume's own, or zeros. So none is refused as its
 /// superblock is another's (81).
 pub fn superblocks_are_the_volumes()
-    ensures { (halts : List Halt) (lines : List LineIs) → IsScript lines → let run = world_run halts lines in IsLawfulRun run.world → IsVolume run.world.volume.extent → 0 < length run.world.volume.hosts → (before after : List Moment) → run.told ≡ before ++ after → (m : ℕ) (mount : MountIs) → mount_after run.world.volume.extent before m ≡ Some mount → mount.work ≢ Fails }
+    ensures { (halts : List Halt) (sessions : List Session) (lines : List LineIs) → IsScript lines → let run = world_run halts sessions lines in IsLawfulRun run.world → IsVolume run.world.volume.extent → 0 < length run.world.volume.hosts → (before after : List Moment) → run.told ≡ before ++ after → (m : ℕ) (mount : MountIs) → mount_after run.world.volume.extent before m ≡ Some mount → mount.work ≢ Fails }
 {}

@@ -11,6 +11,7 @@ ghost use Rattle.pf_rounds.specs.Halts.{Halt};
 ghost use Rattle.pf_txn.specs.Reading.{txn_in};
 ghost use Rattle.pf_volume.specs.Volumes.{Extent, IsVolume};
 ghost use Rattle.pf_world.specs.Reports.{world_run};
+ghost use Rattle.pf_threads.specs.Sessions.{Session};
 ghost use Rattle.pf_world.specs.declared.line.Line.{Line as LineIs};
 
 /// A call has at most one transaction: no two positions of the transaction list have values that spell transactions of one call. Fewer than
@@ -21,5 +22,5 @@ pub fn calls_have_one_transaction()
 
 /// In the run of a script no mount has started more calls than the script has lines.
 pub fn calls_are_of_lines()
-    ensures { (halts : List Halt) (lines : List LineIs) (m : ℕ) (mount : MountIs) → let run = world_run halts lines in mount_after run.world.volume.extent run.told m ≡ Some mount → mount.files.calls ≤ length lines }
+    ensures { (halts : List Halt) (sessions : List Session) (lines : List LineIs) (m : ℕ) (mount : MountIs) → let run = world_run halts sessions lines in mount_after run.world.volume.extent run.told m ≡ Some mount → mount.files.calls ≤ length lines }
 {}

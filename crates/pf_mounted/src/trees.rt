@@ -10,6 +10,7 @@ ghost use Rattle.pf_rounds.specs.Halts.{Halt};
 ghost use Rattle.pf_tree.specs.Standing.{StandsFor};
 ghost use Rattle.pf_volume.specs.Volumes.{Extent, IsVolume};
 ghost use Rattle.pf_world.specs.Reports.{world_run};
+ghost use Rattle.pf_threads.specs.Sessions.{Session};
 ghost use Rattle.pf_world.specs.declared.line.Line.{Line as LineIs};
 
 /// After the first transactions of the list, however many, the tables stand for the user's tree after the calls that these name. So at each
@@ -21,5 +22,5 @@ pub fn tables_stand_for_trees()
 
 /// In the run of a script no mount begins more calls than the script has lines.
 pub fn calls_of_runs_are_few()
-    ensures { (halts : List Halt) (lines : List LineIs) (m : ℕ) → length (calls_of (world_run halts lines).told m) ≤ length lines }
+    ensures { (halts : List Halt) (sessions : List Session) (lines : List LineIs) (m : ℕ) → length (calls_of (world_run halts sessions lines).told m) ≤ length lines }
 {}

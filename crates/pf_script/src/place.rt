@@ -2,7 +2,7 @@
 ghost use Rattle.std.specs.Prelude.{◌≡◌, ℕ, ◌≤◌, IsTrue, IfOk, Some, None};
 ghost use Rattle.std.specs.Option.{ForSome};
 ghost use Rattle.pf_script.specs.Calls.{call_from};
-ghost use Rattle.pf_script.specs.Lines.{Gives, placed, within, is_volume, is_server, server_command, packet_command};
+ghost use Rattle.pf_script.specs.Lines.{Gives, placed, within, is_volume, is_server, is_up_to, server_command, packet_command};
 ghost use Rattle.pf_script.specs.declared.command.Command.TheVariants as commands;
 
 use crate::call_forms::CallForm;
@@ -16,6 +16,15 @@ const LIMIT: u64 = 65_536;
 
 /// The most deliveries of one `settle` line.
 const MOST_DELIVERIES: u64 = 1_000_000;
+
+/// The most hosts of a `live` line, and the most workers.
+const MOST_WORKERS: u64 = 8;
+
+/// The most writes of each host of a `live` line.
+const MOST_WRITES: u64 = 64;
+
+/// The most deliveries of a `live` line.
+const MOST_TURNS: u64 = 100_000;
 
 /// The most mounts of a volume.
 const MOUNTS: u64 = 16;
@@ -176,6 +185,41 @@ fn place_settle(limit: u64) -> Result<Command, LineFault>
     })
 }
 
+/// Whether the number is at least 1, and at most so many.
+fn is_up_to(most: u64, number: u64) -> bool
+    ensures { result ≡ is_up_to most number }
+{
+    1 <= number && number <= most
+}
+
+fn place_live(
+    chunks: u32,
+    group: u64,
+    hosts: u64,
+    writes: u64,
+    workers: u64,
+    turns: u64,
+) -> Result<Command, LineFault>
+    requires { chunks ≤ 8 }
+    ensures { result ≡ within chunks (commands.Live group hosts writes workers turns) }
+{
+    let fits = group < u64::from(chunks)
+        && is_up_to(MOST_WORKERS, hosts)
+        && is_up_to(MOST_WRITES, writes)
+        && is_up_to(MOST_WORKERS, workers)
+        && is_up_to(MOST_TURNS, turns);
+    if !fits {
+        return Err(LineFault::OutOfRange);
+    }
+    Ok(Command::Live {
+        group: group as u8,
+        hosts: hosts as u32,
+        writes: writes as u32,
+        workers: workers as u32,
+        turns: turns as u32,
+    })
+}
+
 fn place_acked(chunks: u32, group: u64) -> Result<Command, LineFault>
     requires { chunks ≤ 8 }
     ensures { result ≡ within chunks (commands.ShowAcked group) }
@@ -264,6 +308,13 @@ fn place_later(alloc: Global, chunks: u32, form: Form) -> Result<Command, LineFa
             count,
         } => place_fetch(chunks, group, server, sector, count),
         Form::Settle { limit } => place_settle(limit),
+        Form::Live {
+            group,
+            hosts,
+            writes,
+            workers,
+            turns,
+        } => place_live(chunks, group, hosts, writes, workers, turns),
         Form::ShowAcked { group } => place_acked(chunks, group),
         Form::ShowMark {
             group,

@@ -1,5 +1,5 @@
 -- What lines ask of one chunk.
-use Rattle.std.proofs.Common.{◌≡◌, ℕ, ◌<◌, false, List, Some, None, sym, ap, subst, arith}
+use Rattle.std.proofs.Common.{[], ◌≡◌, ℕ, ◌<◌, false, List, Some, None, refl, sym, ap, subst, arith}
 use Rattle.std.proofs.lemmas.Bool.Decides.{nat_tests}
 use Rattle.std.proofs.lemmas.Option.{same_Some}
 use Rattle.pf_script.specs.declared.command.Command.{Command}
@@ -14,6 +14,7 @@ use Rattle.pf_world.specs.Worlds.{World, at_chunk}
 use Rattle.pf_world.specs.Lines.{line_told}
 use Rattle.pf_world.specs.Views.{WorldIs}
 use Rattle.pf_world.specs.Asked.{asked_of}
+use Rattle.pf_world.specs.Headline.{is_live}
 use Rattle.pf_world.specs.Steps.{Ends, IsWithin, MayRun, StopsIn}
 
 -- the event of a line that is one event of a group
@@ -42,6 +43,7 @@ asked_told (commands.Volume c s n f) g e is halts w number = absurd (none_is_non
 asked_told (commands.Submit h i s b n) g e is halts w number = absurd (none_is_none (g, e) is)
 asked_told (commands.Fetch h i s n) g e is halts w number = absurd (none_is_none (g, e) is)
 asked_told (commands.Settle limit) g e is halts w number = absurd (none_is_none (g, e) is)
+asked_told (commands.Live h hosts writes workers turns) g e is halts w number = absurd (none_is_none (g, e) is)
 asked_told (commands.ShowLog h i) g e is halts w number = absurd (none_is_none (g, e) is)
 asked_told (commands.ShowApplied h i) g e is halts w number = absurd (none_is_none (g, e) is)
 asked_told (commands.ShowSectors h i) g e is halts w number = absurd (none_is_none (g, e) is)
@@ -52,15 +54,21 @@ asked_told (commands.Kill m) g e is halts w number = absurd (none_is_none (g, e)
 asked_told (commands.Call m call) g e is halts w number = absurd (none_is_none (g, e) is)
 asked_told (commands.ShowMount m) g e is halts w number = absurd (none_is_none (g, e) is)
 
--- such a line is no settling
-pub asked_within : (old : WorldIs) (number : ℕ) (command : Command) (g : ℕ) (e : GroupEvent) → Some (g, e) ≡ asked_of command → (new : WorldIs) → IsWithin old number command new → StopsIn old number command new
+-- such a line is no settling and no line of threads
+pub asked_within : (old : WorldIs) (number : ℕ) (command : Command) (g : ℕ) (e : GroupEvent) → Some (g, e) ≡ asked_of command → (new : WorldIs) → IsWithin old [] number command new → StopsIn old number command new
 asked_within old number (commands.Settle limit) g e is new within = absurd (none_is_none (g, e) is)
+asked_within old number (commands.Live h hosts writes workers turns) g e is new within = absurd (none_is_none (g, e) is)
 asked_within old number command g e is new within = within
 
 -- only settlings may go on without end
 pub asked_ends : (command : Command) (g : ℕ) (e : GroupEvent) → Some (g, e) ≡ asked_of command → (halts : List Halt) (w : World) → Ends halts w command
 asked_ends (commands.Settle limit) g e is halts w = absurd (none_is_none (g, e) is)
+asked_ends (commands.Live h hosts writes workers turns) g e is halts w = absurd (none_is_none (g, e) is)
 asked_ends command g e is halts w = tt
+
+pub asked_plain : (command : Command) (g : ℕ) (e : GroupEvent) → Some (g, e) ≡ asked_of command → is_live command ≡ false
+asked_plain (commands.Live h hosts writes workers turns) g e is = absurd (none_is_none (g, e) is)
+asked_plain command g e is = refl
 
 low_from : (n : ℕ) (p q : PairOf) → Some p ≡ Some q → q.0 < n → p.0 < n
 low_from n p q is low = subst (λ (r : PairOf). r.0 < n) (sym (same_Some p q is)) low
@@ -78,6 +86,7 @@ asked_group n (commands.Volume c s m f) g e may is = absurd may
 asked_group n (commands.Submit h i s b m) g e may is = absurd (none_is_none (g, e) is)
 asked_group n (commands.Fetch h i s m) g e may is = absurd (none_is_none (g, e) is)
 asked_group n (commands.Settle limit) g e may is = absurd (none_is_none (g, e) is)
+asked_group n (commands.Live h hosts writes workers turns) g e may is = absurd (none_is_none (g, e) is)
 asked_group n (commands.ShowLog h i) g e may is = absurd (none_is_none (g, e) is)
 asked_group n (commands.ShowApplied h i) g e may is = absurd (none_is_none (g, e) is)
 asked_group n (commands.ShowSectors h i) g e may is = absurd (none_is_none (g, e) is)

@@ -28,6 +28,7 @@ use Rattle.pf_chunk.specs.Runs.{ChunkRun, most_ports, new_run}
 use Rattle.pf_volume.specs.Volumes.{Extent, IsVolume}
 use Rattle.pf_fleet.specs.Steps.{FleetIs, IsFleetOf}
 use Rattle.pf_fleet.specs.Volumes.{host_at}
+use Rattle.pf_threads.specs.Sessions.{Session}
 use Rattle.pf_world.specs.Worlds.{made, new_volume}
 use Rattle.pf_world.specs.Views.{IsChunkOf, WorldIs, WorldOn, stands_at}
 use Rattle.pf_world.specs.Disks.{six_list}
@@ -118,9 +119,9 @@ no_hosts chunks fleet none volume count new = record {
   free = λ m above k c there port its. new_quiet c (new k c there) m port its;
 }
 
-new_stands : (halts : List Halt) (chunks sectors : ℕ) (w : WorldIs) (runs : List ChunkRun) → w.fleet.volume ≡ record { chunks = chunks; sectors = sectors } → w.fleet.hosts ≡ [] → w.kind ≡ None → runs ≡ map (run_of halts) w.chunks
-    → record { volume = new_volume (record { chunks = chunks; sectors = sectors }) runs; kind = None } ≡ stands_at halts w
-new_stands halts chunks sectors w runs extent hosts kind same = cc
+new_stands : (halts : List Halt) (sessions : List Session) (chunks sectors : ℕ) (w : WorldIs) (runs : List ChunkRun) → w.fleet.volume ≡ record { chunks = chunks; sectors = sectors } → w.fleet.hosts ≡ [] → w.kind ≡ None → runs ≡ map (run_of halts) w.chunks
+    → record { volume = new_volume (record { chunks = chunks; sectors = sectors }) runs; kind = None; sessions = sessions } ≡ stands_at halts sessions w
+new_stands halts sessions chunks sectors w runs extent hosts kind same = cc
 
 module _ {D : Type 0} (faults : D → ℕ) (told : Bool) where
   -- chunk k was made on its six disks
@@ -234,7 +235,7 @@ module _ {D : Type 0} (faults : D → ℕ) (told : Bool) where
       count = b.count;
       numbers = (b.sectors_are, b.names_are, b.format_is);
       calls = b.calls_are;
-      run = λ halts tells. new_stands halts chunks sectors w.world (map (λ k. new_run (made_chunk halts sectors names format k)) (range_with_len 0 chunks)) extent b.hosts_are b.kind_is (
+      run = λ halts sessions tells. new_stands halts sessions chunks sectors w.world (map (λ k. new_run (made_chunk halts sectors names format k)) (range_with_len 0 chunks)) extent b.hosts_are b.kind_is (
           ap (λ n. map (λ k. new_run (made_chunk halts sectors names format k)) (range_with_len 0 n)) (sym b.count)
           ∙ mapped halts (λ k. new_run (made_chunk halts sectors names format k)) 0 w.world.chunks (λ k c there.
           let m = b.each k c there in

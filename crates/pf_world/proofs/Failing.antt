@@ -1,5 +1,5 @@
 -- Where memory runs out in the middle of a line.
-use Rattle.std.proofs.Common.{◌≡◌, inl, inr, ℕ, Bool, List, Option, Some, Result, Ok, Err, OnErr, slice_get, refl, sym, ap, subst, ◌∙◌}
+use Rattle.std.proofs.Common.{[], ◌≡◌, inl, inr, ℕ, Bool, List, Option, Some, Result, Ok, Err, OnErr, slice_get, refl, sym, ap, subst, ◌∙◌}
 use Rattle.std.proofs.lemmas.List.{length-map}
 use Rattle.std.proofs.lemmas.Option.{same_Some}
 use Rattle.pf_fleet.proofs.Growing.{grown_trans_all}
@@ -38,10 +38,10 @@ have_all_begun halts old new grown tells = record {
       (all_begun halts was.group is.group (run_of halts is).group (tells k is to) (grown.each k was is at to) (extends_refl (run_of halts is).group));
 }
 
-module _ (old : WorldIs) (number : ℕ) (command : Command) (within : (new : WorldIs) → IsWithin old number command new → StopsIn old number command new) where
+module _ (old : WorldIs) (number : ℕ) (command : Command) (within : (new : WorldIs) → IsWithin old [] number command new → StopsIn old number command new) where
   -- a part was begun
   pub stopped_fails : (part : Part) (kind : Option Kind) (chunks : List ChunkIs) (fleet : FleetIs) → HasStopped part old.chunks old.fleet chunks
-      → ((halts : List Halt) → TellsAll halts chunks → (line_told halts (stands_at halts old) number command).world.volume.chunks ≡ (part halts (fleets.stands_at halts old.chunks old.fleet)).volume.chunks) → HasFailed old number command (becomes old chunks fleet kind)
+      → ((halts : List Halt) → TellsAll halts chunks → (line_told halts (stands_at halts [] old) number command).world.volume.chunks ≡ (part halts (fleets.stands_at halts old.chunks old.fleet)).volume.chunks) → HasFailed old number command (becomes old chunks fleet kind)
   stopped_fails part kind chunks fleet s line = record {
     goes_on = all_grew old chunks fleet kind s.grown;
     stopped = within (becomes old chunks fleet kind) (λ halts tells. subst (λ cs. HaveBegun halts old.chunks cs chunks) (sym (line halts tells)) (s.begun halts tells));
@@ -49,7 +49,7 @@ module _ (old : WorldIs) (number : ℕ) (command : Command) (within : (new : Wor
 
   -- it was gone through, and there was no memory for the text of the line
   pub gone_fails : (part : Part) (kind : Option Kind) (chunks : List ChunkIs) (fleet : FleetIs) (before after : List ℕ) → HasGone part old.chunks old.fleet before chunks fleet after
-      → ((halts : List Halt) → TellsAll halts chunks → (line_told halts (stands_at halts old) number command).world.volume.chunks ≡ (part halts (fleets.stands_at halts old.chunks old.fleet)).volume.chunks) → HasFailed old number command (becomes old chunks fleet kind)
+      → ((halts : List Halt) → TellsAll halts chunks → (line_told halts (stands_at halts [] old) number command).world.volume.chunks ≡ (part halts (fleets.stands_at halts old.chunks old.fleet)).volume.chunks) → HasFailed old number command (becomes old chunks fleet kind)
   gone_fails part kind chunks fleet before after went line =
       stopped_fails part kind chunks fleet (record {
         grown = went.grown;
@@ -57,17 +57,17 @@ module _ (old : WorldIs) (number : ℕ) (command : Command) (within : (new : Wor
       }) line
 
   -- nothing happened
-  pub said_fails : (kind : Option Kind) (fleet : FleetIs) → ((halts : List Halt) → (line_told halts (stands_at halts old) number command).world.volume.chunks ≡ runs halts old.chunks) → HasFailed old number command (becomes old old.chunks fleet kind)
+  pub said_fails : (kind : Option Kind) (fleet : FleetIs) → ((halts : List Halt) → (line_told halts (stands_at halts [] old) number command).world.volume.chunks ≡ runs halts old.chunks) → HasFailed old number command (becomes old old.chunks fleet kind)
   said_fails kind fleet line = record {
     goes_on = all_grew old old.chunks fleet kind (record { count = refl; each = (same_world old).grown });
     stopped = within (becomes old old.chunks fleet kind) (λ halts tells. subst (λ cs. HaveBegun halts old.chunks cs old.chunks) (sym (line halts))
         (have_all_begun halts old.chunks old.chunks (record { count = refl; each = (same_world old).grown }) tells));
   }
 
-  module _ (event : Event) (k : ℕ) (kind decided : Option Kind) (line : (halts : List Halt) → line_told halts (stands_at halts old) number command ≡ at_chunk halts (record (stands_at halts old) { kind = decided }) number k (event halts)) where
-    chunks_are : (halts : List Halt) (was : ChunkIs) → slice_get old.chunks k ≡ Some was → (line_told halts (stands_at halts old) number command).world.volume.chunks ≡ (happens halts (fleets.stands_at halts old.chunks old.fleet) (event halts (run_of halts was))).volume.chunks
+  module _ (event : Event) (k : ℕ) (kind decided : Option Kind) (line : (halts : List Halt) → line_told halts (stands_at halts [] old) number command ≡ at_chunk halts (record (stands_at halts [] old) { kind = decided }) number k (event halts)) where
+    chunks_are : (halts : List Halt) (was : ChunkIs) → slice_get old.chunks k ≡ Some was → (line_told halts (stands_at halts [] old) number command).world.volume.chunks ≡ (happens halts (fleets.stands_at halts old.chunks old.fleet) (event halts (run_of halts was))).volume.chunks
     chunks_are halts was there =
-        ap (λ (t : Told). t.world.volume.chunks) (line halts ∙ ap (λ c. told_of halts (record (stands_at halts old) { kind = decided }) number c (event halts)) (run_there halts old.chunks k was there))
+        ap (λ (t : Told). t.world.volume.chunks) (line halts ∙ ap (λ c. told_of halts (record (stands_at halts [] old) { kind = decided }) number c (event halts)) (run_there halts old.chunks k was there))
 
     pub event_fails : (chunks : List ChunkIs) (fleet : FleetIs) → HasNotAnswered event k old.chunks old.fleet chunks → HasFailed old number command (becomes old chunks fleet kind)
     event_fails chunks fleet n = stopped_fails (λ halts v. happens halts v (event halts (run_of halts n.was))) kind chunks fleet n.stopped (λ halts tells. chunks_are halts n.was n.there)

@@ -1,5 +1,5 @@
 -- Where no disk failed, the report is a function of the lines alone.
-use Rattle.std.proofs.Common.{◌≡◌, ℕ, ◌+◌, ◌*◌, ◌-◌, ◌^◌, ◌<◌, ◌≤◌, ◌&&◌, ◌==◌, Bool, true, false, cond, List, [], ◌∷◌, refl, sym, ap, subst, ◌∙◌, inl, inr, arith}
+use Rattle.std.proofs.Common.{◌≡◌, ℕ, ◌+◌, ◌*◌, ◌-◌, ◌^◌, ◌<◌, ◌≤◌, ◌&&◌, ◌==◌, Bool, true, false, cond, List, [], ◌∷◌, append-nil, refl, sym, ap, subst, ◌∙◌, inl, inr, arith}
 use Rattle.std.specs.List.{fold}
 use Rattle.std.proofs.lemmas.Bool.{eq-eqb}
 use Rattle.std.proofs.lemmas.Bool.{false≢true}
@@ -45,5 +45,6 @@ module _ {D : Type 0} (faults : D → ℕ) (before after : List D) (faultless : 
   no_halts (h ∷ hs) caused = absurd (not_caused (h ∷ hs) h.group h.server (counts_itself h hs) caused.0)
 
   -- the text is that of the run without halts
-  pub report_is : (lines : List Line) (text : List ℕ) (w : WorldIs) (halts : List Halt) → RunsTo lines text w → AreHalts faults halts before after w → text ≡ report_of [] lines
-  report_is lines text w halts run told = sym (run halts told.tells).report ∙ ap (λ hs. report_of hs lines) (no_halts halts told.causes)
+  pub report_is : (lines : List Line) (text : List ℕ) (w : WorldIs) (halts : List Halt) (run : RunsTo lines text w) → AreHalts faults halts before after w → text ≡ report_of [] run.sessions lines
+  report_is lines text w halts run told =
+      sym (run.run halts [] told.tells).report ∙ ap (λ ss. report_of halts ss lines) (append-nil run.sessions) ∙ ap (λ hs. report_of hs run.sessions lines) (no_halts halts told.causes)

@@ -1,5 +1,5 @@
 -- What happens to a volume and its hosts makes a line.
-use Rattle.std.proofs.Common.{◌≡◌, ℕ, suc, ◌<◌, ◌≤◌, Bool, IsSome, IfSome, List, [], ◌∷◌, ◌++◌, Option, Some, None, unwrap_or, refl, sym, ap, subst, ◌∙◌, arith}
+use Rattle.std.proofs.Common.{◌≡◌, ℕ, suc, ◌<◌, ◌≤◌, Bool, false, IsSome, IfSome, List, [], ◌∷◌, ◌++◌, Option, Some, None, unwrap_or, refl, sym, ap, subst, ◌∙◌, arith}
 use Rattle.std.proofs.lemmas.Bool.{false≢true}
 use Rattle.std.proofs.lemmas.List.{append_assoc, append-nil}
 use Rattle.std.proofs.lemmas.Grind.{flat_map-append}
@@ -27,7 +27,10 @@ use Rattle.pf_world.specs.declared.kind.Kind.{Kind}
 use Rattle.pf_world.specs.Worlds.{at_chunk, ended, told_of}
 use Rattle.pf_world.specs.Lines.{line_told}
 use Rattle.pf_world.specs.Views.{IsWorld, WorldIs, stands_at}
-use Rattle.pf_world.specs.Steps.{Ends, GoesOn, HasRun}
+use Rattle.pf_world.specs.Headline.{is_live}
+use Rattle.pf_threads.specs.Sessions.{Session}
+use Rattle.pf_world.specs.Steps.{Ends, GoesOn, HasRun, TakesSessions}
+use Rattle.pf_world.proofs.Others.{ends_other, line_other, takes_none, told_with}
 
 pub same_world : (w : WorldIs) → GoesOn w w
 same_world w = record {
@@ -73,27 +76,40 @@ pub le_suc : (n : ℕ) → n ≤ suc n
 le_suc n = omega arith
 
 module _ (old : WorldIs) (number : ℕ) (command : Command) (world : IsWorld old) where
-  -- the chunks and the hosts went through a part, and then the line's text was put
-  pub gone_runs : (part : Part) (kind : Option Kind) (chunks : List ChunkIs) (fleet : FleetIs) (before middle after text : List ℕ) → HasGone part old.chunks old.fleet before chunks fleet middle → after ≡ middle ++ line_of number text
-      → fleet.volume ≡ old.fleet.volume → fleet.calls ≤ suc old.fleet.calls
-      → ((halts : List Halt) → TellsAll halts chunks → line_told halts (stands_at halts old) number command ≡ ended (record (stands_at halts old) { kind = kind }) number (part halts (fleets.stands_at halts old.chunks old.fleet)) text)
-      → ((halts : List Halt) → TellsAll halts chunks → Ends halts (stands_at halts old) command) → HasRun old number command before after (becomes old chunks fleet kind)
-  gone_runs part kind chunks fleet before middle after text went put volume calls line ends = record {
+  -- the chunks and the hosts went through a part with these sessions, and then the line's text was put
+  pub went_runs : (sessions : List Session) (part : Part) (kind : Option Kind) (chunks : List ChunkIs) (fleet : FleetIs) (before middle after text : List ℕ) → TakesSessions command sessions → HasGone part old.chunks old.fleet before chunks fleet middle
+      → after ≡ middle ++ line_of number text → fleet.volume ≡ old.fleet.volume → fleet.calls ≤ suc old.fleet.calls
+      → ((halts : List Halt) (rest : List Session) → TellsAll halts chunks → line_told halts (stands_at halts (sessions ++ rest) old) number command ≡ ended (record (stands_at halts rest old) { kind = kind }) number (part halts (fleets.stands_at halts old.chunks old.fleet)) text)
+      → ((halts : List Halt) (rest : List Session) → TellsAll halts chunks → Ends halts (stands_at halts (sessions ++ rest) old) command) → HasRun old number command before after (becomes old chunks fleet kind)
+  went_runs sessions part kind chunks fleet before middle after text takes went put volume calls line ends = record {
     told = went.told ++ Writes (line_of number text) ∷ [];
     put = put ∙ ap (λ xs. xs ++ line_of number text) went.put ∙ append_assoc before (text_of went.told) (line_of number text) ∙ ap (λ xs. before ++ xs) (sym (text_after went.told (line_of number text)));
     runs = record {
       is_world = still_world old chunks fleet kind world went.ready went.is_fleet went.grown volume;
       goes_on = all_grew old chunks fleet kind went.grown;
       calls = calls;
-      run = λ halts tells. line halts tells ∙ ap (λ t. ended (record (stands_at halts old) { kind = kind }) number t text) (went.run halts tells);
+      sessions = sessions;
+      takes = takes;
+      run = λ halts rest tells. line halts rest tells ∙ ap (λ t. ended (record (stands_at halts rest old) { kind = kind }) number t text) (went.run halts tells);
       ends = ends;
     };
   }
 
+module _ (old : WorldIs) (number : ℕ) (command : Command) (world : IsWorld old) (plain : is_live command ≡ false) where
+  -- and without one
+  pub gone_runs : (part : Part) (kind : Option Kind) (chunks : List ChunkIs) (fleet : FleetIs) (before middle after text : List ℕ) → HasGone part old.chunks old.fleet before chunks fleet middle → after ≡ middle ++ line_of number text
+      → fleet.volume ≡ old.fleet.volume → fleet.calls ≤ suc old.fleet.calls
+      → ((halts : List Halt) → TellsAll halts chunks → line_told halts (stands_at halts [] old) number command ≡ ended (record (stands_at halts [] old) { kind = kind }) number (part halts (fleets.stands_at halts old.chunks old.fleet)) text)
+      → ((halts : List Halt) → TellsAll halts chunks → Ends halts (stands_at halts [] old) command) → HasRun old number command before after (becomes old chunks fleet kind)
+  gone_runs part kind chunks fleet before middle after text went put volume calls line ends =
+      went_runs old number command world [] part kind chunks fleet before middle after text (takes_none command plain) went put volume calls
+      (λ halts rest tells. line_other halts rest (stands_at halts [] old) number command plain ∙ ap (told_with halts rest) (line halts tells))
+      (λ halts rest tells. ends_other halts rest (stands_at halts [] old) command plain (ends halts tells))
+
   -- nothing happened, and the line's text was put
   pub said_runs : (kind : Option Kind) (before after text : List ℕ) (part : Part) → ((halts : List Halt) → part halts (fleets.stands_at halts old.chunks old.fleet) ≡ record { volume = fleets.stands_at halts old.chunks old.fleet; told = [] }) → after ≡ before ++ line_of number text
-      → ((halts : List Halt) → TellsAll halts old.chunks → line_told halts (stands_at halts old) number command ≡ ended (record (stands_at halts old) { kind = kind }) number (part halts (fleets.stands_at halts old.chunks old.fleet)) text)
-      → ((halts : List Halt) → Ends halts (stands_at halts old) command) → HasRun old number command before after (becomes old old.chunks old.fleet kind)
+      → ((halts : List Halt) → TellsAll halts old.chunks → line_told halts (stands_at halts [] old) number command ≡ ended (record (stands_at halts [] old) { kind = kind }) number (part halts (fleets.stands_at halts old.chunks old.fleet)) text)
+      → ((halts : List Halt) → Ends halts (stands_at halts [] old) command) → HasRun old number command before after (becomes old old.chunks old.fleet kind)
   said_runs kind before after text part none put line ends =
       gone_runs part kind old.chunks old.fleet before before after text (record {
         ready = chunks_ready old world;
@@ -107,20 +123,20 @@ module _ (old : WorldIs) (number : ℕ) (command : Command) (world : IsWorld old
   -- an event was answered, and the answer was put
   pub answered_runs : (event : Event) (k : ℕ) (kind : Option Kind) (chunks : List ChunkIs) (fleet : FleetIs) (before middle after : List ℕ) (answer : Answer) → HasAnswered event k old.chunks old.fleet before answer chunks fleet middle
       → IfSome (answer_text answer) (λ text. after ≡ middle ++ line_of number text) → fleet.volume ≡ old.fleet.volume → fleet.calls ≡ old.fleet.calls
-      → ((halts : List Halt) → line_told halts (stands_at halts old) number command ≡ at_chunk halts (record (stands_at halts old) { kind = kind }) number k (event halts))
-      → ((halts : List Halt) → Ends halts (stands_at halts old) command) → HasRun old number command before after (becomes old chunks fleet kind)
+      → ((halts : List Halt) → line_told halts (stands_at halts [] old) number command ≡ at_chunk halts (record (stands_at halts [] old) { kind = kind }) number k (event halts))
+      → ((halts : List Halt) → Ends halts (stands_at halts [] old) command) → HasRun old number command before after (becomes old chunks fleet kind)
   answered_runs event k kind chunks fleet before middle after answer a put volume calls line ends =
       gone_runs (λ halts v. happens halts v (event halts (run_of halts a.was))) kind chunks fleet before middle after (said answer) a.went (answer_put (answer_text answer) number middle after a.said put) volume
       (subst (λ n. n ≤ suc old.fleet.calls) (sym calls) (le_suc old.fleet.calls))
       (λ halts tells.
-      line halts ∙ ap (λ c. told_of halts (record (stands_at halts old) { kind = kind }) number c (event halts)) (run_there halts old.chunks k a.was a.there)
-      ∙ ap (λ x. ended (record (stands_at halts old) { kind = kind }) number (happens halts (fleets.stands_at halts old.chunks old.fleet) (event halts (run_of halts a.was))) (said x)) (a.answered halts tells))
+      line halts ∙ ap (λ c. told_of halts (record (stands_at halts [] old) { kind = kind }) number c (event halts)) (run_there halts old.chunks k a.was a.there)
+      ∙ ap (λ x. ended (record (stands_at halts [] old) { kind = kind }) number (happens halts (fleets.stands_at halts old.chunks old.fleet) (event halts (run_of halts a.was))) (said x)) (a.answered halts tells))
       (λ halts tells. ends halts)
 
 -- a settling ended, and its line was put
 pub settled_runs : (old : WorldIs) (number limit : ℕ) → IsWorld old → (chunks : List ChunkIs) (fleet : FleetIs) (before middle after : List ℕ) (stopped : Bool) → HasSettled limit old.chunks old.fleet before stopped chunks fleet middle → after ≡ middle ++ line_of number (settle_text stopped)
     → HasRun old number (Settle limit) before after (becomes old chunks fleet old.kind)
 settled_runs old number limit world chunks fleet before middle after stopped s put =
-    gone_runs old number (Settle limit) world (settling limit) old.kind chunks fleet before middle after (settle_text stopped) s.went put s.same.volume (subst (λ n. n ≤ suc old.fleet.calls) (sym s.same.calls) (le_suc old.fleet.calls))
-    (λ halts tells. ap (λ b. ended (stands_at halts old) number (settling limit halts (fleets.stands_at halts old.chunks old.fleet)) (settle_text b)) (s.answered halts tells))
+    gone_runs old number (Settle limit) world refl (settling limit) old.kind chunks fleet before middle after (settle_text stopped) s.went put s.same.volume (subst (λ n. n ≤ suc old.fleet.calls) (sym s.same.calls) (le_suc old.fleet.calls))
+    (λ halts tells. ap (λ b. ended (stands_at halts [] old) number (settling limit halts (fleets.stands_at halts old.chunks old.fleet)) (settle_text b)) (s.answered halts tells))
     (λ halts tells. s.ends halts tells)

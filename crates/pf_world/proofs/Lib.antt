@@ -3,6 +3,7 @@ pub mod Faultless
 pub mod Results
 pub mod Sixes
 pub mod Begun
+pub mod Others
 pub mod Happening
 pub mod Asking
 pub mod Told
@@ -14,3 +15,5 @@ pub mod Landing
 pub mod Asked
 pub mod Shown
 pub mod Mounts
+pub mod Sessions
+pub mod Lived

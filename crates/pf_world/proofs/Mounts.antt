@@ -30,9 +30,10 @@ use Rattle.pf_fleet.specs.Volumes.{Told, begins, followed, host_at, hosts_step, 
 use Rattle.pf_world.specs.declared.kind.Kind.{Kind}
 use Rattle.pf_world.specs.declared.kind.Kind.TheVariants.{Mounted, Raw}
 use Rattle.pf_world.specs.Worlds as worlds
-use Rattle.pf_world.specs.Worlds.{World, ended, refused_text, said_only, stepped}
+use Rattle.pf_world.specs.Worlds.{World, refused_text, stepped}
 use Rattle.pf_world.specs.Lines.{begins_if, call_of, decided, kill_of, line_told, mounts_as, rests, with_kind}
 use Rattle.pf_world.specs.Views.{IsWorld, WorldIs, stands_at}
+use Rattle.pf_world.specs.Headline.{is_live}
 use Rattle.pf_world.specs.Steps.{Ends, HasFailed, HasRun, IsWithin, StopsIn}
 use Rattle.pf_world.proofs.Failing.{gone_fails, have_all_begun, said_fails, stopped_fails}
 use Rattle.pf_world.proofs.Happening.{all_grew, becomes, gone_runs, le_suc, said_runs}
@@ -51,14 +52,14 @@ module _ (old : WorldIs) (number mount : ℕ) (world : IsWorld old) (before afte
   pub killed_runs : (next : FleetIs) → next ≡ record old.fleet { hosts = slice_set old.fleet.hosts mount None } → IsFleetOf old.chunks next → (host : HostIs) → host_at old.fleet.hosts mount ≡ Some host
       → after ≡ before ++ line_of number (said Done) → HasRun old number (commands.Kill mount) before after (becomes old old.chunks next old.kind)
   killed_runs next is is_fleet host there put =
-      gone_runs old number (commands.Kill mount) world (λ halts v. quietly (killed mount v)) old.kind old.chunks next before before after (said Done)
+      gone_runs old number (commands.Kill mount) world refl (λ halts v. quietly (killed mount v)) old.kind old.chunks next before before after (said Done)
       (still_gone old world (λ halts v. quietly (killed mount v)) next is_fleet [] before before (sym (append-nil before)) (λ halts. ap (λ f. quietly (fleets.stands_at halts old.chunks f)) (sym is)))
-      put (ap (λ (f : FleetIs). f.volume) is) (subst (λ (f : FleetIs). f.calls ≤ suc old.fleet.calls) (sym is) (omega arith)) (λ halts tells. ap (kill_of (stands_at halts old) number mount) there) (λ halts tells. tt)
+      put (ap (λ (f : FleetIs). f.volume) is) (subst (λ (f : FleetIs). f.calls ≤ suc old.fleet.calls) (sym is) (omega arith)) (λ halts tells. ap (kill_of (stands_at halts [] old) number mount) there) (λ halts tells. tt)
 
   pub none_killed_runs : (next : FleetIs) → next ≡ old.fleet → host_at old.fleet.hosts mount ≡ None → after ≡ before ++ line_of number (refused_text 96) → HasRun old number (commands.Kill mount) before after (becomes old old.chunks next old.kind)
   none_killed_runs next same none put =
       subst (λ f. HasRun old number (commands.Kill mount) before after (becomes old old.chunks f old.kind)) (sym same)
-      (said_runs old number (commands.Kill mount) world old.kind before after (refused_text 96) (λ halts v. quietly v) (λ halts. refl) put (λ halts tells. ap (kill_of (stands_at halts old) number mount) none) (λ halts. tt))
+      (said_runs old number (commands.Kill mount) world refl old.kind before after (refused_text 96) (λ halts v. quietly v) (λ halts. refl) put (λ halts tells. ap (kill_of (stands_at halts [] old) number mount) none) (λ halts. tt))
 
 chunks_killed : (w : World) (number mount : ℕ) (host : Option HostIs) → (kill_of w number mount host).world.volume.chunks ≡ w.volume.chunks
 chunks_killed w number mount None = refl
@@ -66,7 +67,7 @@ chunks_killed w number mount (Some host) = refl
 
 pub killed_fails : (old : WorldIs) (number mount : ℕ) (next : FleetIs) → HasFailed old number (commands.Kill mount) (becomes old old.chunks next old.kind)
 killed_fails old number mount next =
-    said_fails old number (commands.Kill mount) (λ new within. within) old.kind next (λ halts. chunks_killed (stands_at halts old) number mount (host_at old.fleet.hosts mount))
+    said_fails old number (commands.Kill mount) (λ new within. within) old.kind next (λ halts. chunks_killed (stands_at halts [] old) number mount (host_at old.fleet.hosts mount))
 
 -- A part of a line, and then a step of each host
 
@@ -83,18 +84,18 @@ module _ (old : WorldIs) (number : ℕ) (command : Command) (part : Part) (kind 
     all_gone later second =
         went_on part hosts_step old.chunks mid next.chunks old.fleet fleet next.fleet before middle later first (subst (λ (w : WorldIs). HasGone hosts_step w.chunks w.fleet middle next.chunks next.fleet later) (sym is) second)
 
-    pub steps_run : (later after text : List ℕ) → HasGone hosts_step between.chunks between.fleet middle next.chunks next.fleet later → AreSameHosts between.fleet next.fleet → IsWorld old
+    pub steps_run : (later after text : List ℕ) → HasGone hosts_step between.chunks between.fleet middle next.chunks next.fleet later → AreSameHosts between.fleet next.fleet → IsWorld old → is_live command ≡ false
         → fleet.volume ≡ old.fleet.volume → fleet.calls ≤ suc old.fleet.calls → after ≡ later ++ line_of number text
-        → ((halts : List Halt) → line_told halts (stands_at halts old) number command ≡ stepped halts (record (stands_at halts old) { kind = kind }) number (part halts (fleets.stands_at halts old.chunks old.fleet)) text)
-        → ((halts : List Halt) → Ends halts (stands_at halts old) command) → HasRun old number command before after next
-    steps_run later after text second hosts world volume calls put line ends =
+        → ((halts : List Halt) → line_told halts (stands_at halts [] old) number command ≡ stepped halts (record (stands_at halts [] old) { kind = kind }) number (part halts (fleets.stands_at halts old.chunks old.fleet)) text)
+        → ((halts : List Halt) → Ends halts (stands_at halts [] old) command) → HasRun old number command before after next
+    steps_run later after text second hosts world plain volume calls put line ends =
         let same = subst (λ (w : WorldIs). AreSameHosts w.fleet next.fleet) (sym is) hosts in
         subst (HasRun old number command before after) becomes_next
-        (gone_runs old number command world whole kind next.chunks next.fleet before later after text (all_gone later second) put (same.volume ∙ volume) (subst (λ n. n ≤ suc old.fleet.calls) (sym same.calls) calls)
+        (gone_runs old number command world plain whole kind next.chunks next.fleet before later after text (all_gone later second) put (same.volume ∙ volume) (subst (λ n. n ≤ suc old.fleet.calls) (sym same.calls) calls)
         (λ halts tells. line halts) (λ halts tells. ends halts))
 
-    module _ (within : (new : WorldIs) → IsWithin old number command new → StopsIn old number command new) (text : List ℕ)
-        (line : (halts : List Halt) → line_told halts (stands_at halts old) number command ≡ stepped halts (record (stands_at halts old) { kind = kind }) number (part halts (fleets.stands_at halts old.chunks old.fleet)) text) where
+    module _ (within : (new : WorldIs) → IsWithin old [] number command new → StopsIn old number command new) (text : List ℕ)
+        (line : (halts : List Halt) → line_told halts (stands_at halts [] old) number command ≡ stepped halts (record (stands_at halts [] old) { kind = kind }) number (part halts (fleets.stands_at halts old.chunks old.fleet)) text) where
       -- there was no memory for the line's text
       pub steps_fail : (later : List ℕ) → HasGone hosts_step between.chunks between.fleet middle next.chunks next.fleet later → HasFailed old number command next
       steps_fail later second =
@@ -110,12 +111,12 @@ module _ (old : WorldIs) (number : ℕ) (command : Command) (part : Part) (kind 
           (λ halts tells. ap (λ (t : worlds.Told). t.world.volume.chunks) (line halts)))
 
 -- the line was not begun: all that it does only adds to histories
-pub not_begun : (old : WorldIs) (number : ℕ) (command : Command) → ((new : WorldIs) → IsWithin old number command new → StopsIn old number command new) → (kind : Option Kind) (fleet : FleetIs)
-    → ((halts : List Halt) → Lengthens (runs halts old.chunks) (line_told halts (stands_at halts old) number command).world.volume.chunks) → HasFailed old number command (becomes old old.chunks fleet kind)
+pub not_begun : (old : WorldIs) (number : ℕ) (command : Command) → ((new : WorldIs) → IsWithin old [] number command new → StopsIn old number command new) → (kind : Option Kind) (fleet : FleetIs)
+    → ((halts : List Halt) → Lengthens (runs halts old.chunks) (line_told halts (stands_at halts [] old) number command).world.volume.chunks) → HasFailed old number command (becomes old old.chunks fleet kind)
 not_begun old number command within kind fleet longer = record {
   goes_on = all_grew old old.chunks fleet kind (grown_refl_all old.chunks);
   stopped = within (becomes old old.chunks fleet kind) (λ halts tells.
-      let would = (line_told halts (stands_at halts old) number command).world.volume.chunks in
+      let would = (line_told halts (stands_at halts [] old) number command).world.volume.chunks in
       begun_through halts old.chunks old.chunks old.chunks (runs halts old.chunks) would (grown_refl_all old.chunks) (have_all_begun halts old.chunks old.chunks (grown_refl_all old.chunks) tells) (longer halts));
 }
 
@@ -192,11 +193,11 @@ module _ (halts : List Halt) (w : World) (number : ℕ) where
 
 module _ (old : WorldIs) (number : ℕ) (mounted : decided old.kind Mounted ≡ Mounted) (halts : List Halt) where
   abbrev decided_world : World
-  decided_world = with_kind (stands_at halts old) (decided old.kind Mounted)
+  decided_world = with_kind (stands_at halts [] old) (decided old.kind Mounted)
 
   -- what makes each refusal
   pub no_mount_line : (fault : JoinFault) → fault ≢ joins_not.NoMemory → (IsErrOf {T = ℕ} (Err fault) joins_not.SmallVolume ↔ (size_of old.fleet.volume < 4112)) → (IsErrOf {T = ℕ} (Err fault) joins_not.MountsFull ↔ (16 ≤ length old.fleet.hosts))
-      → line_told halts (stands_at halts old) number commands.Mount ≡ stepped halts decided_world number (quietly (fleets.stands_at halts old.chunks old.fleet)) (refused_text (join_number fault))
+      → line_told halts (stands_at halts [] old) number commands.Mount ≡ stepped halts decided_world number (quietly (fleets.stands_at halts old.chunks old.fleet)) (refused_text (join_number fault))
   no_mount_line joins_not.NoMemory other small full = absurd (other refl)
   no_mount_line joins_not.MountsFull other small full = full_line halts decided_world number (decided old.kind Mounted) mounted (λ low. apart (small.1 low)) (full.0 refl) where
     apart : IsErrOf {T = ℕ} (Err joins_not.MountsFull) joins_not.SmallVolume → ⊥
@@ -207,7 +208,7 @@ module _ (old : WorldIs) (number : ℕ) (mounted : decided old.kind Mounted ≡ 
   ok_no_err m fault same = cc
 
   pub mount_line_told : (m : ℕ) → (IsErrOf (Ok m) joins_not.SmallVolume ↔ (size_of old.fleet.volume < 4112)) → (IsErrOf (Ok m) joins_not.MountsFull ↔ (16 ≤ length old.fleet.hosts))
-      → line_told halts (stands_at halts old) number commands.Mount ≡ stepped halts decided_world number (mounts (fleets.stands_at halts old.chunks old.fleet)) (mount_text (length old.fleet.hosts))
+      → line_told halts (stands_at halts [] old) number commands.Mount ≡ stepped halts decided_world number (mounts (fleets.stands_at halts old.chunks old.fleet)) (mount_text (length old.fleet.hosts))
   mount_line_told m small full =
       joined_line halts decided_world number (decided old.kind Mounted) mounted (λ low. ok_no_err m joins_not.SmallVolume (small.1 low)) (λ many. ok_no_err m joins_not.MountsFull (full.1 many))
 
@@ -218,14 +219,14 @@ no_mount_said joins_not.SmallVolume other = refl
 
 pub mount_not_begun : (old : WorldIs) (number : ℕ) (fleet : FleetIs) (kind : Option Kind) → HasFailed old number commands.Mount (becomes old old.chunks fleet kind)
 mount_not_begun old number fleet kind =
-    not_begun old number commands.Mount (λ new within. within) kind fleet (λ halts. let decided_kind = decided old.kind Mounted in by_kind halts (with_kind (stands_at halts old) decided_kind) number decided_kind)
+    not_begun old number commands.Mount (λ new within. within) kind fleet (λ halts. let decided_kind = decided old.kind Mounted in by_kind halts (with_kind (stands_at halts [] old) decided_kind) number decided_kind)
 
 -- in a raw run nothing is mounted
 pub raw_runs : (old : WorldIs) (number : ℕ) (before after : List ℕ) → IsWorld old → decided old.kind Mounted ≡ Raw → after ≡ before ++ line_of number (refused_text 95)
     → HasRun old number commands.Mount before after (becomes old old.chunks old.fleet (Some (decided old.kind Mounted)))
 raw_runs old number before after world raw put =
-    said_runs old number commands.Mount world (Some (decided old.kind Mounted)) before after (refused_text 95) (λ halts v. quietly v) (λ halts. refl) put
-    (λ halts tells. ap (λ kind. mounts_as kind halts (with_kind (stands_at halts old) (decided old.kind Mounted)) number) raw) (λ halts. tt)
+    said_runs old number commands.Mount world refl (Some (decided old.kind Mounted)) before after (refused_text 95) (λ halts v. quietly v) (λ halts. refl) put
+    (λ halts tells. ap (λ kind. mounts_as kind halts (with_kind (stands_at halts [] old) (decided old.kind Mounted)) number) raw) (λ halts. tt)
 
 -- A call begins
 
@@ -269,7 +270,7 @@ no_call_said faults.NoMount other = refl
 
 pub call_not_begun : (old : WorldIs) (number mount : ℕ) (call : Call) (fleet : FleetIs) → HasFailed old number (commands.Call mount call) (becomes old old.chunks fleet old.kind)
 call_not_begun old number mount call fleet =
-    not_begun old number (commands.Call mount call) (λ new within. within) old.kind fleet (λ halts. call_lengthens halts (stands_at halts old) number mount call (host_at old.fleet.hosts mount))
+    not_begun old number (commands.Call mount call) (λ new within. within) old.kind fleet (λ halts. call_lengthens halts (stands_at halts [] old) number mount call (host_at old.fleet.hosts mount))
 
 -- Whole lines
 
@@ -296,7 +297,7 @@ module _ (old : WorldIs) (number : ℕ) (before : List ℕ) (world : IsWorld old
       module _ (small : IsErrOf (Ok m) joins_not.SmallVolume ↔ (size_of old.fleet.volume < 4112)) (full : IsErrOf (Ok m) joins_not.MountsFull ↔ (16 ≤ length old.fleet.hosts)) where
         pub joined_runs : (later after : List ℕ) → HasGone hosts_step come.chunks come.fleet before next.chunks next.fleet later → AreSameHosts fleet next.fleet → after ≡ later ++ line_of number (mount_text m) → HasRun old number commands.Mount before after next
         joined_runs later after steps same put =
-            steps_run old number commands.Mount (λ halts v. mounts v) settled_kind mid fleet before before came come next come_is others later after (mount_text (length old.fleet.hosts)) steps same world joined.volume
+            steps_run old number commands.Mount (λ halts v. mounts v) settled_kind mid fleet before before came come next come_is others later after (mount_text (length old.fleet.hosts)) steps same world refl joined.volume
             (subst (λ n. n ≤ suc old.fleet.calls) (sym joined.calls) (le_suc old.fleet.calls)) (put ∙ ap (λ n. later ++ line_of number (mount_text n)) joined.number_is) (λ halts. mount_line_told old number is_mounted halts m small full) (λ halts. tt)
 
         pub joined_fails : (later : List ℕ) → HasGone hosts_step come.chunks come.fleet before next.chunks next.fleet later → HasFailed old number commands.Mount next
@@ -320,7 +321,7 @@ module _ (old : WorldIs) (number : ℕ) (before : List ℕ) (world : IsWorld old
       module _ (fault : JoinFault) (other : fault ≢ joins_not.NoMemory) (small : IsErrOf {T = ℕ} (Err fault) joins_not.SmallVolume ↔ (size_of old.fleet.volume < 4112)) (full : IsErrOf {T = ℕ} (Err fault) joins_not.MountsFull ↔ (16 ≤ length old.fleet.hosts)) where
         pub none_joined_runs : (later after : List ℕ) → HasGone hosts_step stays.chunks stays.fleet before next.chunks next.fleet later → AreSameHosts fleet next.fleet → after ≡ later ++ line_of number (refused_text (join_number fault)) → HasRun old number commands.Mount before after next
         none_joined_runs later after steps same put =
-            steps_run old number commands.Mount (λ halts v. quietly v) settled_kind old.chunks old.fleet before before (quiet_gone old world before) stays next stays_is others later after (refused_text (join_number fault)) steps same world refl
+            steps_run old number commands.Mount (λ halts v. quietly v) settled_kind old.chunks old.fleet before before (quiet_gone old world before) stays next stays_is others later after (refused_text (join_number fault)) steps same world refl refl
             (le_suc old.fleet.calls) put (λ halts. no_mount_line old number is_mounted halts fault other small full) (λ halts. tt)
 
         pub none_joined_fails : (later : List ℕ) → HasGone hosts_step stays.chunks stays.fleet before next.chunks next.fleet later → HasFailed old number commands.Mount next
@@ -343,12 +344,12 @@ module _ (old : WorldIs) (number : ℕ) (before : List ℕ) (world : IsWorld old
       begun_is : becomes old mid fleet old.kind ≡ begun
       begun_is = handed_is old len mid fleet old.kind all called.went.grown.count
 
-      line_begins : (halts : List Halt) → line_told halts (stands_at halts old) number (commands.Call m call) ≡ stepped halts (stands_at halts old) number (begins m called.host called.file (fleets.stands_at halts old.chunks old.fleet)) started_text
-      line_begins halts = called_line halts (stands_at halts old) number m call called.host called.file called.there called.rests called.read
+      line_begins : (halts : List Halt) → line_told halts (stands_at halts [] old) number (commands.Call m call) ≡ stepped halts (stands_at halts [] old) number (begins m called.host called.file (fleets.stands_at halts old.chunks old.fleet)) started_text
+      line_begins halts = called_line halts (stands_at halts [] old) number m call called.host called.file called.there called.rests called.read
 
       pub called_runs : (later after : List ℕ) → HasGone hosts_step begun.chunks begun.fleet middle next.chunks next.fleet later → AreSameHosts fleet next.fleet → after ≡ later ++ line_of number started_text → HasRun old number (commands.Call m call) before after next
       called_runs later after steps same put =
-          steps_run old number (commands.Call m call) (λ halts v. begins m called.host called.file v) old.kind mid fleet before middle called.went begun next begun_is others later after started_text steps same world called.volume
+          steps_run old number (commands.Call m call) (λ halts v. begins m called.host called.file v) old.kind mid fleet before middle called.went begun next begun_is others later after started_text steps same world refl called.volume
           (subst (λ n. n ≤ suc old.fleet.calls) (sym called.calls) (omega arith)) put line_begins (λ halts. tt)
 
       pub called_fails : (later : List ℕ) → HasGone hosts_step begun.chunks begun.fleet middle next.chunks next.fleet later → HasFailed old number (commands.Call m call) next
@@ -364,12 +365,12 @@ module _ (old : WorldIs) (number : ℕ) (before : List ℕ) (world : IsWorld old
       unbegun_is : becomes old old.chunks old.fleet old.kind ≡ begun
       unbegun_is = ap (λ f. becomes old old.chunks f old.kind) (sym fleet_is) ∙ still_handed old len mid fleet old.kind all chunks_are
 
-      line_refuses : (halts : List Halt) → line_told halts (stands_at halts old) number (commands.Call m call) ≡ stepped halts (stands_at halts old) number (quietly (fleets.stands_at halts old.chunks old.fleet)) (refused_text (call_number fault))
-      line_refuses halts = refused_line halts (stands_at halts old) number m call fault other cause
+      line_refuses : (halts : List Halt) → line_told halts (stands_at halts [] old) number (commands.Call m call) ≡ stepped halts (stands_at halts [] old) number (quietly (fleets.stands_at halts old.chunks old.fleet)) (refused_text (call_number fault))
+      line_refuses halts = refused_line halts (stands_at halts [] old) number m call fault other cause
 
       pub refused_runs : (later after : List ℕ) → HasGone hosts_step begun.chunks begun.fleet before next.chunks next.fleet later → AreSameHosts fleet next.fleet → after ≡ later ++ line_of number (refused_text (call_number fault)) → HasRun old number (commands.Call m call) before after next
       refused_runs later after steps same put =
-          steps_run old number (commands.Call m call) (λ halts v. quietly v) old.kind old.chunks old.fleet before before (quiet_gone old world before) begun next unbegun_is others later after (refused_text (call_number fault)) steps same world refl
+          steps_run old number (commands.Call m call) (λ halts v. quietly v) old.kind old.chunks old.fleet before before (quiet_gone old world before) begun next unbegun_is others later after (refused_text (call_number fault)) steps same world refl refl
           (le_suc old.fleet.calls) put line_refuses (λ halts. tt)
 
       -- there was no memory for the line's text: whatever stood in the buffer before

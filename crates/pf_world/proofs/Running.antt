@@ -1,7 +1,8 @@
 -- Lines that were run one after another are a run: what the making of a world and each line say is enough for a whole script.
-use Rattle.std.proofs.Common.{◌≡◌, ℕ, ◌<◌, List, [], ◌∷◌, ◌++◌, length, map, get_or, refl, sym, ap, subst, ◌∙◌}
+use Rattle.std.proofs.Common.{◌≡◌, ℕ, ◌<◌, ◌≤◌, cond, List, [], ◌∷◌, ◌++◌, length, length-append, lit≤, map, get_or, arith, refl, sym, ap, subst, ◌∙◌}
 use Rattle.std.specs.List.{flat_map}
 use Rattle.std.proofs.lemmas.List.{append_assoc, append-nil}
+use Rattle.std.proofs.lemmas.List.Sums.{sum_by-append}
 use Rattle.std.proofs.lemmas.Grind.{flat_map-append}
 use Rattle.std.proofs.lemmas.Option.{slice_get-get_or, slice_get_within}
 use Rattle.pf_script.specs.declared.command.Command.{Command}
@@ -19,14 +20,15 @@ use Rattle.pf_world.specs.declared.line.Line.{Line}
 use Rattle.pf_world.specs.Reports.{followed, run_from, world_run}
 use Rattle.pf_world.specs.Views.{WorldIs, stands_at}
 use Rattle.pf_world.specs.Agreeing.{Tells}
-use Rattle.pf_world.specs.Steps.{Ends, GoesOn, IsMade, Runs}
-use Rattle.pf_world.specs.Headline.{EndEach, RunsTo}
+use Rattle.pf_threads.specs.Sessions.{Session}
+use Rattle.pf_world.specs.Steps.{Ends, GoesOn, IsMade, Runs, TakesSessions}
+use Rattle.pf_world.specs.Headline.{EndEach, IsRunTo, RunsTo, is_live}
 use Rattle.pf_rounds.proofs.Growing.{grown_tells, grown_trans}
 use Rattle.pf_cluster.proofs.Lists.{something_there}
 
 -- the making is halted where some server could not be formatted
-made_says : (halts : List Halt) (w : WorldIs) → made_answer (stands_at halts w) ≡ making_answer (flat_map (λ c. c.group.setup.failed) w.chunks)
-made_says halts w = ap making_answer (flat_mapped w.chunks) where
+made_says : (halts : List Halt) (sessions : List Session) (w : WorldIs) → made_answer (stands_at halts sessions w) ≡ making_answer (flat_map (λ c. c.group.setup.failed) w.chunks)
+made_says halts sessions w = ap making_answer (flat_mapped w.chunks) where
   flat_mapped : (cs : List ChunkIs) → flat_map (λ (c : ChunkRun). c.group.setup.failed) (map (run_of halts) cs) ≡ flat_map (λ c. c.group.setup.failed) cs
   flat_mapped [] = refl
   flat_mapped (c ∷ cs) = ap (λ fs. c.group.setup.failed ++ fs) (flat_mapped cs)
@@ -68,28 +70,43 @@ ends_one : (halts : List Halt) (lines : List Line) (w : World) (line : Line) →
 ends_one halts [] w line each last = (last, tt)
 ends_one halts (first ∷ lines) w line each last = (each.0, ends_one halts lines (line_told halts w first.number first.command).world line each.1 last)
 
+-- a line of threads more, and a session more at most
+takes_few : (command : Command) (sessions : List Session) → TakesSessions command sessions → length sessions ≤ cond (is_live command) 1 0
+takes_few (commands.Live chunk hosts writes workers turns) sessions takes = takes
+takes_few command sessions takes = subst (λ (ss : List Session). length ss ≤ 0) (sym takes) (lit≤ tt)
+
 -- the volume is the first line
 pub run_begins : (chunks sectors names format number : ℕ) (w : WorldIs) (answer : Answer) → IsMade chunks sectors names format w answer → RunsTo (record { number = number; command = commands.Volume chunks sectors names format } ∷ []) (answer_line number answer) w
-run_begins chunks sectors names format number w answer made halts tells =
-    let line : Line = record { number = number; command = commands.Volume chunks sectors names format } in
-    let told = run_one halts no_world line ∙ ap (volume_told number) (made.run halts tells) in
-    record {
-      world = ap (λ (t : Told). t.world) told;
-      report = ap (λ (t : Told). text_of t.told) told ∙ append-nil (answer_line number (made_answer (stands_at halts w))) ∙ ap (answer_line number) (made_says halts w ∙ sym made.answered);
-      ends = (tt, tt);
-    }
+run_begins chunks sectors names format number w answer made = record {
+  sessions = [];
+  few = lit≤ tt;
+  run = λ halts rest tells.
+      let line : Line = record { number = number; command = commands.Volume chunks sectors names format } in
+      let told = run_one halts (no_world rest) line ∙ ap (volume_told number) (made.run halts rest tells) in
+      record {
+        world = ap (λ (t : Told). t.world) told;
+        report = ap (λ (t : Told). text_of t.told) told ∙ append-nil (answer_line number (made_answer (stands_at halts rest w))) ∙ ap (answer_line number) (made_says halts rest w ∙ sym made.answered);
+        ends = (tt, tt);
+      };
+}
 
 -- and each line that was run goes on with it
 pub run_goes_on : (lines : List Line) (text : List ℕ) (old : WorldIs) (number : ℕ) (command : Command) (more : List Moment) (new : WorldIs) → RunsTo lines text old → Runs old number command more new → RunsTo (lines ++ record { number = number; command = command } ∷ []) (text ++ text_of more) new
-run_goes_on lines text old number command more new before runs halts tells =
+run_goes_on lines text old number command more new before runs =
     let line : Line = record { number = number; command = command } in
-    let was = before halts (tells_earlier halts old new runs.goes_on tells) in
-    let so_far : Told = world_run halts lines in
-    let last : line_told halts so_far.world number command ≡ record { world = stands_at halts new; told = more } = ap (λ w. line_told halts w number command) was.world ∙ runs.run halts tells in
-    let whole : world_run halts (lines ++ line ∷ []) ≡ record { world = stands_at halts new; told = so_far.told ++ more } =
-    run_snoc halts no_world lines line ∙ ap (λ (t : Told). record { world = t.world; told = so_far.told ++ t.told }) last in
-    record {
-      world = ap (λ (t : Told). t.world) whole;
-      report = ap (λ (t : Told). text_of t.told) whole ∙ flat_map-append lines_in so_far.told more ∙ ap (λ xs. xs ++ text_of more) was.report;
-      ends = ends_one halts lines no_world line was.ends (subst (λ (w : World). Ends halts w command) (sym was.world) (runs.ends halts tells));
+    let all = before.sessions ++ runs.sessions in record {
+      sessions = all;
+      few = omega (arith, length-append before.sessions runs.sessions, before.few, takes_few command runs.sessions runs.takes, sum_by-append (λ (l : Line). cond (is_live l.command) 1 0) lines (line ∷ []));
+      run = λ halts rest tells.
+          let was = before.run halts (runs.sessions ++ rest) (tells_earlier halts old new runs.goes_on tells) in
+          let same : before.sessions ++ (runs.sessions ++ rest) ≡ all ++ rest = sym (append_assoc before.sessions runs.sessions rest) in
+          let so_far : Told = world_run halts (before.sessions ++ (runs.sessions ++ rest)) lines in
+          let last : line_told halts so_far.world number command ≡ record { world = stands_at halts rest new; told = more } = ap (λ w. line_told halts w number command) was.world ∙ runs.run halts rest tells in
+          let whole : world_run halts (before.sessions ++ (runs.sessions ++ rest)) (lines ++ line ∷ []) ≡ record { world = stands_at halts rest new; told = so_far.told ++ more } =
+          run_snoc halts (no_world (before.sessions ++ (runs.sessions ++ rest))) lines line ∙ ap (λ (t : Told). record { world = t.world; told = so_far.told ++ t.told }) last in
+          subst (λ ss. IsRunTo halts ss rest (lines ++ line ∷ []) (text ++ text_of more) new) same (record {
+            world = ap (λ (t : Told). t.world) whole;
+            report = ap (λ (t : Told). text_of t.told) whole ∙ flat_map-append lines_in so_far.told more ∙ ap (λ xs. xs ++ text_of more) was.report;
+            ends = ends_one halts lines (no_world (before.sessions ++ (runs.sessions ++ rest))) line was.ends (subst (λ (w : World). Ends halts w command) (sym was.world) (runs.ends halts rest tells));
+          });
     }

@@ -1,5 +1,5 @@
 -- The halts of all groups of a world tell of it, and every run that leads to it is lawful.
-use Rattle.std.proofs.Common.{◌≡◌, ℕ, ◌<◌, IsTrue, List, map, Some, slice_get, sym, subst}
+use Rattle.std.proofs.Common.{[], ◌≡◌, ℕ, ◌<◌, IsTrue, List, map, Some, slice_get, sym, subst}
 use Rattle.std.specs.List.{flat_map}
 use Rattle.pf_entry.specs.Lists.{Every}
 use Rattle.pf_cluster.proofs.Alone.{get_mapped}
@@ -48,7 +48,7 @@ module _ (w : WorldIs) (is : AreNumbered w) (told : AreTold w) (legal : IsSoundW
 
 -- the histories of a run are those of the groups, but for what a restart finds where there is nothing to be found
 module _ (halts : List Halt) (w : WorldIs) (tells : Tells halts w) (legal : IsSoundWorld w) where
-  pub lawful_run : IsLawfulRun (stands_at halts w)
+  pub lawful_run : IsLawfulRun (stands_at halts [] w)
   lawful_run k c there =
       let at = get_mapped (run_of halts) w.chunks k c there in
       let g = at.0.group in
@@ -59,5 +59,5 @@ module _ (halts : List Halt) (w : WorldIs) (tells : Tells halts w) (legal : IsSo
         sound = sound g.setup (told_history halts g);
       })
 
-  pub safe_run : IsSafeRun (stands_at halts w)
+  pub safe_run : IsSafeRun (stands_at halts [] w)
   safe_run k c there = (lawful_run k c there).sound.safe

@@ -1,5 +1,6 @@
 -- What holds of every world that a script leads to.
-use Rattle.std.specs.Prelude.{◌≡◌, ◌⊎◌, ℕ, ◌+◌, ◌-◌, ◌*◌, ◌^◌, ◌<◌, ◌≤◌, Bool, IsTrue, List, [], ◌∷◌, length, Option, Some, slice_get}
+use Rattle.std.specs.Prelude.{◌≡◌, ◌⊎◌, ℕ, ◌+◌, ◌-◌, ◌*◌, ◌^◌, ◌<◌, ◌≤◌, Bool, true, false, IsTrue, List, [], ◌∷◌, ◌++◌, length, Option, Some, slice_get}
+use Rattle.std.specs.List.{count_by}
 use Rattle.pf_disk.specs.Crashes.{Images}
 use Rattle.pf_entry.specs.Lists.{Every}
 use Rattle.pf_protocol.specs.Answers.{IsLegal}
@@ -14,6 +15,9 @@ use Rattle.pf_rounds.specs.Growing.{IsLast}
 use Rattle.pf_rounds.specs.Telling.{halts_at}
 use Rattle.pf_chunk.specs.Runs.{ChunkRun}
 use Rattle.pf_chunk.specs.Views.{ChunkIs}
+use Rattle.pf_script.specs.declared.command.Command.{Command}
+use Rattle.pf_script.specs.declared.command.Command.TheVariants as commands
+use Rattle.pf_threads.specs.Sessions.{Session}
 use Rattle.pf_world.specs.declared.line.Line.{Line}
 use Rattle.pf_world.specs.Worlds.{World, no_world}
 use Rattle.pf_world.specs.Lines.{line_told}
@@ -79,20 +83,29 @@ module _ {D : Type 0} (faults : D → ℕ) where
   abbrev pub AreFaultless : (before after : List D) → Type 0
   AreFaultless before after = (place : ℕ) (was is : D) → slice_get before place ≡ Some was → slice_get after place ≡ Some is → (faults is ≡ faults was) × (faults was < 2 ^ 64 - 1)
 
--- each settling of these lines ends by itself, and not since its tries were counted
+-- each settling of these lines ends by itself, and not since its tries were counted; and the sessions of live lines are those of their numbers
 abbrev pub EndEach : List Halt → World → List Line → Type 0
 EndEach halts w [] = Unit {0}
 EndEach halts w (line ∷ lines) = Ends halts w line.command × EndEach halts (line_told halts w line.number line.command).world lines
 
--- the run of these lines leads to the world, and its report is this text
-pub record IsRunTo (halts : List Halt) (lines : List Line) (text : List ℕ) (w : WorldIs) : Type 0 where
-  pub world : (world_run halts lines).world ≡ stands_at halts w
-  pub report : report_of halts lines ≡ text
-  pub ends : EndEach halts no_world lines
+-- the run of these lines with these sessions leads to the world, of whose sessions the rest are still to come, and its report is this text
+pub record IsRunTo (halts : List Halt) (sessions rest : List Session) (lines : List Line) (text : List ℕ) (w : WorldIs) : Type 0 where
+  pub world : (world_run halts sessions lines).world ≡ stands_at halts rest w
+  pub report : report_of halts sessions lines ≡ text
+  pub ends : EndEach halts (no_world sessions) lines
 
--- under every list of halts that tells of the world
-abbrev pub RunsTo : List Line → (text : List ℕ) → WorldIs → Type 0
-RunsTo lines text w = (halts : List Halt) → Tells halts w → IsRunTo halts lines text w
+abbrev pub is_live : Command → Bool
+is_live (commands.Live chunk hosts writes workers turns) = true
+is_live command = false
+
+abbrev pub live_lines : List Line → ℕ
+live_lines lines = count_by (λ line. is_live line.command) lines
+
+-- These are the sessions of the live lines among the lines, and under every list of halts that tells of the world the run leads to it
+pub record RunsTo (lines : List Line) (text : List ℕ) (w : WorldIs) : Type 0 where
+  pub sessions : List Session
+  pub few : length sessions ≤ live_lines lines
+  pub run : (halts : List Halt) (rest : List Session) → Tells halts w → IsRunTo halts (sessions ++ rest) rest lines text w
 
 -- the making of the group, or an event of its history
 abbrev pub IsPlaceOf : GroupIs → Place → Type 0

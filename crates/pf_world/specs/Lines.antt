@@ -1,5 +1,5 @@
 -- What each line of a script does to a world, and what it tells.
-use Rattle.std.specs.Prelude.{ℕ, Bool, true, false, not, nat_le, nat_lt, if◌then◌else◌, List, [], ◌∷◌, length, Option, Some, None, slice_get}
+use Rattle.std.specs.Prelude.{ℕ, Bool, true, false, not, nat_le, nat_lt, if◌then◌else◌, List, [], ◌∷◌, drop, length, Option, Some, None, slice_get}
 use Rattle.pf_base.specs.declared.calls.Call.{Call}
 use Rattle.pf_tree.specs.declared.calls.FileCall.{FileCall}
 use Rattle.pf_tree.specs.Listings.{listing}
@@ -17,6 +17,7 @@ use Rattle.pf_rounds.specs.Halts.{Halt}
 use Rattle.pf_rounds.specs.Chunks.{Chunk}
 use Rattle.pf_chunk.specs.Asking.{fetches, is_range, no_range_answer, submits}
 use Rattle.pf_chunk.specs.Happenings.{Happened, happened}
+use Rattle.pf_chunk.specs.Lending.{all_happened}
 use Rattle.pf_chunk.specs.Runs.{ChunkRun}
 use Rattle.pf_chunk.specs.Saying.{answer_line, said}
 use Rattle.pf_chunk.specs.Showing.{acked_shown, applied_shown, log_shown, mark_shown, of_server, sectors_shown}
@@ -25,7 +26,8 @@ use Rattle.pf_hosts.specs.Hosts.{HostIs}
 use Rattle.pf_hosts.specs.Words.{read_call}
 use Rattle.pf_fleet.specs.Settling.{settled}
 use Rattle.pf_fleet.specs.Settled.{settling}
-use Rattle.pf_fleet.specs.Volumes.{begins, host_at, killed, mounts, quietly, saying}
+use Rattle.pf_fleet.specs.Volumes.{begins, happens, host_at, killed, mounts, quietly, saying}
+use Rattle.pf_threads.specs.Sessions.{Session, next_session, session_text}
 use Rattle.pf_world.specs.declared.kind.Kind.{Kind}
 use Rattle.pf_world.specs.declared.kind.Kind.TheVariants.{Mounted, Raw}
 use Rattle.pf_world.specs.Worlds.{Told, World, at_chunk, ended, made, made_answer, refused_text, said_only, stepped}
@@ -78,6 +80,24 @@ submit_told halts w number chunk server first byte count =
     let kind = decided w.kind Raw in
     submits_as kind halts (with_kind w kind) number chunk server first byte count
 
+-- Live lines
+
+abbrev pub held_told : List Halt → World → (number : ℕ) → Session → Option ChunkRun → Told
+held_told halts w number session None = record { world = w; told = [] }
+held_told halts w number session (Some c) =
+    let now = all_happened halts session.events c in
+    ended w number (happens halts w.volume now) (session_text c.group now.chunk.group session.ended)
+
+-- in a run with mounts no threads begin; in any other they do to the chunk what the next session tells
+abbrev pub live_as : Kind → List Halt → World → (number chunk : ℕ) → Told
+live_as Mounted halts w number chunk = said_only w number (refused_text 94)
+live_as Raw halts w number chunk = held_told halts (record w { sessions = drop 1 w.sessions }) number (next_session w.sessions) (slice_get w.volume.chunks chunk)
+
+abbrev pub live_told : List Halt → World → (number chunk : ℕ) → Told
+live_told halts w number chunk =
+    let kind = decided w.kind Raw in
+    live_as kind halts (with_kind w kind) number chunk
+
 -- Mounts
 
 -- the next mount, where the volume has room for files and for one more
@@ -123,7 +143,7 @@ show_of w number mount (Some host) =
 
 -- a line, by its number and its command
 abbrev pub line_told : List Halt → World → (number : ℕ) → Command → Told
-line_told halts w number (commands.Volume chunks sectors names format) = volume_told number (made halts chunks sectors names format)
+line_told halts w number (commands.Volume chunks sectors names format) = volume_told number (made halts w.sessions chunks sectors names format)
 line_told halts w number (commands.Elect g i) = at_chunk halts w number g (λ c. happened halts c (events.Elect i))
 line_told halts w number (commands.Resend g i) = at_chunk halts w number g (λ c. happened halts c (events.Resend i))
 line_told halts w number (commands.Stop g i) = at_chunk halts w number g (λ c. happened halts c (events.Stop i))
@@ -135,6 +155,7 @@ line_told halts w number (commands.Submit g i s b n) = submit_told halts w numbe
 line_told halts w number (commands.Fetch g i s n) = asked halts w number g i s n (fetches halts i s n)
 line_told halts w number (commands.Mark g i) = at_chunk halts w number g (λ c. happened halts c (events.Submit i Mark))
 line_told halts w number (commands.Settle limit) = settle_told halts w number limit
+line_told halts w number (commands.Live g hosts writes workers turns) = live_told halts w number g
 line_told halts w number commands.Mount = mount_told halts w number
 line_told halts w number (commands.Kill m) = kill_of w number m (host_at w.volume.hosts m)
 line_told halts w number (commands.Call m call) = call_of halts w number m call (host_at w.volume.hosts m)

@@ -1,5 +1,5 @@
 -- What the making of a world and one line of a script come to.
-use Rattle.std.specs.Prelude.{◌≡◌, ◌⊎◌, ℕ, suc, ◌≤◌, Bool, true, List, ◌++◌, length, Some, slice_get}
+use Rattle.std.specs.Prelude.{◌≡◌, ◌⊎◌, ℕ, suc, ◌≤◌, Bool, true, List, [], ◌∷◌, ◌++◌, length, Some, slice_get}
 use Rattle.std.specs.List.{flat_map}
 use Rattle.pf_script.specs.declared.command.Command.{Command}
 use Rattle.pf_script.specs.declared.command.Command.TheVariants as commands
@@ -8,14 +8,19 @@ use Rattle.pf_protocol.specs.declared.answers.Answer.{Answer}
 use Rattle.pf_rounds.specs.Halts.{Halt}
 use Rattle.pf_group.specs.Making.{making_answer}
 use Rattle.pf_rounds.specs.Growing.{HasGrown}
+use Rattle.pf_chunk.specs.Runs.{ChunkRun}
 use Rattle.pf_chunk.specs.Views.{ChunkIs}
 use Rattle.pf_hosts.specs.Moments.{Moment, text_of}
 use Rattle.pf_hosts.specs.Steps.{HaveBegun}
 use Rattle.pf_fleet.specs.Settled.{HasNotSettled, HasSettled}
 use Rattle.pf_fleet.specs.Settling.{HasEnded, settled}
 use Rattle.pf_fleet.specs.Steps.{FleetIs}
+use Rattle.pf_live.specs.declared.plan.Plan.{Plan}
+use Rattle.pf_threads.specs.Sessions.{IsPartOfSession, IsPlan, IsSession, Session, next_session}
+use Rattle.pf_world.specs.declared.kind.Kind.{Kind}
+use Rattle.pf_world.specs.declared.kind.Kind.TheVariants.{Mounted, Raw}
 use Rattle.pf_world.specs.Worlds.{World, made}
-use Rattle.pf_world.specs.Lines.{line_told}
+use Rattle.pf_world.specs.Lines.{decided, line_told}
 use Rattle.pf_world.specs.Views.{IsWorld, WorldIs, stands_at}
 use Rattle.pf_world.specs.Agreeing.{Tells}
 
@@ -25,7 +30,7 @@ pub record IsMade (chunks sectors names format : ℕ) (w : WorldIs) (answer : An
   pub count : length w.chunks ≡ chunks
   pub numbers : (w.sectors ≡ sectors) × (w.names ≡ names) × (w.format ≡ format)
   pub calls : w.fleet.calls ≡ 0
-  pub run : (halts : List Halt) → Tells halts w → made halts chunks sectors names format ≡ stands_at halts w
+  pub run : (halts : List Halt) (sessions : List Session) → Tells halts w → made halts sessions chunks sectors names format ≡ stands_at halts sessions w
   pub answered : answer ≡ making_answer (flat_map (λ c. c.group.setup.failed) w.chunks)
 
 -- the same volume, with chunks to which more happened
@@ -41,18 +46,43 @@ abbrev pub MayRun : (chunks : ℕ) → Command → Type 0
 MayRun chunks (commands.Volume c s n f) = ⊥
 MayRun chunks command = fits chunks command ≡ true
 
--- each settling ends by itself
+-- the chunk, and the plan of a live line with these numbers
+pub record IsLiveAt (w : World) (chunk hosts writes workers turns : ℕ) (c : ChunkRun) (plan : Plan) : Type 0 where
+  pub there : slice_get w.volume.chunks chunk ≡ Some c
+  pub is_plan : IsPlan hosts writes workers turns w.volume.extent.sectors plan
+
+-- the next session is that of a live line with these numbers
+pub record IsNextSession (halts : List Halt) (w : World) (chunk hosts writes workers turns : ℕ) : Type 0 where
+  pub c : ChunkRun
+  pub plan : Plan
+  pub at : IsLiveAt w chunk hosts writes workers turns c plan
+  pub is_session : IsSession halts plan c.group (next_session w.sessions)
+
+abbrev pub LivesAs : Kind → List Halt → World → (chunk hosts writes workers turns : ℕ) → Type 0
+LivesAs Mounted halts w chunk hosts writes workers turns = Unit {0}
+LivesAs Raw halts w chunk hosts writes workers turns = IsNextSession halts w chunk hosts writes workers turns
+
+-- each settling ends by itself, and the session of a live line that is not refused is one of its numbers
 abbrev pub Ends : List Halt → World → Command → Type 0
 Ends halts w (commands.Settle limit) = HasEnded (settled halts limit w.volume)
+Ends halts w (commands.Live chunk hosts writes workers turns) = LivesAs (decided w.kind Raw) halts w chunk hosts writes workers turns
 Ends halts w command = Unit {0}
 
--- the line was run: under every list of halts that tells of the world afterwards, this world and what was told are the run's
+-- a live line takes one session at most, and no other line takes any
+abbrev pub TakesSessions : Command → List Session → Type 0
+TakesSessions (commands.Live chunk hosts writes workers turns) sessions = length sessions ≤ 1
+TakesSessions command sessions = sessions ≡ []
+
+-- the line was run: under every list of halts that tells of the world afterwards, this world and what was told are the run's, with these
+-- sessions
 pub record Runs (old : WorldIs) (number : ℕ) (command : Command) (told : List Moment) (new : WorldIs) : Type 0 where
   pub is_world : IsWorld new
   pub goes_on : GoesOn old new
   pub calls : new.fleet.calls ≤ suc old.fleet.calls
-  pub run : (halts : List Halt) → Tells halts new → line_told halts (stands_at halts old) number command ≡ record { world = stands_at halts new; told = told }
-  pub ends : (halts : List Halt) → Tells halts new → Ends halts (stands_at halts old) command
+  pub sessions : List Session
+  pub takes : TakesSessions command sessions
+  pub run : (halts : List Halt) (rest : List Session) → Tells halts new → line_told halts (stands_at halts (sessions ++ rest) old) number command ≡ record { world = stands_at halts rest new; told = told }
+  pub ends : (halts : List Halt) (rest : List Session) → Tells halts new → Ends halts (stands_at halts (sessions ++ rest) old) command
 
 -- the same, where its lines were put at the end of a buffer
 pub record HasRun (old : WorldIs) (number : ℕ) (command : Command) (before after : List ℕ) (new : WorldIs) : Type 0 where
@@ -60,10 +90,28 @@ pub record HasRun (old : WorldIs) (number : ℕ) (command : Command) (before aft
   pub put : after ≡ before ++ text_of told
   pub runs : Runs old number command told new
 
--- under a list of halts that tells of the world, each group stands at a beginning of what the line would have done to it
-abbrev pub IsWithin : (old : WorldIs) → (number : ℕ) → Command → (new : WorldIs) → Type 0
-IsWithin old number command new =
-    (halts : List Halt) → Tells halts new → HaveBegun halts old.chunks (line_told halts (stands_at halts old) number command).world.volume.chunks new.chunks
+-- under a list of halts that tells of the world, each group stands at a beginning of what the line would have done to it with these sessions
+abbrev pub IsWithin : (old : WorldIs) → List Session → (number : ℕ) → Command → (new : WorldIs) → Type 0
+IsWithin old sessions number command new =
+    (halts : List Halt) → Tells halts new → HaveBegun halts old.chunks (line_told halts (stands_at halts sessions old) number command).world.volume.chunks new.chunks
+
+-- these events are some of those of a live line with these numbers
+pub record IsPartOfNext (halts : List Halt) (w : World) (chunk hosts writes workers turns : ℕ) : Type 0 where
+  pub c : ChunkRun
+  pub plan : Plan
+  pub at : IsLiveAt w chunk hosts writes workers turns c plan
+  pub is_part : IsPartOfSession halts plan c.group (next_session w.sessions).events
+
+abbrev pub LivesInPart : Kind → List Halt → World → (chunk hosts writes workers turns : ℕ) → Type 0
+LivesInPart Mounted halts w chunk hosts writes workers turns = Unit {0}
+LivesInPart Raw halts w chunk hosts writes workers turns = IsPartOfNext halts w chunk hosts writes workers turns
+
+-- the threads of a live line, if it is not refused, did some of what a line of its numbers does, and each group stands at a beginning of what
+-- comes of that
+pub record HasNotLived (old : WorldIs) (number chunk hosts writes workers turns : ℕ) (new : WorldIs) : Type 0 where
+  pub session : Session
+  pub within : IsWithin old (session ∷ []) number (commands.Live chunk hosts writes workers turns) new
+  pub is_part : (halts : List Halt) → Tells halts new → LivesInPart (decided old.kind Raw) halts (stands_at halts (session ∷ []) old) chunk hosts writes workers turns
 
 -- it settled, and there was no memory for the line that tells so
 pub record HasSettledOnly (limit : ℕ) (old new : WorldIs) : Type 0 where
@@ -73,10 +121,11 @@ pub record HasSettledOnly (limit : ℕ) (old new : WorldIs) : Type 0 where
   pub stopped : Bool
   pub settled : HasSettled limit old.chunks old.fleet before stopped new.chunks next after
 
--- a settling stands after some whole tries and a beginning of one more
+-- a settling stands after some whole tries and a beginning of one more, and a live line after some of what its threads do
 abbrev pub StopsIn : (old : WorldIs) → (number : ℕ) → Command → (new : WorldIs) → Type 0
 StopsIn old number (commands.Settle limit) new = HasNotSettled limit old.chunks old.fleet new.chunks ⊎ HasSettledOnly limit old new
-StopsIn old number command new = IsWithin old number command new
+StopsIn old number (commands.Live chunk hosts writes workers turns) new = HasNotLived old number chunk hosts writes workers turns new
+StopsIn old number command new = IsWithin old [] number command new
 
 -- there was no memory for the whole of it: the world stands in the middle of the line
 pub record HasFailed (old : WorldIs) (number : ℕ) (command : Command) (new : WorldIs) : Type 0 where

@@ -6,6 +6,7 @@ use Rattle.pf_rounds.specs.Halts.{Halt}
 use Rattle.pf_chunk.specs.Views.{ChunkIs, IsReady}
 use Rattle.pf_fleet.specs.Steps.{FleetIs, IsFleetOf}
 use Rattle.pf_fleet.specs.Steps as fleets
+use Rattle.pf_threads.specs.Sessions.{Session}
 use Rattle.pf_world.specs.declared.kind.Kind.{Kind}
 use Rattle.pf_world.specs.Worlds.{World}
 
@@ -18,9 +19,9 @@ pub record WorldIs : Type 0 where
   pub fleet : FleetIs
   pub kind : Option Kind
 
--- where a run stands that came to this world
-abbrev pub stands_at : List Halt → WorldIs → World
-stands_at halts w = record { volume = fleets.stands_at halts w.chunks w.fleet; kind = w.kind }
+-- where a run stands that came to this world, with the sessions that are still to come
+abbrev pub stands_at : List Halt → List Session → WorldIs → World
+stands_at halts sessions w = record { volume = fleets.stands_at halts w.chunks w.fleet; kind = w.kind; sessions = sessions }
 
 -- chunk k between two lines is of this volume
 pub record IsChunkOf (w : WorldIs) (k : ℕ) (c : ChunkIs) : Type 0 where

@@ -14,20 +14,22 @@ use Rattle.pf_chunk.specs.Saying.{said}
 use Rattle.pf_hosts.specs.Moments.{Moment, Writes}
 use Rattle.pf_fleet.specs.Volumes.{VolumeRun, happens, hosts_step, quietly}
 use Rattle.pf_fleet.specs.Volumes as volumes
+use Rattle.pf_threads.specs.Sessions.{Session}
 use Rattle.pf_world.specs.declared.kind.Kind.{Kind}
 
--- a volume with its hosts, and the kind of the run, once a line has decided it
+-- a volume with its hosts; the kind of the run, once a line has decided it; and the sessions of the live lines that are still to come
 pub record World : Type 0 where
   pub volume : VolumeRun
   pub kind : Option Kind
+  pub sessions : List Session
 
 -- so many chunks without hosts
 abbrev pub new_volume : Extent → List ChunkRun → VolumeRun
 new_volume extent chunks = record { extent = extent; chunks = chunks; hosts = [] }
 
 -- before the volume is made
-abbrev pub no_world : World
-no_world = record { volume = new_volume (record { chunks = 0; sectors = 0 }) []; kind = None }
+abbrev pub no_world : List Session → World
+no_world sessions = record { volume = new_volume (record { chunks = 0; sectors = 0 }) []; kind = None; sessions = sessions }
 
 -- a world after a line, and what was told
 pub record Told : Type 0 where
@@ -35,10 +37,10 @@ pub record Told : Type 0 where
   pub told : List Moment
 
 -- a new volume
-abbrev pub made : List Halt → (chunks sectors names format : ℕ) → World
-made halts chunks sectors names format =
+abbrev pub made : List Halt → List Session → (chunks sectors names format : ℕ) → World
+made halts sessions chunks sectors names format =
     let made_chunks = map (λ k. new_run (made_chunk halts sectors names format k)) (range_with_len 0 chunks) in
-    record { volume = new_volume (record { chunks = chunks; sectors = sectors }) made_chunks; kind = None }
+    record { volume = new_volume (record { chunks = chunks; sectors = sectors }) made_chunks; kind = None; sessions = sessions }
 
 -- halted where some server could not be formatted
 abbrev pub made_answer : World → Answer

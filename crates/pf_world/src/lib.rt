@@ -8,6 +8,7 @@ mod kind;
 mod laws;
 mod line;
 mod lines;
+mod living;
 mod making;
 mod mounting;
 mod showing;

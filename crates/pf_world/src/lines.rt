@@ -18,10 +18,11 @@ use pf_group::GroupEvent;
 use pf_report::{put_answer, put_refusal, put_settle};
 use pf_script::Command;
 use std::alloc::Global;
+use std::sync::Wait;
 use std::thread::Threads;
 
-/// The number of the refusal of a submission in a run with mounts.
-const MOUNTED: u32 = 94;
+/// The number of the refusal of a line that writes in a run with mounts.
+pub(crate) const MOUNTED: u32 = 94;
 
 /// The event of a line that is one event of a group, with the group's number.
 fn event_of(command: &Command) -> Option<(u8, GroupEvent)>
@@ -49,17 +50,19 @@ fn is_range(first: u32, count: u32) -> bool
     1 <= count && count <= 8 && first + count <= 4096
 }
 
-impl<D: Disk + Drop> World<D> {
+impl<D: Disk + Drop + Send> World<D> {
     /// One line of a script, with its number and its command, which is no volume and whose numbers are in their ranges. Lines for what
     /// happened meanwhile (reads that were answered, mounts that are ready, calls that ended), and then its own line, are put at the end
     /// of `out`. Fewer than 2^32 - 1 calls were begun before.
+    ///
+    /// A line of threads runs on threads of its own, and ends by itself; the gate is called round each of their steps.
     ///
     /// A packet that a settling passed over is left again from the next line on. After `NoMemory` (1) the world stands in the middle of
     /// the line, and only `close` may be called.
     ///
     /// Then too, where disks tell their content, a crash at any moment since a group's last step began that may have touched disks, in
     /// this line or before it, left of each of its servers what that may hold before that step or right after it.
-    pub fn line<R: Threads + Sync, G: Gate + Sync>(
+    pub fn line<R: Threads + Wait + Sync, G: Gate + Sync>(
         &mut self,
         rt: &R,
         alloc: Global,
@@ -83,7 +86,7 @@ impl<D: Disk + Drop> World<D> {
     }
 
     /// The same, but for the laws.
-    fn run<R: Threads + Sync, G: Gate + Sync>(
+    fn run<R: Threads + Wait + Sync, G: Gate + Sync>(
         &mut self,
         rt: &R,
         alloc: Global,
@@ -118,6 +121,15 @@ impl<D: Disk + Drop> World<D> {
                 rt, alloc, number, *group, *server, *sector, *count, gate, out,
             ),
             Command::Settle { limit } => self.settle_line(rt, alloc, number, *limit, gate, out),
+            Command::Live {
+                group,
+                hosts,
+                writes,
+                workers,
+                turns,
+            } => self.live_line(
+                rt, alloc, number, *group, *hosts, *writes, *workers, *turns, gate, out,
+            ),
             Command::Mount => self.mount_line(rt, alloc, number, gate, out),
             Command::Kill { mount } => self.kill_line(number, *mount, out),
             Command::Call { mount, call } => {
@@ -132,7 +144,9 @@ impl<D: Disk + Drop> World<D> {
             },
         }
     }
+}
 
+impl<D: Disk + Drop> World<D> {
     /// A line that is one event of a group.
     #[allow(clippy::too_many_arguments)]
     fn event_line<R: Threads + Sync, G: Gate + Sync>(

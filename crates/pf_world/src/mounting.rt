@@ -108,7 +108,7 @@ impl<D: Disk + Drop> World<D> {
     }
 
     /// Each host takes a step.
-    fn step_hosts<R: Threads + Sync, G: Gate + Sync>(
+    pub(crate) fn step_hosts<R: Threads + Sync, G: Gate + Sync>(
         &mut self,
         rt: &R,
         alloc: Global,

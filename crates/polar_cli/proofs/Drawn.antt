@@ -6,6 +6,7 @@ use Rattle.std.specs.Fmt.{decimal, digits}
 use Rattle.hex.specs.Hex.{encode_lower, encode_with}
 use Rattle.std.proofs.lemmas.Bool.{eqb-true}
 use Rattle.std.proofs.lemmas.Bool.Decides.{nat_tests}
+use Rattle.std.proofs.lemmas.List.Sums.{sum_by-append}
 use Rattle.clap.proofs.WalkLemmas.{both}
 use Rattle.pf_text.specs.Numbers.{decimal_number, hex_number}
 use Rattle.pf_entry.proofs.Cases.{by_test}
@@ -29,7 +30,9 @@ use Rattle.pf_script.specs.Words.{is_blank, is_word, trimmed, words_of}
 use Rattle.pf_world.specs.declared.line.Line.{Line}
 use Rattle.polar_cli.specs.LineScans.{Open, Scanned, fed, fed_all, fed_line, Refused, is_feed, is_over, close, over_fault, read_line, said_list, scan}
 use Rattle.polar_cli.specs.Scripts.{numbered, numbered_line, script_rules}
-use Rattle.polar_cli.specs.Generating.{IsAccepted}
+use Rattle.pf_world.specs.Headline.{is_live, live_lines}
+use Rattle.polar_cli.specs.Generating.{IsAccepted, generated_lines}
+use Rattle.polar_cli.specs.Reports.{judged_lines}
 use Rattle.polar_cli.proofs.Scanning.{scan_append, scan_none}
 
 -- ---- lines of plain words
@@ -225,6 +228,7 @@ record IsLine (text : List ℕ) : Type 0 where
   command : Command
   says : command_of (Some 2) (word ∷ words) ≡ Ok (Some command)
   stays : volume_after (Some 2) (Some command) ≡ Some 2
+  alone : is_live command ≡ false
 
 abbrev placing : Form → Result (Option Command) LineFault
 placing form = placed (Some 2) form >>= λ command. Ok (Some command)
@@ -262,8 +266,8 @@ spread word a b c d e =
     ∙ append_assoc word (32 ∷ a) (32 ∷ (b ++ 32 ∷ (c ++ 32 ∷ (d ++ 32 ∷ e))))
 
 server_line : (word : List ℕ) (verb : ServerVerb) (x : ℕ) → is_plain word ≡ true → ((words : List (List ℕ)) → command_of (Some 2) (word ∷ words) ≡ (server_of verb words >>= placing)) → fits 2 (server_command verb (group x) (server x)) ≡ true
-    → volume_after (Some 2) (Some (server_command verb (group x) (server x))) ≡ Some 2 → IsLine (of_server word x)
-server_line word verb x plain says here stays =
+    → volume_after (Some 2) (Some (server_command verb (group x) (server x))) ≡ Some 2 → is_live (server_command verb (group x) (server x)) ≡ false → IsLine (of_server word x)
+server_line word verb x plain says here stays alone =
     let g = number_is (group x) (omega (arith, mod_2 (x / 2 ^ 36))) in
     let i = number_is (server x) (omega (arith, mod_3 (x / 2 ^ 40))) in
     record {
@@ -276,6 +280,7 @@ server_line word verb x plain says here stays =
       command = server_command verb (group x) (server x);
       says = says (decimal (group x) ∷ decimal (server x) ∷ []) ∙ server_says verb (group x) (server x) (decimal (group x)) (decimal (server x)) g.0 i.0 here;
       stays = stays;
+      alone = alone;
     }
 
 here_of : (x : ℕ) → is_server 2 (group x) (server x) ≡ true
@@ -327,11 +332,12 @@ submit_line x =
       says = submit_says (group x) (server x) (sector x) (draws.byte x) (count x) dg di ds hb dc g.0 i.0 s.0 b.0 c.0
           (submit_fits (group x) (server x) (sector x) (count x) (mod_2 (x / 2 ^ 36)) (mod_3 (x / 2 ^ 40)) near (omega (arith, few)));
       stays = refl;
+      alone = refl;
     }
 
 settle_line : IsLine (codes "settle 20")
 unfolding decimal_number
-settle_line = record { word = codes "settle"; words = codes "20" ∷ []; text_is = refl; few = omega arith; plain = refl; plains = refl; command = commands.Settle 20; says = refl; stays = refl }
+settle_line = record { word = codes "settle"; words = codes "20" ∷ []; text_is = refl; few = omega arith; plain = refl; plains = refl; command = commands.Settle 20; says = refl; stays = refl; alone = refl }
 
 one_of_two : {t e : List ℕ} (b : Bool) → IsLine t → IsLine e → IsLine (cond b t e)
 one_of_two true first second = first
@@ -341,18 +347,19 @@ drawn : (x : ℕ) → IsLine (drawn_text x)
 drawn x =
     one_of_two (nat_lt (kind x) 9) (submit_line x)
     (one_of_two (nat_lt (kind x) 12) settle_line
-    (one_of_two (kind x == 12) (server_line (codes "resend") Resend x refl (λ words. refl) (here_of x) refl)
-    (one_of_two (kind x == 13) (server_line (codes "stop") Stop x refl (λ words. refl) (here_of x) refl)
-    (one_of_two (kind x == 14) (server_line (codes "restart") Restart x refl (λ words. refl) (here_of x) refl)
-    (server_line (codes "elect") Elect x refl (λ words. refl) (here_of x) refl)))))
+    (one_of_two (kind x == 12) (server_line (codes "resend") Resend x refl (λ words. refl) (here_of x) refl refl)
+    (one_of_two (kind x == 13) (server_line (codes "stop") Stop x refl (λ words. refl) (here_of x) refl refl)
+    (one_of_two (kind x == 14) (server_line (codes "restart") Restart x refl (λ words. refl) (here_of x) refl refl)
+    (server_line (codes "elect") Elect x refl (λ words. refl) (here_of x) refl refl)))))
 
 -- ---- the whole script
 
--- so many lines were read, of a volume of two chunks
+-- so many lines were read, of a volume of two chunks and without threads
 record HasRead (n : ℕ) (s : Scanned (Option ℕ) Line) : Type 0 where
   lines : List Line
   is : s ≡ Open lines n (Some 2) []
   count : length lines + 1 ≡ n
+  none : live_lines lines ≡ 0
 
 more_read : (s : Scanned (Option ℕ) Line) (n : ℕ) (text : List ℕ) → HasRead n s → n ≤ 100000 → IsLine text → HasRead (n + 1) (fed_all script_rules s (fed_with text))
 more_read s n text read few line = record {
@@ -363,6 +370,7 @@ more_read s n text read few line = record {
       ∙ ap (λ r. fed_line script_rules read.lines n (Some 2) (numbered_line n r)) line.says
       ∙ ap (λ v. Open (read.lines ++ said_list (numbered n (Some line.command))) (n + 1) v []) line.stays;
   count = omega (arith, read.count, length-append read.lines (said_list (numbered n (Some line.command))));
+  none = omega (arith, read.none, sum_by-append (λ (l : Line). cond (is_live l.command) 1 0) read.lines (said_list (numbered n (Some line.command))), ap {B = ℕ} (λ b. cond b 1 0) line.alone);
 }
 
 drawn_read : (s : Scanned (Option ℕ) Line) (first k : ℕ) → HasRead 2 s → k ≤ 2000 → HasRead (k + 2) (fed_all script_rules s (drawn_lines first k))
@@ -382,14 +390,15 @@ opened = record {
   lines = record { number = 1; command = commands.Volume 2 64 2 2 } ∷ [];
   is = ap (λ s. fed_all script_rules s opening) (scan_none script_rules None) ∙ fed_joined [] 1 None (codes "volume") (codes "2" ∷ codes "64" ∷ []) (omega arith) (omega arith) refl refl;
   count = refl;
+  none = refl;
 }
 
 last_lines : IsLine (codes "settle 100000") × IsLine (codes "show acked 0") × IsLine (codes "show acked 1")
 unfolding decimal_number
 last_lines = (
-  record { word = codes "settle"; words = codes "100000" ∷ []; text_is = refl; few = omega arith; plain = refl; plains = refl; command = commands.Settle 100000; says = refl; stays = refl },
-  record { word = codes "show"; words = codes "acked" ∷ codes "0" ∷ []; text_is = refl; few = omega arith; plain = refl; plains = refl; command = commands.ShowAcked 0; says = refl; stays = refl },
-  record { word = codes "show"; words = codes "acked" ∷ codes "1" ∷ []; text_is = refl; few = omega arith; plain = refl; plains = refl; command = commands.ShowAcked 1; says = refl; stays = refl },
+  record { word = codes "settle"; words = codes "100000" ∷ []; text_is = refl; few = omega arith; plain = refl; plains = refl; command = commands.Settle 100000; says = refl; stays = refl; alone = refl },
+  record { word = codes "show"; words = codes "acked" ∷ codes "0" ∷ []; text_is = refl; few = omega arith; plain = refl; plains = refl; command = commands.ShowAcked 0; says = refl; stays = refl; alone = refl },
+  record { word = codes "show"; words = codes "acked" ∷ codes "1" ∷ []; text_is = refl; few = omega arith; plain = refl; plains = refl; command = commands.ShowAcked 1; says = refl; stays = refl; alone = refl },
 )
 
 all_read : (first : ℕ) → HasRead 2005 (scan script_rules None (generated first))
@@ -405,3 +414,7 @@ all_read first =
 -- the script of a number is accepted, with its 2,004 lines
 pub generated_is_accepted : (number : ℕ) → IsAccepted number
 generated_is_accepted number = let read = all_read number in (read.lines, ap (close script_rules) read.is, omega (arith, read.count))
+
+-- and no line of it is one of threads
+pub none_are_live : (number : ℕ) → live_lines (generated_lines number) ≡ 0
+none_are_live number = let read = all_read number in ap (λ r. live_lines (judged_lines r)) (ap (close script_rules) read.is) ∙ read.none

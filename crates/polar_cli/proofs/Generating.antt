@@ -31,7 +31,7 @@ accepted_of left rest lines number text is made s =
     ap script_of (sym (source ∙ made)) ∙ s.accepted
 
 -- a run has acknowledged what the world has that it came to
-acked_same : (halts : List Halt) (w : WorldIs) (k : ℕ) → acked_in (stands_at halts w) k ≡ acked_count w k
+acked_same : (halts : List Halt) (w : WorldIs) (k : ℕ) → acked_in (stands_at halts [] w) k ≡ acked_count w k
 acked_same halts w k = ap (λ o. option_map_or (λ c. length c.group.state.acked) o 0) (slice_get-map (run_of halts) w.chunks k) ∙ go (slice_get w.chunks k)
   where
     go : (o : Option ChunkIs) → option_map_or (λ c. length c.group.state.acked) (option_map (run_of halts) o) 0 ≡ option_map_or (λ c. length (state_of c.group).acked) o 0
@@ -54,7 +54,7 @@ module _ {D : Type 0} (seen : D → Option (List ℕ)) (may_leave : D → Images
 
   module _ (number : ℕ) (acked : ℕ × ℕ) (taken now : Option (List ℕ)) (full : Type 0) (before after : List D) (all : HasCounted number acked before after) where
     -- the counts are those of the run
-    counted_is : (tell : IsTrue tells) → let w = (world_run (all.ran.ruled tell).halts all.ran.done).world in acked ≡ (acked_in w 0, acked_in w 1)
+    counted_is : (tell : IsTrue tells) → let w = (world_run (all.ran.ruled tell).halts all.ran.run.sessions all.ran.done).world in acked ≡ (acked_in w 0, acked_in w 1)
     counted_is tell =
         let ruled = all.ran.ruled tell in
         all.counted tell ∙ ap (λ (w : WorldIs). (acked_count w 0, acked_count w 1)) all.ran.stops

@@ -5,6 +5,7 @@ use Rattle.pf_rounds.specs.Halts.{Halt}
 use Rattle.pf_script.specs.declared.command.Command.{Command}
 use Rattle.pf_script.specs.declared.command.Command.TheVariants as commands
 use Rattle.pf_volume.specs.Volumes.{Extent, IsVolume as IsExtent}
+use Rattle.pf_threads.specs.Sessions.{Session}
 use Rattle.pf_world.specs.declared.line.Line.{Line}
 use Rattle.pf_world.specs.Headline.{IsLawfulRun}
 use Rattle.pf_world.specs.Reports.{world_run}
@@ -19,7 +20,7 @@ use Rattle.polar_cli.specs.Placed.{IsVolume}
 -- what is known of every script
 abbrev pub HaveLists : Type 0
 HaveLists =
-    (halts : List Halt) (lines : List Line) → IsScript lines → let run = world_run halts lines in
+    (halts : List Halt) (sessions : List Session) (lines : List Line) → IsScript lines → let run = world_run halts sessions lines in
     IsLawfulRun run.world → IsExtent run.world.volume.extent → length lines < 2 ^ 32 → 0 < length run.world.volume.hosts → HasOneList run.world.volume.extent run.world.volume.chunks run.told
 
 makes_one : (n : ℕ) (command : Command) → IsVolume n command → makes_volume command ≡ true
@@ -35,6 +36,7 @@ makes_one n (commands.Submit g i s byte c) is = absurd is
 makes_one n (commands.Fetch g i s c) is = absurd is
 makes_one n (commands.Mark g i) is = absurd is
 makes_one n (commands.Settle limit) is = absurd is
+makes_one n (commands.Live g hosts writes workers turns) is = absurd is
 makes_one n (commands.ShowLog g i) is = absurd is
 makes_one n (commands.ShowApplied g i) is = absurd is
 makes_one n (commands.ShowSectors g i) is = absurd is
@@ -58,6 +60,7 @@ makes_none n (commands.Submit g i s byte c) may = refl
 makes_none n (commands.Fetch g i s c) may = refl
 makes_none n (commands.Mark g i) may = refl
 makes_none n (commands.Settle limit) may = refl
+makes_none n (commands.Live g hosts writes workers turns) may = refl
 makes_none n (commands.ShowLog g i) may = refl
 makes_none n (commands.ShowApplied g i) may = refl
 makes_none n (commands.ShowSectors g i) may = refl
@@ -73,9 +76,9 @@ none_makes : (n : ℕ) (done rest : List Line) → Every (λ line. MayRun n line
 none_makes n [] rest may = tt
 none_makes n (line ∷ done) rest may = (makes_none n line.command may.0, none_makes n done rest may.1)
 
-pub lists_of : HaveLists → (halts : List Halt) (first : Line) (done rest : List Line) (n : ℕ) (world : WorldIs) → IsVolume n first.command → Every (λ line. MayRun n line.command) (done ++ rest) → IsWorld world → (world_run halts (first ∷ done)).world ≡ stands_at halts world
-    → length (first ∷ done) < 2 ^ 32 → IsLawfulRun (world_run halts (first ∷ done)).world → let run = world_run halts (first ∷ done) in 0 < length run.world.volume.hosts → HasOneList run.world.volume.extent run.world.volume.chunks run.told
-lists_of have halts first done rest n world volume may is stands few lawful some =
-    let extent : IsExtent (world_run halts (first ∷ done)).world.volume.extent =
+pub lists_of : HaveLists → (halts : List Halt) (sessions : List Session) (first : Line) (done rest : List Line) (n : ℕ) (world : WorldIs) → IsVolume n first.command → Every (λ line. MayRun n line.command) (done ++ rest) → IsWorld world → (world_run halts sessions (first ∷ done)).world ≡ stands_at halts [] world
+    → length (first ∷ done) < 2 ^ 32 → IsLawfulRun (world_run halts sessions (first ∷ done)).world → let run = world_run halts sessions (first ∷ done) in 0 < length run.world.volume.hosts → HasOneList run.world.volume.extent run.world.volume.chunks run.told
+lists_of have halts sessions first done rest n world volume may is stands few lawful some =
+    let extent : IsExtent (world_run halts sessions (first ∷ done)).world.volume.extent =
     subst (λ (e : Extent). IsExtent e) (sym (ap (λ (w : World). w.volume.extent) stands ∙ is.extent)) (volume_extent (length world.chunks) world.sectors world.names world.format is.volume) in
-    have halts (first ∷ done) (makes_one n first.command volume, none_makes n done rest may) lawful extent few some
+    have halts sessions (first ∷ done) (makes_one n first.command volume, none_makes n done rest may) lawful extent few some

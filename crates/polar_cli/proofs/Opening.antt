@@ -48,6 +48,7 @@ volume_of n (commands.Submit g i s byte c) volume = absurd volume
 volume_of n (commands.Fetch g i s c) volume = absurd volume
 volume_of n (commands.Mark g i) volume = absurd volume
 volume_of n (commands.Settle limit) volume = absurd volume
+volume_of n (commands.Live g hosts writes workers turns) volume = absurd volume
 volume_of n (commands.ShowLog g i) volume = absurd volume
 volume_of n (commands.ShowApplied g i) volume = absurd volume
 volume_of n (commands.ShowSectors g i) volume = absurd volume

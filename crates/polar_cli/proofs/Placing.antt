@@ -68,6 +68,7 @@ placed_may None (forms.OfPacket verb g k) = tt
 placed_may None (forms.Submit g i s b c) = tt
 placed_may None (forms.Fetch g i s c) = tt
 placed_may None (forms.Settle n) = tt
+placed_may None (forms.Live g hosts writes workers turns) = tt
 placed_may None (forms.ShowAcked g) = tt
 placed_may None (forms.ShowMark g i s) = tt
 placed_may None forms.Mount = tt
@@ -80,6 +81,7 @@ placed_may (Some chunks) (forms.OfPacket verb g k) = packet_may chunks verb g k
 placed_may (Some chunks) (forms.Submit g i s b c) = within_ok (fits chunks (commands.Submit g i s b c)) (commands.Submit g i s b c) (MayRun chunks) (λ h. h)
 placed_may (Some chunks) (forms.Fetch g i s c) = within_ok (fits chunks (commands.Fetch g i s c)) (commands.Fetch g i s c) (MayRun chunks) (λ h. h)
 placed_may (Some chunks) (forms.Settle n) = within_ok (fits chunks (commands.Settle n)) (commands.Settle n) (MayRun chunks) (λ h. h)
+placed_may (Some chunks) (forms.Live g hosts writes workers turns) = within_ok (fits chunks (commands.Live g hosts writes workers turns)) (commands.Live g hosts writes workers turns) (MayRun chunks) (λ h. h)
 placed_may (Some chunks) (forms.ShowAcked g) = within_ok (fits chunks (commands.ShowAcked g)) (commands.ShowAcked g) (MayRun chunks) (λ h. h)
 placed_may (Some chunks) (forms.ShowMark g i s) = within_ok (fits chunks (commands.ShowMark g i s)) (commands.ShowMark g i s) (MayRun chunks) (λ h. h)
 placed_may (Some chunks) forms.Mount = within_ok (fits chunks commands.Mount) commands.Mount (MayRun chunks) (λ h. h)
@@ -143,6 +145,7 @@ line_placed None lines number (commands.Submit g i s b c) all may = absurd may
 line_placed None lines number (commands.Fetch g i s c) all may = absurd may
 line_placed None lines number (commands.Mark g i) all may = absurd may
 line_placed None lines number (commands.Settle n) all may = absurd may
+line_placed None lines number (commands.Live g hosts writes workers turns) all may = absurd may
 line_placed None lines number (commands.ShowLog g i) all may = absurd may
 line_placed None lines number (commands.ShowApplied g i) all may = absurd may
 line_placed None lines number (commands.ShowSectors g i) all may = absurd may
@@ -164,6 +167,8 @@ line_placed (Some chunks) lines number (commands.Submit g i s b c) all may = lat
 line_placed (Some chunks) lines number (commands.Fetch g i s c) all may = later_placed chunks lines (record { number = number; command = commands.Fetch g i s c }) all may
 line_placed (Some chunks) lines number (commands.Mark g i) all may = later_placed chunks lines (record { number = number; command = commands.Mark g i }) all may
 line_placed (Some chunks) lines number (commands.Settle n) all may = later_placed chunks lines (record { number = number; command = commands.Settle n }) all may
+line_placed (Some chunks) lines number (commands.Live g hosts writes workers turns) all may =
+    later_placed chunks lines (record { number = number; command = commands.Live g hosts writes workers turns }) all may
 line_placed (Some chunks) lines number (commands.ShowLog g i) all may = later_placed chunks lines (record { number = number; command = commands.ShowLog g i }) all may
 line_placed (Some chunks) lines number (commands.ShowApplied g i) all may = later_placed chunks lines (record { number = number; command = commands.ShowApplied g i }) all may
 line_placed (Some chunks) lines number (commands.ShowSectors g i) all may = later_placed chunks lines (record { number = number; command = commands.ShowSectors g i }) all may

@@ -1,5 +1,5 @@
 -- The lines of a script are run on disks.
-use Rattle.std.proofs.Common.{◌≡◌, ℕ, Bool, IsTrue, ◌*◌, ◌<◌, ◌≤◌, List, [], ◌∷◌, ◌++◌, length, drop, get_or, Option, Some, Ok, Err, slice_get, refl, ap, sym, subst, ◌∙◌, arith, drop-cons, length-append, length-drop}
+use Rattle.std.proofs.Common.{◌≡◌, ℕ, Bool, IsTrue, ◌*◌, ◌<◌, ◌≤◌, List, [], ◌∷◌, ◌++◌, length, drop, get_or, Option, Some, Ok, Err, slice_get, refl, ap, sym, subst, ◌∙◌, append-nil, arith, lit≤, drop-cons, length-append, length-drop}
 use Rattle.std.proofs.lemmas.Option.{slice_get_within}
 use Rattle.pf_disk.specs.Crashes.{Images}
 use Rattle.pf_entry.specs.Lists.{Every}
@@ -7,10 +7,11 @@ use Rattle.pf_script.specs.declared.command.Command.{Command}
 use Rattle.pf_script.specs.declared.command.Command.TheVariants as commands
 use Rattle.pf_rounds.specs.Halts.{Halt}
 use Rattle.pf_chunk.specs.Views.{ChunkIs}
+use Rattle.pf_threads.specs.Sessions.{Session}
 use Rattle.pf_world.specs.declared.line.Line.{Line}
 use Rattle.pf_world.specs.Agreeing.{Tells}
 use Rattle.pf_world.specs.Disks.{AreLeft}
-use Rattle.pf_world.specs.Headline.{AreHalts, IsLawfulRun, IsSafeRun, IsSoundWorld, RunsTo}
+use Rattle.pf_world.specs.Headline.{AreHalts, IsLawfulRun, IsRunTo, IsSafeRun, IsSoundWorld, RunsTo}
 use Rattle.pf_world.specs.Reports.{world_run}
 use Rattle.pf_world.specs.Steps.{GoesOn, MayRun}
 use Rattle.pf_world.specs.Views.{WorldIs, WorldOn, stands_at}
@@ -44,6 +45,7 @@ one_count m n (commands.Submit g i s byte c) first second = absurd first
 one_count m n (commands.Fetch g i s c) first second = absurd first
 one_count m n (commands.Mark g i) first second = absurd first
 one_count m n (commands.Settle limit) first second = absurd first
+one_count m n (commands.Live g hosts writes workers turns) first second = absurd first
 one_count m n (commands.ShowLog g i) first second = absurd first
 one_count m n (commands.ShowApplied g i) first second = absurd first
 one_count m n (commands.ShowSectors g i) first second = absurd first
@@ -116,26 +118,28 @@ no_such : (k : ℕ) (c : ChunkIs) → slice_get [] k ≡ Some c → ⊥
 no_such k c there = let low : k < 0 = slice_get_within [] k c there in absurd (omega arith)
 
 module _ {D : Type 0} (seen : D → Option (List ℕ)) (may_leave : D → Images) (faults moment : D → ℕ) (left_since : D → ℕ → Images) (tells tells_moments : Bool) where
-  abbrev HasLists : List Halt → List Line → Type 0
-  HasLists halts done = let run = world_run halts done in 0 < length run.world.volume.hosts → HasOneList run.world.volume.extent run.world.volume.chunks run.told
+  abbrev HasLists : List Halt → List Session → List Line → Type 0
+  HasLists halts sessions done = let run = world_run halts sessions done in 0 < length run.world.volume.hosts → HasOneList run.world.volume.extent run.world.volume.chunks run.told
 
   -- what a list of halts that tells of the world that is left says of the run
-  went_by_rules : (done : List Line) (text : List ℕ) (before after : List D) (world left : WorldIs) (halts : List Halt) → RunsTo done text world → IsSoundWorld world → IsSoundWorld left → Tells halts world → AreHalts faults halts before after left
-      → (IsLawfulRun (world_run halts done).world → HasLists halts done) → IsRuled faults done text before after world left
+  went_by_rules : (done : List Line) (text : List ℕ) (before after : List D) (world left : WorldIs) (halts : List Halt) (run : RunsTo done text world) → IsSoundWorld world → IsSoundWorld left → Tells halts world → AreHalts faults halts before after left
+      → (IsLawfulRun (world_run halts run.sessions done).world → HasLists halts run.sessions done) → IsRuled faults run.sessions done text before after world left
   went_by_rules done text before after world left halts run sound sound_left tell told lists =
-      let same : stands_at halts world ≡ (world_run halts done).world = sym (run halts tell).world in
+      let ran : IsRunTo halts run.sessions [] done text world = subst (λ ss. IsRunTo halts ss [] done text world) (append-nil run.sessions) (run.run halts [] tell) in
+      let same : stands_at halts [] world ≡ (world_run halts run.sessions done).world = sym ran.world in
       let safe = subst IsSafeRun same (safe_run halts world tell sound) in
       let lawful = subst IsLawfulRun same (lawful_run halts world tell sound) in
       record {
         halts = halts;
         told = told;
-        ran = run halts tell;
+        ran = ran;
         headline = record {
           one_write_in_a_slot = λ k c earlier at part. (safe k c at earlier part).agrees;
           sectors_are_applied_writes = λ k c earlier at part. (safe k c at earlier part).in_order;
           acknowledged_writes_stay = λ k c earlier at part. (safe k c at earlier part).acknowledged;
           one_list = lists lawful;
-          shown = (run halts tell).report;
+          ends = ran.ends;
+          shown = ran.report;
         };
         lawful = lawful;
         safe_left = safe_run halts left told.tells sound_left;
@@ -161,13 +165,13 @@ module _ {D : Type 0} (seen : D → Option (List ℕ)) (may_leave : D → Images
       } in
       let halts = world_halts new.world in
       let first : get_or lines 0 d ∷ gone.done ++ gone.rest ≡ lines = ap (λ l. get_or lines 0 d ∷ l) gone.first ∙ sym (drop-cons lines 0 d some) in
-      let by_rules : IsTrue tells → IsRuled faults (get_or lines 0 d ∷ gone.done) gone.text before after gone.world new.world = λ tell.
+      let by_rules : IsTrue tells → IsRuled faults gone.run.sessions (get_or lines 0 d ∷ gone.done) gone.text before after gone.world new.world = λ tell.
       let told : AreHalts faults halts before after new.world = are_halts seen may_leave faults moment left_since tells tells_moments before after old.world new.world passed tell in
       let earlier = tells_earlier halts gone.world new.world more told.tells in
       went_by_rules (get_or lines 0 d ∷ gone.done) gone.text before after gone.world new.world halts gone.run gone.lawful gone.lawful_left earlier told
-      (lists_of have halts (get_or lines 0 d) gone.done gone.rest (length old.world.chunks) gone.world opened.volume
+      (lists_of have halts gone.run.sessions (get_or lines 0 d) gone.done gone.rest (length old.world.chunks) gone.world opened.volume
       (subst (Every (λ line. MayRun (length old.world.chunks) line.command)) (sym gone.first) (rest_may_run lines d (length old.world.chunks) whole opened.volume))
-      gone.is_world (gone.run halts earlier).world
+      gone.is_world (ap (λ ss. (world_run halts ss (get_or lines 0 d ∷ gone.done)).world) (sym (append-nil gone.run.sessions)) ∙ (gone.run.run halts [] earlier).world)
       (omega (arith, whole.few, ap length gone.first, length-append gone.done gone.rest, length-drop 1 lines))) in
       record {
         rest = gone.rest;
@@ -192,7 +196,7 @@ module _ {D : Type 0} (seen : D → Option (List ℕ)) (may_leave : D → Images
       → AreLeft seen may_leave faults moment left_since tells tells_moments left.chunks before after → HasRunTo seen may_leave faults moment left_since tells tells_moments status lines lines [] before after
   none_ran status lines before after sectors names format left halts sound told stops disks =
       let world = bare sectors names format in
-      let run : RunsTo [] [] world = λ hs tell. record { world = refl; report = refl; ends = tt } in
+      let run : RunsTo [] [] world = record { sessions = []; few = lit≤ tt; run = λ hs rest tell. record { world = refl; report = refl; ends = tt } } in
       record {
         done = [];
         first = refl;

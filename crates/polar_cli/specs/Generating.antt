@@ -45,8 +45,8 @@ module _ {D : Type 0} (seen : D → Option (List ℕ)) (may_leave : D → Images
     pub behind : List Line
     pub text : List ℕ
     pub ran : HasRunTo seen may_leave faults moment left_since tells tells_moments status (generated_lines number) behind text before after
-    pub sums : IsSummed tells status number behind (λ told. (world_run (ran.ruled told).halts ran.done).world) taken now full
+    pub sums : IsSummed tells status number behind (λ told. (world_run (ran.ruled told).halts ran.run.sessions ran.done).world) taken now full
 
 -- the sink took the line of the run of which none was cut off
 abbrev pub IsPlainSum : (number : ℕ) → (taken now : Option (List ℕ)) → Type 0
-IsPlainSum number taken now = Appends taken now (summary_text number (world_run [] (generated_lines number)).world)
+IsPlainSum number taken now = Appends taken now (summary_text number (world_run [] [] (generated_lines number)).world)

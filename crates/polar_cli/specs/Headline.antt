@@ -1,15 +1,16 @@
 -- The headline.
-use Rattle.std.specs.Prelude.{◌≡◌, ℕ, ◌<◌, List, [], ◌++◌, Option, Some, length, slice_get}
+use Rattle.std.specs.Prelude.{◌≡◌, ℕ, ◌<◌, ◌≤◌, List, [], ◌++◌, Option, Some, length, slice_get}
 use Rattle.std.specs.Io.KnownBytes.{Appends}
 use Rattle.pf_protocol.specs.Histories.{History, IsPrefix}
 use Rattle.pf_protocol.specs.Safety.{Agrees, AppliesInOrder, KeepsAcknowledged}
 use Rattle.pf_protocol.specs.Servers.{Setup}
 use Rattle.pf_rounds.specs.Halts.{Halt}
 use Rattle.pf_chunk.specs.Runs.{ChunkRun}
-use Rattle.pf_world.specs.Headline.{AreHalts}
+use Rattle.pf_threads.specs.Sessions.{Session}
+use Rattle.pf_world.specs.Headline.{AreHalts, EndEach, live_lines}
 use Rattle.pf_world.specs.Reports.{report_of, world_run}
 use Rattle.pf_world.specs.Views.{WorldIs}
-use Rattle.pf_world.specs.Worlds.{World}
+use Rattle.pf_world.specs.Worlds.{World, no_world}
 use Rattle.pf_world.specs.declared.line.Line.{Line}
 use Rattle.pf_mounted.specs.Lists.{HasOneList}
 use Rattle.polar_cli.specs.Reports.{lines_for}
@@ -23,18 +24,20 @@ abbrev pub AlwaysInEach : (Setup → History → Type 0) → World → Type 0
 AlwaysInEach Holds world =
     (k : ℕ) (c : ChunkRun) (earlier : History) → slice_get world.volume.chunks k ≡ Some c → IsPrefix earlier c.group.history → Holds c.group.setup earlier
 
--- For the run of these lines under these halts: no two servers of a group ever hold different committed writes in one slot; each server's
--- sectors are its applied writes in slot order; every acknowledged write is committed in each later leader's log; every mount's tree comes
--- from a prefix of one transaction list; and the text shows exactly that run
-pub record Headline (halts : List Halt) (lines : List Line) (text : List ℕ) : Type 0 where
-  pub one_write_in_a_slot : AlwaysInEach Agrees (world_run halts lines).world
-  pub sectors_are_applied_writes : AlwaysInEach AppliesInOrder (world_run halts lines).world
-  pub acknowledged_writes_stay : AlwaysInEach KeepsAcknowledged (world_run halts lines).world
-  pub one_list : let run = world_run halts lines in 0 < length run.world.volume.hosts → HasOneList run.world.volume.extent run.world.volume.chunks run.told
-  pub shown : report_of halts lines ≡ text
+-- For the run of these lines under these halts, in which the threads of the live lines did what these sessions tell: no two servers of a group
+-- ever hold different committed writes in one slot; each server's sectors are its applied writes in slot order; every acknowledged write is
+-- committed in each later leader's log; every mount's tree comes from a prefix of one transaction list; each session is one that its line can
+-- have, and each settling ends by itself; and the text shows exactly that run
+pub record Headline (halts : List Halt) (sessions : List Session) (lines : List Line) (text : List ℕ) : Type 0 where
+  pub one_write_in_a_slot : AlwaysInEach Agrees (world_run halts sessions lines).world
+  pub sectors_are_applied_writes : AlwaysInEach AppliesInOrder (world_run halts sessions lines).world
+  pub acknowledged_writes_stay : AlwaysInEach KeepsAcknowledged (world_run halts sessions lines).world
+  pub one_list : let run = world_run halts sessions lines in 0 < length run.world.volume.hosts → HasOneList run.world.volume.extent run.world.volume.chunks run.told
+  pub ends : EndEach halts (no_world sessions) lines
+  pub shown : report_of halts sessions lines ≡ text
 
--- It holds of the lines of the words' task that were run, under a list of halts each of which has its cause. With status 0 these are all lines, and
--- the sink took the whole text of the source's script
+-- It holds of the lines of the words' task that were run, under a list of halts each of which has its cause, with one session at most for each
+-- live line. With status 0 these are all lines, and the sink took the whole text of the source's script
 pub record HasHeadline {D : Type 0} (faults : D → ℕ) (status : Status) (task : Option Task) (given : List ℕ) (taken now : Option (List ℕ)) (before after : List D) : Type 0 where
   pub done : List Line
   pub rest : List Line
@@ -42,6 +45,8 @@ pub record HasHeadline {D : Type 0} (faults : D → ℕ) (status : Status) (task
   pub halts : List Halt
   pub left : WorldIs
   pub caused : AreHalts faults halts before after left
+  pub sessions : List Session
+  pub few : length sessions ≤ live_lines done
   pub text : List ℕ
-  pub holds : Headline halts done text
+  pub holds : Headline halts sessions done text
   pub whole : status ≡ statuses.Ok → (rest ≡ []) × IfRun task (Appends taken now text)

@@ -16,6 +16,7 @@ use pf_gen::script;
 use pf_io::{Sink, SureSource};
 use pf_text::{put_decimal, put_text};
 use std::alloc::Global;
+use std::sync::Wait;
 use std::thread::Threads;
 
 /// The line that tells of a generated script, by how many slots each of its two groups acknowledged.
@@ -31,7 +32,7 @@ fn sum_text(alloc: Global, number: u64, acked: (usize, usize)) -> Result<Vec<u8>
 }
 
 /// Runs the script that a number generates over the disks, and writes its one line when all its lines have run.
-pub fn generate<K: Sink, D: Disk + Drop, R: Threads + Sync, G: Gate + Sync>(
+pub fn generate<K: Sink, D: Disk + Drop + Send, R: Threads + Wait + Sync, G: Gate + Sync>(
     rt: &R,
     alloc: Global,
     number: u64,

@@ -19,6 +19,7 @@ use pf_script::Command;
 use pf_world::{Line, World};
 use std::alloc::Global;
 use std::mem;
+use std::sync::Wait;
 use std::thread::Threads;
 
 /// Makes the volume of a script's first line, and gives the text of that line. Where there is no memory for it, the disks come back.
@@ -57,7 +58,7 @@ fn open<D: Disk + Drop>(
 
 /// Writes the text of the volume's line, runs the lines behind it one after another, and writes the text of each.
 #[allow(clippy::too_many_arguments)]
-fn go_on<K: Sink, D: Disk + Drop, R: Threads + Sync, G: Gate + Sync>(
+fn go_on<K: Sink, D: Disk + Drop + Send, R: Threads + Wait + Sync, G: Gate + Sync>(
     rt: &R,
     alloc: Global,
     volume: &Line,
@@ -96,7 +97,7 @@ fn go_on<K: Sink, D: Disk + Drop, R: Threads + Sync, G: Gate + Sync>(
 /// Runs the lines of a script over the disks, and writes the text of each line after it has run. With `Ok` come the counts of the slots
 /// that groups 0 and 1 acknowledged.
 #[allow(clippy::too_many_arguments)]
-pub fn run_lines<K: Sink, D: Disk + Drop, R: Threads + Sync, G: Gate + Sync>(
+pub fn run_lines<K: Sink, D: Disk + Drop + Send, R: Threads + Wait + Sync, G: Gate + Sync>(
     rt: &R,
     alloc: Global,
     lines: &[Line],

@@ -7,5 +7,5 @@ returns-clause-told c = λ v answer_at told volume of can registers before mid a
     planned_late_of_all v answer_at told volume of can registers before mid after m call same mount made planned n its stood
 
 pub returns-clause-runs : goal.returns-clause-runs
-returns-clause-runs c = λ halts lines script lawful volume some before mid after m call same mount made planned n its stood.
-    planned_late halts lines script lawful volume some before mid after m call same mount made planned n its stood
+returns-clause-runs c = λ halts sessions lines script lawful volume some before mid after m call same mount made planned n its stood.
+    planned_late halts sessions lines script lawful volume some before mid after m call same mount made planned n its stood

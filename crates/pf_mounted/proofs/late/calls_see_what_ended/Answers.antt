@@ -7,5 +7,5 @@ returns-clause-told c = λ v answer_at told volume of can registers few list is 
     below_planned v answer_at told volume of can registers few list is ends first rest mid after n m answer call same its stood mount made planned position value txn here read own number
 
 pub returns-clause-runs : goal.returns-clause-runs
-returns-clause-runs c = λ halts lines script lawful volume few some list is first rest mid after n m answer call same its stood mount made planned position value txn here read own number.
-    planned_behind halts lines script lawful volume few some list is first rest mid after n m answer call same its stood mount made planned position value txn here read own number
+returns-clause-runs c = λ halts sessions lines script lawful volume few some list is first rest mid after n m answer call same its stood mount made planned position value txn here read own number.
+    planned_behind halts sessions lines script lawful volume few some list is first rest mid after n m answer call same its stood mount made planned position value txn here read own number

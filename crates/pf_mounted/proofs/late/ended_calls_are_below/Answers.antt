@@ -7,5 +7,5 @@ returns-clause-told c = λ v answer_at told volume of can registers few list is 
     below_ended v answer_at told volume of can registers few list is ends before after n answer same its stood position value txn here read mount number
 
 pub returns-clause-runs : goal.returns-clause-runs
-returns-clause-runs c = λ halts lines script lawful volume few some list is before after n answer same its stood position value txn here read mount number.
-    ended_below halts lines script lawful volume few some list is before after n answer same its stood position value txn here read mount number
+returns-clause-runs c = λ halts sessions lines script lawful volume few some list is before after n answer same its stood position value txn here read mount number.
+    ended_below halts sessions lines script lawful volume few some list is before after n answer same its stood position value txn here read mount number

@@ -3,11 +3,11 @@ use Rattle.pf_mounted.proofs.laws.hosts_are_told.Goals as goal
 use Rattle.pf_world.specs.Reports.{world_run}
 
 pub returns-clause-mounts : goal.returns-clause-mounts
-returns-clause-mounts c = λ halts lines is m host at. ((hosts_are_told halts lines is).hosts m host at).mount
+returns-clause-mounts c = λ halts sessions lines is m host at. ((hosts_are_told halts sessions lines is).hosts m host at).mount
 
 pub returns-clause-asks : goal.returns-clause-asks
-returns-clause-asks c = λ halts lines is m host at. ((hosts_are_told halts lines is).hosts m host at).at
+returns-clause-asks c = λ halts sessions lines is m host at. ((hosts_are_told halts sessions lines is).hosts m host at).at
 
 pub returns-clause-ports : goal.returns-clause-ports
-returns-clause-ports c = λ halts lines is k m chunk at.
-    let run = world_run halts lines in ask_in_port run.world.volume run.told (hosts_are_told halts lines is) k m chunk at
+returns-clause-ports c = λ halts sessions lines is k m chunk at.
+    let run = world_run halts sessions lines in ask_in_port run.world.volume run.told (hosts_are_told halts sessions lines is) k m chunk at

@@ -5,13 +5,13 @@ use Rattle.pf_mounted.proofs.laws.mounts_do_what_is_told.Goals as goal
 use Rattle.pf_world.specs.Reports.{world_run}
 
 pub returns-clause-calls : goal.returns-clause-calls
-returns-clause-calls c = λ halts lines is m before after call told.
-    let run = world_run halts lines in each_done run.world.volume run.told (hosts_are_told halts lines is) m before (Begins m call) after told refl
+returns-clause-calls c = λ halts sessions lines is m before after call told.
+    let run = world_run halts sessions lines in each_done run.world.volume run.told (hosts_are_told halts sessions lines is) m before (Begins m call) after told refl
 
 pub returns-clause-turns : goal.returns-clause-turns
-returns-clause-turns c = λ halts lines is m before after heard next told.
-    let run = world_run halts lines in each_done run.world.volume run.told (hosts_are_told halts lines is) m before (Turns m heard next) after told refl
+returns-clause-turns c = λ halts sessions lines is m before after heard next told.
+    let run = world_run halts sessions lines in each_done run.world.volume run.told (hosts_are_told halts sessions lines is) m before (Turns m heard next) after told refl
 
 pub returns-clause-ends : goal.returns-clause-ends
-returns-clause-ends c = λ halts lines is m before after answer told.
-    let run = world_run halts lines in each_done run.world.volume run.told (hosts_are_told halts lines is) m before (Ends m answer) after told refl
+returns-clause-ends c = λ halts sessions lines is m before after answer told.
+    let run = world_run halts sessions lines in each_done run.world.volume run.told (hosts_are_told halts sessions lines is) m before (Ends m answer) after told refl

@@ -7,5 +7,5 @@ pub returns-clause-mounts : goal.returns-clause-mounts
 returns-clause-mounts c = tables_of_decisions
 
 pub returns-clause-hosts : goal.returns-clause-hosts
-returns-clause-hosts c = λ halts lines is m host at.
-    let run = world_run halts lines in tables_of_decisions run.world.volume.extent run.told m host.mount ((hosts_are_told halts lines is).hosts m host at).mount
+returns-clause-hosts c = λ halts sessions lines is m host at.
+    let run = world_run halts sessions lines in tables_of_decisions run.world.volume.extent run.told m host.mount ((hosts_are_told halts sessions lines is).hosts m host at).mount

@@ -12,17 +12,17 @@ use Rattle.pf_mounted.proofs.Together.{one_list}
 use Rattle.pf_mounted.proofs.list.runs_have_one_list.Goals as goal
 
 pub returns : goal.returns
-returns c = λ halts lines script lawful volume few some.
-    let run = world_run halts lines in
-    let room = has_room halts lines script in
-    one_list run.world.volume.extent run.world.volume.chunks (answers halts lines script lawful) run.told (known halts lines script lawful) volume (room.room some) room.chunks
-    (mounts_alone halts lines script (room.mounted some)) (calls_of_words halts lines script) (asks_told halts lines script lawful)
+returns c = λ halts sessions lines script lawful volume few some.
+    let run = world_run halts sessions lines in
+    let room = has_room halts sessions lines script in
+    one_list run.world.volume.extent run.world.volume.chunks (answers halts sessions lines script lawful) run.told (known halts sessions lines script lawful) volume (room.room some) room.chunks
+    (mounts_alone halts sessions lines script (room.mounted some)) (calls_of_words halts sessions lines script) (asks_told halts sessions lines script lawful)
     (record {
-      words = calls_of_words halts lines script;
-      rest = λ m before after call same. each_done run.world.volume run.told (hosts_are_told halts lines script) m before (Begins m call) after same refl;
-      few = λ m. let most = run_few m halts lines in omega (arith, most, few);
-      numbers = λ m mount made. let most = calls_of_lines halts lines m mount made in omega (arith, most, few);
-      ends = λ m before after answer same. each_done run.world.volume run.told (hosts_are_told halts lines script) m before (Ends m answer) after same refl;
-      lives = endures halts lines script lawful volume some;
+      words = calls_of_words halts sessions lines script;
+      rest = λ m before after call same. each_done run.world.volume run.told (hosts_are_told halts sessions lines script) m before (Begins m call) after same refl;
+      few = λ m. let most = run_few m halts sessions lines in omega (arith, most, few);
+      numbers = λ m mount made. let most = calls_of_lines halts sessions lines m mount made in omega (arith, most, few);
+      ends = λ m before after answer same. each_done run.world.volume run.told (hosts_are_told halts sessions lines script) m before (Ends m answer) after same refl;
+      lives = endures halts sessions lines script lawful volume some;
     })
     c.journals_in_chunks_have_one_list.ensures.list

@@ -2,4 +2,4 @@ use Rattle.pf_mounted.proofs.Enduring.{endures}
 use Rattle.pf_mounted.proofs.list.superblocks_are_the_volumes.Goals as goal
 
 pub returns : goal.returns
-returns c = λ halts lines script lawful volume some before after same m mount made. endures halts lines script lawful volume some before after same m mount made
+returns c = λ halts sessions lines script lawful volume some before after same m mount made. endures halts sessions lines script lawful volume some before after same m mount made

@@ -3,7 +3,7 @@ use Rattle.pf_mounted.proofs.Holding.{ports_full, replies_since}
 use Rattle.pf_mounted.proofs.moments.turns_come_in_time.Goals as goal
 
 pub returns-clause-begins : goal.returns-clause-begins
-returns-clause-begins c = λ halts lines script m before after next same. turns_free halts lines script before after m next same
+returns-clause-begins c = λ halts sessions lines script m before after next same. turns_free halts sessions lines script before after m next same
 
 pub returns-clause-since : goal.returns-clause-since
 returns-clause-since c = replies_since

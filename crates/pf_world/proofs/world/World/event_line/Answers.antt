@@ -1,9 +1,9 @@
-use Rattle.std.proofs.Common.{length, sym, ap, subst, arith}
+use Rattle.std.proofs.Common.{[], length, sym, ap, subst, arith}
 use Rattle.pf_chunk.specs.Steps.{Event}
 use Rattle.pf_fleet.specs.Steps.{AreSameHosts, HasAnswered, HasNotAnswered}
 use Rattle.pf_world.specs.Steps.{HasFailed, HasRun}
 use Rattle.pf_world.specs.Views.{WorldOn, stands_at}
-use Rattle.pf_world.proofs.Asking.{asked_ends, asked_told, asked_within, event_in}
+use Rattle.pf_world.proofs.Asking.{asked_ends, asked_plain, asked_told, asked_within, event_in}
 use Rattle.pf_world.proofs.Failing.{answered_fails, event_fails, on_err}
 use Rattle.pf_world.proofs.Happening.{answered_runs}
 use Rattle.pf_world.proofs.Landing.{comes_back, of_world, ready_given}
@@ -27,7 +27,7 @@ returns-in_err-answer-clause-err g c =
     subst (HasFailed old c.args.number command)
     (comes_back w.sectors w.names w.format w.chunks.items w.fleet w.kind old same w.chunks.len c.happen.new.chunks c.happen.new.self (omega (arith, c.deref_mut.ensures.len, ap length c.deref_mut.ensures.value)) not.stopped.grown.count)
     (event_fails old c.args.number command (asked_within old c.args.number command c.args.group c.args.event (sym is)) event c.args.group old.kind old.kind
-    (λ halts. asked_told command c.args.group c.args.event (sym is) halts (stands_at halts old) c.args.number) c.happen.new.chunks c.happen.new.self not))
+    (λ halts. asked_told command c.args.group c.args.event (sym is) halts (stands_at halts [] old) c.args.number) c.happen.new.chunks c.happen.new.self not))
 
 pub returns-clause-ran : goal.returns-clause-ran
 returns-clause-ran g c =
@@ -44,8 +44,8 @@ returns-clause-ran g c =
     on_ok c.put_answer.result _ _ (λ put command is.
     subst (HasRun old c.args.number command c.args.out.now.items c.put_answer.new.out.items)
     (comes_back w.sectors w.names w.format w.chunks.items w.fleet w.kind old same w.chunks.len c.happen.new.chunks c.happen.new.self (omega (arith, c.deref_mut.ensures.len, ap length c.deref_mut.ensures.value)) a.went.grown.count)
-    (answered_runs old c.args.number command c.requires.world event c.args.group old.kind c.happen.new.chunks c.happen.new.self c.args.out.now.items c.happen.new.out.items c.put_answer.new.out.items answer a put kept.volume kept.calls
-    (λ halts. asked_told command c.args.group c.args.event (sym is) halts (stands_at halts old) c.args.number) (λ halts. asked_ends command c.args.group c.args.event (sym is) halts (stands_at halts old)))) c.put_answer.ensures.ok
+    (answered_runs old c.args.number command c.requires.world (asked_plain command c.args.group c.args.event (sym is)) event c.args.group old.kind c.happen.new.chunks c.happen.new.self c.args.out.now.items c.happen.new.out.items c.put_answer.new.out.items answer a put kept.volume kept.calls
+    (λ halts. asked_told command c.args.group c.args.event (sym is) halts (stands_at halts [] old) c.args.number) (λ halts. asked_ends command c.args.group c.args.event (sym is) halts (stands_at halts [] old)))) c.put_answer.ensures.ok
 
 pub returns-clause-err : goal.returns-clause-err
 returns-clause-err g c =
@@ -61,4 +61,4 @@ returns-clause-err g c =
     subst (HasFailed old c.args.number command)
     (comes_back w.sectors w.names w.format w.chunks.items w.fleet w.kind old same w.chunks.len c.happen.new.chunks c.happen.new.self (omega (arith, c.deref_mut.ensures.len, ap length c.deref_mut.ensures.value)) a.went.grown.count)
     (answered_fails old c.args.number command (asked_within old c.args.number command c.args.group c.args.event (sym is)) event c.args.group old.kind old.kind
-    (λ halts. asked_told command c.args.group c.args.event (sym is) halts (stands_at halts old) c.args.number) c.happen.new.chunks c.happen.new.self c.args.out.now.items c.happen.new.out.items answer a))
+    (λ halts. asked_told command c.args.group c.args.event (sym is) halts (stands_at halts [] old) c.args.number) c.happen.new.chunks c.happen.new.self c.args.out.now.items c.happen.new.out.items answer a))

@@ -1,4 +1,4 @@
-use Rattle.std.proofs.Common.{length, sym, ap, subst, refl, arith}
+use Rattle.std.proofs.Common.{[], length, sym, ap, subst, refl, arith}
 use Rattle.pf_script.specs.declared.command.Command.TheVariants.{Fetch}
 use Rattle.pf_chunk.specs.Asking.{fetches}
 use Rattle.pf_chunk.specs.Steps.{Event}
@@ -17,7 +17,7 @@ returns-then-not-is_range-clause-ran g c =
     let old = c.args.self.now.world in
     on_ok c.put_answer.result _ _ (λ put.
     no_range_runs old c.args.number c.args.group c.args.server c.args.sector c.args.count (Fetch c.args.group c.args.server c.args.sector c.args.count) (λ halts chunk. fetches halts c.args.server c.args.sector c.args.count chunk)
-    (sym c.if-not-is_range.ensures) c.chunk.result.now c.chunk.ensures old.kind (λ halts. refl) c.requires.world c.args.out.now.items c.put_answer.new.out.items c.no_range-answer.result c.no_range-answer.ensures.said c.no_range-answer.ensures.answer put (λ halts. tt)) c.put_answer.ensures.ok
+    (sym c.if-not-is_range.ensures) c.chunk.result.now c.chunk.ensures old.kind (λ halts. refl) c.requires.world refl c.args.out.now.items c.put_answer.new.out.items c.no_range-answer.result c.no_range-answer.ensures.said c.no_range-answer.ensures.answer put (λ halts. tt)) c.put_answer.ensures.ok
 
 pub returns-then-not-is_range-clause-err : goal.returns-then-not-is_range-clause-err
 returns-then-not-is_range-clause-err g c =
@@ -43,7 +43,7 @@ returns-in_err-answer-clause-err g c =
     (subst (HasFailed old c.args.number (Fetch c.args.group c.args.server c.args.sector c.args.count))
     (comes_back w.sectors w.names w.format w.chunks.items w.fleet w.kind old same w.chunks.len c.fetch.new.chunks c.fetch.new.self (omega (arith, c.deref_mut.ensures.len, ap length c.deref_mut.ensures.value)) not.stopped.grown.count)
     (event_fails old c.args.number (Fetch c.args.group c.args.server c.args.sector c.args.count) (λ new within. within) event c.args.group old.kind old.kind
-    (λ halts. in_range_told halts (stands_at halts old) c.args.number c.args.group c.args.server c.args.sector c.args.count (event halts) (sym c.if-not-is_range.ensures)) c.fetch.new.chunks c.fetch.new.self not))
+    (λ halts. in_range_told halts (stands_at halts [] old) c.args.number c.args.group c.args.server c.args.sector c.args.count (event halts) (sym c.if-not-is_range.ensures)) c.fetch.new.chunks c.fetch.new.self not))
 
 pub returns-clause-ran : goal.returns-clause-ran
 returns-clause-ran g c =
@@ -61,8 +61,8 @@ returns-clause-ran g c =
     on_ok c.put_answer-2.result _ _ (λ put.
     subst (HasRun old c.args.number command c.args.out.now.items c.put_answer-2.new.out.items)
     (comes_back w.sectors w.names w.format w.chunks.items w.fleet w.kind old same w.chunks.len c.fetch.new.chunks c.fetch.new.self (omega (arith, c.deref_mut.ensures.len, ap length c.deref_mut.ensures.value)) a.went.grown.count)
-    (answered_runs old c.args.number command c.requires.world event c.args.group old.kind c.fetch.new.chunks c.fetch.new.self c.args.out.now.items c.fetch.new.out.items c.put_answer-2.new.out.items answer a put kept.volume kept.calls
-    (λ halts. in_range_told halts (stands_at halts old) c.args.number c.args.group c.args.server c.args.sector c.args.count (event halts) (sym c.if-not-is_range.ensures)) (λ halts. tt))) c.put_answer-2.ensures.ok
+    (answered_runs old c.args.number command c.requires.world refl event c.args.group old.kind c.fetch.new.chunks c.fetch.new.self c.args.out.now.items c.fetch.new.out.items c.put_answer-2.new.out.items answer a put kept.volume kept.calls
+    (λ halts. in_range_told halts (stands_at halts [] old) c.args.number c.args.group c.args.server c.args.sector c.args.count (event halts) (sym c.if-not-is_range.ensures)) (λ halts. tt))) c.put_answer-2.ensures.ok
 
 pub returns-clause-err : goal.returns-clause-err
 returns-clause-err g c =
@@ -79,4 +79,4 @@ returns-clause-err g c =
     (subst (HasFailed old c.args.number command)
     (comes_back w.sectors w.names w.format w.chunks.items w.fleet w.kind old same w.chunks.len c.fetch.new.chunks c.fetch.new.self (omega (arith, c.deref_mut.ensures.len, ap length c.deref_mut.ensures.value)) a.went.grown.count)
     (answered_fails old c.args.number command (λ new within. within) event c.args.group old.kind old.kind
-    (λ halts. in_range_told halts (stands_at halts old) c.args.number c.args.group c.args.server c.args.sector c.args.count (event halts) (sym c.if-not-is_range.ensures)) c.fetch.new.chunks c.fetch.new.self c.args.out.now.items c.fetch.new.out.items answer a))
+    (λ halts. in_range_told halts (stands_at halts [] old) c.args.number c.args.group c.args.server c.args.sector c.args.count (event halts) (sym c.if-not-is_range.ensures)) c.fetch.new.chunks c.fetch.new.self c.args.out.now.items c.fetch.new.out.items answer a))

@@ -1,0 +1,71 @@
+-- A line of threads, by what its calls come to.
+use Rattle.std.proofs.Common.{◌≡◌, ℕ, List, ◌++◌, Some, slice_set, sym, ap, subst, ◌∙◌}
+use Rattle.pf_script.specs.declared.command.Command.{Command}
+use Rattle.pf_script.specs.declared.command.Command.TheVariants as commands
+use Rattle.pf_report.specs.Live.{live_text}
+use Rattle.pf_report.specs.Texts.{line_of}
+use Rattle.pf_report.specs.declared.live.LiveEnd.{LiveEnd}
+use Rattle.pf_chunk.specs.Views.{ChunkIs}
+use Rattle.pf_hosts.specs.Steps.{AreReady}
+use Rattle.pf_fleet.specs.Steps.{AreSameHosts, HasGone, HasStopped, IsFleetOf}
+use Rattle.pf_fleet.specs.Volumes.{hosts_step}
+use Rattle.pf_live.specs.declared.plan.Plan.{Plan}
+use Rattle.pf_session.specs.declared.session.Lived.{Lived}
+use Rattle.pf_threads.specs.Sessions.{IsPlan, told_end}
+use Rattle.pf_threads.specs.Steps.{HasHeld, HasNotLived, IsAt}
+use Rattle.pf_world.specs.declared.kind.Kind.{Kind}
+use Rattle.pf_world.specs.declared.kind.Kind.TheVariants.{Raw}
+use Rattle.pf_world.specs.Lines.{decided}
+use Rattle.pf_world.specs.Steps.{HasFailed, HasRun}
+use Rattle.pf_world.specs.Views.{IsWorld, WorldIs}
+use Rattle.pf_world.proofs.Happening.{becomes}
+use Rattle.pf_world.proofs.Sessions.{lived_runs, mid_fleet, mid_ready, steps_fail, text_fails, threads_fail}
+
+module _ (old : WorldIs) (number chunk hosts writes workers turns : ℕ) (world : IsWorld old) (kind : Kind) (decides : kind ≡ decided old.kind Raw) (is : kind ≡ Raw) where
+  abbrev live : Command
+  live = commands.Live chunk hosts writes workers turns
+
+  raw : decided old.kind Raw ≡ Raw
+  raw = sym decides ∙ is
+
+  -- the threads wanted memory
+  pub threads_stop : (plan : Plan) (chunks : List ChunkIs) → IsAt chunk old.chunks chunks (HasNotLived plan) → IsPlan hosts writes workers turns old.sectors plan → HasFailed old number live (becomes old chunks old.fleet (Some kind))
+  threads_stop plan chunks at is_plan =
+      subst (λ k. HasFailed old number live (becomes old chunks old.fleet (Some k))) (sym decides)
+      (subst (λ cs. HasFailed old number live (becomes old cs old.fleet (Some (decided old.kind Raw)))) (sym at.put)
+      (threads_fail old number chunk hosts writes workers turns world raw plan is_plan at.was at.there at.is at.became))
+
+  -- their session was held
+  module _ (plan : Plan) (told : Lived) (before middle : List ℕ) (chunks : List ChunkIs) (at : IsAt chunk old.chunks chunks (λ was is. HasHeld plan was before told middle is)) (is_plan : IsPlan hosts writes workers turns old.sectors plan) where
+    pub held_ready : AreReady chunks
+    held_ready = subst AreReady (sym at.put) (mid_ready old number chunk hosts writes workers turns world raw plan is_plan at.was at.there at.is told before middle at.became)
+
+    pub held_fleet : IsFleetOf chunks old.fleet
+    held_fleet = subst (λ cs. IsFleetOf cs old.fleet) (sym at.put) (mid_fleet old number chunk hosts writes workers turns world raw plan is_plan at.was at.there at.is told before middle at.became)
+
+    module _ (next : WorldIs) (others : next ≡ becomes old next.chunks next.fleet (Some kind)) where
+      next_is : becomes old next.chunks next.fleet (Some (decided old.kind Raw)) ≡ next
+      next_is = ap (λ k. becomes old next.chunks next.fleet (Some k)) (sym decides) ∙ sym others
+
+      -- the hosts wanted memory for their steps
+      pub hosts_stop : HasStopped hosts_step chunks old.fleet next.chunks → HasFailed old number live next
+      hosts_stop stopped =
+          subst (HasFailed old number live) next_is
+          (steps_fail old number chunk hosts writes workers turns world raw plan is_plan at.was at.there at.is told before middle at.became next.chunks next.fleet
+          (subst (λ cs. HasStopped hosts_step cs old.fleet next.chunks) at.put stopped))
+
+      module _ (later : List ℕ) (steps : HasGone hosts_step chunks old.fleet middle next.chunks next.fleet later) where
+        steps_of : HasGone hosts_step (slice_set old.chunks chunk at.is) old.fleet middle next.chunks next.fleet later
+        steps_of = subst (λ cs. HasGone hosts_step cs old.fleet middle next.chunks next.fleet later) at.put steps
+
+        -- there was none for the text of the line
+        pub text_stops : HasFailed old number live next
+        text_stops =
+            subst (HasFailed old number live) next_is
+            (text_fails old number chunk hosts writes workers turns world raw plan is_plan at.was at.there at.is told before middle at.became next.chunks next.fleet later steps_of)
+
+        pub live_runs : (after : List ℕ) (end : LiveEnd) → AreSameHosts old.fleet next.fleet → end ≡ told_end told.end → after ≡ later ++ line_of number (live_text told.totals.acked told.totals.applied end) → HasRun old number live before after next
+        live_runs after end same ends put =
+            subst (HasRun old number live before after) next_is
+            (lived_runs old number chunk hosts writes workers turns world raw plan is_plan at.was at.there at.is told before middle at.became next.chunks next.fleet later steps_of after same
+            (put ∙ ap (λ e. later ++ line_of number (live_text told.totals.acked told.totals.applied e)) ends))

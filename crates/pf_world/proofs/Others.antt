@@ -1,0 +1,121 @@
+-- Lines that are not of threads take no session, and leave those that are still to come.
+use Rattle.std.proofs.Common.{◌≡◌, ℕ, true, false, not, if◌then◌else◌, List, [], length, Option, Some, None, slice_get, refl, sym}
+use Rattle.std.specs.Prelude.{nat_le, nat_lt}
+use Rattle.std.proofs.lemmas.Bool.{false≢true}
+use Rattle.pf_base.specs.declared.calls.Call.{Call}
+use Rattle.pf_entry.proofs.Cases.{by_test}
+use Rattle.pf_tree.specs.declared.calls.FileCall.{FileCall}
+use Rattle.pf_script.specs.declared.command.Command.{Command}
+use Rattle.pf_script.specs.declared.command.Command.TheVariants as commands
+use Rattle.pf_volume.specs.Volumes.{size_of}
+use Rattle.pf_report.specs.Mounts.{mount_text}
+use Rattle.pf_rounds.specs.Chunks.{Chunk}
+use Rattle.pf_rounds.specs.Halts.{Halt}
+use Rattle.pf_chunk.specs.Asking.{fetches, is_range, submits}
+use Rattle.pf_chunk.specs.Happenings.{Happened}
+use Rattle.pf_chunk.specs.Runs.{ChunkRun}
+use Rattle.pf_hosts.specs.Hosts.{HostIs}
+use Rattle.pf_hosts.specs.Words.{read_call}
+use Rattle.pf_fleet.specs.Volumes.{host_at, mounts, quietly}
+use Rattle.pf_threads.specs.Sessions.{Session}
+use Rattle.pf_world.specs.declared.kind.Kind.{Kind}
+use Rattle.pf_world.specs.declared.kind.Kind.TheVariants.{Mounted, Raw}
+use Rattle.pf_world.specs.Worlds.{Told, World, at_chunk, refused_text, stepped, told_of}
+use Rattle.pf_world.specs.Lines.{asked, begins_if, call_of, decided, joins, kill_of, line_told, mounts_as, no_event_of, rests, show_of, shown_of, submits_as, with_kind}
+use Rattle.pf_world.specs.Headline.{is_live}
+use Rattle.pf_world.specs.Steps.{Ends, TakesSessions}
+
+module _ (halts : List Halt) (sessions : List Session) where
+  -- with other sessions that are still to come
+  abbrev pub with_others : World → World
+  with_others w = record w { sessions = sessions }
+
+  abbrev pub told_with : Told → Told
+  told_with t = record t { world = with_others t.world }
+
+  chunk_other : (w : World) (number : ℕ) (event : ChunkRun → Happened) (o : Option ChunkRun) → told_of halts (with_others w) number o event ≡ told_with (told_of halts w number o event)
+  chunk_other w number event None = refl
+  chunk_other w number event (Some c) = refl
+
+  no_event_other : (w : World) (number server : ℕ) (o : Option ChunkRun) → no_event_of (with_others w) number server o ≡ told_with (no_event_of w number server o)
+  no_event_other w number server None = refl
+  no_event_other w number server (Some c) = refl
+
+  asked_other : (w : World) (number chunk server first count : ℕ) (event : ChunkRun → Happened) → asked halts (with_others w) number chunk server first count event ≡ told_with (asked halts w number chunk server first count event)
+  asked_other w number chunk server first count event =
+      let c = slice_get w.volume.chunks chunk in
+      by_test (is_range first count) (λ b. (if b then at_chunk halts (with_others w) number chunk event else no_event_of (with_others w) number server c) ≡ told_with (if b then at_chunk halts w number chunk event else no_event_of w number server c))
+      (λ _. chunk_other w number event c) (λ _. no_event_other w number server c)
+
+  submits_other : (w : World) (number : ℕ) (kind : Kind) (chunk server first byte count : ℕ) → submits_as kind halts (with_others w) number chunk server first byte count ≡ told_with (submits_as kind halts w number chunk server first byte count)
+  submits_other w number Mounted chunk server first byte count = refl
+  submits_other w number Raw chunk server first byte count = asked_other w number chunk server first count (submits halts server first byte count)
+
+  shown_other : (w : World) (number : ℕ) (o : Option ChunkRun) (text : Chunk → List ℕ) → shown_of (with_others w) number o text ≡ told_with (shown_of w number o text)
+  shown_other w number None text = refl
+  shown_other w number (Some c) text = refl
+
+  joins_other : (w : World) (number : ℕ) → joins halts (with_others w) number ≡ told_with (joins halts w number)
+  joins_other w number =
+      let v = w.volume in
+      let refused : World → ℕ → Told = λ x fault. stepped halts x number (quietly v) (refused_text fault) in
+      let new : World → Told = λ x. stepped halts x number (mounts v) (mount_text (length v.hosts)) in
+      let few : World → Told = λ x. if nat_le 16 (length v.hosts) then refused x 92 else new x in
+      by_test (nat_lt (size_of v.extent) 4112) (λ b. (if b then refused (with_others w) 93 else few (with_others w)) ≡ told_with (if b then refused w 93 else few w)) (λ _. refl)
+      (λ _. by_test (nat_le 16 (length v.hosts)) (λ b. (if b then refused (with_others w) 92 else new (with_others w)) ≡ told_with (if b then refused w 92 else new w)) (λ _. refl) (λ _. refl))
+
+  mounts_other : (w : World) (number : ℕ) (kind : Kind) → mounts_as kind halts (with_others w) number ≡ told_with (mounts_as kind halts w number)
+  mounts_other w number Raw = refl
+  mounts_other w number Mounted = joins_other w number
+
+  kill_other : (w : World) (number mount : ℕ) (o : Option HostIs) → kill_of (with_others w) number mount o ≡ told_with (kill_of w number mount o)
+  kill_other w number mount None = refl
+  kill_other w number mount (Some host) = refl
+
+  begins_other : (w : World) (number mount : ℕ) (host : HostIs) (o : Option FileCall) → begins_if halts (with_others w) number mount host o ≡ told_with (begins_if halts w number mount host o)
+  begins_other w number mount host None = refl
+  begins_other w number mount host (Some call) = refl
+
+  call_other : (w : World) (number mount : ℕ) (call : Call) (o : Option HostIs) → call_of halts (with_others w) number mount call o ≡ told_with (call_of halts w number mount call o)
+  call_other w number mount call None = refl
+  call_other w number mount call (Some host) =
+      let pending : World → Told = λ x. stepped halts x number (quietly w.volume) (refused_text 91) in
+      by_test (rests host.mount.work) (λ b. (if b then begins_if halts (with_others w) number mount host (read_call call) else pending (with_others w)) ≡ told_with (if b then begins_if halts w number mount host (read_call call) else pending w))
+      (λ _. begins_other w number mount host (read_call call)) (λ _. refl)
+
+  show_other : (w : World) (number mount : ℕ) (o : Option HostIs) → show_of (with_others w) number mount o ≡ told_with (show_of w number mount o)
+  show_other w number mount None = refl
+  show_other w number mount (Some host) = refl
+
+  pub line_other : (w : World) (number : ℕ) (command : Command) → is_live command ≡ false → line_told halts (with_others w) number command ≡ told_with (line_told halts w number command)
+  line_other w number (commands.Volume chunks sectors names format) plain = refl
+  line_other w number (commands.Elect g i) plain = chunk_other w number _ (slice_get w.volume.chunks g)
+  line_other w number (commands.Resend g i) plain = chunk_other w number _ (slice_get w.volume.chunks g)
+  line_other w number (commands.Stop g i) plain = chunk_other w number _ (slice_get w.volume.chunks g)
+  line_other w number (commands.Restart g i) plain = chunk_other w number _ (slice_get w.volume.chunks g)
+  line_other w number (commands.Checkpoint g i) plain = chunk_other w number _ (slice_get w.volume.chunks g)
+  line_other w number (commands.Deliver g k) plain = chunk_other w number _ (slice_get w.volume.chunks g)
+  line_other w number (commands.Lose g k) plain = chunk_other w number _ (slice_get w.volume.chunks g)
+  line_other w number (commands.Submit g i s b n) plain = let kind : Kind = decided w.kind Raw in submits_other (with_kind w kind) number kind g i s b n
+  line_other w number (commands.Fetch g i s n) plain = asked_other w number g i s n (fetches halts i s n)
+  line_other w number (commands.Mark g i) plain = chunk_other w number _ (slice_get w.volume.chunks g)
+  line_other w number (commands.Settle limit) plain = refl
+  line_other w number (commands.Live g hosts writes workers turns) plain = absurd (false≢true (sym plain))
+  line_other w number commands.Mount plain = let kind : Kind = decided w.kind Mounted in mounts_other (with_kind w kind) number kind
+  line_other w number (commands.Kill m) plain = kill_other w number m (host_at w.volume.hosts m)
+  line_other w number (commands.Call m call) plain = call_other w number m call (host_at w.volume.hosts m)
+  line_other w number (commands.ShowLog g i) plain = shown_other w number (slice_get w.volume.chunks g) _
+  line_other w number (commands.ShowApplied g i) plain = shown_other w number (slice_get w.volume.chunks g) _
+  line_other w number (commands.ShowSectors g i) plain = shown_other w number (slice_get w.volume.chunks g) _
+  line_other w number (commands.ShowAcked g) plain = shown_other w number (slice_get w.volume.chunks g) _
+  line_other w number (commands.ShowMark g i s) plain = shown_other w number (slice_get w.volume.chunks g) _
+  line_other w number (commands.ShowMount m) plain = show_other w number m (host_at w.volume.hosts m)
+
+  pub ends_other : (w : World) (command : Command) → is_live command ≡ false → Ends halts w command → Ends halts (with_others w) command
+  ends_other w (commands.Settle limit) plain ends = ends
+  ends_other w (commands.Live g hosts writes workers turns) plain ends = absurd (false≢true (sym plain))
+  ends_other w command plain ends = tt
+
+pub takes_none : (command : Command) → is_live command ≡ false → TakesSessions command []
+takes_none (commands.Live g hosts writes workers turns) plain = absurd (false≢true (sym plain))
+takes_none command plain = refl
