@@ -3,7 +3,7 @@ ghost use Rattle.std.specs.Prelude.{◌≡◌, ℕ, ◌<◌, IfOk, IfSome, OnErr
 ghost use Rattle.pf_base.specs.Span.{IsWritable};
 ghost use Rattle.pf_asks.specs.Desks.{Call, Led, Submitted, Fetched, WasAcked, Took};
 
-use pf_base::{Data, NoMemory, Payload, Range, Server, Slot, Term};
+use pf_base::{Data, NoMemory, Payload, Range, ServerId, Slot, Term};
 use std::alloc::Global;
 
 /// One group of servers. Others may use it between two calls, and each call is at most one event of the group. After `NoMemory` (1)
@@ -17,7 +17,7 @@ pub trait Desk {
 
     /// The greatest term in which a running server serves, and the number of that server. `None` exactly where no running server
     /// serves.
-    fn leader(&mut self, alloc: Global) -> Result<Option<(Term, Server)>, NoMemory>
+    fn leader(&mut self, alloc: Global) -> Result<Option<(Term, ServerId)>, NoMemory>
         ensures ok { IfOk result (λ leader. Self.says self.old (Led leader) self.new) }
         ensures server { IfOk result (λ leader. IfSome leader (λ one. one.1 < 3)) }
         ensures err { OnErr result (self.new ≡ self.old) };
@@ -26,7 +26,7 @@ pub trait Desk {
     fn submit(
         &mut self,
         alloc: Global,
-        server: Server,
+        server: ServerId,
         range: Range,
         payload: &Payload,
     ) -> Result<Option<Slot>, NoMemory>
@@ -40,7 +40,7 @@ pub trait Desk {
     fn fetch(
         &mut self,
         alloc: Global,
-        server: Server,
+        server: ServerId,
         range: Range,
     ) -> Result<Option<u64>, NoMemory>
         requires server { server < 3 }

@@ -8,7 +8,7 @@ ghost use Rattle.pf_asks.specs.Desks.{Call, CallsLead, IsLook};
 ghost use Rattle.pf_asks.specs.Ports.{Drives, Hands, IsCounted, IsLed, IsOfKind, IsSentOf, LooksFor, NeverLower, goes_to, new_port};
 
 use crate::Desk;
-use pf_base::{Ask, NoMemory, Reply, Server, Slot, Term};
+use pf_base::{Ask, NoMemory, Reply, ServerId, Slot, Term};
 use std::alloc::Global;
 use std::marker::Model;
 
@@ -138,7 +138,7 @@ fn goes(sent: Option<Sent>, last: Term, term: Term) -> bool
 fn hand<K: Desk>(
     alloc: Global,
     desk: &mut K,
-    server: Server,
+    server: ServerId,
     ask: &Ask,
 ) -> Result<Option<Sent>, NoMemory>
     requires server { server < 3 }

@@ -20,7 +20,7 @@ pub use errors::{BadRange, NoMemory};
 pub use filled::{Filled, Sectors};
 pub use numbers::{get_u16, get_u32, get_u64, put_u16, put_u32, put_u64};
 pub use range::Range;
-pub use server::{Server, is_server};
+pub use server::{ServerId, is_server};
 pub use value::Value;
 
 /// A place in the log of a group. The first is 1.

@@ -2,7 +2,7 @@
 ghost use Rattle.std.specs.Prelude.{◌↔◌, ◌<◌, IsTrue};
 
 /// The number of a server of a group. Every call and event that takes one has the condition that it is below 3.
-pub type Server = u8;
+pub type ServerId = u8;
 
 /// The count of servers of a group.
 const SERVERS: u8 = 3;

@@ -10,16 +10,16 @@ use Rattle.pf_group.specs.declared.event.GroupEvent.{GroupEvent}
 use Rattle.pf_group.specs.Events.{event_of}
 use Rattle.pf_group.specs.GroupIs.{GroupIs}
 use Rattle.pf_group.specs.Steps.{HasStepped, IsLeft}
-use Rattle.pf_rounds.specs.Agreeing.{TellsOfGroup, chunk_of, told_from, told_history}
-use Rattle.pf_rounds.specs.Begun.{HasBegun}
-use Rattle.pf_rounds.specs.Chunks.{Chunk, after, answered}
-use Rattle.pf_rounds.specs.Growing.{HasGrown}
-use Rattle.pf_rounds.specs.Halts.{Halt}
-use Rattle.pf_rounds.specs.Rounds.{applied}
-use Rattle.pf_rounds.proofs.Extending.{Extends, after_extends, applied_extends, extends_on, extends_refl}
-use Rattle.pf_rounds.proofs.Growing.{grown_refl, grown_tells, grown_trans, left_grows, step_grows, taken_grows}
-use Rattle.pf_rounds.proofs.Paying.{only_faults}
-use Rattle.pf_rounds.proofs.Told.{told_longer, told_replays}
+use Rattle.pf_applyrounds.specs.Agreeing.{TellsOfGroup, chunk_of, told_from, told_history}
+use Rattle.pf_applyrounds.specs.Begun.{HasBegun}
+use Rattle.pf_applyrounds.specs.Chunks.{Chunk, after, answered}
+use Rattle.pf_applyrounds.specs.Growing.{HasGrown}
+use Rattle.pf_applyrounds.specs.Halts.{Halt}
+use Rattle.pf_applyrounds.specs.Rounds.{applied}
+use Rattle.pf_applyrounds.proofs.Extending.{Extends, after_extends, applied_extends, extends_on, extends_refl}
+use Rattle.pf_applyrounds.proofs.Growing.{grown_refl, grown_tells, grown_trans, left_grows, step_grows, taken_grows}
+use Rattle.pf_applyrounds.proofs.Paying.{only_faults}
+use Rattle.pf_applyrounds.proofs.Told.{told_longer, told_replays}
 use Rattle.pf_chunk.specs.Asking.{fetches, filled, is_range, no_range, submits}
 use Rattle.pf_chunk.specs.Happenings.{Happened, followed, happened}
 use Rattle.pf_chunk.specs.Runs.{ChunkRun}

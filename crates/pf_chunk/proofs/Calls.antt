@@ -30,7 +30,7 @@ use Rattle.pf_group.specs.declared.event.GroupEvent.TheVariants as asked
 use Rattle.pf_group.specs.GroupIs.{GroupIs, state_of}
 use Rattle.pf_group.specs.Readers.{LacksAnswer}
 use Rattle.pf_group.specs.Steps.{HasStepped}
-use Rattle.pf_cluster.specs.Shown.{is_acked}
+use Rattle.pf_network.specs.Shown.{is_acked}
 use Rattle.pf_chunk.specs.Asks.{Says, leader_of, reply_to}
 use Rattle.pf_chunk.specs.Driving.{sent_of}
 use Rattle.pf_chunk.specs.Views.{ChunkIs}

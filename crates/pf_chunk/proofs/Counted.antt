@@ -15,8 +15,8 @@ use Rattle.pf_protocol.specs.Groups.{Group, ending, happens, opening}
 use Rattle.pf_protocol.specs.Histories.{History}
 use Rattle.pf_protocol.specs.Answers.{Claimed, IsAnswer, IsLegal, IsLegalFrom, IsLegalNext, answer_at, answer_by, answer_to, claims_after, fetch_refusal, fetch_turn, is_serving, refuse, room_refusal}
 use Rattle.pf_protocol.specs.Leading.{on_fetch}
-use Rattle.pf_hosted.proofs.Answers.{eight_given}
-use Rattle.pf_hosted.proofs.Taking.{answered_taken_up}
+use Rattle.pf_positions.proofs.Answers.{eight_given}
+use Rattle.pf_positions.proofs.Taking.{answered_taken_up}
 use Rattle.pf_group.specs.GroupIs.{GroupIs}
 use Rattle.pf_group.specs.Readers.{HasTaken}
 use Rattle.pf_chunk.specs.Views.{IsFetched}

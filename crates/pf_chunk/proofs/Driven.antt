@@ -16,19 +16,19 @@ use Rattle.pf_protocol.specs.declared.answers.Answer.TheVariants.{Done, Slot as 
 use Rattle.pf_protocol.specs.declared.events.Event.TheVariants.{Fetch}
 use Rattle.pf_protocol.specs.declared.events.Happening.{Happening}
 use Rattle.pf_protocol.specs.Answers.{IsLegal, claims_after}
-use Rattle.pf_cluster.specs.Readings.{taken_after}
-use Rattle.pf_cluster.proofs.Lists.{at_end, set_again, set_elsewhere, set_length, set_same, set_there}
+use Rattle.pf_network.specs.Readings.{taken_after}
+use Rattle.pf_network.proofs.Lists.{at_end, set_again, set_elsewhere, set_length, set_same, set_there}
 use Rattle.pf_asks.specs.declared.port.Sent.TheVariants.{Number}
 use Rattle.pf_asks.specs.Ports.{Goes, IsHanded, PortIs, Stays, answered as answered_port, goes_to, new_port}
 use Rattle.pf_group.specs.Events.{event_of}
 use Rattle.pf_group.specs.GroupIs.{GroupIs, state_of}
 use Rattle.pf_group.specs.Steps.{HasStepped}
-use Rattle.pf_rounds.specs.Agreeing.{chunk_of}
-use Rattle.pf_rounds.specs.Chunks.{answered}
-use Rattle.pf_rounds.specs.Halts.{Halt}
-use Rattle.pf_rounds.proofs.Extending.{Extends, extends_refl}
-use Rattle.pf_rounds.proofs.Growing.{grown_refl, taken_grows}
-use Rattle.pf_rounds.proofs.Told.{told_length}
+use Rattle.pf_applyrounds.specs.Agreeing.{chunk_of}
+use Rattle.pf_applyrounds.specs.Chunks.{answered}
+use Rattle.pf_applyrounds.specs.Halts.{Halt}
+use Rattle.pf_applyrounds.proofs.Extending.{Extends, extends_refl}
+use Rattle.pf_applyrounds.proofs.Growing.{grown_refl, taken_grows}
+use Rattle.pf_applyrounds.proofs.Told.{told_length}
 use Rattle.pf_chunk.specs.declared.waiting.Waiting.{Waiting}
 use Rattle.pf_chunk.specs.Asks.{leader_of, reply_to}
 use Rattle.pf_chunk.specs.Driving.{Driven, HandsOn, HasDriven, Heeds, PortDrove, ask_after, driven, driven_at, driven_for, event_of_ask, handed, handed_to, idle, led_to, replied, sent_of, with_port}

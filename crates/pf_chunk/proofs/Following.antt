@@ -12,7 +12,7 @@ use Rattle.pf_protocol.specs.Groups.{Group, ending, happens, opening}
 use Rattle.pf_protocol.specs.Histories.{History, replay, run}
 use Rattle.pf_protocol.specs.Answers.{Claimed, IsAnswer, IsLegal, IsLegalFrom, claims_after, claims_of}
 use Rattle.pf_protocol.proofs.ForMoments.{replay_goes_on}
-use Rattle.pf_rounds.specs.Jobs.{IsClaimOrFinish, IsOfRound}
+use Rattle.pf_applyrounds.specs.Jobs.{IsClaimOrFinish, IsOfRound}
 use Rattle.pf_chunk.specs.Waiting.{GoesQuietly, StepsReads}
 use Rattle.pf_chunk.proofs.Keeping.{taken_up}
 use Rattle.pf_group.proofs.Sending.{OnlySent, run_sent}

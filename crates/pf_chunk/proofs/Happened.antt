@@ -17,14 +17,14 @@ use Rattle.pf_group.specs.GroupIs.{GroupIs, state_of}
 use Rattle.pf_group.specs.Packets.{NoneComesBack, is_left_in}
 use Rattle.pf_group.specs.Steps.{Steps}
 use Rattle.pf_report.specs.Texts.{answer_text}
-use Rattle.pf_rounds.specs.Agreeing.{TellsOfGroup, chunk_of}
-use Rattle.pf_rounds.specs.Growing.{HasGrown}
-use Rattle.pf_rounds.specs.Chunks.{Chunk, after, answered}
-use Rattle.pf_rounds.specs.Halts.{Halt}
-use Rattle.pf_rounds.specs.Rounds.{applied}
-use Rattle.pf_rounds.proofs.Following.{restart_answer_is, restart_is, step_is}
-use Rattle.pf_rounds.proofs.Stepping.{answered_now}
-use Rattle.pf_rounds.proofs.Growing.{grown_tells, grown_trans, later_tells, step_grows}
+use Rattle.pf_applyrounds.specs.Agreeing.{TellsOfGroup, chunk_of}
+use Rattle.pf_applyrounds.specs.Growing.{HasGrown}
+use Rattle.pf_applyrounds.specs.Chunks.{Chunk, after, answered}
+use Rattle.pf_applyrounds.specs.Halts.{Halt}
+use Rattle.pf_applyrounds.specs.Rounds.{applied}
+use Rattle.pf_applyrounds.proofs.Following.{restart_answer_is, restart_is, step_is}
+use Rattle.pf_applyrounds.proofs.Stepping.{answered_now}
+use Rattle.pf_applyrounds.proofs.Growing.{grown_tells, grown_trans, later_tells, step_grows}
 use Rattle.pf_chunk.specs.Happenings.{Happened, followed}
 use Rattle.pf_chunk.specs.Runs.{ChunkRun}
 use Rattle.pf_chunk.specs.Steps.{AreGoneThrough, HasFollowed, HasHappened}

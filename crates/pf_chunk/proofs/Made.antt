@@ -9,7 +9,7 @@ use Rattle.pf_asks.specs.declared.port.Sent.TheVariants.{Number}
 use Rattle.pf_asks.specs.Ports.{PortIs, new_port}
 use Rattle.pf_group.specs.GroupIs.{GroupIs}
 use Rattle.pf_group.specs.Making.{IsMade, setup_with}
-use Rattle.pf_rounds.proofs.Opening.{opening_is_applied}
+use Rattle.pf_applyrounds.proofs.Opening.{opening_is_applied}
 use Rattle.pf_group.specs.Packets.{is_left_in}
 use Rattle.pf_chunk.specs.Runs.{most_ports}
 use Rattle.pf_chunk.specs.Views.{IsReady}

@@ -18,8 +18,8 @@ use Rattle.pf_group.specs.GroupIs.{GroupIs, state_of}
 use Rattle.pf_group.specs.Steps.{HasStepped, IsNew as IsFresh, Steps}
 use Rattle.pf_group.proofs.Claims.{claims_more}
 use Rattle.pf_report.specs.Texts.{answer_text}
-use Rattle.pf_rounds.specs.Agreeing.{chunk_of}
-use Rattle.pf_rounds.proofs.Stepping.{answered_now}
+use Rattle.pf_applyrounds.specs.Agreeing.{chunk_of}
+use Rattle.pf_applyrounds.proofs.Stepping.{answered_now}
 use Rattle.pf_chunk.specs.declared.waiting.Waiting.{Waiting}
 use Rattle.pf_chunk.specs.Events.{IsStep}
 use Rattle.pf_chunk.specs.Runs.{ChunkRun}

@@ -13,9 +13,9 @@ use Rattle.pf_protocol.specs.Servers.{Condition, Running, Stopped, Unformatted}
 use Rattle.pf_base.specs.declared.errors.NoMemory.{NoMemory}
 use Rattle.pf_group.specs.GroupIs.{GroupIs, state_of}
 use Rattle.pf_report.specs.Texts.{answer_text}
-use Rattle.pf_rounds.specs.Chunks.{Chunk}
-use Rattle.pf_rounds.specs.Halts.{Halt}
-use Rattle.pf_rounds.proofs.Growing.{grown_refl}
+use Rattle.pf_applyrounds.specs.Chunks.{Chunk}
+use Rattle.pf_applyrounds.specs.Halts.{Halt}
+use Rattle.pf_applyrounds.proofs.Growing.{grown_refl}
 use Rattle.pf_chunk.specs.Asking.{fetched, fetches, filled, is_range, no_range, no_range_answer, submits}
 use Rattle.pf_chunk.specs.Happenings.{Happened, happened}
 use Rattle.pf_chunk.specs.Steps.{Event as EventIs, HasFailed, HasHappened}

@@ -2,7 +2,7 @@
 use Rattle.std.proofs.Common.{◌≡◌, ◌≢◌, ℕ, true, false, not, ◌&&◌, ◌==◌, cond, List, [], ◌∷◌, ◌++◌, Some, slice_get, slice_set, sym, ap, subst, ◌∙◌, append-nil}
 use Rattle.std.specs.List.{flat_map}
 use Rattle.std.specs.Prelude.{IsTrue}
-use Rattle.pf_cluster.specs.Showing.{HasAnswer}
+use Rattle.pf_network.specs.Showing.{HasAnswer}
 use Rattle.pf_entry.specs.Ops.{Sector}
 use Rattle.pf_entry.proofs.Lists.{every_get}
 use Rattle.pf_protocol.specs.Groups.{Group}

@@ -7,7 +7,7 @@ use Rattle.pf_base.specs.Span.{Span}
 use Rattle.pf_protocol.specs.Servers.{Condition, Role, Running, Serving}
 use Rattle.pf_protocol.specs.Groups.{Group}
 use Rattle.pf_protocol.specs.declared.answers.Answer.{Answer}
-use Rattle.pf_cluster.specs.Shown.{is_acked, later_of}
+use Rattle.pf_network.specs.Shown.{is_acked, later_of}
 use Rattle.pf_asks.specs.declared.port.Sent.{Sent}
 use Rattle.pf_asks.specs.declared.port.Sent.TheVariants.{Slot, Number}
 use Rattle.pf_asks.specs.Desks.{Call, Led, Submitted, Fetched, WasAcked, Took}

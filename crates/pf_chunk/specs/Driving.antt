@@ -17,10 +17,10 @@ use Rattle.pf_asks.specs.Desks.{Call, CallsLead}
 use Rattle.pf_asks.specs.Ports.{Drives, PortIs, answered as answered_port, goes_to, new_port}
 use Rattle.pf_group.specs.GroupIs.{state_of}
 use Rattle.pf_group.specs.Packets.{NoneComesBack}
-use Rattle.pf_rounds.specs.Agreeing.{TellsOfGroup}
-use Rattle.pf_rounds.specs.Chunks.{answered}
-use Rattle.pf_rounds.specs.Growing.{HasGrown}
-use Rattle.pf_rounds.specs.Halts.{Halt}
+use Rattle.pf_applyrounds.specs.Agreeing.{TellsOfGroup}
+use Rattle.pf_applyrounds.specs.Chunks.{answered}
+use Rattle.pf_applyrounds.specs.Growing.{HasGrown}
+use Rattle.pf_applyrounds.specs.Halts.{Halt}
 use Rattle.pf_chunk.specs.Asks.{Says, leader_of, reply_to}
 use Rattle.pf_chunk.specs.Happenings.{Happened, happened}
 use Rattle.pf_chunk.specs.Runs.{ChunkRun}

@@ -2,9 +2,9 @@
 use Rattle.std.specs.Prelude.{ℕ, List, filter}
 use Rattle.pf_protocol.specs.declared.answers.Answer.{Answer}
 use Rattle.pf_protocol.specs.declared.events.Event.{Event}
-use Rattle.pf_rounds.specs.Halts.{Halt}
-use Rattle.pf_rounds.specs.Chunks.{after, answered}
-use Rattle.pf_rounds.specs.Rounds.{applied}
+use Rattle.pf_applyrounds.specs.Halts.{Halt}
+use Rattle.pf_applyrounds.specs.Chunks.{after, answered}
+use Rattle.pf_applyrounds.specs.Rounds.{applied}
 use Rattle.pf_chunk.specs.Runs.{ChunkRun}
 use Rattle.pf_chunk.specs.Telling.{may_wait, told_of}
 

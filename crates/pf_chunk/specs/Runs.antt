@@ -1,7 +1,7 @@
 -- A chunk of a run.
 use Rattle.std.specs.Prelude.{ℕ, List, [], replicate}
 use Rattle.pf_asks.specs.Ports.{PortIs, new_port}
-use Rattle.pf_rounds.specs.Chunks.{Chunk}
+use Rattle.pf_applyrounds.specs.Chunks.{Chunk}
 use Rattle.pf_chunk.specs.declared.waiting.Waiting.{Waiting}
 
 -- its group, the reads of lines that wait, and the ports of hosts, each by the number of its mount

@@ -6,13 +6,13 @@ use Rattle.pf_protocol.specs.Groups.{Group}
 use Rattle.pf_protocol.specs.declared.answers.Answer.{Answer}
 use Rattle.pf_group.specs.GroupIs.{GroupIs, state_of}
 use Rattle.pf_report.specs.Texts.{answer_text}
-use Rattle.pf_rounds.specs.Halts.{Halt}
-use Rattle.pf_rounds.specs.Chunks.{Chunk}
-use Rattle.pf_rounds.specs.Rounds.{IsApplied, applied}
-use Rattle.pf_rounds.specs.Adding.{Adds}
-use Rattle.pf_rounds.specs.Agreeing.{TellsOfGroup, chunk_of}
-use Rattle.pf_rounds.specs.Begun.{HasBegun}
-use Rattle.pf_rounds.specs.Growing.{HasGrown}
+use Rattle.pf_applyrounds.specs.Halts.{Halt}
+use Rattle.pf_applyrounds.specs.Chunks.{Chunk}
+use Rattle.pf_applyrounds.specs.Rounds.{IsApplied, applied}
+use Rattle.pf_applyrounds.specs.Adding.{Adds}
+use Rattle.pf_applyrounds.specs.Agreeing.{TellsOfGroup, chunk_of}
+use Rattle.pf_applyrounds.specs.Begun.{HasBegun}
+use Rattle.pf_applyrounds.specs.Growing.{HasGrown}
 use Rattle.pf_chunk.specs.Happenings.{Happened}
 use Rattle.pf_group.specs.Packets.{NoneComesBack}
 use Rattle.pf_chunk.specs.Telling.{may_wait, now_taken, taken_all, told_of}

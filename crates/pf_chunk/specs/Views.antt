@@ -12,9 +12,9 @@ use Rattle.pf_asks.specs.declared.port.Sent.TheVariants.{Number}
 use Rattle.pf_asks.specs.Ports.{PortIs}
 use Rattle.pf_group.specs.GroupIs.{GroupIs, state_of}
 use Rattle.pf_group.specs.Packets.{is_left_in}
-use Rattle.pf_rounds.specs.Agreeing.{chunk_of}
-use Rattle.pf_rounds.specs.Halts.{Halt}
-use Rattle.pf_rounds.specs.Rounds.{IsApplied}
+use Rattle.pf_applyrounds.specs.Agreeing.{chunk_of}
+use Rattle.pf_applyrounds.specs.Halts.{Halt}
+use Rattle.pf_applyrounds.specs.Rounds.{IsApplied}
 use Rattle.pf_chunk.specs.declared.waiting.Waiting.{Waiting}
 use Rattle.pf_chunk.specs.Runs.{ChunkRun, most_ports}
 

@@ -10,9 +10,9 @@ ghost use Rattle.pf_chunk.specs.Telling.{read_of};
 ghost use Rattle.pf_chunk.specs.Views.{IsReady, run_of};
 
 use crate::{ChunkGroup, Waiting};
-use pf_base::{Data, NoMemory, Payload, Range, Server};
+use pf_base::{Data, NoMemory, Payload, Range, ServerId};
+use pf_copy::Gate;
 use pf_disk::Disk;
-use pf_filling::Gate;
 use pf_group::GroupEvent;
 use pf_protocol::{Answer, Refusal};
 use std::alloc::Global;
@@ -30,7 +30,7 @@ fn keep(waiting: &mut Vec<Waiting>, read: Option<Waiting>)
 
 impl<D: Disk + Drop> ChunkGroup<D> {
     /// The read that an answer of the server tells of, if it was taken up.
-    fn taken_up(&self, server: Server, answer: &Answer) -> Option<Waiting>
+    fn taken_up(&self, server: ServerId, answer: &Answer) -> Option<Waiting>
         requires { server < 3 }
         ensures of { IfSome result (λ one. (one.server ≡ server) × (answer.now ≡ Read one.number)) }
         ensures read { IsTrue self.now.group.told → result ≡ read_of (slice_get (state_of self.now.group).servers server) server answer.now }
@@ -49,7 +49,7 @@ impl<D: Disk + Drop> ChunkGroup<D> {
     }
 
     /// How a line is refused whose numbers are no range, which is no event: `BadRange` (10) at a running server, else `Down` (51).
-    pub fn no_range(&self, server: Server) -> Answer
+    pub fn no_range(&self, server: ServerId) -> Answer
         requires { server < 3 }
         ensures said { IsSome (answer_text result) }
         ensures answer { IsTrue self.now.group.told → result ≡ no_range_answer (slice_get (state_of self.now.group).servers server) }
@@ -67,7 +67,7 @@ impl<D: Disk + Drop> ChunkGroup<D> {
         &mut self,
         rt: &R,
         alloc: Global,
-        server: Server,
+        server: ServerId,
         sector: u32,
         byte: u8,
         count: u32,
@@ -99,7 +99,7 @@ impl<D: Disk + Drop> ChunkGroup<D> {
         &mut self,
         rt: &R,
         alloc: Global,
-        server: Server,
+        server: ServerId,
         sector: u32,
         count: u32,
         workers: u32,

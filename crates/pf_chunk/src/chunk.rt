@@ -6,8 +6,8 @@ ghost use Rattle.pf_group.specs.Leaving.{LeavesIn, as_seen};
 ghost use Rattle.pf_group.specs.Sound.{IsSound};
 ghost use Rattle.pf_group.specs.Making.{IsMade, setup_with, six_faults};
 ghost use Rattle.pf_asks.specs.Ports.{new_port};
-ghost use Rattle.pf_rounds.specs.Agreeing.{chunk_of};
-ghost use Rattle.pf_rounds.specs.Halts.{Halt};
+ghost use Rattle.pf_applyrounds.specs.Agreeing.{chunk_of};
+ghost use Rattle.pf_applyrounds.specs.Halts.{Halt};
 ghost use Rattle.pf_chunk.specs.Runs.{most_ports, new_run};
 ghost use Rattle.pf_chunk.specs.Views.{IsReady, run_of};
 

@@ -5,7 +5,7 @@ ghost use Rattle.pf_chunk.specs.Asks.{Counts, Says};
 
 use crate::ChunkGroup;
 use pf_asks::Desk;
-use pf_base::{Data, NoMemory, Payload, Range, Sector, Server, Slot, Term};
+use pf_base::{Data, NoMemory, Payload, Range, Sector, ServerId, Slot, Term};
 use pf_disk::Disk;
 use pf_group::GroupEvent;
 use pf_protocol::Answer;
@@ -24,7 +24,7 @@ impl<D: Disk + Drop> Desk for ChunkGroup<D> {
 
     ghost counts = { Counts };
 
-    fn leader(&mut self, _alloc: Global) -> Result<Option<(Term, Server)>, NoMemory> {
+    fn leader(&mut self, _alloc: Global) -> Result<Option<(Term, ServerId)>, NoMemory> {
         // That no term has two leaders is asked of the proof alone.
         let _sound = self.group.history();
         Ok(self.group.leader())
@@ -33,7 +33,7 @@ impl<D: Disk + Drop> Desk for ChunkGroup<D> {
     fn submit(
         &mut self,
         alloc: Global,
-        server: Server,
+        server: ServerId,
         range: Range,
         payload: &Payload,
     ) -> Result<Option<Slot>, NoMemory> {
@@ -53,7 +53,7 @@ impl<D: Disk + Drop> Desk for ChunkGroup<D> {
     fn fetch(
         &mut self,
         alloc: Global,
-        server: Server,
+        server: ServerId,
         range: Range,
     ) -> Result<Option<u64>, NoMemory> {
         match self.group.step(alloc, GroupEvent::Fetch { server, range })? {

@@ -2,8 +2,8 @@
 ghost use Rattle.std.specs.Prelude.{◌≡◌, ◌≤◌, [], IfOk, OnErr, OnOk, false};
 ghost use Rattle.pf_protocol.specs.Answers.{claims_of};
 ghost use Rattle.pf_group.specs.Events.{event_of};
-ghost use Rattle.pf_rounds.specs.Agreeing.{chunk_of};
-ghost use Rattle.pf_rounds.specs.Rounds.{applied};
+ghost use Rattle.pf_applyrounds.specs.Agreeing.{chunk_of};
+ghost use Rattle.pf_applyrounds.specs.Rounds.{applied};
 ghost use Rattle.pf_chunk.specs.Happenings.{happened};
 ghost use Rattle.pf_chunk.specs.Events.{IsStep};
 ghost use Rattle.pf_chunk.specs.Steps.{HasFailed, HasFollowed, HasHappened};
@@ -11,12 +11,12 @@ ghost use Rattle.pf_chunk.specs.Views.{IsListed, IsReady, run_of};
 
 use crate::ChunkGroup;
 use crate::telling::tell_reads;
+use pf_applyrounds::apply_all;
 use pf_base::NoMemory;
+use pf_copy::Gate;
 use pf_disk::Disk;
-use pf_filling::Gate;
 use pf_group::GroupEvent;
 use pf_protocol::Answer;
-use pf_rounds::apply_all;
 use std::alloc::Global;
 use std::thread::Threads;
 

@@ -11,8 +11,8 @@ ghost use Rattle.pf_chunk.specs.Views.{IsReady, run_of};
 
 use crate::ChunkGroup;
 use pf_base::NoMemory;
+use pf_copy::Gate;
 use pf_disk::Disk;
-use pf_filling::Gate;
 use pf_group::{GroupEvent, is_passed_over};
 use std::alloc::Global;
 use std::thread::Threads;

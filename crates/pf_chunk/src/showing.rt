@@ -4,9 +4,9 @@ ghost use Rattle.pf_group.specs.GroupIs.{state_of};
 ghost use Rattle.pf_chunk.specs.Showing.{IsShown, acked_shown, applied_shown, log_shown, mark_shown, of_server, sectors_shown};
 
 use crate::ChunkGroup;
-use pf_base::{NoMemory, Server, Slot};
-use pf_cluster::Acked;
+use pf_base::{NoMemory, ServerId, Slot};
 use pf_disk::Disk;
+use pf_network::Acked;
 use pf_report::{put_acked, put_applied, put_log, put_mark, put_refusal, put_sectors};
 use std::alloc::Global;
 
@@ -26,7 +26,7 @@ fn slots_of(alloc: Global, acked: &[Acked]) -> Result<Vec<Slot>, NoMemory>
 
 impl<D: Disk + Drop> ChunkGroup<D> {
     /// Puts a line with the server's term, its checkpoint, and its log. `NoMemory` (1) puts nothing.
-    pub fn show_log(&self, line: u32, server: Server, out: &mut Vec<u8>) -> Result<(), NoMemory>
+    pub fn show_log(&self, line: u32, server: ServerId, out: &mut Vec<u8>) -> Result<(), NoMemory>
         requires { server < 3 }
         ensures ok { OnOk result (IsShown self.now.group.told line (of_server (state_of self.now.group) server log_shown) out.old.items out.new.items) }
         ensures err { OnErr result (out.new.items ≡ out.old.items) }
@@ -41,7 +41,12 @@ impl<D: Disk + Drop> ChunkGroup<D> {
     }
 
     /// Puts a line with the server's checkpoint, and what it applied above it. `NoMemory` (1) puts nothing.
-    pub fn show_applied(&self, line: u32, server: Server, out: &mut Vec<u8>) -> Result<(), NoMemory>
+    pub fn show_applied(
+        &self,
+        line: u32,
+        server: ServerId,
+        out: &mut Vec<u8>,
+    ) -> Result<(), NoMemory>
         requires { server < 3 }
         ensures ok { OnOk result (IsShown self.now.group.told line (of_server (state_of self.now.group) server applied_shown) out.old.items out.new.items) }
         ensures err { OnErr result (out.new.items ≡ out.old.items) }
@@ -56,7 +61,12 @@ impl<D: Disk + Drop> ChunkGroup<D> {
     }
 
     /// Puts a line with the bytes of the server's sectors. `NoMemory` (1) puts nothing.
-    pub fn show_sectors(&self, line: u32, server: Server, out: &mut Vec<u8>) -> Result<(), NoMemory>
+    pub fn show_sectors(
+        &self,
+        line: u32,
+        server: ServerId,
+        out: &mut Vec<u8>,
+    ) -> Result<(), NoMemory>
         requires { server < 3 }
         ensures ok { OnOk result (IsShown self.now.group.told line (of_server (state_of self.now.group) server sectors_shown) out.old.items out.new.items) }
         ensures err { OnErr result (out.new.items ≡ out.old.items) }
@@ -71,7 +81,7 @@ impl<D: Disk + Drop> ChunkGroup<D> {
     pub fn show_mark(
         &self,
         line: u32,
-        server: Server,
+        server: ServerId,
         slot: Slot,
         out: &mut Vec<u8>,
     ) -> Result<(), NoMemory>

@@ -1,7 +1,7 @@
 //! The votes of an election.
 ghost use Rattle.std.specs.Prelude.{◌≡◌, ◌<◌, ◌==◌, ◌&&◌, MatchOption, None, Some, is_some, not, if◌then◌else◌};
 
-use pf_base::Server;
+use pf_base::ServerId;
 use pf_entry::VoteLog;
 use std::marker::Model;
 
@@ -9,7 +9,7 @@ use std::marker::Model;
 /// group these two are a majority.
 #[derive(Drop)]
 pub struct Candidacy {
-    number: Server,
+    number: ServerId,
     own: VoteLog,
     other: Option<VoteLog>,
 }
@@ -26,7 +26,7 @@ impl Model for Candidacy {
 
 impl Candidacy {
     /// A candidacy of this server with the own vote alone.
-    pub fn new(number: Server, own: VoteLog) -> Candidacy
+    pub fn new(number: ServerId, own: VoteLog) -> Candidacy
         requires { number < 3 }
         ensures { result ≡ record { number = number; own = own; other = None } }
     {
@@ -39,7 +39,7 @@ impl Candidacy {
 
     /// Takes a vote. The first one of another server makes a majority, and is kept; it answers true at that one
     /// exactly. A later one, and the candidate's own, is dropped.
-    pub fn add(&mut self, from: Server, vote: VoteLog) -> bool
+    pub fn add(&mut self, from: ServerId, vote: VoteLog) -> bool
         requires { from < 3 }
         ensures first { result ≡ (not (from == self.old.number) && not (is_some self.old.other)) }
         ensures kept { self.new ≡ record self.old { other = if result then Some vote else self.old.other } }

@@ -2,7 +2,7 @@
 ghost use Rattle.std.specs.Prelude.{◌≡◌, IfOk};
 ghost use Rattle.pf_entry.specs.Ops.{range_of};
 
-use pf_base::{NoMemory, Payload, Range, Server, Slot};
+use pf_base::{NoMemory, Payload, Range, ServerId, Slot};
 
 /// The effect of a slot (PolarFS: an entry of the log).
 #[derive(Drop)]
@@ -46,7 +46,7 @@ impl Op {
 /// An op that a server is to apply, claimed in the given life of that server.
 #[derive(Drop)]
 pub struct Job {
-    pub server: Server,
+    pub server: ServerId,
     pub life: u64,
     pub slot: Slot,
     pub op: Op,

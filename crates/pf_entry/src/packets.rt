@@ -1,6 +1,6 @@
 //! Messages between the servers of a group.
 use crate::{Entry, Slots, VoteLog};
-use pf_base::{Sectors, Server, Slot, Term};
+use pf_base::{Sectors, ServerId, Slot, Term};
 
 /// What a packet says.
 #[derive(Drop)]
@@ -44,8 +44,8 @@ pub enum Body {
 /// A message from one server to another.
 #[derive(Drop)]
 pub struct Packet {
-    pub from: Server,
-    pub to: Server,
+    pub from: ServerId,
+    pub to: ServerId,
     pub term: Term,
     pub body: Body,
 }

@@ -2,7 +2,7 @@
 use Rattle.std.proofs.Common.{◌≡◌, ℕ, suc, ◌+◌, ◌-◌, ◌*◌, Bool, true, false, List, [], length, Some, append-nil, arith, refl, sym, ap, subst, ◌∙◌}
 use Rattle.pf_protocol.specs.Answers.{most_packets}
 use Rattle.pf_group.specs.Packets.{is_passed_over}
-use Rattle.pf_rounds.specs.Halts.{Halt}
+use Rattle.pf_applyrounds.specs.Halts.{Halt}
 use Rattle.pf_chunk.specs.Views.{ChunkIs, run_of}
 use Rattle.pf_hosts.specs.Moments.{Moment}
 use Rattle.pf_hosts.specs.Steps.{HaveBegun, TellsAll, runs}

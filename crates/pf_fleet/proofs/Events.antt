@@ -1,10 +1,10 @@
 -- An event of a chunk, and then a step of each host.
 use Rattle.std.proofs.Common.{◌≡◌, ℕ, List, [], ◌∷◌, ◌++◌, Some, slice_get, slice_set, append-nil, sym, ap, subst, ◌∙◌}
 use Rattle.pf_entry.proofs.Lists.{set_there}
-use Rattle.pf_cluster.proofs.Lists.{set_mapped}
+use Rattle.pf_network.proofs.Lists.{set_mapped}
 use Rattle.pf_protocol.specs.declared.answers.Answer.{Answer}
-use Rattle.pf_rounds.specs.Halts.{Halt}
-use Rattle.pf_rounds.proofs.Extending.{Extends}
+use Rattle.pf_applyrounds.specs.Halts.{Halt}
+use Rattle.pf_applyrounds.proofs.Extending.{Extends}
 use Rattle.pf_chunk.specs.Happenings.{Happened}
 use Rattle.pf_chunk.specs.Runs.{ChunkRun}
 use Rattle.pf_chunk.specs.Steps.{Event, HasFailed, HasHappened}

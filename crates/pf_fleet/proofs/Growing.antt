@@ -4,18 +4,18 @@ use Rattle.std.proofs.lemmas.List.{length-map}
 use Rattle.std.proofs.lemmas.Option.{same_Some, slice_get_within}
 use Rattle.std.specs.List.{range_with_len}
 use Rattle.pf_entry.proofs.Lists.{set_cases, set_there}
-use Rattle.pf_cluster.proofs.Lists.{set_elsewhere, set_length, something_there}
+use Rattle.pf_network.proofs.Lists.{set_elsewhere, set_length, something_there}
 use Rattle.pf_protocol.specs.Groups.{Group, opening}
 use Rattle.pf_protocol.specs.Histories.{replay, run}
 use Rattle.pf_group.specs.GroupIs.{GroupIs, state_of}
 use Rattle.pf_group.specs.Packets.{NoneComesBack}
 use Rattle.pf_group.proofs.Sending.{OnlySent, run_sent}
-use Rattle.pf_rounds.specs.Agreeing.{TellsOfGroup}
-use Rattle.pf_rounds.specs.Begun.{HasBegun}
-use Rattle.pf_rounds.specs.Growing.{HasGrown}
-use Rattle.pf_rounds.specs.Halts.{Halt}
-use Rattle.pf_rounds.proofs.Extending.{extends_refl}
-use Rattle.pf_rounds.proofs.Growing.{grown_refl, grown_tells, grown_trans}
+use Rattle.pf_applyrounds.specs.Agreeing.{TellsOfGroup}
+use Rattle.pf_applyrounds.specs.Begun.{HasBegun}
+use Rattle.pf_applyrounds.specs.Growing.{HasGrown}
+use Rattle.pf_applyrounds.specs.Halts.{Halt}
+use Rattle.pf_applyrounds.proofs.Extending.{extends_refl}
+use Rattle.pf_applyrounds.proofs.Growing.{grown_refl, grown_tells, grown_trans}
 use Rattle.pf_chunk.specs.Runs.{ChunkRun}
 use Rattle.pf_chunk.specs.Views.{ChunkIs, run_of}
 use Rattle.pf_chunk.proofs.Following.{run_on}

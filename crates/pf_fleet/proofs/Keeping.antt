@@ -3,7 +3,7 @@ use Rattle.std.proofs.Common.{◌≡◌, ◌≢◌, ℕ, ◌<◌, ◌≤◌, Lis
 use Rattle.std.proofs.lemmas.Bool.{cases_eq}
 use Rattle.std.proofs.lemmas.Option.{same_Some, slice_get_within}
 use Rattle.pf_entry.proofs.Lists.{set_there}
-use Rattle.pf_cluster.proofs.Lists.{set_elsewhere, set_length, something_there}
+use Rattle.pf_network.proofs.Lists.{set_elsewhere, set_length, something_there}
 use Rattle.pf_volume.specs.Volumes.{Extent, IsVolume, size_of}
 use Rattle.pf_chunk.specs.Views.{ChunkIs}
 use Rattle.pf_hosts.specs.Hosts.{HostIs, number_of}

@@ -3,12 +3,12 @@ use Rattle.std.proofs.Common.{◌≡◌, ◌≢◌, inl, inr, ℕ, suc, ◌+◌,
 use Rattle.std.proofs.lemmas.Bool.{cases_eq}
 use Rattle.std.proofs.lemmas.Option.{slice_get-get_or, slice_get_within}
 use Rattle.pf_entry.proofs.Lists.{set_there}
-use Rattle.pf_cluster.proofs.Lists.{set_elsewhere, something_there}
+use Rattle.pf_network.proofs.Lists.{set_elsewhere, something_there}
 use Rattle.pf_protocol.specs.Answers.{most_packets}
 use Rattle.pf_group.specs.GroupIs.{state_of}
 use Rattle.pf_group.specs.Packets.{is_left_in, is_passed_over}
 use Rattle.pf_group.proofs.Passing.{least_found}
-use Rattle.pf_rounds.specs.Halts.{Halt}
+use Rattle.pf_applyrounds.specs.Halts.{Halt}
 use Rattle.pf_chunk.specs.declared.settling.Try.{Try}
 use Rattle.pf_chunk.specs.Happenings.{Happened}
 use Rattle.pf_chunk.specs.Settling.{HasTried}

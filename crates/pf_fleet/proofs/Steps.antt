@@ -1,8 +1,8 @@
 -- Steps of the hosts of a volume.
 use Rattle.std.proofs.Common.{◌≡◌, ℕ, ◌+◌, ◌-◌, ◌<◌, List, [], ◌∷◌, ◌++◌, length, Option, Some, None, slice_set, append-nil, append_assoc, refl, sym, ap, subst, ◌∙◌, arith}
 use Rattle.std.specs.List.{range_with_len}
-use Rattle.pf_cluster.proofs.Lists.{set_length}
-use Rattle.pf_rounds.specs.Halts.{Halt}
+use Rattle.pf_network.proofs.Lists.{set_length}
+use Rattle.pf_applyrounds.specs.Halts.{Halt}
 use Rattle.pf_chunk.specs.Views.{ChunkIs}
 use Rattle.pf_hosts.specs.Moments.{Moment}
 use Rattle.pf_hosts.specs.Hosts.{HostIs, Stepped, number_of}

@@ -7,8 +7,8 @@ use Rattle.pf_protocol.specs.Groups.{Group}
 use Rattle.pf_group.specs.GroupIs.{state_of}
 use Rattle.pf_group.specs.Packets.{IsPassedUpTo, is_left_in, is_passed_over, least_from}
 use Rattle.pf_group.proofs.Passing.{least_is, one_more_passed, passed_later}
-use Rattle.pf_rounds.specs.Growing.{HasGrown}
-use Rattle.pf_rounds.specs.Halts.{Halt}
+use Rattle.pf_applyrounds.specs.Growing.{HasGrown}
+use Rattle.pf_applyrounds.specs.Halts.{Halt}
 use Rattle.pf_chunk.specs.Happenings.{happened}
 use Rattle.pf_chunk.specs.Steps.{Event}
 use Rattle.pf_chunk.specs.Views.{ChunkIs, run_of}

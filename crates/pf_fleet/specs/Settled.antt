@@ -1,6 +1,6 @@
 -- What a settling comes to.
 use Rattle.std.specs.Prelude.{◌≡◌, ℕ, ◌<◌, ◌+◌, Bool, List, []}
-use Rattle.pf_rounds.specs.Halts.{Halt}
+use Rattle.pf_applyrounds.specs.Halts.{Halt}
 use Rattle.pf_chunk.specs.Views.{ChunkIs}
 use Rattle.pf_hosts.specs.Moments.{Moment}
 use Rattle.pf_hosts.specs.Steps.{HaveGrown, TellsAll}

@@ -5,7 +5,7 @@ use Rattle.pf_group.specs.GroupIs.{state_of}
 use Rattle.pf_group.specs.Packets.{NoneComesBack}
 use Rattle.pf_report.specs.Texts.{answer_text}
 use Rattle.pf_volume.specs.Volumes.{Extent, IsVolume, size_of}
-use Rattle.pf_rounds.specs.Halts.{Halt}
+use Rattle.pf_applyrounds.specs.Halts.{Halt}
 use Rattle.pf_chunk.specs.Steps.{Event}
 use Rattle.pf_chunk.specs.Views.{ChunkIs, run_of}
 use Rattle.pf_hosts.specs.Moments.{Moment, text_of}

@@ -8,10 +8,10 @@ ghost use Rattle.pf_hosts.specs.Steps.{AreReady};
 ghost use Rattle.pf_fleet.specs.Steps.{AreSameHosts, HasAnswered, HasNotAnswered, IsFleetOf};
 
 use crate::Fleet;
-use pf_base::{NoMemory, Server};
+use pf_base::{NoMemory, ServerId};
 use pf_chunk::ChunkGroup;
+use pf_copy::Gate;
 use pf_disk::Disk;
-use pf_filling::Gate;
 use pf_group::GroupEvent;
 use pf_protocol::Answer;
 use std::alloc::Global;
@@ -58,7 +58,7 @@ impl Fleet {
         alloc: Global,
         chunks: &mut [ChunkGroup<D>],
         at: u8,
-        server: Server,
+        server: ServerId,
         sector: u32,
         byte: u8,
         count: u32,
@@ -91,7 +91,7 @@ impl Fleet {
         alloc: Global,
         chunks: &mut [ChunkGroup<D>],
         at: u8,
-        server: Server,
+        server: ServerId,
         sector: u32,
         count: u32,
         workers: u32,

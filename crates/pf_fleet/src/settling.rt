@@ -8,8 +8,8 @@ ghost use Rattle.pf_fleet.specs.Steps.{IsFleetOf};
 use crate::Fleet;
 use pf_base::NoMemory;
 use pf_chunk::{ChunkGroup, Try};
+use pf_copy::Gate;
 use pf_disk::Disk;
-use pf_filling::Gate;
 use std::alloc::Global;
 use std::thread::Threads;
 

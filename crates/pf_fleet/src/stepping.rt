@@ -7,8 +7,8 @@ ghost use Rattle.pf_fleet.specs.Volumes.{host_steps, hosts_step};
 use crate::Fleet;
 use pf_base::NoMemory;
 use pf_chunk::ChunkGroup;
+use pf_copy::Gate;
 use pf_disk::Disk;
-use pf_filling::Gate;
 use std::alloc::Global;
 use std::thread::Threads;
 

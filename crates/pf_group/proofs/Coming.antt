@@ -7,10 +7,10 @@ use Rattle.pf_protocol.specs.Groups.{Group}
 use Rattle.pf_protocol.specs.declared.answers.Answer.{Answer}
 use Rattle.pf_protocol.specs.declared.events.Event.{Event}
 use Rattle.pf_protocol.specs.declared.events.Event.TheVariants.{Claim, Restart}
-use Rattle.pf_cluster.specs.declared.cluster.Cluster.{Cluster}
-use Rattle.pf_cluster.specs.Going.{Goes, GoesBack, GoesSomehow, GoesTwice, HasStayed}
-use Rattle.pf_cluster.specs.Showing.{Shows}
-use Rattle.pf_cluster.proofs.Touching.{touches_none}
+use Rattle.pf_network.specs.declared.cluster.Cluster.{Cluster}
+use Rattle.pf_network.specs.Going.{Goes, GoesBack, GoesSomehow, GoesTwice, HasStayed}
+use Rattle.pf_network.specs.Showing.{Shows}
+use Rattle.pf_network.proofs.Touching.{touches_none}
 use Rattle.pf_group.specs.declared.reaction.Reaction.{Reaction}
 use Rattle.pf_group.specs.declared.event.GroupEvent.{GroupEvent}
 use Rattle.pf_group.specs.declared.event.GroupEvent.TheVariants as asked

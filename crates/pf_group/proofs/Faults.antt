@@ -7,14 +7,14 @@ use Rattle.pf_disk.specs.Crashes.{Images}
 use Rattle.pf_entry.specs.Records.{Durable}
 use Rattle.pf_protocol.specs.Groups.{Group}
 use Rattle.pf_protocol.specs.Servers.{Setup}
-use Rattle.pf_kept.specs.declared.kept.Kept.{Kept}
-use Rattle.pf_kept.specs.Faults.{faults_of}
+use Rattle.pf_diskstore.specs.declared.kept.Kept.{Kept}
+use Rattle.pf_diskstore.specs.Faults.{faults_of}
 use Rattle.pf_server.specs.declared.server.Server.{Server}
-use Rattle.pf_cluster.specs.declared.cluster.Cluster.{Cluster}
-use Rattle.pf_cluster.specs.Going.{KeepsOthers, HasFault, Passes, Touches, WasTouched, store_at}
-use Rattle.pf_cluster.specs.Showing.{Shows}
-use Rattle.pf_cluster.proofs.Lists.{something_there}
-use Rattle.pf_opening.specs.Opening.{head_of}
+use Rattle.pf_network.specs.declared.cluster.Cluster.{Cluster}
+use Rattle.pf_network.specs.Going.{KeepsOthers, HasFault, Passes, Touches, WasTouched, store_at}
+use Rattle.pf_network.specs.Showing.{Shows}
+use Rattle.pf_network.proofs.Lists.{something_there}
+use Rattle.pf_format.specs.Opening.{head_of}
 use Rattle.pf_group.specs.Halves.{AreLater, HasRisen, all_counts, format_in, holds_in, rose_in, told_in, used_in, was_in}
 use Rattle.pf_group.specs.Inside.{HaveHeads}
 

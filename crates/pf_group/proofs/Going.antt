@@ -20,11 +20,11 @@ use Rattle.pf_protocol.specs.declared.answers.Answer.TheVariants.{Done, Refused}
 use Rattle.pf_protocol.specs.declared.answers.Refusal.TheVariants.{Halted}
 use Rattle.pf_protocol.specs.declared.events.Event.TheVariants.{GiveBack, Restart}
 use Rattle.pf_protocol.proofs.ForMoments.{replay_goes_on}
-use Rattle.pf_kept.specs.declared.kept.Kept.{Kept}
-use Rattle.pf_cluster.specs.declared.cluster.Cluster.{Cluster}
-use Rattle.pf_cluster.specs.Going.{HasBegunSomehow, HasFault, HasGone, HasKept, HasStayed, KeepsOthers, KeepsStores, acts_at, is_quiet}
-use Rattle.pf_cluster.specs.Readings.{is_taken, taken_after, taken_of}
-use Rattle.pf_cluster.specs.Showing.{Shows}
+use Rattle.pf_diskstore.specs.declared.kept.Kept.{Kept}
+use Rattle.pf_network.specs.declared.cluster.Cluster.{Cluster}
+use Rattle.pf_network.specs.Going.{HasBegunSomehow, HasFault, HasGone, HasKept, HasStayed, KeepsOthers, KeepsStores, acts_at, is_quiet}
+use Rattle.pf_network.specs.Readings.{is_taken, taken_after, taken_of}
+use Rattle.pf_network.specs.Showing.{Shows}
 use Rattle.pf_group.specs.declared.event.GroupEvent.{GroupEvent}
 use Rattle.pf_group.specs.declared.event.GroupEvent.TheVariants as asked
 use Rattle.pf_group.specs.Events.{Brings, MayAsk, event_of}

@@ -3,11 +3,11 @@ use Rattle.std.proofs.Common.{◌≡◌, ℕ, ◌⊎◌, inl, inr, Bool, true, f
 use Rattle.std.proofs.lemmas.List.{length-append}
 use Rattle.pf_disk.specs.Crashes.{Images}
 use Rattle.pf_entry.specs.Records.{Durable}
-use Rattle.pf_kept.specs.Kept.{FindsState, LeavesStates}
+use Rattle.pf_diskstore.specs.Kept.{FindsState, LeavesStates}
 use Rattle.pf_protocol.specs.Servers.{Condition, Running as RunningIs, Stopped as StoppedIs, Unformatted as UnformattedIs}
 use Rattle.pf_protocol.specs.Histories.{replay}
-use Rattle.pf_kept.specs.declared.kept.Kept.{Kept}
-use Rattle.pf_opening.specs.Opening.{head_of}
+use Rattle.pf_diskstore.specs.declared.kept.Kept.{Kept}
+use Rattle.pf_format.specs.Opening.{head_of}
 use Rattle.pf_server.specs.declared.server.Server.{Server}
 use Rattle.pf_restart.specs.declared.seat.Seat.{Seat}
 use Rattle.pf_server.specs.Conditions.{HasOne, Leaves, Meets}

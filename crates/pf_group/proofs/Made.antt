@@ -16,12 +16,12 @@ use Rattle.pf_restart.specs.declared.seat.Seat.{Seat}
 use Rattle.pf_server.specs.declared.server.Server.{Server}
 use Rattle.pf_server.specs.declared.state.State.TheVariants.{Unformatted}
 use Rattle.pf_server.specs.Conditions.{Meets}
-use Rattle.pf_kept.specs.declared.kept.Kept.{Kept}
-use Rattle.pf_opening.specs.Opening.{head_of, opening_server, seat_in}
-use Rattle.pf_opening.specs.Rooms.{Place}
-use Rattle.pf_opening.proofs.Opened.{opening_at}
-use Rattle.pf_cluster.specs.declared.cluster.Cluster.{Cluster}
-use Rattle.pf_cluster.specs.Showing.{AreMembers, AreReadings, IsMember, Shows, seat_of}
+use Rattle.pf_diskstore.specs.declared.kept.Kept.{Kept}
+use Rattle.pf_format.specs.Opening.{head_of, opening_server, seat_in}
+use Rattle.pf_format.specs.Rooms.{Place}
+use Rattle.pf_format.proofs.Opened.{opening_at}
+use Rattle.pf_network.specs.declared.cluster.Cluster.{Cluster}
+use Rattle.pf_network.specs.Showing.{AreMembers, AreReadings, IsMember, Shows, seat_of}
 use Rattle.pf_group.specs.Halves.{AreLater}
 use Rattle.pf_group.specs.Inside.{HaveHeads}
 use Rattle.pf_group.specs.Rooms.{halted_of, picked, place_at}

@@ -14,9 +14,9 @@ use Rattle.pf_protocol.specs.Leading.{on_submit, on_fetch, on_elect, on_resend}
 use Rattle.pf_protocol.specs.Saving.{is_short_of, on_checkpoint, on_finish}
 use Rattle.pf_protocol.specs.Groups.{Group, Sent}
 use Rattle.pf_protocol.specs.Answers.{IsAnswer, Turn, answer_at, answer_by, answer_to, deliver_turn, delivery_answer, elect_turn, fetch_turn, finish_answer, is_formatted, loss_answer, plain, stop_answer, submit_turn}
-use Rattle.pf_cluster.proofs.Deliveries.{packet_done}
-use Rattle.pf_cluster.specs.declared.cluster.Cluster.{Cluster}
-use Rattle.pf_cluster.specs.Going.{ShowsSomehow}
+use Rattle.pf_network.proofs.Deliveries.{packet_done}
+use Rattle.pf_network.specs.declared.cluster.Cluster.{Cluster}
+use Rattle.pf_network.specs.Going.{ShowsSomehow}
 use Rattle.pf_entry.specs.Records.{Durable}
 use Rattle.pf_group.specs.Plain.{IsPlain}
 

@@ -18,9 +18,9 @@ use Rattle.pf_protocol.specs.Kept.{MayHold, Now, Without, With}
 use Rattle.pf_protocol.specs.Groups.{Group, Sent, Ending, Whole, CutOff, Missed, Untouched, acted, at_server, claim_at, claim_of, claim_or, cut_off, ended, ending, first_claim, happens, lost, only, opening, step_of, stopped}
 use Rattle.pf_protocol.specs.Histories.{History, replay, run}
 use Rattle.pf_protocol.proofs.ForMoments.{run_parts}
-use Rattle.pf_cluster.specs.Going.{is_quiet}
-use Rattle.pf_cluster.proofs.Acting.{settled_disk}
-use Rattle.pf_cluster.proofs.Lists.{set_elsewhere, set_there}
+use Rattle.pf_network.specs.Going.{is_quiet}
+use Rattle.pf_network.proofs.Acting.{settled_disk}
+use Rattle.pf_network.proofs.Lists.{set_elsewhere, set_there}
 use Rattle.pf_group.specs.GroupIs.{IsLastStep}
 
 -- what the disks of a server in this condition may stand for

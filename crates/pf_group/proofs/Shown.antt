@@ -14,13 +14,13 @@ use Rattle.pf_protocol.specs.Servers.{Setup, Server as ServerIs, has_applied}
 use Rattle.pf_state.specs.declared.running.Running.{Running}
 use Rattle.pf_state.specs.Standing.{server_of}
 use Rattle.pf_state.proofs.Applied.{is_applied_here}
-use Rattle.pf_kept.specs.declared.kept.Kept.{Kept}
-use Rattle.pf_cluster.specs.declared.cluster.Cluster.{Cluster}
-use Rattle.pf_cluster.specs.declared.kept.Parcel.{Parcel}
-use Rattle.pf_cluster.specs.Readings.{taken_of}
-use Rattle.pf_cluster.specs.Showing.{HasAnswer, parcel_of}
+use Rattle.pf_diskstore.specs.declared.kept.Kept.{Kept}
+use Rattle.pf_network.specs.declared.cluster.Cluster.{Cluster}
+use Rattle.pf_network.specs.declared.kept.Parcel.{Parcel}
+use Rattle.pf_network.specs.Readings.{taken_of}
+use Rattle.pf_network.specs.Showing.{HasAnswer, parcel_of}
 use Rattle.pf_entry.specs.Lists.{Every}
-use Rattle.pf_cluster.specs.Shown.{Idles, IsLeader, IsMemoryOf, IsRunningAt, TakesRead}
+use Rattle.pf_network.specs.Shown.{Idles, IsLeader, IsMemoryOf, IsRunningAt, TakesRead}
 use Rattle.pf_group.specs.declared.errors.Down.{Down}
 use Rattle.pf_group.specs.GroupIs.{GroupIs}
 use Rattle.pf_group.specs.Halves.{all_counts}

@@ -9,14 +9,14 @@ use Rattle.pf_protocol.specs.declared.events.Happening.{Happening}
 use Rattle.pf_protocol.specs.Groups.{Group}
 use Rattle.pf_protocol.specs.Histories.{History, replay}
 use Rattle.pf_protocol.specs.Servers.{Setup}
-use Rattle.pf_kept.specs.Kept.{LeavesStates}
-use Rattle.pf_kept.specs.declared.kept.Kept.{Kept}
+use Rattle.pf_diskstore.specs.Kept.{LeavesStates}
+use Rattle.pf_diskstore.specs.declared.kept.Kept.{Kept}
 use Rattle.pf_server.specs.declared.server.Server.{Server}
-use Rattle.pf_cluster.specs.declared.cluster.Cluster.{Cluster}
-use Rattle.pf_cluster.specs.Going.{KeepsOthers, Passes, Touches, WasTouched, is_quiet, store_at}
-use Rattle.pf_cluster.specs.Showing.{Shows}
-use Rattle.pf_cluster.proofs.Lists.{something_there}
-use Rattle.pf_opening.specs.Opening.{head_of}
+use Rattle.pf_network.specs.declared.cluster.Cluster.{Cluster}
+use Rattle.pf_network.specs.Going.{KeepsOthers, Passes, Touches, WasTouched, is_quiet, store_at}
+use Rattle.pf_network.specs.Showing.{Shows}
+use Rattle.pf_network.proofs.Lists.{something_there}
+use Rattle.pf_format.specs.Opening.{head_of}
 use Rattle.pf_group.specs.declared.group.Group.TheInside.{Inside}
 use Rattle.pf_group.specs.declared.began.Began.{Began}
 use Rattle.pf_group.specs.declared.event.GroupEvent.{GroupEvent}

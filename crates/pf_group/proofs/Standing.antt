@@ -17,12 +17,12 @@ use Rattle.pf_protocol.proofs.ForRows.{few_starts}
 use Rattle.pf_protocol.proofs.ForHistories.{legal_fits, viable_opening}
 use Rattle.pf_server.specs.Conditions.{IsFit, IsHonest}
 use Rattle.pf_server.specs.declared.server.Server.{Server}
-use Rattle.pf_cluster.specs.declared.cluster.Cluster.{Cluster}
-use Rattle.pf_cluster.specs.Going.{HasBegunSomehow, HasGone, HasStayed, IsHonestAt, IsToldAt}
-use Rattle.pf_cluster.specs.Pasts.{Past}
-use Rattle.pf_cluster.specs.Showing.{Shows, seat_of}
-use Rattle.pf_cluster.proofs.Fits.{durable_fits}
-use Rattle.pf_cluster.proofs.Next.{past_after, reached_after, somehow_leads_on}
+use Rattle.pf_network.specs.declared.cluster.Cluster.{Cluster}
+use Rattle.pf_network.specs.Going.{HasBegunSomehow, HasGone, HasStayed, IsHonestAt, IsToldAt}
+use Rattle.pf_network.specs.Pasts.{Past}
+use Rattle.pf_network.specs.Showing.{Shows, seat_of}
+use Rattle.pf_network.proofs.Fits.{durable_fits}
+use Rattle.pf_network.proofs.Next.{past_after, reached_after, somehow_leads_on}
 use Rattle.pf_group.specs.declared.event.GroupEvent.{GroupEvent}
 use Rattle.pf_group.specs.declared.event.GroupEvent.TheVariants as asked
 use Rattle.pf_group.specs.Reacting.{IsTold}

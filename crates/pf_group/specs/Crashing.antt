@@ -2,10 +2,10 @@
 use Rattle.std.specs.Prelude.{◌≡◌, ◌⊎◌, ◌↔◌, ℕ, ◌<◌, Bool, ◌&&◌, IsTrue, List, Option, Some, is_some, slice_get}
 use Rattle.pf_disk.specs.Crashes.{Images}
 use Rattle.pf_entry.specs.Records.{Durable}
-use Rattle.pf_kept.specs.Kept.{LeavesStates}
+use Rattle.pf_diskstore.specs.Kept.{LeavesStates}
 use Rattle.pf_protocol.specs.Groups.{Group}
 use Rattle.pf_protocol.specs.Kept.{MayHold}
-use Rattle.pf_cluster.specs.Going.{IsHeld}
+use Rattle.pf_network.specs.Going.{IsHeld}
 use Rattle.pf_protocol.specs.Histories.{History, replay}
 use Rattle.pf_group.specs.GroupIs.{GroupIs, IsLastStep, state_before, state_of}
 use Rattle.pf_group.specs.Leaving.{head_in}

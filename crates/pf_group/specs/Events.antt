@@ -3,7 +3,7 @@ use Rattle.std.specs.Prelude.{◌≡◌, ℕ, Bool, false, List, [], Some, slice
 use Rattle.pf_base.specs.declared.filled.Filled.{Filled}
 use Rattle.pf_entry.specs.declared.ops.Op.{Op}
 use Rattle.pf_entry.specs.declared.ops.Op.TheVariants.{Write, Mark}
-use Rattle.pf_applying.specs.Jobs.{IsFilledFor}
+use Rattle.pf_apply.specs.Jobs.{IsFilledFor}
 use Rattle.pf_protocol.specs.declared.events.Event.{Event}
 use Rattle.pf_protocol.specs.declared.events.Event.TheVariants.{Submit, Fetch, Deliver, Lose, Elect, Resend, Stop, Restart, Claim, Finish, Checkpoint}
 use Rattle.pf_protocol.specs.Answers.{Claimed, MayHappen, claims_of}

@@ -5,7 +5,7 @@ use Rattle.pf_protocol.specs.declared.events.Happening.{Happening}
 use Rattle.pf_protocol.specs.Servers.{Setup}
 use Rattle.pf_protocol.specs.Groups.{Group}
 use Rattle.pf_protocol.specs.Histories.{History, replay}
-use Rattle.pf_cluster.specs.Going.{is_quiet}
+use Rattle.pf_network.specs.Going.{is_quiet}
 
 -- How far its disks are in time: for each server, the moments of the disks of its halves 0 and 1
 pub record Times : Type 0 where

@@ -4,11 +4,11 @@ use Rattle.pf_disk.specs.Crashes.{Images}
 use Rattle.pf_disk.specs.Causes.{Rose}
 use Rattle.pf_entry.specs.Records.{Durable}
 use Rattle.pf_image.specs.Pairs.{current_of, format_of}
-use Rattle.pf_kept.specs.declared.kept.Kept.{Kept}
-use Rattle.pf_kept.specs.Faults.{faults_of}
-use Rattle.pf_kept.specs.Kept.{IsKept, OneRose, WentOn, tells}
+use Rattle.pf_diskstore.specs.declared.kept.Kept.{Kept}
+use Rattle.pf_diskstore.specs.Faults.{faults_of}
+use Rattle.pf_diskstore.specs.Kept.{IsKept, OneRose, WentOn, tells}
 use Rattle.pf_server.specs.declared.server.Server.{Server}
-use Rattle.pf_cluster.specs.declared.cluster.Cluster.{Cluster}
+use Rattle.pf_network.specs.declared.cluster.Cluster.{Cluster}
 
 -- what a store says of its disks
 module _ {D : Type 0} where

@@ -3,18 +3,18 @@ use Rattle.std.specs.Prelude.{◌≡◌, ℕ, Bool, IsTrue, Option, List, Some, 
 use Rattle.pf_disk.specs.Crashes.{Images}
 use Rattle.pf_protocol.specs.Servers.{Setup}
 use Rattle.pf_protocol.specs.Groups.{Group}
-use Rattle.pf_cluster.specs.Going.{WasTouched}
-use Rattle.pf_cluster.specs.Readings.{taken_of}
+use Rattle.pf_network.specs.Going.{WasTouched}
+use Rattle.pf_network.specs.Readings.{taken_of}
 use Rattle.pf_group.specs.declared.group.Group.TheInside.{Inside}
 use Rattle.pf_group.specs.GroupIs.{GroupIs, IsLastStep}
 use Rattle.pf_protocol.specs.Histories.{History, replay}
-use Rattle.pf_kept.specs.declared.kept.Kept.{Kept}
-use Rattle.pf_cluster.specs.declared.cluster.Cluster.{Cluster}
+use Rattle.pf_diskstore.specs.declared.kept.Kept.{Kept}
+use Rattle.pf_network.specs.declared.cluster.Cluster.{Cluster}
 use Rattle.pf_group.specs.Making.{setup_with}
 use Rattle.pf_group.specs.Halves.{all_counts, format_in, holds_in, told_in, used_in, was_in}
 use Rattle.pf_group.specs.Pasts.{IsPast}
 use Rattle.pf_group.specs.Standing.{AllTell, StandsFor}
-use Rattle.pf_opening.specs.Opening.{head_of}
+use Rattle.pf_format.specs.Opening.{head_of}
 use Rattle.pf_server.specs.declared.server.Server.{Server}
 
 module _ {D : Type 0} where

@@ -2,11 +2,11 @@
 use Rattle.std.specs.Prelude.{◌≡◌, ◌⊎◌, ℕ, List, Option, Some, None, slice_get}
 use Rattle.pf_disk.specs.Crashes.{Images}
 use Rattle.pf_entry.specs.Records.{Durable}
-use Rattle.pf_kept.specs.Kept.{LeavesStates}
+use Rattle.pf_diskstore.specs.Kept.{LeavesStates}
 use Rattle.pf_protocol.specs.Servers.{Condition, Running, Stopped, Unformatted}
 use Rattle.pf_server.specs.Turns.{IsOf}
-use Rattle.pf_opening.specs.Opening.{head_of}
-use Rattle.pf_cluster.specs.Showing.{seat_of}
+use Rattle.pf_format.specs.Opening.{head_of}
+use Rattle.pf_network.specs.Showing.{seat_of}
 use Rattle.pf_group.specs.GroupIs.{GroupIs, state_of}
 
 -- the file as it is

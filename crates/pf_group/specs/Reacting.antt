@@ -5,10 +5,10 @@ use Rattle.pf_entry.specs.Records.{Durable}
 use Rattle.pf_protocol.specs.declared.events.Event.{Event}
 use Rattle.pf_protocol.specs.declared.events.Event.TheVariants.{Restart}
 use Rattle.pf_protocol.specs.Servers.{Setup}
-use Rattle.pf_cluster.specs.Pasts.{Past}
+use Rattle.pf_network.specs.Pasts.{Past}
 use Rattle.pf_protocol.specs.Groups.{Group}
-use Rattle.pf_cluster.specs.declared.cluster.Cluster.{Cluster}
-use Rattle.pf_cluster.specs.Going.{HasBegunSomehow, HasGone, HasKept, HasStayed, IsHonestAt, IsReached, IsToldAt}
+use Rattle.pf_network.specs.declared.cluster.Cluster.{Cluster}
+use Rattle.pf_network.specs.Going.{HasBegunSomehow, HasGone, HasKept, HasStayed, IsHonestAt, IsReached, IsToldAt}
 use Rattle.pf_group.specs.declared.event.GroupEvent.{GroupEvent}
 use Rattle.pf_group.specs.declared.event.GroupEvent.TheVariants as asked
 use Rattle.pf_group.specs.declared.reaction.Reaction.{Reaction}

@@ -8,7 +8,7 @@ use Rattle.pf_entry.specs.Sets
 use Rattle.pf_holes.specs.HoleLogs.{Holes}
 use Rattle.pf_protocol.specs.Servers.{Server, Condition, Running, has_applied}
 use Rattle.pf_protocol.specs.Groups.{Group, Sent}
-use Rattle.pf_cluster.specs.Showing.{HasAnswer}
+use Rattle.pf_network.specs.Showing.{HasAnswer}
 use Rattle.pf_group.specs.declared.errors.Down.{Down}
 use Rattle.pf_group.specs.GroupIs.{GroupIs, state_of}
 

@@ -2,8 +2,8 @@
 use Rattle.std.specs.Prelude.{◌≡◌, ℕ, ◌≤◌, Bool, true, false, List, [], ◌∷◌, vec_capacity, vec_len}
 use Rattle.pf_protocol.specs.declared.answers.Answer.{Answer}
 use Rattle.pf_protocol.specs.declared.answers.Answer.TheVariants.{Refused}
-use Rattle.pf_opening.specs.Rooms.{Place}
-use Rattle.pf_cluster.specs.declared.cluster.Cluster.{Cluster}
+use Rattle.pf_format.specs.Rooms.{Place}
+use Rattle.pf_network.specs.declared.cluster.Cluster.{Cluster}
 use Rattle.pf_group.specs.declared.making.Plan.{Plan}
 use Rattle.pf_group.specs.Pasts.{IsPast}
 

@@ -5,9 +5,9 @@ use Rattle.pf_protocol.specs.Servers.{Setup}
 use Rattle.pf_protocol.specs.Histories.{History, replay}
 use Rattle.pf_protocol.specs.Answers.{IsLegal, claims_of}
 use Rattle.pf_server.specs.declared.server.Server.{Server}
-use Rattle.pf_cluster.specs.declared.cluster.Cluster.{Cluster}
-use Rattle.pf_cluster.specs.Going.{IsReached}
-use Rattle.pf_cluster.specs.Pasts.{CoversRestarts, Past}
+use Rattle.pf_network.specs.declared.cluster.Cluster.{Cluster}
+use Rattle.pf_network.specs.Going.{IsReached}
+use Rattle.pf_network.specs.Pasts.{CoversRestarts, Past}
 
 -- the past's group is the replay of the history, which is legal
 pub record IsReplay (setup : Setup) (history : History) (past : Past) : Type 0 where

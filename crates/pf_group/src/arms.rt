@@ -2,16 +2,16 @@
 ghost use Rattle.std.specs.Prelude.{◌≡◌, ◌<◌, Bool, IfOk};
 ghost use Rattle.pf_base.specs.Span.{IsWritable};
 ghost use Rattle.pf_protocol.specs.Servers.{Setup};
-ghost use Rattle.pf_cluster.specs.Pasts.{Past};
+ghost use Rattle.pf_network.specs.Pasts.{Past};
 ghost use Rattle.pf_protocol.specs.Answers.{IsSubmitted};
 ghost use Rattle.pf_protocol.specs.declared.events.Event.TheVariants.{Checkpoint, Claim, Deliver, Elect, Fetch, Finish, Lose, Resend, Restart, Stop, Submit};
-ghost use Rattle.pf_cluster.specs.Going.{HasPast, IsBroughtBack, IsHonestAt, IsReached, IsToldAt};
+ghost use Rattle.pf_network.specs.Going.{HasPast, IsBroughtBack, IsHonestAt, IsReached, IsToldAt};
 ghost use Rattle.pf_group.specs.Reacting.{Comes, ComesBack, ComesBackSomehow, Answers};
 
 use crate::Reaction;
-use pf_base::{Filled, NoMemory, Range, Server};
-use pf_cluster::Cluster;
+use pf_base::{Filled, NoMemory, Range, ServerId};
 use pf_entry::Op;
+use pf_network::Cluster;
 use pf_protocol::Event;
 use pf_store::Store;
 use std::alloc::Global;
@@ -20,7 +20,7 @@ use std::alloc::Global;
 pub fn submit<S: Store>(
     cluster: &mut Cluster<S>,
     alloc: Global,
-    server: Server,
+    server: ServerId,
     op: Op,
 ) -> Result<Reaction, NoMemory>
     requires server { server < 3 }
@@ -37,7 +37,7 @@ pub fn submit<S: Store>(
 pub fn fetch<S: Store>(
     cluster: &mut Cluster<S>,
     alloc: Global,
-    server: Server,
+    server: ServerId,
     range: Range,
 ) -> Result<Reaction, NoMemory>
     requires server { server < 3 }
@@ -75,7 +75,7 @@ pub fn lose<S: Store>(cluster: &mut Cluster<S>, k: u32) -> Reaction
 pub fn elect<S: Store>(
     cluster: &mut Cluster<S>,
     alloc: Global,
-    server: Server,
+    server: ServerId,
 ) -> Result<Reaction, NoMemory>
     requires server { server < 3 }
     requires reached { HasPast S.holds S.used S.format S.told cluster.old }
@@ -89,7 +89,7 @@ pub fn elect<S: Store>(
 pub fn resend<S: Store>(
     cluster: &mut Cluster<S>,
     alloc: Global,
-    server: Server,
+    server: ServerId,
 ) -> Result<Reaction, NoMemory>
     requires server { server < 3 }
     requires reached { HasPast S.holds S.used S.format S.told cluster.old }
@@ -100,7 +100,7 @@ pub fn resend<S: Store>(
 }
 
 /// A server stops.
-pub fn stop<S: Store>(cluster: &mut Cluster<S>, server: Server) -> Reaction
+pub fn stop<S: Store>(cluster: &mut Cluster<S>, server: ServerId) -> Reaction
     requires server { server < 3 }
     requires reached { HasPast S.holds S.used S.format S.told cluster.old }
     ensures { (setup : Setup) (past : Past) → IsReached S.holds S.used S.format S.told setup past cluster.old → Answers S.holds S.used S.format S.told S.rose S.was setup past.group (Stop server) cluster.old cluster.new result }
@@ -113,7 +113,7 @@ pub fn stop<S: Store>(cluster: &mut Cluster<S>, server: Server) -> Reaction
 pub fn restart<S: Store>(
     cluster: &mut Cluster<S>,
     alloc: Global,
-    server: Server,
+    server: ServerId,
 ) -> Result<Reaction, NoMemory>
     requires server { server < 3 }
     requires reached { HasPast S.holds S.used S.format S.told cluster.old }
@@ -156,7 +156,7 @@ pub fn finish<S: Store>(cluster: &mut Cluster<S>, filled: Filled) -> Reaction
 pub fn checkpoint<S: Store>(
     cluster: &mut Cluster<S>,
     alloc: Global,
-    server: Server,
+    server: ServerId,
 ) -> Result<Reaction, NoMemory>
     requires server { server < 3 }
     requires reached { HasPast S.holds S.used S.format S.told cluster.old }

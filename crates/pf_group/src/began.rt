@@ -1,8 +1,8 @@
 //! A group as its last step began that may have touched disks.
 ghost use Rattle.std.specs.Prelude.{◌≡◌, if◌then◌else◌, IfOk, OnErr, is_some, not};
 ghost use Rattle.pf_protocol.specs.Servers.{Setup};
-ghost use Rattle.pf_cluster.specs.Going.{IsReached, is_quiet};
-ghost use Rattle.pf_cluster.specs.Pasts.{Past as PastIs};
+ghost use Rattle.pf_network.specs.Going.{IsReached, is_quiet};
+ghost use Rattle.pf_network.specs.Pasts.{Past as PastIs};
 ghost use Rattle.pf_group.specs.Beginning.{IsBegun, IsBegunIf};
 ghost use Rattle.pf_group.specs.Events.{MayWant};
 ghost use Rattle.pf_group.specs.Halves.{format_in, holds_in, rose_in, told_in, used_in, was_in};
@@ -12,9 +12,9 @@ use crate::past::Past;
 use crate::react::react;
 use crate::{GroupEvent, Reaction};
 use pf_base::NoMemory;
-use pf_cluster::{Cluster, is_quiet};
 use pf_disk::Disk;
-use pf_kept::Kept;
+use pf_diskstore::Kept;
+use pf_network::{Cluster, is_quiet};
 use pf_protocol::Happening;
 use std::alloc::Global;
 use std::snapshot::Snapshot;

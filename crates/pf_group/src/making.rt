@@ -8,11 +8,11 @@ ghost use Rattle.pf_group.specs.Rooms.{IsEmpty, IsPlan, IsPlanOf, halted_of, pic
 use crate::began::Began;
 use crate::past::{Past, put};
 use crate::{Group, Six};
-use pf_base::{NoMemory, Server as Number};
-use pf_cluster::{AckedList, Cluster};
+use pf_base::{NoMemory, ServerId};
 use pf_disk::Disk;
-use pf_kept::Kept;
-use pf_opening::ServerRoom;
+use pf_diskstore::Kept;
+use pf_format::ServerRoom;
+use pf_network::{AckedList, Cluster};
 use pf_protocol::{Answer, Refusal};
 use pf_restart::Seat;
 use std::alloc::Global;
@@ -32,14 +32,14 @@ pub struct Plan<D: Disk> {
     zero: ServerRoom,
     one: ServerRoom,
     two: ServerRoom,
-    failed: Vec<Number>,
+    failed: Vec<ServerId>,
     /// It has no servers yet.
     cluster: Cluster<Kept<D>>,
     past: Past,
 }
 
 /// The memory of one server with this number. `NoMemory` (1) where there is none for it.
-fn room_of(alloc: Global, group: u8, seat: Seat, number: Number) -> Result<ServerRoom, NoMemory>
+fn room_of(alloc: Global, group: u8, seat: Seat, number: ServerId) -> Result<ServerRoom, NoMemory>
     requires setup { IsSetup (setup_at seat) }
     requires number { number < 3 }
     ensures { IfOk result (λ room. room ≡ record { group = group; seat = record seat { number = number } }) }
@@ -96,7 +96,7 @@ fn empty_cluster<D: Disk + Drop>(alloc: Global) -> Result<Cluster<Kept<D>>, NoMe
 }
 
 /// Notes a server where it could not be formatted. It takes no memory.
-fn note(failed: &mut Vec<Number>, number: Number, answer: &Answer)
+fn note(failed: &mut Vec<ServerId>, number: ServerId, answer: &Answer)
     requires { vec_len failed.old < vec_capacity failed.old }
     ensures items { failed.new.items ≡ failed.old.items ++ picked (halted_of answer.now) number }
     ensures len { vec_len failed.new ≤ vec_len failed.old + 1 }
@@ -108,7 +108,7 @@ fn note(failed: &mut Vec<Number>, number: Number, answer: &Answer)
 }
 
 /// How the making of a group is answered.
-fn making_answer(failed: &[Number]) -> Answer
+fn making_answer(failed: &[ServerId]) -> Answer
     ensures { result ≡ making_answer failed.now }
 {
     match failed {

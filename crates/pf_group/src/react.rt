@@ -1,15 +1,15 @@
 //! What comes of an event.
 ghost use Rattle.std.specs.Prelude.{OnErr};
 ghost use Rattle.pf_protocol.specs.Servers.{Setup};
-ghost use Rattle.pf_cluster.specs.Pasts.{Past};
-ghost use Rattle.pf_cluster.specs.Going.{IsReached};
+ghost use Rattle.pf_network.specs.Pasts.{Past};
+ghost use Rattle.pf_network.specs.Going.{IsReached};
 ghost use Rattle.pf_group.specs.Events.{MayWant};
 ghost use Rattle.pf_group.specs.Reacting.{IsTold, MayReact, Reacts, ReactsSomehow};
 
 use crate::{GroupEvent, Reaction, arms};
 use pf_base::NoMemory;
-use pf_cluster::Cluster;
 use pf_entry::Op;
+use pf_network::Cluster;
 use pf_store::Store;
 use std::alloc::Global;
 

@@ -1,14 +1,14 @@
 //! What a group shows. Where its disks tell their content, that is of the state after its history.
 ghost use Rattle.std.specs.Prelude.{◌≡◌, ◌<◌, ◌≤◌, IfNone, IfSome, IsTrue, length, map, slice_get};
-ghost use Rattle.pf_cluster.specs.Showing.{acked_of};
-ghost use Rattle.pf_cluster.specs.Shown.{IsLeader, is_acked};
+ghost use Rattle.pf_network.specs.Showing.{acked_of};
+ghost use Rattle.pf_network.specs.Shown.{IsLeader, is_acked};
 ghost use Rattle.pf_group.specs.GroupIs.{state_of};
 ghost use Rattle.pf_group.specs.Readers.{HasTaken, LacksAnswer, is_left};
 
 use crate::Group;
-use pf_base::{Data, Server as Number, Slot, Term};
-use pf_cluster::Acked;
+use pf_base::{Data, ServerId, Slot, Term};
 use pf_disk::Disk;
+use pf_network::Acked;
 
 impl<D: Disk> Group<D> {
     /// The slots that were acknowledged to hosts, in order.
@@ -26,7 +26,7 @@ impl<D: Disk> Group<D> {
     }
 
     /// Of the running servers that serve the one of the greatest term: that term, and its number. `None` exactly where none serves.
-    pub fn leader(&self) -> Option<(Term, Number)>
+    pub fn leader(&self) -> Option<(Term, ServerId)>
         ensures low { IfSome result (λ served. served.1 < 3) }
         ensures leader { IsTrue self.now.told → IsLeader (state_of self.now) result }
     {

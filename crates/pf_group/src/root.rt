@@ -7,7 +7,7 @@ ghost use Rattle.pf_group.specs.Roots.{root_of};
 ghost use Rattle.pf_group.specs.Sound.{IsSound};
 
 use crate::Group;
-use pf_base::{NoMemory, Server};
+use pf_base::{NoMemory, ServerId};
 use pf_disk::Disk;
 use pf_protocol::Happening;
 use std::alloc::Global;
@@ -21,7 +21,7 @@ pub struct Root {
     names: u8,
     format: u8,
     /// The servers whose disks could not be formatted.
-    failed: Vec<Server>,
+    failed: Vec<ServerId>,
 }
 
 impl Model for Root {

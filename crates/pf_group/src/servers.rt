@@ -3,12 +3,12 @@ ghost use Rattle.std.specs.Prelude.{◌≡◌, ◌<◌, IsTrue, slice_get};
 ghost use Rattle.std.specs.FinMap as map;
 ghost use Rattle.std.specs.Option.{option_copied};
 ghost use Rattle.pf_entry.specs.Sets as set;
-ghost use Rattle.pf_cluster.specs.Shown.{IsMemoryOf};
+ghost use Rattle.pf_network.specs.Shown.{IsMemoryOf};
 ghost use Rattle.pf_group.specs.GroupIs.{state_of};
 ghost use Rattle.pf_group.specs.Readers.{IsAppliedOf, TellsOf, holes_of, snapshot_in};
 
 use crate::{Down, Group};
-use pf_base::{Sector, Server as Number, Slot, Term};
+use pf_base::{Sector, ServerId, Slot, Term};
 use pf_disk::Disk;
 use pf_entry::Entry;
 use pf_holes::{HoleLog, SlotSet};
@@ -16,7 +16,7 @@ use pf_state::Running;
 
 impl<D: Disk> Group<D> {
     /// What the server has in memory. `Down` (51) exactly where it does not run.
-    fn running_at(&self, server: Number) -> Result<&Running, Down>
+    fn running_at(&self, server: ServerId) -> Result<&Running, Down>
         requires { server < 3 }
         ensures { IsTrue self.now.told → TellsOf (state_of self.now) server result (λ me s. IsMemoryOf me.now s) }
     {
@@ -24,7 +24,7 @@ impl<D: Disk> Group<D> {
     }
 
     /// The term of the server. `Down` (51) exactly where it does not run.
-    pub fn term_of(&self, server: Number) -> Result<Term, Down>
+    pub fn term_of(&self, server: ServerId) -> Result<Term, Down>
         requires { server < 3 }
         ensures { IsTrue self.now.told → TellsOf (state_of self.now) server result (λ term s. term ≡ s.durable.term) }
     {
@@ -33,7 +33,7 @@ impl<D: Disk> Group<D> {
 
     /// The checkpoint of the server: each slot up to it is applied, and its records no longer have its entries. `Down` (51)
     /// exactly where it does not run.
-    pub fn base_of(&self, server: Number) -> Result<Slot, Down>
+    pub fn base_of(&self, server: ServerId) -> Result<Slot, Down>
         requires { server < 3 }
         ensures { IsTrue self.now.told → TellsOf (state_of self.now) server result (λ base s. base ≡ s.durable.base) }
     {
@@ -42,7 +42,7 @@ impl<D: Disk> Group<D> {
 
     /// The log of the server above its checkpoint, with the slots that it knows to be committed. `Down` (51) exactly where it
     /// does not run.
-    pub fn log_of(&self, server: Number) -> Result<&HoleLog, Down>
+    pub fn log_of(&self, server: ServerId) -> Result<&HoleLog, Down>
         requires { server < 3 }
         ensures { IsTrue self.now.told → TellsOf (state_of self.now) server result (λ log s. log.now ≡ holes_of s) }
     {
@@ -51,7 +51,7 @@ impl<D: Disk> Group<D> {
 
     /// The entry in the server's log, `None` exactly where it holds none of this slot. `Down` (51) exactly where the server does
     /// not run.
-    pub fn entry_of(&self, server: Number, slot: Slot) -> Result<Option<&Entry>, Down>
+    pub fn entry_of(&self, server: ServerId, slot: Slot) -> Result<Option<&Entry>, Down>
         requires { server < 3 }
         ensures { IsTrue self.now.told → TellsOf (state_of self.now) server result (λ entry s. option_copied entry ≡ map.get s.durable.log slot) }
     {
@@ -59,7 +59,7 @@ impl<D: Disk> Group<D> {
     }
 
     /// Whether the server knows the slot above its checkpoint to be committed. `Down` (51) exactly where the server does not run.
-    pub fn is_committed_of(&self, server: Number, slot: Slot) -> Result<bool, Down>
+    pub fn is_committed_of(&self, server: ServerId, slot: Slot) -> Result<bool, Down>
         requires { server < 3 }
         ensures { IsTrue self.now.told → TellsOf (state_of self.now) server result (λ is s. is ≡ set.contains s.committed slot) }
     {
@@ -67,7 +67,7 @@ impl<D: Disk> Group<D> {
     }
 
     /// The slots that the server has applied, those up to its checkpoint too. `Down` (51) exactly where it does not run.
-    pub fn applied_of(&self, server: Number) -> Result<&SlotSet, Down>
+    pub fn applied_of(&self, server: ServerId) -> Result<&SlotSet, Down>
         requires { server < 3 }
         ensures { IsTrue self.now.told → TellsOf (state_of self.now) server result (λ slots s. IsAppliedOf slots.now.slots s) }
     {
@@ -75,7 +75,7 @@ impl<D: Disk> Group<D> {
     }
 
     /// The sectors of the server's chunk. `Down` (51) exactly where it does not run.
-    pub fn sectors_of(&self, server: Number) -> Result<&[Sector], Down>
+    pub fn sectors_of(&self, server: ServerId) -> Result<&[Sector], Down>
         requires { server < 3 }
         ensures { IsTrue self.now.told → TellsOf (state_of self.now) server result (λ sectors s. sectors.now ≡ s.sectors) }
     {
@@ -84,7 +84,7 @@ impl<D: Disk> Group<D> {
 
     /// The sectors at a mark that the server applied since it began. `None` exactly where it does not run, or keeps none of this
     /// slot: it keeps those of its four greatest marks.
-    pub fn snapshot(&self, server: Number, slot: Slot) -> Option<&[Sector]>
+    pub fn snapshot(&self, server: ServerId, slot: Slot) -> Option<&[Sector]>
         requires { server < 3 }
         ensures { IsTrue self.now.told → option_copied result ≡ snapshot_in (slice_get (state_of self.now).servers server) slot }
     {

@@ -10,14 +10,14 @@ use Rattle.pf_group.specs.GroupIs.{GroupIs, state_of}
 use Rattle.pf_group.specs.Packets.{NoneComesBack}
 use Rattle.pf_group.specs.Readers.{is_left}
 use Rattle.pf_group.proofs.Sending.{run_sent}
-use Rattle.pf_rounds.specs.Agreeing.{TellsOfGroup, chunk_of, told_from, told_history}
-use Rattle.pf_rounds.specs.Begun.{HasBegun}
-use Rattle.pf_rounds.specs.Chunks.{Chunk}
-use Rattle.pf_rounds.specs.Growing.{HasGrown}
-use Rattle.pf_rounds.specs.Halts.{Halt}
-use Rattle.pf_rounds.proofs.Extending.{Extends}
-use Rattle.pf_rounds.proofs.Growing.{grown_refl}
-use Rattle.pf_rounds.proofs.Told.{told_longer, told_replays}
+use Rattle.pf_applyrounds.specs.Agreeing.{TellsOfGroup, chunk_of, told_from, told_history}
+use Rattle.pf_applyrounds.specs.Begun.{HasBegun}
+use Rattle.pf_applyrounds.specs.Chunks.{Chunk}
+use Rattle.pf_applyrounds.specs.Growing.{HasGrown}
+use Rattle.pf_applyrounds.specs.Halts.{Halt}
+use Rattle.pf_applyrounds.proofs.Extending.{Extends}
+use Rattle.pf_applyrounds.proofs.Growing.{grown_refl}
+use Rattle.pf_applyrounds.proofs.Told.{told_longer, told_replays}
 use Rattle.pf_chunk.specs.Views.{ChunkIs, run_of}
 use Rattle.pf_hosts.specs.Steps.{Goes, runs}
 

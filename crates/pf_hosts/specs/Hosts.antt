@@ -13,7 +13,7 @@ use Rattle.pf_mount.specs.declared.work.Next.TheVariants.{Ask as Asks, Ready, Do
 use Rattle.pf_mount.specs.Mounts.{MountIs, Outcome, answered, opening, starting}
 use Rattle.pf_report.specs.Texts.{event_line}
 use Rattle.pf_report.specs.Mounts.{call_text, ready_text}
-use Rattle.pf_rounds.specs.Halts.{Halt}
+use Rattle.pf_applyrounds.specs.Halts.{Halt}
 use Rattle.pf_chunk.specs.Runs.{ChunkRun}
 use Rattle.pf_chunk.specs.Driving.{Driven, asked, driven}
 use Rattle.pf_hosts.specs.Moments.{Heard, Moment, Writes, Begins, Turns, Hands, Ends}

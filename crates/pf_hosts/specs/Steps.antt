@@ -8,10 +8,10 @@ use Rattle.pf_asks.specs.Ports.{PortIs}
 use Rattle.pf_mount.specs.declared.work.Work.TheVariants.{Rests, Fails}
 use Rattle.pf_mount.specs.Mounts.{MountIs}
 use Rattle.pf_mount.specs.Awaiting.{Awaits}
-use Rattle.pf_rounds.specs.Halts.{Halt}
-use Rattle.pf_rounds.specs.Agreeing.{TellsOfGroup}
-use Rattle.pf_rounds.specs.Begun.{HasBegun}
-use Rattle.pf_rounds.specs.Growing.{HasGrown}
+use Rattle.pf_applyrounds.specs.Halts.{Halt}
+use Rattle.pf_applyrounds.specs.Agreeing.{TellsOfGroup}
+use Rattle.pf_applyrounds.specs.Begun.{HasBegun}
+use Rattle.pf_applyrounds.specs.Growing.{HasGrown}
 use Rattle.pf_chunk.specs.Runs.{ChunkRun}
 use Rattle.pf_chunk.specs.Views.{ChunkIs, IsReady, run_of}
 use Rattle.pf_hosts.specs.Moments.{Moment, text_of}

@@ -6,8 +6,8 @@ use Rattle.pf_base.specs.Numbers.{number_at}
 use Rattle.pf_chunklog.specs.Records.{Raw, Holds}
 use Rattle.pf_entry.specs.Canonical.{IsCanonicalRecord}
 use Rattle.pf_entry.specs.declared.records.Record.{Record}
-use Rattle.pf_spelling.specs.Fitting.{RecordFits}
-use Rattle.pf_spelling.specs.Spelling.{kind_of, payload_bytes}
+use Rattle.pf_codec.specs.Fitting.{RecordFits}
+use Rattle.pf_codec.specs.Spelling.{kind_of, payload_bytes}
 use Rattle.pf_image.specs.Halves.{half_head, of_half, other}
 use Rattle.pf_image.specs.declared.halves.Half.{Half}
 use Rattle.pf_image.specs.declared.halves.Half.TheVariants.{Zero, One}

@@ -11,8 +11,8 @@ ghost use Rattle.pf_image.specs.Halves.{of_half, other};
 use crate::Half;
 use pf_base::{Bytes, NoMemory, get_u64};
 use pf_chunklog::{ChunkLog, OpenFault, Opened};
+use pf_codec::read_record;
 use pf_disk::Disk;
-use pf_spelling::read_record;
 use std::alloc::Global;
 
 /// The kind of an image.

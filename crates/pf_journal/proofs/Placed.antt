@@ -1,8 +1,8 @@
 -- Where blocks lie.
 use Rattle.std.proofs.Common.{◌≡◌, ℕ, ◌+◌, ◌*◌, ◌/◌, ◌%◌, ◌<◌, ap, sym, ◌∙◌, arith}
 use Rattle.std.proofs.lemmas.Nat.{div-mul-add, mod-mul-add}
-use Rattle.pf_hosted.specs.Homes.{chunk_of, sector_of}
-use Rattle.pf_hosted.specs.Volumes.{home_of}
+use Rattle.pf_positions.specs.Homes.{chunk_of, sector_of}
+use Rattle.pf_positions.specs.Volumes.{home_of}
 use Rattle.pf_journal.specs.Places.{place_of}
 
 pub apart : (position mount other its : ℕ) → mount < 16 → its < 16 → place_of position mount ≡ place_of other its → (position ≡ other) × (mount ≡ its)

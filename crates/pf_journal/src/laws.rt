@@ -5,9 +5,9 @@ ghost use Rattle.pf_paxos.specs.declared.block.Block.{Block};
 ghost use Rattle.pf_paxos.specs.Blocks.{IsBlock, zero_block};
 ghost use Rattle.pf_paxos.specs.Deciding.{Decides};
 ghost use Rattle.pf_paxos.specs.Journals.{Doing, Begins, IsTransactionList, journal_before, turns_at};
-ghost use Rattle.pf_hosted.specs.Deeds.{Deed, Groups};
-ghost use Rattle.pf_hosted.specs.Homes.{chunk_of, sector_of};
-ghost use Rattle.pf_hosted.specs.Volumes.{IsHostedJournal, home_of};
+ghost use Rattle.pf_positions.specs.Deeds.{Deed, Groups};
+ghost use Rattle.pf_positions.specs.Homes.{chunk_of, sector_of};
+ghost use Rattle.pf_positions.specs.Volumes.{IsHostedJournal, home_of};
 ghost use Rattle.pf_journal.specs.Places.{place_of};
 ghost use Rattle.pf_journal.specs.Sectors.{HasSpelling, IsSpelling, block_bytes, block_in};
 

@@ -6,7 +6,7 @@ ghost use Rattle.pf_leadercell.specs.Passes.{seen_by, IsFirst, IsPassOf};
 use crate::cell::{LeaderCell, LeaderPass};
 use crate::view::{Hint, Publish, Tell};
 use crossbeam_utils::atomic::seq_cell::RuledSeqCell;
-use pf_base::{NoMemory, Server, Term};
+use pf_base::{NoMemory, ServerId, Term};
 use std::alloc::Global;
 use std::sync::Wait;
 
@@ -43,7 +43,7 @@ impl LeaderCell {
 
     /// Publishes a leader. A term below the one that stands changes nothing; after either the pass has seen a term that is
     /// not below `term`. Only the first pass publishes. May wait for calls of other threads.
-    pub fn publish<R: Wait>(&self, rt: &R, pass: &mut LeaderPass, term: Term, server: Server)
+    pub fn publish<R: Wait>(&self, rt: &R, pass: &mut LeaderPass, term: Term, server: ServerId)
         requires pass { IsPassOf self.now pass.old × IsFirst pass.old }
         requires server { server < 3 }
         ensures pass { IsPassOf self.now pass.new × IsFirst pass.new }
@@ -62,7 +62,7 @@ impl LeaderCell {
 
     /// The leader that was published last, as far as the pass has now seen. No term that the pass has seen is above its
     /// term. May wait for calls of other threads.
-    pub fn hint<R: Wait>(&self, rt: &R, pass: &mut LeaderPass) -> (Term, Server)
+    pub fn hint<R: Wait>(&self, rt: &R, pass: &mut LeaderPass) -> (Term, ServerId)
         requires { IsPassOf self.now pass.old }
         ensures pass { IsPassOf self.now pass.new × (IsFirst pass.old → IsFirst pass.new × (seen_by pass.new ≡ seen_by pass.old)) }
         ensures seen { Begins (seen_by pass.old) (seen_by pass.new) × (last_of (seen_by pass.new) ≡ result) }

@@ -1,7 +1,7 @@
 //! The cell and its passes.
 use crate::view::{Published, View};
 use crossbeam_utils::atomic::seq_cell::{Pass, RuledSeqCell};
-use pf_base::{Server, Term};
+use pf_base::{ServerId, Term};
 
 /// The leader that was published last.
 #[derive(Drop)]
@@ -14,5 +14,5 @@ pub struct LeaderCell {
 pub struct LeaderPass {
     pub(crate) pass: Pass<[u64; 2], View>,
     pub(crate) term: Term,
-    pub(crate) server: Server,
+    pub(crate) server: ServerId,
 }

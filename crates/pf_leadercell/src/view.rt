@@ -1,13 +1,13 @@
 //! What a pass knows, and the rule of the cell, whose words are a term and a server.
 use atomic_table::Split;
 use crossbeam_utils::rule::{Outcome, Protocol};
-use pf_base::{Server, Term};
+use pf_base::{ServerId, Term};
 use std::collections::LinkedList;
 
 /// What a pass knows: whether it is the first, and the pairs that it has seen published. No value of it is ever made.
 pub struct View {
     pub first: bool,
-    pub seen: LinkedList<(Term, Server)>,
+    pub seen: LinkedList<(Term, ServerId)>,
 }
 
 /// The rule of a leader cell.

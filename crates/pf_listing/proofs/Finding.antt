@@ -14,7 +14,7 @@ use Rattle.pf_chunklog.proofs.Steps.{if_some, told}
 use Rattle.pf_image.specs.Recovery.{Content, FindsIn}
 use Rattle.pf_image.specs.Pairs.{IsWhole, format_of}
 use Rattle.pf_image.specs.declared.pair.Pair.{Pair}
-use Rattle.pf_kept.proofs.Pairs.{whole_found}
+use Rattle.pf_diskstore.proofs.Pairs.{whole_found}
 use Rattle.pf_listing.specs.Disks.{AreRead, HasFailed, HasListed, place_of}
 use Rattle.pf_listing.specs.Listing.{AreRecords, HasNone, IsListing, TellsRecords, head_of, said_of}
 use Rattle.pf_listing.proofs.Places.{put_back, taken_first, taken_second}

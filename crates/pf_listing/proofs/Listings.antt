@@ -4,12 +4,12 @@ use Rattle.std.specs.List.{AllZip}
 use Rattle.std.proofs.lemmas.Option.{same_Some}
 use Rattle.pf_entry.specs.declared.records.Record.{Record}
 use Rattle.pf_chunklog.specs.Records.{Raw}
-use Rattle.pf_spelling.proofs.BodyLaws.{canonical_is_read}
+use Rattle.pf_codec.proofs.BodyLaws.{canonical_is_read}
 use Rattle.pf_image.specs.Halves.{half_head}
 use Rattle.pf_image.specs.Recovery.{Content, FindsIn, Spells}
 use Rattle.pf_image.proofs.Files.{one_content}
 use Rattle.pf_report.specs.Records.{record_line}
-use Rattle.pf_kept.proofs.States.{spelled_more}
+use Rattle.pf_diskstore.proofs.States.{spelled_more}
 use Rattle.pf_listing.specs.Listing.{AreRecords, HasNone, IsListing, TellsRecords, records_text}
 
 one_spelled : (format : ℕ) (raw : Raw) (r s : Record) → Spells format raw r → Spells format raw s → r ≡ s

@@ -9,10 +9,10 @@ ghost use Rattle.pf_listing.specs.Listing.{AreRecords, HasNone, IsListing, Tells
 
 use pf_base::{Bytes, NoMemory};
 use pf_chunklog::OpenFault;
+use pf_codec::read_record;
 use pf_disk::Disk;
 use pf_image::Pair;
 use pf_report::put_record;
-use pf_spelling::read_record;
 use pf_text::put_text;
 use std::alloc::Global;
 

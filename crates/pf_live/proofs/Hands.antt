@@ -10,8 +10,8 @@ use Rattle.pf_entry.specs.declared.ops.Op.{Op}
 use Rattle.pf_entry.specs.declared.ops.Op.TheVariants.{Write, Noop, Mark}
 use Rattle.pf_entry.specs.declared.ops.Job.{Job}
 use Rattle.pf_base.specs.declared.filled.Filled.{Filled}
-use Rattle.pf_applying.specs.Jobs.{IsFilledFor}
-use Rattle.pf_filling.specs.Filling.{filled_of}
+use Rattle.pf_apply.specs.Jobs.{IsFilledFor}
+use Rattle.pf_copy.specs.Filling.{filled_of}
 use Rattle.pf_protocol.specs.declared.answers.Answer.{Answer}
 use Rattle.pf_protocol.specs.declared.answers.Answer.TheVariants.{Job as JobIs}
 use Rattle.pf_protocol.specs.declared.events.Event.TheVariants.{Claim, Finish, GiveBack}
@@ -60,7 +60,7 @@ module _ (k : Key) (n : ℕ) (job : Job) (before : List (Stamped Moment)) (free 
 
 -- the sectors of a job's op
 filled_for : (op : Op) (job : Job) → job.op ≡ op → IsFilledFor op (filled_of job)
-filled_for (Write range payload) job is = ap Rattle.pf_filling.specs.Filling.sectors_of is
+filled_for (Write range payload) job is = ap Rattle.pf_copy.specs.Filling.sectors_of is
 filled_for Noop job is = tt
 filled_for Mark job is = tt
 

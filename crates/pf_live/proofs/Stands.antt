@@ -24,7 +24,7 @@ use Rattle.pf_shared.specs.declared.moment.Moment.TheVariants.{Happened, Look}
 use Rattle.pf_shared.specs.Calls.{Adds, Finds, Steps}
 use Rattle.pf_shared.specs.Moments.{entry}
 use Rattle.pf_shared.specs.Since.{state_at}
-use Rattle.pf_cluster.specs.Shown.{is_acked}
+use Rattle.pf_network.specs.Shown.{is_acked}
 use Rattle.pf_live.specs.declared.plan.Plan.{Plan}
 use Rattle.pf_live.specs.declared.serving.Served.{Served}
 use Rattle.pf_live.specs.declared.serving.Standing.{Standing}

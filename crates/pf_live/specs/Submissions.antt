@@ -12,7 +12,7 @@ use Rattle.pf_group.specs.GroupIs.{GroupIs}
 use Rattle.pf_shared.specs.declared.moment.Moment.{Moment}
 use Rattle.pf_shared.specs.declared.moment.Moment.TheVariants.{Happened, Look}
 use Rattle.pf_shared.specs.Since.{state_at}
-use Rattle.pf_cluster.specs.Shown.{is_acked}
+use Rattle.pf_network.specs.Shown.{is_acked}
 use Rattle.pf_live.specs.declared.plan.Plan.{Plan}
 use Rattle.pf_live.specs.Deliveries.{Line}
 use Rattle.pf_live.specs.Writes.{byte_of, op_of, request_of}

@@ -5,10 +5,10 @@ ghost use Rattle.pf_live.specs.Workers.{HasNothing, Holds, IsApplier};
 
 use crate::line::Line;
 use pf_base::NoMemory;
+use pf_copy::{Gate, fill};
 use pf_crew::Turned;
 use pf_disk::Disk;
 use pf_entry::Job;
-use pf_filling::{Gate, fill};
 use pf_protocol::Answer;
 use pf_shared::GroupSeat;
 use std::sync::Wait;

@@ -5,9 +5,9 @@ ghost use Rattle.pf_live.specs.Writes.{IsHost, IsHostIn, request_of};
 use crate::line::Line;
 use crate::plan::Plan;
 use pf_base::Range;
+use pf_copy::Gate;
 use pf_crew::Turned;
 use pf_disk::Disk;
-use pf_filling::Gate;
 use pf_rings::{Full, Request, Ring, RingPass};
 use std::sync::Wait;
 

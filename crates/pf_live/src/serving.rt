@@ -11,9 +11,9 @@ ghost use Rattle.pf_live.specs.Submitters.{IsCounted, IsHanded, IsServed, IsServ
 
 use crate::line::Line;
 use crate::plan::Plan;
-use pf_base::{Data, NoMemory, Payload, Range, Server, Slot, Term};
+use pf_base::{Data, NoMemory, Payload, Range, ServerId, Slot, Term};
+use pf_copy::Gate;
 use pf_disk::Disk;
-use pf_filling::Gate;
 use pf_group::Down;
 use pf_leadercell::LeaderPass;
 use pf_protocol::Answer;
@@ -145,7 +145,7 @@ impl Served {
         line: &Line<D, G>,
         seat: &mut GroupSeat<D>,
         host: u32,
-        server: Server,
+        server: ServerId,
         request: Request,
         moves: u64,
     ) -> Result<Option<Answer>, NoMemory>

@@ -4,9 +4,9 @@ ghost use Rattle.pf_live.specs.Switches.{IsSwitch, IsSameSwitch};
 
 use crate::line::Line;
 use pf_base::NoMemory;
+use pf_copy::Gate;
 use pf_crew::Turned;
 use pf_disk::Disk;
-use pf_filling::Gate;
 use pf_group::is_passed_over;
 use pf_leadercell::LeaderPass;
 use pf_shared::GroupSeat;

@@ -24,8 +24,8 @@ use Rattle.std.proofs.sync.atomic.AtomicBool.TheSendSync as bit
 use Rattle.pf_turn.proofs.parts.TurnSeat.TheSendSync as seat
 use Rattle.pf_turn.proofs.parts.TurnLock.TheSendSync as lock
 use Rattle.pf_turn.proofs.log.Stamped.TheSendSync as stamped
-use Rattle.pf_cluster.proofs.cluster.Cluster.TheSendSync as cluster
-use Rattle.pf_kept.proofs.kept.Kept.TheSendSync as kept
+use Rattle.pf_network.proofs.cluster.Cluster.TheSendSync as cluster
+use Rattle.pf_diskstore.proofs.kept.Kept.TheSendSync as kept
 use Rattle.pf_group.proofs.past.Past.TheSendSync as past
 use Rattle.pf_shared.proofs.moment.Did.TheSendSync as did
 use Rattle.pf_leadercell.proofs.cell.LeaderCell.TheSendSync as cell

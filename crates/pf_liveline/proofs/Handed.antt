@@ -15,7 +15,7 @@ use Rattle.pf_protocol.specs.declared.answers.Answer.TheVariants.{Refused}
 use Rattle.pf_protocol.specs.declared.answers.Refusal.{Refusal}
 use Rattle.pf_protocol.specs.declared.events.Event.TheVariants.{Submit}
 use Rattle.pf_protocol.specs.Groups.{Group}
-use Rattle.pf_cluster.specs.Shown.{IsLeader}
+use Rattle.pf_network.specs.Shown.{IsLeader}
 use Rattle.pf_group.specs.GroupIs.{GroupIs}
 use Rattle.pf_leadercell.specs.Passes as cells
 use Rattle.pf_leadercell.specs.Published.{last_of}

@@ -9,7 +9,7 @@ use Rattle.pf_turn.specs.declared.log.Stamped.{Stamped}
 use Rattle.pf_protocol.specs.Groups.{Acked}
 use Rattle.pf_protocol.specs.declared.answers.Answer.TheVariants.{Refused}
 use Rattle.pf_protocol.specs.declared.events.Event.TheVariants.{Submit}
-use Rattle.pf_cluster.specs.Shown.{IsLeader, is_acked}
+use Rattle.pf_network.specs.Shown.{IsLeader, is_acked}
 use Rattle.pf_group.specs.GroupIs.{GroupIs}
 use Rattle.pf_rings.specs.declared.ring.Ring.{Ring}
 use Rattle.pf_rings.specs.declared.view.Request.{Request}

@@ -2,7 +2,7 @@
 use Rattle.std.specs.Prelude.{◌≡◌, ◌⊎◌, ℕ, ◌-◌, ◌<◌, ◌≤◌, Bool, true, false, IsTrue, List, length, Option, Some, None, slice_get}
 use Rattle.pf_turn.specs.Lists.{Begins}
 use Rattle.pf_disk.specs.declared.disk.Disk.{Ghosts}
-use Rattle.pf_cluster.specs.Shown.{IsLeader}
+use Rattle.pf_network.specs.Shown.{IsLeader}
 use Rattle.pf_group.specs.GroupIs.{GroupIs}
 use Rattle.pf_leadercell.specs.Passes as cells
 use Rattle.pf_leadercell.specs.Published.{last_of}

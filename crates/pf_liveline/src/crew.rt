@@ -1,6 +1,6 @@
 //! A live line between two runs of its threads, and whether it has come to an end.
 ghost use Rattle.std.specs.Prelude.{◌≡◌, ℕ, ◌<◌, IfOk, IfSome, IsTrue, Some, true};
-ghost use Rattle.pf_cluster.specs.Shown.{IsLeader, is_acked};
+ghost use Rattle.pf_network.specs.Shown.{IsLeader, is_acked};
 ghost use Rattle.pf_shared.specs.Seats.{root_in, seen_by};
 ghost use Rattle.pf_shared.specs.Since.{state_at};
 ghost use Rattle.pf_live.specs.Deliveries.{least_left};
@@ -8,7 +8,7 @@ ghost use Rattle.pf_live.specs.Ends.{NoneIsLeft};
 ghost use Rattle.pf_liveline.specs.Crews.{IsCrew};
 ghost use Rattle.pf_liveline.specs.Judging.{AreRefused, HasCount, HasJudged, HasLooked, IsJudged, IsPublished};
 
-use pf_base::{NoMemory, Server, Slot, Term};
+use pf_base::{NoMemory, ServerId, Slot, Term};
 use pf_disk::Disk;
 use pf_leadercell::LeaderPass;
 use pf_live::{Host, Line, LiveEnd, Served, Standing};
@@ -50,7 +50,7 @@ impl<D: Disk + Drop> Crew<D> {
         &mut self,
         rt: &R,
         line: &Line<D, G>,
-    ) -> Result<Option<(Term, Server)>, NoMemory>
+    ) -> Result<Option<(Term, ServerId)>, NoMemory>
         requires { IsCrew line.now.group line.now.cell line.now.plan line.now.rings.items self.old }
         ensures looked { HasLooked line.now.group line.now.cell line.now.plan line.now.rings.items self.old self.new }
         ensures low { IfOk result (λ leader. IfSome leader (λ served. served.1 < 3)) }
@@ -115,7 +115,7 @@ impl<D: Disk + Drop> Crew<D> {
         &mut self,
         rt: &R,
         line: &Line<D, G>,
-        leader: Option<(Term, Server)>,
+        leader: Option<(Term, ServerId)>,
         refused: bool,
     ) -> Result<Option<LiveEnd>, NoMemory>
         requires crew { IsCrew line.now.group line.now.cell line.now.plan line.now.rings.items self.old }
@@ -171,7 +171,7 @@ impl<D: Disk + Drop> Crew<D> {
 }
 
 /// The server to which writes are handed: the leader, or any where none serves.
-fn taker(leader: Option<(Term, Server)>) -> Server
+fn taker(leader: Option<(Term, ServerId)>) -> ServerId
     requires { IfSome leader (λ served. served.1 < 3) }
     ensures { result < 3 }
 {
@@ -182,7 +182,7 @@ fn taker(leader: Option<(Term, Server)>) -> Server
 }
 
 /// Whether this server is the leader.
-fn leads(leader: Option<(Term, Server)>, server: Server) -> bool
+fn leads(leader: Option<(Term, ServerId)>, server: ServerId) -> bool
     ensures { result ≡ true → (term : ℕ) × (leader ≡ Some (term, server)) }
 {
     match leader {

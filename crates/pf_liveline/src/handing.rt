@@ -2,14 +2,14 @@
 ghost use Rattle.std.specs.Prelude.{◌≡◌, ◌≢◌, ℕ, ◌<◌, IfOk, IsTrue, Some, slice_get, true};
 ghost use Rattle.pf_protocol.specs.declared.answers.Answer.TheVariants.{Refused};
 ghost use Rattle.pf_protocol.specs.declared.answers.Refusal.{Refusal};
-ghost use Rattle.pf_cluster.specs.Shown.{IsLeader};
+ghost use Rattle.pf_network.specs.Shown.{IsLeader};
 ghost use Rattle.pf_shared.specs.Seats.{root_in, seen_by};
 ghost use Rattle.pf_shared.specs.Since.{state_at};
 ghost use Rattle.pf_liveline.specs.Crews.{IsCrew};
 ghost use Rattle.pf_liveline.specs.Judging.{HasJudged, HasLooked, IsPublished, IsRefusedBy};
 
 use crate::crew::Crew;
-use pf_base::{NoMemory, Server, Term};
+use pf_base::{NoMemory, ServerId, Term};
 use pf_disk::Disk;
 use pf_live::{Line, Standing};
 use pf_protocol::Answer;
@@ -30,7 +30,7 @@ impl<D: Disk + Drop> Crew<D> {
         rt: &R,
         line: &Line<D, G>,
         host: u32,
-        server: Server,
+        server: ServerId,
     ) -> Result<bool, NoMemory>
         requires crew { IsCrew line.now.group line.now.cell line.now.plan line.now.rings.items self.old }
         requires host { host < line.now.plan.hosts }
@@ -60,7 +60,7 @@ impl<D: Disk + Drop> Crew<D> {
         &mut self,
         rt: &R,
         line: &Line<D, G>,
-        server: Server,
+        server: ServerId,
     ) -> Result<bool, NoMemory>
         requires crew { IsCrew line.now.group line.now.cell line.now.plan line.now.rings.items self.old }
         requires server { server < 3 }
@@ -79,7 +79,7 @@ impl<D: Disk + Drop> Crew<D> {
         &mut self,
         rt: &R,
         line: &Line<D, G>,
-    ) -> Result<Option<(Term, Server)>, NoMemory>
+    ) -> Result<Option<(Term, ServerId)>, NoMemory>
         requires { IsCrew line.now.group line.now.cell line.now.plan line.now.rings.items self.old }
         ensures looked { HasLooked line.now.group line.now.cell line.now.plan line.now.rings.items self.old self.new }
         ensures leader { IfOk result (λ leader. IsTrue (root_in line.now.group).told → IsLeader (state_at (root_in line.now.group) (seen_by self.new.seat)) leader) }

@@ -3,7 +3,7 @@ ghost use Rattle.std.specs.Prelude.{◌≡◌, [], IfErr, IfOk, IsTrue};
 ghost use Rattle.pf_entry.specs.Lists.{Every};
 ghost use Rattle.pf_protocol.specs.Answers.{claims_of};
 ghost use Rattle.pf_group.specs.Roots.{root_of};
-ghost use Rattle.pf_rounds.specs.Growing.{HasGrown};
+ghost use Rattle.pf_applyrounds.specs.Growing.{HasGrown};
 ghost use Rattle.pf_shared.specs.Moments.{handed_out};
 ghost use Rattle.pf_shared.specs.Seats.{root_in, seen_by, splits_of};
 ghost use Rattle.pf_shared.specs.Since.{whole};

@@ -12,8 +12,8 @@ ghost use Rattle.pf_liveline.specs.Taking.{IsTaken};
 
 use crate::joining::take_in;
 use crate::worker::Worker;
+use pf_copy::Gate;
 use pf_disk::Disk;
-use pf_filling::Gate;
 use pf_leadercell::LeaderPass;
 use pf_live::{Applier, Host, Line, Served, Submitter, Switch};
 use pf_shared::GroupSeat;

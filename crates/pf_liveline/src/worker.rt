@@ -4,9 +4,9 @@ ghost use Rattle.pf_crew.specs.Places.{Each, Pairs};
 ghost use Rattle.pf_liveline.specs.Working.{IsSameWorker, IsWorker};
 
 use pf_base::NoMemory;
+use pf_copy::Gate;
 use pf_crew::{Turned, Works, run_all};
 use pf_disk::Disk;
-use pf_filling::Gate;
 use pf_live::{Applier, Host, Line, Submitter, Switch};
 use std::sync::Wait;
 use std::thread::Threads;

@@ -20,7 +20,7 @@ use Rattle.pf_protocol.specs.Groups.{Answered}
 use Rattle.pf_protocol.specs.Histories.{History, replay}
 use Rattle.pf_protocol.specs.Ports.{IsTarget, Submission}
 use Rattle.pf_ports.specs.Replies.{IsReplied, WasRead, WasWritten}
-use Rattle.pf_hosted.specs.Deeds.{Deed, IsPending, PortAsk, PortReply, Put, Got, Puts, Submits, Takes, WasGot, WasPut}
+use Rattle.pf_positions.specs.Deeds.{Deed, IsPending, PortAsk, PortReply, Put, Got, Puts, Submits, Takes, WasGot, WasPut}
 use Rattle.pf_chunk.specs.Runs.{ChunkRun}
 use Rattle.pf_volume.specs.Volumes.{Extent}
 use Rattle.pf_hosts.specs.Moments.{Heard, Moment, Hands, Turns}

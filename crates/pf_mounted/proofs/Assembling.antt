@@ -3,18 +3,18 @@ use Rattle.std.proofs.Common.{◌≡◌, ℕ, zero, suc, ◌+◌, ◌*◌, ◌<�
 use Rattle.std.proofs.Math.Nat.{div-lt_iff_lt-mul}
 use Rattle.std.proofs.lemmas.Option.{none-some}
 use Rattle.pf_entry.specs.Sets.{empty}
-use Rattle.pf_cluster.proofs.Lists.{something_there}
+use Rattle.pf_network.proofs.Lists.{something_there}
 use Rattle.pf_protocol.specs.Answers.{IsLegal}
 use Rattle.pf_protocol.specs.Groups.{Answered}
 use Rattle.pf_protocol.proofs.ForMoments.{legal_before}
 use Rattle.pf_volume.specs.Volumes.{Extent, IsVolume, size_of}
-use Rattle.pf_hosted.specs.Deeds.{Deed, Fits, Groups}
-use Rattle.pf_hosted.specs.Homes.{Home, chunk_of, sector_of}
-use Rattle.pf_hosted.specs.Hosted.{AreAlone, IsHosted}
-use Rattle.pf_hosted.specs.Moves.{mover_into}
-use Rattle.pf_hosted.specs.Volumes.{half_at, home_of}
-use Rattle.pf_hosted.proofs.Answers.{prefix_taken}
-use Rattle.pf_hosted.proofs.Volumes.{inside}
+use Rattle.pf_positions.specs.Deeds.{Deed, Fits, Groups}
+use Rattle.pf_positions.specs.Homes.{Home, chunk_of, sector_of}
+use Rattle.pf_positions.specs.Hosted.{AreAlone, IsHosted}
+use Rattle.pf_positions.specs.Moves.{mover_into}
+use Rattle.pf_positions.specs.Volumes.{half_at, home_of}
+use Rattle.pf_positions.proofs.Answers.{prefix_taken}
+use Rattle.pf_positions.proofs.Volumes.{inside}
 use Rattle.pf_journal.specs.Sectors.{block_in}
 use Rattle.pf_journal.proofs.Spelled.{zeros}
 use Rattle.pf_chunk.specs.Runs.{ChunkRun}

@@ -10,7 +10,7 @@ use Rattle.pf_volume.specs.Volumes.{Extent}
 use Rattle.pf_mount.specs.declared.work.Next.{Next}
 use Rattle.pf_mount.specs.declared.work.Next.TheVariants.{Ask as Asks, Ready, Done}
 use Rattle.pf_mount.specs.Mounts.{MountIs, Outcome, answered, opening, starting}
-use Rattle.pf_rounds.specs.Halts.{Halt}
+use Rattle.pf_applyrounds.specs.Halts.{Halt}
 use Rattle.pf_chunk.specs.Runs.{ChunkRun}
 use Rattle.pf_hosts.specs.Moments.{Begins, Ends, Hands, Heard, Moment, Turns, Writes}
 use Rattle.pf_hosts.specs.Hosts.{Drove, HostIs, Stepped, begun, call_of, comes_of, drove, events_of, hands_at, hands_on, next_of, number_of, replied, stepped, stepped_at}

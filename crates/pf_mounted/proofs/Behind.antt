@@ -6,11 +6,11 @@ use Rattle.pf_volume.specs.Volumes.{IsVolume}
 use Rattle.pf_tree.specs.declared.calls.FileCall.{FileCall}
 use Rattle.pf_files.specs.declared.answers.CallAnswer.{CallAnswer}
 use Rattle.pf_paxos.specs.Journals.{AreAllRegisters}
-use Rattle.pf_hosted.proofs.Volumes.{journal}
+use Rattle.pf_positions.proofs.Volumes.{journal}
 use Rattle.pf_journal.specs.Sectors.{block_in}
 use Rattle.pf_mount.specs.Mounts.{MountIs}
 use Rattle.pf_hosts.specs.Moments.{Moment, Begins, Ends}
-use Rattle.pf_rounds.specs.Halts.{Halt}
+use Rattle.pf_applyrounds.specs.Halts.{Halt}
 use Rattle.pf_world.specs.Headline.{IsLawfulRun}
 use Rattle.pf_world.specs.Reports.{world_run}
 use Rattle.pf_threads.specs.Sessions.{Session}

@@ -3,7 +3,7 @@ use Rattle.std.proofs.Common.{◌≡◌, ℕ, zero, suc, ◌<◌, ◌≤◌, ◌
 use Rattle.std.proofs.lemmas.Option.{none-some, same_Some}
 use Rattle.pf_entry.specs.declared.ops.Op.{Op}
 use Rattle.pf_protocol.specs.Groups.{Answered}
-use Rattle.pf_hosted.specs.Deeds.{Acks, Brings, BringsBy, Deed, Fits, Got, Groups, Hands, IsHanded, IsOfEpoch, IsPending, IsPort, PortAsk, PortReply, Put, Reads, Submits, Takes, WasGot, WasPut}
+use Rattle.pf_positions.specs.Deeds.{Acks, Brings, BringsBy, Deed, Fits, Got, Groups, Hands, IsHanded, IsOfEpoch, IsPending, IsPort, PortAsk, PortReply, Put, Reads, Submits, Takes, WasGot, WasPut}
 use Rattle.pf_mounted.proofs.Placing.{at_seam, get_either, get_first, some_within}
 
 -- no deed is a submission

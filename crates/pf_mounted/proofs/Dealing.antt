@@ -6,7 +6,7 @@ use Rattle.pf_base.specs.declared.asks.Ask.{Ask}
 use Rattle.pf_entry.proofs.Cases.{by_test}
 use Rattle.pf_protocol.specs.Groups.{Answered}
 use Rattle.pf_volume.specs.Volumes.{Extent}
-use Rattle.pf_hosted.specs.Deeds.{Deed, PortAsk, PortReply, Submits, Takes}
+use Rattle.pf_positions.specs.Deeds.{Deed, PortAsk, PortReply, Submits, Takes}
 use Rattle.pf_mount.specs.declared.work.Work.{Work}
 use Rattle.pf_mount.specs.Mounts.{MountIs, answered}
 use Rattle.pf_hosts.specs.Moments.{Heard, Moment, Begins, Ends, Hands, Turns, Writes}

@@ -20,8 +20,8 @@ use Rattle.pf_asks.specs.Desks.{Fetched, Submitted}
 use Rattle.pf_asks.specs.Ports.{PortIs, answered as answered_port, goes_to}
 use Rattle.pf_ports.specs.Calls.{Past, fetching_of, number_in, slot_in, submission_of, with_read, with_write}
 use Rattle.pf_ports.specs.Driven.{IsDriven, IsStep, Steps}
-use Rattle.pf_rounds.specs.Halts.{Halt}
-use Rattle.pf_rounds.specs.Chunks.{after, answered, listed}
+use Rattle.pf_applyrounds.specs.Halts.{Halt}
+use Rattle.pf_applyrounds.specs.Chunks.{after, answered, listed}
 use Rattle.pf_chunk.specs.Asks.{leader_of, reply_to}
 use Rattle.pf_chunk.specs.Driving.{Driven, driven, driven_at, driven_for, event_of_ask, handed_to, idle, led_to, replied, sent_of, with_port}
 use Rattle.pf_chunk.specs.Runs.{ChunkRun}

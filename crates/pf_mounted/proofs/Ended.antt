@@ -6,7 +6,7 @@ use Rattle.std.proofs.lemmas.Bool.{eq-eqb, eqb-true}
 use Rattle.std.proofs.lemmas.List.{append_assoc}
 use Rattle.std.proofs.lemmas.Option.{none-some, same_Some}
 use Rattle.pf_base.specs.declared.asks.Ask.{Ask}
-use Rattle.pf_cluster.proofs.Lists.{at_end, at_front}
+use Rattle.pf_network.proofs.Lists.{at_end, at_front}
 use Rattle.pf_entry.proofs.Cases.{by_test}
 use Rattle.pf_protocol.specs.Groups.{Answered}
 use Rattle.pf_volume.specs.Volumes.{Extent, IsVolume}

@@ -4,7 +4,7 @@ use Rattle.pf_volume.specs.Volumes.{IsVolume}
 use Rattle.pf_mount.specs.Mounts.{MountIs}
 use Rattle.pf_mount.specs.declared.work.Work.TheVariants.{Fails}
 use Rattle.pf_hosts.specs.Moments.{Moment}
-use Rattle.pf_rounds.specs.Halts.{Halt}
+use Rattle.pf_applyrounds.specs.Halts.{Halt}
 use Rattle.pf_world.specs.Headline.{IsLawfulRun}
 use Rattle.pf_world.specs.Reports.{world_run}
 use Rattle.pf_threads.specs.Sessions.{Session}

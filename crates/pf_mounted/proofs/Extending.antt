@@ -15,12 +15,12 @@ use Rattle.pf_paxos.specs.Registers.{AreRegisters, Turn}
 use Rattle.pf_paxos.specs.Runs.{Event, Move, Proposers, idle_turn, ask_of, happens, opening, run, turn_of, turns_from, turns_of}
 use Rattle.pf_paxos.specs.Journals.{Doing, Does, Journal, event_at, events_at, events_from, goes_on, journal_from, new_journal, turns_at}
 use Rattle.pf_paxos.proofs.Standing.{position_run}
-use Rattle.pf_hosted.specs.Deeds.{Deed, Groups, Takes}
-use Rattle.pf_hosted.specs.Homes.{Home, if_asked, reply_in, turn_in, turn_or_idle, turns_in}
-use Rattle.pf_hosted.specs.Hosted.{IsHosted}
-use Rattle.pf_hosted.specs.Volumes.{home_of}
-use Rattle.pf_hosted.proofs.Copied.{registers as are_registers}
-use Rattle.pf_hosted.proofs.Volumes.{turns_told}
+use Rattle.pf_positions.specs.Deeds.{Deed, Groups, Takes}
+use Rattle.pf_positions.specs.Homes.{Home, if_asked, reply_in, turn_in, turn_or_idle, turns_in}
+use Rattle.pf_positions.specs.Hosted.{IsHosted}
+use Rattle.pf_positions.specs.Volumes.{home_of}
+use Rattle.pf_positions.proofs.Copied.{registers as are_registers}
+use Rattle.pf_positions.proofs.Volumes.{turns_told}
 use Rattle.pf_journal.specs.Sectors.{block_in}
 use Rattle.pf_mount.specs.declared.work.Work.TheVariants.{Ballots}
 use Rattle.pf_mount.specs.Mounts.{MountIs}

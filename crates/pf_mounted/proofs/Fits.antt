@@ -6,7 +6,7 @@ use Rattle.std.proofs.lemmas.Option.{none-some}
 use Rattle.pf_base.specs.declared.asks.Ask.{Ask}
 use Rattle.pf_entry.proofs.Cases.{by_test}
 use Rattle.pf_protocol.specs.Groups.{Answered}
-use Rattle.pf_hosted.specs.Deeds.{Deed, Fits, Groups, IsPort, PortAsk, PortReply, Takes}
+use Rattle.pf_positions.specs.Deeds.{Deed, Fits, Groups, IsPort, PortAsk, PortReply, Takes}
 use Rattle.pf_chunk.specs.Runs.{ChunkRun}
 use Rattle.pf_volume.specs.Volumes.{Extent}
 use Rattle.pf_mount.specs.Mounts.{answered}

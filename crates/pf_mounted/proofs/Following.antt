@@ -5,11 +5,11 @@ use Rattle.std.proofs.lemmas.Option.{same_Some}
 use Rattle.std.proofs.Math.Seq.{length-take-le}
 use Rattle.pf_base.specs.Asks.{chunk_of}
 use Rattle.pf_base.specs.declared.asks.Ask.{Ask}
-use Rattle.pf_cluster.proofs.Lists.{something_there}
+use Rattle.pf_network.proofs.Lists.{something_there}
 use Rattle.pf_protocol.specs.Groups.{Answered}
 use Rattle.pf_protocol.specs.Histories.{History}
 use Rattle.pf_volume.specs.Volumes.{Extent}
-use Rattle.pf_hosted.specs.Deeds.{IsPending, PortReply, Takes}
+use Rattle.pf_positions.specs.Deeds.{IsPending, PortReply, Takes}
 use Rattle.pf_mount.specs.declared.work.Work.{Work}
 use Rattle.pf_mount.specs.declared.work.Work.TheVariants.{Rests, Fails, ReadsSuper, WritesSuper, Syncs, Ballots, Pauses, Moves}
 use Rattle.pf_hosts.specs.Moments.{Heard, Moment, Begins, Ends, Hands, Turns, Writes}

@@ -15,7 +15,7 @@ use Rattle.pf_protocol.specs.Answers.{IsLegal}
 use Rattle.pf_protocol.specs.Groups.{Answered}
 use Rattle.pf_protocol.specs.Histories.{History, replay}
 use Rattle.pf_protocol.specs.Servers.{Setup}
-use Rattle.pf_cluster.proofs.Lists.{at_end, at_front}
+use Rattle.pf_network.proofs.Lists.{at_end, at_front}
 use Rattle.pf_group.specs.GroupIs.{GroupIs}
 use Rattle.pf_ports.specs.Calls.{Past, fetching}
 use Rattle.pf_ports.specs.Replies.{IsReplied, WasRead}

@@ -19,9 +19,9 @@ use Rattle.pf_paxos.specs.Registers as registers
 use Rattle.pf_paxos.specs.declared.block.Block.{Block}
 use Rattle.pf_paxos.specs.Runs.{Move, ask_of, idle_turn, move_in}
 use Rattle.pf_paxos.specs.Journals.{Does, Journal, goes_on, journal_from, told}
-use Rattle.pf_hosted.specs.Deeds.{PortAsk, PortReply, Takes}
-use Rattle.pf_hosted.specs.Homes.{if_asked, next_in, turn_or_idle}
-use Rattle.pf_hosted.specs.Volumes.{home_of}
+use Rattle.pf_positions.specs.Deeds.{PortAsk, PortReply, Takes}
+use Rattle.pf_positions.specs.Homes.{if_asked, next_in, turn_or_idle}
+use Rattle.pf_positions.specs.Volumes.{home_of}
 use Rattle.pf_journal.specs.Sectors.{HasSpelling, block_in}
 use Rattle.pf_mount.specs.Decisions.{decided_by, decided_in, value_in}
 use Rattle.pf_mount.specs.declared.work.Work.{Work}

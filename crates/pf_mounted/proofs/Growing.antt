@@ -8,9 +8,9 @@ use Rattle.pf_protocol.specs.declared.events.Event.TheVariants as events
 use Rattle.pf_protocol.specs.Groups.{ending, happens}
 use Rattle.pf_protocol.specs.Histories.{IsPrefix, replay}
 use Rattle.pf_protocol.proofs.ForMoments.{prefix_of, replay_goes_on, whole_prefix}
-use Rattle.pf_rounds.specs.Halts.{Halt}
-use Rattle.pf_rounds.specs.Chunks.{Chunk, after, answered, listed}
-use Rattle.pf_rounds.specs.Rounds.{applied}
+use Rattle.pf_applyrounds.specs.Halts.{Halt}
+use Rattle.pf_applyrounds.specs.Chunks.{Chunk, after, answered, listed}
+use Rattle.pf_applyrounds.specs.Rounds.{applied}
 use Rattle.pf_chunk.specs.Asking.{fetched}
 use Rattle.pf_chunk.specs.Happenings.{followed, happened}
 use Rattle.pf_chunk.specs.Lending.{after_all, all_happened}

@@ -17,11 +17,11 @@ use Rattle.pf_protocol.specs.Histories.{History}
 use Rattle.pf_protocol.specs.Servers.{Setup}
 use Rattle.pf_protocol.proofs.ForMoments.{legal_before}
 use Rattle.pf_asks.specs.Ports.{PortIs}
-use Rattle.pf_cluster.proofs.Lists.{at_front, set_elsewhere}
+use Rattle.pf_network.proofs.Lists.{at_front, set_elsewhere}
 use Rattle.pf_ports.specs.Calls.{Past}
 use Rattle.pf_ports.specs.Replies.{IsReplied}
-use Rattle.pf_rounds.specs.Halts.{Halt}
-use Rattle.pf_rounds.specs.Chunks.{Chunk}
+use Rattle.pf_applyrounds.specs.Halts.{Halt}
+use Rattle.pf_applyrounds.specs.Chunks.{Chunk}
 use Rattle.pf_chunk.specs.Driving.{asked, asked_at, driven, event_of_ask}
 use Rattle.pf_chunk.specs.Runs.{ChunkRun}
 use Rattle.pf_hosts.specs.Moments.{Begins, Ends, Hands, Heard, Moment, Turns, Writes}

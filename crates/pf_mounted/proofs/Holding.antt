@@ -15,8 +15,8 @@ use Rattle.pf_mount.specs.declared.work.Work.{Work}
 use Rattle.pf_mount.specs.Mounts.{Outcome, opening, starting}
 use Rattle.pf_asks.specs.Ports.{PortIs, new_port}
 use Rattle.pf_ports.specs.Driven.{Begins as BeginsDriven, IsDriven}
-use Rattle.pf_rounds.specs.Halts.{Halt}
-use Rattle.pf_rounds.specs.Chunks.{made_chunk}
+use Rattle.pf_applyrounds.specs.Halts.{Halt}
+use Rattle.pf_applyrounds.specs.Chunks.{made_chunk}
 use Rattle.pf_chunk.specs.Asking.{fetched}
 use Rattle.pf_chunk.specs.Happenings.{happened}
 use Rattle.pf_chunk.specs.Lending.{all_happened}

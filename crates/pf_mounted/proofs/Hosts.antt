@@ -18,7 +18,7 @@ use Rattle.pf_mount.specs.declared.work.Work.{Work}
 use Rattle.pf_mount.specs.declared.work.Next.{Next}
 use Rattle.pf_mount.specs.declared.work.Next.TheVariants.{Ask as Asks, Ready, Done}
 use Rattle.pf_mount.specs.Mounts.{MountIs, Outcome, answered, opening, starting}
-use Rattle.pf_rounds.specs.Halts.{Halt}
+use Rattle.pf_applyrounds.specs.Halts.{Halt}
 use Rattle.pf_chunk.specs.Driving.{ask_after}
 use Rattle.pf_chunk.specs.Runs.{ChunkRun}
 use Rattle.pf_hosts.specs.Moments.{Heard, Moment, Begins, Turns}

@@ -16,8 +16,8 @@ use Rattle.pf_paxos.specs.declared.proposer.Phase.{Phase}
 use Rattle.pf_paxos.specs.declared.proposer.Phase.TheVariants.{Idle}
 use Rattle.pf_paxos.specs.Proposers.{ProposerIs, new_proposer}
 use Rattle.pf_paxos.specs.Journals.{Doing, Does, Reads, Journal, goes_on, journal_from, new_journal}
-use Rattle.pf_hosted.specs.Deeds.{Deed, Takes}
-use Rattle.pf_hosted.specs.Volumes.{IsSameJournal}
+use Rattle.pf_positions.specs.Deeds.{Deed, Takes}
+use Rattle.pf_positions.specs.Volumes.{IsSameJournal}
 use Rattle.pf_journal.specs.Sectors.{block_in}
 use Rattle.pf_mount.specs.declared.work.Work.{Work}
 use Rattle.pf_mount.specs.declared.work.Work.TheVariants.{Rests, Fails, ReadsSuper, WritesSuper, Syncs, Ballots, Pauses, Moves}

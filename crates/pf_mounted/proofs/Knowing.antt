@@ -16,7 +16,7 @@ use Rattle.pf_paxos.specs.declared.proposer.Next.{Next as BallotNext}
 use Rattle.pf_paxos.specs.declared.proposer.Next.TheVariants as ballots
 use Rattle.pf_paxos.specs.Proposers.{ProposerIs, read_in, written_in}
 use Rattle.pf_paxos.specs.Journals.{Doing, Does, Journal, journal_from, new_journal}
-use Rattle.pf_hosted.specs.Deeds.{Takes}
+use Rattle.pf_positions.specs.Deeds.{Takes}
 use Rattle.pf_mount.specs.declared.work.Work.{Work}
 use Rattle.pf_mount.specs.declared.work.Work.TheVariants.{Rests, Fails, ReadsSuper, WritesSuper, Syncs, Ballots, Pauses, Moves}
 use Rattle.pf_mount.specs.Mounts.{MountIs, aborted, answered, balloted, blocks_in, finds_value, goes_on, on_bytes, on_written, opening, seeing, starting, with_proposer}

@@ -4,10 +4,10 @@ use Rattle.pf_protocol.specs.Answers.{IsLegal}
 use Rattle.pf_protocol.specs.Groups.{Answered}
 use Rattle.pf_volume.specs.Volumes.{Extent, IsVolume, size_of}
 use Rattle.pf_paxos.specs.Journals.{Begins, IsTransactionList, journal_before}
-use Rattle.pf_hosted.specs.Deeds.{Fits}
-use Rattle.pf_hosted.specs.Homes.{chunk_of, sector_of}
-use Rattle.pf_hosted.specs.Hosted.{AreAlone}
-use Rattle.pf_hosted.specs.Volumes.{home_of}
+use Rattle.pf_positions.specs.Deeds.{Fits}
+use Rattle.pf_positions.specs.Homes.{chunk_of, sector_of}
+use Rattle.pf_positions.specs.Hosted.{AreAlone}
+use Rattle.pf_positions.specs.Volumes.{home_of}
 use Rattle.pf_files.specs.declared.answers.CallAnswer.{CallAnswer}
 use Rattle.pf_mount.specs.Mounts.{MountIs}
 use Rattle.pf_mount.specs.declared.work.Work.TheVariants.{Fails}

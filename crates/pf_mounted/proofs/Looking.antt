@@ -10,9 +10,9 @@ use Rattle.pf_base.specs.declared.asks.Reply.TheVariants.{Bytes}
 use Rattle.pf_protocol.specs.Servers.{Candidate, Condition, Follower, Merging, Role, Running, Server, Serving, Setup, Stopped, Unformatted}
 use Rattle.pf_protocol.specs.Groups.{Acked, Answered, Group}
 use Rattle.pf_protocol.specs.Histories.{Runs, replay}
-use Rattle.pf_cluster.specs.Showing.{HasAnswer}
-use Rattle.pf_cluster.specs.Shown.{IsLeader, Serves, is_acked}
-use Rattle.pf_cluster.proofs.Shown.{IsGreatest, one_more_leader}
+use Rattle.pf_network.specs.Showing.{HasAnswer}
+use Rattle.pf_network.specs.Shown.{IsLeader, Serves, is_acked}
+use Rattle.pf_network.proofs.Shown.{IsGreatest, one_more_leader}
 use Rattle.pf_asks.specs.declared.port.Sent.{Sent}
 use Rattle.pf_asks.specs.declared.port.Sent.TheVariants.{Slot, Number}
 use Rattle.pf_asks.specs.Desks.{Call, Took, WasAcked}

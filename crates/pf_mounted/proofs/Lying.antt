@@ -8,10 +8,10 @@ use Rattle.pf_entry.proofs.Cases.{by_test}
 use Rattle.pf_registers.specs.Orders.{given}
 use Rattle.pf_paxos.specs.declared.block.Block.{Block}
 use Rattle.pf_paxos.specs.Registers.{AsksRead, AsksWrite}
-use Rattle.pf_hosted.specs.Deeds.{Puts, Gets}
-use Rattle.pf_hosted.specs.Homes.{ask_in, asks_write, chunk_of, is_half, sector_of}
-use Rattle.pf_hosted.specs.Volumes.{half_at, home_of}
-use Rattle.pf_hosted.proofs.Volumes.{apart, halves, spelled}
+use Rattle.pf_positions.specs.Deeds.{Puts, Gets}
+use Rattle.pf_positions.specs.Homes.{ask_in, asks_write, chunk_of, is_half, sector_of}
+use Rattle.pf_positions.specs.Volumes.{half_at, home_of}
+use Rattle.pf_positions.proofs.Volumes.{apart, halves, spelled}
 use Rattle.pf_journal.specs.Places.{place_of}
 use Rattle.pf_journal.specs.Sectors.{block_bytes, block_in}
 use Rattle.pf_journal.proofs.Placed.{chunk, sector}

@@ -7,7 +7,7 @@ use Rattle.std.proofs.lemmas.Option.{none-some, same_Some}
 use Rattle.pf_base.specs.declared.asks.Ask.{Ask}
 use Rattle.pf_base.specs.declared.asks.Reply.{Reply}
 use Rattle.pf_base.specs.declared.asks.Reply.TheVariants.{Written, Bytes}
-use Rattle.pf_cluster.proofs.Lists.{at_front}
+use Rattle.pf_network.proofs.Lists.{at_front}
 use Rattle.pf_entry.proofs.Cases.{by_test}
 use Rattle.pf_entry.specs.Lists.{Every}
 use Rattle.pf_protocol.specs.Groups.{Answered}
@@ -19,7 +19,7 @@ use Rattle.pf_paxos.specs.Syncs.{FindsNoBal, FindsNothing}
 use Rattle.pf_paxos.specs.Journals.{AreAllRegisters, Doing, Does, Reads, journal_from, new_journal, stands, turns_at}
 use Rattle.pf_paxos.proofs.Asking.{HasAsked, answered_now}
 use Rattle.pf_paxos.proofs.Listing.{stood_below}
-use Rattle.pf_hosted.specs.Deeds.{Takes}
+use Rattle.pf_positions.specs.Deeds.{Takes}
 use Rattle.pf_mount.specs.declared.work.Work.{Work}
 use Rattle.pf_mount.specs.declared.work.Work.TheVariants.{Rests, Fails, ReadsSuper, WritesSuper, Syncs, Ballots, Pauses, Moves}
 use Rattle.pf_mount.specs.Mounts.{MountIs, answered, blocks_in, has_bal, opening, starting}

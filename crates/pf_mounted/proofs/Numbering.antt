@@ -14,8 +14,8 @@ use Rattle.pf_mount.specs.declared.work.Next.{Next as MountNext}
 use Rattle.pf_mount.specs.declared.work.Next.TheVariants.{Ask as Asks, Ready, Done}
 use Rattle.pf_mount.specs.Mounts.{MountIs, answered, opening, starting}
 use Rattle.pf_report.specs.Mounts.{mount_text, started_text}
-use Rattle.pf_rounds.specs.Chunks.{Chunk}
-use Rattle.pf_rounds.specs.Halts.{Halt}
+use Rattle.pf_applyrounds.specs.Chunks.{Chunk}
+use Rattle.pf_applyrounds.specs.Halts.{Halt}
 use Rattle.pf_chunk.specs.Asking.{fetches, is_range, submits}
 use Rattle.pf_chunk.specs.Driving.{driven}
 use Rattle.pf_chunk.specs.Happenings.{Happened}

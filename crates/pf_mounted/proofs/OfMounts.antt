@@ -18,12 +18,12 @@ use Rattle.pf_protocol.specs.Histories.{History}
 use Rattle.pf_protocol.proofs.ForMoments.{legal_before}
 use Rattle.pf_tree.specs.declared.calls.FileCall.{FileCall}
 use Rattle.pf_volume.specs.Volumes.{Extent}
-use Rattle.pf_hosted.proofs.Answers.{prefix_taken}
+use Rattle.pf_positions.proofs.Answers.{prefix_taken}
 use Rattle.pf_mount.specs.declared.work.Work.{Work}
 use Rattle.pf_mount.specs.declared.work.Work.TheVariants.{Rests}
 use Rattle.pf_ports.specs.Calls.{Past}
 use Rattle.pf_ports.specs.Replies.{IsReplied}
-use Rattle.pf_rounds.specs.Halts.{Halt}
+use Rattle.pf_applyrounds.specs.Halts.{Halt}
 use Rattle.pf_chunk.specs.Runs.{ChunkRun}
 use Rattle.pf_hosts.specs.Moments.{Begins, Ends, Hands, Heard, Moment, Turns, Writes}
 use Rattle.pf_world.specs.Headline.{IsLawfulRun}

@@ -5,11 +5,11 @@ use Rattle.pf_protocol.specs.Groups.{Answered}
 use Rattle.pf_protocol.specs.Answers.{IsLegal}
 use Rattle.pf_volume.specs.Volumes.{Extent, IsVolume, size_of}
 use Rattle.pf_paxos.specs.Journals.{Begins, IsTransactionList, journal_before, journal_from, new_journal}
-use Rattle.pf_hosted.specs.Deeds.{Fits}
-use Rattle.pf_hosted.specs.Homes.{chunk_of, sector_of}
-use Rattle.pf_hosted.specs.Hosted.{AreAlone}
-use Rattle.pf_hosted.specs.Volumes.{IsHostedJournal, home_of}
-use Rattle.pf_hosted.proofs.Volumes.{journal}
+use Rattle.pf_positions.specs.Deeds.{Fits}
+use Rattle.pf_positions.specs.Homes.{chunk_of, sector_of}
+use Rattle.pf_positions.specs.Hosted.{AreAlone}
+use Rattle.pf_positions.specs.Volumes.{IsHostedJournal, home_of}
+use Rattle.pf_positions.proofs.Volumes.{journal}
 use Rattle.pf_journal.specs.Sectors.{block_in}
 use Rattle.pf_mount.specs.Mounts.{MountIs}
 use Rattle.pf_chunk.specs.Runs.{ChunkRun}

@@ -15,7 +15,7 @@ use Rattle.pf_protocol.specs.Groups.{Answered, ending}
 use Rattle.pf_protocol.specs.Histories.{IsPrefix}
 use Rattle.pf_protocol.specs.Ports.{IsTarget, Submission, submitting}
 use Rattle.pf_ports.specs.Rising.{IsRising}
-use Rattle.pf_hosted.specs.Deeds.{Groups, IsHanded, IsPending, IsPort, Puts, Submits}
+use Rattle.pf_positions.specs.Deeds.{Groups, IsHanded, IsPending, IsPort, Puts, Submits}
 use Rattle.pf_chunk.specs.Driving.{event_of_ask}
 use Rattle.pf_chunk.specs.Runs.{ChunkRun}
 use Rattle.pf_volume.specs.Volumes.{Extent}

@@ -10,12 +10,12 @@ use Rattle.pf_entry.specs.Lists.{Every}
 use Rattle.pf_volume.specs.Volumes.{Extent}
 use Rattle.pf_entry.proofs.Cases.{by_test}
 use Rattle.pf_entry.proofs.Lists.{set_cases}
-use Rattle.pf_cluster.proofs.Lists.{set_elsewhere, set_length, set_there}
+use Rattle.pf_network.proofs.Lists.{set_elsewhere, set_length, set_there}
 use Rattle.pf_protocol.specs.declared.events.Event.{Event}
 use Rattle.pf_asks.specs.declared.port.Sent.{Sent}
 use Rattle.pf_asks.specs.Ports.{PortIs, answered as answered_port, goes_to}
-use Rattle.pf_rounds.specs.Chunks.{answered}
-use Rattle.pf_rounds.specs.Halts.{Halt}
+use Rattle.pf_applyrounds.specs.Chunks.{answered}
+use Rattle.pf_applyrounds.specs.Halts.{Halt}
 use Rattle.pf_chunk.specs.Asking.{fetched}
 use Rattle.pf_chunk.specs.Asks.{leader_of, reply_to}
 use Rattle.pf_chunk.specs.Driving.{Driven, ask_after, asked, asked_at, driven, driven_at, driven_for, event_of_ask, handed_to, idle, led_to, replied, sent_of, with_port}

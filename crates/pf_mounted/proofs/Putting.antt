@@ -15,7 +15,7 @@ use Rattle.pf_paxos.specs.declared.proposer.Phase.TheVariants.{Idle}
 use Rattle.pf_paxos.specs.Proposers.{ProposerIs}
 use Rattle.pf_paxos.specs.Runs.{Call, Move, Starts, move_in}
 use Rattle.pf_paxos.specs.Journals.{Doing, Does, Journal, goes_on, journal_before, journal_from, move_at, new_journal, stands, told_by}
-use Rattle.pf_hosted.specs.Deeds.{Takes}
+use Rattle.pf_positions.specs.Deeds.{Takes}
 use Rattle.pf_mount.specs.declared.work.Work.{Work}
 use Rattle.pf_mount.specs.declared.work.Work.TheVariants.{Ballots, Syncs}
 use Rattle.pf_mount.specs.Mounts.{MountIs, answered, opening}

@@ -10,8 +10,8 @@ use Rattle.pf_asks.specs.Ports.{PortIs, answered as answered_port, goes_to}
 use Rattle.pf_ports.specs.Calls.{Past}
 use Rattle.pf_ports.specs.Replies.{IsReplied}
 use Rattle.pf_ports.proofs.Stepping.{answers}
-use Rattle.pf_rounds.specs.Chunks.{answered}
-use Rattle.pf_rounds.specs.Halts.{Halt}
+use Rattle.pf_applyrounds.specs.Chunks.{answered}
+use Rattle.pf_applyrounds.specs.Halts.{Halt}
 use Rattle.pf_chunk.specs.Asks.{leader_of, reply_to}
 use Rattle.pf_chunk.specs.Driving.{Driven, driven, driven_at, driven_for, event_of_ask, handed_to, idle, led_to, replied, sent_of, with_port}
 use Rattle.pf_chunk.specs.Runs.{ChunkRun}

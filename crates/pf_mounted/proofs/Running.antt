@@ -22,8 +22,8 @@ use Rattle.pf_tree.specs.declared.calls.FileCall.{FileCall}
 use Rattle.pf_tree.specs.Listings.{listing}
 use Rattle.pf_report.specs.Texts.{line_of, settle_text}
 use Rattle.pf_report.specs.Mounts.{mount_text, started_text, state_text, tree_lines}
-use Rattle.pf_rounds.specs.Halts.{Halt}
-use Rattle.pf_rounds.specs.Chunks.{Chunk}
+use Rattle.pf_applyrounds.specs.Halts.{Halt}
+use Rattle.pf_applyrounds.specs.Chunks.{Chunk}
 use Rattle.pf_chunk.specs.Asking.{fetched, fetches, filled, is_range, no_range_answer, submits}
 use Rattle.pf_chunk.specs.Asking.{no_range as no_event}
 use Rattle.pf_chunk.specs.Happenings.{Happened, happened}

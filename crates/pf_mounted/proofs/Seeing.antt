@@ -14,8 +14,8 @@ use Rattle.pf_paxos.specs.declared.proposer.Phase.{Phase}
 use Rattle.pf_paxos.specs.declared.proposer.Phase.TheVariants.{Idle, Claiming, GatheringLow, GatheringHigh, Proposing, ConfirmingLow, ConfirmingHigh}
 use Rattle.pf_paxos.specs.Registers.{AsksRead, AsksWrite}
 use Rattle.pf_paxos.specs.Registers as registers
-use Rattle.pf_hosted.specs.Homes.{ask_in}
-use Rattle.pf_hosted.specs.Volumes.{half_at, home_of}
+use Rattle.pf_positions.specs.Homes.{ask_in}
+use Rattle.pf_positions.specs.Volumes.{half_at, home_of}
 use Rattle.pf_journal.specs.Places.{place_of}
 use Rattle.pf_journal.specs.Sectors.{HasSpelling, block_bytes, block_in}
 use Rattle.pf_journal.proofs.Spelled.{back}

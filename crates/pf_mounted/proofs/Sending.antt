@@ -15,8 +15,8 @@ use Rattle.pf_protocol.specs.Groups.{Group}
 use Rattle.pf_protocol.specs.Answers.{IsAnswer, answer_at, answer_by, answer_to, fetch_refusal, fetch_turn, may_halt}
 use Rattle.pf_asks.specs.declared.port.Sent.TheVariants.{Slot, Number}
 use Rattle.pf_ports.specs.Calls.{number_in, slot_in}
-use Rattle.pf_rounds.specs.Chunks.{Chunk, answered}
-use Rattle.pf_rounds.specs.Halts.{Halt, is_cut}
+use Rattle.pf_applyrounds.specs.Chunks.{Chunk, answered}
+use Rattle.pf_applyrounds.specs.Halts.{Halt, is_cut}
 use Rattle.pf_chunk.specs.Driving.{sent_of}
 use Rattle.pf_chunk.proofs.Keeping.{taken_up}
 

@@ -9,7 +9,7 @@ use Rattle.pf_base.specs.Asks.{chunk_of}
 use Rattle.pf_base.specs.declared.asks.Ask.{Ask}
 use Rattle.pf_base.specs.declared.asks.Reply.{Reply}
 use Rattle.pf_entry.proofs.Lists.{set_cases}
-use Rattle.pf_cluster.proofs.Lists.{set_length}
+use Rattle.pf_network.proofs.Lists.{set_length}
 use Rattle.pf_tree.specs.declared.calls.FileCall.{FileCall}
 use Rattle.pf_volume.specs.Volumes.{Extent, size_of}
 use Rattle.pf_asks.specs.Ports.{PortIs}
@@ -17,8 +17,8 @@ use Rattle.pf_mount.specs.declared.work.Next.{Next}
 use Rattle.pf_mount.specs.declared.work.Next.TheVariants.{Ask as Asks, Ready, Done}
 use Rattle.pf_mount.specs.Mounts.{MountIs, Outcome, answered, opening, starting}
 use Rattle.pf_protocol.specs.declared.events.Event.TheVariants as events
-use Rattle.pf_rounds.specs.Chunks.{made_chunk}
-use Rattle.pf_rounds.specs.Halts.{Halt}
+use Rattle.pf_applyrounds.specs.Chunks.{made_chunk}
+use Rattle.pf_applyrounds.specs.Halts.{Halt}
 use Rattle.pf_chunk.specs.Driving.{asked, asked_at, driven}
 use Rattle.pf_chunk.specs.Asking.{fetched}
 use Rattle.pf_chunk.specs.Happenings.{happened}

@@ -8,13 +8,13 @@ use Rattle.std.proofs.lemmas.Option.{none-some, same_Some, slice_get_within}
 use Rattle.pf_base.specs.Span.{Span}
 use Rattle.pf_entry.specs.Lists.{Every}
 use Rattle.pf_entry.proofs.Lists.{set_cases}
-use Rattle.pf_cluster.proofs.Lists.{end_cases, set_length, something_there}
+use Rattle.pf_network.proofs.Lists.{end_cases, set_length, something_there}
 use Rattle.pf_protocol.specs.declared.events.Event.TheVariants.{Fetch}
 use Rattle.pf_volume.specs.Volumes.{Extent}
 use Rattle.pf_asks.specs.Ports.{PortIs, new_port}
-use Rattle.pf_rounds.specs.Chunks.{after, made_chunk}
-use Rattle.pf_rounds.specs.Halts.{Halt}
-use Rattle.pf_rounds.proofs.Extending.{after_extends, applied_extends}
+use Rattle.pf_applyrounds.specs.Chunks.{after, made_chunk}
+use Rattle.pf_applyrounds.specs.Halts.{Halt}
+use Rattle.pf_applyrounds.proofs.Extending.{after_extends, applied_extends}
 use Rattle.pf_chunk.specs.Asking.{fetched}
 use Rattle.pf_chunk.specs.Driving.{ask_of}
 use Rattle.pf_chunk.specs.Happenings.{followed, happened}

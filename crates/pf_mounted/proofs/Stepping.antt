@@ -16,9 +16,9 @@ use Rattle.pf_paxos.specs.Registers.{AsksRead, AsksWrite, Gives, Turn}
 use Rattle.pf_paxos.specs.Registers as registers
 use Rattle.pf_paxos.specs.Runs.{Move, Starts, idle_turn, move_in, turn_of}
 use Rattle.pf_paxos.specs.Journals.{Does, Journal, event_at, goes_on}
-use Rattle.pf_hosted.specs.Deeds.{Gets, Takes}
-use Rattle.pf_hosted.specs.Homes.{ask_in, if_asked, reply_in, turn_in, turn_or_idle}
-use Rattle.pf_hosted.specs.Volumes.{home_of}
+use Rattle.pf_positions.specs.Deeds.{Gets, Takes}
+use Rattle.pf_positions.specs.Homes.{ask_in, if_asked, reply_in, turn_in, turn_or_idle}
+use Rattle.pf_positions.specs.Volumes.{home_of}
 use Rattle.pf_journal.specs.Sectors.{block_in}
 use Rattle.pf_mount.specs.declared.work.Work.{Work}
 use Rattle.pf_mount.specs.declared.work.Work.TheVariants.{Rests, Fails, ReadsSuper, WritesSuper, Syncs, Ballots, Pauses, Moves}

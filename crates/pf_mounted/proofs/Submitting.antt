@@ -27,14 +27,14 @@ use Rattle.pf_protocol.specs.Histories.{History, IsPrefix}
 use Rattle.pf_protocol.specs.Ports.{Submission}
 use Rattle.pf_registers.specs.Firsts.{IsPorts}
 use Rattle.pf_registers.specs.Orders.{given}
-use Rattle.pf_cluster.proofs.Lists.{at_end, at_front}
+use Rattle.pf_network.proofs.Lists.{at_end, at_front}
 use Rattle.pf_paxos.specs.declared.block.Block.{Block}
 use Rattle.pf_paxos.specs.declared.proposer.Phase.{Phase}
 use Rattle.pf_paxos.specs.declared.proposer.Phase.TheVariants.{Idle, Claiming, GatheringLow, GatheringHigh, Proposing, ConfirmingLow, ConfirmingHigh}
 use Rattle.pf_paxos.specs.Journals.{journal_from, new_journal}
-use Rattle.pf_hosted.specs.Homes.{chunk_of, sector_of}
-use Rattle.pf_hosted.specs.Hosted.{AreAlone}
-use Rattle.pf_hosted.specs.Volumes.{home_of}
+use Rattle.pf_positions.specs.Homes.{chunk_of, sector_of}
+use Rattle.pf_positions.specs.Hosted.{AreAlone}
+use Rattle.pf_positions.specs.Volumes.{home_of}
 use Rattle.pf_journal.specs.Places.{place_of}
 use Rattle.pf_journal.specs.Sectors.{block_bytes}
 use Rattle.pf_journal.proofs.Placed.{chunk, sector}

@@ -10,7 +10,7 @@ use Rattle.pf_entry.specs.Lists.{Every}
 use Rattle.pf_entry.proofs.Lists.{every_append, every_more, set_cases}
 use Rattle.pf_protocol.specs.Histories.{History, IsPrefix, replay}
 use Rattle.pf_protocol.specs.Servers.{Setup}
-use Rattle.pf_cluster.specs.Shown.{IsLeader}
+use Rattle.pf_network.specs.Shown.{IsLeader}
 use Rattle.pf_asks.specs.declared.port.Sent.{Sent}
 use Rattle.pf_asks.specs.Desks.{Call, Led}
 use Rattle.pf_asks.specs.Ports.{DrivesFrom, Hands as HandsTo, IsHanded, IsLed, PortIs, Stays, answered as answered_port, goes_to}

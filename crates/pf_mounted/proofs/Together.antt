@@ -13,10 +13,10 @@ use Rattle.pf_paxos.specs.Registers.{AreRegisters, Turn}
 use Rattle.pf_paxos.specs.Journals.{Begins, Does, Doing, IsTransactionList, journal_before, turns_at}
 use Rattle.pf_paxos.specs.Proposers.{ProposerIs}
 use Rattle.pf_paxos.specs.Runs.{IsRead}
-use Rattle.pf_hosted.specs.Deeds.{Deed, Fits, Groups, Takes}
-use Rattle.pf_hosted.specs.Homes.{chunk_of, sector_of}
-use Rattle.pf_hosted.specs.Hosted.{AreAlone}
-use Rattle.pf_hosted.specs.Volumes.{IsHostedJournal, home_of}
+use Rattle.pf_positions.specs.Deeds.{Deed, Fits, Groups, Takes}
+use Rattle.pf_positions.specs.Homes.{chunk_of, sector_of}
+use Rattle.pf_positions.specs.Hosted.{AreAlone}
+use Rattle.pf_positions.specs.Volumes.{IsHostedJournal, home_of}
 use Rattle.pf_journal.specs.Sectors.{block_in}
 use Rattle.pf_mount.specs.Decisions.{decided_by, decided_in}
 use Rattle.pf_mount.specs.declared.work.Work.{Work}

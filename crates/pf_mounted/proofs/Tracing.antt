@@ -13,7 +13,7 @@ use Rattle.pf_protocol.specs.declared.events.Event.{Event}
 use Rattle.pf_protocol.specs.declared.events.Event.TheVariants as events
 use Rattle.pf_protocol.specs.declared.events.Happening.{Happening}
 use Rattle.pf_protocol.specs.Histories.{History}
-use Rattle.pf_cluster.proofs.Lists.{at_end, at_front, something_there}
+use Rattle.pf_network.proofs.Lists.{at_end, at_front, something_there}
 use Rattle.pf_hosts.specs.Moments.{Begins, Ends, Hands, Heard, Moment, Turns, Writes}
 use Rattle.pf_mounted.specs.Pasts.{Trace, after_moment, at_moment, handed_at, handed_by, no_trace, past_in, past_of, trace_of}
 

@@ -10,9 +10,9 @@ use Rattle.pf_protocol.specs.declared.answers.Answer.{Answer}
 use Rattle.pf_protocol.specs.declared.events.Event.TheVariants.{Submit}
 use Rattle.pf_protocol.specs.declared.events.Happening.{Happening}
 use Rattle.pf_asks.specs.Ports.{PortIs}
-use Rattle.pf_cluster.proofs.Lists.{end_cases}
-use Rattle.pf_rounds.specs.Chunks.{Chunk}
-use Rattle.pf_rounds.specs.Halts.{Halt}
+use Rattle.pf_network.proofs.Lists.{end_cases}
+use Rattle.pf_applyrounds.specs.Chunks.{Chunk}
+use Rattle.pf_applyrounds.specs.Halts.{Halt}
 use Rattle.pf_chunk.specs.Driving.{Driven, asked, asked_at, driven, event_of_ask}
 use Rattle.pf_chunk.specs.Runs.{ChunkRun}
 use Rattle.pf_hosts.specs.Hosts.{drove_of, handed, run_after, with_run}

@@ -8,10 +8,10 @@ use Rattle.pf_protocol.specs.declared.events.Event.{Event}
 use Rattle.pf_protocol.specs.declared.events.Event.TheVariants as events
 use Rattle.pf_protocol.specs.declared.events.Happening.{Happening}
 use Rattle.pf_protocol.specs.Histories.{History}
-use Rattle.pf_cluster.proofs.Lists.{end_cases}
-use Rattle.pf_rounds.specs.Halts.{Halt}
-use Rattle.pf_rounds.specs.Chunks.{Chunk, after, answered, listed, listed_at}
-use Rattle.pf_rounds.specs.Rounds.{applied}
+use Rattle.pf_network.proofs.Lists.{end_cases}
+use Rattle.pf_applyrounds.specs.Halts.{Halt}
+use Rattle.pf_applyrounds.specs.Chunks.{Chunk, after, answered, listed, listed_at}
+use Rattle.pf_applyrounds.specs.Rounds.{applied}
 use Rattle.pf_chunk.specs.Asking.{fetched}
 use Rattle.pf_chunk.specs.Happenings.{followed, happened}
 use Rattle.pf_chunk.specs.Runs.{ChunkRun}

@@ -10,7 +10,7 @@ use Rattle.pf_protocol.specs.Groups.{Answered}
 use Rattle.pf_protocol.specs.Histories.{History}
 use Rattle.pf_protocol.specs.Ports.{Submission}
 use Rattle.pf_protocol.specs.Shown.{small_group}
-use Rattle.pf_hosted.specs.Deeds.{Groups}
+use Rattle.pf_positions.specs.Deeds.{Groups}
 use Rattle.pf_ports.specs.Replies.{WasRead}
 use Rattle.pf_chunk.specs.Runs.{ChunkRun}
 use Rattle.pf_volume.specs.Volumes.{Extent}

@@ -15,7 +15,7 @@ use Rattle.pf_paxos.specs.Proposers.{ProposerIs, read_in, written_in}
 use Rattle.pf_paxos.specs.Registers.{AsksRead, Gives}
 use Rattle.pf_paxos.specs.Runs.{Call, Starts, IsWritten, IsRead, idle_turn}
 use Rattle.pf_paxos.specs.Journals.{Doing, Does, Reads}
-use Rattle.pf_hosted.specs.Deeds.{Deed, Takes, Submits, PortAsk, Puts, Gets, PortReply, Put, Got}
+use Rattle.pf_positions.specs.Deeds.{Deed, Takes, Submits, PortAsk, Puts, Gets, PortReply, Put, Got}
 use Rattle.pf_journal.specs.Sectors.{HasSpelling}
 use Rattle.pf_mount.specs.declared.work.Work.{Work}
 use Rattle.pf_tree.specs.declared.calls.FileCall.{FileCall}

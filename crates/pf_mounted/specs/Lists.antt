@@ -3,7 +3,7 @@ use Rattle.std.specs.Prelude.{◌≡◌, ℕ, ◌≤◌, List, [], ◌∷◌, �
 use Rattle.pf_protocol.specs.Groups.{Answered}
 use Rattle.pf_volume.specs.Volumes.{Extent}
 use Rattle.pf_paxos.specs.Journals.{IsTransactionList}
-use Rattle.pf_hosted.specs.Volumes.{IsHostedJournal}
+use Rattle.pf_positions.specs.Volumes.{IsHostedJournal}
 use Rattle.pf_journal.specs.Sectors.{block_in}
 use Rattle.pf_inodes.specs.declared.changes.Txn.{Txn}
 use Rattle.pf_tree.specs.Standing.{StandsFor}

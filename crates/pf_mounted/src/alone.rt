@@ -1,9 +1,9 @@
 //! The law of who writes a block.
 ghost use Rattle.std.specs.Prelude.{◌≡◌, ℕ, ◌<◌, ◌++◌, [], List};
 ghost use Rattle.pf_chunk.specs.Runs.{ChunkRun};
-ghost use Rattle.pf_hosted.specs.Homes.{chunk_of, sector_of};
-ghost use Rattle.pf_hosted.specs.Hosted.{AreAlone};
-ghost use Rattle.pf_hosted.specs.Volumes.{home_of};
+ghost use Rattle.pf_positions.specs.Homes.{chunk_of, sector_of};
+ghost use Rattle.pf_positions.specs.Hosted.{AreAlone};
+ghost use Rattle.pf_positions.specs.Volumes.{home_of};
 ghost use Rattle.pf_hosts.specs.Moments.{Moment};
 ghost use Rattle.pf_mounted.specs.Handing.{AreHandedOn, AreMountsAlone};
 ghost use Rattle.pf_mounted.specs.Hosted.{groups_of};

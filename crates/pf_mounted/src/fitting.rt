@@ -2,7 +2,7 @@
 ghost use Rattle.std.specs.Prelude.{◌≡◌, ℕ, ◌++◌, ◌∷◌, [], List, None, Option, Some, length, slice_get};
 ghost use Rattle.pf_base.specs.declared.asks.Ask.{Ask as AskIs};
 ghost use Rattle.pf_chunk.specs.Runs.{ChunkRun};
-ghost use Rattle.pf_hosted.specs.Deeds.{Fits, Takes};
+ghost use Rattle.pf_positions.specs.Deeds.{Fits, Takes};
 ghost use Rattle.pf_hosts.specs.Moments.{Heard, Moment, Turns};
 ghost use Rattle.pf_mounted.specs.Fitting.{IsOfRun};
 ghost use Rattle.pf_mounted.specs.Hosted.{groups_of};

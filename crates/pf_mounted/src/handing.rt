@@ -6,7 +6,7 @@ ghost use Rattle.pf_hosts.specs.Moments.{Heard, Moment, Turns};
 ghost use Rattle.pf_mounted.specs.Handing.{AreCallsOfWords, AreHandedOn, AreMountsAlone, reached};
 ghost use Rattle.pf_mounted.specs.Mounts.{life_of};
 ghost use Rattle.pf_mounted.specs.Scripts.{IsScript};
-ghost use Rattle.pf_rounds.specs.Halts.{Halt};
+ghost use Rattle.pf_applyrounds.specs.Halts.{Halt};
 ghost use Rattle.pf_world.specs.Reports.{world_run};
 ghost use Rattle.pf_world.specs.declared.kind.Kind.TheVariants.{Mounted};
 ghost use Rattle.pf_threads.specs.Sessions.{Session};

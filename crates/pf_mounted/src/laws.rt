@@ -17,10 +17,10 @@ ghost use Rattle.pf_mounted.specs.Journals.{AreOfMounts, CanBeDoings, deeds, doi
 ghost use Rattle.pf_mounted.specs.Pasts.{past_of};
 ghost use Rattle.pf_mounted.specs.Scripts.{IsScript};
 ghost use Rattle.pf_ports.specs.Driven.{IsDriven};
-ghost use Rattle.pf_rounds.specs.Halts.{Halt};
+ghost use Rattle.pf_applyrounds.specs.Halts.{Halt};
 ghost use Rattle.pf_tree.specs.declared.calls.FileCall.{FileCall};
 ghost use Rattle.pf_volume.specs.Volumes.{Extent, IsVolume};
-ghost use Rattle.pf_hosted.specs.Volumes.{IsSameJournal};
+ghost use Rattle.pf_positions.specs.Volumes.{IsSameJournal};
 ghost use Rattle.pf_journal.specs.Sectors.{block_in};
 ghost use Rattle.pf_paxos.specs.Journals.{journal_from, new_journal};
 ghost use Rattle.pf_protocol.specs.Groups.{Answered};

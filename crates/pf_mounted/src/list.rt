@@ -6,7 +6,7 @@ ghost use Rattle.pf_mount.specs.declared.work.Work.TheVariants.{Fails};
 ghost use Rattle.pf_mounted.specs.Lists.{HasOneList};
 ghost use Rattle.pf_mounted.specs.Mounts.{mount_after};
 ghost use Rattle.pf_mounted.specs.Scripts.{IsScript};
-ghost use Rattle.pf_rounds.specs.Halts.{Halt};
+ghost use Rattle.pf_applyrounds.specs.Halts.{Halt};
 ghost use Rattle.pf_volume.specs.Volumes.{IsVolume};
 ghost use Rattle.pf_world.specs.Headline.{IsLawfulRun};
 ghost use Rattle.pf_world.specs.Reports.{world_run};

@@ -10,7 +10,7 @@ ghost use Rattle.pf_mounted.specs.Journals.{AreOfMounts};
 ghost use Rattle.pf_mounted.specs.Mounts.{last_ask};
 ghost use Rattle.pf_mounted.specs.Scripts.{IsScript};
 ghost use Rattle.pf_protocol.specs.Groups.{Answered};
-ghost use Rattle.pf_rounds.specs.Halts.{Halt};
+ghost use Rattle.pf_applyrounds.specs.Halts.{Halt};
 ghost use Rattle.pf_world.specs.Headline.{IsLawfulRun};
 ghost use Rattle.pf_world.specs.Reports.{world_run};
 ghost use Rattle.pf_threads.specs.Sessions.{Session};

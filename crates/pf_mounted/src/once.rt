@@ -7,7 +7,7 @@ ghost use Rattle.pf_mounted.specs.Journals.{AreOfMounts, CanBeDoings, doings};
 ghost use Rattle.pf_mounted.specs.Mounts.{mount_after};
 ghost use Rattle.pf_paxos.specs.Journals.{AreAllRegisters, IsTransactionList};
 ghost use Rattle.pf_protocol.specs.Groups.{Answered};
-ghost use Rattle.pf_rounds.specs.Halts.{Halt};
+ghost use Rattle.pf_applyrounds.specs.Halts.{Halt};
 ghost use Rattle.pf_txn.specs.Reading.{txn_in};
 ghost use Rattle.pf_volume.specs.Volumes.{Extent, IsVolume};
 ghost use Rattle.pf_world.specs.Reports.{world_run};

@@ -6,7 +6,7 @@ ghost use Rattle.pf_mounted.specs.Handing.{AreCallsOfWords};
 ghost use Rattle.pf_mounted.specs.Mounts.{mount_after, tables_from};
 ghost use Rattle.pf_mounted.specs.Trees.{AreBegunAtRest, AreFewCalls, IsOverList, calls_of, data_blocks, tree_after};
 ghost use Rattle.pf_protocol.specs.Groups.{Answered};
-ghost use Rattle.pf_rounds.specs.Halts.{Halt};
+ghost use Rattle.pf_applyrounds.specs.Halts.{Halt};
 ghost use Rattle.pf_tree.specs.Standing.{StandsFor};
 ghost use Rattle.pf_volume.specs.Volumes.{Extent, IsVolume};
 ghost use Rattle.pf_world.specs.Reports.{world_run};

@@ -15,13 +15,13 @@ use Rattle.pf_protocol.specs.Groups.{Group}
 use Rattle.pf_protocol.specs.Histories.{replay}
 use Rattle.pf_protocol.specs.Answers.{IsLegal}
 use Rattle.pf_protocol.specs.Ports.{Submission, HasEnded}
-use Rattle.pf_cluster.specs.Showing.{HasAnswer}
+use Rattle.pf_network.specs.Showing.{HasAnswer}
 use Rattle.pf_asks.specs.declared.port.Sent.{Sent}
 use Rattle.pf_asks.specs.declared.port.Sent.TheVariants.{Slot, Number}
 use Rattle.pf_asks.specs.Desks.{Call, WasAcked, Took}
 use Rattle.pf_asks.specs.Ports.{PortIs, LooksFor, reply_if}
-use Rattle.pf_hosted.proofs.Taking.{slot_acked, answered_taken_up}
-use Rattle.pf_hosted.proofs.Worked.{next_there}
+use Rattle.pf_positions.proofs.Taking.{slot_acked, answered_taken_up}
+use Rattle.pf_positions.proofs.Worked.{next_there}
 use Rattle.pf_ports.specs.Calls.{Past, fetching, HasAcked, Says}
 use Rattle.pf_ports.specs.Replies.{WasWritten, WasRead, IsReplied}
 use Rattle.pf_ports.proofs.Standing.{IsLastWrite, IsLastRead, IsSent, Stands}

@@ -8,8 +8,8 @@ use Rattle.pf_protocol.specs.Ports.{Submission, submitting, IsTarget, HasEnded, 
 use Rattle.pf_protocol.proofs.ForMoments.{prefix_of}
 use Rattle.pf_protocol.proofs.ForMoments.{whole_prefix}
 use Rattle.pf_registers.proofs.Staying.{acked_stays}
-use Rattle.pf_cluster.specs.Shown.{Serves}
-use Rattle.pf_cluster.proofs.Lists.{at_front, end_cases}
+use Rattle.pf_network.specs.Shown.{Serves}
+use Rattle.pf_network.proofs.Lists.{at_front, end_cases}
 
 -- the term of a running server, 0 where none runs
 abbrev pub term_in : Option Condition → ℕ

@@ -20,8 +20,8 @@ use Rattle.pf_protocol.specs.Ports.{Submission, submitting, IsTarget, HasEnded, 
 use Rattle.pf_protocol.proofs.ForMoments.{prefix_of}
 use Rattle.pf_protocol.proofs.ForPorts.{given_slot}
 use Rattle.pf_protocol.proofs.ForMoments.{whole_prefix}
-use Rattle.pf_cluster.specs.Shown.{Serves}
-use Rattle.pf_cluster.proofs.Lists.{at_end, end_cases}
+use Rattle.pf_network.specs.Shown.{Serves}
+use Rattle.pf_network.proofs.Lists.{at_end, end_cases}
 use Rattle.pf_asks.specs.declared.port.Sent.{Sent}
 use Rattle.pf_asks.specs.declared.port.Sent.TheVariants.{Slot, Number}
 use Rattle.pf_asks.specs.Ports.{PortIs, new_port, goes_to, answered}

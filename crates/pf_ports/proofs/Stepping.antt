@@ -10,7 +10,7 @@ use Rattle.pf_protocol.specs.Histories.{History, IsPrefix, replay}
 use Rattle.pf_protocol.specs.Answers.{IsLegal}
 use Rattle.pf_protocol.specs.Ports.{FollowsRule}
 use Rattle.pf_protocol.proofs.ForMoments.{legal_before}
-use Rattle.pf_cluster.specs.Shown.{Serves}
+use Rattle.pf_network.specs.Shown.{Serves}
 use Rattle.pf_asks.specs.declared.port.Sent.{Sent}
 use Rattle.pf_asks.specs.declared.port.Sent.TheVariants.{Slot, Number}
 use Rattle.pf_asks.specs.Desks.{Call, Led, Submitted, Fetched}

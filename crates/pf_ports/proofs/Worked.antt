@@ -10,7 +10,7 @@ use Rattle.pf_protocol.specs.Histories.{History, replay}
 use Rattle.pf_protocol.specs.OutOfOrder.{out_of_order, CommitsOutOfOrder}
 use Rattle.pf_protocol.specs.Shown.{small_group}
 use Rattle.pf_protocol.proofs.ForMoments.{opened}
-use Rattle.pf_cluster.specs.Shown.{Serves, IsLeader}
+use Rattle.pf_network.specs.Shown.{Serves, IsLeader}
 use Rattle.pf_asks.specs.declared.port.Sent.TheVariants.{Slot}
 use Rattle.pf_asks.specs.Desks.{Led, Submitted, WasAcked}
 use Rattle.pf_asks.specs.Ports.{PortIs, new_port}

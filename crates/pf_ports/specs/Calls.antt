@@ -11,8 +11,8 @@ use Rattle.pf_protocol.specs.Servers.{Setup}
 use Rattle.pf_protocol.specs.Groups.{Group}
 use Rattle.pf_protocol.specs.Histories.{History, replay}
 use Rattle.pf_protocol.specs.Ports.{Submission, submitting}
-use Rattle.pf_cluster.specs.Showing.{HasAnswer}
-use Rattle.pf_cluster.specs.Shown.{IsLeader}
+use Rattle.pf_network.specs.Showing.{HasAnswer}
+use Rattle.pf_network.specs.Shown.{IsLeader}
 use Rattle.pf_asks.specs.Desks.{Call, CallsLead, Led, Submitted, Fetched, WasAcked, Took}
 
 -- a port asks a server for the sectors of a range, perhaps once more

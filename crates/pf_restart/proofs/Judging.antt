@@ -16,7 +16,7 @@ use Rattle.pf_entry.specs.StartMaps.{start_rows}
 use Rattle.pf_entry.specs.declared.entries.Entry.{Entry}
 use Rattle.pf_entry.specs.declared.tables.Start.{Start}
 use Rattle.pf_holes.specs.Windows.{IsWithin}
-use Rattle.pf_spelling.proofs.MapLaws.{every_of_gets, get_of_every}
+use Rattle.pf_codec.proofs.MapLaws.{every_of_gets, get_of_every}
 use Rattle.pf_protocol.specs.Servers.{Setup}
 use Rattle.pf_restart.specs.Beginning.{HasBegun, MayBegin, setup_at}
 use Rattle.pf_restart.specs.Recovering.{HasWindow, IsPlaced}

@@ -15,9 +15,9 @@ use Rattle.pf_entry.specs.declared.records.Record.TheVariants.{Image as ImageRec
 use Rattle.pf_entry.specs.Canonical.{IsCanonicalRecord}
 use Rattle.pf_entry.specs.Records.{Durable, image_of, stored, vote_of}
 use Rattle.pf_entry.specs.Sizes.{body_size, empty_half, entry_size}
-use Rattle.pf_spelling.specs.Fitting.{RecordFits, EntryFits as HasWords}
-use Rattle.pf_spelling.specs.Spelling.{body_bytes}
-use Rattle.pf_spelling.proofs.MapLaws.{every_of_gets}
+use Rattle.pf_codec.specs.Fitting.{RecordFits, EntryFits as HasWords}
+use Rattle.pf_codec.specs.Spelling.{body_bytes}
+use Rattle.pf_codec.proofs.MapLaws.{every_of_gets}
 use Rattle.pf_store.specs.Stores.{IsImageOf}
 use Rattle.pf_protocol.specs.Servers.{Server, Setup}
 use Rattle.pf_protocol.specs.Answers.{IsSetup}

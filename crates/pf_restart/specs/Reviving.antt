@@ -1,7 +1,7 @@
 -- A server in memory, over the state that was read.
 use Rattle.std.specs.Prelude.{◌≡◌, ◌≢◌, ℕ, suc, ◌<◌, ◌^◌, List, Option, Some, None}
 use Rattle.pf_entry.specs.Records.{Durable, image_of}
-use Rattle.pf_spelling.specs.Spelling.{body_bytes}
+use Rattle.pf_codec.specs.Spelling.{body_bytes}
 use Rattle.pf_protocol.specs.Saving.{restarted}
 use Rattle.pf_state.specs.declared.running.Running.{Running}
 use Rattle.pf_state.specs.Standing.{server_of, setup_of, IsCached}

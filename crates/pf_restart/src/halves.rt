@@ -2,7 +2,7 @@
 ghost use Rattle.std.specs.Prelude.{◌≡◌, ◌⊎◌, ℕ, IfErr, IfOk, OnErr, OnOk};
 ghost use Rattle.std.specs.Option.{option_map};
 ghost use Rattle.pf_entry.specs.Records.{Durable, image_of, stored};
-ghost use Rattle.pf_spelling.specs.Spelling.{body_bytes};
+ghost use Rattle.pf_codec.specs.Spelling.{body_bytes};
 ghost use Rattle.pf_protocol.specs.Saving.{renewed};
 ghost use Rattle.pf_restart.specs.Beginning.{IsBegun, IsSeat};
 ghost use Rattle.pf_restart.specs.Reviving.{IsImageFor, Lives, anew};
@@ -10,8 +10,8 @@ ghost use Rattle.pf_restart.specs.declared.seat.Seat.{Seat as SeatIs};
 
 use crate::{Reading, RestartFault};
 use pf_base::NoMemory;
+use pf_codec::spell_record;
 use pf_entry::Record;
-use pf_spelling::spell_record;
 use pf_state::{Running, vote_of};
 use pf_store::{DiskFault, Store};
 use std::alloc::Global;

@@ -8,7 +8,7 @@ ghost use Rattle.pf_script.specs.declared.command.Command.TheVariants as command
 use crate::call_forms::CallForm;
 use crate::form::{Form, PacketVerb, ServerVerb};
 use crate::{Command, LineFault};
-use pf_base::Server;
+use pf_base::ServerId;
 use std::alloc::Global;
 
 /// Sectors of a volume, packets of a group and counts of sectors stand below this number in a script.
@@ -48,7 +48,7 @@ fn fits_server(chunks: u32, group: u64, server: u64) -> bool
 }
 
 impl ServerVerb {
-    fn command(self, group: u8, server: Server) -> Command
+    fn command(self, group: u8, server: ServerId) -> Command
         ensures { result ≡ server_command self group server }
     {
         match self {

@@ -11,8 +11,8 @@ use Rattle.pf_protocol.specs.Answers.{IsSetup}
 use Rattle.pf_protocol.specs.Asked.{Asks}
 use Rattle.pf_protocol.specs.Fitting.{DurableFits, OpFits, RoleFits, ServerFits, SlotFits, SlotsFit, VoteFits}
 use Rattle.pf_protocol.specs.Servers.{Server, Setup, Merging as MergingIs, Serving as ServingIs}
-use Rattle.pf_leading.specs.Resending.{AreOwn}
-use Rattle.pf_applying.specs.Jobs.{IsFilledFor, IsJobOf}
+use Rattle.pf_leader.specs.Resending.{AreOwn}
+use Rattle.pf_apply.specs.Jobs.{IsFilledFor, IsJobOf}
 use Rattle.pf_state.specs.Bounds.{far}
 use Rattle.pf_state.specs.declared.running.Running.{Running}
 use Rattle.pf_state.specs.Standing.{server_of, setup_of, bare, leader_of, read_of, role_of, IsBounded, IsCached}

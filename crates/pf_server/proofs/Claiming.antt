@@ -6,8 +6,8 @@ use Rattle.pf_entry.specs.declared.ops.Job.{Job}
 use Rattle.pf_protocol.specs.Leading.{op_at}
 use Rattle.pf_protocol.specs.Saving.{claimable, claimed}
 use Rattle.pf_protocol.specs.Servers.{Server}
-use Rattle.pf_applying.specs.declared.claims.Claimed.{Claimed}
-use Rattle.pf_applying.specs.Claims.{Claims as ClaimsHere}
+use Rattle.pf_apply.specs.declared.claims.Claimed.{Claimed}
+use Rattle.pf_apply.specs.Claims.{Claims as ClaimsHere}
 use Rattle.pf_state.specs.declared.running.Running.{Running}
 use Rattle.pf_state.specs.Standing.{server_of, IsCached}
 use Rattle.pf_state.specs.Turns.{IsAfter}

@@ -21,8 +21,8 @@ use Rattle.pf_state.specs.declared.faults.StepFault.TheVariants.{NoMemory as Wan
 use Rattle.pf_state.specs.declared.running.Running.{Running}
 use Rattle.pf_state.specs.Outgoing.{Outgoing}
 use Rattle.pf_state.specs.Standing.{server_of, setup_of, IsDone, IsUntouched, IsHalted as HaltsIn, Stands, Steps, room_refusal}
-use Rattle.pf_leading.specs.Submitting.{refused_first, submit_refusal}
-use Rattle.pf_applying.specs.Fetching.{fetch_refusal}
+use Rattle.pf_leader.specs.Submitting.{refused_first, submit_refusal}
+use Rattle.pf_apply.specs.Fetching.{fetch_refusal}
 use Rattle.pf_restart.specs.Beginning.{setup_at}
 use Rattle.pf_restart.specs.declared.seat.Seat.{Seat}
 use Rattle.pf_server.specs.declared.ends.Before.{Before}

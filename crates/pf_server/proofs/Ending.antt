@@ -9,7 +9,7 @@ use Rattle.pf_entry.specs.Records.{Durable}
 use Rattle.pf_protocol.specs.Asked.{AreAsked, Asks, IsAsked}
 use Rattle.pf_protocol.specs.Rows.{is_ready, ready_reads, settled}
 use Rattle.pf_protocol.specs.Servers.{Read, Server, Setup}
-use Rattle.pf_applying.specs.Reads.{answered}
+use Rattle.pf_apply.specs.Reads.{answered}
 use Rattle.pf_state.specs.declared.running.Running.{Running}
 use Rattle.pf_state.specs.Standing.{server_of, setup_of, read_of, bare, IsCached}
 use Rattle.pf_state.specs.Turns.{IsAfter}

@@ -9,7 +9,7 @@ use Rattle.pf_entry.specs.Lists.{Every}
 use Rattle.pf_entry.proofs.Lists.{every_map}
 use Rattle.pf_entry.specs.Records.{Durable, image_of, stored}
 use Rattle.pf_entry.specs.Sizes.{body_size, entry_size}
-use Rattle.pf_spelling.proofs.MapLaws.{every_of_gets}
+use Rattle.pf_codec.proofs.MapLaws.{every_of_gets}
 use Rattle.pf_protocol.specs.Answers.{IsSetup, has_stored}
 use Rattle.pf_protocol.specs.Fitting.{DurableFits, EntryFits}
 use Rattle.pf_protocol.specs.Saving.{renewed}

@@ -13,7 +13,7 @@ use Rattle.pf_state.specs.Turns.{IsAfter}
 use Rattle.pf_state.proofs.Ending.{stands_after}
 use Rattle.pf_restart.specs.Beginning.{setup_at}
 use Rattle.pf_restart.specs.declared.seat.Seat.{Seat}
-use Rattle.pf_applying.specs.Jobs.{IsJobOf}
+use Rattle.pf_apply.specs.Jobs.{IsJobOf}
 use Rattle.pf_base.specs.declared.filled.Filled.{Filled}
 use Rattle.pf_server.specs.declared.state.Doubt.TheVariants.{Settled}
 use Rattle.pf_server.specs.declared.state.State.{State}

@@ -16,7 +16,7 @@ use Rattle.pf_state.specs.declared.running.Running.{Running}
 use Rattle.pf_state.specs.Standing.{server_of, setup_of, Stands}
 use Rattle.pf_protocol.specs.Answers.{has_stored}
 use Rattle.pf_protocol.specs.Saving.{renewed}
-use Rattle.pf_applying.specs.Jobs.{IsFilledFor}
+use Rattle.pf_apply.specs.Jobs.{IsFilledFor}
 use Rattle.pf_restart.specs.Beginning.{setup_at, IsSeat}
 use Rattle.pf_restart.specs.declared.seat.Seat.{Seat}
 use Rattle.pf_server.specs.declared.state.Doubt.{Doubt}

@@ -3,7 +3,7 @@ use Rattle.std.specs.Prelude.{◌≡◌, ◌⊎◌, ℕ, suc, Bool, cond, not, t
 use Rattle.pf_base.specs.declared.errors.NoMemory.{NoMemory}
 use Rattle.pf_entry.specs.Ops.{Sector}
 use Rattle.pf_entry.specs.Records.{Durable}
-use Rattle.pf_applying.specs.declared.claims.Claimed.{Claimed}
+use Rattle.pf_apply.specs.declared.claims.Claimed.{Claimed}
 use Rattle.pf_protocol.specs.Servers.{Server, Condition, Running as RunningIs, Stopped as StoppedIs, Unformatted as UnformattedIs}
 use Rattle.pf_protocol.specs.Leading.{op_at}
 use Rattle.pf_protocol.specs.Saving.{claimable, claimed, renewed, restarted}

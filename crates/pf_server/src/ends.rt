@@ -7,7 +7,7 @@ ghost use Rattle.pf_state.specs.Standing.{server_of, read_of, IsCached};
 ghost use Rattle.pf_server.specs.Ending.{Answers, CanAnswerIn, Ends, WasAnswered, forgotten};
 
 use crate::state::{Doubt, State};
-use pf_applying::settle;
+use pf_apply::settle;
 use pf_base::NoMemory;
 use pf_protocol::{Answer, Refusal};
 use pf_state::{Replies, Running, StepFault};

@@ -1,7 +1,7 @@
 //! Jobs of a server, and answers of its reads.
 ghost use Rattle.std.specs.Prelude.{◌≡◌, ◌≢◌, [], ◌∷◌, ℕ, Err, IfNone, IfSome, None, Ok, false};
 ghost use Rattle.pf_entry.specs.Records.{Durable};
-ghost use Rattle.pf_applying.specs.Jobs.{IsJobOf};
+ghost use Rattle.pf_apply.specs.Jobs.{IsJobOf};
 ghost use Rattle.pf_protocol.specs.Saving.{on_finish, on_give_back};
 ghost use Rattle.pf_protocol.specs.Servers.{Condition, Server as ServerIs, Running as RunningIs};
 ghost use Rattle.pf_state.specs.Standing.{server_of, IsBounded, IsCached};
@@ -12,7 +12,7 @@ ghost use Rattle.pf_server.specs.declared.state.Doubt.{Doubt as DoubtIs};
 
 use crate::ends::{answer_reads, forget, forget_answers};
 use crate::{Server, State};
-use pf_applying::{Claimed, claim, finish, give_back};
+use pf_apply::{Claimed, claim, finish, give_back};
 use pf_base::{Data, Filled, NoMemory, Slot};
 use pf_protocol::{Answer, Refusal};
 use pf_state::Running;

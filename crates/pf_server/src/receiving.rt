@@ -11,12 +11,12 @@ ghost use Rattle.pf_server.specs.Turns.{Comes};
 
 use crate::ends::{end, note};
 use crate::{Server, State};
-use pf_applying::probe_ok;
+use pf_apply::probe_ok;
 use pf_base::NoMemory;
+use pf_candidate::vote;
 use pf_entry::{Body, Packet};
-use pf_following::{accept, commit, image, nack, probe, request_vote};
-use pf_leading::ack;
-use pf_merging::vote;
+use pf_follower::{accept, commit, image, nack, probe, request_vote};
+use pf_leader::ack;
 use pf_protocol::{Answer, Refusal};
 use pf_state::{Outbox, Running, StepFault};
 use pf_store::Store;

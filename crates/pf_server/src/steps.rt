@@ -1,8 +1,8 @@
 //! What hosts ask of a server.
 ghost use Rattle.std.specs.Prelude.{◌≡◌, None, Ok, false};
 ghost use Rattle.pf_base.specs.Span.{IsWritable};
-ghost use Rattle.pf_leading.specs.Submitting.{submit_refusal};
-ghost use Rattle.pf_applying.specs.Fetching.{fetch_refusal};
+ghost use Rattle.pf_leader.specs.Submitting.{submit_refusal};
+ghost use Rattle.pf_apply.specs.Fetching.{fetch_refusal};
 ghost use Rattle.pf_protocol.specs.Answers.{IsSubmitted};
 ghost use Rattle.pf_protocol.specs.Leading.{on_elect, on_fetch, on_resend, on_submit};
 ghost use Rattle.pf_protocol.specs.Saving.{on_checkpoint};
@@ -14,10 +14,10 @@ ghost use Rattle.pf_server.specs.Turns.{Comes};
 
 use crate::ends::{end, note};
 use crate::{Server, State};
-use pf_applying::{checkpoint, fetch};
+use pf_apply::{checkpoint, fetch};
 use pf_base::{NoMemory, Range};
 use pf_entry::Op;
-use pf_leading::{elect, resend, submit};
+use pf_leader::{elect, resend, submit};
 use pf_protocol::{Answer, Refusal};
 use pf_state::Outbox;
 use pf_store::Store;

@@ -8,14 +8,14 @@ use Rattle.pf_group.specs.GroupIs.{GroupIs, state_of}
 use Rattle.pf_leadercell.specs.Passes as cells
 use Rattle.pf_leadercell.specs.declared.cell.LeaderCell.{LeaderCell}
 use Rattle.pf_rings.specs.declared.ring.Ring.{Ring}
-use Rattle.pf_rounds.specs.Adding.{Adds}
-use Rattle.pf_rounds.specs.Agreeing.{TellsOfGroup, chunk_of}
-use Rattle.pf_rounds.specs.Begun.{HasBegun}
-use Rattle.pf_rounds.specs.Closed.{IsClosed}
-use Rattle.pf_rounds.specs.Growing.{HasGrown}
-use Rattle.pf_rounds.specs.Halts.{Halt}
-use Rattle.pf_rounds.specs.Rounds.{IsApplied, applied}
-use Rattle.pf_rounds.proofs.Growing.{grown_refl}
+use Rattle.pf_applyrounds.specs.Adding.{Adds}
+use Rattle.pf_applyrounds.specs.Agreeing.{TellsOfGroup, chunk_of}
+use Rattle.pf_applyrounds.specs.Begun.{HasBegun}
+use Rattle.pf_applyrounds.specs.Closed.{IsClosed}
+use Rattle.pf_applyrounds.specs.Growing.{HasGrown}
+use Rattle.pf_applyrounds.specs.Halts.{Halt}
+use Rattle.pf_applyrounds.specs.Rounds.{IsApplied, applied}
+use Rattle.pf_applyrounds.proofs.Growing.{grown_refl}
 use Rattle.pf_shared.specs.declared.parts.GroupSeat.{GroupSeat}
 use Rattle.pf_shared.specs.declared.parts.SharedGroup.{SharedGroup}
 use Rattle.pf_shared.specs.Moments.{handed_out}

@@ -4,17 +4,17 @@ use Rattle.pf_turn.specs.Lists.{entries_of}
 use Rattle.pf_protocol.specs.Answers.{claims_of}
 use Rattle.pf_protocol.specs.Servers.{Server}
 use Rattle.pf_protocol.specs.Histories.{Runs}
-use Rattle.pf_cluster.specs.Shown.{IsLeader}
+use Rattle.pf_network.specs.Shown.{IsLeader}
 use Rattle.pf_group.specs.GroupIs.{GroupIs, state_of}
 use Rattle.pf_leadercell.specs.Passes as cells
 use Rattle.pf_leadercell.specs.Published.{last_of}
-use Rattle.pf_rounds.specs.Adding.{Adds}
-use Rattle.pf_rounds.specs.Agreeing.{TellsOfGroup, chunk_of}
-use Rattle.pf_rounds.specs.Begun.{HasBegun}
-use Rattle.pf_rounds.specs.Closed.{IsClosed}
-use Rattle.pf_rounds.specs.Growing.{HasGrown}
-use Rattle.pf_rounds.specs.Halts.{Halt}
-use Rattle.pf_rounds.specs.Rounds.{IsApplied, applied}
+use Rattle.pf_applyrounds.specs.Adding.{Adds}
+use Rattle.pf_applyrounds.specs.Agreeing.{TellsOfGroup, chunk_of}
+use Rattle.pf_applyrounds.specs.Begun.{HasBegun}
+use Rattle.pf_applyrounds.specs.Closed.{IsClosed}
+use Rattle.pf_applyrounds.specs.Growing.{HasGrown}
+use Rattle.pf_applyrounds.specs.Halts.{Halt}
+use Rattle.pf_applyrounds.specs.Rounds.{IsApplied, applied}
 use Rattle.pf_shared.specs.Moments.{handed_out}
 use Rattle.pf_shared.specs.Since.{state_at, whole}
 use Rattle.pf_live.specs.declared.plan.Plan.{Plan}

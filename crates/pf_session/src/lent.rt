@@ -1,5 +1,5 @@
 //! A gate that its owner lends to a line.
-use pf_filling::Gate;
+use pf_copy::Gate;
 
 /// A gate that its owner lends to a line.
 #[derive(Clone, Copy)]

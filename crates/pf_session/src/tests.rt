@@ -1,8 +1,8 @@
 //! Whole lines over disks in memory, whose threads meet.
 use crate::{Lived, live};
 use pf_base::NoMemory;
+use pf_copy::Gate;
 use pf_disk::RamDisk;
-use pf_filling::Gate;
 use pf_group::{Group, Six};
 use pf_live::{LiveEnd, Plan};
 use std::alloc::Global;

@@ -1,11 +1,11 @@
 //! What happened to a group since an earlier moment, in numbers.
 ghost use Rattle.std.specs.Prelude.{◌≡◌, ◌≤◌, length};
 ghost use Rattle.pf_group.specs.GroupIs.{GroupIs};
-ghost use Rattle.pf_rounds.specs.Growing.{HasGrown};
+ghost use Rattle.pf_applyrounds.specs.Growing.{HasGrown};
 ghost use Rattle.pf_live.specs.Lines.{applies_done};
 ghost use Rattle.pf_session.specs.Totals.{AreTotals, IsBeginning, applied_on, applied_on_each};
 
-use pf_base::Server;
+use pf_base::ServerId;
 use pf_disk::Disk;
 use pf_group::Group;
 use pf_protocol::{Answer, Event, Happening};
@@ -20,7 +20,7 @@ pub struct Totals {
 }
 
 /// Whether it is the end of a job of this server that was answered `Done`.
-fn is_applied(happening: &Happening, server: Server) -> bool
+fn is_applied(happening: &Happening, server: ServerId) -> bool
     ensures { result ≡ applies_done server happening.now.event happening.now.answer }
 {
     match (&happening.event, &happening.answer) {
@@ -30,7 +30,7 @@ fn is_applied(happening: &Happening, server: Server) -> bool
 }
 
 /// How many jobs of this server were finished, and answered `Done`.
-fn applied_on(happenings: &[Happening], server: Server) -> u64
+fn applied_on(happenings: &[Happening], server: ServerId) -> u64
     ensures { result ≡ applied_on server happenings.now }
 {
     happenings

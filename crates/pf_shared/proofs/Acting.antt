@@ -12,7 +12,7 @@ use Rattle.pf_group.specs.declared.event.GroupEvent.{GroupEvent}
 use Rattle.pf_group.specs.declared.event.GroupEvent.TheVariants as asked
 use Rattle.pf_group.specs.Events.{event_of}
 use Rattle.pf_group.proofs.Claims.{claims_more}
-use Rattle.pf_cluster.specs.Readings.{taken_after}
+use Rattle.pf_network.specs.Readings.{taken_after}
 use Rattle.pf_shared.specs.declared.moment.Moment.{Moment}
 use Rattle.pf_shared.specs.declared.moment.Moment.TheVariants.{Happened}
 use Rattle.pf_shared.specs.declared.moment.Did.{Did}

@@ -4,7 +4,7 @@ use Rattle.std.proofs.Math.Logic.{∥∥₁_elim, ∥∥₁_map}
 use Rattle.std.proofs.Props.{props}
 use Rattle.std.proofs.lemmas.Bool.Decides.{leb_tells}
 use Rattle.pf_disk.specs.declared.disk.Disk.{Ghosts}
-use Rattle.pf_rounds.specs.Growing.{ArePaid, HasGrown, IsLast, IsPaid, halts_in}
+use Rattle.pf_applyrounds.specs.Growing.{ArePaid, HasGrown, IsLast, IsPaid, halts_in}
 use Rattle.pf_shared.specs.declared.behind.Behind.{Behind}
 use Rattle.pf_shared.specs.Since.{since}
 

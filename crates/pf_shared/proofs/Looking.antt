@@ -14,8 +14,8 @@ use Rattle.pf_group.specs.GroupIs.{GroupIs, state_of}
 use Rattle.pf_group.proofs.Chains.{by_one, by_same}
 use Rattle.pf_group.specs.Readers.{HasTaken, LacksAnswer, TellsOf}
 use Rattle.pf_group.specs.Roots.{root_of}
-use Rattle.pf_rounds.specs.Growing.{Pays}
-use Rattle.pf_rounds.proofs.Paying.{pays_refl, pays_same}
+use Rattle.pf_applyrounds.specs.Growing.{Pays}
+use Rattle.pf_applyrounds.proofs.Paying.{pays_refl, pays_same}
 use Rattle.pf_shared.specs.declared.errors.LookFault.{LookFault}
 use Rattle.pf_shared.specs.declared.moment.Moment.{Moment}
 use Rattle.pf_shared.specs.declared.moment.Moment.TheVariants.{Look}

@@ -4,7 +4,7 @@ use Rattle.pf_turn.specs.declared.log.Stamped.{Stamped}
 use Rattle.pf_disk.specs.declared.disk.Disk.{Ghosts}
 use Rattle.pf_base.specs.declared.filled.Filled.{Filled}
 use Rattle.pf_entry.specs.declared.ops.Op.{Op}
-use Rattle.pf_applying.specs.Jobs.{IsFilledFor}
+use Rattle.pf_apply.specs.Jobs.{IsFilledFor}
 use Rattle.pf_protocol.specs.declared.answers.Answer.{Answer}
 use Rattle.pf_protocol.specs.declared.events.Event.{Event}
 use Rattle.pf_group.specs.declared.event.GroupEvent.{GroupEvent}

@@ -5,7 +5,7 @@ use Rattle.pf_turn.specs.Lists.{Begins, entries_of}
 use Rattle.pf_base.specs.declared.filled.Filled.{Filled}
 use Rattle.pf_entry.specs.declared.ops.Op.{Op}
 use Rattle.pf_entry.specs.declared.ops.Job.{Job}
-use Rattle.pf_applying.specs.Jobs.{IsFilledFor}
+use Rattle.pf_apply.specs.Jobs.{IsFilledFor}
 use Rattle.pf_protocol.specs.declared.answers.Answer.{Answer}
 use Rattle.pf_protocol.specs.declared.answers.Answer.TheVariants.{Job as JobIs}
 use Rattle.pf_protocol.specs.declared.events.Event.{Event}

@@ -9,7 +9,7 @@ ghost use Rattle.pf_group.specs.Packets.{least_from};
 ghost use Rattle.pf_group.specs.Sound.{IsSound};
 ghost use Rattle.pf_shared.specs.Events.{IsStep};
 ghost use Rattle.pf_group.specs.Roots.{root_of};
-ghost use Rattle.pf_rounds.specs.Growing.{Pays};
+ghost use Rattle.pf_applyrounds.specs.Growing.{Pays};
 ghost use Rattle.pf_shared.specs.Since.{since};
 ghost use Rattle.pf_shared.specs.Woven.{steps_in, woven};
 ghost use Rattle.pf_shared.specs.Moments.{handed_out};

@@ -6,7 +6,7 @@ ghost use Rattle.pf_protocol.specs.declared.events.Event.TheVariants.{Claim, Fin
 ghost use Rattle.pf_turn.specs.Lists.{Begins, Every, GrewBy, SameOf, entries_of, longer};
 ghost use Rattle.pf_turn.specs.Seats as turns;
 ghost use Rattle.pf_group.specs.Roots.{root_of};
-ghost use Rattle.pf_rounds.specs.Growing.{HasGrown};
+ghost use Rattle.pf_applyrounds.specs.Growing.{HasGrown};
 ghost use Rattle.pf_shared.specs.Behinds.{list_of};
 ghost use Rattle.pf_shared.specs.Calls.{Finds, HasClaimed, HasStepped, IsHistory, IsTaken, OnJob, Steps};
 ghost use Rattle.pf_shared.specs.Events.{IsStep};

@@ -2,17 +2,17 @@
 //! (`NoMemory`, 1), nothing is told.
 ghost use Rattle.std.specs.Prelude.{◌≡◌, ◌<◌, IfOk, IsTrue, map, slice_get};
 ghost use Rattle.std.specs.FinMap as finite;
-ghost use Rattle.pf_cluster.specs.Showing.{acked_of};
-ghost use Rattle.pf_cluster.specs.Shown.{is_acked};
+ghost use Rattle.pf_network.specs.Showing.{acked_of};
+ghost use Rattle.pf_network.specs.Shown.{is_acked};
 ghost use Rattle.pf_group.specs.GroupIs.{state_of};
 ghost use Rattle.pf_group.specs.Readers.{IsAppliedOf, TellsOf, snapshot_in};
 
-use pf_base::{NoMemory, Sectors, Server, Slot, Term};
-use pf_cluster::Acked;
+use pf_base::{NoMemory, Sectors, ServerId, Slot, Term};
 use pf_disk::Disk;
 use pf_entry::Entry;
 use pf_group::{Down, Group};
 use pf_holes::SlotSet;
+use pf_network::Acked;
 use std::alloc::Global;
 
 /// The slots that were acknowledged to hosts, in order.
@@ -33,7 +33,7 @@ pub(crate) fn is_acked<D: Disk>(group: &Group<D>, term: Term, slot: Slot) -> boo
 pub(crate) fn entry_of<D: Disk>(
     alloc: Global,
     group: &Group<D>,
-    server: Server,
+    server: ServerId,
     slot: Slot,
 ) -> Result<Result<Option<Entry>, Down>, NoMemory>
     requires { server < 3 }
@@ -50,7 +50,7 @@ pub(crate) fn entry_of<D: Disk>(
 pub(crate) fn applied_of<D: Disk>(
     alloc: Global,
     group: &Group<D>,
-    server: Server,
+    server: ServerId,
 ) -> Result<Result<SlotSet, Down>, NoMemory>
     requires { server < 3 }
     ensures { IfOk result (λ told. IsTrue group.now.told → TellsOf (state_of group.now) server told (λ slots s. IsAppliedOf slots.slots s)) }
@@ -65,7 +65,7 @@ pub(crate) fn applied_of<D: Disk>(
 pub(crate) fn sectors_of<D: Disk>(
     alloc: Global,
     group: &Group<D>,
-    server: Server,
+    server: ServerId,
 ) -> Result<Result<Sectors, Down>, NoMemory>
     requires { server < 3 }
     ensures { IfOk result (λ told. IsTrue group.now.told → TellsOf (state_of group.now) server told (λ sectors s. sectors ≡ s.sectors)) }
@@ -80,7 +80,7 @@ pub(crate) fn sectors_of<D: Disk>(
 pub(crate) fn snapshot<D: Disk>(
     alloc: Global,
     group: &Group<D>,
-    server: Server,
+    server: ServerId,
     slot: Slot,
 ) -> Result<Option<Sectors>, NoMemory>
     requires { server < 3 }

@@ -6,8 +6,8 @@
 ghost use Rattle.std.specs.Prelude.{◌≡◌, ◌<◌, ◌≤◌, ◌++◌, ◌∷◌, [], IfOk, IfSome, IsTrue, None, Ok, OnErr, OnOk, length, map, slice_get};
 ghost use Rattle.std.specs.FinMap as finite;
 ghost use Rattle.pf_entry.specs.Sets as set;
-ghost use Rattle.pf_cluster.specs.Showing.{acked_of};
-ghost use Rattle.pf_cluster.specs.Shown.{IsLeader, is_acked};
+ghost use Rattle.pf_network.specs.Showing.{acked_of};
+ghost use Rattle.pf_network.specs.Shown.{IsLeader, is_acked};
 ghost use Rattle.pf_group.specs.Packets.{least_from};
 ghost use Rattle.pf_group.specs.Readers.{IsAppliedOf, is_left, snapshot_in};
 ghost use Rattle.pf_turn.specs.Seats as turns;
@@ -19,12 +19,12 @@ ghost use Rattle.pf_shared.specs.Moments.{entry};
 ghost use Rattle.pf_shared.specs.Seats.{IsAlone, IsSameSeat, IsSeatOf, number_of, root_in, seen_by};
 
 use crate::{Behind, GroupSeat, LookFault, SharedGroup, copies};
-use pf_base::{Data, NoMemory, Sectors, Server, Slot, Term};
-use pf_cluster::Acked;
+use pf_base::{Data, NoMemory, Sectors, ServerId, Slot, Term};
 use pf_disk::Disk;
 use pf_entry::Entry;
 use pf_group::Down;
 use pf_holes::SlotSet;
+use pf_network::Acked;
 use pf_turn::Turn;
 use std::alloc::Global;
 use std::sync::Wait;
@@ -128,7 +128,7 @@ impl<D: Disk + Drop> SharedGroup<D> {
         rt: &R,
         _alloc: Global,
         seat: &mut GroupSeat<D>,
-    ) -> Result<Option<(Term, Server)>, NoMemory>
+    ) -> Result<Option<(Term, ServerId)>, NoMemory>
         requires { IsSeatOf self.now seat.old }
         ensures seat { IsSeatOf self.now seat.new × IsSameSeat seat.old seat.new }
         ensures look { IfOk result (λ leader. Looks (root_in self.now) (number_of seat.old) (IsAlone seat.old) (seen_by seat.old) (λ g. IsLeader g leader) (seen_by seat.new)) }
@@ -208,7 +208,7 @@ impl<D: Disk + Drop> SharedGroup<D> {
         rt: &R,
         _alloc: Global,
         seat: &mut GroupSeat<D>,
-        server: Server,
+        server: ServerId,
     ) -> Result<Term, LookFault>
         requires seat { IsSeatOf self.now seat.old }
         requires server { server < 3 }
@@ -229,7 +229,7 @@ impl<D: Disk + Drop> SharedGroup<D> {
         rt: &R,
         _alloc: Global,
         seat: &mut GroupSeat<D>,
-        server: Server,
+        server: ServerId,
     ) -> Result<Slot, LookFault>
         requires seat { IsSeatOf self.now seat.old }
         requires server { server < 3 }
@@ -250,7 +250,7 @@ impl<D: Disk + Drop> SharedGroup<D> {
         rt: &R,
         alloc: Global,
         seat: &mut GroupSeat<D>,
-        server: Server,
+        server: ServerId,
         slot: Slot,
     ) -> Result<Option<Entry>, LookFault>
         requires seat { IsSeatOf self.now seat.old }
@@ -272,7 +272,7 @@ impl<D: Disk + Drop> SharedGroup<D> {
         rt: &R,
         _alloc: Global,
         seat: &mut GroupSeat<D>,
-        server: Server,
+        server: ServerId,
         slot: Slot,
     ) -> Result<bool, LookFault>
         requires seat { IsSeatOf self.now seat.old }
@@ -294,7 +294,7 @@ impl<D: Disk + Drop> SharedGroup<D> {
         rt: &R,
         alloc: Global,
         seat: &mut GroupSeat<D>,
-        server: Server,
+        server: ServerId,
     ) -> Result<SlotSet, LookFault>
         requires seat { IsSeatOf self.now seat.old }
         requires server { server < 3 }
@@ -315,7 +315,7 @@ impl<D: Disk + Drop> SharedGroup<D> {
         rt: &R,
         alloc: Global,
         seat: &mut GroupSeat<D>,
-        server: Server,
+        server: ServerId,
     ) -> Result<Sectors, LookFault>
         requires seat { IsSeatOf self.now seat.old }
         requires server { server < 3 }
@@ -335,7 +335,7 @@ impl<D: Disk + Drop> SharedGroup<D> {
         rt: &R,
         alloc: Global,
         seat: &mut GroupSeat<D>,
-        server: Server,
+        server: ServerId,
         slot: Slot,
     ) -> Result<Option<Sectors>, NoMemory>
         requires seat { IsSeatOf self.now seat.old }

@@ -9,7 +9,7 @@ ghost use Rattle.pf_shared.specs.Submitting.{HasSubmitted};
 ghost use Rattle.pf_shared.specs.Seats.{IsAlone, IsSameSeat, IsSeatOf, number_of, root_in, seen_by};
 
 use crate::{GroupSeat, SharedGroup};
-use pf_base::{NoMemory, Payload, Range, Server, Term};
+use pf_base::{NoMemory, Payload, Range, ServerId, Term};
 use pf_disk::Disk;
 use pf_group::{Down, GroupEvent};
 use pf_protocol::Answer;
@@ -48,7 +48,7 @@ impl<D: Disk + Drop> SharedGroup<D> {
         rt: &R,
         alloc: Global,
         seat: &mut GroupSeat<D>,
-        server: Server,
+        server: ServerId,
         range: Range,
         payload: Payload,
     ) -> Result<(Result<Term, Down>, Answer), NoMemory>

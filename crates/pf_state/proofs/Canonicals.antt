@@ -16,8 +16,8 @@ use Rattle.pf_entry.specs.declared.packets.Body.TheVariants.{RequestVote, Vote, 
 use Rattle.pf_entry.specs.declared.records.Record.TheVariants.{Term as TermRecord, Entry as EntryRecord, Merged as MergedRecord}
 use Rattle.pf_entry.specs.Sizes.{op_size, entry_size}
 use Rattle.pf_entry.specs.Canonical.{IsCanonicalOp, IsCanonicalName, IsCanonicalEntry, IsCanonicalVote, IsCanonicalImage, IsCanonicalMessage, IsCanonicalPacket, IsCanonicalRecord, first_format, second_format}
-use Rattle.pf_spelling.specs.Fitting.{RecordFits, EntryFits as HasWords}
-use Rattle.pf_spelling.specs.Spelling.{body_bytes}
+use Rattle.pf_codec.specs.Fitting.{RecordFits, EntryFits as HasWords}
+use Rattle.pf_codec.specs.Spelling.{body_bytes}
 use Rattle.pf_store.specs.Stores.{IsSpelledAs}
 use Rattle.pf_protocol.specs.Servers.{Setup}
 use Rattle.pf_protocol.specs.Answers.{IsSetup}

@@ -16,8 +16,8 @@ use Rattle.pf_entry.specs.declared.records.Record.TheVariants.{Image as ImageRec
 use Rattle.pf_entry.specs.Sizes.{entry_size}
 use Rattle.pf_entry.specs.Canonical.{IsCanonicalVote, IsCanonicalRecord, second_format}
 use Rattle.pf_entry.specs.Records.{above, image_of}
-use Rattle.pf_spelling.specs.Fitting.{RecordFits, EntryFits as HasWords}
-use Rattle.pf_spelling.proofs.MapLaws.{every_of_gets}
+use Rattle.pf_codec.specs.Fitting.{RecordFits, EntryFits as HasWords}
+use Rattle.pf_codec.proofs.MapLaws.{every_of_gets}
 use Rattle.pf_protocol.specs.Fitting.{EntryFits, SlotsFit, SectorsFit, StandsIn}
 use Rattle.pf_entry.proofs.Counting.{few_keys}
 use Rattle.pf_state.specs.Bounds.{far}

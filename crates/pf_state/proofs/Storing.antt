@@ -7,8 +7,8 @@ use Rattle.pf_entry.specs.Canonical.{IsCanonicalRecord, IsCanonicalFor, first_fo
 use Rattle.pf_entry.specs.declared.records.Record.{Record}
 use Rattle.pf_entry.specs.declared.records.Record.TheVariants.{Image as ImageRecord, Term as TermRecord, Entry as EntryRecord, Merged as MergedRecord}
 use Rattle.pf_entry.specs.Records.{Durable, stored}
-use Rattle.pf_spelling.proofs.BodyLaws.{format_more, window_of_second}
-use Rattle.pf_spelling.proofs.SizeLaws.{body_len}
+use Rattle.pf_codec.proofs.BodyLaws.{format_more, window_of_second}
+use Rattle.pf_codec.proofs.SizeLaws.{body_len}
 use Rattle.pf_protocol.specs.Answers.{has_stored}
 use Rattle.pf_store.specs.Stores.{IsImageOf, is_image}
 use Rattle.pf_state.specs.declared.faults.StepFault.{StepFault}

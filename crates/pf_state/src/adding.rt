@@ -3,13 +3,13 @@ ghost use Rattle.std.specs.Prelude.{◌≡◌};
 ghost use Rattle.pf_entry.specs.Records.{Durable};
 ghost use Rattle.pf_entry.specs.declared.records.Record.{Record as RecordIs};
 ghost use Rattle.pf_store.specs.Stores.{IsImageOf, IsSpelledAs};
-ghost use Rattle.pf_spelling.specs.Spelling.{body_bytes};
+ghost use Rattle.pf_codec.specs.Spelling.{body_bytes};
 ghost use Rattle.pf_state.specs.Storing.{Saves, Stores};
 
 use crate::StepFault;
+use pf_codec::spell_record;
 use pf_entry::Record;
 use pf_protocol::Refusal;
-use pf_spelling::spell_record;
 use pf_store::Store;
 use std::alloc::Global;
 

@@ -6,7 +6,7 @@ ghost use Rattle.pf_protocol.specs.Servers.{upto, has_applied};
 ghost use Rattle.pf_state.specs.Standing.{server_of, IsCached};
 
 use crate::Replies;
-use pf_base::{Sectors, Server, Slot, Term};
+use pf_base::{Sectors, ServerId, Slot, Term};
 use pf_election::{Candidacy, Probes};
 use pf_entry::Op;
 use pf_holes::{HoleLog, Ring, SlotSet};
@@ -38,7 +38,7 @@ pub enum Role {
 /// The term, the generation, the starts, and the checkpoint and entries of the log are those of its records.
 #[derive(Drop)]
 pub struct Running {
-    pub number: Server,
+    pub number: ServerId,
     pub life: u64,
     /// The most slots that an entry names.
     pub names: u8,

@@ -8,7 +8,7 @@ ghost use Rattle.pf_state.specs.Outgoing.{Sends};
 ghost use Rattle.pf_state.specs.Packets.{packet, packets_to, AreCanonical};
 
 use crate::{Outbox, StepFault};
-use pf_base::{Server, Term};
+use pf_base::{ServerId, Term};
 use pf_entry::{Body, Packet};
 use std::alloc::Global;
 
@@ -16,8 +16,8 @@ use std::alloc::Global;
 pub fn send(
     alloc: Global,
     out: &mut Outbox,
-    me: Server,
-    to: Server,
+    me: ServerId,
+    to: ServerId,
     term: Term,
     body: Body,
 ) -> Result<(), StepFault>
@@ -34,7 +34,7 @@ pub fn send(
 }
 
 /// The two other servers, in ascending order.
-pub fn others_of(me: Server) -> (Server, Server)
+pub fn others_of(me: ServerId) -> (ServerId, ServerId)
     requires { me < 3 }
     ensures both { others me ≡ result.0 ∷ result.1 ∷ [] }
     ensures first { (result.0 < 3) × (result.0 ≢ me) }
@@ -51,7 +51,7 @@ pub fn others_of(me: Server) -> (Server, Server)
 pub fn send_to_others(
     alloc: Global,
     out: &mut Outbox,
-    me: Server,
+    me: ServerId,
     term: Term,
     body: Body,
 ) -> Result<(), StepFault>

@@ -7,8 +7,8 @@ use Rattle.pf_entry.specs.Canonical.{IsCanonicalRecord}
 use Rattle.pf_entry.specs.Records.{Durable, stored, recovered}
 use Rattle.pf_entry.specs.declared.records.Record.{Record}
 use Rattle.pf_entry.specs.declared.records.Record.TheVariants.{Image}
-use Rattle.pf_spelling.specs.Spelling.{body_bytes}
-use Rattle.pf_spelling.specs.Fitting.{RecordFits}
+use Rattle.pf_codec.specs.Spelling.{body_bytes}
+use Rattle.pf_codec.specs.Fitting.{RecordFits}
 use Rattle.pf_store.specs.declared.found.Found.{Found}
 
 -- an image begins a half, and stands nowhere else

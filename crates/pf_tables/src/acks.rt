@@ -4,7 +4,7 @@ ghost use Rattle.std.specs.FinMap as finite;
 ghost use Rattle.pf_protocol.specs.Leading.{acknowledged};
 ghost use Rattle.pf_tables.specs.AckTables.{has_acked};
 
-use pf_base::{NoMemory, Server, Slot};
+use pf_base::{NoMemory, ServerId, Slot};
 use std::alloc::Global;
 use std::marker::Model;
 
@@ -66,7 +66,7 @@ impl Acks {
     }
 
     /// The server is the first that has acknowledged the next slot. It takes no memory.
-    pub fn begin(&mut self, server: Server)
+    pub fn begin(&mut self, server: ServerId)
         requires server { server < 3 }
         requires room { 1 ≤ self.old.spare }
         ensures base { self.new.base ≡ self.old.base }
@@ -81,7 +81,7 @@ impl Acks {
     }
 
     /// The server has acknowledged this slot, which was begun.
-    pub fn add(&mut self, server: Server, slot: Slot)
+    pub fn add(&mut self, server: ServerId, slot: Slot)
         requires server { server < 3 }
         requires above { self.old.base < slot }
         requires begun { slot ≤ self.old.base + self.old.count }
@@ -95,7 +95,7 @@ impl Acks {
     }
 
     /// Whether the server has acknowledged the slot; of a slot that was not begun, `false`.
-    pub fn has(&self, server: Server, slot: Slot) -> bool
+    pub fn has(&self, server: ServerId, slot: Slot) -> bool
         requires server { server < 3 }
         ensures { result ≡ has_acked self.now.acks server slot }
     {

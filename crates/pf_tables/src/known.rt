@@ -3,7 +3,7 @@ ghost use Rattle.std.specs.Prelude.{◌≡◌, ◌<◌};
 ghost use Rattle.std.specs.Option.{unwrap_or};
 ghost use Rattle.std.specs.FinMap as finite;
 
-use pf_base::{Server, Slot};
+use pf_base::{ServerId, Slot};
 use std::marker::Model;
 
 /// For each server that told it, the slot up to which it had applied all. Seen as a map.
@@ -37,7 +37,7 @@ impl Known {
     }
 
     /// The server has applied all slots up to this one, whatever was known of it before.
-    pub fn put(&mut self, server: Server, upto: Slot)
+    pub fn put(&mut self, server: ServerId, upto: Slot)
         requires { server < 3 }
         ensures { self.new ≡ finite.insert self.old server upto }
     {
@@ -45,7 +45,7 @@ impl Known {
     }
 
     /// What is known of the server, 0 where nothing is.
-    pub fn get(&self, server: Server) -> Slot
+    pub fn get(&self, server: ServerId) -> Slot
         requires { server < 3 }
         ensures { result ≡ unwrap_or (finite.get self.now server) 0 }
     {

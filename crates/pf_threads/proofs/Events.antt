@@ -12,10 +12,10 @@ use Rattle.pf_protocol.specs.declared.answers.Answer.TheVariants.{Read as ReadIs
 use Rattle.pf_protocol.specs.declared.events.Event.{Event}
 use Rattle.pf_protocol.specs.declared.events.Event.TheVariants.{Submit, Deliver, Claim, Finish, GiveBack, Fetch, Restart}
 use Rattle.pf_group.specs.GroupIs.{GroupIs}
-use Rattle.pf_rounds.specs.Agreeing.{told_from}
-use Rattle.pf_rounds.specs.Chunks.{listed_at}
-use Rattle.pf_rounds.specs.Halts.{Halt}
-use Rattle.pf_rounds.specs.Jobs.{IsClaimOrFinish, IsOfRound}
+use Rattle.pf_applyrounds.specs.Agreeing.{told_from}
+use Rattle.pf_applyrounds.specs.Chunks.{listed_at}
+use Rattle.pf_applyrounds.specs.Halts.{Halt}
+use Rattle.pf_applyrounds.specs.Jobs.{IsClaimOrFinish, IsOfRound}
 use Rattle.pf_shared.specs.declared.moment.Moment.{Moment}
 use Rattle.pf_shared.specs.declared.moment.Moment.TheVariants.{Happened, Look}
 use Rattle.pf_shared.specs.Moments.{happenings, with_moment}

@@ -12,12 +12,12 @@ use Rattle.pf_protocol.proofs.ForMoments.{legal_before}
 use Rattle.pf_group.specs.GroupIs.{GroupIs, state_of}
 use Rattle.pf_group.specs.Packets.{is_left_in}
 use Rattle.pf_group.proofs.Sending.{run_sent}
-use Rattle.pf_rounds.specs.Agreeing.{TellsOfGroup, chunk_of}
-use Rattle.pf_rounds.specs.Chunks.{Chunk}
-use Rattle.pf_rounds.specs.Growing.{HasGrown}
-use Rattle.pf_rounds.specs.Halts.{Halt}
-use Rattle.pf_rounds.specs.Rounds.{applied}
-use Rattle.pf_rounds.proofs.Growing.{grown_tells, grown_trans, taken_grows}
+use Rattle.pf_applyrounds.specs.Agreeing.{TellsOfGroup, chunk_of}
+use Rattle.pf_applyrounds.specs.Chunks.{Chunk}
+use Rattle.pf_applyrounds.specs.Growing.{HasGrown}
+use Rattle.pf_applyrounds.specs.Halts.{Halt}
+use Rattle.pf_applyrounds.specs.Rounds.{applied}
+use Rattle.pf_applyrounds.proofs.Growing.{grown_tells, grown_trans, taken_grows}
 use Rattle.pf_shared.specs.Moments.{happenings}
 use Rattle.pf_live.specs.declared.plan.Plan.{Plan}
 use Rattle.pf_session.specs.declared.session.Lived.{Lived}

@@ -8,13 +8,13 @@ use Rattle.pf_protocol.specs.Answers.{IsLegal}
 use Rattle.pf_protocol.proofs.ForMoments.{whole_prefix}
 use Rattle.pf_protocol.specs.declared.events.Event.{Event}
 use Rattle.pf_group.specs.GroupIs.{GroupIs}
-use Rattle.pf_rounds.specs.Agreeing.{TellsOfGroup, chunk_of, told_from, told_history}
-use Rattle.pf_rounds.specs.Chunks.{Chunk, after}
-use Rattle.pf_rounds.specs.Growing.{HasGrown}
-use Rattle.pf_rounds.specs.Halts.{Halt}
-use Rattle.pf_rounds.proofs.Following.{step_is, tells_before}
-use Rattle.pf_rounds.proofs.Growing.{later_tells}
-use Rattle.pf_rounds.proofs.Told.{told_longer}
+use Rattle.pf_applyrounds.specs.Agreeing.{TellsOfGroup, chunk_of, told_from, told_history}
+use Rattle.pf_applyrounds.specs.Chunks.{Chunk, after}
+use Rattle.pf_applyrounds.specs.Growing.{HasGrown}
+use Rattle.pf_applyrounds.specs.Halts.{Halt}
+use Rattle.pf_applyrounds.proofs.Following.{step_is, tells_before}
+use Rattle.pf_applyrounds.proofs.Growing.{later_tells}
+use Rattle.pf_applyrounds.proofs.Told.{told_longer}
 use Rattle.pf_shared.specs.Moments.{happenings}
 use Rattle.pf_shared.specs.Since.{whole}
 use Rattle.pf_live.specs.declared.plan.Plan.{Plan}
@@ -69,6 +69,7 @@ module _ (plan : Plan) (old mid : GroupIs) (list : Line) (listed : HasList plan 
   pub part : IsPartOfSession halts plan (chunk_of halts old) (events_in (happenings list))
   part = record {
     root = old;
+    told = was_told;
     stands = refl;
     list = list;
     live = listed.live;

@@ -6,14 +6,14 @@ use Rattle.pf_protocol.specs.Histories.{IsPrefix}
 use Rattle.pf_protocol.specs.Answers.{IsLegal}
 use Rattle.pf_protocol.proofs.ForMoments.{legal_before, prefix_of}
 use Rattle.pf_group.specs.GroupIs.{GroupIs}
-use Rattle.pf_rounds.specs.Agreeing.{TellsOfGroup, chunk_of, told_history}
-use Rattle.pf_rounds.specs.Begun.{HasBegun}
-use Rattle.pf_rounds.specs.Chunks.{Chunk}
-use Rattle.pf_rounds.specs.Growing.{HasGrown}
-use Rattle.pf_rounds.specs.Halts.{Halt}
-use Rattle.pf_rounds.specs.Rounds.{applied}
-use Rattle.pf_rounds.proofs.Extending.{applied_extends}
-use Rattle.pf_rounds.proofs.Growing.{grown_tells, grown_trans}
+use Rattle.pf_applyrounds.specs.Agreeing.{TellsOfGroup, chunk_of, told_history}
+use Rattle.pf_applyrounds.specs.Begun.{HasBegun}
+use Rattle.pf_applyrounds.specs.Chunks.{Chunk}
+use Rattle.pf_applyrounds.specs.Growing.{HasGrown}
+use Rattle.pf_applyrounds.specs.Halts.{Halt}
+use Rattle.pf_applyrounds.specs.Rounds.{applied}
+use Rattle.pf_applyrounds.proofs.Extending.{applied_extends}
+use Rattle.pf_applyrounds.proofs.Growing.{grown_tells, grown_trans}
 use Rattle.pf_shared.specs.Moments.{happenings}
 use Rattle.pf_live.specs.declared.plan.Plan.{Plan}
 use Rattle.pf_live.specs.Deliveries.{Line}

@@ -5,7 +5,7 @@ use Rattle.pf_turn.specs.Own.{AllAfter}
 use Rattle.pf_protocol.specs.declared.answers.Answer.{Answer}
 use Rattle.pf_protocol.specs.declared.answers.Answer.TheVariants.{Done, Slot as SlotIs, Term as TermIs, Read as ReadIs, Base as BaseIs, Job as JobIs, Refused}
 use Rattle.pf_protocol.specs.Histories.{History}
-use Rattle.pf_cluster.specs.Readings.{taken_after}
+use Rattle.pf_network.specs.Readings.{taken_after}
 use Rattle.pf_group.specs.GroupIs.{GroupIs}
 use Rattle.pf_shared.specs.declared.moment.Moment.{Moment}
 use Rattle.pf_shared.specs.declared.moment.Moment.TheVariants.{Happened, Look}

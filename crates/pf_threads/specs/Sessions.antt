@@ -1,13 +1,13 @@
 -- What the threads of one live line did to a group.
-use Rattle.std.specs.Prelude.{◌≡◌, ℕ, ◌-◌, List, [], ◌∷◌, ◌++◌, drop, length}
+use Rattle.std.specs.Prelude.{◌≡◌, ℕ, ◌-◌, IsTrue, List, [], ◌∷◌, ◌++◌, drop, length}
 use Rattle.pf_protocol.specs.declared.events.Event.{Event}
 use Rattle.pf_group.specs.GroupIs.{GroupIs}
 use Rattle.pf_report.specs.Live.{live_text}
 use Rattle.pf_report.specs.declared.live.LiveEnd as reports
 use Rattle.pf_report.specs.declared.live.LiveEnd.TheVariants as told
-use Rattle.pf_rounds.specs.Halts.{Halt}
-use Rattle.pf_rounds.specs.Chunks.{Chunk}
-use Rattle.pf_rounds.specs.Agreeing.{chunk_of}
+use Rattle.pf_applyrounds.specs.Halts.{Halt}
+use Rattle.pf_applyrounds.specs.Chunks.{Chunk}
+use Rattle.pf_applyrounds.specs.Agreeing.{chunk_of}
 use Rattle.pf_shared.specs.Moments.{happenings}
 use Rattle.pf_live.specs.declared.ending.LiveEnd.{LiveEnd}
 use Rattle.pf_live.specs.declared.ending.LiveEnd.TheVariants.{Done, Stalled, TurnsSpent}
@@ -51,10 +51,11 @@ pub record IsPlan (hosts writes workers turns sectors : ℕ) (plan : Plan) : Typ
   pub turns_are : plan.turns ≡ turns
   pub sectors_are : plan.sectors ≡ sectors
 
--- Under a list of halts these events, over a group that stands where the chunk does, are those of a list of entries each of which is a step
+-- Under a list of halts these events, over a group that stands where the chunk does, whose disks tell their content, are those of a list of entries each of which is a step
 -- or a look by one of the line's seats; they are answered as the entries tell.
 pub record IsPartOfSession (halts : List Halt) (plan : Plan) (c : Chunk) (events : List Event) : Type 0 where
   pub root : GroupIs
+  pub told : IsTrue root.told
   pub stands : chunk_of halts root ≡ c
   pub list : Line
   pub live : IsLive plan root list

@@ -2,8 +2,8 @@
 use Rattle.std.specs.Prelude.{◌≡◌, ℕ, ◌<◌, List, Some, length, slice_get, slice_set}
 use Rattle.pf_protocol.specs.declared.answers.Answer.TheVariants.{Done}
 use Rattle.pf_protocol.specs.declared.events.Event.{Event}
-use Rattle.pf_rounds.specs.Halts.{Halt}
-use Rattle.pf_rounds.specs.Agreeing.{TellsOfGroup, chunk_of}
+use Rattle.pf_applyrounds.specs.Halts.{Halt}
+use Rattle.pf_applyrounds.specs.Agreeing.{TellsOfGroup, chunk_of}
 use Rattle.pf_live.specs.declared.plan.Plan.{Plan}
 use Rattle.pf_session.specs.declared.session.Lived.{Lived}
 use Rattle.pf_session.specs.Totals.{AreTotals}

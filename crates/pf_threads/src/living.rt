@@ -5,8 +5,8 @@ ghost use Rattle.pf_threads.specs.Steps.{HasHeld, HasNotLived, IsAt};
 
 use pf_base::NoMemory;
 use pf_chunk::ChunkGroup;
+use pf_copy::Gate;
 use pf_disk::Disk;
-use pf_filling::Gate;
 use pf_live::Plan;
 use pf_session::Lived;
 use std::alloc::Global;

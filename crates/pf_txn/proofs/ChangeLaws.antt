@@ -6,9 +6,9 @@ use Rattle.std.proofs.lemmas.Bool.{cases_Bool, or_cases, or_left, or_right, leb-
 use Rattle.pf_entry.specs.Lists.{Every}
 use Rattle.pf_inodes.specs.declared.changes.Change.{Change}
 use Rattle.pf_inodes.specs.declared.changes.Change.TheVariants.{SetInode, AddEntry, DeleteEntry, SetTag}
-use Rattle.pf_spelling.specs.Parsers.{AreBytes, IsExact, byte_at}
-use Rattle.pf_spelling.specs.Spelling.{number, byte}
-use Rattle.pf_spelling.proofs.Exact.{then_exact, last_exact, checked_exact, nothing_exact, chosen_exact, respelled, renamed, row_exact, byte_exact, u16_exact, u32_exact}
+use Rattle.pf_codec.specs.Parsers.{AreBytes, IsExact, byte_at}
+use Rattle.pf_codec.specs.Spelling.{number, byte}
+use Rattle.pf_codec.proofs.Exact.{then_exact, last_exact, checked_exact, nothing_exact, chosen_exact, respelled, renamed, row_exact, byte_exact, u16_exact, u32_exact}
 use Rattle.pf_txn.specs.Spelling.{FitsChange, spell_change, spell_changes}
 use Rattle.pf_txn.specs.Fields.{IsByte, IsTypedChange}
 use Rattle.pf_txn.specs.Reading.{name_at, set_inode_at, add_entry_at, delete_entry_at, set_tag_at, change_tagged, change_at}

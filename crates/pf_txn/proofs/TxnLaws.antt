@@ -10,9 +10,9 @@ use Rattle.pf_entry.proofs.Lists.{every_append, every_more}
 use Rattle.pf_inodes.specs.declared.changes.Change.{Change}
 use Rattle.pf_inodes.specs.declared.changes.Change.TheVariants.{SetInode, AddEntry, DeleteEntry, SetTag}
 use Rattle.pf_inodes.specs.declared.changes.Txn.{Txn}
-use Rattle.pf_spelling.specs.Parsers.{AreBytes, IsExact, and_then}
-use Rattle.pf_spelling.specs.Spelling.{number, byte}
-use Rattle.pf_spelling.proofs.Exact.{bind_ok, then_exact, last_exact, checked_exact, respelled, row_exact, u32_exact}
+use Rattle.pf_codec.specs.Parsers.{AreBytes, IsExact, and_then}
+use Rattle.pf_codec.specs.Spelling.{number, byte}
+use Rattle.pf_codec.proofs.Exact.{bind_ok, then_exact, last_exact, checked_exact, respelled, row_exact, u32_exact}
 use Rattle.pf_txn.specs.Spelling.{two, four, FitChanges, CanSpell, spell_change, spell_changes, spell_txn}
 use Rattle.pf_txn.specs.Fields.{IsByte, IsTypedChange, IsTyped}
 use Rattle.pf_txn.specs.Reading.{IsSpelling, ReadsTxn, txn_at, txn_of, is_byte, txn_in}

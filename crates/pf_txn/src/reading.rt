@@ -1,10 +1,10 @@
 //! Transactions that are the whole of a value.
 ghost use Rattle.std.specs.Prelude.{◌≡◌, ◌≤◌, IfOk, length};
-ghost use Rattle.pf_spelling.specs.Parsers.{Gives, GivesAll, byte_at, row_at};
+ghost use Rattle.pf_codec.specs.Parsers.{Gives, GivesAll, byte_at, row_at};
 ghost use Rattle.pf_txn.specs.Reading.{ReadsTxn, name_at, set_inode_at, add_entry_at, delete_entry_at, set_tag_at, change_tagged, change_at, txn_at, txn_of, txn_in};
 
 use pf_base::{Bytes, NoMemory, Value};
-use pf_spelling::{ReadFault, Reader};
+use pf_codec::{ReadFault, Reader};
 use pf_tree::{Change, Changes, Txn};
 use std::alloc::Global;
 
@@ -24,7 +24,7 @@ fn read_bytes(alloc: Global, reader: &mut Reader, count: u8) -> Result<Vec<u8>, 
 }
 
 /// A name with its length.
-#[tactic(auto, unfolding(crate::specs::Reading::name_at, pf_spelling::specs::Parsers::followed_by))]
+#[tactic(auto, unfolding(crate::specs::Reading::name_at, pf_codec::specs::Parsers::followed_by))]
 fn read_name(alloc: Global, reader: &mut Reader) -> Result<Bytes, ReadFault>
     ensures { Gives (λ name. name) result reader.new (name_at reader.old) }
 {
@@ -33,7 +33,7 @@ fn read_name(alloc: Global, reader: &mut Reader) -> Result<Bytes, ReadFault>
     Ok(Bytes::new(bytes))
 }
 
-#[tactic(auto, unfolding(crate::specs::Reading::set_inode_at, pf_spelling::specs::Parsers::followed_by, pf_spelling::specs::Parsers::checked))]
+#[tactic(auto, unfolding(crate::specs::Reading::set_inode_at, pf_codec::specs::Parsers::followed_by, pf_codec::specs::Parsers::checked))]
 fn read_set_inode(reader: &mut Reader) -> Result<Change, ReadFault>
     ensures { Gives (λ change. change) result reader.new (set_inode_at reader.old) }
 {
@@ -46,7 +46,7 @@ fn read_set_inode(reader: &mut Reader) -> Result<Change, ReadFault>
     Ok(Change::SetInode { inode, kind, size })
 }
 
-#[tactic(auto, unfolding(crate::specs::Reading::add_entry_at, pf_spelling::specs::Parsers::followed_by, pf_spelling::specs::Parsers::checked))]
+#[tactic(auto, unfolding(crate::specs::Reading::add_entry_at, pf_codec::specs::Parsers::followed_by, pf_codec::specs::Parsers::checked))]
 fn read_add_entry(alloc: Global, reader: &mut Reader) -> Result<Change, ReadFault>
     ensures { Gives (λ change. change) result reader.new (add_entry_at reader.old) }
 {
@@ -60,7 +60,7 @@ fn read_add_entry(alloc: Global, reader: &mut Reader) -> Result<Change, ReadFaul
     })
 }
 
-#[tactic(auto, unfolding(crate::specs::Reading::delete_entry_at, pf_spelling::specs::Parsers::followed_by, pf_spelling::specs::Parsers::checked))]
+#[tactic(auto, unfolding(crate::specs::Reading::delete_entry_at, pf_codec::specs::Parsers::followed_by, pf_codec::specs::Parsers::checked))]
 fn read_delete_entry(alloc: Global, reader: &mut Reader) -> Result<Change, ReadFault>
     ensures { Gives (λ change. change) result reader.new (delete_entry_at reader.old) }
 {
@@ -69,7 +69,7 @@ fn read_delete_entry(alloc: Global, reader: &mut Reader) -> Result<Change, ReadF
     Ok(Change::DeleteEntry { directory, name })
 }
 
-#[tactic(auto, unfolding(crate::specs::Reading::set_tag_at, pf_spelling::specs::Parsers::followed_by, pf_spelling::specs::Parsers::checked))]
+#[tactic(auto, unfolding(crate::specs::Reading::set_tag_at, pf_codec::specs::Parsers::followed_by, pf_codec::specs::Parsers::checked))]
 fn read_set_tag(reader: &mut Reader) -> Result<Change, ReadFault>
     ensures { Gives (λ change. change) result reader.new (set_tag_at reader.old) }
 {
@@ -100,7 +100,7 @@ fn read_tagged(alloc: Global, reader: &mut Reader, tag: u8) -> Result<Change, Re
     }
 }
 
-#[tactic(auto, unfolding(crate::specs::Reading::change_at, pf_spelling::specs::Parsers::followed_by))]
+#[tactic(auto, unfolding(crate::specs::Reading::change_at, pf_codec::specs::Parsers::followed_by))]
 fn read_change(alloc: Global, reader: &mut Reader) -> Result<Change, ReadFault>
     ensures { Gives (λ change. change) result reader.new (change_at reader.old) }
 {
@@ -120,7 +120,7 @@ fn read_changes(alloc: Global, reader: &mut Reader, count: u8) -> Result<Vec<Cha
     Ok(changes)
 }
 
-#[tactic(auto, unfolding(crate::specs::Reading::txn_at, pf_spelling::specs::Parsers::followed_by, pf_spelling::specs::Parsers::checked))]
+#[tactic(auto, unfolding(crate::specs::Reading::txn_at, pf_codec::specs::Parsers::followed_by, pf_codec::specs::Parsers::checked))]
 fn read_front(alloc: Global, reader: &mut Reader) -> Result<Txn, ReadFault>
     ensures { Gives (λ txn. txn) result reader.new (txn_at reader.old) }
 {

@@ -1,5 +1,5 @@
 //! Records as bytes: a record of each kind there and back, and payloads that are none.
-use pf_spelling::{read_record, spell_record};
+use pf_codec::{read_record, spell_record};
 use std::alloc::Global;
 use std::test::Fail;
 

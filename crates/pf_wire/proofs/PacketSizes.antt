@@ -8,9 +8,9 @@ use Rattle.pf_entry.specs.declared.ops.Op.TheVariants.{Write, Noop, Mark}
 use Rattle.pf_entry.specs.declared.packets.Packet.{Packet}
 use Rattle.pf_entry.specs.declared.packets.Body.{Body}
 use Rattle.pf_entry.specs.declared.packets.Body.TheVariants.{RequestVote, Vote, Accept, Ack, Nack, Commit, Probe, ProbeOk, Image}
-use Rattle.pf_spelling.specs.Spelling.{number, slots_bytes, sectors_bytes}
-use Rattle.pf_spelling.proofs.BodyLaws.{window_of_second}
-use Rattle.pf_spelling.proofs.SizeLaws.{len64, entry_len, slots_len, image_sectors_len, vote_len}
+use Rattle.pf_codec.specs.Spelling.{number, slots_bytes, sectors_bytes}
+use Rattle.pf_codec.proofs.BodyLaws.{window_of_second}
+use Rattle.pf_codec.proofs.SizeLaws.{len64, entry_len, slots_len, image_sectors_len, vote_len}
 use Rattle.pf_wire.specs.Packets.{message_bytes, packet_bytes}
 
 pair_len : (a b : ℕ) → length (number w64 a ++ number w64 b) ≡ 16

@@ -12,14 +12,14 @@ use Rattle.pf_entry.specs.declared.entries.VoteLog.{VoteLog}
 use Rattle.pf_entry.specs.declared.packets.Packet.{Packet}
 use Rattle.pf_entry.specs.declared.packets.Body.{Body}
 use Rattle.pf_entry.specs.declared.packets.Body.TheVariants.{RequestVote, Vote, Accept, Ack, Nack, Commit, Probe, ProbeOk, Image}
-use Rattle.pf_spelling.specs.Parsers.{Parser, and_then, followed_by, checked, AreBytes, IsExact}
-use Rattle.pf_spelling.specs.Spelling.{number, slots_bytes, sectors_bytes}
-use Rattle.pf_spelling.specs.Fitting.{IsWord, IsEntry, IsVote, AreApplied, IsChunk}
-use Rattle.pf_spelling.proofs.Exact.{bind_ok, then_exact, last_exact, checked_exact, nothing_exact, chosen_exact, respelled, same_spelled, byte_exact, u64_exact}
-use Rattle.pf_spelling.proofs.EntryLaws.{entry_exact}
-use Rattle.pf_spelling.proofs.MapLaws.{slots_exact, sectors_exact}
-use Rattle.pf_spelling.proofs.VoteLaws.{vote_exact}
-use Rattle.pf_spelling.proofs.BodyLaws.{window_of_second}
+use Rattle.pf_codec.specs.Parsers.{Parser, and_then, followed_by, checked, AreBytes, IsExact}
+use Rattle.pf_codec.specs.Spelling.{number, slots_bytes, sectors_bytes}
+use Rattle.pf_codec.specs.Fitting.{IsWord, IsEntry, IsVote, AreApplied, IsChunk}
+use Rattle.pf_codec.proofs.Exact.{bind_ok, then_exact, last_exact, checked_exact, nothing_exact, chosen_exact, respelled, same_spelled, byte_exact, u64_exact}
+use Rattle.pf_codec.proofs.EntryLaws.{entry_exact}
+use Rattle.pf_codec.proofs.MapLaws.{slots_exact, sectors_exact}
+use Rattle.pf_codec.proofs.VoteLaws.{vote_exact}
+use Rattle.pf_codec.proofs.BodyLaws.{window_of_second}
 use Rattle.pf_wire.specs.Packets.{kind_of, message_bytes, packet_bytes, MessageFits, PacketFits}
 use Rattle.pf_wire.specs.Reading.{request_vote_at, a_vote_at, accept_at, commit_at, probe_at, pair_at, ack_at, probe_ok_at, image_at, message_at, agrees, is_packet, packet_at, packet_in}
 

@@ -4,8 +4,8 @@ use Rattle.std.specs.Int.{w64}
 use Rattle.pf_entry.specs.declared.packets.Packet.{Packet}
 use Rattle.pf_entry.specs.declared.packets.Body.{Body}
 use Rattle.pf_entry.specs.declared.packets.Body.TheVariants.{RequestVote, Vote, Accept, Ack, Nack, Commit, Probe, ProbeOk, Image}
-use Rattle.pf_spelling.specs.Spelling.{number, byte, entry_bytes, vote_bytes, slots_bytes, sectors_bytes}
-use Rattle.pf_spelling.specs.Fitting.{IsWord, EntryFits, VoteFits, SlotsFit}
+use Rattle.pf_codec.specs.Spelling.{number, byte, entry_bytes, vote_bytes, slots_bytes, sectors_bytes}
+use Rattle.pf_codec.specs.Fitting.{IsWord, EntryFits, VoteFits, SlotsFit}
 
 abbrev pub kind_of : Body → ℕ
 kind_of (RequestVote base) = 1

@@ -5,8 +5,8 @@ use Rattle.pf_entry.specs.Canonical.{second_format}
 use Rattle.pf_entry.specs.declared.packets.Packet.{Packet}
 use Rattle.pf_entry.specs.declared.packets.Body.{Body}
 use Rattle.pf_entry.specs.declared.packets.Body.TheVariants.{RequestVote, Vote, Accept, Ack, Nack, Commit, Probe, ProbeOk, Image}
-use Rattle.pf_spelling.specs.Parsers.{Parser, and_then, ◌>>=◌, checked, byte_at, number_at}
-use Rattle.pf_spelling.specs.Reading.{entry_at, vote_at, slots_at, sectors_at}
+use Rattle.pf_codec.specs.Parsers.{Parser, and_then, ◌>>=◌, checked, byte_at, number_at}
+use Rattle.pf_codec.specs.Reading.{entry_at, vote_at, slots_at, sectors_at}
 
 unfoldable pub request_vote_at : Parser Body
 request_vote_at = do

@@ -2,17 +2,17 @@
 ghost use Rattle.std.specs.Prelude.{◌≡◌, ◌≢◌, IfOk, Err};
 ghost use Rattle.pf_entry.specs.Canonical.{IsCanonicalPacket};
 ghost use Rattle.pf_entry.specs.declared.packets.Packet.{Packet};
-ghost use Rattle.pf_spelling.specs.Parsers.{Gives, GivesAll};
+ghost use Rattle.pf_codec.specs.Parsers.{Gives, GivesAll};
 ghost use Rattle.pf_wire.specs.Packets.{packet_bytes, PacketFits};
 ghost use Rattle.pf_wire.specs.Reading.{request_vote_at, a_vote_at, accept_at, commit_at, probe_at, pair_at, ack_at, probe_ok_at, image_at, message_at, agrees, is_packet, packet_at, packet_in};
 
 use crate::WireFault;
 use pf_base::Term;
+use pf_codec::{Bounds, ReadFault, Reader, read_entry, read_sectors, read_slots, read_vote};
 use pf_entry::{Body, Packet};
-use pf_spelling::{Bounds, ReadFault, Reader, read_entry, read_sectors, read_slots, read_vote};
 use std::alloc::Global;
 
-#[tactic(auto, unfolding(crate::specs::Reading::request_vote_at, pf_spelling::specs::Parsers::followed_by, pf_spelling::specs::Parsers::checked))]
+#[tactic(auto, unfolding(crate::specs::Reading::request_vote_at, pf_codec::specs::Parsers::followed_by, pf_codec::specs::Parsers::checked))]
 fn read_request_vote(reader: &mut Reader) -> Result<Body, ReadFault>
     ensures { Gives (λ body. body) result reader.new (request_vote_at reader.old) }
 {
@@ -20,7 +20,7 @@ fn read_request_vote(reader: &mut Reader) -> Result<Body, ReadFault>
     Ok(Body::RequestVote { base })
 }
 
-#[tactic(auto, unfolding(crate::specs::Reading::a_vote_at, pf_spelling::specs::Parsers::followed_by, pf_spelling::specs::Parsers::checked))]
+#[tactic(auto, unfolding(crate::specs::Reading::a_vote_at, pf_codec::specs::Parsers::followed_by, pf_codec::specs::Parsers::checked))]
 fn read_a_vote(alloc: Global, reader: &mut Reader) -> Result<Body, ReadFault>
     ensures { Gives (λ body. body) result reader.new (a_vote_at reader.old) }
 {
@@ -28,7 +28,7 @@ fn read_a_vote(alloc: Global, reader: &mut Reader) -> Result<Body, ReadFault>
     Ok(Body::Vote(vote))
 }
 
-#[tactic(auto, unfolding(crate::specs::Reading::accept_at, pf_spelling::specs::Parsers::followed_by, pf_spelling::specs::Parsers::checked))]
+#[tactic(auto, unfolding(crate::specs::Reading::accept_at, pf_codec::specs::Parsers::followed_by, pf_codec::specs::Parsers::checked))]
 fn read_accept(alloc: Global, reader: &mut Reader) -> Result<Body, ReadFault>
     ensures { Gives (λ body. body) result reader.new (accept_at reader.old) }
 {
@@ -36,7 +36,7 @@ fn read_accept(alloc: Global, reader: &mut Reader) -> Result<Body, ReadFault>
     Ok(Body::Accept(entry))
 }
 
-#[tactic(auto, unfolding(crate::specs::Reading::commit_at, pf_spelling::specs::Parsers::followed_by, pf_spelling::specs::Parsers::checked))]
+#[tactic(auto, unfolding(crate::specs::Reading::commit_at, pf_codec::specs::Parsers::followed_by, pf_codec::specs::Parsers::checked))]
 fn read_commit(reader: &mut Reader) -> Result<Body, ReadFault>
     ensures { Gives (λ body. body) result reader.new (commit_at reader.old) }
 {
@@ -44,7 +44,7 @@ fn read_commit(reader: &mut Reader) -> Result<Body, ReadFault>
     Ok(Body::Commit { slot })
 }
 
-#[tactic(auto, unfolding(crate::specs::Reading::probe_at, pf_spelling::specs::Parsers::followed_by, pf_spelling::specs::Parsers::checked))]
+#[tactic(auto, unfolding(crate::specs::Reading::probe_at, pf_codec::specs::Parsers::followed_by, pf_codec::specs::Parsers::checked))]
 fn read_probe(reader: &mut Reader) -> Result<Body, ReadFault>
     ensures { Gives (λ body. body) result reader.new (probe_at reader.old) }
 {
@@ -53,7 +53,7 @@ fn read_probe(reader: &mut Reader) -> Result<Body, ReadFault>
 }
 
 /// Two numbers.
-#[tactic(auto, unfolding(crate::specs::Reading::pair_at, pf_spelling::specs::Parsers::followed_by, pf_spelling::specs::Parsers::checked))]
+#[tactic(auto, unfolding(crate::specs::Reading::pair_at, pf_codec::specs::Parsers::followed_by, pf_codec::specs::Parsers::checked))]
 fn read_pair(reader: &mut Reader) -> Result<(u64, u64), ReadFault>
     ensures { Gives (λ pair. pair) result reader.new (pair_at reader.old) }
 {
@@ -62,7 +62,7 @@ fn read_pair(reader: &mut Reader) -> Result<(u64, u64), ReadFault>
     Ok((first, second))
 }
 
-#[tactic(auto, unfolding(crate::specs::Reading::ack_at, pf_spelling::specs::Parsers::followed_by, pf_spelling::specs::Parsers::checked))]
+#[tactic(auto, unfolding(crate::specs::Reading::ack_at, pf_codec::specs::Parsers::followed_by, pf_codec::specs::Parsers::checked))]
 fn read_ack(reader: &mut Reader) -> Result<Body, ReadFault>
     ensures { Gives (λ body. body) result reader.new (ack_at reader.old) }
 {
@@ -70,7 +70,7 @@ fn read_ack(reader: &mut Reader) -> Result<Body, ReadFault>
     Ok(Body::Ack { slot, upto })
 }
 
-#[tactic(auto, unfolding(crate::specs::Reading::probe_ok_at, pf_spelling::specs::Parsers::followed_by, pf_spelling::specs::Parsers::checked))]
+#[tactic(auto, unfolding(crate::specs::Reading::probe_ok_at, pf_codec::specs::Parsers::followed_by, pf_codec::specs::Parsers::checked))]
 fn read_probe_ok(reader: &mut Reader) -> Result<Body, ReadFault>
     ensures { Gives (λ body. body) result reader.new (probe_ok_at reader.old) }
 {
@@ -78,7 +78,7 @@ fn read_probe_ok(reader: &mut Reader) -> Result<Body, ReadFault>
     Ok(Body::ProbeOk { number, upto })
 }
 
-#[tactic(auto, unfolding(crate::specs::Reading::image_at, pf_spelling::specs::Parsers::followed_by, pf_spelling::specs::Parsers::checked))]
+#[tactic(auto, unfolding(crate::specs::Reading::image_at, pf_codec::specs::Parsers::followed_by, pf_codec::specs::Parsers::checked))]
 fn read_image(alloc: Global, reader: &mut Reader) -> Result<Body, ReadFault>
     ensures { Gives (λ body. body) result reader.new (image_at reader.old) }
 {
@@ -93,7 +93,7 @@ fn read_image(alloc: Global, reader: &mut Reader) -> Result<Body, ReadFault>
 }
 
 /// The message of this kind.
-#[tactic(auto, unfolding(crate::specs::Reading::message_at, pf_spelling::specs::Parsers::checked))]
+#[tactic(auto, unfolding(crate::specs::Reading::message_at, pf_codec::specs::Parsers::checked))]
 fn read_message(alloc: Global, reader: &mut Reader, kind: u8) -> Result<Body, ReadFault>
     ensures { Gives (λ body. body) result reader.new (message_at kind reader.old) }
 {
@@ -133,7 +133,7 @@ fn is_canonical(packet: &Packet) -> bool
         && agrees(packet.term, &packet.body)
 }
 
-#[tactic(auto, unfolding(crate::specs::Reading::packet_at, pf_spelling::specs::Parsers::followed_by, pf_spelling::specs::Parsers::checked))]
+#[tactic(auto, unfolding(crate::specs::Reading::packet_at, pf_codec::specs::Parsers::followed_by, pf_codec::specs::Parsers::checked))]
 fn read_packet(alloc: Global, reader: &mut Reader) -> Result<Packet, ReadFault>
     ensures { Gives (λ packet. packet) result reader.new (packet_at reader.old) }
 {

@@ -2,12 +2,12 @@
 ghost use Rattle.std.specs.Prelude.{◌≡◌, ◌++◌, IfOk, OnOk};
 ghost use Rattle.std.specs.Int.{w64};
 ghost use Rattle.pf_entry.specs.Canonical.{IsCanonicalMessage, IsCanonicalPacket};
-ghost use Rattle.pf_spelling.specs.Spelling.{number};
+ghost use Rattle.pf_codec.specs.Spelling.{number};
 ghost use Rattle.pf_wire.specs.Packets.{kind_of, message_bytes, packet_bytes};
 
 use pf_base::{NoMemory, Term};
+use pf_codec::{Writer, write_entry, write_sectors, write_slots, write_vote};
 use pf_entry::{Body, Packet};
-use pf_spelling::{Writer, write_entry, write_sectors, write_slots, write_vote};
 use std::alloc::Global;
 
 /// The number of a message's kind.

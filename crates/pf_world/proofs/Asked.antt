@@ -4,7 +4,7 @@ use Rattle.pf_script.specs.declared.command.Command.{Command}
 use Rattle.pf_protocol.specs.declared.answers.Answer.{Answer}
 use Rattle.pf_group.specs.GroupIs.{state_of}
 use Rattle.pf_report.specs.Texts.{answer_text, line_of}
-use Rattle.pf_rounds.specs.Halts.{Halt}
+use Rattle.pf_applyrounds.specs.Halts.{Halt}
 use Rattle.std.proofs.lemmas.Bool.{false≢true}
 use Rattle.pf_chunk.specs.Asking.{is_range, no_range_answer, submits}
 use Rattle.pf_chunk.specs.Happenings.{Happened}

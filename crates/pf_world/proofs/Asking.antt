@@ -7,7 +7,7 @@ use Rattle.pf_script.specs.declared.command.Command.TheVariants as commands
 use Rattle.pf_group.specs.declared.event.GroupEvent.{GroupEvent}
 use Rattle.pf_group.specs.declared.event.GroupEvent.TheVariants as asked
 use Rattle.pf_group.specs.Events.{event_of}
-use Rattle.pf_rounds.specs.Halts.{Halt}
+use Rattle.pf_applyrounds.specs.Halts.{Halt}
 use Rattle.pf_chunk.specs.Happenings.{happened}
 use Rattle.pf_chunk.specs.Steps.{Event}
 use Rattle.pf_world.specs.Worlds.{World, at_chunk}

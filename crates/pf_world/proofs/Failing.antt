@@ -5,9 +5,9 @@ use Rattle.std.proofs.lemmas.Option.{same_Some}
 use Rattle.pf_fleet.proofs.Growing.{grown_trans_all}
 use Rattle.pf_script.specs.declared.command.Command.{Command}
 use Rattle.pf_script.specs.declared.command.Command.TheVariants as commands
-use Rattle.pf_rounds.specs.Begun.{HasBegun}
-use Rattle.pf_rounds.specs.Halts.{Halt}
-use Rattle.pf_rounds.proofs.Extending.{extends_refl}
+use Rattle.pf_applyrounds.specs.Begun.{HasBegun}
+use Rattle.pf_applyrounds.specs.Halts.{Halt}
+use Rattle.pf_applyrounds.proofs.Extending.{extends_refl}
 use Rattle.pf_chunk.specs.Runs.{ChunkRun}
 use Rattle.pf_chunk.specs.Steps.{Event}
 use Rattle.pf_chunk.specs.Views.{ChunkIs, run_of}

@@ -8,11 +8,11 @@ use Rattle.pf_script.specs.Lines.{is_volume}
 use Rattle.pf_script.specs.declared.command.Command.{Command}
 use Rattle.pf_script.specs.declared.command.Command.TheVariants.{Settle}
 use Rattle.pf_protocol.specs.declared.answers.Answer.{Answer}
-use Rattle.pf_cluster.proofs.Lists.{something_there}
+use Rattle.pf_network.proofs.Lists.{something_there}
 use Rattle.pf_report.specs.Texts.{answer_text, line_of, settle_text}
-use Rattle.pf_rounds.specs.Halts.{Halt}
-use Rattle.pf_rounds.specs.Growing.{HasGrown}
-use Rattle.pf_rounds.proofs.Growing.{grown_refl}
+use Rattle.pf_applyrounds.specs.Halts.{Halt}
+use Rattle.pf_applyrounds.specs.Growing.{HasGrown}
+use Rattle.pf_applyrounds.proofs.Growing.{grown_refl}
 use Rattle.pf_chunk.specs.Saying.{said}
 use Rattle.pf_chunk.specs.Steps.{Event}
 use Rattle.pf_chunk.specs.Views.{ChunkIs, run_of}

@@ -10,17 +10,17 @@ use Rattle.pf_protocol.specs.declared.events.Event.TheVariants.{Restart}
 use Rattle.pf_protocol.specs.Histories.{History}
 use Rattle.pf_script.specs.declared.command.Command.{Command}
 use Rattle.pf_script.specs.declared.command.Command.TheVariants as commands
-use Rattle.pf_cluster.proofs.Lists.{set_there}
+use Rattle.pf_network.proofs.Lists.{set_there}
 use Rattle.pf_group.specs.GroupIs.{GroupIs}
 use Rattle.pf_report.specs.Live.{live_text}
 use Rattle.pf_report.specs.Texts.{line_of}
-use Rattle.pf_rounds.specs.Agreeing.{TellsOfGroup, chunk_of, told_from, told_history}
-use Rattle.pf_rounds.specs.Chunks.{Chunk, after, listed_at}
-use Rattle.pf_rounds.specs.Growing.{HasGrown}
-use Rattle.pf_rounds.specs.Halts.{Halt}
-use Rattle.pf_rounds.specs.Rounds.{applied}
-use Rattle.pf_rounds.proofs.Extending.{Extends, after_extends, applied_extends, extends_on, extends_refl}
-use Rattle.pf_rounds.proofs.Told.{told_longer}
+use Rattle.pf_applyrounds.specs.Agreeing.{TellsOfGroup, chunk_of, told_from, told_history}
+use Rattle.pf_applyrounds.specs.Chunks.{Chunk, after, listed_at}
+use Rattle.pf_applyrounds.specs.Growing.{HasGrown}
+use Rattle.pf_applyrounds.specs.Halts.{Halt}
+use Rattle.pf_applyrounds.specs.Rounds.{applied}
+use Rattle.pf_applyrounds.proofs.Extending.{Extends, after_extends, applied_extends, extends_on, extends_refl}
+use Rattle.pf_applyrounds.proofs.Told.{told_longer}
 use Rattle.pf_live.specs.declared.plan.Plan.{Plan}
 use Rattle.pf_live.specs.Lines.{applies_done}
 use Rattle.pf_session.specs.declared.session.Lived.{Lived}

@@ -10,8 +10,8 @@ use Rattle.pf_mount.specs.declared.work.Work.{Work}
 use Rattle.pf_mount.specs.declared.work.Work.TheVariants.{Rests}
 use Rattle.pf_report.specs.Texts.{line_of}
 use Rattle.pf_report.specs.Mounts.{state_text, tree_lines}
-use Rattle.pf_rounds.specs.Chunks.{Chunk}
-use Rattle.pf_rounds.specs.Halts.{Halt}
+use Rattle.pf_applyrounds.specs.Chunks.{Chunk}
+use Rattle.pf_applyrounds.specs.Halts.{Halt}
 use Rattle.pf_chunk.specs.Runs.{ChunkRun}
 use Rattle.pf_chunk.specs.Showing.{IsShown}
 use Rattle.pf_chunk.specs.Views.{ChunkIs}

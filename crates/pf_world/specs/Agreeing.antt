@@ -1,6 +1,6 @@
 -- Which lists of halts tell of a world.
 use Rattle.std.specs.Prelude.{List}
-use Rattle.pf_rounds.specs.Halts.{Halt}
+use Rattle.pf_applyrounds.specs.Halts.{Halt}
 use Rattle.pf_hosts.specs.Steps.{TellsAll}
 use Rattle.pf_world.specs.Views.{WorldIs}
 

@@ -9,10 +9,10 @@ use Rattle.pf_protocol.specs.Histories.{replay}
 use Rattle.pf_group.specs.Crashing.{AllLeaveAtCrash}
 use Rattle.pf_group.specs.GroupIs.{GroupIs}
 use Rattle.pf_group.specs.Sound.{IsSound}
-use Rattle.pf_rounds.specs.Halts.{At, Halt, Making, Place}
-use Rattle.pf_rounds.specs.Chunks.{Chunk}
-use Rattle.pf_rounds.specs.Growing.{IsLast}
-use Rattle.pf_rounds.specs.Telling.{halts_at}
+use Rattle.pf_applyrounds.specs.Halts.{At, Halt, Making, Place}
+use Rattle.pf_applyrounds.specs.Chunks.{Chunk}
+use Rattle.pf_applyrounds.specs.Growing.{IsLast}
+use Rattle.pf_applyrounds.specs.Telling.{halts_at}
 use Rattle.pf_chunk.specs.Runs.{ChunkRun}
 use Rattle.pf_chunk.specs.Views.{ChunkIs}
 use Rattle.pf_script.specs.declared.command.Command.{Command}

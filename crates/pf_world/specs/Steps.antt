@@ -5,9 +5,9 @@ use Rattle.pf_script.specs.declared.command.Command.{Command}
 use Rattle.pf_script.specs.declared.command.Command.TheVariants as commands
 use Rattle.pf_script.specs.Lines.{fits}
 use Rattle.pf_protocol.specs.declared.answers.Answer.{Answer}
-use Rattle.pf_rounds.specs.Halts.{Halt}
+use Rattle.pf_applyrounds.specs.Halts.{Halt}
 use Rattle.pf_group.specs.Making.{making_answer}
-use Rattle.pf_rounds.specs.Growing.{HasGrown}
+use Rattle.pf_applyrounds.specs.Growing.{HasGrown}
 use Rattle.pf_chunk.specs.Runs.{ChunkRun}
 use Rattle.pf_chunk.specs.Views.{ChunkIs}
 use Rattle.pf_hosts.specs.Moments.{Moment, text_of}

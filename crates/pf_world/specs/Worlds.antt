@@ -6,8 +6,8 @@ use Rattle.pf_group.specs.Making.{making_answer}
 use Rattle.pf_volume.specs.Volumes.{Extent}
 use Rattle.pf_report.specs.Refusals.{refusal_text}
 use Rattle.pf_report.specs.Texts.{line_of}
-use Rattle.pf_rounds.specs.Halts.{Halt}
-use Rattle.pf_rounds.specs.Chunks.{made_chunk}
+use Rattle.pf_applyrounds.specs.Halts.{Halt}
+use Rattle.pf_applyrounds.specs.Chunks.{made_chunk}
 use Rattle.pf_chunk.specs.Happenings.{Happened}
 use Rattle.pf_chunk.specs.Runs.{ChunkRun, new_run}
 use Rattle.pf_chunk.specs.Saying.{said}

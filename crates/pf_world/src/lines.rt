@@ -11,9 +11,9 @@ ghost use Rattle.pf_world.specs.Views.{IsWorld};
 
 use crate::World;
 use crate::kind::Kind;
-use pf_base::{NoMemory, Server};
+use pf_base::{NoMemory, ServerId};
+use pf_copy::Gate;
 use pf_disk::Disk;
-use pf_filling::Gate;
 use pf_group::GroupEvent;
 use pf_report::{put_answer, put_refusal, put_settle};
 use pf_script::Command;
@@ -187,7 +187,7 @@ impl<D: Disk + Drop> World<D> {
         alloc: Global,
         number: u32,
         group: u8,
-        server: Server,
+        server: ServerId,
         sector: u32,
         byte: u8,
         count: u32,
@@ -233,7 +233,7 @@ impl<D: Disk + Drop> World<D> {
         alloc: Global,
         number: u32,
         group: u8,
-        server: Server,
+        server: ServerId,
         sector: u32,
         count: u32,
         gate: &G,

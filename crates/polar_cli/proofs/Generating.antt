@@ -7,7 +7,7 @@ use Rattle.pf_io.specs.Causes.{Rose}
 use Rattle.pf_disk.specs.Crashes.{Images}
 use Rattle.pf_gen.specs.Generated.{generated}
 use Rattle.pf_group.specs.GroupIs.{state_of}
-use Rattle.pf_rounds.specs.Halts.{Halt}
+use Rattle.pf_applyrounds.specs.Halts.{Halt}
 use Rattle.pf_chunk.specs.Views.{ChunkIs, run_of}
 use Rattle.pf_world.specs.declared.line.Line.{Line}
 use Rattle.pf_world.specs.Reports.{world_run}

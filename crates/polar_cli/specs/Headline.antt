@@ -4,7 +4,7 @@ use Rattle.std.specs.Io.KnownBytes.{Appends}
 use Rattle.pf_protocol.specs.Histories.{History, IsPrefix}
 use Rattle.pf_protocol.specs.Safety.{Agrees, AppliesInOrder, KeepsAcknowledged}
 use Rattle.pf_protocol.specs.Servers.{Setup}
-use Rattle.pf_rounds.specs.Halts.{Halt}
+use Rattle.pf_applyrounds.specs.Halts.{Halt}
 use Rattle.pf_chunk.specs.Runs.{ChunkRun}
 use Rattle.pf_threads.specs.Sessions.{Session}
 use Rattle.pf_world.specs.Headline.{AreHalts, EndEach, live_lines}

@@ -10,8 +10,8 @@ ghost use Rattle.polar_cli.specs.Running.{HasGoneOn, HasNotOpened, HasOpened, Ha
 
 use crate::ends::write_all;
 use crate::status::Status;
+use pf_copy::Gate;
 use pf_disk::Disk;
-use pf_filling::Gate;
 use pf_io::Sink;
 use pf_mounted::runs_have_one_list;
 use pf_report::put_answer;

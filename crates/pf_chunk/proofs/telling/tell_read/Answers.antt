@@ -1,6 +1,6 @@
 use Rattle.std.proofs.Common.{◌≡◌, ◌++◌, List, [], slice_get, subst, sym, ap, ◌∙◌, append-nil}
 use Rattle.std.specs.Prelude.{IsTrue}
-use Rattle.pf_cluster.proofs.Lists.{set_elsewhere}
+use Rattle.pf_network.proofs.Lists.{set_elsewhere}
 use Rattle.pf_group.specs.GroupIs.{GroupIs}
 use Rattle.pf_report.specs.Texts.{event_line, read_text}
 use Rattle.pf_chunk.specs.Telling.{now_taken}

@@ -1,5 +1,5 @@
 use Rattle.std.proofs.Common.{is_some, not, ap}
-use Rattle.pf_cluster.specs.Going.{is_quiet}
+use Rattle.pf_network.specs.Going.{is_quiet}
 use Rattle.pf_group.specs.Reacting.{own_of}
 use Rattle.pf_group.proofs.Since.{begun_if}
 use Rattle.pf_group.proofs.began.begin.Goals as goal

@@ -2,7 +2,7 @@ use Rattle.pf_paxos.specs.Journals.{events_at}
 use Rattle.pf_paxos.proofs.Deciding.{one_decision}
 use Rattle.pf_paxos.proofs.Listing.{begins_list}
 use Rattle.pf_paxos.proofs.Longest.{transaction_list}
-use Rattle.pf_hosted.proofs.Volumes.{journal}
+use Rattle.pf_positions.proofs.Volumes.{journal}
 use Rattle.pf_journal.specs.Sectors.{block_in}
 use Rattle.pf_journal.proofs.laws.journals_in_chunks_have_one_list.Goals as goal
 

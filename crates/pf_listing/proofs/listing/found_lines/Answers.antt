@@ -4,7 +4,7 @@ use Rattle.pf_chunklog.specs.Records.{Raw}
 use Rattle.pf_chunklog.proofs.Steps.{if_some, other_err, told}
 use Rattle.pf_image.specs.Recovery.{IsSpelled}
 use Rattle.pf_image.specs.Pairs.{format_of}
-use Rattle.pf_kept.proofs.States.{are_spelled}
+use Rattle.pf_diskstore.proofs.States.{are_spelled}
 use Rattle.pf_listing.specs.Listing.{TellsRecords}
 use Rattle.pf_listing.proofs.Finding.{found_records}
 use Rattle.pf_listing.proofs.listing.found_lines.Goals as goal

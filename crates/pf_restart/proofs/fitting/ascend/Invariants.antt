@@ -1,6 +1,6 @@
 use Rattle.std.proofs.Common.{◌≡◌, drop, map}
 use Rattle.pf_entry.specs.Tables.{ascends}
-use Rattle.pf_spelling.proofs.Rows.{ascends_after}
+use Rattle.pf_codec.proofs.Rows.{ascends_after}
 use Rattle.pf_restart.proofs.fitting.ascend.Given as goal
 
 abbrev pub invariant-loop-named : goal.invariant-loop-named

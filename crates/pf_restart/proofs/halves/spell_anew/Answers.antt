@@ -1,7 +1,7 @@
 use Rattle.std.proofs.Common.{ap, arith, subst, sym, ◌∙◌}
 use Rattle.std.proofs.lemmas.Result.{IfOk-weaker}
 use Rattle.pf_entry.specs.Canonical.{IsCanonicalRecord}
-use Rattle.pf_spelling.specs.Spelling.{body_bytes}
+use Rattle.pf_codec.specs.Spelling.{body_bytes}
 use Rattle.pf_restart.proofs.Renewing.{canonical_here, more, spelled_as}
 use Rattle.pf_restart.proofs.halves.spell_anew.Goals as goal
 

@@ -3,8 +3,8 @@ use Rattle.std.proofs.lemmas.Bool.{false≢true}
 use Rattle.std.proofs.lemmas.Result.{err_from_is_err_and}
 use Rattle.pf_entry.specs.Sizes.{body_size}
 use Rattle.pf_entry.specs.Canonical.{second_format}
-use Rattle.pf_spelling.proofs.BodyLaws.{window_of_second}
-use Rattle.pf_spelling.proofs.SizeLaws.{body_len}
+use Rattle.pf_codec.proofs.BodyLaws.{window_of_second}
+use Rattle.pf_codec.proofs.SizeLaws.{body_len}
 use Rattle.pf_store.specs.Stores.{IsSpelledAs}
 use Rattle.pf_state.proofs.Storing.{added_moves, in_second, past, up_to, is_in_doubt}
 use Rattle.pf_state.proofs.adding.add.Goals as goal

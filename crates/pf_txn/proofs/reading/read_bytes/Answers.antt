@@ -1,6 +1,6 @@
 use Rattle.std.proofs.lemmas.Result.{err_from_is_err_and}
-use Rattle.pf_spelling.specs.Parsers.{byte_at, row_at}
-use Rattle.pf_spelling.proofs.Rows.{goes_on, ends, is_done}
+use Rattle.pf_codec.specs.Parsers.{byte_at, row_at}
+use Rattle.pf_codec.proofs.Rows.{goes_on, ends, is_done}
 use Rattle.pf_txn.proofs.reading.read_bytes.Goals as goal
 
 pub returns-in_err-byte : goal.returns-in_err-byte

@@ -1,6 +1,6 @@
 use Rattle.std.proofs.Common.{◌≡◌, ◌-◌}
-use Rattle.pf_spelling.specs.Parsers.{byte_at, row_at}
-use Rattle.pf_spelling.proofs.Rows.{with_front}
+use Rattle.pf_codec.specs.Parsers.{byte_at, row_at}
+use Rattle.pf_codec.proofs.Rows.{with_front}
 use Rattle.pf_txn.proofs.reading.read_bytes.Given as goal
 
 abbrev pub invariant-loop : goal.invariant-loop

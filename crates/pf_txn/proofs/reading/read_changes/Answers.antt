@@ -1,7 +1,7 @@
 use Rattle.std.proofs.lemmas.Result.{err_from_is_err_and}
-use Rattle.pf_spelling.specs.Parsers.{row_at}
+use Rattle.pf_codec.specs.Parsers.{row_at}
 use Rattle.pf_txn.specs.Reading.{change_at}
-use Rattle.pf_spelling.proofs.Rows.{goes_on, ends, is_done}
+use Rattle.pf_codec.proofs.Rows.{goes_on, ends, is_done}
 use Rattle.pf_txn.proofs.reading.read_changes.Goals as goal
 
 pub returns-in_err-change : goal.returns-in_err-change

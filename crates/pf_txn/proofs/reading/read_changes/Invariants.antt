@@ -1,7 +1,7 @@
 use Rattle.std.proofs.Common.{◌≡◌, ◌-◌}
-use Rattle.pf_spelling.specs.Parsers.{row_at}
+use Rattle.pf_codec.specs.Parsers.{row_at}
 use Rattle.pf_txn.specs.Reading.{change_at}
-use Rattle.pf_spelling.proofs.Rows.{with_front}
+use Rattle.pf_codec.proofs.Rows.{with_front}
 use Rattle.pf_txn.proofs.reading.read_changes.Given as goal
 
 abbrev pub invariant-loop : goal.invariant-loop

@@ -1,6 +1,6 @@
 use Rattle.std.proofs.Common.{ap, sym, subst, ◌∙◌, arith}
 use Rattle.std.proofs.lemmas.Option.{none-some, same_Some}
-use Rattle.pf_spelling.specs.Parsers.{Fails}
+use Rattle.pf_codec.specs.Parsers.{Fails}
 use Rattle.pf_wire.specs.Reading.{packet_in}
 use Rattle.pf_wire.proofs.WireLaws.{packet_found, packet_again}
 use Rattle.pf_wire.proofs.reading.decode.Goals as goal

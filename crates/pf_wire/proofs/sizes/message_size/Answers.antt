@@ -3,7 +3,7 @@ use Rattle.pf_entry.specs.Sizes.{message_size}
 use Rattle.pf_entry.specs.Canonical.{IsCanonicalMessage}
 use Rattle.pf_entry.specs.declared.packets.Body.{Body}
 use Rattle.pf_entry.specs.declared.packets.Body.TheVariants.{Image}
-use Rattle.pf_spelling.proofs.Joins.{slot_count}
+use Rattle.pf_codec.proofs.Joins.{slot_count}
 use Rattle.pf_wire.proofs.sizes.message_size.Goals as goal
 
 pub returns-in-Image-clause-size : goal.returns-in-Image-clause-size

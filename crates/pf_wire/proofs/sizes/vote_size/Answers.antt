@@ -4,9 +4,9 @@ use Rattle.std.specs.List.{sum_by}
 use Rattle.pf_entry.specs.Canonical.{IsCanonicalEntry, second_format}
 use Rattle.pf_entry.specs.Lists.{Every}
 use Rattle.pf_entry.specs.Sizes.{entry_size}
-use Rattle.pf_spelling.proofs.BodyLaws.{window_of_second}
-use Rattle.pf_spelling.proofs.Joins.{start_count}
-use Rattle.pf_spelling.proofs.MapLaws.{values_of, canonical_values, log_len}
+use Rattle.pf_codec.proofs.BodyLaws.{window_of_second}
+use Rattle.pf_codec.proofs.Joins.{start_count}
+use Rattle.pf_codec.proofs.MapLaws.{values_of, canonical_values, log_len}
 use Rattle.pf_wire.proofs.sizes.vote_size.Goals as goal
 
 pub entries_size-requires-clause-few : goal.entries_size-requires-clause-few

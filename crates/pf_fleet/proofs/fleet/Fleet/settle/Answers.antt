@@ -3,7 +3,7 @@ use Rattle.pf_group.specs.GroupIs.{state_of}
 use Rattle.pf_group.proofs.Going.{on_err}
 use Rattle.pf_group.proofs.Passing.{least_found}
 use Rattle.pf_protocol.specs.declared.events.Event.TheVariants.{Deliver}
-use Rattle.pf_cluster.proofs.Lists.{something_there}
+use Rattle.pf_network.proofs.Lists.{something_there}
 use Rattle.pf_chunk.proofs.Begun.{happened_extends}
 use Rattle.pf_chunk.specs.declared.settling.Try.{Try}
 use Rattle.pf_chunk.specs.declared.settling.Try.TheVariants.{Delivered, Passed}

@@ -1,6 +1,6 @@
 use Rattle.std.proofs.Common.{◌≡◌, map, subst, sym, IsTrue}
 use Rattle.pf_protocol.specs.Histories.{replay}
-use Rattle.pf_cluster.specs.Showing.{acked_of}
+use Rattle.pf_network.specs.Showing.{acked_of}
 use Rattle.pf_group.specs.GroupIs.{GroupIs, state_of}
 use Rattle.pf_group.specs.Inside.{setup_in}
 use Rattle.pf_group.specs.Halves.{format_in, holds_in, told_in, used_in}

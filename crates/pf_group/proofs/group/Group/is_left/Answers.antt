@@ -1,5 +1,5 @@
 use Rattle.std.proofs.Common.{◌≡◌, IsTrue, slice_get, arith, sym, subst}
-use Rattle.pf_cluster.proofs.Beginning.{few_parcels}
+use Rattle.pf_network.proofs.Beginning.{few_parcels}
 use Rattle.pf_group.specs.GroupIs.{GroupIs, state_of}
 use Rattle.pf_group.specs.Readers.{is_left}
 use Rattle.pf_group.proofs.Shown.{left_is, left_there}

@@ -1,5 +1,5 @@
 use Rattle.std.proofs.Common.{◌≡◌, ◌≤◌, IsTrue, length, sym, ap, subst, ◌∙◌}
-use Rattle.pf_cluster.proofs.Beginning.{few_parcels, same_packets}
+use Rattle.pf_network.proofs.Beginning.{few_parcels, same_packets}
 use Rattle.pf_group.specs.GroupIs.{GroupIs, state_of}
 use Rattle.pf_group.specs.Halves.{format_in, holds_in, told_in, used_in}
 use Rattle.pf_group.specs.Inside.{setup_in}

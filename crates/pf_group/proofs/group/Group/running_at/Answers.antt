@@ -1,6 +1,6 @@
 use Rattle.std.proofs.Common.{sym, subst, IsTrue}
 use Rattle.pf_protocol.specs.Histories.{replay}
-use Rattle.pf_cluster.specs.Shown.{IsMemoryOf}
+use Rattle.pf_network.specs.Shown.{IsMemoryOf}
 use Rattle.pf_group.specs.GroupIs.{GroupIs, state_of}
 use Rattle.pf_group.specs.Inside.{setup_in}
 use Rattle.pf_group.specs.Readers.{TellsOf}

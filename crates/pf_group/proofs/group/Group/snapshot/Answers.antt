@@ -1,6 +1,6 @@
 use Rattle.std.proofs.Common.{sym, ap, ◌∙◌}
 use Rattle.std.specs.FinMap
-use Rattle.pf_cluster.specs.Shown.{IsMemoryOf}
+use Rattle.pf_network.specs.Shown.{IsMemoryOf}
 use Rattle.pf_group.specs.GroupIs.{state_of}
 use Rattle.pf_group.specs.Readers.{snapshot_in}
 use Rattle.pf_group.proofs.Shown.{copied_is, its_snapshots, ok_told}

@@ -1,10 +1,10 @@
 use Rattle.std.proofs.Common.{◌≡◌, IfNone, IfSome, IsTrue, length, sym, ap, subst, ◌∙◌}
 use Rattle.std.proofs.lemmas.List.{length-map}
 use Rattle.pf_protocol.specs.Histories.{replay}
-use Rattle.pf_kept.specs.declared.kept.Kept.{Kept}
-use Rattle.pf_cluster.specs.declared.cluster.Cluster.{Cluster}
-use Rattle.pf_cluster.specs.Going.{store_at}
-use Rattle.pf_cluster.specs.Readings.{is_taken}
+use Rattle.pf_diskstore.specs.declared.kept.Kept.{Kept}
+use Rattle.pf_network.specs.declared.cluster.Cluster.{Cluster}
+use Rattle.pf_network.specs.Going.{store_at}
+use Rattle.pf_network.specs.Readings.{is_taken}
 use Rattle.pf_group.specs.GroupIs.{GroupIs, state_of}
 use Rattle.pf_group.specs.Inside.{HaveHeads, group_of, setup_in}
 use Rattle.pf_group.specs.Readers.{HasTaken, LacksAnswer}

@@ -2,15 +2,15 @@ use Rattle.std.proofs.Common.{ℕ, inl, [], ◌∷◌, ◌++◌, ◌==◌, map, 
 use Rattle.std.specs.List.{list_any}
 use Rattle.pf_entry.specs.Lists.{Every}
 use Rattle.pf_entry.specs.Tables.{ascends}
-use Rattle.pf_kept.specs.declared.kept.Kept.{Kept}
-use Rattle.pf_kept.specs.Faults.{faults_of}
-use Rattle.pf_opening.specs.Rooms.{Place}
+use Rattle.pf_diskstore.specs.declared.kept.Kept.{Kept}
+use Rattle.pf_diskstore.specs.Faults.{faults_of}
+use Rattle.pf_format.specs.Rooms.{Place}
 use Rattle.pf_protocol.specs.Groups.{opening}
 use Rattle.pf_protocol.specs.Histories.{replay}
 use Rattle.pf_protocol.specs.Servers.{Setup}
 use Rattle.pf_server.specs.declared.server.Server.{Server}
-use Rattle.pf_cluster.specs.declared.cluster.Cluster.{Cluster}
-use Rattle.pf_cluster.specs.Readings.{is_taken}
+use Rattle.pf_network.specs.declared.cluster.Cluster.{Cluster}
+use Rattle.pf_network.specs.Readings.{is_taken}
 use Rattle.pf_group.specs.GroupIs.{GroupIs, Times}
 use Rattle.pf_group.specs.Halves.{AreLater, HasRisen, format_in, holds_in, told_in, used_in}
 use Rattle.pf_group.specs.Making.{making_answer, setup_with, six_faults}

@@ -2,7 +2,7 @@ use Rattle.std.proofs.Common.{◌≡◌, ◌<◌, Some, length, slice_get, slice
 use Rattle.std.proofs.lemmas.Option.{get_or_from_slice_get, slice_get_read}
 use Rattle.std.specs.Vec.{with_item}
 use Rattle.pf_entry.proofs.Lists.{set_there}
-use Rattle.pf_cluster.proofs.Lists.{set_elsewhere}
+use Rattle.pf_network.proofs.Lists.{set_elsewhere}
 use Rattle.pf_protocol.specs.declared.answers.Answer.TheVariants.{Refused}
 use Rattle.pf_live.specs.declared.serving.Served.{Served}
 use Rattle.pf_live.specs.declared.serving.Standing.TheVariants.{Asked}

@@ -1,6 +1,6 @@
 use Rattle.std.proofs.Common.{◌<◌, ◌^◌, sym, subst}
 use Rattle.pf_restart.specs.Beginning.{setup_at}
-use Rattle.pf_applying.specs.Fetching.{fetch_refusal}
+use Rattle.pf_apply.specs.Fetching.{fetch_refusal}
 use Rattle.pf_protocol.specs.Leading.{on_fetch}
 use Rattle.pf_protocol.proofs.ForRows.{fetch_asks_next}
 use Rattle.pf_server.specs.declared.ends.Before.{Before}

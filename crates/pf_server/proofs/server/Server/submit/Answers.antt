@@ -1,6 +1,6 @@
 use Rattle.std.proofs.Common.{◌<◌, ◌^◌, sym, subst}
 use Rattle.pf_restart.specs.Beginning.{setup_at}
-use Rattle.pf_leading.specs.Submitting.{submit_refusal}
+use Rattle.pf_leader.specs.Submitting.{submit_refusal}
 use Rattle.pf_protocol.specs.Leading.{on_submit}
 use Rattle.pf_protocol.proofs.ForRows.{submit_asks}
 use Rattle.pf_server.specs.declared.ends.Before.{Before}

@@ -9,7 +9,7 @@ use Rattle.std.specs.List.{list_any}
 use Rattle.pf_shared.specs.declared.moment.Did.TheVariants.{Acted}
 use Rattle.pf_group.specs.Roots.{root_of}
 use Rattle.pf_group.proofs.Chains.{by_both, by_step}
-use Rattle.pf_rounds.proofs.Paying.{pays_trans, step_pays}
+use Rattle.pf_applyrounds.proofs.Paying.{pays_trans, step_pays}
 use Rattle.pf_shared.specs.Since.{since}
 use Rattle.pf_shared.specs.Woven.{woven}
 use Rattle.pf_shared.proofs.Since.{begun_more, since_more}

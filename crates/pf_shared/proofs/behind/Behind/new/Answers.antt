@@ -2,8 +2,8 @@ use Rattle.std.proofs.Common.{◌≡◌, ◌≤◌, ◌∙◌, ◌++◌, [], Non
 use Rattle.pf_group.specs.Going.{Stays, WentBy}
 use Rattle.pf_group.specs.GroupIs.{GroupIs}
 use Rattle.pf_group.specs.Roots.{root_of}
-use Rattle.pf_rounds.specs.Growing.{Pays}
-use Rattle.pf_rounds.proofs.Paying.{pays_refl}
+use Rattle.pf_applyrounds.specs.Growing.{Pays}
+use Rattle.pf_applyrounds.proofs.Paying.{pays_refl}
 use Rattle.pf_protocol.specs.Answers.{claims_of}
 use Rattle.pf_shared.specs.Since.{since}
 use Rattle.pf_shared.specs.Woven.{steps_in, woven}

@@ -7,7 +7,7 @@ use Rattle.pf_group.specs.GroupIs.{GroupIs}
 use Rattle.pf_shared.specs.declared.moment.Did.TheVariants.{Acted}
 use Rattle.pf_group.specs.Roots.{root_of}
 use Rattle.pf_group.proofs.Chains.{by_both, by_left, by_step}
-use Rattle.pf_rounds.proofs.Paying.{left_pays, only_faults, pays_trans, step_pays}
+use Rattle.pf_applyrounds.proofs.Paying.{left_pays, only_faults, pays_trans, step_pays}
 use Rattle.pf_shared.specs.Since.{since}
 use Rattle.pf_shared.specs.Woven.{woven}
 use Rattle.pf_shared.specs.Hands.{is_tidy}

@@ -5,7 +5,7 @@ use Rattle.pf_protocol.specs.Answers.{claims_of}
 use Rattle.pf_shared.specs.declared.moment.Did.TheVariants.{Looked}
 use Rattle.pf_group.specs.GroupIs.{GroupIs, state_of}
 use Rattle.pf_group.proofs.Chains.{by_both}
-use Rattle.pf_rounds.proofs.Paying.{pays_trans}
+use Rattle.pf_applyrounds.proofs.Paying.{pays_trans}
 use Rattle.pf_shared.specs.Looks.{HandsOut, read_of}
 use Rattle.pf_shared.proofs.Looking.{has_looked, looked_counted, looked_handed, looked_tidy, read_is, took}
 use Rattle.pf_shared.specs.Since.{since}

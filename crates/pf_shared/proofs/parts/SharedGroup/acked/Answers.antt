@@ -1,5 +1,5 @@
 use Rattle.std.proofs.Common.{◌≡◌, map}
-use Rattle.pf_cluster.specs.Showing.{acked_of}
+use Rattle.pf_network.specs.Showing.{acked_of}
 use Rattle.pf_shared.specs.Behinds.{list_of}
 use Rattle.pf_shared.specs.Calls.{Finds}
 use Rattle.pf_shared.specs.Seats.{IsAlone, number_of, root_in, seen_by}

@@ -3,7 +3,7 @@ use Rattle.pf_turn.specs.Lists.{entries_of}
 use Rattle.pf_protocol.specs.Answers.{claims_of}
 use Rattle.pf_group.specs.GroupIs.{GroupIs}
 use Rattle.pf_group.specs.Roots.{root_of}
-use Rattle.pf_rounds.specs.Growing.{HasGrown}
+use Rattle.pf_applyrounds.specs.Growing.{HasGrown}
 use Rattle.pf_shared.specs.Behinds.{list_of}
 use Rattle.pf_shared.specs.Seats.{root_in, seen_by}
 use Rattle.pf_shared.specs.Hands.{is_tidy}

@@ -1,7 +1,7 @@
 use Rattle.std.proofs.Common.{◌≡◌, Ok}
 use Rattle.pf_shared.specs.Behinds.{list_of}
 use Rattle.pf_shared.specs.Calls.{Finds}
-use Rattle.pf_cluster.specs.Shown.{is_acked}
+use Rattle.pf_network.specs.Shown.{is_acked}
 use Rattle.pf_shared.specs.Seats.{IsAlone, number_of, root_in, seen_by}
 use Rattle.pf_shared.proofs.Looking.{look_err, look_ok}
 use Rattle.pf_shared.proofs.parts.SharedGroup.is_acked.Goals as goal

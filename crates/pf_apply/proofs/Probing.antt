@@ -1,0 +1,93 @@
+-- A leader hears of another server.
+use Rattle.std.proofs.Common.{◌≡◌, ◌≢◌, ℕ, ◌≤◌, ◌==◌, Bool, true, false, inl, inr, if◌then◌else◌, List, [], ◌∷◌, length, map, refl, sym, ap, subst, ◌∙◌}
+use Rattle.std.proofs.lemmas.Bool.{cases_Bool, cond-true, cond-false, eq-eqb, ne_eqb}
+use Rattle.std.proofs.lemmas.List.{length-map}
+use Rattle.pf_entry.specs.Records.{Durable}
+use Rattle.pf_election.specs.Reads.{confirm as confirm_here}
+use Rattle.pf_election.specs.declared.probes.Read.{Read as ReadHere}
+use Rattle.pf_protocol.specs.Servers.{Server}
+use Rattle.pf_protocol.specs.Leading.{confirm, on_probe_ok}
+use Rattle.pf_protocol.specs.Outcomes.{nothing}
+use Rattle.pf_state.specs.declared.running.Role.{Role}
+use Rattle.pf_state.specs.declared.running.Role.TheVariants.{Follower, Candidate, Merging, Serving}
+use Rattle.pf_state.specs.declared.running.Running.{Running}
+use Rattle.pf_state.specs.Standing.{read_of, role_of, server_of, setup_of, IsCached, IsRoleKept}
+use Rattle.pf_apply.specs.Probing.{heard, is_serving_here, knowing}
+use Rattle.pf_state.specs.Turns.{IsAfter}
+
+confirmed_one : (number : ℕ) (r : ReadHere) → read_of (confirm_here number r) ≡ confirm number (read_of r)
+confirmed_one number r =
+    elim (cases_Bool (r.number == number)) [
+      | inl same ↦ ap read_of (cond-true (r.number == number) _ _ same) ∙ sym (cond-true (r.number == number) _ _ same)
+      | inr apart ↦ ap read_of (cond-false (r.number == number) _ _ apart) ∙ sym (cond-false (r.number == number) _ _ apart)
+    ]
+
+confirmed_all : (number : ℕ) (xs : List ReadHere) → map read_of (map (confirm_here number) xs) ≡ map (confirm number) (map read_of xs)
+confirmed_all number [] = refl
+confirmed_all number (x ∷ xs) = λ i. confirmed_one number x i ∷ confirmed_all number xs i
+
+kept_role : (n from upto : ℕ) (role : Role) → IsRoleKept n role → IsRoleKept n (knowing role from upto)
+kept_role n from upto Follower k = k
+kept_role n from upto (Candidate c) k = k
+kept_role n from upto (Merging l) k = k
+kept_role n from upto (Serving l) k = record { counted = k.counted; low = k.low; high = k.high; heard = k.heard }
+
+same_count : (b : Bool) (number rooms : ℕ) (xs : List ReadHere) → length xs ≤ rooms → length (if b then map (confirm_here number) xs else xs) ≤ rooms
+same_count true number rooms xs le = subst (λ n. n ≤ rooms) (sym (length-map xs (confirm_here number))) le
+same_count false number rooms xs le = le
+
+module _ (d : Durable) (me : Running) (from number upto : ℕ) where
+  abbrev as_role : Role → Server
+  as_role role = record (server_of d me) { role = role_of (knowing role from upto); reads = map read_of (if is_serving_here role then map (confirm_here number) me.reads else me.reads) }
+
+  by_role : (role : Role) → me.role ≡ role → (term : ℕ) → term ≡ d.term → on_probe_ok (server_of d me) from term number upto (role_of role) ≡ nothing (server_of d (heard me from number upto))
+  unfolding on_probe_ok server_of
+  by_role Follower is term same = (λ i. nothing (record (server_of d me) { role = role_of (is i) })) ∙ ap (λ r. nothing (as_role r)) (sym is)
+  by_role (Candidate c) is term same = (λ i. nothing (record (server_of d me) { role = role_of (is i) })) ∙ ap (λ r. nothing (as_role r)) (sym is)
+  by_role (Merging l) is term same = (λ i. nothing (record (server_of d me) { role = role_of (is i) })) ∙ ap (λ r. nothing (as_role r)) (sym is)
+  by_role (Serving l) is term same =
+      cond-true _ _ _ (eq-eqb term d.term same)
+      ∙ (λ i. nothing (record (server_of d me) { role = role_of (knowing (Serving l) from upto); reads = sym (confirmed_all number me.reads) i }))
+      ∙ ap (λ r. nothing (as_role r)) (sym is)
+
+  pub heard_is : (term : ℕ) → term ≡ d.term → on_probe_ok (server_of d me) from term number upto (server_of d me).role ≡ nothing (server_of d (heard me from number upto))
+  unfolding server_of
+  heard_is term same = by_role me.role refl term same
+
+  unheard : (term : ℕ) (role : Role) → term ≢ d.term → on_probe_ok (server_of d me) from term number upto (role_of role) ≡ nothing (server_of d me)
+  unfolding on_probe_ok server_of
+  unheard term Follower apart = refl
+  unheard term (Candidate c) apart = refl
+  unheard term (Merging l) apart = refl
+  unheard term (Serving l) apart = cond-false _ _ _ (ne_eqb term d.term apart)
+
+  pub unheard_is : (term : ℕ) → term ≢ d.term → on_probe_ok (server_of d me) from term number upto (server_of d me).role ≡ nothing (server_of d me)
+  unfolding server_of
+  unheard_is term apart = unheard term me.role apart
+
+  pub heard_after : IsCached d me → IsAfter d me (heard me from number upto) (server_of d (heard me from number upto))
+  unfolding setup_of
+  heard_after cached = record {
+    server_is = refl;
+    setup_same = refl;
+    cached = record {
+      number = cached.number;
+      term = cached.term;
+      generation = cached.generation;
+      base = cached.base;
+      starts = cached.starts;
+      log = cached.log;
+      format = cached.format;
+      prefix = cached.prefix;
+      role = kept_role me.number from upto me.role cached.role;
+      jobs = cached.jobs;
+      places = cached.places;
+      rooms = cached.rooms;
+      near = cached.near;
+      replies = same_count (is_serving_here me.role) number me.replies.rooms me.reads cached.replies;
+    };
+  }
+
+  pub durable_is : (new : Running) → (server_of d new).durable ≡ d
+  unfolding server_of
+  durable_is new = refl

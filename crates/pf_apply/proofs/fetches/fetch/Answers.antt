@@ -1,0 +1,80 @@
+use Rattle.std.proofs.Common.{◌≡◌, ◌∙◌, Ok, List, ap, arith, length, refl, sym}
+use Rattle.std.proofs.lemmas.Result.{err_from_is_err_and}
+use Rattle.pf_base.specs.Span.{fits_in}
+use Rattle.pf_entry.specs.Ops.{Sector}
+use Rattle.pf_protocol.specs.declared.answers.Answer.TheVariants.{Read as ReadIs}
+use Rattle.pf_protocol.specs.Leading.{on_fetch}
+use Rattle.pf_state.specs.Standing.{server_of, room_refusal}
+use Rattle.pf_state.proofs.Sendings.{to_host}
+use Rattle.pf_state.proofs.Ending.{changed_memory, short_of_memory, refused_by, renamed, unsent}
+use Rattle.pf_apply.proofs.Fetching.{bad_range, chunk_low, durable_of, fetch_is, fetched, fetched_after, leader, no_leader, probes_canonical, roomy_replies, with_read}
+use Rattle.pf_apply.proofs.fetches.fetch.Goals as goal
+
+pub overflow_cast-as_slice : goal.overflow_cast-as_slice
+overflow_cast-as_slice g c = omega (arith, ap length c.as_slice.ensures, chunk_low c.args.me.now c.requires.bounded)
+
+pub returns-then-not-fits : goal.returns-then-not-fits
+returns-then-not-fits g c = record {
+  step = λ d stands.
+      let me = c.args.me.now in
+      let chunk : c.as_slice.result.now ≡ me.sectors = c.as_slice.ensures in
+      refused_by g.S.Store.holds g.S.Store.used g.S.Store.format g.S.Store.told g.S.Store.rose g.S.Store.was d c.args._store.now me c.args.out.now c.args.out.now stands _ (on_fetch (server_of d me) c.args.range c.args.number (server_of d me).role) _
+      (bad_range d me c.args.out.now c.args.range c.args.number (ap (λ (xs : List Sector). fits_in c.args.range (length xs)) (sym chunk) ∙ sym c.fits.ensures ∙ c.if-not-fits.true));
+}
+
+pub returns-then-not-is_serving : goal.returns-then-not-is_serving
+returns-then-not-is_serving g c = record {
+  step = λ d stands.
+      let me = c.args.me.now in
+      let chunk : c.as_slice.result.now ≡ me.sectors = c.as_slice.ensures in
+      refused_by g.S.Store.holds g.S.Store.used g.S.Store.format g.S.Store.told g.S.Store.rose g.S.Store.was d c.args._store.now me c.args.out.now c.args.out.now stands _ (on_fetch (server_of d me) c.args.range c.args.number (server_of d me).role) _
+      (no_leader d me c.args.out.now c.args.range c.args.number (ap (λ (xs : List Sector). fits_in c.args.range (length xs)) (sym chunk) ∙ sym c.fits.ensures ∙ c.if-not-fits.false) (sym c.is_serving.ensures ∙ c.if-not-is_serving.true));
+}
+
+pub send_to_others-requires-clause-canonical : goal.send_to_others-requires-clause-canonical
+send_to_others-requires-clause-canonical g c = probes_canonical c.args.me.now c.requires.bounded c.requires.stands.1.cached.number c.args.number
+
+pub returns-in_err-send_to_others : goal.returns-in_err-send_to_others
+returns-in_err-send_to_others g c = record {
+  step = λ d stands.
+      let me = c.args.me.now in
+      let chunk : c.as_slice.result.now ≡ me.sectors = c.as_slice.ensures in
+      let fits = ap (λ (xs : List Sector). fits_in c.args.range (length xs)) (sym chunk) ∙ sym c.fits.ensures ∙ c.if-not-fits.false in
+      let serves = sym c.is_serving.ensures ∙ c.if-not-is_serving.false in
+      let named = c.in_ok-named.named in
+      let is = fetch_is d me stands.cached c.args.range c.args.number named serves (c.in_ok-named.ensures d stands.cached) in
+      renamed g.S.Store.holds g.S.Store.used g.S.Store.format g.S.Store.told g.S.Store.rose g.S.Store.was d c.args._store.now c.args._store.now me me c.args.out.now c.send_to_others.new.out _ _ _ _ c.from_residual-in_err-send_to_others.result
+      (ap (room_refusal c.args.out.now) (sym is) ∙ sym (leader d me c.args.out.now c.args.range c.args.number fits serves)) (sym is)
+      (unsent g.S.Store.holds g.S.Store.used g.S.Store.format g.S.Store.told g.S.Store.rose g.S.Store.was d c.args._store.now me c.args.out.now c.send_to_others.new.out stands
+      (fetched d me stands.cached c.args.range c.args.number named) c.in_err-send_to_others.field-0.0 c.send_to_others.result c.from_residual-in_err-send_to_others.result
+      c.send_to_others.ensures c.in_err-send_to_others.was (err_from_is_err_and c.from_residual-in_err-send_to_others.result c.from_residual-in_err-send_to_others.ensures.1));
+}
+
+pub take_up-requires : goal.take_up-requires
+take_up-requires g c = c.requires.stands.1.cached.replies
+
+pub returns-in_err-take_up : goal.returns-in_err-take_up
+returns-in_err-take_up g c = record {
+  step = λ d stands.
+      short_of_memory g.S.Store.holds g.S.Store.used g.S.Store.format g.S.Store.told g.S.Store.rose g.S.Store.was d c.args._store.now c.args.me.now c.take_up.new.me stands c.args.out.now c.send_to_others.new.out _ _ c.from_residual-in_err-take_up.result
+      (err_from_is_err_and c.from_residual-in_err-take_up.result c.from_residual-in_err-take_up.ensures.1)
+      (roomy_replies d c.args.me.now c.take_up.new.me stands.cached c.in_err-take_up.ensures.err);
+}
+
+pub returns : goal.returns
+returns g c = record {
+  step = λ d stands.
+      let me = c.args.me.now in
+      let chunk : c.as_slice.result.now ≡ me.sectors = c.as_slice.ensures in
+      let fits = ap (λ (xs : List Sector). fits_in c.args.range (length xs)) (sym chunk) ∙ sym c.fits.ensures ∙ c.if-not-fits.false in
+      let serves = sym c.is_serving.ensures ∙ c.if-not-is_serving.false in
+      let named = c.in_ok-named.named in
+      let o = fetched d me stands.cached c.args.range c.args.number named in
+      let is = fetch_is d me stands.cached c.args.range c.args.number named serves (c.in_ok-named.ensures d stands.cached) in
+      renamed g.S.Store.holds g.S.Store.used g.S.Store.format g.S.Store.told g.S.Store.rose g.S.Store.was d c.args._store.now c.args._store.now me c.take_up.new.me c.args.out.now c.send_to_others.new.out _ _ _ _ (Ok (ReadIs c.args.number))
+      (ap (room_refusal c.args.out.now) (sym is) ∙ sym (leader d me c.args.out.now c.args.range c.args.number fits serves)) (sym is)
+      (changed_memory g.S.Store.holds g.S.Store.used g.S.Store.format g.S.Store.told g.S.Store.rose g.S.Store.was d c.args._store.now me c.take_up.new.me stands c.args.out.now c.send_to_others.new.out o (ReadIs c.args.number)
+      (durable_of d (with_read d me stands.cached c.args.range c.args.number named me.replies.rooms))
+      (fetched_after d me stands.cached c.args.range c.args.number named c.take_up.new.me c.in_ok-take_up.ensures.ok)
+      refl c.in_ok-send_to_others.ensures.0 (to_host c.args.out.now c.send_to_others.new.out o.packets c.in_ok-send_to_others.ensures.1 c.requires.fresh));
+}

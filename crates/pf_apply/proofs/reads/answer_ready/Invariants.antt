@@ -1,0 +1,24 @@
+use Rattle.std.proofs.Common.{◌≡◌, ◌≤◌, ◌++◌, List, length, map, not, Bool}
+use Rattle.std.specs.List.{filter}
+use Rattle.pf_entry.specs.Ops.{Sector}
+use Rattle.pf_entry.specs.Sets as set
+use Rattle.pf_election.specs.Reads.{is_ready}
+use Rattle.pf_election.specs.declared.probes.Read.{Read as ReadHere}
+use Rattle.pf_state.specs.Replying.{Replying}
+use Rattle.pf_state.specs.Standing.{read_of}
+use Rattle.pf_protocol.specs.Asked.{AreAsked}
+use Rattle.pf_apply.specs.Reads.{reply_to}
+use Rattle.pf_apply.proofs.reads.answer_ready.Given as goal
+
+-- some of the reads are answered
+pub record IsUnderway (ready : ReadHere → Bool) (sectors : List Sector) (old now : List ReadHere) (before after : Replying) : Type 0 where
+  pub asked : AreAsked (length sectors) (map read_of now)
+  pub left : filter (λ r. not (ready r)) now ≡ filter (λ r. not (ready r)) old
+  pub answers : after.answers ++ map (reply_to sectors) (filter ready now) ≡ before.answers ++ map (reply_to sectors) (filter ready old)
+  pub room : length now ≤ after.rooms
+
+abbrev pub invariant-loop-read : goal.invariant-loop-read
+invariant-loop-read l = IsUnderway (is_ready (set.contains l.applied.slots)) l.sectors l.initial.reads l.reads l.initial.replies l.replies
+
+abbrev pub decreases-loop-read : goal.decreases-loop-read
+decreases-loop-read l = length l.reads

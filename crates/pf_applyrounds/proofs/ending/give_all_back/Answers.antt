@@ -1,0 +1,46 @@
+use Rattle.std.proofs.Common.{List, length, ap, subst, arith, rules}
+use Rattle.std.specs.Vec.Iter.{into_iter_items, into_iter_len}
+use Rattle.pf_copy.specs.declared.work.Work.{Work}
+use Rattle.pf_applyrounds.specs.Open.{AreOpen, jobs_of}
+use Rattle.pf_applyrounds.proofs.Opened.{first_may_return, none_left}
+use Rattle.pf_applyrounds.proofs.Begun.{one_returned, returned_refl}
+use Rattle.pf_applyrounds.proofs.Stepping.{return_closes}
+use Rattle.pf_applyrounds.proofs.ending.give_all_back.Goals as goal
+
+pub loop-work-init : goal.loop-work-init
+loop-work-init g c = record {
+  returned = returned_refl c.args.group.now;
+  hand = search rules;
+  left = search rules;
+}
+
+pub give_back-requires : goal.give_back-requires
+give_back-requires g c =
+    let now = c.loop-work.group in let w = c.in-Some.work in let rest = into_iter_items c.next.new.self in
+    first_may_return now.history w.job (jobs_of rest) (subst (λ (l : List Work). AreOpen now.history (jobs_of l)) c.in-Some.ensures.steps.0 c.loop-work.invariant.hand)
+
+pub loop-work-preserved-in-Some : goal.loop-work-preserved-in-Some
+loop-work-preserved-in-Some g c =
+    let old = c.args.group.now in let now = c.loop-work.group in let new = c.give_back.new.self in let w = c.in-Some.work in let rest = into_iter_items c.next.new.self in
+    let i = c.loop-work.invariant in let next = c.in-Some.ensures.steps.0 in
+    record {
+      returned = one_returned old now new w.job c.give_back.ensures.went i.returned;
+      hand = return_closes now new w.job (jobs_of rest) c.give_back.ensures.went (subst (λ (l : List Work). AreOpen now.history (jobs_of l)) next i.hand);
+      left = omega (arith, i.left, ap length next, c.in-Some.ensures.steps.1);
+    }
+
+pub loop-work-preserved : goal.loop-work-preserved
+loop-work-preserved g c =
+    let old = c.args.group.now in let now = c.loop-work.group in let new = c.give_back.new.self in let w = c.in-Some.work in let rest = into_iter_items c.next.new.self in
+    let i = c.loop-work.invariant in let next = c.in-Some.ensures.steps.0 in
+    record {
+      returned = one_returned old now new w.job c.give_back.ensures.went i.returned;
+      hand = return_closes now new w.job (jobs_of rest) c.give_back.ensures.went (subst (λ (l : List Work). AreOpen now.history (jobs_of l)) next i.hand);
+      left = omega (arith, i.left, ap length next, c.in-Some.ensures.steps.1);
+    }
+
+pub returns-clause-none : goal.returns-clause-none
+returns-clause-none g c =
+    let now = c.loop-work.group in let rest = into_iter_items c.loop-work.work-iterator in
+    let none = none_left (into_iter_len c.loop-work.work-iterator) rest c.in-None.ensures.steps.0 c.loop-work.invariant.left in
+    (subst (λ (l : List Work). AreOpen now.history (jobs_of l)) none c.loop-work.invariant.hand).claims

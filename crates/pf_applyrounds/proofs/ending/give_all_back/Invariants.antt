@@ -1,0 +1,12 @@
+use Rattle.std.proofs.Common.{◌≡◌, length}
+use Rattle.std.specs.Vec.Iter.{into_iter_items, into_iter_len}
+use Rattle.pf_applyrounds.specs.Adding.{HasReturned}
+use Rattle.pf_applyrounds.specs.Open.{AreOpen, jobs_of}
+use Rattle.pf_applyrounds.proofs.ending.give_all_back.Given as goal
+
+abbrev pub invariant-loop-work : goal.invariant-loop-work
+invariant-loop-work g l = record {
+  returned : HasReturned l.initial.group l.group;
+  hand : AreOpen l.group.history (jobs_of (into_iter_items l.work-iterator));
+  left : into_iter_len l.work-iterator ≡ length (into_iter_items l.work-iterator);
+}

@@ -1,0 +1,50 @@
+//! The ends of jobs.
+ghost use Rattle.std.specs.Prelude.{◌≡◌, [], Some, vec_len};
+ghost use Rattle.pf_protocol.specs.Answers.{claims_of};
+ghost use Rattle.pf_copy.specs.Filling.{filled_of};
+ghost use Rattle.pf_applyrounds.specs.Adding.{Adds, HasFinished, HasReturned};
+ghost use Rattle.pf_applyrounds.specs.Following.{IsFinished};
+ghost use Rattle.pf_applyrounds.specs.Open.{AreFilled, AreOpen, IsOpen, jobs_of};
+
+use pf_copy::Work;
+use pf_disk::Disk;
+use pf_group::{Group, GroupEvent};
+use std::alloc::Global;
+
+/// Finishes a job. It takes no memory.
+fn finish<D: Disk + Drop>(alloc: Global, group: &mut Group<D>, work: Work)
+    requires hand { IsOpen group.old.history work.job }
+    requires filled { work.filled ≡ Some (filled_of work.job) }
+    ensures { HasFinished group.old work.job group.new }
+{
+    let Work { job: _, filled } = work;
+    let Some(filled) = filled else { unreachable!() };
+    let Ok(_) = group.step(alloc, GroupEvent::Finish(filled)) else {
+        unreachable!()
+    };
+}
+
+/// Finishes these jobs, in the order of their claims. It takes no memory.
+pub(crate) fn finish_all<D: Disk + Drop>(alloc: Global, group: &mut Group<D>, works: Vec<Work>)
+    requires hand { AreOpen group.old.history (jobs_of works.items) }
+    requires filled { AreFilled works.items }
+    ensures adds { Adds group.old group.new 0 (vec_len works) }
+    ensures none { claims_of [] group.new.history ≡ [] }
+    ensures run { IsFinished group.old group.new (jobs_of works.items) }
+{
+    for work in works {
+        finish(alloc, group, work);
+    }
+}
+
+/// Gives all these jobs back. It takes no memory.
+pub(crate) fn give_all_back<D: Disk + Drop>(group: &mut Group<D>, works: Vec<Work>)
+    requires { AreOpen group.old.history (jobs_of works.items) }
+    ensures returned { HasReturned group.old group.new }
+    ensures none { claims_of [] group.new.history ≡ [] }
+{
+    for work in works {
+        let Work { job, filled: _ } = work;
+        group.give_back(job);
+    }
+}

@@ -1,0 +1,100 @@
+//! A vote comes.
+ghost use Rattle.std.specs.Prelude.{◌≡◌, ◌≤◌, MatchOption, None};
+ghost use Rattle.pf_entry.specs.Records.{Durable};
+ghost use Rattle.pf_entry.specs.declared.entries.VoteLog.{VoteLog as VoteIs};
+ghost use Rattle.pf_entry.specs.declared.packets.Body.TheVariants.{Vote as VoteBody};
+ghost use Rattle.pf_protocol.specs.Outcomes.{nothing};
+ghost use Rattle.pf_protocol.specs.Leading.{on_vote};
+ghost use Rattle.pf_state.specs.Coming.{IsComing};
+ghost use Rattle.pf_state.specs.Outgoing.{Outgoing};
+ghost use Rattle.pf_state.specs.Standing.{server_of, quiet, IsBounded, Stands, Steps, room_refusal};
+ghost use Rattle.pf_candidate.specs.Merging.{Elects, IsIdle, IsReady, IsTakeover, won};
+
+use crate::leads::lead;
+use crate::merges::{Takeover, plan};
+use crate::sends::send_entries;
+use pf_base::{ServerId, Term};
+use pf_entry::VoteLog;
+use pf_protocol::Answer;
+use pf_state::{Outbox, Role, Running, StepFault, add};
+use pf_store::Store;
+use std::alloc::Global;
+
+/// The own vote of a candidate that this vote makes a leader, `None` exactly where it changes nothing.
+fn own_vote<'a>(me: &'a Running, term: Term, vote: &VoteLog) -> Option<&'a VoteLog>
+    ensures { MatchOption result (IsIdle me.now term vote.now) (λ own. Elects me.now term vote.now own.now) }
+{
+    let Role::Candidate(candidacy) = &me.role else {
+        return None;
+    };
+    if term != me.term || me.log.base() < vote.base {
+        return None;
+    }
+    Some(candidacy.own())
+}
+
+/// Stores the merge and becomes a leader, and sends nothing.
+fn store_merge<S: Store>(
+    alloc: Global,
+    store: &mut S,
+    me: &mut Running,
+    takeover: Takeover,
+) -> Result<Answer, StepFault>
+    requires stands { (d : Durable) × Stands S.holds S.used S.format d store.old me.old }
+    requires ready { IsReady me.old (S.format store.old) takeover }
+    requires room { 1 ≤ me.old.starts.spare }
+    ensures { (d : Durable) (out : Outgoing) (own vote : VoteIs) → Stands S.holds S.used S.format d store.old me.old → out.acked ≡ None → IsTakeover me.old own vote takeover → (let o = quiet (won (server_of d me.old) own vote) in
+        Steps S.holds S.used S.format S.told S.rose S.was d store.old me.old out store.new me.new out (room_refusal out o) o result) }
+{
+    add(alloc, store, &takeover.kept)?;
+    lead(me, takeover);
+    Ok(Answer::Done)
+}
+
+/// Sends the merged entries, stores them, and becomes a leader.
+fn take_over<S: Store>(
+    alloc: Global,
+    store: &mut S,
+    me: &mut Running,
+    takeover: Takeover,
+    out: &mut Outbox,
+) -> Result<Answer, StepFault>
+    requires stands { (d : Durable) × Stands S.holds S.used S.format d store.old me.old }
+    requires fresh { out.old.acked ≡ None }
+    requires ready { IsReady me.old (S.format store.old) takeover }
+    ensures { (d : Durable) (own vote : VoteIs) → Stands S.holds S.used S.format d store.old me.old → IsTakeover me.old own vote takeover → (let o = won (server_of d me.old) own vote in
+        Steps S.holds S.used S.format S.told S.rose S.was d store.old me.old out.old store.new me.new out.new (room_refusal out.old o) o result) }
+{
+    me.starts.reserve()?;
+    send_entries(alloc, out, me.number, me.term, &takeover.entries)?;
+    store_merge(alloc, store, me, takeover)
+}
+
+/// Another server gives its vote. A candidate of that term, whose checkpoint is no lower than the vote's, merges its own vote with
+/// this one: it stores the merged entries and its first new slot, sends each of them to the two other servers, and leads. It
+/// serves at once where it merged no slot. Any other server does nothing.
+///
+/// `NoMemory` (1), `PacketsFull` (55) and `LogFull` (41) leave the server and the store as they were; after `Halted` (52) a
+/// restart finds the merge or not.
+pub fn vote<S: Store>(
+    alloc: Global,
+    store: &mut S,
+    me: &mut Running,
+    from: ServerId,
+    term: Term,
+    vote: VoteLog,
+    out: &mut Outbox,
+) -> Result<Answer, StepFault>
+    requires stands { (d : Durable) × Stands S.holds S.used S.format d store.old me.old }
+    requires bounded { IsBounded me.old }
+    requires fresh { out.old.acked ≡ None }
+    requires coming { IsComing me.old from term (VoteBody vote) }
+    ensures step { (d : Durable) → Stands S.holds S.used S.format d store.old me.old → (let s = server_of d me.old in let o = on_vote s term vote s.role in
+        Steps S.holds S.used S.format S.told S.rose S.was d store.old me.old out.old store.new me.new out.new (room_refusal out.old o) o result) }
+{
+    let Some(own) = own_vote(me, term, &vote) else {
+        return Ok(Answer::Done);
+    };
+    let takeover = plan(alloc, me, own, &vote)?;
+    take_over(alloc, store, me, takeover, out)
+}

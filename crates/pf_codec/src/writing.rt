@@ -1,0 +1,266 @@
+//! Entries, votes and records at the end of bytes.
+ghost use Rattle.std.specs.Prelude.{◌≡◌, ◌<◌, ◌≤◌, ◌^◌, ◌++◌, IfOk, OnOk, length};
+ghost use Rattle.std.specs.Int.{w32, w64};
+ghost use Rattle.std.specs.List.{flat_map};
+ghost use Rattle.std.specs.FinMap as finite;
+ghost use Rattle.pf_entry.specs.Canonical.{IsCanonicalEntry, IsCanonicalVote, IsCanonicalImage, IsCanonicalRecord, second_format};
+ghost use Rattle.pf_entry.specs.Lists.{Every};
+ghost use Rattle.pf_entry.specs.Sets as set;
+ghost use Rattle.pf_entry.specs.StartMaps.{start_rows};
+ghost use Rattle.pf_codec.specs.Spelling.{number, byte, name_bytes, op_bytes, entry_bytes, entries_bytes, start_bytes, starts_bytes, slots_bytes, sectors_bytes, vote_bytes, log_bytes, kind_of, payload_bytes, body_bytes};
+
+use crate::Writer;
+use pf_base::{NoMemory, Sectors, Slot};
+use pf_entry::{Entry, Named, Op, Record, Slots, Start, Starts, VoteLog};
+use std::alloc::Global;
+
+#[tactic(auto, using(std::proofs::lemmas::List::append_assoc), unfolding(crate::specs::Spelling::name_bytes))]
+fn write_name(writer: &mut Writer, name: &Named) -> Result<(), NoMemory>
+    ensures { OnOk result (writer.new ≡ writer.old ++ name_bytes name.now) }
+{
+    writer.u64(name.slot)?;
+    writer.range(name.range)
+}
+
+fn write_names(writer: &mut Writer, look: &[Named]) -> Result<(), NoMemory>
+    ensures { OnOk result (writer.new ≡ writer.old ++ flat_map name_bytes look.now) }
+{
+    for name in look {
+        write_name(writer, name)?;
+    }
+    Ok(())
+}
+
+#[tactic(auto, using(std::proofs::lemmas::List::append_assoc), unfolding(crate::specs::Spelling::op_bytes))]
+fn write_op(writer: &mut Writer, op: &Op) -> Result<(), NoMemory>
+    ensures { OnOk result (writer.new ≡ writer.old ++ op_bytes op.now) }
+{
+    match op {
+        Op::Noop => writer.u8(0),
+        Op::Mark => writer.u8(2),
+        Op::Write { range, payload } => {
+            writer.u8(1)?;
+            writer.range(*range)?;
+            writer.sectors(payload.as_slice())
+        }
+    }
+}
+
+/// Writes an entry at the end. The one error of this and the other writers is `NoMemory` (1).
+#[tactic(auto, using(std::proofs::lemmas::List::append_assoc), unfolding(crate::specs::Spelling::entry_bytes))]
+pub fn write_entry(writer: &mut Writer, entry: &Entry) -> Result<(), NoMemory>
+    requires { IsCanonicalEntry second_format entry.now }
+    ensures { OnOk result (writer.new ≡ writer.old ++ entry_bytes entry.now) }
+{
+    let look = entry.look.as_slice();
+    writer.u64(entry.slot)?;
+    writer.u64(entry.term)?;
+    writer.u64(entry.first)?;
+    writer.u8(look.len() as u8)?;
+    write_names(writer, look)?;
+    write_op(writer, &entry.op)
+}
+
+fn write_row(writer: &mut Writer, entries: &[Entry]) -> Result<(), NoMemory>
+    requires { Every (IsCanonicalEntry second_format) entries.now }
+    ensures { OnOk result (writer.new ≡ writer.old ++ flat_map entry_bytes entries.now) }
+{
+    for entry in entries {
+        write_entry(writer, entry)?;
+    }
+    Ok(())
+}
+
+#[tactic(auto, using(std::proofs::lemmas::List::append_assoc), unfolding(crate::specs::Spelling::entries_bytes))]
+fn write_entries(writer: &mut Writer, entries: &[Entry]) -> Result<(), NoMemory>
+    requires few { length entries.now < 2 ^ 32 }
+    requires canonical { Every (IsCanonicalEntry second_format) entries.now }
+    ensures { OnOk result (writer.new ≡ writer.old ++ entries_bytes entries.now) }
+{
+    writer.u32(entries.len() as u32)?;
+    write_row(writer, entries)
+}
+
+/// The log of a vote.
+fn write_log(writer: &mut Writer, vote: &VoteLog) -> Result<(), NoMemory>
+    requires { IsCanonicalVote second_format vote.now }
+    ensures { OnOk result (writer.new ≡ writer.old ++ log_bytes vote.now.log) }
+{
+    write_entries(writer, vote.log.as_slice())
+}
+
+#[tactic(auto, using(std::proofs::lemmas::List::append_assoc), unfolding(crate::specs::Spelling::start_bytes))]
+fn write_start(writer: &mut Writer, row: &Start) -> Result<(), NoMemory>
+    ensures { OnOk result (writer.new ≡ writer.old ++ start_bytes (row.now.term, row.now.first)) }
+{
+    writer.u64(row.term)?;
+    writer.u64(row.first)
+}
+
+fn write_start_row(writer: &mut Writer, rows: &[Start]) -> Result<(), NoMemory>
+    ensures { OnOk result (writer.new ≡ writer.old ++ flat_map start_bytes (start_rows rows.now)) }
+{
+    for row in rows {
+        write_start(writer, row)?;
+    }
+    Ok(())
+}
+
+fn write_starts(writer: &mut Writer, starts: &Starts) -> Result<(), NoMemory>
+    requires { finite.len starts.now < 2 ^ 16 }
+    ensures { OnOk result (writer.new ≡ writer.old ++ starts_bytes starts.now) }
+{
+    let rows = starts.as_slice();
+    writer.u16(rows.len() as u16)?;
+    write_start_row(writer, rows)
+}
+
+fn write_slot_row(writer: &mut Writer, slots: &[Slot]) -> Result<(), NoMemory>
+    ensures { OnOk result (writer.new ≡ writer.old ++ flat_map (number w64) slots.now) }
+{
+    for slot in slots {
+        writer.u64(*slot)?;
+    }
+    Ok(())
+}
+
+/// Writes slots at the end.
+pub fn write_slots(writer: &mut Writer, slots: &Slots) -> Result<(), NoMemory>
+    requires { set.len slots.now < 2 ^ 32 }
+    ensures { OnOk result (writer.new ≡ writer.old ++ slots_bytes slots.now) }
+{
+    let slots = slots.as_slice();
+    writer.u32(slots.len() as u32)?;
+    write_slot_row(writer, slots)
+}
+
+/// Writes the sectors of a chunk at the end.
+#[tactic(auto, using(std::proofs::lemmas::List::append_assoc), unfolding(crate::specs::Spelling::sectors_bytes))]
+pub fn write_sectors(writer: &mut Writer, sectors: &Sectors) -> Result<(), NoMemory>
+    requires { length sectors.now ≤ 4096 }
+    ensures { OnOk result (writer.new ≡ writer.old ++ sectors_bytes sectors.now) }
+{
+    let sectors = sectors.as_slice();
+    writer.u32(sectors.len() as u32)?;
+    writer.sectors(sectors)
+}
+
+/// Writes a vote at the end.
+#[tactic(auto, using(std::proofs::lemmas::List::append_assoc), unfolding(crate::specs::Spelling::vote_bytes))]
+pub fn write_vote(writer: &mut Writer, vote: &VoteLog) -> Result<(), NoMemory>
+    requires { IsCanonicalVote second_format vote.now }
+    ensures { OnOk result (writer.new ≡ writer.old ++ vote_bytes vote.now) }
+{
+    writer.u64(vote.base)?;
+    write_starts(writer, &vote.starts)?;
+    write_log(writer, vote)
+}
+
+/// An image without its generation and its term.
+#[tactic(auto, using(std::proofs::lemmas::List::append_assoc))]
+fn write_image(
+    writer: &mut Writer,
+    vote: &VoteLog,
+    applied: &Slots,
+    sectors: &Sectors,
+) -> Result<(), NoMemory>
+    requires vote { IsCanonicalVote second_format vote.now }
+    requires image { IsCanonicalImage vote.now.base applied.now sectors.now }
+    ensures { OnOk result (writer.new ≡ writer.old ++ (number w64 vote.now.base ++ (starts_bytes vote.now.starts ++ (slots_bytes applied.now ++ (log_bytes vote.now.log ++ sectors_bytes sectors.now))))) }
+{
+    writer.u64(vote.base)?;
+    write_starts(writer, &vote.starts)?;
+    write_slots(writer, applied)?;
+    write_log(writer, vote)?;
+    write_sectors(writer, sectors)
+}
+
+#[tactic(auto, using(std::proofs::lemmas::List::append_assoc), unfolding(crate::specs::Spelling::payload_bytes))]
+fn write_payload(writer: &mut Writer, rec: &Record) -> Result<(), NoMemory>
+    requires { IsCanonicalRecord 2 rec.now }
+    ensures { OnOk result (writer.new ≡ writer.old ++ payload_bytes rec.now) }
+{
+    match rec {
+        Record::Image {
+            generation,
+            term,
+            vote,
+            applied,
+            sectors,
+        } => {
+            writer.u64(*generation)?;
+            writer.u64(*term)?;
+            write_image(writer, vote, applied, sectors)
+        }
+        Record::Term(term) => writer.u64(*term),
+        Record::Entry(entry) => write_entry(writer, entry),
+        Record::Merged {
+            term,
+            first,
+            entries,
+        } => {
+            writer.u64(*term)?;
+            writer.u64(*first)?;
+            write_entries(writer, entries.as_slice())
+        }
+    }
+}
+
+/// The payload of a record.
+fn spell_payload(alloc: Global, rec: &Record) -> Result<Vec<u8>, NoMemory>
+    requires { IsCanonicalRecord 2 rec.now }
+    ensures { IfOk result (λ bytes. bytes.items ≡ payload_bytes rec.now) }
+{
+    let mut payload = Writer::new(alloc);
+    write_payload(&mut payload, rec)?;
+    Ok(payload.into_vec())
+}
+
+/// A kind, the length of a payload, the payload and a closed gate.
+#[tactic(auto, using(std::proofs::lemmas::List::append_assoc))]
+fn frame(alloc: Global, kind: u8, payload: &[u8]) -> Result<Vec<u8>, NoMemory>
+    requires { length payload.now < 2 ^ 32 }
+    ensures { IfOk result (λ bytes. bytes.items ≡ byte kind ++ (number w32 (length payload.now) ++ (payload.now ++ byte 0))) }
+{
+    let mut body = Writer::new(alloc);
+    body.u8(kind)?;
+    body.u32(payload.len() as u32)?;
+    body.all(payload)?;
+    body.u8(CLOSED)?;
+    Ok(body.into_vec())
+}
+
+/// The body of a record: its kind, the length of its payload in four bytes, its payload, and the closed gate of the record
+/// after it. It is as long as its size says. The one error is `NoMemory` (1).
+pub fn spell_record(alloc: Global, rec: &Record) -> Result<Vec<u8>, NoMemory>
+    requires { IsCanonicalRecord 2 rec.now }
+    ensures { IfOk result (λ bytes. bytes.items ≡ body_bytes rec.now) }
+{
+    let payload = spell_payload(alloc, rec)?;
+    frame(alloc, kind_of(rec), &payload)
+}
+
+/// The gate of a record that is not there yet.
+const CLOSED: u8 = 0;
+
+/// The number of a record's kind.
+fn kind_of(rec: &Record) -> u8
+    ensures { result ≡ kind_of rec.now }
+{
+    match rec {
+        Record::Image {
+            generation: _,
+            term: _,
+            vote: _,
+            applied: _,
+            sectors: _,
+        } => 1,
+        Record::Term(_) => 2,
+        Record::Entry(_) => 3,
+        Record::Merged {
+            term: _,
+            first: _,
+            entries: _,
+        } => 4,
+    }
+}

@@ -1,0 +1,56 @@
+//! Copies on several threads.
+ghost use Rattle.std.specs.Prelude.{◌≡◌, ◌≤◌, ℕ, Some, slice_get};
+ghost use Rattle.pf_copy.specs.Works.{AreBrought, IsBrought};
+
+use crate::filling::copied;
+use crate::gate::Gate;
+use crate::work::Work;
+use pf_base::{Filled, NoMemory};
+use std::alloc::Global;
+use std::thread;
+use std::thread::Threads;
+
+/// Copies the sectors of a job.
+fn bring(alloc: Global, work: &mut Work)
+    ensures { IsBrought work.old work.new }
+{
+    work.filled = match copied(alloc, &work.job.op) {
+        Ok((range, sectors)) => Some(Filled {
+            server: work.job.server,
+            life: work.job.life,
+            slot: work.job.slot,
+            range,
+            sectors,
+        }),
+        Err(NoMemory) => None,
+    };
+}
+
+/// The place of a job in its round, as a gate is told it.
+fn place(i: usize) -> u32 {
+    u32::try_from(i).unwrap_or(u32::MAX)
+}
+
+/// Copies the sectors of each job, on at most `workers` threads, each copy between the two calls of the gate. A job whose copy found
+/// no memory has none.
+pub fn bring_all<R: Threads + Sync, G: Gate + Sync>(
+    rt: &R,
+    alloc: Global,
+    works: &mut [Work],
+    workers: u32,
+    gate: &G,
+)
+    requires { 1 ≤ workers }
+    ensures { AreBrought works.old works.new }
+{
+    thread::for_each_mut(
+        rt,
+        works,
+        workers as usize,
+        &|i, work: &mut Work| {
+            gate.before(place(i));
+            bring(alloc, work);
+            gate.after(place(i));
+        },
+    );
+}

@@ -1,0 +1,252 @@
+//! An image comes.
+ghost use Rattle.std.specs.Prelude.{◌≡◌, ℕ, ◌<◌, ◌≤◌, ◌+◌, ◌^◌, [], IfOk, None, nat_lt};
+ghost use Rattle.std.specs.FinMap as finite;
+ghost use Rattle.pf_entry.specs.Sets as set;
+ghost use Rattle.pf_entry.specs.Canonical.{IsCanonicalRecord};
+ghost use Rattle.pf_entry.specs.Records.{Durable};
+ghost use Rattle.pf_entry.specs.declared.packets.Body.TheVariants.{Image as ImageIs};
+ghost use Rattle.pf_entry.specs.declared.records.Record.TheVariants.{Image as ImageRecord};
+ghost use Rattle.pf_codec.specs.Spelling.{body_bytes};
+ghost use Rattle.pf_protocol.specs.Servers.{upto};
+ghost use Rattle.pf_protocol.specs.Outcomes.{nothing, sends};
+ghost use Rattle.pf_protocol.specs.Following.{ack, installed, on_image};
+ghost use Rattle.pf_state.specs.Bounds.{far};
+ghost use Rattle.pf_state.specs.Outgoing.{Outgoing};
+ghost use Rattle.pf_state.specs.Standing.{server_of, IsBounded, Stands, Steps, room_refusal};
+ghost use Rattle.pf_state.specs.Coming.{IsComing};
+ghost use Rattle.pf_follower.specs.Halves.{IsNewHalf};
+ghost use Rattle.pf_follower.specs.Images.{sectors_of};
+
+use crate::accepts::ack;
+use crate::replies::{meet_and_reply, reply};
+use pf_base::{NoMemory, Sectors, ServerId, Slot, Term};
+use pf_codec::spell_record;
+use pf_election::Probes;
+use pf_entry::{Body, Op, Record, Slots, VoteLog};
+use pf_holes::{Ring, SlotSet};
+use pf_protocol::Answer;
+use pf_sectors::SectorTable;
+use pf_state::{Outbox, Role, Running, StepFault, copied_above, save, send};
+use pf_store::Store;
+use std::alloc::Global;
+
+/// An image that is to be saved, and what memory takes over with it.
+#[derive(Drop)]
+struct NewHalf {
+    body: Vec<u8>,
+    applied: SlotSet,
+    sectors: SectorTable,
+    in_hand: Ring<Op>,
+    rooms: Ring<Sectors>,
+}
+
+/// The sectors of an image, `None` exactly of another record.
+fn sectors_of(rec: Record) -> Option<Sectors>
+    ensures { result ≡ sectors_of rec }
+{
+    match rec {
+        Record::Image {
+            generation: _,
+            term: _,
+            vote: _,
+            applied: _,
+            sectors,
+        } => Some(sectors),
+        Record::Term(_) => None,
+        Record::Entry(_) => None,
+        Record::Merged {
+            term: _,
+            first: _,
+            entries: _,
+        } => None,
+    }
+}
+
+/// The body of an image, and the image's sectors.
+fn spell_image(
+    alloc: Global,
+    generation: u64,
+    term: Term,
+    vote: VoteLog,
+    applied: Slots,
+    sectors: Sectors,
+) -> Result<(Vec<u8>, Sectors), NoMemory>
+    requires { IsCanonicalRecord 2 (ImageRecord generation term vote applied sectors) }
+    ensures body { IfOk result (λ spelled. spelled.0.items ≡ body_bytes (ImageRecord generation term vote applied sectors)) }
+    ensures sectors { IfOk result (λ spelled. spelled.1 ≡ sectors) }
+{
+    let rec = Record::Image {
+        generation,
+        term,
+        vote,
+        applied,
+        sectors,
+    };
+    let body = spell_record(alloc, &rec)?;
+    // It is an image, so there are sectors.
+    let sectors = sectors_of(rec).ok_or(NoMemory)?;
+    Ok((body, sectors))
+}
+
+/// Takes all the memory that an image wants.
+fn prepare(
+    alloc: Global,
+    me: &Running,
+    term: Term,
+    base: Slot,
+    applied: Slots,
+    sectors: Sectors,
+) -> Result<NewHalf, NoMemory>
+    requires coming { (from : ℕ) × IsComing me.now from term (ImageIs base applied sectors) }
+    requires bounded { IsBounded me.now }
+    requires reached { me.now.log.base ≤ base }
+    ensures half { IfOk result (λ half. IsNewHalf me.now term base half) }
+    ensures applied { IfOk result (λ half. set.retain half.applied.slots (nat_lt base) ≡ applied) }
+    ensures sectors { IfOk result (λ half. half.sectors ≡ sectors) }
+{
+    let vote = VoteLog {
+        base,
+        starts: me.starts.copied(alloc)?,
+        log: copied_above(alloc, &me.log, base)?,
+    };
+    let kept = Slots::new(Vec::from_slice(alloc, applied.as_slice())?);
+    let (body, sectors) = spell_image(alloc, me.generation + 1, term, vote, kept, sectors)?;
+    Ok(NewHalf {
+        body,
+        applied: SlotSet::with_prefix(base, applied),
+        sectors: SectorTable::from_sectors(sectors),
+        in_hand: Ring::new(alloc)?,
+        rooms: Ring::new(alloc)?,
+    })
+}
+
+/// Begins a new life over the image's state. It takes no memory.
+fn begin(alloc: Global, me: &mut Running, term: Term, base: Slot, half: NewHalf)
+    requires reached { me.old.log.base ≤ base }
+    requires life { me.old.life < far }
+    requires generation { me.old.generation < far }
+    ensures { me.new ≡ record me.old {
+      life = me.old.life + 1;
+      term = term;
+      generation = me.old.generation + 1;
+      role = Role.Follower;
+      reads = [];
+      log = record { base = base; entries = finite.retain_keys me.old.log.entries (nat_lt base); marks = set.retain me.old.log.marks (nat_lt base) };
+      applied = half.applied;
+      sectors = half.sectors;
+      in_hand = half.in_hand;
+      rooms = half.rooms;
+      jobs = 0;
+      snapshots = finite.empty;
+    } }
+{
+    let NewHalf {
+        body: _,
+        applied,
+        sectors,
+        in_hand,
+        rooms,
+    } = half;
+    me.life += 1;
+    me.term = term;
+    me.generation += 1;
+    me.role = Role::Follower;
+    me.reads = Probes::new(alloc);
+    me.log.trim(base);
+    me.applied = applied;
+    me.sectors = sectors;
+    me.in_hand = in_hand;
+    me.jobs = 0;
+    me.rooms = rooms;
+    me.snapshots.clear();
+}
+
+/// Saves the image in the other half, and sends nothing.
+fn save_half<S: Store>(
+    alloc: Global,
+    store: &mut S,
+    me: &mut Running,
+    term: Term,
+    base: Slot,
+    half: NewHalf,
+) -> Result<Answer, StepFault>
+    requires stands { (d : Durable) × Stands S.holds S.used S.format d store.old me.old }
+    requires bounded { IsBounded me.old }
+    requires reached { me.old.log.base ≤ base }
+    requires half { IsNewHalf me.old term base half }
+    ensures { (d : Durable) (out : Outgoing) → Stands S.holds S.used S.format d store.old me.old → out.acked ≡ None → (let o = nothing (installed (server_of d me.old) term base (set.retain half.applied.slots (nat_lt base)) half.sectors) in
+        Steps S.holds S.used S.format S.told S.rose S.was d store.old me.old out store.new me.new out (room_refusal out o) o result) }
+{
+    save(store, &half.body)?;
+    begin(alloc, me, term, base, half);
+    Ok(Answer::Done)
+}
+
+/// Installs the image, and acknowledges its checkpoint.
+fn install<S: Store>(
+    alloc: Global,
+    store: &mut S,
+    me: &mut Running,
+    from: ServerId,
+    term: Term,
+    base: Slot,
+    applied: Slots,
+    sectors: Sectors,
+    out: &mut Outbox,
+) -> Result<Answer, StepFault>
+    requires stands { (d : Durable) × Stands S.holds S.used S.format d store.old me.old }
+    requires bounded { IsBounded me.old }
+    requires fresh { out.old.acked ≡ None }
+    requires coming { IsComing me.old from term (ImageIs base applied sectors) }
+    requires reached { me.old.log.base ≤ base }
+    ensures { (d : Durable) → Stands S.holds S.used S.format d store.old me.old → (let o = ack (installed (server_of d me.old) term base applied sectors) from base in
+        Steps S.holds S.used S.format S.told S.rose S.was d store.old me.old out.old store.new me.new out.new (room_refusal out.old o) o result) }
+{
+    let half = prepare(alloc, me, term, base, applied, sectors)?;
+    let upto = half.applied.upto();
+    send(
+        alloc,
+        out,
+        me.number,
+        from,
+        term,
+        Body::Ack { slot: base, upto },
+    )?;
+    save_half(alloc, store, me, term, base, half)
+}
+
+/// A leader sends its state. The answer is `Nack` where its term is lower than the server's, and else `Ack` of its checkpoint.
+/// Where not all slots up to the checkpoint are applied here, the state is saved in the other half, the server becomes a
+/// follower and begins a new life, and its jobs, snapshots and reads are dropped; else a higher term is stored.
+///
+/// `NoMemory` (1) where there is no memory, `PacketsFull` (55) where the answer does not fit the outbox, and `LogFull` (41)
+/// where the image does not fit a half of 67,108,864 bytes, or the term the current one, leave the server and the store as
+/// they were. `Halted` (52) where a disk failed: a restart finds the image, or the term, or neither.
+pub fn image<S: Store>(
+    alloc: Global,
+    store: &mut S,
+    me: &mut Running,
+    from: ServerId,
+    term: Term,
+    base: Slot,
+    applied: Slots,
+    sectors: Sectors,
+    out: &mut Outbox,
+) -> Result<Answer, StepFault>
+    requires stands { (d : Durable) × Stands S.holds S.used S.format d store.old me.old }
+    requires bounded { IsBounded me.old }
+    requires fresh { out.old.acked ≡ None }
+    requires coming { IsComing me.old from term (ImageIs base applied sectors) }
+    ensures step { (d : Durable) → Stands S.holds S.used S.format d store.old me.old → (let o = on_image (server_of d me.old) from term base applied sectors in
+        Steps S.holds S.used S.format S.told S.rose S.was d store.old me.old out.old store.new me.new out.new (room_refusal out.old o) o result) }
+{
+    if term < me.term {
+        let own = me.term;
+        return reply(alloc, store, me, from, own, Body::Nack, out);
+    }
+    if base <= me.upto() {
+        let body = ack(me, base);
+        return meet_and_reply(alloc, store, me, from, term, body, out);
+    }
+    install(alloc, store, me, from, term, base, applied, sectors, out)
+}

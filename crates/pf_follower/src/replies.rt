@@ -1,0 +1,174 @@
+//! Steps that answer one packet, with a record or without.
+ghost use Rattle.std.specs.Prelude.{◌≡◌, ◌<◌, ◌≤◌, ◌+◌, [], ◌∷◌, None};
+ghost use Rattle.pf_entry.specs.Canonical.{IsCanonicalPacket};
+ghost use Rattle.pf_entry.specs.Records.{Durable, add_start};
+ghost use Rattle.pf_entry.specs.declared.records.Record.TheVariants.{Entry as EntryRecord};
+ghost use Rattle.pf_codec.specs.Spelling.{body_bytes};
+ghost use Rattle.pf_store.specs.Stores.{IsSpelledAs};
+ghost use Rattle.pf_protocol.specs.Outcomes.{sends, nothing, raise_term};
+ghost use Rattle.pf_protocol.specs.Following.{meets_term, accepted};
+ghost use Rattle.pf_state.specs.Outgoing.{Outgoing};
+ghost use Rattle.pf_state.specs.Packets.{packet};
+ghost use Rattle.pf_state.specs.Standing.{server_of, Stands, Steps, room_refusal};
+ghost use Rattle.std.specs.FinMap as finite;
+
+use pf_base::{ServerId, Term};
+use pf_election::Probes;
+use pf_entry::{Body, Entry, Record};
+use pf_protocol::Answer;
+use pf_state::{Outbox, Role, Running, StepFault, add, send};
+use pf_store::Store;
+use std::alloc::Global;
+
+/// Sends one packet, and stores nothing.
+pub fn reply<S: Store>(
+    alloc: Global,
+    _store: &S,
+    me: &Running,
+    to: ServerId,
+    term: Term,
+    body: Body,
+    out: &mut Outbox,
+) -> Result<Answer, StepFault>
+    requires stands { (d : Durable) × Stands S.holds S.used S.format d _store.now me.now }
+    requires fresh { out.old.acked ≡ None }
+    requires canonical { IsCanonicalPacket (packet me.now.number to term body) }
+    ensures { (d : Durable) → Stands S.holds S.used S.format d _store.now me.now → (let o = sends (server_of d me.now) (packet me.now.number to term body ∷ []) in
+        Steps S.holds S.used S.format S.told S.rose S.was d _store.now me.now out.old _store.now me.now out.new (room_refusal out.old o) o result) }
+{
+    send(alloc, out, me.number, to, term, body)?;
+    Ok(Answer::Done)
+}
+
+/// Takes over a term, as a follower. A follower has no reads.
+fn follow(alloc: Global, me: &mut Running, term: Term)
+    ensures { me.new ≡ record me.old { term = term; role = Role.Follower; reads = [] } }
+{
+    me.term = term;
+    me.role = Role::Follower;
+    me.reads = Probes::new(alloc);
+}
+
+/// Stores a higher term, and sends nothing.
+pub fn raise<S: Store>(
+    alloc: Global,
+    store: &mut S,
+    me: &mut Running,
+    term: Term,
+) -> Result<Answer, StepFault>
+    requires { (d : Durable) × Stands S.holds S.used S.format d store.old me.old }
+    ensures { (d : Durable) (out : Outgoing) → Stands S.holds S.used S.format d store.old me.old → out.acked ≡ None → (let o = nothing (raise_term (server_of d me.old) term) in
+        Steps S.holds S.used S.format S.told S.rose S.was d store.old me.old out store.new me.new out (room_refusal out o) o result) }
+{
+    add(alloc, store, &Record::Term(term))?;
+    follow(alloc, me, term);
+    Ok(Answer::Done)
+}
+
+/// Stores a higher term, and sends one packet.
+pub fn raise_and_reply<S: Store>(
+    alloc: Global,
+    store: &mut S,
+    me: &mut Running,
+    to: ServerId,
+    term: Term,
+    body: Body,
+    out: &mut Outbox,
+) -> Result<Answer, StepFault>
+    requires stands { (d : Durable) × Stands S.holds S.used S.format d store.old me.old }
+    requires fresh { out.old.acked ≡ None }
+    requires canonical { IsCanonicalPacket (packet me.old.number to term body) }
+    ensures { (d : Durable) → Stands S.holds S.used S.format d store.old me.old → (let o = sends (raise_term (server_of d me.old) term) (packet me.old.number to term body ∷ []) in
+        Steps S.holds S.used S.format S.told S.rose S.was d store.old me.old out.old store.new me.new out.new (room_refusal out.old o) o result) }
+{
+    send(alloc, out, me.number, to, term, body)?;
+    raise(alloc, store, me, term)
+}
+
+/// Takes over the term if it is higher, and sends one packet.
+pub fn meet_and_reply<S: Store>(
+    alloc: Global,
+    store: &mut S,
+    me: &mut Running,
+    to: ServerId,
+    term: Term,
+    body: Body,
+    out: &mut Outbox,
+) -> Result<Answer, StepFault>
+    requires stands { (d : Durable) × Stands S.holds S.used S.format d store.old me.old }
+    requires fresh { out.old.acked ≡ None }
+    requires no_lower { me.old.term ≤ term }
+    requires canonical { IsCanonicalPacket (packet me.old.number to term body) }
+    ensures { (d : Durable) → Stands S.holds S.used S.format d store.old me.old → (let o = sends (meets_term (server_of d me.old) term) (packet me.old.number to term body ∷ []) in
+        Steps S.holds S.used S.format S.told S.rose S.was d store.old me.old out.old store.new me.new out.new (room_refusal out.old o) o result) }
+{
+    if me.term < term {
+        raise_and_reply(alloc, store, me, to, term, body, out)
+    } else {
+        reply(alloc, store, me, to, term, body, out)
+    }
+}
+
+/// Takes over an entry and its term, as a follower. It takes no memory.
+fn keep(alloc: Global, me: &mut Running, entry: Entry)
+    requires above { me.old.log.base < entry.slot }
+    requires window { entry.slot ≤ me.old.log.base + 4096 }
+    requires room { 1 ≤ me.old.starts.spare }
+    ensures starts { me.new.starts.starts ≡ add_start me.old.starts.starts entry.term entry.first }
+    ensures others { me.new ≡ record me.old {
+      term = entry.term;
+      role = Role.Follower;
+      reads = [];
+      starts = me.new.starts;
+      log = record me.old.log { entries = finite.insert me.old.log.entries entry.slot entry };
+    } }
+{
+    follow(alloc, me, entry.term);
+    me.starts.put(entry.term, entry.first);
+    me.log.put(entry);
+}
+
+/// Stores an entry, and sends nothing.
+fn store_entry<S: Store>(
+    alloc: Global,
+    store: &mut S,
+    me: &mut Running,
+    entry: Entry,
+) -> Result<Answer, StepFault>
+    requires stands { (d : Durable) × Stands S.holds S.used S.format d store.old me.old }
+    requires spelled { IsSpelledAs (S.format store.old) (EntryRecord entry) (body_bytes (EntryRecord entry)) }
+    requires above { me.old.log.base < entry.slot }
+    requires window { entry.slot ≤ me.old.log.base + 4096 }
+    requires room { 1 ≤ me.old.starts.spare }
+    ensures { (d : Durable) (out : Outgoing) → Stands S.holds S.used S.format d store.old me.old → out.acked ≡ None → (let o = nothing (accepted (server_of d me.old) entry) in
+        Steps S.holds S.used S.format S.told S.rose S.was d store.old me.old out store.new me.new out (room_refusal out o) o result) }
+{
+    let kept = Record::Entry(entry.try_clone(alloc)?);
+    add(alloc, store, &kept)?;
+    keep(alloc, me, entry);
+    Ok(Answer::Done)
+}
+
+/// Stores an entry of this term or a higher one, and sends one packet.
+pub fn take_and_reply<S: Store>(
+    alloc: Global,
+    store: &mut S,
+    me: &mut Running,
+    to: ServerId,
+    entry: Entry,
+    body: Body,
+    out: &mut Outbox,
+) -> Result<Answer, StepFault>
+    requires stands { (d : Durable) × Stands S.holds S.used S.format d store.old me.old }
+    requires fresh { out.old.acked ≡ None }
+    requires canonical { IsCanonicalPacket (packet me.old.number to entry.term body) }
+    requires spelled { IsSpelledAs (S.format store.old) (EntryRecord entry) (body_bytes (EntryRecord entry)) }
+    requires above { me.old.log.base < entry.slot }
+    requires window { entry.slot ≤ me.old.log.base + 4096 }
+    ensures { (d : Durable) → Stands S.holds S.used S.format d store.old me.old → (let o = sends (accepted (server_of d me.old) entry) (packet me.old.number to entry.term body ∷ []) in
+        Steps S.holds S.used S.format S.told S.rose S.was d store.old me.old out.old store.new me.new out.new (room_refusal out.old o) o result) }
+{
+    me.starts.reserve()?;
+    send(alloc, out, me.number, to, entry.term, body)?;
+    store_entry(alloc, store, me, entry)
+}

@@ -1,0 +1,33 @@
+use Rattle.std.proofs.Common.{◌≡◌, ap, slice_index, subst, sym, ℕ, List}
+use Rattle.pf_entry.specs.Records.{Durable, image_of}
+use Rattle.pf_diskstore.specs.declared.kept.Kept.{Kept}
+use Rattle.pf_diskstore.specs.Kept.{IsFirst, IsKept}
+use Rattle.pf_image.specs.Pairs.{current_of, format_of}
+use Rattle.pf_server.specs.Conditions.{IsRunning}
+use Rattle.pf_restart.specs.declared.seat.Seat.{Seat}
+use Rattle.pf_format.specs.Opening.{opening_server, seat_in}
+use Rattle.pf_format.specs.Rooms.{Place}
+use Rattle.pf_format.proofs.Begun.{disk_of}
+use Rattle.pf_format.proofs.Meeting.{first_fits, is_first, meets_opening}
+use Rattle.pf_format.proofs.room.ServerRoom.open.Goals as goal
+
+pub new-requires-clause-first : goal.new-requires-clause-first
+new-requires-clause-first g c =
+    let seat = c.self.inside.seat in
+    let format : slice_index c.head_of-head.result 4 ≡ seat.format = ap (λ (head : List ℕ). slice_index head 4) c.head_of-head.ensures in
+    (image_of (disk_of seat), subst (λ f. IsFirst f (image_of (disk_of seat)) c.deref.result.now) (sym format) (is_first seat c.self.inside.me c.self.inside.image.items c.self.invariant c.deref.result.now c.deref.ensures.value))
+
+pub new-requires-clause-fits : goal.new-requires-clause-fits
+new-requires-clause-fits g c = first_fits c.self.inside.seat c.self.inside.me c.self.inside.image.items c.self.invariant c.deref.result.now c.deref.ensures.value
+
+pub returns-in-Ok-clause-opened : goal.returns-in-Ok-clause-opened
+returns-in-Ok-clause-opened g c = λ _ setup.
+    let S = Kept g.row.D.Denot in
+    let holds : S → Durable → Durable → Type 0 = λ kept before after. IsKept g.D.Disk.seen g.D.Disk.may_leave kept.pair before after in
+    let used : S → ℕ = λ kept. (current_of kept.pair).used in
+    let format : S → ℕ = λ kept. format_of kept.pair in
+    let seat = c.self.inside.seat in
+    subst (λ (p : Seat). p ≡ seat_in setup p.number → IsRunning holds used format seat c.in-Ok.store c.self.inside.me (opening_server setup p.number))
+    (ap (λ (p : Place). p.seat) c.self.view_is)
+    (meets_opening seat c.self.inside.me c.self.inside.image.items c.self.invariant holds used format c.in-Ok.store c.deref.result.now c.deref.ensures.value (slice_index c.head_of-head.result 4)
+    (ap (λ (head : List ℕ). slice_index head 4) c.head_of-head.ensures) c.in-Ok.ensures.holds c.in-Ok.ensures.used c.in-Ok.ensures.format setup)

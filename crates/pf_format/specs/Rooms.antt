@@ -1,0 +1,28 @@
+-- The memory of a server that is to be made.
+use Rattle.std.specs.Prelude.{◌≡◌, ℕ, List, []}
+use Rattle.pf_entry.specs.Records.{image_of}
+use Rattle.pf_codec.specs.Spelling.{body_bytes}
+use Rattle.pf_protocol.specs.Groups.{opening_disk}
+use Rattle.pf_state.specs.declared.running.Running.{Running}
+use Rattle.pf_state.specs.Standing.{server_of, setup_of, IsCached}
+use Rattle.pf_restart.specs.Beginning.{IsSeat, setup_at}
+use Rattle.pf_restart.specs.declared.seat.Seat.{Seat}
+use Rattle.pf_format.specs.Opening.{opening_server}
+
+-- the server that it is for: its group, and what it is made with
+pub record Place : Type 0 where
+  pub group : ℕ
+  pub seat : Seat
+
+-- memory stands for the server of the opening state, and no answers of reads wait
+pub record IsFresh (seat : Seat) (me : Running) : Type 0 where
+  pub cached : IsCached (opening_disk (setup_at seat)) me
+  pub is : server_of (opening_disk (setup_at seat)) me ≡ opening_server (setup_at seat) seat.number
+  pub setup : setup_of me ≡ setup_at seat
+  pub quiet : me.replies.answers ≡ []
+
+-- and its first record is spelled
+pub record IsRoom (seat : Seat) (me : Running) (image : List ℕ) : Type 0 where
+  pub made : IsSeat seat
+  pub fresh : IsFresh seat me
+  pub spelled : image ≡ body_bytes (image_of (opening_disk (setup_at seat)))

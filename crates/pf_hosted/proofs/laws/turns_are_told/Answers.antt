@@ -1,5 +1,0 @@
-use Rattle.pf_hosted.proofs.Volumes.{turns_told}
-use Rattle.pf_hosted.proofs.laws.turns_are_told.Goals as goal
-
-pub returns : goal.returns
-returns c = turns_told

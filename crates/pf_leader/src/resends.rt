@@ -1,0 +1,210 @@
+//! Packets are sent again.
+ghost use Rattle.std.specs.Prelude.{◌≡◌, ◌<◌, ◌-◌, [], ◌∷◌, None, Some, if◌then◌else◌, nat_lt, suc};
+ghost use Rattle.std.specs.List.{flat_map, range_with_len};
+ghost use Rattle.pf_entry.specs.Sets as set;
+ghost use Rattle.pf_entry.specs.Canonical.{IsCanonicalEntry, second_format};
+ghost use Rattle.pf_entry.specs.Records.{Durable};
+ghost use Rattle.pf_entry.specs.declared.packets.Body.TheVariants.{Image as ImageIs};
+ghost use Rattle.pf_protocol.specs.Leading.{knows, on_resend, resent, resent_entry};
+ghost use Rattle.pf_protocol.specs.Outcomes.{others};
+ghost use Rattle.pf_state.specs.Outgoing.{Sends};
+ghost use Rattle.pf_state.specs.Packets.{packet};
+ghost use Rattle.pf_state.specs.Standing.{server_of, bare, leader_of, role_of, IsBounded, IsCached, Stands, Steps, room_refusal};
+ghost use Rattle.pf_leader.specs.Resending.{AreOwn, CanSend, CanSendToBoth, IsPeer, probes, slot_packets};
+
+use pf_base::{ServerId, Slot};
+use pf_election::Read;
+use pf_entry::{Body, Entry};
+use pf_protocol::Answer;
+use pf_state::{Leader, Outbox, Role, Running, StepFault, others_of, send, send_to_others};
+use pf_store::Store;
+use std::alloc::Global;
+
+/// Sends the sectors to a server that has not applied all that the checkpoint has, as far as the leader knows.
+fn send_image(
+    alloc: Global,
+    me: &Running,
+    leader: &Leader,
+    to: ServerId,
+    out: &mut Outbox,
+) -> Result<(), StepFault>
+    requires { CanSend me.now leader.now.next to }
+    ensures { Sends out.old out.new (if nat_lt (knows (leader_of leader.now) to) me.now.log.base
+        then packet me.now.number to me.now.term (ImageIs me.now.log.base (set.retain me.now.applied.slots (nat_lt me.now.log.base)) me.now.sectors) ∷ [] else []) result }
+{
+    let base = me.log.base();
+    if leader.known.get(to) >= base {
+        return Ok(());
+    }
+    let body = Body::Image {
+        base,
+        applied: me.applied.above(alloc, base)?,
+        sectors: me.sectors.copied(alloc)?,
+    };
+    send(alloc, out, me.number, to, me.term, body)
+}
+
+/// Sends the slot's entry to a server that has not acknowledged it, and a commit to one that has, but has not applied it as
+/// far as the leader knows.
+fn send_entry(
+    alloc: Global,
+    me: &Running,
+    leader: &Leader,
+    to: ServerId,
+    entry: &Entry,
+    out: &mut Outbox,
+) -> Result<(), StepFault>
+    requires peer { IsPeer me.now to }
+    requires canonical { IsCanonicalEntry second_format entry.now × (entry.now.term ≡ me.now.term) }
+    ensures { Sends out.old out.new (resent_entry (server_of (bare me.now) me.now) (leader_of leader.now) to (Some entry.now) entry.now.slot) result }
+{
+    let slot = entry.slot;
+    if !leader.acks.has(to, slot) {
+        let body = Body::Accept(entry.try_clone(alloc)?);
+        return send(alloc, out, me.number, to, me.term, body);
+    }
+    if leader.known.get(to) < slot {
+        return send(alloc, out, me.number, to, me.term, Body::Commit { slot });
+    }
+    Ok(())
+}
+
+/// Sends what a server lacks of one slot.
+fn send_slot(
+    alloc: Global,
+    me: &Running,
+    leader: &Leader,
+    to: ServerId,
+    slot: Slot,
+    out: &mut Outbox,
+) -> Result<(), StepFault>
+    requires can { CanSend me.now leader.now.next to }
+    requires above { me.now.log.base < slot }
+    requires below { slot < leader.now.next }
+    ensures { Sends out.old out.new (slot_packets me.now leader.now to slot) result }
+{
+    match me.log.get(slot) {
+        Some(entry) => send_entry(alloc, me, leader, to, entry, out),
+        None => Ok(()),
+    }
+}
+
+/// Sends what a server lacks of the slots above the checkpoint.
+fn send_slots(
+    alloc: Global,
+    me: &Running,
+    leader: &Leader,
+    to: ServerId,
+    out: &mut Outbox,
+) -> Result<(), StepFault>
+    requires can { CanSend me.now leader.now.next to }
+    requires above { me.now.log.base < leader.now.next }
+    ensures { Sends out.old out.new (flat_map (slot_packets me.now leader.now to) (range_with_len (suc me.now.log.base) (leader.now.next - suc me.now.log.base))) result }
+{
+    let base = me.log.base();
+    for slot in base..leader.next - 1 {
+        send_slot(alloc, me, leader, to, slot + 1, out)?;
+    }
+    Ok(())
+}
+
+/// Sends a probe for each of these reads that no server has confirmed.
+fn send_probes(
+    alloc: Global,
+    me: &Running,
+    reads: &[Read],
+    to: ServerId,
+    out: &mut Outbox,
+) -> Result<(), StepFault>
+    requires { IsPeer me.now to }
+    ensures { Sends out.old out.new (probes me.now to reads.now) result }
+{
+    for read in reads {
+        if !read.confirmed {
+            let number = read.number;
+            send(alloc, out, me.number, to, me.term, Body::Probe { number })?;
+        }
+    }
+    Ok(())
+}
+
+/// Sends to one server what it lacks, as far as the leader knows.
+fn resend_to(
+    alloc: Global,
+    me: &Running,
+    leader: &Leader,
+    to: ServerId,
+    out: &mut Outbox,
+) -> Result<(), StepFault>
+    requires can { CanSend me.now leader.now.next to }
+    requires above { me.now.log.base < leader.now.next }
+    ensures { Sends out.old out.new (resent (server_of (bare me.now) me.now) (leader_of leader.now) to) result }
+{
+    send_image(alloc, me, leader, to, out)?;
+    send_slots(alloc, me, leader, to, out)?;
+    send_probes(alloc, me, me.reads.as_slice(), to, out)
+}
+
+/// Sends to the two other servers what they lack, as far as the leader knows.
+fn resend_to_both(
+    alloc: Global,
+    me: &Running,
+    leader: &Leader,
+    out: &mut Outbox,
+) -> Result<(), StepFault>
+    requires me { me.now.number < 3 }
+    requires can { CanSendToBoth me.now leader.now.next }
+    requires above { me.now.log.base < leader.now.next }
+    ensures { Sends out.old out.new (flat_map (resent (server_of (bare me.now) me.now) (leader_of leader.now)) (others me.now.number)) result }
+{
+    let (first, second) = others_of(me.number);
+    resend_to(alloc, me, leader, first, out)?;
+    resend_to(alloc, me, leader, second, out)
+}
+
+/// Sends again what the role asks for.
+fn send_again(alloc: Global, me: &Running, out: &mut Outbox) -> Result<(), StepFault>
+    requires cached { (d : Durable) × IsCached d me.now }
+    requires bounded { IsBounded me.now }
+    requires own { AreOwn me.now }
+    ensures { Sends out.old out.new (on_resend (server_of (bare me.now) me.now) (role_of me.now.role)).packets result }
+{
+    match &me.role {
+        Role::Follower => {
+            let body = Body::Ack {
+                slot: me.log.base(),
+                upto: me.upto(),
+            };
+            send_to_others(alloc, out, me.number, me.term, body)
+        }
+        Role::Candidate(_) => {
+            let body = Body::RequestVote {
+                base: me.log.base(),
+            };
+            send_to_others(alloc, out, me.number, me.term, body)
+        }
+        Role::Merging(leader) => resend_to_both(alloc, me, leader, out),
+        Role::Serving(leader) => resend_to_both(alloc, me, leader, out),
+    }
+}
+
+/// Sends packets again that may have been lost: a follower acknowledges its checkpoint, a candidate asks for votes, and a leader sends
+/// each other server its sectors, entries, commits and probes, as far as it does not know that they arrived. Nothing is stored.
+///
+/// `NoMemory` (1) and `PacketsFull` (55) change nothing.
+pub fn resend<S: Store>(
+    alloc: Global,
+    _store: &S,
+    me: &Running,
+    out: &mut Outbox,
+) -> Result<Answer, StepFault>
+    requires stands { (d : Durable) × Stands S.holds S.used S.format d _store.now me.now }
+    requires bounded { IsBounded me.now }
+    requires fresh { out.old.acked ≡ None }
+    requires own { AreOwn me.now }
+    ensures step { (d : Durable) → Stands S.holds S.used S.format d _store.now me.now → (let s = server_of d me.now in let o = on_resend s s.role in
+        Steps S.holds S.used S.format S.told S.rose S.was d _store.now me.now out.old _store.now me.now out.new (room_refusal out.old o) o result) }
+{
+    send_again(alloc, me, out)?;
+    Ok(Answer::Done)
+}

@@ -1,0 +1,168 @@
+//! An op is submitted.
+ghost use Rattle.std.specs.Prelude.{◌≡◌, ◌≤◌, ◌<◌, ◌+◌, ◌^◌, None, OnOk};
+ghost use Rattle.std.specs.FinMap as finite;
+ghost use Rattle.pf_entry.specs.Records.{Durable, add_start};
+ghost use Rattle.pf_entry.specs.declared.packets.Body.TheVariants.{Accept as AcceptIs};
+ghost use Rattle.pf_entry.specs.declared.records.Record.TheVariants.{Entry as EntryRecord};
+ghost use Rattle.pf_codec.specs.Spelling.{body_bytes};
+ghost use Rattle.pf_store.specs.Stores.{IsSpelledAs};
+ghost use Rattle.pf_protocol.specs.Answers.{IsSubmitted};
+ghost use Rattle.pf_protocol.specs.Leading.{on_submit};
+ghost use Rattle.pf_state.specs.Bounds.{far};
+ghost use Rattle.pf_state.specs.Packets.{AreCanonical};
+ghost use Rattle.pf_state.specs.Standing.{server_of, setup_of, leader_of, quiet, IsBounded, Stands, Steps, room_refusal};
+ghost use Rattle.pf_state.specs.declared.running.Leader.{Leader as LeaderHere};
+ghost use Rattle.pf_state.specs.declared.running.Role.TheVariants.{Serving as ServingHere};
+ghost use Rattle.pf_state.specs.Outgoing.{Outgoing};
+ghost use Rattle.pf_leader.specs.Submitting.{HasBegun, HasRoom, IsLow, IsNext, IsRoomier, IsRoomierRole, proposed, submit_refusal};
+
+use crate::plans::plan;
+use pf_base::{NoMemory, ServerId};
+use pf_entry::{Body, Entry, Op, Record};
+use pf_protocol::Answer;
+use pf_state::{Leader, Outbox, Role, Running, StepFault, add, send_to_others};
+use pf_store::Store;
+use std::alloc::Global;
+
+/// Takes memory for one more proposal of a serving leader.
+fn reserve_slot(role: &mut Role) -> Result<(), NoMemory>
+    ensures same { IsRoomierRole role.old role.new }
+    ensures room { OnOk result (HasRoom role.new) }
+{
+    if let Role::Serving(leader) = role {
+        leader.acks.reserve(1)?;
+    }
+    Ok(())
+}
+
+/// Takes memory for one more proposal.
+fn reserve(me: &mut Running) -> Result<(), NoMemory>
+    ensures same { IsRoomier me.old me.new }
+    ensures starts { OnOk result (1 ≤ me.new.starts.spare) }
+    ensures acks { OnOk result (HasRoom me.new.role) }
+{
+    reserve_slot(&mut me.role)?;
+    me.starts.reserve()
+}
+
+/// The leader has acknowledged its next slot.
+fn begin(leader: &mut Leader, me: ServerId)
+    requires me { me < 3 }
+    requires room { 1 ≤ leader.old.acks.spare }
+    requires low { leader.old.next ≤ far }
+    ensures { IsNext me leader.old leader.new }
+{
+    leader.acks.begin(me);
+    leader.next += 1;
+}
+
+/// The serving leader has acknowledged its next slot.
+fn begin_slot(role: &mut Role, me: ServerId)
+    requires me { me < 3 }
+    requires room { HasRoom role.old }
+    requires low { IsLow role.old }
+    ensures { HasBegun me role.old role.new }
+{
+    if let Role::Serving(leader) = role {
+        begin(leader, me);
+    }
+}
+
+/// Takes over an entry of the server's own. It takes no memory.
+fn keep(me: &mut Running, entry: Entry)
+    requires number { me.old.number < 3 }
+    requires above { me.old.log.base < entry.slot }
+    requires window { entry.slot ≤ me.old.log.base + 4096 }
+    requires starts { 1 ≤ me.old.starts.spare }
+    requires acks { HasRoom me.old.role }
+    requires low { IsLow me.old.role }
+    ensures starts { me.new.starts.starts ≡ add_start me.old.starts.starts entry.term entry.first }
+    ensures role { HasBegun me.old.number me.old.role me.new.role }
+    ensures others { me.new ≡ record me.old {
+      starts = me.new.starts;
+      role = me.new.role;
+      log = record me.old.log { entries = finite.insert me.old.log.entries entry.slot entry };
+    } }
+{
+    let number = me.number;
+    begin_slot(&mut me.role, number);
+    me.starts.put(entry.term, entry.first);
+    me.log.put(entry);
+}
+
+/// Stores an entry of the server's own, and sends nothing.
+fn store_own<S: Store>(
+    alloc: Global,
+    store: &mut S,
+    me: &mut Running,
+    entry: Entry,
+) -> Result<Answer, StepFault>
+    requires stands { (d : Durable) × Stands S.holds S.used S.format d store.old me.old }
+    requires spelled { IsSpelledAs (S.format store.old) (EntryRecord entry) (body_bytes (EntryRecord entry)) }
+    requires term { entry.term ≡ me.old.term }
+    requires above { me.old.log.base < entry.slot }
+    requires window { entry.slot ≤ me.old.log.base + 4096 }
+    requires starts { 1 ≤ me.old.starts.spare }
+    requires acks { HasRoom me.old.role }
+    requires low { IsLow me.old.role }
+    ensures { (d : Durable) (out : Outgoing) (l : LeaderHere) → Stands S.holds S.used S.format d store.old me.old → out.acked ≡ None → me.old.role ≡ ServingHere l → entry.slot ≡ l.next → (let o = quiet (proposed (server_of d me.old) (leader_of l) entry) in
+        Steps S.holds S.used S.format S.told S.rose S.was d store.old me.old out store.new me.new out (room_refusal out o) o result) }
+{
+    let slot = entry.slot;
+    let kept = Record::Entry(entry.try_clone(alloc)?);
+    add(alloc, store, &kept)?;
+    keep(me, entry);
+    Ok(Answer::Slot(slot))
+}
+
+/// Sends and stores an entry of the server's own.
+fn propose<S: Store>(
+    alloc: Global,
+    store: &mut S,
+    me: &mut Running,
+    entry: Entry,
+    out: &mut Outbox,
+) -> Result<Answer, StepFault>
+    requires stands { (d : Durable) × Stands S.holds S.used S.format d store.old me.old }
+    requires fresh { out.old.acked ≡ None }
+    requires canonical { AreCanonical me.old.number me.old.term (AcceptIs entry) }
+    requires spelled { IsSpelledAs (S.format store.old) (EntryRecord entry) (body_bytes (EntryRecord entry)) }
+    requires term { entry.term ≡ me.old.term }
+    requires above { me.old.log.base < entry.slot }
+    requires window { entry.slot ≤ me.old.log.base + 4096 }
+    requires starts { 1 ≤ me.old.starts.spare }
+    requires acks { HasRoom me.old.role }
+    requires low { IsLow me.old.role }
+    ensures { (d : Durable) (l : LeaderHere) → Stands S.holds S.used S.format d store.old me.old → me.old.role ≡ ServingHere l → entry.slot ≡ l.next → (let o = proposed (server_of d me.old) (leader_of l) entry in
+        Steps S.holds S.used S.format S.told S.rose S.was d store.old me.old out.old store.new me.new out.new (room_refusal out.old o) o result) }
+{
+    let body = Body::Accept(entry.try_clone(alloc)?);
+    send_to_others(alloc, out, me.number, me.term, body)?;
+    store_own(alloc, store, me, entry)
+}
+
+/// A write of whole sectors or a mark is submitted. A serving leader gives it its next slot, stores the entry and sends it to
+/// the two other servers; the answer is the slot.
+///
+/// It is refused with `OldFormat` (97) where it is a mark and the volume has the first format, `BadRange` (10) where its range
+/// does not fit the chunk, `NotLeader` (50), `WindowFull` (30) where the slot is more than 4,096 above the checkpoint,
+/// `PacketsFull` (55) and `LogFull` (41), the first of them that holds. A refusal and `NoMemory` (1) leave the server and the
+/// store as they were; after `Halted` (52) a restart finds the record or not.
+pub fn submit<S: Store>(
+    alloc: Global,
+    store: &mut S,
+    me: &mut Running,
+    op: Op,
+    out: &mut Outbox,
+) -> Result<Answer, StepFault>
+    requires stands { (d : Durable) × Stands S.holds S.used S.format d store.old me.old }
+    requires bounded { IsBounded me.old }
+    requires fresh { out.old.acked ≡ None }
+    requires op { IsSubmitted op }
+    ensures step { (d : Durable) → Stands S.holds S.used S.format d store.old me.old → (let s = server_of d me.old in let o = on_submit (setup_of me.old) s op s.role in
+        Steps S.holds S.used S.format S.told S.rose S.was d store.old me.old out.old store.new me.new out.new (submit_refusal (setup_of me.old) out.old op s) o result) }
+{
+    let entry = plan(alloc, me, op)?;
+    reserve(me)?;
+    propose(alloc, store, me, entry, out)
+}

@@ -1,0 +1,64 @@
+-- A turn begins.
+use Rattle.std.proofs.Common.{◌≡◌, ℕ, suc, ◌-◌, ◌<◌, ◌≤◌, Bool, List, [], ◌∷◌, length, map, Some, slice_get, get_or, arith, refl, sym, ap, subst, ◌∙◌}
+use Rattle.std.proofs.lemmas.Option.{slice_get_read}
+use Rattle.pf_entry.specs.Records.{Durable}
+use Rattle.pf_protocol.specs.Servers.{Setup, Condition}
+use Rattle.pf_protocol.specs.Groups.{Sent}
+use Rattle.pf_network.specs.Pasts.{Past}
+use Rattle.pf_protocol.specs.Outcomes.{Outcome}
+use Rattle.pf_protocol.specs.Answers.{most_packets, room_refusal as group_room_refusal}
+use Rattle.pf_state.specs.Outgoing.{Outgoing}
+use Rattle.pf_state.specs.Standing.{room_refusal}
+use Rattle.pf_network.proofs.Laws.{viable_room}
+use Rattle.pf_restart.specs.Beginning.{IsSeat}
+use Rattle.pf_server.specs.declared.server.Server.{Server}
+use Rattle.pf_server.specs.Conditions.{IsInOrder, IsKnown}
+use Rattle.pf_network.specs.declared.cluster.Cluster.{Cluster}
+use Rattle.pf_network.specs.Going.{IsReached}
+use Rattle.pf_network.specs.Showing.{IsMember, parcel_of}
+use Rattle.pf_network.specs.Turned.{outbox_of}
+use Rattle.pf_network.proofs.Parcels.{same_refusal}
+use Rattle.pf_network.proofs.Fits.{setup_is}
+use Rattle.pf_network.proofs.Laws.{is_known, is_member_number}
+
+pub parcels_length : (xs : List Sent) → length (map parcel_of xs) ≡ length xs
+parcels_length [] = refl
+parcels_length (x ∷ xs) = ap suc (parcels_length xs)
+
+few_sent : (setup : Setup) (past : Past) → (r : ℕ) → r ≤ most_packets → r ≤ 65536
+unfolding most_packets
+few_sent setup past r le = le
+
+module _ {S : Type 0} (holds : S → Durable → Durable → Type 0) (used format : S → ℕ) (told : S → Bool) (setup : Setup) (past : Past) (cluster : Cluster S) (reached : IsReached holds used format told setup past cluster) where
+  pub few_packets : length past.group.packets ≤ 65536
+  few_packets = few_sent setup past (length past.group.packets) (viable_room setup past reached.viable).count
+
+  pub same_packets : length cluster.packets.items ≡ length past.group.packets
+  same_packets = ap length reached.shows.traffic.packets ∙ parcels_length past.group.packets
+
+  pub few_parcels : length cluster.packets.items ≤ 65536
+  few_parcels = omega (arith, few_packets, same_packets)
+
+  -- the server in a place
+  pub server_there : (i : ℕ) (me : Server S) → i < 3 → me ≡ get_or cluster.servers.items i me → slice_get cluster.servers.items i ≡ Some me
+  server_there i me low is = slice_get_read cluster.servers.items 3 i me (sym reached.shows.three) low is
+
+  pub its_condition : (i : ℕ) (me : Server S) → slice_get cluster.servers.items i ≡ Some me → (c : Condition) × (slice_get past.group.servers i ≡ Some c) × IsMember holds used format told setup i me c
+  its_condition i me here = reached.shows.members i me here
+
+  -- a server of the cluster can take its turn
+  pub in_order : (i : ℕ) (me : Server S) → slice_get cluster.servers.items i ≡ Some me → IsInOrder holds used format me.seat me.store me.state
+  in_order i me here =
+      let m = its_condition i me here in
+      record {
+        made = subst IsSeat (sym m.2.seat) (record { number = is_member_number setup past reached.viable reached.short i m.0 m.1; setup = setup_is setup i reached.viable.is_setup });
+        condition = m.0;
+        meets = m.2.meets;
+        known = subst (λ seat. IsKnown seat m.0) (sym m.2.seat) (is_known setup past reached.viable reached.short i m.0 m.1);
+      }
+
+  -- room for the packets of one step is what the group has
+  pub same_room_refusal : (out : Outgoing) → out ≡ outbox_of cluster → (o : Outcome) → room_refusal out o ≡ group_room_refusal past.group o
+  same_room_refusal out fresh o =
+      ap (λ x. room_refusal x o) fresh
+      ∙ same_refusal past.group (outbox_of cluster) (ap (λ n. 65536 - n) same_packets) few_packets reached.shows.traffic.room o

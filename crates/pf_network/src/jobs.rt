@@ -1,0 +1,102 @@
+//! Jobs.
+ghost use Rattle.std.specs.Prelude.{◌≡◌, ◌<◌, IfOk};
+ghost use Rattle.pf_protocol.specs.Servers.{Setup};
+ghost use Rattle.pf_network.specs.Pasts.{Past};
+ghost use Rattle.pf_protocol.specs.declared.events.Event.TheVariants.{Finish, GiveBack};
+ghost use Rattle.pf_network.specs.Claiming.{ClaimsAt};
+ghost use Rattle.pf_network.specs.Going.{GoesTwice, HasGone, HasPast, IsBroughtBack, IsReached, KeepsStores};
+ghost use Rattle.pf_network.specs.Readings.{taken_of};
+
+use crate::Cluster;
+use crate::ends::is_refused;
+use crate::keeping::keep_answers;
+use pf_apply::Claimed;
+use pf_base::{Filled, NoMemory, ServerId, Slot};
+use pf_entry::Job;
+use pf_protocol::{Answer, Refusal};
+use pf_store::Store;
+use std::alloc::Global;
+
+/// The answer with this job, once for the host and once for whoever keeps a history.
+fn both_answers(claim: Claimed) -> (Answer, Answer)
+    ensures first { result.0 ≡ Answer.Job claim.job }
+    ensures second { result.1 ≡ Answer.Job (record claim.job { op = claim.copy }) }
+{
+    let Claimed { job, copy } = claim;
+    let again = Job {
+        server: job.server,
+        life: job.life,
+        slot: job.slot,
+        op: copy,
+    };
+    (Answer::Job(job), Answer::Job(again))
+}
+
+impl<S: Store> Cluster<S> {
+    /// The job of one server; `None` exactly where it has none.
+    fn claim_at(&mut self, alloc: Global, server: ServerId) -> Result<Option<Claimed>, NoMemory>
+        requires server { server < 3 }
+        requires reached { HasPast S.holds S.used S.format S.told self.old }
+        ensures step { (setup : Setup) (past : Past) → IsReached S.holds S.used S.format S.told setup past self.old → ClaimsAt S.holds S.used S.format S.told setup past.group server self.new result }
+        ensures stores { KeepsStores self.old self.new }
+        ensures taken { taken_of self.new ≡ taken_of self.old }
+    {
+        self.servers[server as usize].claim(alloc)
+    }
+
+    /// A job of the least server that has one is claimed: its least slot that is committed, not applied, not in hand and free. The answer
+    /// comes twice, for the host and for whoever keeps the history.
+    ///
+    /// `NoneFree` (60) where no server has one, and `NoMemory` (1), leave the group as it was.
+    pub fn claim(&mut self, alloc: Global) -> Result<(Answer, Answer), NoMemory>
+        requires { HasPast S.holds S.used S.format S.told self.old }
+        ensures twice { IfOk result (λ answers. answers.1 ≡ answers.0) }
+        ensures step { (setup : Setup) (past : Past) → IsReached S.holds S.used S.format S.told setup past self.old → GoesTwice S.holds S.used S.format S.told S.rose S.was setup past.group self.old self.new result }
+    {
+        if let Some(claim) = self.claim_at(alloc, 0)? {
+            return Ok(both_answers(claim));
+        }
+        if let Some(claim) = self.claim_at(alloc, 1)? {
+            return Ok(both_answers(claim));
+        }
+        if let Some(claim) = self.claim_at(alloc, 2)? {
+            return Ok(both_answers(claim));
+        }
+        let none = Refusal::NoneFree;
+        Ok((Answer::Refused(none), Answer::Refused(none)))
+    }
+
+    /// An open claim's job comes back done, and its op is applied. It takes no memory.
+    ///
+    /// `Stale` (61) where the job is of another life, with the life that its server has now, and `Down` (51) where the server never
+    /// ran, leave the group as it was.
+    pub fn finish(&mut self, filled: Filled) -> Answer
+        requires server { filled.server < 3 }
+        requires job { (setup : Setup) × ((past : Past) × IsBroughtBack S.holds S.used S.format S.told setup past self.old filled) }
+        ensures { (setup : Setup) (past : Past) → IsReached S.holds S.used S.format S.told setup past self.old → HasGone S.holds S.used S.format S.told S.rose S.was setup past.group (Finish filled.server filled.life filled.slot) self.old self.new result }
+    {
+        let server = filled.server as usize;
+        let answer = self.servers[server].finish(filled);
+        if is_refused(&answer) {
+            return answer;
+        }
+        keep_answers(&mut self.servers[server], &mut self.readings);
+        answer
+    }
+
+    /// A job of this life of the server comes back undone, and its slot can be claimed again. A job of another life changes nothing. It
+    /// takes no memory.
+    pub fn give_back(&mut self, server: ServerId, life: u64, slot: Slot) -> Answer
+        requires server { server < 3 }
+        requires reached { HasPast S.holds S.used S.format S.told self.old }
+        ensures { (setup : Setup) (past : Past) → IsReached S.holds S.used S.format S.told setup past self.old → HasGone S.holds S.used S.format S.told S.rose S.was setup past.group (GiveBack server life slot) self.old self.new result }
+    {
+        let server = server as usize;
+        if !self.servers[server].is_running() {
+            return Answer::Done;
+        }
+        self.servers[server].give_back(life, slot);
+        keep_answers(&mut self.servers[server], &mut self.readings);
+        Answer::Done
+    }
+}

@@ -1,0 +1,99 @@
+//! Packets come, or are lost.
+ghost use Rattle.std.specs.Prelude.{◌≡◌, ◌<◌, ◌≤◌, ℕ, IfOk, Some, cond, slice_get, slice_set, true, vec_capacity, vec_len};
+ghost use Rattle.pf_entry.specs.Canonical.{IsCanonicalPacket};
+ghost use Rattle.pf_entry.specs.declared.packets.Packet.{Packet as PacketIs};
+ghost use Rattle.pf_wire.specs.Packets.{packet_bytes, PacketFits};
+ghost use Rattle.pf_protocol.specs.Servers.{Setup};
+ghost use Rattle.pf_network.specs.Pasts.{Past};
+ghost use Rattle.pf_protocol.specs.declared.events.Event.TheVariants.{Deliver, Lose};
+ghost use Rattle.pf_network.specs.declared.kept.Parcel.{Parcel as ParcelIs};
+ghost use Rattle.pf_network.specs.Deliveries.{is_delivery};
+ghost use Rattle.pf_network.specs.Going.{Goes, HasGone, HasPast, IsReached};
+
+use crate::{Cluster, Parcel};
+use pf_base::NoMemory;
+use pf_entry::Packet;
+use pf_protocol::{Answer, Refusal};
+use pf_store::Store;
+use pf_wire::decode;
+use std::alloc::Global;
+
+/// The packet that was sent as these bytes.
+fn packet_of(alloc: Global, bytes: &[u8]) -> Result<Packet, NoMemory>
+    ensures { (p : PacketIs) → PacketFits p → IsCanonicalPacket p → packet_bytes p ≡ bytes.now → IfOk result (λ packet. packet ≡ p) }
+{
+    match decode(alloc, bytes) {
+        Ok(packet) => Ok(packet),
+        Err(_) => Err(NoMemory),
+    }
+}
+
+/// Whether a delivery that came to this marks its packet.
+fn is_delivery(outcome: &Result<Answer, NoMemory>) -> bool
+    ensures { result ≡ is_delivery outcome.now }
+{
+    match outcome {
+        Ok(Answer::Refused(Refusal::Halted)) => true,
+        Ok(Answer::Refused(Refusal::Down)) => true,
+        Ok(Answer::Refused(_)) => false,
+        Ok(_) => true,
+        Err(_) => false,
+    }
+}
+
+/// Marks a packet as delivered, where it was.
+fn mark_delivered(packets: &mut Vec<Parcel>, place: usize, outcome: &Result<Answer, NoMemory>)
+    requires { place < vec_len packets.old }
+    ensures items { (parcel : ParcelIs) → slice_get packets.old.items place ≡ Some parcel → packets.new.items ≡ cond (is_delivery outcome.now) (slice_set packets.old.items place (record parcel { delivered = true })) packets.old.items }
+    ensures capacity { vec_capacity packets.old ≤ vec_capacity packets.new }
+{
+    if is_delivery(outcome) {
+        packets[place].delivered = true;
+    }
+}
+
+impl<S: Store> Cluster<S> {
+    /// Packet `k` of all that were sent comes, perhaps once more.
+    ///
+    /// `NoPacket` (53) where there is none, `LostPacket` (54) where it was lost, then `PacketsFull` (55) and `LogFull` (41), the first
+    /// of them that holds, and `NoMemory` (1) leave the group as it was. `Down` (51) where its server does not run, and `Halted` (52)
+    /// where a disk failed: both mark the packet as delivered.
+    pub fn deliver(&mut self, alloc: Global, k: u32) -> Result<Answer, NoMemory>
+        requires { HasPast S.holds S.used S.format S.told self.old }
+        ensures { (setup : Setup) (past : Past) → IsReached S.holds S.used S.format S.told setup past self.old → Goes S.holds S.used S.format S.told S.rose S.was setup past.group (Deliver k) self.old self.new result }
+    {
+        let place = k as usize;
+        if place >= self.packets.len() {
+            return Ok(Answer::Refused(Refusal::NoPacket));
+        }
+        if self.packets[place].lost {
+            return Ok(Answer::Refused(Refusal::LostPacket));
+        }
+        let packet = packet_of(alloc, self.packets[place].bytes.as_slice())?;
+        let to = packet.to;
+        self.acked.reserve()?;
+        let mut out = self.outbox(alloc);
+        let outcome = self.servers[to as usize].receive(alloc, packet, &mut out);
+        let outcome = self.end(to, outcome, &mut out);
+        mark_delivered(&mut self.packets, place, &outcome);
+        outcome
+    }
+
+    /// Packet `k` of all that were sent is lost; it was perhaps delivered before.
+    ///
+    /// `NoPacket` (53) where there is none, and `LostPacket` (54) where it was lost before, leave the group as it was.
+    pub fn lose(&mut self, k: u32) -> Answer
+        requires { HasPast S.holds S.used S.format S.told self.old }
+        ensures { (setup : Setup) (past : Past) → IsReached S.holds S.used S.format S.told setup past self.old → HasGone S.holds S.used S.format S.told S.rose S.was setup past.group (Lose k) self.old self.new result }
+    {
+        let place = k as usize;
+        if place >= self.packets.len() {
+            return Answer::Refused(Refusal::NoPacket);
+        }
+        if self.packets[place].lost {
+            return Answer::Refused(Refusal::LostPacket);
+        }
+        self.packets[place].lost = true;
+        Answer::Done
+    }
+}
