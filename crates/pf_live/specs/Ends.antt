@@ -9,8 +9,8 @@ use Rattle.pf_shared.specs.declared.moment.Moment.TheVariants.{Happened}
 use Rattle.pf_shared.specs.Moments.{entry}
 use Rattle.pf_shared.specs.Since.{state_at}
 use Rattle.pf_live.specs.declared.plan.Plan.{Plan}
-use Rattle.pf_live.specs.declared.ending.LiveEnd.{LiveEnd}
-use Rattle.pf_live.specs.declared.ending.LiveEnd.TheVariants.{Done, Stalled, TurnsSpent}
+use Rattle.pf_base.specs.declared.live_end.LiveEnd.{LiveEnd}
+use Rattle.pf_base.specs.declared.live_end.LiveEnd.TheVariants.{Done, Stalled, TurnsSpent}
 use Rattle.pf_live.specs.Deliveries.{Line, deliveries, least_left}
 use Rattle.pf_live.specs.Submissions.{acked_of, slots_of}
 use Rattle.pf_live.specs.Writes.{op_of, request_of}

@@ -2,7 +2,6 @@
 #![tactic(auto)]
 
 mod applying;
-mod ending;
 mod hosting;
 mod line;
 mod plan;
@@ -11,7 +10,6 @@ mod submitting;
 mod switching;
 
 pub use applying::Applier;
-pub use ending::LiveEnd;
 pub use hosting::Host;
 pub use line::Line;
 pub use plan::Plan;

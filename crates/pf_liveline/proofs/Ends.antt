@@ -1,8 +1,8 @@
 -- The three ends of a line.
 use Rattle.std.proofs.Common.{◌≡◌, ℕ, ◌<◌, Some, arith, refl}
 use Rattle.pf_group.specs.GroupIs.{GroupIs}
-use Rattle.pf_live.specs.declared.ending.LiveEnd.{LiveEnd}
-use Rattle.pf_live.specs.declared.ending.LiveEnd.TheVariants.{Done, Stalled, TurnsSpent}
+use Rattle.pf_base.specs.declared.live_end.LiveEnd.{LiveEnd}
+use Rattle.pf_base.specs.declared.live_end.LiveEnd.TheVariants.{Done, Stalled, TurnsSpent}
 use Rattle.pf_live.specs.declared.plan.Plan.{Plan}
 use Rattle.pf_live.specs.Deliveries.{Line, least_left}
 use Rattle.pf_live.specs.Ends.{HasEnd, IsOpen, NoneIsLeft}

@@ -17,7 +17,7 @@ use Rattle.pf_shared.specs.declared.moment.Moment.{Moment}
 use Rattle.pf_shared.specs.declared.moment.Moment.TheVariants.{Happened}
 use Rattle.pf_shared.specs.Moments.{entry}
 use Rattle.pf_shared.specs.Since.{state_at}
-use Rattle.pf_live.specs.declared.ending.LiveEnd.TheVariants.{Done, Stalled, TurnsSpent}
+use Rattle.pf_base.specs.declared.live_end.LiveEnd.TheVariants.{Done, Stalled, TurnsSpent}
 use Rattle.pf_live.specs.declared.hosting.Host.{Host}
 use Rattle.pf_live.specs.declared.plan.Plan.{Plan}
 use Rattle.pf_live.specs.declared.serving.Served.{Served}

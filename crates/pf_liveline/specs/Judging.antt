@@ -13,7 +13,7 @@ use Rattle.pf_rings.specs.declared.view.Request.{Request}
 use Rattle.pf_shared.specs.declared.parts.SharedGroup.{SharedGroup}
 use Rattle.pf_shared.specs.Seats.{root_in, seen_by, splits_of}
 use Rattle.pf_shared.specs.Since.{state_at}
-use Rattle.pf_live.specs.declared.ending.LiveEnd.{LiveEnd}
+use Rattle.pf_base.specs.declared.live_end.LiveEnd.{LiveEnd}
 use Rattle.pf_live.specs.declared.plan.Plan.{Plan}
 use Rattle.pf_live.specs.declared.serving.Served.{Served}
 use Rattle.pf_live.specs.declared.serving.Standing.TheVariants.{Asked}

@@ -8,10 +8,10 @@ ghost use Rattle.pf_live.specs.Ends.{NoneIsLeft};
 ghost use Rattle.pf_liveline.specs.Crews.{IsCrew};
 ghost use Rattle.pf_liveline.specs.Judging.{AreRefused, HasCount, HasJudged, HasLooked, IsJudged, IsPublished};
 
-use pf_base::{NoMemory, ServerId, Slot, Term};
+use pf_base::{LiveEnd, NoMemory, ServerId, Slot, Term};
 use pf_disk::Disk;
 use pf_leadercell::LeaderPass;
-use pf_live::{Host, Line, LiveEnd, Served, Standing};
+use pf_live::{Host, Line, Served, Standing};
 use pf_shared::GroupSeat;
 use std::sync::Wait;
 

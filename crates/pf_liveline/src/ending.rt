@@ -8,10 +8,10 @@ ghost use Rattle.pf_liveline.specs.Rounds.{HasRun, HasRunOn};
 
 use crate::crew::Crew;
 use crate::running::run;
-use pf_base::NoMemory;
+use pf_base::{LiveEnd, NoMemory};
 use pf_copy::Gate;
 use pf_disk::Disk;
-use pf_live::{Line, LiveEnd};
+use pf_live::Line;
 use std::sync::Wait;
 use std::thread::Threads;
 

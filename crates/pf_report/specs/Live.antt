@@ -2,8 +2,8 @@
 use Rattle.std.specs.Prelude.{ℕ, List, ◌++◌, codes}
 use Rattle.std.specs.List.{flat_map}
 use Rattle.std.specs.Fmt.{decimal}
-use Rattle.pf_report.specs.declared.live.LiveEnd.{LiveEnd}
-use Rattle.pf_report.specs.declared.live.LiveEnd.TheVariants.{Done, Stalled, TurnsSpent}
+use Rattle.pf_base.specs.declared.live_end.LiveEnd.{LiveEnd}
+use Rattle.pf_base.specs.declared.live_end.LiveEnd.TheVariants.{Done, Stalled, TurnsSpent}
 use Rattle.pf_report.specs.Texts.{spaced}
 
 abbrev pub end_text : LiveEnd → List ℕ

@@ -12,7 +12,7 @@ mod records;
 mod sectors;
 
 pub use answers::{put_answer, put_refusal, put_settle};
-pub use live::{LiveEnd, put_live};
+pub use live::put_live;
 pub use logs::{put_acked, put_applied, put_log};
 pub use mounts::{put_call, put_mount, put_ready, put_started, put_state, put_tree};
 pub use records::put_record;

@@ -4,19 +4,8 @@ ghost use Rattle.pf_report.specs.Live.{end_text, live_text};
 ghost use Rattle.pf_report.specs.Texts.{line_of};
 
 use crate::lines::{begun, put_all_spaced, put_ended};
-use pf_base::NoMemory;
+use pf_base::{LiveEnd, NoMemory};
 use pf_text::{put_decimal, put_text};
-
-/// How a live line ends.
-#[derive(Clone, Copy, Debug, PartialEq, Eq)]
-pub enum LiveEnd {
-    /// Every write is acknowledged, and no packet is left.
-    Done,
-    /// No packet is left, and each host with a write that is not acknowledged waits in vain.
-    Stalled,
-    /// All deliveries were made, and a packet is left.
-    TurnsSpent,
-}
 
 /// The words of an end.
 fn words_of(end: LiveEnd) -> &'static [u8]

@@ -1,10 +1,10 @@
 //! Whole lines over disks in memory, whose threads meet.
 use crate::{Lived, live};
-use pf_base::NoMemory;
+use pf_base::{LiveEnd, NoMemory};
 use pf_copy::Gate;
 use pf_disk::RamDisk;
 use pf_group::{Group, Six};
-use pf_live::{LiveEnd, Plan};
+use pf_live::Plan;
 use std::alloc::Global;
 use std::sync::Wait;
 use std::sync::atomic::{AtomicU64, Ordering};

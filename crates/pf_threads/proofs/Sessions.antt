@@ -18,7 +18,7 @@ use Rattle.pf_applyrounds.proofs.Told.{told_longer}
 use Rattle.pf_shared.specs.Moments.{happenings}
 use Rattle.pf_shared.specs.Since.{whole}
 use Rattle.pf_live.specs.declared.plan.Plan.{Plan}
-use Rattle.pf_live.specs.declared.ending.LiveEnd.{LiveEnd}
+use Rattle.pf_base.specs.declared.live_end.LiveEnd.{LiveEnd}
 use Rattle.pf_live.specs.Deliveries.{Line}
 use Rattle.pf_live.specs.Ends.{HasEnd}
 use Rattle.pf_session.specs.Sessions.{HasList}

@@ -3,14 +3,12 @@ use Rattle.std.specs.Prelude.{◌≡◌, ℕ, ◌-◌, IsTrue, List, [], ◌∷�
 use Rattle.pf_protocol.specs.declared.events.Event.{Event}
 use Rattle.pf_group.specs.GroupIs.{GroupIs}
 use Rattle.pf_report.specs.Live.{live_text}
-use Rattle.pf_report.specs.declared.live.LiveEnd as reports
-use Rattle.pf_report.specs.declared.live.LiveEnd.TheVariants as told
 use Rattle.pf_applyrounds.specs.Halts.{Halt}
 use Rattle.pf_applyrounds.specs.Chunks.{Chunk}
 use Rattle.pf_applyrounds.specs.Agreeing.{chunk_of}
 use Rattle.pf_shared.specs.Moments.{happenings}
-use Rattle.pf_live.specs.declared.ending.LiveEnd.{LiveEnd}
-use Rattle.pf_live.specs.declared.ending.LiveEnd.TheVariants.{Done, Stalled, TurnsSpent}
+use Rattle.pf_base.specs.declared.live_end.LiveEnd.{LiveEnd}
+use Rattle.pf_base.specs.declared.live_end.LiveEnd.TheVariants.{Done}
 use Rattle.pf_live.specs.declared.plan.Plan.{Plan}
 use Rattle.pf_live.specs.Deliveries.{Line}
 use Rattle.pf_live.specs.Ends.{HasEnd}
@@ -32,16 +30,10 @@ abbrev pub next_session : List Session → Session
 next_session [] = no_session
 next_session (session ∷ sessions) = session
 
--- the word of an end in a report
-abbrev pub told_end : LiveEnd → reports.LiveEnd
-told_end Done = told.Done
-told_end Stalled = told.Stalled
-told_end TurnsSpent = told.TurnsSpent
-
 -- A line that had this end is told by the slots that were acknowledged from the one state to the other, and by the jobs that were finished on
 -- servers 0, 1 and 2
 abbrev pub session_text : (old new : Chunk) → LiveEnd → List ℕ
-session_text old new end = live_text (length new.state.acked - length old.state.acked) (applied_on_each (drop (length old.history) new.history)) (told_end end)
+session_text old new end = live_text (length new.state.acked - length old.state.acked) (applied_on_each (drop (length old.history) new.history)) end
 
 -- the plan has these numbers, over a chunk of so many sectors
 pub record IsPlan (hosts writes workers turns sectors : ℕ) (plan : Plan) : Type 0 where
@@ -51,8 +43,8 @@ pub record IsPlan (hosts writes workers turns sectors : ℕ) (plan : Plan) : Typ
   pub turns_are : plan.turns ≡ turns
   pub sectors_are : plan.sectors ≡ sectors
 
--- Under a list of halts these events, over a group that stands where the chunk does, whose disks tell their content, are those of a list of entries each of which is a step
--- or a look by one of the line's seats; they are answered as the entries tell.
+-- Under a list of halts these events, over a group that stands where the chunk does and whose disks tell their content, are those of a list of
+-- entries each of which is a step or a look by one of the line's seats; they are answered as the entries tell
 pub record IsPartOfSession (halts : List Halt) (plan : Plan) (c : Chunk) (events : List Event) : Type 0 where
   pub root : GroupIs
   pub told : IsTrue root.told

@@ -1,8 +1,6 @@
 //! Live lines over a chunk: its group is handed to threads until their line has ended, and then followed up.
 #![tactic(auto)]
 
-mod ends;
 mod living;
 
-pub use ends::told_end;
 pub use living::{live, live_at};

@@ -4,14 +4,14 @@ use Rattle.pf_script.specs.declared.command.Command.{Command}
 use Rattle.pf_script.specs.declared.command.Command.TheVariants as commands
 use Rattle.pf_report.specs.Live.{live_text}
 use Rattle.pf_report.specs.Texts.{line_of}
-use Rattle.pf_report.specs.declared.live.LiveEnd.{LiveEnd}
+use Rattle.pf_base.specs.declared.live_end.LiveEnd.{LiveEnd}
 use Rattle.pf_chunk.specs.Views.{ChunkIs}
 use Rattle.pf_hosts.specs.Steps.{AreReady}
 use Rattle.pf_fleet.specs.Steps.{AreSameHosts, HasGone, HasStopped, IsFleetOf}
 use Rattle.pf_fleet.specs.Volumes.{hosts_step}
 use Rattle.pf_live.specs.declared.plan.Plan.{Plan}
 use Rattle.pf_session.specs.declared.session.Lived.{Lived}
-use Rattle.pf_threads.specs.Sessions.{IsPlan, told_end}
+use Rattle.pf_threads.specs.Sessions.{IsPlan}
 use Rattle.pf_threads.specs.Steps.{HasHeld, HasNotLived, IsAt}
 use Rattle.pf_world.specs.declared.kind.Kind.{Kind}
 use Rattle.pf_world.specs.declared.kind.Kind.TheVariants.{Raw}
@@ -64,7 +64,7 @@ module _ (old : WorldIs) (number chunk hosts writes workers turns : ℕ) (world 
             subst (HasFailed old number live) next_is
             (text_fails old number chunk hosts writes workers turns world raw plan is_plan at.was at.there at.is told before middle at.became next.chunks next.fleet later steps_of)
 
-        pub live_runs : (after : List ℕ) (end : LiveEnd) → AreSameHosts old.fleet next.fleet → end ≡ told_end told.end → after ≡ later ++ line_of number (live_text told.totals.acked told.totals.applied end) → HasRun old number live before after next
+        pub live_runs : (after : List ℕ) (end : LiveEnd) → AreSameHosts old.fleet next.fleet → end ≡ told.end → after ≡ later ++ line_of number (live_text told.totals.acked told.totals.applied end) → HasRun old number live before after next
         live_runs after end same ends put =
             subst (HasRun old number live before after) next_is
             (lived_runs old number chunk hosts writes workers turns world raw plan is_plan at.was at.there at.is told before middle at.became next.chunks next.fleet later steps_of after same

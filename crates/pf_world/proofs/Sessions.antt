@@ -38,7 +38,7 @@ use Rattle.pf_fleet.specs.Steps as fleets
 use Rattle.pf_fleet.specs.Volumes.{hosts_step, quietly}
 use Rattle.pf_fleet.proofs.Events.{event_and_steps, event_stopped, event_then_steps, event_then_stopped, fleet_after, ready_after}
 use Rattle.pf_fleet.proofs.Growing.{grown_refl_all, tells_before}
-use Rattle.pf_threads.specs.Sessions.{IsPartOfSession, IsPlan, Session, no_session, session_text, told_end}
+use Rattle.pf_threads.specs.Sessions.{IsPartOfSession, IsPlan, Session, no_session, session_text}
 use Rattle.pf_threads.specs.Steps.{HasHeld}
 use Rattle.pf_threads.specs.Steps as threads
 use Rattle.pf_world.specs.declared.kind.Kind.{Kind}
@@ -204,15 +204,15 @@ module _ (old : WorldIs) (number chunk hosts writes workers turns : ℕ) (world 
             }) (λ halts. part_held halts chunks steps.grown)
 
         abbrev text : List ℕ
-        text = live_text told.totals.acked told.totals.applied (told_end told.end)
+        text = live_text told.totals.acked told.totals.applied told.end
 
         text_is : (halts : List Halt) → TellsOfGroup halts is.group → session_text (chunk_of halts was.group) (all_happened halts h.session.events (run_of halts was)).chunk.group h.session.ended ≡ text
         text_is halts tells =
             let grown = h.went.grown in
             ap (λ (x : Happened). session_text (chunk_of halts was.group) x.chunk.group h.session.ended) (h.went.run halts tells)
-            ∙ ap (λ a. live_text a (applied_on_each (drop (length (told_history halts was.group)) (told_history halts is.group))) (told_end h.session.ended)) (sym (h.totals.acked (subst IsTrue grown.told tells.told)))
-            ∙ ap (λ a. live_text told.totals.acked a (told_end h.session.ended)) (added halts was.group is.group grown ∙ sym h.totals.applied)
-            ∙ ap (λ e. live_text told.totals.acked told.totals.applied (told_end e)) (sym h.ended)
+            ∙ ap (λ a. live_text a (applied_on_each (drop (length (told_history halts was.group)) (told_history halts is.group))) h.session.ended) (sym (h.totals.acked (subst IsTrue grown.told tells.told)))
+            ∙ ap (λ a. live_text told.totals.acked a h.session.ended) (added halts was.group is.group grown ∙ sym h.totals.applied)
+            ∙ ap (λ e. live_text told.totals.acked told.totals.applied e) (sym h.ended)
 
         pub lived_runs : (after : List ℕ) → AreSameHosts old.fleet fleet → after ≡ later ++ line_of number text → HasRun old number live before after (becomes old chunks fleet kind_then)
         lived_runs after same put =

@@ -12,7 +12,7 @@ use pf_copy::Gate;
 use pf_disk::Disk;
 use pf_live::Plan;
 use pf_report::{put_live, put_refusal};
-use pf_threads::{live_at, told_end};
+use pf_threads::live_at;
 use std::alloc::Global;
 use std::sync::Wait;
 use std::thread::Threads;
@@ -55,12 +55,6 @@ impl<D: Disk + Drop + Send> World<D> {
         let lived = live_at(rt, alloc, &mut self.chunks, group, plan, gate, out)?;
         self.step_hosts(rt, alloc, gate, out)?;
         let totals = lived.totals;
-        put_live(
-            out,
-            number,
-            totals.acked,
-            totals.applied,
-            told_end(lived.end),
-        )
+        put_live(out, number, totals.acked, totals.applied, lived.end)
     }
 }

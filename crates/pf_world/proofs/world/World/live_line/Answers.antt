@@ -107,7 +107,7 @@ returns-clause-ran g c =
     let after = c.put_live.new.out.items in
     on_ok c.put_live.result _ _ (λ put.
     subst (λ (x : WorldIs). HasRun x a.number (Live a.group a.hosts a.writes a.workers a.turns) a.out.now.items after next) same
-    (live_runs old a.number a.group a.hosts a.writes a.workers a.turns world kind c.decided-kind.ensures raw _ c.in_ok-lived.lived a.out.now.items c.live_at.new.out.items c.live_at.new.chunks.items c.in_ok-lived.ensures.went (record { hosts_are = refl; writes_are = refl; workers_are = refl; turns_are = refl; sectors_are = refl }) next c.step_hosts.ensures.others c.step_hosts.new.out.items c.in_ok-step_hosts.ensures.went after c.told_end.result c.in_ok-step_hosts.ensures.same c.told_end.ensures put)) c.put_live.ensures.ok
+    (live_runs old a.number a.group a.hosts a.writes a.workers a.turns world kind c.decided-kind.ensures raw _ c.in_ok-lived.lived a.out.now.items c.live_at.new.out.items c.live_at.new.chunks.items c.in_ok-lived.ensures.went (record { hosts_are = refl; writes_are = refl; workers_are = refl; turns_are = refl; sectors_are = refl }) next c.step_hosts.ensures.others c.step_hosts.new.out.items c.in_ok-step_hosts.ensures.went after c.in_ok-lived.lived.end c.in_ok-step_hosts.ensures.same refl put)) c.put_live.ensures.ok
 
 pub returns-clause-err : goal.returns-clause-err
 returns-clause-err g c =

@@ -1,4 +1,4 @@
-//! How a live line ends.
+//! The ends of a line of threads.
 
 /// How a live line ends.
 #[derive(Clone, Copy, Debug, PartialEq, Eq)]
