@@ -12,10 +12,14 @@ use Rattle.pf_asks.specs.Desks.{Call, Led, Submitted, Fetched, WasAcked, Took}
 pub record PortIs : Type 0 where
   pub ask : Option Ask  -- the one that is pending
   pub sent : Option Sent  -- what tells its answer, where its last submission was taken up
-  pub last : ℕ  -- the term of the last leader to which it submitted, 0 where it never did
+  pub last : ℕ  -- the term of the last leader of its group to which it submitted, 0 where it never did
 
 abbrev pub new_port : PortIs
 new_port = record { ask = None; sent = None; last = 0 }
+
+-- at another group: the pending ask counts as not submitted, and no leader of that group was submitted to
+abbrev pub rehomed : PortIs → PortIs
+rehomed port = record port { sent = None; last = 0 }
 
 -- A pending ask goes to the leader of this term: one that was not taken up where the term is not below the port's last, and one that
 -- was where it is above.

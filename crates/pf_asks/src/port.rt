@@ -5,7 +5,7 @@ ghost use Rattle.pf_entry.specs.Lists.{Every};
 ghost use Rattle.pf_base.specs.Asks.{Answers, IsValid};
 ghost use Rattle.pf_base.specs.declared.asks.Ask.{Ask as AskIs};
 ghost use Rattle.pf_asks.specs.Desks.{Call, CallsLead, IsLook};
-ghost use Rattle.pf_asks.specs.Ports.{Drives, Hands, IsCounted, IsLed, IsOfKind, IsSentOf, LooksFor, NeverLower, goes_to, new_port};
+ghost use Rattle.pf_asks.specs.Ports.{Drives, Hands, IsCounted, IsLed, IsOfKind, IsSentOf, LooksFor, NeverLower, goes_to, new_port, rehomed};
 
 use crate::Desk;
 use pf_base::{Ask, NoMemory, Reply, ServerId, Slot, Term};
@@ -75,6 +75,15 @@ impl Port {
         ensures { IsTrue result ↔ IsSome self.now.ask }
     {
         self.ask.is_some()
+    }
+
+    /// Goes to another group, which serves the chunk from here on: the pending ask, if there is one, counts as not submitted, so no
+    /// answer of the old group is taken for its reply, and the terms begin anew.
+    pub fn rehome(&mut self)
+        ensures { self.new ≡ rehomed self.old }
+    {
+        self.last = 0;
+        self.sent = None;
     }
 
     /// One step for the pending ask: its reply, if the group has answered its last submission. Else the ask is handed to the leader of
