@@ -5,7 +5,7 @@ use Rattle.pf_paxos.specs.Deciding.{Decides}
 use Rattle.pf_anchors.specs.Deciding.{AreAllRegisters, DecidesOver}
 use Rattle.pf_anchors.specs.Runs.{Event, history_of}
 use Rattle.pf_anchors.proofs.Steady.{own, lags_at, there_grows, own_sound}
-use Rattle.pf_anchors.proofs.Picking.{turns}
+use Rattle.pf_anchors.proofs.Holding.{turns}
 use Rattle.pf_anchors.proofs.Choosing.{Two, IsOf, picks_at, within}
 use Rattle.pf_paxos.proofs.Quorums.{DecidesOn, one_value_decided}
 
@@ -42,5 +42,5 @@ one_decision es registers a b v w x y =
     (there_grows es)
     (λ k m t lm. let l = lags_at es k m t lm in record { at = l.at; is = l.is })
     (own_sound es)
-    (λ m t lm. picks_at es registers m t lm)
+    (λ m t lm some. (picks_at es registers m t lm some).picks)
     a b v w (decides_on es a v x) (decides_on es b w y)

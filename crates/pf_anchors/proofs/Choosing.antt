@@ -1,11 +1,11 @@
 -- Each value of phase 2 was picked by what phase 1 read on two anchors.
 use Rattle.std.proofs.Common.{◌≡◌, ℕ, zero, suc, ◌<◌, ◌≤◌, ◌≢◌, ◌⊎◌, inl, inr, Bool, true, false, cond, ◌==◌, nat_lt, List, [], Some, slice_get, arith, refl, sym, ap, subst, ◌∙◌}
 use Rattle.std.specs.Prelude.{unwrap_or}
-use Rattle.std.proofs.lemmas.Bool.{cond-false, ne_eqb, ltb-true, ltb-false}
+use Rattle.std.proofs.lemmas.Bool.{cond-false, cond-true, eq-eqb, ne_eqb, ltb-true, ltb-false}
 use Rattle.pf_paxos.specs.declared.block.Block.{Block}
 use Rattle.pf_paxos.specs.Blocks.{greatest_mbal}
 use Rattle.pf_paxos.specs.Proposers.{value_of}
-use Rattle.pf_paxos.specs.Registers.{Turn, Gives}
+use Rattle.pf_paxos.specs.Registers.{Gives}
 use Rattle.pf_anchors.specs.declared.anchors.AnchorNext.TheVariants.{Read}
 use Rattle.pf_anchors.specs.declared.anchors.Phase.TheVariants.{Claiming}
 use Rattle.pf_anchors.specs.declared.anchors.Stage.{Stage}
@@ -19,7 +19,8 @@ use Rattle.pf_anchors.proofs.Moments.{state, Changes, changes}
 use Rattle.pf_anchors.proofs.Stepping.{advanced_at, IsReading, Late, Aborts, Goes, Proposes, Lacks, Decides as DecidesNow, IsStep, ByStart, ByAsk, ByWritten, ByRead, is_step}
 use Rattle.pf_anchors.proofs.Steady.{own, IsSteady, steady_at, first_less}
 use Rattle.pf_anchors.proofs.Keeping.{Kept, AllDone, kept_done}
-use Rattle.pf_anchors.proofs.Picking.{IsSeen, turns, PartKept, AllKept, all_at, all_seen, all_advanced, here_turn}
+use Rattle.pf_anchors.proofs.Holding.{turns, PartKept, AllKept, all_at, all_advanced}
+use Rattle.pf_anchors.proofs.Picking.{SeenLow, AllSeen, seen_at, all_seen}
 use Rattle.pf_paxos.proofs.Quorums.{Gathers, Picks}
 
 -- two anchors
@@ -109,8 +110,13 @@ best_done_is parts mine =
     by_anchor false false x y z is = z.covers is
 
 module _ (es : List Event) where
+  -- how a ballot's value was picked: where phase 1 saw none, it is the own input
+  pub record PicksBy (m ballot : ℕ) (value : List ℕ) : Type 0 where
+    pub picks : Picks (turns es) (own es) Two IsOf m ballot value
+    pub otherwise : (own es picks.picked.best picks.picked.at).bal ≡ 0 → value ≡ unwrap_or (state es m picks.picked.moment).input []
+
   abbrev pub PicksIfAny : ℕ → Block → Type 0
-  PicksIfAny m b = 0 < b.bal → Picks (turns es) (own es) Two IsOf m b.bal b.value
+  PicksIfAny m b = 0 < b.bal → PicksBy m b.bal b.value
 
   -- a part that is done says what was read
   pub part_done : (m a t : ℕ) (mine : Block) (part : Part) → part.stage ≡ Done → PartKept es m a t mine part → AllDone (turns es a) m t mine part.best.bal
@@ -126,7 +132,10 @@ module _ (es : List Event) where
   pub within : (q : Two) (a : ℕ) → IsOf q a → a < 3
   within q a of = elim of [ inl same ↦ omega (arith, same, q.is_one) | inr same ↦ omega (arith, same, q.is_two) ]
 
-  module _ (registers : AreAllRegisters (history_of es)) (m t : ℕ) (lm : m < 16) (p : AnchorsIs) (here : own es m t ≡ p.own) (steady : IsSteady m p) (all : AllKept es m t p) where
+  module _ (registers : AreAllRegisters (history_of es)) (m t : ℕ) (lm : m < 16) (p : AnchorsIs) (there : state es m t ≡ p) (steady : IsSteady m p) (kept : AllKept es m t p) (seen : AllSeen es t p) where
+    here : own es m t ≡ p.own
+    here = ap (λ (q : AnchorsIs). q.own) there
+
     module _ (a : ℕ) (la : a < 3) (half : ℕ) (is : (part_at p.parts a).asked ≡ Read half) (blocks : List Block) (on_time : (part_at p.parts a).is_late ≡ false) (none : greatest_mbal blocks ≤ p.own.mbal) (now : (b : ℕ) → slice_get (turns es b) t ≡ Some (turn_on b (turn_answered m a (Gives blocks)))) where
       abbrev q : AnchorsIs
       q = advanced_at p a blocks
@@ -134,36 +143,42 @@ module _ (es : List Event) where
       abbrev best : Block
       best = best_done q.parts p.own
 
-      seen_best : IsSeen es t best × (best.bal ≤ p.own.mbal)
+      seen_best : SeenLow es t p.own.mbal best
       seen_best = elim (best_done_is q.parts p.own).one [
-        | inl same ↦ (record { mount = m; is_mount = lm; at = t; earlier = omega arith; bal = ap (λ (b : Block). b.bal) (same ∙ sym here); value = ap (λ (b : Block). b.value) (same ∙ sym here) }, omega (arith, ap (λ (b : Block). b.bal) same, steady.low))
-        | inr x ↦
-            let s = all_seen es m t lm p all registers a la half is blocks on_time none (now a ∙ ap (λ (y : Turn). Some y) (here_turn a _)) x.0 x.1.0 in
-            (subst (IsSeen es t) (sym x.1.1) s.0, subst (λ (b : Block). b.bal ≤ p.own.mbal) (sym x.1.1) s.1)
+        | inl same ↦ record {
+          seen = record { mount = m; is_mount = lm; at = t; earlier = omega arith; bal = ap (λ (b : Block). b.bal) (same ∙ sym here); value = ap (λ (b : Block). b.value) (same ∙ sym here) };
+          low = omega (arith, ap (λ (b : Block). b.bal) same, steady.low);
+        }
+        | inr x ↦ subst (SeenLow es t p.own.mbal) (sym x.1.1) (all_seen es m t lm p seen registers kept a la half is blocks on_time none now x.0 x.1.0)
       ]
 
-      pub picked_now : is_over q.parts ≡ true → p.phase ≡ Claiming → Picks (turns es) (own es) Two IsOf m p.own.mbal (value_of best p.input)
+      pub picked_now : is_over q.parts ≡ true → p.phase ≡ Claiming → PicksBy m p.own.mbal (value_of best p.input)
       picked_now over first =
           let two = over_two q.parts over in
           let s = seen_best in
           let less = first_less m lm p steady first in
           record {
-            picked = record {
-              moment = t;
-              before = omega (arith, less, ap (λ (b : Block). b.bal) here);
-              best = s.0.mount;
-              is_mount = s.0.is_mount;
-              at = s.0.at;
-              earlier = s.0.earlier;
-              not_above = omega (arith, s.1, s.0.bal);
-              takes = λ some. cond-false (best.bal == 0) (unwrap_or p.input []) best.value (ne_eqb best.bal 0 (λ e. absurd (omega (arith, e, some, s.0.bal)))) ∙ s.0.value;
+            picks = record {
+              picked = record {
+                moment = t;
+                before = omega (arith, less, ap (λ (b : Block). b.bal) here);
+                best = s.seen.mount;
+                is_mount = s.seen.is_mount;
+                at = s.seen.at;
+                earlier = s.seen.earlier;
+                not_above = omega (arith, s.low, s.seen.bal);
+                takes = λ some. cond-false (best.bal == 0) (unwrap_or p.input []) best.value (ne_eqb best.bal 0 (λ e. absurd (omega (arith, e, some, s.seen.bal)))) ∙ s.seen.value;
+              };
+              quorum = two.both;
+              gathers = λ b of.
+                  let lb = within two.both b of in
+                  let k = all_advanced es m t lm p kept a la half is blocks on_time none now b lb in
+                  let covers = (best_done_is q.parts p.own).covers b lb (two.done b of) in
+                  gathers_done m b (suc t) (own es s.seen.mount s.seen.at).bal p.own (part_at q.parts b) (omega (arith, covers, s.seen.bal)) (part_done m b (suc t) p.own (part_at q.parts b) (two.done b of) k);
             };
-            quorum = two.both;
-            gathers = λ b of.
-                let lb = within two.both b of in
-                let k = all_advanced es m t lm p all registers a la half is blocks on_time none (now a ∙ ap (λ (y : Turn). Some y) (here_turn a _)) now b lb in
-                let covers = (best_done_is q.parts p.own).covers b lb (two.done b of) in
-                gathers_done m b (suc t) (own es s.0.mount s.0.at).bal p.own (part_at q.parts b) (omega (arith, covers, s.0.bal)) (part_done m b (suc t) p.own (part_at q.parts b) (two.done b of) k);
+            otherwise = λ none_seen.
+                cond-true (best.bal == 0) (unwrap_or p.input []) best.value (eq-eqb best.bal 0 (omega (arith, none_seen, s.seen.bal)))
+                ∙ ap (λ (x : AnchorsIs). unwrap_or x.input []) (sym there);
           }
 
     picks_read : PicksIfAny m p.own → (a : ℕ) → a < 3 → (half : ℕ) → (part_at p.parts a).asked ≡ Read half → (blocks : List Block) → ((b : ℕ) → slice_get (turns es b) t ≡ Some (turn_on b (turn_answered m a (Gives blocks)))) → (o : Outcome) → IsReading p a blocks o → PicksIfAny m o.anchors.own
@@ -183,7 +198,7 @@ module _ (es : List Event) where
   module _ (registers : AreAllRegisters (history_of es)) where
     picks_then : (m t : ℕ) → m < 16 → PicksIfAny m (own es m t) → Changes es m t → PicksIfAny m (own es m (suc t))
     picks_then m t lm k (inl stays) = subst (λ (q : AnchorsIs). PicksIfAny m q.own) (sym stays.same) k
-    picks_then m t lm k (inr mv) = subst (λ (q : AnchorsIs). PicksIfAny m q.own) (sym mv.becomes) (picks_next registers m t lm (state es m t) refl (steady_at es m t lm) (all_at es registers m t lm) k mv.move (is_step m (state es m t) mv.call mv.move mv.is) mv.turn)
+    picks_then m t lm k (inr mv) = subst (λ (q : AnchorsIs). PicksIfAny m q.own) (sym mv.becomes) (picks_next registers m t lm (state es m t) refl (steady_at es m t lm) (all_at es m t lm) (seen_at es registers m t lm) k mv.move (is_step m (state es m t) mv.call mv.move mv.is) mv.turn)
 
     pub picks_at : (m t : ℕ) → m < 16 → PicksIfAny m (own es m t)
     picks_at m zero lm = λ some. absurd (omega (arith, some))

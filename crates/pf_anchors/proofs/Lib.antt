@@ -3,8 +3,10 @@ pub mod Moments
 pub mod Stepping
 pub mod Steady
 pub mod Keeping
+pub mod Holding
 pub mod Picking
 pub mod Choosing
 pub mod Agreement
+pub mod PuttingIn
 pub mod Telling
 pub mod Worked

@@ -48,6 +48,7 @@ pub record Stays (es : List Event) (m t : ℕ) : Type 0 where
 
 pub record Moves (es : List Event) (m t : ℕ) : Type 0 where
   pub call : Call
+  pub event : slice_get es t ≡ Some (Calls m call)
   pub move : Move
   pub is : move_in m (state es m t) call ≡ Some move
   pub becomes : state es m (suc t) ≡ move.anchors
@@ -126,6 +127,7 @@ module _ (es : List Event) (m t : ℕ) (is_mount : m < 16) where
   called k call at (Some move) is own other (inl same) =
       inr (record {
         call = call;
+        event = at ∙ ap (λ j. Some (Calls j call)) same;
         move = move;
         is = sym (own same);
         becomes = ap (λ ps. ps m) (run_next opening t es (Calls k call) at) ∙ ap (λ o. put (run opening (take t es)) k o m) is ∙ cond-true (m == k) move.anchors (run opening (take t es) m) (eq-eqb m k (sym same));

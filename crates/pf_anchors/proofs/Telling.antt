@@ -1,26 +1,26 @@
--- What a mount tells as decided is decided.
+-- What a mount tells as decided is decided, over any memory.
 use Rattle.std.proofs.Common.{◌≡◌, ℕ, suc, ◌<◌, ◌≤◌, inl, inr, Bool, true, false, cond, nat_lt, List, take, Some, None, slice_get, arith, refl, ap, subst, ◌∙◌}
 use Rattle.std.proofs.lemmas.Bool.{ltb-true}
 use Rattle.pf_paxos.specs.declared.block.Block.{Block}
 use Rattle.pf_paxos.specs.Blocks.{IsBallot}
-use Rattle.pf_paxos.specs.Registers.{Turn, HasWritten, Gives}
+use Rattle.pf_paxos.specs.Registers.{HasWritten, Gives}
 use Rattle.pf_paxos.specs.Deciding.{Decides}
 use Rattle.pf_anchors.specs.declared.anchors.AnchorNext.TheVariants.{Read}
 use Rattle.pf_anchors.specs.declared.anchors.AnchorStep.TheVariants.{Decided}
 use Rattle.pf_anchors.specs.Anchors.{AnchorsIs, Outcome, part_at}
-use Rattle.pf_anchors.specs.Deciding.{turn_on, AreAllRegisters, IsDecidedOver}
+use Rattle.pf_anchors.specs.Deciding.{turn_on, IsDecidedOver}
 use Rattle.pf_anchors.specs.Runs.{Call, Event, Calls, Move, move_in, move_of, opening, run, turn_of_move, turn_answered, history_of}
 use Rattle.pf_anchors.proofs.Moments.{state, turn_at}
 use Rattle.pf_anchors.proofs.Stepping.{advanced_at, IsReading, Late, Aborts, Goes, Proposes, Lacks, Decides as DecidesNow, IsStep, ByStart, ByAsk, ByWritten, ByRead, is_step}
 use Rattle.pf_anchors.proofs.Steady.{Stance, steady_at}
 use Rattle.pf_anchors.proofs.Keeping.{AllDone}
-use Rattle.pf_anchors.proofs.Picking.{turns, all_at, all_advanced, here_turn}
+use Rattle.pf_anchors.proofs.Holding.{turns, all_at, all_advanced}
 use Rattle.pf_anchors.proofs.Choosing.{over_two, part_done}
 
 same_value : {v w : List ℕ} → Decided v ≡ Decided w → v ≡ w
 same_value e = cc
 
-module _ (es : List Event) (registers : AreAllRegisters (history_of es)) (m t : ℕ) (lm : m < 16) where
+module _ (es : List Event) (m t : ℕ) (lm : m < 16) where
   abbrev p : AnchorsIs
   p = state es m t
 
@@ -48,7 +48,7 @@ module _ (es : List Event) (registers : AreAllRegisters (history_of es)) (m t : 
   told_read a la half is blocks now o (Lacks _) v told = absurd (grind (arith, told))
   told_read a la half is blocks now o (DecidesNow on_time none over second) v told =
       let two = over_two (advanced_at p a blocks).parts over in
-      let k = all_advanced es m t lm p (all_at es registers m t lm) registers a la half is blocks on_time none (now a ∙ ap (λ (y : Turn). Some y) (here_turn a _)) now in
+      let k = all_advanced es m t lm p (all_at es m t lm) a la half is blocks on_time none now in
       let stance : (p.own.bal ≡ p.own.mbal) × IsBallot m p.own.mbal = subst (λ ph. Stance ph m p.own) second (steady_at es m t lm).stance in
       let x = decides_at two.both.one (part_at (advanced_at p a blocks).parts two.both.one).best.bal v (same_value told) stance (part_done es m two.both.one (suc t) p.own (part_at (advanced_at p a blocks).parts two.both.one) (two.done two.both.one (inl refl)) (k two.both.one two.both.is_one)) in
       let y = decides_at two.both.two (part_at (advanced_at p a blocks).parts two.both.two).best.bal v (same_value told) stance (part_done es m two.both.two (suc t) p.own (part_at (advanced_at p a blocks).parts two.both.two) (two.done two.both.two (inr refl)) (k two.both.two two.both.is_two)) in
@@ -67,12 +67,12 @@ module _ (es : List Event) (registers : AreAllRegisters (history_of es)) (m t : 
   told_step move (ByWritten a la b is) now v told = absurd (grind (arith, told))
   told_step move (ByRead a la half is blocks o reading) now v told = told_read a la half is blocks now o reading v told
 
-pub told : (es : List Event) → AreAllRegisters (history_of es) → (t m : ℕ) (call : Call) (move : Move) (v : List ℕ) → slice_get es t ≡ Some (Calls m call) → move_of (run opening (take t es)) (Calls m call) ≡ Some move → move.step ≡ Decided v → IsDecidedOver (history_of es) t v
-told es registers t m call move v at is tells = by (nat_lt m 16) refl is
+pub told : (es : List Event) (t m : ℕ) (call : Call) (move : Move) (v : List ℕ) → slice_get es t ≡ Some (Calls m call) → move_of (run opening (take t es)) (Calls m call) ≡ Some move → move.step ≡ Decided v → IsDecidedOver (history_of es) t v
+told es t m call move v at is tells = by (nat_lt m 16) refl is
   where
     now : (b : ℕ) → slice_get (turns es b) t ≡ Some (turn_on b move.turn)
     now b = turn_at b opening t es (Calls m call) at ∙ ap (λ o. Some (turn_on b (turn_of_move o))) is
 
     by : (c : Bool) → nat_lt m 16 ≡ c → cond c (move_in m (state es m t) call) None ≡ Some move → IsDecidedOver (history_of es) t v
-    by true low same = told_step es registers m t (ltb-true m 16 low) move (is_step m (state es m t) call move same) now v tells
+    by true low same = told_step es m t (ltb-true m 16 low) move (is_step m (state es m t) call move same) now v tells
     by false high same = absurd (grind (arith, same))

@@ -206,4 +206,4 @@ silent_registers (suc (suc zero)) low = subst AreRegisters same_2 (of_atomic on_
 silent_registers (suc (suc (suc n))) low = absurd (omega (arith, low))
 
 pub silent_decided : IsDecidedOver (history_of silent_events) 25 (7 ∷ [])
-silent_decided = told silent_events silent_registers 25 1 (At 1 (GetsRead zero_half)) _ (7 ∷ []) refl refl refl
+silent_decided = told silent_events 25 1 (At 1 (GetsRead zero_half)) _ (7 ∷ []) refl refl refl

@@ -1,5 +1,5 @@
 -- Histories of one position over three anchors: sixteen mounts, each with its calls, and whoever else reads.
-use Rattle.std.specs.Prelude.{ℕ, ◌==◌, nat_lt, if◌then◌else◌, List, [], ◌∷◌, Option, Some, None}
+use Rattle.std.specs.Prelude.{◌≡◌, ℕ, ◌==◌, nat_lt, if◌then◌else◌, List, [], ◌∷◌, Option, Some, None, slice_get}
 use Rattle.pf_paxos.specs.declared.block.Block.{Block}
 use Rattle.pf_paxos.specs.Blocks.{zero_block}
 use Rattle.pf_paxos.specs.Registers.{AsksWrite, AsksRead, Reply, Written, Gives}
@@ -95,3 +95,10 @@ history_from ps (e ∷ es) = turn_of ps e ∷ history_from (happens ps e) es
 -- what was answered and asked at the anchors
 abbrev pub history_of : List Event → List AnchorTurn
 history_of events = history_from opening events
+
+-- some mount began a ballot with this input
+pub record WasPutIn (events : List Event) (value : List ℕ) : Type 0 where
+  pub moment : ℕ
+  pub mount : ℕ
+  pub above : ℕ
+  pub at : slice_get events moment ≡ Some (Calls mount (Starts above (Some value)))

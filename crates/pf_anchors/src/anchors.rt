@@ -1,5 +1,5 @@
 //! One mount's ballots in one position, over three anchors.
-ghost use Rattle.std.specs.Prelude.{◌≡◌, ◌↔◌, ℕ, ◌<◌, ◌^◌, max, length, IsTrue};
+ghost use Rattle.std.specs.Prelude.{◌≡◌, ◌↔◌, ℕ, ◌<◌, ◌^◌, nat_lt, max, length, IsTrue};
 ghost use Rattle.pf_paxos.specs.Blocks.{IsBlock, ballot_after};
 ghost use Rattle.pf_paxos.specs.Standing.{IsInput, AreBlocks};
 ghost use Rattle.pf_anchors.specs.declared.anchors.AnchorNext.TheVariants.{Idle};
@@ -9,6 +9,9 @@ ghost use Rattle.pf_anchors.specs.Standing.{IsAsk, AbortsByBlock, IsNoAbort};
 use pf_base::Value;
 use pf_paxos::{Block, ballot_above, better, greatest_of, proposal};
 use std::marker::Model;
+
+/// Ballots lie below this.
+const LIMIT: u64 = 1 << 62;
 
 /// What a mount does next at an anchor.
 #[derive(Clone, Copy, Debug, PartialEq, Eq)]
@@ -124,6 +127,30 @@ impl Anchors {
             phase: Phase::Resting,
             parts,
         }
+    }
+
+    /// The block that it writes. While a ballot runs, its mbal is the ballot.
+    pub fn own(&self) -> &Block
+        ensures value { result.now ≡ self.now.own }
+        ensures form { IsBlock result.now }
+    {
+        &self.own
+    }
+
+    /// What the part of this anchor waits for and has read.
+    pub fn part(&self, anchor: u8) -> Part
+        requires { anchor < 3 }
+        ensures { result ≡ part_at self.now.parts anchor }
+    {
+        part_of(&self.parts, anchor)
+    }
+
+    /// Whether a ballot is left above this number and above the own block's mbal: then, and only then, `start` may be called with it.
+    pub fn can_start(&self, above: u64) -> bool
+        requires { above < 2 ^ 62 }
+        ensures { result ≡ nat_lt (ballot_after self.now.mount (max above self.now.own.mbal)) (2 ^ 62) }
+    {
+        ballot_above(self.mount, above.max(self.own.mbal)) < LIMIT
     }
 
     /// Begins the least ballot of the mount above this number and above the own block's mbal. A ballot that runs ends.

@@ -5,6 +5,6 @@ mod anchors;
 mod examples;
 mod laws;
 
-pub use anchors::{AnchorNext, AnchorStep, Anchors};
+pub use anchors::{AnchorNext, AnchorStep, Anchors, Part, Phase, Stage};
 pub use examples::{ballots_may_lack_values, two_anchors_decide};
-pub use laws::{no_two_decisions, told_values_are_decided};
+pub use laws::{decided_values_were_put_in, no_two_decisions, told_values_are_decided};
