@@ -1,0 +1,6 @@
+pub mod Orders
+pub mod Routed
+pub mod Sectors
+pub mod Positions
+pub mod Worked
+pub mod Copying
