@@ -1,5 +1,7 @@
 -- What became of a host by one call of the seat that submits.
-use Rattle.std.proofs.Common.{◌≡◌, ◌≢◌, ℕ, zero, suc, ◌+◌, ◌<◌, Bool, IsTrue, true, false, cond, ◌==◌, eqb, eq-eqb, eqb-true, List, [], ◌∷◌, ◌++◌, length, replicate, Option, Some, None, Result, Ok, Err, slice_get, append_assoc, append-nil, length-append, arith, refl, sym, ap, ◌∙◌, subst}
+use Rattle.std.proofs.Common.{◌≡◌, ◌≢◌, ℕ, zero, suc, ◌+◌, ◌-◌, ◌<◌, Bool, IsTrue, true, false, cond, ◌==◌, eqb, eq-eqb, eqb-true, List, [], ◌∷◌, ◌++◌, Contains, length, replicate, Option, Some, None, Result, Ok, Err, slice_get, append_assoc, append-nil, length-append, arith, refl, sym, ap, ◌∙◌, subst}
+use mathlib.Core.Logic.{dite}
+use native.Mathlib.Decide.{ℕ_discrete}
 use Rattle.std.proofs.lemmas.List.{length-replicate}
 use Rattle.pf_base.specs.Span.{IsWritable, Span}
 use Rattle.pf_entry.specs.Lists.{Every}
@@ -30,10 +32,10 @@ use Rattle.pf_live.specs.declared.serving.Served.{Served}
 use Rattle.pf_live.specs.declared.serving.Standing.{Standing}
 use Rattle.pf_live.specs.declared.serving.Standing.TheVariants.{Asked, Placed, Settled}
 use Rattle.pf_live.specs.Deliveries.{Line}
-use Rattle.pf_live.specs.Submissions.{IsNextWrite, is_told, is_write_of, slot_at, slot_got, slot_with, slots_of}
-use Rattle.pf_live.specs.Submitters.{AllTold, IsCounted, IsFed, IsHanded, IsLast, ServesOn, Stands, Submits, SubmitsAlone, standing_after}
+use Rattle.pf_live.specs.Submissions.{IsNextWrite, is_told, is_write_of, number_with, numbers_of, slot_at, slot_got, slot_with, slots_of}
+use Rattle.pf_live.specs.Submitters.{AllTold, AreWithin, IsCounted, IsFed, IsHanded, IsLast, ServesOn, Stands, Submits, SubmitsAlone, SubmitsNone, standing_after}
 use Rattle.pf_live.specs.Writes.{byte_of, first_requests, op_of, request_of, write_for}
-use Rattle.pf_live.proofs.Submissions.{all_told_later, alone_before, every_snoc, others_quiet, slots_quiet, slots_snoc, told_later}
+use Rattle.pf_live.proofs.Submissions.{all_told_later, alone_before, cond_false, cond_true, every_more, every_snoc, numbered, numbers_snoc, others_quiet, slots_snoc, submits_none, told_later}
 
 pub begins_on : (xs ys zs : Line) → Begins xs ys → Begins ys zs → Begins xs zs
 begins_on xs ys zs p q = (p.0 ++ q.0, sym (append_assoc xs p.0 q.0) ∙ (ap (λ l. l ++ q.0) p.1 ∙ q.1))
@@ -47,15 +49,32 @@ snoc_last (z ∷ []) [] x y is = absurd cc
 snoc_last (z ∷ (w ∷ zs)) [] x y is = absurd cc
 snoc_last (z ∷ zs) (w ∷ ws) x y is = let tails : zs ++ x ∷ [] ≡ ws ++ y ∷ [] = cc in let heads : z ≡ w = cc in let both = snoc_last zs ws x y tails in (let t = both.0 in cc, both.1)
 
+told_on : (root : GroupIs) (h : ℕ) (seen new : Line) → Begins seen new → slots_of root h new ≡ slots_of root h seen → AllTold root seen (slots_of root h seen) → AllTold root new (slots_of root h new)
+told_on root h seen new p same t = subst (AllTold root new) (sym same) (all_told_later root seen new p (slots_of root h seen) t)
+
 -- others added entries
-module _ (root : GroupIs) (h : ℕ) (seen new : Line) (p : Begins seen new) (same : slots_of root h new ≡ slots_of root h seen) where
-  told_on : AllTold root seen (slots_of root h seen) → AllTold root new (slots_of root h new)
-  told_on t = subst (AllTold root new) (sym same) (all_told_later root seen new p (slots_of root h seen) t)
+module _ (root : GroupIs) (h : ℕ) (seen new : Line) (p : Begins seen new) (same : SubmitsNone root h seen new) where
+  within_on : (taken : ℕ) → AreWithin root h seen taken → AreWithin root h new taken
+  within_on taken w = subst (Every (λ j. j < taken)) (sym same.numbers) w
 
   pub stands_on : (taken : ℕ) (standing : Standing) → Stands root h seen taken standing → Stands root h new taken standing
-  stands_on taken Settled s = (ap length same ∙ s.0, told_on s.1)
-  stands_on taken (Asked request) s = (ap (λ l. length l + 1) same ∙ s.0, told_on s.1)
-  stands_on taken (Placed term slot) s = (ap length same ∙ s.0, s.1, s.2 ∙ sym same, all_told_later root seen new p s.1 s.3)
+  stands_on taken Settled s = (ap length same.slots ∙ s.0, told_on root h seen new p same.slots s.1, within_on taken s.2)
+  stands_on taken (Asked request) s = (ap (λ l. length l + 1) same.slots ∙ s.0, told_on root h seen new p same.slots s.1, within_on taken s.2)
+  stands_on taken (Placed term slot) s = (ap length same.slots ∙ s.0, s.1, s.2 ∙ sym same.slots, all_told_later root seen new p s.1 s.3, within_on taken s.4)
+
+-- the writes that are submitted are among those that were taken
+pub stands_within : (root : GroupIs) (h : ℕ) (list : Line) (taken : ℕ) (standing : Standing) → Stands root h list taken standing → AreWithin root h list taken
+stands_within root h list taken Settled s = s.2
+stands_within root h list taken (Asked request) s = s.2
+stands_within root h list taken (Placed term slot) s = s.4
+
+-- and all that were taken are submitted, if the last one is that has no slot
+pub all_submitted : (root : GroupIs) (h : ℕ) (list : Line) (taken : ℕ) (standing : Standing) → Stands root h list taken standing → ((request : Request) → standing ≡ Asked request → Contains (numbers_of root h list) (taken - 1)) → (j : ℕ) → j < taken → Contains (numbers_of root h list) j
+all_submitted root h list taken Settled s last j low = numbered root h list j (let count = s.0 in omega (arith, low, count))
+all_submitted root h list taken (Placed term slot) s last j low = numbered root h list j (let count = s.0 in omega (arith, low, count))
+all_submitted root h list taken (Asked request) s last j low = let count = s.0 in dite (ℕ_discrete j (length (slots_of root h list)))
+    (λ is. let here : taken - 1 ≡ j = omega (arith, is, count) in subst (Contains (numbers_of root h list)) here (last request refl))
+    (λ other. numbered root h list j (omega (arith, low, other, count)))
 
 stands_as : (root : GroupIs) (h : ℕ) (list : Line) (a b : Served) → b.taken ≡ a.taken → b.standing ≡ a.standing → Stands root h list a.taken a.standing → Stands root h list b.taken b.standing
 stands_as root h list a b t st s = subst (λ x. Stands root h list x b.standing) (sym t) (subst (λ y. Stands root h list a.taken y) (sym st) s)
@@ -71,7 +90,7 @@ request_is plan h m a request counted fed st count =
 asks_is : (sectors h m : ℕ) (request : Request) → request ≡ request_of sectors h m → write_for request ≡ op_of (request_of sectors h m)
 asks_is sectors h m request is = ap write_for is
 
-is_own : (h k : ℕ) → k ≡ h → (byte_of h == byte_of k) ≡ true
+pub is_own : (h k : ℕ) → k ≡ h → (byte_of h == byte_of k) ≡ true
 is_own h k is = eq-eqb (byte_of h) (byte_of k) (omega arith)
 
 is_other : (h k : ℕ) → k ≢ h → (byte_of h == byte_of k) ≡ false
@@ -84,14 +103,6 @@ is_other h k other = by (byte_of h == byte_of k) refl
 cond_none : {A : Type 0} → (b : Bool) (x : List A) → x ≡ [] → cond b x [] ≡ []
 cond_none true x is = is
 cond_none false x is = refl
-
-cond_true : {A : Type 0} → (b : Bool) (x y : A) → b ≡ true → cond b x y ≡ x
-cond_true true x y is = refl
-cond_true false x y is = absurd cc
-
-cond_false : {A : Type 0} → (b : Bool) (x y : A) → b ≡ false → cond b x y ≡ y
-cond_false true x y is = absurd cc
-cond_false false x y is = refl
 
 -- a server that does not run gives no slot
 down_slot : (o : Option Condition) (slot : ℕ) → ((s : Server) → o ≡ Some (Running s) → ⊥) → slot_at o slot ≡ []
@@ -128,8 +139,8 @@ module _ (plan : Plan) (root : GroupIs) (n h : ℕ) (a b : Served) (alone : Type
   fed_kept p t f = ap taken_by (sym p) ∙ (f ∙ ap (first_requests plan.sectors h) t)
 
   module _ (f : Finds n alone seen new) (begun : Line) (begins : Begins begun seen) (al : SubmitsAlone n begun new) where
-    pub slots_found : (k : ℕ) → slots_of root k new ≡ slots_of root k seen
-    slots_found k = slots_quiet root k seen f.begins.0 new f.begins.1 (others_quiet n begun seen new begins f.begins f.own al)
+    pub none_found : (k : ℕ) → SubmitsNone root k seen new
+    none_found k = submits_none root k seen f.begins.0 new f.begins.1 (others_quiet n begun seen new begins f.begins f.own al)
 
   -- it made no entry
   pub serves_kept : Finds n alone seen new → b.pass ≡ a.pass → b.taken ≡ a.taken → b.standing ≡ a.standing → ServesOn plan root n h a seen b new
@@ -137,8 +148,8 @@ module _ (plan : Plan) (root : GroupIs) (n h : ℕ) (a b : Served) (alone : Type
     begins = f.begins;
     fed = fed_kept p t;
     steps = λ al fed each s. each_longer n (Submits plan root) seen new f.begins f.own each;
-    stands = λ told al fed s. stands_as root h new a b t st (stands_on root h seen new f.begins (slots_found f begun begins al h) a.taken a.standing s);
-    others = λ told al fed s k other. slots_found f begun begins al k;
+    stands = λ told al fed s. stands_as root h new a b t st (stands_on root h seen new f.begins (none_found f begun begins al h) a.taken a.standing s);
+    others = λ told al fed s k other. none_found f begun begins al k;
   }
 
   module _ (what : Moment) (adds : Adds n alone seen what new) (begun : Line) (begins : Begins begun seen) where
@@ -155,14 +166,20 @@ module _ (plan : Plan) (root : GroupIs) (n h : ℕ) (a b : Served) (alone : Type
       alone_there : SubmitsAlone n begun adds.found
       alone_there = alone_before n begun adds.found new to_found found_on al
 
-      slots_there : (k : ℕ) → slots_of root k adds.found ≡ slots_of root k seen
-      slots_there k = slots_quiet root k seen adds.finds.begins.0 adds.found adds.finds.begins.1 (others_quiet n begun seen adds.found begins adds.finds.begins adds.finds.own alone_there)
+      none_there : (k : ℕ) → SubmitsNone root k seen adds.found
+      none_there k = submits_none root k seen adds.finds.begins.0 adds.found adds.finds.begins.1 (others_quiet n begun seen adds.found begins adds.finds.begins adds.finds.own alone_there)
 
       slots_own : (k : ℕ) → slots_of root k new ≡ slots_of root k seen ++ slot_with (state_at root adds.found) k what
-      slots_own k = ap (slots_of root k) adds.listed ∙ (slots_snoc root k adds.found (entry n what) ∙ ap (λ l. l ++ slot_with (state_at root adds.found) k what) (slots_there k))
+      slots_own k = ap (slots_of root k) adds.listed ∙ (slots_snoc root k adds.found (entry n what) ∙ ap (λ l. l ++ slot_with (state_at root adds.found) k what) (none_there k).slots)
 
-      no_more : (k : ℕ) → slot_with (state_at root adds.found) k what ≡ [] → slots_of root k new ≡ slots_of root k seen
-      no_more k none = slots_own k ∙ (ap (λ l. slots_of root k seen ++ l) none ∙ append-nil (slots_of root k seen))
+      numbers_own : (k : ℕ) → numbers_of root k new ≡ numbers_of root k seen ++ number_with k (length (slots_of root k seen)) what
+      numbers_own k = let same = none_there k in ap (numbers_of root k) adds.listed ∙ (numbers_snoc root k adds.found (entry n what) ∙ (ap (λ l. numbers_of root k adds.found ++ number_with k (length l) what) same.slots ∙ ap (λ l. l ++ number_with k (length (slots_of root k seen)) what) same.numbers))
+
+      slots_same : (k : ℕ) → slot_with (state_at root adds.found) k what ≡ [] → slots_of root k new ≡ slots_of root k seen
+      slots_same k none = slots_own k ∙ (ap (λ l. slots_of root k seen ++ l) none ∙ append-nil (slots_of root k seen))
+
+      no_more : (k : ℕ) → slot_with (state_at root adds.found) k what ≡ [] → number_with k (length (slots_of root k seen)) what ≡ [] → SubmitsNone root k seen new
+      no_more k none fresh = record { slots = slots_same k none; numbers = numbers_own k ∙ (ap (λ l. numbers_of root k seen ++ l) fresh ∙ append-nil (numbers_of root k seen)) }
 
     each_on : EachOf n (Submits plan root) seen → Submits plan root adds.found what → EachOf n (Submits plan root) new
     each_on each here = subst (EachOf n (Submits plan root)) (sym adds.listed) (each_snoc n (Submits plan root) adds.found what (each_longer n (Submits plan root) seen adds.found adds.finds.begins adds.finds.own each) here)
@@ -173,8 +190,8 @@ module _ (plan : Plan) (root : GroupIs) (n h : ℕ) (a b : Served) (alone : Type
     begins = begins_new (Look None) adds begun begins;
     fed = fed_kept p t;
     steps = λ al fed each s. each_on (Look None) adds begun begins each refl;
-    stands = λ told al fed s. stands_as root h new a b t st (stands_on root h seen new (begins_new (Look None) adds begun begins) (no_more (Look None) adds begun begins al h refl) a.taken a.standing s);
-    others = λ told al fed s k other. no_more (Look None) adds begun begins al k refl;
+    stands = λ told al fed s. stands_as root h new a b t st (stands_on root h seen new (begins_new (Look None) adds begun begins) (no_more (Look None) adds begun begins al h refl refl) a.taken a.standing s);
+    others = λ told al fed s k other. no_more (Look None) adds begun begins al k refl refl;
   }
 
   -- and found that its slot is acknowledged, where the disks tell their content
@@ -184,15 +201,16 @@ module _ (plan : Plan) (root : GroupIs) (n h : ℕ) (a b : Served) (alone : Type
     fed = fed_kept p t;
     steps = λ al fed each s. each_on (Look None) adds begun begins each refl;
     stands = λ told al fed s. subst (λ y. Stands root h new b.taken y) (sym st) (settles told al (subst (λ y. Stands root h seen a.taken y) was s));
-    others = λ told al fed s k other. no_more (Look None) adds begun begins al k refl;
+    others = λ told al fed s k other. no_more (Look None) adds begun begins al k refl refl;
   }
     where
       settles : IsTrue root.told → SubmitsAlone n begun new → Stands root h seen a.taken (Placed term slot) → Stands root h new b.taken Settled
-      settles told al s = let same = no_more (Look None) adds begun begins al h refl in (
-        ap length same ∙ (s.0 ∙ sym t),
-        subst (AllTold root new) (s.2 ∙ sym same) (every_snoc (λ (x : Acked). is_told (state_at root new) x ≡ true) s.1 (record { term = term; slot = slot })
+      settles told al s = let same = no_more (Look None) adds begun begins al h refl refl in (
+        ap length same.slots ∙ (s.0 ∙ sym t),
+        subst (AllTold root new) (s.2 ∙ sym same.slots) (every_snoc (λ (x : Acked). is_told (state_at root new) x ≡ true) s.1 (record { term = term; slot = slot })
             (all_told_later root seen new (begins_new (Look None) adds begun begins) s.1 s.3)
             (told_later root adds.found new (found_on (Look None) adds begun begins) (record { term = term; slot = slot }) (acked told))),
+        subst (AreWithin root h new) (sym t) (within_on root h seen new (begins_new (Look None) adds begun begins) same a.taken s.4),
       )
 
   -- it handed a request to a server
@@ -216,7 +234,7 @@ module _ (plan : Plan) (root : GroupIs) (n h : ℕ) (a b : Served) (alone : Type
     op_next fed = op_is ∙ asks_is plan.sectors h m request (request_is plan h m a request counted (fed_kept p t fed) was one_less)
 
     next_write : (begun : Line) (begins : Begins begun seen) → SubmitsAlone n begun new → IsFed plan.sectors h b → (IsTrue root.told → Stands root h seen a.taken (Asked request)) → IsNextWrite plan root steps.adds.found (Submit server op)
-    next_write begun begins al fed s = let same = slots_there what steps.adds begun begins al h in record {
+    next_write begun begins al fed s = let same = (none_there what steps.adds begun begins al h).slots in record {
       h = h;
       low = low;
       number = m;
@@ -231,13 +249,19 @@ module _ (plan : Plan) (root : GroupIs) (n h : ℕ) (a b : Served) (alone : Type
       writes_as : (k : ℕ) → is_write_of k (Submit server op) ≡ (byte_of h == byte_of k)
       writes_as k = ap (λ o. is_write_of k (Submit server o)) (op_next fed)
 
-      none_else : (k : ℕ) → k ≢ h → slots_of root k new ≡ slots_of root k seen
-      none_else k other = no_more what steps.adds begun begins al k (cond_false (is_write_of k (Submit server op)) (slot_got (state_at root steps.adds.found) (Submit server op) answer) [] (writes_as k ∙ is_other h k other))
+      none_else : (k : ℕ) → k ≢ h → SubmitsNone root k seen new
+      none_else k other = let no = writes_as k ∙ is_other h k other in no_more what steps.adds begun begins al k (cond_false (is_write_of k (Submit server op)) (slot_got (state_at root steps.adds.found) (Submit server op) answer) [] no) (cond_false (is_write_of k (Submit server op)) (length (slots_of root k seen) ∷ []) [] no)
+
+      -- its number is that of the last one that was taken
+      within_then : AreWithin root h new a.taken
+      within_then = let next : ℕ = length (slots_of root h seen) in let count = s.0 in
+          subst (Every (λ j. j < a.taken)) (sym (numbers_own what steps.adds begun begins al h ∙ ap (λ l. numbers_of root h seen ++ l) (cond_true (is_write_of h (Submit server op)) (next ∷ []) [] (writes_as h ∙ is_own h h refl))))
+          (every_snoc (λ (j : ℕ). j < a.taken) (numbers_of root h seen) next s.2 (omega (arith, count)))
 
       stands_then : (standing : Standing) → GotAs (state_at root steps.adds.found) server op request answer standing → Stands root h new a.taken standing
       stands_then Settled g = absurd g
-      stands_then (Asked r) g = let same = no_more what steps.adds begun begins al h (cond_none (is_write_of h (Submit server op)) _ g.1) in
-          (ap (λ l. length l + 1) same ∙ s.0, told_on root h seen new (begins_new what steps.adds begun begins) same s.1)
+      stands_then (Asked r) g = let same = slots_same what steps.adds begun begins al h (cond_none (is_write_of h (Submit server op)) _ g.1) in
+          (ap (λ l. length l + 1) same ∙ s.0, told_on root h seen new (begins_new what steps.adds begun begins) same s.1, within_then)
       stands_then (Placed term slot) g =
           let more : slots_of root h seen ++ record { term = term; slot = slot } ∷ [] ≡ slots_of root h new
           = ap (λ l. slots_of root h seen ++ l) (sym (cond_true (is_write_of h (Submit server op)) (slot_got (state_at root steps.adds.found) (Submit server op) answer) [] (writes_as h ∙ is_own h h refl) ∙ g)) ∙ sym (slots_own what steps.adds begun begins al h) in (
@@ -245,6 +269,7 @@ module _ (plan : Plan) (root : GroupIs) (n h : ℕ) (a b : Served) (alone : Type
             slots_of root h seen,
             more,
             all_told_later root seen new (begins_new what steps.adds begun begins) (slots_of root h seen) s.1,
+            within_then,
           )
         where
           length_snoc : (xs : List Acked) (x : Acked) → length (xs ++ x ∷ []) ≡ length xs + 1
@@ -267,11 +292,11 @@ module _ (plan : Plan) (root : GroupIs) (n h : ℕ) (a b : Served) (alone : Type
     fed = λ f. let now : b.taken ≡ suc a.taken = omega arith in (snoc_last (taken_by a.pass) (first_requests plan.sectors h a.taken) request (request_of plan.sectors h a.taken) (sym p ∙ (f ∙ ap (first_requests plan.sectors h) now))).0;
     steps = λ al fed each s. subst (EachOf n (Submits plan root)) (sym is) each;
     stands = λ told al fed s. subst (λ y. Stands root h new b.taken y) (sym st) (asked (subst (λ y. Stands root h seen a.taken y) was s));
-    others = λ told al fed s k other. ap (slots_of root k) is;
+    others = λ told al fed s k other. record { slots = ap (slots_of root k) is; numbers = ap (numbers_of root k) is };
   }
     where
       asked : Stands root h seen a.taken Settled → Stands root h new b.taken (Asked request)
-      asked s = subst (λ l. Stands root h l b.taken (Asked request)) (sym is) (omega (arith, s.0, t), s.1)
+      asked s = subst (λ l. Stands root h l b.taken (Asked request)) (sym is) (omega (arith, s.0, t), s.1, every_more a.taken b.taken (omega (arith, t)) (numbers_of root h seen) s.2)
 
 all_alike : {X : Type 0} → (P : X → Type 0) (n : ℕ) (x : X) → P x → Every P (replicate n x)
 all_alike P zero x is = tt

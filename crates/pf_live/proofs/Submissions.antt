@@ -1,26 +1,30 @@
 -- Slots of hosts' writes, as a list goes on.
-use Rattle.std.proofs.Common.{◌≡◌, ◌≢◌, ℕ, zero, suc, Bool, true, false, cond, ◌&&◌, ◌||◌, ◌==◌, eqb, eq-eqb, List, [], ◌∷◌, ◌++◌, Some, slice_get, append_assoc, append-nil, refl, sym, ap, ◌∙◌, subst}
+use Rattle.std.proofs.Common.{◌≡◌, ◌≢◌, ℕ, zero, suc, ◌+◌, ◌<◌, ◌≤◌, Bool, true, false, cond, ◌&&◌, ◌||◌, ◌==◌, eqb, eq-eqb, List, [], ◌∷◌, ◌++◌, Contains, length, length-append, Option, None, Some, slice_get, slice_index_or, append_assoc, append-nil, arith, refl, sym, ap, ◌∙◌, subst}
+use mathlib.Core.Logic.{dite}
+use native.Mathlib.Decide.{ℕ_discrete}
+use Rattle.std.proofs.lemmas.List.Elements.{Contains-append_left, Contains-append_right, Contains-push}
 use Rattle.std.specs.List.{list_any}
 use Rattle.pf_entry.specs.Lists.{Every}
 use Rattle.pf_turn.specs.declared.log.Stamped.{Stamped}
 use Rattle.pf_turn.specs.Lists.{Begins, entries_of}
 use Rattle.pf_turn.proofs.Lists.{entries-append, nothing_more}
-use Rattle.pf_protocol.specs.Servers.{Setup}
+use Rattle.pf_protocol.specs.Servers.{Condition, Running, Setup, Stopped, Unformatted}
 use Rattle.pf_protocol.specs.Groups.{Acked, Group, ending}
 use Rattle.pf_protocol.specs.Histories.{History, run}
 use Rattle.pf_protocol.specs.declared.answers.Answer.{Answer}
+use Rattle.pf_protocol.specs.declared.answers.Answer.TheVariants.{Slot}
 use Rattle.pf_protocol.specs.declared.events.Event.{Event}
 use Rattle.pf_protocol.specs.declared.events.Event.TheVariants.{Submit, Fetch, Deliver, Lose, Elect, Resend, Stop, Restart, Claim, Finish, GiveBack, Checkpoint}
 use Rattle.pf_protocol.proofs.ForMoments.{acks_of, adds_stay, goes}
 use Rattle.pf_group.specs.GroupIs.{GroupIs}
 use Rattle.pf_shared.specs.declared.moment.Moment.{Moment}
 use Rattle.pf_shared.specs.declared.moment.Moment.TheVariants.{Happened, Look}
-use Rattle.pf_shared.specs.Moments.{happenings}
+use Rattle.pf_shared.specs.Moments.{entry, happenings}
 use Rattle.pf_shared.specs.Since.{rest_after, state_at}
 use Rattle.pf_shared.proofs.Since.{rest_of_all}
 use Rattle.pf_live.specs.Deliveries.{Line}
-use Rattle.pf_live.specs.Submissions.{is_told, is_write_of, slot_got, slot_with, slots_after, slots_of}
-use Rattle.pf_live.specs.Submitters.{AllTold, SubmitsAlone, is_submit, submits}
+use Rattle.pf_live.specs.Submissions.{gathered, is_told, is_write_of, number_with, numbers_of, slot_at, slot_got, slot_with, slots_of}
+use Rattle.pf_live.specs.Submitters.{AllTold, SubmitsAlone, SubmitsNone, is_submit, submits}
 use Rattle.pf_live.proofs.Happenings.{state_more}
 
 -- what was acknowledged stays so
@@ -70,41 +74,128 @@ pub every_front : {A : Type 0} → (P : A → Type 0) (xs ys : List A) → Every
 every_front P [] ys h = h
 every_front P (x ∷ xs) ys h = every_front P xs ys h.1
 
--- a write of no host has no slot
-no_slot : (g : Group) (h : ℕ) (event : Event) (answer : Answer) → is_submit event ≡ false → cond (is_write_of h event) (slot_got g event answer) [] ≡ []
-no_slot g h (Submit server op) answer is = absurd cc
-no_slot g h (Fetch server range) answer is = refl
-no_slot g h (Deliver k) answer is = refl
-no_slot g h (Lose k) answer is = refl
-no_slot g h (Elect server) answer is = refl
-no_slot g h (Resend server) answer is = refl
-no_slot g h (Stop server) answer is = refl
-no_slot g h (Restart server found) answer is = refl
-no_slot g h Claim answer is = refl
-no_slot g h (Finish server life slot) answer is = refl
-no_slot g h (GiveBack server life slot) answer is = refl
-no_slot g h (Checkpoint server) answer is = refl
+pub cond_true : {A : Type 0} → (b : Bool) (x y : A) → b ≡ true → cond b x y ≡ x
+cond_true true x y is = refl
+cond_true false x y is = absurd cc
 
-pub none_with : (g : Group) (h : ℕ) (what : Moment) → submits what ≡ false → slot_with g h what ≡ []
-none_with g h (Happened x) is = no_slot g h x.event x.answer is
-none_with g h (Look read) is = refl
+pub cond_false : {A : Type 0} → (b : Bool) (x y : A) → b ≡ false → cond b x y ≡ y
+cond_false true x y is = absurd cc
+cond_false false x y is = refl
+
+-- what submits nothing is a write of no host
+no_write : (h : ℕ) (event : Event) → is_submit event ≡ false → is_write_of h event ≡ false
+no_write h (Submit server op) is = absurd cc
+no_write h (Fetch server range) is = refl
+no_write h (Deliver k) is = refl
+no_write h (Lose k) is = refl
+no_write h (Elect server) is = refl
+no_write h (Resend server) is = refl
+no_write h (Stop server) is = refl
+no_write h (Restart server found) is = refl
+no_write h Claim is = refl
+no_write h (Finish server life slot) is = refl
+no_write h (GiveBack server life slot) is = refl
+no_write h (Checkpoint server) is = refl
+
+no_slot : (g : Group) (h : ℕ) (what : Moment) → submits what ≡ false → slot_with g h what ≡ []
+no_slot g h (Happened x) is = cond_false (is_write_of h x.event) (slot_got g x.event x.answer) [] (no_write h x.event is)
+no_slot g h (Look read) is = refl
+
+no_number : (h next : ℕ) (what : Moment) → submits what ≡ false → number_with h next what ≡ []
+no_number h next (Happened x) is = cond_false (is_write_of h x.event) (next ∷ []) [] (no_write h x.event is)
+no_number h next (Look read) is = refl
+
+module _ {A : Type 0} (f : Line → Moment → List A) where
+  gathered-append : (before xs ys : Line) → gathered f before (xs ++ ys) ≡ gathered f before xs ++ gathered f (before ++ xs) ys
+  gathered-append before [] ys = ap (λ b. gathered f b ys) (sym (append-nil before))
+  gathered-append before (x ∷ xs) ys = ap (λ l. f before x.what ++ l) (gathered-append (before ++ x ∷ []) xs ys ∙ ap (λ b. gathered f (before ++ x ∷ []) xs ++ gathered f b ys) (append_assoc before (x ∷ []) xs))
+      ∙ sym (append_assoc (f before x.what) (gathered f (before ++ x ∷ []) xs) (gathered f (before ++ x ∷ xs) ys))
+
+  gathered-snoc : (list : Line) (e : Stamped Moment) → gathered f [] (list ++ e ∷ []) ≡ gathered f [] list ++ f list e.what
+  gathered-snoc list e = gathered-append [] list (e ∷ []) ∙ ap (λ l. gathered f [] list ++ l) (append-nil (f list e.what))
+
+  module _ (none : (before : Line) (what : Moment) → submits what ≡ false → f before what ≡ []) where
+    gathered_none : (before ys : Line) → Every (λ (e : Stamped Moment). submits e.what ≡ false) ys → gathered f before ys ≡ []
+    gathered_none before [] quiet = refl
+    gathered_none before (e ∷ es) quiet = ap (λ l. l ++ gathered f (before ++ e ∷ []) es) (none before e.what quiet.0) ∙ gathered_none (before ++ e ∷ []) es quiet.1
+
+    gathered_quiet : (seen rest new : Line) → seen ++ rest ≡ new → Every (λ (e : Stamped Moment). submits e.what ≡ false) rest → gathered f [] new ≡ gathered f [] seen
+    gathered_quiet seen rest new is quiet = ap (gathered f []) (sym is) ∙ (gathered-append [] seen rest ∙ (ap (λ l. gathered f [] seen ++ l) (gathered_none seen rest quiet) ∙ append-nil (gathered f [] seen)))
+
+few_at : (o : Option Condition) (slot : ℕ) → length (slot_at o slot) ≤ 1
+few_at None slot = omega arith
+few_at (Some (Running s)) slot = omega arith
+few_at (Some (Stopped life before after)) slot = omega arith
+few_at (Some Unformatted) slot = omega arith
+
+-- one slot at most comes at a time
+few_got : (g : Group) (event : Event) (answer : Answer) → length (slot_got g event answer) ≤ 1
+few_got g (Submit server op) (Slot slot) = few_at (slice_get g.servers server) slot
+few_got g event answer = omega arith
+
+-- an entry that submits write j, or one after which it is still to come
+number_here : (g : Group) (h next j : ℕ) (what : Moment) (rest : List ℕ) → next ≤ j → (next + length (slot_with g h what) ≤ j → Contains rest j) → Contains (number_with h next what ++ rest) j
+number_here g h next j (Look read) rest low then = then (omega (arith, low))
+number_here g h next j (Happened x) rest low then = by (is_write_of h x.event) then
+  where
+    by : (b : Bool) → (next + length (cond b (slot_got g x.event x.answer) []) ≤ j → Contains rest j) → Contains (cond b (next ∷ []) [] ++ rest) j
+    by true on = dite (ℕ_discrete next j) (λ is. (0, omega arith, is)) (λ other. Contains-append_right (next ∷ []) rest j (on (let few = few_got g x.event x.answer in omega (arith, low, other, few))))
+    by false on = on (omega (arith, low))
 
 module _ (root : GroupIs) (h : ℕ) where
-  pub slots-append : (before xs ys : Line) → slots_after root h before (xs ++ ys) ≡ slots_after root h before xs ++ slots_after root h (before ++ xs) ys
-  slots-append before [] ys = ap (λ b. slots_after root h b ys) (sym (append-nil before))
-  slots-append before (x ∷ xs) ys = ap (λ l. slot_with (state_at root before) h x.what ++ l) (slots-append (before ++ x ∷ []) xs ys ∙ ap (λ b. slots_after root h (before ++ x ∷ []) xs ++ slots_after root h b ys) (append_assoc before (x ∷ []) xs))
-      ∙ sym (append_assoc (slot_with (state_at root before) h x.what) (slots_after root h (before ++ x ∷ []) xs) (slots_after root h (before ++ x ∷ xs) ys))
+  abbrev slots_by : Line → Moment → List Acked
+  slots_by before what = slot_with (state_at root before) h what
 
-  quiet : (before ys : Line) → Every (λ (e : Stamped Moment). submits e.what ≡ false) ys → slots_after root h before ys ≡ []
-  quiet before [] none = refl
-  quiet before (e ∷ es) none = ap (λ l. l ++ slots_after root h (before ++ e ∷ []) es) (none_with (state_at root before) h e.what none.0) ∙ quiet (before ++ e ∷ []) es none.1
-
-  -- nobody submitted
-  pub slots_quiet : (seen rest new : Line) → seen ++ rest ≡ new → Every (λ (e : Stamped Moment). submits e.what ≡ false) rest → slots_of root h new ≡ slots_of root h seen
-  slots_quiet seen rest new is none = ap (slots_of root h) (sym is) ∙ (slots-append [] seen rest ∙ (ap (λ l. slots_of root h seen ++ l) (quiet seen rest none) ∙ append-nil (slots_of root h seen)))
+  abbrev numbers_by : Line → Moment → List ℕ
+  numbers_by before what = number_with h (length (slots_of root h before)) what
 
   pub slots_snoc : (list : Line) (e : Stamped Moment) → slots_of root h (list ++ e ∷ []) ≡ slots_of root h list ++ slot_with (state_at root list) h e.what
-  slots_snoc list e = slots-append [] list (e ∷ []) ∙ ap (λ l. slots_of root h list ++ l) (append-nil (slot_with (state_at root list) h e.what))
+  slots_snoc list e = gathered-snoc slots_by list e
+
+  pub numbers_snoc : (list : Line) (e : Stamped Moment) → numbers_of root h (list ++ e ∷ []) ≡ numbers_of root h list ++ number_with h (length (slots_of root h list)) e.what
+  numbers_snoc list e = gathered-snoc numbers_by list e
+
+  -- nobody submitted
+  pub submits_none : (seen rest new : Line) → seen ++ rest ≡ new → Every (λ (e : Stamped Moment). submits e.what ≡ false) rest → SubmitsNone root h seen new
+  submits_none seen rest new is quiet = record {
+    slots = gathered_quiet slots_by (λ before what none. no_slot (state_at root before) h what none) seen rest new is quiet;
+    numbers = gathered_quiet numbers_by (λ before what none. no_number h (length (slots_of root h before)) what none) seen rest new is quiet;
+  }
+
+  -- a write that is submitted is so in a longer list
+  pub submitted_later : (seen new : Line) → Begins seen new → (j : ℕ) → Contains (numbers_of root h seen) j → Contains (numbers_of root h new) j
+  submitted_later seen new p j is =
+      subst (λ l. Contains l j) (sym (gathered-append numbers_by [] seen p.0) ∙ ap (numbers_of root h) p.1) (Contains-append_left (numbers_of root h seen) (gathered numbers_by seen p.0) j is)
+
+  -- each slot came by the submission of its write
+  numbered_after : (before list : Line) (j : ℕ) → length (slots_of root h before) ≤ j → j < length (slots_of root h (before ++ list)) → Contains (gathered numbers_by before list) j
+  numbered_after before [] j low high = absurd (let same : length (slots_of root h (before ++ [])) ≡ length (slots_of root h before) = ap (λ l. length (slots_of root h l)) (append-nil before) in omega (arith, low, high, same))
+  numbered_after before (e ∷ es) j low high =
+      number_here (state_at root before) h (length (slots_of root h before)) j e.what (gathered numbers_by (before ++ e ∷ []) es) low
+      (λ more. numbered_after (before ++ e ∷ []) es j
+      (let count : length (slots_of root h (before ++ e ∷ [])) ≡ length (slots_of root h before) + length (slot_with (state_at root before) h e.what) = ap length (slots_snoc before e) ∙ length-append (slots_of root h before) (slot_with (state_at root before) h e.what) in omega (arith, more, count))
+      (subst (λ l. j < length (slots_of root h l)) (sym (append_assoc before (e ∷ []) es)) high))
+
+  pub numbered : (list : Line) (j : ℕ) → j < length (slots_of root h list) → Contains (numbers_of root h list) j
+  numbered list j high = numbered_after [] list j (omega arith) high
+
+  -- the last entry submits the next write
+  pub number_last : (list : Line) (n : ℕ) (event : Event) (answer : Answer) → is_write_of h event ≡ true → Contains (numbers_of root h (list ++ entry n (Happened (record { event = event; answer = answer })) ∷ [])) (length (slots_of root h list))
+  number_last list n event answer is = let next : ℕ = length (slots_of root h list) in
+      subst (λ l. Contains l next) (sym (numbers_snoc list (entry n (Happened (record { event = event; answer = answer }))) ∙ ap (λ l. numbers_of root h list ++ l) (cond_true (is_write_of h event) (next ∷ []) [] is))) (Contains-push (numbers_of root h list) next)
+
+-- numbers that are all below a bound
+pub every_more : (m n : ℕ) → m ≤ n → (xs : List ℕ) → Every (λ j. j < m) xs → Every (λ j. j < n) xs
+every_more m n more [] all = tt
+every_more m n more (x ∷ xs) all = (let low = all.0 in omega (arith, more, low), every_more m n more xs all.1)
+
+pub every_at : (n : ℕ) (xs : List ℕ) → Every (λ j. j < n) xs → (j : ℕ) → Contains xs j → j < n
+every_at n xs all j is = at xs is.0 all is.1 is.2
+  where
+    at : (ys : List ℕ) (k : ℕ) → Every (λ i. i < n) ys → k < length ys → slice_index_or ys k j ≡ j → j < n
+    at [] k all low is = absurd (omega (arith, low))
+    at (y ∷ ys) zero all low is = subst (λ i. i < n) is all.0
+    at (y ∷ ys) (suc k) all low is = at ys k all.1 (omega (arith, low)) is
 
 -- none of these entries is of the seat
 none_of : (n : ℕ) (ys : Line) → entries_of n ys ≡ [] → Every (λ (e : Stamped Moment). e.seat ≢ n) ys

@@ -35,13 +35,23 @@ abbrev pub slot_with : Group → (h : ℕ) → Moment → List Acked
 slot_with g h (Happened x) = if is_write_of h x.event then slot_got g x.event x.answer else []
 slot_with g h (Look read) = []
 
-abbrev pub slots_after : GroupIs → (h : ℕ) → (before list : Line) → List Acked
-slots_after root h before [] = []
-slots_after root h before (e ∷ es) = slot_with (state_at root before) h e.what ++ slots_after root h (before ++ e ∷ []) es
+-- what the entries of a list give, each by what stands before it
+abbrev pub gathered : {A : Type 0} → (Line → Moment → List A) → (before list : Line) → List A
+gathered f before [] = []
+gathered f before (e ∷ es) = f before e.what ++ gathered f (before ++ e ∷ []) es
 
 -- the slots that the writes of host h got, in order
 abbrev pub slots_of : GroupIs → (h : ℕ) → Line → List Acked
-slots_of root h list = slots_after root h [] list
+slots_of root h list = gathered (λ before what. slot_with (state_at root before) h what) [] list
+
+-- A submission of a write of host h is of its next one, the one that has as many before it as its writes have got slots
+abbrev pub number_with : (h next : ℕ) → Moment → List ℕ
+number_with h next (Happened x) = if is_write_of h x.event then next ∷ [] else []
+number_with h next (Look read) = []
+
+-- the numbers of the writes of host h that are submitted, in order, one for each submission
+abbrev pub numbers_of : GroupIs → (h : ℕ) → Line → List ℕ
+numbers_of root h list = gathered (λ before what. number_with h (length (slots_of root h before)) what) [] list
 
 abbrev pub is_told : Group → Acked → Bool
 is_told g a = is_acked g a.term a.slot

@@ -1,5 +1,5 @@
 -- The worker that submits, and what it keeps.
-use Rattle.std.specs.Prelude.{◌≡◌, ◌≢◌, ℕ, ◌+◌, ◌≤◌, Bool, true, false, IsTrue, List, [], ◌∷◌, ◌++◌, length, Option, None, Some, Result, Ok, slice_get}
+use Rattle.std.specs.Prelude.{◌≡◌, ◌≢◌, ℕ, ◌+◌, ◌<◌, ◌≤◌, Bool, true, false, IsTrue, List, [], ◌∷◌, ◌++◌, length, Option, None, Some, Result, Ok, slice_get}
 use Rattle.pf_base.specs.Span.{IsWritable}
 use Rattle.pf_entry.specs.Lists.{Every}
 use Rattle.pf_turn.specs.Lists.{Begins}
@@ -29,7 +29,7 @@ use Rattle.pf_live.specs.declared.serving.Standing.{Standing}
 use Rattle.pf_live.specs.declared.serving.Standing.TheVariants.{Asked, Placed, Settled}
 use Rattle.pf_live.specs.declared.submitting.Submitter.{Submitter}
 use Rattle.pf_live.specs.Deliveries.{Line}
-use Rattle.pf_live.specs.Submissions.{IsNextWrite, is_told, slots_of}
+use Rattle.pf_live.specs.Submissions.{IsNextWrite, is_told, numbers_of, slots_of}
 use Rattle.pf_live.specs.Writes.{first_requests, write_for}
 
 abbrev pub is_submit : Event → Bool
@@ -53,11 +53,20 @@ Submits plan root before (Look read) = read ≡ None
 abbrev pub AllTold : GroupIs → Line → List Acked → Type 0
 AllTold root list slots = Every (λ a. is_told (state_at root list) a ≡ true) slots
 
+-- each write of the host that the list submits is one of its first so many
+abbrev pub AreWithin : GroupIs → (h : ℕ) → Line → (taken : ℕ) → Type 0
+AreWithin root h list taken = Every (λ j. j < taken) (numbers_of root h list)
+
 -- how the last one stands of so many requests of the host that were taken
 abbrev pub Stands : GroupIs → (h : ℕ) → Line → (taken : ℕ) → Standing → Type 0
-Stands root h list taken Settled = (length (slots_of root h list) ≡ taken) × AllTold root list (slots_of root h list)
-Stands root h list taken (Asked request) = (length (slots_of root h list) + 1 ≡ taken) × AllTold root list (slots_of root h list)
-Stands root h list taken (Placed term slot) = (length (slots_of root h list) ≡ taken) × (front : List Acked) × (front ++ record { term = term; slot = slot } ∷ [] ≡ slots_of root h list) × AllTold root list front
+Stands root h list taken Settled = (length (slots_of root h list) ≡ taken) × AllTold root list (slots_of root h list) × AreWithin root h list taken
+Stands root h list taken (Asked request) = (length (slots_of root h list) + 1 ≡ taken) × AllTold root list (slots_of root h list) × AreWithin root h list taken
+Stands root h list taken (Placed term slot) = (length (slots_of root h list) ≡ taken) × (front : List Acked) × (front ++ record { term = term; slot = slot } ∷ [] ≡ slots_of root h list) × AllTold root list front × AreWithin root h list taken
+
+-- the list went on with no submission of a write of the host
+pub record SubmitsNone (root : GroupIs) (h : ℕ) (seen later : Line) : Type 0 where
+  pub slots : slots_of root h later ≡ slots_of root h seen
+  pub numbers : numbers_of root h later ≡ numbers_of root h seen
 
 -- how a request stands once it was handed to a server that had this term
 abbrev pub standing_after : Result ℕ Down → Answer → Request → Standing
@@ -101,7 +110,7 @@ pub record Serves (plan : Plan) (root : GroupIs) (n : ℕ) (begun : Line) (h : �
   pub fed : IsFed plan.sectors h b → IsFed plan.sectors h a
   pub steps : SubmitsAlone n begun later → IsFed plan.sectors h b → EachOf n (Submits plan root) seen → (IsTrue root.told → Stands root h seen a.taken a.standing) → EachOf n (Submits plan root) later
   pub stands : IsTrue root.told → SubmitsAlone n begun later → IsFed plan.sectors h b → Stands root h seen a.taken a.standing → Stands root h later b.taken b.standing
-  pub others : IsTrue root.told → SubmitsAlone n begun later → IsFed plan.sectors h b → Stands root h seen a.taken a.standing → (k : ℕ) → k ≢ h → slots_of root k later ≡ slots_of root k seen
+  pub others : IsTrue root.told → SubmitsAlone n begun later → IsFed plan.sectors h b → Stands root h seen a.taken a.standing → (k : ℕ) → k ≢ h → SubmitsNone root k seen later
 
 -- whatever the list was from which on it submits alone
 abbrev pub ServesOn : Plan → GroupIs → (n h : ℕ) → Served → (seen : Line) → Served → (later : Line) → Type 0

@@ -1,7 +1,9 @@
 -- The first seat hands a request over.
-use Rattle.std.proofs.Common.{◌≡◌, ◌≢◌, ◌⊎◌, inl, inr, ℕ, zero, suc, false, true, ◌+◌, ◌-◌, ◌<◌, ◌≤◌, List, [], ◌∷◌, ◌++◌, length, Option, None, Some, IfSome, Result, Ok, Err, IfOk, IsTrue, OnErr, slice_get, slice_set, length-append, append-nil, arith, refl, sym, ap, ◌∙◌, subst}
+use Rattle.std.proofs.Common.{◌≡◌, ◌≢◌, ◌⊎◌, inl, inr, ℕ, zero, suc, false, true, ◌+◌, ◌-◌, ◌<◌, ◌≤◌, List, [], ◌∷◌, ◌++◌, Contains, length, Option, None, Some, IfSome, Result, Ok, Err, IfOk, IsTrue, OnErr, slice_get, slice_set, length-append, append-nil, arith, refl, sym, ap, ◌∙◌, subst}
 use mathlib.Core.Logic.{dite}
 use native.Mathlib.Decide.{ℕ_discrete}
+use Rattle.std.proofs.lemmas.Nat.{mod_below}
+use Rattle.pf_base.specs.Span.{IsWritable}
 use Rattle.pf_base.specs.declared.errors.NoMemory.{NoMemory}
 use Rattle.pf_entry.specs.Lists.{Every}
 use Rattle.pf_entry.proofs.Lists.{set_cases}
@@ -40,12 +42,14 @@ use Rattle.pf_live.specs.declared.serving.Standing.TheVariants.{Asked}
 use Rattle.pf_live.specs.Deliveries.{Line, deliveries}
 use Rattle.pf_live.specs.Ends.{IsRefused}
 use Rattle.pf_live.specs.Lines.{Does, IsLive}
+use Rattle.pf_live.specs.Submissions.{is_write_of, numbers_of, slots_of}
 use Rattle.pf_live.specs.Submitters.{AllStand, IsCounted, IsFed, IsHanded, IsLast, Serves, ServesOn, Stands, Submits, SubmitsAlone, submits}
 use Rattle.pf_live.specs.Writes.{first_requests, op_of, request_of, write_for}
-use Rattle.pf_live.proofs.Stands.{request_is, stands_on}
+use Rattle.pf_live.proofs.Stands.{all_submitted, is_own, request_is, stands_on}
+use Rattle.pf_live.proofs.Submissions.{number_last, submitted_later}
 use Rattle.pf_liveline.specs.declared.crew.Crew.{Crew}
 use Rattle.pf_liveline.specs.Crews.{AllEnded, HasMade, IsCrew, IsLineSeat}
-use Rattle.pf_liveline.specs.Judging.{AreRefused, HasJudged, HasLooked, IsPublished, IsRefusedBy, IsUnchanged}
+use Rattle.pf_liveline.specs.Judging.{AllSubmitted, AreRefused, AreSubmitted, HasJudged, HasLooked, IsPublished, IsRefusedBy, IsUnchanged}
 use Rattle.pf_liveline.specs.Meeting.{AreMet, IsMet}
 use Rattle.pf_liveline.proofs.Entries.{each_at}
 use Rattle.pf_liveline.proofs.Judged.{refused_later}
@@ -67,6 +71,23 @@ hands_over n alone seen new server request is (Err e) adds none = inl (none.exac
 -- where it was refused there is the entry
 pub refused_entry : (n : ℕ) (alone : Type 0) (seen new : Line) (server : ℕ) (request : Request) (refusal : Refusal) → alone → IsHanded n alone seen server request (Some (Refused refusal)) new → new ≡ seen ++ entry n (handed request server (Refused refusal)) ∷ []
 refused_entry n alone seen new server request refusal is adds = adds.listed ∙ ap (λ l. l ++ entry n (handed request server (Refused refusal)) ∷ []) (adds.finds.exact is)
+
+-- a write of a host may be written, so it is handed over
+writable : (plan : Plan) (h m : ℕ) (request : Request) → request ≡ request_of plan.sectors h m → IsWritable request.range.first request.range.count
+writable plan h m request is = subst (λ (r : Request). IsWritable r.range.first r.range.count) (sym is) (record {
+  some = omega arith;
+  few = omega arith;
+  low = let below = mod_below (h + m) plan.sectors plan.some_sectors in let most = plan.few_sectors in omega (arith, below, most);
+})
+
+entered : (n : ℕ) (alone : Type 0) (seen new : Line) (server : ℕ) (request : Request) → alone → IsWritable request.range.first request.range.count → (told : Option Answer) → IsHanded n alone seen server request told new → (answer : Answer) × (new ≡ seen ++ entry n (handed request server answer) ∷ [])
+entered n alone seen new server request is writes (Some answer) adds = (answer, adds.listed ∙ ap (λ l. l ++ entry n (handed request server answer) ∷ []) (adds.finds.exact is))
+entered n alone seen new server request is writes None kept = absurd (kept.0 writes)
+
+same_member : (xs : List Served) (i : ℕ) (y z x : Served) → slice_get xs i ≡ Some y → slice_get (slice_set xs i z) i ≡ Some x → x ≡ z
+same_member [] i y z x at_y at_x = absurd cc
+same_member (w ∷ ws) zero y z x at_y at_x = cc
+same_member (w ∷ ws) (suc i) y z x at_y at_x = same_member ws i y z x at_y at_x
 
 -- none is to be refused where the last request of the host has a slot
 pub none_asked : (plan : Plan) (list : Line) (server : ℕ) (served : List Served) (h : ℕ) (t : Served) → slice_get served h ≡ Some t → ((request : Request) → t.standing ≡ Asked request → ⊥) → IsRefusedBy plan list server served h
@@ -186,28 +207,41 @@ module _ {D : Type 0} {disk : Ghosts D} (group : SharedGroup D disk) (cell : Lea
     ended = ended_on over;
   }
 
+  -- the request is the last one that was taken
+  last_write : s.standing ≡ Asked request → (m : ℕ) × (m + 1 ≡ s.taken) × (request ≡ request_of plan.sectors host m)
+  last_write was =
+      let last : IsLast (taken_by s.pass) (Asked request) = subst (IsLast (taken_by s.pass)) was old.last in
+      let next : length last.0 + 1 ≡ s.taken = sym (length-append last.0 (request ∷ [])) ∙ (ap length last.1 ∙ old.count) in
+      (length last.0, next, request_is plan host (length last.0) s request old (all_fed plan rings plan.hosts a.hosts.items a.served.items is.met host s there) was next)
+
   -- it was refused
   pub refused_by : s.standing ≡ Asked request → (refusal : Refusal) → seen_by b.seat ≡ seen_by a.seat ++ entry (number_of a.seat) (handed request server (Refused refusal)) ∷ [] → IsRefusedBy plan (seen_by b.seat) server b.served.items host
   refused_by was refusal listed x any found asked =
       let here : x ≡ t = same_member a.served.items host s t x there (ap (λ l. slice_get l host) (sym items) ∙ found) in
       let count : x.taken ≡ s.taken = ap (λ y. y.taken) here ∙ taken_same plan s t pass old counted in
-      let asked_last : IsLast (taken_by s.pass) (Asked request) = subst (IsLast (taken_by s.pass)) was old.last in
-      let m : ℕ = length asked_last.0 in
-      let next : m + 1 ≡ s.taken = sym (length-append asked_last.0 (request ∷ [])) ∙ (ap length asked_last.1 ∙ old.count) in
-      let its : request ≡ request_of plan.sectors host m = request_is plan host m s request old (all_fed plan rings plan.hosts a.hosts.items a.served.items is.met host s there) was next in
-      let last : m ≡ x.taken - 1 = omega (arith, next, count) in record {
+      let write = last_write was in
+      let last : write.0 ≡ x.taken - 1 = let next = write.1 in omega (arith, next, count) in record {
         before = seen_by a.seat;
         seat = number_of a.seat;
         refusal = refusal;
         after = [];
-        there = ap (λ o. seen_by a.seat ++ entry (number_of a.seat) (Happened (record { event = Submit server o; answer = Refused refusal })) ∷ []) (sym (ap write_for its ∙ ap (λ j. op_of (request_of plan.sectors host j)) last)) ∙ sym listed;
+        there = ap (λ o. seen_by a.seat ++ entry (number_of a.seat) (Happened (record { event = Submit server o; answer = Refused refusal })) ∷ []) (sym (ap write_for write.2 ∙ ap (λ j. op_of (request_of plan.sectors host j)) last)) ∙ sym listed;
         since = refl;
       }
-    where
-      same_member : (xs : List Served) (i : ℕ) (y z x : Served) → slice_get xs i ≡ Some y → slice_get (slice_set xs i z) i ≡ Some x → x ≡ z
-      same_member [] i y z x at_y at_x = absurd cc
-      same_member (w ∷ ws) zero y z x at_y at_x = cc
-      same_member (w ∷ ws) (suc i) y z x at_y at_x = same_member ws i y z x at_y at_x
+
+  -- it was submitted, and so was each one before it
+  pub submitted_by : s.standing ≡ Asked request → (answer : Option Answer) → IsHanded (number_of a.seat) (IsAlone a.seat) (seen_by a.seat) server request answer (seen_by b.seat) → AreSubmitted (root_in group) (seen_by b.seat) b.served.items host
+  submitted_by was answer hand told x found =
+      let write = last_write was in
+      let one = entered (number_of a.seat) (IsAlone a.seat) (seen_by a.seat) (seen_by b.seat) server request is.seat.at.1 (writable plan host write.0 request write.2) answer hand in
+      let its : is_write_of host (Submit server (write_for request)) ≡ true = ap (λ (r : Request). is_write_of host (Submit server (write_for r))) write.2 ∙ is_own host host refl in
+      let here : x ≡ t = same_member a.served.items host s t x there (ap (λ l. slice_get l host) (sym items) ∙ found) in
+      let count : x.taken ≡ s.taken = ap (λ y. y.taken) here ∙ taken_same plan s t pass old counted in
+      let were : Stands (root_in group) host (seen_by a.seat) s.taken (Asked request) = subst (λ y. Stands (root_in group) host (seen_by a.seat) s.taken y) was (stood told) in
+      let last : length (slots_of (root_in group) host (seen_by a.seat)) ≡ x.taken - 1 = let next = were.0 in omega (arith, next, count) in
+      all_submitted (root_in group) host (seen_by b.seat) x.taken x.standing (stand told host x found)
+      (λ r asked. subst (λ l. Contains (numbers_of (root_in group) host l) (x.taken - 1)) (sym one.1) (subst (Contains (numbers_of (root_in group) host (seen_by a.seat ++ entry (number_of a.seat) (handed request server one.0) ∷ []))) last
+      (number_last (root_in group) host (seen_by a.seat) (number_of a.seat) (Submit server (write_for request)) one.0 its)))
 
 module _ {D : Type 0} {disk : Ghosts D} (group : SharedGroup D disk) (cell : LeaderCell) (plan : Plan) (rings : List Ring) where
   pub judged_refl : (a : Crew D disk) → IsCrew group cell plan rings a → HasJudged group cell plan rings a a
@@ -237,6 +271,21 @@ module _ {D : Type 0} {disk : Ghosts D} (group : SharedGroup D disk) (cell : Lea
   pub refused_more : (a b : Crew D disk) (server host : ℕ) → HasJudged group cell plan rings a b → ((j : ℕ) → j ≢ host → slice_get b.served.items j ≡ slice_get a.served.items j) → IsRefusedBy plan (seen_by b.seat) server b.served.items host
       → ((h : ℕ) → h < host → IsRefusedBy plan (seen_by a.seat) server a.served.items h) → (h : ℕ) → h < host + 1 → IsRefusedBy plan (seen_by b.seat) server b.served.items h
   refused_more a b server host judged others now before h under = dite (ℕ_discrete h host) (λ here. subst (IsRefusedBy plan (seen_by b.seat) server b.served.items) (sym here) now) (λ other. refused_still a b server h host judged others other (before h (omega (arith, under, other))))
+
+  -- where the last one has a slot, each that was taken was submitted
+  pub submitted_idle : (a : Crew D disk) → IsCrew group cell plan rings a → (host : ℕ) (s : Served) → slice_get a.served.items host ≡ Some s → ((request : Request) → s.standing ≡ Asked request → ⊥) → AreSubmitted (root_in group) (seen_by a.seat) a.served.items host
+  submitted_idle a is host s there none told x found = let same : s ≡ x = cc in
+      all_submitted (root_in group) host (seen_by a.seat) x.taken x.standing (is.stand told host x found) (λ r asked. absurd (none r (ap (λ (y : Served). y.standing) same ∙ asked)))
+
+  submitted_still : (a b : Crew D disk) (h : ℕ) → Begins (seen_by a.seat) (seen_by b.seat) → slice_get b.served.items h ≡ slice_get a.served.items h → AreSubmitted (root_in group) (seen_by a.seat) a.served.items h → AreSubmitted (root_in group) (seen_by b.seat) b.served.items h
+  submitted_still a b h begins same was told s there j low = submitted_later (root_in group) h (seen_by a.seat) (seen_by b.seat) begins j (was told s (sym same ∙ there) j low)
+
+  pub submitted_more : (a b : Crew D disk) (host : ℕ) → Begins (seen_by a.seat) (seen_by b.seat) → ((j : ℕ) → j ≢ host → slice_get b.served.items j ≡ slice_get a.served.items j) → AreSubmitted (root_in group) (seen_by b.seat) b.served.items host
+      → ((h : ℕ) → h < host → AreSubmitted (root_in group) (seen_by a.seat) a.served.items h) → (h : ℕ) → h < host + 1 → AreSubmitted (root_in group) (seen_by b.seat) b.served.items h
+  submitted_more a b host begins others now before h under = dite (ℕ_discrete h host) (λ here. subst (AreSubmitted (root_in group) (seen_by b.seat) b.served.items) (sym here) now) (λ other. submitted_still a b h begins (others h other) (before h (omega (arith, under, other))))
+
+  pub submitted_on : (a b : Crew D disk) → HasLooked group cell plan rings a b → AllSubmitted plan (root_in group) (seen_by a.seat) a.served.items → AllSubmitted plan (root_in group) (seen_by b.seat) b.served.items
+  submitted_on a b p was h low = submitted_still a b h p.unchanged.begins (ap (λ v. slice_get v.items h) p.served) (was h low)
 
   -- another pair was published
   pub looked_first : (a b : Crew D disk) (first : LeaderPass) → HasLooked group cell plan rings a b → cells.IsPassOf cell first × cells.IsFirst first → HasLooked group cell plan rings a (record b { first = first })

@@ -121,7 +121,7 @@ refused_later plan old new begins count h j server r = record {
 -- what was found is so after looks
 module _ (plan : Plan) (root : GroupIs) (old new : Line) (un : IsUnchanged root old new) where
   pub acked_same : (h : ℕ) → acked_of root h new ≡ acked_of root h old
-  acked_same h = ap (λ g. sum_by (λ a. weigh (is_told g a)) (slots_of root h new)) un.state ∙ ap (sum_by (λ a. weigh (is_told (state_at root old) a))) (un.slots h)
+  acked_same h = ap (λ g. sum_by (λ a. weigh (is_told g a)) (slots_of root h new)) un.state ∙ ap (sum_by (λ a. weigh (is_told (state_at root old) a))) (un.none h).slots
 
   pub least_same : least_left (state_at root new) new ≡ least_left (state_at root old) old
   least_same = let alike : (λ (k : ℕ). is_passed k new) ≡ (λ (k : ℕ). is_passed k old) = λ i k. un.passed k i in
@@ -131,7 +131,7 @@ module _ (plan : Plan) (root : GroupIs) (old new : Line) (un : IsUnchanged root 
   refused_on h j r = record { server = r.server; term = r.term; leads = subst (λ g. IsLeader g (Some (r.term, r.server))) (sym un.state) r.leads; refused = refused_later plan old new un.begins un.count h j r.server r.refused }
 
   vain_on : (h : ℕ) → WaitsInVain plan root old h → WaitsInVain plan root new h
-  vain_on h (inl low) = inl (let a = acked_same h in let b = ap length (un.slots h) in omega (arith, a, b, low))
+  vain_on h (inl low) = inl (let a = acked_same h in let b = ap length (un.none h).slots in omega (arith, a, b, low))
   vain_on h (inr (inl none)) = inr (inl (subst (λ g. IsLeader g None) (sym un.state) none))
   vain_on h (inr (inr refused)) = inr (inr (subst (WasRefused plan root new h) (sym (acked_same h)) (refused_on h (acked_of root h old) refused)))
 

@@ -28,12 +28,11 @@ use Rattle.pf_live.specs.declared.plan.Plan.{Plan}
 use Rattle.pf_live.specs.Deliveries.{Line, deliveries, delivers, is_passed, least_left, passes_over}
 use Rattle.pf_live.specs.Lines.{Does, IsLive}
 use Rattle.pf_live.specs.Roles.{EndsWith, nothing_free}
-use Rattle.pf_live.specs.Submissions.{slots_of}
-use Rattle.pf_live.specs.Submitters.{AllStand}
+use Rattle.pf_live.specs.Submitters.{AllStand, SubmitsNone}
 use Rattle.pf_live.proofs.Deliveries.{sent_later}
 use Rattle.pf_live.proofs.Happenings.{state_more}
 use Rattle.pf_live.proofs.Stands.{stands_on}
-use Rattle.pf_live.proofs.Submissions.{slots_snoc}
+use Rattle.pf_live.proofs.Submissions.{submits_none}
 use Rattle.pf_liveline.specs.declared.crew.Crew.{Crew}
 use Rattle.pf_liveline.specs.Crews.{AllEnded, AllFree, HasMade, IsCrew, IsLineSeat}
 use Rattle.pf_liveline.specs.Judging.{HasLooked, IsUnchanged}
@@ -89,8 +88,8 @@ module _ (root : GroupIs) (n : ℕ) (list : Line) where
   state_same : state_at root looked ≡ state_at root list
   state_same = sym (state_more root list (entry n (Look None) ∷ []) looked refl)
 
-  slots_same : (h : ℕ) → slots_of root h looked ≡ slots_of root h list
-  slots_same h = slots_snoc root h list (entry n (Look None)) ∙ append-nil (slots_of root h list)
+  none_more : (h : ℕ) → SubmitsNone root h list looked
+  none_more h = submits_none root h list (entry n (Look None) ∷ []) looked refl (refl, tt)
 
   pub look_unchanged : IsUnchanged root list looked
   look_unchanged = record {
@@ -98,11 +97,11 @@ module _ (root : GroupIs) (n : ℕ) (list : Line) where
     state = state_same;
     passed = passed_same n list (Look None) (λ k. refl) refl;
     count = count_same n list (Look None) (λ k. refl) refl;
-    slots = slots_same;
+    none = none_more;
   }
 
 pub unchanged_refl : (root : GroupIs) (list : Line) → IsUnchanged root list list
-unchanged_refl root list = record { begins = begins_refl list; state = refl; passed = λ k. refl; count = refl; slots = λ h. refl }
+unchanged_refl root list = record { begins = begins_refl list; state = refl; passed = λ k. refl; count = refl; none = λ h. record { slots = refl; numbers = refl } }
 
 pub unchanged_trans : (root : GroupIs) (a b c : Line) → IsUnchanged root a b → IsUnchanged root b c → IsUnchanged root a c
 unchanged_trans root a b c p q = record {
@@ -110,7 +109,7 @@ unchanged_trans root a b c p q = record {
   state = q.state ∙ p.state;
   passed = λ k. q.passed k ∙ p.passed k;
   count = q.count ∙ p.count;
-  slots = λ h. q.slots h ∙ p.slots h;
+  none = λ h. record { slots = (q.none h).slots ∙ (p.none h).slots; numbers = (q.none h).numbers ∙ (p.none h).numbers };
 }
 
 -- where it alone is, the look stands at the end of what it had seen
@@ -164,7 +163,7 @@ module _ {D : Type 0} {disk : Ghosts D} (group : SharedGroup D disk) (cell : Lea
         seat = seat_more group plan a.seat seat is.seat at same (Look None) listed refl;
         splits = is.splits ∙ sym same.1;
         met = is.met;
-        stand = λ told. subst (λ l. AllStand (root_in group) l a.served.items) (sym listed) (λ h s there. stands_on (root_in group) h (seen_by a.seat) _ un.begins (un.slots h) s.taken s.standing (is.stand told h s there));
+        stand = λ told. subst (λ l. AllStand (root_in group) l a.served.items) (sym listed) (λ h s there. stands_on (root_in group) h (seen_by a.seat) _ un.begins (un.none h) s.taken s.standing (is.stand told h s there));
         first = is.first;
         leaders = is.leaders;
         made = subst (λ l. HasMade plan.turns (root_in group) l a.next a.made) (sym listed) (made_more (number_of a.seat) (seen_by a.seat) (Look None) (λ k. refl) refl plan.turns (root_in group) a.next a.made is.made);

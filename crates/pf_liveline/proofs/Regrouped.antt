@@ -18,12 +18,11 @@ use Rattle.pf_live.specs.declared.plan.Plan.{Plan}
 use Rattle.pf_live.specs.Deliveries.{Line}
 use Rattle.pf_live.specs.Lines.{Applying, IsLive, role_of}
 use Rattle.pf_live.specs.Roles.{EndsWith, nothing_free}
-use Rattle.pf_live.specs.Submissions.{slots_of}
-use Rattle.pf_live.specs.Submitters.{AllFed, AllStand, Submits, SubmitsAlone}
+use Rattle.pf_live.specs.Submitters.{AllFed, AllStand, Submits, SubmitsAlone, SubmitsNone}
 use Rattle.pf_live.specs.Switches.{HasDelivered}
 use Rattle.pf_live.proofs.Deliveries.{delivered_finds}
 use Rattle.pf_live.proofs.Stands.{stands_on}
-use Rattle.pf_live.proofs.Submissions.{alone_before, others_quiet, slots_quiet}
+use Rattle.pf_live.proofs.Submissions.{alone_before, others_quiet, submits_none}
 use Rattle.pf_liveline.specs.declared.taking.Taken.{Taken}
 use Rattle.pf_liveline.specs.Crews.{AllEnded, AllFree, HasMade, IsLineSeat}
 use Rattle.pf_liveline.specs.Joining.{IsJoining}
@@ -107,12 +106,12 @@ module _ {D : Type 0} {disk : Ghosts D} (group : SharedGroup D disk) (cell : Lea
       more : (r c : ℕ) → suc r * c ≡ r * c + c
       more r c = Rattle.std.proofs.Math.Nat.suc-mul r c
 
-  slots_on : (h : ℕ) → slots_of (root_in group) h (seen_by first) ≡ slots_of (root_in group) h (seen_by a.submitted.value)
-  slots_on h = slots_quiet (root_in group) h (seen_by a.submitted.value) to_first.0 (seen_by first) to_first.1
+  none_on : (h : ℕ) → SubmitsNone (root_in group) h (seen_by a.submitted.value) (seen_by first)
+  none_on h = submits_none (root_in group) h (seen_by a.submitted.value) to_first.0 (seen_by first) to_first.1
       (others_quiet (splits_of begun + 1) (seen_by begun) (seen_by a.submitted.value) (seen_by first) taken.since to_first (same (splits_of begun + 1) (omega arith) ∙ taken.own) alone)
 
   pub stand_again : IsTrue (root_in group).told → AllStand (root_in group) (seen_by first) a.served.items
-  stand_again told h s there = stands_on (root_in group) h (seen_by a.submitted.value) (seen_by first) to_first (slots_on h) s.taken s.standing (taken.stand told alone_there fed h s there)
+  stand_again told h s there = stands_on (root_in group) h (seen_by a.submitted.value) (seen_by first) to_first (none_on h) s.taken s.standing (taken.stand told alone_there fed h s there)
 
   pub made_again : HasMade plan.turns (root_in group) (seen_by first) a.next a.made
   made_again = made_as plan.turns (root_in group) (seen_by begun) joining.since.0 (seen_by first) (splits_of begun + 2) a.next a.made joining.since.1 fresh

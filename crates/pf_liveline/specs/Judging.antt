@@ -1,5 +1,5 @@
 -- What the looks of the first seat tell of a line's end.
-use Rattle.std.specs.Prelude.{◌≡◌, ◌⊎◌, ℕ, ◌-◌, ◌<◌, ◌≤◌, Bool, true, false, IsTrue, List, length, Option, Some, None, slice_get}
+use Rattle.std.specs.Prelude.{◌≡◌, ◌⊎◌, ℕ, ◌-◌, ◌<◌, ◌≤◌, Bool, true, false, IsTrue, List, Contains, length, Option, Some, None, slice_get}
 use Rattle.pf_turn.specs.Lists.{Begins}
 use Rattle.pf_disk.specs.declared.disk.Disk.{Ghosts}
 use Rattle.pf_network.specs.Shown.{IsLeader}
@@ -19,7 +19,8 @@ use Rattle.pf_live.specs.declared.serving.Served.{Served}
 use Rattle.pf_live.specs.declared.serving.Standing.TheVariants.{Asked}
 use Rattle.pf_live.specs.Deliveries.{Line, deliveries, is_passed, least_left}
 use Rattle.pf_live.specs.Ends.{HasEnd, IsOpen, IsRefused, NoneIsLeft, WaitsInVain, WasRefused}
-use Rattle.pf_live.specs.Submissions.{acked_of, slots_of}
+use Rattle.pf_live.specs.Submissions.{acked_of, numbers_of, slots_of}
+use Rattle.pf_live.specs.Submitters.{SubmitsNone}
 use Rattle.pf_liveline.specs.declared.crew.Crew.{Crew}
 use Rattle.pf_liveline.specs.Crews.{AllEnded, IsCrew}
 
@@ -29,7 +30,7 @@ pub record IsUnchanged (root : GroupIs) (old new : Line) : Type 0 where
   pub state : state_at root new ≡ state_at root old
   pub passed : (k : ℕ) → is_passed k new ≡ is_passed k old
   pub count : deliveries new ≡ deliveries old
-  pub slots : (h : ℕ) → slots_of root h new ≡ slots_of root h old
+  pub none : (h : ℕ) → SubmitsNone root h old new
 
 module _ {D : Type 0} {disk : Ghosts D} where
   -- nothing changes but what the first seat has seen, which went on so
@@ -55,6 +56,14 @@ IsRefusedBy plan list server served h = (s : Served) (request : Request) → sli
 -- that of each host was, by the leader, where the disks tell their content
 abbrev pub AreRefused : Plan → GroupIs → Line → List Served → Type 0
 AreRefused plan root list served = IsTrue root.told → (h : ℕ) (s : Served) (request : Request) → h < plan.hosts → slice_get served h ≡ Some s → s.standing ≡ Asked request → WasRefused plan root list h (s.taken - 1)
+
+-- each write of the host that was taken is submitted, where the disks tell their content
+abbrev pub AreSubmitted : GroupIs → Line → List Served → (h : ℕ) → Type 0
+AreSubmitted root list served h = IsTrue root.told → (s : Served) → slice_get served h ≡ Some s → (j : ℕ) → j < s.taken → Contains (numbers_of root h list) j
+
+-- each of each host is
+abbrev pub AllSubmitted : Plan → GroupIs → Line → List Served → Type 0
+AllSubmitted plan root list served = (h : ℕ) → h < plan.hosts → AreSubmitted root list served h
 
 -- the pass has seen a term that is not below that of the leader, where the disks tell their content
 abbrev pub IsPublished : GroupIs → Line → LeaderPass → Type 0

@@ -11,7 +11,7 @@ use Rattle.pf_live.specs.declared.plan.Plan.{Plan}
 use Rattle.pf_liveline.specs.declared.crew.Crew.{Crew}
 use Rattle.pf_liveline.specs.Crews.{AllEnded, IsCrew}
 use Rattle.pf_live.specs.Ends.{HasEnd}
-use Rattle.pf_liveline.specs.Judging.{IsPublished}
+use Rattle.pf_liveline.specs.Judging.{AllSubmitted, IsPublished}
 
 module _ {D : Type 0} {disk : Ghosts D} where
   -- some whole runs of the threads, so many
@@ -21,10 +21,11 @@ module _ {D : Type 0} {disk : Ghosts D} where
     pub seats : splits_of b.seat ≡ splits_of a.seat + runs * (plan.workers + 2)
     pub ended : AllEnded plan a.seat → AllEnded plan b.seat
 
-  -- The list went on as that of a line, by one run at least. Where the disks tell their content, it has come to the end that is told, and the
-  -- term of the leader, if one serves, was published, or a greater one
+  -- The list went on as that of a line, by one run at least. Where the disks tell their content, it has come to the end that is told, the term
+  -- of the leader, if one serves, was published, or a greater one, and each write that was taken is submitted
   pub record HasRun (group : SharedGroup D disk) (cell : LeaderCell) (plan : Plan) (rings : List Ring) (a b : Crew D disk) (told : LiveEnd) : Type 0 where
     pub more : ℕ
     pub ran : HasRunOn group cell plan rings a (more + 1) b
     pub end : IsTrue (root_in group).told → HasEnd plan (root_in group) (seen_by b.seat) told
     pub published : IsPublished (root_in group) (seen_by b.seat) b.first
+    pub submitted : AllSubmitted plan (root_in group) (seen_by b.seat) b.served.items

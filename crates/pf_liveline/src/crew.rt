@@ -6,7 +6,7 @@ ghost use Rattle.pf_shared.specs.Since.{state_at};
 ghost use Rattle.pf_live.specs.Deliveries.{least_left};
 ghost use Rattle.pf_live.specs.Ends.{NoneIsLeft};
 ghost use Rattle.pf_liveline.specs.Crews.{IsCrew};
-ghost use Rattle.pf_liveline.specs.Judging.{AreRefused, HasCount, HasJudged, HasLooked, IsJudged, IsPublished};
+ghost use Rattle.pf_liveline.specs.Judging.{AllSubmitted, AreRefused, HasCount, HasJudged, HasLooked, IsJudged, IsPublished};
 
 use pf_base::{LiveEnd, NoMemory, ServerId, Slot, Term};
 use pf_disk::Disk;
@@ -155,6 +155,7 @@ impl<D: Disk + Drop> Crew<D> {
         ensures judged { HasJudged line.now.group line.now.cell line.now.plan line.now.rings.items self.old self.new }
         ensures end { IfOk result (λ told. IsTrue (root_in line.now.group).told → IsJudged line.now.plan (root_in line.now.group) (seen_by self.new.seat) told) }
         ensures published { IfOk result (λ told. IsPublished (root_in line.now.group) (seen_by self.new.seat) self.new.first) }
+        ensures submitted { IfOk result (λ told. AllSubmitted line.now.plan (root_in line.now.group) (seen_by self.new.seat) self.new.served.items) }
     {
         let found = self.leader(rt, line)?;
         let server = taker(found);

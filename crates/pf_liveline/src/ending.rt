@@ -3,7 +3,7 @@ ghost use Rattle.std.specs.Prelude.{◌≡◌, ◌+◌, IfOk, IsTrue};
 ghost use Rattle.pf_turn.specs.Lists.{Begins};
 ghost use Rattle.pf_shared.specs.Seats.{root_in, seen_by};
 ghost use Rattle.pf_liveline.specs.Crews.{IsCrew};
-ghost use Rattle.pf_liveline.specs.Judging.{IsJudged, IsPublished};
+ghost use Rattle.pf_liveline.specs.Judging.{AllSubmitted, IsJudged, IsPublished};
 ghost use Rattle.pf_liveline.specs.Rounds.{HasRun, HasRunOn};
 
 use crate::crew::Crew;
@@ -28,6 +28,7 @@ fn round<R: Threads + Wait + Sync, D: Disk + Drop + Send, G: Gate + Sync>(
     ensures ran { IfOk result.1 (λ told. HasRunOn line.now.group line.now.cell line.now.plan line.now.rings.items crew 1 result.0) }
     ensures end { IfOk result.1 (λ told. IsTrue (root_in line.now.group).told → IsJudged line.now.plan (root_in line.now.group) (seen_by result.0.seat) told) }
     ensures published { IfOk result.1 (λ told. IsPublished (root_in line.now.group) (seen_by result.0.seat) result.0.first) }
+    ensures submitted { IfOk result.1 (λ told. AllSubmitted line.now.plan (root_in line.now.group) (seen_by result.0.seat) result.0.served.items) }
 {
     let (mut crew, wants) = run(rt, line, crew);
     if wants {

@@ -6,7 +6,7 @@ ghost use Rattle.pf_network.specs.Shown.{IsLeader};
 ghost use Rattle.pf_shared.specs.Seats.{root_in, seen_by};
 ghost use Rattle.pf_shared.specs.Since.{state_at};
 ghost use Rattle.pf_liveline.specs.Crews.{IsCrew};
-ghost use Rattle.pf_liveline.specs.Judging.{HasJudged, HasLooked, IsPublished, IsRefusedBy};
+ghost use Rattle.pf_liveline.specs.Judging.{AllSubmitted, AreSubmitted, HasJudged, HasLooked, IsPublished, IsRefusedBy};
 
 use crate::crew::Crew;
 use pf_base::{NoMemory, ServerId, Term};
@@ -38,6 +38,7 @@ impl<D: Disk + Drop> Crew<D> {
         ensures judged { HasJudged line.now.group line.now.cell line.now.plan line.now.rings.items self.old self.new }
         ensures others { (h : ℕ) → h ≢ host → slice_get self.new.served.items h ≡ slice_get self.old.served.items h }
         ensures refused { IfOk result (λ told. told ≡ true → IsRefusedBy line.now.plan (seen_by self.new.seat) server self.new.served.items host) }
+        ensures submitted { IfOk result (λ told. AreSubmitted (root_in line.now.group) (seen_by self.new.seat) self.new.served.items host) }
     {
         let place = host as usize;
         let Standing::Asked(request) = self.served[place].standing else {
@@ -66,6 +67,7 @@ impl<D: Disk + Drop> Crew<D> {
         requires server { server < 3 }
         ensures judged { HasJudged line.now.group line.now.cell line.now.plan line.now.rings.items self.old self.new }
         ensures refused { IfOk result (λ told. told ≡ true → (h : ℕ) → h < line.now.plan.hosts → IsRefusedBy line.now.plan (seen_by self.new.seat) server self.new.served.items h) }
+        ensures submitted { IfOk result (λ told. AllSubmitted line.now.plan (root_in line.now.group) (seen_by self.new.seat) self.new.served.items) }
     {
         let mut refused = true;
         for host in 0..line.plan.hosts {

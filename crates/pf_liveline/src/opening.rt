@@ -150,6 +150,7 @@ pub fn close<D: Disk + Drop, G: Drop>(line: Line<D, G>, crew: Crew<D>) -> (Group
     ensures taken { result.0.taken ≡ handed_out (root_in line.group).taken (seen_by crew.seat) }
     ensures grown { HasGrown (root_in line.group) result.0 }
     ensures met { AreMet line.plan result.1.rings.items line.plan.hosts 0 result.1.hosts.items result.1.served.items }
+    ensures served { result.1.served ≡ crew.served }
     ensures first { cells.IsPassOf result.1.cell result.1.first × cells.IsFirst result.1.first × (result.1.first ≡ crew.first) }
 {
     let Line {

@@ -1,5 +1,5 @@
 -- A line that has come to its end.
-use Rattle.std.proofs.Common.{◌≡◌, ℕ, zero, suc, ◌-◌, ◌≤◌, IsTrue, List, [], drop, length, length-append, append-nil, ◌++◌, inl, inr, arith, refl, sym, ap, ◌∙◌, subst}
+use Rattle.std.proofs.Common.{◌≡◌, ◌↔◌, ℕ, zero, suc, ◌-◌, ◌<◌, ◌≤◌, IsTrue, List, [], ◌∷◌, Contains, Some, slice_get, drop, length, length-append, append-nil, ◌++◌, inl, inr, arith, refl, sym, ap, ◌∙◌, subst}
 use Rattle.pf_disk.specs.declared.disk.Disk.{Ghosts}
 use Rattle.pf_protocol.specs.Answers.{claims_of}
 use Rattle.pf_protocol.specs.Histories.{History, IsPrefix, Runs}
@@ -23,15 +23,25 @@ use Rattle.pf_shared.specs.Seats.{root_in, seen_by, splits_of}
 use Rattle.pf_shared.specs.Since.{whole}
 use Rattle.pf_base.specs.declared.live_end.LiveEnd.{LiveEnd}
 use Rattle.pf_live.specs.declared.plan.Plan.{Plan}
+use Rattle.pf_live.specs.declared.serving.Served.{Served}
+use Rattle.pf_live.specs.Submissions.{numbers_of}
+use Rattle.pf_live.proofs.Stands.{stands_within}
+use Rattle.pf_live.proofs.Submissions.{every_at}
 use Rattle.pf_liveline.specs.declared.crew.Crew.{Crew}
 use Rattle.pf_liveline.specs.Crews.{AllEnded, IsCrew}
 use Rattle.pf_liveline.specs.Judging.{IsPublished}
 use Rattle.pf_liveline.specs.Meeting.{AreMet}
 use Rattle.pf_liveline.specs.Rounds.{HasRun}
+use Rattle.pf_liveline.proofs.Judged.{met_count}
 use Rattle.pf_session.specs.declared.session.Lived.{Lived}
 use Rattle.pf_session.specs.declared.totals.Totals.{Totals}
 use Rattle.pf_session.specs.Sessions.{HasApplied, HasList, HasLived, HasStopped, IsRunOut}
 use Rattle.pf_session.specs.Totals.{AreTotals, applied_on_each}
+
+below : {A : Type 0} → (xs : List A) (i : ℕ) (x : A) → slice_get xs i ≡ Some x → i < length xs
+below [] i x there = absurd cc
+below (y ∷ ys) zero x there = omega arith
+below (y ∷ ys) (suc i) x there = let rest = below ys i x there in omega (arith, rest)
 
 module _ {D : Type 0} {disk : Ghosts D} (plan : Plan) where
   none_ended : (seat : GroupSeat D disk) → splits_of seat ≡ 0 → AllEnded plan seat
@@ -52,15 +62,25 @@ module _ {D : Type 0} {disk : Ghosts D} (plan : Plan) where
       ended = run.ran.ended (none_ended a.seat none);
     }
 
+    -- the writes that were taken are those that the list submits
+    submitted : (a : Crew D disk) (end : LiveEnd) → HasRun group cell plan rings a b end → IsTrue (root_in group).told → (h : ℕ) (s : Served) → slice_get b.served.items h ≡ Some s → (j : ℕ) → (j < s.taken) ↔ Contains (numbers_of (root_in group) h (seen_by b.seat)) j
+    submitted a end run told h s there j = let low : h < plan.hosts = let all = met_count plan rings plan.hosts 0 b.hosts.items b.served.items is.met in let under = below b.served.items h s there in omega (arith, all, under) in
+        (run.submitted h low told s there j, every_at s.taken (numbers_of (root_in group) h (seen_by b.seat)) (stands_within (root_in group) h (seen_by b.seat) s.taken s.standing (is.stand told h s there)) j)
+
     pub lived : (a : Crew D disk) (then new : GroupIs) (it : Lived) → splits_of a.seat ≡ 0 → HasRun group cell plan rings a b it.end → HasList plan (root_in group) (seen_by b.seat) then → AreMet plan it.passes.rings.items plan.hosts 0 it.passes.hosts.items it.passes.served.items
-        → cells.IsPassOf it.passes.cell it.passes.first × cells.IsFirst it.passes.first → it.passes.first ≡ b.first → HasApplied then new → AreTotals (root_in group) new it.totals → HasLived plan (root_in group) it new
-    lived a then new it none run list met first same done totals = record {
+        → cells.IsPassOf it.passes.cell it.passes.first × cells.IsFirst it.passes.first → it.passes.first ≡ b.first → it.passes.served ≡ b.served → HasApplied then new → AreTotals (root_in group) new it.totals → HasLived plan (root_in group) it new
+    lived a then new it none run list met first same served done totals = record {
       list = seen_by b.seat;
       then = then;
       listed = list;
       out = run_out a it.end none run;
       end = run.end;
-      kept = record { met = met; first = first; published = subst (IsPublished (root_in group) (seen_by b.seat)) (sym same) run.published };
+      kept = record {
+        met = met;
+        submitted = λ told h s there. submitted a it.end run told h s (ap (λ v. slice_get v.items h) (sym served) ∙ there);
+        first = first;
+        published = subst (IsPublished (root_in group) (seen_by b.seat)) (sym same) run.published;
+      };
       applied_then = done;
       totals = totals;
     }

@@ -1,5 +1,5 @@
 -- A live line over one group, from its beginning to its end.
-use Rattle.std.specs.Prelude.{◌≡◌, ◌⊎◌, ℕ, ◌+◌, ◌*◌, ◌<◌, ◌≤◌, IsTrue, List, [], Some}
+use Rattle.std.specs.Prelude.{◌≡◌, ◌⊎◌, ◌↔◌, ℕ, ◌+◌, ◌*◌, ◌<◌, ◌≤◌, IsTrue, List, [], Contains, Some, slice_get}
 use Rattle.pf_turn.specs.Lists.{entries_of}
 use Rattle.pf_protocol.specs.Answers.{claims_of}
 use Rattle.pf_protocol.specs.Servers.{Server}
@@ -18,10 +18,12 @@ use Rattle.pf_applyrounds.specs.Rounds.{IsApplied, applied}
 use Rattle.pf_shared.specs.Moments.{handed_out}
 use Rattle.pf_shared.specs.Since.{state_at, whole}
 use Rattle.pf_live.specs.declared.plan.Plan.{Plan}
+use Rattle.pf_live.specs.declared.serving.Served.{Served}
 use Rattle.pf_live.specs.Deliveries.{Line}
 use Rattle.pf_live.specs.Ends.{HasEnd}
 use Rattle.pf_live.specs.Lines.{Applying, IsLive, role_of}
 use Rattle.pf_live.specs.Roles.{EndsWith, nothing_free}
+use Rattle.pf_live.specs.Submissions.{numbers_of}
 use Rattle.pf_liveline.specs.declared.opening.Passes.{Passes}
 use Rattle.pf_liveline.specs.Meeting.{AreMet}
 use Rattle.pf_session.specs.declared.session.Lived.{Lived}
@@ -44,10 +46,12 @@ pub record IsRunOut (plan : Plan) (list : Line) : Type 0 where
   pub strangers : (n : ℕ) → seats < n → entries_of n list ≡ []
   pub ended : (n : ℕ) → n ≤ seats → role_of plan.workers n ≡ Applying → EndsWith (entries_of n list) (nothing_free n)
 
--- What the rings and the leader cell of a line tell of its list: of each ring what the server thread took begins what the host put; and the
--- term of the leader after the list, if one serves, was published, or a greater one
+-- What the rings and the leader cell of a line tell of its list: of each ring what the server thread took begins what the host put, and is the
+-- writes of the host that the list submits, however often each; and the term of the leader after the list, if one serves, was published, or a
+-- greater one
 pub record AreKept (plan : Plan) (old : GroupIs) (list : Line) (passes : Passes) : Type 0 where
   pub met : AreMet plan passes.rings.items plan.hosts 0 passes.hosts.items passes.served.items
+  pub submitted : IsTrue old.told → (h : ℕ) (s : Served) → slice_get passes.served.items h ≡ Some s → (j : ℕ) → (j < s.taken) ↔ Contains (numbers_of old h list) j
   pub first : cells.IsPassOf passes.cell passes.first × cells.IsFirst passes.first
   pub published : IsTrue old.told → (term server : ℕ) → IsLeader (state_at old list) (Some (term, server)) → term ≤ (last_of (cells.seen_by passes.first)).0
 

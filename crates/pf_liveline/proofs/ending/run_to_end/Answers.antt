@@ -1,7 +1,7 @@
 use Rattle.std.proofs.Common.{◌≡◌, ◌+◌, Ok, None, Some, IfOk, IsTrue, ap, ◌∙◌, subst}
 use Rattle.pf_turn.proofs.Lists.{begins_trans}
 use Rattle.pf_shared.specs.Seats.{root_in, seen_by}
-use Rattle.pf_liveline.specs.Judging.{IsJudged, IsPublished}
+use Rattle.pf_liveline.specs.Judging.{AllSubmitted, IsJudged, IsPublished}
 use Rattle.pf_liveline.specs.Rounds.{HasRunOn}
 use Rattle.pf_liveline.proofs.Rounds.{ran_more, ran_none}
 use Rattle.pf_liveline.proofs.ending.run_to_end.Goals as goal
@@ -24,6 +24,7 @@ returns-in-Ok-Some-clause-run g c = let line = c.args.line.now in let root = roo
   ran = ran_more line.group line.cell line.plan line.rings.items c.args.crew now next was.0 was.1 (subst (λ r. IfOk r (λ told. HasRunOn line.group line.cell line.plan line.rings.items now 1 next)) is e.ran);
   end = subst (λ r. IfOk r (λ told. IsTrue root.told → IsJudged line.plan root (seen_by next.seat) told)) is e.end;
   published = subst (λ r. IfOk r (λ told. IsPublished root (seen_by next.seat) next.first)) is e.published;
+  submitted = subst (λ r. IfOk r (λ told. AllSubmitted line.plan root (seen_by next.seat) next.served.items)) is e.submitted;
 }
 
 pub returns-in-Err-clause-begins : goal.returns-in-Err-clause-begins

@@ -36,5 +36,5 @@ returns-clause-lived g c =
     let line = c.args.line in let b = c.run_to_end-crew.result.0 in let is = c.run_to_end-crew.ensures.crew in let then = c.close-group.result.0 in let e = c.close-group.ensures in
     let new = c.apply_all.new.group in let a = c.apply_all.ensures in let ok = c.in-Ok-apply_all.ensures in
     let run = subst (λ r. IfOk r (HasRun line.group line.cell line.plan line.rings.items c.args.crew b)) c.in-Ok.is c.run_to_end-crew.ensures.run in
-    lived line.plan line.group line.cell line.rings.items b is c.args.crew then new _ c.requires.seats run (listed line.plan line.group line.cell line.rings.items b is then e.history e.grown e.taken (e.none c.requires.none)) e.met (e.first.0, e.first.1) e.first.2
+    lived line.plan line.group line.cell line.rings.items b is c.args.crew then new _ c.requires.seats run (listed line.plan line.group line.cell line.rings.items b is then e.history e.grown e.taken (e.none c.requires.none)) e.met (e.first.0, e.first.1) e.first.2 e.served
     (has_applied then new _ a.grown a.taken a.none ok.run ok.applied ok.adds ok.closed) (c.totals-totals.ensures (root_in line.group) c.requires.began (grown_trans (root_in line.group) then new e.grown a.grown))

@@ -3,7 +3,7 @@ use Rattle.std.proofs.lemmas.Bool.{and_parts}
 use Rattle.pf_network.specs.Shown.{IsLeader}
 use Rattle.pf_shared.specs.Seats.{root_in, seen_by}
 use Rattle.pf_liveline.specs.Judging.{AreRefused}
-use Rattle.pf_liveline.proofs.Handed.{judged_between, judged_looked, judged_trans, published_on, refused_leads}
+use Rattle.pf_liveline.proofs.Handed.{judged_between, judged_looked, judged_trans, published_on, refused_leads, submitted_on}
 use Rattle.pf_liveline.proofs.Judged.{none_there}
 use Rattle.pf_liveline.proofs.Looked.{looked_trans, unchanged_trans}
 use Rattle.pf_liveline.proofs.Rounds.{told_any}
@@ -55,3 +55,15 @@ returns-then-is_some-clause-published g c = let e = c.publish.new.self in let f 
 pub returns-clause-published : goal.returns-clause-published
 returns-clause-published g c = let root = root_in c.args.line.now.group in let e = c.publish.new.self in let f = c.least_left.new.self in let h = c.judge_hosts.new.self in let p = c.least_left.ensures in let q = c.judge_hosts.ensures in
     told_any c.judge_hosts.result (published_on root (seen_by e.seat) (seen_by h.seat) e.first h.first (unchanged_trans root (seen_by e.seat) (seen_by f.seat) (seen_by h.seat) p.looked.unchanged q.looked.unchanged) (q.first ∙ p.first) c.in_ok-leader.ensures.published)
+
+pub returns-then-self-line-clause-submitted : goal.returns-then-self-line-clause-submitted
+returns-then-self-line-clause-submitted g c = let line = c.args.line.now in let d = c.hand_all.new.self in let e = c.publish.new.self in let f = c.least_left.new.self in
+    submitted_on line.group line.cell line.plan line.rings.items d f (looked_trans line.group line.cell line.plan line.rings.items d e f c.publish.ensures.looked c.least_left.ensures.looked) c.in_ok-refused.ensures.submitted
+
+pub returns-then-is_some-clause-submitted : goal.returns-then-is_some-clause-submitted
+returns-then-is_some-clause-submitted g c = let line = c.args.line.now in let d = c.hand_all.new.self in let e = c.publish.new.self in let f = c.least_left.new.self in
+    submitted_on line.group line.cell line.plan line.rings.items d f (looked_trans line.group line.cell line.plan line.rings.items d e f c.publish.ensures.looked c.least_left.ensures.looked) c.in_ok-refused.ensures.submitted
+
+pub returns-clause-submitted : goal.returns-clause-submitted
+returns-clause-submitted g c = let line = c.args.line.now in let d = c.hand_all.new.self in let e = c.publish.new.self in let f = c.least_left.new.self in let h = c.judge_hosts.new.self in
+    told_any c.judge_hosts.result (submitted_on line.group line.cell line.plan line.rings.items d h (looked_trans line.group line.cell line.plan line.rings.items d f h (looked_trans line.group line.cell line.plan line.rings.items d e f c.publish.ensures.looked c.least_left.ensures.looked) c.judge_hosts.ensures.looked) c.in_ok-refused.ensures.submitted)

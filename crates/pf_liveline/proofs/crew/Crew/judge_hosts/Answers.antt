@@ -6,6 +6,12 @@ use Rattle.pf_liveline.proofs.Looked.{looked_trans}
 use Rattle.pf_liveline.proofs.crew.Crew.judge_hosts.Goals as goal
 use Rattle.pf_liveline.proofs.crew.Crew.judge_hosts.Goals.{then-acked-line+else-is_some, else-is_some-via-then-is_some+else-not-in_vain, else-is_some-via-else-is_some, else-acked-line}
 
+pub returns-in_err-acked-clause-looked : goal.returns-in_err-acked-clause-looked
+returns-in_err-acked-clause-looked g c = let line = c.args.line.now in let l = c.loop-host in looked_trans line.group line.cell line.plan line.rings.items c.args.self.now l.self c.count.new.self l.invariant.0 c.count.ensures.looked
+
+pub returns-then-not-in_vain-clause-looked : goal.returns-then-not-in_vain-clause-looked
+returns-then-not-in_vain-clause-looked g c = let line = c.args.line.now in let l = c.loop-host in looked_trans line.group line.cell line.plan line.rings.items c.args.self.now l.self c.count.new.self l.invariant.0 c.count.ensures.looked
+
 pub returns-then-not-in_vain-clause-end : goal.returns-then-not-in_vain-clause-end
 returns-then-not-in_vain-clause-end g c tells = let line = c.args.line.now in let root = root_in line.group in let l = c.loop-host in let k = c.in_ok-acked.ensures in let new = c.count.new.self in let told : ℕ × Bool = (c.in_ok-acked.acked, c.in_ok-acked.in_vain) in
     let low : l.host < line.plan.hosts = omega (arith, c.loop-host-test.true) in
