@@ -184,10 +184,12 @@ module _ (plan : Plan) (old new : ChunkIs) (its : Lived) (g : GroupIs) (lived : 
           ∙ ap (λ (c : ChunkIs). let x : Happened = record { chunk = run_of halts c; answer = Done; text = told.text } in x) (sym same);
     };
     next = ap (λ (c : ChunkIs). c.next) same;
+    list = lived.list;
     is_session = λ halts tells.
         let back = grown_tells halts g new.group new_grown tells in
         let before = grown_tells halts mid g lived.applied_then.grown back in
         whole_session plan old.group mid lived.list lived.listed mid_legal halts before its.end (lived.end (was_told back.told));
+    kept = lived.kept;
     ended = refl;
     totals = record {
       acked = λ is. lived.totals.acked is ∙ ap (λ (x : GroupIs). length (state_of x).acked - length (state_of old.group).acked) (sym (ap (λ (c : ChunkIs). c.group) same));

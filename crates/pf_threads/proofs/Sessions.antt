@@ -24,7 +24,7 @@ use Rattle.pf_live.specs.Ends.{HasEnd}
 use Rattle.pf_session.specs.Sessions.{HasList}
 use Rattle.pf_chunk.specs.Lending.{after_all}
 use Rattle.pf_chunk.proofs.Following.{legal_rest}
-use Rattle.pf_threads.specs.Sessions.{IsPartOfSession, IsSession}
+use Rattle.pf_threads.specs.Sessions.{IsPartOfSession, IsSessionOf}
 use Rattle.pf_threads.proofs.Events.{of_line, told_same}
 
 abbrev pub events_in : History → List Event
@@ -82,6 +82,6 @@ module _ (plan : Plan) (old mid : GroupIs) (list : Line) (listed : HasList plan 
   }
 
   -- and all of one, where it has ended so
-  pub whole_session : (ended : LiveEnd) → HasEnd plan old list ended → IsSession halts plan (chunk_of halts old) (record { events = events_in (happenings list); ended = ended })
+  pub whole_session : (ended : LiveEnd) → HasEnd plan old list ended → IsSessionOf halts plan (chunk_of halts old) (record { events = events_in (happenings list); ended = ended }) old list
   unfolding part
-  whole_session ended ends = record { part = part; ends = ends }
+  whole_session ended ends = record { is = record { part = part; ends = ends }; over = refl; of_list = refl }

@@ -57,3 +57,9 @@ pub record IsPartOfSession (halts : List Halt) (plan : Plan) (c : Chunk) (events
 pub record IsSession (halts : List Halt) (plan : Plan) (c : Chunk) (session : Session) : Type 0 where
   pub part : IsPartOfSession halts plan c session.events
   pub ends : HasEnd plan part.root part.list session.ended
+
+-- and this is its list, over this group
+pub record IsSessionOf (halts : List Halt) (plan : Plan) (c : Chunk) (session : Session) (root : GroupIs) (list : Line) : Type 0 where
+  pub is : IsSession halts plan c session
+  pub over : is.part.root ≡ root
+  pub of_list : is.part.list ≡ list

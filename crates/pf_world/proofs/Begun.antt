@@ -142,6 +142,7 @@ module _ {D : Type 0} (faults : D → ℕ) (told : Bool) where
     pub hosts_are : w.world.fleet.hosts ≡ []
     pub calls_are : w.world.fleet.calls ≡ 0
     pub kind_is : w.world.kind ≡ None
+    pub passes_are : w.world.passes ≡ None
     pub sixes : List (Six D)
     pub many : length sixes ≡ number
     pub given : disks ≡ flat_map six_list sixes ++ w.spare
@@ -149,7 +150,7 @@ module _ {D : Type 0} (faults : D → ℕ) (told : Bool) where
     pub answered : answer ≡ making_answer (failed_in w.world.chunks)
 
   pub begun_none : (disks spare : List D) (sectors names format : ℕ) (chunks : List ChunkIs) (fleet : FleetIs) → chunks ≡ [] → spare ≡ disks → fleet.hosts ≡ [] → fleet.calls ≡ 0
-      → Begun disks sectors names format 0 (record { world = record { sectors = sectors; names = names; format = format; chunks = chunks; fleet = fleet; kind = None }; spare = spare }) Done
+      → Begun disks sectors names format 0 (record { world = record { sectors = sectors; names = names; format = format; chunks = chunks; fleet = fleet; kind = None; passes = None }; spare = spare }) Done
   begun_none disks spare sectors names format chunks fleet none all hosts calls = record {
     sectors_are = refl;
     names_are = refl;
@@ -158,6 +159,7 @@ module _ {D : Type 0} (faults : D → ℕ) (told : Bool) where
     hosts_are = hosts;
     calls_are = calls;
     kind_is = refl;
+    passes_are = refl;
     sixes = [];
     many = refl;
     given = sym all;
@@ -184,6 +186,7 @@ module _ {D : Type 0} (faults : D → ℕ) (told : Bool) where
         hosts_are = ap (λ (w : WorldIs). w.fleet.hosts) a.world ∙ b.hosts_are;
         calls_are = ap (λ (w : WorldIs). w.fleet.calls) a.world ∙ b.calls_are;
         kind_is = ap (λ (w : WorldIs). w.kind) a.world ∙ b.kind_is;
+        passes_are = ap (λ (w : WorldIs). w.passes) a.world ∙ b.passes_are;
         sixes = b.sixes ++ a.six ∷ [];
         many = length-append b.sixes (a.six ∷ []) ∙ ap (λ n. n + 1) b.many;
         given = b.given ∙ ap (λ ds. flat_map six_list b.sixes ++ ds) a.given ∙ sym (append_assoc (flat_map six_list b.sixes) (six_list a.six) new.spare)
@@ -235,6 +238,7 @@ module _ {D : Type 0} (faults : D → ℕ) (told : Bool) where
       count = b.count;
       numbers = (b.sectors_are, b.names_are, b.format_is);
       calls = b.calls_are;
+      passes = b.passes_are;
       run = λ halts sessions tells. new_stands halts sessions chunks sectors w.world (map (λ k. new_run (made_chunk halts sectors names format k)) (range_with_len 0 chunks)) extent b.hosts_are b.kind_is (
           ap (λ n. map (λ k. new_run (made_chunk halts sectors names format k)) (range_with_len 0 n)) (sym b.count)
           ∙ mapped halts (λ k. new_run (made_chunk halts sectors names format k)) 0 w.world.chunks (λ k c there.

@@ -44,6 +44,7 @@ module _ (old : WorldIs) (number : ℕ) (command : Command) (within : (new : Wor
       → ((halts : List Halt) → TellsAll halts chunks → (line_told halts (stands_at halts [] old) number command).world.volume.chunks ≡ (part halts (fleets.stands_at halts old.chunks old.fleet)).volume.chunks) → HasFailed old number command (becomes old chunks fleet kind)
   stopped_fails part kind chunks fleet s line = record {
     goes_on = all_grew old chunks fleet kind s.grown;
+    passes = refl;
     stopped = within (becomes old chunks fleet kind) (λ halts tells. subst (λ cs. HaveBegun halts old.chunks cs chunks) (sym (line halts tells)) (s.begun halts tells));
   }
 
@@ -60,6 +61,7 @@ module _ (old : WorldIs) (number : ℕ) (command : Command) (within : (new : Wor
   pub said_fails : (kind : Option Kind) (fleet : FleetIs) → ((halts : List Halt) → (line_told halts (stands_at halts [] old) number command).world.volume.chunks ≡ runs halts old.chunks) → HasFailed old number command (becomes old old.chunks fleet kind)
   said_fails kind fleet line = record {
     goes_on = all_grew old old.chunks fleet kind (record { count = refl; each = (same_world old).grown });
+    passes = refl;
     stopped = within (becomes old old.chunks fleet kind) (λ halts tells. subst (λ cs. HaveBegun halts old.chunks cs old.chunks) (sym (line halts))
         (have_all_begun halts old.chunks old.chunks (record { count = refl; each = (same_world old).grown }) tells));
   }
@@ -81,11 +83,16 @@ pub settling_grown : (limit : ℕ) (old : List ChunkIs) (fleet : FleetIs) (new :
 settling_grown limit old fleet new n = grown_trans_all old n.mid new n.grown n.stopped.grown
 
 pub settling_fails : (old : WorldIs) (number limit : ℕ) (kind : Option Kind) (chunks : List ChunkIs) (fleet : FleetIs) → HasNotSettled limit old.chunks old.fleet chunks → HasFailed old number (commands.Settle limit) (becomes old chunks fleet kind)
-settling_fails old number limit kind chunks fleet n = record { goes_on = all_grew old chunks fleet kind (settling_grown limit old.chunks old.fleet chunks n); stopped = inl n }
+settling_fails old number limit kind chunks fleet n = record {
+  goes_on = all_grew old chunks fleet kind (settling_grown limit old.chunks old.fleet chunks n);
+  passes = refl;
+  stopped = inl n;
+}
 
 pub settled_fails : (old : WorldIs) (number limit : ℕ) (kind : Option Kind) (chunks : List ChunkIs) (fleet : FleetIs) (before after : List ℕ) (stopped : Bool) → HasSettled limit old.chunks old.fleet before stopped chunks fleet after
     → HasFailed old number (commands.Settle limit) (becomes old chunks fleet kind)
 settled_fails old number limit kind chunks fleet before after stopped s = record {
   goes_on = all_grew old chunks fleet kind s.went.grown;
+  passes = refl;
   stopped = inr (record { next = fleet; before = before; after = after; stopped = stopped; settled = s });
 }

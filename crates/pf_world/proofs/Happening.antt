@@ -28,9 +28,10 @@ use Rattle.pf_world.specs.Worlds.{at_chunk, ended, told_of}
 use Rattle.pf_world.specs.Lines.{line_told}
 use Rattle.pf_world.specs.Views.{IsWorld, WorldIs, stands_at}
 use Rattle.pf_world.specs.Headline.{is_live}
+use Rattle.pf_liveline.specs.declared.opening.Passes.{Passes}
 use Rattle.pf_threads.specs.Sessions.{Session}
-use Rattle.pf_world.specs.Steps.{Ends, GoesOn, HasRun, TakesSessions}
-use Rattle.pf_world.proofs.Others.{ends_other, line_other, takes_none, told_with}
+use Rattle.pf_world.specs.Steps.{Ends, GoesOn, HasRun, Keeps, TakesSessions}
+use Rattle.pf_world.proofs.Others.{ends_other, keeps_none, line_other, takes_none, told_with}
 
 pub same_world : (w : WorldIs) → GoesOn w w
 same_world w = record {
@@ -64,6 +65,18 @@ still_world old chunks fleet kind world ready is_fleet grown volume = record {
   extent = volume ∙ world.extent ∙ ap (λ n. record { chunks = n; sectors = old.sectors }) (sym grown.count);
 }
 
+-- and other passes
+pub passed_world : (w : WorldIs) (passes : Option Passes) → IsWorld w → IsWorld (record w { passes = passes })
+passed_world w passes world = record {
+  volume = world.volume;
+  each = λ k c there. let its = world.each k c there in record { number = its.number; failed = its.failed; setup = its.setup; ready = its.ready };
+  is_fleet = world.is_fleet;
+  extent = world.extent;
+}
+
+pub passed_on : (old new : WorldIs) (passes : Option Passes) → GoesOn old new → GoesOn old (record new { passes = passes })
+passed_on old new passes on = record { sectors = on.sectors; names = on.names; format = on.format; chunks = on.chunks; grown = on.grown }
+
 -- the line's own text comes behind what was told
 text_after : (told : List Moment) (text : List ℕ) → text_of (told ++ Writes text ∷ []) ≡ text_of told ++ text
 text_after told text = flat_map-append lines_in told (Writes text ∷ []) ∙ ap (λ xs. text_of told ++ xs) (append-nil text)
@@ -77,21 +90,23 @@ le_suc n = omega arith
 
 module _ (old : WorldIs) (number : ℕ) (command : Command) (world : IsWorld old) where
   -- the chunks and the hosts went through a part with these sessions, and then the line's text was put
-  pub went_runs : (sessions : List Session) (part : Part) (kind : Option Kind) (chunks : List ChunkIs) (fleet : FleetIs) (before middle after text : List ℕ) → TakesSessions command sessions → HasGone part old.chunks old.fleet before chunks fleet middle
+  pub went_runs : (sessions : List Session) (part : Part) (kind : Option Kind) (passes : Option Passes) (chunks : List ChunkIs) (fleet : FleetIs) (before middle after text : List ℕ) → TakesSessions command sessions → HasGone part old.chunks old.fleet before chunks fleet middle
       → after ≡ middle ++ line_of number text → fleet.volume ≡ old.fleet.volume → fleet.calls ≤ suc old.fleet.calls
       → ((halts : List Halt) (rest : List Session) → TellsAll halts chunks → line_told halts (stands_at halts (sessions ++ rest) old) number command ≡ ended (record (stands_at halts rest old) { kind = kind }) number (part halts (fleets.stands_at halts old.chunks old.fleet)) text)
-      → ((halts : List Halt) (rest : List Session) → TellsAll halts chunks → Ends halts (stands_at halts (sessions ++ rest) old) command) → HasRun old number command before after (becomes old chunks fleet kind)
-  went_runs sessions part kind chunks fleet before middle after text takes went put volume calls line ends = record {
+      → ((halts : List Halt) (rest : List Session) → TellsAll halts chunks → Ends halts (stands_at halts (sessions ++ rest) old) command) → Keeps old sessions command (record (becomes old chunks fleet kind) { passes = passes })
+      → HasRun old number command before after (record (becomes old chunks fleet kind) { passes = passes })
+  went_runs sessions part kind passes chunks fleet before middle after text takes went put volume calls line ends keeps = record {
     told = went.told ++ Writes (line_of number text) ∷ [];
     put = put ∙ ap (λ xs. xs ++ line_of number text) went.put ∙ append_assoc before (text_of went.told) (line_of number text) ∙ ap (λ xs. before ++ xs) (sym (text_after went.told (line_of number text)));
     runs = record {
-      is_world = still_world old chunks fleet kind world went.ready went.is_fleet went.grown volume;
-      goes_on = all_grew old chunks fleet kind went.grown;
+      is_world = passed_world (becomes old chunks fleet kind) passes (still_world old chunks fleet kind world went.ready went.is_fleet went.grown volume);
+      goes_on = passed_on old (becomes old chunks fleet kind) passes (all_grew old chunks fleet kind went.grown);
       calls = calls;
       sessions = sessions;
       takes = takes;
       run = λ halts rest tells. line halts rest tells ∙ ap (λ t. ended (record (stands_at halts rest old) { kind = kind }) number t text) (went.run halts tells);
       ends = ends;
+      keeps = keeps;
     };
   }
 
@@ -102,9 +117,10 @@ module _ (old : WorldIs) (number : ℕ) (command : Command) (world : IsWorld old
       → ((halts : List Halt) → TellsAll halts chunks → line_told halts (stands_at halts [] old) number command ≡ ended (record (stands_at halts [] old) { kind = kind }) number (part halts (fleets.stands_at halts old.chunks old.fleet)) text)
       → ((halts : List Halt) → TellsAll halts chunks → Ends halts (stands_at halts [] old) command) → HasRun old number command before after (becomes old chunks fleet kind)
   gone_runs part kind chunks fleet before middle after text went put volume calls line ends =
-      went_runs old number command world [] part kind chunks fleet before middle after text (takes_none command plain) went put volume calls
+      went_runs old number command world [] part kind old.passes chunks fleet before middle after text (takes_none command plain) went put volume calls
       (λ halts rest tells. line_other halts rest (stands_at halts [] old) number command plain ∙ ap (told_with halts rest) (line halts tells))
       (λ halts rest tells. ends_other halts rest (stands_at halts [] old) command plain (ends halts tells))
+      (keeps_none old (becomes old chunks fleet kind) command plain refl)
 
   -- nothing happened, and the line's text was put
   pub said_runs : (kind : Option Kind) (before after text : List ℕ) (part : Part) → ((halts : List Halt) → part halts (fleets.stands_at halts old.chunks old.fleet) ≡ record { volume = fleets.stands_at halts old.chunks old.fleet; told = [] }) → after ≡ before ++ line_of number text

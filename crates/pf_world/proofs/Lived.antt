@@ -64,8 +64,8 @@ module _ (old : WorldIs) (number chunk hosts writes workers turns : ℕ) (world 
             subst (HasFailed old number live) next_is
             (text_fails old number chunk hosts writes workers turns world raw plan is_plan at.was at.there at.is told before middle at.became next.chunks next.fleet later steps_of)
 
-        pub live_runs : (after : List ℕ) (end : LiveEnd) → AreSameHosts old.fleet next.fleet → end ≡ told.end → after ≡ later ++ line_of number (live_text told.totals.acked told.totals.applied end) → HasRun old number live before after next
+        pub live_runs : (after : List ℕ) (end : LiveEnd) → AreSameHosts old.fleet next.fleet → end ≡ told.end → after ≡ later ++ line_of number (live_text told.totals.acked told.totals.applied end) → HasRun old number live before after (record next { passes = Some told.passes })
         live_runs after end same ends put =
-            subst (HasRun old number live before after) next_is
+            subst (λ (w : WorldIs). HasRun old number live before after (record w { passes = Some told.passes })) next_is
             (lived_runs old number chunk hosts writes workers turns world raw plan is_plan at.was at.there at.is told before middle at.became next.chunks next.fleet later steps_of after same
             (put ∙ ap (λ e. later ++ line_of number (live_text told.totals.acked told.totals.applied e)) ends))

@@ -115,6 +115,7 @@ pub not_begun : (old : WorldIs) (number : ℕ) (command : Command) → ((new : W
     → ((halts : List Halt) → Lengthens (runs halts old.chunks) (line_told halts (stands_at halts [] old) number command).world.volume.chunks) → HasFailed old number command (becomes old old.chunks fleet kind)
 not_begun old number command within kind fleet longer = record {
   goes_on = all_grew old old.chunks fleet kind (grown_refl_all old.chunks);
+  passes = refl;
   stopped = within (becomes old old.chunks fleet kind) (λ halts tells.
       let would = (line_told halts (stands_at halts [] old) number command).world.volume.chunks in
       begun_through halts old.chunks old.chunks old.chunks (runs halts old.chunks) would (grown_refl_all old.chunks) (have_all_begun halts old.chunks old.chunks (grown_refl_all old.chunks) tells) (longer halts));

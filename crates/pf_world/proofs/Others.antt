@@ -23,7 +23,8 @@ use Rattle.pf_world.specs.declared.kind.Kind.TheVariants.{Mounted, Raw}
 use Rattle.pf_world.specs.Worlds.{Told, World, at_chunk, refused_text, stepped, told_of}
 use Rattle.pf_world.specs.Lines.{asked, begins_if, call_of, decided, joins, kill_of, line_told, mounts_as, no_event_of, rests, show_of, shown_of, submits_as, with_kind}
 use Rattle.pf_world.specs.Headline.{is_live}
-use Rattle.pf_world.specs.Steps.{Ends, TakesSessions}
+use Rattle.pf_world.specs.Steps.{Ends, Keeps, TakesSessions}
+use Rattle.pf_world.specs.Views.{WorldIs}
 
 module _ (halts : List Halt) (sessions : List Session) where
   -- with other sessions that are still to come
@@ -119,3 +120,8 @@ module _ (halts : List Halt) (sessions : List Session) where
 pub takes_none : (command : Command) → is_live command ≡ false → TakesSessions command []
 takes_none (commands.Live g hosts writes workers turns) plain = absurd (false≢true (sym plain))
 takes_none command plain = refl
+
+-- nor do they make passes
+pub keeps_none : (old new : WorldIs) (command : Command) → is_live command ≡ false → new.passes ≡ old.passes → Keeps old [] command new
+keeps_none old new (commands.Live g hosts writes workers turns) plain same = absurd (false≢true (sym plain))
+keeps_none old new command plain same = same

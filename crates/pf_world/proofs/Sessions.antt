@@ -44,7 +44,7 @@ use Rattle.pf_threads.specs.Steps as threads
 use Rattle.pf_world.specs.declared.kind.Kind.{Kind}
 use Rattle.pf_world.specs.declared.kind.Kind.TheVariants.{Mounted, Raw}
 use Rattle.pf_world.specs.Lines.{decided, held_told, line_told, live_as, with_kind}
-use Rattle.pf_world.specs.Steps.{HasFailed, HasRun, IsNextSession, IsPartOfNext, LivesAs, LivesInPart}
+use Rattle.pf_world.specs.Steps.{HasFailed, HasKept, HasRun, IsNextSession, IsPartOfNext, KeepsAs, LivesAs, LivesInPart}
 use Rattle.pf_world.specs.Views.{IsWorld, WorldIs, stands_at}
 use Rattle.pf_world.specs.Worlds.{Told, ended, refused_text, said_only}
 use Rattle.pf_world.proofs.Failing.{have_all_begun}
@@ -117,12 +117,14 @@ module _ (old : WorldIs) (number chunk hosts writes workers turns : ℕ) (world 
 
     pub refused_runs : (before after : List ℕ) → after ≡ before ++ line_of number (refused_text 94) → HasRun old number live before after (becomes old old.chunks old.fleet kind_then)
     refused_runs before after put =
-        went_runs old number live world [] (λ halts v. quietly v) kind_then old.chunks old.fleet before before after (refused_text 94) (lit≤ tt) (quiet_gone old world before) put refl (le_suc old.fleet.calls)
+        went_runs old number live world [] (λ halts v. quietly v) kind_then old.passes old.chunks old.fleet before before after (refused_text 94) (lit≤ tt) (quiet_gone old world before) put refl (le_suc old.fleet.calls)
         (λ halts rest tells. refused halts rest) (λ halts rest tells. subst (λ k. LivesAs k halts (stands_at halts rest old) chunk hosts writes workers turns) (sym mounted) tt)
+        (subst (λ k. KeepsAs k old [] chunk hosts writes workers turns (becomes old old.chunks old.fleet kind_then)) (sym mounted) refl)
 
     pub refused_fails : HasFailed old number live (becomes old old.chunks old.fleet kind_then)
     refused_fails = record {
       goes_on = all_grew old old.chunks old.fleet kind_then (grown_refl_all old.chunks);
+      passes = refl;
       stopped = record {
         session = no_session;
         within = λ halts tells. subst (λ (t : Told). HaveBegun halts old.chunks t.world.volume.chunks old.chunks) (sym (refused halts (no_session ∷ []))) (have_all_begun halts old.chunks old.chunks (grown_refl_all old.chunks) tells);
@@ -150,6 +152,7 @@ module _ (old : WorldIs) (number chunk hosts writes workers turns : ℕ) (world 
         → ((halts : List Halt) → TellsAll halts chunks → IsPartOfSession halts plan (chunk_of halts was.group) s.events) → HasFailed old number live (becomes old chunks fleet kind_then)
     not_lived s chunks fleet stopped is_part = record {
       goes_on = all_grew old chunks fleet kind_then stopped.grown;
+      passes = refl;
       stopped = record {
         session = s;
         within = λ halts tells. subst (λ (t : Told). HaveBegun halts old.chunks t.world.volume.chunks chunks) (sym (held halts s [])) (stopped.begun halts tells);
@@ -183,7 +186,7 @@ module _ (old : WorldIs) (number chunk hosts writes workers turns : ℕ) (world 
       tells_mid halts chunks grown tells = tells_before halts mid chunks grown tells chunk is (set_there old.chunks chunk is (slice_get_within old.chunks chunk was there))
 
       part_held : (halts : List Halt) (chunks : List ChunkIs) → HaveGrown mid chunks → TellsAll halts chunks → IsPartOfSession halts plan (chunk_of halts was.group) h.session.events
-      part_held halts chunks grown tells = (h.is_session halts (tells_mid halts chunks grown tells)).part
+      part_held halts chunks grown tells = (h.is_session halts (tells_mid halts chunks grown tells)).is.part
 
       -- there was no memory for the steps of the hosts
       pub steps_fail : (chunks : List ChunkIs) (fleet : FleetIs) → HasStopped hosts_step mid old.fleet chunks → HasFailed old number live (becomes old chunks fleet kind_then)
@@ -214,13 +217,30 @@ module _ (old : WorldIs) (number chunk hosts writes workers turns : ℕ) (world 
             ∙ ap (λ a. live_text told.totals.acked a h.session.ended) (added halts was.group is.group grown ∙ sym h.totals.applied)
             ∙ ap (λ e. live_text told.totals.acked told.totals.applied e) (sym h.ended)
 
-        pub lived_runs : (after : List ℕ) → AreSameHosts old.fleet fleet → after ≡ later ++ line_of number text → HasRun old number live before after (becomes old chunks fleet kind_then)
+        abbrev its : WorldIs
+        its = record (becomes old chunks fleet kind_then) { passes = Some told.passes }
+
+        kept : HasKept old h.session chunk hosts writes workers turns its
+        kept = record {
+          c = was;
+          there = there;
+          plan = plan;
+          is_plan = is_plan;
+          passes = told.passes;
+          passes_are = refl;
+          list = h.list;
+          kept = h.kept;
+          is_session = λ halts tells. h.is_session halts (tells_mid halts chunks steps.grown tells);
+        }
+
+        pub lived_runs : (after : List ℕ) → AreSameHosts old.fleet fleet → after ≡ later ++ line_of number text → HasRun old number live before after its
         lived_runs after same put =
-            went_runs old number live world (h.session ∷ []) (event_and_steps (of_session h.session) was) kind_then chunks fleet before later after text (lit≤ tt) gone put same.volume (subst (λ n. n ≤ suc old.fleet.calls) (sym same.calls) (le_suc old.fleet.calls))
+            went_runs old number live world (h.session ∷ []) (event_and_steps (of_session h.session) was) kind_then (Some told.passes) chunks fleet before later after text (lit≤ tt) gone put same.volume (subst (λ n. n ≤ suc old.fleet.calls) (sym same.calls) (le_suc old.fleet.calls))
             (λ halts rest tells.
             held halts h.session rest
             ∙ ap (ended (record (stands_at halts rest old) { kind = kind_then }) number (event_and_steps (of_session h.session) was halts (fleets.stands_at halts old.chunks old.fleet))) (text_is halts (tells_mid halts chunks steps.grown tells)))
             (λ halts rest tells.
-            let its : IsNextSession halts (stands_at halts (h.session ∷ rest) old) chunk hosts writes workers turns =
-            record { c = run_of halts was; plan = plan; at = record { there = run_there halts old.chunks chunk was there; is_plan = plan_there }; is_session = h.is_session halts (tells_mid halts chunks steps.grown tells) } in
-            subst (λ k. LivesAs k halts (stands_at halts (h.session ∷ rest) old) chunk hosts writes workers turns) (sym raw) its)
+            let next : IsNextSession halts (stands_at halts (h.session ∷ rest) old) chunk hosts writes workers turns =
+            record { c = run_of halts was; plan = plan; at = record { there = run_there halts old.chunks chunk was there; is_plan = plan_there }; is_session = (h.is_session halts (tells_mid halts chunks steps.grown tells)).is } in
+            subst (λ k. LivesAs k halts (stands_at halts (h.session ∷ rest) old) chunk hosts writes workers turns) (sym raw) next)
+            (subst (λ k. KeepsAs k old (h.session ∷ []) chunk hosts writes workers turns its) (sym raw) kept)

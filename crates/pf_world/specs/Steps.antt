@@ -1,5 +1,5 @@
 -- What the making of a world and one line of a script come to.
-use Rattle.std.specs.Prelude.{◌≡◌, ◌⊎◌, ℕ, suc, ◌≤◌, Bool, true, List, [], ◌∷◌, ◌++◌, length, Some, slice_get}
+use Rattle.std.specs.Prelude.{◌≡◌, ◌⊎◌, ℕ, suc, ◌≤◌, Bool, true, List, [], ◌∷◌, ◌++◌, length, None, Some, slice_get}
 use Rattle.std.specs.List.{flat_map}
 use Rattle.pf_script.specs.declared.command.Command.{Command}
 use Rattle.pf_script.specs.declared.command.Command.TheVariants as commands
@@ -7,6 +7,7 @@ use Rattle.pf_script.specs.Lines.{fits}
 use Rattle.pf_protocol.specs.declared.answers.Answer.{Answer}
 use Rattle.pf_applyrounds.specs.Halts.{Halt}
 use Rattle.pf_group.specs.Making.{making_answer}
+use Rattle.pf_applyrounds.specs.Agreeing.{chunk_of}
 use Rattle.pf_applyrounds.specs.Growing.{HasGrown}
 use Rattle.pf_chunk.specs.Runs.{ChunkRun}
 use Rattle.pf_chunk.specs.Views.{ChunkIs}
@@ -16,7 +17,10 @@ use Rattle.pf_fleet.specs.Settled.{HasNotSettled, HasSettled}
 use Rattle.pf_fleet.specs.Settling.{HasEnded, settled}
 use Rattle.pf_fleet.specs.Steps.{FleetIs}
 use Rattle.pf_live.specs.declared.plan.Plan.{Plan}
-use Rattle.pf_threads.specs.Sessions.{IsPartOfSession, IsPlan, IsSession, Session, next_session}
+use Rattle.pf_live.specs.Deliveries.{Line}
+use Rattle.pf_liveline.specs.declared.opening.Passes.{Passes}
+use Rattle.pf_session.specs.Sessions.{AreKept}
+use Rattle.pf_threads.specs.Sessions.{IsPartOfSession, IsPlan, IsSession, IsSessionOf, Session, next_session}
 use Rattle.pf_world.specs.declared.kind.Kind.{Kind}
 use Rattle.pf_world.specs.declared.kind.Kind.TheVariants.{Mounted, Raw}
 use Rattle.pf_world.specs.Worlds.{World, made}
@@ -30,6 +34,7 @@ pub record IsMade (chunks sectors names format : ℕ) (w : WorldIs) (answer : An
   pub count : length w.chunks ≡ chunks
   pub numbers : (w.sectors ≡ sectors) × (w.names ≡ names) × (w.format ≡ format)
   pub calls : w.fleet.calls ≡ 0
+  pub passes : w.passes ≡ None
   pub run : (halts : List Halt) (sessions : List Session) → Tells halts w → made halts sessions chunks sectors names format ≡ stands_at halts sessions w
   pub answered : answer ≡ making_answer (flat_map (λ c. c.group.setup.failed) w.chunks)
 
@@ -68,6 +73,28 @@ Ends halts w (commands.Settle limit) = HasEnded (settled halts limit w.volume)
 Ends halts w (commands.Live chunk hosts writes workers turns) = LivesAs (decided w.kind Raw) halts w chunk hosts writes workers turns
 Ends halts w command = Unit {0}
 
+-- The world keeps the passes of a live line with these numbers. Over any disks they agree with a list over the chunk's group, which under every
+-- list of halts that tells of the world is that of the session
+pub record HasKept (old : WorldIs) (session : Session) (chunk hosts writes workers turns : ℕ) (new : WorldIs) : Type 0 where
+  pub c : ChunkIs
+  pub there : slice_get old.chunks chunk ≡ Some c
+  pub plan : Plan
+  pub is_plan : IsPlan hosts writes workers turns old.sectors plan
+  pub passes : Passes
+  pub passes_are : new.passes ≡ Some passes
+  pub list : Line
+  pub kept : AreKept plan c.group list passes
+  pub is_session : (halts : List Halt) → Tells halts new → IsSessionOf halts plan (chunk_of halts c.group) session c.group list
+
+abbrev pub KeepsAs : Kind → (old : WorldIs) → List Session → (chunk hosts writes workers turns : ℕ) → (new : WorldIs) → Type 0
+KeepsAs Mounted old sessions chunk hosts writes workers turns new = new.passes ≡ old.passes
+KeepsAs Raw old sessions chunk hosts writes workers turns new = HasKept old (next_session sessions) chunk hosts writes workers turns new
+
+-- a live line that is not refused leaves its own passes, and any other line those that were there
+abbrev pub Keeps : (old : WorldIs) → List Session → Command → (new : WorldIs) → Type 0
+Keeps old sessions (commands.Live chunk hosts writes workers turns) new = KeepsAs (decided old.kind Raw) old sessions chunk hosts writes workers turns new
+Keeps old sessions command new = new.passes ≡ old.passes
+
 -- a live line takes one session at most, and no other line takes any
 abbrev pub TakesSessions : Command → List Session → Type 0
 TakesSessions (commands.Live chunk hosts writes workers turns) sessions = length sessions ≤ 1
@@ -83,6 +110,7 @@ pub record Runs (old : WorldIs) (number : ℕ) (command : Command) (told : List 
   pub takes : TakesSessions command sessions
   pub run : (halts : List Halt) (rest : List Session) → Tells halts new → line_told halts (stands_at halts (sessions ++ rest) old) number command ≡ record { world = stands_at halts rest new; told = told }
   pub ends : (halts : List Halt) (rest : List Session) → Tells halts new → Ends halts (stands_at halts (sessions ++ rest) old) command
+  pub keeps : Keeps old sessions command new
 
 -- the same, where its lines were put at the end of a buffer
 pub record HasRun (old : WorldIs) (number : ℕ) (command : Command) (before after : List ℕ) (new : WorldIs) : Type 0 where
@@ -127,7 +155,8 @@ StopsIn old number (commands.Settle limit) new = HasNotSettled limit old.chunks 
 StopsIn old number (commands.Live chunk hosts writes workers turns) new = HasNotLived old number chunk hosts writes workers turns new
 StopsIn old number command new = IsWithin old [] number command new
 
--- there was no memory for the whole of it: the world stands in the middle of the line
+-- there was no memory for the whole of it: the world stands in the middle of the line, with the passes of before
 pub record HasFailed (old : WorldIs) (number : ℕ) (command : Command) (new : WorldIs) : Type 0 where
   pub goes_on : GoesOn old new
+  pub passes : new.passes ≡ old.passes
   pub stopped : StopsIn old number command new

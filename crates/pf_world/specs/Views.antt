@@ -6,11 +6,13 @@ use Rattle.pf_applyrounds.specs.Halts.{Halt}
 use Rattle.pf_chunk.specs.Views.{ChunkIs, IsReady}
 use Rattle.pf_fleet.specs.Steps.{FleetIs, IsFleetOf}
 use Rattle.pf_fleet.specs.Steps as fleets
+use Rattle.pf_liveline.specs.declared.opening.Passes.{Passes}
 use Rattle.pf_threads.specs.Sessions.{Session}
 use Rattle.pf_world.specs.declared.kind.Kind.{Kind}
 use Rattle.pf_world.specs.Worlds.{World}
 
--- a volume with its chunks, in the order of their numbers, and its hosts; and the kind of the run
+-- a volume with its chunks, in the order of their numbers, and its hosts; the kind of the run; and the passes of its last live line that was not
+-- refused
 pub record WorldIs : Type 0 where
   pub sectors : ℕ  -- of each chunk
   pub names : ℕ
@@ -18,6 +20,7 @@ pub record WorldIs : Type 0 where
   pub chunks : List ChunkIs
   pub fleet : FleetIs
   pub kind : Option Kind
+  pub passes : Option Passes
 
 -- where a run stands that came to this world, with the sessions that are still to come
 abbrev pub stands_at : List Halt → List Session → WorldIs → World

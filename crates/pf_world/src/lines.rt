@@ -55,7 +55,8 @@ impl<D: Disk + Drop + Send> World<D> {
     /// happened meanwhile (reads that were answered, mounts that are ready, calls that ended), and then its own line, are put at the end
     /// of `out`. Fewer than 2^32 - 1 calls were begun before.
     ///
-    /// A line of threads runs on threads of its own, and ends by itself; the gate is called round each of their steps.
+    /// A line of threads runs on threads of its own, and ends by itself; the gate is called round each of their steps. The passes of the
+    /// last one that was not refused stay in the world.
     ///
     /// A packet that a settling passed over is left again from the next line on. After `NoMemory` (1) the world stands in the middle of
     /// the line, and only `close` may be called.

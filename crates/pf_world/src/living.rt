@@ -19,7 +19,7 @@ use std::thread::Threads;
 
 impl<D: Disk + Drop + Send> World<D> {
     /// A line of threads: `hosts` hosts make `writes` writes each, `workers` workers apply, and at most `turns` packets are delivered. In a
-    /// run with mounts it is refused.
+    /// run with mounts it is refused; in any other the world keeps the passes of its rings and of its leader cell.
     #[allow(clippy::too_many_arguments)]
     pub(crate) fn live_line<R: Threads + Wait + Sync, G: Gate + Sync>(
         &mut self,
@@ -55,6 +55,8 @@ impl<D: Disk + Drop + Send> World<D> {
         let lived = live_at(rt, alloc, &mut self.chunks, group, plan, gate, out)?;
         self.step_hosts(rt, alloc, gate, out)?;
         let totals = lived.totals;
-        put_live(out, number, totals.acked, totals.applied, lived.end)
+        put_live(out, number, totals.acked, totals.applied, lived.end)?;
+        self.passes = Some(lived.passes);
+        Ok(())
     }
 }

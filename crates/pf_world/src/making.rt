@@ -64,6 +64,7 @@ impl<D: Disk + Drop> World<D> {
             chunks: Vec::new(alloc),
             fleet: Fleet::new(alloc, Volume::new(chunks, sectors)),
             kind: None,
+            passes: None,
             spare,
         };
         let mut answer = Answer::Done;

@@ -3,6 +3,7 @@ use crate::kind::Kind;
 use pf_chunk::ChunkGroup;
 use pf_disk::Disk;
 use pf_fleet::Fleet;
+use pf_liveline::Passes;
 use std::marker::Model;
 
 /// The chunks of a volume, on the disks that they were given, and its hosts.
@@ -17,6 +18,8 @@ pub struct World<D: Disk> {
     pub(crate) fleet: Fleet,
     /// Once a line has decided it.
     pub(crate) kind: Option<Kind>,
+    /// Those of its last live line that was not refused.
+    pub(crate) passes: Option<Passes>,
     /// The disks that no chunk has, in the reverse of their order. It has room for all of them.
     pub(crate) spare: Vec<D>,
 }
@@ -27,7 +30,7 @@ impl<D: Disk> Model for World<D> {
 
     ghost Value = { WorldOn D };
 
-    ghost view = { λ w. record { world = record { sectors = w.sectors; names = w.names; format = w.format; chunks = w.chunks.items; fleet = w.fleet; kind = w.kind }; spare = reverse w.spare.items } };
+    ghost view = { λ w. record { world = record { sectors = w.sectors; names = w.names; format = w.format; chunks = w.chunks.items; fleet = w.fleet; kind = w.kind; passes = w.passes }; spare = reverse w.spare.items } };
 
     ghost invariant = { λ w. (1 ≤ w.workers) × (w.workers ≤ 8) × (vec_len w.spare + 6 * length w.chunks.items ≤ vec_capacity w.spare) };
 }

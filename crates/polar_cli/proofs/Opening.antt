@@ -80,7 +80,7 @@ none_at k c there = absurd (omega (arith, slice_get_within [] k c there))
 -- a world without chunks
 abbrev pub bare : (sectors names format : ℕ) → WorldIs
 bare sectors names format =
-    record { sectors = sectors; names = names; format = format; chunks = []; fleet = record { volume = record { chunks = 0; sectors = 0 }; hosts = []; calls = 0 }; kind = None }
+    record { sectors = sectors; names = names; format = format; chunks = []; fleet = record { volume = record { chunks = 0; sectors = 0 }; hosts = []; calls = 0 }; kind = None; passes = None }
 
 module _ {D : Type 0} (faults : D → ℕ) (command : Command) (before : List D) where
   -- no chunk of the volume was made yet

@@ -15,7 +15,7 @@ use Rattle.pf_world.proofs.world.World.live_line.Goals as goal
 pub returns-then-is_mounted-clause-ran : goal.returns-then-is_mounted-clause-ran
 returns-then-is_mounted-clause-ran g c =
     let i = c.self.inside in
-    let old : WorldIs = record { sectors = i.sectors; names = i.names; format = i.format; chunks = i.chunks.items; fleet = i.fleet; kind = i.kind } in
+    let old : WorldIs = record { sectors = i.sectors; names = i.names; format = i.format; chunks = i.chunks.items; fleet = i.fleet; kind = i.kind; passes = i.passes } in
     let same : old ≡ c.args.self.now.world = ap (λ (o : WorldOn g.row.D.Denot). o.world) c.self.view_is in
     let command = Live c.args.group c.args.hosts c.args.writes c.args.workers c.args.turns in
     let mounted : decided i.kind Raw ≡ Mounted = sym c.decided-kind.ensures ∙ mounted_kind c.decided-kind.result (sym c.if-is_mounted.ensures) in
@@ -27,7 +27,7 @@ returns-then-is_mounted-clause-ran g c =
 pub returns-then-is_mounted-clause-err : goal.returns-then-is_mounted-clause-err
 returns-then-is_mounted-clause-err g c =
     let i = c.self.inside in
-    let old : WorldIs = record { sectors = i.sectors; names = i.names; format = i.format; chunks = i.chunks.items; fleet = i.fleet; kind = i.kind } in
+    let old : WorldIs = record { sectors = i.sectors; names = i.names; format = i.format; chunks = i.chunks.items; fleet = i.fleet; kind = i.kind; passes = i.passes } in
     let same : old ≡ c.args.self.now.world = ap (λ (o : WorldOn g.row.D.Denot). o.world) c.self.view_is in
     let command = Live c.args.group c.args.hosts c.args.writes c.args.workers c.args.turns in
     let mounted : decided i.kind Raw ≡ Mounted = sym c.decided-kind.ensures ∙ mounted_kind c.decided-kind.result (sym c.if-is_mounted.ensures) in
@@ -40,7 +40,7 @@ pub live_at-requires-clause-ready : goal.live_at-requires-clause-ready
 live_at-requires-clause-ready g c κs within chunk there =
     let i = c.self.inside in
     let a = c.args in
-    let old : WorldIs = record { sectors = i.sectors; names = i.names; format = i.format; chunks = i.chunks.items; fleet = i.fleet; kind = i.kind } in
+    let old : WorldIs = record { sectors = i.sectors; names = i.names; format = i.format; chunks = i.chunks.items; fleet = i.fleet; kind = i.kind; passes = i.passes } in
     let same : old ≡ a.self.now.world = ap (λ (o : WorldOn g.row.D.Denot). o.world) c.self.view_is in
     let world : IsWorld old = subst IsWorld (sym same) c.requires.world in
     (world.each a.group chunk there).ready
@@ -49,7 +49,7 @@ pub returns-in_err-lived-clause-err : goal.returns-in_err-lived-clause-err
 returns-in_err-lived-clause-err g c =
     let i = c.self.inside in
     let a = c.args in
-    let old : WorldIs = record { sectors = i.sectors; names = i.names; format = i.format; chunks = i.chunks.items; fleet = i.fleet; kind = i.kind } in
+    let old : WorldIs = record { sectors = i.sectors; names = i.names; format = i.format; chunks = i.chunks.items; fleet = i.fleet; kind = i.kind; passes = i.passes } in
     let same : old ≡ a.self.now.world = ap (λ (o : WorldOn g.row.D.Denot). o.world) c.self.view_is in
     let world : IsWorld old = subst IsWorld (sym same) c.requires.world in
     let kind = c.decided-kind.result in
@@ -62,7 +62,7 @@ pub step_hosts-requires-clause-ready : goal.step_hosts-requires-clause-ready
 step_hosts-requires-clause-ready g c κs within =
     let i = c.self.inside in
     let a = c.args in
-    let old : WorldIs = record { sectors = i.sectors; names = i.names; format = i.format; chunks = i.chunks.items; fleet = i.fleet; kind = i.kind } in
+    let old : WorldIs = record { sectors = i.sectors; names = i.names; format = i.format; chunks = i.chunks.items; fleet = i.fleet; kind = i.kind; passes = i.passes } in
     let same : old ≡ a.self.now.world = ap (λ (o : WorldOn g.row.D.Denot). o.world) c.self.view_is in
     let world : IsWorld old = subst IsWorld (sym same) c.requires.world in
     let kind = c.decided-kind.result in
@@ -73,7 +73,7 @@ pub step_hosts-requires-clause-fleet : goal.step_hosts-requires-clause-fleet
 step_hosts-requires-clause-fleet g c κs within =
     let i = c.self.inside in
     let a = c.args in
-    let old : WorldIs = record { sectors = i.sectors; names = i.names; format = i.format; chunks = i.chunks.items; fleet = i.fleet; kind = i.kind } in
+    let old : WorldIs = record { sectors = i.sectors; names = i.names; format = i.format; chunks = i.chunks.items; fleet = i.fleet; kind = i.kind; passes = i.passes } in
     let same : old ≡ a.self.now.world = ap (λ (o : WorldOn g.row.D.Denot). o.world) c.self.view_is in
     let world : IsWorld old = subst IsWorld (sym same) c.requires.world in
     let kind = c.decided-kind.result in
@@ -84,7 +84,7 @@ pub returns-in_err-step_hosts-clause-err : goal.returns-in_err-step_hosts-clause
 returns-in_err-step_hosts-clause-err g c =
     let i = c.self.inside in
     let a = c.args in
-    let old : WorldIs = record { sectors = i.sectors; names = i.names; format = i.format; chunks = i.chunks.items; fleet = i.fleet; kind = i.kind } in
+    let old : WorldIs = record { sectors = i.sectors; names = i.names; format = i.format; chunks = i.chunks.items; fleet = i.fleet; kind = i.kind; passes = i.passes } in
     let same : old ≡ a.self.now.world = ap (λ (o : WorldOn g.row.D.Denot). o.world) c.self.view_is in
     let world : IsWorld old = subst IsWorld (sym same) c.requires.world in
     let kind = c.decided-kind.result in
@@ -94,31 +94,34 @@ returns-in_err-step_hosts-clause-err g c =
     (subst (λ (x : WorldIs). HasFailed x a.number (Live a.group a.hosts a.writes a.workers a.turns) next) same
     (hosts_stop old a.number a.group a.hosts a.writes a.workers a.turns world kind c.decided-kind.ensures raw _ c.in_ok-lived.lived a.out.now.items c.live_at.new.out.items c.live_at.new.chunks.items c.in_ok-lived.ensures.went (record { hosts_are = refl; writes_are = refl; workers_are = refl; turns_are = refl; sectors_are = refl }) next c.step_hosts.ensures.others c.in_err-step_hosts.ensures.err))
 
+pub returns-in_err-put_live-clause-err : goal.returns-in_err-put_live-clause-err
+returns-in_err-put_live-clause-err g c =
+    let i = c.self.inside in
+    let a = c.args in
+    let old : WorldIs = record { sectors = i.sectors; names = i.names; format = i.format; chunks = i.chunks.items; fleet = i.fleet; kind = i.kind; passes = i.passes } in
+    let same : old ≡ a.self.now.world = ap (λ (o : WorldOn g.row.D.Denot). o.world) c.self.view_is in
+    let world : IsWorld old = subst IsWorld (sym same) c.requires.world in
+    let kind = c.decided-kind.result in
+    let raw : kind ≡ Raw = raw_kind kind (sym c.if-is_mounted.ensures) in
+    let next = c.step_hosts.new.self.world in
+    on_err c.from_residual-in_err-put_live.result _
+    (subst (λ (x : WorldIs). HasFailed x a.number (Live a.group a.hosts a.writes a.workers a.turns) next) same
+    (text_stops old a.number a.group a.hosts a.writes a.workers a.turns world kind c.decided-kind.ensures raw _ c.in_ok-lived.lived a.out.now.items c.live_at.new.out.items c.live_at.new.chunks.items c.in_ok-lived.ensures.went (record { hosts_are = refl; writes_are = refl; workers_are = refl; turns_are = refl; sectors_are = refl }) next c.step_hosts.ensures.others c.step_hosts.new.out.items c.in_ok-step_hosts.ensures.went))
+
 pub returns-clause-ran : goal.returns-clause-ran
 returns-clause-ran g c =
     let i = c.self.inside in
+    let j = c.self-2.inside in
     let a = c.args in
-    let old : WorldIs = record { sectors = i.sectors; names = i.names; format = i.format; chunks = i.chunks.items; fleet = i.fleet; kind = i.kind } in
+    let old : WorldIs = record { sectors = i.sectors; names = i.names; format = i.format; chunks = i.chunks.items; fleet = i.fleet; kind = i.kind; passes = i.passes } in
     let same : old ≡ a.self.now.world = ap (λ (o : WorldOn g.row.D.Denot). o.world) c.self.view_is in
     let world : IsWorld old = subst IsWorld (sym same) c.requires.world in
     let kind = c.decided-kind.result in
     let raw : kind ≡ Raw = raw_kind kind (sym c.if-is_mounted.ensures) in
     let next = c.step_hosts.new.self.world in
+    let is : record { sectors = j.sectors; names = j.names; format = j.format; chunks = j.chunks.items; fleet = j.fleet; kind = j.kind; passes = j.passes } ≡ next = ap (λ (o : WorldOn g.row.D.Denot). o.world) c.self-2.view_is in
     let after = c.put_live.new.out.items in
-    on_ok c.put_live.result _ _ (λ put.
-    subst (λ (x : WorldIs). HasRun x a.number (Live a.group a.hosts a.writes a.workers a.turns) a.out.now.items after next) same
-    (live_runs old a.number a.group a.hosts a.writes a.workers a.turns world kind c.decided-kind.ensures raw _ c.in_ok-lived.lived a.out.now.items c.live_at.new.out.items c.live_at.new.chunks.items c.in_ok-lived.ensures.went (record { hosts_are = refl; writes_are = refl; workers_are = refl; turns_are = refl; sectors_are = refl }) next c.step_hosts.ensures.others c.step_hosts.new.out.items c.in_ok-step_hosts.ensures.went after c.in_ok-lived.lived.end c.in_ok-step_hosts.ensures.same refl put)) c.put_live.ensures.ok
-
-pub returns-clause-err : goal.returns-clause-err
-returns-clause-err g c =
-    let i = c.self.inside in
-    let a = c.args in
-    let old : WorldIs = record { sectors = i.sectors; names = i.names; format = i.format; chunks = i.chunks.items; fleet = i.fleet; kind = i.kind } in
-    let same : old ≡ a.self.now.world = ap (λ (o : WorldOn g.row.D.Denot). o.world) c.self.view_is in
-    let world : IsWorld old = subst IsWorld (sym same) c.requires.world in
-    let kind = c.decided-kind.result in
-    let raw : kind ≡ Raw = raw_kind kind (sym c.if-is_mounted.ensures) in
-    let next = c.step_hosts.new.self.world in
-    on_err c.put_live.result _
-    (subst (λ (x : WorldIs). HasFailed x a.number (Live a.group a.hosts a.writes a.workers a.turns) next) same
-    (text_stops old a.number a.group a.hosts a.writes a.workers a.turns world kind c.decided-kind.ensures raw _ c.in_ok-lived.lived a.out.now.items c.live_at.new.out.items c.live_at.new.chunks.items c.in_ok-lived.ensures.went (record { hosts_are = refl; writes_are = refl; workers_are = refl; turns_are = refl; sectors_are = refl }) next c.step_hosts.ensures.others c.step_hosts.new.out.items c.in_ok-step_hosts.ensures.went))
+    let passes = Some c.in_ok-lived.lived.passes in
+    subst (λ (x : WorldIs). HasRun a.self.now.world a.number (Live a.group a.hosts a.writes a.workers a.turns) a.out.now.items after (record x { passes = passes })) (sym is)
+    (subst (λ (x : WorldIs). HasRun x a.number (Live a.group a.hosts a.writes a.workers a.turns) a.out.now.items after (record next { passes = passes })) same
+    (live_runs old a.number a.group a.hosts a.writes a.workers a.turns world kind c.decided-kind.ensures raw _ c.in_ok-lived.lived a.out.now.items c.live_at.new.out.items c.live_at.new.chunks.items c.in_ok-lived.ensures.went (record { hosts_are = refl; writes_are = refl; workers_are = refl; turns_are = refl; sectors_are = refl }) next c.step_hosts.ensures.others c.step_hosts.new.out.items c.in_ok-step_hosts.ensures.went after c.in_ok-lived.lived.end c.in_ok-step_hosts.ensures.same refl c.in_ok-put_live.ensures.ok))
