@@ -33,27 +33,27 @@ pub record IsCounted (t : RawTables) (counts : List ℕ) : Type 0 where
   pub places : length counts ≡ 65536
   pub each : (i : ℕ) → i < 65536 → get_or counts i 0 ≡ min 2 (times_named t.entries i)
 
--- the inodes that are marked, and those in the order in which they were
+-- the inodes that are seen, and those in the order in which they were
 pub record Front : Type 0 where
-  pub marks : List Bool
+  pub seen : List Bool
   pub queue : List ℕ
 
 abbrev pub front_of : List Bool → List ℕ → Front
-front_of marks queue = record { marks = marks; queue = queue }
+front_of seen queue = record { seen = seen; queue = queue }
 
-abbrev pub is_marked : List Bool → ℕ → Bool
-is_marked marks i = get_or marks i false
+abbrev pub is_seen : List Bool → ℕ → Bool
+is_seen seen i = get_or seen i false
 
 abbrev pub reach : Front → ℕ → Front
-reach f i = cond (is_marked f.marks i) f (front_of (set f.marks i true) (f.queue ++ i ∷ []))
+reach f i = cond (is_seen f.seen i) f (front_of (set f.seen i true) (f.queue ++ i ∷ []))
 
 abbrev pub reach_all : Front → List Entry → Front
 reach_all f [] = f
 reach_all f (row ∷ rows) = reach_all (reach f row.inode) rows
 
-pub record IsMarked (t : RawTables) (marks : List Bool) : Type 0 where
-  pub places : length marks ≡ 65536
-  pub each : (i : ℕ) → i < 65536 → MatchBool (is_marked marks i) (IsReached t i) (IsReached t i → ⊥)
+pub record IsSeen (t : RawTables) (seen : List Bool) : Type 0 where
+  pub places : length seen ≡ 65536
+  pub each : (i : ℕ) → i < 65536 → MatchBool (is_seen seen i) (IsReached t i) (IsReached t i → ⊥)
 
 abbrev pub tag_of : (inode index : ℕ) → Tag
 tag_of i k = record { inode = i; index = k }
@@ -74,5 +74,5 @@ pub record AreFirst (t : RawTables) (firsts : List (Option ℕ)) (below : ℕ) :
 
 pub record IsWalked (t : RawTables) (names : List ℕ) (reached : List Bool) (firsts : List (Option ℕ)) : Type 0 where
   pub counts : IsCounted t names
-  pub marks : IsMarked t reached
+  pub seen : IsSeen t reached
   pub blocks : AreFirst t firsts 65536

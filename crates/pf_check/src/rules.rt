@@ -5,7 +5,7 @@ ghost use Rattle.pf_inodes.specs.Tables.{tag_at};
 ghost use Rattle.pf_tree.specs.Trees.{block_count};
 ghost use Rattle.pf_check.specs.Raw.{IsRaw, inode_in};
 ghost use Rattle.pf_check.specs.Kinds.{HasGap, IsDirectory, IsOfFile, IsSized, IsSound, IsTagSound, IsUsed, Keeps, Shows};
-ghost use Rattle.pf_check.specs.Walks.{AreFirst, IsCounted, IsMarked};
+ghost use Rattle.pf_check.specs.Walks.{AreFirst, IsCounted, IsSeen};
 
 use crate::RawInode;
 use crate::spelling::is_name;
@@ -64,7 +64,7 @@ pub(crate) fn is_misnamed(tables: &Tables, names: &[u8], inode: u16) -> bool
 
 /// Whether an inode is in use and not reached from inode 0.
 pub(crate) fn is_lost(tables: &Tables, reached: &[bool], inode: u16) -> bool
-    requires { IsMarked tables.now reached.now }
+    requires { IsSeen tables.now reached.now }
     ensures { MatchBool result (Shows 4 tables.now inode) (Keeps 4 tables.now inode) }
 {
     !reached[inode as usize] && tables.inode(inode).is_some()

@@ -10,11 +10,11 @@ use Rattle.pf_protocol.specs.Ports.{ComesFrom}
 use Rattle.pf_registers.specs.Registers.{left_by}
 use Rattle.pf_registers.specs.Orders.{Member, values_of}
 use Rattle.pf_registers.specs.Firsts.{ComeFirst}
-use Rattle.pf_registers.proofs.Lists.{length_mapped}
+use Rattle.pf_registers.proofs.Lists.{length_mapped, left_in_first, left_in_second}
 use Rattle.pf_registers.proofs.Firsts.{firsts_come}
 use Rattle.pf_registers.proofs.Moved.{shows_made}
 use Rattle.pf_epochs.specs.Orders.{IsMovers, IsRoutedWrite, IsPart, order_of_sector, first_of}
-use Rattle.pf_epochs.proofs.Lists.{left_in_first, left_in_second, left_in_part, part_length, inside_list, inside_part, map_taken, map_dropped}
+use Rattle.pf_epochs.proofs.Lists.{left_in_part, part_length, inside_list, inside_part, map_taken, map_dropped}
 use Rattle.pf_epochs.proofs.Carrying.{Place, x, moves, setup, history, mover, last, reg, was_moved, mover_rule, is_first, last_reader, last_later, Later, start, is_move, made_bytes}
 
 module _ (c : Place) where

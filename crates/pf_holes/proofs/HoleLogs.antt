@@ -60,28 +60,28 @@ module _ {V : Type 0} where
   pub no_key : (m : Map V) (q : ℕ) → m ≡ FinMap.empty → FinMap.contains_key m q ≡ true → ⊥
   no_key m q none has = false≢true (sym (ap is_some (ap (λ n. FinMap.get n q) none ∙ get-empty nat_cmp q)) ∙ has)
 
-pub held_new : (entries : Map Entry) (marks : Numbers) → entries ≡ FinMap.empty → marks ≡ FinMap.empty → IsHeld 0 0 entries marks
-held_new entries marks e m = record {
+pub held_new : (entries : Map Entry) (committed : Numbers) → entries ≡ FinMap.empty → committed ≡ FinMap.empty → IsHeld 0 0 entries committed
+held_new entries committed e m = record {
   within = λ q has. absurd (no_key entries q e has);
   upto = λ q has. absurd (no_key entries q e has);
   keyed = λ q x is. absurd (no_key entries q e (ap is_some is));
-  marked = λ q has. absurd (no_key marks q m has);
+  held = λ q has. absurd (no_key committed q m has);
 }
 
-pub held_put : (base last slot : ℕ) (entries : Map Entry) (marks : Numbers) (entry : Entry) → IsHeld base last entries marks → base < slot → slot ≤ base + 4096 → entry.slot ≡ slot → IsHeld base (max last slot) (FinMap.insert entries slot entry) marks
-held_put base last slot entries marks entry held low high own = record {
+pub held_put : (base last slot : ℕ) (entries : Map Entry) (committed : Numbers) (entry : Entry) → IsHeld base last entries committed → base < slot → slot ≤ base + 4096 → entry.slot ≡ slot → IsHeld base (max last slot) (FinMap.insert entries slot entry) committed
+held_put base last slot entries committed entry held low high own = record {
   within = λ q has. elim (key_cases entries slot entry q has) [ inl same ↦ (omega arith, omega arith) | inr there ↦ held.within q there ];
   upto = λ q has. elim (key_cases entries slot entry q has) [ inl same ↦ omega arith | inr there ↦ omega (arith, held.upto q there) ];
   keyed = λ q x is. elim (insert_cases entries slot entry q x is) [ inl same ↦ ap (λ y. y.slot) (sym same.1) ∙ own ∙ sym same.0 | inr there ↦ held.keyed q x there.1 ];
-  marked = λ q has. key_stays entries slot entry q (held.marked q has);
+  held = λ q has. key_stays entries slot entry q (held.held q has);
 }
 
-pub held_trim : (base last above : ℕ) (entries : Map Entry) (marks : Numbers) → IsHeld base last entries marks → base ≤ above → IsHeld above last (FinMap.retain_keys entries (nat_lt above)) (FinMap.retain_keys marks (nat_lt above))
-held_trim base last above entries marks held up = record {
+pub held_trim : (base last above : ℕ) (entries : Map Entry) (committed : Numbers) → IsHeld base last entries committed → base ≤ above → IsHeld above last (FinMap.retain_keys entries (nat_lt above)) (FinMap.retain_keys committed (nat_lt above))
+held_trim base last above entries committed held up = record {
   within = λ q has. let h = key_above entries above q has in let w = held.within q h.1 in (h.0, omega (arith, w.1));
   upto = λ q has. held.upto q (key_above entries above q has).1;
   keyed = λ q x is. held.keyed q x (kept_value (nat_lt above q) (FinMap.get entries q) x (sym (get_above entries above q) ∙ is));
-  marked = λ q has. let h = key_above marks above q has in contains_key-above entries above q ∙ kept (nat_lt above q) (FinMap.contains_key entries q) (lt-ltb above q h.0) (held.marked q h.1);
+  held = λ q has. let h = key_above committed above q has in contains_key-above entries above q ∙ kept (nat_lt above q) (FinMap.contains_key entries q) (lt-ltb above q h.0) (held.held q h.1);
 }
   where
     kept_value : (b : Bool) (o : Option Entry) (x : Entry) → cond b o None ≡ Some x → o ≡ Some x
@@ -95,17 +95,17 @@ term_held : (term : ℕ) (o : Option Entry) → has_term term o ≡ true → is_
 term_held term None is = absurd (false≢true is)
 term_held term (Some e) is = refl
 
-pub held_mark : (base last slot term : ℕ) (entries : Map Entry) (marks : Numbers) → IsHeld base last entries marks → has_term term (FinMap.get entries slot) ≡ true → IsHeld base last entries (FinMap.insert marks slot tt)
-held_mark base last slot term entries marks held has = record {
+pub held_commit : (base last slot term : ℕ) (entries : Map Entry) (committed : Numbers) → IsHeld base last entries committed → has_term term (FinMap.get entries slot) ≡ true → IsHeld base last entries (FinMap.insert committed slot tt)
+held_commit base last slot term entries committed held has = record {
   within = held.within;
   upto = held.upto;
   keyed = held.keyed;
-  marked = λ q is. elim (key_cases marks slot tt q is) [ inl same ↦ ap (FinMap.contains_key entries) same ∙ term_held term (FinMap.get entries slot) has | inr there ↦ held.marked q there ];
+  held = λ q is. elim (key_cases committed slot tt q is) [ inl same ↦ ap (FinMap.contains_key entries) same ∙ term_held term (FinMap.get entries slot) has | inr there ↦ held.held q there ];
 }
 
--- marks lie in the window, as what they mark does
-pub marks_within : (base last : ℕ) (entries : Map Entry) (marks : Numbers) → IsHeld base last entries marks → IsWithin base marks
-marks_within base last entries marks held q has = held.within q (held.marked q has)
+-- committed slots lie in the window, as what they hold does
+pub committed_within : (base last : ℕ) (entries : Map Entry) (committed : Numbers) → IsHeld base last entries committed → IsWithin base committed
+committed_within base last entries committed held q has = held.within q (held.held q has)
 
 pub near_within : {V : Type 0} (base slot : ℕ) (m : Map V) → IsWithin base m → base < slot → slot ≤ base + 4096 → IsNear m slot
 near_within base slot m within low high q has = let w = within q has in (omega (arith, w.0, w.1), omega (arith, w.0, w.1))

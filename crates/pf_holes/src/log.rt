@@ -15,14 +15,14 @@ use std::marker::Model;
 /// The entries of a server in the window of 4,096 slots above its checkpoint, the base, and which of them are
 /// committed (ParallelRaft: a log that may have holes).
 ///
-/// Contracts see the base, the entries as a finite map and the marks as a set. Only `new` and `copied` take memory.
+/// Contracts see the base, the entries as a finite map and the committed slots as a set. Only `new` and `copied` take memory.
 #[derive(Drop)]
 pub struct HoleLog {
     base: Slot,
     /// No slot above this one is held.
     last: Slot,
     entries: Ring<Entry>,
-    marks: Ring<()>,
+    committed: Ring<()>,
 }
 
 impl Model for HoleLog {
@@ -32,21 +32,21 @@ impl Model for HoleLog {
 
     ghost coded = { holes_code };
 
-    ghost view = { λ a. record { base = a.base; entries = a.entries; marks = a.marks } };
+    ghost view = { λ a. record { base = a.base; entries = a.entries; committed = a.committed } };
 
-    ghost invariant = { λ a. IsHeld a.base a.last a.entries a.marks };
+    ghost invariant = { λ a. IsHeld a.base a.last a.entries a.committed };
 }
 
 impl HoleLog {
     /// The log without entries above base 0, with the places of its whole window.
     pub fn new(alloc: Global) -> Result<HoleLog, NoMemory>
-        ensures { IfOk result (λ log. log ≡ record { base = 0; entries = map.empty; marks = set.empty }) }
+        ensures { IfOk result (λ log. log ≡ record { base = 0; entries = map.empty; committed = set.empty }) }
     {
         Ok(HoleLog {
             base: 0,
             last: 0,
             entries: Ring::new(alloc)?,
-            marks: Ring::new(alloc)?,
+            committed: Ring::new(alloc)?,
         })
     }
 
@@ -54,7 +54,7 @@ impl HoleLog {
     pub fn base(&self) -> Slot
         ensures base { result ≡ self.now.base }
         ensures within { IsWithin self.now.base self.now.entries }
-        ensures held { (q : ℕ) → set.contains self.now.marks q ≡ true → map.contains_key self.now.entries q ≡ true }
+        ensures held { (q : ℕ) → set.contains self.now.committed q ≡ true → map.contains_key self.now.entries q ≡ true }
     {
         self.base
     }
@@ -76,7 +76,7 @@ impl HoleLog {
         Ok(())
     }
 
-    /// Puts the entry in place of one of its slot. A mark of the slot stays.
+    /// Puts the entry in place of one of its slot. A committed slot stays so.
     pub fn put(&mut self, entry: Entry)
         requires above { self.old.base < entry.slot }
         requires room { entry.slot ≤ self.old.base + 4096 }
@@ -104,33 +104,33 @@ impl HoleLog {
         }
     }
 
-    /// Marks the slot as committed where it holds an entry of this term, and tells whether it does.
-    pub fn mark_committed(&mut self, slot: Slot, term: Term) -> bool
-        ensures held { result ≡ has_term term (map.get self.old.entries slot) }
-        ensures log { self.new ≡ record self.old { marks = if result then set.insert self.old.marks slot else self.old.marks } }
+    /// The slot is committed from now on, where it holds an entry of this term, and tells whether it does.
+    pub fn commit(&mut self, slot: Slot, term: Term) -> bool
+        ensures committed { result ≡ has_term term (map.get self.old.entries slot) }
+        ensures log { self.new ≡ record self.old { committed = if result then set.insert self.old.committed slot else self.old.committed } }
     {
         let held = self.holds(slot, term);
         if held {
-            self.marks.put(slot, ());
+            self.committed.put(slot, ());
         }
         held
     }
 
-    /// Whether the slot is marked as committed. It then holds an entry.
+    /// Whether the slot is committed. It then holds an entry.
     pub fn is_committed(&self, slot: Slot) -> bool
-        ensures marked { result ≡ set.contains self.now.marks slot }
+        ensures committed { result ≡ set.contains self.now.committed slot }
         ensures held { result ≡ true → map.contains_key self.now.entries slot ≡ true }
     {
-        self.marks.has(slot)
+        self.committed.has(slot)
     }
 
     /// Moves the base up to `base` and drops what is not above it, in a step for each slot passed, at most 4,096.
     pub fn trim(&mut self, base: Slot)
         requires { self.old.base ≤ base }
-        ensures { self.new ≡ record { base = base; entries = map.retain_keys self.old.entries (nat_lt base); marks = set.retain self.old.marks (nat_lt base) } }
+        ensures { self.new ≡ record { base = base; entries = map.retain_keys self.old.entries (nat_lt base); committed = set.retain self.old.committed (nat_lt base) } }
     {
         self.entries.trim(self.base, base);
-        self.marks.trim(self.base, base);
+        self.committed.trim(self.base, base);
         self.base = base;
     }
 

@@ -1,10 +1,6 @@
-//! Applying out of order: which slots an entry names, when it may be applied, and what can be applied in the end.
+//! Applying out of order: when an entry may be applied.
 #![tactic(auto)]
 
-mod closures;
 mod freedom;
-mod looks;
 
-pub use closures::closure;
 pub use freedom::is_free;
-pub use looks::look_for;

@@ -11,7 +11,7 @@ use Rattle.pf_protocol.specs.declared.events.Happening.{Happening}
 use Rattle.pf_protocol.specs.Servers.{Setup, Role, Follower, Candidate, Merging, Serving, Server, Condition, Running, Stopped, Unformatted}
 use Rattle.pf_protocol.specs.Leading.{on_fetch}
 use Rattle.pf_protocol.specs.Groups.{Group, Whole, TookPlace, ending, Answered, reads_after, acted, step_of, happens, opening}
-use Rattle.pf_protocol.specs.Histories.{History, replay, Runs, IsPrefix}
+use Rattle.pf_protocol.specs.Histories.{History, replay, RunsAs, IsPrefix}
 use Rattle.pf_protocol.specs.Answers.{answer_at, answer_by, fetch_turn, fetch_refusal, answer_to, IsAnswer, IsLegalFrom, IsLegal}
 use Rattle.pf_protocol.specs.Ports.{Submission, submitting, IsTarget, IsAnswered}
 use Rattle.pf_protocol.specs.Fresh.{IsFetch}
@@ -30,18 +30,18 @@ module _ (setup : Setup) (g : Group) (i number : ℕ) (range : Span) where
   -- the server serves, and the number is the next one
   record TakesUp : Type 0 where
     server : Server
-    runs : Runs g i server
+    runs : RunsAs g i server
     is_next : number ≡ g.reads
     takes : (on_fetch server range g.reads server.role).answer ≡ ReadIs g.reads
 
-  by_role : (s : Server) → Runs g i s → (role : Role) → s.role ≡ role → ReadIs number ≡ (on_fetch s range g.reads role).answer → TakesUp
+  by_role : (s : Server) → RunsAs g i s → (role : Role) → s.role ≡ role → ReadIs number ≡ (on_fetch s range g.reads role).answer → TakesUp
   unfolding on_fetch
   by_role s runs Follower is answer = absurd (number_apart number NotLeader answer)
   by_role s runs (Candidate own) is answer = absurd (number_apart number NotLeader answer)
   by_role s runs (Merging l) is answer = absurd (number_apart number NotLeader answer)
   by_role s runs (Serving l) is answer = record { server = s; runs = runs; is_next = same_number number g.reads answer; takes = ap (λ r. (on_fetch s range g.reads r).answer) is }
 
-  by_refusal : (s : Server) → Runs g i s → (r : Option Refusal) → ReadIs number ≡ answer_by r (on_fetch s range g.reads s.role).answer → TakesUp
+  by_refusal : (s : Server) → RunsAs g i s → (r : Option Refusal) → ReadIs number ≡ answer_by r (on_fetch s range g.reads s.role).answer → TakesUp
   by_refusal s runs None answer = by_role s runs s.role refl answer
   by_refusal s runs (Some refusal) answer = absurd (number_apart number refusal answer)
 

@@ -25,7 +25,7 @@ use Rattle.pf_protocol.specs.Leading.{op_at, on_submit, on_fetch, on_elect, on_r
 use Rattle.pf_protocol.specs.Saving.{restarted, claimed, on_checkpoint, on_finish, on_give_back}
 use Rattle.pf_protocol.specs.Rows.{on_message, on_packet, is_ready, ready_reads, settled}
 use Rattle.pf_protocol.specs.Groups.{Sent, Answered, Group, Untouched, answer_of, reads_after, step_of, at_server, ending, happens, opening, first_leader, opening_disk}
-use Rattle.pf_protocol.specs.Histories.{History, replay, Runs}
+use Rattle.pf_protocol.specs.Histories.{History, replay, RunsAs}
 use Rattle.pf_protocol.specs.Answers.{refuse, fetch_refusal, is_serving, room_refusal, fetch_turn, answer_at, answer_to, may_halt, MayHappen, IsAnswer, Claimed, IsLegalNext, IsLegal}
 use Rattle.pf_protocol.specs.Asked.{IsAsked, AreAsked, AreBelow, Asks}
 use Rattle.pf_entry.proofs.Cases.{by_test}
@@ -204,14 +204,14 @@ fetch_silent setup g range s =
 
 module _ (setup : Setup) (g : Group) where
   -- a read that is refused does not count
-  not_counted : (i : ℕ) (range : Span) (answer : Answer) (s : Server) → Runs g i s → ending answer ≡ Untouched → (happens setup g (Fetch i range) (ending answer)).reads ≡ g.reads
+  not_counted : (i : ℕ) (range : Span) (answer : Answer) (s : Server) → RunsAs g i s → ending answer ≡ Untouched → (happens setup g (Fetch i range) (ending answer)).reads ≡ g.reads
   unfolding happens
   not_counted i range answer s at quiet =
       let rule : Server → Outcome = λ z. on_fetch z range g.reads z.role in
       ap (λ how. (at_server how g i rule).reads) quiet ∙ ap (λ c. (step_of Untouched g i c rule).reads) at
 
   -- a read that counts is of the chunk
-  counted_fits : (i : ℕ) (range : Span) (answer : Answer) (s : Server) → IsAnswer setup g (Fetch i range) answer → Runs g i s → (happens setup g (Fetch i range) (ending answer)).reads ≡ suc g.reads → fits_in range setup.chunk ≡ true
+  counted_fits : (i : ℕ) (range : Span) (answer : Answer) (s : Server) → IsAnswer setup g (Fetch i range) answer → RunsAs g i s → (happens setup g (Fetch i range) (ending answer)).reads ≡ suc g.reads → fits_in range setup.chunk ≡ true
   unfolding answer_to may_halt fetch_refusal
   counted_fits i range answer s legal at counts =
       let turn = fetch_turn setup g range in
@@ -223,14 +223,14 @@ module _ (setup : Setup) (g : Group) where
         | inr cut ↦ absurd (false≢true cut.0)
       ]
 
-  took_legally : (claims : List Claimed) (event : Event) (answer : Answer) → MayHappen claims event → IsAnswer setup g event answer → (i : ℕ) (range : Span) (s : Server) → event ≡ Fetch i range → Runs g i s → (happens setup g event (ending answer)).reads ≡ suc g.reads → IsWritable range.first range.count × (fits_in range setup.chunk ≡ true)
+  took_legally : (claims : List Claimed) (event : Event) (answer : Answer) → MayHappen claims event → IsAnswer setup g event answer → (i : ℕ) (range : Span) (s : Server) → event ≡ Fetch i range → RunsAs g i s → (happens setup g event (ending answer)).reads ≡ suc g.reads → IsWritable range.first range.count × (fits_in range setup.chunk ≡ true)
   took_legally claims event answer asked legal i range s is at counts = (
     (subst (MayHappen claims) is asked).1,
     counted_fits i range answer s (subst (λ e. IsAnswer setup g e answer) is legal) at (ap (λ e. (happens setup g e (ending answer)).reads) (sym is) ∙ counts),
   )
 
 abbrev pub AllAsk : Setup → Group → Type 0
-AllAsk setup g = (i : ℕ) (s : Server) → Runs g i s → Asks setup.chunk g.reads s
+AllAsk setup g = (i : ℕ) (s : Server) → RunsAs g i s → Asks setup.chunk g.reads s
 
 module _ (setup : Setup) (g : Group) (claims : List Claimed) (h : Happening) (legal : IsLegalNext setup g claims h) (all : AllAsk setup g) where
   abbrev after : Group
@@ -273,5 +273,5 @@ opening_asks setup = opened setup (Asks setup.chunk (opening setup).reads)
     (λ i. restarted_asks setup.chunk (opening setup).reads i 0 (opening_disk setup))
 
 -- in every legal history
-pub legal_asks : (setup : Setup) (history : History) → IsLegal setup history → (i : ℕ) (s : Server) → Runs (replay setup history) i s → Asks setup.chunk (replay setup history).reads s
+pub legal_asks : (setup : Setup) (history : History) → IsLegal setup history → (i : ℕ) (s : Server) → RunsAs (replay setup history) i s → Asks setup.chunk (replay setup history).reads s
 legal_asks setup history is = legal_keeps setup (AllAsk setup) (next_asks setup) history (opening setup) [] is.legal (opening_asks setup)

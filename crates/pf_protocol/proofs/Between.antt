@@ -20,7 +20,7 @@ use Rattle.pf_protocol.specs.Outcomes.{Outcome}
 use Rattle.pf_protocol.specs.Rows.{on_packet, settled}
 use Rattle.pf_protocol.specs.Saving.{restarted, claimed}
 use Rattle.pf_protocol.specs.Groups.{Acked, Group, ending, happens, opening, first_leader}
-use Rattle.pf_protocol.specs.Histories.{History, IsPrefix, replay, Runs, HasAccepted, IsProposal, IsChosen, IsTakenFrom, HasOrigin, Itself, Through}
+use Rattle.pf_protocol.specs.Histories.{History, IsPrefix, replay, RunsAs, HasAccepted, IsProposal, IsChosen, IsTakenFrom, HasOrigin, Itself, Through}
 use Rattle.pf_protocol.specs.Kept.{Now}
 use Rattle.pf_protocol.specs.Ports.{Submission, submitting, FollowsRule, IsOrderedBetween}
 use Rattle.pf_protocol.proofs.Ballots.{Cast, first_of, IsStart, Faithful, HasQuorum, IsPicked}
@@ -30,7 +30,7 @@ use Rattle.pf_protocol.proofs.Follows.{IsCandidate, IsLeader, RoleIs}
 use Rattle.pf_protocol.proofs.Moments.{run_longer, prefix_of, begins_with, whole_prefix, by_events, opened, comparable}
 use Rattle.pf_protocol.proofs.Making.{Stems, IsKeyed, VoteFrom, backs_all, submit_stems, fetch_stems, elect_stems, resend_stems, checkpoint_stems, finish_stems, give_back_stems, message_stems, accepted_longer}
 use Rattle.pf_protocol.proofs.Histories.{told, Stands, held_at_end, chosen_at_end}
-use Rattle.pf_protocol.proofs.Facts.{servers_covered, marks_stand, held_is_within}
+use Rattle.pf_protocol.proofs.Facts.{servers_covered, committed_stand, held_is_within}
 use Rattle.pf_protocol.proofs.Voting.{votes_are_true}
 use Rattle.pf_protocol.proofs.Origins.{accepted_after, taken_is_proposal}
 use Rattle.pf_protocol.proofs.Naming.{nothing_old}
@@ -42,7 +42,7 @@ use Rattle.pf_protocol.proofs.Ports.{NewChosen, acked_chosen, new_slot, chosen_b
 
 -- what a candidate's own vote shows was accepted by it
 abbrev AllHeld : Setup → History → Type 0
-AllHeld setup history = (i : ℕ) (s : Server) (own : VoteLog) (slot : ℕ) (e : Entry) → Runs (replay setup history) i s → s.role ≡ Candidate own → FinMap.get own.log slot ≡ Some e → HasAccepted setup history i e
+AllHeld setup history = (i : ℕ) (s : Server) (own : VoteLog) (slot : ℕ) (e : Entry) → RunsAs (replay setup history) i s → s.role ≡ Candidate own → FinMap.get own.log slot ≡ Some e → HasAccepted setup history i e
 
 abbrev Anything : Entry → Type 0
 Anything e = Unit {0}
@@ -59,10 +59,10 @@ rule_stems setup g i s _ _ keyed (ByGiveBack life slot) = give_back_stems s keye
 rule_stems setup g i s _ _ keyed ByCheckpoint = checkpoint_stems s keyed Anything
 
 module _ (setup : Setup) (history : History) (h : Happening) (all : AllHeld setup history) where
-  keyed_at : (i : ℕ) (s : Server) → Runs (replay setup history) i s → IsKeyed s.durable.log
+  keyed_at : (i : ℕ) (s : Server) → RunsAs (replay setup history) i s → IsKeyed s.durable.log
   keyed_at i s runs = ((backs_all setup history).servers i (Running s) runs).0.keyed
 
-  held_here : (i : ℕ) (s : Server) (slot : ℕ) (e : Entry) → Runs (replay setup history) i s → FinMap.get s.durable.log slot ≡ Some e → HasAccepted setup (history ++ h ∷ []) i e
+  held_here : (i : ℕ) (s : Server) (slot : ℕ) (e : Entry) → RunsAs (replay setup history) i s → FinMap.get s.durable.log slot ≡ Some e → HasAccepted setup (history ++ h ∷ []) i e
   held_here i s slot e runs at = record { earlier = history; is_earlier = record { rest = h ∷ []; whole = refl }; holds = record { server = s; runs = runs; held = ap (FinMap.get s.durable.log) (keyed_at i s runs slot e at) ∙ at } }
 
   came_held : (i : ℕ) (z : Server) (own : VoteLog) (slot : ℕ) (e : Entry) → Came setup (replay setup history) h.event (happens setup (replay setup history) h.event (ending h.answer)) i z → z.role ≡ Candidate own → FinMap.get own.log slot ≡ Some e → HasAccepted setup (history ++ h ∷ []) i e
@@ -161,7 +161,7 @@ third : (a b c j : ℕ) → a ≢ b → c ≢ a → c ≢ b → a < 3 → b < 3 
 third a b c j = grind arith
 
 -- an entry that a leader makes while a higher term has acknowledged something is never chosen, nor is what is taken from it
-module _ (setup : Setup) (history now : History) (p : IsPrefix now history) (n : ℕ) (x : Acked) (at : slice_get (replay setup now).acked n ≡ Some x) (i : ℕ) (z : Server) (l : Leader) (runs : Runs (replay setup now) i z) (serves : z.role ≡ Serving l) (lower : z.durable.term < x.term) (e : Entry) (in_slot : e.slot ≡ l.next) (in_term : e.term ≡ z.durable.term) where
+module _ (setup : Setup) (history now : History) (p : IsPrefix now history) (n : ℕ) (x : Acked) (at : slice_get (replay setup now).acked n ≡ Some x) (i : ℕ) (z : Server) (l : Leader) (runs : RunsAs (replay setup now) i z) (serves : z.role ≡ Serving l) (lower : z.durable.term < x.term) (e : Entry) (in_slot : e.slot ≡ l.next) (in_term : e.term ≡ z.durable.term) where
   h : IsAcked (told setup now).ballots x.term x.slot
   h = every_get (λ a. IsAcked (told setup now).ballots a.term a.slot) (replay setup now).acked n x (told setup now).follows.acked at
 
@@ -198,7 +198,7 @@ module _ (setup : Setup) (history now : History) (p : IsPrefix now history) (n :
   accepted_before j a = unproposed e (held_at_end setup now j e a).proposed
 
   -- a server of the higher term's two has a lower term only before now
-  sooner_term : (y : History) → IsPrefix y history → (j : ℕ) (w : Server) → Pair j → Runs (replay setup y) j w → w.durable.term < x.term → IsPrefix y now
+  sooner_term : (y : History) → IsPrefix y history → (j : ℕ) (w : Server) → Pair j → RunsAs (replay setup y) j w → w.durable.term < x.term → IsPrefix y now
   sooner_term y first j w pair there low =
       elim (comparable y first.rest now p.rest (first.whole ∙ sym p.whole)) [
         | inl before ↦ before
@@ -255,7 +255,7 @@ module _ (setup : Setup) (history now : History) (p : IsPrefix now history) (n :
         | inl above ↦
             let m = marks setup y.earlier y.earlier (whole_prefix y.earlier) y.i y.server y.leader y.runs y.serves in
             let heard = m.1 e.slot (omega (arith, lead_there.has_base, lead_there.base_low, above)) (omega (arith, first_there, below)) in
-            let mark = marks_stand setup y.earlier y.i y.server e.slot y.runs (m.0 heard.0 e.slot heard.1 heard.2 above) in
+            let mark = committed_stand setup y.earlier y.i y.server e.slot y.runs (m.0 heard.0 e.slot heard.1 heard.2 above) in
             let within = held_is_within setup y.earlier y.i y.server.durable e.slot mark.entry (Now y.server y.runs) mark.held in
             record { op = mark.entry.op; term = mark.chosen.0; low = omega (arith, mark.chosen.1, within.1, y.in_term); chosen = chosen_after setup y.earlier now y.is_earlier e.slot mark.chosen.0 mark.entry.op mark.chosen.2 }
         | inr under ↦

@@ -26,12 +26,12 @@ use Rattle.pf_protocol.specs.declared.answers.Refusal.TheVariants.{Stale}
 use Rattle.pf_protocol.specs.declared.events.Event.{Event}
 use Rattle.pf_protocol.specs.declared.events.Event.TheVariants.{Submit, Fetch, Deliver, Lose, Elect, Resend, Stop, Restart, Claim, Finish, GiveBack, Checkpoint}
 use Rattle.pf_protocol.specs.Servers.{Setup, Role, Follower, Candidate, Merging, Serving, Server, Condition, Running, Stopped, Unformatted, upto}
-use Rattle.pf_protocol.specs.Outcomes.{Outcome, sends, refused, raise_term}
-use Rattle.pf_protocol.specs.Leading.{submitted, on_submit, on_fetch, on_elect, on_resend, merged, on_vote, marked, mark, on_ack, on_probe_ok, op_at}
+use Rattle.pf_protocol.specs.Outcomes.{Outcome, sends, only_answers, raise_term}
+use Rattle.pf_protocol.specs.Leading.{submitted, on_submit, on_fetch, on_elect, on_resend, merged, on_vote, commit_own, commit, on_ack, on_probe_ok, op_at}
 use Rattle.pf_protocol.specs.Following.{meets_term, on_request_vote, accepted, on_accept, on_nack, on_commit, on_probe, installed, on_image}
 use Rattle.pf_protocol.specs.Rows.{on_message, on_packet, settled}
 use Rattle.pf_protocol.specs.Saving.{renewed, restarted, is_short_of, trimmed, on_checkpoint, claimed, claimable, is_claimable, applied_op, on_finish, on_give_back}
-use Rattle.pf_protocol.specs.Groups.{Sent, Group, Ending, Whole, CutOff, Missed, Untouched, acted, cut_off, ended, step_of, at_server, marked_in, delivered, lost, stopped, begun, restart, claim_of, claim_at, claim_or, first_claim, only, counted_election, ending, happens, opening}
+use Rattle.pf_protocol.specs.Groups.{Sent, Group, Ending, Whole, CutOff, Missed, Untouched, acted, cut_off, ended, step_of, at_server, delivered_in, delivered, lost, stopped, begun, restart, claim_of, claim_at, claim_or, first_claim, only, counted_election, ending, happens, opening}
 use Rattle.pf_protocol.specs.Histories.{History, run, replay}
 use Rattle.pf_protocol.specs.Answers.{Claimed, is_claim, claims_with, claims_without, claims_after, claims_of, IsOpen, claim_answer, claim_answer_at, answer_to, may_halt, IsAnswer, IsLegalFrom, IsLegal}
 
@@ -87,7 +87,7 @@ module _ (s : Server) where
   vote_keeps term vote (Serving l) = kept
 
   ack_keeps : (from term slot upto_there : ℕ) (role : Role) → Keeps s (on_ack s from term slot upto_there role).server
-  unfolding on_ack marked
+  unfolding on_ack commit_own
   ack_keeps from term slot upto_there Follower = kept
   ack_keeps from term slot upto_there (Candidate own) = kept
   ack_keeps from term slot upto_there (Merging l) = either_keeps s (term == s.durable.term) _ _ (inl (refl, refl)) kept
@@ -109,7 +109,7 @@ module _ (s : Server) where
       (either_keeps s (holds s.durable e.slot e.term) _ _ kept (inl (refl, refl)))))
 
   message_keeps : (setup : Setup) (from term : ℕ) (body : Body) → Keeps s (on_message setup s from term body).server
-  unfolding on_message on_request_vote on_nack on_commit mark on_probe on_image installed
+  unfolding on_message on_request_vote on_nack on_commit commit on_probe on_image installed
   message_keeps setup from term (RequestVote base) = either_keeps s (nat_le term s.durable.term || nat_lt base s.durable.base) _ _ kept (inl (refl, refl))
   message_keeps setup from term (Vote vote) = vote_keeps term vote s.role
   message_keeps setup from term (Accept e) = accept_keeps setup from e
@@ -324,7 +324,7 @@ module _ (g : Group) (claims : List Claimed) (open_now : Every (IsOpen g.servers
 
 finish_life : (life slot : ℕ) (s : Server) → (on_finish s life slot).server.life ≡ s.life
 unfolding on_finish applied_op
-finish_life life slot s = by_test (life == s.life) (λ c. (if c then sends (applied_op s slot (FinMap.get s.in_hand slot)) [] else refused s (Refused (Stale s.life))).server.life ≡ s.life) (λ _. by_op (FinMap.get s.in_hand slot)) (λ _. refl)
+finish_life life slot s = by_test (life == s.life) (λ c. (if c then sends (applied_op s slot (FinMap.get s.in_hand slot)) [] else only_answers s (Refused (Stale s.life))).server.life ≡ s.life) (λ _. by_op (FinMap.get s.in_hand slot)) (λ _. refl)
   where
     by_op : (o : Option Op) → (applied_op s slot o).life ≡ s.life
     by_op None = refl
@@ -333,7 +333,7 @@ finish_life life slot s = by_test (life == s.life) (λ c. (if c then sends (appl
 finish_jobs : (life slot : ℕ) (s : Server) (k : ℕ) (op : Op) → (s.life ≡ life → k ≡ slot → ⊥) → FinMap.get s.in_hand k ≡ Some op → FinMap.get (on_finish s life slot).server.in_hand k ≡ Some op
 unfolding on_finish applied_op
 finish_jobs life slot s k op apart has =
-    by_test (life == s.life) (λ c. (life == s.life) ≡ c → FinMap.get (if c then sends (applied_op s slot (FinMap.get s.in_hand slot)) [] else refused s (Refused (Stale s.life))).server.in_hand k ≡ Some op)
+    by_test (life == s.life) (λ c. (life == s.life) ≡ c → FinMap.get (if c then sends (applied_op s slot (FinMap.get s.in_hand slot)) [] else only_answers s (Refused (Stale s.life))).server.in_hand k ≡ Some op)
     (λ _ now. by_op (apart (sym (eqb-true life s.life now))) (FinMap.get s.in_hand slot)) (λ _ _. has) refl
   where
     by_op : (k ≡ slot → ⊥) → (o : Option Op) → FinMap.get (applied_op s slot o).in_hand k ≡ Some op
@@ -356,11 +356,11 @@ election_servers CutOff g = refl
 election_servers Missed g = refl
 election_servers Untouched g = refl
 
-marked_servers : (how : Ending) (g : Group) (k : ℕ) (p : Sent) → (marked_in how g k p).servers ≡ g.servers
-marked_servers Whole g k p = refl
-marked_servers CutOff g k p = refl
-marked_servers Missed g k p = refl
-marked_servers Untouched g k p = refl
+delivery_servers : (how : Ending) (g : Group) (k : ℕ) (p : Sent) → (delivered_in how g k p).servers ≡ g.servers
+delivery_servers Whole g k p = refl
+delivery_servers CutOff g k p = refl
+delivery_servers Missed g k p = refl
+delivery_servers Untouched g k p = refl
 
 lost_servers : (g : Group) (k : ℕ) (o : Option Sent) → (lost g k o).servers ≡ g.servers
 lost_servers g k None = refl
@@ -370,8 +370,8 @@ deliver_open : (setup : Setup) (g : Group) (claims : List Claimed) → Every (Is
 unfolding on_packet
 deliver_open setup g claims open_now how k None = open_now
 deliver_open setup g claims open_now how k (Some p) =
-    by_test p.lost (λ c. Every (IsOpen (if c then g else at_server how (marked_in how g k p) p.packet.to (λ s. on_packet setup s p.packet)).servers) claims) (λ _. open_now)
-    (λ _. server_open g.servers claims open_now how (marked_in how g k p) p.packet.to (λ s. on_packet setup s p.packet) (marked_servers how g k p) (λ s. message_keeps s setup p.packet.from p.packet.term p.packet.body))
+    by_test p.lost (λ c. Every (IsOpen (if c then g else at_server how (delivered_in how g k p) p.packet.to (λ s. on_packet setup s p.packet)).servers) claims) (λ _. open_now)
+    (λ _. server_open g.servers claims open_now how (delivered_in how g k p) p.packet.to (λ s. on_packet setup s p.packet) (delivery_servers how g k p) (λ s. message_keeps s setup p.packet.from p.packet.term p.packet.body))
 
 -- every event
 pub happens_open : (setup : Setup) (g : Group) (claims : List Claimed) → Every (IsOpen g.servers) claims → (event : Event) (answer : Answer) → IsAnswer setup g event answer → Every (IsOpen (happens setup g event (ending answer)).servers) (claims_after claims event answer)

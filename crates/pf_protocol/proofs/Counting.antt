@@ -15,7 +15,7 @@ use Rattle.pf_entry.specs.declared.packets.Body.TheVariants.{RequestVote, Vote, 
 use Rattle.pf_entry.specs.Canonical.{IsCanonicalOp, IsCanonicalName, IsCanonicalEntry, IsCanonicalVote, IsCanonicalImage, IsCanonicalMessage, IsCanonicalPacket, second_format}
 use Rattle.pf_protocol.specs.Servers.{Setup, Server, Running}
 use Rattle.pf_protocol.specs.Groups.{Sent}
-use Rattle.pf_protocol.specs.Histories.{History, replay, Runs}
+use Rattle.pf_protocol.specs.Histories.{History, replay, RunsAs}
 use Rattle.pf_protocol.specs.Answers.{IsSetup, IsLegal}
 use Rattle.pf_protocol.specs.Fitting.{OpFits, NameFits, EntryFits, StartFits, VoteFits, SlotsFit, SectorsFit, BodyFits, PacketFits}
 use Rattle.pf_protocol.proofs.Legal.{legal_fits}
@@ -117,7 +117,7 @@ legal_packets setup history is k sent at =
     packet_canonical setup is.is_setup (length history) (suc g.elections) sent.packet (few_said setup is.is_setup (length history) (suc g.elections) (omega (arith, f.elections)) sent.packet.term sent.packet.body fits.body) fits
 
 -- as many starts as elections, and one
-pub legal_starts : (setup : Setup) (history : History) → IsLegal setup history → (i : ℕ) (s : Server) → Runs (replay setup history) i s → FinMap.len s.durable.starts ≤ 65
+pub legal_starts : (setup : Setup) (history : History) → IsLegal setup history → (i : ℕ) (s : Server) → RunsAs (replay setup history) i s → FinMap.len s.durable.starts ≤ 65
 legal_starts setup history is i s at =
     let f = legal_fits setup history is in
     let few = few_starts (length history) (suc (replay setup history).elections) s.durable.starts (f.servers i (Running s) at).1.durable.vote.starts in

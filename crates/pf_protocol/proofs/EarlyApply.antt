@@ -20,7 +20,7 @@ use Rattle.pf_protocol.specs.declared.answers.Refusal.TheVariants.{NoneFree}
 use Rattle.pf_protocol.specs.declared.events.Event.TheVariants.{Submit, Deliver, Claim, Finish}
 use Rattle.pf_protocol.specs.Servers.{Leader, Server, Serving, Running, upto}
 use Rattle.pf_protocol.specs.Outcomes.{Outcome, sends}
-use Rattle.pf_protocol.specs.Leading.{on_submit, submitted, new_entry, look_behind, op_at, acknowledged, all_acknowledged, on_elect, led, on_ack, counted, mark, marked}
+use Rattle.pf_protocol.specs.Leading.{on_submit, submitted, new_entry, look_behind, op_at, acknowledged, all_acknowledged, on_elect, led, on_ack, counted, commit, commit_own}
 use Rattle.pf_protocol.specs.Following.{on_accept, accepted, on_commit}
 use Rattle.pf_protocol.specs.Saving.{restarted, renewed, is_claimable, claimable, claimed, on_finish, applied_op, changed, snapshots_after}
 use Rattle.pf_protocol.specs.Rows.{on_message, on_packet, settled}
@@ -176,7 +176,7 @@ module _ (first second third : Sector) where
   a4 = record a3 { role = Serving l4; committed = Sets.insert a3.committed 2 }
 
   rule_6 : on_packet small_group a3 (packet 1 0 1 (Ack 2 0)) ≡ record { server = a4; packets = packet 0 1 1 (Commit 2) ∷ []; answer = Done; acked = Some 2 }
-  unfolding on_packet on_message on_ack marked counted acknowledged restarted opening_disk stored put_entry put_entries holds led all_acknowledged
+  unfolding on_packet on_message on_ack commit_own counted acknowledged restarted opening_disk stored put_entry put_entries holds led all_acknowledged
   rule_6 = simp gets
 
   room_6 : room_refusal g5 (record { server = a4; packets = packet 0 1 1 (Commit 2) ∷ []; answer = Done; acked = Some 2 }) ≡ None
@@ -228,7 +228,7 @@ module _ (first second third : Sector) where
   a6 = record a5 { role = Serving l5; committed = Sets.insert a5.committed 3 }
 
   rule_9 : on_packet small_group a5 (packet 1 0 1 (Ack 3 0)) ≡ record { server = a6; packets = packet 0 1 1 (Commit 3) ∷ []; answer = Done; acked = Some 3 }
-  unfolding on_packet on_message on_ack marked counted acknowledged restarted opening_disk stored put_entry put_entries holds led all_acknowledged
+  unfolding on_packet on_message on_ack commit_own counted acknowledged restarted opening_disk stored put_entry put_entries holds led all_acknowledged
   rule_9 = simp gets
 
   room_9 : room_refusal g8 (record { server = a6; packets = packet 0 1 1 (Commit 3) ∷ []; answer = Done; acked = Some 3 }) ≡ None
@@ -247,7 +247,7 @@ module _ (first second third : Sector) where
   b3 = record b2 { committed = Sets.insert b2.committed 2 }
 
   rule_10 : on_packet small_group b2 (packet 0 1 1 (Commit 2)) ≡ sends b3 []
-  unfolding on_packet on_message on_commit mark restarted opening_disk stored put_entry put_entries holds
+  unfolding on_packet on_message on_commit commit restarted opening_disk stored put_entry put_entries holds
   rule_10 = simp gets
 
   room_10 : room_refusal g9 (sends b3 []) ≡ None
@@ -302,7 +302,7 @@ module _ (first second third : Sector) where
   b5 = record b4 { committed = Sets.insert b4.committed 3 }
 
   rule_13 : on_packet small_group b4 (packet 0 1 1 (Commit 3)) ≡ sends b5 []
-  unfolding on_packet on_message on_commit mark restarted opening_disk stored put_entry put_entries holds
+  unfolding on_packet on_message on_commit commit restarted opening_disk stored put_entry put_entries holds
   rule_13 = simp gets
 
   room_13 : room_refusal g12 (sends b5 []) ≡ None

@@ -29,11 +29,11 @@ use Rattle.pf_protocol.specs.declared.events.Event.{Event}
 use Rattle.pf_protocol.specs.declared.events.Event.TheVariants.{Submit, Fetch, Deliver, Lose, Elect, Resend, Stop, Restart, Claim, Finish, GiveBack, Checkpoint}
 use Rattle.pf_protocol.specs.Servers.{Setup, Leader, Role, Follower, Candidate, Merging, Serving, Server, Condition, Running, Stopped, Unformatted, upto, has_applied}
 use Rattle.pf_protocol.specs.Outcomes.{Outcome, to_one, to_others, others, sends, raise_term}
-use Rattle.pf_protocol.specs.Leading.{new_entry, submitted, on_submit, on_fetch, on_elect, resent_entry, resent, on_resend, led, merged, on_vote, has_acked, knows, is_own, commit_to, counted, marked, mark, still_merging, other_acked, on_ack, on_probe_ok, op_at}
+use Rattle.pf_protocol.specs.Leading.{new_entry, submitted, on_submit, on_fetch, on_elect, resent_entry, resent, on_resend, led, merged, on_vote, has_acked, knows, is_own, commit_to, counted, commit_own, commit, still_merging, other_acked, on_ack, on_probe_ok, op_at}
 use Rattle.pf_protocol.specs.Following.{meets_term, on_request_vote, accepted, on_accept, on_nack, on_commit, on_probe, installed, on_image}
 use Rattle.pf_protocol.specs.Saving.{renewed, restarted, claimed, claimable, is_claimable, is_short_of, trimmed, on_checkpoint, applied_op, on_finish, on_give_back}
 use Rattle.pf_protocol.specs.Rows.{on_message, on_packet, settled}
-use Rattle.pf_protocol.specs.Groups.{Sent, Group, Ending, Whole, CutOff, Missed, Untouched, send, acted, cut_off, ended, step_of, at_server, with_sent, marked_in, delivered, lost, stopped, begun, restart, claim_of, claim_at, claim_or, first_claim, only, counted_election, happens}
+use Rattle.pf_protocol.specs.Groups.{Sent, Group, Ending, Whole, CutOff, Missed, Untouched, send, acted, cut_off, ended, step_of, at_server, with_sent, delivered_in, delivered, lost, stopped, begun, restart, claim_of, claim_at, claim_or, first_claim, only, counted_election, happens}
 use Rattle.pf_protocol.specs.Elected.{IsAmong, FewBeside, IsElected, HoldsOwn, KeepsTerms, ConditionKeeps, BodyKeeps, GroupKeeps}
 use Rattle.pf_entry.proofs.Cases.{by_test}
 use Rattle.pf_entry.proofs.Ranges.{range_has}
@@ -376,7 +376,7 @@ module _ (terms : List ℕ) where
     counted_next l from slot upto_there = refl
 
     ack_does : (from term slot upto_there : ℕ) (role : Role) → s.role ≡ role → Does i (on_ack s from term slot upto_there role)
-    unfolding on_ack marked
+    unfolding on_ack commit_own
     ack_does from term slot upto_there Follower is = still [] _ refl refl tt
     ack_does from term slot upto_there (Candidate own) is = still [] _ refl refl tt
     ack_does from term slot upto_there (Merging l) is = either_does i (term == s.durable.term) _ _
@@ -413,7 +413,7 @@ module _ (terms : List ℕ) where
     }
 
     message_does : (setup : Setup) (from term : ℕ) (body : Body) → BodyKeeps terms body → Does i (on_message setup s from term body)
-    unfolding on_message on_request_vote on_nack on_commit mark on_probe on_image
+    unfolding on_message on_request_vote on_nack on_commit commit on_probe on_image
     message_does setup from term (RequestVote base) is = either_does i (nat_le term s.durable.term || nat_lt base s.durable.base) _ _ (λ _. record { server = k; packets = (tt, tt) }) (λ _. record { server = raised term; packets = (k.few, tt) })
     message_does setup from term (Vote vote) is = vote_does term vote s.role refl
     message_does setup from term (Accept e) is = accept_does setup from e is
@@ -628,11 +628,11 @@ module _ (terms : List ℕ) where
       packets = every_set (λ sent. BodyKeeps terms sent.packet.body) g.packets k q keeps.packets (subst (λ (x : Packet). BodyKeeps terms x.body) (sym same) (every_get (λ sent. BodyKeeps terms sent.packet.body) g.packets k p keeps.packets at));
     }
 
-    marked_keeps : (how : Ending) (k : ℕ) (p : Sent) → slice_get g.packets k ≡ Some p → GroupKeeps terms (marked_in how g k p)
-    marked_keeps Whole k p at = with_keeps k p _ at refl
-    marked_keeps CutOff k p at = with_keeps k p _ at refl
-    marked_keeps Missed k p at = with_keeps k p _ at refl
-    marked_keeps Untouched k p at = keeps
+    delivery_keeps : (how : Ending) (k : ℕ) (p : Sent) → slice_get g.packets k ≡ Some p → GroupKeeps terms (delivered_in how g k p)
+    delivery_keeps Whole k p at = with_keeps k p _ at refl
+    delivery_keeps CutOff k p at = with_keeps k p _ at refl
+    delivery_keeps Missed k p at = with_keeps k p _ at refl
+    delivery_keeps Untouched k p at = keeps
 
     lost_keeps : (k : ℕ) (o : Option Sent) → slice_get g.packets k ≡ o → GroupKeeps terms (lost g k o)
     lost_keeps k None at = keeps
@@ -652,9 +652,9 @@ module _ (terms : List ℕ) where
   unfolding on_packet
   delivered_keeps setup g keeps how k None at = keeps
   delivered_keeps setup g keeps how k (Some p) at =
-      by_test p.lost (λ c. GroupKeeps terms (if c then g else at_server how (marked_in how g k p) p.packet.to (λ s. on_packet setup s p.packet)))
+      by_test p.lost (λ c. GroupKeeps terms (if c then g else at_server how (delivered_in how g k p) p.packet.to (λ s. on_packet setup s p.packet)))
       (λ _. keeps)
-      (λ _. server_keeps (marked_in how g k p) (marked_keeps g keeps how k p at) how p.packet.to (λ s. on_packet setup s p.packet) (λ s was _. message_does p.packet.to s was setup p.packet.from p.packet.term p.packet.body (every_get (λ sent. BodyKeeps terms sent.packet.body) g.packets k p keeps.packets at)))
+      (λ _. server_keeps (delivered_in how g k p) (delivery_keeps g keeps how k p at) how p.packet.to (λ s. on_packet setup s p.packet) (λ s was _. message_does p.packet.to s was setup p.packet.from p.packet.term p.packet.body (every_get (λ sent. BodyKeeps terms sent.packet.body) g.packets k p keeps.packets at)))
 
 -- what stands in the terms after an event: that of a server that stands for election
 abbrev pub stood : Ending → Option Condition → List ℕ → List ℕ

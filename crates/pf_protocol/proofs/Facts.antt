@@ -28,8 +28,8 @@ use Rattle.pf_protocol.proofs.Follows.{IsLeader, RoleIs, BodyIs, PacketIs}
 use Rattle.pf_protocol.proofs.Opening.{opening_ballots}
 use Rattle.pf_protocol.specs.Servers.{Setup, Leader, Server, Running, Stopped, has_applied}
 use Rattle.pf_protocol.specs.Groups.{Sent, opening}
-use Rattle.pf_protocol.specs.Histories.{History, IsPrefix, replay, Runs, HasAccepted, IsProposal, IsChosen}
-use Rattle.pf_protocol.specs.Kept.{MayHold, Now, Without, With, IsKeptIn, IsChosenIn, HasChosen, Respects, Leads, IsMarked, IsPassed, IsCovered, IsInHand, HasAcked, HasCommitted}
+use Rattle.pf_protocol.specs.Histories.{History, IsPrefix, replay, RunsAs, HasAccepted, IsProposal, IsChosen}
+use Rattle.pf_protocol.specs.Kept.{MayHold, Now, Without, With, IsKeptIn, IsChosenIn, HasChosen, Respects, Leads, IsCommittedIn, IsPassed, IsCovered, IsInHand, MayAck, HasCommitted}
 use Rattle.pf_protocol.proofs.Serving.{IsPassed as PassedIn}
 use Rattle.pf_protocol.proofs.Making.{accepted_proposed}
 use Rattle.pf_protocol.proofs.Origins.{accepted_after}
@@ -133,8 +133,8 @@ module _ (setup : Setup) (history : History) where
   }
 
   -- marks
-  pub marks_stand : (i : ℕ) (s : Server) (slot : ℕ) → Runs (replay setup history) i s → Sets.contains s.committed slot ≡ true → IsMarked setup history s slot
-  marks_stand i s slot at is =
+  pub committed_stand : (i : ℕ) (s : Server) (slot : ℕ) → RunsAs (replay setup history) i s → Sets.contains s.committed slot ≡ true → IsCommittedIn setup history s slot
+  committed_stand i s slot at is =
       let z = told setup history in
       let x = (z.follows.servers i (Running s) at).1 in
       let c = x.knows.committed slot is in
@@ -147,7 +147,7 @@ module _ (setup : Setup) (history : History) where
       }
 
   -- what was applied
-  pub servers_covered : (i : ℕ) (s : Server) → Runs (replay setup history) i s → IsCovered setup history s.durable.term (has_applied s) s.sectors
+  pub servers_covered : (i : ℕ) (s : Server) → RunsAs (replay setup history) i s → IsCovered setup history s.durable.term (has_applied s) s.sectors
   servers_covered i s at = covered_of s.durable.term (has_applied s) s.sectors ((told setup history).follows.servers i (Running s) at).1.knows.applied
 
   pub disks_covered : (i : ℕ) (d : Durable) → MayHold (replay setup history) i d → IsCovered setup history d.term (is_applied d.base d.saved) d.sectors
@@ -164,7 +164,7 @@ module _ (setup : Setup) (history : History) where
   images_covered k sent base applied sectors at is = covered_of sent.packet.term (is_applied base applied) sectors (packet_is k sent (Image base applied sectors) at is)
 
   -- jobs
-  pub jobs_are_apart : (i : ℕ) (s : Server) (slot : ℕ) (op : Op) → Runs (replay setup history) i s → FinMap.get s.in_hand slot ≡ Some op → IsInHand setup history s slot op
+  pub jobs_are_apart : (i : ℕ) (s : Server) (slot : ℕ) (op : Op) → RunsAs (replay setup history) i s → FinMap.get s.in_hand slot ≡ Some op → IsInHand setup history s slot op
   jobs_are_apart i s slot op at job =
       let z = told setup history in
       let knows = (z.follows.servers i (Running s) at).1.knows in
@@ -185,7 +185,7 @@ module _ (setup : Setup) (history : History) where
       turned x y is = grind (arith, nat_tests, is)
 
   -- packets
-  pub acks_are_true : (k : ℕ) (sent : Sent) (slot upto : ℕ) → slice_get (replay setup history).packets k ≡ Some sent → sent.packet.body ≡ Ack slot upto → 0 < slot → HasAcked setup history sent.packet.from slot sent.packet.term
+  pub acks_are_true : (k : ℕ) (sent : Sent) (slot upto : ℕ) → slice_get (replay setup history).packets k ≡ Some sent → sent.packet.body ≡ Ack slot upto → 0 < slot → MayAck setup history sent.packet.from slot sent.packet.term
   acks_are_true k sent slot upto at is above =
       let z = told setup history in
       elim (packet_is k sent (Ack slot upto) at is above) [
@@ -204,7 +204,7 @@ module _ (setup : Setup) (history : History) where
       (c.entry, accepted_proposed setup history sent.packet.from c.entry accepted, made.in_slot, made.in_term, chosen_of slot sent.packet.term c.entry.op c.chosen)
 
   -- a leader of a later term, also one that has proposed nothing
-  own_proposal : (earlier : History) → IsPrefix earlier history → (i : ℕ) (s : Server) (l : Leader) → Runs (replay setup earlier) i s → Leads s l → (slot : ℕ) → l.b0 < slot → slot < l.first → (e : Entry) × IsProposal setup history e × (e.slot ≡ slot) × (e.term ≡ s.durable.term)
+  own_proposal : (earlier : History) → IsPrefix earlier history → (i : ℕ) (s : Server) (l : Leader) → RunsAs (replay setup earlier) i s → Leads s l → (slot : ℕ) → l.b0 < slot → slot < l.first → (e : Entry) × IsProposal setup history e × (e.slot ≡ slot) × (e.term ≡ s.durable.term)
   own_proposal earlier p i s l at role slot above below =
       let z = told setup earlier in
       let x = (z.follows.servers i (Running s) at).1 in
@@ -221,7 +221,7 @@ module _ (setup : Setup) (history : History) where
       let accepted = accepted_after setup earlier history p i e.0 (accepted_in_history setup earlier i slot s.durable.term e.0 did e.1) in
       (e.0, accepted_proposed setup history i e.0 accepted, made.in_slot, made.in_term)
 
-  pub leaders_respect : (slot term : ℕ) (op : Op) (earlier : History) (i : ℕ) (s : Server) (l : Leader) → IsChosen setup history slot term op → IsPrefix earlier history → Runs (replay setup earlier) i s → Leads s l → term < s.durable.term → Respects setup history slot op s l
+  pub leaders_respect : (slot term : ℕ) (op : Op) (earlier : History) (i : ℕ) (s : Server) (l : Leader) → IsChosen setup history slot term op → IsPrefix earlier history → RunsAs (replay setup earlier) i s → Leads s l → term < s.durable.term → Respects setup history slot op s l
   leaders_respect slot term op earlier i s l c p at role later =
       let z = told setup history in
       let led = (z.stood earlier p.rest p.whole).leads i s l at role in

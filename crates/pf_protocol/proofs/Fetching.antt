@@ -18,7 +18,7 @@ use Rattle.pf_protocol.specs.Leading.{has_acked, is_own, confirm}
 use Rattle.pf_protocol.specs.Rows.{is_ready, ready_reads, settled}
 use Rattle.pf_protocol.specs.Saving.{restarted, claimed}
 use Rattle.pf_protocol.specs.Groups.{Acked, Answered, Sent, Group, answer_of, reads_after, ending, happens, opening, first_leader}
-use Rattle.pf_protocol.specs.Histories.{History, IsPrefix, run, replay, Runs}
+use Rattle.pf_protocol.specs.Histories.{History, IsPrefix, run, replay, RunsAs}
 use Rattle.pf_protocol.proofs.Moments.{run_longer, whole_prefix, by_events, opened, run_parts, reads_before}
 use Rattle.pf_protocol.proofs.Making.{longer}
 use Rattle.pf_protocol.proofs.Histories.{Told, told, tell}
@@ -30,17 +30,17 @@ use Rattle.pf_protocol.proofs.Moving.{More, AcksGrow, RoleStep, RoleReads, IsRea
 pub told_on : (setup : Setup) (earlier history : History) (p : IsPrefix earlier history) → Told setup (replay setup earlier) (told setup earlier).ballots p.rest
 told_on setup earlier history p = tell setup p.rest (replay setup earlier) (told setup earlier).ballots (told setup earlier).sound (told setup earlier).served (told setup earlier).follows
 
-pub runs_there : (setup : Setup) (earlier history : History) (p : IsPrefix earlier history) (i : ℕ) (s : Server) → Runs (replay setup history) i s → Runs (run setup (replay setup earlier) p.rest) i s
+pub runs_there : (setup : Setup) (earlier history : History) (p : IsPrefix earlier history) (i : ℕ) (s : Server) → RunsAs (replay setup history) i s → RunsAs (run setup (replay setup earlier) p.rest) i s
 runs_there setup earlier history p i s at = ap (λ g. slice_get g.servers i) (sym (run_parts setup (opening setup) earlier p.rest) ∙ ap (replay setup) p.whole) ∙ at
 
 -- no term falls
-pub disk_term_low : (setup : Setup) (earlier history : History) → IsPrefix earlier history → (i : ℕ) (s : Server) → Runs (replay setup history) i s → ((told setup earlier).ballots.disk i).term ≤ s.durable.term
+pub disk_term_low : (setup : Setup) (earlier history : History) → IsPrefix earlier history → (i : ℕ) (s : Server) → RunsAs (replay setup history) i s → ((told setup earlier).ballots.disk i).term ≤ s.durable.term
 disk_term_low setup earlier history p i s at =
     let z = told_on setup earlier history p in
     let is = (z.follows.servers i (Running s) (runs_there setup earlier history p i s at)).1 in
     omega (arith, z.persists.terms i, ap (λ d. d.term) is.disk)
 
-pub term_low : (setup : Setup) (earlier history : History) → IsPrefix earlier history → (i : ℕ) (x s : Server) → Runs (replay setup earlier) i x → Runs (replay setup history) i s → x.durable.term ≤ s.durable.term
+pub term_low : (setup : Setup) (earlier history : History) → IsPrefix earlier history → (i : ℕ) (x s : Server) → RunsAs (replay setup earlier) i x → RunsAs (replay setup history) i s → x.durable.term ≤ s.durable.term
 term_low setup earlier history p i x s before at =
     let is = ((told setup earlier).follows.servers i (Running x) before).1 in
     omega (arith, disk_term_low setup earlier history p i s at, ap (λ d. d.term) is.disk)
@@ -53,7 +53,7 @@ pub record Confirmed (setup : Setup) (history : History) (i term number : ℕ) :
   pub other : ℕ
   pub apart : other ≢ i
   pub server : Server
-  pub runs : Runs (replay setup earlier) other server
+  pub runs : RunsAs (replay setup earlier) other server
   pub low : server.durable.term ≤ term
   pub asked : number < (replay setup earlier).reads
 
@@ -67,7 +67,7 @@ pub record Waits (setup : Setup) (history : History) (i : ℕ) (s : Server) (r :
   pub counts : (replay setup (earlier ++ fetch ∷ [])).reads ≡ suc r.number
   pub server : Server
   pub leader : Leader
-  pub runs : Runs (replay setup earlier) i server
+  pub runs : RunsAs (replay setup earlier) i server
   pub serves : server.role ≡ Serving leader
   pub same_term : s.durable.term ≡ server.durable.term
   pub waits : r.waits_for ≡ (new_read server r.range r.number).waits_for
@@ -79,7 +79,7 @@ pub record Rose (setup : Setup) (history : History) (i term : ℕ) : Type 0 wher
   pub earlier : History
   pub is_earlier : IsPrefix earlier history
   pub server : Server
-  pub runs : Runs (replay setup earlier) i server
+  pub runs : RunsAs (replay setup earlier) i server
   pub high : term ≤ server.durable.term
 
 -- a server of a lower term voted, for one that had risen to the term by then
@@ -87,7 +87,7 @@ pub record Granted (setup : Setup) (history : History) (from to term : ℕ) : Ty
   pub earlier : History
   pub is_earlier : IsPrefix earlier history
   pub server : Server
-  pub runs : Runs (replay setup earlier) from server
+  pub runs : RunsAs (replay setup earlier) from server
   pub lower : server.durable.term < term
   pub rose : Rose setup earlier to term
 
@@ -118,11 +118,11 @@ pub record AckedBy (setup : Setup) (history : History) (a : Acked) : Type 0 wher
   pub i : ℕ
   pub server : Server
   pub leader : Leader
-  pub runs : Runs (replay setup earlier) i server
+  pub runs : RunsAs (replay setup earlier) i server
   pub serves : server.role ≡ Serving leader
   pub in_term : server.durable.term ≡ a.term
   pub own : is_own leader a.slot ≡ true
-  pub stays : (z : Server) → Runs (replay setup history) i z → z.durable.term ≡ a.term → StaysIn (HeardOf i a.slot) (has_applied z) z.role
+  pub stays : (z : Server) → RunsAs (replay setup history) i z → z.durable.term ≡ a.term → StaysIn (HeardOf i a.slot) (has_applied z) z.role
 
 -- the event at which a read was answered, and what its server had then. Its answer stands in place k
 pub record WasRead (setup : Setup) (history : History) (k : ℕ) (a : Answered) : Type 0 where
@@ -133,7 +133,7 @@ pub record WasRead (setup : Setup) (history : History) (k : ℕ) (a : Answered) 
   pub there : slice_get (replay setup (earlier ++ answering ∷ [])).answered k ≡ Some a
   pub server : Server
   pub read : Read
-  pub runs : Runs (replay setup (earlier ++ answering ∷ [])) a.server server
+  pub runs : RunsAs (replay setup (earlier ++ answering ∷ [])) a.server server
   pub waits : Waits setup (earlier ++ answering ∷ []) a.server server read
   pub ready : is_ready server read ≡ true
   pub number : a.number ≡ read.number
@@ -142,11 +142,11 @@ pub record WasRead (setup : Setup) (history : History) (k : ℕ) (a : Answered) 
   pub base : a.base ≡ server.durable.base
   pub applied : a.applied ≡ server.applied
   pub bytes : a.bytes ≡ slice_range server.sectors read.range.first (read.range.first + read.range.count)
-  pub stays : (z : Server) → Runs (replay setup history) a.server z → z.durable.term ≡ a.term → StaysIn (HasAll (is_applied a.base a.applied)) (has_applied z) z.role
+  pub stays : (z : Server) → RunsAs (replay setup history) a.server z → z.durable.term ≡ a.term → StaysIn (HasAll (is_applied a.base a.applied)) (has_applied z) z.role
 
 pub record Traced (setup : Setup) (history : History) : Type 0 where
-  pub waits : (i : ℕ) (s : Server) → Runs (replay setup history) i s → Every (Waits setup history i s) s.reads
-  pub idle : (i : ℕ) (s : Server) → Runs (replay setup history) i s → RoleReads s.role s.reads
+  pub waits : (i : ℕ) (s : Server) → RunsAs (replay setup history) i s → Every (Waits setup history i s) s.reads
+  pub idle : (i : ℕ) (s : Server) → RunsAs (replay setup history) i s → RoleReads s.role s.reads
   pub says : Every (λ p. Says setup history p.packet.from p.packet.to p.packet.term p.packet.body) (replay setup history).packets
   pub acked : Every (AckedBy setup history) (replay setup history).acked
   pub answered : (k : ℕ) (a : Answered) → slice_get (replay setup history).answered k ≡ Some a → WasRead setup history k a
@@ -200,10 +200,10 @@ module _ (setup : Setup) (history : History) (h : Happening) (t : Traced setup h
   same : replay setup next ≡ now
   same = run_longer setup (opening setup) history h
 
-  pub to_now : (i : ℕ) (z : Server) → Runs (replay setup next) i z → Runs now i z
+  pub to_now : (i : ℕ) (z : Server) → RunsAs (replay setup next) i z → RunsAs now i z
   to_now i z at = ap (λ g. slice_get g.servers i) (sym same) ∙ at
 
-  from_now : (i : ℕ) (z : Server) → Runs now i z → Runs (replay setup next) i z
+  from_now : (i : ℕ) (z : Server) → RunsAs now i z → RunsAs (replay setup next) i z
   from_now i z at = ap (λ g. slice_get g.servers i) same ∙ at
 
   pub gone : Goes setup (replay setup history) h.event now
@@ -339,10 +339,10 @@ module _ (setup : Setup) (history : History) (h : Happening) (t : Traced setup h
   says_longer from to term (ProbeOk number upto_there) is = confirmed_longer to term number is
   says_longer from to term (Image base applied sectors) is = tt
 
-  numbers_low : (i : ℕ) (s : Server) → Runs (replay setup history) i s → Every (λ r. r.number < (replay setup history).reads) s.reads
+  numbers_low : (i : ℕ) (s : Server) → RunsAs (replay setup history) i s → Every (λ r. r.number < (replay setup history).reads) s.reads
   numbers_low i s runs = every_more (Waits setup history i s) (λ r. r.number < (replay setup history).reads) (λ r w. omega (arith, w.counts, reads_before setup (w.earlier ++ w.fetch ∷ []) history w.is_earlier)) s.reads (t.waits i s runs)
 
-  stepper_number : (i : ℕ) (s : Server) → Runs (replay setup history) i s → s.number ≡ i
+  stepper_number : (i : ℕ) (s : Server) → RunsAs (replay setup history) i s → s.number ≡ i
   stepper_number i s runs = ((told setup history).follows.servers i (Running s) runs).1.number
 
   rose_now : (i : ℕ) (s : Server) (o : Outcome) → Steps setup (replay setup history) h.event now i s o → (from term : ℕ) → from ≡ i → term ≤ o.server.durable.term → Rose setup next from term
@@ -381,7 +381,7 @@ module _ (setup : Setup) (history : History) (h : Happening) (t : Traced setup h
       ((step_does i s o step).packets (λ n. n < (replay setup history).reads) (numbers_low i s step.runs)))
 
   -- whoever once led in a term
-  pub came_stays : (P : (ℕ → Bool) → Leader → Type 0) → ((l l2 : Leader) (done more : ℕ → Bool) → AcksGrow l l2 → ((slot : ℕ) → done slot ≡ true → more slot ≡ true) → P done l → P more l2) → (i term : ℕ) → ((s : Server) → Runs (replay setup history) i s → term ≤ s.durable.term) → ((s : Server) → Runs (replay setup history) i s → s.durable.term ≡ term → StaysIn P (has_applied s) s.role) → (z : Server) → Came setup (replay setup history) h.event now i z → z.durable.term ≡ term → StaysIn P (has_applied z) z.role
+  pub came_stays : (P : (ℕ → Bool) → Leader → Type 0) → ((l l2 : Leader) (done more : ℕ → Bool) → AcksGrow l l2 → ((slot : ℕ) → done slot ≡ true → more slot ≡ true) → P done l → P more l2) → (i term : ℕ) → ((s : Server) → RunsAs (replay setup history) i s → term ≤ s.durable.term) → ((s : Server) → RunsAs (replay setup history) i s → s.durable.term ≡ term → StaysIn P (has_applied s) s.role) → (z : Server) → Came setup (replay setup history) h.event now i z → z.durable.term ≡ term → StaysIn P (has_applied z) z.role
   unfolding settled restarted claimed
   came_stays P mono i term low old _ (Stays s runs) in_term = old s runs in_term
   came_stays P mono i term low old _ (Stepped s o step) in_term =
@@ -405,7 +405,7 @@ module _ (setup : Setup) (history : History) (h : Happening) (t : Traced setup h
     stays = λ z at. came_stays (HeardOf x.i a.slot) (heard_grows x.i a.slot) x.i a.term (λ s runs. omega (arith, term_low setup x.earlier history x.is_earlier x.i x.server s x.runs runs, x.in_term)) x.stays z (gone.servers x.i z (to_now x.i z at));
   }
 
-  same_server : (i : ℕ) (x z : Server) → Runs now i x → Runs now i z → x ≡ z
+  same_server : (i : ℕ) (x z : Server) → RunsAs now i x → RunsAs now i z → x ≡ z
   same_server i x z a b = unwrapped (same_Some (Running x) (Running z) (sym a ∙ b))
     where
       unwrapped : Running x ≡ Running z → x ≡ z
@@ -473,7 +473,7 @@ module _ (setup : Setup) (history : History) (h : Happening) (t : Traced setup h
         there = ap (λ g. slice_get g.answered k) same ∙ new.1;
         server = settled o.server;
         read = r;
-        runs = from_now o.server.number (settled o.server) (subst (λ k. Runs now k (settled o.server)) (sym number) step.runs_on);
+        runs = from_now o.server.number (settled o.server) (subst (λ k. RunsAs now k (settled o.server)) (sym number) step.runs_on);
         waits = subst (λ k. Waits setup next k (settled o.server) r) (sym number) w;
         ready = ready;
         number = refl;
@@ -482,7 +482,7 @@ module _ (setup : Setup) (history : History) (h : Happening) (t : Traced setup h
         base = refl;
         applied = refl;
         bytes = refl;
-        stays = λ z at in_term. subst (λ x. StaysIn (HasAll (has_applied o.server)) (has_applied x) x.role) (same_server i (settled o.server) z step.runs_on (subst (λ k. Runs now k z) number (to_now o.server.number z at)))
+        stays = λ z at in_term. subst (λ x. StaysIn (HasAll (has_applied o.server)) (has_applied x) x.role) (same_server i (settled o.server) z step.runs_on (subst (λ k. RunsAs now k z) number (to_now o.server.number z at)))
             (subst (StaysIn (HasAll (has_applied o.server)) (has_applied o.server)) (sym serves) (λ slot is. is));
       }
 
@@ -519,7 +519,7 @@ module _ (setup : Setup) (history : History) (h : Happening) (t : Traced setup h
     answered = λ k a at. next_answered k a (ap (λ g. slice_get g.answered k) (sym same) ∙ at);
   }
 
-opening_reads : (setup : Setup) (i : ℕ) (s : Server) → Runs (opening setup) i s → (s.reads ≡ []) × RoleReads s.role s.reads
+opening_reads : (setup : Setup) (i : ℕ) (s : Server) → RunsAs (opening setup) i s → (s.reads ≡ []) × RoleReads s.role s.reads
 unfolding first_leader restarted
 opening_reads setup i s at = opened setup (λ x. (x.reads ≡ []) × RoleReads x.role x.reads) (refl, tt) (λ k. (refl, refl)) i s at
 

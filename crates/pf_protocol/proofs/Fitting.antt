@@ -29,11 +29,11 @@ use Rattle.pf_entry.proofs.Merging.{was_taken, base_below_first}
 use Rattle.pf_entry.proofs.Cases.{by_test}
 use Rattle.pf_entry.proofs.Ranges.{range_cases}
 use Rattle.pf_protocol.specs.Servers.{Setup, Leader, Role, Follower, Candidate, Merging, Serving, Server, Condition, Running, Stopped, Unformatted, Read, upto, climb, has_applied}
-use Rattle.pf_protocol.specs.Outcomes.{Outcome, to_one, to_others, others, sends, nothing, refused, raise_term}
+use Rattle.pf_protocol.specs.Outcomes.{Outcome, to_one, to_others, others, sends, nothing, only_answers, raise_term}
 use Rattle.pf_protocol.specs.Saving.{changed, is_short_of, trimmed, on_checkpoint, applied_op, on_finish, on_give_back}
 use Rattle.pf_protocol.proofs.Knowing.{retained, applied_to_upto, tied_same}
 use Rattle.pf_protocol.proofs.Rows.{base_below_upto}
-use Rattle.pf_protocol.specs.Leading.{op_of, op_at, look_behind, acknowledged, all_acknowledged, new_entry, submitted, on_submit, on_fetch, on_elect, resent_entry, resent, on_resend, merged, led, still_merging, other_acked, on_vote, has_acked, knows, is_own, commit_to, counted, marked, mark, on_ack, confirm, on_probe_ok}
+use Rattle.pf_protocol.specs.Leading.{op_of, op_at, look_behind, acknowledged, all_acknowledged, new_entry, submitted, on_submit, on_fetch, on_elect, resent_entry, resent, on_resend, merged, led, still_merging, other_acked, on_vote, has_acked, knows, is_own, commit_to, counted, commit_own, commit, on_ack, confirm, on_probe_ok}
 use Rattle.pf_protocol.specs.Following.{meets_term, ack, nack, on_request_vote, accepted, on_accept, on_nack, on_commit, on_probe, installed, on_image}
 use Rattle.pf_protocol.specs.Rows.{on_message}
 use Rattle.pf_protocol.specs.declared.answers.Answer.{Answer}
@@ -324,7 +324,7 @@ module _ (setup : Setup) (n t : ℕ) (s : Server) (fits : ServerFits setup n t s
   nothing_fits : Fits setup (suc n) t (nothing s)
   nothing_fits = sends_fit [] tt
 
-  refused_fits : (answer : Answer) → Fits setup (suc n) t (refused s answer)
+  refused_fits : (answer : Answer) → Fits setup (suc n) t (only_answers s answer)
   refused_fits answer = record { server = more; packets = tt }
 
   -- the same server but for its role, reads and marks
@@ -811,7 +811,7 @@ module _ (setup : Setup) (n t : ℕ) (s : Server) (fits : ServerFits setup n t s
   merging_fits l f = by_test (list_all (other_acked l s.number) (range_with_len (suc l.b0) (l.first - suc l.b0))) (λ c. RoleFits setup (suc n) t s.durable.base (if c then Serving l else Merging l)) (λ _. f) (λ _. f)
 
   ack_row_fits : (from term slot upto_there : ℕ) → from < 3 → s.number ≢ from → upto_there ≤ n → (role : Role) → RoleFits setup n t s.durable.base role → Fits setup (suc n) t (on_ack s from term slot upto_there role)
-  unfolding on_ack marked
+  unfolding on_ack commit_own
   ack_row_fits from term slot upto_there below apart low Follower is = nothing_fits
   ack_row_fits from term slot upto_there below apart low (Candidate own) is = nothing_fits
   ack_row_fits from term slot upto_there below apart low (Merging l) is = either_fits setup (suc n) t (term == s.durable.term) _ _
@@ -895,7 +895,7 @@ module _ (setup : Setup) (n t : ℕ) (s : Server) (fits : ServerFits setup n t s
 
   -- every message
   pub message_fits : (from term : ℕ) (body : Body) → from < 3 → s.number ≢ from → 1 ≤ term → term ≤ t → BodyFits setup n t term body → Fits setup (suc n) t (on_message setup s from term body)
-  unfolding on_message on_nack on_commit mark on_probe
+  unfolding on_message on_nack on_commit commit on_probe
   message_fits from term (RequestVote base) below apart some low f = request_vote_fits from term base below apart low
   message_fits from term (Vote v) below apart some low f = vote_fits term v f s.role fits.role
   message_fits from term (Accept e) below apart some low f = accept_fits from e below apart f.0

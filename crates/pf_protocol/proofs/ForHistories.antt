@@ -7,7 +7,7 @@ pub use Rattle.pf_protocol.proofs.Making.{accepted_proposed}
 pub use Rattle.pf_protocol.proofs.Origins.{source_of}
 pub use Rattle.pf_protocol.proofs.Facts.{accepted_is_kept, held_is_within, start_is_kept}
 -- a committed mark stands on a chosen op
-pub use Rattle.pf_protocol.proofs.Facts.{marks_stand}
+pub use Rattle.pf_protocol.proofs.Facts.{committed_stand}
 -- applied slots are chosen and the sectors are their ops in slot order: at running servers, on disks, in packets with an image
 pub use Rattle.pf_protocol.proofs.Facts.{servers_covered, disks_covered, images_covered}
 -- each sector holds what its last applied writer wrote: at running servers, on disks, in packets with an image

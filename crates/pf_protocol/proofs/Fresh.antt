@@ -22,7 +22,7 @@ use Rattle.pf_protocol.specs.Servers.{Setup, Leader, Serving, Read, Server, Runn
 use Rattle.pf_protocol.specs.Leading.{op_of, op_at, has_acked}
 use Rattle.pf_protocol.specs.Rows.{is_ready}
 use Rattle.pf_protocol.specs.Groups.{Acked, Answered}
-use Rattle.pf_protocol.specs.Histories.{History, IsPrefix, replay, Runs, IsChosen}
+use Rattle.pf_protocol.specs.Histories.{History, IsPrefix, replay, RunsAs, IsChosen}
 use Rattle.pf_protocol.specs.Kept.{IsPassed, IsCovered}
 use Rattle.pf_protocol.specs.Fresh.{shows, HasIfOverlaps, IsFresh}
 use Rattle.pf_protocol.proofs.Law.{share, kept_at}
@@ -75,7 +75,7 @@ sooner setup a b history p q less =
     ]
 
 -- once a read is confirmed, no leader of a higher term had led when it was taken up
-no_higher : (setup : Setup) (history : History) (i term number : ℕ) (z : Server) → Confirmed setup history i term number → Runs (replay setup history) i z → z.durable.term ≡ term → (x : History) → IsPrefix x history → (replay setup x).reads ≤ number → (k : ℕ) (w : Server) (l : Leader) → Runs (replay setup x) k w → w.role ≡ Serving l → w.durable.term ≤ term
+no_higher : (setup : Setup) (history : History) (i term number : ℕ) (z : Server) → Confirmed setup history i term number → RunsAs (replay setup history) i z → z.durable.term ≡ term → (x : History) → IsPrefix x history → (replay setup x).reads ≤ number → (k : ℕ) (w : Server) (l : Leader) → RunsAs (replay setup x) k w → w.role ≡ Serving l → w.durable.term ≤ term
 no_higher setup history i term number z c runs in_term x p low k w l led serves =
     elim (cases_lt term w.durable.term) [
       | inl higher ↦ absurd (contradiction higher)
@@ -109,7 +109,7 @@ no_higher setup history i term number z c runs in_term x p low k w l led serves 
 abbrev Knows : Server → ℕ → Op → Type 0
 Knows z slot op = (has_applied z slot ≡ true) ⊎ ((e : Entry) × (FinMap.get z.durable.log slot ≡ Some e) × (Sets.contains z.committed slot ≡ true) × (e.op ≡ op))
 
-module _ (setup : Setup) (before history : History) (p : IsPrefix before history) (i : ℕ) (z : Server) (l : Leader) (runs : Runs (replay setup before) i z) (serves : z.role ≡ Serving l) where
+module _ (setup : Setup) (before history : History) (p : IsPrefix before history) (i : ℕ) (z : Server) (l : Leader) (runs : RunsAs (replay setup before) i z) (serves : z.role ≡ Serving l) where
   pub marks : AckMarks i z.durable.base z.committed l × AllAcked i l
   marks = subst (RoleMarks i z.durable.base z.committed) serves ((told setup before).follows.servers i (Running z) runs).1.knows.marks
 
@@ -253,7 +253,7 @@ module _ (setup : Setup) (history : History) (k : ℕ) (a : Answered) (x : WasRe
       ]
 
   -- no leader by then was of a higher term
-  leader_low : (y : History) → IsPrefix y before → (j : ℕ) (w : Server) (l : Leader) → Runs (replay setup y) j w → w.role ≡ Serving l → w.durable.term ≤ x.waits.server.durable.term
+  leader_low : (y : History) → IsPrefix y before → (j : ℕ) (w : Server) (l : Leader) → RunsAs (replay setup y) j w → w.role ≡ Serving l → w.durable.term ≤ x.waits.server.durable.term
   leader_low y p j w l led serves =
       omega (
         arith,

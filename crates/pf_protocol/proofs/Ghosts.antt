@@ -21,7 +21,7 @@ use Rattle.pf_protocol.specs.declared.answers.Refusal.TheVariants.{NoneFree}
 use Rattle.pf_protocol.specs.declared.events.Event.TheVariants.{Submit, Deliver, Elect, Stop, Restart, Claim, Finish}
 use Rattle.pf_protocol.specs.Servers.{Leader, Server, Candidate, Merging, Serving, Running, Stopped, upto}
 use Rattle.pf_protocol.specs.Outcomes.{Outcome, sends}
-use Rattle.pf_protocol.specs.Leading.{on_submit, submitted, new_entry, look_behind, op_at, acknowledged, all_acknowledged, on_elect, on_vote, merged, led, on_ack, counted, marked}
+use Rattle.pf_protocol.specs.Leading.{on_submit, submitted, new_entry, look_behind, op_at, acknowledged, all_acknowledged, on_elect, on_vote, merged, led, on_ack, counted, commit_own}
 use Rattle.pf_protocol.specs.Following.{on_request_vote, on_accept, accepted}
 use Rattle.pf_protocol.specs.Saving.{restarted, renewed, is_claimable, claimable, claimed, on_finish, applied_op, changed, snapshots_after}
 use Rattle.pf_protocol.specs.Rows.{on_message, on_packet, settled}
@@ -304,7 +304,7 @@ module _ (first second third fourth fifth sixth : Sector) where
   b4 = record b3 { role = Serving l6; committed = Sets.insert b3.committed 1 }
 
   rule_12 : on_packet small_group b3 (packet 2 1 2 (Ack 1 0)) ≡ record { server = b4; packets = packet 1 2 2 (Commit 1) ∷ []; answer = Done; acked = None }
-  unfolding on_packet on_message on_ack marked counted acknowledged restarted opening_disk stored put_entry put_entries holds led all_acknowledged
+  unfolding on_packet on_message on_ack commit_own counted acknowledged restarted opening_disk stored put_entry put_entries holds led all_acknowledged
   rule_12 = simp gets
 
   room_12 : room_refusal g11 (record { server = b4; packets = packet 1 2 2 (Commit 1) ∷ []; answer = Done; acked = None }) ≡ None
@@ -400,7 +400,7 @@ module _ (first second third fourth fifth sixth : Sector) where
   b7 = record b6 { role = Serving l8; committed = Sets.insert b6.committed 2 }
 
   rule_17 : on_packet small_group b6 (packet 2 1 2 (Ack 2 0)) ≡ record { server = b7; packets = packet 1 2 2 (Commit 2) ∷ []; answer = Done; acked = Some 2 }
-  unfolding on_packet on_message on_ack marked counted acknowledged restarted opening_disk stored put_entry put_entries holds led all_acknowledged
+  unfolding on_packet on_message on_ack commit_own counted acknowledged restarted opening_disk stored put_entry put_entries holds led all_acknowledged
   rule_17 = simp gets
 
   room_17 : room_refusal g16 (record { server = b7; packets = packet 1 2 2 (Commit 2) ∷ []; answer = Done; acked = Some 2 }) ≡ None
@@ -583,7 +583,7 @@ module _ (first second third fourth fifth sixth : Sector) where
   b11 = record b10 { role = Merging l10; committed = Sets.insert b10.committed 1 }
 
   rule_26 : on_packet small_group b10 (packet 0 1 3 (Ack 1 0)) ≡ record { server = b11; packets = packet 1 0 3 (Commit 1) ∷ []; answer = Done; acked = None }
-  unfolding on_packet on_message on_ack marked counted acknowledged restarted opening_disk stored put_entry put_entries holds led all_acknowledged
+  unfolding on_packet on_message on_ack commit_own counted acknowledged restarted opening_disk stored put_entry put_entries holds led all_acknowledged
   rule_26 = simp gets
 
   room_26 : room_refusal g25 (record { server = b11; packets = packet 1 0 3 (Commit 1) ∷ []; answer = Done; acked = None }) ≡ None
@@ -605,7 +605,7 @@ module _ (first second third fourth fifth sixth : Sector) where
   b12 = record b11 { role = Serving l11; committed = Sets.insert b11.committed 2 }
 
   rule_27 : on_packet small_group b11 (packet 0 1 3 (Ack 2 0)) ≡ record { server = b12; packets = packet 1 0 3 (Commit 2) ∷ []; answer = Done; acked = None }
-  unfolding on_packet on_message on_ack marked counted acknowledged restarted opening_disk stored put_entry put_entries holds led all_acknowledged
+  unfolding on_packet on_message on_ack commit_own counted acknowledged restarted opening_disk stored put_entry put_entries holds led all_acknowledged
   rule_27 = simp gets
 
   room_27 : room_refusal g26 (record { server = b12; packets = packet 1 0 3 (Commit 2) ∷ []; answer = Done; acked = None }) ≡ None

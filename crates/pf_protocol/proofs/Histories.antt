@@ -14,7 +14,7 @@ use Rattle.pf_protocol.proofs.Keeping.{holds_is}
 use Rattle.pf_protocol.specs.Servers.{Setup, Leader, Role, Follower, Candidate, Merging, Serving, Server, Running, Stopped, has_applied}
 use Rattle.pf_protocol.specs.Kept.{MayHold, Now, Without, With}
 use Rattle.pf_protocol.specs.Groups.{Sent, Group, ending, happens, opening}
-use Rattle.pf_protocol.specs.Histories.{History, IsPrefix, run, replay, Runs, Holds, HasAccepted, IsProposal, IsChosen}
+use Rattle.pf_protocol.specs.Histories.{History, IsPrefix, run, replay, RunsAs, Holds, HasAccepted, IsProposal, IsChosen}
 use Rattle.pf_protocol.specs.declared.events.Happening.{Happening}
 use Rattle.pf_protocol.specs.Safety.{OneLeader, leads, Agrees, AppliesInOrder, KeepsAcknowledged, IsSafe}
 use Rattle.pf_entry.proofs.Lists.{every_get}
@@ -47,9 +47,9 @@ pub record LedBy (b : Ballots) (i term : ℕ) (l : Leader) : Type 0 where
 
 -- the votes of candidates, those that were sent, and what leaders merged
 pub record Stands (g : Group) (b : Ballots) : Type 0 where
-  pub own : (i : ℕ) (s : Server) (own : VoteLog) → Runs g i s → s.role ≡ Candidate own → (i < 3) × (s.number ≡ i) × (b.vote i s.durable.term ≡ Some (record { to = i; log = own }))
+  pub own : (i : ℕ) (s : Server) (own : VoteLog) → RunsAs g i s → s.role ≡ Candidate own → (i < 3) × (s.number ≡ i) × (b.vote i s.durable.term ≡ Some (record { to = i; log = own }))
   pub sent : (k : ℕ) (sent : Sent) (v : VoteLog) → slice_get g.packets k ≡ Some sent → sent.packet.body ≡ Vote v → (sent.packet.from < 3) × (sent.packet.from ≢ sent.packet.to) × (b.vote sent.packet.from sent.packet.term ≡ Some (record { to = sent.packet.to; log = v }))
-  pub leads : (i : ℕ) (s : Server) (l : Leader) → Runs g i s → (s.role ≡ Merging l) ⊎ (s.role ≡ Serving l) → LedBy b i s.durable.term l
+  pub leads : (i : ℕ) (s : Server) (l : Leader) → RunsAs g i s → (s.role ≡ Merging l) ⊎ (s.role ≡ Serving l) → LedBy b i s.durable.term l
   pub starts : (i : ℕ) (d : Durable) (t first : ℕ) → MayHold g i d → FinMap.get d.starts t ≡ Some first → IsStart b.ballot t first
 
 -- ballots that go with a whole run, and with each moment of it
@@ -171,7 +171,7 @@ pub held_at_end : (setup : Setup) (history : History) (i : ℕ) (e : Entry) → 
 held_at_end setup history i e a = (told setup history).held a.earlier a.is_earlier.rest a.is_earlier.whole i e a.holds
 
 -- no held entry's term is above its server's
-pub entries_within : (setup : Setup) (history : History) (i : ℕ) (s : Server) (slot : ℕ) (e : Entry) → Runs (replay setup history) i s → FinMap.get s.durable.log slot ≡ Some e → (e.slot ≡ slot) × (e.term ≤ s.durable.term)
+pub entries_within : (setup : Setup) (history : History) (i : ℕ) (s : Server) (slot : ℕ) (e : Entry) → RunsAs (replay setup history) i s → FinMap.get s.durable.log slot ≡ Some e → (e.slot ≡ slot) × (e.term ≤ s.durable.term)
 entries_within setup history i s slot e at held =
     let t = told setup history in
     let x = (t.follows.servers i (Running s) at).1 in
@@ -262,7 +262,7 @@ agrees setup history = record {
 }
 
 -- each applied slot has a chosen op
-pub applied_chosen : (setup : Setup) (history : History) (i : ℕ) (s : Server) (slot : ℕ) → Runs (replay setup history) i s → 0 < slot → has_applied s slot ≡ true → (t : ℕ) × ((op : Op) × IsChosen setup history slot t op)
+pub applied_chosen : (setup : Setup) (history : History) (i : ℕ) (s : Server) (slot : ℕ) → RunsAs (replay setup history) i s → 0 < slot → has_applied s slot ≡ true → (t : ℕ) × ((op : Op) × IsChosen setup history slot t op)
 applied_chosen setup history i s slot at above is =
     let k = ((told setup history).follows.servers i (Running s) at).1.knows.applied.known slot above is in
     let c = known_in_history setup history slot s.durable.term k.op k.chosen in
@@ -320,7 +320,7 @@ one_entry setup history i j a b x y slot term =
     same_Some a b (sym p ∙ ap (λ s. f s a.term) slot ∙ ap (f b.slot) term ∙ q)
 
 -- the leader of a term at any moment
-led_at : (setup : Setup) (history earlier : History) → IsPrefix earlier history → (i : ℕ) (s : Server) (role : Role) → Runs (replay setup earlier) i s → s.role ≡ role → leads role ≡ true → (m : Ballot) × ((told setup history).ballots.ballot s.durable.term ≡ Some m) × (m.leader ≡ i)
+led_at : (setup : Setup) (history earlier : History) → IsPrefix earlier history → (i : ℕ) (s : Server) (role : Role) → RunsAs (replay setup earlier) i s → s.role ≡ role → leads role ≡ true → (m : Ballot) × ((told setup history).ballots.ballot s.durable.term ≡ Some m) × (m.leader ≡ i)
 led_at setup history earlier p i s Follower at is role = absurd (grind arith)
 led_at setup history earlier p i s (Candidate own) at is role = absurd (grind arith)
 led_at setup history earlier p i s (Merging l) at is role = let x = ((told setup history).stood earlier p.rest p.whole).leads i s l at (inl is) in (x.merge, x.is, x.leader)

@@ -21,7 +21,7 @@ use Rattle.pf_protocol.specs.declared.answers.Refusal.TheVariants.{NotLeader, No
 use Rattle.pf_protocol.specs.declared.events.Event.TheVariants.{Submit, Deliver, Elect, Stop, Claim, Finish}
 use Rattle.pf_protocol.specs.Servers.{Leader, Server, Candidate, Merging, Serving, Running, Stopped, upto}
 use Rattle.pf_protocol.specs.Outcomes.{Outcome, sends}
-use Rattle.pf_protocol.specs.Leading.{on_submit, submitted, new_entry, look_behind, op_at, acknowledged, all_acknowledged, on_elect, on_vote, merged, led, on_ack, counted, marked}
+use Rattle.pf_protocol.specs.Leading.{on_submit, submitted, new_entry, look_behind, op_at, acknowledged, all_acknowledged, on_elect, on_vote, merged, led, on_ack, counted, commit_own}
 use Rattle.pf_protocol.specs.Following.{on_request_vote, on_accept, accepted}
 use Rattle.pf_protocol.specs.Saving.{restarted, renewed, is_claimable, claimable, claimed, on_finish, applied_op, changed, snapshots_after}
 use Rattle.pf_protocol.specs.Rows.{on_message, on_packet, settled}
@@ -220,7 +220,7 @@ module _ (first second : Sector) where
   b4 = record b3 { role = Serving l3; committed = Sets.insert b3.committed 1 }
 
   rule_9 : on_packet small_group b3 (packet 2 1 2 (Ack 1 0)) ≡ record { server = b4; packets = packet 1 2 2 (Commit 1) ∷ []; answer = Done; acked = None }
-  unfolding on_packet on_message on_ack marked counted acknowledged restarted opening_disk stored put_entry put_entries holds led all_acknowledged
+  unfolding on_packet on_message on_ack commit_own counted acknowledged restarted opening_disk stored put_entry put_entries holds led all_acknowledged
   rule_9 = simp gets
 
   room_9 : room_refusal g8 (record { server = b4; packets = packet 1 2 2 (Commit 1) ∷ []; answer = Done; acked = None }) ≡ None

@@ -21,7 +21,7 @@ use Rattle.pf_protocol.specs.declared.answers.Refusal.TheVariants.{NoneFree}
 use Rattle.pf_protocol.specs.declared.events.Event.TheVariants.{Submit, Deliver, Elect, Stop, Restart, Claim, Finish}
 use Rattle.pf_protocol.specs.Servers.{Leader, Server, Candidate, Merging, Serving, Running, Stopped, upto}
 use Rattle.pf_protocol.specs.Outcomes.{Outcome, sends}
-use Rattle.pf_protocol.specs.Leading.{on_submit, submitted, new_entry, look_behind, op_at, acknowledged, all_acknowledged, on_elect, on_vote, merged, led, on_ack, counted, marked}
+use Rattle.pf_protocol.specs.Leading.{on_submit, submitted, new_entry, look_behind, op_at, acknowledged, all_acknowledged, on_elect, on_vote, merged, led, on_ack, counted, commit_own}
 use Rattle.pf_protocol.specs.Following.{on_request_vote, on_accept, accepted}
 use Rattle.pf_protocol.specs.Saving.{restarted, renewed, is_claimable, claimable, claimed, on_finish, applied_op, changed, snapshots_after}
 use Rattle.pf_protocol.specs.Rows.{on_message, on_packet, settled}
@@ -235,7 +235,7 @@ module _ (first second third fourth : Sector) where
   b3 = record b2 { role = Serving l4; committed = Sets.insert b2.committed 1 }
 
   rule_9 : on_packet small_group b2 (packet 2 1 2 (Ack 1 0)) ≡ record { server = b3; packets = packet 1 2 2 (Commit 1) ∷ []; answer = Done; acked = None }
-  unfolding on_packet on_message on_ack marked counted acknowledged restarted opening_disk stored put_entry put_entries holds led all_acknowledged
+  unfolding on_packet on_message on_ack commit_own counted acknowledged restarted opening_disk stored put_entry put_entries holds led all_acknowledged
   rule_9 = simp gets
 
   room_9 : room_refusal g8 (record { server = b3; packets = packet 1 2 2 (Commit 1) ∷ []; answer = Done; acked = None }) ≡ None
@@ -356,7 +356,7 @@ module _ (first second third fourth : Sector) where
   b7 = record b6 { role = Serving l7; committed = Sets.insert b6.committed 3 }
 
   rule_15 : on_packet small_group b6 (packet 2 1 2 (Ack 3 0)) ≡ record { server = b7; packets = packet 1 2 2 (Commit 3) ∷ []; answer = Done; acked = Some 3 }
-  unfolding on_packet on_message on_ack marked counted acknowledged restarted opening_disk stored put_entry put_entries holds led all_acknowledged
+  unfolding on_packet on_message on_ack commit_own counted acknowledged restarted opening_disk stored put_entry put_entries holds led all_acknowledged
   rule_15 = simp gets
 
   room_15 : room_refusal g14 (record { server = b7; packets = packet 1 2 2 (Commit 3) ∷ []; answer = Done; acked = Some 3 }) ≡ None

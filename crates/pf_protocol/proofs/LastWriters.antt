@@ -11,7 +11,7 @@ use Rattle.pf_entry.specs.Records.{Durable}
 use Rattle.pf_entry.specs.declared.packets.Body.TheVariants.{Image}
 use Rattle.pf_protocol.specs.Servers.{Setup, Server, has_applied}
 use Rattle.pf_protocol.specs.Groups.{Sent}
-use Rattle.pf_protocol.specs.Histories.{History, replay, Runs, IsChosen}
+use Rattle.pf_protocol.specs.Histories.{History, replay, RunsAs, IsChosen}
 use Rattle.pf_protocol.specs.Kept.{MayHold, IsCovered}
 use Rattle.pf_protocol.specs.LastWriters.{bytes_for, HoldLastWrites}
 use Rattle.pf_protocol.proofs.Histories.{one_chosen_op}
@@ -82,7 +82,7 @@ module _ (setup : Setup) (history : History) (term : ℕ) (done : ℕ → Bool) 
   }
 
 module _ (setup : Setup) (history : History) where
-  pub servers_hold : (i : ℕ) (s : Server) → Runs (replay setup history) i s → HoldLastWrites setup history (has_applied s) s.sectors
+  pub servers_hold : (i : ℕ) (s : Server) → RunsAs (replay setup history) i s → HoldLastWrites setup history (has_applied s) s.sectors
   servers_hold i s at = let n = applied_bound s.durable.base s.applied in hold_last setup history s.durable.term (has_applied s) s.sectors (servers_covered setup history i s at) n.0 n.1
 
   pub disks_hold : (i : ℕ) (d : Durable) → MayHold (replay setup history) i d → HoldLastWrites setup history (is_applied d.base d.saved) d.sectors

@@ -28,7 +28,7 @@ use Rattle.pf_protocol.specs.Outcomes.{Outcome}
 use Rattle.pf_protocol.specs.Leading.{on_submit, on_fetch, on_elect, on_resend, op_at, op_of}
 use Rattle.pf_protocol.specs.Saving.{renewed, restarted, claimed, claimable, is_claimable, on_checkpoint, on_finish, on_give_back}
 use Rattle.pf_protocol.specs.Rows.{on_packet, settled}
-use Rattle.pf_protocol.specs.Groups.{Sent, Group, Ending, Whole, CutOff, Missed, Untouched, send, acted, cut_off, ended, step_of, at_server, with_sent, marked_in, delivered, lost, stopped, begun, restart, claim_of, claim_at, claim_or, first_claim, only, counted_election, ending, ending_of, reads_after, happens, opening, unless_failed, first_leader, opening_disk}
+use Rattle.pf_protocol.specs.Groups.{Sent, Group, Ending, Whole, CutOff, Missed, Untouched, send, acted, cut_off, ended, step_of, at_server, with_sent, delivered_in, delivered, lost, stopped, begun, restart, claim_of, claim_at, claim_or, first_claim, only, counted_election, ending, ending_of, reads_after, happens, opening, unless_failed, first_leader, opening_disk}
 use Rattle.pf_protocol.specs.Histories.{History, replay}
 use Rattle.pf_protocol.specs.Answers.{refuse, room_refusal, half_size, most_elections, is_serving, window_full, is_mark, submit_refusal, elect_refusal, Turn, submit_turn, elect_turn, answer_by, answer_at, halts_at, answer_to, may_halt, IsAnswer, Claimed, claims_after, IsSubmitted, MayHappen, IsLegalFrom, IsSetup, IsLegal}
 use Rattle.pf_protocol.specs.Fitting.{OpFits, SlotFits, DurableFits, ServerFits, ConditionFits, PacketFits, GroupFits, FitsFrom}
@@ -341,23 +341,23 @@ module _ (setup : Setup) (top n : ℕ) (g : Group) (fits : FitsFrom setup top n 
     reads = wide.reads;
   }
 
-  marked_fits : (how : Ending) (k : ℕ) (p : Sent) → slice_get g.packets k ≡ Some p → Wide setup top n (marked_in how g k p)
-  marked_fits Whole k p at = with_fits k p _ at refl
-  marked_fits CutOff k p at = with_fits k p _ at refl
-  marked_fits Missed k p at = with_fits k p _ at refl
-  marked_fits Untouched k p at = wide
+  delivery_fits : (how : Ending) (k : ℕ) (p : Sent) → slice_get g.packets k ≡ Some p → Wide setup top n (delivered_in how g k p)
+  delivery_fits Whole k p at = with_fits k p _ at refl
+  delivery_fits CutOff k p at = with_fits k p _ at refl
+  delivery_fits Missed k p at = with_fits k p _ at refl
+  delivery_fits Untouched k p at = wide
 
-  marked_servers : (how : Ending) (k : ℕ) (p : Sent) → (marked_in how g k p).servers ≡ g.servers
-  marked_servers Whole k p = refl
-  marked_servers CutOff k p = refl
-  marked_servers Missed k p = refl
-  marked_servers Untouched k p = refl
+  delivery_servers : (how : Ending) (k : ℕ) (p : Sent) → (delivered_in how g k p).servers ≡ g.servers
+  delivery_servers Whole k p = refl
+  delivery_servers CutOff k p = refl
+  delivery_servers Missed k p = refl
+  delivery_servers Untouched k p = refl
 
-  marked_elections : (how : Ending) (k : ℕ) (p : Sent) → (marked_in how g k p).elections ≡ g.elections
-  marked_elections Whole k p = refl
-  marked_elections CutOff k p = refl
-  marked_elections Missed k p = refl
-  marked_elections Untouched k p = refl
+  delivery_elections : (how : Ending) (k : ℕ) (p : Sent) → (delivered_in how g k p).elections ≡ g.elections
+  delivery_elections Whole k p = refl
+  delivery_elections CutOff k p = refl
+  delivery_elections Missed k p = refl
+  delivery_elections Untouched k p = refl
 
   lost_fits : (k : ℕ) (o : Option Sent) → slice_get g.packets k ≡ o → FitsFrom setup top (suc n) (lost g k o)
   lost_fits k None at = idle setup top n g wide
@@ -367,13 +367,13 @@ module _ (setup : Setup) (top n : ℕ) (g : Group) (fits : FitsFrom setup top n 
   unfolding on_packet
   deliver_fits known how k None at = idle setup top n g wide
   deliver_fits known how k (Some p) at =
-      let z = marked_in how g k p in
+      let z = delivered_in how g k p in
       let f = every_get (λ sent. PacketFits setup n (suc (top + g.elections)) sent.packet) g.packets k p fits.packets at in
       by_test p.lost (λ c. FitsFrom setup top (suc n) (if c then g else at_server how z p.packet.to (λ s. on_packet setup s p.packet)))
       (λ _. idle setup top n g wide)
-      (λ _. server_fits setup top n z (marked_fits how k p at) how p.packet.to (λ s. on_packet setup s p.packet) (λ s runs.
-      let at_s = ap (λ x. slice_get x p.packet.to) (sym (marked_servers how k p)) ∙ runs in
-      inl (subst (λ t. Fits setup (suc n) (suc (top + t)) (on_packet setup s p.packet)) (sym (marked_elections how k p))
+      (λ _. server_fits setup top n z (delivery_fits how k p at) how p.packet.to (λ s. on_packet setup s p.packet) (λ s runs.
+      let at_s = ap (λ x. slice_get x p.packet.to) (sym (delivery_servers how k p)) ∙ runs in
+      inl (subst (λ t. Fits setup (suc n) (suc (top + t)) (on_packet setup s p.packet)) (sym (delivery_elections how k p))
       (message_fits setup n (suc (top + g.elections)) s (fits.servers p.packet.to (Running s) at_s).1 p.packet.from p.packet.term p.packet.body f.from (λ same. f.apart (sym same ∙ known.number p.packet.to s at_s)) f.term f.term_low f.body))))
 
   at_fits : (i : ℕ) (s : Server) → slice_get g.servers i ≡ Some (Running s) → ServerFits setup n (suc (top + g.elections)) s

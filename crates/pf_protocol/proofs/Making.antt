@@ -24,8 +24,8 @@ use Rattle.pf_entry.specs.Merging.{merged_first, merged_entry, merged_entries}
 use Rattle.pf_entry.proofs.Cases.{by_test}
 use Rattle.pf_entry.proofs.Ranges.{range_cases, range_has}
 use Rattle.pf_protocol.specs.Servers.{Setup, Leader, Role, Follower, Candidate, Merging, Serving, Server, Condition, Running, Stopped, Unformatted, upto}
-use Rattle.pf_protocol.specs.Outcomes.{Outcome, to_one, to_others, others, sends, nothing, refused, raise_term}
-use Rattle.pf_protocol.specs.Leading.{new_entry, submitted, on_submit, on_fetch, on_elect, resent_entry, resent, on_resend, merged, led, still_merging, other_acked, on_vote, has_acked, knows, is_own, commit_to, counted, marked, mark, on_ack, on_probe_ok}
+use Rattle.pf_protocol.specs.Outcomes.{Outcome, to_one, to_others, others, sends, nothing, only_answers, raise_term}
+use Rattle.pf_protocol.specs.Leading.{new_entry, submitted, on_submit, on_fetch, on_elect, resent_entry, resent, on_resend, merged, led, still_merging, other_acked, on_vote, has_acked, knows, is_own, commit_to, counted, commit_own, commit, on_ack, on_probe_ok}
 use Rattle.pf_protocol.specs.Following.{meets_term, ack, nack, on_request_vote, accepted, on_accept, on_nack, on_commit, on_probe, installed, on_image}
 use Rattle.pf_protocol.specs.Rows.{on_message, on_packet, settled}
 use Rattle.pf_protocol.specs.Saving.{claimed, renewed, is_short_of, restarted, trimmed, on_checkpoint, applied_op, on_finish, on_give_back}
@@ -33,8 +33,8 @@ use Rattle.pf_protocol.specs.declared.answers.Answer.{Answer}
 use Rattle.pf_protocol.specs.declared.events.Event.{Event}
 use Rattle.pf_protocol.specs.declared.events.Event.TheVariants.{Submit, Fetch, Deliver, Lose, Elect, Resend, Stop, Restart, Claim, Finish, GiveBack, Checkpoint}
 use Rattle.pf_protocol.specs.declared.events.Happening.{Happening}
-use Rattle.pf_protocol.specs.Groups.{Sent, Group, Ending, Whole, CutOff, Missed, Untouched, TookPlace, send, acted, cut_off, ended, step_of, at_server, with_sent, marked_in, delivered, lost, stopped, begun, restart, claim_of, claim_at, claim_or, first_claim, only, counted_election, ending, happens, opening, unless_failed, first_leader, opening_disk}
-use Rattle.pf_protocol.specs.Histories.{History, IsPrefix, run, replay, Runs, HasAccepted, Made, Makes, BySubmit, ByMerge, IsProposal}
+use Rattle.pf_protocol.specs.Groups.{Sent, Group, Ending, Whole, CutOff, Missed, Untouched, TookPlace, send, acted, cut_off, ended, step_of, at_server, with_sent, delivered_in, delivered, lost, stopped, begun, restart, claim_of, claim_at, claim_or, first_claim, only, counted_election, ending, happens, opening, unless_failed, first_leader, opening_disk}
+use Rattle.pf_protocol.specs.Histories.{History, IsPrefix, run, replay, RunsAs, HasAccepted, Made, Makes, BySubmit, ByMerge, IsProposal}
 use Rattle.pf_protocol.proofs.Moments.{run_longer}
 
 -- what is in a log after a step was there, or is new
@@ -102,8 +102,8 @@ module _ (s : Server) (keyed : IsKeyed s.durable.log) (more : Entry → Type 0) 
   nothing_stems : Stems s more (nothing s)
   nothing_stems = same (nothing s) refl refl kept tt
 
-  refused_stems : (answer : Answer) → Stems s more (refused s answer)
-  refused_stems answer = same (refused s answer) refl refl kept tt
+  refused_stems : (answer : Answer) → Stems s more (only_answers s answer)
+  refused_stems answer = same (only_answers s answer) refl refl kept tt
 
   nack_stems : (to : ℕ) → Stems s more (nack s to)
   nack_stems to = same (nack s to) refl refl kept (tt, tt)
@@ -246,7 +246,7 @@ module _ (s : Server) (keyed : IsKeyed s.durable.log) (more : Entry → Type 0) 
   request_vote_stems from term base = either_stems s more (nat_le term s.durable.term || nat_lt base s.durable.base) _ _ (nack_stems from) (same (sends (raise_term s term) (to_one (raise_term s term) from (Vote (vote_of s.durable)) ∷ [])) refl refl tt (refl, tt))
 
   ack_stems : (from term slot upto_there : ℕ) (role : Role) → Stems s more (on_ack s from term slot upto_there role)
-  unfolding on_ack marked
+  unfolding on_ack commit_own
   ack_stems from term slot upto_there Follower = nothing_stems
   ack_stems from term slot upto_there (Candidate own) = nothing_stems
   ack_stems from term slot upto_there (Merging l) = either_stems s more (term == s.durable.term) _ _ (same _ refl refl (stands (counted l from slot upto_there)) (commit_carries l)) nothing_stems
@@ -266,7 +266,7 @@ module _ (s : Server) (keyed : IsKeyed s.durable.log) (more : Entry → Type 0) 
   nack_received term = same _ (met_number term) (met_log term) (met_role term) tt
 
   commit_stems : (term slot : ℕ) → Stems s more (on_commit s term slot)
-  unfolding on_commit mark
+  unfolding on_commit commit
   commit_stems term slot = either_stems s more (holds s.durable slot term) _ _ (same _ refl refl kept tt) nothing_stems
 
   probe_stems : (from term number : ℕ) → Stems s more (on_probe s from term number)
@@ -403,14 +403,14 @@ module _ (setup : Setup) (history : History) (h : Happening) (g : Group) (same_s
   changed i c is = record { servers = changed_server i c is; packets = old_packets }
 
   -- what a running server has in its log was accepted
-  accepted_now : (now : Group) → now ≡ replay setup (history ++ h ∷ []) → (i : ℕ) (s : Server) → Runs now i s → (slot : ℕ) (e : Entry) → e.slot ≡ slot → FinMap.get s.durable.log slot ≡ Some e → HasAccepted setup (history ++ h ∷ []) i e
+  accepted_now : (now : Group) → now ≡ replay setup (history ++ h ∷ []) → (i : ℕ) (s : Server) → RunsAs now i s → (slot : ℕ) (e : Entry) → e.slot ≡ slot → FinMap.get s.durable.log slot ≡ Some e → HasAccepted setup (history ++ h ∷ []) i e
   accepted_now now is i s runs slot e in_slot at = record {
     earlier = history ++ h ∷ [];
     is_earlier = record { rest = []; whole = append-nil (history ++ h ∷ []) };
     holds = record { server = s; runs = ap (λ x. slice_get x.servers i) (sym is) ∙ runs; held = ap (FinMap.get s.durable.log) in_slot ∙ at };
   }
 
-  settled_now : (now : Group) → now ≡ replay setup (history ++ h ∷ []) → (i : ℕ) (s : Server) → Runs now i s → (e : Entry) → e.slot ≡ e.slot → FinMap.get s.durable.log e.slot ≡ Some e → Newly i e → IsProposal setup (history ++ h ∷ []) e
+  settled_now : (now : Group) → now ≡ replay setup (history ++ h ∷ []) → (i : ℕ) (s : Server) → RunsAs now i s → (e : Entry) → e.slot ≡ e.slot → FinMap.get s.durable.log e.slot ≡ Some e → Newly i e → IsProposal setup (history ++ h ∷ []) e
   settled_now now is i s runs e same at new =
       elim new [
         | inl proposal ↦ proposal
@@ -418,7 +418,7 @@ module _ (setup : Setup) (history : History) (h : Happening) (g : Group) (same_s
       ]
 
   -- a server whose log comes from its old one, all of it recorded
-  has_now : (now : Group) → now ≡ replay setup (history ++ h ∷ []) → (i : ℕ) (s : Server) (log : Map Entry) → Runs now i s → Has (IsProposal setup history) log → From log (Newly i) s.durable.log → Has (IsProposal setup (history ++ h ∷ [])) s.durable.log
+  has_now : (now : Group) → now ≡ replay setup (history ++ h ∷ []) → (i : ℕ) (s : Server) (log : Map Entry) → RunsAs now i s → Has (IsProposal setup history) log → From log (Newly i) s.durable.log → Has (IsProposal setup (history ++ h ∷ [])) s.durable.log
   has_now now is i s log runs had from = record {
     keyed = λ slot e at. elim (from slot e at) [ inl old ↦ had.keyed slot e old | inr new ↦ new.0 ];
     each = λ slot e at. elim (from slot e at) [
@@ -548,8 +548,8 @@ module _ (setup : Setup) (history : History) (h : Happening) (g : Group) (same_s
   only_backs Untouched later is = unchanged
 
 -- a packet's marks are no part of what it says
-marked_backs : (setup : Setup) (history : History) (g : Group) → Backs setup history g → (k : ℕ) (p q : Sent) → slice_get g.packets k ≡ Some p → q.packet ≡ p.packet → Backs setup history (with_sent g k q)
-marked_backs setup history g backs k p q at same = record {
+delivery_backs : (setup : Setup) (history : History) (g : Group) → Backs setup history g → (k : ℕ) (p q : Sent) → slice_get g.packets k ≡ Some p → q.packet ≡ p.packet → Backs setup history (with_sent g k q)
+delivery_backs setup history g backs k p q at same = record {
   servers = backs.servers;
   packets = every_set (λ sent. IsSaid setup history sent.packet.body) g.packets k q backs.packets
       (subst (λ x. IsSaid setup history x.body) (sym same) (every_get (λ sent. IsSaid setup history sent.packet.body) g.packets k p backs.packets at));
@@ -557,19 +557,19 @@ marked_backs setup history g backs k p q at same = record {
 
 lost_backs : (setup : Setup) (history : History) (g : Group) → Backs setup history g → (k : ℕ) (o : Option Sent) → slice_get g.packets k ≡ o → Backs setup history (lost g k o)
 lost_backs setup history g backs k None at = backs
-lost_backs setup history g backs k (Some p) at = marked_backs setup history g backs k p _ at refl
+lost_backs setup history g backs k (Some p) at = delivery_backs setup history g backs k p _ at refl
 
-marked_in_backs : (setup : Setup) (history : History) (g : Group) → Backs setup history g → (how : Ending) (k : ℕ) (p : Sent) → slice_get g.packets k ≡ Some p → Backs setup history (marked_in how g k p)
-marked_in_backs setup history g backs Whole k p at = marked_backs setup history g backs k p _ at refl
-marked_in_backs setup history g backs CutOff k p at = marked_backs setup history g backs k p _ at refl
-marked_in_backs setup history g backs Missed k p at = marked_backs setup history g backs k p _ at refl
-marked_in_backs setup history g backs Untouched k p at = backs
+delivered_in_backs : (setup : Setup) (history : History) (g : Group) → Backs setup history g → (how : Ending) (k : ℕ) (p : Sent) → slice_get g.packets k ≡ Some p → Backs setup history (delivered_in how g k p)
+delivered_in_backs setup history g backs Whole k p at = delivery_backs setup history g backs k p _ at refl
+delivered_in_backs setup history g backs CutOff k p at = delivery_backs setup history g backs k p _ at refl
+delivered_in_backs setup history g backs Missed k p at = delivery_backs setup history g backs k p _ at refl
+delivered_in_backs setup history g backs Untouched k p at = backs
 
-marked_servers : (how : Ending) (g : Group) (k : ℕ) (p : Sent) → (marked_in how g k p).servers ≡ g.servers
-marked_servers Whole g k p = refl
-marked_servers CutOff g k p = refl
-marked_servers Missed g k p = refl
-marked_servers Untouched g k p = refl
+delivery_servers : (how : Ending) (g : Group) (k : ℕ) (p : Sent) → (delivered_in how g k p).servers ≡ g.servers
+delivery_servers Whole g k p = refl
+delivery_servers CutOff g k p = refl
+delivery_servers Missed g k p = refl
+delivery_servers Untouched g k p = refl
 
 election_servers : (how : Ending) (g : Group) → (counted_election how g).servers ≡ g.servers
 election_servers Whole g = refl
@@ -588,7 +588,7 @@ election_backs setup history g backs Missed = backs
 election_backs setup history g backs Untouched = backs
 
 -- this step made the entry
-made_now : (setup : Setup) (history : History) (h : Happening) → TookPlace (ending h.answer) → (i : ℕ) (e : Entry) (s : Server) → Runs (replay setup history) i s → Makes setup (replay setup history) i s h.event e → Made setup (history ++ h ∷ []) i e
+made_now : (setup : Setup) (history : History) (h : Happening) → TookPlace (ending h.answer) → (i : ℕ) (e : Entry) (s : Server) → RunsAs (replay setup history) i s → Makes setup (replay setup history) i s h.event e → Made setup (history ++ h ∷ []) i e
 made_now setup history h done i e s runs makes = record {
   done = done;
   earlier = history;
@@ -624,13 +624,13 @@ deliver_backs setup history g is backs k answer None at now = unchanged setup hi
 deliver_backs setup history g is backs k answer (Some p) at now =
     let h : Happening = record { event = Deliver k; answer = answer } in
     let how = ending answer in
-    let more = marked_in how g k p in
+    let more = delivered_in how g k p in
     let step = at_server how more p.packet.to (λ s. on_packet setup s p.packet) in
     by_test p.lost (λ c. p.lost ≡ c → (if c then g else step) ≡ replay setup (history ++ h ∷ []) → Backs setup (history ++ h ∷ []) (if c then g else step))
     (λ _ _ _. unchanged setup history h g (ap (λ x. x.servers) is) backs)
-    (λ _ kept after. at_server_backs setup history h more (marked_servers how g k p ∙ ap (λ x. x.servers) is) (marked_in_backs setup history g backs how k p at) how p.packet.to (λ s. on_packet setup s p.packet) after
+    (λ _ kept after. at_server_backs setup history h more (delivery_servers how g k p ∙ ap (λ x. x.servers) is) (delivered_in_backs setup history g backs how k p at) how p.packet.to (λ s. on_packet setup s p.packet) after
     (λ s runs keyed done. message_stems s keyed (Doubtful setup (history ++ h ∷ []) p.packet.to) setup p.packet.from p.packet.term p.packet.body
-    (packet_brings setup history g is k p answer done at kept (every_get (λ sent. IsSaid setup history sent.packet.body) g.packets k p backs.packets at) s (ap (λ x. slice_get x p.packet.to) (sym (marked_servers how g k p)) ∙ runs)))) refl now
+    (packet_brings setup history g is k p answer done at kept (every_get (λ sent. IsSaid setup history sent.packet.body) g.packets k p backs.packets at) s (ap (λ x. slice_get x p.packet.to) (sym (delivery_servers how g k p)) ∙ runs)))) refl now
 
 -- every event
 happens_backs : (setup : Setup) (history : History) (g : Group) → g ≡ replay setup history → Backs setup history g → (event : Event) (answer : Answer) → happens setup g event (ending answer) ≡ replay setup (history ++ record { event = event; answer = answer } ∷ []) → Backs setup (history ++ record { event = event; answer = answer } ∷ []) (happens setup g event (ending answer))

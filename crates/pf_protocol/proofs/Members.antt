@@ -4,7 +4,7 @@ use Rattle.std.specs.FinMap
 use Rattle.std.proofs.lemmas.Option.{same_Some}
 use Rattle.pf_entry.specs.declared.entries.Entry.{Entry}
 use Rattle.pf_protocol.specs.Servers.{Setup, Leader, Merging, Serving, Server, Condition, Running}
-use Rattle.pf_protocol.specs.Histories.{History, replay, Runs}
+use Rattle.pf_protocol.specs.Histories.{History, replay, RunsAs}
 use Rattle.pf_protocol.proofs.Knowing.{LeaderKnows, RoleKnows}
 use Rattle.pf_protocol.proofs.Follows.{IsLeader, RoleIs}
 use Rattle.pf_protocol.proofs.Rows.{own_entry}
@@ -14,11 +14,11 @@ module _ (setup : Setup) (history : History) where
   pub is_member : (i : ℕ) (c : Condition) → slice_get (replay setup history).servers i ≡ Some c → i < 3
   is_member i c at = ((told setup history).follows.servers i c at).0
 
-  pub its_number : (i : ℕ) (s : Server) → Runs (replay setup history) i s → s.number ≡ i
+  pub its_number : (i : ℕ) (s : Server) → RunsAs (replay setup history) i s → s.number ≡ i
   its_number i s at = ((told setup history).follows.servers i (Running s) at).1.number
 
   -- what a leader holds above its checkpoint and below its next slot is its own
-  pub own_entries : (i : ℕ) (s : Server) (l : Leader) → Runs (replay setup history) i s → (s.role ≡ Merging l) ⊎ (s.role ≡ Serving l) → (slot : ℕ) (e : Entry) → s.durable.base < slot → slot < l.next → FinMap.get s.durable.log slot ≡ Some e → e.term ≡ s.durable.term
+  pub own_entries : (i : ℕ) (s : Server) (l : Leader) → RunsAs (replay setup history) i s → (s.role ≡ Merging l) ⊎ (s.role ≡ Serving l) → (slot : ℕ) (e : Entry) → s.durable.base < slot → slot < l.next → FinMap.get s.durable.log slot ≡ Some e → e.term ≡ s.durable.term
   own_entries i s l at role slot e low high held =
       let z = told setup history in
       let b = z.ballots in

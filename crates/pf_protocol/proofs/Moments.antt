@@ -8,7 +8,7 @@ use Rattle.pf_protocol.specs.declared.events.Happening.{Happening}
 use Rattle.pf_protocol.specs.Servers.{Setup, Server, Running, Unformatted}
 use Rattle.pf_protocol.specs.Saving.{restarted}
 use Rattle.pf_protocol.specs.Groups.{Group, ending, happens, opening, unless_failed, first_leader, opening_disk}
-use Rattle.pf_protocol.specs.Histories.{History, IsPrefix, run, replay, Runs}
+use Rattle.pf_protocol.specs.Histories.{History, IsPrefix, run, replay, RunsAs}
 use Rattle.pf_protocol.specs.Answers.{Claimed, claims_after, claims_of, IsAnswer, IsLegalNext, IsLegalFrom, IsLegal}
 use Rattle.pf_protocol.proofs.Stepping.{goes}
 
@@ -58,7 +58,7 @@ pub replay_goes_on : (setup : Setup) (history : History) (h : Happening) → rep
 replay_goes_on setup history h = run_longer setup (opening setup) history h
 
 -- the servers that run at the beginning
-pub opened : (setup : Setup) (P : Server → Type 0) → P (first_leader setup) → ((i : ℕ) → P (restarted i 0 (opening_disk setup))) → (i : ℕ) (s : Server) → Runs (opening setup) i s → P s
+pub opened : (setup : Setup) (P : Server → Type 0) → P (first_leader setup) → ((i : ℕ) → P (restarted i 0 (opening_disk setup))) → (i : ℕ) (s : Server) → RunsAs (opening setup) i s → P s
 unfolding opening
 opened setup P first others i s runs = at_place i runs
   where
@@ -71,7 +71,7 @@ opened setup P first others i s runs = at_place i runs
     formatted : (k : ℕ) (x : Server) → P x → Some (unless_failed setup k x) ≡ Some (Running s) → P s
     formatted k x is = by_test (list_any (λ j. j == k) setup.failed) (λ c. Some (if c then Unformatted else Running x) ≡ Some (Running s) → P s) (λ _ e. absurd (grind (arith, e))) (λ _ e. of_running x s e is)
 
-    at_place : (i : ℕ) → Runs (opening setup) i s → P s
+    at_place : (i : ℕ) → RunsAs (opening setup) i s → P s
     at_place zero at = formatted 0 (first_leader setup) first at
     at_place (suc zero) at = formatted 1 (restarted 1 0 (opening_disk setup)) (others 1) at
     at_place (suc (suc zero)) at = formatted 2 (restarted 2 0 (opening_disk setup)) (others 2) at

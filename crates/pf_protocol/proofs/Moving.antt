@@ -30,8 +30,8 @@ use Rattle.pf_protocol.specs.declared.answers.Answer.TheVariants.{Done, Read as 
 use Rattle.pf_protocol.specs.declared.events.Event.{Event}
 use Rattle.pf_protocol.specs.declared.events.Event.TheVariants.{Fetch}
 use Rattle.pf_protocol.specs.Servers.{Setup, Leader, Role, Follower, Candidate, Merging, Serving, Read, Server, climb, upto, has_applied}
-use Rattle.pf_protocol.specs.Outcomes.{Outcome, to_one, to_others, others, sends, nothing, refused, raise_term}
-use Rattle.pf_protocol.specs.Leading.{op_at, new_entry, submitted, on_submit, on_fetch, on_elect, resent_entry, resent, on_resend, led, merged, on_vote, has_acked, members, acknowledged, knows, is_own, other_acked, still_merging, counted, commit_to, marked, mark, on_ack, confirm, on_probe_ok}
+use Rattle.pf_protocol.specs.Outcomes.{Outcome, to_one, to_others, others, sends, nothing, only_answers, raise_term}
+use Rattle.pf_protocol.specs.Leading.{op_at, new_entry, submitted, on_submit, on_fetch, on_elect, resent_entry, resent, on_resend, led, merged, on_vote, has_acked, members, acknowledged, knows, is_own, other_acked, still_merging, counted, commit_to, commit_own, commit, on_ack, confirm, on_probe_ok}
 use Rattle.pf_protocol.specs.Following.{meets_term, ack, nack, on_request_vote, accepted, on_accept, on_nack, on_commit, on_probe, installed, on_image}
 use Rattle.pf_protocol.specs.Rows.{on_message, on_packet}
 use Rattle.pf_protocol.specs.Saving.{is_short_of, trimmed, on_checkpoint, applied_op, on_finish, on_give_back}
@@ -145,7 +145,7 @@ module _ (s : Server) where
   idle_plain : (packets : List Packet) → Every (λ p. IsReadless p.body) packets → Plain s (sends s packets)
   idle_plain packets are = record { moves = kept; reads = inr refl; packets = are; acked = refl }
 
-  refused_plain : (answer : Answer) → Plain s (refused s answer)
+  refused_plain : (answer : Answer) → Plain s (only_answers s answer)
   refused_plain answer = record { moves = kept; reads = inr refl; packets = tt; acked = refl }
 
   met_moves : (term : ℕ) → Moves s (meets_term s term)
@@ -199,7 +199,7 @@ module _ (s : Server) where
         | inr has ↦ has
       ]
 
-  trim_plain : trimmed s ≡ trimmed s → Plain s (refused (trimmed s) (BaseIs (upto s)))
+  trim_plain : trimmed s ≡ trimmed s → Plain s (only_answers (trimmed s) (BaseIs (upto s)))
   unfolding trimmed stored
   trim_plain same = record { moves = goes_on (trimmed s) refl refl trim_more refl; reads = inr refl; packets = tt; acked = refl }
 
@@ -271,7 +271,7 @@ module _ (s : Server) where
   nack_plain term = record { moves = met_moves term; reads = met_reads term; packets = tt; acked = refl }
 
   commit_plain : (term slot : ℕ) → Plain s (on_commit s term slot)
-  unfolding on_commit mark
+  unfolding on_commit commit
   commit_plain term slot = either_plain s (holds s.durable slot term) _ _ (λ _. record { moves = goes_on _ refl refl all_stay refl; reads = inr refl; packets = tt; acked = refl }) (λ _. idle_plain [] tt)
 
   commit_packets : (l : Leader) (from slot : ℕ) → Every (λ p. IsReadless p.body) (commit_to s l from slot)
@@ -282,14 +282,14 @@ module _ (s : Server) where
   counted_more l from slot upto_there j k has = by_test (is_own l slot) (λ c. acked_in (if c then acknowledged l.acks from slot else l.acks) j k ≡ true) (λ _. acknowledged_more l.acks from slot j k has) (λ _. has)
 
   abbrev after_ack : Leader → Role → ℕ → Server
-  after_ack l role slot = let m = marked s l slot in record m { role = role }
+  after_ack l role slot = let m = commit_own s l slot in record m { role = role }
 
   -- an acknowledgement
   ack_moves : (from term slot upto_there : ℕ) (role : Role) → s.role ≡ role → Moves s (on_ack s from term slot upto_there role).server
-  unfolding on_ack marked
+  unfolding on_ack commit_own
   ack_moves from term slot upto_there Follower is = kept
   ack_moves from term slot upto_there (Candidate own) is = kept
-  ack_moves from term slot upto_there (Merging l) is = by_test (term == s.durable.term) (λ c. Moves s (if c then sends (let m = marked s l slot in record m { role = still_merging s (counted l from slot upto_there) }) (commit_to s l from slot) else nothing s).server)
+  ack_moves from term slot upto_there (Merging l) is = by_test (term == s.durable.term) (λ c. Moves s (if c then sends (let m = commit_own s l slot in record m { role = still_merging s (counted l from slot upto_there) }) (commit_to s l from slot) else nothing s).server)
       (λ _. record { term = le_refl _; role = subst (RoleStep s (after_ack l (still_merging s (counted l from slot upto_there)) slot)) (sym is) tt; reads = inr (refl, all_stay); idle = λ h. let none : s.reads ≡ [] = subst (λ r. RoleReads r s.reads) is h in merges (list_all (other_acked (counted l from slot upto_there) s.number) (range_with_len (suc (counted l from slot upto_there).b0) ((counted l from slot upto_there).first - suc (counted l from slot upto_there).b0))) none })
       (λ _. kept)
     where
@@ -302,24 +302,24 @@ module _ (s : Server) where
     where
       served_ack : Leader → Outcome
       served_ack l = record {
-        server = (let m = marked s l slot in record m { role = Serving (counted l from slot upto_there) });
+        server = (let m = commit_own s l slot in record m { role = Serving (counted l from slot upto_there) });
         packets = commit_to s l from slot;
         answer = Done;
         acked = if is_own l slot && nat_le l.first slot && not (other_acked l s.number slot) then Some slot else None;
       }
 
   ack_rest : (from term slot upto_there : ℕ) (role : Role) → ((on_ack s from term slot upto_there role).server.reads ≡ s.reads) × Every (λ p. IsReadless p.body) (on_ack s from term slot upto_there role).packets
-  unfolding on_ack marked
+  unfolding on_ack commit_own
   ack_rest from term slot upto_there Follower = (refl, tt)
   ack_rest from term slot upto_there (Candidate own) = (refl, tt)
-  ack_rest from term slot upto_there (Merging l) = by_test (term == s.durable.term) (λ c. let o = (if c then sends (let m = marked s l slot in record m { role = still_merging s (counted l from slot upto_there) }) (commit_to s l from slot) else nothing s) in (o.server.reads ≡ s.reads) × Every (λ p. IsReadless p.body) o.packets)
+  ack_rest from term slot upto_there (Merging l) = by_test (term == s.durable.term) (λ c. let o = (if c then sends (let m = commit_own s l slot in record m { role = still_merging s (counted l from slot upto_there) }) (commit_to s l from slot) else nothing s) in (o.server.reads ≡ s.reads) × Every (λ p. IsReadless p.body) o.packets)
       (λ _. (refl, commit_packets l from slot)) (λ _. (refl, tt))
   ack_rest from term slot upto_there (Serving l) = by_test (term == s.durable.term) (λ c. let o = (if c then served_ack l else nothing s) in (o.server.reads ≡ s.reads) × Every (λ p. IsReadless p.body) o.packets)
       (λ _. (refl, commit_packets l from slot)) (λ _. (refl, tt))
     where
       served_ack : Leader → Outcome
       served_ack l = record {
-        server = (let m = marked s l slot in record m { role = Serving (counted l from slot upto_there) });
+        server = (let m = commit_own s l slot in record m { role = Serving (counted l from slot upto_there) });
         packets = commit_to s l from slot;
         answer = Done;
         acked = if is_own l slot && nat_le l.first slot && not (other_acked l s.number slot) then Some slot else None;
@@ -336,18 +336,18 @@ module _ (s : Server) where
     pub counts : has_acked later from slot ≡ true
 
   tells : (from term slot upto_there : ℕ) (role : Role) → s.role ≡ role → (told : ℕ) → (on_ack s from term slot upto_there role).acked ≡ Some told → Tells (on_ack s from term slot upto_there role).server from told
-  unfolding on_ack marked counted
+  unfolding on_ack commit_own counted
   tells from term slot upto_there Follower is told acked = absurd (none-some told acked)
   tells from term slot upto_there (Candidate own) is told acked = absurd (none-some told acked)
   tells from term slot upto_there (Merging l) is told acked =
-      absurd (by_test (term == s.durable.term) (λ c. (if c then sends (let m = marked s l slot in record m { role = still_merging s (counted l from slot upto_there) }) (commit_to s l from slot) else nothing s).acked ≡ Some told → ⊥) (λ _ e. none-some told e) (λ _ e. none-some told e) acked)
+      absurd (by_test (term == s.durable.term) (λ c. (if c then sends (let m = commit_own s l slot in record m { role = still_merging s (counted l from slot upto_there) }) (commit_to s l from slot) else nothing s).acked ≡ Some told → ⊥) (λ _ e. none-some told e) (λ _ e. none-some told e) acked)
   tells from term slot upto_there (Serving l) is told acked = by_test (term == s.durable.term) (λ c. (if c then served_ack l else nothing s).acked ≡ Some told → Tells (if c then served_ack l else nothing s).server from told)
       (λ _ e. own_slot (is_own l slot) refl e)
       (λ _ e. absurd (none-some told e)) acked
     where
       served_ack : Leader → Outcome
       served_ack l = record {
-        server = (let m = marked s l slot in record m { role = Serving (counted l from slot upto_there) });
+        server = (let m = commit_own s l slot in record m { role = Serving (counted l from slot upto_there) });
         packets = commit_to s l from slot;
         answer = Done;
         acked = if is_own l slot && nat_le l.first slot && not (other_acked l s.number slot) then Some slot else None;

@@ -25,7 +25,7 @@ use Rattle.pf_protocol.specs.Servers.{Setup, Leader, Serving, Server, Running}
 use Rattle.pf_protocol.specs.Leading.{op_of, op_at, look_behind, new_entry}
 use Rattle.pf_protocol.specs.declared.events.Event.{Event}
 use Rattle.pf_protocol.specs.declared.events.Event.TheVariants.{Deliver}
-use Rattle.pf_protocol.specs.Histories.{History, replay, Runs, HasAccepted, Makes, BySubmit, ByMerge, IsChosen, IsTakenFrom}
+use Rattle.pf_protocol.specs.Histories.{History, replay, RunsAs, HasAccepted, Makes, BySubmit, ByMerge, IsChosen, IsTakenFrom}
 use Rattle.pf_protocol.specs.Kept.{KeepsName}
 use Rattle.pf_protocol.proofs.Making.{accepted_proposed}
 use Rattle.pf_protocol.proofs.Moments.{begins_with}
@@ -42,11 +42,11 @@ record OwnNamed (setup : Setup) (earlier : History) (i : ℕ) (e : Entry) (n : N
   has_range : n.range ≡ range_of own.op
   below : n.slot < e.slot
 
-held_now : (setup : Setup) (earlier : History) (i : ℕ) (s : Server) (e : Entry) → Runs (replay setup earlier) i s → FinMap.get s.durable.log e.slot ≡ Some e → HasAccepted setup earlier i e
+held_now : (setup : Setup) (earlier : History) (i : ℕ) (s : Server) (e : Entry) → RunsAs (replay setup earlier) i s → FinMap.get s.durable.log e.slot ≡ Some e → HasAccepted setup earlier i e
 held_now setup earlier i s e runs at = record { earlier = earlier; is_earlier = record { rest = []; whole = append-nil earlier }; holds = record { server = s; runs = runs; held = at } }
 
 -- what a leader names
-names_own : (setup : Setup) (earlier : History) (i : ℕ) (s : Server) (l : Leader) (op : Op) → Runs (replay setup earlier) i s → s.role ≡ Serving l → Every (OwnNamed setup earlier i (new_entry setup.names s l op)) (look_behind setup.names s l.next)
+names_own : (setup : Setup) (earlier : History) (i : ℕ) (s : Server) (l : Leader) (op : Op) → RunsAs (replay setup earlier) i s → s.role ≡ Serving l → Every (OwnNamed setup earlier i (new_entry setup.names s l op)) (look_behind setup.names s l.next)
 unfolding look_behind new_entry op_at
 names_own setup earlier i s l op runs role =
     let z = told setup earlier in
@@ -75,7 +75,7 @@ look_of_merged : (term base : ℕ) (own other : VoteLog) (slot : ℕ) → (merge
 unfolding merged_entry
 look_of_merged term base own other slot = refl
 
-named_by : (setup : Setup) (earlier : History) (i : ℕ) (s : Server) (event : Event) (e : Entry) → Runs (replay setup earlier) i s → Makes setup (replay setup earlier) i s event e → Every (OwnNamed setup earlier i e) e.look
+named_by : (setup : Setup) (earlier : History) (i : ℕ) (s : Server) (event : Event) (e : Entry) → RunsAs (replay setup earlier) i s → Makes setup (replay setup earlier) i s event e → Every (OwnNamed setup earlier i e) e.look
 named_by setup earlier i s _ _ runs (BySubmit op l role) = subst (Every (OwnNamed setup earlier i (new_entry setup.names s l op))) (sym (look_of_new setup.names s l op)) (names_own setup earlier i s l op runs role)
 named_by setup earlier i s _ _ runs (ByMerge k sent own other slot merge above below) =
     subst (Every (OwnNamed setup earlier i (merged_entry s.durable.term s.durable.base own other slot))) (sym (look_of_merged s.durable.term s.durable.base own other slot)) tt

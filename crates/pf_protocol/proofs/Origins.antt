@@ -15,7 +15,7 @@ use Rattle.pf_protocol.specs.declared.answers.Answer.{Answer}
 use Rattle.pf_protocol.specs.declared.events.Event.{Event}
 use Rattle.pf_protocol.specs.declared.events.Happening.{Happening}
 use Rattle.pf_protocol.specs.Groups.{Sent, TookPlace, ending}
-use Rattle.pf_protocol.specs.Histories.{History, IsPrefix, replay, Runs, HasAccepted, Made, Makes, BySubmit, ByMerge, IsMerge, IsProposal, IsTakenFrom, HasOrigin, Itself, Through, HasSource}
+use Rattle.pf_protocol.specs.Histories.{History, IsPrefix, replay, RunsAs, HasAccepted, Made, Makes, BySubmit, ByMerge, IsMerge, IsProposal, IsTakenFrom, HasOrigin, Itself, Through, HasSource}
 use Rattle.pf_protocol.proofs.Follows.{IsLeader, RoleIs}
 use Rattle.pf_protocol.proofs.Making.{Has, IsSaid, OwnVote, backs_all}
 use Rattle.pf_protocol.proofs.Histories.{told}
@@ -72,7 +72,7 @@ shorter : (earlier history : History) (h : Happening) → IsPrefix (earlier ++ h
 shorter earlier history h p = omega (arith, sym (length-append (earlier ++ h ∷ []) p.rest) ∙ ap length p.whole, length-append earlier (h ∷ []))
 
 -- a leader's next slot is not below its first
-new_of_leader : (setup : Setup) (earlier : History) (i : ℕ) (s : Server) (l : Leader) → Runs (replay setup earlier) i s → s.role ≡ Serving l → l.first ≤ l.next
+new_of_leader : (setup : Setup) (earlier : History) (i : ℕ) (s : Server) (l : Leader) → RunsAs (replay setup earlier) i s → s.role ≡ Serving l → l.first ≤ l.next
 new_of_leader setup earlier i s l runs is =
     let t = told setup earlier in
     let x = (t.follows.servers i (Running s) runs).1 in
@@ -80,7 +80,7 @@ new_of_leader setup earlier i s l runs is =
     omega (arith, lead.has_first, lead.has_next, (t.sound.quorums s.durable.term lead.merge lead.is).begins)
 
 -- what a merge takes was a proposal by then
-pub taken_is_proposal : (setup : Setup) (earlier : History) (i k : ℕ) (s : Server) (sent : Sent) (own other : VoteLog) (slot : ℕ) (x : Entry) → Runs (replay setup earlier) i s → IsMerge (replay setup earlier) i s k sent own other → taken s.durable.base own other slot ≡ Some x → (x.slot ≡ slot) × IsProposal setup earlier x
+pub taken_is_proposal : (setup : Setup) (earlier : History) (i k : ℕ) (s : Server) (sent : Sent) (own other : VoteLog) (slot : ℕ) (x : Entry) → RunsAs (replay setup earlier) i s → IsMerge (replay setup earlier) i s k sent own other → taken s.durable.base own other slot ≡ Some x → (x.slot ≡ slot) × IsProposal setup earlier x
 taken_is_proposal setup earlier i k s sent own other slot x runs merge is =
     let backs = backs_all setup earlier in
     let mine : Has (IsProposal setup earlier) own.log = subst (OwnVote setup earlier) merge.stands (backs.servers i (Running s) runs).1 in
@@ -110,7 +110,7 @@ op_of_some : (x : Entry) → op_or_noop (Some x) ≡ x.op
 unfolding op_or_noop
 op_of_some x = refl
 
-source_by : (setup : Setup) (history earlier : History) (i : ℕ) (s : Server) (event : Event) (answer : Answer) (e : Entry) → TookPlace (ending answer) → IsPrefix (earlier ++ record { event = event; answer = answer } ∷ []) history → Runs (replay setup earlier) i s → Makes setup (replay setup earlier) i s event e → IsProposal setup history e → ((x : Entry) → IsProposal setup earlier x → HasSource setup earlier x) → HasSource setup history e
+source_by : (setup : Setup) (history earlier : History) (i : ℕ) (s : Server) (event : Event) (answer : Answer) (e : Entry) → TookPlace (ending answer) → IsPrefix (earlier ++ record { event = event; answer = answer } ∷ []) history → RunsAs (replay setup earlier) i s → Makes setup (replay setup earlier) i s event e → IsProposal setup history e → ((x : Entry) → IsProposal setup earlier x → HasSource setup earlier x) → HasSource setup history e
 source_by setup history earlier i s _ answer _ done p runs (BySubmit op l role) is before =
     let e = new_entry setup.names s l op in
     inl (record { origin = e; is = Itself e is (new_entry_slot setup.names s l op (new_of_leader setup earlier i s l runs role)); same_slot = refl; same_op = refl })

@@ -20,7 +20,7 @@ use Rattle.pf_protocol.specs.declared.answers.Refusal.TheVariants.{NoneFree}
 use Rattle.pf_protocol.specs.declared.events.Event.TheVariants.{Submit, Deliver, Claim, Finish}
 use Rattle.pf_protocol.specs.Servers.{Leader, Server, Serving, Running, upto}
 use Rattle.pf_protocol.specs.Outcomes.{Outcome, sends}
-use Rattle.pf_protocol.specs.Leading.{on_submit, submitted, new_entry, look_behind, op_at, acknowledged, all_acknowledged, on_elect, led, on_ack, counted, marked}
+use Rattle.pf_protocol.specs.Leading.{on_submit, submitted, new_entry, look_behind, op_at, acknowledged, all_acknowledged, on_elect, led, on_ack, counted, commit_own}
 use Rattle.pf_protocol.specs.Following.{on_accept, accepted}
 use Rattle.pf_protocol.specs.Saving.{restarted, renewed, is_claimable, claimable, claimed, on_finish, applied_op, changed, snapshots_after}
 use Rattle.pf_protocol.specs.Rows.{on_message, on_packet, settled}
@@ -151,7 +151,7 @@ module _ (first second : Sector) where
   a3 = record a2 { role = Serving l3; committed = Sets.insert a2.committed 2 }
 
   rule_5 : on_packet small_group a2 (packet 1 0 1 (Ack 2 0)) ≡ record { server = a3; packets = packet 0 1 1 (Commit 2) ∷ []; answer = Done; acked = Some 2 }
-  unfolding on_packet on_message on_ack marked counted acknowledged restarted opening_disk stored put_entry put_entries holds led all_acknowledged
+  unfolding on_packet on_message on_ack commit_own counted acknowledged restarted opening_disk stored put_entry put_entries holds led all_acknowledged
   rule_5 = simp gets
 
   room_5 : room_refusal g4 (record { server = a3; packets = packet 0 1 1 (Commit 2) ∷ []; answer = Done; acked = Some 2 }) ≡ None
@@ -203,7 +203,7 @@ module _ (first second : Sector) where
   a5 = record a4 { role = Serving l4; committed = Sets.insert a4.committed 2 }
 
   rule_8 : on_packet small_group a4 (packet 2 0 1 (Ack 2 0)) ≡ record { server = a5; packets = packet 0 2 1 (Commit 2) ∷ []; answer = Done; acked = None }
-  unfolding on_packet on_message on_ack marked counted acknowledged restarted opening_disk stored put_entry put_entries holds led all_acknowledged
+  unfolding on_packet on_message on_ack commit_own counted acknowledged restarted opening_disk stored put_entry put_entries holds led all_acknowledged
   rule_8 = simp gets
 
   room_8 : room_refusal g7 (record { server = a5; packets = packet 0 2 1 (Commit 2) ∷ []; answer = Done; acked = None }) ≡ None
@@ -244,7 +244,7 @@ module _ (first second : Sector) where
   a6 = record a5 { role = Serving l5; committed = Sets.insert a5.committed 1 }
 
   rule_10 : on_packet small_group a5 (packet 1 0 1 (Ack 1 0)) ≡ record { server = a6; packets = packet 0 1 1 (Commit 1) ∷ []; answer = Done; acked = Some 1 }
-  unfolding on_packet on_message on_ack marked counted acknowledged restarted opening_disk stored put_entry put_entries holds led all_acknowledged
+  unfolding on_packet on_message on_ack commit_own counted acknowledged restarted opening_disk stored put_entry put_entries holds led all_acknowledged
   rule_10 = simp gets
 
   room_10 : room_refusal g9 (record { server = a6; packets = packet 0 1 1 (Commit 1) ∷ []; answer = Done; acked = Some 1 }) ≡ None

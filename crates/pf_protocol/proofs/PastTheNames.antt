@@ -20,7 +20,7 @@ use Rattle.pf_protocol.specs.declared.answers.Refusal.TheVariants.{NoneFree}
 use Rattle.pf_protocol.specs.declared.events.Event.TheVariants.{Submit, Deliver, Claim, Finish}
 use Rattle.pf_protocol.specs.Servers.{Leader, Server, Serving, Running, upto}
 use Rattle.pf_protocol.specs.Outcomes.{Outcome, sends}
-use Rattle.pf_protocol.specs.Leading.{on_submit, submitted, new_entry, look_behind, op_at, acknowledged, all_acknowledged, on_elect, led, on_ack, counted, mark, marked}
+use Rattle.pf_protocol.specs.Leading.{on_submit, submitted, new_entry, look_behind, op_at, acknowledged, all_acknowledged, on_elect, led, on_ack, counted, commit, commit_own}
 use Rattle.pf_protocol.specs.Following.{on_accept, accepted, on_commit}
 use Rattle.pf_protocol.specs.Saving.{restarted, renewed, is_claimable, claimable, claimed, on_finish, applied_op, changed, snapshots_after}
 use Rattle.pf_protocol.specs.Rows.{on_message, on_packet, settled}
@@ -220,7 +220,7 @@ module _ (first second third fourth : Sector) where
   a5 = record a4 { role = Serving l5; committed = Sets.insert a4.committed 2 }
 
   rule_8 : on_packet small_group a4 (packet 1 0 1 (Ack 2 0)) ≡ record { server = a5; packets = packet 0 1 1 (Commit 2) ∷ []; answer = Done; acked = Some 2 }
-  unfolding on_packet on_message on_ack marked counted acknowledged restarted opening_disk stored put_entry put_entries holds led all_acknowledged
+  unfolding on_packet on_message on_ack commit_own counted acknowledged restarted opening_disk stored put_entry put_entries holds led all_acknowledged
   rule_8 = simp gets
 
   room_8 : room_refusal g7 (record { server = a5; packets = packet 0 1 1 (Commit 2) ∷ []; answer = Done; acked = Some 2 }) ≡ None
@@ -272,7 +272,7 @@ module _ (first second third fourth : Sector) where
   a7 = record a6 { role = Serving l6; committed = Sets.insert a6.committed 3 }
 
   rule_11 : on_packet small_group a6 (packet 1 0 1 (Ack 3 0)) ≡ record { server = a7; packets = packet 0 1 1 (Commit 3) ∷ []; answer = Done; acked = Some 3 }
-  unfolding on_packet on_message on_ack marked counted acknowledged restarted opening_disk stored put_entry put_entries holds led all_acknowledged
+  unfolding on_packet on_message on_ack commit_own counted acknowledged restarted opening_disk stored put_entry put_entries holds led all_acknowledged
   rule_11 = simp gets
 
   room_11 : room_refusal g10 (record { server = a7; packets = packet 0 1 1 (Commit 3) ∷ []; answer = Done; acked = Some 3 }) ≡ None
@@ -324,7 +324,7 @@ module _ (first second third fourth : Sector) where
   a9 = record a8 { role = Serving l7; committed = Sets.insert a8.committed 4 }
 
   rule_14 : on_packet small_group a8 (packet 1 0 1 (Ack 4 0)) ≡ record { server = a9; packets = packet 0 1 1 (Commit 4) ∷ []; answer = Done; acked = Some 4 }
-  unfolding on_packet on_message on_ack marked counted acknowledged restarted opening_disk stored put_entry put_entries holds led all_acknowledged
+  unfolding on_packet on_message on_ack commit_own counted acknowledged restarted opening_disk stored put_entry put_entries holds led all_acknowledged
   rule_14 = simp gets
 
   room_14 : room_refusal g13 (record { server = a9; packets = packet 0 1 1 (Commit 4) ∷ []; answer = Done; acked = Some 4 }) ≡ None
@@ -343,7 +343,7 @@ module _ (first second third fourth : Sector) where
   b4 = record b3 { committed = Sets.insert b3.committed 2 }
 
   rule_15 : on_packet small_group b3 (packet 0 1 1 (Commit 2)) ≡ sends b4 []
-  unfolding on_packet on_message on_commit mark restarted opening_disk stored put_entry put_entries holds
+  unfolding on_packet on_message on_commit commit restarted opening_disk stored put_entry put_entries holds
   rule_15 = simp gets
 
   room_15 : room_refusal g14 (sends b4 []) ≡ None
@@ -398,7 +398,7 @@ module _ (first second third fourth : Sector) where
   b6 = record b5 { committed = Sets.insert b5.committed 3 }
 
   rule_18 : on_packet small_group b5 (packet 0 1 1 (Commit 3)) ≡ sends b6 []
-  unfolding on_packet on_message on_commit mark restarted opening_disk stored put_entry put_entries holds
+  unfolding on_packet on_message on_commit commit restarted opening_disk stored put_entry put_entries holds
   rule_18 = simp gets
 
   room_18 : room_refusal g17 (sends b6 []) ≡ None
@@ -453,7 +453,7 @@ module _ (first second third fourth : Sector) where
   b8 = record b7 { committed = Sets.insert b7.committed 4 }
 
   rule_21 : on_packet small_group b7 (packet 0 1 1 (Commit 4)) ≡ sends b8 []
-  unfolding on_packet on_message on_commit mark restarted opening_disk stored put_entry put_entries holds
+  unfolding on_packet on_message on_commit commit restarted opening_disk stored put_entry put_entries holds
   rule_21 = simp gets
 
   room_21 : room_refusal g20 (sends b8 []) ≡ None

@@ -21,7 +21,7 @@ use Rattle.pf_protocol.specs.Outcomes.{Outcome}
 use Rattle.pf_protocol.specs.Leading.{new_entry, submitted, on_submit}
 use Rattle.pf_protocol.specs.Rows.{settled}
 use Rattle.pf_protocol.specs.Groups.{Group, Ending, Whole, CutOff, Missed, Untouched, TookPlace, ending_of, ending, acted, step_of, happens, opening}
-use Rattle.pf_protocol.specs.Histories.{History, IsPrefix, run, replay, Runs, HasAccepted, Itself}
+use Rattle.pf_protocol.specs.Histories.{History, IsPrefix, run, replay, RunsAs, HasAccepted, Itself}
 use Rattle.pf_protocol.specs.Answers.{answer_at, answer_by, submit_turn, submit_refusal, answer_to, IsAnswer, Claimed, IsLegalFrom, IsLegal, claims_after}
 use Rattle.pf_protocol.specs.Ports.{Submission, submitting, IsAnswered, ComesFrom}
 use Rattle.pf_protocol.proofs.Knowing.{LeaderKnows, RoleKnows}
@@ -37,7 +37,7 @@ use Rattle.pf_protocol.proofs.Ports.{acked_chosen, new_slot, never_again}
 pub record Takes (setup : Setup) (g : Group) (i : ℕ) (answer : Answer) : Type 0 where
   pub server : Server
   pub leader : Leader
-  pub runs : Runs g i server
+  pub runs : RunsAs g i server
   pub serves : server.role ≡ Serving leader
   pub gives : answer ≡ SlotIs leader.next
   pub room : nat_lt (server.durable.base + setup.window) leader.next ≡ false
@@ -60,7 +60,7 @@ module _ (setup : Setup) (g : Group) (i : ℕ) (op : Op) (answer : Answer) (whol
   stands : (refusal : Refusal) → answer ≡ Refused refusal → ⊥
   stands refusal is = not_whole refusal (ap ending (sym is) ∙ whole)
 
-  by_role : (s : Server) → Runs g i s → (role : Role) → s.role ≡ role → answer ≡ (on_submit setup s op role).answer → Takes setup g i answer
+  by_role : (s : Server) → RunsAs g i s → (role : Role) → s.role ≡ role → answer ≡ (on_submit setup s op role).answer → Takes setup g i answer
   unfolding on_submit
   by_role s runs Follower is given = absurd (stands NotLeader given)
   by_role s runs (Candidate own) is given = absurd (stands NotLeader given)
@@ -69,7 +69,7 @@ module _ (setup : Setup) (g : Group) (i : ℕ) (op : Op) (answer : Answer) (whol
       let p = other_one answer (nat_lt (s.durable.base + setup.window) l.next) _ _ given (stands WindowFull) in
       record { server = s; leader = l; runs = runs; serves = is; gives = p.1; room = p.0 }
 
-  by_refusal : (s : Server) → Runs g i s → (r : Option Refusal) → answer ≡ answer_by r (on_submit setup s op s.role).answer → Takes setup g i answer
+  by_refusal : (s : Server) → RunsAs g i s → (r : Option Refusal) → answer ≡ answer_by r (on_submit setup s op s.role).answer → Takes setup g i answer
   by_refusal s runs None given = by_role s runs s.role refl given
   by_refusal s runs (Some refusal) given = absurd (stands refusal given)
 
@@ -86,11 +86,11 @@ module _ (setup : Setup) (g : Group) (i : ℕ) (op : Op) (answer : Answer) (whol
     | inr halted ↦ absurd (stands Halted halted.1)
   ]
 
-  submits : (s : Server) → Runs g i s → happens setup g (Submit i op) (ending answer) ≡ acted g i (on_submit setup s op s.role)
+  submits : (s : Server) → RunsAs g i s → happens setup g (Submit i op) (ending answer) ≡ acted g i (on_submit setup s op s.role)
   unfolding happens
   submits s runs = ap (happens setup g (Submit i op)) whole ∙ ap (λ c. step_of Whole g i c (λ z. on_submit setup z op z.role)) runs
 
-  runs_on : (s : Server) (o : Outcome) → Runs g i s → Runs (acted g i o) i (settled o.server)
+  runs_on : (s : Server) (o : Outcome) → RunsAs g i s → RunsAs (acted g i o) i (settled o.server)
   unfolding acted
   runs_on s o runs = set_there g.servers i (Running s) (Running (settled o.server)) runs
 

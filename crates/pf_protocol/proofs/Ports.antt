@@ -18,7 +18,7 @@ use Rattle.pf_protocol.specs.Servers.{Setup, Leader, Serving, Server, Condition,
 use Rattle.pf_protocol.specs.Outcomes.{Outcome}
 use Rattle.pf_protocol.specs.Leading.{new_entry}
 use Rattle.pf_protocol.specs.Groups.{Acked, Group, Ending, Whole, CutOff, Missed, Untouched, TookPlace, cut_off, step_of, ending, happens, opening}
-use Rattle.pf_protocol.specs.Histories.{History, IsPrefix, replay, Runs, IsProposal, IsChosen, HasOrigin, Itself, Through}
+use Rattle.pf_protocol.specs.Histories.{History, IsPrefix, replay, RunsAs, IsProposal, IsChosen, HasOrigin, Itself, Through}
 use Rattle.pf_protocol.specs.Safety.{leads}
 use Rattle.pf_protocol.specs.Ports.{Submission, submitting, IsTarget, IsCopy, HasEnded, FollowsRule, ComesFrom, IsOrdered}
 use Rattle.pf_protocol.proofs.Ballots.{first_of}
@@ -34,7 +34,7 @@ use Rattle.pf_protocol.proofs.Fetching.{term_low, StaysIn, came_stays, gone, to_
 
 -- a server that was cut off does not run
 module _ (setup : Setup) (g : Group) (i : ℕ) (op : Op) (s z : Server) where
-  stops_here : (c : Option Condition) (rule : Server → Outcome) → slice_get g.servers i ≡ c → c ≡ Some (Running s) → Runs (step_of CutOff g i c rule) i z → ⊥
+  stops_here : (c : Option Condition) (rule : Server → Outcome) → slice_get g.servers i ≡ c → c ≡ Some (Running s) → RunsAs (step_of CutOff g i c rule) i z → ⊥
   unfolding cut_off
   stops_here (Some (Running x)) rule at is runs = not_running (same_Some _ _ (sym (set_there g.servers i (Running x) (Stopped (suc x.life) x.durable (rule x).server.durable) at) ∙ runs))
     where
@@ -44,7 +44,7 @@ module _ (setup : Setup) (g : Group) (i : ℕ) (op : Op) (s z : Server) where
   stops_here (Some Unformatted) rule at is runs = grind (arith, is)
   stops_here None rule at is runs = grind (arith, is)
 
-  cut_stops : Runs g i s → Runs (happens setup g (Submit i op) CutOff) i z → ⊥
+  cut_stops : RunsAs g i s → RunsAs (happens setup g (Submit i op) CutOff) i z → ⊥
   unfolding happens
   cut_stops at runs = stops_here (slice_get g.servers i) _ refl at runs
 
@@ -52,9 +52,9 @@ module _ (setup : Setup) (g : Group) (i : ℕ) (op : Op) (s z : Server) where
 abbrev Never : (ℕ → Bool) → Leader → Type 0
 Never done l = ⊥
 
-module _ (setup : Setup) (first : History) (i : ℕ) (x : Server) (runs : Runs (replay setup first) i x) where
+module _ (setup : Setup) (first : History) (i : ℕ) (x : Server) (runs : RunsAs (replay setup first) i x) where
   abbrev Silent : History → Type 0
-  Silent history = (z : Server) → Runs (replay setup history) i z → z.durable.term ≡ x.durable.term → StaysIn Never (has_applied z) z.role
+  Silent history = (z : Server) → RunsAs (replay setup history) i z → z.durable.term ≡ x.durable.term → StaysIn Never (has_applied z) z.role
 
   silent_next : (history : History) (h : Happening) → IsPrefix first history → Silent history → Silent (history ++ h ∷ [])
   silent_next history h p is z at in_term =
@@ -66,7 +66,7 @@ module _ (setup : Setup) (first : History) (i : ℕ) (x : Server) (runs : Runs (
   silent done (h ∷ hs) p is =
       subst Silent (append_assoc done (h ∷ []) hs) (silent (done ++ h ∷ []) hs (prefix_of first done (done ++ h ∷ []) p (record { rest = h ∷ []; whole = refl })) (silent_next done h p is))
 
-pub never_again : (setup : Setup) (first later : History) (i : ℕ) (op : Op) (answer : Answer) (x z : Server) (l : Leader) → Runs (replay setup first) i x → ending answer ≡ CutOff → IsPrefix (first ++ record { event = Submit i op; answer = answer } ∷ []) later → Runs (replay setup later) i z → z.durable.term ≡ x.durable.term → z.role ≡ Serving l → ⊥
+pub never_again : (setup : Setup) (first later : History) (i : ℕ) (op : Op) (answer : Answer) (x z : Server) (l : Leader) → RunsAs (replay setup first) i x → ending answer ≡ CutOff → IsPrefix (first ++ record { event = Submit i op; answer = answer } ∷ []) later → RunsAs (replay setup later) i z → z.durable.term ≡ x.durable.term → z.role ≡ Serving l → ⊥
 never_again setup first later i op answer x z l runs cut p at in_term serves =
     let h : Happening = record { event = Submit i op; answer = answer } in
     let begin : Silent setup first i x runs (first ++ record { event = Submit i op; answer = answer } ∷ []) = λ y there same. absurd (cut_stops setup (replay setup first) i op x y runs
@@ -147,7 +147,7 @@ unfolding chosen_after
 new_chosen_after setup earlier history p slot term n = record { op = n.op; chosen = chosen_after setup earlier history p slot term n.op n.chosen; is_new = n.is_new }
 
 -- the slot of an earlier acknowledgement in its own term is below the leader's next one
-next_above : (setup : Setup) (now : History) (k : ℕ) (a : Acked) (i : ℕ) (z : Server) (l : Leader) → slice_get (replay setup now).acked k ≡ Some a → Runs (replay setup now) i z → z.role ≡ Serving l → z.durable.term ≡ a.term → a.slot < l.next
+next_above : (setup : Setup) (now : History) (k : ℕ) (a : Acked) (i : ℕ) (z : Server) (l : Leader) → slice_get (replay setup now).acked k ≡ Some a → RunsAs (replay setup now) i z → z.role ≡ Serving l → z.durable.term ≡ a.term → a.slot < l.next
 next_above setup now k a i z l at runs serves same =
     let t = told setup now in
     let h = every_get (λ a. IsAcked (told setup now).ballots a.term a.slot) (replay setup now).acked k a (told setup now).follows.acked at in

@@ -17,10 +17,10 @@ use Rattle.pf_protocol.specs.declared.answers.Refusal.TheVariants.{BadRange, Win
 use Rattle.pf_protocol.specs.declared.events.Event.{Event}
 use Rattle.pf_protocol.specs.declared.events.Event.TheVariants.{Submit, Fetch, Deliver, Lose, Elect, Resend, Stop, Restart, Claim, Finish, GiveBack, Checkpoint}
 use Rattle.pf_protocol.specs.Servers.{Setup, Server, Condition, Running, Stopped, Unformatted}
-use Rattle.pf_protocol.specs.Outcomes.{Outcome, sends, refused}
+use Rattle.pf_protocol.specs.Outcomes.{Outcome, sends, only_answers}
 use Rattle.pf_protocol.specs.Leading.{on_submit, on_fetch, on_elect, on_resend}
 use Rattle.pf_protocol.specs.Saving.{on_checkpoint, applied_op, on_finish, on_give_back}
-use Rattle.pf_protocol.specs.Groups.{Sent, Group, Ending, Whole, CutOff, Missed, Untouched, send, acted, cut_off, ended, step_of, at_server, with_sent, marked_in, delivered, lost, stopped, begun, restart, claim_of, claim_at, claim_or, first_claim, only, counted_election, ending, happens, opening}
+use Rattle.pf_protocol.specs.Groups.{Sent, Group, Ending, Whole, CutOff, Missed, Untouched, send, acted, cut_off, ended, step_of, at_server, with_sent, delivered_in, delivered, lost, stopped, begun, restart, claim_of, claim_at, claim_or, first_claim, only, counted_election, ending, happens, opening}
 use Rattle.pf_protocol.specs.Histories.{History, replay}
 use Rattle.pf_protocol.specs.Answers.{most_packets, most_packet_bytes, most_elections, packets_full, is_mark, is_serving, window_full, delivery_answer, delivery_halts, room_refusal, submit_refusal, fetch_refusal, elect_refusal, Turn, plain, submit_turn, fetch_turn, elect_turn, deliver_turn, answer_at, halts_at, answer_to, may_halt, IsAnswer, IsLegal}
 use Rattle.pf_entry.proofs.Cases.{by_test}
@@ -66,11 +66,11 @@ send_bytes (p ∷ ps) = omega (arith, send_bytes ps, sum_by-cons packet_size p p
 with_same : (g : Group) (k : ℕ) (p q : Sent) → slice_get g.packets k ≡ Some p → q.packet ≡ p.packet → SameRoom g (with_sent g k q)
 with_same g k p q at same = record { servers = refl; count = length-set g.packets k q; bytes = set_bytes g.packets k p q at same }
 
-marked_same : (how : Ending) (g : Group) (k : ℕ) (p : Sent) → slice_get g.packets k ≡ Some p → SameRoom g (marked_in how g k p)
-marked_same Whole g k p at = with_same g k p _ at refl
-marked_same CutOff g k p at = with_same g k p _ at refl
-marked_same Missed g k p at = with_same g k p _ at refl
-marked_same Untouched g k p at = itself g
+delivery_same : (how : Ending) (g : Group) (k : ℕ) (p : Sent) → slice_get g.packets k ≡ Some p → SameRoom g (delivered_in how g k p)
+delivery_same Whole g k p at = with_same g k p _ at refl
+delivery_same CutOff g k p at = with_same g k p _ at refl
+delivery_same Missed g k p at = with_same g k p _ at refl
+delivery_same Untouched g k p at = itself g
 
 counted_same : (how : Ending) (g : Group) → SameRoom g (counted_election how g)
 counted_same Whole g = record { servers = refl; count = refl; bytes = refl }
@@ -180,7 +180,7 @@ module _ (g : Group) (room : HasRoom g) where
 
 finish_packets : (life slot : ℕ) (s : Server) → (on_finish s life slot).packets ≡ []
 unfolding on_finish
-finish_packets life slot s = by_test (life == s.life) (λ c. (if c then sends (applied_op s slot (FinMap.get s.in_hand slot)) [] else refused s (Refused (Stale s.life))).packets ≡ []) (λ _. refl) (λ _. refl)
+finish_packets life slot s = by_test (life == s.life) (λ c. (if c then sends (applied_op s slot (FinMap.get s.in_hand slot)) [] else only_answers s (Refused (Stale s.life))).packets ≡ []) (λ _. refl) (λ _. refl)
 
 give_back_packets : (life slot : ℕ) (s : Server) → (on_give_back s life slot).packets ≡ []
 unfolding on_give_back
@@ -212,9 +212,9 @@ deliver_room setup g room k None answer at legal = room
 deliver_room setup g room k (Some p) answer at legal =
     let turn = deliver_turn setup g p in
     let c = slice_get g.servers p.packet.to in
-    by_test p.lost (λ lost. (answer ≡ (if lost then Refused LostPacket else answer_at c turn)) ⊎ (((not lost && halts_at c turn) ≡ true) × (answer ≡ Refused Halted)) → HasRoom (if lost then g else at_server (ending answer) (marked_in (ending answer) g k p) p.packet.to turn.rule))
+    by_test p.lost (λ lost. (answer ≡ (if lost then Refused LostPacket else answer_at c turn)) ⊎ (((not lost && halts_at c turn) ≡ true) × (answer ≡ Refused Halted)) → HasRoom (if lost then g else at_server (ending answer) (delivered_in (ending answer) g k p) p.packet.to turn.rule))
     (λ _ _. room)
-    (λ _ here. turn_room g (marked_in (ending answer) g k p) (marked_same (ending answer) g k p at) room p.packet.to turn answer (λ s. room_silent g (turn.rule s)) (λ s none. none) here)
+    (λ _ here. turn_room g (delivered_in (ending answer) g k p) (delivery_same (ending answer) g k p at) room p.packet.to turn answer (λ s. room_silent g (turn.rule s)) (λ s none. none) here)
     legal
 
 -- every event

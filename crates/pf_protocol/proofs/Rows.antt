@@ -31,9 +31,9 @@ use Rattle.std.specs.FinMap.{get-empty, nat_cmp-IsAntisymmetric}
 use Rattle.pf_protocol.proofs.Growing.{WithinTerm, unchanged_grows, term_grows, entry_grows, trim_grows, merge_grows, merge_holds}
 use Rattle.pf_protocol.proofs.Extending.{extends_self, extends_both, extends_grown, extends_voted, extends_merged, extends_proposed, grown_accepted}
 use Rattle.pf_protocol.specs.Servers.{Setup, Leader, Role, Follower, Candidate, Merging, Serving, Server, upto, climb, has_applied}
-use Rattle.pf_protocol.specs.Outcomes.{Outcome, to_one, to_others, others, sends, nothing, refused, raise_term}
+use Rattle.pf_protocol.specs.Outcomes.{Outcome, to_one, to_others, others, sends, nothing, only_answers, raise_term}
 use Rattle.pf_protocol.specs.declared.answers.Answer.{Answer}
-use Rattle.pf_protocol.specs.Leading.{new_entry, submitted, on_submit, on_fetch, on_elect, resent_entry, resent, on_resend, led, merged, on_vote, has_acked, knows, acknowledged, other_acked, counted, mark, marked, is_own, commit_to, on_ack, on_probe_ok, op_of, op_at, look_behind}
+use Rattle.pf_protocol.specs.Leading.{new_entry, submitted, on_submit, on_fetch, on_elect, resent_entry, resent, on_resend, led, merged, on_vote, has_acked, knows, acknowledged, other_acked, counted, commit, commit_own, is_own, commit_to, on_ack, on_probe_ok, op_of, op_at, look_behind}
 use Rattle.pf_protocol.specs.Following.{meets_term, ack, nack, on_request_vote, accepted, on_accept, on_nack, on_commit, on_probe, installed, on_image}
 use Rattle.pf_protocol.specs.Rows.{on_message}
 use Rattle.pf_protocol.specs.declared.answers.Answer.TheVariants.{Base as BaseIs, Slot as SlotIs}
@@ -254,8 +254,8 @@ module _ (b : Ballots) (sound : Sound b) (served : Served b) (i : ℕ) (below : 
   pub nothing_row : Row b i s (nothing s)
   nothing_row = sends_row [] (λ z. tt)
 
-  pub refused_row : (answer : Answer) → Row b i s (refused s answer)
-  refused_row answer = still (refused s answer) refl refl refl is_server.role (λ z. (knows_later z, tt))
+  pub refused_row : (answer : Answer) → Row b i s (only_answers s answer)
+  refused_row answer = still (only_answers s answer) refl refl refl is_server.role (λ z. (knows_later z, tt))
 
   reply : (b2 : Ballots) (z : Server) (to : ℕ) (body : Body) → z.number ≡ s.number → to ≢ i → BodyIs b2 z.number to z.durable.term body → Every (PacketIs b2) (to_one z to body ∷ [])
   reply b2 z to body number apart is = (sent_to b2 z i to body (number ∙ is_server.number) below apart is, tt)
@@ -308,9 +308,9 @@ module _ (b : Ballots) (sound : Sound b) (served : Served b) (i : ℕ) (below : 
       ]
 
   pub on_commit_row : (from term slot : ℕ) → IsKnown b slot term → Row b i s (on_commit s term slot)
-  unfolding on_commit mark
-  on_commit_row from term slot known = either b i s (holds s.durable slot term) (nothing (mark s slot)) _
-      (λ has. still (nothing (mark s slot)) refl refl refl is_server.role (λ z.
+  unfolding on_commit commit
+  on_commit_row from term slot known = either b i s (holds s.durable slot term) (nothing (commit s slot)) _
+      (λ has. still (nothing (commit s slot)) refl refl refl is_server.role (λ z.
       let k = knows_later z in
       let c = known_there i b z.ballots z.extends slot term known in (
         record {
@@ -439,7 +439,7 @@ module _ (b : Ballots) (sound : Sound b) (served : Served b) (i : ℕ) (below : 
   unfolding on_checkpoint trimmed stored
   on_checkpoint_row = either b i s (upto s == s.durable.base || is_short_of s.role (upto s)) _ _ (λ _. refused_row _) (λ moves.
       let saved = applied_same b s.durable.term (has_applied s) (is_applied (upto s) (Sets.retain s.applied (nat_lt (upto s)))) s.sectors trim_same has_known.applied in
-      image_row _ (refused (trimmed s) (BaseIs (upto s))) refl refl refl (le_refl _) (risen (or_parts _ _ moves).0) refl refl saved
+      image_row _ (only_answers (trimmed s) (BaseIs (upto s))) refl refl refl (le_refl _) (risen (or_parts _ _ moves).0) refl refl saved
       (role_after b.vote b.ballot b.next i s.durable _ s.role refl (base_below_upto s) is_server.role)
       (λ z committed.
       let there = applied_there i b z.ballots z.extends z.sound s.durable.term (is_applied (upto s) (Sets.retain s.applied (nat_lt (upto s)))) s.sectors saved in
@@ -469,9 +469,9 @@ module _ (b : Ballots) (sound : Sound b) (served : Served b) (i : ℕ) (below : 
         sent_to_others z.ballots s i (Probe number) is_server.number below (λ _. tt),
       ))
 
-  marked_more : (c : Bool) (slot p : ℕ) → Sets.contains s.committed p ≡ true → Sets.contains (if c then Sets.insert s.committed slot else s.committed) p ≡ true
-  marked_more true slot p is = contains-insert s.committed slot p ∙ or_right _ _ is
-  marked_more false slot p is = is
+  delivery_more : (c : Bool) (slot p : ℕ) → Sets.contains s.committed p ≡ true → Sets.contains (if c then Sets.insert s.committed slot else s.committed) p ≡ true
+  delivery_more true slot p is = contains-insert s.committed slot p ∙ or_right _ _ is
+  delivery_more false slot p is = is
 
   insert_same : (slot p : ℕ) → is_applied s.durable.base (Sets.insert s.applied slot) p ≡ with_slot (has_applied s) slot p
   insert_same slot p = ap (λ c. nat_le p s.durable.base || c) (contains-insert s.applied slot p ∙ ap (λ c. c || Sets.contains s.applied p) (same_number p slot)) ∙ swap_or (nat_le p s.durable.base) (p == slot) (Sets.contains s.applied p)
@@ -933,8 +933,8 @@ module _ (b : Ballots) (sound : Sound b) (served : Served b) (i : ℕ) (below : 
             (λ _. k.acks j p);
       }
 
-  marked_knows : (z : Later b i s.durable) (l : Leader) → LeaderKnows b i s.durable.term l → (from slot : ℕ) → from ≢ i → (0 < slot → AckIs b from slot s.durable.term) → (k : ℕ) → Sets.contains (marked s l slot).committed k ≡ true → IsCommitted z.ballots s.durable.log k
-  unfolding marked
+  marked_knows : (z : Later b i s.durable) (l : Leader) → LeaderKnows b i s.durable.term l → (from slot : ℕ) → from ≢ i → (0 < slot → AckIs b from slot s.durable.term) → (k : ℕ) → Sets.contains (commit_own s l slot).committed k ≡ true → IsCommitted z.ballots s.durable.log k
+  unfolding commit_own
   marked_knows z l lead from slot apart a k =
       by_test (is_own l slot && holds s.durable slot s.durable.term) (λ c. (is_own l slot && holds s.durable slot s.durable.term) ≡ c → Sets.contains (if c then Sets.insert s.committed slot else s.committed) k ≡ true → IsCommitted z.ballots s.durable.log k)
       (λ _ both is. let p = and_parts _ _ both in let o = own_slot l slot p.0 in
@@ -965,8 +965,8 @@ module _ (b : Ballots) (sound : Sound b) (served : Served b) (i : ℕ) (below : 
   counted_merged z l from slot upto_there m p low high = known_there i b z.ballots z.extends p s.durable.term (m p low high)
 
   -- what another server acknowledges is marked
-  counted_marks : (l : Leader) → IsLeader b.ballot b.next i s.durable l → LeaderKnows b i s.durable.term l → (from slot upto_there : ℕ) → AckMarks i s.durable.base s.committed l → AckMarks i s.durable.base (marked s l slot).committed (counted l from slot upto_there)
-  unfolding counted marked
+  counted_marks : (l : Leader) → IsLeader b.ballot b.next i s.durable l → LeaderKnows b i s.durable.term l → (from slot upto_there : ℕ) → AckMarks i s.durable.base s.committed l → AckMarks i s.durable.base (commit_own s l slot).committed (counted l from slot upto_there)
+  unfolding counted commit_own
   counted_marks l h lead from slot upto_there marks j p apart =
       by_test (is_own l slot) (λ c. is_own l slot ≡ c → acked_in (if c then acknowledged l.acks from slot else l.acks) j p ≡ true → s.durable.base < p → Sets.contains (if c && holds s.durable slot s.durable.term then Sets.insert s.committed slot else s.committed) p ≡ true)
       (λ _ own has low. elim (acknowledged_cases l.acks from slot j p has) [
@@ -976,7 +976,7 @@ module _ (b : Ballots) (sound : Sound b) (served : Served b) (i : ℕ) (below : 
             let term = ((sound.made slot s.durable.term y.0 y.2).in_term) in
             let held : holds s.durable slot s.durable.term ≡ true = ap (holds s.durable slot) (sym term) ∙ holds_from s.durable slot y.0 y.1 in
             ap (λ c. Sets.contains (if c then Sets.insert s.committed slot else s.committed) p) held ∙ contains-insert s.committed slot p ∙ or_left _ _ (same_number p slot ∙ eq-eqb p slot here.1)
-        | inr before ↦ marked_more (holds s.durable slot s.durable.term) slot p (marks j p apart before low)
+        | inr before ↦ delivery_more (holds s.durable slot s.durable.term) slot p (marks j p apart before low)
       ])
       (λ _ not_own has low. marks j p apart has low) refl
 
@@ -1010,7 +1010,7 @@ module _ (b : Ballots) (sound : Sound b) (served : Served b) (i : ℕ) (below : 
       (who.0, λ same. who.2 (same ∙ sym is_server.number), who.1)
 
   pub on_ack_row : (from term slot upto_there : ℕ) (role : Role) → from ≢ i → (0 < slot → AckIs b from slot term) → s.role ≡ role → Row b i s (on_ack s from term slot upto_there role)
-  unfolding on_ack marked
+  unfolding on_ack commit_own
   on_ack_row from term slot upto_there Follower apart a is = nothing_row
   on_ack_row from term slot upto_there (Candidate own) apart a is = nothing_row
   on_ack_row from term slot upto_there (Serving l) apart a is =
@@ -1049,7 +1049,7 @@ module _ (b : Ballots) (sound : Sound b) (served : Served b) (i : ℕ) (below : 
           saved = k.saved;
           in_hand = k.in_hand;
           role = serving_known_by z.ballots i s.durable.term _ heard lead_now (merged_known z heard (counted_is l from slot upto_there h) lead_now);
-          marks = serving_marks_by i s.durable.base (marked s l slot).committed _ heard (counted_marks l h lead from slot upto_there (merging_marks l is)) (merged_acked heard);
+          marks = serving_marks_by i s.durable.base (commit_own s l slot).committed _ heard (counted_marks l h lead from slot upto_there (merging_marks l is)) (merged_acked heard);
         },
         commit_sent z l h lead from slot apart ack_is,
       )))

@@ -26,12 +26,12 @@ use Rattle.pf_protocol.specs.declared.events.Event.{Event}
 use Rattle.pf_protocol.specs.declared.events.Happening.{Happening}
 use Rattle.pf_protocol.specs.Servers.{Setup, Role, Follower, Candidate, Merging, Serving, Server, Running, Unformatted, upto, has_applied}
 use Rattle.pf_protocol.specs.Outcomes.{Outcome, raise_term}
-use Rattle.pf_protocol.specs.Leading.{submitted, on_submit, on_fetch, on_elect, on_resend, merged, on_vote, marked, mark, on_ack, on_probe_ok}
+use Rattle.pf_protocol.specs.Leading.{submitted, on_submit, on_fetch, on_elect, on_resend, merged, on_vote, commit_own, commit, on_ack, on_probe_ok}
 use Rattle.pf_protocol.specs.Following.{meets_term, on_request_vote, accepted, on_accept, on_nack, on_commit, on_probe, installed, on_image}
 use Rattle.pf_protocol.specs.Rows.{on_message, on_packet, settled}
 use Rattle.pf_protocol.specs.Saving.{restarted, is_short_of, trimmed, on_checkpoint, claimed, without_least, four_greatest, snapshots_after, applied_op, on_finish, on_give_back}
 use Rattle.pf_protocol.specs.Groups.{Group, ending, happens, opening, unless_failed, first_leader, opening_disk}
-use Rattle.pf_protocol.specs.Histories.{History, IsPrefix, replay, Runs, IsChosen}
+use Rattle.pf_protocol.specs.Histories.{History, IsPrefix, replay, RunsAs, IsChosen}
 use Rattle.pf_protocol.specs.Kept.{HasChosen, IsPassed, IsCovered, IsInHand}
 use Rattle.pf_protocol.specs.LastWriters.{IsLastWriter, HoldLastWrites}
 use Rattle.pf_protocol.specs.Snapshots.{IsSnapshot}
@@ -105,7 +105,7 @@ module _ (s : Server) where
   vote_shows term vote (Serving l) = kept
 
   ack_shows : (from term slot upto_there : ℕ) (role : Role) → Shows s (on_ack s from term slot upto_there role).server
-  unfolding on_ack marked
+  unfolding on_ack commit_own
   ack_shows from term slot upto_there Follower = kept
   ack_shows from term slot upto_there (Candidate own) = kept
   ack_shows from term slot upto_there (Merging l) = either_shows s (term == s.durable.term) _ _ (λ mark sectors at. inl at) kept
@@ -127,7 +127,7 @@ module _ (s : Server) where
       (either_shows s (holds s.durable e.slot e.term) _ _ kept (λ mark sectors at. inl at))))
 
   message_shows : (setup : Setup) (from term : ℕ) (body : Body) → Shows s (on_message setup s from term body).server
-  unfolding on_message on_request_vote on_nack on_commit mark on_probe on_image installed
+  unfolding on_message on_request_vote on_nack on_commit commit on_probe on_image installed
   message_shows setup from term (RequestVote base) = either_shows s (nat_le term s.durable.term || nat_lt base s.durable.base) _ _ kept (λ mark sectors at. inl at)
   message_shows setup from term (Vote vote) = vote_shows term vote s.role
   message_shows setup from term (Accept e) = accept_shows setup from e
@@ -174,7 +174,7 @@ record WasTaken (setup : Setup) (history : History) (mark : ℕ) (sectors : List
   is_earlier : IsPrefix earlier history
   i : ℕ
   server : Server
-  runs : Runs (replay setup earlier) i server
+  runs : RunsAs (replay setup earlier) i server
   job : FinMap.get server.in_hand mark ≡ Some Mark
   is : server.sectors ≡ sectors
 
@@ -183,7 +183,7 @@ taken_after setup earlier history p mark sectors w = record { earlier = w.earlie
 
 -- each snapshot of a running server was taken so
 abbrev AllTaken : Setup → History → Type 0
-AllTaken setup history = (i : ℕ) (s : Server) (mark : ℕ) (sectors : List Sector) → Runs (replay setup history) i s → FinMap.get s.snapshots mark ≡ Some sectors → WasTaken setup history mark sectors
+AllTaken setup history = (i : ℕ) (s : Server) (mark : ℕ) (sectors : List Sector) → RunsAs (replay setup history) i s → FinMap.get s.snapshots mark ≡ Some sectors → WasTaken setup history mark sectors
 
 no_snapshots : (i : ℕ) (d : Durable) (life mark : ℕ) (sectors : List Sector) → FinMap.get (restarted i life d).snapshots mark ≡ Some sectors → ⊥
 unfolding restarted
@@ -343,7 +343,7 @@ module _ (setup : Setup) (history : History) (m : ℕ) (sectors : List Sector) (
       }
 
 -- the snapshot of a mark, when it is taken and ever after
-pub snapshot_is : (setup : Setup) (history earlier : History) (i : ℕ) (s : Server) (m : ℕ) (sectors : List Sector) → IsPrefix earlier history → Runs (replay setup earlier) i s → FinMap.get s.snapshots m ≡ Some sectors → IsSnapshot setup history m sectors
+pub snapshot_is : (setup : Setup) (history earlier : History) (i : ℕ) (s : Server) (m : ℕ) (sectors : List Sector) → IsPrefix earlier history → RunsAs (replay setup earlier) i s → FinMap.get s.snapshots m ≡ Some sectors → IsSnapshot setup history m sectors
 snapshot_is setup history earlier i s m sectors p runs at =
     let w = taken_after setup earlier history p m sectors (all_taken setup earlier i s m sectors runs at) in
     record { is_mark = ((in_hand setup history m sectors w).chosen.0, mark_chosen setup history m sectors w); holds = held setup history m sectors w }

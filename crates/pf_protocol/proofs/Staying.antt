@@ -17,8 +17,8 @@ use Rattle.pf_protocol.specs.declared.events.Event.{Event}
 use Rattle.pf_protocol.specs.declared.events.Event.TheVariants.{Submit, Fetch, Deliver, Lose, Elect, Resend, Stop, Restart, Claim, Finish, GiveBack, Checkpoint}
 use Rattle.pf_protocol.specs.declared.events.Happening.{Happening}
 use Rattle.pf_protocol.specs.Servers.{Setup, Server, Condition, Running, Stopped, Unformatted}
-use Rattle.pf_protocol.specs.Groups.{Sent, Group, Ending, Whole, CutOff, Missed, Untouched, acted, cut_off, step_of, at_server, marked_in, delivered, lost, stopped, begun, restart, claim_of, claim_at, claim_or, first_claim, only, counted_election, ending, happens, opening, unless_failed, first_leader, opening_disk}
-use Rattle.pf_protocol.specs.Histories.{Runs}
+use Rattle.pf_protocol.specs.Groups.{Sent, Group, Ending, Whole, CutOff, Missed, Untouched, acted, cut_off, step_of, at_server, delivered_in, delivered, lost, stopped, begun, restart, claim_of, claim_at, claim_or, first_claim, only, counted_election, ending, happens, opening, unless_failed, first_leader, opening_disk}
+use Rattle.pf_protocol.specs.Histories.{RunsAs}
 use Rattle.pf_protocol.specs.Answers.{Claimed, claims_after, claims_with, claim_answer, claim_answer_at, is_claim, answer_to, may_halt, IsAnswer, IsOpen, IsLegalNext, IsSetup, most_packets, most_packet_bytes}
 use Rattle.pf_protocol.specs.Asked.{Asks}
 use Rattle.pf_protocol.specs.Elected.{BodyKeeps, ConditionKeeps, GroupKeeps, KeepsTerms}
@@ -61,17 +61,17 @@ only_elections CutOff g later same = refl
 only_elections Missed g later same = refl
 only_elections Untouched g later same = refl
 
-marked_elections : (how : Ending) (g : Group) (k : ℕ) (p : Sent) → (marked_in how g k p).elections ≡ g.elections
-marked_elections Whole g k p = refl
-marked_elections CutOff g k p = refl
-marked_elections Missed g k p = refl
-marked_elections Untouched g k p = refl
+delivery_elections : (how : Ending) (g : Group) (k : ℕ) (p : Sent) → (delivered_in how g k p).elections ≡ g.elections
+delivery_elections Whole g k p = refl
+delivery_elections CutOff g k p = refl
+delivery_elections Missed g k p = refl
+delivery_elections Untouched g k p = refl
 
 delivered_elections : (setup : Setup) (how : Ending) (g : Group) (k : ℕ) (o : Option Sent) → (delivered setup how g k o).elections ≡ g.elections
 delivered_elections setup how g k None = refl
 delivered_elections setup how g k (Some p) =
-    by_test p.lost (λ c. (if c then g else at_server how (marked_in how g k p) p.packet.to (λ s. on_packet setup s p.packet)).elections ≡ g.elections)
-    (λ _. refl) (λ _. step_elections how (marked_in how g k p) p.packet.to _ (λ s. on_packet setup s p.packet) ∙ marked_elections how g k p)
+    by_test p.lost (λ c. (if c then g else at_server how (delivered_in how g k p) p.packet.to (λ s. on_packet setup s p.packet)).elections ≡ g.elections)
+    (λ _. refl) (λ _. step_elections how (delivered_in how g k p) p.packet.to _ (λ s. on_packet setup s p.packet) ∙ delivery_elections how g k p)
 
 lost_elections : (g : Group) (k : ℕ) (o : Option Sent) → (lost g k o).elections ≡ g.elections
 lost_elections g k None = refl
@@ -206,7 +206,7 @@ viable_packets setup is top n terms claims g v k sent at =
     (few_body terms (omega (arith, v.elected, v.fits.elections)) sent.packet.body (every_get (λ sent. BodyKeeps terms sent.packet.body) g.packets k sent v.keeps.packets at))
     (every_get (λ sent. PacketFits setup n (suc (top + g.elections)) sent.packet) g.packets k sent v.fits.packets at)
 
-pub viable_starts : (setup : Setup) (top n : ℕ) (terms : List ℕ) (claims : List Claimed) (g : Group) → IsViable setup top n terms claims g → (i : ℕ) (s : Server) → Runs g i s → FinMap.len s.durable.starts ≤ 130
+pub viable_starts : (setup : Setup) (top n : ℕ) (terms : List ℕ) (claims : List Claimed) (g : Group) → IsViable setup top n terms claims g → (i : ℕ) (s : Server) → RunsAs g i s → FinMap.len s.durable.starts ≤ 130
 viable_starts setup top n terms claims g v i s at =
     let k = v.keeps.servers i (Running s) at in
     omega (arith, v.elected, v.fits.elections, few_starts_beside terms s.durable.starts k.few)
@@ -229,7 +229,7 @@ module _ (setup : Setup) (top n : ℕ) (terms : List ℕ) (claims : List Claimed
   begun_elected Missed life d before later few b l = v.keeps
   begun_elected Untouched life d before later few b l = v.keeps
 
-  begun_ask : (how : Ending) (life : ℕ) (d before later : Durable) (j : ℕ) (s : Server) → Runs (begun how g i life d before later) j s → Asks setup.chunk g.reads s
+  begun_ask : (how : Ending) (life : ℕ) (d before later : Durable) (j : ℕ) (s : Server) → RunsAs (begun how g i life d before later) j s → Asks setup.chunk g.reads s
   begun_ask Whole life d before later j s at = elim (set_cases g.servers i (Running (restarted i (suc life) (renewed d))) j (Running s) at) [
     | inl here ↦ subst (Asks setup.chunk g.reads) (same_running here.1) (restarted_asks setup.chunk g.reads i (suc life) (renewed d))
     | inr there ↦ v.asks j s there.1

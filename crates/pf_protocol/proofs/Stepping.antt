@@ -18,8 +18,8 @@ use Rattle.pf_protocol.specs.Outcomes.{Outcome}
 use Rattle.pf_protocol.specs.Leading.{on_submit, on_fetch, on_elect, on_resend}
 use Rattle.pf_protocol.specs.Saving.{on_checkpoint, restarted, renewed, claimed, on_finish, on_give_back}
 use Rattle.pf_protocol.specs.Rows.{on_packet, settled, ready_reads}
-use Rattle.pf_protocol.specs.Groups.{Acked, Answered, Sent, Group, Ending, Whole, CutOff, Missed, Untouched, send, answer_of, reads_after, acted, cut_off, ended, step_of, at_server, with_sent, marked_in, delivered, lost, stopped, begun, restart, claim_of, claim_at, claim_or, first_claim, only, counted_election, happens}
-use Rattle.pf_protocol.specs.Histories.{Runs}
+use Rattle.pf_protocol.specs.Groups.{Acked, Answered, Sent, Group, Ending, Whole, CutOff, Missed, Untouched, send, answer_of, reads_after, acted, cut_off, ended, step_of, at_server, with_sent, delivered_in, delivered, lost, stopped, begun, restart, claim_of, claim_at, claim_or, first_claim, only, counted_election, happens}
+use Rattle.pf_protocol.specs.Histories.{RunsAs}
 
 -- the rule that an event follows at a running server
 pub data IsRule (setup : Setup) (g : Group) (i : ℕ) (s : Server) : Event → Outcome → Type 0 where
@@ -34,17 +34,17 @@ pub data IsRule (setup : Setup) (g : Group) (i : ℕ) (s : Server) : Event → O
 
 -- a whole step of a server
 pub record Steps (setup : Setup) (g : Group) (event : Event) (after : Group) (i : ℕ) (s : Server) (o : Outcome) : Type 0 where
-  pub runs : Runs g i s
+  pub runs : RunsAs g i s
   pub rule : IsRule setup g i s event o
-  pub runs_on : Runs after i (settled o.server)
+  pub runs_on : RunsAs after i (settled o.server)
   pub counts : after.reads ≡ reads_after g.reads o.answer
 
 -- where a server comes from that runs after an event
 pub data Came (setup : Setup) (g : Group) (event : Event) (after : Group) (i : ℕ) : Server → Type 0 where
-  Stays : (s : Server) → Runs g i s → Came setup g event after i s
+  Stays : (s : Server) → RunsAs g i s → Came setup g event after i s
   Stepped : (s : Server) (o : Outcome) → Steps setup g event after i s o → Came setup g event after i (settled o.server)
   Begins : (life : ℕ) (d : Durable) → Came setup g event after i (restarted i life d)
-  Claims : (s : Server) (slot : ℕ) → Runs g i s → Came setup g event after i (claimed s slot)
+  Claims : (s : Server) (slot : ℕ) → RunsAs g i s → Came setup g event after i (claimed s slot)
 
 -- what an event adds at the end of a list of the group: nothing, or what a step of a server gives
 pub data Adds {X : Type 0} (setup : Setup) (g : Group) (event : Event) (after : Group) (gives : Outcome → List X) (old new : List X) : Type 0 where
@@ -62,7 +62,7 @@ abbrev pub answers_of : Outcome → List Answered
 answers_of o = map (answer_of o.server) (ready_reads o.server)
 
 pub record Goes (setup : Setup) (g : Group) (event : Event) (after : Group) : Type 0 where
-  pub servers : (i : ℕ) (z : Server) → Runs after i z → Came setup g event after i z
+  pub servers : (i : ℕ) (z : Server) → RunsAs after i z → Came setup g event after i z
   pub packets : Adds setup g event after (λ o. o.packets) (packets_of g.packets) (packets_of after.packets)
   pub acked : Adds setup g event after acks_of g.acked after.acked
   pub answered : Adds setup g event after answers_of g.answered after.answered
@@ -170,7 +170,7 @@ module _ (setup : Setup) (g : Group) (event : Event) where
   same_running : (x y : Server) → Running x ≡ Running y → x ≡ y
   same_running x y e = cc
 
-  step_at : (mid : Group) → Alike g mid → (i : ℕ) (s : Server) (o : Outcome) → Runs g i s → IsRule setup g i s event o → Steps setup g event (acted mid i o) i s o
+  step_at : (mid : Group) → Alike g mid → (i : ℕ) (s : Server) (o : Outcome) → RunsAs g i s → IsRule setup g i s event o → Steps setup g event (acted mid i o) i s o
   unfolding acted
   step_at mid a i s o runs rule = record {
     runs = runs;
@@ -193,13 +193,13 @@ module _ (setup : Setup) (g : Group) (event : Event) where
     reads = subst (λ n. n ≤ reads_after mid.reads o.answer) a.reads (rises mid.reads o.answer);
   }
 
-  acts : (mid : Group) → Alike g mid → (i : ℕ) (s : Server) (o : Outcome) → Runs g i s → IsRule setup g i s event o → Goes setup g event (acted mid i o)
+  acts : (mid : Group) → Alike g mid → (i : ℕ) (s : Server) (o : Outcome) → RunsAs g i s → IsRule setup g i s event o → Goes setup g event (acted mid i o)
   acts mid a i s o runs rule = acts_by mid a i s o (step_at mid a i s o runs rule)
 
   not_running : (life : ℕ) (before after : Durable) (z : Server) → Stopped life before after ≡ Running z → ⊥
   not_running life before after z e = grind (arith, e)
 
-  ends : (how : Ending) (mid : Group) → Alike g mid → (i : ℕ) (s : Server) (o : Outcome) → Runs g i s → IsRule setup g i s event o → Goes setup g event (ended how mid i s o)
+  ends : (how : Ending) (mid : Group) → Alike g mid → (i : ℕ) (s : Server) (o : Outcome) → RunsAs g i s → IsRule setup g i s event o → Goes setup g event (ended how mid i s o)
   unfolding cut_off
   ends Whole mid a i s o runs rule = acts mid a i s o runs rule
   ends CutOff mid a i s o runs rule = changed mid a i (Stopped (suc s.life) s.durable o.server.durable) (λ z e. absurd (not_running _ _ _ z e))
@@ -267,11 +267,11 @@ module _ (setup : Setup) (g : Group) (event : Event) where
     reads = refl;
   }
 
-  marked_alike : (how : Ending) (k : ℕ) (p : Sent) → slice_get g.packets k ≡ Some p → Alike g (marked_in how g k p)
-  marked_alike Whole k p at = marks_alike k p _ at refl
-  marked_alike CutOff k p at = marks_alike k p _ at refl
-  marked_alike Missed k p at = marks_alike k p _ at refl
-  marked_alike Untouched k p at = itself g
+  delivery_alike : (how : Ending) (k : ℕ) (p : Sent) → slice_get g.packets k ≡ Some p → Alike g (delivered_in how g k p)
+  delivery_alike Whole k p at = marks_alike k p _ at refl
+  delivery_alike CutOff k p at = marks_alike k p _ at refl
+  delivery_alike Missed k p at = marks_alike k p _ at refl
+  delivery_alike Untouched k p at = itself g
 
   loses : (k : ℕ) (o : Option Sent) → slice_get g.packets k ≡ o → Goes setup g event (lost g k o)
   loses k None at = still g (itself g)
@@ -288,9 +288,9 @@ delivers setup g how k None at = still setup g (Deliver k) g (itself g)
 delivers setup g how k (Some p) at =
     by_end p.lost
   where
-    by_end : (c : Bool) → Goes setup g (Deliver k) (if c then g else at_server how (marked_in how g k p) p.packet.to (λ s. on_packet setup s p.packet))
+    by_end : (c : Bool) → Goes setup g (Deliver k) (if c then g else at_server how (delivered_in how g k p) p.packet.to (λ s. on_packet setup s p.packet))
     by_end true = still setup g (Deliver k) g (itself g)
-    by_end false = server_goes setup g (Deliver k) how (marked_in how g k p) (marked_alike setup g (Deliver k) how k p at) p.packet.to (λ s. on_packet setup s p.packet) (λ s. ByPacket k p at refl)
+    by_end false = server_goes setup g (Deliver k) how (delivered_in how g k p) (delivery_alike setup g (Deliver k) how k p at) p.packet.to (λ s. on_packet setup s p.packet) (λ s. ByPacket k p at refl)
 
 -- every event
 pub goes : (setup : Setup) (g : Group) (event : Event) (how : Ending) → Goes setup g event (happens setup g event how)

@@ -16,7 +16,7 @@ use Rattle.pf_protocol.specs.Servers.{Setup, Server, Condition, Running, Stopped
 use Rattle.pf_protocol.specs.Outcomes.{Outcome}
 use Rattle.pf_protocol.specs.Saving.{restarted, renewed, is_claimable, claimable, claimed}
 use Rattle.pf_protocol.specs.Rows.{on_packet, settled}
-use Rattle.pf_protocol.specs.Groups.{Acked, Sent, Group, Ending, Whole, CutOff, Missed, Untouched, send, acted, cut_off, ended, step_of, at_server, with_sent, marked_in, delivered, lost, stopped, begun, restart, claim_of, claim_at, claim_or, first_claim, only, counted_election, happens}
+use Rattle.pf_protocol.specs.Groups.{Acked, Sent, Group, Ending, Whole, CutOff, Missed, Untouched, send, acted, cut_off, ended, step_of, at_server, with_sent, delivered_in, delivered, lost, stopped, begun, restart, claim_of, claim_at, claim_or, first_claim, only, counted_election, happens}
 use Rattle.pf_protocol.specs.declared.events.Event.{Event}
 use Rattle.pf_protocol.specs.declared.events.Event.TheVariants.{Submit, Fetch, Deliver, Lose, Elect, Resend, Stop, Restart, Claim, Finish, GiveBack, Checkpoint}
 use Rattle.pf_entry.specs.Lists.{Every}
@@ -174,8 +174,8 @@ module _ (b : Ballots) (sound : Sound b) (served : Served b) (g : Group) (follow
   at_server_next how i rule row = step_next how i (slice_get g.servers i) rule refl row
 
   -- a packet's marks are no part of what it says
-  marked_next : (k : ℕ) (p q : Sent) → slice_get g.packets k ≡ Some p → q.packet ≡ p.packet → Follows (with_sent g k q) b
-  marked_next k p q at same = record {
+  delivery_next : (k : ℕ) (p q : Sent) → slice_get g.packets k ≡ Some p → q.packet ≡ p.packet → Follows (with_sent g k q) b
+  delivery_next k p q at same = record {
     servers = follows.servers;
     acked = follows.acked;
     packets = every_set (λ p. PacketIs b p.packet) g.packets k q follows.packets
@@ -293,7 +293,7 @@ module _ (b : Ballots) (sound : Sound b) (served : Served b) (g : Group) (follow
 
   lost_next : (k : ℕ) (o : Option Sent) → slice_get g.packets k ≡ o → Next b (lost g k o)
   lost_next k None at = nothing_next
-  lost_next k (Some p) at = record { ballots = b; sound = sound; served = served; follows = marked_next k p _ at refl; proposals = λ s t e is. is; accepted = λ i s t is. is; persists = record { terms = λ i. le_refl _; fresh = λ i s t is. inl is; votes = λ i t v is. is; ballots = λ t m is. is }; new_accepted = λ i s t is. inl is }
+  lost_next k (Some p) at = record { ballots = b; sound = sound; served = served; follows = delivery_next k p _ at refl; proposals = λ s t e is. is; accepted = λ i s t is. is; persists = record { terms = λ i. le_refl _; fresh = λ i s t is. inl is; votes = λ i t v is. is; ballots = λ t m is. is }; new_accepted = λ i s t is. inl is }
 
 -- the counts of a group are not read
 pub counts_next : (b : Ballots) (g : Group) (elections reads : ℕ) → Follows g b → Follows (record g { elections = elections; reads = reads }) b
@@ -309,19 +309,19 @@ election_follows b g CutOff f = counts_next b g (suc g.elections) g.reads f
 election_follows b g Missed f = f
 election_follows b g Untouched f = f
 
-marked_follows : (b : Ballots) (sound : Sound b) (served : Served b) (g : Group) (follows : Follows g b) (how : Ending) (k : ℕ) (p : Sent) → slice_get g.packets k ≡ Some p → Follows (marked_in how g k p) b
-marked_follows b sound served g follows Whole k p at = marked_next b sound served g follows k p _ at refl
-marked_follows b sound served g follows CutOff k p at = marked_next b sound served g follows k p _ at refl
-marked_follows b sound served g follows Missed k p at = marked_next b sound served g follows k p _ at refl
-marked_follows b sound served g follows Untouched k p at = follows
+delivery_follows : (b : Ballots) (sound : Sound b) (served : Served b) (g : Group) (follows : Follows g b) (how : Ending) (k : ℕ) (p : Sent) → slice_get g.packets k ≡ Some p → Follows (delivered_in how g k p) b
+delivery_follows b sound served g follows Whole k p at = delivery_next b sound served g follows k p _ at refl
+delivery_follows b sound served g follows CutOff k p at = delivery_next b sound served g follows k p _ at refl
+delivery_follows b sound served g follows Missed k p at = delivery_next b sound served g follows k p _ at refl
+delivery_follows b sound served g follows Untouched k p at = follows
 
 delivered_next : (setup : Setup) (b : Ballots) (sound : Sound b) (served : Served b) (g : Group) (follows : Follows g b) (how : Ending) (k : ℕ) (o : Option Sent) → slice_get g.packets k ≡ o → Next b (delivered setup how g k o)
 delivered_next setup b sound served g follows how k None at = nothing_next b sound served g follows
 delivered_next setup b sound served g follows how k (Some p) at =
-    by_test p.lost (λ c. Next b (if c then g else at_server how (marked_in how g k p) p.packet.to (λ s. on_packet setup s p.packet)))
+    by_test p.lost (λ c. Next b (if c then g else at_server how (delivered_in how g k p) p.packet.to (λ s. on_packet setup s p.packet)))
     (λ _. nothing_next b sound served g follows)
     (λ _. let h = every_get (λ p. PacketIs b p.packet) g.packets k p follows.packets at in
-    at_server_next b sound served (marked_in how g k p) (marked_follows b sound served g follows how k p at) how p.packet.to (λ s. on_packet setup s p.packet)
+    at_server_next b sound served (delivered_in how g k p) (delivery_follows b sound served g follows how k p at) how p.packet.to (λ s. on_packet setup s p.packet)
     (λ s below is. packet_row setup b sound served p.packet h s below is))
 
 -- every event

@@ -11,7 +11,7 @@ use Rattle.pf_protocol.specs.declared.events.Event.{Event}
 use Rattle.pf_protocol.specs.Servers.{Setup, Leader, Server}
 use Rattle.pf_protocol.specs.Leading.{new_entry}
 use Rattle.pf_protocol.specs.Groups.{TookPlace, ending}
-use Rattle.pf_protocol.specs.Histories.{History, IsPrefix, replay, Runs, Makes, BySubmit, ByMerge, IsProposal, IsChosen, HasOrigin, Itself, Through}
+use Rattle.pf_protocol.specs.Histories.{History, IsPrefix, replay, RunsAs, Makes, BySubmit, ByMerge, IsProposal, IsChosen, HasOrigin, Itself, Through}
 use Rattle.pf_protocol.specs.Ports.{Submission, submitting, IsCopy, ComesFrom, WasSubmitted}
 use Rattle.pf_protocol.proofs.Origins.{source_of, origin_after}
 use Rattle.pf_protocol.proofs.Snapshots.{chosen_after}
@@ -56,7 +56,7 @@ pub record Submitted (setup : Setup) (now : History) (e : Entry) : Type 0 where
   pub made : IsPrefix (submission.before ++ submitting submission ∷ []) now
   pub copy : IsCopy setup submission e
 
-by_makes : (setup : Setup) (now earlier : History) (i : ℕ) (s : Server) (event : Event) (answer : Answer) (e : Entry) → TookPlace (ending answer) → IsPrefix (earlier ++ record { event = event; answer = answer } ∷ []) now → Runs (replay setup earlier) i s → Makes setup (replay setup earlier) i s event e → IsNew e → Submitted setup now e
+by_makes : (setup : Setup) (now earlier : History) (i : ℕ) (s : Server) (event : Event) (answer : Answer) (e : Entry) → TookPlace (ending answer) → IsPrefix (earlier ++ record { event = event; answer = answer } ∷ []) now → RunsAs (replay setup earlier) i s → Makes setup (replay setup earlier) i s event e → IsNew e → Submitted setup now e
 unfolding merged_entry
 by_makes setup now earlier i s _ answer _ done p runs (BySubmit op l role) new = record {
   submission = record { write = 0; before = earlier; server = i; op = op; answer = answer };

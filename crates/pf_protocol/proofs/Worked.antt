@@ -5,7 +5,7 @@ use Rattle.pf_entry.specs.declared.ops.Op.TheVariants.{Noop}
 use Rattle.pf_entry.specs.Records.{stored, put_entry, add_start, holds}
 use Rattle.pf_protocol.specs.Servers.{Setup, upto}
 use Rattle.pf_protocol.specs.declared.answers.Answer.TheVariants.{Slot as SlotIs, Done}
-use Rattle.pf_protocol.specs.Leading.{on_submit, submitted, new_entry, look_behind, acknowledged, on_ack, counted, marked, op_at}
+use Rattle.pf_protocol.specs.Leading.{on_submit, submitted, new_entry, look_behind, acknowledged, on_ack, counted, commit_own, op_at}
 use Rattle.pf_protocol.specs.Following.{on_accept, accepted}
 use Rattle.pf_protocol.specs.Rows.{on_message, on_packet, settled}
 use Rattle.pf_protocol.specs.Saving.{restarted}
@@ -20,5 +20,5 @@ one_write : History
 one_write = record { event = Submit 0 Noop; answer = SlotIs 1 } ∷ record { event = Deliver 0; answer = Done } ∷ record { event = Deliver 2; answer = Done } ∷ []
 
 acknowledges : (replay setup one_write).acked ≡ record { term = 1; slot = 1 } ∷ []
-unfolding setup one_write opening first_leader opening_disk restarted happens acted settled on_submit submitted new_entry look_behind op_at on_packet on_message on_accept accepted on_ack counted marked acknowledged upto stored put_entry add_start holds
+unfolding setup one_write opening first_leader opening_disk restarted happens acted settled on_submit submitted new_entry look_behind op_at on_packet on_message on_accept accepted on_ack counted commit_own acknowledged upto stored put_entry add_start holds
 acknowledges = simp gets

@@ -10,7 +10,7 @@ use Rattle.pf_entry.specs.Records.{Durable, vote_of, image_of, above, holds}
 use Rattle.pf_entry.specs.declared.records.Record.TheVariants.{Entry as EntryRecord}
 use Rattle.pf_protocol.specs.Servers.{Setup, Server, upto}
 use Rattle.pf_protocol.specs.Outcomes.{Outcome, to_one, sends, nothing, store, step_down, raise_term}
-use Rattle.pf_protocol.specs.Leading.{mark}
+use Rattle.pf_protocol.specs.Leading.{commit}
 
 -- a term from outside is taken over only if it is higher
 abbrev pub meets_term : Server → ℕ → Server
@@ -47,7 +47,7 @@ on_nack s term = nothing (meets_term s term)
 
 -- Commit
 unfoldable pub on_commit : Server → (term slot : ℕ) → Outcome
-on_commit s term slot = if holds s.durable slot term then nothing (mark s slot) else nothing s
+on_commit s term slot = if holds s.durable slot term then nothing (commit s slot) else nothing s
 
 -- Probe. The answer has the probe's term
 unfoldable pub on_probe : Server → (from term number : ℕ) → Outcome

@@ -8,7 +8,7 @@ use Rattle.pf_protocol.specs.declared.events.Event.TheVariants.{Fetch}
 use Rattle.pf_protocol.specs.declared.events.Happening.{Happening}
 use Rattle.pf_protocol.specs.Servers.{Setup, Server, has_applied}
 use Rattle.pf_protocol.specs.Groups.{Acked, Answered}
-use Rattle.pf_protocol.specs.Histories.{History, IsPrefix, replay, Runs, IsChosen}
+use Rattle.pf_protocol.specs.Histories.{History, IsPrefix, replay, RunsAs, IsChosen}
 use Rattle.pf_protocol.specs.Kept.{IsCovered}
 
 -- the event after this moment took up the read of this number
@@ -40,7 +40,7 @@ pub record IsFresh (setup : Setup) (history : History) (a : Answered) : Type 0 w
   pub not_yet : length (replay setup answering).answered ≤ place
   pub answered_then : slice_get (replay setup (answering ++ answering_event ∷ [])).answered place ≡ Some a
   pub server : Server
-  pub runs : Runs (replay setup (answering ++ answering_event ∷ [])) a.server server
+  pub runs : RunsAs (replay setup (answering ++ answering_event ∷ [])) a.server server
   pub bytes : a.bytes ≡ slice_range server.sectors a.range.first (a.range.first + a.range.count)
   pub applied : (slot : ℕ) → shows a slot ≡ has_applied server slot
   pub covered : IsCovered setup history a.term (shows a) server.sectors

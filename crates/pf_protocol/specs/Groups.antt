@@ -125,16 +125,16 @@ at_server how g i rule = step_of how g i (slice_get g.servers i) rule
 abbrev pub with_sent : Group → ℕ → Sent → Group
 with_sent g k p = record g { packets = slice_set g.packets k p }
 
--- a delivery that was refused does not count; every other one marks its packet, also at a stopped server
-abbrev pub marked_in : Ending → Group → ℕ → Sent → Group
-marked_in Untouched g k p = g
-marked_in _ g k p = with_sent g k (record p { delivered = true })
+-- a delivery that was refused does not count; after every other one its packet was delivered, also at a stopped server
+abbrev pub delivered_in : Ending → Group → ℕ → Sent → Group
+delivered_in Untouched g k p = g
+delivered_in _ g k p = with_sent g k (record p { delivered = true })
 
 -- the packet of this number comes, unless it was lost
 abbrev pub delivered : Setup → Ending → Group → ℕ → Option Sent → Group
 delivered setup how g k None = g
 delivered setup how g k (Some p) =
-    if p.lost then g else at_server how (marked_in how g k p) p.packet.to (λ s. on_packet setup s p.packet)
+    if p.lost then g else at_server how (delivered_in how g k p) p.packet.to (λ s. on_packet setup s p.packet)
 
 abbrev pub lost : Group → ℕ → Option Sent → Group
 lost g k None = g

@@ -33,13 +33,13 @@ pub record IsPrefix (earlier history : History) : Type 0 where
   pub whole : earlier ++ rest ≡ history
 
 -- the server runs, with this state
-abbrev pub Runs : Group → ℕ → Server → Type 0
-Runs g i s = slice_get g.servers i ≡ Some (Running s)
+abbrev pub RunsAs : Group → ℕ → Server → Type 0
+RunsAs g i s = slice_get g.servers i ≡ Some (Running s)
 
 -- a running server has the entry in its records
 pub record Holds (g : Group) (i : ℕ) (e : Entry) : Type 0 where
   pub server : Server
-  pub runs : Runs g i server
+  pub runs : RunsAs g i server
   pub held : FinMap.get server.durable.log e.slot ≡ Some e
 
 -- after some event of the history, server i had the entry in its records
@@ -73,7 +73,7 @@ pub record HasVoted (setup : Setup) (history : History) (k i term : ℕ) (v : Vo
   pub unsent : length (replay setup earlier).packets ≤ k
   pub was_sent : k < length (replay setup (earlier ++ voting ∷ [])).packets
   pub server : Server
-  pub runs : Runs (replay setup earlier) i server
+  pub runs : RunsAs (replay setup earlier) i server
   pub holds : v ≡ vote_of server.durable
   pub lower : server.durable.term < term
 
@@ -84,7 +84,7 @@ pub record Made (setup : Setup) (history : History) (leader : ℕ) (e : Entry) :
   pub done : TookPlace (ending making.answer)
   pub is_earlier : IsPrefix (earlier ++ making ∷ []) history
   pub server : Server
-  pub runs : Runs (replay setup earlier) leader server
+  pub runs : RunsAs (replay setup earlier) leader server
   pub makes : Makes setup (replay setup earlier) leader server making.event e
 
 -- the entry that the leader of its term made for its slot. Where the making step was cut off, it counts once its record was found
@@ -115,7 +115,7 @@ pub record IsTakenFrom (setup : Setup) (history : History) (e from : Entry) : Ty
   pub done : TookPlace (ending answer)
   pub is_earlier : IsPrefix (earlier ++ record { event = Deliver k; answer = answer } ∷ []) history
   pub server : Server
-  pub runs : Runs (replay setup earlier) leader server
+  pub runs : RunsAs (replay setup earlier) leader server
   pub sent : Sent
   pub own : VoteLog
   pub other : VoteLog

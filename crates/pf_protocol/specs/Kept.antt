@@ -1,4 +1,4 @@
--- What a group keeps beside its safety: facts about terms, logs, marks, applied slots, jobs and packets.
+-- What a group keeps beside its safety: facts about terms, logs, committed and applied slots, jobs and packets.
 use Rattle.std.specs.Prelude.{◌≡◌, ℕ, ◌<◌, ◌≤◌, ◌≢◌, ◌⊎◌, Bool, true, false, List, Option, Some, slice_get}
 use Rattle.std.specs.FinMap
 use Rattle.pf_base.specs.Span.{overlaps}
@@ -11,12 +11,12 @@ use Rattle.pf_entry.specs.Records.{Durable}
 use Rattle.pf_entry.specs.Applying.{passes, fold_to}
 use Rattle.pf_protocol.specs.Servers.{Setup, Leader, Merging, Serving, Server, Stopped, has_applied}
 use Rattle.pf_protocol.specs.Groups.{Group}
-use Rattle.pf_protocol.specs.Histories.{History, Runs, HasAccepted, IsProposal, IsChosen}
+use Rattle.pf_protocol.specs.Histories.{History, RunsAs, HasAccepted, IsProposal, IsChosen}
 
 -- what the disks of a server may stand for: one state while it runs; while it is stopped, the one without the record of its last
 -- step or the one with it
 pub data MayHold (g : Group) (i : ℕ) : Durable → Type 0 where
-  Now : (s : Server) → Runs g i s → MayHold g i s.durable
+  Now : (s : Server) → RunsAs g i s → MayHold g i s.durable
   Without : (life : ℕ) (before after : Durable) → slice_get g.servers i ≡ Some (Stopped life before after) → MayHold g i before
   With : (life : ℕ) (before after : Durable) → slice_get g.servers i ≡ Some (Stopped life before after) → MayHold g i after
 
@@ -48,8 +48,8 @@ pub record KeepsName (setup : Setup) (history : History) (e : Entry) (n : Named)
   pub has_range : n.range ≡ range_of own.op
   pub later : (t : ℕ) (op : Op) → IsChosen setup history n.slot t op → (op ≡ own.op) ⊎ (op ≡ Noop)
 
--- a committed mark stands on an entry whose op is chosen, in a term not above the entry's; in its own term, where it is new
-pub record IsMarked (setup : Setup) (history : History) (s : Server) (slot : ℕ) : Type 0 where
+-- a committed slot has an entry whose op is chosen, in a term not above the entry's; in its own term, where it is new
+pub record IsCommittedIn (setup : Setup) (history : History) (s : Server) (slot : ℕ) : Type 0 where
   pub entry : Entry
   pub held : FinMap.get s.durable.log slot ≡ Some entry
   pub chosen : IsChosenIn setup history slot entry.term entry.op
@@ -77,8 +77,8 @@ pub record IsInHand (setup : Setup) (history : History) (s : Server) (slot : ℕ
   pub apart : (other : ℕ) (its : Op) → other ≢ slot → FinMap.get s.in_hand other ≡ Some its → overlaps (range_of op) (range_of its) ≡ false
 
 -- the server had the proposal of this slot and term, or every slot up to this one was chosen by then
-abbrev pub HasAcked : Setup → History → (i slot term : ℕ) → Type 0
-HasAcked setup history i slot term =
+abbrev pub MayAck : Setup → History → (i slot term : ℕ) → Type 0
+MayAck setup history i slot term =
     ((e : Entry) × HasAccepted setup history i e × (e.slot ≡ slot) × (e.term ≡ term))
     ⊎ ((p : ℕ) → 0 < p → p ≤ slot → HasChosen setup history p term)
 

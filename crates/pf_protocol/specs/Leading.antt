@@ -19,7 +19,7 @@ use Rattle.pf_entry.specs.Records.{vote_of, holds}
 use Rattle.pf_entry.specs.declared.records.Record.TheVariants.{Entry as EntryRecord, Merged as MergedRecord}
 use Rattle.pf_entry.specs.Merging.{merged_first, merged_entries}
 use Rattle.pf_protocol.specs.Servers.{Setup, Leader, Role, Follower, Candidate, Merging, Serving, Read, Server, upto, has_applied}
-use Rattle.pf_protocol.specs.Outcomes.{Outcome, to_one, to_others, others, sends, nothing, refused, store, raise_term}
+use Rattle.pf_protocol.specs.Outcomes.{Outcome, to_one, to_others, others, sends, nothing, only_answers, store, raise_term}
 use Rattle.pf_protocol.specs.declared.answers.Answer.TheVariants.{Done, Slot as SlotIs, Term as TermIs, Read as ReadIs, Refused}
 use Rattle.pf_protocol.specs.declared.answers.Refusal.TheVariants.{WindowFull, NotLeader}
 
@@ -73,11 +73,11 @@ unfoldable pub on_submit : Setup → Server → Op → Role → Outcome
 on_submit setup s op (Serving l) =
     let e = new_entry setup.names s l op in
     if nat_lt (s.durable.base + setup.window) l.next
-    then refused s (Refused WindowFull)
+    then only_answers s (Refused WindowFull)
     else record { server = submitted s l e; packets = to_others s (Accept e); answer = SlotIs l.next; acked = None }
-on_submit setup s op Follower = refused s (Refused NotLeader)
-on_submit setup s op (Candidate own) = refused s (Refused NotLeader)
-on_submit setup s op (Merging l) = refused s (Refused NotLeader)
+on_submit setup s op Follower = only_answers s (Refused NotLeader)
+on_submit setup s op (Candidate own) = only_answers s (Refused NotLeader)
+on_submit setup s op (Merging l) = only_answers s (Refused NotLeader)
 
 -- Fetch
 unfoldable pub on_fetch : Server → Span → (number : ℕ) → Role → Outcome
@@ -85,9 +85,9 @@ on_fetch s range number (Serving l) =
     let waits_for = Sets.retain s.committed (λ slot. not (has_applied s slot) && overlaps (range_of (op_at s.durable.log slot)) range) in
     let read : Read = record { number = number; range = range; waits_for = waits_for; confirmed = false } in
     record { server = record s { reads = s.reads ++ read ∷ [] }; packets = to_others s (Probe number); answer = ReadIs number; acked = None }
-on_fetch s range number Follower = refused s (Refused NotLeader)
-on_fetch s range number (Candidate own) = refused s (Refused NotLeader)
-on_fetch s range number (Merging l) = refused s (Refused NotLeader)
+on_fetch s range number Follower = only_answers s (Refused NotLeader)
+on_fetch s range number (Candidate own) = only_answers s (Refused NotLeader)
+on_fetch s range number (Merging l) = only_answers s (Refused NotLeader)
 
 -- Elect
 unfoldable pub on_elect : Server → Outcome
@@ -161,15 +161,15 @@ counted l from slot upto_there = record l {
   acks = if is_own l slot then acknowledged l.acks from slot else l.acks;
 }
 
-unfoldable pub mark : Server → ℕ → Server
-mark s slot = record s { committed = Sets.insert s.committed slot }
+unfoldable pub commit : Server → ℕ → Server
+commit s slot = record s { committed = Sets.insert s.committed slot }
 
 abbrev pub commit_to : Server → Leader → (from slot : ℕ) → List Packet
 commit_to s l from slot = if is_own l slot then to_one s from (Commit slot) ∷ [] else []
 
--- a mark stands on an entry of the leader's own
-unfoldable pub marked : Server → Leader → ℕ → Server
-marked s l slot = record s {
+-- a leader commits entries of its own alone
+unfoldable pub commit_own : Server → Leader → ℕ → Server
+commit_own s l slot = record s {
   committed = if is_own l slot && holds s.durable slot s.durable.term then Sets.insert s.committed slot else s.committed;
 }
 
@@ -177,7 +177,7 @@ unfoldable pub on_ack : Server → (from term slot upto_there : ℕ) → Role �
 on_ack s from term slot upto_there (Serving l) =
     if term == s.durable.term
     then record {
-      server = (let m = marked s l slot in record m { role = Serving (counted l from slot upto_there) });
+      server = (let m = commit_own s l slot in record m { role = Serving (counted l from slot upto_there) });
       packets = commit_to s l from slot;
       answer = Done;
       acked = if is_own l slot && nat_le l.first slot && not (other_acked l s.number slot) then Some slot else None;
@@ -185,7 +185,7 @@ on_ack s from term slot upto_there (Serving l) =
     else nothing s
 on_ack s from term slot upto_there (Merging l) =
     if term == s.durable.term
-    then sends (let m = marked s l slot in record m { role = still_merging s (counted l from slot upto_there) }) (commit_to s l from slot)
+    then sends (let m = commit_own s l slot in record m { role = still_merging s (counted l from slot upto_there) }) (commit_to s l from slot)
     else nothing s
 on_ack s from term slot upto_there Follower = nothing s
 on_ack s from term slot upto_there (Candidate own) = nothing s

@@ -33,8 +33,8 @@ sends s packets = record { server = s; packets = packets; answer = Done; acked =
 abbrev pub nothing : Server → Outcome
 nothing s = sends s []
 
-abbrev pub refused : Server → Answer → Outcome
-refused s answer = record { server = s; packets = []; answer = answer; acked = None }
+abbrev pub only_answers : Server → Answer → Outcome
+only_answers s answer = record { server = s; packets = []; answer = answer; acked = None }
 
 -- one more record
 abbrev pub store : Server → Record → Server

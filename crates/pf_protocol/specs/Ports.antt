@@ -8,7 +8,7 @@ use Rattle.pf_protocol.specs.declared.events.Happening.{Happening}
 use Rattle.pf_protocol.specs.Servers.{Setup, Leader, Serving, Server}
 use Rattle.pf_protocol.specs.Leading.{new_entry}
 use Rattle.pf_protocol.specs.Groups.{Acked, Whole, TookPlace, ending}
-use Rattle.pf_protocol.specs.Histories.{History, IsPrefix, replay, Runs, IsChosen, HasOrigin}
+use Rattle.pf_protocol.specs.Histories.{History, IsPrefix, replay, RunsAs, IsChosen, HasOrigin}
 
 -- a port hands a write to a server, perhaps once more
 pub record Submission : Type 0 where
@@ -25,7 +25,7 @@ submitting a = record { event = Submit a.server a.op; answer = a.answer }
 pub record IsTarget (setup : Setup) (a : Submission) : Type 0 where
   pub server : Server
   pub leader : Leader
-  pub runs : Runs (replay setup a.before) a.server server
+  pub runs : RunsAs (replay setup a.before) a.server server
   pub serves : server.role ≡ Serving leader
 
 -- the entry that the leader made of it. A submission that was cut off counts as well: its record may be found

@@ -12,7 +12,7 @@ use Rattle.pf_entry.specs.declared.entries.Entry.{Entry}
 use Rattle.pf_entry.specs.Records.{Durable, image_of, stored, above}
 use Rattle.pf_entry.specs.Applying.{is_free}
 use Rattle.pf_protocol.specs.Servers.{Role, Follower, Candidate, Merging, Serving, Server, upto, has_applied}
-use Rattle.pf_protocol.specs.Outcomes.{Outcome, sends, refused, store}
+use Rattle.pf_protocol.specs.Outcomes.{Outcome, sends, only_answers, store}
 use Rattle.pf_protocol.specs.declared.answers.Answer.TheVariants.{Base as BaseIs, Refused}
 use Rattle.pf_protocol.specs.declared.answers.Refusal.TheVariants.{Stale}
 use Rattle.pf_protocol.specs.Leading.{op_at}
@@ -37,8 +37,8 @@ trimmed s =
 unfoldable pub on_checkpoint : Server → Outcome
 on_checkpoint s =
     if upto s == s.durable.base || is_short_of s.role (upto s)
-    then refused s (BaseIs s.durable.base)
-    else refused (trimmed s) (BaseIs (upto s))
+    then only_answers s (BaseIs s.durable.base)
+    else only_answers (trimmed s) (BaseIs (upto s))
 
 -- a half of format 1 is saved anew
 unfoldable pub renewed : Durable → Durable
@@ -100,7 +100,7 @@ applied_op s slot (Some op) = record s {
 
 unfoldable pub on_finish : Server → (life slot : ℕ) → Outcome
 on_finish s life slot =
-    if life == s.life then sends (applied_op s slot (FinMap.get s.in_hand slot)) [] else refused s (Refused (Stale s.life))
+    if life == s.life then sends (applied_op s slot (FinMap.get s.in_hand slot)) [] else only_answers s (Refused (Stale s.life))
 
 -- a job that was given back
 unfoldable pub on_give_back : Server → (life slot : ℕ) → Outcome

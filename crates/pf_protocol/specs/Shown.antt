@@ -12,21 +12,21 @@ use Rattle.pf_protocol.specs.declared.answers.Answer.{Answer}
 use Rattle.pf_protocol.specs.declared.events.Event.{Event}
 use Rattle.pf_protocol.specs.declared.events.Happening.{Happening}
 
--- a slot of a log: its entry's term and op, and whether it is marked as committed
-pub record Line : Type 0 where
+-- a slot of a log: its entry's term and op, and whether it is committed
+pub record LogRow : Type 0 where
   pub slot : ℕ
   pub term : ℕ
   pub op : Op
   pub committed : Bool
 
-abbrev pub line_of : Server → ℕ × Entry → Line
-line_of s held = record { slot = held.0; term = held.1.term; op = held.1.op; committed = Sets.contains s.committed held.0 }
+abbrev pub log_row : Server → ℕ × Entry → LogRow
+log_row s held = record { slot = held.0; term = held.1.term; op = held.1.op; committed = Sets.contains s.committed held.0 }
 
-abbrev pub log_of : Server → List Line
-log_of s = map (line_of s) (FinMap.entries s.durable.log)
+abbrev pub log_of : Server → List LogRow
+log_of s = map (log_row s) (FinMap.entries s.durable.log)
 
 -- a running server shows its term, its checkpoint, its log and the slots above the checkpoint that it applied
-pub record Shows (g : Group) (i term base : ℕ) (log : List Line) (applied : List ℕ) : Type 0 where
+pub record Shows (g : Group) (i term base : ℕ) (log : List LogRow) (applied : List ℕ) : Type 0 where
   pub server : Server
   pub runs : slice_get g.servers i ≡ Some (Running server)
   pub its_term : server.durable.term ≡ term
@@ -45,7 +45,7 @@ IsSector bytes = length bytes ≡ 512
 abbrev pub write_at : ℕ → Sector → Op
 write_at sector bytes = Write (record { first = sector; count = 1 }) (bytes ∷ [])
 
-abbrev pub line : (slot term : ℕ) → Op → Bool → Line
+abbrev pub line : (slot term : ℕ) → Op → Bool → LogRow
 line slot term op committed = record { slot = slot; term = term; op = op; committed = committed }
 
 abbrev pub so : Event → Answer → Happening

@@ -7,7 +7,7 @@ use Rattle.pf_entry.specs.Records.{Durable}
 use Rattle.pf_entry.specs.Sizes.{packet_size}
 use Rattle.pf_protocol.specs.Servers.{Setup, Server, Condition, Running, Stopped, Unformatted}
 use Rattle.pf_protocol.specs.Groups.{Ending, Group, begun}
-use Rattle.pf_protocol.specs.Histories.{Runs}
+use Rattle.pf_protocol.specs.Histories.{RunsAs}
 use Rattle.pf_protocol.specs.Answers.{Claimed, IsOpen, most_packets, most_packet_bytes}
 use Rattle.pf_protocol.specs.Asked.{Asks}
 use Rattle.pf_protocol.specs.Elected.{GroupKeeps}
@@ -17,7 +17,7 @@ pub record IsViable (setup : Setup) (top n : ℕ) (terms : List ℕ) (claims : L
   pub fits : FitsFrom setup top n g
   pub keeps : GroupKeeps terms g
   pub elected : length terms ≤ suc g.elections
-  pub asks : (i : ℕ) (s : Server) → Runs g i s → Asks setup.chunk g.reads s
+  pub asks : (i : ℕ) (s : Server) → RunsAs g i s → Asks setup.chunk g.reads s
   pub opened : Every (IsOpen g.servers) claims
   pub low : Every (λ c. c.server < 3) claims
   pub answered : Every (λ a. a.number < g.reads) g.answered

@@ -16,8 +16,8 @@ ghost use Rattle.pf_entry.specs.declared.packets.Body.TheVariants.{Vote, Ack, Co
 ghost use Rattle.pf_protocol.specs.Servers.{Setup, Server, has_applied};
 ghost use Rattle.pf_protocol.specs.Groups.{Sent, ending, happens};
 ghost use Rattle.pf_protocol.specs.declared.events.Happening.{Happening};
-ghost use Rattle.pf_protocol.specs.Histories.{History, IsPrefix, replay, Runs, HasAccepted, IsProposal, HasSource, HasVoted};
-ghost use Rattle.pf_protocol.specs.Kept.{MayHold, IsKeptIn, IsMarked, IsCovered, IsInHand, IsChosenIn, HasAcked, HasCommitted};
+ghost use Rattle.pf_protocol.specs.Histories.{History, IsPrefix, replay, RunsAs, HasAccepted, IsProposal, HasSource, HasVoted};
+ghost use Rattle.pf_protocol.specs.Kept.{MayHold, IsKeptIn, IsCommittedIn, IsCovered, IsInHand, IsChosenIn, MayAck, HasCommitted};
 ghost use Rattle.pf_protocol.specs.Answers.{IsLegalNext, IsLegal, IsOpen, claims_of, most_packets, most_packet_bytes};
 ghost use Rattle.pf_protocol.specs.Fitting.{GroupFits};
 ghost use Rattle.pf_protocol.specs.Asked.{Asks};
@@ -38,16 +38,16 @@ pub fn starts_are_kept()
     ensures { (setup : Setup) (history : History) (i : ℕ) (e : Entry) (d : Durable) → HasAccepted setup history i e → MayHold (replay setup history) i d → finite.get d.starts e.term ≡ Some e.first }
 {}
 
-/// A committed mark stands on a held entry whose op is chosen, in a term not above the entry's, and in its own term
+/// A committed slot has a held entry whose op is chosen, in a term not above the entry's, and in its own term
 /// where it is new.
-pub fn marks_stand_on_chosen_ops()
-    ensures { (setup : Setup) (history : History) (i : ℕ) (s : Server) (slot : ℕ) → Runs (replay setup history) i s → set.contains s.committed slot ≡ true → IsMarked setup history s slot }
+pub fn committed_slots_stand_on_chosen_ops()
+    ensures { (setup : Setup) (history : History) (i : ℕ) (s : Server) (slot : ℕ) → RunsAs (replay setup history) i s → set.contains s.committed slot ≡ true → IsCommittedIn setup history s slot }
 {}
 
 /// Each applied slot has an op that is chosen in a term not above the server's, each unapplied slot below one can be
 /// passed by it, and the sectors are the ops in slot order: at running servers, on disks, and in packets with an image.
 pub fn applied_slots_are_covered()
-    ensures servers { (setup : Setup) (history : History) (i : ℕ) (s : Server) → Runs (replay setup history) i s → IsCovered setup history s.durable.term (has_applied s) s.sectors }
+    ensures servers { (setup : Setup) (history : History) (i : ℕ) (s : Server) → RunsAs (replay setup history) i s → IsCovered setup history s.durable.term (has_applied s) s.sectors }
     ensures disks { (setup : Setup) (history : History) (i : ℕ) (d : Durable) → MayHold (replay setup history) i d → IsCovered setup history d.term (is_applied d.base d.saved) d.sectors }
     ensures images { (setup : Setup) (history : History) (k : ℕ) (sent : Sent) (base : ℕ) (applied : Numbers) (sectors : List Sector) → slice_get (replay setup history).packets k ≡ Some sent → sent.packet.body ≡ Image base applied sectors → IsCovered setup history sent.packet.term (is_applied base applied) sectors }
 {}
@@ -55,7 +55,7 @@ pub fn applied_slots_are_covered()
 /// The jobs in hand of a server are of unapplied slots with chosen ops, can pass each unapplied slot below them, and
 /// share no sector with each other.
 pub fn jobs_in_hand_are_apart()
-    ensures { (setup : Setup) (history : History) (i : ℕ) (s : Server) (slot : ℕ) (op : Op) → Runs (replay setup history) i s → finite.get s.in_hand slot ≡ Some op → IsInHand setup history s slot op }
+    ensures { (setup : Setup) (history : History) (i : ℕ) (s : Server) (slot : ℕ) (op : Op) → RunsAs (replay setup history) i s → finite.get s.in_hand slot ≡ Some op → IsInHand setup history s slot op }
 {}
 
 /// A vote shows what its sender held before the event that sent it, in a lower term. An acknowledgement says that its sender
@@ -63,7 +63,7 @@ pub fn jobs_in_hand_are_apart()
 /// one. A commit says that the slot was proposed in this term, and that the proposal's op is chosen so.
 pub fn packets_tell_the_truth()
     ensures votes { (setup : Setup) (history : History) (k : ℕ) (sent : Sent) (v : VoteLog) → slice_get (replay setup history).packets k ≡ Some sent → sent.packet.body ≡ Vote v → HasVoted setup history k sent.packet.from sent.packet.term v }
-    ensures acks { (setup : Setup) (history : History) (k : ℕ) (sent : Sent) (slot upto : ℕ) → slice_get (replay setup history).packets k ≡ Some sent → sent.packet.body ≡ Ack slot upto → 0 < slot → HasAcked setup history sent.packet.from slot sent.packet.term }
+    ensures acks { (setup : Setup) (history : History) (k : ℕ) (sent : Sent) (slot upto : ℕ) → slice_get (replay setup history).packets k ≡ Some sent → sent.packet.body ≡ Ack slot upto → 0 < slot → MayAck setup history sent.packet.from slot sent.packet.term }
     ensures commits { (setup : Setup) (history : History) (k : ℕ) (sent : Sent) (slot : ℕ) → slice_get (replay setup history).packets k ≡ Some sent → sent.packet.body ≡ Commit slot → HasCommitted setup history slot sent.packet.term }
 {}
 
@@ -73,7 +73,7 @@ pub fn packets_tell_the_truth()
 pub fn legal_histories_fit()
     ensures fits { (setup : Setup) (history : History) → IsLegal setup history → GroupFits setup (length history) (replay setup history) }
     ensures packets { (setup : Setup) (history : History) → IsLegal setup history → (k : ℕ) (sent : Sent) → slice_get (replay setup history).packets k ≡ Some sent → IsCanonicalPacket sent.packet }
-    ensures starts { (setup : Setup) (history : History) → IsLegal setup history → (i : ℕ) (s : Server) → Runs (replay setup history) i s → finite.len s.durable.starts ≤ 65 }
+    ensures starts { (setup : Setup) (history : History) → IsLegal setup history → (i : ℕ) (s : Server) → RunsAs (replay setup history) i s → finite.len s.durable.starts ≤ 65 }
 {}
 
 /// In a legal history the job of each claim that was neither finished nor given back is in hand at its server, with the
@@ -92,7 +92,7 @@ pub fn histories_go_on()
 /// Each sector holds what the greatest applied slot that writes it wrote there, and zeros where no applied slot writes it: at
 /// running servers, on disks, and in packets with an image.
 pub fn sectors_hold_last_writes()
-    ensures servers { (setup : Setup) (history : History) (i : ℕ) (s : Server) → Runs (replay setup history) i s → HoldLastWrites setup history (has_applied s) s.sectors }
+    ensures servers { (setup : Setup) (history : History) (i : ℕ) (s : Server) → RunsAs (replay setup history) i s → HoldLastWrites setup history (has_applied s) s.sectors }
     ensures disks { (setup : Setup) (history : History) (i : ℕ) (d : Durable) → MayHold (replay setup history) i d → HoldLastWrites setup history (is_applied d.base d.saved) d.sectors }
     ensures images { (setup : Setup) (history : History) (k : ℕ) (sent : Sent) (base : ℕ) (applied : Numbers) (sectors : List Sector) → slice_get (replay setup history).packets k ≡ Some sent → sent.packet.body ≡ Image base applied sectors → HoldLastWrites setup history (is_applied base applied) sectors }
 {}
@@ -100,7 +100,7 @@ pub fn sectors_hold_last_writes()
 /// In a legal history each read that waits is of 1 to 8 sectors of the chunk and waits for slots above 0, the numbers of
 /// a server's reads ascend, and each is below the number that the group gives its next read.
 pub fn waiting_reads_are_asked()
-    ensures { (setup : Setup) (history : History) → IsLegal setup history → (i : ℕ) (s : Server) → Runs (replay setup history) i s → Asks setup.chunk (replay setup history).reads s }
+    ensures { (setup : Setup) (history : History) → IsLegal setup history → (i : ℕ) (s : Server) → RunsAs (replay setup history) i s → Asks setup.chunk (replay setup history).reads s }
 {}
 
 /// In a legal history no more than 65,536 packets were ever sent, and they take no more than 134,217,728 bytes: a step

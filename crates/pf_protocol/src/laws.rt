@@ -10,7 +10,7 @@ ghost use Rattle.pf_entry.specs.Entries.{IsNew};
 ghost use Rattle.pf_entry.specs.Records.{Durable};
 ghost use Rattle.pf_entry.specs.Voids.{IsVoid};
 ghost use Rattle.pf_protocol.specs.Servers.{Setup, Server, Leader};
-ghost use Rattle.pf_protocol.specs.Histories.{History, IsPrefix, replay, Runs, HasAccepted, IsProposal, IsChosen, IsTakenFrom};
+ghost use Rattle.pf_protocol.specs.Histories.{History, IsPrefix, replay, RunsAs, HasAccepted, IsProposal, IsChosen, IsTakenFrom};
 ghost use Rattle.pf_protocol.specs.Kept.{MayHold, Leads, Respects, KeepsName, IsChosenIn};
 ghost use Rattle.pf_protocol.specs.Safety.{OneLeader, IsSafe};
 ghost use Rattle.pf_protocol.specs.Groups.{Answered};
@@ -29,7 +29,7 @@ pub fn one_leader_to_a_term()
 /// makes an entry void that may have the op. And no two servers ever held different entries of one slot and term.
 pub fn chosen_ops_persist()
     ensures later { (setup : Setup) (history : History) (slot term : ℕ) (op : Op) → IsChosen setup history slot term op → (e : Entry) → IsProposal setup history e → e.slot ≡ slot → term ≤ e.term → e.op ≡ op }
-    ensures leaders { (setup : Setup) (history : History) (slot term : ℕ) (op : Op) (earlier : History) (i : ℕ) (s : Server) (l : Leader) → IsChosen setup history slot term op → IsPrefix earlier history → Runs (replay setup earlier) i s → Leads s l → term < s.durable.term → Respects setup history slot op s l }
+    ensures leaders { (setup : Setup) (history : History) (slot term : ℕ) (op : Op) (earlier : History) (i : ℕ) (s : Server) (l : Leader) → IsChosen setup history slot term op → IsPrefix earlier history → RunsAs (replay setup earlier) i s → Leads s l → term < s.durable.term → Respects setup history slot op s l }
     ensures not_void { (setup : Setup) (history : History) (slot term u : ℕ) (op : Op) (earlier : History) (i : ℕ) (d : Durable) → IsChosen setup history slot term op → IsPrefix earlier history → MayHold (replay setup earlier) i d → term ≤ u → IsVoid d.starts slot u → ⊥ }
     ensures one_entry { (setup : Setup) (history : History) (i j : ℕ) (a b : Entry) → HasAccepted setup history i a → HasAccepted setup history j b → a.slot ≡ b.slot → a.term ≡ b.term → a ≡ b }
 {}
@@ -63,7 +63,7 @@ pub fn every_history_is_safe()
 /// mark was chosen. (The sectors of one point of the log, as in PolarFS; that a mark may pass a slot rests on the ranges of the
 /// look-behind list.)
 pub fn snapshots_hold_all_slots()
-    ensures { (setup : Setup) (history earlier : History) (i : ℕ) (s : Server) (mark : ℕ) (sectors : List Sector) → IsPrefix earlier history → Runs (replay setup earlier) i s → finite.get s.snapshots mark ≡ Some sectors → IsSnapshot setup history mark sectors }
+    ensures { (setup : Setup) (history earlier : History) (i : ℕ) (s : Server) (mark : ℕ) (sectors : List Sector) → IsPrefix earlier history → RunsAs (replay setup earlier) i s → finite.get s.snapshots mark ≡ Some sectors → IsSnapshot setup history mark sectors }
 {}
 
 /// Reads are fresh. A read is answered by an event after the one that took it up. The answer shows the slots that its server

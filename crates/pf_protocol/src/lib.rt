@@ -21,9 +21,10 @@ pub use examples::{
     starts_outlive_their_entries,
 };
 pub use kept::{
-    applied_slots_are_covered, held_entries_are_proposals, histories_go_on, jobs_in_hand_are_apart,
-    legal_histories_fit, marks_stand_on_chosen_ops, open_claims_are_in_hand, packets_have_room,
-    packets_tell_the_truth, sectors_hold_last_writes, starts_are_kept, waiting_reads_are_asked,
+    applied_slots_are_covered, committed_slots_stand_on_chosen_ops, held_entries_are_proposals,
+    histories_go_on, jobs_in_hand_are_apart, legal_histories_fit, open_claims_are_in_hand,
+    packets_have_room, packets_tell_the_truth, sectors_hold_last_writes, starts_are_kept,
+    waiting_reads_are_asked,
 };
 pub use laws::{
     acknowledged_writes_are_copies, chosen_ops_persist, chosen_writes_were_submitted,

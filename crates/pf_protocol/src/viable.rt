@@ -6,7 +6,7 @@ ghost use Rattle.pf_entry.specs.Canonical.{IsCanonicalPacket};
 ghost use Rattle.pf_protocol.specs.Servers.{Setup, Server};
 ghost use Rattle.pf_protocol.specs.Groups.{Ending, Group, Sent, ending, happens, opening};
 ghost use Rattle.pf_protocol.specs.declared.events.Happening.{Happening};
-ghost use Rattle.pf_protocol.specs.Histories.{Runs};
+ghost use Rattle.pf_protocol.specs.Histories.{RunsAs};
 ghost use Rattle.pf_protocol.specs.Answers.{Claimed, IsSetup, IsLegalNext, claims_after};
 ghost use Rattle.pf_protocol.specs.Elected.{FewBeside};
 ghost use Rattle.pf_protocol.specs.Viable.{BeginsAnew, IsViable};
@@ -24,5 +24,5 @@ pub fn groups_stay_viable()
     ensures goes { (setup : Setup) → IsSetup setup → (top n : ℕ) (terms : List ℕ) (claims : List Claimed) (g : Group) → IsViable setup top n terms claims g → (h : Happening) → IsLegalNext setup g claims h → (later : List ℕ) × IsViable setup top (suc n) later (claims_after claims h.event h.answer) (happens setup g h.event (ending h.answer)) }
     ensures begins { (setup : Setup) (top n : ℕ) (terms : List ℕ) (claims : List Claimed) (g : Group) → IsViable setup top n terms claims g → (i : ℕ) (how : Ending) (after : Group) → BeginsAnew setup top n g i how after → IsViable setup top (suc n) terms claims after }
     ensures packets { (setup : Setup) → IsSetup setup → (top n : ℕ) (terms : List ℕ) (claims : List Claimed) (g : Group) → IsViable setup top n terms claims g → (k : ℕ) (sent : Sent) → slice_get g.packets k ≡ Some sent → IsCanonicalPacket sent.packet }
-    ensures starts { (setup : Setup) (top n : ℕ) (terms : List ℕ) (claims : List Claimed) (g : Group) → IsViable setup top n terms claims g → (i : ℕ) (s : Server) → Runs g i s → finite.len s.durable.starts ≤ 130 }
+    ensures starts { (setup : Setup) (top n : ℕ) (terms : List ℕ) (claims : List Claimed) (g : Group) → IsViable setup top n terms claims g → (i : ℕ) (s : Server) → RunsAs g i s → finite.len s.durable.starts ≤ 130 }
 {}

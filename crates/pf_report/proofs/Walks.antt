@@ -11,10 +11,10 @@ use Rattle.pf_holes.specs.HoleLogs.{Holes, IsNext}
 use Rattle.pf_holes.specs.Windows.{IsWithin}
 use Rattle.pf_holes.proofs.Found.{none_or}
 use Rattle.pf_holes.proofs.Copying.{IsCopied, copied_none, copied_hole, copied_more, copied_all}
-use Rattle.pf_protocol.specs.Shown.{Line}
+use Rattle.pf_protocol.specs.Shown.{LogRow}
 use Rattle.pf_report.specs.Texts.{held_text, line_in, held_in}
 
-abbrev pub lines : Holes → List Entry → List Line
+abbrev pub lines : Holes → List Entry → List LogRow
 lines log rows = map (line_in log) (entry_rows rows)
 
 -- the entries up to a slot, whose texts were put

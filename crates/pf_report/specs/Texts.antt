@@ -11,7 +11,7 @@ use Rattle.pf_entry.specs.declared.ops.Op.{Op}
 use Rattle.pf_entry.specs.declared.ops.Op.TheVariants.{Write, Noop, Mark}
 use Rattle.pf_entry.specs.declared.entries.Entry.{Entry}
 use Rattle.pf_holes.specs.HoleLogs.{Holes}
-use Rattle.pf_protocol.specs.Shown.{Line}
+use Rattle.pf_protocol.specs.Shown.{LogRow}
 use Rattle.pf_protocol.specs.Numbers.{number_of}
 use Rattle.pf_protocol.specs.declared.answers.Answer.{Answer}
 use Rattle.pf_protocol.specs.declared.answers.Answer.TheVariants.{Done, Slot, Term, Read, Base, Job, Refused}
@@ -60,18 +60,18 @@ abbrev pub slot_text : (slot term : ℕ) → Op → List ℕ
 slot_text slot term op = decimal slot ++ codes ":" ++ decimal term ++ codes ":" ++ op_text op
 
 -- one held slot, with its sign
-abbrev pub held_text : Line → List ℕ
+abbrev pub held_text : LogRow → List ℕ
 held_text held = codes " " ++ slot_text held.slot held.term held.op ++ sign held.committed
 
-abbrev pub line_in : Holes → ℕ × Entry → Line
-line_in log held = record { slot = held.0; term = held.1.term; op = held.1.op; committed = Sets.contains log.marks held.0 }
+abbrev pub line_in : Holes → ℕ × Entry → LogRow
+line_in log held = record { slot = held.0; term = held.1.term; op = held.1.op; committed = Sets.contains log.committed held.0 }
 
 -- the slots that a log holds, in ascending order
-abbrev pub held_in : Holes → List Line
+abbrev pub held_in : Holes → List LogRow
 held_in log = map (line_in log) (FinMap.entries log.entries)
 
 -- a server's term, its checkpoint, and the slots that its log holds
-abbrev pub log_text : ℕ → ℕ → List Line → List ℕ
+abbrev pub log_text : ℕ → ℕ → List LogRow → List ℕ
 log_text term base held = codes "log " ++ decimal term ++ spaced base ++ flat_map held_text held
 
 -- a checkpoint and the applied slots above it, in ascending order

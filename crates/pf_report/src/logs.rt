@@ -66,7 +66,7 @@ fn put_entries(out: &mut Vec<u8>, log: &HoleLog) -> Result<(), NoMemory>
 }
 
 /// Puts a log: the line's number, `log`, the server's term, its checkpoint, which is the log's base, and in ascending order each slot
-/// that the log holds, with its term, its op, and `+` where it is marked as committed, else `-`.
+/// that the log holds, with its term, its op, and `+` where it is committed, else `-`.
 pub fn put_log(out: &mut Vec<u8>, line: u32, term: Term, log: &HoleLog) -> Result<(), NoMemory>
     ensures ok { OnOk result (out.new.items ≡ out.old.items ++ line_of line (log_text term log.now.base (held_in log.now))) }
     ensures err { OnErr result (out.new.items ≡ out.old.items) }

@@ -11,7 +11,7 @@ loop-row-preserved c =
     let row = c.row-item.result in
     let k = c.loop-row.row-index in
     let rows = c.args.rows.now in
-    let begun = front_of c.args.marks.now.items c.args.queue.now.items in
+    let begun = front_of c.args.seen.now.items c.args.queue.now.items in
     record {
       front =
           c.in_ok-reach.ensures.front
