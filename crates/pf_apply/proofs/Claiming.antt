@@ -74,7 +74,7 @@ module _ (d : Durable) (me : Running) (cached : IsCached d me) where
   held_test slot e some is held =
       ap (λ o. is_claimable (server_of d me) o slot) (ap (λ m. FinMap.get m slot) (sym cached.log) ∙ held)
       ∙ ap (is_claimable (server_of d me) (Some e)) (sym is)
-      ∙ (λ i. Sets.contains me.log.marks e.slot && not (applied_test d me e.slot cached (subst (λ n. 0 < n) (sym is) some) i) && not (FinMap.contains_key me.in_hand e.slot)
+      ∙ (λ i. Sets.contains me.log.committed e.slot && not (applied_test d me e.slot cached (subst (λ n. 0 < n) (sym is) some) i) && not (FinMap.contains_key me.in_hand e.slot)
       && is_free-alike (has_applied (server_of d me)) (Sets.contains me.applied.slots) e (λ p low. applied_test d me p cached low) i)
 
   -- one whose entry is not

@@ -110,9 +110,9 @@ in_window from n q true low high = grind (arith, nat_tests)
 in_window from n q false low high = refl
 
 -- the slots that a read waits for, of those above a slot up to which all are applied, as far as one is held
-module _ (d : Durable) (me : Running) (cached : IsCached d me) (range : Span) (within : IsWithin me.log.base me.log.entries) (held : (q : ℕ) → Sets.contains me.log.marks q ≡ true → FinMap.contains_key me.log.entries q ≡ true) (from n : ℕ) (reached : (q : ℕ) → me.log.base < q → q ≤ from → Sets.contains me.applied.slots q ≡ true) (last : (q : ℕ) → FinMap.contains_key me.log.entries q ≡ true → q ≤ from + n) where
+module _ (d : Durable) (me : Running) (cached : IsCached d me) (range : Span) (within : IsWithin me.log.base me.log.entries) (held : (q : ℕ) → Sets.contains me.log.committed q ≡ true → FinMap.contains_key me.log.entries q ≡ true) (from n : ℕ) (reached : (q : ℕ) → me.log.base < q → q ≤ from → Sets.contains me.applied.slots q ≡ true) (last : (q : ℕ) → FinMap.contains_key me.log.entries q ≡ true → q ≤ from + n) where
   abbrev here : ℕ → Bool
-  here slot = Sets.contains me.log.marks slot && is_waited_for me range slot
+  here slot = Sets.contains me.log.committed slot && is_waited_for me range slot
 
   abbrev there : ℕ → Bool
   there slot = not (has_applied (server_of d me) slot) && overlaps (range_of (op_at d.log slot)) range
@@ -120,13 +120,13 @@ module _ (d : Durable) (me : Running) (cached : IsCached d me) (range : Span) (w
   abbrev is_looked_at : ℕ → Bool
   is_looked_at q = nat_le (from + 1) q && nat_lt q (from + 1 + n)
 
-  alike : (q : ℕ) → me.log.base < q → here q ≡ (Sets.contains me.log.marks q && there q)
-  alike q low = λ i. Sets.contains me.log.marks q && (not (sym (applied_test d me q cached (omega (arith, low))) i) && overlaps (range_of (op_at (cached.log i) q)) range)
+  alike : (q : ℕ) → me.log.base < q → here q ≡ (Sets.contains me.log.committed q && there q)
+  alike q low = λ i. Sets.contains me.log.committed q && (not (sym (applied_test d me q cached (omega (arith, low))) i) && overlaps (range_of (op_at (cached.log i) q)) range)
 
-  not_here : (q : ℕ) → Sets.contains me.log.marks q ≡ true → Sets.contains me.applied.slots q ≡ true → here q ≡ false
+  not_here : (q : ℕ) → Sets.contains me.log.committed q ≡ true → Sets.contains me.applied.slots q ≡ true → here q ≡ false
   not_here q is done = λ i. is i && (not (done i) && overlaps (range_of (op_at me.log.entries q)) range)
 
-  one_slot : (q : ℕ) (x : Bool) → Sets.contains me.log.marks q ≡ x → (here q && is_looked_at q) ≡ (Sets.contains me.log.marks q && there q)
+  one_slot : (q : ℕ) (x : Bool) → Sets.contains me.log.committed q ≡ x → (here q && is_looked_at q) ≡ (Sets.contains me.log.committed q && there q)
   one_slot q true is =
       let low = (within q (held q is)).0 in
       let high = last q (held q is) in
@@ -145,8 +145,8 @@ module _ (d : Durable) (me : Running) (cached : IsCached d me) (range : Span) (w
       contains-items (Sets.from_items (filter here (range_with_len (from + 1) n))) q
       ∙ ap (list_any (eq_by_cmp nat_cmp q)) (items_are (filter here (range_with_len (from + 1) n)) (filtered_ascends here from n))
       ∙ in_filtered here n (from + 1) q
-      ∙ one_slot q (Sets.contains me.log.marks q) refl
-      ∙ sym (contains-retain me.log.marks there q (λ x t. ap there (FinMap.nat_cmp-IsAntisymmetric x q (sym (tied x q t))))))
+      ∙ one_slot q (Sets.contains me.log.committed q) refl
+      ∙ sym (contains-retain me.log.committed there q (λ x t. ap there (FinMap.nat_cmp-IsAntisymmetric x q (sym (tied x q t))))))
 
 -- bounds
 module _ (me : Running) (bounded : IsBounded me) where

@@ -18,7 +18,7 @@ use Rattle.pf_holes.proofs.Found.{remove_none, same_number}
 use Rattle.pf_entry.proofs.Sets.{contains-insert, same_set}
 use Rattle.pf_holes.specs.SlotSets.{SlotTable}
 use Rattle.pf_protocol.specs.Servers.{Server, Setup}
-use Rattle.pf_protocol.specs.Outcomes.{Outcome, refused, sends}
+use Rattle.pf_protocol.specs.Outcomes.{Outcome, only_answers, sends}
 use Rattle.pf_protocol.specs.Fitting.{OpFits}
 use Rattle.pf_protocol.specs.declared.answers.Answer.{Answer}
 use Rattle.pf_protocol.specs.declared.answers.Answer.TheVariants.{Refused}
@@ -166,7 +166,7 @@ pub finished_is : (s : Server) (life slot : ℕ) → life ≡ s.life → on_fini
 unfolding on_finish
 finished_is s life slot is = cond-true _ _ _ (eq-eqb life s.life is)
 
-pub stale_is : (s : Server) (life slot : ℕ) → life ≢ s.life → on_finish s life slot ≡ refused s (Refused (Stale s.life))
+pub stale_is : (s : Server) (life slot : ℕ) → life ≢ s.life → on_finish s life slot ≡ only_answers s (Refused (Stale s.life))
 unfolding on_finish
 stale_is s life slot apart = cond-false _ _ _ (ne_eqb life s.life apart)
 

@@ -14,7 +14,7 @@ use Rattle.pf_codec.specs.Spelling.{body_bytes}
 use Rattle.pf_store.specs.Stores.{IsImageOf}
 use Rattle.pf_protocol.specs.Fitting.{SlotsFit, SectorsFit}
 use Rattle.pf_protocol.specs.Servers.{Server, climb, upto}
-use Rattle.pf_protocol.specs.Outcomes.{refused}
+use Rattle.pf_protocol.specs.Outcomes.{only_answers}
 use Rattle.pf_protocol.specs.Saving.{is_short_of, on_checkpoint, trimmed}
 use Rattle.pf_protocol.specs.declared.answers.Answer.TheVariants.{Base as BaseIs}
 use Rattle.pf_state.specs.Bounds.{far}
@@ -130,13 +130,13 @@ twice_above slots low base le = same_set _ _ (λ q.
 
 -- memory after a checkpoint
 abbrev pub passed : Running → (base : ℕ) → Running
-passed me base = record me { generation = me.generation + 1; log = record { base = base; entries = FinMap.retain_keys me.log.entries (nat_lt base); marks = Sets.retain me.log.marks (nat_lt base) } }
+passed me base = record me { generation = me.generation + 1; log = record { base = base; entries = FinMap.retain_keys me.log.entries (nat_lt base); committed = Sets.retain me.log.committed (nat_lt base) } }
 
 module _ (d : Durable) (me : Running) (base : ℕ) (cached : IsCached d me) (is : base ≡ upto (server_of d me)) where
   abbrev pub saved : Server
   saved = record (server_of d me) {
     durable = stored d (image_of (state_at me base));
-    committed = Sets.retain me.log.marks (nat_lt base);
+    committed = Sets.retain me.log.committed (nat_lt base);
     applied = Sets.retain me.applied.slots (nat_lt base);
   }
 
@@ -150,7 +150,7 @@ module _ (d : Durable) (me : Running) (base : ℕ) (cached : IsCached d me) (is 
       let cut = λ (b : ℕ). Sets.retain (Sets.retain me.applied.slots (nat_lt me.log.base)) (nat_lt b) in
       record (server_of d me) {
         durable = stored d (ImageRecord (suc (sym cached.generation i)) (sym cached.term i) (record { base = sym is i; starts = sym cached.starts i; log = above (sym is i) (sym cached.log i) }) ((ap cut (sym is) ∙ slots) i) me.sectors);
-        committed = Sets.retain me.log.marks (nat_lt (sym is i));
+        committed = Sets.retain me.log.committed (nat_lt (sym is i));
         applied = (ap cut (sym is) ∙ slots) i;
       }
 
@@ -201,14 +201,14 @@ or_neither : (a b : Bool) → a ≡ false → b ≡ false → (a || b) ≡ false
 or_neither a b is is2 = ap (λ x. x || b) is ∙ is2
 
 module _ (s : Server) where
-  pub at_checkpoint : upto s ≡ s.durable.base → on_checkpoint s ≡ refused s (BaseIs s.durable.base)
+  pub at_checkpoint : upto s ≡ s.durable.base → on_checkpoint s ≡ only_answers s (BaseIs s.durable.base)
   unfolding on_checkpoint
   at_checkpoint is = cond-true _ _ _ (or_first (upto s == s.durable.base) (is_short_of s.role (upto s)) (eq-eqb (upto s) s.durable.base is))
 
-  pub still_short : is_short_of s.role (upto s) ≡ true → on_checkpoint s ≡ refused s (BaseIs s.durable.base)
+  pub still_short : is_short_of s.role (upto s) ≡ true → on_checkpoint s ≡ only_answers s (BaseIs s.durable.base)
   unfolding on_checkpoint
   still_short is = cond-true _ _ _ (or_second (upto s == s.durable.base) (is_short_of s.role (upto s)) is)
 
-  pub is_taken : upto s ≢ s.durable.base → is_short_of s.role (upto s) ≡ false → on_checkpoint s ≡ refused (trimmed s) (BaseIs (upto s))
+  pub is_taken : upto s ≢ s.durable.base → is_short_of s.role (upto s) ≡ false → on_checkpoint s ≡ only_answers (trimmed s) (BaseIs (upto s))
   unfolding on_checkpoint
   is_taken apart is = cond-false _ _ _ (or_neither (upto s == s.durable.base) (is_short_of s.role (upto s)) (ne_eqb (upto s) s.durable.base apart) is)

@@ -24,7 +24,7 @@ can_claim d me slot = is_claimable (server_of d me) (FinMap.get d.log slot) slot
 -- the same, from what is in memory
 abbrev pub can_claim_here : Running → Entry → Bool
 can_claim_here me e =
-    Sets.contains me.log.marks e.slot && not (Sets.contains me.applied.slots e.slot) && not (FinMap.contains_key me.in_hand e.slot) && is_free (Sets.contains me.applied.slots) e
+    Sets.contains me.log.committed e.slot && not (Sets.contains me.applied.slots e.slot) && not (FinMap.contains_key me.in_hand e.slot) && is_free (Sets.contains me.applied.slots) e
 
 -- the entry of a slot that can be claimed
 pub record IsReady (me : Running) (slot : ℕ) (e : Entry) : Type 0 where

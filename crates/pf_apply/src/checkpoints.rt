@@ -6,11 +6,11 @@ ghost use Rattle.pf_entry.specs.Records.{Durable, image_of};
 ghost use Rattle.pf_codec.specs.Spelling.{body_bytes};
 ghost use Rattle.pf_protocol.specs.Saving.{is_short_of, on_checkpoint, trimmed};
 ghost use Rattle.pf_protocol.specs.Servers.{upto};
-ghost use Rattle.pf_protocol.specs.Outcomes.{refused};
+ghost use Rattle.pf_protocol.specs.Outcomes.{only_answers};
 ghost use Rattle.pf_protocol.specs.declared.answers.Answer.TheVariants.{Base as BaseIs};
 ghost use Rattle.pf_state.specs.Bounds.{far};
 ghost use Rattle.pf_state.specs.Outgoing.{Outgoing};
-ghost use Rattle.pf_state.specs.Standing.{server_of, role_of, IsBounded, IsCached, Stands, Steps, room_refusal};
+ghost use Rattle.pf_state.specs.Standing.{server_of, role_of, room_refusal, CanStep, IsBounded, Stands, Steps, StepsQuietly};
 ghost use Rattle.pf_apply.specs.Saving.{state_at};
 
 use pf_base::{NoMemory, Slot};
@@ -49,7 +49,7 @@ fn pass(me: &mut Running, base: Slot)
     requires generation { me.old.generation < far }
     ensures { me.new ≡ record me.old {
       generation = me.old.generation + 1;
-      log = record { base = base; entries = finite.retain_keys me.old.log.entries (nat_lt base); marks = set.retain me.old.log.marks (nat_lt base) };
+      log = record { base = base; entries = finite.retain_keys me.old.log.entries (nat_lt base); committed = set.retain me.old.log.committed (nat_lt base) };
     } }
 {
     me.generation += 1;
@@ -63,12 +63,12 @@ fn save_state<S: Store>(
     me: &mut Running,
     base: Slot,
 ) -> Result<Answer, StepFault>
-    requires stands { (d : Durable) × Stands S.holds S.used S.format d store.old me.old × (base ≡ upto (server_of d me.old)) }
+    requires stands { (d : Durable) × Stands S.model d store.old me.old × (base ≡ upto (server_of d me.old)) }
     requires bounded { IsBounded me.old }
     requires reached { me.old.log.base ≤ base }
     requires small { base < far }
-    ensures { (d : Durable) (out : Outgoing) → Stands S.holds S.used S.format d store.old me.old → out.acked ≡ None → base ≡ upto (server_of d me.old) → (let o = refused (trimmed (server_of d me.old)) (BaseIs base) in
-        Steps S.holds S.used S.format S.told S.rose S.was d store.old me.old out store.new me.new out (room_refusal out o) o result) }
+    ensures { (d : Durable) (out : Outgoing) → Stands S.model d store.old me.old → out.acked ≡ None → base ≡ upto (server_of d me.old) → (let o = only_answers (trimmed (server_of d me.old)) (BaseIs base) in
+        Steps S.model d store.old me.old out store.new me.new out (room_refusal out o) o result) }
 {
     let body = spell_state(alloc, me, base)?;
     save(store, &body)?;
@@ -99,10 +99,9 @@ pub fn checkpoint<S: Store>(
     store: &mut S,
     me: &mut Running,
 ) -> Result<Answer, StepFault>
-    requires stands { (d : Durable) × Stands S.holds S.used S.format d store.old me.old }
+    requires stands { CanStep S.model store.old me.old }
     requires bounded { IsBounded me.old }
-    ensures step { (d : Durable) (out : Outgoing) → Stands S.holds S.used S.format d store.old me.old → out.acked ≡ None → (let o = on_checkpoint (server_of d me.old) in
-        Steps S.holds S.used S.format S.told S.rose S.was d store.old me.old out store.new me.new out (room_refusal out o) o result) }
+    ensures step { StepsQuietly S.model on_checkpoint store.old me.old store.new me.new result }
 {
     let base = me.upto();
     let before = me.log.base();

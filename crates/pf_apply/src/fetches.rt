@@ -3,7 +3,7 @@ ghost use Rattle.std.specs.Prelude.{◌≡◌, ◌≤◌, ◌<◌, ◌&&◌, IfO
 ghost use Rattle.pf_entry.specs.Records.{Durable};
 ghost use Rattle.pf_entry.specs.Sets as set;
 ghost use Rattle.pf_protocol.specs.Leading.{on_fetch};
-ghost use Rattle.pf_state.specs.Standing.{server_of, setup_of, IsBounded, IsCached, Stands, Steps};
+ghost use Rattle.pf_state.specs.Standing.{server_of, setup_of, CanStep, IsBounded, IsCached, StepsJudged};
 ghost use Rattle.pf_apply.specs.Fetching.{HasMoreRooms, IsTakenUp, fetch_refusal, is_waited_for, waits_for};
 ghost use Rattle.pf_apply.specs.Probing.{is_serving_here};
 
@@ -16,7 +16,7 @@ use std::alloc::Global;
 
 /// Whether the slot is committed, not applied, and its op overlaps the range.
 fn is_waited_for(me: &Running, slot: Slot, range: &Range) -> bool
-    ensures { result ≡ (set.contains me.now.log.marks slot && is_waited_for me.now range.now slot) }
+    ensures { result ≡ (set.contains me.now.log.committed slot && is_waited_for me.now range.now slot) }
 {
     if !me.log.is_committed(slot) {
         return false;
@@ -98,11 +98,10 @@ pub fn fetch<S: Store>(
     number: u64,
     out: &mut Outbox,
 ) -> Result<Answer, StepFault>
-    requires stands { (d : Durable) × Stands S.holds S.used S.format d _store.now me.old }
+    requires stands { CanStep S.model _store.now me.old }
     requires bounded { IsBounded me.old }
     requires fresh { out.old.acked ≡ None }
-    ensures step { (d : Durable) → Stands S.holds S.used S.format d _store.now me.old → (let s = server_of d me.old in let o = on_fetch s range number s.role in
-        Steps S.holds S.used S.format S.told S.rose S.was d _store.now me.old out.old _store.now me.new out.new (fetch_refusal (setup_of me.old) out.old range number s) o result) }
+    ensures step { StepsJudged S.model (fetch_refusal (setup_of me.old) out.old range number) (λ s. on_fetch s range number s.role) _store.now me.old out.old _store.now me.new out.new result }
 {
     if !range.fits(me.sectors.as_slice().len() as u32) {
         return Err(StepFault::Refused(Refusal::BadRange));

@@ -1,9 +1,7 @@
 //! Probes are answered.
 ghost use Rattle.std.specs.Prelude.{◌≡◌, ◌<◌, None};
-ghost use Rattle.pf_entry.specs.Records.{Durable};
 ghost use Rattle.pf_protocol.specs.Leading.{on_probe_ok};
-ghost use Rattle.pf_state.specs.Outgoing.{Outgoing};
-ghost use Rattle.pf_state.specs.Standing.{server_of, role_of, Stands, Steps, room_refusal};
+ghost use Rattle.pf_state.specs.Standing.{CanStep, StepsQuietly};
 ghost use Rattle.pf_apply.specs.Probing.{heard, is_serving_here, knowing};
 
 use pf_base::{ServerId, Slot, Term};
@@ -49,10 +47,9 @@ pub fn probe_ok<S: Store>(
     number: u64,
     upto: Slot,
 ) -> Result<Answer, StepFault>
-    requires stands { (d : Durable) × Stands S.holds S.used S.format d _store.now me.old }
+    requires stands { CanStep S.model _store.now me.old }
     requires from { from < 3 }
-    ensures step { (d : Durable) (out : Outgoing) → Stands S.holds S.used S.format d _store.now me.old → out.acked ≡ None → (let o = on_probe_ok (server_of d me.old) from term number upto (server_of d me.old).role in
-        Steps S.holds S.used S.format S.told S.rose S.was d _store.now me.old out _store.now me.new out (room_refusal out o) o result) }
+    ensures step { StepsQuietly S.model (λ s. on_probe_ok s from term number upto s.role) _store.now me.old _store.now me.new result }
 {
     if term != me.term {
         return Ok(Answer::Done);

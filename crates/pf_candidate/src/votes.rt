@@ -1,13 +1,10 @@
 //! A vote comes.
 ghost use Rattle.std.specs.Prelude.{◌≡◌, ◌≤◌, MatchOption, None};
-ghost use Rattle.pf_entry.specs.Records.{Durable};
 ghost use Rattle.pf_entry.specs.declared.entries.VoteLog.{VoteLog as VoteIs};
 ghost use Rattle.pf_entry.specs.declared.packets.Body.TheVariants.{Vote as VoteBody};
-ghost use Rattle.pf_protocol.specs.Outcomes.{nothing};
 ghost use Rattle.pf_protocol.specs.Leading.{on_vote};
 ghost use Rattle.pf_state.specs.Coming.{IsComing};
-ghost use Rattle.pf_state.specs.Outgoing.{Outgoing};
-ghost use Rattle.pf_state.specs.Standing.{server_of, quiet, IsBounded, Stands, Steps, room_refusal};
+ghost use Rattle.pf_state.specs.Standing.{quiet, CanStep, IsBounded, StepsBy, StepsQuietly};
 ghost use Rattle.pf_candidate.specs.Merging.{Elects, IsIdle, IsReady, IsTakeover, won};
 
 use crate::leads::lead;
@@ -40,11 +37,10 @@ fn store_merge<S: Store>(
     me: &mut Running,
     takeover: Takeover,
 ) -> Result<Answer, StepFault>
-    requires stands { (d : Durable) × Stands S.holds S.used S.format d store.old me.old }
-    requires ready { IsReady me.old (S.format store.old) takeover }
+    requires stands { CanStep S.model store.old me.old }
+    requires ready { IsReady me.old (S.model.format store.old) takeover }
     requires room { 1 ≤ me.old.starts.spare }
-    ensures { (d : Durable) (out : Outgoing) (own vote : VoteIs) → Stands S.holds S.used S.format d store.old me.old → out.acked ≡ None → IsTakeover me.old own vote takeover → (let o = quiet (won (server_of d me.old) own vote) in
-        Steps S.holds S.used S.format S.told S.rose S.was d store.old me.old out store.new me.new out (room_refusal out o) o result) }
+    ensures { (own vote : VoteIs) → IsTakeover me.old own vote takeover → StepsQuietly S.model (λ s. quiet (won s own vote)) store.old me.old store.new me.new result }
 {
     add(alloc, store, &takeover.kept)?;
     lead(me, takeover);
@@ -59,11 +55,10 @@ fn take_over<S: Store>(
     takeover: Takeover,
     out: &mut Outbox,
 ) -> Result<Answer, StepFault>
-    requires stands { (d : Durable) × Stands S.holds S.used S.format d store.old me.old }
+    requires stands { CanStep S.model store.old me.old }
     requires fresh { out.old.acked ≡ None }
-    requires ready { IsReady me.old (S.format store.old) takeover }
-    ensures { (d : Durable) (own vote : VoteIs) → Stands S.holds S.used S.format d store.old me.old → IsTakeover me.old own vote takeover → (let o = won (server_of d me.old) own vote in
-        Steps S.holds S.used S.format S.told S.rose S.was d store.old me.old out.old store.new me.new out.new (room_refusal out.old o) o result) }
+    requires ready { IsReady me.old (S.model.format store.old) takeover }
+    ensures { (own vote : VoteIs) → IsTakeover me.old own vote takeover → StepsBy S.model (λ s. won s own vote) store.old me.old out.old store.new me.new out.new result }
 {
     me.starts.reserve()?;
     send_entries(alloc, out, me.number, me.term, &takeover.entries)?;
@@ -85,12 +80,11 @@ pub fn vote<S: Store>(
     vote: VoteLog,
     out: &mut Outbox,
 ) -> Result<Answer, StepFault>
-    requires stands { (d : Durable) × Stands S.holds S.used S.format d store.old me.old }
+    requires stands { CanStep S.model store.old me.old }
     requires bounded { IsBounded me.old }
     requires fresh { out.old.acked ≡ None }
     requires coming { IsComing me.old from term (VoteBody vote) }
-    ensures step { (d : Durable) → Stands S.holds S.used S.format d store.old me.old → (let s = server_of d me.old in let o = on_vote s term vote s.role in
-        Steps S.holds S.used S.format S.told S.rose S.was d store.old me.old out.old store.new me.new out.new (room_refusal out.old o) o result) }
+    ensures step { StepsBy S.model (λ s. on_vote s term vote s.role) store.old me.old out.old store.new me.new out.new result }
 {
     let Some(own) = own_vote(me, term, &vote) else {
         return Ok(Answer::Done);

@@ -9,6 +9,7 @@ ghost use Rattle.pf_entry.specs.declared.records.Record.{Record as RecordIs};
 ghost use Rattle.pf_store.specs.Stores.{StandsFor, state_of};
 ghost use Rattle.pf_image.specs.Recovery.{AreRecoverable, Spells};
 ghost use Rattle.pf_image.specs.Pairs.{AreLater, current_of, format_of, moved_to};
+ghost use Rattle.pf_diskstore.specs.Model.{kept_model};
 ghost use Rattle.pf_diskstore.specs.Kept.{FindsState, IsFirst, IsKept, IsReread, LeavesStates, OneRose, WentOn, tells};
 
 use crate::reading::{read_records, used_by};
@@ -133,19 +134,7 @@ impl<D: Disk> Kept<D> {
 }
 
 impl<D: Disk> Store for Kept<D> {
-    ghost holds = { λ kept before after. IsKept D.seen D.may_leave kept.pair before after };
-
-    ghost told = { λ kept. tells D.seen kept.pair };
-
-    ghost used = { λ kept. (current_of kept.pair).used };
-
-    ghost format = { λ kept. format_of kept.pair };
-
-    ghost resumed = { λ kept. record kept { pair = moved_to kept.pair kept.found } };
-
-    ghost rose = { λ old new. OneRose D.faults old.pair new.pair };
-
-    ghost was = { λ old new before after. WentOn D.seen D.faults D.moment D.left_since D.tells_moments old.pair new.pair before after };
+    ghost model = { kept_model D.seen D.may_leave D.faults D.moment D.left_since D.tells_moments };
 
     fn used_bytes(&self) -> u64 {
         self.pair.used_bytes()

@@ -9,6 +9,7 @@ use Rattle.pf_protocol.specs.Outcomes.{raise_term}
 use Rattle.std.proofs.lemmas.Bool.{cond-true, cond-false}
 use Rattle.std.proofs.lemmas.Bool.Decides.{nat_tests}
 use Rattle.pf_protocol.specs.Following.{accepted, meets_term}
+use Rattle.pf_store.specs.Stores.{StoreModel}
 use Rattle.pf_state.specs.declared.running.Running.{Running}
 use Rattle.pf_state.specs.declared.running.Role.TheVariants.{Follower as FollowerHere}
 use Rattle.pf_state.specs.Standing.{server_of, setup_of, IsCached, Stands}
@@ -136,6 +137,6 @@ roomy_after d me starts same cached = record {
   };
 }
 
-pub roomy_stands : {S : Type 0} (holds : S → Durable → Durable → Type 0) (used format : S → ℕ) (d : Durable) (store : S) (me : Running) (starts : StartRoom) → starts.starts ≡ me.starts.starts
-    → Stands holds used format d store me → Stands holds used format d store (record me { starts = starts })
-roomy_stands holds used format d store me starts same stands = stands_after holds used format d store me (record me { starts = starts }) stands (server_of d me) (roomy_after d me starts same stands.cached)
+pub roomy_stands : {S : Type 0} (model : StoreModel S) (d : Durable) (store : S) (me : Running) (starts : StartRoom) → starts.starts ≡ me.starts.starts
+    → Stands model d store me → Stands model d store (record me { starts = starts })
+roomy_stands model d store me starts same stands = stands_after model d store me (record me { starts = starts }) stands (server_of d me) (roomy_after d me starts same stands.cached)

@@ -1,6 +1,6 @@
 pub mod Following
 pub mod Answering
 pub mod Cases
-pub mod Marking
+pub mod Committing
 pub mod Imaging
 pub mod Saving

@@ -44,7 +44,7 @@ begun me term base half = record me {
   generation = me.generation + 1;
   role = FollowerHere;
   reads = [];
-  log = record { base = base; entries = FinMap.retain_keys me.log.entries (nat_lt base); marks = Sets.retain me.log.marks (nat_lt base) };
+  log = record { base = base; entries = FinMap.retain_keys me.log.entries (nat_lt base); committed = Sets.retain me.log.committed (nat_lt base) };
   applied = half.applied;
   sectors = half.sectors;
   in_hand = half.in_hand;
@@ -81,7 +81,7 @@ module _ (d : Durable) (me : Running) (term base : ℕ) (half : NewHalf) (cached
       life = next_life i;
       durable = (taken d me term base half).durable;
       role = (taken d me term base half).role;
-      committed = Sets.retain me.log.marks (nat_lt base);
+      committed = Sets.retain me.log.committed (nat_lt base);
       applied = applied_in half base;
       sectors = half.sectors;
       in_hand = is.in_hand i;

@@ -5,7 +5,7 @@ ghost use Rattle.pf_entry.specs.Records.{Durable};
 ghost use Rattle.pf_entry.specs.declared.packets.Body.TheVariants.{Ack as AckIs, Accept as AcceptIs};
 ghost use Rattle.pf_protocol.specs.Servers.{upto};
 ghost use Rattle.pf_protocol.specs.Following.{on_accept};
-ghost use Rattle.pf_state.specs.Standing.{server_of, setup_of, IsBounded, IsCached, Stands, Steps, room_refusal};
+ghost use Rattle.pf_state.specs.Standing.{server_of, setup_of, CanStep, IsBounded, IsCached, StepsBy};
 ghost use Rattle.pf_follower.specs.Accepting.{case_at};
 ghost use Rattle.pf_state.specs.Coming.{IsComing};
 
@@ -75,12 +75,11 @@ pub fn accept<S: Store>(
     entry: Entry,
     out: &mut Outbox,
 ) -> Result<Answer, StepFault>
-    requires stands { (d : Durable) × Stands S.holds S.used S.format d store.old me.old }
+    requires stands { CanStep S.model store.old me.old }
     requires bounded { IsBounded me.old }
     requires fresh { out.old.acked ≡ None }
     requires coming { IsComing me.old from entry.term (AcceptIs entry) }
-    ensures step { (d : Durable) → Stands S.holds S.used S.format d store.old me.old → (let o = on_accept (setup_of me.old) (server_of d me.old) from entry in
-        Steps S.holds S.used S.format S.told S.rose S.was d store.old me.old out.old store.new me.new out.new (room_refusal out.old o) o result) }
+    ensures step { StepsBy S.model (λ s. on_accept (setup_of me.old) s from entry) store.old me.old out.old store.new me.new out.new result }
 {
     let slot = entry.slot;
     match case_of(me, &entry) {

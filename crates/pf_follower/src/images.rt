@@ -3,16 +3,14 @@ ghost use Rattle.std.specs.Prelude.{◌≡◌, ℕ, ◌<◌, ◌≤◌, ◌+◌,
 ghost use Rattle.std.specs.FinMap as finite;
 ghost use Rattle.pf_entry.specs.Sets as set;
 ghost use Rattle.pf_entry.specs.Canonical.{IsCanonicalRecord};
-ghost use Rattle.pf_entry.specs.Records.{Durable};
 ghost use Rattle.pf_entry.specs.declared.packets.Body.TheVariants.{Image as ImageIs};
 ghost use Rattle.pf_entry.specs.declared.records.Record.TheVariants.{Image as ImageRecord};
 ghost use Rattle.pf_codec.specs.Spelling.{body_bytes};
 ghost use Rattle.pf_protocol.specs.Servers.{upto};
-ghost use Rattle.pf_protocol.specs.Outcomes.{nothing, sends};
+ghost use Rattle.pf_protocol.specs.Outcomes.{nothing};
 ghost use Rattle.pf_protocol.specs.Following.{ack, installed, on_image};
 ghost use Rattle.pf_state.specs.Bounds.{far};
-ghost use Rattle.pf_state.specs.Outgoing.{Outgoing};
-ghost use Rattle.pf_state.specs.Standing.{server_of, IsBounded, Stands, Steps, room_refusal};
+ghost use Rattle.pf_state.specs.Standing.{CanStep, IsBounded, StepsBy, StepsQuietly};
 ghost use Rattle.pf_state.specs.Coming.{IsComing};
 ghost use Rattle.pf_follower.specs.Halves.{IsNewHalf};
 ghost use Rattle.pf_follower.specs.Images.{sectors_of};
@@ -131,7 +129,7 @@ fn begin(alloc: Global, me: &mut Running, term: Term, base: Slot, half: NewHalf)
       generation = me.old.generation + 1;
       role = Role.Follower;
       reads = [];
-      log = record { base = base; entries = finite.retain_keys me.old.log.entries (nat_lt base); marks = set.retain me.old.log.marks (nat_lt base) };
+      log = record { base = base; entries = finite.retain_keys me.old.log.entries (nat_lt base); committed = set.retain me.old.log.committed (nat_lt base) };
       applied = half.applied;
       sectors = half.sectors;
       in_hand = half.in_hand;
@@ -170,12 +168,11 @@ fn save_half<S: Store>(
     base: Slot,
     half: NewHalf,
 ) -> Result<Answer, StepFault>
-    requires stands { (d : Durable) × Stands S.holds S.used S.format d store.old me.old }
+    requires stands { CanStep S.model store.old me.old }
     requires bounded { IsBounded me.old }
     requires reached { me.old.log.base ≤ base }
     requires half { IsNewHalf me.old term base half }
-    ensures { (d : Durable) (out : Outgoing) → Stands S.holds S.used S.format d store.old me.old → out.acked ≡ None → (let o = nothing (installed (server_of d me.old) term base (set.retain half.applied.slots (nat_lt base)) half.sectors) in
-        Steps S.holds S.used S.format S.told S.rose S.was d store.old me.old out store.new me.new out (room_refusal out o) o result) }
+    ensures { StepsQuietly S.model (λ s. nothing (installed s term base (set.retain half.applied.slots (nat_lt base)) half.sectors)) store.old me.old store.new me.new result }
 {
     save(store, &half.body)?;
     begin(alloc, me, term, base, half);
@@ -194,13 +191,12 @@ fn install<S: Store>(
     sectors: Sectors,
     out: &mut Outbox,
 ) -> Result<Answer, StepFault>
-    requires stands { (d : Durable) × Stands S.holds S.used S.format d store.old me.old }
+    requires stands { CanStep S.model store.old me.old }
     requires bounded { IsBounded me.old }
     requires fresh { out.old.acked ≡ None }
     requires coming { IsComing me.old from term (ImageIs base applied sectors) }
     requires reached { me.old.log.base ≤ base }
-    ensures { (d : Durable) → Stands S.holds S.used S.format d store.old me.old → (let o = ack (installed (server_of d me.old) term base applied sectors) from base in
-        Steps S.holds S.used S.format S.told S.rose S.was d store.old me.old out.old store.new me.new out.new (room_refusal out.old o) o result) }
+    ensures { StepsBy S.model (λ s. ack (installed s term base applied sectors) from base) store.old me.old out.old store.new me.new out.new result }
 {
     let half = prepare(alloc, me, term, base, applied, sectors)?;
     let upto = half.applied.upto();
@@ -233,12 +229,11 @@ pub fn image<S: Store>(
     sectors: Sectors,
     out: &mut Outbox,
 ) -> Result<Answer, StepFault>
-    requires stands { (d : Durable) × Stands S.holds S.used S.format d store.old me.old }
+    requires stands { CanStep S.model store.old me.old }
     requires bounded { IsBounded me.old }
     requires fresh { out.old.acked ≡ None }
     requires coming { IsComing me.old from term (ImageIs base applied sectors) }
-    ensures step { (d : Durable) → Stands S.holds S.used S.format d store.old me.old → (let o = on_image (server_of d me.old) from term base applied sectors in
-        Steps S.holds S.used S.format S.told S.rose S.was d store.old me.old out.old store.new me.new out.new (room_refusal out.old o) o result) }
+    ensures step { StepsBy S.model (λ s. on_image s from term base applied sectors) store.old me.old out.old store.new me.new out.new result }
 {
     if term < me.term {
         let own = me.term;

@@ -1,9 +1,8 @@
 //! A probe comes.
 ghost use Rattle.std.specs.Prelude.{◌≡◌, None};
-ghost use Rattle.pf_entry.specs.Records.{Durable};
 ghost use Rattle.pf_entry.specs.declared.packets.Body.TheVariants.{Probe as ProbeIs};
 ghost use Rattle.pf_protocol.specs.Following.{on_probe};
-ghost use Rattle.pf_state.specs.Standing.{server_of, Stands, Steps, room_refusal};
+ghost use Rattle.pf_state.specs.Standing.{CanStep, StepsBy};
 ghost use Rattle.pf_state.specs.Coming.{IsComing};
 
 use crate::replies::reply;
@@ -27,11 +26,10 @@ pub fn probe<S: Store>(
     number: u64,
     out: &mut Outbox,
 ) -> Result<Answer, StepFault>
-    requires stands { (d : Durable) × Stands S.holds S.used S.format d store.now me.now }
+    requires stands { CanStep S.model store.now me.now }
     requires fresh { out.old.acked ≡ None }
     requires coming { IsComing me.now from term (ProbeIs number) }
-    ensures step { (d : Durable) → Stands S.holds S.used S.format d store.now me.now → (let o = on_probe (server_of d me.now) from term number in
-        Steps S.holds S.used S.format S.told S.rose S.was d store.now me.now out.old store.now me.now out.new (room_refusal out.old o) o result) }
+    ensures step { StepsBy S.model (λ s. on_probe s from term number) store.now me.now out.old store.now me.now out.new result }
 {
     if term < me.term {
         return reply(alloc, store, me, from, me.term, Body::Nack, out);

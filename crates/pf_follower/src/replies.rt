@@ -1,15 +1,14 @@
 //! Steps that answer one packet, with a record or without.
 ghost use Rattle.std.specs.Prelude.{◌≡◌, ◌<◌, ◌≤◌, ◌+◌, [], ◌∷◌, None};
 ghost use Rattle.pf_entry.specs.Canonical.{IsCanonicalPacket};
-ghost use Rattle.pf_entry.specs.Records.{Durable, add_start};
+ghost use Rattle.pf_entry.specs.Records.{add_start};
 ghost use Rattle.pf_entry.specs.declared.records.Record.TheVariants.{Entry as EntryRecord};
 ghost use Rattle.pf_codec.specs.Spelling.{body_bytes};
 ghost use Rattle.pf_store.specs.Stores.{IsSpelledAs};
 ghost use Rattle.pf_protocol.specs.Outcomes.{sends, nothing, raise_term};
 ghost use Rattle.pf_protocol.specs.Following.{meets_term, accepted};
-ghost use Rattle.pf_state.specs.Outgoing.{Outgoing};
 ghost use Rattle.pf_state.specs.Packets.{packet};
-ghost use Rattle.pf_state.specs.Standing.{server_of, Stands, Steps, room_refusal};
+ghost use Rattle.pf_state.specs.Standing.{CanStep, StepsBy, StepsQuietly};
 ghost use Rattle.std.specs.FinMap as finite;
 
 use pf_base::{ServerId, Term};
@@ -30,11 +29,10 @@ pub fn reply<S: Store>(
     body: Body,
     out: &mut Outbox,
 ) -> Result<Answer, StepFault>
-    requires stands { (d : Durable) × Stands S.holds S.used S.format d _store.now me.now }
+    requires stands { CanStep S.model _store.now me.now }
     requires fresh { out.old.acked ≡ None }
     requires canonical { IsCanonicalPacket (packet me.now.number to term body) }
-    ensures { (d : Durable) → Stands S.holds S.used S.format d _store.now me.now → (let o = sends (server_of d me.now) (packet me.now.number to term body ∷ []) in
-        Steps S.holds S.used S.format S.told S.rose S.was d _store.now me.now out.old _store.now me.now out.new (room_refusal out.old o) o result) }
+    ensures { StepsBy S.model (λ s. sends s (packet me.now.number to term body ∷ [])) _store.now me.now out.old _store.now me.now out.new result }
 {
     send(alloc, out, me.number, to, term, body)?;
     Ok(Answer::Done)
@@ -56,9 +54,8 @@ pub fn raise<S: Store>(
     me: &mut Running,
     term: Term,
 ) -> Result<Answer, StepFault>
-    requires { (d : Durable) × Stands S.holds S.used S.format d store.old me.old }
-    ensures { (d : Durable) (out : Outgoing) → Stands S.holds S.used S.format d store.old me.old → out.acked ≡ None → (let o = nothing (raise_term (server_of d me.old) term) in
-        Steps S.holds S.used S.format S.told S.rose S.was d store.old me.old out store.new me.new out (room_refusal out o) o result) }
+    requires { CanStep S.model store.old me.old }
+    ensures { StepsQuietly S.model (λ s. nothing (raise_term s term)) store.old me.old store.new me.new result }
 {
     add(alloc, store, &Record::Term(term))?;
     follow(alloc, me, term);
@@ -75,11 +72,10 @@ pub fn raise_and_reply<S: Store>(
     body: Body,
     out: &mut Outbox,
 ) -> Result<Answer, StepFault>
-    requires stands { (d : Durable) × Stands S.holds S.used S.format d store.old me.old }
+    requires stands { CanStep S.model store.old me.old }
     requires fresh { out.old.acked ≡ None }
     requires canonical { IsCanonicalPacket (packet me.old.number to term body) }
-    ensures { (d : Durable) → Stands S.holds S.used S.format d store.old me.old → (let o = sends (raise_term (server_of d me.old) term) (packet me.old.number to term body ∷ []) in
-        Steps S.holds S.used S.format S.told S.rose S.was d store.old me.old out.old store.new me.new out.new (room_refusal out.old o) o result) }
+    ensures { StepsBy S.model (λ s. sends (raise_term s term) (packet me.old.number to term body ∷ [])) store.old me.old out.old store.new me.new out.new result }
 {
     send(alloc, out, me.number, to, term, body)?;
     raise(alloc, store, me, term)
@@ -95,12 +91,11 @@ pub fn meet_and_reply<S: Store>(
     body: Body,
     out: &mut Outbox,
 ) -> Result<Answer, StepFault>
-    requires stands { (d : Durable) × Stands S.holds S.used S.format d store.old me.old }
+    requires stands { CanStep S.model store.old me.old }
     requires fresh { out.old.acked ≡ None }
     requires no_lower { me.old.term ≤ term }
     requires canonical { IsCanonicalPacket (packet me.old.number to term body) }
-    ensures { (d : Durable) → Stands S.holds S.used S.format d store.old me.old → (let o = sends (meets_term (server_of d me.old) term) (packet me.old.number to term body ∷ []) in
-        Steps S.holds S.used S.format S.told S.rose S.was d store.old me.old out.old store.new me.new out.new (room_refusal out.old o) o result) }
+    ensures { StepsBy S.model (λ s. sends (meets_term s term) (packet me.old.number to term body ∷ [])) store.old me.old out.old store.new me.new out.new result }
 {
     if me.term < term {
         raise_and_reply(alloc, store, me, to, term, body, out)
@@ -135,13 +130,12 @@ fn store_entry<S: Store>(
     me: &mut Running,
     entry: Entry,
 ) -> Result<Answer, StepFault>
-    requires stands { (d : Durable) × Stands S.holds S.used S.format d store.old me.old }
-    requires spelled { IsSpelledAs (S.format store.old) (EntryRecord entry) (body_bytes (EntryRecord entry)) }
+    requires stands { CanStep S.model store.old me.old }
+    requires spelled { IsSpelledAs (S.model.format store.old) (EntryRecord entry) (body_bytes (EntryRecord entry)) }
     requires above { me.old.log.base < entry.slot }
     requires window { entry.slot ≤ me.old.log.base + 4096 }
     requires room { 1 ≤ me.old.starts.spare }
-    ensures { (d : Durable) (out : Outgoing) → Stands S.holds S.used S.format d store.old me.old → out.acked ≡ None → (let o = nothing (accepted (server_of d me.old) entry) in
-        Steps S.holds S.used S.format S.told S.rose S.was d store.old me.old out store.new me.new out (room_refusal out o) o result) }
+    ensures { StepsQuietly S.model (λ s. nothing (accepted s entry)) store.old me.old store.new me.new result }
 {
     let kept = Record::Entry(entry.try_clone(alloc)?);
     add(alloc, store, &kept)?;
@@ -159,14 +153,13 @@ pub fn take_and_reply<S: Store>(
     body: Body,
     out: &mut Outbox,
 ) -> Result<Answer, StepFault>
-    requires stands { (d : Durable) × Stands S.holds S.used S.format d store.old me.old }
+    requires stands { CanStep S.model store.old me.old }
     requires fresh { out.old.acked ≡ None }
     requires canonical { IsCanonicalPacket (packet me.old.number to entry.term body) }
-    requires spelled { IsSpelledAs (S.format store.old) (EntryRecord entry) (body_bytes (EntryRecord entry)) }
+    requires spelled { IsSpelledAs (S.model.format store.old) (EntryRecord entry) (body_bytes (EntryRecord entry)) }
     requires above { me.old.log.base < entry.slot }
     requires window { entry.slot ≤ me.old.log.base + 4096 }
-    ensures { (d : Durable) → Stands S.holds S.used S.format d store.old me.old → (let o = sends (accepted (server_of d me.old) entry) (packet me.old.number to entry.term body ∷ []) in
-        Steps S.holds S.used S.format S.told S.rose S.was d store.old me.old out.old store.new me.new out.new (room_refusal out.old o) o result) }
+    ensures { StepsBy S.model (λ s. sends (accepted s entry) (packet me.old.number to entry.term body ∷ [])) store.old me.old out.old store.new me.new out.new result }
 {
     me.starts.reserve()?;
     send(alloc, out, me.number, to, entry.term, body)?;

@@ -1,9 +1,7 @@
 //! A higher term comes.
 ghost use Rattle.std.specs.Prelude.{◌≡◌, None};
-ghost use Rattle.pf_entry.specs.Records.{Durable};
 ghost use Rattle.pf_protocol.specs.Following.{on_nack};
-ghost use Rattle.pf_state.specs.Outgoing.{Outgoing};
-ghost use Rattle.pf_state.specs.Standing.{server_of, Stands, Steps, room_refusal};
+ghost use Rattle.pf_state.specs.Standing.{CanStep, StepsQuietly};
 
 use crate::replies::raise;
 use pf_base::Term;
@@ -23,9 +21,8 @@ pub fn nack<S: Store>(
     me: &mut Running,
     term: Term,
 ) -> Result<Answer, StepFault>
-    requires stands { (d : Durable) × Stands S.holds S.used S.format d store.old me.old }
-    ensures step { (d : Durable) (out : Outgoing) → Stands S.holds S.used S.format d store.old me.old → out.acked ≡ None → (let o = on_nack (server_of d me.old) term in
-        Steps S.holds S.used S.format S.told S.rose S.was d store.old me.old out store.new me.new out (room_refusal out o) o result) }
+    requires stands { CanStep S.model store.old me.old }
+    ensures step { StepsQuietly S.model (λ s. on_nack s term) store.old me.old store.new me.new result }
 {
     if term <= me.term {
         return Ok(Answer::Done);

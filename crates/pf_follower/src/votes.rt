@@ -1,9 +1,8 @@
 //! A candidate asks for a vote.
 ghost use Rattle.std.specs.Prelude.{◌≡◌, None};
-ghost use Rattle.pf_entry.specs.Records.{Durable};
 ghost use Rattle.pf_entry.specs.declared.packets.Body.TheVariants.{RequestVote as RequestVoteIs};
 ghost use Rattle.pf_protocol.specs.Following.{on_request_vote};
-ghost use Rattle.pf_state.specs.Standing.{server_of, IsBounded, Stands, Steps, room_refusal};
+ghost use Rattle.pf_state.specs.Standing.{CanStep, IsBounded, StepsBy};
 ghost use Rattle.pf_state.specs.Coming.{IsComing};
 
 use crate::replies::{raise_and_reply, reply};
@@ -29,12 +28,11 @@ pub fn request_vote<S: Store>(
     base: Slot,
     out: &mut Outbox,
 ) -> Result<Answer, StepFault>
-    requires stands { (d : Durable) × Stands S.holds S.used S.format d store.old me.old }
+    requires stands { CanStep S.model store.old me.old }
     requires bounded { IsBounded me.old }
     requires fresh { out.old.acked ≡ None }
     requires coming { IsComing me.old from term (RequestVoteIs base) }
-    ensures step { (d : Durable) → Stands S.holds S.used S.format d store.old me.old → (let o = on_request_vote (server_of d me.old) from term base in
-        Steps S.holds S.used S.format S.told S.rose S.was d store.old me.old out.old store.new me.new out.new (room_refusal out.old o) o result) }
+    ensures step { StepsBy S.model (λ s. on_request_vote s from term base) store.old me.old out.old store.new me.new out.new result }
 {
     if term <= me.term || base < me.log.base() {
         let term = me.term;

@@ -80,7 +80,7 @@ module _ (seat : Seat) (made : IsSeat seat) (starts : StartRoom) (log : Holes) (
     snapshots = snapshots;
   }
 
-  pub is_fresh : starts.starts ≡ FinMap.empty → log ≡ record { base = 0; entries = FinMap.empty; marks = Sets.empty } → role_of role ≡ opening_role seat.number → IsRoleKept seat.number role → applied.slots ≡ Sets.empty
+  pub is_fresh : starts.starts ≡ FinMap.empty → log ≡ record { base = 0; entries = FinMap.empty; committed = Sets.empty } → role_of role ≡ opening_role seat.number → IsRoleKept seat.number role → applied.slots ≡ Sets.empty
       → sectors ≡ replicate seat.sectors (replicate 512 0) → in_hand ≡ FinMap.empty → rooms ≡ FinMap.empty → reads ≡ [] → replies ≡ record { rooms = 0; answers = [] } → snapshots ≡ FinMap.empty → IsFresh seat me
   unfolding server_of setup_of restarted opening_disk zero_sector
   is_fresh none_started no_log role_is role_kept none_applied zeros none_held no_rooms no_reads no_replies no_snapshots =
@@ -108,7 +108,7 @@ module _ (seat : Seat) (made : IsSeat seat) (starts : StartRoom) (log : Holes) (
           life = 0;
           durable = disk_of seat;
           role = role_is i;
-          committed = (no_log i).marks;
+          committed = (no_log i).committed;
           applied = none_above applied.slots log.base none_applied i;
           sectors = zeros i;
           in_hand = none_held i;

@@ -1,9 +1,9 @@
 -- A server of a new group over its disks.
 use Rattle.std.proofs.Common.{◌≡◌, ◌⊎◌, inl, inr, ℕ, zero, suc, ◌+◌, ◌*◌, ◌≤◌, List, [], ◌∷◌, length, arith, refl, sym, ap, subst, ◌∙◌}
-use Rattle.pf_entry.specs.Records.{Durable, image_of}
+use Rattle.pf_entry.specs.Records.{image_of}
 use Rattle.pf_entry.specs.declared.records.Record.{Record}
 use Rattle.pf_entry.specs.Sizes.{empty_half}
-use Rattle.pf_store.specs.Stores.{state_of}
+use Rattle.pf_store.specs.Stores.{state_of, StoreModel}
 use Rattle.pf_diskstore.specs.Kept.{IsFirst}
 use Rattle.pf_protocol.specs.Servers.{Setup, Server}
 use Rattle.pf_protocol.specs.Saving.{restarted}
@@ -48,22 +48,22 @@ module _ (seat : Seat) (me : Running) (image : List ℕ) (room : IsRoom seat me 
   unfolding restarted
   durable_is = ap (λ (s : Server). s.durable) (sym (opening_is (setup_at seat) seat.number))
 
-  module _ {S : Type 0} (holds : S → Durable → Durable → Type 0) (used format : S → ℕ) (store : S) where
-    runs_here : Stands holds used format (disk_of seat) store me → IsRunning holds used format seat store me (opening_server (setup_at seat) seat.number)
+  module _ {S : Type 0} (model : StoreModel S) (store : S) where
+    runs_here : Stands model (disk_of seat) store me → IsRunning model seat store me (opening_server (setup_at seat) seat.number)
     runs_here there = record {
-      stands = subst (λ d. Stands holds used format d store me) (sym durable_is) there;
+      stands = subst (λ d. Stands model d store me) (sym durable_is) there;
       is = ap (λ d. server_of d me) durable_is ∙ room.fresh.is;
       setup = room.fresh.setup;
     }
 
     module _ (body : List ℕ) (same : body ≡ image) (half : ℕ) (half_is : half ≡ seat.format) where
-      has_state : ((r : Record) → IsFirst half r body → let d = state_of half (r ∷ []) in holds store d d) → holds store (disk_of seat) (disk_of seat)
+      has_state : ((r : Record) → IsFirst half r body → let d = state_of half (r ∷ []) in model.holds store d d) → model.holds store (disk_of seat) (disk_of seat)
       has_state begins =
           let r = image_of (disk_of seat) in
           let d = ap (λ f. state_of f (r ∷ [])) half_is ∙ first_state seat in
-          subst (λ d. holds store d d) d (begins r (subst (λ f. IsFirst f r body) (sym half_is) (is_first body same)))
+          subst (λ d. model.holds store d d) d (begins r (subst (λ f. IsFirst f r body) (sym half_is) (is_first body same)))
 
-      stands : ((r : Record) → IsFirst half r body → let d = state_of half (r ∷ []) in holds store d d) → used store ≡ 9 + length body → format store ≡ half → Stands holds used format (disk_of seat) store me
+      stands : ((r : Record) → IsFirst half r body → let d = state_of half (r ∷ []) in model.holds store d d) → model.used store ≡ 9 + length body → model.format store ≡ half → Stands model (disk_of seat) store me
       unfolding opening_disk
       stands begins used_is format_is = record {
         recorded = has_state begins;
@@ -74,7 +74,7 @@ module _ (seat : Seat) (me : Running) (image : List ℕ) (room : IsRoom seat me 
       }
 
       -- the server runs in the opening state of its group
-      pub meets_opening : ((r : Record) → IsFirst half r body → let d = state_of half (r ∷ []) in holds store d d) → used store ≡ 9 + length body → format store ≡ half
-          → (setup : Setup) → seat ≡ seat_in setup seat.number → IsRunning holds used format seat store me (opening_server setup seat.number)
+      pub meets_opening : ((r : Record) → IsFirst half r body → let d = state_of half (r ∷ []) in model.holds store d d) → model.used store ≡ 9 + length body → model.format store ≡ half
+          → (setup : Setup) → seat ≡ seat_in setup seat.number → IsRunning model seat store me (opening_server setup seat.number)
       meets_opening begins used_is format_is setup in_group =
-          subst (λ s. IsRunning holds used format seat store me s) (ap (λ (x : Seat). opening_server (setup_at x) seat.number) in_group ∙ same_group setup seat.number seat.number) (runs_here (stands begins used_is format_is))
+          subst (λ s. IsRunning model seat store me s) (ap (λ (x : Seat). opening_server (setup_at x) seat.number) in_group ∙ same_group setup seat.number seat.number) (runs_here (stands begins used_is format_is))

@@ -59,7 +59,7 @@ pub fn fresh(alloc: Global, seat: &Seat) -> Result<Running, NoMemory>
 /// The same, with its memory.
 fn first_life(alloc: Global, seat: &Seat, log: HoleLog, sectors: SectorTable, idle: Idle) -> Running
     requires seat { IsSeat seat.now }
-    requires log { log ≡ record { base = 0; entries = map.empty; marks = set.empty } }
+    requires log { log ≡ record { base = 0; entries = map.empty; committed = set.empty } }
     requires sectors { sectors ≡ replicate seat.now.sectors (replicate 512 0) }
     requires in_hand { idle.in_hand ≡ map.empty }
     requires rooms { idle.rooms ≡ map.empty }

@@ -69,7 +69,7 @@ impl ServerRoom {
     pub fn open<D: Disk>(self, a: D, b: D) -> (Server<Kept<D>>, Answer)
         ensures outcome { (result.1 ≡ Answer.Done) ⊎ (result.1 ≡ Answer.Refused Refusal.Halted) }
         ensures opened { result.1 ≡ Answer.Done → (setup : Setup) → self.seat ≡ seat_in setup self.seat.number
-            → Meets ⟦<Kept<D> as Store>⟧.holds ⟦<Kept<D> as Store>⟧.used ⟦<Kept<D> as Store>⟧.format result.0.seat result.0.store result.0.state (RunningIs (opening_server setup self.seat.number)) }
+            → Meets ⟦<Kept<D> as Store>⟧.model result.0.seat result.0.store result.0.state (RunningIs (opening_server setup self.seat.number)) }
         ensures halted { result.1 ≡ Answer.Refused Refusal.Halted → result.0.state ≡ State.Unformatted }
         ensures failed { result.1 ≡ Answer.Refused Refusal.Halted
             → Rose (D.faults a) (faults_of D.faults result.0.store).0 ⊎ Rose (D.faults b) (faults_of D.faults result.0.store).1 }

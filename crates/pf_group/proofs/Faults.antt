@@ -10,12 +10,13 @@ use Rattle.pf_protocol.specs.Servers.{Setup}
 use Rattle.pf_diskstore.specs.declared.kept.Kept.{Kept}
 use Rattle.pf_diskstore.specs.Faults.{faults_of}
 use Rattle.pf_server.specs.declared.server.Server.{Server}
-use Rattle.pf_network.specs.declared.cluster.Cluster.{Cluster}
+use Rattle.pf_network.specs.declared.network.Network.{Network}
 use Rattle.pf_network.specs.Going.{KeepsOthers, HasFault, Passes, Touches, WasTouched, store_at}
 use Rattle.pf_network.specs.Showing.{Shows}
 use Rattle.pf_network.proofs.Lists.{something_there}
 use Rattle.pf_format.specs.Opening.{head_of}
-use Rattle.pf_group.specs.Halves.{AreLater, HasRisen, all_counts, format_in, holds_in, rose_in, told_in, used_in, was_in}
+use Rattle.pf_diskstore.specs.Model.{kept_model}
+use Rattle.pf_group.specs.Halves.{AreLater, HasRisen, all_counts, rose_in, was_in}
 use Rattle.pf_group.specs.Inside.{HaveHeads}
 
 -- lists with the same elements
@@ -40,18 +41,18 @@ some_mapped f (Some x) y is = (x, refl, same_Some (f x) y is)
 
 module _ {D : Type 0} (faults : D → ℕ) where
   -- the counts of one server are those of its store
-  counts_at : (cluster : Cluster (Kept D)) (i : ℕ) → slice_get (all_counts faults cluster) i ≡ option_map (faults_of faults) (store_at cluster i)
-  counts_at cluster i = slice_get-map (λ (s : Server (Kept D)). faults_of faults s.store) cluster.servers.items i ∙ both (slice_get cluster.servers.items i)
+  counts_at : (network : Network (Kept D)) (i : ℕ) → slice_get (all_counts faults network) i ≡ option_map (faults_of faults) (store_at network i)
+  counts_at network i = slice_get-map (λ (s : Server (Kept D)). faults_of faults s.store) network.servers.items i ∙ both (slice_get network.servers.items i)
     where
       both : (o : Option (Server (Kept D))) → option_map (λ (s : Server (Kept D)). faults_of faults s.store) o ≡ option_map (faults_of faults) (option_map (λ (s : Server (Kept D)). s.store) o)
       both None = refl
       both (Some s) = refl
 
-  pub faults_at : (cluster : Cluster (Kept D)) (i : ℕ) (server : Server (Kept D)) → slice_get cluster.servers.items i ≡ Some server → slice_get (all_counts faults cluster) i ≡ Some (faults_of faults server.store)
-  faults_at cluster i server there = slice_get-map (λ (s : Server (Kept D)). faults_of faults s.store) cluster.servers.items i ∙ ap (option_map (λ (s : Server (Kept D)). faults_of faults s.store)) there
+  pub faults_at : (network : Network (Kept D)) (i : ℕ) (server : Server (Kept D)) → slice_get network.servers.items i ≡ Some server → slice_get (all_counts faults network) i ≡ Some (faults_of faults server.store)
+  faults_at network i server there = slice_get-map (λ (s : Server (Kept D)). faults_of faults s.store) network.servers.items i ∙ ap (option_map (λ (s : Server (Kept D)). faults_of faults s.store)) there
 
   -- a store whose count rose
-  pub has_risen : (old new : Cluster (Kept D)) (i : ℕ) → HasFault (rose_in faults) i old new → HasRisen i (all_counts faults old) (all_counts faults new)
+  pub has_risen : (old new : Network (Kept D)) (i : ℕ) → HasFault (rose_in faults) i old new → HasRisen i (all_counts faults old) (all_counts faults new)
   has_risen old new i fault = record {
     was = faults_of faults fault.before.store;
     is = faults_of faults fault.after.store;
@@ -61,10 +62,10 @@ module _ {D : Type 0} (faults : D → ℕ) where
   }
 
   -- the counts of stores that were not touched
-  pub others_same : (own : Option ℕ) (old new : Cluster (Kept D)) → KeepsOthers own old new → (j : ℕ) → own ≢ Some j → slice_get (all_counts faults new) j ≡ slice_get (all_counts faults old) j
+  pub others_same : (own : Option ℕ) (old new : Network (Kept D)) → KeepsOthers own old new → (j : ℕ) → own ≢ Some j → slice_get (all_counts faults new) j ≡ slice_get (all_counts faults old) j
   others_same own old new keeps j apart = counts_at new j ∙ ap (option_map (faults_of faults)) (keeps j apart) ∙ sym (counts_at old j)
 
-  pub all_same : (old new : Cluster (Kept D)) → KeepsOthers None old new → all_counts faults new ≡ all_counts faults old
+  pub all_same : (old new : Network (Kept D)) → KeepsOthers None old new → all_counts faults new ≡ all_counts faults old
   all_same old new keeps = same_gets _ _ (λ k. others_same None old new keeps k (λ is. none-some k is))
 
   -- a restart looks for the same head, and no count fell
@@ -92,7 +93,7 @@ module _ {D : Type 0} (seen : D → Option (List ℕ)) (may_leave : D → Images
       let second = passed i was.between new was.second in
       record { head = second.head ∙ first.head; half_0 = omega (arith, first.half_0, second.half_0); half_1 = omega (arith, first.half_1, second.half_1) }
 
-  module _ (setup : Setup) (own : Option ℕ) (old new : Cluster (Kept D)) (shown : Shows (holds_in seen may_leave) used_in format_in (told_in seen) setup old before) (shows : Shows (holds_in seen may_leave) used_in format_in (told_in seen) setup new after) (crash : Touches Was before after own old new) (others : KeepsOthers own old new) where
+  module _ (setup : Setup) (own : Option ℕ) (old new : Network (Kept D)) (shown : Shows (kept_model seen may_leave faults moment left_since tells_moments) setup old before) (shows : Shows (kept_model seen may_leave faults moment left_since tells_moments) setup new after) (crash : Touches Was before after own old new) (others : KeepsOthers own old new) where
     goes_on : (i : ℕ) (server next : Server (Kept D)) → slice_get old.servers.items i ≡ Some server → slice_get new.servers.items i ≡ Some next → GoesOn faults server.store next.store
     goes_on i server next there now = elim (at_own own i) [
       | inl is ↦ touched i server.store next.store (crash i server next is there now)

@@ -13,8 +13,8 @@ use Rattle.pf_protocol.specs.Groups.{Group, claim_of}
 use Rattle.pf_protocol.specs.declared.answers.Answer.{Answer}
 use Rattle.pf_protocol.specs.declared.answers.Answer.TheVariants.{Done, Slot as SlotIs, Term as TermIs, Read as ReadIs, Base as BaseIs, Job as JobIs, Refused}
 use Rattle.pf_protocol.specs.declared.answers.Refusal.TheVariants.{Halted, NoneFree, NotOurs}
-use Rattle.pf_entry.specs.Records.{Durable}
-use Rattle.pf_network.specs.declared.cluster.Cluster.{Cluster}
+use Rattle.pf_store.specs.Stores.{StoreModel}
+use Rattle.pf_network.specs.declared.network.Network.{Network}
 use Rattle.pf_network.specs.Going.{ShowsSomehow}
 use Rattle.pf_network.specs.Readings.{taken_after}
 use Rattle.pf_protocol.specs.declared.events.Event.TheVariants.{Submit, Fetch, Deliver, Lose, Elect, Resend, Stop, Restart, Claim, Finish, GiveBack, Checkpoint}
@@ -174,9 +174,9 @@ not_read number e = cc
 not_job : (job : Job) → JobIs job ≡ Refused NotOurs → ⊥
 not_job job e = cc
 
-module _ {S : Type 0} (holds : S → Durable → Durable → Type 0) (used format : S → ℕ) (told : S → Bool) (rose : S → S → Type 0) (was : S → S → Durable → Durable → Type 0) (setup : Setup) (g : Group) (i : ℕ) (new : Cluster S) where
+module _ {S : Type 0} (model : StoreModel S) (setup : Setup) (g : Group) (i : ℕ) (new : Network S) where
   abbrev ShowsSo : Answer → Type 0
-  ShowsSo answer = ShowsSomehow holds used format told rose was setup g i new answer
+  ShowsSo answer = ShowsSomehow model setup g i new answer
 
   pub fresh_somehow : (claims : List Claimed) (reads : ℕ) (answer : Answer) → ShowsSo answer → IsNew claims reads answer
   fresh_somehow claims reads (JobIs job) is = absurd (not_job job is.0)

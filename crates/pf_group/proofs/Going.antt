@@ -21,15 +21,16 @@ use Rattle.pf_protocol.specs.declared.answers.Refusal.TheVariants.{Halted}
 use Rattle.pf_protocol.specs.declared.events.Event.TheVariants.{GiveBack, Restart}
 use Rattle.pf_protocol.proofs.ForMoments.{replay_goes_on}
 use Rattle.pf_diskstore.specs.declared.kept.Kept.{Kept}
-use Rattle.pf_network.specs.declared.cluster.Cluster.{Cluster}
+use Rattle.pf_network.specs.declared.network.Network.{Network}
 use Rattle.pf_network.specs.Going.{HasBegunSomehow, HasFault, HasGone, HasKept, HasStayed, KeepsOthers, KeepsStores, acts_at, is_quiet}
 use Rattle.pf_network.specs.Readings.{is_taken, taken_after, taken_of}
 use Rattle.pf_network.specs.Showing.{Shows}
+use Rattle.pf_diskstore.specs.Model.{kept_model}
 use Rattle.pf_group.specs.declared.event.GroupEvent.{GroupEvent}
 use Rattle.pf_group.specs.declared.event.GroupEvent.TheVariants as asked
 use Rattle.pf_group.specs.Events.{Brings, MayAsk, event_of}
 use Rattle.pf_group.specs.GroupIs.{GroupIs, IsLastStep}
-use Rattle.pf_group.specs.Halves.{AreLater, all_counts, format_in, holds_in, rose_in, told_in, used_in, was_in}
+use Rattle.pf_group.specs.Halves.{AreLater, all_counts, rose_in}
 use Rattle.pf_group.specs.Inside.{HaveHeads, IsSince, group_of}
 use Rattle.pf_group.specs.declared.began.Began.{Began}
 use Rattle.pf_group.specs.declared.past.Past.{Past}
@@ -136,31 +137,31 @@ either : (b : Bool) → (b ≡ true) ⊎ (b ≡ false)
 either true = inl refl
 either false = inr refl
 
-module _ {D : Type 0} (seen : D → Option (List ℕ)) (may_leave : D → Images) (faults moment : D → ℕ) (left_since : D → ℕ → Images) (tells tells_moments : Bool) (setup : Setup) (history : History) (old new : Cluster (Kept D)) where
-  abbrev Shown : Cluster (Kept D) → Group → Type 0
-  Shown cluster g = Shows (holds_in seen may_leave) used_in format_in (told_in seen) setup cluster g
+module _ {D : Type 0} (seen : D → Option (List ℕ)) (may_leave : D → Images) (faults moment : D → ℕ) (left_since : D → ℕ → Images) (tells tells_moments : Bool) (setup : Setup) (history : History) (old new : Network (Kept D)) where
+  abbrev Shown : Network (Kept D) → Group → Type 0
+  Shown network g = Shows (kept_model seen may_leave faults moment left_since tells_moments) setup network g
 
-  abbrev Standing : History → Cluster (Kept D) → Type 0
-  Standing events cluster = StandsFor (holds_in seen may_leave) used_in format_in (told_in seen) tells setup events cluster
+  abbrev Standing : History → Network (Kept D) → Type 0
+  Standing events network = StandsFor (kept_model seen may_leave faults moment left_since tells_moments) tells setup events network
 
   abbrev pub WentIn : Group → Event → Answer → Type 0
-  WentIn g event answer = HasGone (holds_in seen may_leave) used_in format_in (told_in seen) (rose_in faults) (was_in seen faults moment left_since tells_moments) setup g event old new answer
+  WentIn g event answer = HasGone (kept_model seen may_leave faults moment left_since tells_moments) setup g event old new answer
 
   abbrev Went : Event → Answer → Type 0
   Went event answer = WentIn (replay setup history) event answer
 
   abbrev pub StayedIn : Group → Option ℕ → Type 0
-  StayedIn g own = HasStayed (holds_in seen may_leave) used_in format_in (told_in seen) (rose_in faults) (was_in seen faults moment left_since tells_moments) setup g own old new
+  StayedIn g own = HasStayed (kept_model seen may_leave faults moment left_since tells_moments) setup g own old new
 
   abbrev Stayed : Option ℕ → Type 0
   Stayed own = StayedIn (replay setup history) own
 
   -- a restart over any disks
   abbrev pub BegunIn : Group → ℕ → Answer → Type 0
-  BegunIn g i answer = HasBegunSomehow (holds_in seen may_leave) used_in format_in (told_in seen) (rose_in faults) (was_in seen faults moment left_since tells_moments) setup g i old new answer
+  BegunIn g i answer = HasBegunSomehow (kept_model seen may_leave faults moment left_since tells_moments) setup g i old new answer
 
   abbrev pub KeptIn : Group → ℕ → Type 0
-  KeptIn g i = HasKept (holds_in seen may_leave) used_in format_in (told_in seen) (rose_in faults) (was_in seen faults moment left_since tells_moments) setup g i old new
+  KeptIn g i = HasKept (kept_model seen may_leave faults moment left_since tells_moments) setup g i old new
 
   module _ (stands : Standing history old) (law : Law seen may_leave faults moment left_since tells tells_moments) where
     -- What came of an event over any disks, said of the past's group; and of the state after the history, where disks tell their content
@@ -193,8 +194,8 @@ module _ {D : Type 0} (seen : D → Option (List ℕ)) (may_leave : D → Images
       ends = ends_by_rules setup stands.past.group event answer gone.answered;
       later = λ by. all_later seen may_leave faults moment left_since tells_moments stands.past.group (happens setup stands.past.group event (ending answer)) setup (acts_at stands.past.group event) old new stands.reached.shows gone.shows gone.crash gone.others;
       fresh = fresh_answer setup stands.past.group stands.past.claims event answer stands.reached.viable.group.opened gone.answered;
-      stands_then = λ later is low may. stands_after (holds_in seen may_leave) used_in format_in (told_in seen) tells setup history old stands (rose_in faults) (was_in seen faults moment left_since tells_moments) new event answer later is low may gone;
-      went = λ tell. went_now (holds_in seen may_leave) used_in format_in (told_in seen) tells setup history old stands (rose_in faults) (was_in seen faults moment left_since tells_moments) new tell event answer gone;
+      stands_then = λ later is low may. stands_after (kept_model seen may_leave faults moment left_since tells_moments) tells setup history old stands new event answer later is low may gone;
+      went = λ tell. went_now (kept_model seen may_leave faults moment left_since tells_moments) tells setup history old stands new tell event answer gone;
     }
 
     no_rules : tells ≡ false → IsTrue tells ⊎ ⊥ → ⊥
@@ -204,13 +205,13 @@ module _ {D : Type 0} (seen : D → Option (List ℕ)) (may_leave : D → Images
     came_begun none i found answer begun = record {
       others = begun.others;
       quiet = λ quiet. absurd (false≢true quiet);
-      taken = begun.taken ∙ sym (taken_somehow (holds_in seen may_leave) used_in format_in (told_in seen) (rose_in faults) (was_in seen faults moment left_since tells_moments) setup stands.past.group i new (taken_of old) answer begun.shows);
+      taken = begun.taken ∙ sym (taken_somehow (kept_model seen may_leave faults moment left_since tells_moments) setup stands.past.group i new (taken_of old) answer begun.shows);
       cause = λ halted. (i, refl, begun.cause halted);
       answered = λ by. absurd (no_rules none by);
-      ends = ends_somehow (holds_in seen may_leave) used_in format_in (told_in seen) (rose_in faults) (was_in seen faults moment left_since tells_moments) setup stands.past.group i new answer begun.shows;
+      ends = ends_somehow (kept_model seen may_leave faults moment left_since tells_moments) setup stands.past.group i new answer begun.shows;
       later = λ by. absurd (no_rules none by);
-      fresh = fresh_somehow (holds_in seen may_leave) used_in format_in (told_in seen) (rose_in faults) (was_in seen faults moment left_since tells_moments) setup stands.past.group i new stands.past.claims stands.past.group.reads answer begun.shows;
-      stands_then = λ later is low may. stands_led (holds_in seen may_leave) used_in format_in (told_in seen) tells setup history old stands (rose_in faults) (was_in seen faults moment left_since tells_moments) new none i found answer later is low may begun;
+      fresh = fresh_somehow (kept_model seen may_leave faults moment left_since tells_moments) setup stands.past.group i new stands.past.claims stands.past.group.reads answer begun.shows;
+      stands_then = λ later is low may. stands_led (kept_model seen may_leave faults moment left_since tells_moments) tells setup history old stands new none i found answer later is low may begun;
       went = λ tell. absurd (false≢true (sym none ∙ tell));
     }
 
@@ -219,17 +220,17 @@ module _ {D : Type 0} (seen : D → Option (List ℕ)) (may_leave : D → Images
       shows = stayed.shows;
       others = stayed.others;
       taken = stayed.taken;
-      stayed = λ tell. stayed_now (holds_in seen may_leave) used_in format_in (told_in seen) tells setup history old stands (rose_in faults) (was_in seen faults moment left_since tells_moments) new tell own stayed;
+      stayed = λ tell. stayed_now (kept_model seen may_leave faults moment left_since tells_moments) tells setup history old stands new tell own stayed;
     }
 
     left_kept : tells ≡ false → (i : ℕ) → KeptIn stands.past.group i → Left (Some i)
     left_kept none i kept = record { shows = kept.shows; others = kept.others; taken = kept.taken; stayed = λ tell. absurd (false≢true (sym none ∙ tell)) }
 
     abbrev ReactsIn : GroupEvent → Reaction → Type 0
-    ReactsIn event r = (found : Bool) × Answers (holds_in seen may_leave) used_in format_in (told_in seen) (rose_in faults) (was_in seen faults moment left_since tells_moments) setup stands.past.group (event_of event found) old new r
+    ReactsIn event r = (found : Bool) × Answers (kept_model seen may_leave faults moment left_since tells_moments) setup stands.past.group (event_of event found) old new r
 
     abbrev BeginsIn : GroupEvent → Reaction → Type 0
-    BeginsIn event r = (i : ℕ) × (event ≡ asked.Restart i) × HasAnsweredSomehow (holds_in seen may_leave) used_in format_in (told_in seen) (rose_in faults) (was_in seen faults moment left_since tells_moments) setup stands.past.group i old new r
+    BeginsIn event r = (i : ℕ) × (event ≡ asked.Restart i) × HasAnsweredSomehow (kept_model seen may_leave faults moment left_since tells_moments) setup stands.past.group i old new r
 
     -- what a reaction is of
     pub record Reacted (event : GroupEvent) (r : Reaction) : Type 0 where
@@ -273,7 +274,7 @@ module _ {D : Type 0} (seen : D → Option (List ℕ)) (may_leave : D → Images
     -- where the disks tell their content
     module _ (tell : IsTrue tells) where
       shows : Shown old (replay setup history)
-      shows = now_shows (holds_in seen may_leave) used_in format_in (told_in seen) tells setup history old stands tell
+      shows = now_shows (kept_model seen may_leave faults moment left_since tells_moments) tells setup history old stands tell
 
       later_stayed : (own : Option ℕ) → Stayed own → AreLater (all_counts faults old) (all_counts faults new)
       later_stayed own stayed = all_later seen may_leave faults moment left_since tells_moments (replay setup history) (replay setup history) setup own old new shows stayed.shows stayed.crash stayed.others
@@ -294,20 +295,20 @@ module _ {D : Type 0} (seen : D → Option (List ℕ)) (may_leave : D → Images
     -- as it was, and as it is now
     module _ (number : ℕ) (before after : Began D) (later : History) where
       abbrev Was : GroupIs
-      Was = group_of tells faults moment number setup before.happenings.value.items before.cluster.value history old
+      Was = group_of tells faults moment number setup before.happenings.value.items before.network.value history old
 
       abbrev Is : GroupIs
-      Is = group_of tells faults moment number setup after.happenings.value.items after.cluster.value later new
+      Is = group_of tells faults moment number setup after.happenings.value.items after.network.value later new
 
       begins_here : IsBegun old history after → BeginsHere Was Is
       begins_here begun =
-          ap (λ (b : Cluster (Kept D)). record Is.time { began = all_counts moment b }) begun.cluster_is
+          ap (λ (b : Network (Kept D)). record Is.time { began = all_counts moment b }) begun.network_is
           ∙ ap (λ (h : History). record Is.time { began = all_counts moment old; earlier = h }) begun.history_is
 
       begins_so : (event : Event) (answer : Answer) → Came event answer → (b : Bool) → is_quiet event ≡ b → IsBegunIf (not b) old history before after → MatchBool b ((Is.faults ≡ Was.faults) × (Is.time ≡ Was.time)) (BeginsHere Was Is)
       begins_so event answer came true quiet same = (
         all_same faults old new (λ i own. came.quiet quiet i),
-        ap (λ (b : Began D). record Was.time { now = all_counts moment new; began = all_counts moment b.cluster.value; earlier = b.happenings.value.items }) same
+        ap (λ (b : Began D). record Was.time { now = all_counts moment new; began = all_counts moment b.network.value; earlier = b.happenings.value.items }) same
             ∙ ap (λ m. record Was.time { now = m }) (all_same moment old new (λ i own. came.quiet quiet i)),
       )
       begins_so event answer came false loud begun = begins_here begun
@@ -334,9 +335,9 @@ module _ {D : Type 0} (seen : D → Option (List ℕ)) (may_leave : D → Images
       -- there was no memory for it
       stays : later ≡ history → after ≡ before → Left None → Is ≡ Was
       stays is same left =
-          ap (λ (b : Began D). group_of tells faults moment number setup b.happenings.value.items b.cluster.value later new) same
-          ∙ ap (λ l. group_of tells faults moment number setup before.happenings.value.items before.cluster.value l new) is
-          ∙ ap (λ t. record (group_of tells faults moment number setup before.happenings.value.items before.cluster.value history new) { taken = t }) left.taken
+          ap (λ (b : Began D). group_of tells faults moment number setup b.happenings.value.items b.network.value later new) same
+          ∙ ap (λ l. group_of tells faults moment number setup before.happenings.value.items before.network.value l new) is
+          ∙ ap (λ t. record (group_of tells faults moment number setup before.happenings.value.items before.network.value history new) { taken = t }) left.taken
           ∙ ap (λ f. record Was { faults = f; time = record Was.time { now = all_counts moment new } }) (all_same faults old new left.others)
           ∙ ap (λ m. record Was { time = record Was.time { now = m } }) (all_same moment old new left.others)
 
@@ -364,11 +365,11 @@ module _ {D : Type 0} (seen : D → Option (List ℕ)) (may_leave : D → Images
       left_of (asked.Finish filled) is begun stayed = stays is begun stayed
       left_of (asked.Checkpoint server) is begun stayed = stays is begun stayed
 
-      abbrev StoodAt : Began D → (history : History) → Cluster (Kept D) → Type 0
-      StoodAt began now cluster = Stood seen may_leave faults moment left_since tells tells_moments number setup began.happenings.value.items began.cluster.value now cluster
+      abbrev StoodAt : Began D → (history : History) → Network (Kept D) → Type 0
+      StoodAt began now network = Stood seen may_leave faults moment left_since tells tells_moments number setup began.happenings.value.items began.network.value now network
 
       abbrev SinceAt : (right : History) → Began D → Type 0
-      SinceAt right began = IsTrue tells → IsSince seen faults moment left_since tells_moments (replay setup began.happenings.value.items) (replay setup right) began.cluster.value new
+      SinceAt right began = IsTrue tells → IsSince seen faults moment left_since tells_moments (replay setup began.happenings.value.items) (replay setup right) began.network.value new
 
       -- after one more event
       module _ (was : StoodAt before history old) (event : Event) (answer : Answer) (is : later ≡ history ++ record { event = event; answer = answer } ∷ []) (low : length later ≤ 2 ^ 32) (may : MayHappen (claims_of [] history) event) (came : Came event answer) where
@@ -385,12 +386,12 @@ module _ {D : Type 0} (seen : D → Option (List ℕ)) (may_leave : D → Images
         by_quiet true quiet same =
             subst (λ (b : Began D). StoodAt b later new) (sym same) (so_gone before was.after
             (quiet_more before.happenings.value.items was.after history later (record { event = event; answer = answer }) was.last quiet is)
-            (λ tell. since_still seen may_leave faults moment left_since tells tells_moments (replay setup before.happenings.value.items) (replay setup was.after) before.cluster.value old new (λ i own. came.quiet quiet i) (was.since tell)))
+            (λ tell. since_still seen may_leave faults moment left_since tells tells_moments (replay setup before.happenings.value.items) (replay setup was.after) before.network.value old new (λ i own. came.quiet quiet i) (was.since tell)))
         by_quiet false loud begun =
             let h : Happening = record { event = event; answer = answer } in
             so_gone after later
             (record { step = inr (h, loud, is ∙ ap (λ l. l ++ h ∷ []) (sym begun.history_is)); since = []; quiet = tt; whole = sym (append-nil later) })
-            (λ tell. since_as seen may_leave faults moment left_since tells tells_moments setup history after.happenings.value.items later _ old new after.cluster.value begun.cluster_is begun.history_is (ap (replay setup) is ∙ replay_goes_on setup history h) (since_went tell event answer (came.went tell)))
+            (λ tell. since_as seen may_leave faults moment left_since tells tells_moments setup history after.happenings.value.items later _ old new after.network.value begun.network_is begun.history_is (ap (replay setup) is ∙ replay_goes_on setup history h) (since_went tell event answer (came.went tell)))
 
         pub stood_gone : IsBegunIf (not (is_quiet event)) old history before after → StoodAt after later new
         stood_gone begun = by_quiet (is_quiet event) refl begun
@@ -399,7 +400,7 @@ module _ {D : Type 0} (seen : D → Option (List ℕ)) (may_leave : D → Images
       module _ (was : StoodAt before history old) (is : later ≡ history) where
         so_left : (own : Option ℕ) → Left own → (began : Began D) (right : History) → IsLastStep began.happenings.value.items right later → SinceAt right began → StoodAt began later new
         so_left own left began right last since = record {
-          stands = stands_still (holds_in seen may_leave) used_in format_in (told_in seen) tells setup history old stands (rose_in faults) (was_in seen faults moment left_since tells_moments) new later is left.shows;
+          stands = stands_still (kept_model seen may_leave faults moment left_since tells_moments) tells setup history old stands new later is left.shows;
           heads = λ tell. heads_stayed tell own (left.stayed tell) number (was.heads tell);
           after = right;
           last = last;
@@ -410,8 +411,8 @@ module _ {D : Type 0} (seen : D → Option (List ℕ)) (may_leave : D → Images
         stood_left None same left =
             subst (λ (b : Began D). StoodAt b later new) (sym same) (so_left None left before was.after
             (subst (IsLastStep before.happenings.value.items was.after) (sym is) was.last)
-            (λ tell. since_still seen may_leave faults moment left_since tells tells_moments (replay setup before.happenings.value.items) (replay setup was.after) before.cluster.value old new left.others (was.since tell)))
+            (λ tell. since_still seen may_leave faults moment left_since tells tells_moments (replay setup before.happenings.value.items) (replay setup was.after) before.network.value old new left.others (was.since tell)))
         stood_left (Some server) begun left =
             so_left (Some server) left after later
             (record { step = inl (is ∙ sym begun.history_is); since = []; quiet = tt; whole = sym (append-nil later) })
-            (λ tell. since_as seen may_leave faults moment left_since tells tells_moments setup history after.happenings.value.items later (replay setup history) old new after.cluster.value begun.cluster_is begun.history_is (ap (replay setup) is) (since_stayed tell (Some server) (left.stayed tell)))
+            (λ tell. since_as seen may_leave faults moment left_since tells tells_moments setup history after.happenings.value.items later (replay setup history) old new after.network.value begun.network_is begun.history_is (ap (replay setup) is) (since_stayed tell (Some server) (left.stayed tell)))

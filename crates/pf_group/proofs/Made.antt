@@ -6,12 +6,12 @@ use Rattle.std.proofs.lemmas.Option.{same_Some}
 use Rattle.pf_entry.specs.Lists.{Every}
 use Rattle.pf_entry.specs.Tables.{ascends}
 use Rattle.pf_entry.proofs.Lists.{every_append}
-use Rattle.pf_entry.specs.Records.{Durable}
 use Rattle.pf_protocol.specs.declared.answers.Answer.{Answer}
 use Rattle.pf_protocol.specs.declared.answers.Answer.TheVariants.{Done, Refused}
 use Rattle.pf_protocol.specs.declared.answers.Refusal.TheVariants.{Halted}
 use Rattle.pf_protocol.specs.Servers.{Setup, Running as RunningIs, Unformatted as UnformattedIs}
 use Rattle.pf_protocol.specs.Groups.{opening, unless_failed}
+use Rattle.pf_store.specs.Stores.{StoreModel}
 use Rattle.pf_restart.specs.declared.seat.Seat.{Seat}
 use Rattle.pf_server.specs.declared.server.Server.{Server}
 use Rattle.pf_server.specs.declared.state.State.TheVariants.{Unformatted}
@@ -20,7 +20,7 @@ use Rattle.pf_diskstore.specs.declared.kept.Kept.{Kept}
 use Rattle.pf_format.specs.Opening.{head_of, opening_server, seat_in}
 use Rattle.pf_format.specs.Rooms.{Place}
 use Rattle.pf_format.proofs.Opened.{opening_at}
-use Rattle.pf_network.specs.declared.cluster.Cluster.{Cluster}
+use Rattle.pf_network.specs.declared.network.Network.{Network}
 use Rattle.pf_network.specs.Showing.{AreMembers, AreReadings, IsMember, Shows, seat_of}
 use Rattle.pf_group.specs.Halves.{AreLater}
 use Rattle.pf_group.specs.Inside.{HaveHeads}
@@ -77,34 +77,34 @@ one_picked P false i has = tt
 pub every_picked : (P : ℕ → Type 0) (a b c : Bool) → (a ≡ true → P 0) → (b ≡ true → P 1) → (c ≡ true → P 2) → Every P (all_picked a b c)
 every_picked P a b c p q r = every_append P ([] ++ picked a 0 ++ picked b 1) (picked c 2) (every_append P ([] ++ picked a 0) (picked b 1) (one_picked P a 0 p) (one_picked P b 1 q)) (one_picked P c 2 r)
 
-module _ {S : Type 0} (holds : S → Durable → Durable → Type 0) (used format : S → ℕ) (told : S → Bool) (setup : Setup) where
+module _ {S : Type 0} (model : StoreModel S) (setup : Setup) where
   -- a server that was opened, or whose disks failed, is as it is in the opening state
   pub opened_member : (i : ℕ) (server : Server S) (answer : Answer) → list_any (λ j. j == i) setup.failed ≡ halted_of answer → (answer ≡ Done) ⊎ (answer ≡ Refused Halted)
-      → (answer ≡ Done → Meets holds used format server.seat server.store server.state (RunningIs (opening_server setup i))) → (answer ≡ Refused Halted → server.state ≡ Unformatted) → server.seat ≡ seat_of setup i
-      → IsMember holds used format told setup i server (unless_failed setup i (opening_server setup i))
+      → (answer ≡ Done → Meets model server.seat server.store server.state (RunningIs (opening_server setup i))) → (answer ≡ Refused Halted → server.state ≡ Unformatted) → server.seat ≡ seat_of setup i
+      → IsMember model setup i server (unless_failed setup i (opening_server setup i))
   opened_member i server answer failed outcome opened halted seat = elim outcome [
-    | inl done ↦ subst (IsMember holds used format told setup i server) (sym (ap (λ b. if b then UnformattedIs else RunningIs (opening_server setup i)) (failed ∙ ap halted_of done)))
+    | inl done ↦ subst (IsMember model setup i server) (sym (ap (λ b. if b then UnformattedIs else RunningIs (opening_server setup i)) (failed ∙ ap halted_of done)))
         (record { seat = seat; meets = opened done })
-    | inr stopped ↦ subst (IsMember holds used format told setup i server) (sym (ap (λ b. if b then UnformattedIs else RunningIs (opening_server setup i)) (failed ∙ ap halted_of stopped)))
-        (record { seat = seat; meets = subst (λ s. Meets holds used format server.seat server.store s UnformattedIs) (sym (halted stopped)) tt })
+    | inr stopped ↦ subst (IsMember model setup i server) (sym (ap (λ b. if b then UnformattedIs else RunningIs (opening_server setup i)) (failed ∙ ap halted_of stopped)))
+        (record { seat = seat; meets = subst (λ s. Meets model server.seat server.store s UnformattedIs) (sym (halted stopped)) tt })
   ]
 
-  pub opened_members : (zero one two : Server S) → IsMember holds used format told setup 0 zero (unless_failed setup 0 (opening_server setup 0)) → IsMember holds used format told setup 1 one (unless_failed setup 1 (opening_server setup 1)) → IsMember holds used format told setup 2 two (unless_failed setup 2 (opening_server setup 2))
-      → AreMembers holds used format told setup (zero ∷ one ∷ two ∷ []) (opening setup).servers
+  pub opened_members : (zero one two : Server S) → IsMember model setup 0 zero (unless_failed setup 0 (opening_server setup 0)) → IsMember model setup 1 one (unless_failed setup 1 (opening_server setup 1)) → IsMember model setup 2 two (unless_failed setup 2 (opening_server setup 2))
+      → AreMembers model setup (zero ∷ one ∷ two ∷ []) (opening setup).servers
   opened_members z o t first second third = members
     where
-      members : AreMembers holds used format told setup (z ∷ o ∷ t ∷ []) (opening setup).servers
-      members zero server at = (unless_failed setup 0 (opening_server setup 0), opening_at setup 0 (omega arith), subst (λ (s : Server S). IsMember holds used format told setup 0 s (unless_failed setup 0 (opening_server setup 0))) (same_Some z server at) first)
-      members (suc zero) server at = (unless_failed setup 1 (opening_server setup 1), opening_at setup 1 (omega arith), subst (λ (s : Server S). IsMember holds used format told setup 1 s (unless_failed setup 1 (opening_server setup 1))) (same_Some o server at) second)
-      members (suc (suc zero)) server at = (unless_failed setup 2 (opening_server setup 2), opening_at setup 2 (omega arith), subst (λ (s : Server S). IsMember holds used format told setup 2 s (unless_failed setup 2 (opening_server setup 2))) (same_Some t server at) third)
+      members : AreMembers model setup (z ∷ o ∷ t ∷ []) (opening setup).servers
+      members zero server at = (unless_failed setup 0 (opening_server setup 0), opening_at setup 0 (omega arith), subst (λ (s : Server S). IsMember model setup 0 s (unless_failed setup 0 (opening_server setup 0))) (same_Some z server at) first)
+      members (suc zero) server at = (unless_failed setup 1 (opening_server setup 1), opening_at setup 1 (omega arith), subst (λ (s : Server S). IsMember model setup 1 s (unless_failed setup 1 (opening_server setup 1))) (same_Some o server at) second)
+      members (suc (suc zero)) server at = (unless_failed setup 2 (opening_server setup 2), opening_at setup 2 (omega arith), subst (λ (s : Server S). IsMember model setup 2 s (unless_failed setup 2 (opening_server setup 2))) (same_Some t server at) third)
       members (suc (suc (suc i))) server at = absurd (grind (arith, at))
 
-  pub shows_opening : (cluster : Cluster S) (zero one two : Server S) → cluster.servers.items ≡ zero ∷ one ∷ two ∷ [] → AreMembers holds used format told setup (zero ∷ one ∷ two ∷ []) (opening setup).servers
-      → cluster.packets.items ≡ [] → 65536 ≤ vec_capacity cluster.packets → cluster.byte_room ≡ 134217728 → cluster.acked.list.items ≡ [] → cluster.readings.items ≡ [] → cluster.elections ≡ 0 → Shows holds used format told setup cluster (opening setup)
+  pub shows_opening : (network : Network S) (zero one two : Server S) → network.servers.items ≡ zero ∷ one ∷ two ∷ [] → AreMembers model setup (zero ∷ one ∷ two ∷ []) (opening setup).servers
+      → network.packets.items ≡ [] → 65536 ≤ vec_capacity network.packets → network.byte_room ≡ 134217728 → network.acked.list.items ≡ [] → network.readings.items ≡ [] → network.elections ≡ 0 → Shows model setup network (opening setup)
   unfolding opening
-  shows_opening cluster z o t servers members packets places bytes acked readings elections = record {
+  shows_opening network z o t servers members packets places bytes acked readings elections = record {
     three = ap length servers;
-    members = subst (λ xs. AreMembers holds used format told setup xs (opening setup).servers) (sym servers) members;
+    members = subst (λ xs. AreMembers model setup xs (opening setup).servers) (sym servers) members;
     traffic = record {
       packets = packets;
       places = places;
@@ -121,10 +121,10 @@ module _ {S : Type 0} (holds : S → Durable → Durable → Type 0) (used forma
 
   -- a server that was made in its place
   pub opened_there : (i : ℕ) (place : Place) → place.seat ≡ seat_of setup i → (server : Server S) (answer : Answer) → list_any (λ j. j == i) setup.failed ≡ halted_of answer → (answer ≡ Done) ⊎ (answer ≡ Refused Halted)
-      → (answer ≡ Done → (made : Setup) → place.seat ≡ seat_in made place.seat.number → Meets holds used format server.seat server.store server.state (RunningIs (opening_server made place.seat.number))) → (answer ≡ Refused Halted → server.state ≡ Unformatted) → server.seat ≡ place.seat
-      → IsMember holds used format told setup i server (unless_failed setup i (opening_server setup i))
+      → (answer ≡ Done → (made : Setup) → place.seat ≡ seat_in made place.seat.number → Meets model server.seat server.store server.state (RunningIs (opening_server made place.seat.number))) → (answer ≡ Refused Halted → server.state ≡ Unformatted) → server.seat ≡ place.seat
+      → IsMember model setup i server (unless_failed setup i (opening_server setup i))
   opened_there i place is server answer failed outcome opened halted seat =
-      opened_member i server answer failed outcome (λ done. subst (λ n. Meets holds used format server.seat server.store server.state (RunningIs (opening_server setup n))) (ap (λ (s : Seat). s.number) is)
+      opened_member i server answer failed outcome (λ done. subst (λ n. Meets model server.seat server.store server.state (RunningIs (opening_server setup n))) (ap (λ (s : Seat). s.number) is)
       (opened done setup (subst (λ (s : Seat). s ≡ seat_in setup s.number) (sym is) refl))) halted (seat ∙ is)
 
 pub was_halted : (answer : Answer) → (answer ≡ Done) ⊎ (answer ≡ Refused Halted) → halted_of answer ≡ true → answer ≡ Refused Halted
@@ -148,9 +148,9 @@ pub own_head : (number sectors names format i : ℕ) (place : Place) → place �
 own_head number sectors names format i place is seat head seat_is head_is = head_is ∙ ap (λ (p : Place). head_of p.group place.seat) is ∙ ap (head_of number) (sym seat_is)
 
 -- three servers, of which each has its own
-pub three_heads : {D : Type 0} → (number : ℕ) (cluster : Cluster (Kept D)) (zero one two : Server (Kept D)) → cluster.servers.items ≡ zero ∷ one ∷ two ∷ [] → zero.store.pair.head ≡ head_of number zero.seat → one.store.pair.head ≡ head_of number one.seat
-    → two.store.pair.head ≡ head_of number two.seat → HaveHeads number cluster
-three_heads {D = D} number cluster a b c servers first second third = λ i server at. each i server (sym (ap (λ xs. slice_get xs i) servers) ∙ at)
+pub three_heads : {D : Type 0} → (number : ℕ) (network : Network (Kept D)) (zero one two : Server (Kept D)) → network.servers.items ≡ zero ∷ one ∷ two ∷ [] → zero.store.pair.head ≡ head_of number zero.seat → one.store.pair.head ≡ head_of number one.seat
+    → two.store.pair.head ≡ head_of number two.seat → HaveHeads number network
+three_heads {D = D} number network a b c servers first second third = λ i server at. each i server (sym (ap (λ xs. slice_get xs i) servers) ∙ at)
   where
     each : (i : ℕ) (server : Server (Kept D)) → slice_get (a ∷ b ∷ c ∷ []) i ≡ Some server → server.store.pair.head ≡ head_of number server.seat
     each zero server at = subst (λ (s : Server (Kept D)). s.store.pair.head ≡ head_of number s.seat) (same_Some a server at) first

@@ -14,10 +14,10 @@ use Rattle.pf_protocol.specs.Leading.{on_submit, on_fetch, on_elect, on_resend}
 use Rattle.pf_protocol.specs.Saving.{is_short_of, on_checkpoint, on_finish}
 use Rattle.pf_protocol.specs.Groups.{Group, Sent}
 use Rattle.pf_protocol.specs.Answers.{IsAnswer, Turn, answer_at, answer_by, answer_to, deliver_turn, delivery_answer, elect_turn, fetch_turn, finish_answer, is_formatted, loss_answer, plain, stop_answer, submit_turn}
+use Rattle.pf_store.specs.Stores.{StoreModel}
 use Rattle.pf_network.proofs.Deliveries.{packet_done}
-use Rattle.pf_network.specs.declared.cluster.Cluster.{Cluster}
+use Rattle.pf_network.specs.declared.network.Network.{Network}
 use Rattle.pf_network.specs.Going.{ShowsSomehow}
-use Rattle.pf_entry.specs.Records.{Durable}
 use Rattle.pf_group.specs.Plain.{IsPlain}
 
 -- no job; and if the number of a read, then this one
@@ -143,8 +143,8 @@ pub next_read : (setup : Setup) (g : Group) (event : Event) (number : ℕ) → I
 next_read setup g event number other is = simple_answer setup g event (ReadIs number) other is
 
 -- a restart over any disks is answered by no job
-module _ {S : Type 0} (holds : S → Durable → Durable → Type 0) (used format : S → ℕ) (told : S → Bool) (rose : S → S → Type 0) (was : S → S → Durable → Durable → Type 0) (setup : Setup) (g : Group) (i : ℕ) (new : Cluster S) where
-  pub somehow_plain : (answer : Answer) → ShowsSomehow holds used format told rose was setup g i new answer → IsPlain answer
+module _ {S : Type 0} (model : StoreModel S) (setup : Setup) (g : Group) (i : ℕ) (new : Network S) where
+  pub somehow_plain : (answer : Answer) → ShowsSomehow model setup g i new answer → IsPlain answer
   somehow_plain (JobIs job) is = subst IsPlain (sym is.0) tt
   somehow_plain Done is = tt
   somehow_plain (SlotIs slot) is = tt

@@ -12,7 +12,7 @@ use Rattle.pf_protocol.specs.declared.answers.Refusal.TheVariants.{Stale}
 use Rattle.pf_protocol.specs.declared.events.Event.{Event}
 use Rattle.pf_protocol.specs.declared.events.Event.TheVariants.{Submit, Fetch, Deliver, Lose, Elect, Resend, Stop, Restart, Claim, Finish, GiveBack, Checkpoint}
 use Rattle.pf_protocol.specs.Servers.{Setup, Server, Condition, Running, Stopped, Unformatted}
-use Rattle.pf_protocol.specs.Outcomes.{Outcome, refused, sends}
+use Rattle.pf_protocol.specs.Outcomes.{Outcome, only_answers, sends}
 use Rattle.pf_protocol.specs.Saving.{applied_op, claimed, on_finish, on_give_back}
 use Rattle.pf_protocol.specs.Kept.{MayHold, Now, Without, With}
 use Rattle.pf_protocol.specs.Groups.{Group, Sent, Ending, Whole, CutOff, Missed, Untouched, acted, at_server, claim_at, claim_of, claim_or, cut_off, ended, ending, first_claim, happens, lost, only, opening, step_of, stopped}
@@ -108,7 +108,7 @@ applied_disk s slot (Some op) = refl
 
 finish_disk : (s : Server) (life slot : ℕ) → (on_finish s life slot).server.durable ≡ s.durable
 unfolding on_finish
-finish_disk s life slot = by_test (life == s.life) (λ c. (if c then sends (applied_op s slot (FinMap.get s.in_hand slot)) [] else refused s (Refused (Stale s.life))).server.durable ≡ s.durable) (λ _. applied_disk s slot (FinMap.get s.in_hand slot)) (λ _. refl)
+finish_disk s life slot = by_test (life == s.life) (λ c. (if c then sends (applied_op s slot (FinMap.get s.in_hand slot)) [] else only_answers s (Refused (Stale s.life))).server.durable ≡ s.durable) (λ _. applied_disk s slot (FinMap.get s.in_hand slot)) (λ _. refl)
 
 give_back_disk : (s : Server) (life slot : ℕ) → (on_give_back s life slot).server.durable ≡ s.durable
 unfolding on_give_back

@@ -12,7 +12,7 @@ use Rattle.pf_protocol.specs.Outcomes.{Outcome}
 use Rattle.pf_protocol.specs.Leading.{on_submit, on_fetch, on_elect, on_resend}
 use Rattle.pf_protocol.specs.Saving.{on_checkpoint, on_finish, on_give_back}
 use Rattle.pf_protocol.specs.Rows.{on_packet}
-use Rattle.pf_protocol.specs.Groups.{Sent, Group, Ending, Whole, CutOff, Missed, Untouched, send, acted, cut_off, ended, ending, step_of, at_server, marked_in, delivered, lost, stopped, begun, restart, claim_of, claim_at, claim_or, first_claim, only, counted_election, happens}
+use Rattle.pf_protocol.specs.Groups.{Sent, Group, Ending, Whole, CutOff, Missed, Untouched, send, acted, cut_off, ended, ending, step_of, at_server, delivered_in, delivered, lost, stopped, begun, restart, claim_of, claim_at, claim_or, first_claim, only, counted_election, happens}
 use Rattle.pf_protocol.specs.Histories.{History, run}
 use Rattle.pf_entry.proofs.Cases.{by_test}
 use Rattle.pf_group.specs.Readers.{is_left}
@@ -45,8 +45,8 @@ more_sent xs ys = record {
   ];
 }
 
-marked_sent : (xs : List Sent) (k : ℕ) (q : Sent) → is_left (Some q) ≡ false → OnlySent xs (slice_set xs k q)
-marked_sent xs k q gone = record {
+delivery_sent : (xs : List Sent) (k : ℕ) (q : Sent) → is_left (Some q) ≡ false → OnlySent xs (slice_set xs k q)
+delivery_sent xs k q gone = record {
   longer = omega (arith, set_length xs k q);
   none = λ j is. by j (slice_get (slice_set xs k q) j) refl is;
 }
@@ -93,21 +93,21 @@ module _ (g : Group) where
   itself : Comes g
   itself = same_sent g.packets
 
-  marked_comes : (how : Ending) (k : ℕ) (p : Sent) → Comes (marked_in how g k p)
-  marked_comes Whole k p = marked_sent g.packets k (record p { delivered = true }) refl
-  marked_comes CutOff k p = marked_sent g.packets k (record p { delivered = true }) refl
-  marked_comes Missed k p = marked_sent g.packets k (record p { delivered = true }) refl
-  marked_comes Untouched k p = itself
+  delivery_comes : (how : Ending) (k : ℕ) (p : Sent) → Comes (delivered_in how g k p)
+  delivery_comes Whole k p = delivery_sent g.packets k (record p { delivered = true }) refl
+  delivery_comes CutOff k p = delivery_sent g.packets k (record p { delivered = true }) refl
+  delivery_comes Missed k p = delivery_sent g.packets k (record p { delivered = true }) refl
+  delivery_comes Untouched k p = itself
 
   delivered_sent : (setup : Setup) (how : Ending) (k : ℕ) (o : Option Sent) → Comes (delivered setup how g k o)
   delivered_sent setup how k None = itself
   delivered_sent setup how k (Some p) =
-      by_test p.lost (λ c. Comes (if c then g else at_server how (marked_in how g k p) p.packet.to (λ s. on_packet setup s p.packet)))
-      (λ _. itself) (λ _. server_sent how (marked_in how g k p) (marked_comes how k p) p.packet.to (λ s. on_packet setup s p.packet))
+      by_test p.lost (λ c. Comes (if c then g else at_server how (delivered_in how g k p) p.packet.to (λ s. on_packet setup s p.packet)))
+      (λ _. itself) (λ _. server_sent how (delivered_in how g k p) (delivery_comes how k p) p.packet.to (λ s. on_packet setup s p.packet))
 
   lost_sent : (k : ℕ) (o : Option Sent) → Comes (lost g k o)
   lost_sent k None = itself
-  lost_sent k (Some p) = marked_sent g.packets k (record p { lost = true }) (or_true p.delivered)
+  lost_sent k (Some p) = delivery_sent g.packets k (record p { lost = true }) (or_true p.delivered)
 
   stopped_sent : (i : ℕ) (c : Option Condition) → Comes (stopped g i c)
   stopped_sent i (Some (Running s)) = itself

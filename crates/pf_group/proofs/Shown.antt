@@ -1,4 +1,4 @@
--- What a group shows is what its cluster does.
+-- What a group shows is what its network does.
 use Rattle.std.proofs.Common.{◌≡◌, ◌≢◌, Bor, ℕ, ◌<◌, ◌≤◌, ◌↔◌, Bool, true, false, not, ◌||◌, IfNone, IfSome, IsTrue, MatchOption, List, length, map, Option, Some, None, Result, Ok, Err, option_copied, ok_or, option_map, nat_lt, slice_get, slice_set, refl, sym, ap, subst, ◌∙◌}
 use Rattle.std.proofs.lemmas.Bool.{true≢false}
 use Rattle.std.proofs.lemmas.Option.{none-some, same_Some, slice_get-map, slice_get_within}
@@ -15,7 +15,7 @@ use Rattle.pf_state.specs.declared.running.Running.{Running}
 use Rattle.pf_state.specs.Standing.{server_of}
 use Rattle.pf_state.proofs.Applied.{is_applied_here}
 use Rattle.pf_diskstore.specs.declared.kept.Kept.{Kept}
-use Rattle.pf_network.specs.declared.cluster.Cluster.{Cluster}
+use Rattle.pf_network.specs.declared.network.Network.{Network}
 use Rattle.pf_network.specs.declared.kept.Parcel.{Parcel}
 use Rattle.pf_network.specs.Readings.{taken_of}
 use Rattle.pf_network.specs.Showing.{HasAnswer, parcel_of}
@@ -72,17 +72,17 @@ pub copied_is : {X : Type 0} → (found : Option (Bor X)) (there : Option X) →
 copied_is (Some x) there is = sym is
 copied_is None there is = sym is
 
-abbrev holes_with : (base : ℕ) → Map Entry → (marks : Numbers) → Holes
-holes_with base entries marks = record { base = base; entries = entries; marks = marks }
+abbrev holes_with : (base : ℕ) → Map Entry → (committed : Numbers) → Holes
+holes_with base entries committed = record { base = base; entries = entries; committed = committed }
 
 -- what stands in memory is what the rules have
 module _ (me : Running) (s : ServerIs) (is : IsMemoryOf me s) where
-  pub its_marks : me.log.marks ≡ s.committed
+  pub its_committed : me.log.committed ≡ s.committed
   unfolding server_of
-  its_marks = ap (λ (x : ServerIs). x.committed) is.server_is
+  its_committed = ap (λ (x : ServerIs). x.committed) is.server_is
 
   pub its_holes : me.log ≡ holes_of s
-  its_holes = ap (λ base. holes_with base me.log.entries me.log.marks) is.cached.base ∙ ap (λ log. holes_with s.durable.base log me.log.marks) is.cached.log ∙ ap (holes_with s.durable.base s.durable.log) its_marks
+  its_holes = ap (λ base. holes_with base me.log.entries me.log.committed) is.cached.base ∙ ap (λ log. holes_with s.durable.base log me.log.committed) is.cached.log ∙ ap (holes_with s.durable.base s.durable.log) its_committed
 
   applied_above : Sets.retain me.applied.slots (nat_lt me.log.base) ≡ s.applied
   unfolding server_of
@@ -114,18 +114,18 @@ pub if_none : {X A B : Type 0} → (o : Option X) → (A → B) → IfNone o A �
 if_none None then is = then is
 if_none (Some x) then is = tt
 
-module _ {D : Type 0} (tells : Bool) (faults moment : D → ℕ) (number : ℕ) (setup : Setup) (earlier : History) (began : Cluster (Kept D)) (history : History) (old new : Cluster (Kept D)) where
+module _ {D : Type 0} (tells : Bool) (faults moment : D → ℕ) (number : ℕ) (setup : Setup) (earlier : History) (began : Network (Kept D)) (history : History) (old new : Network (Kept D)) where
   abbrev before : GroupIs
   before = group_of tells faults moment number setup earlier began history old
 
   abbrev after : GroupIs
   after = group_of tells faults moment number setup earlier began history new
 
-  -- of the cluster, its reads alone have changed
+  -- of the network, its reads alone have changed
   pub now_taken : (taken : List Bool) → new ≡ record old { readings = new.readings } → taken_of new ≡ taken → after ≡ record before { taken = taken }
   now_taken taken same is =
       ap (λ taken. record after { taken = taken }) is
-      ∙ ap (λ (servers : Cluster (Kept D)). record before { taken = taken; faults = all_counts faults servers; time = record before.time { now = all_counts moment servers } }) same
+      ∙ ap (λ (servers : Network (Kept D)). record before { taken = taken; faults = all_counts faults servers; time = record before.time { now = all_counts moment servers } }) same
 
   -- where its disks tell their content, the group is the state after the history
   module _ (g : Group) (is : IsTrue tells → g ≡ replay setup history) (read : ℕ) (same : new ≡ record old { readings = new.readings }) where

@@ -1,4 +1,4 @@
--- What the cluster of a group stands for, before an event and after it.
+-- What the network of a group stands for, before an event and after it.
 use Rattle.std.proofs.Common.{◌≡◌, ℕ, suc, ◌+◌, ◌<◌, ◌≤◌, ◌^◌, [], ◌∷◌, ◌++◌, length, Bool, false, Option, Some, None, IfSome, IsTrue, Ok, slice_get, arith, refl, sym, ap, subst, ◌∙◌}
 use Rattle.std.proofs.lemmas.Bool.{false≢true}
 use Rattle.std.proofs.lemmas.List.{length-append}
@@ -15,9 +15,10 @@ use Rattle.pf_protocol.specs.Fitting.{ConditionFits, DurableFits}
 use Rattle.pf_protocol.proofs.ForMoments.{legal_goes_on, replay_goes_on}
 use Rattle.pf_protocol.proofs.ForRows.{few_starts}
 use Rattle.pf_protocol.proofs.ForHistories.{legal_fits, viable_opening}
+use Rattle.pf_store.specs.Stores.{StoreModel}
 use Rattle.pf_server.specs.Conditions.{IsFit, IsHonest}
 use Rattle.pf_server.specs.declared.server.Server.{Server}
-use Rattle.pf_network.specs.declared.cluster.Cluster.{Cluster}
+use Rattle.pf_network.specs.declared.network.Network.{Network}
 use Rattle.pf_network.specs.Going.{HasBegunSomehow, HasGone, HasStayed, IsHonestAt, IsToldAt}
 use Rattle.pf_network.specs.Pasts.{Past}
 use Rattle.pf_network.specs.Showing.{Shows, seat_of}
@@ -57,19 +58,19 @@ module _ (setup : Setup) (history : History) (legal : IsLegal setup history) (sh
   honest_at past same i = subst (λ g. IsHonestAt setup g i) (sym same) (honest_here i (slice_get (replay setup history).servers i) refl)
 
 module _ {S : Type 0} (told : S → Bool) where
-  pub told_at : (cluster : Cluster S) → AllTell told cluster → (i : ℕ) → IsToldAt told cluster i
-  told_at cluster tell i = by (slice_get cluster.servers.items i) refl
+  pub told_at : (network : Network S) → AllTell told network → (i : ℕ) → IsToldAt told network i
+  told_at network tell i = by (slice_get network.servers.items i) refl
     where
-      by : (o : Option (Server S)) → slice_get cluster.servers.items i ≡ o → IfSome o (λ server. IsTrue (told server.store))
+      by : (o : Option (Server S)) → slice_get network.servers.items i ≡ o → IfSome o (λ server. IsTrue (told server.store))
       by (Some server) there = tell i server there
       by None there = tt
 
-module _ {S : Type 0} (holds : S → Durable → Durable → Type 0) (used format : S → ℕ) (told : S → Bool) (tells : Bool) (setup : Setup) where
+module _ {S : Type 0} (model : StoreModel S) (tells : Bool) (setup : Setup) where
   -- a new group
-  pub stands_opening : (history : History) (cluster : Cluster S) → IsSetup (record setup { failed = [] }) → history ≡ [] → Shows holds used format told setup cluster (opening setup) → StandsFor holds used format told tells setup history cluster
-  stands_opening history cluster is empty shows =
+  pub stands_opening : (history : History) (network : Network S) → IsSetup (record setup { failed = [] }) → history ≡ [] → Shows model setup network (opening setup) → StandsFor model tells setup history network
+  stands_opening history network is empty shows =
       let its : IsSetup setup = record { few_names = is.few_names; some_sectors = is.some_sectors; few_sectors = is.few_sectors; blocks = is.blocks; format = is.format; window = is.window } in
-      subst (λ h. StandsFor holds used format told tells setup h cluster) (sym empty) (record {
+      subst (λ h. StandsFor model tells setup h network) (sym empty) (record {
         past = record { group = opening setup; top = 2 ^ 63; count = 2 ^ 63 + 4096; terms = 1 ∷ []; claims = [] };
         reached = record {
           viable = record { is_setup = its; group = viable_opening setup (2 ^ 63) (2 ^ 63 + 4096) };
@@ -82,13 +83,13 @@ module _ {S : Type 0} (holds : S → Durable → Durable → Type 0) (used forma
         replays = λ tell. record { same = refl; legal = record { is_setup = its; legal = tt } };
       })
 
-  module _ (history : History) (old : Cluster S) (stands : StandsFor holds used format told tells setup history old) where
-    -- the cluster stands for the state after the history
-    pub now_shows : IsTrue tells → Shows holds used format told setup old (replay setup history)
-    now_shows tell = subst (Shows holds used format told setup old) (stands.replays tell).same stands.reached.shows
+  module _ (history : History) (old : Network S) (stands : StandsFor model tells setup history old) where
+    -- the network stands for the state after the history
+    pub now_shows : IsTrue tells → Shows model setup old (replay setup history)
+    now_shows tell = subst (Shows model setup old) (stands.replays tell).same stands.reached.shows
 
     -- a server that begins again is one that no restart refuses
-    pub is_told : IsTrue tells → AllTell told old → length history ≤ 2 ^ 32 → (event : GroupEvent) → IsTold told setup stands.past.group old event
+    pub is_told : IsTrue tells → AllTell model.told old → length history ≤ 2 ^ 32 → (event : GroupEvent) → IsTold model.told setup stands.past.group old event
     is_told tell all short (asked.Submit server range payload) = tt
     is_told tell all short (asked.Mark server) = tt
     is_told tell all short (asked.Fetch server range) = tt
@@ -97,24 +98,24 @@ module _ {S : Type 0} (holds : S → Durable → Durable → Type 0) (used forma
     is_told tell all short (asked.Elect server) = tt
     is_told tell all short (asked.Resend server) = tt
     is_told tell all short (asked.Stop server) = tt
-    is_told tell all short (asked.Restart server) = let r = stands.replays tell in (told_at told old all server, honest_at setup history r.legal short stands.past r.same server)
+    is_told tell all short (asked.Restart server) = let r = stands.replays tell in (told_at model.told old all server, honest_at setup history r.legal short stands.past r.same server)
     is_told tell all short asked.Claim = tt
     is_told tell all short (asked.Finish filled) = tt
     is_told tell all short (asked.Checkpoint server) = tt
 
-    module _ (rose : S → S → Type 0) (was : S → S → Durable → Durable → Type 0) (new : Cluster S) where
+    module _ (new : Network S) where
       abbrev Went : Group → Event → Answer → Type 0
-      Went g event answer = HasGone holds used format told rose was setup g event old new answer
+      Went g event answer = HasGone model setup g event old new answer
 
       -- after one more event
-      pub stands_after : (event : Event) (answer : Answer) (later : History) → later ≡ history ++ record { event = event; answer = answer } ∷ [] → length later ≤ 2 ^ 32 → MayHappen (claims_of [] history) event → Went stands.past.group event answer → StandsFor holds used format told tells setup later new
+      pub stands_after : (event : Event) (answer : Answer) (later : History) → later ≡ history ++ record { event = event; answer = answer } ∷ [] → length later ≤ 2 ^ 32 → MayHappen (claims_of [] history) event → Went stands.past.group event answer → StandsFor model tells setup later new
       stands_after event answer later is low asked gone =
           let h : Happening = record { event = event; answer = answer } in
           let one_more = length-append history (h ∷ []) in
           let short : length (history ++ h ∷ []) ≤ 2 ^ 32 = subst (λ l. length l ≤ 2 ^ 32) is low in
-          subst (λ l. StandsFor holds used format told tells setup l new) (sym is) (record {
+          subst (λ l. StandsFor model tells setup l new) (sym is) (record {
             past = past_after setup stands.past event answer;
-            reached = reached_after holds used format told rose was setup stands.past old new stands.reached (omega (arith, stands.most, one_more, short)) event answer (subst (λ claims. MayHappen claims event) (sym stands.claims) asked) gone;
+            reached = reached_after model setup stands.past old new stands.reached (omega (arith, stands.most, one_more, short)) event answer (subst (λ claims. MayHappen claims event) (sym stands.claims) asked) gone;
             covers = record { count = omega (arith, stands.covers.count); top = stands.covers.top };
             most = omega (arith, stands.most, one_more);
             claims = ap (λ claims. claims_after claims event answer) stands.claims ∙ sym (claims_more history [] h);
@@ -127,13 +128,13 @@ module _ {S : Type 0} (holds : S → Durable → Durable → Type 0) (used forma
           })
 
       -- after a restart over disks that tell nothing
-      pub stands_led : tells ≡ false → (i : ℕ) (found : Bool) (answer : Answer) (later : History) → later ≡ history ++ record { event = Restart i found; answer = answer } ∷ [] → length later ≤ 2 ^ 32 → i < 3 → HasBegunSomehow holds used format told rose was setup stands.past.group i old new answer → StandsFor holds used format told tells setup later new
+      pub stands_led : tells ≡ false → (i : ℕ) (found : Bool) (answer : Answer) (later : History) → later ≡ history ++ record { event = Restart i found; answer = answer } ∷ [] → length later ≤ 2 ^ 32 → i < 3 → HasBegunSomehow model setup stands.past.group i old new answer → StandsFor model tells setup later new
       stands_led none i found answer later is low three begun =
           let h : Happening = record { event = Restart i found; answer = answer } in
           let one_more = length-append history (h ∷ []) in
           let short : length (history ++ h ∷ []) ≤ 2 ^ 32 = subst (λ l. length l ≤ 2 ^ 32) is low in
-          let led = somehow_leads_on holds used format told rose was setup stands.past old new stands.reached (omega (arith, stands.most, one_more, short)) stands.covers i three (Ok (answer, found)) begun in
-          subst (λ l. StandsFor holds used format told tells setup l new) (sym is) (record {
+          let led = somehow_leads_on model setup stands.past old new stands.reached (omega (arith, stands.most, one_more, short)) stands.covers i three (Ok (answer, found)) begun in
+          subst (λ l. StandsFor model tells setup l new) (sym is) (record {
             past = led.later;
             reached = led.reached;
             covers = record { count = omega (arith, stands.covers.count, led.least); top = subst (λ t. 2 ^ 63 ≤ t) (sym led.top) stands.covers.top };
@@ -143,8 +144,8 @@ module _ {S : Type 0} (holds : S → Durable → Durable → Type 0) (used forma
           })
 
       -- where there was no memory for it
-      pub stands_still : (later : History) → later ≡ history → Shows holds used format told setup new stands.past.group → StandsFor holds used format told tells setup later new
-      stands_still later is shows = subst (λ l. StandsFor holds used format told tells setup l new) (sym is) (record {
+      pub stands_still : (later : History) → later ≡ history → Shows model setup new stands.past.group → StandsFor model tells setup later new
+      stands_still later is shows = subst (λ l. StandsFor model tells setup l new) (sym is) (record {
         past = stands.past;
         reached = record { viable = stands.reached.viable; short = stands.reached.short; shows = shows };
         covers = stands.covers;
@@ -157,5 +158,5 @@ module _ {S : Type 0} (holds : S → Durable → Durable → Type 0) (used forma
       pub went_now : IsTrue tells → (event : Event) (answer : Answer) → Went stands.past.group event answer → Went (replay setup history) event answer
       went_now tell event answer gone = subst (λ g. Went g event answer) (stands.replays tell).same gone
 
-      pub stayed_now : IsTrue tells → (own : Option ℕ) → HasStayed holds used format told rose was setup stands.past.group own old new → HasStayed holds used format told rose was setup (replay setup history) own old new
-      stayed_now tell own stayed = subst (λ g. HasStayed holds used format told rose was setup g own old new) (stands.replays tell).same stayed
+      pub stayed_now : IsTrue tells → (own : Option ℕ) → HasStayed model setup stands.past.group own old new → HasStayed model setup (replay setup history) own old new
+      stayed_now tell own stayed = subst (λ g. HasStayed model setup g own old new) (stands.replays tell).same stayed

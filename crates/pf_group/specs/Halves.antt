@@ -3,24 +3,14 @@ use Rattle.std.specs.Prelude.{◌≡◌, ◌⊎◌, ◌≤◌, ℕ, Bool, List, 
 use Rattle.pf_disk.specs.Crashes.{Images}
 use Rattle.pf_disk.specs.Causes.{Rose}
 use Rattle.pf_entry.specs.Records.{Durable}
-use Rattle.pf_image.specs.Pairs.{current_of, format_of}
 use Rattle.pf_diskstore.specs.declared.kept.Kept.{Kept}
 use Rattle.pf_diskstore.specs.Faults.{faults_of}
-use Rattle.pf_diskstore.specs.Kept.{IsKept, OneRose, WentOn, tells}
+use Rattle.pf_diskstore.specs.Kept.{OneRose, WentOn, tells}
 use Rattle.pf_server.specs.declared.server.Server.{Server}
-use Rattle.pf_network.specs.declared.cluster.Cluster.{Cluster}
+use Rattle.pf_network.specs.declared.network.Network.{Network}
 
 -- what a store says of its disks
 module _ {D : Type 0} where
-  abbrev pub holds_in : (seen : D → Option (List ℕ)) (may_leave : D → Images) → Kept D → Durable → Durable → Type 0
-  holds_in seen may_leave kept before after = IsKept seen may_leave kept.pair before after
-
-  abbrev pub used_in : Kept D → ℕ
-  used_in kept = (current_of kept.pair).used
-
-  abbrev pub format_in : Kept D → ℕ
-  format_in kept = format_of kept.pair
-
   abbrev pub told_in : (D → Option (List ℕ)) → Kept D → Bool
   told_in seen kept = tells seen kept.pair
 
@@ -31,8 +21,8 @@ module _ {D : Type 0} where
   was_in seen faults moment left_since tells_moments old new before after = WentOn seen faults moment left_since tells_moments old.pair new.pair before after
 
   -- a count of each disk: how often it has failed, or its moment
-  abbrev pub all_counts : (D → ℕ) → Cluster (Kept D) → List (ℕ × ℕ)
-  all_counts count cluster = map (λ (server : Server (Kept D)). faults_of count server.store) cluster.servers.items
+  abbrev pub all_counts : (D → ℕ) → Network (Kept D) → List (ℕ × ℕ)
+  all_counts count network = map (λ (server : Server (Kept D)). faults_of count server.store) network.servers.items
 
 -- a count of one of two disks rose
 abbrev pub EitherRose : (before after : ℕ × ℕ) → Type 0

@@ -5,13 +5,14 @@ use Rattle.pf_protocol.specs.Servers.{Setup}
 use Rattle.pf_protocol.specs.Groups.{Group}
 use Rattle.pf_network.specs.Going.{WasTouched}
 use Rattle.pf_network.specs.Readings.{taken_of}
+use Rattle.pf_diskstore.specs.Model.{kept_model}
 use Rattle.pf_group.specs.declared.group.Group.TheInside.{Inside}
 use Rattle.pf_group.specs.GroupIs.{GroupIs, IsLastStep}
 use Rattle.pf_protocol.specs.Histories.{History, replay}
 use Rattle.pf_diskstore.specs.declared.kept.Kept.{Kept}
-use Rattle.pf_network.specs.declared.cluster.Cluster.{Cluster}
+use Rattle.pf_network.specs.declared.network.Network.{Network}
 use Rattle.pf_group.specs.Making.{setup_with}
-use Rattle.pf_group.specs.Halves.{all_counts, format_in, holds_in, told_in, used_in, was_in}
+use Rattle.pf_group.specs.Halves.{all_counts, told_in, was_in}
 use Rattle.pf_group.specs.Pasts.{IsPast}
 use Rattle.pf_group.specs.Standing.{AllTell, StandsFor}
 use Rattle.pf_format.specs.Opening.{head_of}
@@ -19,42 +20,42 @@ use Rattle.pf_server.specs.declared.server.Server.{Server}
 
 module _ {D : Type 0} where
   -- a group with this history and these servers, whose last step that may have touched disks began with those
-  abbrev pub group_of : (told : Bool) → (faults moment : D → ℕ) → (number : ℕ) → Setup → (earlier : History) (began : Cluster (Kept D)) → History → Cluster (Kept D) → GroupIs
-  group_of told faults moment number setup earlier began history cluster = record {
+  abbrev pub group_of : (told : Bool) → (faults moment : D → ℕ) → (number : ℕ) → Setup → (earlier : History) (began : Network (Kept D)) → History → Network (Kept D) → GroupIs
+  group_of told faults moment number setup earlier began history network = record {
     number = number;
     told = told;
     setup = setup;
     history = history;
-    taken = taken_of cluster;
-    faults = all_counts faults cluster;
-    time = record { now = all_counts moment cluster; began = all_counts moment began; earlier = earlier };
+    taken = taken_of network;
+    faults = all_counts faults network;
+    time = record { now = all_counts moment network; began = all_counts moment began; earlier = earlier };
   }
 
   abbrev pub setup_in : Inside D → Setup
   setup_in g = setup_with g.sectors g.names g.format g.failed.items
 
   abbrev pub group_in : (told : Bool) → (faults moment : D → ℕ) → Inside D → GroupIs
-  group_in told faults moment g = group_of told faults moment g.number (setup_in g) g.began.happenings.value.items g.began.cluster.value g.past.happenings.items g.cluster
+  group_in told faults moment g = group_of told faults moment g.number (setup_in g) g.began.happenings.value.items g.began.network.value g.past.happenings.items g.network
 
   -- a restart looks for each server's own head
-  abbrev pub HaveHeads : (number : ℕ) → Cluster (Kept D) → Type 0
-  HaveHeads number cluster = (i : ℕ) (server : Server (Kept D)) → slice_get cluster.servers.items i ≡ Some server → server.store.pair.head ≡ head_of number server.seat
+  abbrev pub HaveHeads : (number : ℕ) → Network (Kept D) → Type 0
+  HaveHeads number network = (i : ℕ) (server : Server (Kept D)) → slice_get network.servers.items i ≡ Some server → server.store.pair.head ≡ head_of number server.seat
 
   module _ (seen : D → Option (List ℕ)) (faults moment : D → ℕ) (left_since : D → ℕ → Images) (tells_moments : Bool) where
     -- A step that began with these servers, whose disks told their content, led to those: a crash inside it left of each what it may hold
     -- before it or after it
-    pub record IsSince (before after : Group) (began cluster : Cluster (Kept D)) : Type 0 where
+    pub record IsSince (before after : Group) (began network : Network (Kept D)) : Type 0 where
       pub three : length began.servers.items ≡ 3
       pub told : AllTell (told_in seen) began
-      pub touched : (i : ℕ) (server next : Server (Kept D)) → slice_get began.servers.items i ≡ Some server → slice_get cluster.servers.items i ≡ Some next
+      pub touched : (i : ℕ) (server next : Server (Kept D)) → slice_get began.servers.items i ≡ Some server → slice_get network.servers.items i ≡ Some next
           → WasTouched (was_in seen faults moment left_since tells_moments) before after i server.store next.store
 
   -- The servers stand for what the history led to. Where their disks tell their content, that is the state after it, and it is known what a
   -- crash leaves.
   pub record IsGroup (seen : D → Option (List ℕ)) (may_leave : D → Images) (faults moment : D → ℕ) (left_since : D → ℕ → Images) (tells tells_moments : Bool) (g : Inside D) : Type 0 where
-    pub stands : StandsFor (holds_in seen may_leave) used_in format_in (told_in seen) tells (setup_in g) g.past.happenings.items g.cluster
-    pub heads : IsTrue tells → HaveHeads g.number g.cluster
+    pub stands : StandsFor (kept_model seen may_leave faults moment left_since tells_moments) tells (setup_in g) g.past.happenings.items g.network
+    pub heads : IsTrue tells → HaveHeads g.number g.network
     pub past : IsPast g.past
     pub after : History
     pub last : IsLastStep g.began.happenings.value.items after g.past.happenings.items
-    pub since : IsTrue tells → IsSince seen faults moment left_since tells_moments (replay (setup_in g) g.began.happenings.value.items) (replay (setup_in g) after) g.began.cluster.value g.cluster
+    pub since : IsTrue tells → IsSince seen faults moment left_since tells_moments (replay (setup_in g) g.began.happenings.value.items) (replay (setup_in g) after) g.began.network.value g.network

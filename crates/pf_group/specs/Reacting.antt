@@ -1,13 +1,13 @@
--- What comes of one event of a cluster.
+-- What comes of one event of a network.
 use Rattle.std.specs.Prelude.{◌≡◌, ◌⊎◌, ℕ, Bool, Option, Some, None, Result, Ok, Err}
 use Rattle.pf_base.specs.declared.errors.NoMemory.{NoMemory}
-use Rattle.pf_entry.specs.Records.{Durable}
 use Rattle.pf_protocol.specs.declared.events.Event.{Event}
 use Rattle.pf_protocol.specs.declared.events.Event.TheVariants.{Restart}
 use Rattle.pf_protocol.specs.Servers.{Setup}
+use Rattle.pf_store.specs.Stores.{StoreModel}
 use Rattle.pf_network.specs.Pasts.{Past}
 use Rattle.pf_protocol.specs.Groups.{Group}
-use Rattle.pf_network.specs.declared.cluster.Cluster.{Cluster}
+use Rattle.pf_network.specs.declared.network.Network.{Network}
 use Rattle.pf_network.specs.Going.{HasBegunSomehow, HasGone, HasKept, HasStayed, IsHonestAt, IsReached, IsToldAt}
 use Rattle.pf_group.specs.declared.event.GroupEvent.{GroupEvent}
 use Rattle.pf_group.specs.declared.event.GroupEvent.TheVariants as asked
@@ -20,47 +20,46 @@ own_of (asked.Restart server) = Some server
 own_of event = None
 
 -- the disks of a server that begins again tell their content, and it is in a condition that no restart refuses
-abbrev pub IsTold : {S : Type 0} → (S → Bool) → Setup → Group → Cluster S → GroupEvent → Type 0
-IsTold told setup g cluster (asked.Restart server) = IsToldAt told cluster server × IsHonestAt setup g server
-IsTold told setup g cluster event = Unit {0}
+abbrev pub IsTold : {S : Type 0} → (S → Bool) → Setup → Group → Network S → GroupEvent → Type 0
+IsTold told setup g network (asked.Restart server) = IsToldAt told network server × IsHonestAt setup g server
+IsTold told setup g network event = Unit {0}
 
-module _ {S : Type 0} (holds : S → Durable → Durable → Type 0) (used format : S → ℕ) (told : S → Bool) where
-  -- a past led to the cluster, and the event may be asked for after it
-  abbrev pub MayReact : Cluster S → GroupEvent → Type 0
-  MayReact cluster event = (setup : Setup) × ((past : Past) × IsReached holds used format told setup past cluster × MayAsk past.claims event)
+module _ {S : Type 0} (model : StoreModel S) where
+  -- a past led to the network, and the event may be asked for after it
+  abbrev pub MayReact : Network S → GroupEvent → Type 0
+  MayReact network event = (setup : Setup) × ((past : Past) × IsReached model setup past network × MayAsk past.claims event)
 
-  module _ (rose : S → S → Type 0) (was : S → S → Durable → Durable → Type 0) where
-    -- the event was answered, and its answer is there once more
-    pub record Answers (setup : Setup) (g : Group) (event : Event) (old new : Cluster S) (r : Reaction) : Type 0 where
-      pub event_is : r.event ≡ event
-      pub twice : r.kept ≡ r.answer
-      pub gone : HasGone holds used format told rose was setup g event old new r.answer
+  -- the event was answered, and its answer is there once more
+  pub record Answers (setup : Setup) (g : Group) (event : Event) (old new : Network S) (r : Reaction) : Type 0 where
+    pub event_is : r.event ≡ event
+    pub twice : r.kept ≡ r.answer
+    pub gone : HasGone model setup g event old new r.answer
 
-    -- or there was no memory for it
-    abbrev pub Comes : Setup → Group → Event → (old new : Cluster S) → Result Reaction NoMemory → Type 0
-    Comes setup g event old new (Ok r) = Answers setup g event old new r
-    Comes setup g event old new (Err e) = HasStayed holds used format told rose was setup g None old new
+  -- or there was no memory for it
+  abbrev pub Comes : Setup → Group → Event → (old new : Network S) → Result Reaction NoMemory → Type 0
+  Comes setup g event old new (Ok r) = Answers setup g event old new r
+  Comes setup g event old new (Err e) = HasStayed model setup g None old new
 
-    abbrev pub Reacts : Setup → Group → GroupEvent → (old new : Cluster S) → Result Reaction NoMemory → Type 0
-    Reacts setup g event old new (Ok r) = (found : Bool) × Answers setup g (event_of event found) old new r
-    Reacts setup g event old new (Err e) = HasStayed holds used format told rose was setup g (own_of event) old new
+  abbrev pub Reacts : Setup → Group → GroupEvent → (old new : Network S) → Result Reaction NoMemory → Type 0
+  Reacts setup g event old new (Ok r) = (found : Bool) × Answers setup g (event_of event found) old new r
+  Reacts setup g event old new (Err e) = HasStayed model setup g (own_of event) old new
 
-    -- a restart tells whether it found the record of a step that was cut off
-    abbrev pub ComesBack : Setup → Group → (i : ℕ) → (old new : Cluster S) → Result Reaction NoMemory → Type 0
-    ComesBack setup g i old new (Ok r) = (found : Bool) × Answers setup g (Restart i found) old new r
-    ComesBack setup g i old new (Err e) = HasStayed holds used format told rose was setup g (Some i) old new
+  -- a restart tells whether it found the record of a step that was cut off
+  abbrev pub ComesBack : Setup → Group → (i : ℕ) → (old new : Network S) → Result Reaction NoMemory → Type 0
+  ComesBack setup g i old new (Ok r) = (found : Bool) × Answers setup g (Restart i found) old new r
+  ComesBack setup g i old new (Err e) = HasStayed model setup g (Some i) old new
 
-    -- over any disks: whatever state that fits it began from, or was cut off over
-    pub record HasAnsweredSomehow (setup : Setup) (g : Group) (i : ℕ) (old new : Cluster S) (r : Reaction) : Type 0 where
-      pub found : Bool
-      pub event_is : r.event ≡ Restart i found
-      pub twice : r.kept ≡ r.answer
-      pub begun : HasBegunSomehow holds used format told rose was setup g i old new r.answer
+  -- over any disks: whatever state that fits it began from, or was cut off over
+  pub record HasAnsweredSomehow (setup : Setup) (g : Group) (i : ℕ) (old new : Network S) (r : Reaction) : Type 0 where
+    pub found : Bool
+    pub event_is : r.event ≡ Restart i found
+    pub twice : r.kept ≡ r.answer
+    pub begun : HasBegunSomehow model setup g i old new r.answer
 
-    abbrev pub ComesBackSomehow : Setup → Group → (i : ℕ) → (old new : Cluster S) → Result Reaction NoMemory → Type 0
-    ComesBackSomehow setup g i old new (Ok r) = HasAnsweredSomehow setup g i old new r
-    ComesBackSomehow setup g i old new (Err e) = HasKept holds used format told rose was setup g i old new
+  abbrev pub ComesBackSomehow : Setup → Group → (i : ℕ) → (old new : Network S) → Result Reaction NoMemory → Type 0
+  ComesBackSomehow setup g i old new (Ok r) = HasAnsweredSomehow setup g i old new r
+  ComesBackSomehow setup g i old new (Err e) = HasKept model setup g i old new
 
-    -- it came to what the rules say, or it is a restart, which came to something
-    abbrev pub ReactsSomehow : Setup → Group → GroupEvent → (old new : Cluster S) → Result Reaction NoMemory → Type 0
-    ReactsSomehow setup g event old new r = Reacts setup g event old new r ⊎ ((i : ℕ) × (event ≡ asked.Restart i) × ComesBackSomehow setup g i old new r)
+  -- it came to what the rules say, or it is a restart, which came to something
+  abbrev pub ReactsSomehow : Setup → Group → GroupEvent → (old new : Network S) → Result Reaction NoMemory → Type 0
+  ReactsSomehow setup g event old new r = Reacts setup g event old new r ⊎ ((i : ℕ) × (event ≡ asked.Restart i) × ComesBackSomehow setup g i old new r)

@@ -30,7 +30,7 @@ TellsOf g i (Ok told) P = OfRunning g i (P told)
 TellsOf g i (Err down) P = IsDown g i
 
 abbrev pub holes_of : Server → Holes
-holes_of s = record { base = s.durable.base; entries = s.durable.log; marks = s.committed }
+holes_of s = record { base = s.durable.base; entries = s.durable.log; committed = s.committed }
 
 -- the applied slots, with all from 1 up to the checkpoint
 pub record IsAppliedOf (slots : Numbers) (s : Server) : Type 0 where

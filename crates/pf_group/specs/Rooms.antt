@@ -3,21 +3,21 @@ use Rattle.std.specs.Prelude.{◌≡◌, ℕ, ◌≤◌, Bool, true, false, List
 use Rattle.pf_protocol.specs.declared.answers.Answer.{Answer}
 use Rattle.pf_protocol.specs.declared.answers.Answer.TheVariants.{Refused}
 use Rattle.pf_format.specs.Rooms.{Place}
-use Rattle.pf_network.specs.declared.cluster.Cluster.{Cluster}
+use Rattle.pf_network.specs.declared.network.Network.{Network}
 use Rattle.pf_group.specs.declared.making.Plan.{Plan}
 use Rattle.pf_group.specs.Pasts.{IsPast}
 
 -- no servers yet, and room for three, and for all packets
-pub record IsEmpty {S : Type 0} (cluster : Cluster S) : Type 0 where
-  pub servers : cluster.servers.items ≡ []
-  pub none : vec_len cluster.servers ≡ 0
-  pub three : 3 ≤ vec_capacity cluster.servers
-  pub packets : cluster.packets.items ≡ []
-  pub places : 65536 ≤ vec_capacity cluster.packets
-  pub bytes : cluster.byte_room ≡ 134217728
-  pub acked : cluster.acked.list.items ≡ []
-  pub readings : cluster.readings.items ≡ []
-  pub elections : cluster.elections ≡ 0
+pub record IsEmpty {S : Type 0} (network : Network S) : Type 0 where
+  pub servers : network.servers.items ≡ []
+  pub none : vec_len network.servers ≡ 0
+  pub three : 3 ≤ vec_capacity network.servers
+  pub packets : network.packets.items ≡ []
+  pub places : 65536 ≤ vec_capacity network.packets
+  pub bytes : network.byte_room ≡ 134217728
+  pub acked : network.acked.list.items ≡ []
+  pub readings : network.readings.items ≡ []
+  pub elections : network.elections ≡ 0
 
 abbrev pub place_at : (group sectors names format i : ℕ) → Place
 place_at group sectors names format i = record { group = group; seat = record { number = i; sectors = sectors; names = names; format = format } }
@@ -30,7 +30,7 @@ pub record IsPlan {D : Type 0} (plan : Plan D) : Type 0 where
   pub failed : plan.failed.items ≡ []
   pub none : vec_len plan.failed ≡ 0
   pub three : 3 ≤ vec_capacity plan.failed
-  pub cluster : IsEmpty plan.cluster
+  pub network : IsEmpty plan.network
   pub history : plan.past.happenings.items ≡ []
   pub past : IsPast plan.past
 

@@ -12,8 +12,8 @@ use Rattle.pf_entry.specs.declared.entries.VoteLog.{VoteLog}
 use Rattle.pf_entry.specs.declared.packets.Body.TheVariants.{Vote, Ack, Commit, Image}
 use Rattle.pf_protocol.specs.Servers.{Setup, Server, has_applied}
 use Rattle.pf_protocol.specs.Groups.{Answered, Group, Sent}
-use Rattle.pf_protocol.specs.Histories.{History, IsPrefix, replay, Runs, HasAccepted, HasSource, HasVoted, IsProposal}
-use Rattle.pf_protocol.specs.Kept.{MayHold, HasAcked, HasCommitted, IsCovered, IsInHand, IsKeptIn, IsMarked}
+use Rattle.pf_protocol.specs.Histories.{History, IsPrefix, replay, RunsAs, HasAccepted, HasSource, HasVoted, IsProposal}
+use Rattle.pf_protocol.specs.Kept.{MayHold, MayAck, HasCommitted, IsCovered, IsInHand, IsKeptIn, IsCommittedIn}
 use Rattle.pf_protocol.specs.LastWriters.{HoldLastWrites}
 use Rattle.pf_protocol.specs.Answers.{IsLegal}
 use Rattle.pf_protocol.specs.Fitting.{GroupFits}
@@ -36,20 +36,20 @@ module _ (setup : Setup) (history : History) where
 
   -- what is applied was chosen, what it passed can be passed, and sectors are the applied ops in the order of their slots
   pub record AppliesChosen : Type 0 where
-    pub servers : (i : ℕ) (s : Server) → Runs now i s → IsCovered setup history s.durable.term (has_applied s) s.sectors
+    pub servers : (i : ℕ) (s : Server) → RunsAs now i s → IsCovered setup history s.durable.term (has_applied s) s.sectors
     pub disks : (i : ℕ) (d : Durable) → MayHold now i d → IsCovered setup history d.term (is_applied d.base d.saved) d.sectors
     pub images : (k : ℕ) (sent : Sent) (base : ℕ) (applied : Numbers) (sectors : List Sector) → slice_get now.packets k ≡ Some sent → sent.packet.body ≡ Image base applied sectors → IsCovered setup history sent.packet.term (is_applied base applied) sectors
 
   -- each sector holds what the greatest applied slot that writes it wrote
   pub record HoldsWrites : Type 0 where
-    pub servers : (i : ℕ) (s : Server) → Runs now i s → HoldLastWrites setup history (has_applied s) s.sectors
+    pub servers : (i : ℕ) (s : Server) → RunsAs now i s → HoldLastWrites setup history (has_applied s) s.sectors
     pub disks : (i : ℕ) (d : Durable) → MayHold now i d → HoldLastWrites setup history (is_applied d.base d.saved) d.sectors
     pub images : (k : ℕ) (sent : Sent) (base : ℕ) (applied : Numbers) (sectors : List Sector) → slice_get now.packets k ≡ Some sent → sent.packet.body ≡ Image base applied sectors → HoldLastWrites setup history (is_applied base applied) sectors
 
   -- votes, acknowledgements and commits say what is so
   pub record TellsTruth : Type 0 where
     pub votes : (k : ℕ) (sent : Sent) (v : VoteLog) → slice_get now.packets k ≡ Some sent → sent.packet.body ≡ Vote v → HasVoted setup history k sent.packet.from sent.packet.term v
-    pub acks : (k : ℕ) (sent : Sent) (slot upto : ℕ) → slice_get now.packets k ≡ Some sent → sent.packet.body ≡ Ack slot upto → 0 < slot → HasAcked setup history sent.packet.from slot sent.packet.term
+    pub acks : (k : ℕ) (sent : Sent) (slot upto : ℕ) → slice_get now.packets k ≡ Some sent → sent.packet.body ≡ Ack slot upto → 0 < slot → MayAck setup history sent.packet.from slot sent.packet.term
     pub commits : (k : ℕ) (sent : Sent) (slot : ℕ) → slice_get now.packets k ≡ Some sent → sent.packet.body ≡ Commit slot → HasCommitted setup history slot sent.packet.term
 
   pub record IsSound : Type 0 where
@@ -60,14 +60,14 @@ module _ (setup : Setup) (history : History) where
     -- an answer of a read misses nothing that was acknowledged before it was asked
     pub fresh : (k : ℕ) (a : Answered) → slice_get now.answered k ≡ Some a → IsFresh setup history a
     -- a snapshot holds what all slots up to its mark write
-    pub snapshots : (earlier : History) (i : ℕ) (s : Server) (mark : ℕ) (sectors : List Sector) → IsPrefix earlier history → Runs (replay setup earlier) i s → FinMap.get s.snapshots mark ≡ Some sectors → IsSnapshot setup history mark sectors
+    pub snapshots : (earlier : History) (i : ℕ) (s : Server) (mark : ℕ) (sectors : List Sector) → IsPrefix earlier history → RunsAs (replay setup earlier) i s → FinMap.get s.snapshots mark ≡ Some sectors → IsSnapshot setup history mark sectors
     pub entries : HoldsProposals
-    -- a committed mark stands on an entry with a chosen op
-    pub marks : (i : ℕ) (s : Server) (slot : ℕ) → Runs now i s → Sets.contains s.committed slot ≡ true → IsMarked setup history s slot
+    -- a committed slot has an entry with a chosen op
+    pub committed_slots : (i : ℕ) (s : Server) (slot : ℕ) → RunsAs now i s → Sets.contains s.committed slot ≡ true → IsCommittedIn setup history s slot
     pub applied : AppliesChosen
     pub written : HoldsWrites
     -- jobs in hand are of chosen ops, and share no sector
-    pub jobs : (i : ℕ) (s : Server) (slot : ℕ) (op : Op) → Runs now i s → FinMap.get s.in_hand slot ≡ Some op → IsInHand setup history s slot op
+    pub jobs : (i : ℕ) (s : Server) (slot : ℕ) (op : Op) → RunsAs now i s → FinMap.get s.in_hand slot ≡ Some op → IsInHand setup history s slot op
     pub packets : TellsTruth
     -- terms, slots, lives, generations and numbers of reads are bounded by the events of a history that a group can have
     pub bounded : IsLegal setup history → GroupFits setup (length history) now

@@ -1,11 +1,11 @@
--- What the cluster of a group stands for.
+-- What the network of a group stands for.
 use Rattle.std.specs.Prelude.{◌≡◌, ℕ, ◌+◌, ◌≤◌, ◌^◌, Bool, IsTrue, [], length, Some, slice_get}
-use Rattle.pf_entry.specs.Records.{Durable}
 use Rattle.pf_protocol.specs.Servers.{Setup}
 use Rattle.pf_protocol.specs.Histories.{History, replay}
 use Rattle.pf_protocol.specs.Answers.{IsLegal, claims_of}
+use Rattle.pf_store.specs.Stores.{StoreModel}
 use Rattle.pf_server.specs.declared.server.Server.{Server}
-use Rattle.pf_network.specs.declared.cluster.Cluster.{Cluster}
+use Rattle.pf_network.specs.declared.network.Network.{Network}
 use Rattle.pf_network.specs.Going.{IsReached}
 use Rattle.pf_network.specs.Pasts.{CoversRestarts, Past}
 
@@ -15,14 +15,14 @@ pub record IsReplay (setup : Setup) (history : History) (past : Past) : Type 0 w
   pub legal : IsLegal setup history
 
 -- the disks of each server tell their content
-abbrev pub AllTell : {S : Type 0} → (S → Bool) → Cluster S → Type 0
-AllTell {S = S} told cluster = (i : ℕ) (server : Server S) → slice_get cluster.servers.items i ≡ Some server → IsTrue (told server.store)
+abbrev pub AllTell : {S : Type 0} → (S → Bool) → Network S → Type 0
+AllTell {S = S} told network = (i : ℕ) (server : Server S) → slice_get network.servers.items i ≡ Some server → IsTrue (told server.store)
 
 -- It stands for the group of some past, whose open claims are those of the history. Where disks of its type tell their content, that group is
 -- the replay of the history; where they do not, restarts may have begun from any state that fits.
-pub record StandsFor {S : Type 0} (holds : S → Durable → Durable → Type 0) (used format : S → ℕ) (told : S → Bool) (tells : Bool) (setup : Setup) (history : History) (cluster : Cluster S) : Type 0 where
+pub record StandsFor {S : Type 0} (model : StoreModel S) (tells : Bool) (setup : Setup) (history : History) (network : Network S) : Type 0 where
   pub past : Past
-  pub reached : IsReached holds used format told setup past cluster
+  pub reached : IsReached model setup past network
   pub covers : CoversRestarts past
   pub most : past.count ≤ 2 ^ 63 + 4096 + length history
   pub claims : past.claims ≡ claims_of [] history

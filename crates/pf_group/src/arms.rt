@@ -11,125 +11,125 @@ ghost use Rattle.pf_group.specs.Reacting.{Comes, ComesBack, ComesBackSomehow, An
 use crate::Reaction;
 use pf_base::{Filled, NoMemory, Range, ServerId};
 use pf_entry::Op;
-use pf_network::Cluster;
+use pf_network::Network;
 use pf_protocol::Event;
 use pf_store::Store;
 use std::alloc::Global;
 
 /// A host hands on a write or a mark.
 pub fn submit<S: Store>(
-    cluster: &mut Cluster<S>,
+    network: &mut Network<S>,
     alloc: Global,
     server: ServerId,
     op: Op,
 ) -> Result<Reaction, NoMemory>
     requires server { server < 3 }
     requires op { IsSubmitted op }
-    requires reached { HasPast S.holds S.used S.format S.told cluster.old }
-    ensures { (setup : Setup) (past : Past) → IsReached S.holds S.used S.format S.told setup past cluster.old → Comes S.holds S.used S.format S.told S.rose S.was setup past.group (Submit server op) cluster.old cluster.new result }
+    requires reached { HasPast S.model network.old }
+    ensures { (setup : Setup) (past : Past) → IsReached S.model setup past network.old → Comes S.model setup past.group (Submit server op) network.old network.new result }
 {
     let kept = op.try_clone()?;
-    let answer = cluster.submit(alloc, server, op)?;
+    let answer = network.submit(alloc, server, op)?;
     Ok(Reaction::plain(Event::Submit { server, op: kept }, answer))
 }
 
 /// A host asks for sectors.
 pub fn fetch<S: Store>(
-    cluster: &mut Cluster<S>,
+    network: &mut Network<S>,
     alloc: Global,
     server: ServerId,
     range: Range,
 ) -> Result<Reaction, NoMemory>
     requires server { server < 3 }
     requires range { IsWritable range.first range.count }
-    requires reached { HasPast S.holds S.used S.format S.told cluster.old }
-    ensures { (setup : Setup) (past : Past) → IsReached S.holds S.used S.format S.told setup past cluster.old → Comes S.holds S.used S.format S.told S.rose S.was setup past.group (Fetch server range) cluster.old cluster.new result }
+    requires reached { HasPast S.model network.old }
+    ensures { (setup : Setup) (past : Past) → IsReached S.model setup past network.old → Comes S.model setup past.group (Fetch server range) network.old network.new result }
 {
-    let answer = cluster.fetch(alloc, server, range)?;
+    let answer = network.fetch(alloc, server, range)?;
     Ok(Reaction::plain(Event::Fetch { server, range }, answer))
 }
 
 /// A packet comes.
 pub fn deliver<S: Store>(
-    cluster: &mut Cluster<S>,
+    network: &mut Network<S>,
     alloc: Global,
     k: u32,
 ) -> Result<Reaction, NoMemory>
-    requires { HasPast S.holds S.used S.format S.told cluster.old }
-    ensures { (setup : Setup) (past : Past) → IsReached S.holds S.used S.format S.told setup past cluster.old → Comes S.holds S.used S.format S.told S.rose S.was setup past.group (Deliver k) cluster.old cluster.new result }
+    requires { HasPast S.model network.old }
+    ensures { (setup : Setup) (past : Past) → IsReached S.model setup past network.old → Comes S.model setup past.group (Deliver k) network.old network.new result }
 {
-    let answer = cluster.deliver(alloc, k)?;
+    let answer = network.deliver(alloc, k)?;
     Ok(Reaction::plain(Event::Deliver(k), answer))
 }
 
 /// A packet is lost.
-pub fn lose<S: Store>(cluster: &mut Cluster<S>, k: u32) -> Reaction
-    requires { HasPast S.holds S.used S.format S.told cluster.old }
-    ensures { (setup : Setup) (past : Past) → IsReached S.holds S.used S.format S.told setup past cluster.old → Answers S.holds S.used S.format S.told S.rose S.was setup past.group (Lose k) cluster.old cluster.new result }
+pub fn lose<S: Store>(network: &mut Network<S>, k: u32) -> Reaction
+    requires { HasPast S.model network.old }
+    ensures { (setup : Setup) (past : Past) → IsReached S.model setup past network.old → Answers S.model setup past.group (Lose k) network.old network.new result }
 {
-    let answer = cluster.lose(k);
+    let answer = network.lose(k);
     Reaction::plain(Event::Lose(k), answer)
 }
 
 /// A server stands for election.
 pub fn elect<S: Store>(
-    cluster: &mut Cluster<S>,
+    network: &mut Network<S>,
     alloc: Global,
     server: ServerId,
 ) -> Result<Reaction, NoMemory>
     requires server { server < 3 }
-    requires reached { HasPast S.holds S.used S.format S.told cluster.old }
-    ensures { (setup : Setup) (past : Past) → IsReached S.holds S.used S.format S.told setup past cluster.old → Comes S.holds S.used S.format S.told S.rose S.was setup past.group (Elect server) cluster.old cluster.new result }
+    requires reached { HasPast S.model network.old }
+    ensures { (setup : Setup) (past : Past) → IsReached S.model setup past network.old → Comes S.model setup past.group (Elect server) network.old network.new result }
 {
-    let answer = cluster.elect(alloc, server)?;
+    let answer = network.elect(alloc, server)?;
     Ok(Reaction::plain(Event::Elect(server), answer))
 }
 
 /// A server sends again what others may have missed.
 pub fn resend<S: Store>(
-    cluster: &mut Cluster<S>,
+    network: &mut Network<S>,
     alloc: Global,
     server: ServerId,
 ) -> Result<Reaction, NoMemory>
     requires server { server < 3 }
-    requires reached { HasPast S.holds S.used S.format S.told cluster.old }
-    ensures { (setup : Setup) (past : Past) → IsReached S.holds S.used S.format S.told setup past cluster.old → Comes S.holds S.used S.format S.told S.rose S.was setup past.group (Resend server) cluster.old cluster.new result }
+    requires reached { HasPast S.model network.old }
+    ensures { (setup : Setup) (past : Past) → IsReached S.model setup past network.old → Comes S.model setup past.group (Resend server) network.old network.new result }
 {
-    let answer = cluster.resend(alloc, server)?;
+    let answer = network.resend(alloc, server)?;
     Ok(Reaction::plain(Event::Resend(server), answer))
 }
 
 /// A server stops.
-pub fn stop<S: Store>(cluster: &mut Cluster<S>, server: ServerId) -> Reaction
+pub fn stop<S: Store>(network: &mut Network<S>, server: ServerId) -> Reaction
     requires server { server < 3 }
-    requires reached { HasPast S.holds S.used S.format S.told cluster.old }
-    ensures { (setup : Setup) (past : Past) → IsReached S.holds S.used S.format S.told setup past cluster.old → Answers S.holds S.used S.format S.told S.rose S.was setup past.group (Stop server) cluster.old cluster.new result }
+    requires reached { HasPast S.model network.old }
+    ensures { (setup : Setup) (past : Past) → IsReached S.model setup past network.old → Answers S.model setup past.group (Stop server) network.old network.new result }
 {
-    let answer = cluster.stop(server);
+    let answer = network.stop(server);
     Reaction::plain(Event::Stop(server), answer)
 }
 
 /// A server begins again.
 pub fn restart<S: Store>(
-    cluster: &mut Cluster<S>,
+    network: &mut Network<S>,
     alloc: Global,
     server: ServerId,
 ) -> Result<Reaction, NoMemory>
     requires server { server < 3 }
-    requires reached { HasPast S.holds S.used S.format S.told cluster.old }
-    ensures told { (setup : Setup) (past : Past) → IsReached S.holds S.used S.format S.told setup past cluster.old → IsToldAt S.told cluster.old server → IsHonestAt setup past.group server → ComesBack S.holds S.used S.format S.told S.rose S.was setup past.group server cluster.old cluster.new result }
-    ensures somehow { (setup : Setup) (past : Past) → IsReached S.holds S.used S.format S.told setup past cluster.old → ComesBackSomehow S.holds S.used S.format S.told S.rose S.was setup past.group server cluster.old cluster.new result }
+    requires reached { HasPast S.model network.old }
+    ensures told { (setup : Setup) (past : Past) → IsReached S.model setup past network.old → IsToldAt S.model.told network.old server → IsHonestAt setup past.group server → ComesBack S.model setup past.group server network.old network.new result }
+    ensures somehow { (setup : Setup) (past : Past) → IsReached S.model setup past network.old → ComesBackSomehow S.model setup past.group server network.old network.new result }
 {
-    let (answer, found) = cluster.restart(alloc, server)?;
+    let (answer, found) = network.restart(alloc, server)?;
     Ok(Reaction::plain(Event::Restart { server, found }, answer))
 }
 
 /// A job is claimed.
-pub fn claim<S: Store>(cluster: &mut Cluster<S>, alloc: Global) -> Result<Reaction, NoMemory>
-    requires { HasPast S.holds S.used S.format S.told cluster.old }
-    ensures { (setup : Setup) (past : Past) → IsReached S.holds S.used S.format S.told setup past cluster.old → Comes S.holds S.used S.format S.told S.rose S.was setup past.group Claim cluster.old cluster.new result }
+pub fn claim<S: Store>(network: &mut Network<S>, alloc: Global) -> Result<Reaction, NoMemory>
+    requires { HasPast S.model network.old }
+    ensures { (setup : Setup) (past : Past) → IsReached S.model setup past network.old → Comes S.model setup past.group Claim network.old network.new result }
 {
-    let (answer, kept) = cluster.claim(alloc)?;
+    let (answer, kept) = network.claim(alloc)?;
     Ok(Reaction {
         event: Event::Claim,
         answer,
@@ -138,30 +138,30 @@ pub fn claim<S: Store>(cluster: &mut Cluster<S>, alloc: Global) -> Result<Reacti
 }
 
 /// A job is done. It takes no memory.
-pub fn finish<S: Store>(cluster: &mut Cluster<S>, filled: Filled) -> Reaction
+pub fn finish<S: Store>(network: &mut Network<S>, filled: Filled) -> Reaction
     requires server { filled.server < 3 }
-    requires job { (setup : Setup) × ((past : Past) × IsBroughtBack S.holds S.used S.format S.told setup past cluster.old filled) }
-    ensures { (setup : Setup) (past : Past) → IsReached S.holds S.used S.format S.told setup past cluster.old → Answers S.holds S.used S.format S.told S.rose S.was setup past.group (Finish filled.server filled.life filled.slot) cluster.old cluster.new result }
+    requires job { (setup : Setup) × ((past : Past) × IsBroughtBack S.model setup past network.old filled) }
+    ensures { (setup : Setup) (past : Past) → IsReached S.model setup past network.old → Answers S.model setup past.group (Finish filled.server filled.life filled.slot) network.old network.new result }
 {
     let event = Event::Finish {
         server: filled.server,
         life: filled.life,
         slot: filled.slot,
     };
-    let answer = cluster.finish(filled);
+    let answer = network.finish(filled);
     Reaction::plain(event, answer)
 }
 
 /// A server takes a checkpoint.
 pub fn checkpoint<S: Store>(
-    cluster: &mut Cluster<S>,
+    network: &mut Network<S>,
     alloc: Global,
     server: ServerId,
 ) -> Result<Reaction, NoMemory>
     requires server { server < 3 }
-    requires reached { HasPast S.holds S.used S.format S.told cluster.old }
-    ensures { (setup : Setup) (past : Past) → IsReached S.holds S.used S.format S.told setup past cluster.old → Comes S.holds S.used S.format S.told S.rose S.was setup past.group (Checkpoint server) cluster.old cluster.new result }
+    requires reached { HasPast S.model network.old }
+    ensures { (setup : Setup) (past : Past) → IsReached S.model setup past network.old → Comes S.model setup past.group (Checkpoint server) network.old network.new result }
 {
-    let answer = cluster.checkpoint(alloc, server)?;
+    let answer = network.checkpoint(alloc, server)?;
     Ok(Reaction::plain(Event::Checkpoint(server), answer))
 }

@@ -6,13 +6,13 @@ ghost use Rattle.pf_group.specs.Making.{IsMade, making_answer, setup_with, six_f
 ghost use Rattle.pf_group.specs.Rooms.{IsEmpty, IsPlan, IsPlanOf, halted_of, picked};
 
 use crate::began::Began;
-use crate::past::{Past, put};
+use crate::past::Past;
 use crate::{Group, Six};
 use pf_base::{NoMemory, ServerId};
 use pf_disk::Disk;
 use pf_diskstore::Kept;
 use pf_format::ServerRoom;
-use pf_network::{AckedList, Cluster};
+use pf_network::{AckedList, Network, put};
 use pf_protocol::{Answer, Refusal};
 use pf_restart::Seat;
 use std::alloc::Global;
@@ -34,7 +34,7 @@ pub struct Plan<D: Disk> {
     two: ServerRoom,
     failed: Vec<ServerId>,
     /// It has no servers yet.
-    cluster: Cluster<Kept<D>>,
+    network: Network<Kept<D>>,
     past: Past,
 }
 
@@ -81,11 +81,11 @@ fn rooms(
     }
 }
 
-/// A cluster without servers. `NoMemory` (1) where there is none for it.
-fn empty_cluster<D: Disk + Drop>(alloc: Global) -> Result<Cluster<Kept<D>>, NoMemory>
+/// A network without servers. `NoMemory` (1) where there is none for it.
+fn empty_network<D: Disk + Drop>(alloc: Global) -> Result<Network<Kept<D>>, NoMemory>
     ensures { IfOk result IsEmpty }
 {
-    Ok(Cluster {
+    Ok(Network {
         servers: Vec::with_capacity(alloc, 3)?,
         packets: Vec::with_capacity(alloc, PLACES)?,
         byte_room: PACKET_BYTES,
@@ -137,7 +137,7 @@ impl<D: Disk + Drop> Plan<D> {
             format,
         };
         let failed = Vec::with_capacity(alloc, 3)?;
-        let cluster = empty_cluster(alloc)?;
+        let network = empty_network(alloc)?;
         let (zero, one, two) = rooms(alloc, number, seat)?;
         Ok(Plan {
             number,
@@ -148,7 +148,7 @@ impl<D: Disk + Drop> Plan<D> {
             one,
             two,
             failed,
-            cluster,
+            network,
             past: Past::new(alloc),
         })
     }
@@ -168,7 +168,7 @@ impl<D: Disk + Drop> Plan<D> {
             one,
             two,
             mut failed,
-            mut cluster,
+            mut network,
             past,
         } = self;
         let (zero, first) = zero.open(disks.s0h0, disks.s0h1);
@@ -177,18 +177,18 @@ impl<D: Disk + Drop> Plan<D> {
         note(&mut failed, 0, &first);
         note(&mut failed, 1, &second);
         note(&mut failed, 2, &third);
-        put(&mut cluster.servers, zero);
-        put(&mut cluster.servers, one);
-        put(&mut cluster.servers, two);
+        put(&mut network.servers, zero);
+        put(&mut network.servers, one);
+        put(&mut network.servers, two);
         let answer = making_answer(&failed);
-        let began = Began::now(&cluster, &past);
+        let began = Began::now(&network, &past);
         let group = Group {
             number,
             sectors,
             names,
             format,
             failed,
-            cluster,
+            network,
             past,
             began,
         };

@@ -1,10 +1,11 @@
 //! What happened to a group, with room for what can't be refused.
-ghost use Rattle.std.specs.Prelude.{◌≡◌, ◌+◌, ◌<◌, ◌≤◌, ◌^◌, [], ◌∷◌, ◌++◌, OnErr, OnOk, vec_capacity, vec_len};
+ghost use Rattle.std.specs.Prelude.{◌≡◌, ◌≤◌, ◌^◌, [], ◌∷◌, ◌++◌, OnErr, OnOk};
 ghost use Rattle.pf_group.specs.Events.{MayWant};
 ghost use Rattle.pf_group.specs.Pasts.{HasRoomFor, IsKeepable, IsPast, open_after};
 
 use crate::GroupEvent;
 use pf_base::NoMemory;
+use pf_network::put;
 use pf_protocol::{Answer, Event, Happening};
 use std::alloc::Global;
 
@@ -32,16 +33,6 @@ fn open_after(ends: usize, happening: &Happening) -> usize
         Event::Finish { .. } | Event::GiveBack { .. } => ends.saturating_sub(1),
         _ => ends,
     }
-}
-
-/// Puts a value at the end of a list that has room for it.
-pub fn put<T: Drop>(list: &mut Vec<T>, value: T)
-    requires { vec_len list.old < vec_capacity list.old }
-    ensures items { list.new.items ≡ list.old.items ++ value ∷ [] }
-    ensures len { vec_len list.new ≡ vec_len list.old + 1 }
-    ensures capacity { vec_capacity list.old ≤ vec_capacity list.new }
-{
-    let _ = list.push(value);
 }
 
 impl Past {

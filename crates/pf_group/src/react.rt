@@ -9,19 +9,19 @@ ghost use Rattle.pf_group.specs.Reacting.{IsTold, MayReact, Reacts, ReactsSomeho
 use crate::{GroupEvent, Reaction, arms};
 use pf_base::NoMemory;
 use pf_entry::Op;
-use pf_network::Cluster;
+use pf_network::Network;
 use pf_store::Store;
 use std::alloc::Global;
 
 /// Carries out an event.
 pub fn react<S: Store>(
-    cluster: &mut Cluster<S>,
+    network: &mut Network<S>,
     alloc: Global,
     event: GroupEvent,
 ) -> Result<Reaction, NoMemory>
-    requires { MayReact S.holds S.used S.format S.told cluster.old event }
-    ensures step { (setup : Setup) (past : Past) → IsReached S.holds S.used S.format S.told setup past cluster.old → IsTold S.told setup past.group cluster.old event → Reacts S.holds S.used S.format S.told S.rose S.was setup past.group event cluster.old cluster.new result }
-    ensures somehow { (setup : Setup) (past : Past) → IsReached S.holds S.used S.format S.told setup past cluster.old → ReactsSomehow S.holds S.used S.format S.told S.rose S.was setup past.group event cluster.old cluster.new result }
+    requires { MayReact S.model network.old event }
+    ensures step { (setup : Setup) (past : Past) → IsReached S.model setup past network.old → IsTold S.model.told setup past.group network.old event → Reacts S.model setup past.group event network.old network.new result }
+    ensures somehow { (setup : Setup) (past : Past) → IsReached S.model setup past network.old → ReactsSomehow S.model setup past.group event network.old network.new result }
     ensures sure { OnErr result (MayWant event) }
 {
     match event {
@@ -29,17 +29,17 @@ pub fn react<S: Store>(
             server,
             range,
             payload,
-        } => arms::submit(cluster, alloc, server, Op::Write { range, payload }),
-        GroupEvent::Mark(server) => arms::submit(cluster, alloc, server, Op::Mark),
-        GroupEvent::Fetch { server, range } => arms::fetch(cluster, alloc, server, range),
-        GroupEvent::Deliver(k) => arms::deliver(cluster, alloc, k),
-        GroupEvent::Lose(k) => Ok(arms::lose(cluster, k)),
-        GroupEvent::Elect(server) => arms::elect(cluster, alloc, server),
-        GroupEvent::Resend(server) => arms::resend(cluster, alloc, server),
-        GroupEvent::Stop(server) => Ok(arms::stop(cluster, server)),
-        GroupEvent::Restart(server) => arms::restart(cluster, alloc, server),
-        GroupEvent::Claim => arms::claim(cluster, alloc),
-        GroupEvent::Finish(filled) => Ok(arms::finish(cluster, filled)),
-        GroupEvent::Checkpoint(server) => arms::checkpoint(cluster, alloc, server),
+        } => arms::submit(network, alloc, server, Op::Write { range, payload }),
+        GroupEvent::Mark(server) => arms::submit(network, alloc, server, Op::Mark),
+        GroupEvent::Fetch { server, range } => arms::fetch(network, alloc, server, range),
+        GroupEvent::Deliver(k) => arms::deliver(network, alloc, k),
+        GroupEvent::Lose(k) => Ok(arms::lose(network, k)),
+        GroupEvent::Elect(server) => arms::elect(network, alloc, server),
+        GroupEvent::Resend(server) => arms::resend(network, alloc, server),
+        GroupEvent::Stop(server) => Ok(arms::stop(network, server)),
+        GroupEvent::Restart(server) => arms::restart(network, alloc, server),
+        GroupEvent::Claim => arms::claim(network, alloc),
+        GroupEvent::Finish(filled) => Ok(arms::finish(network, filled)),
+        GroupEvent::Checkpoint(server) => arms::checkpoint(network, alloc, server),
     }
 }

@@ -15,14 +15,14 @@ impl<D: Disk> Group<D> {
     pub fn acked(&self) -> &[Acked]
         ensures { IsTrue self.now.told → result.now ≡ map acked_of (state_of self.now).acked }
     {
-        self.cluster.acked()
+        self.network.acked()
     }
 
     /// Whether the slot was acknowledged in this term. It is found without going through the others.
     pub fn is_acked(&self, term: Term, slot: Slot) -> bool
         ensures { IsTrue self.now.told → result ≡ is_acked (state_of self.now) term slot }
     {
-        self.cluster.is_acked(term, slot)
+        self.network.is_acked(term, slot)
     }
 
     /// Of the running servers that serve the one of the greatest term: that term, and its number. `None` exactly where none serves.
@@ -30,7 +30,7 @@ impl<D: Disk> Group<D> {
         ensures low { IfSome result (λ served. served.1 < 3) }
         ensures leader { IsTrue self.now.told → IsLeader (state_of self.now) result }
     {
-        self.cluster.leader()
+        self.network.leader()
     }
 
     /// How many packets were ever sent, at most 65,536. They have the numbers below it.
@@ -38,7 +38,7 @@ impl<D: Disk> Group<D> {
         ensures few { result ≤ 65536 }
         ensures count { IsTrue self.now.told → result ≡ length (state_of self.now).packets }
     {
-        self.cluster.packet_count()
+        self.network.packet_count()
     }
 
     /// Whether packet `k` was sent, and neither delivered nor lost.
@@ -46,7 +46,7 @@ impl<D: Disk> Group<D> {
         ensures sent { IsTrue result → k < 65536 }
         ensures left { IsTrue self.now.told → result ≡ is_left (slice_get (state_of self.now).packets k) }
     {
-        self.cluster.is_left(k)
+        self.network.is_left(k)
     }
 
     /// Hands out the sectors that a read was answered with, once. `None` exactly where no read has this number, where it waits for
@@ -57,6 +57,6 @@ impl<D: Disk> Group<D> {
         ensures same { IfNone result (self.new ≡ self.old) }
         ensures numbered { IsTrue self.old.told → length self.old.taken ≡ (state_of self.old).reads }
     {
-        self.cluster.take_read(number)
+        self.network.take_read(number)
     }
 }

@@ -20,7 +20,7 @@ impl<D: Disk> Group<D> {
         requires { server < 3 }
         ensures { IsTrue self.now.told → TellsOf (state_of self.now) server result (λ me s. IsMemoryOf me.now s) }
     {
-        self.cluster.running(server).ok_or(Down)
+        self.network.running(server).ok_or(Down)
     }
 
     /// The term of the server. `Down` (51) exactly where it does not run.

@@ -9,8 +9,9 @@ use Rattle.pf_entry.specs.declared.packets.Packet.{Packet}
 use Rattle.pf_entry.specs.declared.packets.Body.TheVariants.{Commit}
 use Rattle.pf_protocol.specs.Servers.{Server, Role, Follower, Candidate, Merging, Serving}
 use Rattle.pf_protocol.specs.Outcomes.{nothing}
-use Rattle.pf_protocol.specs.Leading.{on_ack, marked}
+use Rattle.pf_protocol.specs.Leading.{on_ack, commit_own}
 use Rattle.pf_protocol.specs.declared.answers.Answer.TheVariants.{Done}
+use Rattle.pf_store.specs.Stores.{StoreModel}
 use Rattle.pf_state.specs.declared.running.Running.{Running}
 use Rattle.pf_state.specs.declared.running.Role.{Role as RoleHere}
 use Rattle.pf_state.specs.Outgoing.{Outgoing, exceeds, sent_by}
@@ -23,7 +24,7 @@ use Rattle.pf_state.proofs.Sendings.{none_exceeds, none_sent, sent_acked}
 -- the rule
 module _ (s : Server) (from term slot upto : ℕ) where
   by_role : (role : Role) → s.role ≡ role → term ≡ s.durable.term → on_ack s from term slot upto role ≡ counted_ack s from slot upto role
-  unfolding on_ack marked
+  unfolding on_ack commit_own
   by_role (Serving l) is same = cond-true _ _ _ (eq-eqb term s.durable.term same)
   by_role (Merging l) is same = cond-true _ _ _ (eq-eqb term s.durable.term same)
   by_role Follower is same = λ i. nothing (record s { role = is i })
@@ -43,24 +44,24 @@ module _ (s : Server) (from term slot upto : ℕ) where
   ack_passes other = other_role s.role other
 
 -- memory
-abbrev pub with_marks : Running → RoleHere → Numbers → Running
-with_marks me role marks = record me { role = role; log = record me.log { marks = marks } }
+abbrev pub with_committed : Running → RoleHere → Numbers → Running
+with_committed me role committed = record me { role = role; log = record me.log { committed = committed } }
 
-abbrev pub marks_after : Running → ℕ → Numbers
-marks_after me slot = if owns (role_of me.role) slot && has_term me.term (FinMap.get me.log.entries slot) then Sets.insert me.log.marks slot else me.log.marks
+abbrev pub committed_after : Running → ℕ → Numbers
+committed_after me slot = if owns (role_of me.role) slot && has_term me.term (FinMap.get me.log.entries slot) then Sets.insert me.log.committed slot else me.log.committed
 
 module _ (d : Durable) (me : Running) (cached : IsCached d me) where
-  marks_same : (slot : ℕ) → marks_after me slot ≡ (if owns (role_of me.role) slot && holds d slot d.term then Sets.insert me.log.marks slot else me.log.marks)
+  committed_same : (slot : ℕ) → committed_after me slot ≡ (if owns (role_of me.role) slot && holds d slot d.term then Sets.insert me.log.committed slot else me.log.committed)
   unfolding holds
-  marks_same slot = λ i. if owns (role_of me.role) slot && has_term (cached.term i) (FinMap.get (cached.log i) slot) then Sets.insert me.log.marks slot else me.log.marks
+  committed_same slot = λ i. if owns (role_of me.role) slot && has_term (cached.term i) (FinMap.get (cached.log i) slot) then Sets.insert me.log.committed slot else me.log.committed
 
   counted_server : (from slot upto : ℕ) (role : RoleHere) → role_of role ≡ after_ack me.number from slot upto (role_of me.role)
-      → server_of d (with_marks me role (marks_after me slot)) ≡ (counted_ack (server_of d me) from slot upto (server_of d me).role).server
+      → server_of d (with_committed me role (committed_after me slot)) ≡ (counted_ack (server_of d me) from slot upto (server_of d me).role).server
   unfolding server_of
-  counted_server from slot upto role is = λ i. record (server_of d me) { committed = marks_same slot i; role = is i }
+  counted_server from slot upto role is = λ i. record (server_of d me) { committed = committed_same slot i; role = is i }
 
-  counted_cached : (role : RoleHere) (marks : Numbers) → IsRoleKept me.number role → IsCached d (with_marks me role marks)
-  counted_cached role marks kept = record {
+  counted_cached : (role : RoleHere) (committed : Numbers) → IsRoleKept me.number role → IsCached d (with_committed me role committed)
+  counted_cached role committed kept = record {
     number = cached.number;
     term = cached.term;
     generation = cached.generation;
@@ -81,9 +82,9 @@ module _ (d : Durable) (me : Running) (cached : IsCached d me) where
   unfolding server_of
   commits_same from slot = λ i. if owns (role_of me.role) slot then packet me.number from (cached.term i) (Commit slot) ∷ [] else []
 
-pub same_setup : (me : Running) (role : RoleHere) (marks : Numbers) → setup_of (with_marks me role marks) ≡ setup_of me
+pub same_setup : (me : Running) (role : RoleHere) (committed : Numbers) → setup_of (with_committed me role committed) ≡ setup_of me
 unfolding setup_of
-same_setup me role marks = refl
+same_setup me role committed = refl
 
 -- what is sent, and what the host is told
 announced : (out mid new : Outgoing) (ps : List Packet) (b : Bool) (slot : ℕ) → mid ≡ sent_by out ps → out.acked ≡ None → new ≡ record mid { acked = if b then Some slot else mid.acked }
@@ -92,7 +93,7 @@ announced out mid new ps b slot is fresh tells =
     let acked = sent_acked out mid ps is ∙ fresh in
     tells ∙ (λ i. record (is i) { acked = if b then Some slot else acked i })
 
-module _ {S : Type 0} (holds : S → Durable → Durable → Type 0) (used format : S → ℕ) (told : S → Bool) (rose : S → S → Type 0) (was : S → S → Durable → Durable → Type 0) (d : Durable) (store : S) (me : Running) (out : Outgoing) (stands : Stands holds used format d store me) where
+module _ {S : Type 0} (model : StoreModel S) (d : Durable) (store : S) (me : Running) (out : Outgoing) (stands : Stands model d store me) where
   within_same : (from slot upto : ℕ) → exceeds out (commits (server_of d me) (server_of d me).role from slot) ≡ false
       → room_refusal out (counted_ack (server_of d me) from slot upto (server_of d me).role) ≡ None
   unfolding server_of
@@ -101,28 +102,28 @@ module _ {S : Type 0} (holds : S → Durable → Durable → Type 0) (used forma
   module _ (mid new : Outgoing) (from slot upto : ℕ) (role : RoleHere) (role_is : role_of role ≡ after_ack me.number from slot upto (role_of me.role)) (kept : IsRoleKept me.number role)
       (room : exceeds out (commits (server_of d me) (server_of d me).role from slot) ≡ false) (sent : mid ≡ sent_by out (commits (server_of d me) (server_of d me).role from slot)) (fresh : out.acked ≡ None)
       (tells : new ≡ record mid { acked = if announces me.number (role_of me.role) slot then Some slot else mid.acked }) where
-    here : IsDone holds used format told rose was d store me out store (with_marks me role (marks_after me slot)) new (room_refusal out (counted_ack (server_of d me) from slot upto (server_of d me).role)) (counted_ack (server_of d me) from slot upto (server_of d me).role) Done
+    here : IsDone model d store me out store (with_committed me role (committed_after me slot)) new (room_refusal out (counted_ack (server_of d me) from slot upto (server_of d me).role)) (counted_ack (server_of d me) from slot upto (server_of d me).role) Done
     unfolding server_of
     here = record {
       may = within_same from slot upto room;
       answered = refl;
       server_is = counted_server d me stands.cached from slot upto role role_is;
-      setup_same = same_setup me role (marks_after me slot);
+      setup_same = same_setup me role (committed_after me slot);
       stands = record {
         recorded = stands.recorded;
         used_is = stands.used_is;
         within = stands.within;
         half = stands.half;
-        cached = counted_cached d me stands.cached role (marks_after me slot) kept;
+        cached = counted_cached d me stands.cached role (committed_after me slot) kept;
       };
       told_same = refl;
       crash = inl refl;
       sent = announced out mid new (commits (server_of d me) (server_of d me).role from slot) (announces me.number (role_of me.role) slot) slot sent fresh tells;
     }
 
-    pub counted_done : (me' : Running) → me' ≡ with_marks me role (marks_after me slot)
-        → IsDone holds used format told rose was d store me out store me' new (room_refusal out (counted_ack (server_of d me) from slot upto (server_of d me).role)) (counted_ack (server_of d me) from slot upto (server_of d me).role) Done
-    counted_done me' is = subst (λ m. IsDone holds used format told rose was d store me out store m new (room_refusal out (counted_ack (server_of d me) from slot upto (server_of d me).role)) (counted_ack (server_of d me) from slot upto (server_of d me).role) Done) (sym is) here
+    pub counted_done : (me' : Running) → me' ≡ with_committed me role (committed_after me slot)
+        → IsDone model d store me out store me' new (room_refusal out (counted_ack (server_of d me) from slot upto (server_of d me).role)) (counted_ack (server_of d me) from slot upto (server_of d me).role) Done
+    counted_done me' is = subst (λ m. IsDone model d store me out store m new (room_refusal out (counted_ack (server_of d me) from slot upto (server_of d me).role)) (counted_ack (server_of d me) from slot upto (server_of d me).role) Done) (sym is) here
 
 -- the server's own term
 pub own_term : (d : Durable) (me : Running) → IsCached d me → (term : ℕ) → term ≡ me.term → term ≡ (server_of d me).durable.term

@@ -11,7 +11,7 @@ use Rattle.pf_entry.specs.declared.entries.Entry.{Entry}
 use Rattle.pf_entry.specs.declared.packets.Body.TheVariants.{Accept}
 use Rattle.pf_entry.specs.declared.records.Record.TheVariants.{Entry as EntryRecord}
 use Rattle.pf_codec.specs.Spelling.{body_bytes}
-use Rattle.pf_store.specs.Stores.{IsSpelledAs}
+use Rattle.pf_store.specs.Stores.{IsSpelledAs, StoreModel}
 use Rattle.pf_protocol.specs.Servers.{Leader, Server}
 use Rattle.pf_protocol.specs.Answers.{IsSubmitted, IsSetup, is_mark}
 use Rattle.pf_protocol.specs.Leading.{new_entry, on_submit, submitted}
@@ -132,19 +132,19 @@ module _ (me : Running) (op : Op) (e : Entry) (p : IsPlan me op e) (d : Durable)
   plan_refusal out = ap (room_refusal out) plan_outcome ∙ sym (none_refused d me cached op p.leader p.may (room_refusal out (on_submit (setup_of me) (server_of d me) op (server_of d me).role)))
 
 -- there is no plan
-module _ {S : Type 0} (holds : S → Durable → Durable → Type 0) (used format : S → ℕ) (told : S → Bool) (rose : S → S → Type 0) (was : S → S → Durable → Durable → Type 0) (d : Durable) (store : S) (me : Running) (out : Outgoing) (stands : Stands holds used format d store me) (op : Op) (o : Outcome) where
-  unplanned_by : (e : StepFault) → Plans me op (Err e) → Steps holds used format told rose was d store me out store me out (submit_refusal (setup_of me) out op (server_of d me)) o (Err e)
+module _ {S : Type 0} (model : StoreModel S) (d : Durable) (store : S) (me : Running) (out : Outgoing) (stands : Stands model d store me) (op : Op) (o : Outcome) where
+  unplanned_by : (e : StepFault) → Plans me op (Err e) → Steps model d store me out store me out (submit_refusal (setup_of me) out op (server_of d me)) o (Err e)
   unfolding submit_refusal
-  unplanned_by NoMemory s = untouched holds used format told rose was d store me out out stands
+  unplanned_by NoMemory s = untouched model d store me out out stands
   unplanned_by (Refused refusal) s =
       let rest = room_refusal out (on_submit (setup_of me) (server_of d me) op (server_of d me).role) in
-      record { judged_so = sym (same_refusal d me stands.cached op rest) ∙ s rest; untouched = untouched holds used format told rose was d store me out out stands }
+      record { judged_so = sym (same_refusal d me stands.cached op rest) ∙ s rest; untouched = untouched model d store me out out stands }
   unplanned_by Halted s = absurd s
 
   pub unplanned : (e : StepFault) (r : Result Entry StepFault) (r2 : Result Answer StepFault) → Plans me op r → r ≡ Err e → (e2 : StepFault) × (r2 ≡ Err e2) × (e2 ≡ e)
-      → Steps holds used format told rose was d store me out store me out (submit_refusal (setup_of me) out op (server_of d me)) o r2
+      → Steps model d store me out store me out (submit_refusal (setup_of me) out op (server_of d me)) o r2
   unplanned e r r2 plans is (e2, is2, same) =
-      subst (Steps holds used format told rose was d store me out store me out (submit_refusal (setup_of me) out op (server_of d me)) o) (sym (is2 ∙ ap Err same)) (unplanned_by e (subst (Plans me op) is plans))
+      subst (Steps model d store me out store me out (submit_refusal (setup_of me) out op (server_of d me)) o) (sym (is2 ∙ ap Err same)) (unplanned_by e (subst (Plans me op) is plans))
 
 -- the same proposal
 pub proposed_near : (s z : Server) (l k : Leader) (e : Entry) → s ≡ z → l ≡ k → proposed s l e ≡ proposed z k e

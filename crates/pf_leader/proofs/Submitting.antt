@@ -7,6 +7,7 @@ use Rattle.pf_protocol.specs.Leading.{members, new_entry, look_behind, submitted
 use Rattle.pf_base.specs.Span.{Span, fits_in}
 use Rattle.pf_entry.specs.Ops.{Sector, range_of}
 use Rattle.pf_entry.specs.declared.entries.Named.{Named}
+use Rattle.pf_store.specs.Stores.{StoreModel}
 use Rattle.pf_leader.specs.Submitting.{look_in, IsPlan, IsRoomierRole, refused_first, HasBegun, IsNext, IsRoomier, IsRoomierLeader, MayPropose, proposed}
 use Rattle.pf_tables.specs.AckTables.{AckTable}
 use Rattle.std.specs.FinMap
@@ -280,8 +281,8 @@ module _ (me near : Running) (roomier : IsRoomier me near) (l : LeaderHere) (ser
   pub roomy_after : (d : Durable) → IsCached d me → IsAfter d me near (server_of d me)
   roomy_after d cached = record { server_is = roomy_server d; setup_same = roomy_setup; cached = subst (IsCached d) (sym roomier.is) (roomy_here d cached) }
 
-  pub roomy_stands : {S : Type 0} (holds : S → Durable → Durable → Type 0) (used format : S → ℕ) (d : Durable) (store : S) → Stands holds used format d store me → Stands holds used format d store near
-  roomy_stands holds used format d store stands = stands_after holds used format d store me near stands (server_of d me) (roomy_after d stands.cached)
+  pub roomy_stands : {S : Type 0} (model : StoreModel S) (d : Durable) (store : S) → Stands model d store me → Stands model d store near
+  roomy_stands model d store stands = stands_after model d store me near stands (server_of d me) (roomy_after d stands.cached)
 
 pub own_leader : (l k : LeaderHere) → ServingHere l ≡ ServingHere k → l ≡ k
 own_leader l k is = cc

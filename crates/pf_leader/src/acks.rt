@@ -3,12 +3,12 @@ ghost use Rattle.std.specs.Prelude.{◌≡◌, ◌≢◌, ◌<◌, ◌&&◌, if�
 ghost use Rattle.std.specs.FinMap as finite;
 ghost use Rattle.pf_entry.specs.Sets as set;
 ghost use Rattle.pf_entry.specs.Canonical.{IsCanonicalPacket};
-ghost use Rattle.pf_entry.specs.Records.{Durable, has_term};
+ghost use Rattle.pf_entry.specs.Records.{has_term};
 ghost use Rattle.pf_entry.specs.declared.packets.Body.TheVariants.{Ack as AckIs, Commit as CommitIs};
 ghost use Rattle.pf_protocol.specs.Leading.{on_ack};
 ghost use Rattle.pf_state.specs.Outgoing.{Sends};
 ghost use Rattle.pf_state.specs.Packets.{packet};
-ghost use Rattle.pf_state.specs.Standing.{server_of, role_of, IsRoleKept, Stands, Steps, room_refusal};
+ghost use Rattle.pf_state.specs.Standing.{role_of, CanStep, IsRoleKept, StepsBy};
 ghost use Rattle.pf_leader.specs.Acking.{after_ack, announces, owns};
 ghost use Rattle.pf_state.specs.Coming.{IsComing};
 
@@ -48,16 +48,16 @@ fn announce(me: &Running, slot: Slot, out: &mut Outbox)
     }
 }
 
-/// Marks the slot as committed, where it is a proposal of this leader and the log has its entry of this term.
-fn mark(me: &mut Running, slot: Slot)
+/// The slot is committed from now on, where it is a proposal of this leader and the log has its entry of this term.
+fn commit(me: &mut Running, slot: Slot)
     ensures { me.new ≡ record me.old {
       log = record me.old.log {
-        marks = if owns (role_of me.old.role) slot && has_term me.old.term (finite.get me.old.log.entries slot) then set.insert me.old.log.marks slot else me.old.log.marks;
+        committed = if owns (role_of me.old.role) slot && has_term me.old.term (finite.get me.old.log.entries slot) then set.insert me.old.log.committed slot else me.old.log.committed;
       };
     } }
 {
     if owns(&me.role, slot) {
-        me.log.mark_committed(slot, me.term);
+        me.log.commit(slot, me.term);
     }
 }
 
@@ -71,17 +71,17 @@ fn take(me: &mut Running, from: ServerId, slot: Slot, upto: Slot)
     ensures others { me.new ≡ record me.old {
       role = me.new.role;
       log = record me.old.log {
-        marks = if owns (role_of me.old.role) slot && has_term me.old.term (finite.get me.old.log.entries slot) then set.insert me.old.log.marks slot else me.old.log.marks;
+        committed = if owns (role_of me.old.role) slot && has_term me.old.term (finite.get me.old.log.entries slot) then set.insert me.old.log.committed slot else me.old.log.committed;
       };
     } }
 {
-    mark(me, slot);
+    commit(me, slot);
     let role = replace(&mut me.role, Role::Follower);
     me.role = advance(role, me.number, from, slot, upto);
 }
 
 /// Another server acknowledges a slot of the term, and tells up to where it has applied all. A leader of that term counts it:
-/// it marks the slot as committed and tells that server so where the slot is a proposal of its own, and serves once each slot that it
+/// it commits the slot and tells that server so where the slot is a proposal of its own, and serves once each slot that it
 /// merged was acknowledged by another server. A new entry's first acknowledgement is told to the host. Any other server
 /// does nothing. Nothing is stored.
 ///
@@ -96,11 +96,10 @@ pub fn ack<S: Store>(
     upto: Slot,
     out: &mut Outbox,
 ) -> Result<Answer, StepFault>
-    requires stands { (d : Durable) × Stands S.holds S.used S.format d _store.now me.old }
+    requires stands { CanStep S.model _store.now me.old }
     requires fresh { out.old.acked ≡ None }
     requires coming { IsComing me.old from term (AckIs slot upto) }
-    ensures step { (d : Durable) → Stands S.holds S.used S.format d _store.now me.old → (let s = server_of d me.old in let o = on_ack s from term slot upto s.role in
-        Steps S.holds S.used S.format S.told S.rose S.was d _store.now me.old out.old _store.now me.new out.new (room_refusal out.old o) o result) }
+    ensures step { StepsBy S.model (λ s. on_ack s from term slot upto s.role) _store.now me.old out.old _store.now me.new out.new result }
 {
     if term != me.term {
         return Ok(Answer::Done);

@@ -1,10 +1,9 @@
 //! An election is called.
 ghost use Rattle.std.specs.Prelude.{◌≡◌, ◌<◌, [], None};
-ghost use Rattle.pf_entry.specs.Records.{Durable, vote_of};
+ghost use Rattle.pf_entry.specs.Records.{vote_of};
 ghost use Rattle.pf_protocol.specs.Leading.{on_elect};
-ghost use Rattle.pf_state.specs.Outgoing.{Outgoing};
 ghost use Rattle.pf_leader.specs.Electing.{elected};
-ghost use Rattle.pf_state.specs.Standing.{server_of, bare, quiet, IsBounded, Stands, Steps, room_refusal};
+ghost use Rattle.pf_state.specs.Standing.{bare, quiet, CanStep, IsBounded, StepsBy, StepsQuietly};
 
 use pf_base::Term;
 use pf_election::{Candidacy, Probes};
@@ -32,10 +31,9 @@ fn stand<S: Store>(
     term: Term,
     vote: VoteLog,
 ) -> Result<Answer, StepFault>
-    requires stands { (d : Durable) × Stands S.holds S.used S.format d store.old me.old }
+    requires stands { CanStep S.model store.old me.old }
     requires vote { vote ≡ vote_of (bare me.old) }
-    ensures { (d : Durable) (out : Outgoing) → Stands S.holds S.used S.format d store.old me.old → out.acked ≡ None → (let o = quiet (elected (server_of d me.old) term) in
-        Steps S.holds S.used S.format S.told S.rose S.was d store.old me.old out store.new me.new out (room_refusal out o) o result) }
+    ensures { StepsQuietly S.model (λ s. quiet (elected s term)) store.old me.old store.new me.new result }
 {
     add(alloc, store, &Record::Term(term))?;
     run(alloc, me, term, vote);
@@ -53,11 +51,10 @@ pub fn elect<S: Store>(
     me: &mut Running,
     out: &mut Outbox,
 ) -> Result<Answer, StepFault>
-    requires stands { (d : Durable) × Stands S.holds S.used S.format d store.old me.old }
+    requires stands { CanStep S.model store.old me.old }
     requires bounded { IsBounded me.old }
     requires fresh { out.old.acked ≡ None }
-    ensures step { (d : Durable) → Stands S.holds S.used S.format d store.old me.old → (let o = on_elect (server_of d me.old) in
-        Steps S.holds S.used S.format S.told S.rose S.was d store.old me.old out.old store.new me.new out.new (room_refusal out.old o) o result) }
+    ensures step { StepsBy S.model on_elect store.old me.old out.old store.new me.new out.new result }
 {
     let term = me.term + 1;
     let vote = vote_of(alloc, me)?;

@@ -9,7 +9,7 @@ ghost use Rattle.pf_protocol.specs.Leading.{knows, on_resend, resent, resent_ent
 ghost use Rattle.pf_protocol.specs.Outcomes.{others};
 ghost use Rattle.pf_state.specs.Outgoing.{Sends};
 ghost use Rattle.pf_state.specs.Packets.{packet};
-ghost use Rattle.pf_state.specs.Standing.{server_of, bare, leader_of, role_of, IsBounded, IsCached, Stands, Steps, room_refusal};
+ghost use Rattle.pf_state.specs.Standing.{server_of, bare, leader_of, role_of, CanStep, IsBounded, IsCached, StepsBy};
 ghost use Rattle.pf_leader.specs.Resending.{AreOwn, CanSend, CanSendToBoth, IsPeer, probes, slot_packets};
 
 use pf_base::{ServerId, Slot};
@@ -198,12 +198,11 @@ pub fn resend<S: Store>(
     me: &Running,
     out: &mut Outbox,
 ) -> Result<Answer, StepFault>
-    requires stands { (d : Durable) × Stands S.holds S.used S.format d _store.now me.now }
+    requires stands { CanStep S.model _store.now me.now }
     requires bounded { IsBounded me.now }
     requires fresh { out.old.acked ≡ None }
     requires own { AreOwn me.now }
-    ensures step { (d : Durable) → Stands S.holds S.used S.format d _store.now me.now → (let s = server_of d me.now in let o = on_resend s s.role in
-        Steps S.holds S.used S.format S.told S.rose S.was d _store.now me.now out.old _store.now me.now out.new (room_refusal out.old o) o result) }
+    ensures step { StepsBy S.model (λ s. on_resend s s.role) _store.now me.now out.old _store.now me.now out.new result }
 {
     send_again(alloc, me, out)?;
     Ok(Answer::Done)

@@ -1,7 +1,7 @@
 //! An op is submitted.
 ghost use Rattle.std.specs.Prelude.{◌≡◌, ◌≤◌, ◌<◌, ◌+◌, ◌^◌, None, OnOk};
 ghost use Rattle.std.specs.FinMap as finite;
-ghost use Rattle.pf_entry.specs.Records.{Durable, add_start};
+ghost use Rattle.pf_entry.specs.Records.{add_start};
 ghost use Rattle.pf_entry.specs.declared.packets.Body.TheVariants.{Accept as AcceptIs};
 ghost use Rattle.pf_entry.specs.declared.records.Record.TheVariants.{Entry as EntryRecord};
 ghost use Rattle.pf_codec.specs.Spelling.{body_bytes};
@@ -10,10 +10,9 @@ ghost use Rattle.pf_protocol.specs.Answers.{IsSubmitted};
 ghost use Rattle.pf_protocol.specs.Leading.{on_submit};
 ghost use Rattle.pf_state.specs.Bounds.{far};
 ghost use Rattle.pf_state.specs.Packets.{AreCanonical};
-ghost use Rattle.pf_state.specs.Standing.{server_of, setup_of, leader_of, quiet, IsBounded, Stands, Steps, room_refusal};
+ghost use Rattle.pf_state.specs.Standing.{setup_of, leader_of, quiet, CanStep, IsBounded, StepsBy, StepsJudged, StepsQuietly};
 ghost use Rattle.pf_state.specs.declared.running.Leader.{Leader as LeaderHere};
 ghost use Rattle.pf_state.specs.declared.running.Role.TheVariants.{Serving as ServingHere};
-ghost use Rattle.pf_state.specs.Outgoing.{Outgoing};
 ghost use Rattle.pf_leader.specs.Submitting.{HasBegun, HasRoom, IsLow, IsNext, IsRoomier, IsRoomierRole, proposed, submit_refusal};
 
 use crate::plans::plan;
@@ -97,16 +96,15 @@ fn store_own<S: Store>(
     me: &mut Running,
     entry: Entry,
 ) -> Result<Answer, StepFault>
-    requires stands { (d : Durable) × Stands S.holds S.used S.format d store.old me.old }
-    requires spelled { IsSpelledAs (S.format store.old) (EntryRecord entry) (body_bytes (EntryRecord entry)) }
+    requires stands { CanStep S.model store.old me.old }
+    requires spelled { IsSpelledAs (S.model.format store.old) (EntryRecord entry) (body_bytes (EntryRecord entry)) }
     requires term { entry.term ≡ me.old.term }
     requires above { me.old.log.base < entry.slot }
     requires window { entry.slot ≤ me.old.log.base + 4096 }
     requires starts { 1 ≤ me.old.starts.spare }
     requires acks { HasRoom me.old.role }
     requires low { IsLow me.old.role }
-    ensures { (d : Durable) (out : Outgoing) (l : LeaderHere) → Stands S.holds S.used S.format d store.old me.old → out.acked ≡ None → me.old.role ≡ ServingHere l → entry.slot ≡ l.next → (let o = quiet (proposed (server_of d me.old) (leader_of l) entry) in
-        Steps S.holds S.used S.format S.told S.rose S.was d store.old me.old out store.new me.new out (room_refusal out o) o result) }
+    ensures { (l : LeaderHere) → me.old.role ≡ ServingHere l → entry.slot ≡ l.next → StepsQuietly S.model (λ s. quiet (proposed s (leader_of l) entry)) store.old me.old store.new me.new result }
 {
     let slot = entry.slot;
     let kept = Record::Entry(entry.try_clone(alloc)?);
@@ -123,18 +121,17 @@ fn propose<S: Store>(
     entry: Entry,
     out: &mut Outbox,
 ) -> Result<Answer, StepFault>
-    requires stands { (d : Durable) × Stands S.holds S.used S.format d store.old me.old }
+    requires stands { CanStep S.model store.old me.old }
     requires fresh { out.old.acked ≡ None }
     requires canonical { AreCanonical me.old.number me.old.term (AcceptIs entry) }
-    requires spelled { IsSpelledAs (S.format store.old) (EntryRecord entry) (body_bytes (EntryRecord entry)) }
+    requires spelled { IsSpelledAs (S.model.format store.old) (EntryRecord entry) (body_bytes (EntryRecord entry)) }
     requires term { entry.term ≡ me.old.term }
     requires above { me.old.log.base < entry.slot }
     requires window { entry.slot ≤ me.old.log.base + 4096 }
     requires starts { 1 ≤ me.old.starts.spare }
     requires acks { HasRoom me.old.role }
     requires low { IsLow me.old.role }
-    ensures { (d : Durable) (l : LeaderHere) → Stands S.holds S.used S.format d store.old me.old → me.old.role ≡ ServingHere l → entry.slot ≡ l.next → (let o = proposed (server_of d me.old) (leader_of l) entry in
-        Steps S.holds S.used S.format S.told S.rose S.was d store.old me.old out.old store.new me.new out.new (room_refusal out.old o) o result) }
+    ensures { (l : LeaderHere) → me.old.role ≡ ServingHere l → entry.slot ≡ l.next → StepsBy S.model (λ s. proposed s (leader_of l) entry) store.old me.old out.old store.new me.new out.new result }
 {
     let body = Body::Accept(entry.try_clone(alloc)?);
     send_to_others(alloc, out, me.number, me.term, body)?;
@@ -155,12 +152,11 @@ pub fn submit<S: Store>(
     op: Op,
     out: &mut Outbox,
 ) -> Result<Answer, StepFault>
-    requires stands { (d : Durable) × Stands S.holds S.used S.format d store.old me.old }
+    requires stands { CanStep S.model store.old me.old }
     requires bounded { IsBounded me.old }
     requires fresh { out.old.acked ≡ None }
     requires op { IsSubmitted op }
-    ensures step { (d : Durable) → Stands S.holds S.used S.format d store.old me.old → (let s = server_of d me.old in let o = on_submit (setup_of me.old) s op s.role in
-        Steps S.holds S.used S.format S.told S.rose S.was d store.old me.old out.old store.new me.new out.new (submit_refusal (setup_of me.old) out.old op s) o result) }
+    ensures step { StepsJudged S.model (submit_refusal (setup_of me.old) out.old op) (λ s. on_submit (setup_of me.old) s op s.role) store.old me.old out.old store.new me.new out.new result }
 {
     let entry = plan(alloc, me, op)?;
     reserve(me)?;

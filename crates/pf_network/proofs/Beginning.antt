@@ -1,9 +1,9 @@
 -- A turn begins.
-use Rattle.std.proofs.Common.{◌≡◌, ℕ, suc, ◌-◌, ◌<◌, ◌≤◌, Bool, List, [], ◌∷◌, length, map, Some, slice_get, get_or, arith, refl, sym, ap, subst, ◌∙◌}
+use Rattle.std.proofs.Common.{◌≡◌, ℕ, suc, ◌-◌, ◌<◌, ◌≤◌, List, [], ◌∷◌, length, map, Some, slice_get, get_or, arith, refl, sym, ap, subst, ◌∙◌}
 use Rattle.std.proofs.lemmas.Option.{slice_get_read}
-use Rattle.pf_entry.specs.Records.{Durable}
 use Rattle.pf_protocol.specs.Servers.{Setup, Condition}
 use Rattle.pf_protocol.specs.Groups.{Sent}
+use Rattle.pf_store.specs.Stores.{StoreModel}
 use Rattle.pf_network.specs.Pasts.{Past}
 use Rattle.pf_protocol.specs.Outcomes.{Outcome}
 use Rattle.pf_protocol.specs.Answers.{most_packets, room_refusal as group_room_refusal}
@@ -13,7 +13,7 @@ use Rattle.pf_network.proofs.Laws.{viable_room}
 use Rattle.pf_restart.specs.Beginning.{IsSeat}
 use Rattle.pf_server.specs.declared.server.Server.{Server}
 use Rattle.pf_server.specs.Conditions.{IsInOrder, IsKnown}
-use Rattle.pf_network.specs.declared.cluster.Cluster.{Cluster}
+use Rattle.pf_network.specs.declared.network.Network.{Network}
 use Rattle.pf_network.specs.Going.{IsReached}
 use Rattle.pf_network.specs.Showing.{IsMember, parcel_of}
 use Rattle.pf_network.specs.Turned.{outbox_of}
@@ -29,25 +29,25 @@ few_sent : (setup : Setup) (past : Past) → (r : ℕ) → r ≤ most_packets �
 unfolding most_packets
 few_sent setup past r le = le
 
-module _ {S : Type 0} (holds : S → Durable → Durable → Type 0) (used format : S → ℕ) (told : S → Bool) (setup : Setup) (past : Past) (cluster : Cluster S) (reached : IsReached holds used format told setup past cluster) where
+module _ {S : Type 0} (model : StoreModel S) (setup : Setup) (past : Past) (network : Network S) (reached : IsReached model setup past network) where
   pub few_packets : length past.group.packets ≤ 65536
   few_packets = few_sent setup past (length past.group.packets) (viable_room setup past reached.viable).count
 
-  pub same_packets : length cluster.packets.items ≡ length past.group.packets
+  pub same_packets : length network.packets.items ≡ length past.group.packets
   same_packets = ap length reached.shows.traffic.packets ∙ parcels_length past.group.packets
 
-  pub few_parcels : length cluster.packets.items ≤ 65536
+  pub few_parcels : length network.packets.items ≤ 65536
   few_parcels = omega (arith, few_packets, same_packets)
 
   -- the server in a place
-  pub server_there : (i : ℕ) (me : Server S) → i < 3 → me ≡ get_or cluster.servers.items i me → slice_get cluster.servers.items i ≡ Some me
-  server_there i me low is = slice_get_read cluster.servers.items 3 i me (sym reached.shows.three) low is
+  pub server_there : (i : ℕ) (me : Server S) → i < 3 → me ≡ get_or network.servers.items i me → slice_get network.servers.items i ≡ Some me
+  server_there i me low is = slice_get_read network.servers.items 3 i me (sym reached.shows.three) low is
 
-  pub its_condition : (i : ℕ) (me : Server S) → slice_get cluster.servers.items i ≡ Some me → (c : Condition) × (slice_get past.group.servers i ≡ Some c) × IsMember holds used format told setup i me c
+  pub its_condition : (i : ℕ) (me : Server S) → slice_get network.servers.items i ≡ Some me → (c : Condition) × (slice_get past.group.servers i ≡ Some c) × IsMember model setup i me c
   its_condition i me here = reached.shows.members i me here
 
-  -- a server of the cluster can take its turn
-  pub in_order : (i : ℕ) (me : Server S) → slice_get cluster.servers.items i ≡ Some me → IsInOrder holds used format me.seat me.store me.state
+  -- a server of the network can take its turn
+  pub in_order : (i : ℕ) (me : Server S) → slice_get network.servers.items i ≡ Some me → IsInOrder model me.seat me.store me.state
   in_order i me here =
       let m = its_condition i me here in
       record {
@@ -58,7 +58,7 @@ module _ {S : Type 0} (holds : S → Durable → Durable → Type 0) (used forma
       }
 
   -- room for the packets of one step is what the group has
-  pub same_room_refusal : (out : Outgoing) → out ≡ outbox_of cluster → (o : Outcome) → room_refusal out o ≡ group_room_refusal past.group o
+  pub same_room_refusal : (out : Outgoing) → out ≡ outbox_of network → (o : Outcome) → room_refusal out o ≡ group_room_refusal past.group o
   same_room_refusal out fresh o =
       ap (λ x. room_refusal x o) fresh
-      ∙ same_refusal past.group (outbox_of cluster) (ap (λ n. 65536 - n) same_packets) few_packets reached.shows.traffic.room o
+      ∙ same_refusal past.group (outbox_of network) (ap (λ n. 65536 - n) same_packets) few_packets reached.shows.traffic.room o

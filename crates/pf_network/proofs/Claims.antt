@@ -1,10 +1,10 @@
 -- A claim, server by server.
-use Rattle.std.proofs.Common.{◌≡◌, ℕ, Bool, false, inl, List, [], ◌∷◌, ◌++◌, Option, Some, None, Result, Ok, Err, slice_get, slice_set, refl, sym, ap, subst, ◌∙◌}
+use Rattle.std.proofs.Common.{◌≡◌, ℕ, false, inl, List, [], ◌∷◌, ◌++◌, Option, Some, None, Result, Ok, Err, slice_get, slice_set, refl, sym, ap, subst, ◌∙◌}
 use Rattle.std.specs.Vec.{with_item}
 use Rattle.std.specs.Option.{option_map}
 use Rattle.pf_base.specs.declared.errors.NoMemory.{NoMemory}
 use Rattle.pf_entry.specs.Lists.{Every}
-use Rattle.pf_entry.specs.Records.{Durable}
+use Rattle.pf_store.specs.Stores.{StoreModel}
 use Rattle.pf_apply.specs.declared.claims.Claimed.{Claimed}
 use Rattle.pf_protocol.specs.declared.answers.Answer.{Answer}
 use Rattle.pf_protocol.specs.declared.answers.Answer.TheVariants.{Job as JobIs, Refused}
@@ -19,7 +19,7 @@ use Rattle.pf_protocol.specs.Answers.{answer_to, claim_answer, claim_answer_at}
 use Rattle.pf_server.specs.declared.server.Server.{Server}
 use Rattle.pf_server.specs.Conditions.{Meets, runs}
 use Rattle.pf_server.specs.Turns.{Claims}
-use Rattle.pf_network.specs.declared.cluster.Cluster.{Cluster}
+use Rattle.pf_network.specs.declared.network.Network.{Network}
 use Rattle.pf_network.specs.Claiming.{ClaimsAt, IsClaimedAt}
 use Rattle.pf_network.specs.Going.{HasGone, IsReached, KeepsStores}
 use Rattle.pf_network.specs.Readings.{taken_of}
@@ -30,45 +30,45 @@ use Rattle.pf_network.proofs.Laws.{its_number}
 use Rattle.pf_network.proofs.Taking.{stopped_idles, unformatted_idles}
 use Rattle.pf_network.proofs.Touching.{touches_kept}
 
-module _ {S : Type 0} (holds : S → Durable → Durable → Type 0) (used format : S → ℕ) (told : S → Bool) (setup : Setup) (past : Past) (old : Cluster S) (reached : IsReached holds used format told setup past old) where
+module _ {S : Type 0} (model : StoreModel S) (setup : Setup) (past : Past) (old : Network S) (reached : IsReached model setup past old) where
   abbrev g : Group
   g = past.group
 
-  module _ (i : ℕ) (me next : Server S) (here : slice_get old.servers.items i ≡ Some me) (seat : next.seat ≡ me.seat) (told_same : told next.store ≡ told me.store) where
-    abbrev new : Cluster S
+  module _ (i : ℕ) (me next : Server S) (here : slice_get old.servers.items i ≡ Some me) (seat : next.seat ≡ me.seat) (told_same : model.told next.store ≡ model.told me.store) where
+    abbrev new : Network S
     new = record old { servers = with_item old.servers i next }
 
-    member : (was c : Condition) → IsMember holds used format told setup i me was → Meets holds used format me.seat next.store next.state c → IsMember holds used format told setup i next c
-    member was c m meets = record { seat = seat ∙ m.seat; meets = subst (λ s. Meets holds used format s next.store next.state c) (sym seat) meets }
+    member : (was c : Condition) → IsMember model setup i me was → Meets model me.seat next.store next.state c → IsMember model setup i next c
+    member was c m meets = record { seat = seat ∙ m.seat; meets = subst (λ s. Meets model s next.store next.state c) (sym seat) meets }
 
-    pub claims_at : (result : Result (Option Claimed) NoMemory) → ((s : ServerIs) → Meets holds used format me.seat me.store me.state (RunningIs s) → Claims holds used format me.seat next.store next.state s result) → (runs me.state ≡ false → (result ≡ Ok None) × (next ≡ me)) → ClaimsAt holds used format told setup g i new result
+    pub claims_at : (result : Result (Option Claimed) NoMemory) → ((s : ServerIs) → Meets model me.seat me.store me.state (RunningIs s) → Claims model me.seat next.store next.state s result) → (runs me.state ≡ false → (result ≡ Ok None) × (next ≡ me)) → ClaimsAt model setup g i new result
     claims_at result step down =
-        let m = its_condition holds used format told setup past old reached i me here in
+        let m = its_condition model setup past old reached i me here in
         by m.0 m.1 m.2
       where
-        idle : (c : Condition) → slice_get g.servers i ≡ Some c → IsMember holds used format told setup i me c → claim_of setup.window (Some c) ≡ None → (result ≡ Ok None) × (next ≡ me) → ClaimsAt holds used format told setup g i new result
-        idle c there m none d = subst (ClaimsAt holds used format told setup g i new) (sym d.0)
-            (ap (claim_of setup.window) there ∙ none, alone_still holds used format told setup g old reached.shows i next c there (subst (λ (x : Server S). IsMember holds used format told setup i x c) (sym d.1) m))
+        idle : (c : Condition) → slice_get g.servers i ≡ Some c → IsMember model setup i me c → claim_of setup.window (Some c) ≡ None → (result ≡ Ok None) × (next ≡ me) → ClaimsAt model setup g i new result
+        idle c there m none d = subst (ClaimsAt model setup g i new) (sym d.0)
+            (ap (claim_of setup.window) there ∙ none, alone_still model setup g old reached.shows i next c there (subst (λ (x : Server S). IsMember model setup i x c) (sym d.1) m))
 
-        running : (s : ServerIs) → slice_get g.servers i ≡ Some (RunningIs s) → IsMember holds used format told setup i me (RunningIs s) → (r : Result (Option Claimed) NoMemory) → Claims holds used format me.seat next.store next.state s r → ClaimsAt holds used format told setup g i new r
+        running : (s : ServerIs) → slice_get g.servers i ≡ Some (RunningIs s) → IsMember model setup i me (RunningIs s) → (r : Result (Option Claimed) NoMemory) → Claims model me.seat next.store next.state s r → ClaimsAt model setup g i new r
         running s there m (Ok (Some claim)) c = let job = claim.job in record {
           s = s;
           runs = there;
           least = ap (λ w. claimable w s) reached.viable.is_setup.window ∙ c.least;
           job_is = c.job_is ∙ ap (λ (n : ℕ). record { server = n; life = s.life; slot = job.slot; op = op_at s.durable.log job.slot }) (its_number setup past reached.viable i s there);
           twice = c.twice;
-          shows = alone holds used format told setup g old reached.shows i next (RunningIs s) (RunningIs (claimed s job.slot)) there (member (RunningIs s) (RunningIs (claimed s job.slot)) m c.meets);
+          shows = alone model setup g old reached.shows i next (RunningIs s) (RunningIs (claimed s job.slot)) there (member (RunningIs s) (RunningIs (claimed s job.slot)) m c.meets);
         }
-        running s there m (Ok None) c = (ap (claim_of setup.window) there ∙ ap (λ w. claimable w s) reached.viable.is_setup.window ∙ c.0, alone_still holds used format told setup g old reached.shows i next (RunningIs s) there (member (RunningIs s) (RunningIs s) m c.1.meets))
-        running s there m (Err e) c = alone_still holds used format told setup g old reached.shows i next (RunningIs s) there (member (RunningIs s) (RunningIs s) m c.meets)
+        running s there m (Ok None) c = (ap (claim_of setup.window) there ∙ ap (λ w. claimable w s) reached.viable.is_setup.window ∙ c.0, alone_still model setup g old reached.shows i next (RunningIs s) there (member (RunningIs s) (RunningIs s) m c.1.meets))
+        running s there m (Err e) c = alone_still model setup g old reached.shows i next (RunningIs s) there (member (RunningIs s) (RunningIs s) m c.meets)
 
-        by : (c : Condition) → slice_get g.servers i ≡ Some c → IsMember holds used format told setup i me c → ClaimsAt holds used format told setup g i new result
+        by : (c : Condition) → slice_get g.servers i ≡ Some c → IsMember model setup i me c → ClaimsAt model setup g i new result
         by (RunningIs s) there m = running s there m result (step s m.meets)
-        by (StoppedIs its before after) there m = idle (StoppedIs its before after) there m refl (down (stopped_idles holds used format me.seat me.store me.state its before after m.meets))
-        by UnformattedIs there m = idle UnformattedIs there m refl (down (unformatted_idles holds used format me.seat me.store me.state m.meets))
+        by (StoppedIs its before after) there m = idle (StoppedIs its before after) there m refl (down (stopped_idles model me.seat me.store me.state its before after m.meets))
+        by UnformattedIs there m = idle UnformattedIs there m refl (down (unformatted_idles model me.seat me.store me.state m.meets))
 
-  -- the cluster stands for the same group
-  pub still_reached : (later : Cluster S) → Shows holds used format told setup later g → IsReached holds used format told setup past later
+  -- the network stands for the same group
+  pub still_reached : (later : Network S) → Shows model setup later g → IsReached model setup past later
   still_reached later shows = record { viable = reached.viable; short = reached.short; shows = shows }
 
 skipped : (window i : ℕ) (c : Option Condition) (rest : Answer) → claim_of window c ≡ None → claim_answer_at i c (claim_of window c) rest ≡ rest
@@ -98,21 +98,21 @@ found_group window g [] rest i s slot none runs_so least =
 found_group window g (j ∷ js) rest i s slot none runs_so least =
     ap (λ o. claim_or g j o (first_claim window g (js ++ i ∷ rest))) none.0 ∙ found_group window g js rest i s slot none.1 runs_so least
 
-module _ {S : Type 0} (holds : S → Durable → Durable → Type 0) (used format : S → ℕ) (told : S → Bool) (rose : S → S → Type 0) (was : S → S → Durable → Durable → Type 0) (setup : Setup) (g : Group) (old later : Cluster S) (stores : KeepsStores old later) (taken : taken_of later ≡ taken_of old) where
+module _ {S : Type 0} (model : StoreModel S) (setup : Setup) (g : Group) (old later : Network S) (stores : KeepsStores old later) (taken : taken_of later ≡ taken_of old) where
   -- some server has a job, which both answers tell
-  pub claims_job : (before rest : List ℕ) (i : ℕ) → before ++ i ∷ rest ≡ 0 ∷ 1 ∷ 2 ∷ [] → Every (HasNone setup.window g) before → (claim : Claimed) → IsClaimedAt holds used format told setup g i later claim
-      → (answers : Answer × Answer) → answers.0 ≡ JobIs claim.job → answers.1 ≡ JobIs (record claim.job { op = claim.copy }) → (answers.1 ≡ answers.0) × HasGone holds used format told rose was setup g Claim old later answers.0
+  pub claims_job : (before rest : List ℕ) (i : ℕ) → before ++ i ∷ rest ≡ 0 ∷ 1 ∷ 2 ∷ [] → Every (HasNone setup.window g) before → (claim : Claimed) → IsClaimedAt model setup g i later claim
+      → (answers : Answer × Answer) → answers.0 ≡ JobIs claim.job → answers.1 ≡ JobIs (record claim.job { op = claim.copy }) → (answers.1 ≡ answers.0) × HasGone model setup g Claim old later answers.0
   unfolding answer_to happens
   claims_job before rest i all none claim c answers first second = let job = claim.job in (
     second ∙ ap (λ op. JobIs (record claim.job { op = op })) c.twice ∙ sym first,
-    subst (HasGone holds used format told rose was setup g Claim old later) (sym first) (record {
+    subst (HasGone model setup g Claim old later) (sym first) (record {
       answered = inl (ap JobIs c.job_is ∙ sym (ap (claim_answer setup.window g) (sym all) ∙ found_answer setup.window g before rest i c.s job.slot none c.runs c.least));
-      shows = subst (Shows holds used format told setup later) (sym (ap (first_claim setup.window g) (sym all) ∙ found_group setup.window g before rest i c.s job.slot none c.runs c.least)) c.shows;
+      shows = subst (Shows model setup later) (sym (ap (first_claim setup.window g) (sym all) ∙ found_group setup.window g before rest i c.s job.slot none c.runs c.least)) c.shows;
       cause = λ halted. absurd (apart halted);
-      crash = touches_kept was _ _ _ old later stores;
+      crash = touches_kept model.was _ _ _ old later stores;
       others = λ i own. stores i;
       quiet = λ quiet. stores;
-      tells = λ i. ap (option_map told) (stores i);
+      tells = λ i. ap (option_map model.told) (stores i);
       taken = taken;
     }),
   )
@@ -121,9 +121,9 @@ module _ {S : Type 0} (holds : S → Durable → Durable → Type 0) (used forma
       apart is = cc
 
   -- no server has one
-  pub claims_none : Every (HasNone setup.window g) (0 ∷ 1 ∷ 2 ∷ []) → Shows holds used format told setup later g → HasGone holds used format told rose was setup g Claim old later (Refused NoneFree)
+  pub claims_none : Every (HasNone setup.window g) (0 ∷ 1 ∷ 2 ∷ []) → Shows model setup later g → HasGone model setup g Claim old later (Refused NoneFree)
   unfolding answer_to happens
-  claims_none none shows = record { answered = inl (sym (none_answer setup.window g (0 ∷ 1 ∷ 2 ∷ []) none)); shows = shows; cause = λ halted. absurd (apart halted); crash = touches_kept was _ _ _ old later stores; others = λ i own. stores i; quiet = λ quiet. stores; tells = λ i. ap (option_map told) (stores i); taken = taken }
+  claims_none none shows = record { answered = inl (sym (none_answer setup.window g (0 ∷ 1 ∷ 2 ∷ []) none)); shows = shows; cause = λ halted. absurd (apart halted); crash = touches_kept model.was _ _ _ old later stores; others = λ i own. stores i; quiet = λ quiet. stores; tells = λ i. ap (option_map model.told) (stores i); taken = taken }
     where
       apart : Refused NoneFree ≡ Refused Halted → ⊥
       apart is = cc

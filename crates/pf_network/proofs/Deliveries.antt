@@ -3,7 +3,7 @@ use Rattle.std.proofs.Common.{◌≡◌, inl, ℕ, zero, suc, ◌+◌, ◌<◌, 
 use Rattle.std.specs.Global.{Vec}
 use Rattle.std.proofs.lemmas.Option.{same_Some, slice_get_past, slice_get_within}
 use Rattle.pf_base.specs.declared.errors.NoMemory.{NoMemory}
-use Rattle.pf_entry.specs.Records.{Durable, holds}
+use Rattle.pf_entry.specs.Records.{holds}
 use Rattle.pf_entry.specs.declared.packets.Packet.{Packet}
 use Rattle.pf_entry.specs.declared.packets.Body.{Body}
 use Rattle.pf_entry.specs.declared.packets.Body.TheVariants.{RequestVote, Vote, Accept, Ack, Nack, Commit, Probe, ProbeOk, Image}
@@ -17,8 +17,9 @@ use Rattle.pf_protocol.specs.Outcomes.{Outcome}
 use Rattle.pf_protocol.specs.Leading.{on_ack, on_probe_ok, on_vote}
 use Rattle.pf_protocol.specs.Following.{on_accept, on_commit, on_image, on_nack, on_probe, on_request_vote}
 use Rattle.pf_protocol.specs.Rows.{on_message, on_packet}
-use Rattle.pf_protocol.specs.Groups.{Group, Sent, Ending, Whole, CutOff, Missed, Untouched, acted, at_server, cut_off, delivered, ending, happens, lost, marked_in, reads_after, send, step_of, with_sent}
+use Rattle.pf_protocol.specs.Groups.{Group, Sent, Ending, Whole, CutOff, Missed, Untouched, acted, at_server, cut_off, delivered, ending, happens, lost, delivered_in, reads_after, send, step_of, with_sent}
 use Rattle.pf_protocol.specs.Answers.{answer_at, answer_to, deliver_turn, delivery_answer, delivery_halts, halts_at, loss_answer, may_halt, room_refusal as group_room_refusal}
+use Rattle.pf_store.specs.Stores.{StoreModel}
 use Rattle.pf_network.specs.Pasts.{Past, IsShort, IsViablePast}
 use Rattle.pf_protocol.proofs.ForRows.{packet_asks}
 use Rattle.pf_network.proofs.Laws.{viable_asks}
@@ -27,12 +28,12 @@ use Rattle.pf_state.specs.Outgoing.{Outgoing}
 use Rattle.pf_state.specs.Standing.{room_refusal}
 use Rattle.pf_restart.specs.Beginning.{setup_at}
 use Rattle.pf_restart.specs.declared.seat.Seat.{Seat}
-use Rattle.pf_network.specs.declared.cluster.Cluster.{Cluster}
+use Rattle.pf_network.specs.declared.network.Network.{Network}
 use Rattle.pf_network.specs.declared.kept.Parcel.{Parcel}
-use Rattle.pf_network.specs.Deliveries.{is_delivery, marks}
+use Rattle.pf_network.specs.Deliveries.{is_delivery, is_delivered}
 use Rattle.pf_network.specs.Going.{HasGone, IsReached, receiver}
 use Rattle.pf_network.specs.Showing.{Shows, parcel_of, seat_of}
-use Rattle.pf_network.proofs.Alone.{marked, packet_there}
+use Rattle.pf_network.proofs.Alone.{delivered_there, packet_there}
 use Rattle.pf_network.proofs.Beginning.{same_packets}
 use Rattle.pf_network.proofs.Events.{IsTurnEvent, turn_canonical}
 use Rattle.pf_network.proofs.Lists.{at_front}
@@ -106,25 +107,25 @@ same_packet : (setup : Setup) (s : ServerIs) (p : Packet) → on_packet (record 
 unfolding on_packet
 same_packet setup s p = same_message setup s p.from p.term p.body
 
-marked_servers : (how : Ending) (g : Group) (k : ℕ) (p : Sent) → (marked_in how g k p).servers ≡ g.servers
-marked_servers Whole g k p = refl
-marked_servers CutOff g k p = refl
-marked_servers Missed g k p = refl
-marked_servers Untouched g k p = refl
+delivery_servers : (how : Ending) (g : Group) (k : ℕ) (p : Sent) → (delivered_in how g k p).servers ≡ g.servers
+delivery_servers Whole g k p = refl
+delivery_servers CutOff g k p = refl
+delivery_servers Missed g k p = refl
+delivery_servers Untouched g k p = refl
 
-pub deliver_event : (setup : Setup) (g : Group) (k : ℕ) (p : Sent) → slice_get g.packets k ≡ Some p → p.lost ≡ false → IsTurnEvent setup g (Deliver k) p.packet.to (deliver_turn setup g p) (λ how. marked_in how g k p)
+pub deliver_event : (setup : Setup) (g : Group) (k : ℕ) (p : Sent) → slice_get g.packets k ≡ Some p → p.lost ≡ false → IsTurnEvent setup g (Deliver k) p.packet.to (deliver_turn setup g p) (λ how. delivered_in how g k p)
 unfolding answer_to may_halt happens
 deliver_event setup g k p at here = record {
   answers = ap (delivery_answer setup g) at ∙ ap (λ b. if b then Refused LostPacket else answer_at (slice_get g.servers p.packet.to) (deliver_turn setup g p)) here;
   halts = λ is. ap (delivery_halts setup g) at ∙ ap (λ b. not b && halts_at (slice_get g.servers p.packet.to) (deliver_turn setup g p)) here ∙ is;
-  goes = λ how. ap (delivered setup how g k) at ∙ ap (λ b. if b then g else at_server how (marked_in how g k p) p.packet.to (λ s. on_packet setup s p.packet)) here;
-  servers = λ how. marked_servers how g k p;
+  goes = λ how. ap (delivered setup how g k) at ∙ ap (λ b. if b then g else at_server how (delivered_in how g k p) p.packet.to (λ s. on_packet setup s p.packet)) here;
+  servers = λ how. delivery_servers how g k p;
   acts = ap receiver at;
   loud = refl;
 }
 
 pub delivers : (setup : Setup) (past : Past) → IsViablePast setup past → IsShort past → (k : ℕ) (p : Sent) → slice_get past.group.packets k ≡ Some p → p.lost ≡ false → (packet : Packet) → packet ≡ p.packet → (out : Outgoing) → ((o : Outcome) → room_refusal out o ≡ group_room_refusal past.group o) → (seat : Seat) → seat ≡ seat_of setup p.packet.to
-    → IsTurnAs setup past (Deliver k) p.packet.to (deliver_turn setup past.group p) (λ how. marked_in how past.group k p) (λ s. room_refusal out (on_packet (setup_at seat) s packet)) (λ s. on_packet (setup_at seat) s packet)
+    → IsTurnAs setup past (Deliver k) p.packet.to (deliver_turn setup past.group p) (λ how. delivered_in how past.group k p) (λ s. room_refusal out (on_packet (setup_at seat) s packet)) (λ s. on_packet (setup_at seat) s packet)
 delivers setup past viable short k p at here packet same out room seat its =
     let g = past.group in
     let rule : (s : ServerIs) → on_packet (setup_at seat) s packet ≡ on_packet setup s p.packet = λ s. ap (λ x. on_packet (setup_at x) s packet) its ∙ same_setup (λ z. on_packet z s packet) setup p.packet.to viable.is_setup.window ∙ same_packet setup s packet ∙ ap (on_packet setup s) same in
@@ -138,35 +139,35 @@ delivers setup past viable short k p at here packet same out room seat its =
         whole = λ none. whole s;
         fits = λ none. packets_fit g (on_packet setup s p.packet) none;
         below = λ none. below_after g.reads (on_packet setup s p.packet).answer (on_packet setup s p.packet).server.reads (packet_asks setup setup.chunk g.reads s (viable_asks setup past viable p.packet.to s runs) p.packet).below;
-        canonical = λ none. turn_canonical setup past viable short (Deliver k) p.packet.to (deliver_turn setup g p) (λ how. marked_in how g k p) (deliver_event setup g k p at here) tt s runs none (whole s);
+        canonical = λ none. turn_canonical setup past viable short (Deliver k) p.packet.to (deliver_turn setup g p) (λ how. delivered_in how g k p) (deliver_event setup g k p at here) tt s runs none (whole s);
       };
       plain = λ s. ap (reads_after g.reads) (packet_done setup s p.packet);
     }
 
--- a packet is marked after the turn as well as before it
+-- a packet is delivered after the turn as well as before it
 set_before : {X : Type 0} → (xs ys : List X) (k : ℕ) (x : X) → k < length xs → slice_set xs k x ++ ys ≡ slice_set (xs ++ ys) k x
 set_before [] ys k x lt = absurd (omega arith)
 set_before (z ∷ zs) ys zero x lt = refl
 set_before (z ∷ zs) ys (suc k) x lt = ap (λ rest. z ∷ rest) (set_before zs ys k x (omega arith))
 
-marked_step : (g : Group) (i k : ℕ) (q : Sent) (rule : ServerIs → Outcome) → k < length g.packets → (how : Ending) (c : Option Condition) → step_of how (with_sent g k q) i c rule ≡ with_sent (step_of how g i c rule) k q
+delivery_step : (g : Group) (i k : ℕ) (q : Sent) (rule : ServerIs → Outcome) → k < length g.packets → (how : Ending) (c : Option Condition) → step_of how (with_sent g k q) i c rule ≡ with_sent (step_of how g i c rule) k q
 unfolding acted cut_off
-marked_step g i k q rule lt Whole (Some (RunningIs s)) = ap (λ packets. record (acted g i (rule s)) { packets = packets }) (set_before g.packets (send (rule s).packets) k q lt)
-marked_step g i k q rule lt Whole (Some (StoppedIs life before after)) = refl
-marked_step g i k q rule lt Whole (Some UnformattedIs) = refl
-marked_step g i k q rule lt Whole None = refl
-marked_step g i k q rule lt CutOff (Some (RunningIs s)) = refl
-marked_step g i k q rule lt CutOff (Some (StoppedIs life before after)) = refl
-marked_step g i k q rule lt CutOff (Some UnformattedIs) = refl
-marked_step g i k q rule lt CutOff None = refl
-marked_step g i k q rule lt Missed (Some (RunningIs s)) = refl
-marked_step g i k q rule lt Missed (Some (StoppedIs life before after)) = refl
-marked_step g i k q rule lt Missed (Some UnformattedIs) = refl
-marked_step g i k q rule lt Missed None = refl
-marked_step g i k q rule lt Untouched (Some (RunningIs s)) = refl
-marked_step g i k q rule lt Untouched (Some (StoppedIs life before after)) = refl
-marked_step g i k q rule lt Untouched (Some UnformattedIs) = refl
-marked_step g i k q rule lt Untouched None = refl
+delivery_step g i k q rule lt Whole (Some (RunningIs s)) = ap (λ packets. record (acted g i (rule s)) { packets = packets }) (set_before g.packets (send (rule s).packets) k q lt)
+delivery_step g i k q rule lt Whole (Some (StoppedIs life before after)) = refl
+delivery_step g i k q rule lt Whole (Some UnformattedIs) = refl
+delivery_step g i k q rule lt Whole None = refl
+delivery_step g i k q rule lt CutOff (Some (RunningIs s)) = refl
+delivery_step g i k q rule lt CutOff (Some (StoppedIs life before after)) = refl
+delivery_step g i k q rule lt CutOff (Some UnformattedIs) = refl
+delivery_step g i k q rule lt CutOff None = refl
+delivery_step g i k q rule lt Missed (Some (RunningIs s)) = refl
+delivery_step g i k q rule lt Missed (Some (StoppedIs life before after)) = refl
+delivery_step g i k q rule lt Missed (Some UnformattedIs) = refl
+delivery_step g i k q rule lt Missed None = refl
+delivery_step g i k q rule lt Untouched (Some (RunningIs s)) = refl
+delivery_step g i k q rule lt Untouched (Some (StoppedIs life before after)) = refl
+delivery_step g i k q rule lt Untouched (Some UnformattedIs) = refl
+delivery_step g i k q rule lt Untouched None = refl
 
 -- the packet is there after the turn
 still_there : (g : Group) (i k : ℕ) (p : Sent) (rule : ServerIs → Outcome) → slice_get g.packets k ≡ Some p → (how : Ending) (c : Option Condition) → slice_get (step_of how g i c rule).packets k ≡ Some p
@@ -193,33 +194,33 @@ get_map f [] k x at = absurd (grind (arith, at))
 get_map f (z ∷ zs) zero x at = ap (λ y. Some (f y)) (same_Some z x at)
 get_map f (z ∷ zs) (suc k) x at = get_map f zs k x at
 
-module _ {S : Type 0} (owns : S → Durable → Durable → Type 0) (used format : S → ℕ) (told : S → Bool) where
+module _ {S : Type 0} (model : StoreModel S) where
   -- the packets have moved in memory
-  same_parcels : (setup : Setup) (cluster : Cluster S) (g : Group) (packets : Vec Parcel) → packets.items ≡ cluster.packets.items → vec_capacity cluster.packets ≤ vec_capacity packets → Shows owns used format told setup cluster g → Shows owns used format told setup (record cluster { packets = packets }) g
-  same_parcels setup cluster g packets items places shows = record {
+  same_parcels : (setup : Setup) (network : Network S) (g : Group) (packets : Vec Parcel) → packets.items ≡ network.packets.items → vec_capacity network.packets ≤ vec_capacity packets → Shows model setup network g → Shows model setup (record network { packets = packets }) g
+  same_parcels setup network g packets items places shows = record {
     three = shows.three;
     members = shows.members;
     traffic = (let t = shows.traffic in record { packets = items ∙ t.packets; places = omega (arith, t.places, places); room = t.room; acked = t.acked; elections = t.elections; readings = t.readings });
     reads = shows.reads;
   }
 
-  module _ (setup : Setup) (g : Group) (i k : ℕ) (p : Sent) (rule : ServerIs → Outcome) (at : slice_get g.packets k ≡ Some p) (after : Cluster S) (packets : Vec Parcel) (outcome : Result Answer NoMemory) (items : (parcel : Parcel) → slice_get after.packets.items k ≡ Some parcel → packets.items ≡ cond (is_delivery outcome) (slice_set after.packets.items k (record parcel { delivered = true })) after.packets.items) (places : vec_capacity after.packets ≤ vec_capacity packets) where
+  module _ (setup : Setup) (g : Group) (i k : ℕ) (p : Sent) (rule : ServerIs → Outcome) (at : slice_get g.packets k ≡ Some p) (after : Network S) (packets : Vec Parcel) (outcome : Result Answer NoMemory) (items : (parcel : Parcel) → slice_get after.packets.items k ≡ Some parcel → packets.items ≡ cond (is_delivery outcome) (slice_set after.packets.items k (record parcel { delivered = true })) after.packets.items) (places : vec_capacity after.packets ≤ vec_capacity packets) where
     abbrev now_delivered : Sent
     now_delivered = record p { delivered = true }
 
-    there : (later : Group) → Shows owns used format told setup after later → slice_get later.packets k ≡ Some p → slice_get after.packets.items k ≡ Some (parcel_of p)
+    there : (later : Group) → Shows model setup after later → slice_get later.packets k ≡ Some p → slice_get after.packets.items k ≡ Some (parcel_of p)
     there later shows is = ap (λ xs. slice_get xs k) shows.traffic.packets ∙ get_map parcel_of later.packets k p is
 
-    took_place : (how : Ending) → marks how ≡ true → marked_in how g k p ≡ with_sent g k now_delivered → is_delivery outcome ≡ marks how → Shows owns used format told setup after (at_server how g i rule) → Shows owns used format told setup (record after { packets = packets }) (at_server how (marked_in how g k p) i rule)
+    took_place : (how : Ending) → is_delivered how ≡ true → delivered_in how g k p ≡ with_sent g k now_delivered → is_delivery outcome ≡ is_delivered how → Shows model setup after (at_server how g i rule) → Shows model setup (record after { packets = packets }) (at_server how (delivered_in how g k p) i rule)
     took_place how does into is shows =
         let still = still_there g i k p rule at how (slice_get g.servers i) in
         let place = there (at_server how g i rule) shows still in
         let so : packets.items ≡ slice_set after.packets.items k (parcel_of now_delivered) = items (parcel_of p) place ∙ ap (λ b. cond b (slice_set after.packets.items k (parcel_of now_delivered)) after.packets.items) (is ∙ does) in
-        subst (Shows owns used format told setup (record after { packets = packets }))
-        (sym (ap (λ x. at_server how x i rule) into ∙ marked_step g i k now_delivered rule (slice_get_within g.packets k p at) how (slice_get g.servers i)))
-        (marked owns used format told setup (at_server how g i rule) after shows k p now_delivered (parcel_of now_delivered) packets still refl refl so places)
+        subst (Shows model setup (record after { packets = packets }))
+        (sym (ap (λ x. at_server how x i rule) into ∙ delivery_step g i k now_delivered rule (slice_get_within g.packets k p at) how (slice_get g.servers i)))
+        (delivered_there model setup (at_server how g i rule) after shows k p now_delivered (parcel_of now_delivered) packets still refl refl so places)
 
-    by_how : (how : Ending) → is_delivery outcome ≡ marks how → Shows owns used format told setup after (at_server how g i rule) → Shows owns used format told setup (record after { packets = packets }) (at_server how (marked_in how g k p) i rule)
+    by_how : (how : Ending) → is_delivery outcome ≡ is_delivered how → Shows model setup after (at_server how g i rule) → Shows model setup (record after { packets = packets }) (at_server how (delivered_in how g k p) i rule)
     by_how Whole is shows = took_place Whole refl refl is shows
     by_how CutOff is shows = took_place CutOff refl refl is shows
     by_how Missed is shows = took_place Missed refl refl is shows
@@ -227,31 +228,31 @@ module _ {S : Type 0} (owns : S → Durable → Durable → Type 0) (used format
         let place = there (at_server Untouched g i rule) shows (still_there g i k p rule at Untouched (slice_get g.servers i)) in
         same_parcels setup after (at_server Untouched g i rule) packets (items (parcel_of p) place ∙ ap (λ b. cond b (slice_set after.packets.items k (parcel_of now_delivered)) after.packets.items) is) places shows
 
-    pub marks_whole : (answer : Answer) → outcome ≡ Ok answer → Shows owns used format told setup after (at_server (ending answer) g i rule) → Shows owns used format told setup (record after { packets = packets }) (at_server (ending answer) (marked_in (ending answer) g k p) i rule)
-    marks_whole answer is shows = by_how (ending answer) (ap is_delivery is) shows
+    pub delivery_whole : (answer : Answer) → outcome ≡ Ok answer → Shows model setup after (at_server (ending answer) g i rule) → Shows model setup (record after { packets = packets }) (at_server (ending answer) (delivered_in (ending answer) g k p) i rule)
+    delivery_whole answer is shows = by_how (ending answer) (ap is_delivery is) shows
 
-    pub marks_none : (e : NoMemory) → outcome ≡ Err e → Shows owns used format told setup after g → Shows owns used format told setup (record after { packets = packets }) g
-    marks_none e is shows = same_parcels setup after g packets (items (parcel_of p) (there g shows at) ∙ ap (λ b. cond b (slice_set after.packets.items k (parcel_of now_delivered)) after.packets.items) (ap is_delivery is)) places shows
+    pub delivery_none : (e : NoMemory) → outcome ≡ Err e → Shows model setup after g → Shows model setup (record after { packets = packets }) g
+    delivery_none e is shows = same_parcels setup after g packets (items (parcel_of p) (there g shows at) ∙ ap (λ b. cond b (slice_set after.packets.items k (parcel_of now_delivered)) after.packets.items) (ap is_delivery is)) places shows
 
-  module _ (rose : S → S → Type 0) (was : S → S → Durable → Durable → Type 0) (setup : Setup) (past : Past) (old : Cluster S) (reached : IsReached owns used format told setup past old) (k : ℕ) where
+  module _ (setup : Setup) (past : Past) (old : Network S) (reached : IsReached model setup past old) (k : ℕ) where
     -- there is no such packet
     no_packet : length old.packets.items ≤ k → slice_get past.group.packets k ≡ None
-    no_packet beyond = slice_get_past past.group.packets k (omega (arith, beyond, same_packets owns used format told setup past old reached))
+    no_packet beyond = slice_get_past past.group.packets k (omega (arith, beyond, same_packets model setup past old reached))
 
-    pub loses_none : length old.packets.items ≤ k → HasGone owns used format told rose was setup past.group (Lose k) old old (Refused NoPacket)
+    pub loses_none : length old.packets.items ≤ k → HasGone model setup past.group (Lose k) old old (Refused NoPacket)
     unfolding answer_to happens
-    loses_none beyond = record { answered = inl (sym (ap loss_answer (no_packet beyond))); shows = reached.shows; cause = λ halted. absurd (apart halted); crash = touches_kept was _ _ _ old old (λ j. refl); others = λ i own. refl; quiet = λ quiet i. refl; tells = λ i. refl; taken = refl }
+    loses_none beyond = record { answered = inl (sym (ap loss_answer (no_packet beyond))); shows = reached.shows; cause = λ halted. absurd (apart halted); crash = touches_kept model.was _ _ _ old old (λ j. refl); others = λ i own. refl; quiet = λ quiet i. refl; tells = λ i. refl; taken = refl }
       where
         apart : Refused NoPacket ≡ Refused Halted → ⊥
         apart is = cc
 
-    pub delivers_none : length old.packets.items ≤ k → HasGone owns used format told rose was setup past.group (Deliver k) old old (Refused NoPacket)
+    pub delivers_none : length old.packets.items ≤ k → HasGone model setup past.group (Deliver k) old old (Refused NoPacket)
     unfolding answer_to happens
     delivers_none beyond = record {
       answered = inl (sym (ap (delivery_answer setup past.group) (no_packet beyond)));
-      shows = subst (Shows owns used format told setup old) (sym (ap (delivered setup Untouched past.group k) (no_packet beyond))) reached.shows;
+      shows = subst (Shows model setup old) (sym (ap (delivered setup Untouched past.group k) (no_packet beyond))) reached.shows;
       cause = λ halted. absurd (apart halted);
-      crash = touches_kept was _ _ _ old old (λ j. refl);
+      crash = touches_kept model.was _ _ _ old old (λ j. refl);
       others = λ i own. refl;
       quiet = λ quiet i. refl;
       tells = λ i. refl;
@@ -264,27 +265,27 @@ module _ {S : Type 0} (owns : S → Durable → Durable → Type 0) (used format
     -- a packet that was lost
     module _ (parcel : Parcel) (at : slice_get old.packets.items k ≡ Some parcel) where
       pub sent_there : (sent : Sent) × (slice_get past.group.packets k ≡ Some sent) × (parcel ≡ parcel_of sent)
-      sent_there = packet_there owns used format told setup past.group old reached.shows k parcel at
+      sent_there = packet_there model setup past.group old reached.shows k parcel at
 
-      pub loses_again : parcel.lost ≡ true → HasGone owns used format told rose was setup past.group (Lose k) old old (Refused LostPacket)
+      pub loses_again : parcel.lost ≡ true → HasGone model setup past.group (Lose k) old old (Refused LostPacket)
       unfolding answer_to happens
       loses_again is =
           let gone : sent_there.0.lost ≡ true = sym (ap (λ (x : Parcel). x.lost) sent_there.2) ∙ is in
-          record { answered = inl (sym (ap loss_answer sent_there.1 ∙ ap (λ b. if b then Refused LostPacket else Done) gone)); shows = reached.shows; cause = λ halted. absurd (apart halted); crash = touches_kept was _ _ _ old old (λ j. refl); others = λ i own. refl; quiet = λ quiet i. refl; tells = λ i. refl; taken = refl }
+          record { answered = inl (sym (ap loss_answer sent_there.1 ∙ ap (λ b. if b then Refused LostPacket else Done) gone)); shows = reached.shows; cause = λ halted. absurd (apart halted); crash = touches_kept model.was _ _ _ old old (λ j. refl); others = λ i own. refl; quiet = λ quiet i. refl; tells = λ i. refl; taken = refl }
         where
           apart : Refused LostPacket ≡ Refused Halted → ⊥
           apart is = cc
 
-      pub delivers_lost : parcel.lost ≡ true → HasGone owns used format told rose was setup past.group (Deliver k) old old (Refused LostPacket)
+      pub delivers_lost : parcel.lost ≡ true → HasGone model setup past.group (Deliver k) old old (Refused LostPacket)
       unfolding answer_to happens
       delivers_lost is =
           let p = sent_there.0 in
           let gone : p.lost ≡ true = sym (ap (λ (x : Parcel). x.lost) sent_there.2) ∙ is in
           record {
             answered = inl (sym (ap (delivery_answer setup past.group) sent_there.1 ∙ ap (λ b. if b then Refused LostPacket else answer_at (slice_get past.group.servers p.packet.to) (deliver_turn setup past.group p)) gone));
-            shows = subst (Shows owns used format told setup old) (sym (ap (delivered setup Untouched past.group k) sent_there.1 ∙ ap (λ b. if b then past.group else at_server Untouched (marked_in Untouched past.group k p) p.packet.to (λ s. on_packet setup s p.packet)) gone)) reached.shows;
+            shows = subst (Shows model setup old) (sym (ap (delivered setup Untouched past.group k) sent_there.1 ∙ ap (λ b. if b then past.group else at_server Untouched (delivered_in Untouched past.group k p) p.packet.to (λ s. on_packet setup s p.packet)) gone)) reached.shows;
             cause = λ halted. absurd (apart halted);
-            crash = touches_kept was _ _ _ old old (λ j. refl);
+            crash = touches_kept model.was _ _ _ old old (λ j. refl);
             others = λ i own. refl;
             quiet = λ quiet i. refl;
             tells = λ i. refl;
@@ -294,17 +295,17 @@ module _ {S : Type 0} (owns : S → Durable → Durable → Type 0) (used format
           apart : Refused LostPacket ≡ Refused Halted → ⊥
           apart is = cc
 
-      pub loses : parcel.lost ≡ false → (packets : Vec Parcel) → packets.items ≡ slice_set old.packets.items k (record parcel { lost = true }) → vec_capacity old.packets ≤ vec_capacity packets → HasGone owns used format told rose was setup past.group (Lose k) old (record old { packets = packets }) Done
+      pub loses : parcel.lost ≡ false → (packets : Vec Parcel) → packets.items ≡ slice_set old.packets.items k (record parcel { lost = true }) → vec_capacity old.packets ≤ vec_capacity packets → HasGone model setup past.group (Lose k) old (record old { packets = packets }) Done
       unfolding answer_to happens
       loses is packets items places =
           let p = sent_there.0 in
           let here : p.lost ≡ false = sym (ap (λ (x : Parcel). x.lost) sent_there.2) ∙ is in
           record {
             answered = inl (sym (ap loss_answer sent_there.1 ∙ ap (λ b. if b then Refused LostPacket else Done) here));
-            shows = subst (Shows owns used format told setup (record old { packets = packets })) (sym (ap (lost past.group k) sent_there.1))
-                (marked owns used format told setup past.group old reached.shows k p (record p { lost = true }) (record parcel { lost = true }) packets sent_there.1 refl (ap (λ (x : Parcel). record x { lost = true }) sent_there.2) items places);
+            shows = subst (Shows model setup (record old { packets = packets })) (sym (ap (lost past.group k) sent_there.1))
+                (delivered_there model setup past.group old reached.shows k p (record p { lost = true }) (record parcel { lost = true }) packets sent_there.1 refl (ap (λ (x : Parcel). record x { lost = true }) sent_there.2) items places);
             cause = λ halted. absurd (apart halted);
-            crash = touches_kept was _ _ _ old (record old { packets = packets }) (λ j. refl);
+            crash = touches_kept model.was _ _ _ old (record old { packets = packets }) (λ j. refl);
             others = λ i own. refl;
             quiet = λ quiet i. refl;
             tells = λ i. refl;
@@ -333,8 +334,8 @@ module _ {S : Type 0} (owns : S → Durable → Durable → Type 0) (used format
         for_member seat its = subst (λ x. IsFor x packet) (sym its) (subst (λ x. IsFor (seat_of setup x.to) x) (sym is) (is_for setup past reached.viable reached.short k sent_there.0 sent_there.1))
 
         pub comes : parcel.lost ≡ false → (out : Outgoing) → ((o : Outcome) → room_refusal out o ≡ group_room_refusal past.group o) → (seat : Seat) → seat ≡ seat_of setup packet.to
-            → IsTurnAs setup past (Deliver k) packet.to (deliver_turn setup past.group sent_there.0) (λ how. marked_in how past.group k sent_there.0) (λ s. room_refusal out (on_packet (setup_at seat) s packet)) (λ s. on_packet (setup_at seat) s packet)
+            → IsTurnAs setup past (Deliver k) packet.to (deliver_turn setup past.group sent_there.0) (λ how. delivered_in how past.group k sent_there.0) (λ s. room_refusal out (on_packet (setup_at seat) s packet)) (λ s. on_packet (setup_at seat) s packet)
         comes here out room seat its =
             let its_here = its ∙ ap (λ x. seat_of setup x.to) is in
-            subst (λ x. IsTurnAs setup past (Deliver k) x.to (deliver_turn setup past.group sent_there.0) (λ how. marked_in how past.group k sent_there.0) (λ s. room_refusal out (on_packet (setup_at seat) s packet)) (λ s. on_packet (setup_at seat) s packet)) (sym is)
+            subst (λ x. IsTurnAs setup past (Deliver k) x.to (deliver_turn setup past.group sent_there.0) (λ how. delivered_in how past.group k sent_there.0) (λ s. room_refusal out (on_packet (setup_at seat) s packet)) (λ s. on_packet (setup_at seat) s packet)) (sym is)
             (delivers setup past reached.viable reached.short k sent_there.0 sent_there.1 (sym (ap (λ (x : Parcel). x.lost) sent_there.2) ∙ here) packet is out room seat its_here)

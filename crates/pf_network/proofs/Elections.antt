@@ -1,9 +1,8 @@
 -- An election as the turn of a server.
-use Rattle.std.proofs.Common.{◌≡◌, inl, ℕ, ◌<◌, ◌≤◌, Bool, true, false, Option, Some, None, Result, Ok, Err, nat_le, slice_get, arith, refl, sym, ap, subst, ◌∙◌}
+use Rattle.std.proofs.Common.{◌≡◌, inl, ℕ, ◌<◌, ◌≤◌, true, false, Option, Some, None, Result, Ok, Err, nat_le, slice_get, arith, refl, sym, ap, subst, ◌∙◌}
 use Rattle.std.proofs.lemmas.Bool.{true≢false}
 use Rattle.std.proofs.lemmas.Bool.Decides.{nat_tests}
 use Rattle.pf_base.specs.declared.errors.NoMemory.{NoMemory}
-use Rattle.pf_entry.specs.Records.{Durable}
 use Rattle.pf_protocol.specs.declared.answers.Answer.{Answer}
 use Rattle.pf_protocol.specs.declared.answers.Answer.TheVariants.{Refused}
 use Rattle.pf_protocol.specs.declared.answers.Refusal.TheVariants.{Down, ElectionsFull, Halted}
@@ -13,6 +12,7 @@ use Rattle.pf_protocol.specs.Outcomes.{Outcome, store}
 use Rattle.pf_protocol.specs.Leading.{on_elect}
 use Rattle.pf_protocol.specs.Groups.{Group, Ending, Whole, CutOff, Missed, Untouched, acted, at_server, counted_election, cut_off, ending, happens, reads_after, step_of}
 use Rattle.pf_protocol.specs.Answers.{answer_at, answer_by, answer_to, elect_refusal, elect_turn, may_halt, most_elections, refuse, room_refusal as group_room_refusal}
+use Rattle.pf_store.specs.Stores.{StoreModel}
 use Rattle.pf_network.specs.Pasts.{Past, IsShort, IsViablePast}
 use Rattle.pf_protocol.proofs.ForRows.{elect_asks}
 use Rattle.pf_network.proofs.Laws.{viable_asks}
@@ -24,7 +24,7 @@ use Rattle.pf_server.specs.declared.state.State.{State}
 use Rattle.pf_server.specs.declared.state.State.TheVariants.{Runs as RunsHere, Stopped, Unformatted}
 use Rattle.pf_restart.specs.declared.seat.Seat.{Seat}
 use Rattle.pf_server.specs.Conditions.{Meets, runs}
-use Rattle.pf_network.specs.declared.cluster.Cluster.{Cluster}
+use Rattle.pf_network.specs.declared.network.Network.{Network}
 use Rattle.pf_network.specs.Elections.{elections_after, one_more}
 use Rattle.pf_network.specs.Going.{HasGone, IsReached}
 use Rattle.pf_network.specs.Showing.{Shows}
@@ -120,15 +120,15 @@ missed g i rule (Some (StoppedIs life before after)) = refl
 missed g i rule (Some UnformattedIs) = refl
 missed g i rule None = refl
 
-module _ {S : Type 0} (holds : S → Durable → Durable → Type 0) (used format : S → ℕ) (told : S → Bool) where
-  pub running_there : (seat : Seat) (store : S) (state : State) (s : ServerIs) → Meets holds used format seat store state (RunningIs s) → runs state ≡ true
+module _ {S : Type 0} (model : StoreModel S) where
+  pub running_there : (seat : Seat) (store : S) (state : State) (s : ServerIs) → Meets model seat store state (RunningIs s) → runs state ≡ true
   running_there seat store (RunsHere me) s m = refl
   running_there seat store (Stopped life doubt) s m = absurd m
   running_there seat store Unformatted s m = absurd m
 
   -- another count of elections
-  pub shows_count : (setup : Setup) (cluster : Cluster S) (g : Group) (n : ℕ) → Shows holds used format told setup cluster g → Shows holds used format told setup (record cluster { elections = n }) (record g { elections = n })
-  shows_count setup cluster g n shows = record {
+  pub shows_count : (setup : Setup) (network : Network S) (g : Group) (n : ℕ) → Shows model setup network g → Shows model setup (record network { elections = n }) (record g { elections = n })
+  shows_count setup network g n shows = record {
     three = shows.three;
     members = shows.members;
     traffic = (let t = shows.traffic in record { packets = t.packets; places = t.places; room = t.room; acked = t.acked; elections = refl; readings = t.readings });
@@ -136,20 +136,20 @@ module _ {S : Type 0} (holds : S → Durable → Durable → Type 0) (used forma
   }
 
   -- the election was counted after the turn
-  pub counts_whole : (setup : Setup) (g : Group) (i : ℕ) (rule : ServerIs → Outcome) (before : ℕ) → before ≡ g.elections → (after : Cluster S) (n : ℕ) (outcome : Result Answer NoMemory) → n ≡ elections_after before outcome → (answer : Answer) → outcome ≡ Ok answer
-      → Shows holds used format told setup after (at_server (ending answer) g i rule) → Shows holds used format told setup (record after { elections = n }) (at_server (ending answer) (counted_election (ending answer) g) i rule)
+  pub counts_whole : (setup : Setup) (g : Group) (i : ℕ) (rule : ServerIs → Outcome) (before : ℕ) → before ≡ g.elections → (after : Network S) (n : ℕ) (outcome : Result Answer NoMemory) → n ≡ elections_after before outcome → (answer : Answer) → outcome ≡ Ok answer
+      → Shows model setup after (at_server (ending answer) g i rule) → Shows model setup (record after { elections = n }) (at_server (ending answer) (counted_election (ending answer) g) i rule)
   counts_whole setup g i rule before same after n outcome is answer so shows =
       let count : n ≡ one_more (ending answer) g.elections = is ∙ ap (elections_after before) so ∙ ap (one_more (ending answer)) same in
-      subst (Shows holds used format told setup (record after { elections = n })) (sym (counted_after g i rule (ending answer)))
-      (subst (λ k. Shows holds used format told setup (record after { elections = n }) (record (at_server (ending answer) g i rule) { elections = k })) count (shows_count setup after (at_server (ending answer) g i rule) n shows))
+      subst (Shows model setup (record after { elections = n })) (sym (counted_after g i rule (ending answer)))
+      (subst (λ k. Shows model setup (record after { elections = n }) (record (at_server (ending answer) g i rule) { elections = k })) count (shows_count setup after (at_server (ending answer) g i rule) n shows))
 
-  pub counts_none : (setup : Setup) (g : Group) (before : ℕ) → before ≡ g.elections → (after : Cluster S) (n : ℕ) (outcome : Result Answer NoMemory) → n ≡ elections_after before outcome → (e : NoMemory) → outcome ≡ Err e
-      → Shows holds used format told setup after g → Shows holds used format told setup (record after { elections = n }) g
+  pub counts_none : (setup : Setup) (g : Group) (before : ℕ) → before ≡ g.elections → (after : Network S) (n : ℕ) (outcome : Result Answer NoMemory) → n ≡ elections_after before outcome → (e : NoMemory) → outcome ≡ Err e
+      → Shows model setup after g → Shows model setup (record after { elections = n }) g
   counts_none setup g before same after n outcome is e so shows =
       let count : n ≡ g.elections = is ∙ ap (elections_after before) so ∙ same in
-      subst (λ k. Shows holds used format told setup (record after { elections = n }) (record g { elections = k })) count (shows_count setup after g n shows)
+      subst (λ k. Shows model setup (record after { elections = n }) (record g { elections = k })) count (shows_count setup after g n shows)
 
-  module _ (rose : S → S → Type 0) (was : S → S → Durable → Durable → Type 0) (setup : Setup) (past : Past) (old : Cluster S) (reached : IsReached holds used format told setup past old) (i : ℕ) (me : Server S) (here : slice_get old.servers.items i ≡ Some me) where
+  module _ (setup : Setup) (past : Past) (old : Network S) (reached : IsReached model setup past old) (i : ℕ) (me : Server S) (here : slice_get old.servers.items i ≡ Some me) where
     elect_is : (answer right : Answer) → answer ≡ right → happens setup past.group (Elect i) (ending answer) ≡ at_server (ending right) (counted_election (ending right) past.group) i on_elect
     unfolding happens
     elect_is answer right is = ap (λ a. at_server (ending a) (counted_election (ending a) past.group) i on_elect) is
@@ -159,14 +159,14 @@ module _ {S : Type 0} (holds : S → Durable → Durable → Type 0) (used forma
     elect_answers c there = ap (λ x. answer_at x (elect_turn past.group)) there
 
     -- the server does not run
-    pub elects_none : runs me.state ≡ false → HasGone holds used format told rose was setup past.group (Elect i) old old (Refused Down)
+    pub elects_none : runs me.state ≡ false → HasGone model setup past.group (Elect i) old old (Refused Down)
     elects_none idle =
-        let m = its_condition holds used format told setup past old reached i me here in
+        let m = its_condition model setup past old reached i me here in
         record {
           answered = inl (sym (elect_answers m.0 m.1 ∙ down m.0 m.2.meets));
-          shows = subst (Shows holds used format told setup old) (sym (elect_is (Refused Down) (Refused Down) refl ∙ missed past.group i on_elect (slice_get past.group.servers i))) reached.shows;
+          shows = subst (Shows model setup old) (sym (elect_is (Refused Down) (Refused Down) refl ∙ missed past.group i on_elect (slice_get past.group.servers i))) reached.shows;
           cause = λ halted. absurd (apart halted);
-          crash = touches_kept was _ _ _ old old (λ j. refl);
+          crash = touches_kept model.was _ _ _ old old (λ j. refl);
           others = λ j own. refl;
           quiet = λ quiet j. refl;
           tells = λ j. refl;
@@ -176,20 +176,20 @@ module _ {S : Type 0} (holds : S → Durable → Durable → Type 0) (used forma
         apart : Refused Down ≡ Refused Halted → ⊥
         apart is = cc
 
-        down : (c : Condition) → Meets holds used format me.seat me.store me.state c → answer_at (Some c) (elect_turn past.group) ≡ Refused Down
+        down : (c : Condition) → Meets model me.seat me.store me.state c → answer_at (Some c) (elect_turn past.group) ≡ Refused Down
         down (RunningIs s) meets = absurd (true≢false (sym (running_there me.seat me.store me.state s meets) ∙ idle))
         down (StoppedIs life before after) meets = refl
         down UnformattedIs meets = refl
 
     -- the group has had all its elections
-    pub elects_full : runs me.state ≡ true → 64 ≤ old.elections → HasGone holds used format told rose was setup past.group (Elect i) old old (Refused ElectionsFull)
+    pub elects_full : runs me.state ≡ true → 64 ≤ old.elections → HasGone model setup past.group (Elect i) old old (Refused ElectionsFull)
     elects_full running many =
-        let m = its_condition holds used format told setup past old reached i me here in
+        let m = its_condition model setup past old reached i me here in
         record {
           answered = inl (sym (elect_answers m.0 m.1 ∙ full m.0 m.2.meets));
-          shows = subst (Shows holds used format told setup old) (sym (elect_is (Refused ElectionsFull) (Refused ElectionsFull) refl ∙ untouched past.group i on_elect (slice_get past.group.servers i))) reached.shows;
+          shows = subst (Shows model setup old) (sym (elect_is (Refused ElectionsFull) (Refused ElectionsFull) refl ∙ untouched past.group i on_elect (slice_get past.group.servers i))) reached.shows;
           cause = λ halted. absurd (apart halted);
-          crash = touches_kept was _ _ _ old old (λ j. refl);
+          crash = touches_kept model.was _ _ _ old old (λ j. refl);
           others = λ j own. refl;
           quiet = λ quiet j. refl;
           tells = λ j. refl;
@@ -199,7 +199,7 @@ module _ {S : Type 0} (holds : S → Durable → Durable → Type 0) (used forma
         apart : Refused ElectionsFull ≡ Refused Halted → ⊥
         apart is = cc
 
-        full : (c : Condition) → Meets holds used format me.seat me.store me.state c → answer_at (Some c) (elect_turn past.group) ≡ Refused ElectionsFull
+        full : (c : Condition) → Meets model me.seat me.store me.state c → answer_at (Some c) (elect_turn past.group) ≡ Refused ElectionsFull
         full (RunningIs s) meets = ap (λ o. answer_by o (on_elect s).answer) (full_judged past.group s (subst (λ n. 64 ≤ n) reached.shows.traffic.elections many))
-        full (StoppedIs life before after) meets = absurd (true≢false (sym running ∙ stopped_idles holds used format me.seat me.store me.state life before after meets))
-        full UnformattedIs meets = absurd (true≢false (sym running ∙ unformatted_idles holds used format me.seat me.store me.state meets))
+        full (StoppedIs life before after) meets = absurd (true≢false (sym running ∙ stopped_idles model me.seat me.store me.state life before after meets))
+        full UnformattedIs meets = absurd (true≢false (sym running ∙ unformatted_idles model me.seat me.store me.state meets))

@@ -1,8 +1,7 @@
 -- Events that are one server's turn.
-use Rattle.std.proofs.Common.{◌≡◌, ℕ, Bool, true, false, inl, inr, ◌++◌, length, Option, Some, None, Result, slice_get, slice_set, refl, sym, ap, subst, ◌∙◌}
+use Rattle.std.proofs.Common.{◌≡◌, ℕ, true, false, inl, inr, ◌++◌, length, Option, Some, None, Result, slice_get, slice_set, refl, sym, ap, subst, ◌∙◌}
 use Rattle.pf_base.specs.declared.errors.NoMemory.{NoMemory}
 use Rattle.pf_entry.specs.Lists.{Every}
-use Rattle.pf_entry.specs.Records.{Durable}
 use Rattle.pf_entry.specs.Canonical.{IsCanonicalPacket}
 use Rattle.pf_protocol.specs.declared.answers.Answer.{Answer}
 use Rattle.pf_protocol.specs.declared.answers.Refusal.{Refusal}
@@ -10,13 +9,14 @@ use Rattle.pf_protocol.specs.declared.events.Event.{Event}
 use Rattle.pf_protocol.specs.Servers.{Setup, Server as ServerIs, Condition, Running as RunningIs}
 use Rattle.pf_protocol.specs.Outcomes.{Outcome}
 use Rattle.pf_protocol.specs.Groups.{Group, Ending, Whole, acted, at_server, ending, happens, send, step_of}
-use Rattle.pf_protocol.specs.Histories.{Runs}
+use Rattle.pf_protocol.specs.Histories.{RunsAs}
 use Rattle.pf_protocol.specs.Answers.{Turn, MayHappen, IsAnswer, answer_at, answer_by, answer_to, halts_at, may_halt}
+use Rattle.pf_store.specs.Stores.{StoreModel}
 use Rattle.pf_network.specs.Pasts.{Past, IsShort, IsViablePast}
 use Rattle.pf_state.specs.Outgoing.{Outgoing}
 use Rattle.pf_server.specs.declared.server.Server.{Server}
 use Rattle.pf_network.specs.AckedSlots.{HasRoom}
-use Rattle.pf_network.specs.declared.cluster.Cluster.{Cluster}
+use Rattle.pf_network.specs.declared.network.Network.{Network}
 use Rattle.pf_network.specs.Going.{IsReached, acts_at, is_quiet}
 use Rattle.pf_network.specs.Showing.{AreMembers, HasTraffic}
 use Rattle.pf_network.specs.Turned.{HasTurned, IsTurnOf, IsTurned, Took, outbox_of, reads_with}
@@ -39,7 +39,7 @@ acted_packets g i o = refl
 
 -- what such an event sends has a spelling
 pub turn_canonical : (setup : Setup) (past : Past) (reached : IsViablePast setup past) → IsShort past → (event : Event) (i : ℕ) (turn : Turn) (pre : Ending → Group) → IsTurnEvent setup past.group event i turn pre → MayHappen past.claims event
-    → (s : ServerIs) → Runs past.group i s → turn.refusal s ≡ None → ending (turn.rule s).answer ≡ Whole → Every IsCanonicalPacket (turn.rule s).packets
+    → (s : ServerIs) → RunsAs past.group i s → turn.refusal s ≡ None → ending (turn.rule s).answer ≡ Whole → Every IsCanonicalPacket (turn.rule s).packets
 turn_canonical setup past viable short event i turn pre is asked s at free whole =
     let g = past.group in
     let right : answer_to setup g event ≡ (turn.rule s).answer = is.answers ∙ ap (λ c. answer_at c turn) at ∙ ap (λ o. answer_by o (turn.rule s).answer) free in
@@ -55,28 +55,28 @@ turn_answer setup g event i turn pre is answer turned = elim turned [
   | inr cut ↦ inr (is.halts cut.0, cut.1)
 ]
 
-module _ {S : Type 0} (holds : S → Durable → Durable → Type 0) (used format : S → ℕ) (told : S → Bool) where
-  module _ (rose : S → S → Type 0) (was : S → S → Durable → Durable → Type 0) (setup : Setup) (past : Past) (cluster : Cluster S) (reached : IsReached holds used format told setup past cluster) (i : ℕ) (me next : Server S) (mid : Cluster S) where
+module _ {S : Type 0} (model : StoreModel S) where
+  module _ (setup : Setup) (past : Past) (network : Network S) (reached : IsReached model setup past network) (i : ℕ) (me next : Server S) (mid : Network S) where
     -- the server of this place had its turn
     pub record IsMid : Type 0 where
-      pub here : slice_get cluster.servers.items i ≡ Some me
-      pub servers : mid.servers.items ≡ slice_set cluster.servers.items i next
+      pub here : slice_get network.servers.items i ≡ Some me
+      pub servers : mid.servers.items ≡ slice_set network.servers.items i next
       pub seat : next.seat ≡ me.seat
-      pub told_same : told next.store ≡ told me.store
+      pub told_same : model.told next.store ≡ model.told me.store
 
     module _ (middle : IsMid) where
       -- what it sent, acknowledged and answered is still to be kept
       unfoldable pub turned_so : (g : Group) → g.servers ≡ past.group.servers → (turn : Turn) (outcome : Result Answer NoMemory) (out out' : Outgoing) (judged : ServerIs → Option Refusal) (rule : ServerIs → Outcome)
           → ((s : ServerIs) → judged s ≡ turn.refusal s) → ((s : ServerIs) → rule s ≡ turn.rule s)
-          → Tells holds used format told rose was me next out out' judged rule outcome → IsDown holds used format told rose was me next out out' judged rule outcome
-          → out ≡ outbox_of mid → ((s : ServerIs) → Runs past.group i s → IsTurnOf g turn s)
-          → HasTraffic mid g → HasRoom mid.acked.list mid.acked.known → ((c : Condition) → Took holds used format told rose was turn me next out out' outcome c → length mid.readings.items ≡ reads_with g.reads outcome)
-          → HasTurned holds used format told rose was setup g i turn mid out' outcome
+          → Tells model me next out out' judged rule outcome → IsDown model me next out out' judged rule outcome
+          → out ≡ outbox_of mid → ((s : ServerIs) → RunsAs past.group i s → IsTurnOf g turn s)
+          → HasTraffic mid g → HasRoom mid.acked.list mid.acked.known → ((c : Condition) → Took model turn me next out out' outcome c → length mid.readings.items ≡ reads_with g.reads outcome)
+          → HasTurned model setup g i turn mid out' outcome
       turned_so g same turn outcome out out' judged rule same_judged same_rule tells down fresh knows traffic place reads =
-          let m = its_condition holds used format told setup past cluster reached i me middle.here in
-          let took = took_by holds used format told rose was me next out out' judged rule turn outcome same_judged same_rule tells down m.0 m.2.meets in
+          let m = its_condition model setup past network reached i me middle.here in
+          let took = took_by model me next out out' judged rule turn outcome same_judged same_rule tells down m.0 m.2.meets in
           record {
-            before = cluster.servers.items;
+            before = network.servers.items;
             me = me;
             next = next;
             c = m.0;
@@ -84,10 +84,10 @@ module _ {S : Type 0} (holds : S → Durable → Durable → Type 0) (used forma
             there = ap (λ xs. slice_get xs i) same ∙ m.1;
             now = middle.servers;
             three = reached.shows.three;
-            members = subst (AreMembers holds used format told setup cluster.servers.items) (sym same) reached.shows.members;
+            members = subst (AreMembers model setup network.servers.items) (sym same) reached.shows.members;
             seat = middle.seat;
             tells = middle.told_same;
-            took = subst (λ o. Took holds used format told rose was turn me next o out' outcome m.0) fresh took;
+            took = subst (λ o. Took model turn me next o out' outcome m.0) fresh took;
             knows = λ s is. knows s (m.1 ∙ ap Some is);
             traffic = traffic;
             place = place;

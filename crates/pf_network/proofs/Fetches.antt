@@ -6,7 +6,6 @@ use Rattle.std.proofs.lemmas.List.{length-append}
 use Rattle.std.specs.Option.{option_map}
 use Rattle.pf_base.specs.Span.{Span, IsWritable, fits_in}
 use Rattle.pf_base.specs.declared.errors.NoMemory.{NoMemory}
-use Rattle.pf_entry.specs.Records.{Durable}
 use Rattle.pf_protocol.specs.declared.answers.Answer.{Answer}
 use Rattle.pf_protocol.specs.declared.answers.Answer.TheVariants.{Done, Slot, Term, Read as ReadIs, Base, Job, Refused}
 use Rattle.pf_protocol.specs.declared.answers.Refusal.{Refusal}
@@ -16,8 +15,9 @@ use Rattle.pf_protocol.specs.Servers.{Setup, Role, Follower, Candidate, Merging,
 use Rattle.pf_protocol.specs.Outcomes.{Outcome}
 use Rattle.pf_protocol.specs.Leading.{on_fetch}
 use Rattle.pf_protocol.specs.Groups.{Group, Whole, at_server, ending, happens, reads_after}
-use Rattle.pf_protocol.specs.Histories.{Runs}
+use Rattle.pf_protocol.specs.Histories.{RunsAs}
 use Rattle.pf_protocol.specs.Answers.{Turn, answer_to, fetch_refusal as group_fetch_refusal, fetch_turn, is_serving, may_halt, refuse, room_refusal as group_room_refusal}
+use Rattle.pf_store.specs.Stores.{StoreModel}
 use Rattle.pf_network.specs.Pasts.{Past, IsShort, IsViablePast}
 use Rattle.pf_protocol.proofs.ForRows.{fetch_asks, fetch_silent}
 use Rattle.pf_network.proofs.Laws.{viable_asks}
@@ -28,7 +28,7 @@ use Rattle.pf_apply.specs.Fetching.{fetch_refusal}
 use Rattle.pf_restart.specs.Beginning.{setup_at}
 use Rattle.pf_server.specs.declared.server.Server.{Server}
 use Rattle.pf_server.specs.Conditions.{IsNext, Meets}
-use Rattle.pf_network.specs.declared.cluster.Cluster.{Cluster}
+use Rattle.pf_network.specs.declared.network.Network.{Network}
 use Rattle.pf_network.specs.declared.acked.AckedList.{AckedList}
 use Rattle.pf_network.specs.declared.kept.Reading.{Reading}
 use Rattle.pf_network.specs.declared.kept.Reading.TheVariants.{Waiting}
@@ -84,7 +84,7 @@ pub fetch_event : (setup : Setup) (g : Group) (i : ℕ) (range : Span) → IsTur
 unfolding answer_to may_halt happens
 fetch_event setup g i range = record { answers = refl; halts = never_halts (fetch_turn setup g range) (λ s. fetch_disk s range g.reads s.role) (slice_get g.servers i); goes = λ how. refl; servers = λ how. refl; acts = refl; loud = refl }
 
-pub fetch_known : (setup : Setup) (past : Past) → IsViablePast setup past → IsShort past → (i : ℕ) (range : Span) → i < 3 → IsWritable range.first range.count → (s : ServerIs) → Runs past.group i s → IsTurnOf past.group (fetch_turn setup past.group range) s
+pub fetch_known : (setup : Setup) (past : Past) → IsViablePast setup past → IsShort past → (i : ℕ) (range : Span) → i < 3 → IsWritable range.first range.count → (s : ServerIs) → RunsAs past.group i s → IsTurnOf past.group (fetch_turn setup past.group range) s
 fetch_known setup past viable short i range low writable s at =
     let g = past.group in
     let turn = fetch_turn setup g range in
@@ -119,14 +119,14 @@ still_readings setup past viable readings count are (Base base) = are
 still_readings setup past viable readings count are (Job job) = are
 still_readings setup past viable readings count are (Refused refusal) = are
 
-module _ {S : Type 0} (holds : S → Durable → Durable → Type 0) (used format : S → ℕ) (told : S → Bool) (rose : S → S → Type 0) (was : S → S → Durable → Durable → Type 0) (setup : Setup) (past : Past) (old : Cluster S) (reached : IsReached holds used format told setup past old) where
+module _ {S : Type 0} (model : StoreModel S) (setup : Setup) (past : Past) (old : Network S) (reached : IsReached model setup past old) where
   -- the number of the next read
   pub its_number : vec_len old.readings ≡ past.group.reads
   its_number = omega (arith, old.readings.ok, reached.shows.reads)
 
-  pub is_next : (i : ℕ) (me : Server S) (number : ℕ) → number ≡ past.group.reads → slice_get old.servers.items i ≡ Some me → (c : Condition) × Meets holds used format me.seat me.store me.state c × IsNext c number
+  pub is_next : (i : ℕ) (me : Server S) (number : ℕ) → number ≡ past.group.reads → slice_get old.servers.items i ≡ Some me → (c : Condition) × Meets model me.seat me.store me.state c × IsNext c number
   is_next i me number is here =
-      let m = its_condition holds used format told setup past old reached i me here in
+      let m = its_condition model setup past old reached i me here in
       (m.0, m.2.meets, next m.0 m.1)
     where
       next : (c : Condition) → slice_get past.group.servers i ≡ Some c → IsNext c number
@@ -135,7 +135,7 @@ module _ {S : Type 0} (holds : S → Durable → Durable → Type 0) (used forma
       next UnformattedIs there = tt
 
   module _ (i : ℕ) (range : Span) (writable : IsWritable range.first range.count) (me next : Server S) (acked : AckedList) (readings : Vec Reading) (out out' : Outgoing) (number : ℕ) (numbered : number ≡ past.group.reads) (outcome : Result Answer NoMemory)
-      (did : DidTurn holds used format told rose was setup past old reached i me next acked out out' (fetch_refusal (setup_at me.seat) out range number) (λ s. on_fetch s range number s.role) outcome)
+      (did : DidTurn model setup past old reached i me next acked out out' (fetch_refusal (setup_at me.seat) out range number) (λ s. on_fetch s range number s.role) outcome)
       (kept : readings.items ≡ readings_with old.readings.items outcome) (room : (o : Outcome) → room_refusal out o ≡ group_room_refusal past.group o) where
     abbrev g : Group
     g = past.group
@@ -143,13 +143,13 @@ module _ {S : Type 0} (holds : S → Durable → Durable → Type 0) (used forma
     abbrev turn : Turn
     turn = fetch_turn setup g range
 
-    abbrev mid : Cluster S
+    abbrev mid : Network S
     mid = record (mid_of old i next acked) { readings = readings }
 
     there : slice_get old.servers.items i ≡ Some me
-    there = here holds used format told rose was setup past old reached i me next acked out out' (fetch_refusal (setup_at me.seat) out range number) (λ s. on_fetch s range number s.role) outcome did
+    there = here model setup past old reached i me next acked out out' (fetch_refusal (setup_at me.seat) out range number) (λ s. on_fetch s range number s.role) outcome did
 
-    pub middle : IsMid holds used format told rose was setup past old reached i me next mid
+    pub middle : IsMid model setup past old reached i me next mid
     middle = record { here = there; servers = refl; seat = did.seat; told_same = did.told_same }
 
     are_readings : (o : Result Answer NoMemory) → AreReadings g.answered (readings_with old.readings.items o)
@@ -168,39 +168,39 @@ module _ {S : Type 0} (holds : S → Durable → Durable → Type 0) (used forma
 
     pub same_judged : (s : ServerIs) → fetch_refusal (setup_at me.seat) out range number s ≡ turn.refusal s
     same_judged s =
-        let m = its_condition holds used format told setup past old reached i me there in
+        let m = its_condition model setup past old reached i me there in
         ap (λ seat. fetch_refusal (setup_at seat) out range number s) m.2.seat ∙ ap (λ n. fetch_refusal (setup_at (seat_of setup i)) out range n s) numbered ∙ fetch_judged setup g i range out room s
 
-    unfoldable pub fetch_turned : HasTurned holds used format told rose was setup g i turn mid out' outcome
-    fetch_turned = turned_so holds used format told rose was setup past old reached i me next mid middle g refl turn outcome out out' (fetch_refusal (setup_at me.seat) out range number) (λ s. on_fetch s range number s.role) same_judged
+    unfoldable pub fetch_turned : HasTurned model setup g i turn mid out' outcome
+    fetch_turned = turned_so model setup past old reached i me next mid middle g refl turn outcome out out' (fetch_refusal (setup_at me.seat) out range number) (λ s. on_fetch s range number s.role) same_judged
         (λ s. ap (λ n. on_fetch s range n s.role) numbered) did.tells did.down did.fresh (fetch_known setup past reached.viable reached.short i range did.low writable) traffic did.place (λ c took. reads_are)
 
-    module _ (after : Cluster S) (same : outcome ≡ Ok (Refused Halted) → after ≡ mid) (stores : KeepsStores mid after) (taken : taken_of after ≡ taken_of mid) where
-      cause : outcome ≡ Ok (Refused Halted) → HasFault rose i old after
+    module _ (after : Network S) (same : outcome ≡ Ok (Refused Halted) → after ≡ mid) (stores : KeepsStores mid after) (taken : taken_of after ≡ taken_of mid) where
+      cause : outcome ≡ Ok (Refused Halted) → HasFault model.rose i old after
       unfolding fetch_turned turned_so
-      cause halted = fault_of holds used format told rose was setup g i turn mid out' outcome fetch_turned old after refl (ap (λ (x : Cluster S). x.servers.items) (same halted)) halted
+      cause halted = fault_of model setup g i turn mid out' outcome fetch_turned old after refl (ap (λ (x : Network S). x.servers.items) (same halted)) halted
 
-      crash : (answer : Answer) → outcome ≡ Ok answer → Touches was g (at_server (ending answer) g i turn.rule) (Some i) old after
+      crash : (answer : Answer) → outcome ≡ Ok answer → Touches model.was g (at_server (ending answer) g i turn.rule) (Some i) old after
       unfolding fetch_turned turned_so
-      crash answer so = turn_touches holds used format told rose was setup g i turn mid out' g refl outcome fetch_turned answer so old after refl stores
+      crash answer so = turn_touches model setup g i turn mid out' g refl outcome fetch_turned answer so old after refl stores
 
-      telling : KeepsTelling told old after
-      telling j = ap (option_map told) (stores j) ∙ telling_kept old mid i next refl told me there did.told_same j
+      telling : KeepsTelling model.told old after
+      telling j = ap (option_map model.told) (stores j) ∙ telling_kept old mid i next refl model.told me there did.told_same j
 
-      by_outcome : (o : Result Answer NoMemory) → outcome ≡ o → Ends holds used format told setup g i turn after o → Goes holds used format told rose was setup g (Fetch i range) old after o
-      by_outcome (Err e) so shows = record { shows = shows; crash = touches_none was g g old after; others = λ j own. stores j ∙ stores_kept old mid i next refl me there (spared holds used format told rose was setup past old reached i me next acked out out' (fetch_refusal (setup_at me.seat) out range number) (λ s. on_fetch s range number s.role) outcome did e so) j; tells = telling; taken = taken ∙ ap (map is_taken) kept ∙ ap (λ o. map is_taken (readings_with old.readings.items o)) so }
+      by_outcome : (o : Result Answer NoMemory) → outcome ≡ o → Ends model setup g i turn after o → Goes model setup g (Fetch i range) old after o
+      by_outcome (Err e) so shows = record { shows = shows; crash = touches_none model.was g g old after; others = λ j own. stores j ∙ stores_kept old mid i next refl me there (spared model setup past old reached i me next acked out out' (fetch_refusal (setup_at me.seat) out range number) (λ s. on_fetch s range number s.role) outcome did e so) j; tells = telling; taken = taken ∙ ap (map is_taken) kept ∙ ap (λ o. map is_taken (readings_with old.readings.items o)) so }
       by_outcome (Ok answer) so ended =
           let event_is = fetch_event setup g i range in
           record {
             answered = turn_answer setup g (Fetch i range) i turn (λ how. g) event_is answer ended.answered;
-            shows = subst (Shows holds used format told setup after) (sym (event_is.goes (ending answer))) ended.shows;
+            shows = subst (Shows model setup after) (sym (event_is.goes (ending answer))) ended.shows;
             cause = λ halted. (i, refl, cause (so ∙ ap Ok halted));
-            crash = subst (λ later. Touches was g later (Some i) old after) (sym (event_is.goes (ending answer))) (crash answer so);
+            crash = subst (λ later. Touches model.was g later (Some i) old after) (sym (event_is.goes (ending answer))) (crash answer so);
             others = λ j apart. stores j ∙ others_kept old mid i next refl j apart;
             quiet = λ quiet. absurd (false≢true quiet);
             tells = telling;
             taken = taken ∙ ap (map is_taken) kept ∙ ap (λ o. map is_taken (readings_with old.readings.items o)) so ∙ one_more_taken old.readings.items answer;
           }
 
-      pub fetch_goes : (result : Result Answer NoMemory) → result ≡ outcome → (HasTurned holds used format told rose was setup g i turn mid out' outcome → Ends holds used format told setup g i turn after outcome) → Goes holds used format told rose was setup g (Fetch i range) old after result
-      fetch_goes result is_outcome ended = subst (λ r. Goes holds used format told rose was setup g (Fetch i range) old after r) (sym is_outcome) (by_outcome outcome refl (ended fetch_turned))
+      pub fetch_goes : (result : Result Answer NoMemory) → result ≡ outcome → (HasTurned model setup g i turn mid out' outcome → Ends model setup g i turn after outcome) → Goes model setup g (Fetch i range) old after result
+      fetch_goes result is_outcome ended = subst (λ r. Goes model setup g (Fetch i range) old after r) (sym is_outcome) (by_outcome outcome refl (ended fetch_turned))

@@ -36,7 +36,7 @@ pub pushed : {X E Y : Type 0} (r : Result X E) (old more now : List Y) → IsOk 
 pushed (Ok x) old more now ok is = is
 pushed (Err e) old more now ok is = absurd (false≢true ok)
 
--- it is found among those that a cluster keeps where the group has it
+-- it is found among those that a network keeps where the group has it
 pub found_alike : (term slot : ℕ) (xs : List AckedIs) → list_any (is_at term slot) (map acked_of xs) ≡ list_any (λ a. a.term == term && a.slot == slot) xs
 found_alike term slot [] = refl
 found_alike term slot (x ∷ xs) = ap (λ b. (x.term == term && x.slot == slot) || b) (found_alike term slot xs)

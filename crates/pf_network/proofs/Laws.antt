@@ -7,7 +7,7 @@ use Rattle.pf_entry.specs.declared.packets.Packet.{Packet}
 use Rattle.pf_entry.proofs.Lists.{every_get}
 use Rattle.pf_protocol.specs.Servers.{Setup, Server, Condition, Running, Stopped, Unformatted}
 use Rattle.pf_protocol.specs.Groups.{Sent, ending, happens, send}
-use Rattle.pf_protocol.specs.Histories.{Runs}
+use Rattle.pf_protocol.specs.Histories.{RunsAs}
 use Rattle.pf_network.specs.Pasts.{Past, IsViablePast, IsShort}
 use Rattle.pf_protocol.specs.Answers.{IsLegalNext, IsOpen, MayHappen, answer_to}
 use Rattle.pf_protocol.specs.declared.events.Event.{Event}
@@ -26,7 +26,7 @@ every_there P [] f = tt
 every_there P (x ∷ xs) f = (f 0 x refl, every_there P xs (λ k y at. f (suc k) y at))
 
 module _ (setup : Setup) (past : Past) (viable : IsViablePast setup past) where
-  pub viable_asks : (i : ℕ) (s : Server) → Runs past.group i s → Asks setup.chunk past.group.reads s
+  pub viable_asks : (i : ℕ) (s : Server) → RunsAs past.group i s → Asks setup.chunk past.group.reads s
   viable_asks = viable.group.asks
 
   pub viable_room : HasRoom past.group
@@ -38,7 +38,7 @@ module _ (setup : Setup) (past : Past) (viable : IsViablePast setup past) where
   pub canonical_packets : (k : ℕ) (sent : Sent) → slice_get past.group.packets k ≡ Some sent → IsCanonicalPacket sent.packet
   canonical_packets = viable_packets setup viable.is_setup past.top past.count past.terms past.claims past.group viable.group
 
-  pub its_number : (i : ℕ) (s : Server) → Runs past.group i s → s.number ≡ i
+  pub its_number : (i : ℕ) (s : Server) → RunsAs past.group i s → s.number ≡ i
   its_number i s at = let x = viable.group.keeps.servers i (Running s) at in x.number
 
   -- an answered read was taken up
@@ -49,7 +49,7 @@ module _ (setup : Setup) (past : Past) (viable : IsViablePast setup past) where
   few_elections = viable.group.fits.elections
 
   module _ (short : IsShort past) where
-    is_sound : (i : ℕ) (s : Server) → Runs past.group i s → IsSound (seat_of setup i) s
+    is_sound : (i : ℕ) (s : Server) → RunsAs past.group i s → IsSound (seat_of setup i) s
     is_sound i s at =
         let keeps = viable.group.keeps.servers i (Running s) at in
         record {

@@ -1,4 +1,4 @@
--- The past of a cluster after one more event, or after a restart over any disks.
+-- The past of a network after one more event, or after a restart over any disks.
 use Rattle.std.proofs.Common.{◌≡◌, ℕ, suc, ◌+◌, ◌<◌, ◌^◌, Bool, false, inl, inr, List, Option, Some, None, Result, Ok, Err, slice_get, slice_set, arith, refl, sym, ap, subst}
 use Rattle.pf_base.specs.declared.errors.NoMemory.{NoMemory}
 use Rattle.pf_entry.specs.Records.{Durable}
@@ -13,9 +13,10 @@ use Rattle.pf_protocol.specs.Groups.{CutOff, Group, ending, happens, restart, st
 use Rattle.pf_protocol.specs.Answers.{IsAnswer, MayHappen, answer_to, claims_after, is_formatted, may_halt, restart_answer, stop_answer}
 use Rattle.pf_protocol.specs.Viable.{IsViable, LastLife, MayBeFound}
 use Rattle.pf_protocol.proofs.ForHistories.{terms_after, viable_begins, viable_goes, viable_over}
+use Rattle.pf_store.specs.Stores.{StoreModel}
 use Rattle.pf_restart.specs.Beginning.{HasBegun, setup_at}
 use Rattle.pf_server.specs.Turns.{next_life}
-use Rattle.pf_network.specs.declared.cluster.Cluster.{Cluster}
+use Rattle.pf_network.specs.declared.network.Network.{Network}
 use Rattle.pf_network.specs.Going.{GoesSomehow, HasBegunSomehow, HasGone, IsReached, LeadsOn}
 use Rattle.pf_network.specs.Pasts.{CoversRestarts, Past}
 use Rattle.pf_network.specs.Showing.{Shows, seat_of}
@@ -68,9 +69,9 @@ module _ (setup : Setup) (g : Group) (i : ℕ) where
   unfolding answer_to
   stop_answers o at = inl (sym (ap stop_answer at))
 
-module _ {S : Type 0} (holds : S → Durable → Durable → Type 0) (used format : S → ℕ) (told : S → Bool) (rose : S → S → Type 0) (was : S → S → Durable → Durable → Type 0) (setup : Setup) (past : Past) (old new : Cluster S) (reached : IsReached holds used format told setup past old) (room : suc past.count < 2 ^ 63 + 2 ^ 62 + 2 ^ 13) where
+module _ {S : Type 0} (model : StoreModel S) (setup : Setup) (past : Past) (old new : Network S) (reached : IsReached model setup past old) (room : suc past.count < 2 ^ 63 + 2 ^ 62 + 2 ^ 13) where
   -- where the event was answered as the rules say
-  pub reached_after : (event : Event) (answer : Answer) → MayHappen past.claims event → HasGone holds used format told rose was setup past.group event old new answer → IsReached holds used format told setup (past_after setup past event answer) new
+  pub reached_after : (event : Event) (answer : Answer) → MayHappen past.claims event → HasGone model setup past.group event old new answer → IsReached model setup (past_after setup past event answer) new
   reached_after event answer asked gone = record {
     viable = record {
       is_setup = reached.viable.is_setup;
@@ -81,7 +82,7 @@ module _ {S : Type 0} (holds : S → Durable → Durable → Type 0) (used forma
   }
 
   -- another group with the same open claims
-  leads_to : (g : Group) (terms : List ℕ) → IsViable setup past.top (suc past.count) terms past.claims g → Shows holds used format told setup new g → LeadsOn holds used format told setup past new
+  leads_to : (g : Group) (terms : List ℕ) → IsViable setup past.top (suc past.count) terms past.claims g → Shows model setup new g → LeadsOn model setup past new
   leads_to g terms viable shows = record {
     later = record { group = g; top = past.top; count = suc past.count; terms = terms; claims = past.claims };
     reached = record { viable = record { is_setup = reached.viable.is_setup; group = viable }; short = record { count = room; top = reached.short.top }; shows = shows };
@@ -91,7 +92,7 @@ module _ {S : Type 0} (holds : S → Durable → Durable → Type 0) (used forma
     most = omega arith;
   }
 
-  leads_still : Shows holds used format told setup new past.group → LeadsOn holds used format told setup past new
+  leads_still : Shows model setup new past.group → LeadsOn model setup past new
   leads_still shows = record {
     later = past;
     reached = record { viable = reached.viable; short = reached.short; shows = shows };
@@ -112,7 +113,7 @@ module _ {S : Type 0} (holds : S → Durable → Durable → Type 0) (used forma
     }
 
     begins_over : (c : Condition) (life : ℕ) (d : Durable) → there ≡ Some c → suc life ≡ next_life c → HasBegun (setup_at (seat_of setup i)) d
-        → Shows holds used format told setup new (record past.group { servers = slice_set past.group.servers i (Running (restarted i (next_life c) d)) }) → LeadsOn holds used format told setup past new
+        → Shows model setup new (record past.group { servers = slice_set past.group.servers i (Running (restarted i (next_life c) d)) }) → LeadsOn model setup past new
     begins_over c life d at next begun shows =
         leads_to (record past.group { servers = slice_set past.group.servers i (Running (restarted i (next_life c) d)) }) past.terms
         (subst (λ l. IsViable setup past.top (suc past.count) past.terms past.claims (record past.group { servers = slice_set past.group.servers i (Running (restarted i l d)) })) next
@@ -120,7 +121,7 @@ module _ {S : Type 0} (holds : S → Durable → Durable → Type 0) (used forma
         shows
 
     stops_over : (c : Condition) (life : ℕ) (d : Durable) → there ≡ Some c → suc life ≡ next_life c → HasBegun (setup_at (seat_of setup i)) d
-        → Shows holds used format told setup new (record past.group { servers = slice_set past.group.servers i (Stopped (next_life c) d d) }) → LeadsOn holds used format told setup past new
+        → Shows model setup new (record past.group { servers = slice_set past.group.servers i (Stopped (next_life c) d d) }) → LeadsOn model setup past new
     stops_over c life d at next begun shows =
         let found = may_be_found d begun in
         leads_to (record past.group { servers = slice_set past.group.servers i (Stopped (next_life c) d d) }) past.terms
@@ -130,7 +131,7 @@ module _ {S : Type 0} (holds : S → Durable → Durable → Type 0) (used forma
         shows
 
     went : (event : Event) (answer : Answer) (after : Group) → MayHappen past.claims event → claims_after past.claims event answer ≡ past.claims → IsAnswer setup past.group event answer → happens setup past.group event (ending answer) ≡ after
-        → Shows holds used format told setup new after → LeadsOn holds used format told setup past new
+        → Shows model setup new after → LeadsOn model setup past new
     went event answer after asked claims answered is shows =
         leads_to after (terms_after past.group past.terms event (ending answer))
         (subst (λ g. IsViable setup past.top (suc past.count) (terms_after past.group past.terms event (ending answer)) past.claims g) is
@@ -138,18 +139,18 @@ module _ {S : Type 0} (holds : S → Durable → Durable → Type 0) (used forma
         (viable_goes setup reached.viable.is_setup past.top past.count past.terms past.claims past.group reached.viable.group (record { event = event; answer = answer }) (record { asked = asked; answered = answered }))))
         shows
 
-    cut_unread : Shows holds used format told setup new (restart CutOff past.group i false there) → LeadsOn holds used format told setup past new
+    cut_unread : Shows model setup new (restart CutOff past.group i false there) → LeadsOn model setup past new
     cut_unread = went (Restart i false) (cut_off_answer there) (restart CutOff past.group i false there) low refl (unread_answers setup past.group i there refl) (unread_is setup past.group i there refl)
 
-    stops : Shows holds used format told setup new (stopped past.group i there) → LeadsOn holds used format told setup past new
+    stops : Shows model setup new (stopped past.group i there) → LeadsOn model setup past new
     stops = went (Stop i) (stop_answer there) (stopped past.group i there) low refl (stop_answers setup past.group i there refl) (stops_is setup past.group i there refl)
 
-    begun_leads : (answer : Answer) → HasBegunSomehow holds used format told rose was setup past.group i old new answer → LeadsOn holds used format told setup past new
+    begun_leads : (answer : Answer) → HasBegunSomehow model setup past.group i old new answer → LeadsOn model setup past new
     begun_leads Done b = let x = b.shows in begins_over x.c x.life x.d x.there x.next x.fits x.shows
     begun_leads (Refused Halted) b = elim b.shows [ inl x ↦ stops_over x.c x.life x.d x.there x.next x.fits x.shows | inr shows ↦ cut_unread shows ]
     begun_leads _ b = stops b.shows.1
 
     -- whatever a restart comes to
-    pub somehow_leads_on : (result : Result (Answer × Bool) NoMemory) → GoesSomehow holds used format told rose was setup past.group i old new result → LeadsOn holds used format told setup past new
+    pub somehow_leads_on : (result : Result (Answer × Bool) NoMemory) → GoesSomehow model setup past.group i old new result → LeadsOn model setup past new
     somehow_leads_on (Ok (answer, found)) goes = begun_leads answer goes
     somehow_leads_on (Err e) goes = leads_still goes.shows

@@ -7,6 +7,7 @@ use Rattle.std.proofs.lemmas.Option.{none-some, same_Some}
 use Rattle.pf_entry.specs.Records.{Durable}
 use Rattle.pf_protocol.specs.Servers.{Setup, Leader, Serving, Server as ServerIs, Condition, Running as RunningIs, Stopped as StoppedIs, Unformatted as UnformattedIs}
 use Rattle.pf_protocol.specs.Groups.{Group}
+use Rattle.pf_store.specs.Stores.{StoreModel}
 use Rattle.pf_state.specs.declared.running.Role.{Role}
 use Rattle.pf_state.specs.declared.running.Role.TheVariants.{Follower, Candidate, Merging, Serving as ServingHere}
 use Rattle.pf_state.specs.declared.running.Running.{Running}
@@ -15,7 +16,7 @@ use Rattle.pf_server.specs.declared.server.Server.{Server}
 use Rattle.pf_server.specs.declared.state.State.{State}
 use Rattle.pf_server.specs.declared.state.State.TheVariants.{Runs as RunsHere, Stopped, Unformatted}
 use Rattle.pf_server.specs.Conditions.{Meets, runs}
-use Rattle.pf_network.specs.declared.cluster.Cluster.{Cluster}
+use Rattle.pf_network.specs.declared.network.Network.{Network}
 use Rattle.pf_network.specs.Showing.{Shows}
 use Rattle.pf_network.specs.Shown.{Idles, IsLeader, IsRunningAt, Serves, later_of, served_by, served_in, served_of}
 use Rattle.pf_network.proofs.Elections.{running_there}
@@ -105,19 +106,19 @@ role_there : (d : Durable) (me : Running) (s : ServerIs) → server_of d me ≡ 
 unfolding server_of
 role_there d me s is = ap (λ (x : ServerIs). x.role) is
 
-module _ {S : Type 0} (holds : S → Durable → Durable → Type 0) (used format : S → ℕ) (told : S → Bool) (setup : Setup) (g : Group) (cluster : Cluster S) (shows : Shows holds used format told setup cluster g) where
-  module _ (i : ℕ) (me : Server S) (here : slice_get cluster.servers.items i ≡ Some me) where
-    -- a server of the cluster that runs is the group's
+module _ {S : Type 0} (model : StoreModel S) (setup : Setup) (g : Group) (network : Network S) (shows : Shows model setup network g) where
+  module _ (i : ℕ) (me : Server S) (here : slice_get network.servers.items i ≡ Some me) where
+    -- a server of the network that runs is the group's
     pub is_running_at : (r : Running) → me.state ≡ RunsHere r → IsRunningAt g i r
-    is_running_at r is = let m = shows.members i me here in by m.0 m.1 (subst (λ (state : State). Meets holds used format me.seat me.store state m.0) is m.2.meets)
+    is_running_at r is = let m = shows.members i me here in by m.0 m.1 (subst (λ (state : State). Meets model me.seat me.store state m.0) is m.2.meets)
       where
-        by : (c : Condition) → slice_get g.servers i ≡ Some c → Meets holds used format me.seat me.store (RunsHere r) c → IsRunningAt g i r
+        by : (c : Condition) → slice_get g.servers i ≡ Some c → Meets model me.seat me.store (RunsHere r) c → IsRunningAt g i r
         by (RunningIs s) there meets = record { s = s; runs = there; memory = record { server_is = meets.is; cached = meets.stands.cached } }
         by (StoppedIs life before after) there meets = absurd meets
         by UnformattedIs there meets = absurd meets
 
     pub idles : runs me.state ≡ false → Idles g i
-    idles idle s there = true≢false (sym (running_there holds used format told me.seat me.store me.state s (member_at holds used format told setup cluster.servers.items g.servers shows.members i me (RunningIs s) here there).meets) ∙ idle)
+    idles idle s there = true≢false (sym (running_there model me.seat me.store me.state s (member_at model setup network.servers.items g.servers shows.members i me (RunningIs s) here there).meets) ∙ idle)
 
     its_number : me.seat.number ≡ i
     its_number = ap (λ seat. seat.number) (shows.members i me here).2.seat
@@ -148,26 +149,26 @@ module _ {S : Type 0} (holds : S → Durable → Durable → Type 0) (used forma
         by Unformatted is served = absurd (none-some x served)
 
     served_so : (term : ℕ) → Serves g i term → served_by me ≡ Some (term, i)
-    served_so term serves = by me.state (member_at holds used format told setup cluster.servers.items g.servers shows.members i me (RunningIs serves.s) here serves.runs).meets
+    served_so term serves = by me.state (member_at model setup network.servers.items g.servers shows.members i me (RunningIs serves.s) here serves.runs).meets
       where
-        by : (state : State) → Meets holds used format me.seat me.store state (RunningIs serves.s) → served_of me.seat.number state ≡ Some (term, i)
+        by : (state : State) → Meets model me.seat me.store state (RunningIs serves.s) → served_of me.seat.number state ≡ Some (term, i)
         by (RunsHere r) meets =
             serving_here serves.s.durable r serves.s meets.is serves.leader serves.serves me.seat.number
             ∙ ap (λ (t : ℕ). Some (t, me.seat.number)) (meets.stands.cached.term ∙ serves.in_term) ∙ ap (λ (n : ℕ). Some (term, n)) its_number
         by (Stopped life doubt) meets = absurd meets
         by Unformatted meets = absurd meets
 
-  there : (i : ℕ) → i < 3 → (me : Server S) × (slice_get cluster.servers.items i ≡ Some me)
-  there i low = something_there cluster.servers.items i (omega (arith, low, shows.three))
+  there : (i : ℕ) → i < 3 → (me : Server S) × (slice_get network.servers.items i ≡ Some me)
+  there i low = something_there network.servers.items i (omega (arith, low, shows.three))
 
-  serves_there : (i : ℕ) (x : ℕ × ℕ) → i < 3 → served_at cluster.servers.items i ≡ Some x → Serves g i x.0 × (x.1 ≡ i)
+  serves_there : (i : ℕ) (x : ℕ × ℕ) → i < 3 → served_at network.servers.items i ≡ Some x → Serves g i x.0 × (x.1 ≡ i)
   serves_there i x low is = let t = there i low in serves_by i t.0 t.1 x low (sym (ap (option_and_then served_by) t.1) ∙ is)
 
-  served_when : (i term : ℕ) → Serves g i term → served_at cluster.servers.items i ≡ Some (term, i)
+  served_when : (i term : ℕ) → Serves g i term → served_at network.servers.items i ≡ Some (term, i)
   served_when i term serves = let t = there i serves.low in ap (option_and_then served_by) t.1 ∙ served_so i t.0 t.1 term serves
 
   -- the best of the three is the group's leader
-  pub is_leader : (leader : Option (ℕ × ℕ)) → IsGreatest (served_at cluster.servers.items) 3 leader → IsLeader g leader
+  pub is_leader : (leader : Option (ℕ × ℕ)) → IsGreatest (served_at network.servers.items) 3 leader → IsLeader g leader
   is_leader None none = λ i term serves. none-some (term, i) (sym (none i serves.low) ∙ served_when i term serves)
   is_leader (Some best) b =
       let its = serves_there b.k best b.low b.is in

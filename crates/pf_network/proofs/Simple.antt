@@ -6,12 +6,12 @@ use Rattle.pf_protocol.specs.declared.answers.Answer.TheVariants.{Base}
 use Rattle.pf_protocol.specs.declared.events.Event.{Event}
 use Rattle.pf_protocol.specs.declared.events.Event.TheVariants.{Checkpoint, Resend}
 use Rattle.pf_protocol.specs.Servers.{Setup, Role, Follower, Candidate, Merging, Serving, Server, Condition, Running, Stopped, Unformatted, upto}
-use Rattle.pf_protocol.specs.Outcomes.{Outcome, refused}
+use Rattle.pf_protocol.specs.Outcomes.{Outcome, only_answers}
 use Rattle.pf_protocol.specs.Leading.{on_resend}
 use Rattle.pf_protocol.specs.Saving.{is_short_of, on_checkpoint, trimmed}
 use Rattle.pf_protocol.specs.Asked.{Asks}
 use Rattle.pf_protocol.specs.Groups.{Group, Whole, ending, happens, reads_after}
-use Rattle.pf_protocol.specs.Histories.{Runs}
+use Rattle.pf_protocol.specs.Histories.{RunsAs}
 use Rattle.pf_protocol.specs.Answers.{MayHappen, Turn, answer_to, halts_at, has_stored, may_halt, plain, room_refusal as group_room_refusal}
 use Rattle.pf_network.specs.Pasts.{Past, IsShort, IsViablePast}
 use Rattle.pf_protocol.proofs.ForRows.{checkpoint_asks, resend_asks}
@@ -38,7 +38,7 @@ never_halts turn same (Some Unformatted) is = is
 never_halts turn same None is = is
 
 module _ (setup : Setup) (past : Past) (viable : IsViablePast setup past) (short : IsShort past) (i : ℕ) (event : Event) (rule : Server → Outcome) (event_is : IsTurnEvent setup past.group event i (plain past.group rule) (λ how. past.group)) (asked : MayHappen past.claims event) (whole : (s : Server) → ending (rule s).answer ≡ Whole) (quiet : (s : Server) (reads : ℕ) → reads_after reads (rule s).answer ≡ reads) (asks : (s : Server) → Asks setup.chunk past.group.reads s → Asks setup.chunk past.group.reads (rule s).server) where
-  pub simple_known : (s : Server) → Runs past.group i s → IsTurnOf past.group (plain past.group rule) s
+  pub simple_known : (s : Server) → RunsAs past.group i s → IsTurnOf past.group (plain past.group rule) s
   simple_known s at = record {
     leaves = leaves_all (group_room_refusal past.group (rule s)) (room_silent past.group (rule s));
     whole = λ none. whole s;
@@ -90,11 +90,11 @@ resends setup past viable short i low = simple_turn setup past viable short i (R
 -- Checkpoint
 saved_whole : (s : Server) → ending (on_checkpoint s).answer ≡ Whole
 unfolding on_checkpoint
-saved_whole s = by_test (upto s == s.durable.base || is_short_of s.role (upto s)) (λ c. ending (if c then refused s (Base s.durable.base) else refused (trimmed s) (Base (upto s))).answer ≡ Whole) (λ _. refl) (λ _. refl)
+saved_whole s = by_test (upto s == s.durable.base || is_short_of s.role (upto s)) (λ c. ending (if c then only_answers s (Base s.durable.base) else only_answers (trimmed s) (Base (upto s))).answer ≡ Whole) (λ _. refl) (λ _. refl)
 
 saved_quiet : (s : Server) (reads : ℕ) → reads_after reads (on_checkpoint s).answer ≡ reads
 unfolding on_checkpoint
-saved_quiet s reads = by_test (upto s == s.durable.base || is_short_of s.role (upto s)) (λ c. reads_after reads (if c then refused s (Base s.durable.base) else refused (trimmed s) (Base (upto s))).answer ≡ reads) (λ _. refl) (λ _. refl)
+saved_quiet s reads = by_test (upto s == s.durable.base || is_short_of s.role (upto s)) (λ c. reads_after reads (if c then only_answers s (Base s.durable.base) else only_answers (trimmed s) (Base (upto s))).answer ≡ reads) (λ _. refl) (λ _. refl)
 
 checkpoint_event : (setup : Setup) (g : Group) (i : ℕ) → IsTurnEvent setup g (Checkpoint i) i (plain g on_checkpoint) (λ how. g)
 unfolding answer_to may_halt happens

@@ -4,7 +4,7 @@ use Rattle.std.proofs.lemmas.Bool.{cases_eq}
 use Rattle.std.proofs.lemmas.Option.{slice_get_within}
 use Rattle.std.specs.Option.{option_map}
 use Rattle.pf_server.specs.declared.server.Server.{Server}
-use Rattle.pf_network.specs.declared.cluster.Cluster.{Cluster}
+use Rattle.pf_network.specs.declared.network.Network.{Network}
 use Rattle.pf_network.specs.Going.{KeepsOthers, KeepsStores, KeepsTelling}
 use Rattle.pf_network.proofs.Lists.{set_elsewhere, set_there}
 
@@ -12,7 +12,7 @@ module _ {S : Type 0} where
   abbrev its_store : Server S → S
   its_store server = server.store
 
-  module _ (old new : Cluster S) (i : ℕ) (next : Server S) (now : new.servers.items ≡ slice_set old.servers.items i next) where
+  module _ (old new : Network S) (i : ℕ) (next : Server S) (now : new.servers.items ≡ slice_set old.servers.items i next) where
     elsewhere : (j : ℕ) → j ≢ i → option_map its_store (slice_get new.servers.items j) ≡ option_map its_store (slice_get old.servers.items j)
     elsewhere j apart = ap (λ (xs : List (Server S)). option_map its_store (slice_get xs j)) now ∙ ap (option_map its_store) (set_elsewhere old.servers.items i j next apart)
 

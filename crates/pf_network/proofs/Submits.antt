@@ -10,10 +10,10 @@ use Rattle.pf_protocol.specs.declared.answers.Refusal.TheVariants.{BadRange, Not
 use Rattle.pf_entry.specs.declared.packets.Body.TheVariants.{Accept}
 use Rattle.pf_protocol.specs.declared.events.Event.TheVariants.{Submit}
 use Rattle.pf_protocol.specs.Servers.{Setup, Role, Follower, Candidate, Merging, Serving, Server}
-use Rattle.pf_protocol.specs.Outcomes.{Outcome, refused, to_others}
+use Rattle.pf_protocol.specs.Outcomes.{Outcome, only_answers, to_others}
 use Rattle.pf_protocol.specs.Leading.{new_entry, on_submit, submitted}
 use Rattle.pf_protocol.specs.Groups.{Group, Whole, ending, happens, reads_after}
-use Rattle.pf_protocol.specs.Histories.{Runs}
+use Rattle.pf_protocol.specs.Histories.{RunsAs}
 use Rattle.pf_protocol.specs.Answers.{IsSubmitted, answer_to, is_mark, is_serving, may_halt, refuse, room_refusal as group_room_refusal, submit_refusal as group_submit_refusal, submit_turn, window_full}
 use Rattle.pf_network.specs.Pasts.{Past, IsShort, IsViablePast}
 use Rattle.pf_protocol.proofs.ForRows.{submit_asks}
@@ -82,7 +82,7 @@ goes_whole setup op s Follower serves within = absurd (true≢false (sym serves)
 goes_whole setup op s (Candidate own) serves within = absurd (true≢false (sym serves))
 goes_whole setup op s (Merging l) serves within = absurd (true≢false (sym serves))
 goes_whole setup op s (Serving l) serves within =
-    by_test (nat_lt (s.durable.base + setup.window) l.next) (λ c. ending (if c then refused s (Refused WindowFull) else record { server = submitted s l (new_entry setup.names s l op); packets = to_others s (Accept (new_entry setup.names s l op)); answer = Slot l.next; acked = None }).answer ≡ Whole)
+    by_test (nat_lt (s.durable.base + setup.window) l.next) (λ c. ending (if c then only_answers s (Refused WindowFull) else record { server = submitted s l (new_entry setup.names s l op); packets = to_others s (Accept (new_entry setup.names s l op)); answer = Slot l.next; acked = None }).answer ≡ Whole)
     (λ full. absurd (true≢false (sym full ∙ within))) (λ _. refl)
 
 -- a submission is the turn of its server
@@ -90,7 +90,7 @@ pub submit_event : (setup : Setup) (g : Group) (i : ℕ) (op : Op) → IsTurnEve
 unfolding answer_to may_halt happens
 submit_event setup g i op = record { answers = refl; halts = λ is. is; goes = λ how. refl; servers = λ how. refl; acts = refl; loud = refl }
 
-pub submit_known : (setup : Setup) (past : Past) → IsViablePast setup past → IsShort past → (i : ℕ) (op : Op) → i < 3 → IsSubmitted op → (s : Server) → Runs past.group i s → IsTurnOf past.group (submit_turn setup past.group op) s
+pub submit_known : (setup : Setup) (past : Past) → IsViablePast setup past → IsShort past → (i : ℕ) (op : Op) → i < 3 → IsSubmitted op → (s : Server) → RunsAs past.group i s → IsTurnOf past.group (submit_turn setup past.group op) s
 submit_known setup past viable short i op low submitted_so s at =
     let g = past.group in
     let turn = submit_turn setup g op in
@@ -109,7 +109,7 @@ plain_answer setup reads op s Follower = refl
 plain_answer setup reads op s (Candidate own) = refl
 plain_answer setup reads op s (Merging l) = refl
 plain_answer setup reads op s (Serving l) =
-    by_test (nat_lt (s.durable.base + setup.window) l.next) (λ c. reads_after reads (if c then refused s (Refused WindowFull) else record { server = submitted s l (new_entry setup.names s l op); packets = to_others s (Accept (new_entry setup.names s l op)); answer = Slot l.next; acked = None }).answer ≡ reads)
+    by_test (nat_lt (s.durable.base + setup.window) l.next) (λ c. reads_after reads (if c then only_answers s (Refused WindowFull) else record { server = submitted s l (new_entry setup.names s l op); packets = to_others s (Accept (new_entry setup.names s l op)); answer = Slot l.next; acked = None }).answer ≡ reads)
     (λ _. refl) (λ _. refl)
 
 pub submits : (setup : Setup) (past : Past) → IsViablePast setup past → IsShort past → (i : ℕ) (op : Op) → i < 3 → IsSubmitted op → (out : Outgoing) → ((o : Outcome) → room_refusal out o ≡ group_room_refusal past.group o) → (seat : Seat) → seat ≡ seat_of setup i

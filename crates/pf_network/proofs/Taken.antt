@@ -1,14 +1,14 @@
 -- An answer is handed out.
-use Rattle.std.proofs.Common.{◌≡◌, ℕ, ◌≤◌, inl, inr, Bool, true, false, List, length, map, Option, Some, None, is_some, slice_get, slice_set, refl, sym, ap, subst, ◌∙◌}
+use Rattle.std.proofs.Common.{◌≡◌, ℕ, ◌≤◌, inl, inr, true, false, List, length, map, Option, Some, None, is_some, slice_get, slice_set, refl, sym, ap, subst, ◌∙◌}
 use Rattle.std.specs.Global.{Vec}
 use Rattle.std.specs.Option.{option_map}
 use Rattle.std.proofs.lemmas.Bool.{true≢false}
 use Rattle.std.proofs.lemmas.Option.{none-some, same_Some, slice_get-map, slice_get_past}
-use Rattle.pf_entry.specs.Records.{Durable}
 use Rattle.pf_entry.proofs.Lists.{set_cases}
 use Rattle.pf_protocol.specs.Servers.{Setup}
 use Rattle.pf_protocol.specs.Groups.{Group}
-use Rattle.pf_network.specs.declared.cluster.Cluster.{Cluster}
+use Rattle.pf_store.specs.Stores.{StoreModel}
+use Rattle.pf_network.specs.declared.network.Network.{Network}
 use Rattle.pf_network.specs.declared.kept.Reading.{Reading}
 use Rattle.pf_network.specs.declared.kept.Reading.TheVariants.{Waiting, Answered, Taken}
 use Rattle.pf_network.specs.Readings.{answer_in, is_taken, without_answer}
@@ -61,16 +61,16 @@ module _ (g : Group) (readings : List Reading) (are : AreReadings g.answered rea
         left (Answered bytes) is = (bytes, is)
         left Taken is = is
 
-module _ {S : Type 0} (holds : S → Durable → Durable → Type 0) (used format : S → ℕ) (told : S → Bool) where
-  -- the cluster stands for the same group
-  pub shows_still : (setup : Setup) (g : Group) (cluster : Cluster S) (readings : Vec Reading) → AreReadings g.answered readings.items → length readings.items ≡ length cluster.readings.items → Shows holds used format told setup cluster g → Shows holds used format told setup (record cluster { readings = readings }) g
-  shows_still setup g cluster readings are count shows = record {
+module _ {S : Type 0} (model : StoreModel S) where
+  -- the network stands for the same group
+  pub shows_still : (setup : Setup) (g : Group) (network : Network S) (readings : Vec Reading) → AreReadings g.answered readings.items → length readings.items ≡ length network.readings.items → Shows model setup network g → Shows model setup (record network { readings = readings }) g
+  shows_still setup g network readings are count shows = record {
     three = shows.three;
     members = shows.members;
     traffic = (let t = shows.traffic in record { packets = t.packets; places = t.places; room = t.room; acked = t.acked; elections = t.elections; readings = are });
     reads = count ∙ shows.reads;
   }
 
-  pub shows_taken : (setup : Setup) (g : Group) (cluster : Cluster S) (number : ℕ) (was : Reading) (readings : Vec Reading) → slice_get cluster.readings.items number ≡ Some was → readings.items ≡ slice_set cluster.readings.items number (without_answer was) → Shows holds used format told setup cluster g → Shows holds used format told setup (record cluster { readings = readings }) g
-  shows_taken setup g cluster number was readings there items shows =
-      shows_still setup g cluster readings (subst (AreReadings g.answered) (sym items) (still_are g cluster.readings.items shows.traffic.readings number was there)) (ap length items ∙ set_length cluster.readings.items number (without_answer was)) shows
+  pub shows_taken : (setup : Setup) (g : Group) (network : Network S) (number : ℕ) (was : Reading) (readings : Vec Reading) → slice_get network.readings.items number ≡ Some was → readings.items ≡ slice_set network.readings.items number (without_answer was) → Shows model setup network g → Shows model setup (record network { readings = readings }) g
+  shows_taken setup g network number was readings there items shows =
+      shows_still setup g network readings (subst (AreReadings g.answered) (sym items) (still_are g network.readings.items shows.traffic.readings number was there)) (ap length items ∙ set_length network.readings.items number (without_answer was)) shows

@@ -1,5 +1,5 @@
 -- What a crash inside an event leaves on the disks of its server.
-use Rattle.std.proofs.Common.{◌≡◌, ◌⊎◌, ℕ, suc, ◌<◌, Bool, inl, inr, List, length, Option, Some, None, Result, Ok, slice_get, refl, sym, ap, subst, ◌∙◌}
+use Rattle.std.proofs.Common.{◌≡◌, ◌⊎◌, ℕ, suc, ◌<◌, inl, inr, List, length, Option, Some, None, Result, Ok, slice_get, refl, sym, ap, subst, ◌∙◌}
 use Rattle.std.specs.Option.{option_map}
 use Rattle.std.proofs.lemmas.Option.{same_Some, slice_get_within}
 use Rattle.pf_base.specs.declared.errors.NoMemory.{NoMemory}
@@ -13,11 +13,12 @@ use Rattle.pf_protocol.specs.Kept.{MayHold, Now, Without, With}
 use Rattle.pf_protocol.specs.Rows.{settled}
 use Rattle.pf_protocol.specs.Groups.{Group, Ending, Whole, CutOff, acted, at_server, cut_off, ended, ending, step_of}
 use Rattle.pf_protocol.specs.Answers.{Turn}
+use Rattle.pf_store.specs.Stores.{StoreModel}
 use Rattle.pf_state.specs.Outgoing.{Outgoing}
 use Rattle.pf_server.specs.declared.server.Server.{Server}
 use Rattle.pf_server.specs.Turns.{Comes, IsOf, WasBegunFrom, WasBegunIn}
 use Rattle.pf_server.proofs.Renewing.{renewed_of}
-use Rattle.pf_network.specs.declared.cluster.Cluster.{Cluster}
+use Rattle.pf_network.specs.declared.network.Network.{Network}
 use Rattle.pf_network.specs.Going.{IsHeld, KeepsStores, Passes, Touches, WasTouched, store_at}
 use Rattle.pf_network.specs.Turned.{HasTurned, Took, outbox_of}
 use Rattle.pf_network.proofs.Acting.{settled_disk}
@@ -36,15 +37,15 @@ module _ {S : Type 0} (was : S → S → Durable → Durable → Type 0) (before
   touched : (i : ℕ) (old new : S) → Passes was before after i old new → WasTouched was before after i old new
   touched i old new passes = record { between = new; first = inr passes; second = inl refl }
 
-  pub touches_none : (old new : Cluster S) → Touches was before after None old new
+  pub touches_none : (old new : Network S) → Touches was before after None old new
   touches_none old new i server next own here there = nowhere i own
 
   -- disks that were kept were not touched
-  pub touches_kept : (own : Option ℕ) (old new : Cluster S) → KeepsStores old new → Touches was before after own old new
+  pub touches_kept : (own : Option ℕ) (old new : Network S) → KeepsStores old new → Touches was before after own old new
   touches_kept own old new kept i server next is here there = untouched i server.store next.store (same_Some next.store server.store (sym (ap (option_map its_store) there) ∙ kept i ∙ ap (option_map its_store) here))
 
   -- server i alone was touched
-  pub touches_one : (i : ℕ) (old new : Cluster S) (me next : Server S) → slice_get old.servers.items i ≡ Some me → store_at new i ≡ Some next.store → WasTouched was before after i me.store next.store → Touches was before after (Some i) old new
+  pub touches_one : (i : ℕ) (old new : Network S) (me next : Server S) → slice_get old.servers.items i ≡ Some me → store_at new i ≡ Some next.store → WasTouched was before after i me.store next.store → Touches was before after (Some i) old new
   touches_one i old new me next here there way j server later own at now =
       let same : i ≡ j = same_Some i j own in
       let mine : me ≡ server = same_Some me server (sym here ∙ ap (slice_get old.servers.items) same ∙ at) in
@@ -109,43 +110,43 @@ module _ (g pre : Group) (same : pre.servers ≡ g.servers) (i : ℕ) (rule : Se
   unfolding cut_off
   cut_holds = subst (λ x. MayHold x i (rule s).server.durable) (sym (steps CutOff)) (With (suc s.life) s.durable (rule s).server.durable (set_there pre.servers i (StoppedIs (suc s.life) s.durable (rule s).server.durable) inside))
 
-module _ {S : Type 0} (holds : S → Durable → Durable → Type 0) (used format : S → ℕ) (told : S → Bool) (rose : S → S → Type 0) (was : S → S → Durable → Durable → Type 0) (setup : Setup) (g : Group) (i : ℕ) (turn : Turn) (cluster : Cluster S) (out : Outgoing) (pre : Group) (same : pre.servers ≡ g.servers) where
-  module _ (answer : Answer) (t : HasTurned holds used format told rose was setup g i turn cluster out (Ok answer)) where
+module _ {S : Type 0} (model : StoreModel S) (setup : Setup) (g : Group) (i : ℕ) (turn : Turn) (network : Network S) (out : Outgoing) (pre : Group) (same : pre.servers ≡ g.servers) where
+  module _ (answer : Answer) (t : HasTurned model setup g i turn network out (Ok answer)) where
     abbrev later : Group
     later = at_server (ending answer) pre i turn.rule
 
-    by_judged : (s : ServerIs) → slice_get g.servers i ≡ Some (RunningIs s) → (j : Option Refusal) → (j ≡ None → ending (turn.rule s).answer ≡ Whole) → Comes holds used format rose was t.me.seat t.me.store t.next.store t.next.state s (outbox_of cluster) out j (turn.rule s) (Ok answer) → WasTouched was g later i t.me.store t.next.store
+    by_judged : (s : ServerIs) → slice_get g.servers i ≡ Some (RunningIs s) → (j : Option Refusal) → (j ≡ None → ending (turn.rule s).answer ≡ Whole) → Comes model t.me.seat t.me.store t.next.store t.next.state s (outbox_of network) out j (turn.rule s) (Ok answer) → WasTouched model.was g later i t.me.store t.next.store
     by_judged s at None whole took = elim took [
       | inl done ↦ elim done.crash [
-        | inl kept ↦ untouched was g later i t.me.store t.next.store kept
+        | inl kept ↦ untouched model.was g later i t.me.store t.next.store kept
         | inr left ↦ passed Whole (ap ending done.settles.answered ∙ whole refl) (whole_holds g pre same i turn.rule s at) left
       ]
       | inr cut ↦ passed CutOff (ap ending cut.answered) (cut_holds g pre same i turn.rule s at) cut.crash
     ]
       where
-        passed : (how : Ending) → ending answer ≡ how → MayHold (at_server how pre i turn.rule) i (turn.rule s).server.durable → was t.me.store t.next.store s.durable (turn.rule s).server.durable → WasTouched was g later i t.me.store t.next.store
-        passed how is held left = touched was g later i t.me.store t.next.store (record {
+        passed : (how : Ending) → ending answer ≡ how → MayHold (at_server how pre i turn.rule) i (turn.rule s).server.durable → model.was t.me.store t.next.store s.durable (turn.rule s).server.durable → WasTouched model.was g later i t.me.store t.next.store
+        passed how is held left = touched model.was g later i t.me.store t.next.store (record {
           x = s.durable;
           y = (turn.rule s).server.durable;
-          first = held_before was g later i s.durable s.durable (Now s at) (inl refl);
-          second = held_after was g later i (turn.rule s).server.durable (subst (λ h. MayHold (at_server h pre i turn.rule) i (turn.rule s).server.durable) (sym is) held);
+          first = held_before model.was g later i s.durable s.durable (Now s at) (inl refl);
+          second = held_after model.was g later i (turn.rule s).server.durable (subst (λ h. MayHold (at_server h pre i turn.rule) i (turn.rule s).server.durable) (sym is) held);
           left = left;
         })
-    by_judged s at (Some refusal) whole took = untouched was g later i t.me.store t.next.store took.1
+    by_judged s at (Some refusal) whole took = untouched model.was g later i t.me.store t.next.store took.1
 
-    by_condition : (c : Condition) → t.c ≡ c → Took holds used format told rose was turn t.me t.next (outbox_of cluster) out (Ok answer) c → WasTouched was g later i t.me.store t.next.store
+    by_condition : (c : Condition) → t.c ≡ c → Took model turn t.me t.next (outbox_of network) out (Ok answer) c → WasTouched model.was g later i t.me.store t.next.store
     by_condition (RunningIs s) is took = by_judged s (t.there ∙ ap Some is) (turn.refusal s) (t.knows s is).whole took
-    by_condition (StoppedIs life before after) is took = untouched was g later i t.me.store t.next.store (ap (λ (x : Server S). x.store) took.0)
-    by_condition UnformattedIs is took = untouched was g later i t.me.store t.next.store (ap (λ (x : Server S). x.store) took.0)
+    by_condition (StoppedIs life before after) is took = untouched model.was g later i t.me.store t.next.store (ap (λ (x : Server S). x.store) took.0)
+    by_condition UnformattedIs is took = untouched model.was g later i t.me.store t.next.store (ap (λ (x : Server S). x.store) took.0)
 
-    turned_touches : (old final : Cluster S) → t.before ≡ old.servers.items → KeepsStores cluster final → Touches was g later (Some i) old final
+    turned_touches : (old final : Network S) → t.before ≡ old.servers.items → KeepsStores network final → Touches model.was g later (Some i) old final
     turned_touches old final first stores =
-        touches_one was g later i old final t.me t.next (ap (λ (xs : List (Server S)). slice_get xs i) (sym first) ∙ t.here)
+        touches_one model.was g later i old final t.me t.next (ap (λ (xs : List (Server S)). slice_get xs i) (sym first) ∙ t.here)
         (stores i ∙ ap (option_map (λ (x : Server S). x.store)) (ap (λ (xs : List (Server S)). slice_get xs i) t.now ∙ set_there t.before i t.next (slice_get_within t.before i t.me t.here)))
         (by_condition t.c refl t.took)
 
   -- a turn leaves what its server may hold before it or after it
-  pub turn_touches : (outcome : Result Answer NoMemory) (t : HasTurned holds used format told rose was setup g i turn cluster out outcome) (answer : Answer) → outcome ≡ Ok answer → (old final : Cluster S) → t.before ≡ old.servers.items → KeepsStores cluster final → Touches was g (at_server (ending answer) pre i turn.rule) (Some i) old final
+  pub turn_touches : (outcome : Result Answer NoMemory) (t : HasTurned model setup g i turn network out outcome) (answer : Answer) → outcome ≡ Ok answer → (old final : Network S) → t.before ≡ old.servers.items → KeepsStores network final → Touches model.was g (at_server (ending answer) pre i turn.rule) (Some i) old final
   turn_touches outcome t answer so old final first stores =
-      let moved = subst (λ r. (x : HasTurned holds used format told rose was setup g i turn cluster out r) × (x.before ≡ old.servers.items)) so (t, first) in
+      let moved = subst (λ r. (x : HasTurned model setup g i turn network out r) × (x.before ≡ old.servers.items)) so (t, first) in
       turned_touches answer moved.0 old final moved.1 stores

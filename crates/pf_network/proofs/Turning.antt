@@ -1,9 +1,8 @@
 -- How a turn ends.
-use Rattle.std.proofs.Common.{◌≡◌, ◌⊎◌, ℕ, suc, ◌<◌, Bool, true, false, inl, inr, List, length, Option, Some, None, Result, Ok, Err, is_none, ◌&&◌, slice_get, slice_set, arith, refl, sym, ap, subst, ◌∙◌}
+use Rattle.std.proofs.Common.{◌≡◌, ◌⊎◌, ℕ, suc, ◌<◌, true, false, inl, inr, List, length, Option, Some, None, Result, Ok, Err, is_none, ◌&&◌, slice_get, slice_set, arith, refl, sym, ap, subst, ◌∙◌}
 use Rattle.std.proofs.lemmas.Bool.{false≢true}
 use Rattle.std.proofs.lemmas.Option.{slice_get_within}
 use Rattle.pf_base.specs.declared.errors.NoMemory.{NoMemory}
-use Rattle.pf_entry.specs.Records.{Durable}
 use Rattle.pf_protocol.specs.declared.answers.Answer.{Answer}
 use Rattle.pf_protocol.specs.declared.answers.Answer.TheVariants.{Done, Slot, Term, Read, Base, Job, Refused}
 use Rattle.pf_protocol.specs.declared.answers.Refusal.{Refusal}
@@ -13,11 +12,12 @@ use Rattle.pf_protocol.specs.Outcomes.{Outcome}
 use Rattle.pf_protocol.specs.Rows.{settled}
 use Rattle.pf_protocol.specs.Groups.{Group, Ending, Whole, CutOff, Untouched, acted, at_server, cut_off, ended, ending, ending_of, reads_after, step_of}
 use Rattle.pf_protocol.specs.Answers.{Turn, answer_at, answer_by, halts_at, has_stored}
+use Rattle.pf_store.specs.Stores.{StoreModel}
 use Rattle.pf_state.specs.Outgoing.{Outgoing, sent_by}
 use Rattle.pf_server.specs.declared.server.Server.{Server}
 use Rattle.pf_server.specs.Conditions.{Meets}
 use Rattle.pf_server.specs.Turns.{Comes, WasCarriedOut, WasCutOff, WasRefused}
-use Rattle.pf_network.specs.declared.cluster.Cluster.{Cluster}
+use Rattle.pf_network.specs.declared.network.Network.{Network}
 use Rattle.pf_network.specs.Going.{HasFault}
 use Rattle.pf_network.specs.Showing.{AreMembers, IsMember, Shows}
 use Rattle.pf_network.specs.Turned.{HasEnded, HasStepped, HasTurned, LeavesAll, Took, is_refused, outbox_of}
@@ -49,44 +49,44 @@ pub no_ok : {X : Type 0} → (e : NoMemory) (answer : Answer) → ◌≡◌ {A =
 no_ok e answer is = cc
 
 -- without memory the group is as it was
-module _ {S : Type 0} (holds : S → Durable → Durable → Type 0) (used format : S → ℕ) (told : S → Bool) (rose : S → S → Type 0) (was : S → S → Durable → Durable → Type 0) (setup : Setup) (g : Group) (i : ℕ) (turn : Turn) (cluster : Cluster S) (out : Outgoing) (e : NoMemory) (t : HasTurned holds used format told rose was setup g i turn cluster out (Err e)) where
-  as_before : (s : ServerIs) (o : Option Refusal) → Comes holds used format rose was t.me.seat t.me.store t.next.store t.next.state s (outbox_of cluster) out o (turn.rule s) (Err e) → Meets holds used format t.me.seat t.next.store t.next.state (RunningIs s)
+module _ {S : Type 0} (model : StoreModel S) (setup : Setup) (g : Group) (i : ℕ) (turn : Turn) (network : Network S) (out : Outgoing) (e : NoMemory) (t : HasTurned model setup g i turn network out (Err e)) where
+  as_before : (s : ServerIs) (o : Option Refusal) → Comes model t.me.seat t.me.store t.next.store t.next.state s (outbox_of network) out o (turn.rule s) (Err e) → Meets model t.me.seat t.next.store t.next.state (RunningIs s)
   as_before s None is = is.kept.meets
   as_before s (Some refusal) is = is.kept.meets
 
-  as_it_was : (c : Condition) → Took holds used format told rose was turn t.me t.next (outbox_of cluster) out (Err e) c → Meets holds used format t.me.seat t.next.store t.next.state c
+  as_it_was : (c : Condition) → Took model turn t.me t.next (outbox_of network) out (Err e) c → Meets model t.me.seat t.next.store t.next.state c
   as_it_was (RunningIs s) took = as_before s (turn.refusal s) took
   as_it_was (StoppedIs life before after) took = no_ok e (Refused Down) took.1
   as_it_was UnformattedIs took = no_ok e (Refused Down) took.1
 
-  pub ends_without : Shows holds used format told setup cluster g
+  pub ends_without : Shows model setup network g
   ends_without =
-      let m = member_at holds used format told setup t.before g.servers t.members i t.me t.c t.here t.there in
-      let member : IsMember holds used format told setup i t.next t.c = record {
+      let m = member_at model setup t.before g.servers t.members i t.me t.c t.here t.there in
+      let member : IsMember model setup i t.next t.c = record {
         seat = t.seat ∙ m.seat;
-        meets = subst (λ seat. Meets holds used format seat t.next.store t.next.state t.c) (sym t.seat) (as_it_was t.c t.took);
+        meets = subst (λ seat. Meets model seat t.next.store t.next.state t.c) (sym t.seat) (as_it_was t.c t.took);
       } in
       record {
         three = ap length t.now ∙ set_length t.before i t.next ∙ t.three;
-        members = subst (λ xs. AreMembers holds used format told setup xs g.servers) (sym t.now) (member_stays holds used format told setup t.before g.servers t.members i t.next t.c t.there member);
+        members = subst (λ xs. AreMembers model setup xs g.servers) (sym t.now) (member_stays model setup t.before g.servers t.members i t.next t.c t.there member);
         traffic = t.traffic;
         reads = t.reads;
       }
 
-module _ {S : Type 0} (holds : S → Durable → Durable → Type 0) (used format : S → ℕ) (told : S → Bool) (rose : S → S → Type 0) (was : S → S → Durable → Durable → Type 0) (setup : Setup) (g : Group) (i : ℕ) (turn : Turn) (cluster : Cluster S) (out : Outgoing) (answer : Answer) (t : HasTurned holds used format told rose was setup g i turn cluster out (Ok answer)) where
+module _ {S : Type 0} (model : StoreModel S) (setup : Setup) (g : Group) (i : ℕ) (turn : Turn) (network : Network S) (out : Outgoing) (answer : Answer) (t : HasTurned model setup g i turn network out (Ok answer)) where
   -- the four ways
   record Carried (s : ServerIs) : Type 0 where
     free : turn.refusal s ≡ None
-    step : WasCarriedOut holds used format rose was t.me.seat t.me.store t.next.store t.next.state s (outbox_of cluster) out (turn.rule s) answer
+    step : WasCarriedOut model t.me.seat t.me.store t.next.store t.next.state s (outbox_of network) out (turn.rule s) answer
 
   record Cut (s : ServerIs) : Type 0 where
     free : turn.refusal s ≡ None
-    step : WasCutOff holds used format rose was t.me.seat t.me.store t.next.store t.next.state s (turn.rule s) answer
+    step : WasCutOff model t.me.seat t.me.store t.next.store t.next.state s (turn.rule s) answer
 
   record Denied (s : ServerIs) : Type 0 where
     refusal : Refusal
     judged : turn.refusal s ≡ Some refusal
-    step : WasRefused holds used format t.me.seat t.next.store t.next.state s refusal answer
+    step : WasRefused model t.me.seat t.next.store t.next.state s refusal answer
 
   record Absent : Type 0 where
     answered : answer ≡ Refused Down
@@ -97,11 +97,11 @@ module _ {S : Type 0} (holds : S → Durable → Durable → Type 0) (used forma
   abbrev Ways : Type 0
   Ways = ((s : ServerIs) × (t.c ≡ RunningIs s) × (Carried s ⊎ (Cut s ⊎ Denied s))) ⊎ Absent
 
-  by_judged : (s : ServerIs) (o : Option Refusal) → turn.refusal s ≡ o → Comes holds used format rose was t.me.seat t.me.store t.next.store t.next.state s (outbox_of cluster) out o (turn.rule s) (Ok answer) → Carried s ⊎ (Cut s ⊎ Denied s)
+  by_judged : (s : ServerIs) (o : Option Refusal) → turn.refusal s ≡ o → Comes model t.me.seat t.me.store t.next.store t.next.state s (outbox_of network) out o (turn.rule s) (Ok answer) → Carried s ⊎ (Cut s ⊎ Denied s)
   by_judged s None free took = elim took [ inl whole ↦ inl (record { free = free; step = whole }) | inr cut ↦ inr (inl (record { free = free; step = cut })) ]
   by_judged s (Some refusal) judged took = inr (inr (record { refusal = refusal; judged = judged; step = took.0 }))
 
-  by_condition : (c : Condition) → t.c ≡ c → Took holds used format told rose was turn t.me t.next (outbox_of cluster) out (Ok answer) c → Ways
+  by_condition : (c : Condition) → t.c ≡ c → Took model turn t.me t.next (outbox_of network) out (Ok answer) c → Ways
   by_condition (RunningIs s) is took = inl (s, is, by_judged s (turn.refusal s) refl took)
   by_condition (StoppedIs life before after) is took = inr (record { answered = same_ok answer (Refused Down) took.1; same = took.0; right = ap (λ c. answer_at (Some c) turn) is; idle = λ how. ap (λ c. step_of how g i (Some c) turn.rule) is })
   by_condition UnformattedIs is took = inr (record { answered = same_ok answer (Refused Down) took.1; same = took.0; right = ap (λ c. answer_at (Some c) turn) is; idle = λ how. ap (λ c. step_of how g i (Some c) turn.rule) is })
@@ -109,8 +109,8 @@ module _ {S : Type 0} (holds : S → Durable → Durable → Type 0) (used forma
   ways : Ways
   ways = by_condition t.c refl t.took
 
-  was_member : IsMember holds used format told setup i t.me t.c
-  was_member = member_at holds used format told setup t.before g.servers t.members i t.me t.c t.here t.there
+  was_member : IsMember model setup i t.me t.c
+  was_member = member_at model setup t.before g.servers t.members i t.me t.c t.here t.there
 
   runs : (s : ServerIs) → t.c ≡ RunningIs s → slice_get g.servers i ≡ Some (RunningIs s)
   runs s is = t.there ∙ ap Some is
@@ -119,16 +119,16 @@ module _ {S : Type 0} (holds : S → Durable → Durable → Type 0) (used forma
   its_seat = t.seat
 
   -- the server is a member in the condition that it came to
-  is_member : (c : Condition) → Meets holds used format t.me.seat t.next.store t.next.state c → IsMember holds used format told setup i t.next c
+  is_member : (c : Condition) → Meets model t.me.seat t.next.store t.next.state c → IsMember model setup i t.next c
   is_member c meets = record {
     seat = t.seat ∙ was_member.seat;
-    meets = subst (λ seat. Meets holds used format seat t.next.store t.next.state c) (sym t.seat) meets;
+    meets = subst (λ seat. Meets model seat t.next.store t.next.state c) (sym t.seat) meets;
   }
 
   is_low : i < 3
   is_low = omega (arith, slice_get_within t.before i t.me t.here, t.three)
 
-  stepped_by : (s : ServerIs) → t.c ≡ RunningIs s → Carried s → HasStepped holds used format told setup g i (turn.rule s) cluster out
+  stepped_by : (s : ServerIs) → t.c ≡ RunningIs s → Carried s → HasStepped model setup g i (turn.rule s) network out
   unfolding sent_by
   stepped_by s is way =
       let m = is_member (RunningIs (settled (turn.rule s).server)) way.step.settles.meets in
@@ -166,7 +166,7 @@ module _ {S : Type 0} (holds : S → Durable → Durable → Type 0) (used forma
       refuses : (refusal : Refusal) → answer ≡ Refused refusal → ⊥
       refuses refusal is = false≢true (sym stands ∙ refused_is answer refusal is)
 
-  pub stepped : is_refused answer ≡ false → (o : Outcome) × HasStepped holds used format told setup g i o cluster out
+  pub stepped : is_refused answer ≡ false → (o : Outcome) × HasStepped model setup g i o network out
   stepped stands = let x = carried stands in (turn.rule x.0, stepped_by x.0 x.1 x.2)
 
   answered_free : (s : ServerIs) → t.c ≡ RunningIs s → turn.refusal s ≡ None → answer_at (slice_get g.servers i) turn ≡ (turn.rule s).answer
@@ -176,17 +176,17 @@ module _ {S : Type 0} (holds : S → Durable → Durable → Type 0) (used forma
   comes_to s is how same = ap (λ h. at_server h g i turn.rule) same ∙ ap (λ c. step_of how g i c turn.rule) (runs s is)
 
   -- what was carried out and kept
-  pub ends_whole : (stands : is_refused answer ≡ false) (next : Cluster S) → ((o : Outcome) → HasStepped holds used format told setup g i o cluster out → Shows holds used format told setup next (acted g i o)) → HasEnded holds used format told setup g i turn next answer
+  pub ends_whole : (stands : is_refused answer ≡ false) (next : Network S) → ((o : Outcome) → HasStepped model setup g i o network out → Shows model setup next (acted g i o)) → HasEnded model setup g i turn next answer
   ends_whole stands next shows =
       let x = carried stands in
       let s = x.0 in
       let whole : ending answer ≡ Whole = ap ending x.2.step.settles.answered ∙ (t.knows s x.1).whole x.2.free in
       record {
         answered = inl (x.2.step.settles.answered ∙ sym (answered_free s x.1 x.2.free));
-        shows = subst (Shows holds used format told setup next) (sym (comes_to s x.1 Whole whole)) (shows (turn.rule s) (stepped_by s x.1 x.2));
+        shows = subst (Shows model setup next) (sym (comes_to s x.1 Whole whole)) (shows (turn.rule s) (stepped_by s x.1 x.2));
       }
 
-  shows_with : (servers : List Condition) → AreMembers holds used format told setup cluster.servers.items servers → reads_after g.reads answer ≡ g.reads → Shows holds used format told setup cluster (record g { servers = servers })
+  shows_with : (servers : List Condition) → AreMembers model setup network.servers.items servers → reads_after g.reads answer ≡ g.reads → Shows model setup network (record g { servers = servers })
   shows_with servers members same = record {
     three = ap length t.now ∙ set_length t.before i t.next ∙ t.three;
     members = members;
@@ -194,42 +194,42 @@ module _ {S : Type 0} (holds : S → Durable → Durable → Type 0) (used forma
     reads = t.reads ∙ same;
   }
 
-  now_members : (servers : List Condition) → AreMembers holds used format told setup (slice_set t.before i t.next) servers → AreMembers holds used format told setup cluster.servers.items servers
-  now_members servers are = subst (λ xs. AreMembers holds used format told setup xs servers) (sym t.now) are
+  now_members : (servers : List Condition) → AreMembers model setup (slice_set t.before i t.next) servers → AreMembers model setup network.servers.items servers
+  now_members servers are = subst (λ xs. AreMembers model setup xs servers) (sym t.now) are
 
-  ends_cut : (s : ServerIs) → t.c ≡ RunningIs s → Cut s → HasEnded holds used format told setup g i turn cluster answer
+  ends_cut : (s : ServerIs) → t.c ≡ RunningIs s → Cut s → HasEnded model setup g i turn network answer
   unfolding cut_off
   ends_cut s is way =
       let o = turn.rule s in
       let c = StoppedIs (suc s.life) s.durable o.server.durable in
-      let members = member_set holds used format told setup t.before g.servers t.members i t.next c (slice_get_within g.servers i t.c t.there) (is_member c way.step.meets) in
+      let members = member_set model setup t.before g.servers t.members i t.next c (slice_get_within g.servers i t.c t.there) (is_member c way.step.meets) in
       record {
         answered = inr (ap (λ x. halts_at x turn) (runs s is) ∙ ap (λ r. is_none r && has_stored s.durable o.server.durable) way.free ∙ way.step.stores, way.step.answered);
-        shows = subst (Shows holds used format told setup cluster) (sym (comes_to s is CutOff (ap ending way.step.answered)))
+        shows = subst (Shows model setup network) (sym (comes_to s is CutOff (ap ending way.step.answered)))
             (shows_with (slice_set g.servers i c) (now_members (slice_set g.servers i c) members) (ap (reads_after g.reads) way.step.answered));
       }
 
-  stays : (meets : Meets holds used format t.me.seat t.next.store t.next.state t.c) → reads_after g.reads answer ≡ g.reads → Shows holds used format told setup cluster g
-  stays meets same = shows_with g.servers (now_members g.servers (member_stays holds used format told setup t.before g.servers t.members i t.next t.c t.there (is_member t.c meets))) same
+  stays : (meets : Meets model t.me.seat t.next.store t.next.state t.c) → reads_after g.reads answer ≡ g.reads → Shows model setup network g
+  stays meets same = shows_with g.servers (now_members g.servers (member_stays model setup t.before g.servers t.members i t.next t.c t.there (is_member t.c meets))) same
 
-  ends_denied : (s : ServerIs) → t.c ≡ RunningIs s → Denied s → HasEnded holds used format told setup g i turn cluster answer
+  ends_denied : (s : ServerIs) → t.c ≡ RunningIs s → Denied s → HasEnded model setup g i turn network answer
   ends_denied s is way =
       let quiet : ending_of way.refusal ≡ Untouched = subst LeavesAll way.judged (t.knows s is).leaves in
       record {
         answered = inl (way.step.answered ∙ sym (ap (λ c. answer_at c turn) (runs s is) ∙ ap (λ o. answer_by o (turn.rule s).answer) way.judged));
-        shows = subst (Shows holds used format told setup cluster) (sym (comes_to s is Untouched (ap ending way.step.answered ∙ quiet)))
-            (stays (subst (Meets holds used format t.me.seat t.next.store t.next.state) (sym is) way.step.kept.meets) (ap (reads_after g.reads) way.step.answered));
+        shows = subst (Shows model setup network) (sym (comes_to s is Untouched (ap ending way.step.answered ∙ quiet)))
+            (stays (subst (Meets model t.me.seat t.next.store t.next.state) (sym is) way.step.kept.meets) (ap (reads_after g.reads) way.step.answered));
       }
 
-  ends_absent : Absent → HasEnded holds used format told setup g i turn cluster answer
+  ends_absent : Absent → HasEnded model setup g i turn network answer
   ends_absent way = record {
     answered = inl (way.answered ∙ sym (ap (λ c. answer_at c turn) t.there ∙ way.right));
-    shows = subst (Shows holds used format told setup cluster) (sym (ap (λ c. step_of (ending answer) g i c turn.rule) t.there ∙ way.idle (ending answer)))
-        (stays (subst (λ (x : Server S). Meets holds used format t.me.seat x.store x.state t.c) (sym way.same) was_member.meets) (ap (reads_after g.reads) way.answered));
+    shows = subst (Shows model setup network) (sym (ap (λ c. step_of (ending answer) g i c turn.rule) t.there ∙ way.idle (ending answer)))
+        (stays (subst (λ (x : Server S). Meets model t.me.seat x.store x.state t.c) (sym way.same) was_member.meets) (ap (reads_after g.reads) way.answered));
   }
 
   -- what was refused, cut off, or asked of a server that does not run
-  pub ends_refused : is_refused answer ≡ true → HasEnded holds used format told setup g i turn cluster answer
+  pub ends_refused : is_refused answer ≡ true → HasEnded model setup g i turn network answer
   ends_refused refused = elim ways [
     | inl ran ↦ elim ran.2 [
       | inl way ↦ absurd (false≢true (sym (whole_stands answer (ap ending way.step.settles.answered ∙ (t.knows ran.0 ran.1).whole way.free)) ∙ refused))
@@ -239,7 +239,7 @@ module _ {S : Type 0} (holds : S → Durable → Durable → Type 0) (used forma
   ]
 
   -- where it was cut off, a disk failed
-  pub rises : answer ≡ Refused Halted → rose t.me.store t.next.store
+  pub rises : answer ≡ Refused Halted → model.rose t.me.store t.next.store
   rises halted = elim ways [
     | inl ran ↦ elim ran.2 [
       | inl way ↦ absurd (not_cut (ap ending way.step.settles.answered ∙ (t.knows ran.0 ran.1).whole way.free))
@@ -257,7 +257,7 @@ module _ {S : Type 0} (holds : S → Durable → Durable → Type 0) (used forma
       not_down : Refused Down ≡ Refused Halted → ⊥
       not_down is = cc
 
-  pub has_fault : (old next : Cluster S) → t.before ≡ old.servers.items → next.servers.items ≡ cluster.servers.items → answer ≡ Refused Halted → HasFault rose i old next
+  pub has_fault : (old next : Network S) → t.before ≡ old.servers.items → next.servers.items ≡ network.servers.items → answer ≡ Refused Halted → HasFault model.rose i old next
   has_fault old next first same halted = record {
     before = t.me;
     after = t.next;

@@ -4,11 +4,11 @@ use Rattle.pf_base.specs.declared.errors.NoMemory.{NoMemory}
 use Rattle.pf_protocol.specs.declared.answers.Answer.{Answer}
 use Rattle.pf_protocol.specs.Groups.{Ending, Untouched, ending}
 
--- a delivery marks its packet, unless it was refused
-abbrev pub marks : Ending → Bool
-marks Untouched = false
-marks _ = true
+-- a step that ended so counts as the delivery of its packet: it does, unless it was refused
+abbrev pub is_delivered : Ending → Bool
+is_delivered Untouched = false
+is_delivered _ = true
 
 abbrev pub is_delivery : Result Answer NoMemory → Bool
-is_delivery (Ok answer) = marks (ending answer)
+is_delivery (Ok answer) = is_delivered (ending answer)
 is_delivery (Err e) = false

@@ -1,9 +1,10 @@
--- One event of a cluster.
+-- One event of a network.
 use Rattle.std.specs.Prelude.{◌≡◌, ◌≢◌, ◌⊎◌, ℕ, suc, ◌≤◌, Bool, true, false, Option, Some, None, IfSome, IsTrue, Result, Ok, Err, slice_get, slice_set}
 use Rattle.std.specs.Option.{option_map}
 use Rattle.pf_base.specs.declared.errors.NoMemory.{NoMemory}
 use Rattle.pf_base.specs.declared.filled.Filled.{Filled}
 use Rattle.pf_entry.specs.declared.ops.Op.{Op}
+use Rattle.pf_store.specs.Stores.{StoreModel}
 use Rattle.pf_apply.specs.Jobs.{IsFilledFor}
 use Rattle.pf_entry.specs.Records.{Durable}
 use Rattle.pf_protocol.specs.declared.answers.Answer.{Answer}
@@ -21,7 +22,7 @@ use Rattle.pf_restart.specs.Beginning.{HasBegun, setup_at}
 use Rattle.pf_server.specs.Conditions.{IsHonest}
 use Rattle.pf_server.specs.Turns.{IsOf, next_life}
 use Rattle.pf_server.specs.declared.server.Server.{Server}
-use Rattle.pf_network.specs.declared.cluster.Cluster.{Cluster}
+use Rattle.pf_network.specs.declared.network.Network.{Network}
 use Rattle.pf_network.specs.Readings.{taken_after, taken_of}
 use Rattle.pf_network.specs.Showing.{Shows, seat_of}
 
@@ -55,24 +56,24 @@ is_quiet (GiveBack i life slot) = true
 is_quiet event = false
 
 module _ {S : Type 0} where
-  abbrev pub store_at : Cluster S → ℕ → Option S
-  store_at cluster i = option_map (λ (server : Server S). server.store) (slice_get cluster.servers.items i)
+  abbrev pub store_at : Network S → ℕ → Option S
+  store_at network i = option_map (λ (server : Server S). server.store) (slice_get network.servers.items i)
 
   -- the disks of every server but this one are as they were
-  abbrev pub KeepsOthers : Option ℕ → (old new : Cluster S) → Type 0
+  abbrev pub KeepsOthers : Option ℕ → (old new : Network S) → Type 0
   KeepsOthers own old new = (i : ℕ) → own ≢ Some i → store_at new i ≡ store_at old i
 
   -- the disks of every server are as they were
-  abbrev pub KeepsStores : (old new : Cluster S) → Type 0
+  abbrev pub KeepsStores : (old new : Network S) → Type 0
   KeepsStores old new = (i : ℕ) → store_at new i ≡ store_at old i
 
   -- the disks of a server tell their content exactly where they did
-  abbrev pub KeepsTelling : (S → Bool) → (old new : Cluster S) → Type 0
+  abbrev pub KeepsTelling : (S → Bool) → (old new : Network S) → Type 0
   KeepsTelling told old new = (i : ℕ) → option_map told (store_at new i) ≡ option_map told (store_at old i)
 
 -- server i has disks that tell their content
-abbrev pub IsToldAt : {S : Type 0} → (S → Bool) → Cluster S → ℕ → Type 0
-IsToldAt told cluster i = IfSome (slice_get cluster.servers.items i) (λ server. IsTrue (told server.store))
+abbrev pub IsToldAt : {S : Type 0} → (S → Bool) → Network S → ℕ → Type 0
+IsToldAt told network i = IfSome (slice_get network.servers.items i) (λ server. IsTrue (told server.store))
 
 -- and is in a condition that no restart refuses
 abbrev pub IsHonestAt : Setup → Group → ℕ → Type 0
@@ -80,7 +81,7 @@ IsHonestAt setup g i = IfSome (slice_get g.servers i) (IsHonest (seat_of setup i
 
 module _ {S : Type 0} (rose : S → S → Type 0) where
   -- a disk of server i failed
-  pub record HasFault (i : ℕ) (old new : Cluster S) : Type 0 where
+  pub record HasFault (i : ℕ) (old new : Network S) : Type 0 where
     pub before : Server S
     pub after : Server S
     pub was : slice_get old.servers.items i ≡ Some before
@@ -108,105 +109,111 @@ module _ {S : Type 0} (was : S → S → Durable → Durable → Type 0) (before
     pub first : (between ≡ old) ⊎ Passes i old between
     pub second : (new ≡ between) ⊎ Passes i between new
 
-  -- those of this server of a cluster
-  abbrev pub Touches : Option ℕ → (old new : Cluster S) → Type 0
+  -- those of this server of a network
+  abbrev pub Touches : Option ℕ → (old new : Network S) → Type 0
   Touches own old new = (i : ℕ) (server next : Server S) → own ≡ Some i → slice_get old.servers.items i ≡ Some server → slice_get new.servers.items i ≡ Some next → WasTouched i server.store next.store
 
-module _ {S : Type 0} (holds : S → Durable → Durable → Type 0) (used format : S → ℕ) (told : S → Bool) where
-  -- the cluster stands for the group that a viable past led to
-  pub record IsReached (setup : Setup) (past : Past) (cluster : Cluster S) : Type 0 where
+module _ {S : Type 0} (model : StoreModel S) where
+  -- the network stands for the group that a viable past led to
+  pub record IsReached (setup : Setup) (past : Past) (network : Network S) : Type 0 where
     pub viable : IsViablePast setup past
     pub short : IsShort past
-    pub shows : Shows holds used format told setup cluster past.group
+    pub shows : Shows model setup network past.group
 
   -- some such past led to it
-  abbrev pub HasPast : Cluster S → Type 0
-  HasPast cluster = (setup : Setup) × ((past : Past) × IsReached setup past cluster)
+  abbrev pub HasPast : Network S → Type 0
+  HasPast network = (setup : Setup) × ((past : Past) × IsReached setup past network)
 
   -- so did a past that leads on from this one, of the same open claims
-  pub record LeadsOn (setup : Setup) (past : Past) (cluster : Cluster S) : Type 0 where
+  pub record LeadsOn (setup : Setup) (past : Past) (network : Network S) : Type 0 where
     pub later : Past
-    pub reached : IsReached setup later cluster
+    pub reached : IsReached setup later network
     pub claims : later.claims ≡ past.claims
     pub top : later.top ≡ past.top
     pub least : past.count ≤ later.count
     pub most : later.count ≤ suc past.count
 
-  module _ (rose : S → S → Type 0) (was : S → S → Durable → Durable → Type 0) where
-    -- The event was answered as the rules say, and the cluster stands for the group after it. A step is cut off only where a disk of
-    -- its own server failed; a crash inside it leaves what its server may hold before it or after it; no other server's disks are
-    -- touched, nor are its own by a quiet event; none tells less or more of its content, and no answer of a read is handed out.
-    pub record HasGone (setup : Setup) (g : Group) (event : Event) (old new : Cluster S) (answer : Answer) : Type 0 where
-      pub answered : IsAnswer setup g event answer
-      pub shows : Shows holds used format told setup new (happens setup g event (ending answer))
-      pub cause : answer ≡ Refused Halted → (i : ℕ) × (acts_at g event ≡ Some i) × HasFault rose i old new
-      pub crash : Touches was g (happens setup g event (ending answer)) (acts_at g event) old new
-      pub others : KeepsOthers (acts_at g event) old new
-      pub quiet : is_quiet event ≡ true → KeepsStores old new
-      pub tells : KeepsTelling told old new
-      pub taken : taken_of new ≡ taken_after (taken_of old) answer
+  -- The event was answered as the rules say, and the network stands for the group after it. A step is cut off only where a disk of
+  -- its own server failed; a crash inside it leaves what its server may hold before it or after it; no other server's disks are
+  -- touched, nor are its own by a quiet event; none tells less or more of its content, and no answer of a read is handed out.
+  pub record HasGone (setup : Setup) (g : Group) (event : Event) (old new : Network S) (answer : Answer) : Type 0 where
+    pub answered : IsAnswer setup g event answer
+    pub shows : Shows model setup new (happens setup g event (ending answer))
+    pub cause : answer ≡ Refused Halted → (i : ℕ) × (acts_at g event ≡ Some i) × HasFault model.rose i old new
+    pub crash : Touches model.was g (happens setup g event (ending answer)) (acts_at g event) old new
+    pub others : KeepsOthers (acts_at g event) old new
+    pub quiet : is_quiet event ≡ true → KeepsStores old new
+    pub tells : KeepsTelling model.told old new
+    pub taken : taken_of new ≡ taken_after (taken_of old) answer
 
-    -- or there was no memory for it: the cluster stands for the same group, and the disks of every server but this one are as they were
-    pub record HasStayed (setup : Setup) (g : Group) (own : Option ℕ) (old new : Cluster S) : Type 0 where
-      pub shows : Shows holds used format told setup new g
-      pub crash : Touches was g g own old new
-      pub others : KeepsOthers own old new
-      pub tells : KeepsTelling told old new
-      pub taken : taken_of new ≡ taken_of old
+  -- or there was no memory for it: the network stands for the same group, and the disks of every server but this one are as they were
+  pub record HasStayed (setup : Setup) (g : Group) (own : Option ℕ) (old new : Network S) : Type 0 where
+    pub shows : Shows model setup new g
+    pub crash : Touches model.was g g own old new
+    pub others : KeepsOthers own old new
+    pub tells : KeepsTelling model.told old new
+    pub taken : taken_of new ≡ taken_of old
 
-    abbrev pub Goes : Setup → Group → Event → (old new : Cluster S) → Result Answer NoMemory → Type 0
-    Goes setup g event old new (Ok answer) = HasGone setup g event old new answer
-    Goes setup g event old new (Err e) = HasStayed setup g None old new
+  abbrev pub Goes : Setup → Group → Event → (old new : Network S) → Result Answer NoMemory → Type 0
+  Goes setup g event old new (Ok answer) = HasGone setup g event old new answer
+  Goes setup g event old new (Err e) = HasStayed setup g None old new
 
-    -- a claim is answered twice, for the host and for whoever keeps the history
-    abbrev pub GoesTwice : Setup → Group → (old new : Cluster S) → Result (Answer × Answer) NoMemory → Type 0
-    GoesTwice setup g old new (Ok (answer, again)) = HasGone setup g Claim old new answer
-    GoesTwice setup g old new (Err e) = HasStayed setup g None old new
+  -- so it went from whatever group such a past had led to
+  abbrev pub HasGoneBy : Event → (old new : Network S) → Answer → Type 0
+  HasGoneBy event old new answer = (setup : Setup) (past : Past) → IsReached setup past old → HasGone setup past.group event old new answer
 
-    -- a restart tells whether it found the record of a step that was cut off. Where there is no memory for it, its own server's disks
-    -- may have been read
-    abbrev pub GoesBack : Setup → Group → (i : ℕ) → (old new : Cluster S) → Result (Answer × Bool) NoMemory → Type 0
-    GoesBack setup g i old new (Ok (answer, found)) = HasGone setup g (Restart i found) old new answer
-    GoesBack setup g i old new (Err e) = HasStayed setup g (Some i) old new
+  abbrev pub GoesBy : Event → (old new : Network S) → Result Answer NoMemory → Type 0
+  GoesBy event old new result = (setup : Setup) (past : Past) → IsReached setup past old → Goes setup past.group event old new result
 
-    -- server i stands so in its next life, over some state that fits, whatever it is
-    pub record IsOver (setup : Setup) (g : Group) (i : ℕ) (new : Cluster S) (stands : (life : ℕ) → Durable → Condition) : Type 0 where
-      pub c : Condition
-      pub there : slice_get g.servers i ≡ Some c
-      pub life : ℕ
-      pub next : suc life ≡ next_life c
-      pub d : Durable
-      pub fits : HasBegun (setup_at (seat_of setup i)) d
-      pub shows : Shows holds used format told setup new (record g { servers = slice_set g.servers i (stands (next_life c) d) })
+  -- a claim is answered twice, for the host and for whoever keeps the history
+  abbrev pub GoesTwice : Setup → Group → (old new : Network S) → Result (Answer × Answer) NoMemory → Type 0
+  GoesTwice setup g old new (Ok (answer, again)) = HasGone setup g Claim old new answer
+  GoesTwice setup g old new (Err e) = HasStayed setup g None old new
 
-    -- Over any disks: begun over such a state, or cut off over one or as it read, or stopped where the disks hold no state of it.
-    abbrev pub ShowsSomehow : Setup → Group → (i : ℕ) → (new : Cluster S) → Answer → Type 0
-    ShowsSomehow setup g i new Done = IsOver setup g i new (λ life d. RunningIs (restarted i life d))
-    ShowsSomehow setup g i new (Refused Halted) = IsOver setup g i new (λ life d. StoppedIs life d d) ⊎ Shows holds used format told setup new (restart CutOff g i false (slice_get g.servers i))
-    ShowsSomehow setup g i new answer = (answer ≡ Refused NotOurs) × Shows holds used format told setup new (stopped g i (slice_get g.servers i))
+  -- a restart tells whether it found the record of a step that was cut off. Where there is no memory for it, its own server's disks
+  -- may have been read
+  abbrev pub GoesBack : Setup → Group → (i : ℕ) → (old new : Network S) → Result (Answer × Bool) NoMemory → Type 0
+  GoesBack setup g i old new (Ok (answer, found)) = HasGone setup g (Restart i found) old new answer
+  GoesBack setup g i old new (Err e) = HasStayed setup g (Some i) old new
 
-    -- no other server's disks are touched
-    pub record HasBegunSomehow (setup : Setup) (g : Group) (i : ℕ) (old new : Cluster S) (answer : Answer) : Type 0 where
-      pub shows : ShowsSomehow setup g i new answer
-      pub cause : answer ≡ Refused Halted → HasFault rose i old new
-      pub others : KeepsOthers (Some i) old new
-      pub tells : KeepsTelling told old new
-      pub taken : taken_of new ≡ taken_of old
+  -- server i stands so in its next life, over some state that fits, whatever it is
+  pub record IsOver (setup : Setup) (g : Group) (i : ℕ) (new : Network S) (stands : (life : ℕ) → Durable → Condition) : Type 0 where
+    pub c : Condition
+    pub there : slice_get g.servers i ≡ Some c
+    pub life : ℕ
+    pub next : suc life ≡ next_life c
+    pub d : Durable
+    pub fits : HasBegun (setup_at (seat_of setup i)) d
+    pub shows : Shows model setup new (record g { servers = slice_set g.servers i (stands (next_life c) d) })
 
-    -- or there was no memory for it
-    pub record HasKept (setup : Setup) (g : Group) (i : ℕ) (old new : Cluster S) : Type 0 where
-      pub shows : Shows holds used format told setup new g
-      pub others : KeepsOthers (Some i) old new
-      pub tells : KeepsTelling told old new
-      pub taken : taken_of new ≡ taken_of old
+  -- Over any disks: begun over such a state, or cut off over one or as it read, or stopped where the disks hold no state of it.
+  abbrev pub ShowsSomehow : Setup → Group → (i : ℕ) → (new : Network S) → Answer → Type 0
+  ShowsSomehow setup g i new Done = IsOver setup g i new (λ life d. RunningIs (restarted i life d))
+  ShowsSomehow setup g i new (Refused Halted) = IsOver setup g i new (λ life d. StoppedIs life d d) ⊎ Shows model setup new (restart CutOff g i false (slice_get g.servers i))
+  ShowsSomehow setup g i new answer = (answer ≡ Refused NotOurs) × Shows model setup new (stopped g i (slice_get g.servers i))
 
-    abbrev pub GoesSomehow : Setup → Group → (i : ℕ) → (old new : Cluster S) → Result (Answer × Bool) NoMemory → Type 0
-    GoesSomehow setup g i old new (Ok (answer, found)) = HasBegunSomehow setup g i old new answer
-    GoesSomehow setup g i old new (Err e) = HasKept setup g i old new
+  -- no other server's disks are touched
+  pub record HasBegunSomehow (setup : Setup) (g : Group) (i : ℕ) (old new : Network S) (answer : Answer) : Type 0 where
+    pub shows : ShowsSomehow setup g i new answer
+    pub cause : answer ≡ Refused Halted → HasFault model.rose i old new
+    pub others : KeepsOthers (Some i) old new
+    pub tells : KeepsTelling model.told old new
+    pub taken : taken_of new ≡ taken_of old
+
+  -- or there was no memory for it
+  pub record HasKept (setup : Setup) (g : Group) (i : ℕ) (old new : Network S) : Type 0 where
+    pub shows : Shows model setup new g
+    pub others : KeepsOthers (Some i) old new
+    pub tells : KeepsTelling model.told old new
+    pub taken : taken_of new ≡ taken_of old
+
+  abbrev pub GoesSomehow : Setup → Group → (i : ℕ) → (old new : Network S) → Result (Answer × Bool) NoMemory → Type 0
+  GoesSomehow setup g i old new (Ok (answer, found)) = HasBegunSomehow setup g i old new answer
+  GoesSomehow setup g i old new (Err e) = HasKept setup g i old new
 
   -- an open claim of such a past comes back done, with the sectors of its op
-  pub record IsBroughtBack (setup : Setup) (past : Past) (cluster : Cluster S) (filled : Filled) : Type 0 where
-    pub reached : IsReached setup past cluster
+  pub record IsBroughtBack (setup : Setup) (past : Past) (network : Network S) (filled : Filled) : Type 0 where
+    pub reached : IsReached setup past network
     pub op : Op
     pub k : ℕ
     pub claim : slice_get past.claims k ≡ Some (record { server = filled.server; life = filled.life; slot = filled.slot; op = op })

@@ -5,7 +5,7 @@ use Rattle.pf_protocol.specs.declared.answers.Answer.{Answer}
 use Rattle.pf_protocol.specs.declared.answers.Answer.TheVariants.{Read}
 use Rattle.pf_network.specs.declared.kept.Reading.{Reading}
 use Rattle.pf_entry.specs.Ops.{Sector}
-use Rattle.pf_network.specs.declared.cluster.Cluster.{Cluster}
+use Rattle.pf_network.specs.declared.network.Network.{Network}
 use Rattle.pf_network.specs.declared.kept.Reading.TheVariants.{Waiting, Answered, Taken}
 
 -- one more waits, where an answer is the number of a read
@@ -41,8 +41,8 @@ is_taken (Answered bytes) = false
 is_taken Taken = true
 
 -- for each read by its number, whether its answer was handed out
-abbrev pub taken_of : {S : Type 0} → Cluster S → List Bool
-taken_of cluster = map is_taken cluster.readings.items
+abbrev pub taken_of : {S : Type 0} → Network S → List Bool
+taken_of network = map is_taken network.readings.items
 
 -- one more, where an answer is the number of a read
 abbrev pub taken_after : List Bool → Answer → List Bool

@@ -1,12 +1,12 @@
--- A cluster as the group of the rules.
-use Rattle.std.specs.Prelude.{◌≡◌, ◌≢◌, ℕ, ◌+◌, ◌≤◌, Bool, List, length, map, Some, slice_get, sum_by, vec_capacity}
+-- A network as the group of the rules.
+use Rattle.std.specs.Prelude.{◌≡◌, ◌≢◌, ℕ, ◌+◌, ◌≤◌, List, length, map, Some, slice_get, sum_by, vec_capacity}
 use Rattle.pf_entry.specs.Lists.{Every}
 use Rattle.pf_entry.specs.Ops.{Sector}
-use Rattle.pf_entry.specs.Records.{Durable}
 use Rattle.pf_entry.specs.Sizes.{packet_size}
 use Rattle.pf_wire.specs.Packets.{packet_bytes}
 use Rattle.pf_protocol.specs.Servers.{Setup, Condition}
 use Rattle.pf_protocol.specs.Groups.{Group, Sent, Acked as AckedIs, Answered as AnsweredIs}
+use Rattle.pf_store.specs.Stores.{StoreModel}
 use Rattle.pf_restart.specs.declared.seat.Seat.{Seat}
 use Rattle.pf_server.specs.declared.server.Server.{Server}
 use Rattle.pf_server.specs.Conditions.{Meets}
@@ -14,7 +14,7 @@ use Rattle.pf_network.specs.declared.kept.Parcel.{Parcel}
 use Rattle.pf_network.specs.declared.kept.Acked.{Acked}
 use Rattle.pf_network.specs.declared.kept.Reading.{Reading}
 use Rattle.pf_network.specs.declared.kept.Reading.TheVariants.{Waiting, Answered, Taken}
-use Rattle.pf_network.specs.declared.cluster.Cluster.{Cluster}
+use Rattle.pf_network.specs.declared.network.Network.{Network}
 
 -- what a server of the group is made with
 abbrev pub seat_of : Setup → ℕ → Seat
@@ -45,26 +45,26 @@ AreReadings answered readings = (number : ℕ) (reading : Reading) → slice_get
 
 module _ {S : Type 0} where
   -- all that is kept beside the servers
-  pub record HasTraffic (cluster : Cluster S) (g : Group) : Type 0 where
-    pub packets : cluster.packets.items ≡ map parcel_of g.packets
-    pub places : 65536 ≤ vec_capacity cluster.packets
-    pub room : cluster.byte_room + sum_by (λ sent. packet_size sent.packet) g.packets ≡ 134217728
-    pub acked : cluster.acked.list.items ≡ map acked_of g.acked
-    pub elections : cluster.elections ≡ g.elections
-    pub readings : AreReadings g.answered cluster.readings.items
+  pub record HasTraffic (network : Network S) (g : Group) : Type 0 where
+    pub packets : network.packets.items ≡ map parcel_of g.packets
+    pub places : 65536 ≤ vec_capacity network.packets
+    pub room : network.byte_room + sum_by (λ sent. packet_size sent.packet) g.packets ≡ 134217728
+    pub acked : network.acked.list.items ≡ map acked_of g.acked
+    pub elections : network.elections ≡ g.elections
+    pub readings : AreReadings g.answered network.readings.items
 
-module _ {S : Type 0} (holds : S → Durable → Durable → Type 0) (used format : S → ℕ) (told : S → Bool) where
+module _ {S : Type 0} (model : StoreModel S) where
   -- this server of the group is in this condition
   pub record IsMember (setup : Setup) (i : ℕ) (server : Server S) (c : Condition) : Type 0 where
     pub seat : server.seat ≡ seat_of setup i
-    pub meets : Meets holds used format server.seat server.store server.state c
+    pub meets : Meets model server.seat server.store server.state c
 
   abbrev pub AreMembers : Setup → List (Server S) → List Condition → Type 0
   AreMembers setup servers conditions = (i : ℕ) (server : Server S) → slice_get servers i ≡ Some server → (c : Condition) × (slice_get conditions i ≡ Some c) × IsMember setup i server c
 
-  -- the cluster stands for this group
-  pub record Shows (setup : Setup) (cluster : Cluster S) (g : Group) : Type 0 where
-    pub three : length cluster.servers.items ≡ 3
-    pub members : AreMembers setup cluster.servers.items g.servers
-    pub traffic : HasTraffic cluster g
-    pub reads : length cluster.readings.items ≡ g.reads
+  -- the network stands for this group
+  pub record Shows (setup : Setup) (network : Network S) (g : Group) : Type 0 where
+    pub three : length network.servers.items ≡ 3
+    pub members : AreMembers setup network.servers.items g.servers
+    pub traffic : HasTraffic network g
+    pub reads : length network.readings.items ≡ g.reads

@@ -1,12 +1,12 @@
--- What a cluster shows of its group.
+-- What a network shows of its group.
 use Rattle.std.specs.List.{list_any}
 use Rattle.std.specs.Prelude.{◌≡◌, ◌≢◌, ℕ, ◌<◌, ◌≤◌, ◌==◌, ◌&&◌, Bool, true, false, List, Option, Some, None, nat_lt, if◌then◌else◌, slice_get, slice_set}
 use Rattle.pf_entry.specs.Lists.{Every}
 use Rattle.pf_entry.specs.Ops.{Sector}
-use Rattle.pf_entry.specs.Records.{Durable}
 use Rattle.pf_protocol.specs.Servers.{Setup, Leader, Serving, Server as ServerIs}
 use Rattle.pf_protocol.specs.Groups.{Group}
-use Rattle.pf_protocol.specs.Histories.{Runs}
+use Rattle.pf_protocol.specs.Histories.{RunsAs}
+use Rattle.pf_store.specs.Stores.{StoreModel}
 use Rattle.pf_state.specs.declared.running.Role.{Role}
 use Rattle.pf_state.specs.declared.running.Role.TheVariants.{Serving as ServingHere}
 use Rattle.pf_state.specs.declared.running.Running.{Running}
@@ -14,12 +14,12 @@ use Rattle.pf_state.specs.Standing.{server_of, IsCached}
 use Rattle.pf_server.specs.declared.server.Server.{Server}
 use Rattle.pf_server.specs.declared.state.State.{State}
 use Rattle.pf_server.specs.declared.state.State.TheVariants.{Runs as RunsHere}
-use Rattle.pf_network.specs.declared.cluster.Cluster.{Cluster}
+use Rattle.pf_network.specs.declared.network.Network.{Network}
 use Rattle.pf_network.specs.Showing.{HasAnswer, Shows}
 
--- the cluster stands for some group
-abbrev pub IsShown : {S : Type 0} → (S → Durable → Durable → Type 0) → (S → ℕ) → (S → ℕ) → (S → Bool) → Cluster S → Type 0
-IsShown holds used format told cluster = (setup : Setup) × ((g : Group) × Shows holds used format told setup cluster g)
+-- the network stands for some group
+abbrev pub IsShown : {S : Type 0} → StoreModel S → Network S → Type 0
+IsShown model network = (setup : Setup) × ((g : Group) × Shows model setup network g)
 
 -- the slot was acknowledged in this term
 abbrev pub is_acked : Group → (term slot : ℕ) → Bool
@@ -33,19 +33,19 @@ pub record IsMemoryOf (me : Running) (s : ServerIs) : Type 0 where
 -- server i runs, and this is its memory
 pub record IsRunningAt (g : Group) (i : ℕ) (me : Running) : Type 0 where
   pub s : ServerIs
-  pub runs : Runs g i s
+  pub runs : RunsAs g i s
   pub memory : IsMemoryOf me s
 
 -- server i does not run
 abbrev pub Idles : Group → (i : ℕ) → Type 0
-Idles g i = (s : ServerIs) → Runs g i s → ⊥
+Idles g i = (s : ServerIs) → RunsAs g i s → ⊥
 
 -- server i, of the three, runs and serves in this term
 pub record Serves (g : Group) (i term : ℕ) : Type 0 where
   pub low : i < 3
   pub s : ServerIs
   pub leader : Leader
-  pub runs : Runs g i s
+  pub runs : RunsAs g i s
   pub serves : s.role ≡ Serving leader
   pub in_term : s.durable.term ≡ term
 

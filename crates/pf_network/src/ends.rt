@@ -10,7 +10,7 @@ ghost use Rattle.pf_network.specs.Readings.{taken_of};
 ghost use Rattle.pf_network.specs.Showing.{Shows};
 ghost use Rattle.pf_network.specs.Turned.{Ends, HasStepped, HasTurned, is_refused};
 
-use crate::Cluster;
+use crate::Network;
 use crate::keeping::{keep_acked, keep_answers, keep_packets};
 use pf_base::{NoMemory, ServerId};
 use pf_protocol::{Answer, Refusal};
@@ -27,12 +27,12 @@ pub(crate) fn is_refused(answer: &Answer) -> bool
     }
 }
 
-impl<S: Store> Cluster<S> {
+impl<S: Store> Network<S> {
     /// Keeps what the step of a server sent, acknowledged and answered. It takes no memory.
     fn keep(&mut self, server: ServerId, out: &mut Outbox)
         requires place { HasRoom self.old.acked.list self.old.acked.known }
-        requires stepped { (setup : Setup) × ((grp : Group) × ((o : Outcome) × HasStepped S.holds S.used S.format S.told setup grp server o self.old out.old)) }
-        ensures shows { (setup : Setup) (grp : Group) (o : Outcome) → HasStepped S.holds S.used S.format S.told setup grp server o self.old out.old → Shows S.holds S.used S.format S.told setup self.new (acted grp server o) }
+        requires stepped { (setup : Setup) × ((grp : Group) × ((o : Outcome) × HasStepped S.model setup grp server o self.old out.old)) }
+        ensures shows { (setup : Setup) (grp : Group) (o : Outcome) → HasStepped S.model setup grp server o self.old out.old → Shows S.model setup self.new (acted grp server o) }
         ensures elections { self.new.elections ≡ self.old.elections }
         ensures packets { vec_len self.old.packets ≤ vec_len self.new.packets }
         ensures stores { KeepsStores self.old self.new }
@@ -51,9 +51,9 @@ impl<S: Store> Cluster<S> {
         outcome: Result<Answer, NoMemory>,
         out: &mut Outbox,
     ) -> Result<Answer, NoMemory>
-        requires { (setup : Setup) × ((grp : Group) × ((turn : Turn) × HasTurned S.holds S.used S.format S.told S.rose S.was setup grp server turn self.old out.old outcome)) }
+        requires { (setup : Setup) × ((grp : Group) × ((turn : Turn) × HasTurned S.model setup grp server turn self.old out.old outcome)) }
         ensures same { result ≡ outcome }
-        ensures step { (setup : Setup) (grp : Group) (turn : Turn) → HasTurned S.holds S.used S.format S.told S.rose S.was setup grp server turn self.old out.old outcome → Ends S.holds S.used S.format S.told setup grp server turn self.new outcome }
+        ensures step { (setup : Setup) (grp : Group) (turn : Turn) → HasTurned S.model setup grp server turn self.old out.old outcome → Ends S.model setup grp server turn self.new outcome }
         ensures elections { self.new.elections ≡ self.old.elections }
         ensures packets { vec_len self.old.packets ≤ vec_len self.new.packets }
         ensures stores { KeepsStores self.old self.new }

@@ -4,10 +4,10 @@ ghost use Rattle.pf_protocol.specs.Servers.{Setup};
 ghost use Rattle.pf_network.specs.Pasts.{Past};
 ghost use Rattle.pf_protocol.specs.declared.events.Event.TheVariants.{Finish, GiveBack};
 ghost use Rattle.pf_network.specs.Claiming.{ClaimsAt};
-ghost use Rattle.pf_network.specs.Going.{GoesTwice, HasGone, HasPast, IsBroughtBack, IsReached, KeepsStores};
+ghost use Rattle.pf_network.specs.Going.{GoesTwice, HasGoneBy, HasPast, IsBroughtBack, IsReached, KeepsStores};
 ghost use Rattle.pf_network.specs.Readings.{taken_of};
 
-use crate::Cluster;
+use crate::Network;
 use crate::ends::is_refused;
 use crate::keeping::keep_answers;
 use pf_apply::Claimed;
@@ -32,12 +32,12 @@ fn both_answers(claim: Claimed) -> (Answer, Answer)
     (Answer::Job(job), Answer::Job(again))
 }
 
-impl<S: Store> Cluster<S> {
+impl<S: Store> Network<S> {
     /// The job of one server; `None` exactly where it has none.
     fn claim_at(&mut self, alloc: Global, server: ServerId) -> Result<Option<Claimed>, NoMemory>
         requires server { server < 3 }
-        requires reached { HasPast S.holds S.used S.format S.told self.old }
-        ensures step { (setup : Setup) (past : Past) → IsReached S.holds S.used S.format S.told setup past self.old → ClaimsAt S.holds S.used S.format S.told setup past.group server self.new result }
+        requires reached { HasPast S.model self.old }
+        ensures step { (setup : Setup) (past : Past) → IsReached S.model setup past self.old → ClaimsAt S.model setup past.group server self.new result }
         ensures stores { KeepsStores self.old self.new }
         ensures taken { taken_of self.new ≡ taken_of self.old }
     {
@@ -49,9 +49,9 @@ impl<S: Store> Cluster<S> {
     ///
     /// `NoneFree` (60) where no server has one, and `NoMemory` (1), leave the group as it was.
     pub fn claim(&mut self, alloc: Global) -> Result<(Answer, Answer), NoMemory>
-        requires { HasPast S.holds S.used S.format S.told self.old }
+        requires { HasPast S.model self.old }
         ensures twice { IfOk result (λ answers. answers.1 ≡ answers.0) }
-        ensures step { (setup : Setup) (past : Past) → IsReached S.holds S.used S.format S.told setup past self.old → GoesTwice S.holds S.used S.format S.told S.rose S.was setup past.group self.old self.new result }
+        ensures step { (setup : Setup) (past : Past) → IsReached S.model setup past self.old → GoesTwice S.model setup past.group self.old self.new result }
     {
         if let Some(claim) = self.claim_at(alloc, 0)? {
             return Ok(both_answers(claim));
@@ -72,8 +72,8 @@ impl<S: Store> Cluster<S> {
     /// ran, leave the group as it was.
     pub fn finish(&mut self, filled: Filled) -> Answer
         requires server { filled.server < 3 }
-        requires job { (setup : Setup) × ((past : Past) × IsBroughtBack S.holds S.used S.format S.told setup past self.old filled) }
-        ensures { (setup : Setup) (past : Past) → IsReached S.holds S.used S.format S.told setup past self.old → HasGone S.holds S.used S.format S.told S.rose S.was setup past.group (Finish filled.server filled.life filled.slot) self.old self.new result }
+        requires job { (setup : Setup) × ((past : Past) × IsBroughtBack S.model setup past self.old filled) }
+        ensures { HasGoneBy S.model (Finish filled.server filled.life filled.slot) self.old self.new result }
     {
         let server = filled.server as usize;
         let answer = self.servers[server].finish(filled);
@@ -88,8 +88,8 @@ impl<S: Store> Cluster<S> {
     /// takes no memory.
     pub fn give_back(&mut self, server: ServerId, life: u64, slot: Slot) -> Answer
         requires server { server < 3 }
-        requires reached { HasPast S.holds S.used S.format S.told self.old }
-        ensures { (setup : Setup) (past : Past) → IsReached S.holds S.used S.format S.told setup past self.old → HasGone S.holds S.used S.format S.told S.rose S.was setup past.group (GiveBack server life slot) self.old self.new result }
+        requires reached { HasPast S.model self.old }
+        ensures { HasGoneBy S.model (GiveBack server life slot) self.old self.new result }
     {
         let server = server as usize;
         if !self.servers[server].is_running() {

@@ -48,7 +48,7 @@ pub fn keep_packets(packets: &mut Vec<Parcel>, byte_room: &mut u64, out: &mut Ou
 
 /// The term of a running server; 0 where it does not run.
 fn term_of<S: Store>(server: &Server<S>) -> Term
-    ensures { (s : ServerIs) → Meets S.holds S.used S.format server.now.seat server.now.store server.now.state (RunningIs s) → result ≡ s.durable.term }
+    ensures { (s : ServerIs) → Meets S.model server.now.seat server.now.store server.now.state (RunningIs s) → result ≡ s.durable.term }
 {
     match server.running() {
         Some(me) => me.term,
@@ -59,7 +59,7 @@ fn term_of<S: Store>(server: &Server<S>) -> Term
 /// Keeps the slot that a step of this server acknowledged, if it did. It takes no memory.
 pub fn keep_acked<S: Store>(acked: &mut AckedList, server: &Server<S>, slot: Option<Slot>)
     requires { HasRoom acked.old.list acked.old.known }
-    ensures { (s : ServerIs) → Meets S.holds S.used S.format server.now.seat server.now.store server.now.state (RunningIs s) → acked.new.list.items ≡ acked.old.list.items ++ map (λ k. (let a : AckedHere = record { term = s.durable.term; slot = k } in a)) (option_to_list slot) }
+    ensures { (s : ServerIs) → Meets S.model server.now.seat server.now.store server.now.state (RunningIs s) → acked.new.list.items ≡ acked.old.list.items ++ map (λ k. (let a : AckedHere = record { term = s.durable.term; slot = k } in a)) (option_to_list slot) }
 {
     let term = term_of(server);
     if let Some(slot) = slot {
@@ -72,7 +72,7 @@ pub fn keep_answers<S: Store>(server: &mut Server<S>, readings: &mut Vec<Reading
     requires sized { AreSized (answers_of server.old.state) }
     requires places { HavePlaces readings.old.items (answers_of server.old.state) }
     ensures readings { readings.new.items ≡ with_answers readings.old.items (answers_of server.old.state) }
-    ensures same { (s : ServerIs) → Meets S.holds S.used S.format server.old.seat server.old.store server.old.state (RunningIs s) → Meets S.holds S.used S.format server.new.seat server.new.store server.new.state (RunningIs s) }
+    ensures same { (s : ServerIs) → Meets S.model server.old.seat server.old.store server.old.state (RunningIs s) → Meets S.model server.new.seat server.new.store server.new.state (RunningIs s) }
     ensures seat { server.new.seat ≡ server.old.seat }
     ensures store { server.new.store ≡ server.old.store }
 {

@@ -1,4 +1,4 @@
-//! What a cluster keeps beside its servers.
+//! What a network keeps beside its servers.
 ghost use Rattle.std.specs.Prelude.{◌≡◌, is_some};
 ghost use Rattle.pf_network.specs.Readings.{answer_in, with_answer, without_answer};
 

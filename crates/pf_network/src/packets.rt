@@ -3,14 +3,12 @@ ghost use Rattle.std.specs.Prelude.{◌≡◌, ◌<◌, ◌≤◌, ℕ, IfOk, So
 ghost use Rattle.pf_entry.specs.Canonical.{IsCanonicalPacket};
 ghost use Rattle.pf_entry.specs.declared.packets.Packet.{Packet as PacketIs};
 ghost use Rattle.pf_wire.specs.Packets.{packet_bytes, PacketFits};
-ghost use Rattle.pf_protocol.specs.Servers.{Setup};
-ghost use Rattle.pf_network.specs.Pasts.{Past};
 ghost use Rattle.pf_protocol.specs.declared.events.Event.TheVariants.{Deliver, Lose};
 ghost use Rattle.pf_network.specs.declared.kept.Parcel.{Parcel as ParcelIs};
 ghost use Rattle.pf_network.specs.Deliveries.{is_delivery};
-ghost use Rattle.pf_network.specs.Going.{Goes, HasGone, HasPast, IsReached};
+ghost use Rattle.pf_network.specs.Going.{GoesBy, HasGoneBy, HasPast};
 
-use crate::{Cluster, Parcel};
+use crate::{Network, Parcel};
 use pf_base::NoMemory;
 use pf_entry::Packet;
 use pf_protocol::{Answer, Refusal};
@@ -28,7 +26,7 @@ fn packet_of(alloc: Global, bytes: &[u8]) -> Result<Packet, NoMemory>
     }
 }
 
-/// Whether a delivery that came to this marks its packet.
+/// Whether a delivery that came to this counts as one of its packet.
 fn is_delivery(outcome: &Result<Answer, NoMemory>) -> bool
     ensures { result ≡ is_delivery outcome.now }
 {
@@ -41,8 +39,8 @@ fn is_delivery(outcome: &Result<Answer, NoMemory>) -> bool
     }
 }
 
-/// Marks a packet as delivered, where it was.
-fn mark_delivered(packets: &mut Vec<Parcel>, place: usize, outcome: &Result<Answer, NoMemory>)
+/// Makes a packet a delivered one, where it was delivered.
+fn set_delivered(packets: &mut Vec<Parcel>, place: usize, outcome: &Result<Answer, NoMemory>)
     requires { place < vec_len packets.old }
     ensures items { (parcel : ParcelIs) → slice_get packets.old.items place ≡ Some parcel → packets.new.items ≡ cond (is_delivery outcome.now) (slice_set packets.old.items place (record parcel { delivered = true })) packets.old.items }
     ensures capacity { vec_capacity packets.old ≤ vec_capacity packets.new }
@@ -52,15 +50,15 @@ fn mark_delivered(packets: &mut Vec<Parcel>, place: usize, outcome: &Result<Answ
     }
 }
 
-impl<S: Store> Cluster<S> {
+impl<S: Store> Network<S> {
     /// Packet `k` of all that were sent comes, perhaps once more.
     ///
     /// `NoPacket` (53) where there is none, `LostPacket` (54) where it was lost, then `PacketsFull` (55) and `LogFull` (41), the first
     /// of them that holds, and `NoMemory` (1) leave the group as it was. `Down` (51) where its server does not run, and `Halted` (52)
-    /// where a disk failed: both mark the packet as delivered.
+    /// where a disk failed: both make the packet a delivered one.
     pub fn deliver(&mut self, alloc: Global, k: u32) -> Result<Answer, NoMemory>
-        requires { HasPast S.holds S.used S.format S.told self.old }
-        ensures { (setup : Setup) (past : Past) → IsReached S.holds S.used S.format S.told setup past self.old → Goes S.holds S.used S.format S.told S.rose S.was setup past.group (Deliver k) self.old self.new result }
+        requires { HasPast S.model self.old }
+        ensures { GoesBy S.model (Deliver k) self.old self.new result }
     {
         let place = k as usize;
         if place >= self.packets.len() {
@@ -75,7 +73,7 @@ impl<S: Store> Cluster<S> {
         let mut out = self.outbox(alloc);
         let outcome = self.servers[to as usize].receive(alloc, packet, &mut out);
         let outcome = self.end(to, outcome, &mut out);
-        mark_delivered(&mut self.packets, place, &outcome);
+        set_delivered(&mut self.packets, place, &outcome);
         outcome
     }
 
@@ -83,8 +81,8 @@ impl<S: Store> Cluster<S> {
     ///
     /// `NoPacket` (53) where there is none, and `LostPacket` (54) where it was lost before, leave the group as it was.
     pub fn lose(&mut self, k: u32) -> Answer
-        requires { HasPast S.holds S.used S.format S.told self.old }
-        ensures { (setup : Setup) (past : Past) → IsReached S.holds S.used S.format S.told setup past self.old → HasGone S.holds S.used S.format S.told S.rose S.was setup past.group (Lose k) self.old self.new result }
+        requires { HasPast S.model self.old }
+        ensures { HasGoneBy S.model (Lose k) self.old self.new result }
     {
         let place = k as usize;
         if place >= self.packets.len() {

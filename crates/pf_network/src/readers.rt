@@ -1,4 +1,4 @@
-//! What a cluster shows.
+//! What a network shows.
 ghost use Rattle.std.specs.Prelude.{◌≡◌, ◌≤◌, ◌<◌, ◌↔◌, IfNone, IfSome, IsTrue, MatchOption, Some, false, length, map, slice_get};
 ghost use Rattle.pf_protocol.specs.Groups.{Group};
 ghost use Rattle.pf_protocol.specs.Servers.{Setup};
@@ -7,7 +7,7 @@ ghost use Rattle.pf_network.specs.Readings.{taken_of};
 ghost use Rattle.pf_network.specs.Showing.{Shows, acked_of};
 ghost use Rattle.pf_network.specs.Shown.{Idles, IsLeader, IsRunningAt, IsShown, TakesRead, is_acked, later_of, served_by};
 
-use crate::{Acked, Cluster, Parcel};
+use crate::{Acked, Network, Parcel};
 use pf_base::{Data, ServerId, Slot, Term};
 use pf_server::Server;
 use pf_state::{Role, Running};
@@ -43,7 +43,7 @@ fn later(
     Some((term, number))
 }
 
-impl<S: Store> Cluster<S> {
+impl<S: Store> Network<S> {
     /// Every packet that was ever sent, in order.
     pub fn packets(&self) -> &[Parcel]
         ensures { result.now ≡ self.now.packets.items }
@@ -71,14 +71,14 @@ impl<S: Store> Cluster<S> {
 
     /// The slots that were acknowledged to hosts, in order.
     pub fn acked(&self) -> &[Acked]
-        ensures { (setup : Setup) (g : Group) → Shows S.holds S.used S.format S.told setup self.now g → result.now ≡ map acked_of g.acked }
+        ensures { (setup : Setup) (g : Group) → Shows S.model setup self.now g → result.now ≡ map acked_of g.acked }
     {
         &self.acked.list
     }
 
     /// Whether the slot was acknowledged in this term.
     pub fn is_acked(&self, term: Term, slot: Slot) -> bool
-        ensures { (setup : Setup) (g : Group) → Shows S.holds S.used S.format S.told setup self.now g → result ≡ is_acked g term slot }
+        ensures { (setup : Setup) (g : Group) → Shows S.model setup self.now g → result ≡ is_acked g term slot }
     {
         self.acked.has(term, slot)
     }
@@ -86,15 +86,15 @@ impl<S: Store> Cluster<S> {
     /// What a running server has in memory. `None` exactly where it does not run.
     pub fn running(&self, server: ServerId) -> Option<&Running>
         requires server { server < 3 }
-        requires shown { IsShown S.holds S.used S.format S.told self.now }
-        ensures { (setup : Setup) (g : Group) → Shows S.holds S.used S.format S.told setup self.now g → MatchOption result (Idles g server) (λ me. IsRunningAt g server me.now) }
+        requires shown { IsShown S.model self.now }
+        ensures { (setup : Setup) (g : Group) → Shows S.model setup self.now g → MatchOption result (Idles g server) (λ me. IsRunningAt g server me.now) }
     {
         self.servers[server as usize].running()
     }
 
     /// Of the running servers that serve the one of the greatest term: that term, and its number. `None` exactly where none serves.
     pub fn leader(&self) -> Option<(Term, ServerId)>
-        ensures { (setup : Setup) (g : Group) → Shows S.holds S.used S.format S.told setup self.now g → IsLeader g result }
+        ensures { (setup : Setup) (g : Group) → Shows S.model setup self.now g → IsLeader g result }
     {
         let mut leader = None;
         for server in &self.servers {
@@ -107,8 +107,8 @@ impl<S: Store> Cluster<S> {
     /// for its answer, or where the answer was handed out before; nothing changes then.
     pub fn take_read(&mut self, number: u64) -> Option<Data>
         ensures none { IfNone result (self.new ≡ self.old) }
-        ensures taken { (setup : Setup) (g : Group) → Shows S.holds S.used S.format S.told setup self.old g → TakesRead g number (taken_of self.old) (taken_of self.new) result }
-        ensures shows { (setup : Setup) (g : Group) → Shows S.holds S.used S.format S.told setup self.old g → Shows S.holds S.used S.format S.told setup self.new g }
+        ensures taken { (setup : Setup) (g : Group) → Shows S.model setup self.old g → TakesRead g number (taken_of self.old) (taken_of self.new) result }
+        ensures shows { (setup : Setup) (g : Group) → Shows S.model setup self.old g → Shows S.model setup self.new g }
         ensures same { self.new ≡ record self.old { readings = self.new.readings } }
     {
         let place = number as usize;

@@ -1,15 +1,13 @@
 //! What hosts ask.
 ghost use Rattle.std.specs.Prelude.{◌≡◌, ◌<◌, vec_capacity, vec_len};
 ghost use Rattle.pf_base.specs.Span.{IsWritable};
-ghost use Rattle.pf_protocol.specs.Servers.{Setup};
-ghost use Rattle.pf_network.specs.Pasts.{Past};
 ghost use Rattle.pf_protocol.specs.Answers.{IsSubmitted};
 ghost use Rattle.pf_protocol.specs.declared.events.Event.TheVariants.{Fetch, Submit};
 ghost use Rattle.pf_network.specs.Readings.{readings_with};
-ghost use Rattle.pf_network.specs.Going.{Goes, HasPast, IsReached};
+ghost use Rattle.pf_network.specs.Going.{GoesBy, HasPast};
 
 use crate::keeping::put;
-use crate::{Cluster, Reading};
+use crate::{Network, Reading};
 use pf_base::{NoMemory, Range, ServerId};
 use pf_entry::Op;
 use pf_protocol::Answer;
@@ -28,7 +26,7 @@ fn note_read(readings: &mut Vec<Reading>, outcome: &Result<Answer, NoMemory>)
     }
 }
 
-impl<S: Store> Cluster<S> {
+impl<S: Store> Network<S> {
     /// A host hands a write of whole sectors, or a mark, to a server. The answer is its slot.
     ///
     /// `Down` (51), then `OldFormat` (97), `BadRange` (10), `NotLeader` (50), `WindowFull` (30), `PacketsFull` (55) and `LogFull`
@@ -37,8 +35,8 @@ impl<S: Store> Cluster<S> {
     pub fn submit(&mut self, alloc: Global, server: ServerId, op: Op) -> Result<Answer, NoMemory>
         requires server { server < 3 }
         requires op { IsSubmitted op }
-        requires reached { HasPast S.holds S.used S.format S.told self.old }
-        ensures { (setup : Setup) (past : Past) → IsReached S.holds S.used S.format S.told setup past self.old → Goes S.holds S.used S.format S.told S.rose S.was setup past.group (Submit server op) self.old self.new result }
+        requires reached { HasPast S.model self.old }
+        ensures { GoesBy S.model (Submit server op) self.old self.new result }
     {
         self.acked.reserve()?;
         let mut out = self.outbox(alloc);
@@ -58,8 +56,8 @@ impl<S: Store> Cluster<S> {
     ) -> Result<Answer, NoMemory>
         requires server { server < 3 }
         requires range { IsWritable range.first range.count }
-        requires reached { HasPast S.holds S.used S.format S.told self.old }
-        ensures { (setup : Setup) (past : Past) → IsReached S.holds S.used S.format S.told setup past self.old → Goes S.holds S.used S.format S.told S.rose S.was setup past.group (Fetch server range) self.old self.new result }
+        requires reached { HasPast S.model self.old }
+        ensures { GoesBy S.model (Fetch server range) self.old self.new result }
     {
         self.readings.reserve(1)?;
         self.acked.reserve()?;

@@ -1,12 +1,10 @@
 //! What keeps a group going: elections, packets that may have been missed, and checkpoints.
 ghost use Rattle.std.specs.Prelude.{◌≡◌, ◌<◌};
-ghost use Rattle.pf_protocol.specs.Servers.{Setup};
-ghost use Rattle.pf_network.specs.Pasts.{Past};
 ghost use Rattle.pf_protocol.specs.declared.events.Event.TheVariants.{Checkpoint, Elect, Resend};
 ghost use Rattle.pf_network.specs.Elections.{elections_after};
-ghost use Rattle.pf_network.specs.Going.{Goes, HasPast, IsReached};
+ghost use Rattle.pf_network.specs.Going.{GoesBy, HasPast};
 
-use crate::Cluster;
+use crate::Network;
 use pf_base::{NoMemory, ServerId};
 use pf_protocol::{Answer, Refusal};
 use pf_store::Store;
@@ -28,7 +26,7 @@ fn count_election(elections: &mut u32, outcome: &Result<Answer, NoMemory>)
     }
 }
 
-impl<S: Store> Cluster<S> {
+impl<S: Store> Network<S> {
     /// A server stands for election. The answer is its term.
     ///
     /// `Down` (51), then `ElectionsFull` (56) where the group had 64 elections, `PacketsFull` (55) and `LogFull` (41), the first of
@@ -36,8 +34,8 @@ impl<S: Store> Cluster<S> {
     /// next restart finds the term or not, and the election counts.
     pub fn elect(&mut self, alloc: Global, server: ServerId) -> Result<Answer, NoMemory>
         requires server { server < 3 }
-        requires reached { HasPast S.holds S.used S.format S.told self.old }
-        ensures { (setup : Setup) (past : Past) → IsReached S.holds S.used S.format S.told setup past self.old → Goes S.holds S.used S.format S.told S.rose S.was setup past.group (Elect server) self.old self.new result }
+        requires reached { HasPast S.model self.old }
+        ensures { GoesBy S.model (Elect server) self.old self.new result }
     {
         if !self.servers[server as usize].is_running() {
             return Ok(Answer::Refused(Refusal::Down));
@@ -58,8 +56,8 @@ impl<S: Store> Cluster<S> {
     /// `Down` (51), then `PacketsFull` (55), and `NoMemory` (1) leave the group as it was.
     pub fn resend(&mut self, alloc: Global, server: ServerId) -> Result<Answer, NoMemory>
         requires server { server < 3 }
-        requires reached { HasPast S.holds S.used S.format S.told self.old }
-        ensures { (setup : Setup) (past : Past) → IsReached S.holds S.used S.format S.told setup past self.old → Goes S.holds S.used S.format S.told S.rose S.was setup past.group (Resend server) self.old self.new result }
+        requires reached { HasPast S.model self.old }
+        ensures { GoesBy S.model (Resend server) self.old self.new result }
     {
         self.acked.reserve()?;
         let mut out = self.outbox(alloc);
@@ -73,8 +71,8 @@ impl<S: Store> Cluster<S> {
     /// `Halted` (52) where a disk failed: the server is stopped, and its next restart finds the new image or not.
     pub fn checkpoint(&mut self, alloc: Global, server: ServerId) -> Result<Answer, NoMemory>
         requires server { server < 3 }
-        requires reached { HasPast S.holds S.used S.format S.told self.old }
-        ensures { (setup : Setup) (past : Past) → IsReached S.holds S.used S.format S.told setup past self.old → Goes S.holds S.used S.format S.told S.rose S.was setup past.group (Checkpoint server) self.old self.new result }
+        requires reached { HasPast S.model self.old }
+        ensures { GoesBy S.model (Checkpoint server) self.old self.new result }
     {
         self.acked.reserve()?;
         let mut out = self.outbox(alloc);

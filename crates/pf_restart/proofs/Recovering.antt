@@ -142,8 +142,8 @@ nothing_cut o false none = refl
 none_kept : {X : Type 0} → (m : Map X) (base : ℕ) → m ≡ FinMap.empty → FinMap.retain_keys m (nat_lt base) ≡ FinMap.empty
 none_kept m base none = same_map nat_cmp_total nat_cmp-IsAntisymmetric _ _ (λ q. get_above m base q ∙ nothing_cut (FinMap.get m q) (nat_lt base q) (ap (λ n. FinMap.get n q) none ∙ get-empty nat_cmp q) ∙ sym (get-empty nat_cmp q))
 
-pub none_trimmed : (log new : Holes) (base : ℕ) → log ≡ no_holes 0 → new ≡ record { base = base; entries = FinMap.retain_keys log.entries (nat_lt base); marks = Sets.retain log.marks (nat_lt base) } → new ≡ no_holes base
-none_trimmed log new base none is = is ∙ (λ i. record { base = base; entries = none_kept log.entries base (ap (λ (l : Holes). l.entries) none) i; marks = none_kept log.marks base (ap (λ (l : Holes). l.marks) none) i })
+pub none_trimmed : (log new : Holes) (base : ℕ) → log ≡ no_holes 0 → new ≡ record { base = base; entries = FinMap.retain_keys log.entries (nat_lt base); committed = Sets.retain log.committed (nat_lt base) } → new ≡ no_holes base
+none_trimmed log new base none is = is ∙ (λ i. record { base = base; entries = none_kept log.entries base (ap (λ (l : Holes). l.entries) none) i; committed = none_kept log.committed base (ap (λ (l : Holes). l.committed) none) i })
 
 -- a record keeps the window
 pub entry_placed : (d : Durable) (e : Entry) → HasWindow (stored d (EntryRecord e)) → IsPlaced d.base e.slot
@@ -196,7 +196,7 @@ pub entry_followed : (old : Recovered) (e : Entry) (starts : StartRoom) (log : H
 unfolding stored put_entry
 entry_followed old e starts log started put = record {
   state = λ i. record (state_in old) { term = e.term; starts = started i; base = (put i).base; log = (put i).entries };
-  unmarked = ap (λ (l : Holes). l.marks) put;
+  unmarked = ap (λ (l : Holes). l.committed) put;
 }
 
 pub merged_followed : (old : Recovered) (term first : ℕ) (es : List Entry) (starts : StartRoom) (log : Holes) → starts.starts ≡ add_merged_start old.starts.starts term first es
@@ -204,7 +204,7 @@ pub merged_followed : (old : Recovered) (term first : ℕ) (es : List Entry) (st
 unfolding stored
 merged_followed old term first es starts log started put = record {
   state = λ i. record (state_in old) { term = term; starts = started i; base = (put i).base; log = (put i).entries };
-  unmarked = ap (λ (l : Holes). l.marks) put;
+  unmarked = ap (λ (l : Holes). l.committed) put;
 }
 
 pub image_window : (generation term : ℕ) (vote : VoteLog) (applied : Numbers) (sectors : List Sector) (image : Record) → image ≡ ImageRecord generation term vote applied sectors → HasWindow (stored blank image) → IsWithin vote.base vote.log
@@ -223,7 +223,7 @@ image_read format used generation term vote applied sectors image is es ascendin
     (record {
       state = (λ i. record { format = format; used = used; generation = generation; term = term; base = (put_there i).base; starts = started i; log = (put_there i).entries; saved = applied; sectors = sectors })
           ∙ (λ i. record { format = format; used = used; generation = generation; term = term; base = vote.base; starts = vote.starts; log = put_map vote.log es ascending rows i; saved = applied; sectors = sectors });
-      unmarked = ap (λ (l : Holes). l.marks) put_there;
+      unmarked = ap (λ (l : Holes). l.committed) put_there;
     })
 
 -- a half, whose first record is its image
@@ -250,7 +250,7 @@ module _ (found : Found) (image : Record) (rest : List Record) (is : found.recor
       → (d : Durable) → StandsFor found d → HasWindow d → ⊥
   next_unplaced now r later each same none d stands window = none (window_before later (stored (state_in now) r) each (subst (λ (x : Durable). IsWithin x.base x.log) (whole d stands ∙ sym same) window))
 
-  pub all_read : (now : Recovered) (none : List Record) → none ≡ [] → but_used (recovered (state_in now) none) ≡ but_used (recovered (state_in first) rest) → now.used ≡ first.used → now.log.marks ≡ first.log.marks → (d : Durable) → StandsFor found d → IsRecovered d now
+  pub all_read : (now : Recovered) (none : List Record) → none ≡ [] → but_used (recovered (state_in now) none) ≡ but_used (recovered (state_in first) rest) → now.used ≡ first.used → now.log.committed ≡ first.log.committed → (d : Durable) → StandsFor found d → IsRecovered d now
   all_read now none empty same used marks d stands = record {
     state = same_state (state_in now) d (ap (λ rs. but_used (recovered (state_in now) rs)) (sym empty) ∙ same ∙ sym (whole d stands)) (used ∙ ap (λ (x : Durable). x.used) begun.state ∙ stands.used);
     unmarked = marks ∙ begun.unmarked;

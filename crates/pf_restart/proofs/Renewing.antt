@@ -18,7 +18,7 @@ use Rattle.pf_entry.specs.Sizes.{body_size, empty_half, entry_size}
 use Rattle.pf_codec.specs.Fitting.{RecordFits, EntryFits as HasWords}
 use Rattle.pf_codec.specs.Spelling.{body_bytes}
 use Rattle.pf_codec.proofs.MapLaws.{every_of_gets}
-use Rattle.pf_store.specs.Stores.{IsImageOf}
+use Rattle.pf_store.specs.Stores.{IsImageOf, StoreModel}
 use Rattle.pf_protocol.specs.Servers.{Server, Setup}
 use Rattle.pf_protocol.specs.Answers.{IsSetup}
 use Rattle.pf_protocol.specs.Fitting.{EntryFits, NameFits}
@@ -174,15 +174,15 @@ pub renewed_second : (d : Durable) → (d.format ≡ 1 → ⊥) → d ≡ renewe
 unfolding renewed
 renewed_second d apart = sym (cond-false _ _ _ (ne_eqb d.format 1 apart))
 
-module _ {S : Type 0} (holds : S → Durable → Durable → Type 0) (used format : S → ℕ) (d : Durable) where
-  pub still_revived : (store : S) (me : Running) (seat : Seat) (life : ℕ) → IsBegun holds used format d store me seat life → IsRevived d me seat life
+module _ {S : Type 0} (model : StoreModel S) (d : Durable) where
+  pub still_revived : (store : S) (me : Running) (seat : Seat) (life : ℕ) → IsBegun model d store me seat life → IsRevived d me seat life
   still_revived store me seat life begun = record { cached = begun.stands.cached; is = begun.is; setup = begun.setup; begun = begun.begun }
 
-  abbrev pub begun_lives : (e : Durable) (store : S) (me : Running) (seat : Seat) (life : ℕ) → IsSeat seat → IsBegun holds used format d store me seat life → Lives e me → Lives d me
+  abbrev pub begun_lives : (e : Durable) (store : S) (me : Running) (seat : Seat) (life : ℕ) → IsSeat seat → IsBegun model d store me seat life → Lives e me → Lives d me
   begun_lives e store me seat life made begun lives = record { seat = seat; life = life; made = made; revived = still_revived store me seat life begun; early = lives_early d e me lives begun.stands.cached }
 
   -- over a store that has the state
-  pub begun_so : (store : S) (me : Running) (seat : Seat) (life : ℕ) → IsRevived d me seat life → holds store d d → used store ≡ d.used → format store ≡ d.format → IsBegun holds used format d store me seat life
+  pub begun_so : (store : S) (me : Running) (seat : Seat) (life : ℕ) → IsRevived d me seat life → model.holds store d d → model.used store ≡ d.used → model.format store ≡ d.format → IsBegun model d store me seat life
   begun_so store me seat life now recorded used_is half = record {
     stands = record { recorded = recorded; used_is = used_is; within = now.begun.half.within; half = half; cached = now.cached };
     is = now.is;
@@ -190,7 +190,7 @@ module _ {S : Type 0} (holds : S → Durable → Durable → Type 0) (used forma
     begun = now.begun;
   }
 
-module _ {S : Type 0} (holds : S → Durable → Durable → Type 0) (used format : S → ℕ) (d : Durable) (me : Running) (seat : Seat) (life : ℕ) (made : IsSeat seat) (now : IsRevived d me seat life) (early : d.generation < 2 ^ 63) where
+module _ {S : Type 0} (model : StoreModel S) (d : Durable) (me : Running) (seat : Seat) (life : ℕ) (made : IsSeat seat) (now : IsRevived d me seat life) (early : d.generation < 2 ^ 63) where
   used_after : (stored d (image_of (anew d))).used ≡ empty_half + body_size (image_of (anew d))
   unfolding stored
   used_after = refl
@@ -199,8 +199,8 @@ module _ {S : Type 0} (holds : S → Durable → Durable → Type 0) (used forma
   unfolding stored
   format_after = refl
 
-  pub saved_begun : (store : S) (body : List ℕ) → IsImageOf d (image_of (anew d)) body → holds store (stored d (image_of (anew d))) (stored d (image_of (anew d))) → used store ≡ empty_half + length body → format store ≡ 2
-      → IsBegun holds used format (stored d (image_of (anew d))) store (record me { generation = me.generation + 1 }) seat life
+  pub saved_begun : (store : S) (body : List ℕ) → IsImageOf d (image_of (anew d)) body → model.holds store (stored d (image_of (anew d))) (stored d (image_of (anew d))) → model.used store ≡ empty_half + length body → model.format store ≡ 2
+      → IsBegun model (stored d (image_of (anew d))) store (record me { generation = me.generation + 1 }) seat life
   saved_begun store body is recorded used_is half =
-      begun_so holds used format (stored d (image_of (anew d))) store (record me { generation = me.generation + 1 }) seat life (revived_after d me seat life made now early) recorded
+      begun_so model (stored d (image_of (anew d))) store (record me { generation = me.generation + 1 }) seat life (revived_after d me seat life made now early) recorded
       (used_is ∙ ap (λ n. empty_half + n) (image_len d (image_of (anew d)) body is) ∙ sym used_after) (half ∙ sym format_after)

@@ -6,6 +6,7 @@ use Rattle.pf_protocol.specs.Servers.{Setup}
 use Rattle.pf_protocol.specs.Saving.{renewed, restarted}
 use Rattle.pf_protocol.specs.Fitting.{DurableFits}
 use Rattle.pf_protocol.specs.Answers.{IsSetup}
+use Rattle.pf_store.specs.Stores.{StoreModel}
 use Rattle.pf_state.specs.declared.running.Running.{Running}
 use Rattle.pf_state.specs.Standing.{server_of, setup_of, Stands}
 use Rattle.pf_restart.specs.declared.reading.Reading.{Reading}
@@ -45,10 +46,10 @@ pub record IsRead (r : Reading) (d : Durable) : Type 0 where
   pub generation : r.generation ≡ d.generation
 
 -- the store still has some of these two states
-pub record HasSome {S : Type 0} (holds : S → Durable → Durable → Type 0) (before after : Durable) (store : S) : Type 0 where
+pub record HasSome {S : Type 0} (model : StoreModel S) (before after : Durable) (store : S) : Type 0 where
   pub x : Durable
   pub y : Durable
-  pub has : holds store x y
+  pub has : model.holds store x y
   pub first : (x ≡ before) ⊎ (x ≡ after)
   pub second : (y ≡ before) ⊎ (y ≡ after)
 
@@ -59,16 +60,16 @@ pub record WasBegun {S : Type 0} (was : S → S → Durable → Durable → Type
   pub read : was old between before after
   pub saved : (new ≡ between) ⊎ ((d : Durable) × ((d ≡ before) ⊎ (d ≡ after)) × was between new d (renewed d))
 
-module _ {S : Type 0} (holds : S → Durable → Durable → Type 0) (used format : S → ℕ) where
+module _ {S : Type 0} (model : StoreModel S) where
   -- the server begins this life over this state
   pub record IsBegun (d : Durable) (store : S) (me : Running) (seat : Seat) (life : ℕ) : Type 0 where
-    pub stands : Stands holds used format d store me
+    pub stands : Stands model d store me
     pub is : server_of d me ≡ restarted seat.number life d
     pub setup : setup_of me ≡ setup_at seat
     pub begun : HasBegun (setup_at seat) d
 
   -- a state that was there is there still, in the same half
   pub record IsThere (d : Durable) (store : S) : Type 0 where
-    pub recorded : holds store d d
-    pub used_is : used store ≡ d.used
-    pub half : format store ≡ d.format
+    pub recorded : model.holds store d d
+    pub used_is : model.used store ≡ d.used
+    pub half : model.format store ≡ d.format

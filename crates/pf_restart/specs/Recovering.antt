@@ -34,12 +34,12 @@ HasWindow d = IsWithin d.base d.log
 
 -- the log without entries above a base
 abbrev pub no_holes : ℕ → Holes
-no_holes base = record { base = base; entries = FinMap.empty; marks = Sets.empty }
+no_holes base = record { base = base; entries = FinMap.empty; committed = Sets.empty }
 
 -- this state was read, and no entry is marked as committed
 pub record IsRecovered (d : Durable) (r : Recovered) : Type 0 where
   pub state : state_in r ≡ d
-  pub unmarked : r.log.marks ≡ Sets.empty
+  pub unmarked : r.log.committed ≡ Sets.empty
 
 -- the state after one more record, in as many bytes
 abbrev pub followed : Durable → Record → Durable
@@ -47,7 +47,7 @@ followed d r = record (stored d r) { used = d.used }
 
 pub record IsFollowed (old : Recovered) (r : Record) (new : Recovered) : Type 0 where
   pub state : state_in new ≡ followed (state_in old) r
-  pub unmarked : new.log.marks ≡ old.log.marks
+  pub unmarked : new.log.committed ≡ old.log.committed
 
 -- one more record was read, or an entry of it has no place
 abbrev pub Follows : Recovered → Record → Recovered → Bool → Type 0

@@ -10,6 +10,7 @@ use Rattle.pf_entry.specs.declared.entries.Entry.{Entry}
 use Rattle.pf_entry.specs.declared.entries.Named.{Named}
 use Rattle.pf_protocol.specs.Servers.{Setup}
 use Rattle.pf_protocol.specs.Fitting.{NameFits, OpFits, SectorsFit}
+use Rattle.pf_store.specs.Stores.{StoreModel}
 use Rattle.pf_restart.specs.Beginning.{HasBegun, MayBegin}
 use Rattle.pf_restart.specs.Recovering.{IsPlaced}
 
@@ -76,10 +77,10 @@ pub record IsFit (setup : Setup) (d : Durable) : Type 0 where
   pub starts : AreStarts d.starts
 
 -- the store has one of the two states, which does not pass
-pub record HasUnfit {S : Type 0} (holds : S → Durable → Durable → Type 0) (setup : Setup) (before after : Durable) (store : S) : Type 0 where
+pub record HasUnfit {S : Type 0} (model : StoreModel S) (setup : Setup) (before after : Durable) (store : S) : Type 0 where
   pub d : Durable
   pub either : (d ≡ before) ⊎ (d ≡ after)
-  pub there : holds store d d
+  pub there : model.holds store d d
   pub unfit : IsFit setup d → ⊥
 
 -- a server may begin from the state, and no state fails from which it may, nor one that passes

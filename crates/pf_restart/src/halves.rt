@@ -50,14 +50,14 @@ fn save_anew<S: Store>(
     body: &[u8],
     read: Reading,
 ) -> Result<(), RestartFault>
-    requires lives { (d : Durable) × S.holds store.old d d × Lives d me.old }
+    requires lives { (d : Durable) × S.model.holds store.old d d × Lives d me.old }
     requires body { (d : Durable) → Lives d me.old → body.now ≡ body_bytes (image_of (anew d)) }
-    ensures saved { OnOk result ((d : Durable) (seat : SeatIs) (life : ℕ) → IsSeat seat → IsBegun S.holds S.used S.format d store.old me.old seat life → IsBegun S.holds S.used S.format (stored d (image_of (anew d))) store.new me.new seat life) }
-    ensures halted { OnErr result ((d : Durable) → S.holds store.old d d → Lives d me.old → S.holds store.new d (stored d (image_of (anew d)))) }
-    ensures any_moment { (d : Durable) → S.holds store.old d d → Lives d me.old → (store.new ≡ store.old) ⊎ S.was store.old store.new d (stored d (image_of (anew d))) }
-    ensures told { S.told store.new ≡ S.told store.old }
+    ensures saved { OnOk result ((d : Durable) (seat : SeatIs) (life : ℕ) → IsSeat seat → IsBegun S.model d store.old me.old seat life → IsBegun S.model (stored d (image_of (anew d))) store.new me.new seat life) }
+    ensures halted { OnErr result ((d : Durable) → S.model.holds store.old d d → Lives d me.old → S.model.holds store.new d (stored d (image_of (anew d)))) }
+    ensures any_moment { (d : Durable) → S.model.holds store.old d d → Lives d me.old → (store.new ≡ store.old) ⊎ S.model.was store.old store.new d (stored d (image_of (anew d))) }
+    ensures told { S.model.told store.new ≡ S.model.told store.old }
     ensures fault { IfErr result (λ fault. fault ≡ RestartFault.SaveHalted read) }
-    ensures cause { OnErr result (S.rose store.old store.new) }
+    ensures cause { OnErr result (S.model.rose store.old store.new) }
 {
     match store.save(body) {
         Ok(()) => {
@@ -76,14 +76,14 @@ pub fn renew<S: Store>(
     image: Option<Vec<u8>>,
     read: Reading,
 ) -> Result<(), RestartFault>
-    requires lives { (d : Durable) × S.holds store.old d d × Lives d me.old }
-    requires image { IsImageFor me.old (S.format store.old) (option_map (λ body. body.items) image) }
-    ensures saved { OnOk result ((d : Durable) (seat : SeatIs) (life : ℕ) → IsSeat seat → IsBegun S.holds S.used S.format d store.old me.old seat life → IsBegun S.holds S.used S.format (renewed d) store.new me.new seat life) }
-    ensures halted { OnErr result ((d : Durable) → S.holds store.old d d → Lives d me.old → S.format store.old ≡ d.format → S.holds store.new d (renewed d)) }
-    ensures any_moment { (d : Durable) → S.holds store.old d d → Lives d me.old → S.format store.old ≡ d.format → (store.new ≡ store.old) ⊎ S.was store.old store.new d (renewed d) }
-    ensures told { S.told store.new ≡ S.told store.old }
+    requires lives { (d : Durable) × S.model.holds store.old d d × Lives d me.old }
+    requires image { IsImageFor me.old (S.model.format store.old) (option_map (λ body. body.items) image) }
+    ensures saved { OnOk result ((d : Durable) (seat : SeatIs) (life : ℕ) → IsSeat seat → IsBegun S.model d store.old me.old seat life → IsBegun S.model (renewed d) store.new me.new seat life) }
+    ensures halted { OnErr result ((d : Durable) → S.model.holds store.old d d → Lives d me.old → S.model.format store.old ≡ d.format → S.model.holds store.new d (renewed d)) }
+    ensures any_moment { (d : Durable) → S.model.holds store.old d d → Lives d me.old → S.model.format store.old ≡ d.format → (store.new ≡ store.old) ⊎ S.model.was store.old store.new d (renewed d) }
+    ensures told { S.model.told store.new ≡ S.model.told store.old }
     ensures fault { IfErr result (λ fault. fault ≡ RestartFault.SaveHalted read) }
-    ensures cause { OnErr result (S.rose store.old store.new) }
+    ensures cause { OnErr result (S.model.rose store.old store.new) }
 {
     match image {
         None => Ok(()),

@@ -25,7 +25,7 @@ use std::alloc::Global;
 fn begin(alloc: Global, seat: &Seat, life: u64, tables: Recovered) -> Result<Running, NoMemory>
     requires seat { IsSeat seat.now }
     requires begun { HasBegun (setup_at seat.now) (state_in tables) }
-    requires unmarked { tables.log.marks ≡ set.empty }
+    requires unmarked { tables.log.committed ≡ set.empty }
     ensures { IfOk result (λ me. IsRevived (state_in tables) me seat.now life) }
 {
     let idle = Idle::new(alloc)?;
@@ -36,7 +36,7 @@ fn begin(alloc: Global, seat: &Seat, life: u64, tables: Recovered) -> Result<Run
 fn seated(alloc: Global, seat: &Seat, life: u64, tables: Recovered, idle: Idle) -> Running
     requires seat { IsSeat seat.now }
     requires begun { HasBegun (setup_at seat.now) (state_in tables) }
-    requires unmarked { tables.log.marks ≡ set.empty }
+    requires unmarked { tables.log.committed ≡ set.empty }
     requires in_hand { idle.in_hand ≡ map.empty }
     requires rooms { idle.rooms ≡ map.empty }
     requires snapshots { idle.snapshots ≡ map.empty }

@@ -29,19 +29,19 @@ pub fn restart<S: Store>(
     life: u64,
 ) -> Result<(Running, Reading), RestartFault>
     requires seat { IsSeat seat.now }
-    ensures begun { IfOk result (λ r. (d : Durable) × IsBegun S.holds S.used S.format d store.new r.0 seat.now life) }
-    ensures found { IsTrue (S.told store.old) → IfOk result (λ r. (before after : Durable) → S.holds store.old before after → (d : Durable) × ((d ≡ before) ⊎ (d ≡ after)) × IsRead r.1 d × IsBegun S.holds S.used S.format (renewed d) store.new r.0 seat.now life) }
-    ensures unsaved { (reading : ReadingIs) → IsErrOf result (RestartFault.SaveHalted reading) → IsTrue (S.told store.old) → (before after : Durable) → S.holds store.old before after → (d : Durable) × ((d ≡ before) ⊎ (d ≡ after)) × IsRead reading d × S.holds store.new d (renewed d) }
+    ensures begun { IfOk result (λ r. (d : Durable) × IsBegun S.model d store.new r.0 seat.now life) }
+    ensures found { IsTrue (S.model.told store.old) → IfOk result (λ r. (before after : Durable) → S.model.holds store.old before after → (d : Durable) × ((d ≡ before) ⊎ (d ≡ after)) × IsRead r.1 d × IsBegun S.model (renewed d) store.new r.0 seat.now life) }
+    ensures unsaved { (reading : ReadingIs) → IsErrOf result (RestartFault.SaveHalted reading) → IsTrue (S.model.told store.old) → (before after : Durable) → S.model.holds store.old before after → (d : Durable) × ((d ≡ before) ⊎ (d ≡ after)) × IsRead reading d × S.model.holds store.new d (renewed d) }
     // Whatever was read, where the disks tell nothing: it fits the server, and was saved anew or not.
-    ensures unsaved_any { (reading : ReadingIs) → IsErrOf result (RestartFault.SaveHalted reading) → (d : Durable) × HasBegun (setup_at seat.now) d × S.holds store.new d (renewed d) }
+    ensures unsaved_any { (reading : ReadingIs) → IsErrOf result (RestartFault.SaveHalted reading) → (d : Durable) × HasBegun (setup_at seat.now) d × S.model.holds store.new d (renewed d) }
     // Whatever the disks tell, the store stands where it stood.
-    ensures still { IfErr result (λ fault. IsEarly fault → StandsStill S.holds S.used S.format store.old store.new) }
-    ensures ours { IsTrue (S.told store.old) → (before after : Durable) → S.holds store.old before after → MayBegin (setup_at seat.now) before → MayBegin (setup_at seat.now) after → result ≢ Err RestartFault.NotOurs }
+    ensures still { IfErr result (λ fault. IsEarly fault → StandsStill S.model store.old store.new) }
+    ensures ours { IsTrue (S.model.told store.old) → (before after : Durable) → S.model.holds store.old before after → MayBegin (setup_at seat.now) before → MayBegin (setup_at seat.now) after → result ≢ Err RestartFault.NotOurs }
     // Only where the state that is there does not pass the tests.
-    ensures unfit { IsErrOf result RestartFault.NotOurs → IsTrue (S.told store.old) → (before after : Durable) → S.holds store.old before after → HasUnfit S.holds (setup_at seat.now) before after (S.resumed store.new) }
-    ensures any_moment { IsTrue (S.told store.old) → (before after : Durable) → S.holds store.old before after → WasBegun S.was before after store.old store.new }
-    ensures told { S.told store.new ≡ S.told store.old }
-    ensures cause { IfErr result (λ fault. IsHalt fault → S.rose store.old store.new) }
+    ensures unfit { IsErrOf result RestartFault.NotOurs → IsTrue (S.model.told store.old) → (before after : Durable) → S.model.holds store.old before after → HasUnfit S.model (setup_at seat.now) before after (S.model.resumed store.new) }
+    ensures any_moment { IsTrue (S.model.told store.old) → (before after : Durable) → S.model.holds store.old before after → WasBegun S.model.was before after store.old store.new }
+    ensures told { S.model.told store.new ≡ S.model.told store.old }
+    ensures cause { IfErr result (λ fault. IsHalt fault → S.model.rose store.old store.new) }
 {
     let found = store.find(alloc)?;
     let format = found.format;

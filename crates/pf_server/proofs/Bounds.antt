@@ -11,6 +11,7 @@ use Rattle.pf_protocol.specs.Answers.{IsSetup}
 use Rattle.pf_protocol.specs.Asked.{Asks}
 use Rattle.pf_protocol.specs.Fitting.{DurableFits, OpFits, RoleFits, ServerFits, SlotFits, SlotsFit, VoteFits}
 use Rattle.pf_protocol.specs.Servers.{Server, Setup, Merging as MergingIs, Serving as ServingIs}
+use Rattle.pf_store.specs.Stores.{StoreModel}
 use Rattle.pf_leader.specs.Resending.{AreOwn}
 use Rattle.pf_apply.specs.Jobs.{IsFilledFor, IsJobOf}
 use Rattle.pf_state.specs.Bounds.{far}
@@ -52,7 +53,7 @@ module _ (setup : Setup) (n t : ℕ) (d : Durable) (me : Running) (cached : IsCa
         role = subst (λ b. RoleFits setup n t b (role_of me.role)) base f.role;
       }
 
-module _ {S : Type 0} (holds : S → Durable → Durable → Type 0) (used format : S → ℕ) (seat : Seat) (store : S) (me : Running) (s : Server) (runs : IsRunning holds used format seat store me s) where
+module _ {S : Type 0} (model : StoreModel S) (seat : Seat) (store : S) (me : Running) (s : Server) (runs : IsRunning model seat store me s) where
   pub same_life : me.life ≡ s.life
   unfolding server_of
   same_life = ap (λ (x : Server). x.life) runs.is

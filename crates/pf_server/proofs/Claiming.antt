@@ -6,6 +6,7 @@ use Rattle.pf_entry.specs.declared.ops.Job.{Job}
 use Rattle.pf_protocol.specs.Leading.{op_at}
 use Rattle.pf_protocol.specs.Saving.{claimable, claimed}
 use Rattle.pf_protocol.specs.Servers.{Server}
+use Rattle.pf_store.specs.Stores.{StoreModel}
 use Rattle.pf_apply.specs.declared.claims.Claimed.{Claimed}
 use Rattle.pf_apply.specs.Claims.{Claims as ClaimsHere}
 use Rattle.pf_state.specs.declared.running.Running.{Running}
@@ -22,22 +23,22 @@ use Rattle.pf_server.proofs.Standing.{quieted_runs, stands_then}
 abbrev job_of : Server → ℕ → Job
 job_of s slot = record { server = s.number; life = s.life; slot = slot; op = op_at s.durable.log slot }
 
-module _ {S : Type 0} (holds : S → Durable → Durable → Type 0) (used format : S → ℕ) (seat : Seat) (store : S) (me new : Running) (s : Server) (runs : IsRunning holds used format seat store me s) where
-  then_runs : (z : Server) → IsAfter s.durable me new z → IsRunning holds used format seat store new z
-  then_runs z after = stands_then holds used format seat store s.durable me new z runs.stands runs.setup after
+module _ {S : Type 0} (model : StoreModel S) (seat : Seat) (store : S) (me new : Running) (s : Server) (runs : IsRunning model seat store me s) where
+  then_runs : (z : Server) → IsAfter s.durable me new z → IsRunning model seat store new z
+  then_runs z after = stands_then model seat store s.durable me new z runs.stands runs.setup after
 
-  then_quiet : (z : Server) → IsRunning holds used format seat store new z → IsAsBefore holds used format seat store (Runs (quieted new)) z
-  then_quiet z runs = quieted_runs holds used format seat store new z runs
+  then_quiet : (z : Server) → IsRunning model seat store new z → IsAsBefore model seat store (Runs (quieted new)) z
+  then_quiet z runs = quieted_runs model seat store new z runs
 
   its_job : (job : Job) → (let its : Job = record { server = me.number; life = me.life; slot = job.slot; op = op_at s.durable.log job.slot } in job ≡ its) → job ≡ job_of s job.slot
   unfolding server_of
   its_job job is = is ∙ ap (λ z. job_of z job.slot) runs.is
 
   pub claims_by : (r : Result (Option Claimed) NoMemory) → IfOk r (λ c. (d : Durable) → IsCached d me → ClaimsHere d me new c) → OnErr r ((d : Durable) → IsCached d me → IsAfter d me new (server_of d me))
-      → Claims holds used format seat store (Runs (quieted new)) s r
+      → Claims model seat store (Runs (quieted new)) s r
   claims_by (Ok None) ok err =
       let none = ok s.durable runs.stands.cached in
-      (ap (claimable 4096) (sym runs.is) ∙ none.0, then_quiet s (subst (λ m. IsRunning holds used format seat store m s) (sym none.1) runs))
+      (ap (claimable 4096) (sym runs.is) ∙ none.0, then_quiet s (subst (λ m. IsRunning model seat store m s) (sym none.1) runs))
   claims_by (Ok (Some claim)) ok err =
       let job = claim.job in
       let its = ok s.durable runs.stands.cached in

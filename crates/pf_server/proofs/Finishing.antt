@@ -11,6 +11,7 @@ use Rattle.pf_protocol.specs.declared.answers.Answer.{Answer}
 use Rattle.pf_protocol.specs.declared.answers.Answer.TheVariants.{Done, Refused}
 use Rattle.pf_protocol.specs.declared.answers.Refusal.TheVariants.{Stale}
 use Rattle.pf_entry.proofs.Cases.{by_test}
+use Rattle.pf_store.specs.Stores.{StoreModel}
 use Rattle.pf_state.specs.declared.running.Running.{Running}
 use Rattle.pf_state.specs.Standing.{server_of, IsCached}
 use Rattle.pf_restart.specs.declared.seat.Seat.{Seat}
@@ -29,24 +30,24 @@ give_back_answer : (s : Server) (life slot : ℕ) → Done ≡ (on_give_back s l
 unfolding on_give_back
 give_back_answer s life slot = by_test (life == s.life) (λ b. Done ≡ (if b then sends (record s { in_hand = FinMap.remove s.in_hand slot }) [] else sends s []).answer) (λ _. refl) (λ _. refl)
 
-module _ {S : Type 0} (holds : S → Durable → Durable → Type 0) (used format : S → ℕ) (seat : Seat) (store : S) (me new : Running) (s : Server) (runs : IsRunning holds used format seat store me s) where
+module _ {S : Type 0} (model : StoreModel S) (seat : Seat) (store : S) (me new : Running) (s : Server) (runs : IsRunning model seat store me s) where
   pub finish_comes : (life slot : ℕ) (answer : Answer) → (life ≢ me.life → (answer ≡ Refused (Stale me.life)) × (new ≡ quieted me)) → (life ≡ me.life → (answer ≡ Done) × ((d : Durable) → IsCached d me → WasAnswered d me new (on_finish (server_of d me) life slot).server))
-      → ComesInMemory holds used format seat store (Runs new) s (finish_refusal s life) (on_finish s life slot) answer
+      → ComesInMemory model seat store (Runs new) s (finish_refusal s life) (on_finish s life slot) answer
   finish_comes life slot answer stale done =
-      let its = same_life holds used format seat store me s runs in
-      by_test (life == s.life) (λ b. ComesInMemory holds used format seat store (Runs new) s (refuse (not b) (Stale s.life) None) (on_finish s life slot) answer)
+      let its = same_life model seat store me s runs in
+      by_test (life == s.life) (λ b. ComesInMemory model seat store (Runs new) s (refuse (not b) (Stale s.life) None) (on_finish s life slot) answer)
       (λ same.
       let end = done (eqb-true life s.life same ∙ sym its) in
-      settles holds used format seat store s.durable me new s (on_finish s life slot) answer runs.stands runs.setup
+      settles model seat store s.durable me new s (on_finish s life slot) answer runs.stands runs.setup
       (subst (λ x. WasAnswered s.durable me new (on_finish x life slot).server) runs.is (end.1 s.durable runs.stands.cached)) (end.0 ∙ finish_answer s life slot same))
       (λ apart.
       let end = stale (λ same. false≢true (sym apart ∙ eq-eqb life s.life (same ∙ its))) in
       record {
         answered = end.0 ∙ ap (λ n. Refused (Stale n)) its;
-        kept = subst (λ x. IsAsBefore holds used format seat store (Runs x) s) (sym end.1) (quieted_runs holds used format seat store me s runs);
+        kept = subst (λ x. IsAsBefore model seat store (Runs x) s) (sym end.1) (quieted_runs model seat store me s runs);
       })
 
-  pub give_back_comes : (life slot : ℕ) → ((d : Durable) → IsCached d me → WasAnswered d me new (on_give_back (server_of d me) life slot).server) → IsSettled holds used format seat store (Runs new) s (on_give_back s life slot) Done
+  pub give_back_comes : (life slot : ℕ) → ((d : Durable) → IsCached d me → WasAnswered d me new (on_give_back (server_of d me) life slot).server) → IsSettled model seat store (Runs new) s (on_give_back s life slot) Done
   give_back_comes life slot end =
-      settles holds used format seat store s.durable me new s (on_give_back s life slot) Done runs.stands runs.setup
+      settles model seat store s.durable me new s (on_give_back s life slot) Done runs.stands runs.setup
       (subst (λ x. WasAnswered s.durable me new (on_give_back x life slot).server) runs.is (end s.durable runs.stands.cached)) (give_back_answer s life slot)

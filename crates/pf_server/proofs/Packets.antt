@@ -1,11 +1,11 @@
 -- Packets that come.
-use Rattle.std.proofs.Common.{◌≡◌, ℕ, sym, ap, subst, ◌∙◌}
-use Rattle.pf_entry.specs.Records.{Durable}
+use Rattle.std.proofs.Common.{◌≡◌, sym, ap, subst, ◌∙◌}
 use Rattle.pf_entry.specs.declared.packets.Body.{Body}
 use Rattle.pf_entry.specs.declared.packets.Packet.{Packet}
 use Rattle.pf_protocol.specs.Fitting.{PacketFits}
 use Rattle.pf_protocol.specs.Rows.{on_message, on_packet}
 use Rattle.pf_protocol.specs.Servers.{Server, Setup}
+use Rattle.pf_store.specs.Stores.{StoreModel}
 use Rattle.pf_state.specs.declared.running.Running.{Running}
 use Rattle.pf_state.specs.Coming.{IsComing}
 use Rattle.pf_state.specs.Packets.{packet}
@@ -19,7 +19,7 @@ pub same_row : (setup : Setup) (s : Server) (p : Packet) (body : Body) → p.bod
 unfolding on_packet
 same_row setup s p body is = ap (on_message setup s p.from p.term) (sym is)
 
-module _ {S : Type 0} (holds : S → Durable → Durable → Type 0) (used format : S → ℕ) (seat : Seat) (store : S) (me : Running) (s : Server) (runs : IsRunning holds used format seat store me s) where
+module _ {S : Type 0} (model : StoreModel S) (seat : Seat) (store : S) (me : Running) (s : Server) (runs : IsRunning model seat store me s) where
   same_number : me.number ≡ s.number
   unfolding server_of
   same_number = ap (λ (x : Server). x.number) runs.is

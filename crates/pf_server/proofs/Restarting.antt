@@ -3,7 +3,7 @@ use Rattle.std.proofs.Common.{◌≡◌, ◌≢◌, ◌⊎◌, inl, inr, ℕ, su
 use Rattle.pf_base.specs.declared.errors.NoMemory.{NoMemory}
 use Rattle.pf_entry.specs.Records.{Durable}
 use Rattle.pf_protocol.specs.Saving.{renewed, restarted}
-use Rattle.pf_store.specs.Stores.{StandsStill}
+use Rattle.pf_store.specs.Stores.{StandsStill, StoreModel}
 use Rattle.pf_protocol.specs.Servers.{Server, Condition, Running as RunningIs, Stopped as StoppedIs, Unformatted as UnformattedIs}
 use Rattle.pf_protocol.specs.declared.answers.Answer.{Answer}
 use Rattle.pf_protocol.specs.declared.answers.Answer.TheVariants.{Done, Refused}
@@ -29,7 +29,7 @@ use Rattle.pf_server.proofs.Bounds.{low_life, same_life}
 use Rattle.pf_server.proofs.Standing.{in_half, quieted_runs}
 
 -- one of two
-one_of : (P : Durable → Type 0) (x y d : Durable) → (d ≡ x) ⊎ (d ≡ y) → P x → P y → P d
+pub one_of : (P : Durable → Type 0) (x y d : Durable) → (d ≡ x) ⊎ (d ≡ y) → P x → P y → P d
 one_of P x y d (inl same) first second = subst P (sym same) first
 one_of P x y d (inr same) first second = subst P (sym same) second
 
@@ -39,10 +39,10 @@ chosen_of P false before after first second = first
 
 module _ (before after : Durable) where
   -- of the state without the last step's record or of that with it
-  abbrev IsOfEither : Durable → Type 0
+  abbrev pub IsOfEither : Durable → Type 0
   IsOfEither x = IsOf before x ⊎ IsOf after x
 
-  of_either : (x : Durable) → (x ≡ before) ⊎ (x ≡ after) → IsOfEither x
+  pub of_either : (x : Durable) → (x ≡ before) ⊎ (x ≡ after) → IsOfEither x
   of_either x (inl same) = inl (inl same)
   of_either x (inr same) = inr (inl same)
 
@@ -50,23 +50,23 @@ module _ (before after : Durable) where
   of_found true x of = inr of
   of_found false x of = inl of
 
-module _ {S : Type 0} (holds : S → Durable → Durable → Type 0) (used format : S → ℕ) (before after : Durable) (store : S) where
+module _ {S : Type 0} (model : StoreModel S) (before after : Durable) (store : S) where
   -- the two states that a restart may find
   pub record IsPair (doubt : Doubt) (x y : Durable) : Type 0 where
-    pub has : holds store x y
+    pub has : model.holds store x y
     pub first : IsOfEither before after x
     pub second : IsOfEither before after y
     pub chosen : (r : Reading) (d : Durable) → (d ≡ x) ⊎ (d ≡ y) → IsRead r d → IsOf (cond (found_by doubt r) after before) d
-    pub moved : (store' : S) → HasSome holds x y store' → Leaves holds used format doubt before after store'
+    pub moved : (store' : S) → HasSome model x y store' → Leaves model doubt before after store'
     pub may : (seat : Seat) → IsSeat seat → IsFit seat before → IsInHalf seat before → IsFit seat after → IsInHalf seat after → MayBegin (setup_at seat) x × MayBegin (setup_at seat) y
 
-  moved_one : (z x y : Durable) → IsOf z x → IsOf z y → (store' : S) → HasSome holds x y store' → HasOne holds used format z store'
+  moved_one : (z x y : Durable) → IsOf z x → IsOf z y → (store' : S) → HasSome model x y store' → HasOne model z store'
   moved_one z x y first second store' h = record { x = h.x; y = h.y; has = h.has; first = one_of (IsOf z) x y h.x h.first first second; second = one_of (IsOf z) x y h.y h.second first second }
 
   abbrev IsEither : Durable → Type 0
   IsEither d = (d ≡ before) ⊎ (d ≡ after)
 
-  pub pair_left : (doubt : Doubt) → Leaves holds used format doubt before after store → (x : Durable) × (y : Durable) × IsPair doubt x y
+  pub pair_left : (doubt : Doubt) → Leaves model doubt before after store → (x : Durable) × (y : Durable) × IsPair doubt x y
   pair_left Settled left = let one = left.1 in (
     one.x,
     one.y,
@@ -120,93 +120,93 @@ module _ {S : Type 0} (holds : S → Durable → Durable → Type 0) (used forma
   )
 
   -- what was read is there, perhaps saved anew
-  saved_one : (z d : Durable) → IsOf z d → holds store d (renewed d) → HasOne holds used format z store
+  saved_one : (z d : Durable) → IsOf z d → model.holds store d (renewed d) → HasOne model z store
   saved_one z d is has = record { x = d; y = renewed d; has = has; first = is; second = inr (renewed_of z d is) }
 
-  pub known_left : (doubt : Doubt) (r : Reading) (d : Durable) → (doubt ≡ Settled → before ≡ after) → IsOf (cond (found_by doubt r) after before) d → holds store d (renewed d) → Leaves holds used format (doubt_after doubt r) before after store
+  pub known_left : (doubt : Doubt) (r : Reading) (d : Durable) → (doubt ≡ Settled → before ≡ after) → IsOf (cond (found_by doubt r) after before) d → model.holds store d (renewed d) → Leaves model (doubt_after doubt r) before after store
   known_left Settled r d one is has = (one refl, saved_one before d is has)
   known_left (Open bytes generation) r d one is has = saved_one (cond (found_by (Open bytes generation) r) after before) d is has
   known_left (Read found) r d one is has = saved_one (cond found after before) d is has
 
 -- a restart that failed before it went on left the store as it was
-pub early : {S : Type 0} → (holds : S → Durable → Durable → Type 0) (used format : S → ℕ) (store store' : S) (begun : Result (Running × Reading) RestartFault) → IfErr begun (λ fault. IsEarly fault → StandsStill holds used format store store')
-    → (e : RestartFault) → begun ≡ Err e → IsEarly e → StandsStill holds used format store store'
-early holds used format store store' begun said e is = subst (λ b. IfErr b (λ fault. IsEarly fault → StandsStill holds used format store store')) is said
+pub early : {S : Type 0} → (model : StoreModel S) (store store' : S) (begun : Result (Running × Reading) RestartFault) → IfErr begun (λ fault. IsEarly fault → StandsStill model store store')
+    → (e : RestartFault) → begun ≡ Err e → IsEarly e → StandsStill model store store'
+early model store store' begun said e is = subst (λ b. IfErr b (λ fault. IsEarly fault → StandsStill model store store')) is said
 
 -- what a restart says, of a store that tells its content
-module _ {S : Type 0} (holds : S → Durable → Durable → Type 0) (used format : S → ℕ) (rose : S → S → Type 0) (seat : Seat) (store store' : S) (life : ℕ) (begun : Result (Running × Reading) RestartFault) where
+module _ {S : Type 0} (model : StoreModel S) (seat : Seat) (store store' : S) (life : ℕ) (begun : Result (Running × Reading) RestartFault) where
   pub record Says : Type 0 where
-    pub found : IfOk begun (λ r. (x y : Durable) → holds store x y → (d : Durable) × ((d ≡ x) ⊎ (d ≡ y)) × IsRead r.1 d × IsBegun holds used format (renewed d) store' r.0 seat (life + 1))
-    pub still : (e : RestartFault) → begun ≡ Err e → IsEarly e → StandsStill holds used format store store'
-    pub unsaved : (r : Reading) → begun ≡ Err (SaveHalted r) → (x y : Durable) → holds store x y → (d : Durable) × ((d ≡ x) ⊎ (d ≡ y)) × IsRead r d × holds store' d (renewed d)
-    pub ours : (x y : Durable) → holds store x y → MayBegin (setup_at seat) x → MayBegin (setup_at seat) y → begun ≢ Err NotOurs
-    pub cause : IfErr begun (λ fault. IsHalt fault → rose store store')
+    pub found : IfOk begun (λ r. (x y : Durable) → model.holds store x y → (d : Durable) × ((d ≡ x) ⊎ (d ≡ y)) × IsRead r.1 d × IsBegun model (renewed d) store' r.0 seat (life + 1))
+    pub still : (e : RestartFault) → begun ≡ Err e → IsEarly e → StandsStill model store store'
+    pub unsaved : (r : Reading) → begun ≡ Err (SaveHalted r) → (x y : Durable) → model.holds store x y → (d : Durable) × ((d ≡ x) ⊎ (d ≡ y)) × IsRead r d × model.holds store' d (renewed d)
+    pub ours : (x y : Durable) → model.holds store x y → MayBegin (setup_at seat) x → MayBegin (setup_at seat) y → begun ≢ Err NotOurs
+    pub cause : IfErr begun (λ fault. IsHalt fault → model.rose store store')
 
-module _ {S : Type 0} (holds : S → Durable → Durable → Type 0) (used format : S → ℕ) (rose : S → S → Type 0) (seat : Seat) (made : IsSeat seat) (store store' : S) (life : ℕ) (doubt : Doubt) (state state' : State) (before after : Durable) where
+module _ {S : Type 0} (model : StoreModel S) (seat : Seat) (made : IsSeat seat) (store store' : S) (life : ℕ) (doubt : Doubt) (state state' : State) (before after : Durable) where
   abbrev BeginsHere : Bool → Answer → Type 0
-  BeginsHere found answer = Begins holds used format rose seat store store' state' life before after found answer
+  BeginsHere found answer = Begins model seat store store' state' life before after found answer
 
   -- the life that begins
-  runs_again : (d z : Durable) (me : Running) → renewed d ≡ renewed z → IsBegun holds used format (renewed d) store' me seat (life + 1) → IsRunning holds used format seat store' me (restarted seat.number (suc life) (renewed z))
+  runs_again : (d z : Durable) (me : Running) → renewed d ≡ renewed z → IsBegun model (renewed d) store' me seat (life + 1) → IsRunning model seat store' me (restarted seat.number (suc life) (renewed z))
   unfolding restarted
   runs_again d z me same begun =
       let next : life + 1 ≡ suc life = omega arith in
-      subst (λ e. IsRunning holds used format seat store' me (restarted seat.number (suc life) e)) same
-      (subst (λ n. IsRunning holds used format seat store' me (restarted seat.number n (renewed d))) next
+      subst (λ e. IsRunning model seat store' me (restarted seat.number (suc life) e)) same
+      (subst (λ n. IsRunning model seat store' me (restarted seat.number n (renewed d))) next
       (record { stands = begun.stands; is = begun.is; setup = begun.setup }))
 
-  stops_so : (known : Doubt) → Leaves holds used format known before after store' → IsInHalf seat before → IsInHalf seat after → state' ≡ Stopped (life + 1) known → Meets holds used format seat store' state' (StoppedIs (suc life) before after)
-  stops_so known left half half2 is = subst (λ z. Meets holds used format seat store' z (StoppedIs (suc life) before after)) (sym is) (record { life_is = omega arith; left = left; first = half; second = half2 })
+  stops_so : (known : Doubt) → Leaves model known before after store' → IsInHalf seat before → IsInHalf seat after → state' ≡ Stopped (life + 1) known → Meets model seat store' state' (StoppedIs (suc life) before after)
+  stops_so known left half half2 is = subst (λ z. Meets model seat store' z (StoppedIs (suc life) before after)) (sym is) (record { life_is = omega arith; left = left; first = half; second = half2 })
 
-  module _ (left : Leaves holds used format doubt before after store) (one : doubt ≡ Settled → before ≡ after) (fit : IsFit seat before) (half : IsInHalf seat before) (fit2 : IsFit seat after) (half2 : IsInHalf seat after) where
-    abbrev pair : (x : Durable) × (y : Durable) × IsPair holds used format before after store doubt x y
-    pair = pair_left holds used format before after store doubt left
+  module _ (left : Leaves model doubt before after store) (one : doubt ≡ Settled → before ≡ after) (fit : IsFit seat before) (half : IsInHalf seat before) (fit2 : IsFit seat after) (half2 : IsInHalf seat after) where
+    abbrev pair : (x : Durable) × (y : Durable) × IsPair model before after store doubt x y
+    pair = pair_left model before after store doubt left
 
-    begins_ok : (me : Running) (r : Reading) → Says holds used format rose seat store store' life (Ok (me, r)) → state' ≡ Runs (quieted me) → BeginsHere (found_by doubt r) Done
+    begins_ok : (me : Running) (r : Reading) → Says model seat store store' life (Ok (me, r)) → state' ≡ Runs (quieted me) → BeginsHere (found_by doubt r) Done
     begins_ok me r says is =
         let read = says.found pair.0 pair.1 pair.2.has in
         let z = cond (found_by doubt r) after before in
         let same = renewed_of z read.0 (pair.2.chosen r read.0 read.1 read.2) in
         let next = restarted seat.number (suc life) (renewed z) in
-        subst (λ y. Meets holds used format seat store' y (RunningIs next)) (sym is) (quieted_runs holds used format seat store' me next (runs_again read.0 z me same read.3)).meets
+        subst (λ y. Meets model seat store' y (RunningIs next)) (sym is) (quieted_runs model seat store' me next (runs_again read.0 z me same read.3)).meets
 
-    begins_unread : Says holds used format rose seat store store' life (Err ReadHalted) → state' ≡ Stopped (life + 1) doubt → BeginsHere false (Refused Halted)
+    begins_unread : Says model seat store store' life (Err ReadHalted) → state' ≡ Stopped (life + 1) doubt → BeginsHere false (Refused Halted)
     begins_unread says is =
-        let still : HasSome holds pair.0 pair.1 store' = record { x = pair.0; y = pair.1; has = (says.still ReadHalted refl tt).holds_same pair.0 pair.1 pair.2.has; first = inl refl; second = inr refl } in
+        let still : HasSome model pair.0 pair.1 store' = record { x = pair.0; y = pair.1; has = (says.still ReadHalted refl tt).holds_same pair.0 pair.1 pair.2.has; first = inl refl; second = inr refl } in
         (stops_so doubt (pair.2.moved store' still) half half2 is, says.cause tt)
 
-    begins_unsaved : (r : Reading) → Says holds used format rose seat store store' life (Err (SaveHalted r)) → state' ≡ Stopped (life + 1) (doubt_after doubt r) → BeginsHere (found_by doubt r) (Refused Halted)
+    begins_unsaved : (r : Reading) → Says model seat store store' life (Err (SaveHalted r)) → state' ≡ Stopped (life + 1) (doubt_after doubt r) → BeginsHere (found_by doubt r) (Refused Halted)
     begins_unsaved r says is =
         let read = says.unsaved r refl pair.0 pair.1 pair.2.has in
-        (stops_so (doubt_after doubt r) (known_left holds used format before after store' doubt r read.0 one (pair.2.chosen r read.0 read.1 read.2) read.3) half half2 is, says.cause tt)
+        (stops_so (doubt_after doubt r) (known_left model before after store' doubt r read.0 one (pair.2.chosen r read.0 read.1 read.2) read.3) half half2 is, says.cause tt)
 
-    not_ours : {P : Type 0} → Says holds used format rose seat store store' life (Err NotOurs) → P
+    not_ours : {P : Type 0} → Says model seat store store' life (Err NotOurs) → P
     not_ours says = let may = pair.2.may seat made fit half fit2 half2 in absurd (says.ours pair.0 pair.1 pair.2.has may.0 may.1 refl)
 
     -- whatever it comes to
     pub begins : (P : Result (Answer × Bool) NoMemory → Type 0) → ((answer : Answer) (found : Bool) → BeginsHere found answer → P (Ok (answer, found))) → (begun : Result (Running × Reading) RestartFault) (result : Result (Answer × Bool) NoMemory)
-        → (begun ≡ Err WantsMemory → state' ≡ state → P (Err (record {}))) → Says holds used format rose seat store store' life begun → Restarts life doubt state state' begun result → P result
+        → (begun ≡ Err WantsMemory → state' ≡ state → P (Err (record {}))) → Says model seat store store' life begun → Restarts life doubt state state' begun result → P result
     begins P ok (Ok (me, r)) result err says ends = subst P (sym ends.0) (ok Done (found_by doubt r) (begins_ok me r says ends.1))
     begins P ok (Err WantsMemory) result err says ends = subst P (sym ends.0) (err refl ends.1)
     begins P ok (Err ReadHalted) result err says ends = subst P (sym ends.0) (ok (Refused Halted) false (begins_unread says ends.1))
     begins P ok (Err (SaveHalted r)) result err says ends = subst P (sym ends.0) (ok (Refused Halted) (found_by doubt r) (begins_unsaved r says ends.1))
     begins P ok (Err NotOurs) result err says ends = not_ours says
 
-settled_same : {S : Type 0} (holds : S → Durable → Durable → Type 0) (used format : S → ℕ) (doubt : Doubt) (before after : Durable) (store : S) → Leaves holds used format doubt before after store → doubt ≡ Settled → before ≡ after
-settled_same holds used format doubt before after store left is = (subst (λ k. Leaves holds used format k before after store) is left).0
+settled_same : {S : Type 0} (model : StoreModel S) (doubt : Doubt) (before after : Durable) (store : S) → Leaves model doubt before after store → doubt ≡ Settled → before ≡ after
+settled_same model doubt before after store left is = (subst (λ k. Leaves model k before after store) is left).0
 
 -- what memory and a store that stands still stood for before, they stand for after
-module _ {S : Type 0} (holds : S → Durable → Durable → Type 0) (used format : S → ℕ) (seat : Seat) (store store' : S) (still : StandsStill holds used format store store') where
-  still_runs : (me : Running) (s : Server) → IsRunning holds used format seat store me s → IsRunning holds used format seat store' me s
+module _ {S : Type 0} (model : StoreModel S) (seat : Seat) (store store' : S) (still : StandsStill model store store') where
+  still_runs : (me : Running) (s : Server) → IsRunning model seat store me s → IsRunning model seat store' me s
   still_runs me s runs = record {
     stands = record { recorded = still.holds_same s.durable s.durable runs.stands.recorded; used_is = still.used_same ∙ runs.stands.used_is; within = runs.stands.within; half = still.format_same ∙ runs.stands.half; cached = runs.stands.cached };
     is = runs.is;
     setup = runs.setup;
   }
 
-  still_stopped : (l : ℕ) (known : Doubt) (there : ℕ) (before after : Durable) → IsStopped holds used format seat l known there before after store → IsStopped holds used format seat l known there before after store'
+  still_stopped : (l : ℕ) (known : Doubt) (there : ℕ) (before after : Durable) → IsStopped model seat l known there before after store → IsStopped model seat l known there before after store'
   still_stopped l known there before after stopped =
-      let pair = pair_left holds used format before after store known stopped.left in
+      let pair = pair_left model before after store known stopped.left in
       record {
         life_is = stopped.life_is;
         left = pair.2.moved store' (record { x = pair.0; y = pair.1; has = still.holds_same pair.0 pair.1 pair.2.has; first = inl refl; second = inr refl });
@@ -214,7 +214,7 @@ module _ {S : Type 0} (holds : S → Durable → Durable → Type 0) (used forma
         second = stopped.second;
       }
 
-  still_meets : (state : State) (c : Condition) → Meets holds used format seat store state c → Meets holds used format seat store' state c
+  still_meets : (state : State) (c : Condition) → Meets model seat store state c → Meets model seat store' state c
   still_meets (Runs me) (RunningIs s) meets = still_runs me s meets
   still_meets (Runs me) (StoppedIs there before after) meets = absurd meets
   still_meets (Runs me) UnformattedIs meets = absurd meets
@@ -225,30 +225,30 @@ module _ {S : Type 0} (holds : S → Durable → Durable → Type 0) (used forma
   still_meets Unformatted (StoppedIs there before after) meets = absurd meets
   still_meets Unformatted UnformattedIs meets = meets
 
-module _ {S : Type 0} (holds : S → Durable → Durable → Type 0) (used format : S → ℕ) (rose : S → S → Type 0) (seat : Seat) (made : IsSeat seat) (store store' : S) (life : ℕ) (doubt : Doubt) (state' : State) (begun : Result (Running × Reading) RestartFault) (result : Result (Answer × Bool) NoMemory) (says : Says holds used format rose seat store store' life begun) where
-  from_running : (me : Running) (s : Server) → (life ≡ me.life) × (doubt ≡ Settled) → IsRunning holds used format seat store me s → IsFit seat s.durable → Restarts life doubt (Runs me) state' begun result → BeginsAgain holds used format rose seat store store' state' (RunningIs s) result
+module _ {S : Type 0} (model : StoreModel S) (seat : Seat) (made : IsSeat seat) (store store' : S) (life : ℕ) (doubt : Doubt) (state' : State) (begun : Result (Running × Reading) RestartFault) (result : Result (Answer × Bool) NoMemory) (says : Says model seat store store' life begun) where
+  from_running : (me : Running) (s : Server) → (life ≡ me.life) × (doubt ≡ Settled) → IsRunning model seat store me s → IsFit seat s.durable → Restarts life doubt (Runs me) state' begun result → BeginsAgain model seat store store' state' (RunningIs s) result
   from_running me s last runs fit ends =
-      let its : life ≡ s.life = last.0 ∙ same_life holds used format seat store me s runs in
+      let its : life ≡ s.life = last.0 ∙ same_life model seat store me s runs in
       let d = s.durable in
-      let one : HasOne holds used format d store = record { x = d; y = d; has = runs.stands.recorded; first = inl refl; second = inl refl } in
-      let left : Leaves holds used format doubt d d store = subst (λ k. Leaves holds used format k d d store) (sym last.1) (refl, one) in
-      let half = in_half holds used format seat store me s runs in
-      begins holds used format rose seat made store store' life doubt (Runs me) state' d d left (λ _. refl) fit half fit half
-      (BeginsAgain holds used format rose seat store store' state' (RunningIs s))
-      (λ answer found b. subst (λ n. Begins holds used format rose seat store store' state' n d d found answer) its b) begun result
-      (λ none same. subst (λ z. Meets holds used format seat store' z (RunningIs s)) (sym same) (still_runs holds used format seat store store' (says.still WantsMemory none tt) me s runs)) says ends
+      let one : HasOne model d store = record { x = d; y = d; has = runs.stands.recorded; first = inl refl; second = inl refl } in
+      let left : Leaves model doubt d d store = subst (λ k. Leaves model k d d store) (sym last.1) (refl, one) in
+      let half = in_half model seat store me s runs in
+      begins model seat made store store' life doubt (Runs me) state' d d left (λ _. refl) fit half fit half
+      (BeginsAgain model seat store store' state' (RunningIs s))
+      (λ answer found b. subst (λ n. Begins model seat store store' state' n d d found answer) its b) begun result
+      (λ none same. subst (λ z. Meets model seat store' z (RunningIs s)) (sym same) (still_runs model seat store store' (says.still WantsMemory none tt) me s runs)) says ends
 
-  from_stopped : (l : ℕ) (known : Doubt) (there : ℕ) (before after : Durable) → (life ≡ l) × (doubt ≡ known) → IsStopped holds used format seat l known there before after store → IsFit seat before → IsFit seat after → Restarts life doubt (Stopped l known) state' begun result
-      → BeginsAgain holds used format rose seat store store' state' (StoppedIs there before after) result
+  from_stopped : (l : ℕ) (known : Doubt) (there : ℕ) (before after : Durable) → (life ≡ l) × (doubt ≡ known) → IsStopped model seat l known there before after store → IsFit seat before → IsFit seat after → Restarts life doubt (Stopped l known) state' begun result
+      → BeginsAgain model seat store store' state' (StoppedIs there before after) result
   from_stopped l known there before after last stopped fit fit2 ends =
       let its : life ≡ there = last.0 ∙ stopped.life_is in
-      let left : Leaves holds used format doubt before after store = subst (λ k. Leaves holds used format k before after store) (sym last.1) stopped.left in
-      begins holds used format rose seat made store store' life doubt (Stopped l known) state' before after left (settled_same holds used format doubt before after store left) fit stopped.first fit2 stopped.second
-      (BeginsAgain holds used format rose seat store store' state' (StoppedIs there before after))
-      (λ answer found b. subst (λ n. Begins holds used format rose seat store store' state' n before after found answer) its b) begun result
-      (λ none same. subst (λ z. Meets holds used format seat store' z (StoppedIs there before after)) (sym same) (still_stopped holds used format seat store store' (says.still WantsMemory none tt) l known there before after stopped)) says ends
+      let left : Leaves model doubt before after store = subst (λ k. Leaves model k before after store) (sym last.1) stopped.left in
+      begins model seat made store store' life doubt (Stopped l known) state' before after left (settled_same model doubt before after store left) fit stopped.first fit2 stopped.second
+      (BeginsAgain model seat store store' state' (StoppedIs there before after))
+      (λ answer found b. subst (λ n. Begins model seat store store' state' n before after found answer) its b) begun result
+      (λ none same. subst (λ z. Meets model seat store' z (StoppedIs there before after)) (sym same) (still_stopped model seat store store' (says.still WantsMemory none tt) l known there before after stopped)) says ends
 
-  pub again : (state : State) (c : Condition) → IsLast state life doubt → Meets holds used format seat store state c → IsHonest seat c → Restarts life doubt state state' begun result → BeginsAgain holds used format rose seat store store' state' c result
+  pub again : (state : State) (c : Condition) → IsLast state life doubt → Meets model seat store state c → IsHonest seat c → Restarts life doubt state state' begun result → BeginsAgain model seat store store' state' c result
   again (Runs me) (RunningIs s) last meets known ends = from_running me s last meets known ends
   again (Runs me) (StoppedIs there before after) last meets known ends = absurd meets
   again (Runs me) UnformattedIs last meets known ends = absurd meets
@@ -257,10 +257,10 @@ module _ {S : Type 0} (holds : S → Durable → Durable → Type 0) (used forma
   again (Stopped l k) UnformattedIs last meets known ends = absurd meets
   again Unformatted c last meets known ends = absurd last
 
-module _ {S : Type 0} (holds : S → Durable → Durable → Type 0) (used format : S → ℕ) (seat : Seat) (store : S) (life : ℕ) (doubt : Doubt) where
+module _ {S : Type 0} (model : StoreModel S) (seat : Seat) (store : S) (life : ℕ) (doubt : Doubt) where
   -- no life is near the end of its type
-  pub last_low : (state : State) (c : Condition) → IsLast state life doubt → Meets holds used format seat store state c → IsKnown seat c → life < far
-  last_low (Runs me) (RunningIs s) last meets known = omega (arith, last.0, low_life holds used format seat store me s meets known)
+  pub last_low : (state : State) (c : Condition) → IsLast state life doubt → Meets model seat store state c → IsKnown seat c → life < far
+  last_low (Runs me) (RunningIs s) last meets known = omega (arith, last.0, low_life model seat store me s meets known)
   last_low (Runs me) (StoppedIs there before after) last meets known = absurd meets
   last_low (Runs me) UnformattedIs last meets known = absurd meets
   last_low (Stopped l k) (RunningIs s) last meets known = absurd meets
@@ -269,13 +269,13 @@ module _ {S : Type 0} (holds : S → Durable → Durable → Type 0) (used forma
   last_low Unformatted c last meets known = absurd last
 
 -- what became of the disks
-module _ {S : Type 0} (holds : S → Durable → Durable → Type 0) (used format : S → ℕ) (was : S → S → Durable → Durable → Type 0) (seat : Seat) (store store' : S) (begun : (x y : Durable) → holds store x y → WasBegun was x y store store') where
-  begun_from : (doubt : Doubt) (before after : Durable) → Leaves holds used format doubt before after store → WasBegunFrom was store store' before after
+module _ {S : Type 0} (model : StoreModel S) (seat : Seat) (store store' : S) (begun : (x y : Durable) → model.holds store x y → WasBegun model.was x y store store') where
+  begun_from : (doubt : Doubt) (before after : Durable) → Leaves model doubt before after store → WasBegunFrom model.was store store' before after
   begun_from doubt before after left =
-      let pair = pair_left holds used format before after store doubt left in
+      let pair = pair_left model before after store doubt left in
       record { x = pair.0; y = pair.1; first = pair.2.first; second = pair.2.second; begun = begun pair.0 pair.1 pair.2.has }
 
-  pub begun_in : (life : ℕ) (doubt : Doubt) (state : State) (c : Condition) → IsLast state life doubt → Meets holds used format seat store state c → WasBegunIn was store store' c
+  pub begun_in : (life : ℕ) (doubt : Doubt) (state : State) (c : Condition) → IsLast state life doubt → Meets model seat store state c → WasBegunIn model.was store store' c
   begun_in life doubt (Runs me) (RunningIs s) last meets = record { x = s.durable; y = s.durable; first = inl (inl refl); second = inl (inl refl); begun = begun s.durable s.durable meets.stands.recorded }
   begun_in life doubt (Runs me) (StoppedIs there before after) last meets = absurd meets
   begun_in life doubt (Runs me) UnformattedIs last meets = absurd meets
@@ -298,17 +298,17 @@ quiet_again life doubt state state' (Err NotOurs) result ends none = ap answers_
     by Unformatted e = refl
 
 -- over any disks
-module _ {S : Type 0} (holds : S → Durable → Durable → Type 0) (used format : S → ℕ) (seat : Seat) (store store' : S) (life : ℕ) (doubt : Doubt) (state state' : State) where
+module _ {S : Type 0} (model : StoreModel S) (seat : Seat) (store store' : S) (life : ℕ) (doubt : Doubt) (state state' : State) where
   pub record SaysOfAny (begun : Result (Running × Reading) RestartFault) : Type 0 where
-    pub begun_some : IfOk begun (λ r. (d : Durable) × IsBegun holds used format d store' r.0 seat (life + 1))
-    pub still : (e : RestartFault) → begun ≡ Err e → IsEarly e → StandsStill holds used format store store'
-    pub unsaved : (r : Reading) → begun ≡ Err (SaveHalted r) → (d : Durable) × HasBegun (setup_at seat) d × holds store' d (renewed d)
+    pub begun_some : IfOk begun (λ r. (d : Durable) × IsBegun model d store' r.0 seat (life + 1))
+    pub still : (e : RestartFault) → begun ≡ Err e → IsEarly e → StandsStill model store store'
+    pub unsaved : (r : Reading) → begun ≡ Err (SaveHalted r) → (d : Durable) × HasBegun (setup_at seat) d × model.holds store' d (renewed d)
 
-  life_of : (c : Condition) → IsLast state life doubt → Meets holds used format seat store state c → suc life ≡ next_life c
+  life_of : (c : Condition) → IsLast state life doubt → Meets model seat store state c → suc life ≡ next_life c
   life_of c last meets = by state c last meets
     where
-      by : (z : State) (k : Condition) → IsLast z life doubt → Meets holds used format seat store z k → suc life ≡ next_life k
-      by (Runs me) (RunningIs s) l m = ap suc (l.0 ∙ same_life holds used format seat store me s m)
+      by : (z : State) (k : Condition) → IsLast z life doubt → Meets model seat store z k → suc life ≡ next_life k
+      by (Runs me) (RunningIs s) l m = ap suc (l.0 ∙ same_life model seat store me s m)
       by (Runs me) (StoppedIs there before after) l m = absurd m
       by (Runs me) UnformattedIs l m = absurd m
       by (Stopped its known) (RunningIs s) l m = absurd m
@@ -324,10 +324,10 @@ module _ {S : Type 0} (holds : S → Durable → Durable → Type 0) (used forma
       by (Open b q) e = grind (arith, e)
       by (Read found) e = grind (arith, e)
 
-  over : (known : Doubt) (d : Durable) → ((bytes generation : ℕ) → known ≡ Open bytes generation → ⊥) → holds store' d (renewed d) → Leaves holds used format known d d store'
+  over : (known : Doubt) (d : Durable) → ((bytes generation : ℕ) → known ≡ Open bytes generation → ⊥) → model.holds store' d (renewed d) → Leaves model known d d store'
   over Settled d never has = (refl, record { x = d; y = renewed d; has = has; first = inl refl; second = inr refl })
   over (Open bytes generation) d never has = absurd (never bytes generation refl)
-  over (Read found) d never has = subst (λ z. HasOne holds used format z store') (sym (chosen found)) (record { x = d; y = renewed d; has = has; first = inl refl; second = inr refl })
+  over (Read found) d never has = subst (λ z. HasOne model z store') (sym (chosen found)) (record { x = d; y = renewed d; has = has; first = inl refl; second = inr refl })
     where
       chosen : (b : Bool) → cond b d d ≡ d
       chosen true = refl
@@ -336,37 +336,37 @@ module _ {S : Type 0} (holds : S → Durable → Durable → Type 0) (used forma
   half_of : (d : Durable) → HasBegun (setup_at seat) d → IsInHalf seat d
   half_of d fits = record { format = fits.half.format; within = fits.half.within }
 
-  module _ (c : Condition) (last : IsLast state life doubt) (meets : Meets holds used format seat store state c) where
-    begins_over : (me : Running) (d : Durable) → IsBegun holds used format d store' me seat (life + 1) → state' ≡ Runs (quieted me) → BeginsOver holds used format seat store' state' c
+  module _ (c : Condition) (last : IsLast state life doubt) (meets : Meets model seat store state c) where
+    begins_over : (me : Running) (d : Durable) → IsBegun model d store' me seat (life + 1) → state' ≡ Runs (quieted me) → BeginsOver model seat store' state' c
     unfolding restarted
     begins_over me d begun is =
         let next : life + 1 ≡ next_life c = (omega arith) ∙ life_of c last meets in
-        let runs : IsRunning holds used format seat store' me (restarted seat.number (next_life c) d) = subst (λ n. IsRunning holds used format seat store' me (restarted seat.number n d)) next (record { stands = begun.stands; is = begun.is; setup = begun.setup }) in
+        let runs : IsRunning model seat store' me (restarted seat.number (next_life c) d) = subst (λ n. IsRunning model seat store' me (restarted seat.number n d)) next (record { stands = begun.stands; is = begun.is; setup = begun.setup }) in
         record {
           life = life;
           next = life_of c last meets;
           d = d;
           fits = begun.begun;
-          meets = subst (λ z. Meets holds used format seat store' z (RunningIs (restarted seat.number (next_life c) d))) (sym is) (quieted_runs holds used format seat store' me (restarted seat.number (next_life c) d) runs).meets;
+          meets = subst (λ z. Meets model seat store' z (RunningIs (restarted seat.number (next_life c) d))) (sym is) (quieted_runs model seat store' me (restarted seat.number (next_life c) d) runs).meets;
         }
 
-    stops_over : (r : Reading) (d : Durable) → HasBegun (setup_at seat) d → holds store' d (renewed d) → state' ≡ Stopped (life + 1) (doubt_after doubt r) → StopsOver holds used format seat store' state' c
+    stops_over : (r : Reading) (d : Durable) → HasBegun (setup_at seat) d → model.holds store' d (renewed d) → state' ≡ Stopped (life + 1) (doubt_after doubt r) → StopsOver model seat store' state' c
     stops_over r d fits has is = record {
       life = life;
       next = life_of c last meets;
       d = d;
       fits = fits;
-      meets = subst (λ z. Meets holds used format seat store' z (StoppedIs (next_life c) d d)) (sym is)
+      meets = subst (λ z. Meets model seat store' z (StoppedIs (next_life c) d d)) (sym is)
           (record { life_is = (omega arith) ∙ life_of c last meets; left = over (doubt_after doubt r) d (never_open r) has; first = half_of d fits; second = half_of d fits });
     }
 
-    unread_by : ((x y : Durable) → holds store x y → holds store' x y) → state' ≡ Stopped (life + 1) doubt → (z : State) (k : Condition) → IsLast z life doubt → Meets holds used format seat store z k → StopsUnread holds used format seat store' state' c k
+    unread_by : ((x y : Durable) → model.holds store x y → model.holds store' x y) → state' ≡ Stopped (life + 1) doubt → (z : State) (k : Condition) → IsLast z life doubt → Meets model seat store z k → StopsUnread model seat store' state' c k
     unread_by unread is (Runs me) (RunningIs s) l m =
-        let half = in_half holds used format seat store me s m in
-        let one : HasOne holds used format s.durable store' = record { x = s.durable; y = s.durable; has = unread s.durable s.durable m.stands.recorded; first = inl refl; second = inl refl } in
-        subst (λ y. Meets holds used format seat store' y (StoppedIs (suc s.life) s.durable s.durable)) (sym is) (record {
-          life_is = omega (arith, l.0, same_life holds used format seat store me s m);
-          left = subst (λ q. Leaves holds used format q s.durable s.durable store') (sym l.1) (refl, one);
+        let half = in_half model seat store me s m in
+        let one : HasOne model s.durable store' = record { x = s.durable; y = s.durable; has = unread s.durable s.durable m.stands.recorded; first = inl refl; second = inl refl } in
+        subst (λ y. Meets model seat store' y (StoppedIs (suc s.life) s.durable s.durable)) (sym is) (record {
+          life_is = omega (arith, l.0, same_life model seat store me s m);
+          left = subst (λ q. Leaves model q s.durable s.durable store') (sym l.1) (refl, one);
           first = half;
           second = half;
         })
@@ -374,45 +374,45 @@ module _ {S : Type 0} (holds : S → Durable → Durable → Type 0) (used forma
     unread_by unread is (Runs me) UnformattedIs l m = absurd m
     unread_by unread is (Stopped its known) (RunningIs s) l m = absurd m
     unread_by unread is (Stopped its known) (StoppedIs there before after) l m =
-        let pair = pair_left holds used format before after store known m.left in
-        let still : HasSome holds pair.0 pair.1 store' = record { x = pair.0; y = pair.1; has = unread pair.0 pair.1 pair.2.has; first = inl refl; second = inr refl } in
-        subst (λ y. Meets holds used format seat store' y (StoppedIs (suc there) before after)) (sym is) (record {
+        let pair = pair_left model before after store known m.left in
+        let still : HasSome model pair.0 pair.1 store' = record { x = pair.0; y = pair.1; has = unread pair.0 pair.1 pair.2.has; first = inl refl; second = inr refl } in
+        subst (λ y. Meets model seat store' y (StoppedIs (suc there) before after)) (sym is) (record {
           life_is = omega (arith, l.0, m.life_is);
-          left = subst (λ q. Leaves holds used format q before after store') (sym l.1) (pair.2.moved store' still);
+          left = subst (λ q. Leaves model q before after store') (sym l.1) (pair.2.moved store' still);
           first = m.first;
           second = m.second;
         })
     unread_by unread is (Stopped its known) UnformattedIs l m = absurd m
     unread_by unread is Unformatted k l m = absurd l
 
-    stops_unread : (unread : (x y : Durable) → holds store x y → holds store' x y) → state' ≡ Stopped (life + 1) doubt → StopsUnread holds used format seat store' state' c c
+    stops_unread : (unread : (x y : Durable) → model.holds store x y → model.holds store' x y) → state' ≡ Stopped (life + 1) doubt → StopsUnread model seat store' state' c c
     stops_unread unread is = unread_by unread is state c last meets
 
     -- no state of it was found
-    not_found : StandsStill holds used format store store' → state' ≡ stopped_by life doubt state → Meets holds used format seat store' state' (stopped_in c)
+    not_found : StandsStill model store store' → state' ≡ stopped_by life doubt state → Meets model seat store' state' (stopped_in c)
     not_found still is = by state c last meets is
       where
-        by : (z : State) (k : Condition) → IsLast z life doubt → Meets holds used format seat store z k → state' ≡ stopped_by life doubt z → Meets holds used format seat store' state' (stopped_in k)
+        by : (z : State) (k : Condition) → IsLast z life doubt → Meets model seat store z k → state' ≡ stopped_by life doubt z → Meets model seat store' state' (stopped_in k)
         by (Runs me) (RunningIs s) l m e = unread_by still.holds_same e (Runs me) (RunningIs s) l m
         by (Runs me) (StoppedIs there before after) l m e = absurd m
         by (Runs me) UnformattedIs l m e = absurd m
         by (Stopped its known) (RunningIs s) l m e = absurd m
-        by (Stopped its known) (StoppedIs there before after) l m e = subst (λ z. Meets holds used format seat store' z (StoppedIs there before after)) (sym e) (still_meets holds used format seat store store' still (Stopped its known) (StoppedIs there before after) m)
+        by (Stopped its known) (StoppedIs there before after) l m e = subst (λ z. Meets model seat store' z (StoppedIs there before after)) (sym e) (still_meets model seat store store' still (Stopped its known) (StoppedIs there before after) m)
         by (Stopped its known) UnformattedIs l m e = absurd m
         by Unformatted k l m e = absurd l
 
-    pub somehow : (begun : Result (Running × Reading) RestartFault) (result : Result (Answer × Bool) NoMemory) → SaysOfAny begun → Restarts life doubt state state' begun result → BeginsSomehow holds used format seat store' state' c result
-    somehow (Ok (me, r)) result says ends = subst (BeginsSomehow holds used format seat store' state' c) (sym ends.0) (begins_over me says.begun_some.0 says.begun_some.1 ends.1)
+    pub somehow : (begun : Result (Running × Reading) RestartFault) (result : Result (Answer × Bool) NoMemory) → SaysOfAny begun → Restarts life doubt state state' begun result → BeginsSomehow model seat store' state' c result
+    somehow (Ok (me, r)) result says ends = subst (BeginsSomehow model seat store' state' c) (sym ends.0) (begins_over me says.begun_some.0 says.begun_some.1 ends.1)
     somehow (Err WantsMemory) result says ends =
-        subst (BeginsSomehow holds used format seat store' state' c) (sym ends.0) (subst (λ z. Meets holds used format seat store' z c) (sym ends.1) (still_meets holds used format seat store store' (says.still WantsMemory refl tt) state c meets))
-    somehow (Err ReadHalted) result says ends = subst (BeginsSomehow holds used format seat store' state' c) (sym ends.0) (inr (stops_unread (says.still ReadHalted refl tt).holds_same ends.1))
-    somehow (Err (SaveHalted r)) result says ends = let w = says.unsaved r refl in subst (BeginsSomehow holds used format seat store' state' c) (sym ends.0) (inl (stops_over r w.0 w.1 w.2 ends.1))
-    somehow (Err NotOurs) result says ends = subst (BeginsSomehow holds used format seat store' state' c) (sym ends.0) (refl, not_found (says.still NotOurs refl tt) ends.1)
+        subst (BeginsSomehow model seat store' state' c) (sym ends.0) (subst (λ z. Meets model seat store' z c) (sym ends.1) (still_meets model seat store store' (says.still WantsMemory refl tt) state c meets))
+    somehow (Err ReadHalted) result says ends = subst (BeginsSomehow model seat store' state' c) (sym ends.0) (inr (stops_unread (says.still ReadHalted refl tt).holds_same ends.1))
+    somehow (Err (SaveHalted r)) result says ends = let w = says.unsaved r refl in subst (BeginsSomehow model seat store' state' c) (sym ends.0) (inl (stops_over r w.0 w.1 w.2 ends.1))
+    somehow (Err NotOurs) result says ends = subst (BeginsSomehow model seat store' state' c) (sym ends.0) (refl, not_found (says.still NotOurs refl tt) ends.1)
 
   -- a halt has its cause
-  pub halt_cause : (rose : S → S → Type 0) (begun : Result (Running × Reading) RestartFault) (result : Result (Answer × Bool) NoMemory) → IfErr begun (λ fault. IsHalt fault → rose store store') → Restarts life doubt state state' begun result → IfOk result (λ r. r.0 ≡ Refused Halted → rose store store')
-  halt_cause rose (Ok (me, r)) result cause ends = subst (λ x. IfOk x (λ (y : Answer × Bool). y.0 ≡ Refused Halted → rose store store')) (sym ends.0) (λ e. absurd (grind (arith, e)))
-  halt_cause rose (Err WantsMemory) result cause ends = subst (λ x. IfOk x (λ (y : Answer × Bool). y.0 ≡ Refused Halted → rose store store')) (sym ends.0) tt
-  halt_cause rose (Err ReadHalted) result cause ends = subst (λ x. IfOk x (λ (y : Answer × Bool). y.0 ≡ Refused Halted → rose store store')) (sym ends.0) (λ _. cause tt)
-  halt_cause rose (Err (SaveHalted r)) result cause ends = subst (λ x. IfOk x (λ (y : Answer × Bool). y.0 ≡ Refused Halted → rose store store')) (sym ends.0) (λ _. cause tt)
-  halt_cause rose (Err NotOurs) result cause ends = subst (λ x. IfOk x (λ (y : Answer × Bool). y.0 ≡ Refused Halted → rose store store')) (sym ends.0) (λ e. absurd (grind (arith, e)))
+  pub halt_cause : (begun : Result (Running × Reading) RestartFault) (result : Result (Answer × Bool) NoMemory) → IfErr begun (λ fault. IsHalt fault → model.rose store store') → Restarts life doubt state state' begun result → IfOk result (λ r. r.0 ≡ Refused Halted → model.rose store store')
+  halt_cause (Ok (me, r)) result cause ends = subst (λ x. IfOk x (λ (y : Answer × Bool). y.0 ≡ Refused Halted → model.rose store store')) (sym ends.0) (λ e. absurd (grind (arith, e)))
+  halt_cause (Err WantsMemory) result cause ends = subst (λ x. IfOk x (λ (y : Answer × Bool). y.0 ≡ Refused Halted → model.rose store store')) (sym ends.0) tt
+  halt_cause (Err ReadHalted) result cause ends = subst (λ x. IfOk x (λ (y : Answer × Bool). y.0 ≡ Refused Halted → model.rose store store')) (sym ends.0) (λ _. cause tt)
+  halt_cause (Err (SaveHalted r)) result cause ends = subst (λ x. IfOk x (λ (y : Answer × Bool). y.0 ≡ Refused Halted → model.rose store store')) (sym ends.0) (λ _. cause tt)
+  halt_cause (Err NotOurs) result cause ends = subst (λ x. IfOk x (λ (y : Answer × Bool). y.0 ≡ Refused Halted → model.rose store store')) (sym ends.0) (λ e. absurd (grind (arith, e)))

@@ -6,6 +6,7 @@ use Rattle.pf_protocol.specs.Rows.{settled}
 use Rattle.pf_protocol.specs.Outcomes.{Outcome}
 use Rattle.pf_protocol.specs.Servers.{Server, Setup, Condition, Running as RunningIs, Stopped as StoppedIs, Unformatted as UnformattedIs}
 use Rattle.pf_protocol.specs.declared.answers.Answer.{Answer}
+use Rattle.pf_store.specs.Stores.{StoreModel}
 use Rattle.pf_state.specs.declared.running.Running.{Running}
 use Rattle.pf_state.specs.Standing.{server_of, setup_of, read_of, IsCached, Stands}
 use Rattle.pf_state.specs.Replying.{Replying}
@@ -52,20 +53,20 @@ settled_records : (s : Server) → (settled s).durable ≡ s.durable
 unfolding settled
 settled_records s = refl
 
-module _ {S : Type 0} (holds : S → Durable → Durable → Type 0) (used format : S → ℕ) (seat : Seat) (store : S) where
+module _ {S : Type 0} (model : StoreModel S) (seat : Seat) (store : S) where
   -- memory has followed a step over these records
-  pub stands_then : (d : Durable) (me new : Running) (s : Server) → Stands holds used format d store me → setup_of me ≡ setup_at seat → IsAfter d me new s → IsRunning holds used format seat store new s
+  pub stands_then : (d : Durable) (me new : Running) (s : Server) → Stands model d store me → setup_of me ≡ setup_at seat → IsAfter d me new s → IsRunning model seat store new s
   stands_then d me new s stands setup after =
       let same = same_records d new s after.server_is in
       record {
-        stands = subst (λ e. Stands holds used format e store new) same (stands_after holds used format d store me new stands s after);
+        stands = subst (λ e. Stands model e store new) same (stands_after model d store me new stands s after);
         is = sym (ap (λ e. server_of e new) same) ∙ after.server_is;
         setup = after.setup_same ∙ setup;
       }
 
   -- and the reads that were ready were answered
-  pub settles : (d : Durable) (me new : Running) (before : Server) (o : Outcome) (answer : Answer) → Stands holds used format d store me → setup_of me ≡ setup_at seat → WasAnswered d me new o.server → answer ≡ o.answer
-      → IsSettled holds used format seat store (Runs new) before o answer
+  pub settles : (d : Durable) (me new : Running) (before : Server) (o : Outcome) (answer : Answer) → Stands model d store me → setup_of me ≡ setup_at seat → WasAnswered d me new o.server → answer ≡ o.answer
+      → IsSettled model seat store (Runs new) before o answer
   settles d me new before o answer stands setup x is = record {
     answered = is;
     meets = stands_then d me new (settled o.server) stands setup x.after;
@@ -73,43 +74,43 @@ module _ {S : Type 0} (holds : S → Durable → Durable → Type 0) (used forma
     sized = x.sized;
   }
 
-  pub quieted_runs : (me : Running) (s : Server) → IsRunning holds used format seat store me s → IsAsBefore holds used format seat store (Runs (quieted me)) s
+  pub quieted_runs : (me : Running) (s : Server) → IsRunning model seat store me s → IsAsBefore model seat store (Runs (quieted me)) s
   quieted_runs me s runs = record {
     meets = stands_then s.durable me (quieted me) s runs.stands runs.setup (subst (IsAfter s.durable me (quieted me)) runs.is (quieted_after s.durable me runs.stands.cached));
     none = refl;
   }
 
-  forgotten_by : (state : State) (s : Server) → Meets holds used format seat store state (RunningIs s) → IsAsBefore holds used format seat store (forgotten state) s
+  forgotten_by : (state : State) (s : Server) → Meets model seat store state (RunningIs s) → IsAsBefore model seat store (forgotten state) s
   forgotten_by (Runs me) s meets = quieted_runs me s meets
   forgotten_by (Stopped life doubt) s meets = absurd meets
   forgotten_by Unformatted s meets = absurd meets
 
   -- the server is as it was, but for answers that nobody took
-  pub as_before : (state state' : State) (s : Server) → state' ≡ forgotten state → Meets holds used format seat store state (RunningIs s) → IsAsBefore holds used format seat store state' s
-  as_before state state' s is meets = subst (λ x. IsAsBefore holds used format seat store x s) (sym is) (forgotten_by state s meets)
+  pub as_before : (state state' : State) (s : Server) → state' ≡ forgotten state → Meets model seat store state (RunningIs s) → IsAsBefore model seat store state' s
+  as_before state state' s is meets = subst (λ x. IsAsBefore model seat store x s) (sym is) (forgotten_by state s meets)
 
   -- a server that runs is one that a group knows of
-  known_by : (me : Running) (c : Condition) → Meets holds used format seat store (Runs me) c → IsKnown seat c → (s : Server) × IsRunning holds used format seat store me s × IsSound seat s
+  known_by : (me : Running) (c : Condition) → Meets model seat store (Runs me) c → IsKnown seat c → (s : Server) × IsRunning model seat store me s × IsSound seat s
   known_by me (RunningIs s) meets known = (s, meets, known)
   known_by me (StoppedIs life before after) meets known = absurd meets
   known_by me UnformattedIs meets known = absurd meets
 
-  pub known_here : (state : State) (me : Running) → state ≡ Runs me → IsInOrder holds used format seat store state → (s : Server) × IsRunning holds used format seat store me s × IsSound seat s
-  known_here state me is order = known_by me order.condition (subst (λ x. Meets holds used format seat store x order.condition) is order.meets) order.known
+  pub known_here : (state : State) (me : Running) → state ≡ Runs me → IsInOrder model seat store state → (s : Server) × IsRunning model seat store me s × IsSound seat s
+  known_here state me is order = known_by me order.condition (subst (λ x. Meets model seat store x order.condition) is order.meets) order.known
 
-  brings_by : (me : Running) (c : Condition) (filled : Filled) → Meets holds used format seat store (Runs me) c → BringsBack c filled → filled.life ≡ me.life → IsJobOf me filled
-  brings_by me (RunningIs s) filled meets brings = job_here holds used format seat store me s meets filled brings
+  brings_by : (me : Running) (c : Condition) (filled : Filled) → Meets model seat store (Runs me) c → BringsBack c filled → filled.life ≡ me.life → IsJobOf me filled
+  brings_by me (RunningIs s) filled meets brings = job_here model seat store me s meets filled brings
   brings_by me (StoppedIs life before after) filled meets brings = absurd meets
   brings_by me UnformattedIs filled meets brings = absurd meets
 
-  pub brings_here : (state : State) (me : Running) (filled : Filled) → state ≡ Runs me → (c : Condition) × Meets holds used format seat store state c × BringsBack c filled → filled.life ≡ me.life → IsJobOf me filled
-  brings_here state me filled is job = brings_by me job.0 filled (subst (λ x. Meets holds used format seat store x job.0) is job.1) job.2
+  pub brings_here : (state : State) (me : Running) (filled : Filled) → state ≡ Runs me → (c : Condition) × Meets model seat store state c × BringsBack c filled → filled.life ≡ me.life → IsJobOf me filled
+  brings_here state me filled is job = brings_by me job.0 filled (subst (λ x. Meets model seat store x job.0) is job.1) job.2
 
   -- a server that runs still runs, with other answers
-  pub meets_here : (state : State) (me : Running) (s : Server) → state ≡ Runs me → Meets holds used format seat store state (RunningIs s) → IsRunning holds used format seat store me s
-  meets_here state me s is meets = subst (λ x. Meets holds used format seat store x (RunningIs s)) is meets
+  pub meets_here : (state : State) (me : Running) (s : Server) → state ≡ Runs me → Meets model seat store state (RunningIs s) → IsRunning model seat store me s
+  meets_here state me s is meets = subst (λ x. Meets model seat store x (RunningIs s)) is meets
 
-  pub with_answers : (me : Running) (replies : Replying) (s : Server) → replies.rooms ≡ me.replies.rooms → IsRunning holds used format seat store me s → (let next : Running = record me { replies = replies } in IsRunning holds used format seat store next s)
+  pub with_answers : (me : Running) (replies : Replying) (s : Server) → replies.rooms ≡ me.replies.rooms → IsRunning model seat store me s → (let next : Running = record me { replies = replies } in IsRunning model seat store next s)
   unfolding server_of setup_of
   with_answers me replies s rooms runs = record {
     stands = record {
@@ -124,27 +125,27 @@ module _ {S : Type 0} (holds : S → Durable → Durable → Type 0) (used forma
   }
 
   -- a half that a running server has
-  pub in_half : (me : Running) (s : Server) → IsRunning holds used format seat store me s → IsInHalf seat s.durable
+  pub in_half : (me : Running) (s : Server) → IsRunning model seat store me s → IsInHalf seat s.durable
   unfolding setup_of
   in_half me s runs = record {
     format = elim runs.stands.cached.format [ inl second ↦ inl second | inr same ↦ inr (same ∙ ap (λ (x : Setup). x.format) runs.setup) ];
     within = runs.stands.within;
   }
 
-  pub stopped_so : (me : Running) (s : Server) → IsRunning holds used format seat store me s → IsStopped holds used format seat (me.life + 1) Settled (suc s.life) s.durable s.durable store
+  pub stopped_so : (me : Running) (s : Server) → IsRunning model seat store me s → IsStopped model seat (me.life + 1) Settled (suc s.life) s.durable s.durable store
   stopped_so me s runs = record {
-    life_is = omega (arith, same_life holds used format seat store me s runs);
+    life_is = omega (arith, same_life model seat store me s runs);
     left = (refl, record { x = s.durable; y = s.durable; has = runs.stands.recorded; first = inl refl; second = inl refl });
     first = in_half me s runs;
     second = in_half me s runs;
   }
 
-  next_by : (me : Running) (c : Condition) (number : ℕ) → Meets holds used format seat store (Runs me) c → IsNext c number → AreBelow number (map read_of me.reads)
-  next_by me (RunningIs s) number meets next = subst (AreBelow number) (same_reads holds used format seat store me s meets) next
+  next_by : (me : Running) (c : Condition) (number : ℕ) → Meets model seat store (Runs me) c → IsNext c number → AreBelow number (map read_of me.reads)
+  next_by me (RunningIs s) number meets next = subst (AreBelow number) (same_reads model seat store me s meets) next
   next_by me (StoppedIs life before after) number meets next = absurd meets
   next_by me UnformattedIs number meets next = absurd meets
 
   -- the reads of the server ask for numbers below this one
-  pub next_here : (state : State) (me : Running) (number : ℕ) (s : Server) → state ≡ Runs me → ((c : Condition) × Meets holds used format seat store state c × IsNext c number) → IsRunning holds used format seat store me s → AreBelow number s.reads
+  pub next_here : (state : State) (me : Running) (number : ℕ) (s : Server) → state ≡ Runs me → ((c : Condition) × Meets model seat store state c × IsNext c number) → IsRunning model seat store me s → AreBelow number s.reads
   next_here state me number s is next runs =
-      subst (AreBelow number) (sym (same_reads holds used format seat store me s runs)) (next_by me next.0 number (subst (λ x. Meets holds used format seat store x next.0) is next.1) next.2)
+      subst (AreBelow number) (sym (same_reads model seat store me s runs)) (next_by me next.0 number (subst (λ x. Meets model seat store x next.0) is next.1) next.2)

@@ -11,6 +11,7 @@ use Rattle.pf_entry.specs.declared.packets.Packet.{Packet}
 use Rattle.pf_protocol.specs.Servers.{Leader, Merging as MergingIs, Serving as ServingIs, Server, Condition, Running as RunningIs, Stopped as StoppedIs, Unformatted as UnformattedIs}
 use Rattle.pf_protocol.specs.Fitting.{DurableFits, PacketFits, ServerFits}
 use Rattle.pf_protocol.specs.Asked.{AreBelow, Asks}
+use Rattle.pf_store.specs.Stores.{StoreModel}
 use Rattle.pf_state.specs.Bounds.{far}
 use Rattle.pf_state.specs.declared.running.Running.{Running}
 use Rattle.pf_state.specs.Standing.{server_of, setup_of, Stands}
@@ -29,10 +30,10 @@ pub record IsInHalf (seat : Seat) (d : Durable) : Type 0 where
   pub format : (d.format ≡ 2) ⊎ (d.format ≡ seat.format)
   pub within : d.used ≤ 67108864
 
-module _ {S : Type 0} (holds : S → Durable → Durable → Type 0) (used format : S → ℕ) where
+module _ {S : Type 0} (model : StoreModel S) where
   -- the server runs, and is this one to the rules
   pub record IsRunning (seat : Seat) (store : S) (me : Running) (s : Server) : Type 0 where
-    pub stands : Stands holds used format s.durable store me
+    pub stands : Stands model s.durable store me
     pub is : server_of s.durable me ≡ s
     pub setup : setup_of me ≡ setup_at seat
 
@@ -40,7 +41,7 @@ module _ {S : Type 0} (holds : S → Durable → Durable → Type 0) (used forma
   pub record HasOne (d : Durable) (store : S) : Type 0 where
     pub x : Durable
     pub y : Durable
-    pub has : holds store x y
+    pub has : model.holds store x y
     pub first : (x ≡ d) ⊎ (x ≡ renewed d)
     pub second : (y ≡ d) ⊎ (y ≡ renewed d)
 
@@ -48,7 +49,7 @@ module _ {S : Type 0} (holds : S → Durable → Durable → Type 0) (used forma
   pub record HasEither (bytes generation : ℕ) (before after : Durable) (store : S) : Type 0 where
     pub x : Durable
     pub y : Durable
-    pub has : holds store x y
+    pub has : model.holds store x y
     pub first : (x ≡ before) ⊎ (x ≡ after)
     pub second : (y ≡ before) ⊎ (y ≡ after)
     pub used_is : before.used ≡ bytes
@@ -123,10 +124,10 @@ IsHonest seat (StoppedIs life before after) = IsFit seat before × IsFit seat af
 IsHonest seat UnformattedIs = Unit {0}
 
 -- memory and disks stand for a condition that a group knows of
-pub record IsInOrder {S : Type 0} (holds : S → Durable → Durable → Type 0) (used format : S → ℕ) (seat : Seat) (store : S) (state : State) : Type 0 where
+pub record IsInOrder {S : Type 0} (model : StoreModel S) (seat : Seat) (store : S) (state : State) : Type 0 where
   pub made : IsSeat seat
   pub condition : Condition
-  pub meets : Meets holds used format seat store state condition
+  pub meets : Meets model seat store state condition
   pub known : IsKnown seat condition
 
 -- a job of the server's life is in hand, and comes back with its sectors

@@ -1,8 +1,9 @@
 -- What a step of a server comes to.
-use Rattle.std.specs.Prelude.{◌≡◌, ◌⊎◌, ℕ, suc, Bool, cond, not, true, List, [], map, Option, Some, None, Result, Ok, Err, ◌==◌}
+use Rattle.std.specs.Prelude.{◌≡◌, ◌⊎◌, ℕ, suc, Bool, cond, not, true, false, List, [], map, Option, Some, None, Result, Ok, Err, ◌==◌}
 use Rattle.pf_base.specs.declared.errors.NoMemory.{NoMemory}
 use Rattle.pf_entry.specs.Ops.{Sector}
 use Rattle.pf_entry.specs.Records.{Durable}
+use Rattle.pf_store.specs.Stores.{StoreModel}
 use Rattle.pf_apply.specs.declared.claims.Claimed.{Claimed}
 use Rattle.pf_protocol.specs.Servers.{Server, Condition, Running as RunningIs, Stopped as StoppedIs, Unformatted as UnformattedIs}
 use Rattle.pf_protocol.specs.Leading.{op_at}
@@ -14,28 +15,29 @@ use Rattle.pf_protocol.specs.Groups.{answer_of}
 use Rattle.pf_protocol.specs.declared.answers.Answer.{Answer}
 use Rattle.pf_protocol.specs.declared.answers.Answer.TheVariants.{Done, Refused}
 use Rattle.pf_protocol.specs.declared.answers.Refusal.{Refusal}
-use Rattle.pf_protocol.specs.declared.answers.Refusal.TheVariants.{Halted, NotOurs, Stale}
+use Rattle.pf_protocol.specs.declared.answers.Refusal.TheVariants.{Down, Halted, NotOurs, Stale}
 use Rattle.pf_state.specs.Outgoing.{Outgoing, sent_by}
 use Rattle.pf_restart.specs.Beginning.{HasBegun, WasBegun, setup_at}
 use Rattle.pf_restart.specs.declared.seat.Seat.{Seat}
+use Rattle.pf_server.specs.declared.server.Server.{Server as ServerHere}
 use Rattle.pf_server.specs.declared.state.State.{State}
-use Rattle.pf_server.specs.Conditions.{AreSized, Meets, answers_of}
+use Rattle.pf_server.specs.Conditions.{AreSized, Meets, answers_of, runs}
 
 -- the answers of the reads that a step made ready
 abbrev pub answers_after : Server → List (ℕ × List Sector)
 answers_after s = map (λ r. (let a = answer_of s r in (a.number, a.bytes))) (ready_reads s)
 
-module _ {S : Type 0} (holds : S → Durable → Durable → Type 0) (used format : S → ℕ) (seat : Seat) (store' : S) (state' : State) (s : Server) where
+module _ {S : Type 0} (model : StoreModel S) (seat : Seat) (store' : S) (state' : State) (s : Server) where
   -- the rule was carried out, and the reads that are ready were answered
   pub record IsSettled (o : Outcome) (answer : Answer) : Type 0 where
     pub answered : answer ≡ o.answer
-    pub meets : Meets holds used format seat store' state' (RunningIs (settled o.server))
+    pub meets : Meets model seat store' state' (RunningIs (settled o.server))
     pub answers : answers_of state' ≡ answers_after o.server
     pub sized : AreSized (answers_of state')
 
   -- the server is as it was, but for answers that nobody took
   pub record IsAsBefore : Type 0 where
-    pub meets : Meets holds used format seat store' state' (RunningIs s)
+    pub meets : Meets model seat store' state' (RunningIs s)
     pub none : answers_of state' ≡ []
 
   pub record WasRefused (refusal : Refusal) (answer : Answer) : Type 0 where
@@ -52,7 +54,7 @@ module _ {S : Type 0} (holds : S → Durable → Durable → Type 0) (used forma
     pub least : claimable 4096 s ≡ Some claim.job.slot
     pub job_is : claim.job ≡ record { server = s.number; life = s.life; slot = claim.job.slot; op = op_at s.durable.log claim.job.slot }
     pub twice : claim.copy ≡ claim.job.op
-    pub meets : Meets holds used format seat store' state' (RunningIs (claimed s claim.job.slot))
+    pub meets : Meets model seat store' state' (RunningIs (claimed s claim.job.slot))
     pub none : answers_of state' ≡ []
 
   abbrev pub Claims : Result (Option Claimed) NoMemory → Type 0
@@ -60,48 +62,57 @@ module _ {S : Type 0} (holds : S → Durable → Durable → Type 0) (used forma
   Claims (Ok None) = (claimable 4096 s ≡ None) × IsAsBefore
   Claims (Err e) = IsAsBefore
 
-module _ {S : Type 0} (holds : S → Durable → Durable → Type 0) (used format : S → ℕ) (rose : S → S → Type 0) (was : S → S → Durable → Durable → Type 0) (seat : Seat) (store store' : S) (state' : State) (s : Server) where
+module _ {S : Type 0} (model : StoreModel S) (seat : Seat) (store store' : S) (state' : State) (s : Server) where
   -- the step was carried out, and its packets were sent
   pub record WasCarriedOut (out out' : Outgoing) (o : Outcome) (answer : Answer) : Type 0 where
-    pub settles : IsSettled holds used format seat store' state' s o answer
+    pub settles : IsSettled model seat store' state' s o answer
     pub sent : out' ≡ record (sent_by out o.packets) { acked = o.acked }
-    pub crash : (store' ≡ store) ⊎ was store store' s.durable o.server.durable
+    pub crash : (store' ≡ store) ⊎ model.was store store' s.durable o.server.durable
 
   -- a disk failed as the step was stored, and the server is stopped
   pub record WasCutOff (o : Outcome) (answer : Answer) : Type 0 where
     pub answered : answer ≡ Refused Halted
     pub stores : has_stored s.durable o.server.durable ≡ true
-    pub meets : Meets holds used format seat store' state' (StoppedIs (suc s.life) s.durable o.server.durable)
-    pub crash : was store store' s.durable o.server.durable
-    pub cause : rose store store'
+    pub meets : Meets model seat store' state' (StoppedIs (suc s.life) s.durable o.server.durable)
+    pub crash : model.was store store' s.durable o.server.durable
+    pub cause : model.rose store store'
 
   -- there was no memory for the step: the server and its disks are as they were
   pub record WasSpared : Type 0 where
-    pub kept : IsAsBefore holds used format seat store' state' s
+    pub kept : IsAsBefore model seat store' state' s
     pub store_same : store' ≡ store
 
   -- what a step comes to, of which this refusal comes first
   abbrev pub Comes : Outgoing → Outgoing → Option Refusal → Outcome → Result Answer NoMemory → Type 0
   Comes out out' None o (Ok answer) = WasCarriedOut out out' o answer ⊎ WasCutOff o answer
-  Comes out out' (Some refusal) o (Ok answer) = WasRefused holds used format seat store' state' s refusal answer × (store' ≡ store)
+  Comes out out' (Some refusal) o (Ok answer) = WasRefused model seat store' state' s refusal answer × (store' ≡ store)
   Comes out out' judged o (Err e) = WasSpared
+
+-- at a server that runs this rule was carried out where nothing so judged spoke against it
+abbrev pub TurnsBy : {S : Type 0} → StoreModel S → (judged : Server → Option Refusal) (rule : Server → Outcome) → (old new : ServerHere S) (out out' : Outgoing) → Result Answer NoMemory → Type 0
+TurnsBy model judged rule old new out out' result =
+    (s : Server) → Meets model old.seat old.store old.state (RunningIs s) → Comes model old.seat old.store new.store new.state s out out' (judged s) (rule s) result
+
+-- a server that does not run refuses, and stays as it is
+abbrev pub RefusesDown : {S : Type 0} → (old new : ServerHere S) → Result Answer NoMemory → Type 0
+RefusesDown old new result = runs old.state ≡ false → (result ≡ Ok (Refused Down)) × (new ≡ old)
 
 -- a job of another life is refused
 abbrev pub finish_refusal : Server → (life : ℕ) → Option Refusal
 finish_refusal s life = refuse (not (life == s.life)) (Stale s.life) None
 
-module _ {S : Type 0} (holds : S → Durable → Durable → Type 0) (used format : S → ℕ) (rose : S → S → Type 0) (seat : Seat) (store store' : S) (state' : State) where
+module _ {S : Type 0} (model : StoreModel S) (seat : Seat) (store store' : S) (state' : State) where
   -- what a restart comes to that found the record of the last step, or not
   abbrev pub Begins : (life : ℕ) → (before after : Durable) → (found : Bool) → Answer → Type 0
-  Begins life before after found Done = Meets holds used format seat store' state' (RunningIs (restarted seat.number (suc life) (renewed (cond found after before))))
-  Begins life before after found (Refused Halted) = Meets holds used format seat store' state' (StoppedIs (suc life) before after) × rose store store'
+  Begins life before after found Done = Meets model seat store' state' (RunningIs (restarted seat.number (suc life) (renewed (cond found after before))))
+  Begins life before after found (Refused Halted) = Meets model seat store' state' (StoppedIs (suc life) before after) × model.rose store store'
   Begins life before after found _ = ⊥
 
   abbrev pub BeginsAgain : Condition → Result (Answer × Bool) NoMemory → Type 0
   BeginsAgain (RunningIs s) (Ok (answer, found)) = Begins s.life s.durable s.durable found answer
   BeginsAgain (StoppedIs life before after) (Ok (answer, found)) = Begins life before after found answer
-  BeginsAgain UnformattedIs (Ok (answer, found)) = (answer ≡ Refused NotOurs) × Meets holds used format seat store' state' UnformattedIs
-  BeginsAgain c (Err e) = Meets holds used format seat store' state' c
+  BeginsAgain UnformattedIs (Ok (answer, found)) = (answer ≡ Refused NotOurs) × Meets model seat store' state' UnformattedIs
+  BeginsAgain c (Err e) = Meets model seat store' state' c
 
 -- the life that begins after this condition
 abbrev pub next_life : Condition → ℕ
@@ -115,14 +126,14 @@ stopped_in (RunningIs s) = StoppedIs (suc s.life) s.durable s.durable
 stopped_in (StoppedIs life before after) = StoppedIs life before after
 stopped_in UnformattedIs = UnformattedIs
 
-module _ {S : Type 0} (holds : S → Durable → Durable → Type 0) (used format : S → ℕ) (seat : Seat) (store' : S) (state' : State) (c : Condition) where
+module _ {S : Type 0} (model : StoreModel S) (seat : Seat) (store' : S) (state' : State) (c : Condition) where
   -- the next life over some state that fits, whatever it is
   pub record BeginsOver : Type 0 where
     pub life : ℕ
     pub next : suc life ≡ next_life c
     pub d : Durable
     pub fits : HasBegun (setup_at seat) d
-    pub meets : Meets holds used format seat store' state' (RunningIs (restarted seat.number (next_life c) d))
+    pub meets : Meets model seat store' state' (RunningIs (restarted seat.number (next_life c) d))
 
   -- cut off over some state that fits
   pub record StopsOver : Type 0 where
@@ -130,20 +141,20 @@ module _ {S : Type 0} (holds : S → Durable → Durable → Type 0) (used forma
     pub next : suc life ≡ next_life c
     pub d : Durable
     pub fits : HasBegun (setup_at seat) d
-    pub meets : Meets holds used format seat store' state' (StoppedIs (next_life c) d d)
+    pub meets : Meets model seat store' state' (StoppedIs (next_life c) d d)
 
   -- cut off as it read
   abbrev pub StopsUnread : Condition → Type 0
-  StopsUnread (RunningIs s) = Meets holds used format seat store' state' (StoppedIs (suc s.life) s.durable s.durable)
-  StopsUnread (StoppedIs life before after) = Meets holds used format seat store' state' (StoppedIs (suc life) before after)
+  StopsUnread (RunningIs s) = Meets model seat store' state' (StoppedIs (suc s.life) s.durable s.durable)
+  StopsUnread (StoppedIs life before after) = Meets model seat store' state' (StoppedIs (suc life) before after)
   StopsUnread UnformattedIs = ⊥
 
   -- what a restart comes to over any disks
   abbrev pub BeginsSomehow : Result (Answer × Bool) NoMemory → Type 0
   BeginsSomehow (Ok (Done, found)) = BeginsOver
   BeginsSomehow (Ok (Refused Halted, found)) = StopsOver ⊎ StopsUnread c
-  BeginsSomehow (Ok (answer, found)) = (answer ≡ Refused NotOurs) × Meets holds used format seat store' state' (stopped_in c)
-  BeginsSomehow (Err e) = Meets holds used format seat store' state' c
+  BeginsSomehow (Ok (answer, found)) = (answer ≡ Refused NotOurs) × Meets model seat store' state' (stopped_in c)
+  BeginsSomehow (Err e) = Meets model seat store' state' c
 
 -- the state itself, or saved anew in the second format
 abbrev pub IsOf : Durable → Durable → Type 0

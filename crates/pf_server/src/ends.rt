@@ -24,7 +24,7 @@ pub struct Before {
 
 /// Notes what is known of the server as a step of it begins.
 pub fn note<S: Store>(me: &Running, store: &S) -> Before
-    ensures { result ≡ record { life = me.now.life; used = S.used store.now; generation = me.now.generation } }
+    ensures { result ≡ record { life = me.now.life; used = S.model.used store.now; generation = me.now.generation } }
 {
     Before {
         life: me.life,

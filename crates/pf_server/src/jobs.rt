@@ -53,8 +53,8 @@ impl<S: Store> Server<S> {
     ///
     /// `NoMemory` (1) leaves the server as it was.
     pub fn claim(&mut self, alloc: Global) -> Result<Option<Claimed>, NoMemory>
-        requires { IsInOrder S.holds S.used S.format self.old.seat self.old.store self.old.state }
-        ensures step { (s : ServerIs) → Meets S.holds S.used S.format self.old.seat self.old.store self.old.state (RunningIs s) → Claims S.holds S.used S.format self.old.seat self.new.store self.new.state s result }
+        requires { IsInOrder S.model self.old.seat self.old.store self.old.state }
+        ensures step { (s : ServerIs) → Meets S.model self.old.seat self.old.store self.old.state (RunningIs s) → Claims S.model self.old.seat self.new.store self.new.state s result }
         ensures down { runs self.old.state ≡ false → (result ≡ Ok None) × (self.new ≡ self.old) }
         ensures seat { self.new.seat ≡ self.old.seat }
         ensures store { self.new.store ≡ self.old.store }
@@ -72,9 +72,9 @@ impl<S: Store> Server<S> {
     /// `Stale` (61) where the job is of another life, with the life that the server has now; `Down` (51) where the server never
     /// ran. Both leave the server as it was.
     pub fn finish(&mut self, filled: Filled) -> Answer
-        requires order { IsInOrder S.holds S.used S.format self.old.seat self.old.store self.old.state }
-        requires job { (c : Condition) × Meets S.holds S.used S.format self.old.seat self.old.store self.old.state c × BringsBack c filled }
-        ensures step { (s : ServerIs) → Meets S.holds S.used S.format self.old.seat self.old.store self.old.state (RunningIs s) → ComesInMemory S.holds S.used S.format self.old.seat self.new.store self.new.state s (finish_refusal s filled.life) (on_finish s filled.life filled.slot) result }
+        requires order { IsInOrder S.model self.old.seat self.old.store self.old.state }
+        requires job { (c : Condition) × Meets S.model self.old.seat self.old.store self.old.state c × BringsBack c filled }
+        ensures step { (s : ServerIs) → Meets S.model self.old.seat self.old.store self.old.state (RunningIs s) → ComesInMemory S.model self.old.seat self.new.store self.new.state s (finish_refusal s filled.life) (on_finish s filled.life filled.slot) result }
         ensures stopped { (life : ℕ) (doubt : DoubtIs) → self.old.state ≡ State.Stopped life doubt → (result ≡ Answer.Refused (Refusal.Stale life)) × (self.new ≡ self.old) }
         ensures unformatted { self.old.state ≡ State.Unformatted → (result ≡ Answer.Refused Refusal.Down) × (self.new ≡ self.old) }
         ensures seat { self.new.seat ≡ self.old.seat }
@@ -89,8 +89,8 @@ impl<S: Store> Server<S> {
 
     /// A job comes back undone, and its slot can be claimed again. A job of another life changes nothing. It takes no memory.
     pub fn give_back(&mut self, life: u64, slot: Slot)
-        requires { IsInOrder S.holds S.used S.format self.old.seat self.old.store self.old.state }
-        ensures step { (s : ServerIs) → Meets S.holds S.used S.format self.old.seat self.old.store self.old.state (RunningIs s) → ComesInMemory S.holds S.used S.format self.old.seat self.new.store self.new.state s None (on_give_back s life slot) Answer.Done }
+        requires { IsInOrder S.model self.old.seat self.old.store self.old.state }
+        ensures step { (s : ServerIs) → Meets S.model self.old.seat self.old.store self.old.state (RunningIs s) → ComesInMemory S.model self.old.seat self.new.store self.new.state s None (on_give_back s life slot) Answer.Done }
         ensures down { runs self.old.state ≡ false → self.new ≡ self.old }
         ensures seat { self.new.seat ≡ self.old.seat }
         ensures store { self.new.store ≡ self.old.store }
@@ -106,7 +106,7 @@ impl<S: Store> Server<S> {
         requires { AreSized (answers_of self.old.state) }
         ensures none { IfNone result ((answers_of self.old.state ≡ []) × (self.new ≡ self.old)) }
         ensures first { IfSome result (λ answer. answers_of self.old.state ≡ answer ∷ answers_of self.new.state) }
-        ensures same { (s : ServerIs) → Meets S.holds S.used S.format self.old.seat self.old.store self.old.state (RunningIs s) → Meets S.holds S.used S.format self.new.seat self.new.store self.new.state (RunningIs s) }
+        ensures same { (s : ServerIs) → Meets S.model self.old.seat self.old.store self.old.state (RunningIs s) → Meets S.model self.new.seat self.new.store self.new.state (RunningIs s) }
         ensures seat { self.new.seat ≡ self.old.seat }
         ensures store { self.new.store ≡ self.old.store }
     {

@@ -125,8 +125,8 @@ fn stay(
 impl<S: Store> Server<S> {
     /// Stops the server. What it had in memory is lost, and its life counts one more. `Down` (51) where it does not run.
     pub fn stop(&mut self) -> Answer
-        requires { IsInOrder S.holds S.used S.format self.old.seat self.old.store self.old.state }
-        ensures step { (s : ServerIs) → Meets S.holds S.used S.format self.old.seat self.old.store self.old.state (RunningIs s) → (result ≡ Answer.Done) × Meets S.holds S.used S.format self.old.seat self.new.store self.new.state (StoppedIs (suc s.life) s.durable s.durable) }
+        requires { IsInOrder S.model self.old.seat self.old.store self.old.state }
+        ensures step { (s : ServerIs) → Meets S.model self.old.seat self.old.store self.old.state (RunningIs s) → (result ≡ Answer.Done) × Meets S.model self.old.seat self.new.store self.new.state (StoppedIs (suc s.life) s.durable s.durable) }
         ensures down { runs self.old.state ≡ false → (result ≡ Answer.Refused Refusal.Down) × (self.new ≡ self.old) }
         ensures seat { self.new.seat ≡ self.old.seat }
         ensures store { self.new.store ≡ self.old.store }
@@ -149,15 +149,15 @@ impl<S: Store> Server<S> {
     /// comes of disks that tell their content: a running server is stopped then. `Halted` (52) where a disk failed: the server is
     /// stopped then. `NoMemory` (1) leaves the server as it was, whatever its disks tell.
     pub fn restart(&mut self, alloc: Global) -> Result<(Answer, bool), NoMemory>
-        requires { IsInOrder S.holds S.used S.format self.old.seat self.old.store self.old.state }
-        ensures step { IsTrue (S.told self.old.store) → (c : Condition) → Meets S.holds S.used S.format self.old.seat self.old.store self.old.state c → IsKnown self.old.seat c → IsHonest self.old.seat c → BeginsAgain S.holds S.used S.format S.rose self.old.seat self.old.store self.new.store self.new.state c result }
+        requires { IsInOrder S.model self.old.seat self.old.store self.old.state }
+        ensures step { IsTrue (S.model.told self.old.store) → (c : Condition) → Meets S.model self.old.seat self.old.store self.old.state c → IsKnown self.old.seat c → IsHonest self.old.seat c → BeginsAgain S.model self.old.seat self.old.store self.new.store self.new.state c result }
         // Over any disks, also those that tell nothing.
-        ensures somehow { (c : Condition) → Meets S.holds S.used S.format self.old.seat self.old.store self.old.state c → BeginsSomehow S.holds S.used S.format self.old.seat self.new.store self.new.state c result }
-        ensures cause { IfOk result (λ r. r.0 ≡ Answer.Refused Refusal.Halted → S.rose self.old.store self.new.store) }
-        ensures any_moment { IsTrue (S.told self.old.store) → (c : Condition) → Meets S.holds S.used S.format self.old.seat self.old.store self.old.state c → WasBegunIn S.was self.old.store self.new.store c }
+        ensures somehow { (c : Condition) → Meets S.model self.old.seat self.old.store self.old.state c → BeginsSomehow S.model self.old.seat self.new.store self.new.state c result }
+        ensures cause { IfOk result (λ r. r.0 ≡ Answer.Refused Refusal.Halted → S.model.rose self.old.store self.new.store) }
+        ensures any_moment { IsTrue (S.model.told self.old.store) → (c : Condition) → Meets S.model self.old.seat self.old.store self.old.state c → WasBegunIn S.model.was self.old.store self.new.store c }
         ensures answers { answers_of self.old.state ≡ [] → answers_of self.new.state ≡ [] }
         ensures seat { self.new.seat ≡ self.old.seat }
-        ensures told { S.told self.new.store ≡ S.told self.old.store }
+        ensures told { S.model.told self.new.store ≡ S.model.told self.old.store }
     {
         let Some((life, doubt)) = last_life(&self.state) else {
             return Ok((Answer::Refused(Refusal::NotOurs), false));

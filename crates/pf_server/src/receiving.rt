@@ -1,13 +1,11 @@
 //! A packet comes.
-ghost use Rattle.std.specs.Prelude.{◌≡◌, None, Ok, false};
-ghost use Rattle.pf_entry.specs.Records.{Durable};
+ghost use Rattle.std.specs.Prelude.{◌≡◌, None, Ok};
 ghost use Rattle.pf_protocol.specs.Rows.{on_packet};
-ghost use Rattle.pf_protocol.specs.Servers.{Server as ServerIs, Running as RunningIs};
 ghost use Rattle.pf_restart.specs.Beginning.{setup_at};
 ghost use Rattle.pf_state.specs.Coming.{IsComing};
-ghost use Rattle.pf_state.specs.Standing.{server_of, setup_of, IsBounded, Stands, Steps, room_refusal};
-ghost use Rattle.pf_server.specs.Conditions.{IsFor, IsInOrder, Meets, runs};
-ghost use Rattle.pf_server.specs.Turns.{Comes};
+ghost use Rattle.pf_state.specs.Standing.{setup_of, room_refusal, CanStep, IsBounded, StepsBy};
+ghost use Rattle.pf_server.specs.Conditions.{IsFor, IsInOrder};
+ghost use Rattle.pf_server.specs.Turns.{RefusesDown, TurnsBy};
 
 use crate::ends::{end, note};
 use crate::{Server, State};
@@ -30,12 +28,11 @@ fn take_packet<S: Store>(
     packet: Packet,
     out: &mut Outbox,
 ) -> Result<Answer, StepFault>
-    requires stands { (d : Durable) × Stands S.holds S.used S.format d store.old me.old }
+    requires stands { CanStep S.model store.old me.old }
     requires bounded { IsBounded me.old }
     requires fresh { out.old.acked ≡ None }
     requires coming { IsComing me.old packet.from packet.term packet.body }
-    ensures { (d : Durable) → Stands S.holds S.used S.format d store.old me.old → (let o = on_packet (setup_of me.old) (server_of d me.old) packet in
-        Steps S.holds S.used S.format S.told S.rose S.was d store.old me.old out.old store.new me.new out.new (room_refusal out.old o) o result) }
+    ensures { StepsBy S.model (λ s. on_packet (setup_of me.old) s packet) store.old me.old out.old store.new me.new out.new result }
 {
     let Packet {
         from,
@@ -71,14 +68,13 @@ impl<S: Store> Server<S> {
         packet: Packet,
         out: &mut Outbox,
     ) -> Result<Answer, NoMemory>
-        requires order { IsInOrder S.holds S.used S.format self.old.seat self.old.store self.old.state }
+        requires order { IsInOrder S.model self.old.seat self.old.store self.old.state }
         requires fresh { out.old.acked ≡ None }
         requires packet { IsFor self.old.seat packet }
-        ensures step { (s : ServerIs) → Meets S.holds S.used S.format self.old.seat self.old.store self.old.state (RunningIs s) →
-            Comes S.holds S.used S.format S.rose S.was self.old.seat self.old.store self.new.store self.new.state s out.old out.new (room_refusal out.old (on_packet (setup_at self.old.seat) s packet)) (on_packet (setup_at self.old.seat) s packet) result }
-        ensures down { runs self.old.state ≡ false → (result ≡ Ok (Answer.Refused Refusal.Down)) × (self.new ≡ self.old) }
+        ensures step { TurnsBy S.model (λ s. room_refusal out.old (on_packet (setup_at self.old.seat) s packet)) (λ s. on_packet (setup_at self.old.seat) s packet) self.old self.new out.old out.new result }
+        ensures down { RefusesDown self.old self.new result }
         ensures seat { self.new.seat ≡ self.old.seat }
-        ensures told { S.told self.new.store ≡ S.told self.old.store }
+        ensures told { S.model.told self.new.store ≡ S.model.told self.old.store }
     {
         let State::Runs(me) = &mut self.state else {
             return Ok(Answer::Refused(Refusal::Down));

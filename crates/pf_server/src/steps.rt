@@ -1,16 +1,16 @@
 //! What hosts ask of a server.
-ghost use Rattle.std.specs.Prelude.{◌≡◌, None, Ok, false};
+ghost use Rattle.std.specs.Prelude.{◌≡◌, None, Ok};
 ghost use Rattle.pf_base.specs.Span.{IsWritable};
 ghost use Rattle.pf_leader.specs.Submitting.{submit_refusal};
 ghost use Rattle.pf_apply.specs.Fetching.{fetch_refusal};
 ghost use Rattle.pf_protocol.specs.Answers.{IsSubmitted};
 ghost use Rattle.pf_protocol.specs.Leading.{on_elect, on_fetch, on_resend, on_submit};
 ghost use Rattle.pf_protocol.specs.Saving.{on_checkpoint};
-ghost use Rattle.pf_protocol.specs.Servers.{Condition, Server as ServerIs, Running as RunningIs};
+ghost use Rattle.pf_protocol.specs.Servers.{Condition};
 ghost use Rattle.pf_restart.specs.Beginning.{setup_at};
 ghost use Rattle.pf_state.specs.Standing.{room_refusal};
-ghost use Rattle.pf_server.specs.Conditions.{IsInOrder, IsNext, Meets, runs};
-ghost use Rattle.pf_server.specs.Turns.{Comes};
+ghost use Rattle.pf_server.specs.Conditions.{IsInOrder, IsNext, Meets};
+ghost use Rattle.pf_server.specs.Turns.{RefusesDown, TurnsBy};
 
 use crate::ends::{end, note};
 use crate::{Server, State};
@@ -29,14 +29,13 @@ impl<S: Store> Server<S> {
     /// `Down` (51), then `OldFormat` (97), `BadRange` (10), `NotLeader` (50), `WindowFull` (30), `PacketsFull` (55) and `LogFull`
     /// (41), the first of them that holds, and `NoMemory` (1) leave the server as it was. `Halted` (52) where a disk failed.
     pub fn submit(&mut self, alloc: Global, op: Op, out: &mut Outbox) -> Result<Answer, NoMemory>
-        requires order { IsInOrder S.holds S.used S.format self.old.seat self.old.store self.old.state }
+        requires order { IsInOrder S.model self.old.seat self.old.store self.old.state }
         requires fresh { out.old.acked ≡ None }
         requires op { IsSubmitted op }
-        ensures step { (s : ServerIs) → Meets S.holds S.used S.format self.old.seat self.old.store self.old.state (RunningIs s) →
-            Comes S.holds S.used S.format S.rose S.was self.old.seat self.old.store self.new.store self.new.state s out.old out.new (submit_refusal (setup_at self.old.seat) out.old op s) (on_submit (setup_at self.old.seat) s op s.role) result }
-        ensures down { runs self.old.state ≡ false → (result ≡ Ok (Answer.Refused Refusal.Down)) × (self.new ≡ self.old) }
+        ensures step { TurnsBy S.model (submit_refusal (setup_at self.old.seat) out.old op) (λ s. on_submit (setup_at self.old.seat) s op s.role) self.old self.new out.old out.new result }
+        ensures down { RefusesDown self.old self.new result }
         ensures seat { self.new.seat ≡ self.old.seat }
-        ensures told { S.told self.new.store ≡ S.told self.old.store }
+        ensures told { S.model.told self.new.store ≡ S.model.told self.old.store }
     {
         let State::Runs(me) = &mut self.state else {
             return Ok(Answer::Refused(Refusal::Down));
@@ -58,15 +57,14 @@ impl<S: Store> Server<S> {
         number: u64,
         out: &mut Outbox,
     ) -> Result<Answer, NoMemory>
-        requires order { IsInOrder S.holds S.used S.format self.old.seat self.old.store self.old.state }
+        requires order { IsInOrder S.model self.old.seat self.old.store self.old.state }
         requires fresh { out.old.acked ≡ None }
         requires range { IsWritable range.first range.count }
-        requires next { (c : Condition) × Meets S.holds S.used S.format self.old.seat self.old.store self.old.state c × IsNext c number }
-        ensures step { (s : ServerIs) → Meets S.holds S.used S.format self.old.seat self.old.store self.old.state (RunningIs s) →
-            Comes S.holds S.used S.format S.rose S.was self.old.seat self.old.store self.new.store self.new.state s out.old out.new (fetch_refusal (setup_at self.old.seat) out.old range number s) (on_fetch s range number s.role) result }
-        ensures down { runs self.old.state ≡ false → (result ≡ Ok (Answer.Refused Refusal.Down)) × (self.new ≡ self.old) }
+        requires next { (c : Condition) × Meets S.model self.old.seat self.old.store self.old.state c × IsNext c number }
+        ensures step { TurnsBy S.model (fetch_refusal (setup_at self.old.seat) out.old range number) (λ s. on_fetch s range number s.role) self.old self.new out.old out.new result }
+        ensures down { RefusesDown self.old self.new result }
         ensures seat { self.new.seat ≡ self.old.seat }
-        ensures told { S.told self.new.store ≡ S.told self.old.store }
+        ensures told { S.model.told self.new.store ≡ S.model.told self.old.store }
     {
         let State::Runs(me) = &mut self.state else {
             return Ok(Answer::Refused(Refusal::Down));
@@ -81,13 +79,12 @@ impl<S: Store> Server<S> {
     /// `Down` (51), then `PacketsFull` (55) and `LogFull` (41), the first of them that holds, and `NoMemory` (1) leave the server as
     /// it was. `Halted` (52) where a disk failed.
     pub fn elect(&mut self, alloc: Global, out: &mut Outbox) -> Result<Answer, NoMemory>
-        requires order { IsInOrder S.holds S.used S.format self.old.seat self.old.store self.old.state }
+        requires order { IsInOrder S.model self.old.seat self.old.store self.old.state }
         requires fresh { out.old.acked ≡ None }
-        ensures step { (s : ServerIs) → Meets S.holds S.used S.format self.old.seat self.old.store self.old.state (RunningIs s) →
-            Comes S.holds S.used S.format S.rose S.was self.old.seat self.old.store self.new.store self.new.state s out.old out.new (room_refusal out.old (on_elect s)) (on_elect s) result }
-        ensures down { runs self.old.state ≡ false → (result ≡ Ok (Answer.Refused Refusal.Down)) × (self.new ≡ self.old) }
+        ensures step { TurnsBy S.model (λ s. room_refusal out.old (on_elect s)) on_elect self.old self.new out.old out.new result }
+        ensures down { RefusesDown self.old self.new result }
         ensures seat { self.new.seat ≡ self.old.seat }
-        ensures told { S.told self.new.store ≡ S.told self.old.store }
+        ensures told { S.model.told self.new.store ≡ S.model.told self.old.store }
     {
         let State::Runs(me) = &mut self.state else {
             return Ok(Answer::Refused(Refusal::Down));
@@ -101,13 +98,12 @@ impl<S: Store> Server<S> {
     ///
     /// `Down` (51), then `PacketsFull` (55), and `NoMemory` (1) leave the server as it was.
     pub fn resend(&mut self, alloc: Global, out: &mut Outbox) -> Result<Answer, NoMemory>
-        requires order { IsInOrder S.holds S.used S.format self.old.seat self.old.store self.old.state }
+        requires order { IsInOrder S.model self.old.seat self.old.store self.old.state }
         requires fresh { out.old.acked ≡ None }
-        ensures step { (s : ServerIs) → Meets S.holds S.used S.format self.old.seat self.old.store self.old.state (RunningIs s) →
-            Comes S.holds S.used S.format S.rose S.was self.old.seat self.old.store self.new.store self.new.state s out.old out.new (room_refusal out.old (on_resend s s.role)) (on_resend s s.role) result }
-        ensures down { runs self.old.state ≡ false → (result ≡ Ok (Answer.Refused Refusal.Down)) × (self.new ≡ self.old) }
+        ensures step { TurnsBy S.model (λ s. room_refusal out.old (on_resend s s.role)) (λ s. on_resend s s.role) self.old self.new out.old out.new result }
+        ensures down { RefusesDown self.old self.new result }
         ensures seat { self.new.seat ≡ self.old.seat }
-        ensures told { S.told self.new.store ≡ S.told self.old.store }
+        ensures told { S.model.told self.new.store ≡ S.model.told self.old.store }
     {
         let State::Runs(me) = &mut self.state else {
             return Ok(Answer::Refused(Refusal::Down));
@@ -122,13 +118,12 @@ impl<S: Store> Server<S> {
     /// `Down` (51), then `LogFull` (41) where the image does not fit a half, and `NoMemory` (1) leave the server as it was.
     /// `Halted` (52) where a disk failed.
     pub fn checkpoint(&mut self, alloc: Global, out: &mut Outbox) -> Result<Answer, NoMemory>
-        requires order { IsInOrder S.holds S.used S.format self.old.seat self.old.store self.old.state }
+        requires order { IsInOrder S.model self.old.seat self.old.store self.old.state }
         requires fresh { out.old.acked ≡ None }
-        ensures step { (s : ServerIs) → Meets S.holds S.used S.format self.old.seat self.old.store self.old.state (RunningIs s) →
-            Comes S.holds S.used S.format S.rose S.was self.old.seat self.old.store self.new.store self.new.state s out.old out.new (room_refusal out.old (on_checkpoint s)) (on_checkpoint s) result }
-        ensures down { runs self.old.state ≡ false → (result ≡ Ok (Answer.Refused Refusal.Down)) × (self.new ≡ self.old) }
+        ensures step { TurnsBy S.model (λ s. room_refusal out.old (on_checkpoint s)) on_checkpoint self.old self.new out.old out.new result }
+        ensures down { RefusesDown self.old self.new result }
         ensures seat { self.new.seat ≡ self.old.seat }
-        ensures told { S.told self.new.store ≡ S.told self.old.store }
+        ensures told { S.model.told self.new.store ≡ S.model.told self.old.store }
     {
         let State::Runs(me) = &mut self.state else {
             return Ok(Answer::Refused(Refusal::Down));

@@ -5,6 +5,7 @@ use Rattle.pf_entry.specs.Records.{Durable}
 use Rattle.pf_protocol.specs.declared.answers.Refusal.TheVariants.{PacketsFull, LogFull}
 use Rattle.pf_protocol.specs.Answers.{refuse}
 use Rattle.pf_protocol.specs.Outcomes.{Outcome}
+use Rattle.pf_store.specs.Stores.{StoreModel}
 use Rattle.pf_state.specs.declared.running.Running.{Running}
 use Rattle.pf_state.specs.Outgoing.{Outgoing, exceeds}
 use Rattle.pf_state.specs.Standing.{setup_of, bare, IsCached, Stands, IsUntouched, room_refusal}
@@ -33,15 +34,15 @@ module _ (out : Outgoing) (o : Outcome) where
       ap (λ b. refuse b PacketsFull (refuse (nat_lt 67108864 o.server.durable.used) LogFull None)) sends
       ∙ ap (λ b. refuse b LogFull None) (past _ _ beyond)
 
-module _ {S : Type 0} (holds : S → Durable → Durable → Type 0) (used format : S → ℕ) (told : S → Bool) (rose : S → S → Type 0) (was : S → S → Durable → Durable → Type 0) where
+module _ {S : Type 0} (model : StoreModel S) where
   -- where neither the store nor memory was written
-  pub untouched : (d : Durable) (store : S) (me : Running) (out new : Outgoing) → Stands holds used format d store me → IsUntouched holds used format told rose was d store me out store me new
+  pub untouched : (d : Durable) (store : S) (me : Running) (out new : Outgoing) → Stands model d store me → IsUntouched model d store me out store me new
   untouched d store me out new stands = record { store_same = refl; server_same = refl; setup_same = refl; stands = stands }
 
 -- the volume's format or the second
-pub half_of : {S : Type 0} (holds : S → Durable → Durable → Type 0) (used format : S → ℕ) (d : Durable) (store : S) (me : Running) → Stands holds used format d store me → IsFormat (setup_of me) (format store)
+pub half_of : {S : Type 0} (model : StoreModel S) (d : Durable) (store : S) (me : Running) → Stands model d store me → IsFormat (setup_of me) (model.format store)
 unfolding setup_of
-half_of holds used format d store me stands = elim stands.cached.format [
+half_of model d store me stands = elim stands.cached.format [
   | inl second ↦ inl (stands.half ∙ second)
   | inr same ↦ inr (stands.half ∙ same)
 ]

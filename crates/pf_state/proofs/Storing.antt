@@ -10,7 +10,7 @@ use Rattle.pf_entry.specs.Records.{Durable, stored}
 use Rattle.pf_codec.proofs.BodyLaws.{format_more, window_of_second}
 use Rattle.pf_codec.proofs.SizeLaws.{body_len}
 use Rattle.pf_protocol.specs.Answers.{has_stored}
-use Rattle.pf_store.specs.Stores.{IsImageOf, is_image}
+use Rattle.pf_store.specs.Stores.{IsImageOf, is_image, StoreModel}
 use Rattle.pf_state.specs.declared.faults.StepFault.{StepFault}
 use Rattle.pf_state.specs.declared.faults.StepFault.TheVariants.{Halted}
 use Rattle.pf_state.specs.Storing.{IsInDoubt, Keeps}
@@ -29,9 +29,9 @@ past used there len size beyond is same = omega (arith, beyond)
 pub up_to : (used there len size : ℕ) → used + len ≤ 67108864 → used ≡ there → len ≡ size → there + size ≤ 67108864
 up_to used there len size fits is same = omega arith
 
-pub is_in_doubt : {S X : Type 0} (holds : S → Durable → Durable → Type 0) (used format : S → ℕ) (told : S → Bool) (rose : S → S → Type 0) (was : S → S → Durable → Durable → Type 0) (d : Durable) (r : Record) (size its : ℕ) (store store' : S) (q : Result X StepFault)
-    → (e : StepFault) × (q ≡ Err e) × (e ≡ Halted) → IsInDoubt holds used format told rose was d r size its store store' → Keeps holds used format told rose was d r size its store store' q
-is_in_doubt holds used format told rose was d r size its store store' q (e, is, halted) doubt = subst (Keeps holds used format told rose was d r size its store store') (sym (is ∙ ap Err halted)) doubt
+pub is_in_doubt : {S X : Type 0} (model : StoreModel S) (d : Durable) (r : Record) (size its : ℕ) (store store' : S) (q : Result X StepFault)
+    → (e : StepFault) × (q ≡ Err e) × (e ≡ Halted) → IsInDoubt model d r size its store store' → Keeps model d r size its store store' q
+is_in_doubt model d r size its store store' q (e, is, halted) doubt = subst (Keeps model d r size its store store') (sym (is ∙ ap Err halted)) doubt
 
 pub image_len : (d : Durable) (r : Record) (body : List ℕ) → IsImageOf d r body → length body ≡ body_size r
 image_len d r body is = ap length is.is ∙ body_len second_format window_of_second r is.canonical.fields

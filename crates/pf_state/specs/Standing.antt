@@ -14,6 +14,7 @@ use Rattle.pf_protocol.specs.Leading.{members}
 use Rattle.pf_protocol.specs.Outcomes.{Outcome}
 use Rattle.pf_protocol.specs.Fitting.{ServerFits}
 use Rattle.pf_protocol.specs.Answers.{IsSetup, refuse, has_stored}
+use Rattle.pf_store.specs.Stores.{StoreModel}
 use Rattle.pf_state.specs.Bounds.{far}
 use Rattle.pf_state.specs.declared.running.Leader.{Leader as LeaderHere}
 use Rattle.pf_state.specs.declared.running.Role.{Role as RoleHere}
@@ -43,7 +44,7 @@ server_of d me = record {
   life = me.life;
   durable = d;
   role = role_of me.role;
-  committed = me.log.marks;
+  committed = me.log.committed;
   applied = Sets.retain me.applied.slots (nat_lt me.log.base);
   sectors = me.sectors;
   in_hand = me.in_hand;
@@ -110,13 +111,13 @@ pub record IsBounded (me : Running) : Type 0 where
   pub fits : ServerFits (setup_of me) n t (server_of (bare me) me)
   pub few : FinMap.len me.starts.starts < 2 ^ 15
 
-module _ {S : Type 0} (holds : S → Durable → Durable → Type 0) (used format : S → ℕ) where
+module _ {S : Type 0} (model : StoreModel S) where
   -- the records stand for this state, in whatever a crash leaves, and memory has what they say
   pub record Stands (d : Durable) (store : S) (me : Running) : Type 0 where
-    pub recorded : holds store d d
-    pub used_is : used store ≡ d.used
+    pub recorded : model.holds store d d
+    pub used_is : model.used store ≡ d.used
     pub within : d.used ≤ 67108864
-    pub half : format store ≡ d.format
+    pub half : model.format store ≡ d.format
     pub cached : IsCached d me
 
 -- the outcome without what it sends
@@ -127,13 +128,13 @@ quiet o = record o { packets = [] }
 unfoldable pub room_refusal : Outgoing → Outcome → Option Refusal
 room_refusal out o = refuse (exceeds out o.packets) PacketsFull (refuse (nat_lt 67108864 o.server.durable.used) LogFull None)
 
-module _ {S : Type 0} (holds : S → Durable → Durable → Type 0) (used format : S → ℕ) (told : S → Bool) (rose : S → S → Type 0) (was : S → S → Durable → Durable → Type 0) (d : Durable) (store : S) (me : Running) (out : Outgoing) (store' : S) (me' : Running) (out' : Outgoing) where
+module _ {S : Type 0} (model : StoreModel S) (d : Durable) (store : S) (me : Running) (out : Outgoing) (store' : S) (me' : Running) (out' : Outgoing) where
   -- nothing has changed as the rules see it; there may be more room
   pub record IsUntouched : Type 0 where
     pub store_same : store' ≡ store
     pub server_same : server_of d me' ≡ server_of d me
     pub setup_same : setup_of me' ≡ setup_of me
-    pub stands : Stands holds used format d store' me'
+    pub stands : Stands model d store' me'
 
   pub record IsRefused (judged : Option Refusal) (refusal : Refusal) : Type 0 where
     pub judged_so : judged ≡ Some refusal
@@ -144,19 +145,19 @@ module _ {S : Type 0} (holds : S → Durable → Durable → Type 0) (used forma
     pub may : judged ≡ None
     pub stores : has_stored d o.server.durable ≡ true
     pub half : (o.server.durable.format ≡ 2) ⊎ (o.server.durable.format ≡ d.format)
-    pub in_doubt : holds store' d o.server.durable
-    pub told_same : told store' ≡ told store
-    pub crash : was store store' d o.server.durable
-    pub cause : rose store store'
+    pub in_doubt : model.holds store' d o.server.durable
+    pub told_same : model.told store' ≡ model.told store
+    pub crash : model.was store store' d o.server.durable
+    pub cause : model.rose store store'
 
   pub record IsDone (judged : Option Refusal) (o : Outcome) (answer : Answer) : Type 0 where
     pub may : judged ≡ None
     pub answered : answer ≡ o.answer
     pub server_is : server_of o.server.durable me' ≡ o.server
     pub setup_same : setup_of me' ≡ setup_of me
-    pub stands : Stands holds used format o.server.durable store' me'
-    pub told_same : told store' ≡ told store
-    pub crash : (store' ≡ store) ⊎ was store store' d o.server.durable
+    pub stands : Stands model o.server.durable store' me'
+    pub told_same : model.told store' ≡ model.told store
+    pub crash : (store' ≡ store) ⊎ model.was store store' d o.server.durable
     pub sent : out' ≡ record (sent_by out o.packets) { acked = o.acked }
 
   -- the rule was carried out, or there is a reason why it was not
@@ -165,3 +166,23 @@ module _ {S : Type 0} (holds : S → Durable → Durable → Type 0) (used forma
   Steps judged o (Err NoMemory) = IsUntouched
   Steps judged o (Err (Refused refusal)) = IsRefused judged refusal
   Steps judged o (Err Halted) = IsHalted judged o
+
+-- a step may begin: the records stand for a state, and memory has what they say
+abbrev pub CanStep : {S : Type 0} → StoreModel S → S → Running → Type 0
+CanStep model store me = (d : Durable) × Stands model d store me
+
+module _ {S : Type 0} (model : StoreModel S) where
+  -- this rule was carried out where nothing so judged spoke against it
+  abbrev pub StepsJudged : (judged : Server → Option Refusal) (rule : Server → Outcome) → S → Running → Outgoing → S → Running → Outgoing → Result Answer StepFault → Type 0
+  StepsJudged judged rule store me out store' me' out' result =
+      (d : Durable) → Stands model d store me → (let s = server_of d me in Steps model d store me out store' me' out' (judged s) (rule s) result)
+
+  -- this rule was carried out, or there is a reason why it was not
+  abbrev pub StepsBy : (rule : Server → Outcome) → S → Running → Outgoing → S → Running → Outgoing → Result Answer StepFault → Type 0
+  StepsBy rule store me out store' me' out' result = StepsJudged (λ s. room_refusal out (rule s)) rule store me out store' me' out' result
+
+  -- so does a step that sends nothing, whatever was sent before it
+  abbrev pub StepsQuietly : (rule : Server → Outcome) → S → Running → S → Running → Result Answer StepFault → Type 0
+  StepsQuietly rule store me store' me' result =
+      (d : Durable) (out : Outgoing) → Stands model d store me → out.acked ≡ None
+      → (let o = rule (server_of d me) in Steps model d store me out store' me' out (room_refusal out o) o result)

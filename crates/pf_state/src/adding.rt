@@ -19,9 +19,9 @@ const ROOM: u64 = 67_108_855;
 /// Adds a record to the store. The store is as it was after `NoMemory` (1) and after `LogFull` (41), which comes exactly where
 /// the record does not fit the current half. `Halted` (52) comes only where a disk failed.
 pub fn add<S: Store>(alloc: Global, store: &mut S, rec: &Record) -> Result<(), StepFault>
-    requires whole { (d : Durable) × S.holds store.old d d }
-    requires spelled { IsSpelledAs (S.format store.old) rec.now (body_bytes rec.now) }
-    ensures { (d : Durable) → S.holds store.old d d → S.used store.old ≡ d.used → Stores S.holds S.used S.format S.told S.rose S.was d rec.now store.old store.new result }
+    requires whole { (d : Durable) × S.model.holds store.old d d }
+    requires spelled { IsSpelledAs (S.model.format store.old) rec.now (body_bytes rec.now) }
+    ensures { (d : Durable) → S.model.holds store.old d d → S.model.used store.old ≡ d.used → Stores S.model d rec.now store.old store.new result }
 {
     let body = spell_record(alloc, rec)?;
     if !store.has_room(body.len() as u64) {
@@ -33,8 +33,8 @@ pub fn add<S: Store>(alloc: Global, store: &mut S, rec: &Record) -> Result<(), S
 /// Saves the body of an image in the other half, in format 2. The store is as it was after `LogFull` (41), which comes exactly
 /// where the image does not fit a half of 67,108,864 bytes. `Halted` (52) comes only where a disk failed. It takes no memory.
 pub fn save<S: Store>(store: &mut S, body: &[u8]) -> Result<(), StepFault>
-    requires whole { (d : Durable) × S.holds store.old d d × ((r : RecordIs) × IsImageOf d r body.now) }
-    ensures { (d : Durable) (r : RecordIs) → S.holds store.old d d → IsImageOf d r body.now → Saves S.holds S.used S.format S.told S.rose S.was d r store.old store.new result }
+    requires whole { (d : Durable) × S.model.holds store.old d d × ((r : RecordIs) × IsImageOf d r body.now) }
+    ensures { (d : Durable) (r : RecordIs) → S.model.holds store.old d d → IsImageOf d r body.now → Saves S.model d r store.old store.new result }
 {
     if ROOM < body.len() as u64 {
         return Err(StepFault::Refused(Refusal::LogFull));

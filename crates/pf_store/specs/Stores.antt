@@ -53,8 +53,25 @@ pub record StandsFor (found : Found) (d : Durable) : Type 0 where
   pub state : state_of found.format found.records.items ≡ d
   pub used : found.used ≡ d.used
 
+-- what is known of the stores of a type
+pub record StoreModel (S : Type 0) : Type 1 where
+  -- a restart would find the first state, or the second
+  pub holds : S → Durable → Durable → Type 0
+  -- whether both disks tell their content
+  pub told : S → Bool
+  -- the used bytes of the current half, and its format
+  pub used : S → ℕ
+  pub format : S → ℕ
+  -- a count of faults of one of the disks rose from the first to the second
+  pub rose : S → S → Type 0
+  -- from the first to the second no count of faults fell, the store is found by the same head, and a crash at any moment left the first
+  -- state, or the second
+  pub was : S → S → Durable → Durable → Type 0
+  -- what it becomes where it goes on from what the last `find` found
+  pub resumed : S → S
+
 -- a store that was only read: it has what it had, and its current half is the same
-pub record StandsStill {S : Type 0} (holds : S → Durable → Durable → Type 0) (used format : S → ℕ) (old new : S) : Type 0 where
-  pub holds_same : (before after : Durable) → holds old before after → holds new before after
-  pub used_same : used new ≡ used old
-  pub format_same : format new ≡ format old
+pub record StandsStill {S : Type 0} (model : StoreModel S) (old new : S) : Type 0 where
+  pub holds_same : (before after : Durable) → model.holds old before after → model.holds new before after
+  pub used_same : model.used new ≡ model.used old
+  pub format_same : model.format new ≡ model.format old

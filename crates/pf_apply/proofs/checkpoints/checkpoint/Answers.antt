@@ -1,5 +1,5 @@
 use Rattle.std.proofs.Common.{◌∙◌, None, Ok, ap, arith, sym}
-use Rattle.pf_protocol.specs.Outcomes.{refused}
+use Rattle.pf_protocol.specs.Outcomes.{only_answers}
 use Rattle.pf_protocol.specs.Saving.{is_short_of, trimmed}
 use Rattle.pf_protocol.specs.declared.answers.Answer.TheVariants.{Base as BaseIs}
 use Rattle.pf_state.specs.Standing.{role_of, server_of}
@@ -16,9 +16,9 @@ returns-then-base-before g c = record {
       let me = c.args.me.now in
       let s = server_of d me in
       let before = c.base-before.ensures.base ∙ stands.cached.base in
-      reworded g.S.Store.holds g.S.Store.used g.S.Store.format g.S.Store.told g.S.Store.rose g.S.Store.was d c.args.store.now c.args.store.now me me out out _ _ (Ok (BaseIs c.base-before.result))
+      reworded g.S.Store.model d c.args.store.now c.args.store.now me me out out _ _ (Ok (BaseIs c.base-before.result))
       (sym (at_checkpoint s (sym (c.upto-base.ensures d stands.cached) ∙ c.if-base-before.true ∙ before)))
-      (changed_memory g.S.Store.holds g.S.Store.used g.S.Store.format g.S.Store.told g.S.Store.rose g.S.Store.was d c.args.store.now me me stands out out (refused s (BaseIs d.base)) (BaseIs c.base-before.result) (durable_of d me) (same_after d me stands.cached) (ap BaseIs before) (none_exceeds out) (nothing_sent out None fresh));
+      (changed_memory g.S.Store.model d c.args.store.now me me stands out out (only_answers s (BaseIs d.base)) (BaseIs c.base-before.result) (durable_of d me) (same_after d me stands.cached) (ap BaseIs before) (none_exceeds out) (nothing_sent out None fresh));
 }
 
 pub returns-then-is_short_of : goal.returns-then-is_short_of
@@ -28,9 +28,9 @@ returns-then-is_short_of g c = record {
       let me = c.args.me.now in
       let s = server_of d me in
       let before = c.base-before.ensures.base ∙ stands.cached.base in
-      reworded g.S.Store.holds g.S.Store.used g.S.Store.format g.S.Store.told g.S.Store.rose g.S.Store.was d c.args.store.now c.args.store.now me me out out _ _ (Ok (BaseIs c.base-before.result))
+      reworded g.S.Store.model d c.args.store.now c.args.store.now me me out out _ _ (Ok (BaseIs c.base-before.result))
       (sym (still_short s (ap (is_short_of (role_of me.role)) (sym (c.upto-base.ensures d stands.cached)) ∙ sym c.is_short_of.ensures ∙ c.if-is_short_of.true)))
-      (changed_memory g.S.Store.holds g.S.Store.used g.S.Store.format g.S.Store.told g.S.Store.rose g.S.Store.was d c.args.store.now me me stands out out (refused s (BaseIs d.base)) (BaseIs c.base-before.result) (durable_of d me) (same_after d me stands.cached) (ap BaseIs before) (none_exceeds out) (nothing_sent out None fresh));
+      (changed_memory g.S.Store.model d c.args.store.now me me stands out out (only_answers s (BaseIs d.base)) (BaseIs c.base-before.result) (durable_of d me) (same_after d me stands.cached) (ap BaseIs before) (none_exceeds out) (nothing_sent out None fresh));
 }
 
 pub save_state-requires-clause-stands : goal.save_state-requires-clause-stands
@@ -55,8 +55,8 @@ returns g c = record {
       let me = c.args.me.now in
       let s = server_of d me in
       let base = c.upto-base.ensures d stands.cached in
-      reworded g.S.Store.holds g.S.Store.used g.S.Store.format g.S.Store.told g.S.Store.rose g.S.Store.was d c.args.store.now c.save_state.new.store me c.save_state.new.me out out _ _ c.save_state.result
+      reworded g.S.Store.model d c.args.store.now c.save_state.new.store me c.save_state.new.me out out _ _ c.save_state.result
       (sym (is_taken s (λ same. c.if-base-before.false (base ∙ same ∙ sym stands.cached.base ∙ sym c.base-before.ensures.base)) (ap (is_short_of (role_of me.role)) (sym base) ∙ sym c.is_short_of.ensures ∙ c.if-is_short_of.false)
-      ∙ ap (λ b. refused (trimmed s) (BaseIs b)) (sym base)))
+      ∙ ap (λ b. only_answers (trimmed s) (BaseIs b)) (sym base)))
       (c.save_state.ensures d out stands fresh base);
 }

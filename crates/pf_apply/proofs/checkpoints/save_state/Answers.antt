@@ -1,7 +1,7 @@
 use Rattle.std.proofs.Common.{◌∙◌, Ok, ap, refl, sym}
 use Rattle.std.proofs.lemmas.Result.{err_from_is_err_and}
 use Rattle.pf_entry.specs.Records.{image_of}
-use Rattle.pf_protocol.specs.Outcomes.{refused}
+use Rattle.pf_protocol.specs.Outcomes.{only_answers}
 use Rattle.pf_protocol.specs.declared.answers.Answer.TheVariants.{Base as BaseIs}
 use Rattle.pf_state.proofs.Ending.{reworded, saved_then, unsaved}
 use Rattle.pf_state.proofs.Images.{generation_low}
@@ -27,9 +27,9 @@ returns-in_err-save g c = λ d out stands fresh is.
     let base = c.args.base in
     let r = image_of (state_at me base) in
     let body = is_image_of d me base stands.cached is c.requires.bounded c.requires.small c.deref.result.now (c.deref.ensures.value ∙ c.in_ok-body.ensures) in
-    reworded g.S.Store.holds g.S.Store.used g.S.Store.format g.S.Store.told g.S.Store.rose g.S.Store.was d c.args.store.now c.save.new.store me me out out _ _ c.from_residual-in_err-save.result
-    (ap (λ s. refused s (BaseIs base)) (sym (trimmed_is d me base stands.cached is)))
-    (unsaved g.S.Store.holds g.S.Store.used g.S.Store.format g.S.Store.told g.S.Store.rose g.S.Store.was d c.args.store.now c.save.new.store me out (refused (saved d me base stands.cached is) (BaseIs base)) r stands (saved_is d me base stands.cached is)
+    reworded g.S.Store.model d c.args.store.now c.save.new.store me me out out _ _ c.from_residual-in_err-save.result
+    (ap (λ s. only_answers s (BaseIs base)) (sym (trimmed_is d me base stands.cached is)))
+    (unsaved g.S.Store.model d c.args.store.now c.save.new.store me out (only_answers (saved d me base stands.cached is) (BaseIs base)) r stands (saved_is d me base stands.cached is)
     c.in_err-save.field-0.0 c.save.result c.from_residual-in_err-save.result (c.save.ensures d r stands.recorded body) c.in_err-save.was
     (err_from_is_err_and c.from_residual-in_err-save.result c.from_residual-in_err-save.ensures.1))
 
@@ -42,7 +42,7 @@ returns g c = λ d out stands fresh is.
     let base = c.args.base in
     let r = image_of (state_at me base) in
     let body = is_image_of d me base stands.cached is c.requires.bounded c.requires.small c.deref.result.now (c.deref.ensures.value ∙ c.in_ok-body.ensures) in
-    reworded g.S.Store.holds g.S.Store.used g.S.Store.format g.S.Store.told g.S.Store.rose g.S.Store.was d c.args.store.now c.save.new.store me c.pass.new.me out out _ _ (Ok (BaseIs base))
-    (ap (λ s. refused s (BaseIs base)) (sym (trimmed_is d me base stands.cached is)))
-    (saved_then g.S.Store.holds g.S.Store.used g.S.Store.format g.S.Store.told g.S.Store.rose g.S.Store.was d c.args.store.now c.save.new.store me out (refused (saved d me base stands.cached is) (BaseIs base)) r stands (saved_is d me base stands.cached is)
+    reworded g.S.Store.model d c.args.store.now c.save.new.store me c.pass.new.me out out _ _ (Ok (BaseIs base))
+    (ap (λ s. only_answers s (BaseIs base)) (sym (trimmed_is d me base stands.cached is)))
+    (saved_then g.S.Store.model d c.args.store.now c.save.new.store me out (only_answers (saved d me base stands.cached is) (BaseIs base)) r stands (saved_is d me base stands.cached is)
     c.pass.new.me (BaseIs base) (c.in_ok-save.ensures d r stands.recorded body) (passed_followed d me base stands.cached is c.pass.new.me c.pass.ensures) refl fresh)

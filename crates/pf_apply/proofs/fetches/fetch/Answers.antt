@@ -18,7 +18,7 @@ returns-then-not-fits g c = record {
   step = λ d stands.
       let me = c.args.me.now in
       let chunk : c.as_slice.result.now ≡ me.sectors = c.as_slice.ensures in
-      refused_by g.S.Store.holds g.S.Store.used g.S.Store.format g.S.Store.told g.S.Store.rose g.S.Store.was d c.args._store.now me c.args.out.now c.args.out.now stands _ (on_fetch (server_of d me) c.args.range c.args.number (server_of d me).role) _
+      refused_by g.S.Store.model d c.args._store.now me c.args.out.now c.args.out.now stands _ (on_fetch (server_of d me) c.args.range c.args.number (server_of d me).role) _
       (bad_range d me c.args.out.now c.args.range c.args.number (ap (λ (xs : List Sector). fits_in c.args.range (length xs)) (sym chunk) ∙ sym c.fits.ensures ∙ c.if-not-fits.true));
 }
 
@@ -27,7 +27,7 @@ returns-then-not-is_serving g c = record {
   step = λ d stands.
       let me = c.args.me.now in
       let chunk : c.as_slice.result.now ≡ me.sectors = c.as_slice.ensures in
-      refused_by g.S.Store.holds g.S.Store.used g.S.Store.format g.S.Store.told g.S.Store.rose g.S.Store.was d c.args._store.now me c.args.out.now c.args.out.now stands _ (on_fetch (server_of d me) c.args.range c.args.number (server_of d me).role) _
+      refused_by g.S.Store.model d c.args._store.now me c.args.out.now c.args.out.now stands _ (on_fetch (server_of d me) c.args.range c.args.number (server_of d me).role) _
       (no_leader d me c.args.out.now c.args.range c.args.number (ap (λ (xs : List Sector). fits_in c.args.range (length xs)) (sym chunk) ∙ sym c.fits.ensures ∙ c.if-not-fits.false) (sym c.is_serving.ensures ∙ c.if-not-is_serving.true));
 }
 
@@ -43,9 +43,9 @@ returns-in_err-send_to_others g c = record {
       let serves = sym c.is_serving.ensures ∙ c.if-not-is_serving.false in
       let named = c.in_ok-named.named in
       let is = fetch_is d me stands.cached c.args.range c.args.number named serves (c.in_ok-named.ensures d stands.cached) in
-      renamed g.S.Store.holds g.S.Store.used g.S.Store.format g.S.Store.told g.S.Store.rose g.S.Store.was d c.args._store.now c.args._store.now me me c.args.out.now c.send_to_others.new.out _ _ _ _ c.from_residual-in_err-send_to_others.result
+      renamed g.S.Store.model d c.args._store.now c.args._store.now me me c.args.out.now c.send_to_others.new.out _ _ _ _ c.from_residual-in_err-send_to_others.result
       (ap (room_refusal c.args.out.now) (sym is) ∙ sym (leader d me c.args.out.now c.args.range c.args.number fits serves)) (sym is)
-      (unsent g.S.Store.holds g.S.Store.used g.S.Store.format g.S.Store.told g.S.Store.rose g.S.Store.was d c.args._store.now me c.args.out.now c.send_to_others.new.out stands
+      (unsent g.S.Store.model d c.args._store.now me c.args.out.now c.send_to_others.new.out stands
       (fetched d me stands.cached c.args.range c.args.number named) c.in_err-send_to_others.field-0.0 c.send_to_others.result c.from_residual-in_err-send_to_others.result
       c.send_to_others.ensures c.in_err-send_to_others.was (err_from_is_err_and c.from_residual-in_err-send_to_others.result c.from_residual-in_err-send_to_others.ensures.1));
 }
@@ -56,7 +56,7 @@ take_up-requires g c = c.requires.stands.1.cached.replies
 pub returns-in_err-take_up : goal.returns-in_err-take_up
 returns-in_err-take_up g c = record {
   step = λ d stands.
-      short_of_memory g.S.Store.holds g.S.Store.used g.S.Store.format g.S.Store.told g.S.Store.rose g.S.Store.was d c.args._store.now c.args.me.now c.take_up.new.me stands c.args.out.now c.send_to_others.new.out _ _ c.from_residual-in_err-take_up.result
+      short_of_memory g.S.Store.model d c.args._store.now c.args.me.now c.take_up.new.me stands c.args.out.now c.send_to_others.new.out _ _ c.from_residual-in_err-take_up.result
       (err_from_is_err_and c.from_residual-in_err-take_up.result c.from_residual-in_err-take_up.ensures.1)
       (roomy_replies d c.args.me.now c.take_up.new.me stands.cached c.in_err-take_up.ensures.err);
 }
@@ -71,9 +71,9 @@ returns g c = record {
       let named = c.in_ok-named.named in
       let o = fetched d me stands.cached c.args.range c.args.number named in
       let is = fetch_is d me stands.cached c.args.range c.args.number named serves (c.in_ok-named.ensures d stands.cached) in
-      renamed g.S.Store.holds g.S.Store.used g.S.Store.format g.S.Store.told g.S.Store.rose g.S.Store.was d c.args._store.now c.args._store.now me c.take_up.new.me c.args.out.now c.send_to_others.new.out _ _ _ _ (Ok (ReadIs c.args.number))
+      renamed g.S.Store.model d c.args._store.now c.args._store.now me c.take_up.new.me c.args.out.now c.send_to_others.new.out _ _ _ _ (Ok (ReadIs c.args.number))
       (ap (room_refusal c.args.out.now) (sym is) ∙ sym (leader d me c.args.out.now c.args.range c.args.number fits serves)) (sym is)
-      (changed_memory g.S.Store.holds g.S.Store.used g.S.Store.format g.S.Store.told g.S.Store.rose g.S.Store.was d c.args._store.now me c.take_up.new.me stands c.args.out.now c.send_to_others.new.out o (ReadIs c.args.number)
+      (changed_memory g.S.Store.model d c.args._store.now me c.take_up.new.me stands c.args.out.now c.send_to_others.new.out o (ReadIs c.args.number)
       (durable_of d (with_read d me stands.cached c.args.range c.args.number named me.replies.rooms))
       (fetched_after d me stands.cached c.args.range c.args.number named c.take_up.new.me c.in_ok-take_up.ensures.ok)
       refl c.in_ok-send_to_others.ensures.0 (to_host c.args.out.now c.send_to_others.new.out o.packets c.in_ok-send_to_others.ensures.1 c.requires.fresh));

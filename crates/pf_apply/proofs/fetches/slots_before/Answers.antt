@@ -9,7 +9,7 @@ use Rattle.pf_apply.proofs.fetches.slots_before.Goals.{then-is_waited_for+in_ok-
 pub loop-passed-preserved : goal.loop-passed-preserved
 loop-passed-preserved c =
     let me = c.args.me.now in
-    let test = λ (slot : ℕ). set.contains me.log.marks slot && is_waited_for me c.args.range.now slot in
+    let test = λ (slot : ℕ). set.contains me.log.committed slot && is_waited_for me c.args.range.now slot in
     let from = c.max-from.result in
     let n = c.loop-passed.passed in
     elim c.if-is_waited_for.branch [
@@ -27,7 +27,7 @@ loop-passed-preserved c =
 pub new-requires : goal.new-requires
 new-requires c =
     let me = c.args.me.now in
-    let test = λ (slot : ℕ). set.contains me.log.marks slot && is_waited_for me c.args.range.now slot in
+    let test = λ (slot : ℕ). set.contains me.log.committed slot && is_waited_for me c.args.range.now slot in
     ap ascends c.loop-passed.invariant ∙ filtered_ascends test c.max-from.result c.loop-passed.passed
 
 pub returns : goal.returns

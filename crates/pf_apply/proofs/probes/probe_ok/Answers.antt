@@ -11,9 +11,9 @@ pub returns-then-term-me : goal.returns-then-term-me
 returns-then-term-me g c = record {
   step = λ d out stands fresh.
       let me = c.args.me.now in
-      reworded g.S.Store.holds g.S.Store.used g.S.Store.format g.S.Store.told g.S.Store.rose g.S.Store.was d c.args._store.now c.args._store.now me me out out _ _ (Ok Done)
+      reworded g.S.Store.model d c.args._store.now c.args._store.now me me out out _ _ (Ok Done)
       (sym (unheard_is d me c.args.from c.args.number c.args.upto c.args.term (λ same. c.if-term-me.true (same ∙ sym stands.cached.term))))
-      (done_in_memory g.S.Store.holds g.S.Store.used g.S.Store.format g.S.Store.told g.S.Store.rose g.S.Store.was d c.args._store.now me me stands out (server_of d me) (durable_is d me c.args.from c.args.number c.args.upto me) (same_after d me stands.cached) fresh);
+      (done_in_memory g.S.Store.model d c.args._store.now me me stands out (server_of d me) (durable_is d me c.args.from c.args.number c.args.upto me) (same_after d me stands.cached) fresh);
 }
 
 pub returns : goal.returns
@@ -21,8 +21,8 @@ returns g c = record {
   step = λ d out stands fresh.
       let me = c.args.me.now in
       let new = heard me c.args.from c.args.number c.args.upto in
-      reworded g.S.Store.holds g.S.Store.used g.S.Store.format g.S.Store.told g.S.Store.rose g.S.Store.was d c.args._store.now c.args._store.now me c.hear.new.me out out _ _ (Ok Done)
+      reworded g.S.Store.model d c.args._store.now c.args._store.now me c.hear.new.me out out _ _ (Ok Done)
       (sym (heard_is d me c.args.from c.args.number c.args.upto c.args.term (c.if-term-me.false ∙ stands.cached.term)))
-      (done_in_memory g.S.Store.holds g.S.Store.used g.S.Store.format g.S.Store.told g.S.Store.rose g.S.Store.was d c.args._store.now me c.hear.new.me stands out (server_of d new) (durable_is d me c.args.from c.args.number c.args.upto new)
+      (done_in_memory g.S.Store.model d c.args._store.now me c.hear.new.me stands out (server_of d new) (durable_is d me c.args.from c.args.number c.args.upto new)
       (subst (λ m. IsAfter d me m (server_of d new)) (sym c.hear.ensures) (heard_after d me c.args.from c.args.number c.args.upto stands.cached)) fresh);
 }

@@ -16,9 +16,9 @@ returns-in_default g c = record {
   step = λ d stands.
       let me = c.args.me.now in
       let s = server_of d me in
-      reworded g.S.Store.holds g.S.Store.used g.S.Store.format g.S.Store.told g.S.Store.rose g.S.Store.was d c.args.store.now c.args.store.now me me c.args.out.now c.args.out.now (nothing s) (on_vote s c.args.term c.args.vote s.role) (Ok Done)
+      reworded g.S.Store.model d c.args.store.now c.args.store.now me me c.args.out.now c.args.out.now (nothing s) (on_vote s c.args.term c.args.vote s.role) (Ok Done)
       (sym (c.in_default.ensures d stands.cached) ∙ ap (on_vote s c.args.term c.args.vote) (own_role d me))
-      (nothing_done g.S.Store.holds g.S.Store.used g.S.Store.format g.S.Store.told g.S.Store.rose g.S.Store.was d c.args.store.now me c.args.out.now stands c.requires.fresh);
+      (nothing_done g.S.Store.model d c.args.store.now me c.args.out.now stands c.requires.fresh);
 }
 
 pub plan-requires-clause-base : goal.plan-requires-clause-base
@@ -37,7 +37,7 @@ plan-requires-clause-first g c =
 pub take_over-requires-clause-ready : goal.take_over-requires-clause-ready
 take_over-requires-clause-ready g c =
     ready c.requires.stands.0 c.args.me.now c.requires.stands.1.cached c.requires.bounded c.args.from c.args.term c.args.vote c.in-Some.own.now c.requires.coming c.in-Some.ensures c.in_ok-takeover.takeover c.in_ok-takeover.ensures
-    (g.S.Store.format c.args.store.now) (half_of g.S.Store.holds g.S.Store.used g.S.Store.format c.requires.stands.0 c.args.store.now c.args.me.now c.requires.stands.1)
+    (g.S.Store.model.format c.args.store.now) (half_of g.S.Store.model c.requires.stands.0 c.args.store.now c.args.me.now c.requires.stands.1)
 
 pub returns : goal.returns
 returns g c = record {
@@ -45,7 +45,7 @@ returns g c = record {
       let me = c.args.me.now in
       let s = server_of d me in
       let own = c.in-Some.own.now in
-      reworded g.S.Store.holds g.S.Store.used g.S.Store.format g.S.Store.told g.S.Store.rose g.S.Store.was d c.args.store.now c.take_over.new.store me c.take_over.new.me c.args.out.now c.take_over.new.out (won s own c.args.vote) (on_vote s c.args.term c.args.vote s.role) c.take_over.result
+      reworded g.S.Store.model d c.args.store.now c.take_over.new.store me c.take_over.new.me c.args.out.now c.take_over.new.out (won s own c.args.vote) (on_vote s c.args.term c.args.vote s.role) c.take_over.result
       (wins d me stands.cached c.args.term c.args.vote own c.in-Some.ensures)
-      (c.take_over.ensures d own c.args.vote stands c.in_ok-takeover.ensures);
+      (c.take_over.ensures own c.args.vote c.in_ok-takeover.ensures d stands);
 }

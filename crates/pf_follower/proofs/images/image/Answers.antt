@@ -13,7 +13,7 @@ returns-then-term-me g c = record {
   step = λ d stands.
       let me = c.args.me.now in
       let s = server_of d me in
-      reworded g.S.Store.holds g.S.Store.used g.S.Store.format g.S.Store.told g.S.Store.rose g.S.Store.was d c.args.store.now c.args.store.now me me c.args.out.now c.reply.new.out _ _ c.reply.result
+      reworded g.S.Store.model d c.args.store.now c.args.store.now me me c.args.out.now c.reply.new.out _ _ c.reply.result
       (ap (λ p. sends s (p ∷ [])) (own_packet d me c.args.from Nack stands.cached) ∙ sym (image_stale d me c.args.from c.args.term c.args.base c.args.applied c.args.sectors stands.cached c.if-term-me.true))
       (c.reply.ensures d stands);
 }
@@ -23,7 +23,7 @@ returns-then-base-upto g c = record {
   step = λ d stands.
       let me = c.args.me.now in
       let s = server_of d me in
-      reworded g.S.Store.holds g.S.Store.used g.S.Store.format g.S.Store.told g.S.Store.rose g.S.Store.was d c.args.store.now c.meet_and_reply.new.store me c.meet_and_reply.new.me c.args.out.now c.meet_and_reply.new.out _ _ c.meet_and_reply.result
+      reworded g.S.Store.model d c.args.store.now c.meet_and_reply.new.store me c.meet_and_reply.new.me c.args.out.now c.meet_and_reply.new.out _ _ c.meet_and_reply.result
       (ap (λ p. sends (meets_term s c.args.term) (p ∷ [])) (met_ack d me c.args.from c.args.term c.args.base c.ack-body.result stands.cached c.if-term-me.false (c.ack-body.ensures d stands.cached))
       ∙ sym (image_behind d me c.args.from c.args.term c.args.base c.upto.result c.args.applied c.args.sectors stands.cached c.if-term-me.false (c.upto.ensures d stands.cached) c.if-base-upto.true))
       (c.meet_and_reply.ensures d stands);
@@ -36,7 +36,7 @@ pub returns : goal.returns
 returns g c = record {
   step = λ d stands.
       let me = c.args.me.now in
-      reworded g.S.Store.holds g.S.Store.used g.S.Store.format g.S.Store.told g.S.Store.rose g.S.Store.was d c.args.store.now c.install.new.store me c.install.new.me c.args.out.now c.install.new.out _ _ c.install.result
+      reworded g.S.Store.model d c.args.store.now c.install.new.store me c.install.new.me c.args.out.now c.install.new.out _ _ c.install.result
       (sym (image_ahead d me c.args.from c.args.term c.args.base c.upto.result c.args.applied c.args.sectors stands.cached c.if-term-me.false (c.upto.ensures d stands.cached) c.if-base-upto.false))
       (c.install.ensures d stands);
 }

@@ -20,7 +20,7 @@ returns-in_err-save g c = λ d out stands fresh.
     let me = c.args.me.now in
     let r = image_of (record_of d me c.args.term c.args.base c.args.half stands.cached c.requires.half) in
     let body = is_image_of d me c.args.term c.args.base c.args.half stands.cached c.requires.half c.deref.result.now c.deref.ensures.value in
-    unsaved g.S.Store.holds g.S.Store.used g.S.Store.format g.S.Store.told g.S.Store.rose g.S.Store.was d c.args.store.now c.save.new.store me out
+    unsaved g.S.Store.model d c.args.store.now c.save.new.store me out
     (nothing (taken d me c.args.term c.args.base c.args.half)) r stands (taken_saved d me c.args.term c.args.base c.args.half stands.cached c.requires.half)
     c.in_err-save.field-0.0 c.save.result c.from_residual.result (c.save.ensures d r stands.recorded body) c.in_err-save.was (err_from_is_err_and c.from_residual.result c.from_residual.ensures.1)
 
@@ -35,6 +35,6 @@ returns g c = λ d out stands fresh.
     let me = c.args.me.now in
     let r = image_of (record_of d me c.args.term c.args.base c.args.half stands.cached c.requires.half) in
     let body = is_image_of d me c.args.term c.args.base c.args.half stands.cached c.requires.half c.deref.result.now c.deref.ensures.value in
-    saved_then g.S.Store.holds g.S.Store.used g.S.Store.format g.S.Store.told g.S.Store.rose g.S.Store.was d c.args.store.now c.save.new.store me out
+    saved_then g.S.Store.model d c.args.store.now c.save.new.store me out
     (nothing (taken d me c.args.term c.args.base c.args.half)) r stands (taken_saved d me c.args.term c.args.base c.args.half stands.cached c.requires.half)
     c.begin.new.me Done (c.in_ok-save.ensures d r stands.recorded body) (begun_followed d me c.args.term c.args.base c.args.half stands.cached c.requires.half c.begin.new.me c.begin.ensures) refl fresh

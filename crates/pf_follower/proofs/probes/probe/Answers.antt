@@ -12,7 +12,7 @@ returns-then-term-me g c = record {
   step = λ d stands.
       let me = c.args.me.now in
       let s = server_of d me in
-      reworded g.S.Store.holds g.S.Store.used g.S.Store.format g.S.Store.told g.S.Store.rose g.S.Store.was d c.args.store.now c.args.store.now me me c.args.out.now c.reply.new.out _ _ c.reply.result
+      reworded g.S.Store.model d c.args.store.now c.args.store.now me me c.args.out.now c.reply.new.out _ _ c.reply.result
       (ap (λ p. sends s (p ∷ [])) (own_packet d me c.args.from Nack stands.cached) ∙ sym (probe_stale d me c.args.from c.args.term c.args.number stands.cached c.if-term-me.true))
       (c.reply.ensures d stands);
 }
@@ -21,7 +21,7 @@ pub returns : goal.returns
 returns g c = record {
   step = λ d stands.
       let me = c.args.me.now in
-      reworded g.S.Store.holds g.S.Store.used g.S.Store.format g.S.Store.told g.S.Store.rose g.S.Store.was d c.args.store.now c.args.store.now me me c.args.out.now c.reply-2.new.out _ _ c.reply-2.result
+      reworded g.S.Store.model d c.args.store.now c.args.store.now me me c.args.out.now c.reply-2.new.out _ _ c.reply-2.result
       (sym (probe_told d me c.args.from c.args.term c.args.number c.upto-upto.result stands.cached c.if-term-me.false (c.upto-upto.ensures d stands.cached)))
       (c.reply-2.ensures d stands);
 }

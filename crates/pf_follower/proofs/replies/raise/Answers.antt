@@ -10,12 +10,12 @@ use Rattle.pf_follower.proofs.replies.raise.Goals as goal
 
 pub returns-in_err-add : goal.returns-in_err-add
 returns-in_err-add g c = λ d out stands fresh.
-    unstored g.S.Store.holds g.S.Store.used g.S.Store.format g.S.Store.told g.S.Store.rose g.S.Store.was d c.args.store.now c.add.new.store c.args.me.now out
+    unstored g.S.Store.model d c.args.store.now c.add.new.store c.args.me.now out
     (nothing (raise_term (server_of d c.args.me.now) c.args.term)) (TermRecord c.args.term) stands (raised_added d c.args.me.now c.args.term)
     c.in_err-add.field-0.0 c.add.result c.from_residual.result (c.add.ensures d stands.recorded stands.used_is) c.in_err-add.was (err_from_is_err_and c.from_residual.result c.from_residual.ensures.1)
 
 pub returns : goal.returns
 returns g c = λ d out stands fresh.
-    stored_then g.S.Store.holds g.S.Store.used g.S.Store.format g.S.Store.told g.S.Store.rose g.S.Store.was d c.args.store.now c.add.new.store c.args.me.now out
+    stored_then g.S.Store.model d c.args.store.now c.add.new.store c.args.me.now out
     (nothing (raise_term (server_of d c.args.me.now) c.args.term)) (TermRecord c.args.term) stands (raised_added d c.args.me.now c.args.term)
     c.follow.new.me Done (c.in_ok-add.ensures d stands.recorded stands.used_is) (raised_followed d c.args.me.now c.follow.new.me c.args.term stands.cached c.follow.ensures) refl fresh

@@ -9,13 +9,13 @@ use Rattle.pf_follower.proofs.replies.raise_and_reply.Goals as goal
 
 pub returns-in_err-send : goal.returns-in_err-send
 returns-in_err-send g c = λ d stands.
-    unsent g.S.Store.holds g.S.Store.used g.S.Store.format g.S.Store.told g.S.Store.rose g.S.Store.was d c.args.store.now c.args.me.now c.args.out.now c.send.new.out stands
+    unsent g.S.Store.model d c.args.store.now c.args.me.now c.args.out.now c.send.new.out stands
     (sends (raise_term (server_of d c.args.me.now) c.args.term) (packet c.args.me.now.number c.args.to c.args.term c.args.body ∷ [])) c.in_err-send.field-0.0 c.send.result c.from_residual.result
     c.send.ensures c.in_err-send.was (err_from_is_err_and c.from_residual.result c.from_residual.ensures.1)
 
 pub returns : goal.returns
 returns g c = λ d stands.
     let ps = packet c.args.me.now.number c.args.to c.args.term c.args.body ∷ [] in
-    after_sending g.S.Store.holds g.S.Store.used g.S.Store.format g.S.Store.told g.S.Store.rose g.S.Store.was d c.args.store.now c.raise.new.store c.args.me.now c.raise.new.me c.args.out.now c.send.new.out
+    after_sending g.S.Store.model d c.args.store.now c.raise.new.store c.args.me.now c.raise.new.me c.args.out.now c.send.new.out
     c.send.new.out (sends (raise_term (server_of d c.args.me.now) c.args.term) ps) c.in_ok-send.ensures.0 c.in_ok-send.ensures.1 c.raise.result
     (c.raise.ensures d c.send.new.out stands (sent_acked c.args.out.now c.send.new.out ps c.in_ok-send.ensures.1 ∙ c.requires.fresh))

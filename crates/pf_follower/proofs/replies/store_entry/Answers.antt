@@ -12,14 +12,14 @@ use Rattle.pf_follower.proofs.replies.store_entry.Goals as goal
 
 pub returns-in_err-add : goal.returns-in_err-add
 returns-in_err-add g c = λ d out stands fresh.
-    unstored g.S.Store.holds g.S.Store.used g.S.Store.format g.S.Store.told g.S.Store.rose g.S.Store.was d c.args.store.now c.add.new.store c.args.me.now out
+    unstored g.S.Store.model d c.args.store.now c.add.new.store c.args.me.now out
     (nothing (accepted (server_of d c.args.me.now) c.args.entry)) (EntryRecord c.args.entry) stands (kept_added d c.args.me.now c.args.entry)
     c.in_err-add.field-0.0 c.add.result c.from_residual-in_err-add.result
-    (subst (λ e. Stores g.S.Store.holds g.S.Store.used g.S.Store.format g.S.Store.told g.S.Store.rose g.S.Store.was d (EntryRecord e) c.args.store.now c.add.new.store c.add.result) c.in_ok-try_clone.ensures (c.add.ensures d stands.recorded stands.used_is))
+    (subst (λ e. Stores g.S.Store.model d (EntryRecord e) c.args.store.now c.add.new.store c.add.result) c.in_ok-try_clone.ensures (c.add.ensures d stands.recorded stands.used_is))
     c.in_err-add.was (err_from_is_err_and c.from_residual-in_err-add.result c.from_residual-in_err-add.ensures.1)
 
 pub returns : goal.returns
 returns g c = λ d out stands fresh.
-    stored_then g.S.Store.holds g.S.Store.used g.S.Store.format g.S.Store.told g.S.Store.rose g.S.Store.was d c.args.store.now c.add.new.store c.args.me.now out
+    stored_then g.S.Store.model d c.args.store.now c.add.new.store c.args.me.now out
     (nothing (accepted (server_of d c.args.me.now) c.args.entry)) (EntryRecord c.args.entry) stands (kept_added d c.args.me.now c.args.entry)
-    c.keep.new.me Done (subst (λ e. Stores g.S.Store.holds g.S.Store.used g.S.Store.format g.S.Store.told g.S.Store.rose g.S.Store.was d (EntryRecord e) c.args.store.now c.add.new.store (Ok c.in_ok-add.field-0)) c.in_ok-try_clone.ensures (c.in_ok-add.ensures d stands.recorded stands.used_is)) (kept_followed d c.args.me.now c.keep.new.me c.args.entry c.keep.new.me.starts stands.cached c.keep.ensures.starts c.keep.ensures.others) refl fresh
+    c.keep.new.me Done (subst (λ e. Stores g.S.Store.model d (EntryRecord e) c.args.store.now c.add.new.store (Ok c.in_ok-add.field-0)) c.in_ok-try_clone.ensures (c.in_ok-add.ensures d stands.recorded stands.used_is)) (kept_followed d c.args.me.now c.keep.new.me c.args.entry c.keep.new.me.starts stands.cached c.keep.ensures.starts c.keep.ensures.others) refl fresh

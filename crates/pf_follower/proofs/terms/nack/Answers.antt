@@ -8,16 +8,16 @@ pub returns-then-term-me : goal.returns-then-term-me
 returns-then-term-me g c = record {
   step = λ d out stands fresh.
       let me = c.args.me.now in
-      reworded g.S.Store.holds g.S.Store.used g.S.Store.format g.S.Store.told g.S.Store.rose g.S.Store.was d c.args.store.now c.args.store.now me me out out _ _ (Ok Done)
+      reworded g.S.Store.model d c.args.store.now c.args.store.now me me out out _ _ (Ok Done)
       (sym (nack_own d me c.args.term stands.cached c.if-term-me.true))
-      (nothing_done g.S.Store.holds g.S.Store.used g.S.Store.format g.S.Store.told g.S.Store.rose g.S.Store.was d c.args.store.now me out stands fresh);
+      (nothing_done g.S.Store.model d c.args.store.now me out stands fresh);
 }
 
 pub returns : goal.returns
 returns g c = record {
   step = λ d out stands fresh.
       let me = c.args.me.now in
-      reworded g.S.Store.holds g.S.Store.used g.S.Store.format g.S.Store.told g.S.Store.rose g.S.Store.was d c.args.store.now c.raise.new.store me c.raise.new.me out out _ _ c.raise.result
+      reworded g.S.Store.model d c.args.store.now c.raise.new.store me c.raise.new.me out out _ _ c.raise.result
       (sym (nack_higher d me c.args.term stands.cached c.if-term-me.false))
       (c.raise.ensures d out stands fresh);
 }

@@ -16,7 +16,7 @@ returns-then-term-me g c = record {
   step = λ d stands.
       let me = c.args.me.now in
       let s = server_of d me in
-      reworded g.S.Store.holds g.S.Store.used g.S.Store.format g.S.Store.told g.S.Store.rose g.S.Store.was d c.args.store.now c.args.store.now me me c.args.out.now c.reply.new.out _ _ c.reply.result
+      reworded g.S.Store.model d c.args.store.now c.args.store.now me me c.args.out.now c.reply.new.out _ _ c.reply.result
       (ap (λ p. sends s (p ∷ [])) (own_packet d me c.args.from Nack stands.cached) ∙ sym (vote_refused d me c.args.from c.args.term c.args.base stands.cached (elim c.then-term-me.branch [
         | then-term-me-via-then-term-me w ↦ refuses_low c.args.term me.term c.args.base me.log.base w.if-term-me.true
         | then-term-me-via-else-term-me+then-base w ↦ refuses_behind c.args.term me.term c.args.base w.base.result me.log.base w.if-base.true w.base.ensures.base
@@ -33,7 +33,7 @@ pub returns : goal.returns
 returns g c = record {
   step = λ d stands.
       let me = c.args.me.now in
-      reworded g.S.Store.holds g.S.Store.used g.S.Store.format g.S.Store.told g.S.Store.rose g.S.Store.was d c.args.store.now c.raise_and_reply.new.store me c.raise_and_reply.new.me c.args.out.now c.raise_and_reply.new.out _ _ c.raise_and_reply.result
+      reworded g.S.Store.model d c.args.store.now c.raise_and_reply.new.store me c.raise_and_reply.new.me c.args.out.now c.raise_and_reply.new.out _ _ c.raise_and_reply.result
       (sym (vote_given d me c.args.from c.args.term c.args.base c.in_ok-vote.vote stands.cached (gives c.args.term me.term c.args.base c.base.result me.log.base c.if-term-me.false c.if-base.false c.base.ensures.base) c.in_ok-vote.ensures))
       (c.raise_and_reply.ensures d stands);
 }

@@ -12,8 +12,8 @@ plain-requires g c =
 pub returns-in_err-answer : goal.returns-in_err-answer
 returns-in_err-answer g c setup past reached =
     let err = err_from_is_err_and c.from_residual.result c.from_residual.ensures.1 in
-    comes_short g.S.Store.holds g.S.Store.used g.S.Store.format g.S.Store.told g.S.Store.rose g.S.Store.was setup past.group c.args.cluster.now c.deliver.new.self (Deliver c.args.k) c.deliver.result _ c.in_err-answer.was (c.deliver.ensures setup past reached) c.from_residual.result err.0 err.1
+    comes_short g.S.Store.model setup past.group c.args.network.now c.deliver.new.self (Deliver c.args.k) c.deliver.result _ c.in_err-answer.was (c.deliver.ensures setup past reached) c.from_residual.result err.0 err.1
 
 pub returns : goal.returns
 returns g c setup past reached =
-    comes_answered g.S.Store.holds g.S.Store.used g.S.Store.format g.S.Store.told g.S.Store.rose g.S.Store.was setup past.group c.args.cluster.now c.deliver.new.self (Deliver c.args.k) c.deliver.result c.in_ok-answer.answer c.in_ok-answer.was (c.deliver.ensures setup past reached) c.plain.result c.plain.ensures.event c.plain.ensures.answer c.plain.ensures.kept
+    comes_answered g.S.Store.model setup past.group c.args.network.now c.deliver.new.self (Deliver c.args.k) c.deliver.result c.in_ok-answer.answer c.in_ok-answer.was (c.deliver.ensures setup past reached) c.plain.result c.plain.ensures.event c.plain.ensures.answer c.plain.ensures.kept

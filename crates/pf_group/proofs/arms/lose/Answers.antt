@@ -11,4 +11,4 @@ plain-requires g c =
 
 pub returns : goal.returns
 returns g c setup past reached =
-    comes_answered g.S.Store.holds g.S.Store.used g.S.Store.format g.S.Store.told g.S.Store.rose g.S.Store.was setup past.group c.args.cluster.now c.lose-answer.new.self (Lose c.args.k) (Ok c.lose-answer.result) c.lose-answer.result refl (c.lose-answer.ensures setup past reached) c.plain.result c.plain.ensures.event c.plain.ensures.answer c.plain.ensures.kept
+    comes_answered g.S.Store.model setup past.group c.args.network.now c.lose-answer.new.self (Lose c.args.k) (Ok c.lose-answer.result) c.lose-answer.result refl (c.lose-answer.ensures setup past reached) c.plain.result c.plain.ensures.event c.plain.ensures.answer c.plain.ensures.kept

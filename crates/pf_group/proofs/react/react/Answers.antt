@@ -13,75 +13,75 @@ finish-requires-clause-server g c =
     brings_low q.1.0.claims q.1.1.viable.group.low c.in-Finish.filled (subst (MayAsk q.1.0.claims) c.in-Finish.is q.1.2)
 
 pub returns-in-Submit-clause-step : goal.returns-in-Submit-clause-step
-returns-in-Submit-clause-step g c setup past reached told = reacts_as g.S.Store.holds g.S.Store.used g.S.Store.format g.S.Store.told g.S.Store.rose g.S.Store.was setup past.group c.args.cluster.now c.submit.new.cluster c.args.event _ c.in-Submit.is (Submit c.in-Submit.server (Write c.in-Submit.range c.in-Submit.payload)) (λ found. refl) refl c.submit.result (c.submit.ensures setup past reached)
+returns-in-Submit-clause-step g c setup past reached told = reacts_as g.S.Store.model setup past.group c.args.network.now c.submit.new.network c.args.event _ c.in-Submit.is (Submit c.in-Submit.server (Write c.in-Submit.range c.in-Submit.payload)) (λ found. refl) refl c.submit.result (c.submit.ensures setup past reached)
 
 pub returns-in-Submit-clause-somehow : goal.returns-in-Submit-clause-somehow
-returns-in-Submit-clause-somehow g c setup past reached = inl (reacts_as g.S.Store.holds g.S.Store.used g.S.Store.format g.S.Store.told g.S.Store.rose g.S.Store.was setup past.group c.args.cluster.now c.submit.new.cluster c.args.event _ c.in-Submit.is (Submit c.in-Submit.server (Write c.in-Submit.range c.in-Submit.payload)) (λ found. refl) refl c.submit.result (c.submit.ensures setup past reached))
+returns-in-Submit-clause-somehow g c setup past reached = inl (reacts_as g.S.Store.model setup past.group c.args.network.now c.submit.new.network c.args.event _ c.in-Submit.is (Submit c.in-Submit.server (Write c.in-Submit.range c.in-Submit.payload)) (λ found. refl) refl c.submit.result (c.submit.ensures setup past reached))
 
 pub returns-in-Mark-clause-step : goal.returns-in-Mark-clause-step
-returns-in-Mark-clause-step g c setup past reached told = reacts_as g.S.Store.holds g.S.Store.used g.S.Store.format g.S.Store.told g.S.Store.rose g.S.Store.was setup past.group c.args.cluster.now c.submit-in-Mark.new.cluster c.args.event _ c.in-Mark.is (Submit c.in-Mark.server Mark) (λ found. refl) refl c.submit-in-Mark.result (c.submit-in-Mark.ensures setup past reached)
+returns-in-Mark-clause-step g c setup past reached told = reacts_as g.S.Store.model setup past.group c.args.network.now c.submit-in-Mark.new.network c.args.event _ c.in-Mark.is (Submit c.in-Mark.server Mark) (λ found. refl) refl c.submit-in-Mark.result (c.submit-in-Mark.ensures setup past reached)
 
 pub returns-in-Mark-clause-somehow : goal.returns-in-Mark-clause-somehow
-returns-in-Mark-clause-somehow g c setup past reached = inl (reacts_as g.S.Store.holds g.S.Store.used g.S.Store.format g.S.Store.told g.S.Store.rose g.S.Store.was setup past.group c.args.cluster.now c.submit-in-Mark.new.cluster c.args.event _ c.in-Mark.is (Submit c.in-Mark.server Mark) (λ found. refl) refl c.submit-in-Mark.result (c.submit-in-Mark.ensures setup past reached))
+returns-in-Mark-clause-somehow g c setup past reached = inl (reacts_as g.S.Store.model setup past.group c.args.network.now c.submit-in-Mark.new.network c.args.event _ c.in-Mark.is (Submit c.in-Mark.server Mark) (λ found. refl) refl c.submit-in-Mark.result (c.submit-in-Mark.ensures setup past reached))
 
 pub returns-in-Fetch-clause-step : goal.returns-in-Fetch-clause-step
-returns-in-Fetch-clause-step g c setup past reached told = reacts_as g.S.Store.holds g.S.Store.used g.S.Store.format g.S.Store.told g.S.Store.rose g.S.Store.was setup past.group c.args.cluster.now c.fetch.new.cluster c.args.event _ c.in-Fetch.is (Fetch c.in-Fetch.server c.in-Fetch.range) (λ found. refl) refl c.fetch.result (c.fetch.ensures setup past reached)
+returns-in-Fetch-clause-step g c setup past reached told = reacts_as g.S.Store.model setup past.group c.args.network.now c.fetch.new.network c.args.event _ c.in-Fetch.is (Fetch c.in-Fetch.server c.in-Fetch.range) (λ found. refl) refl c.fetch.result (c.fetch.ensures setup past reached)
 
 pub returns-in-Fetch-clause-somehow : goal.returns-in-Fetch-clause-somehow
-returns-in-Fetch-clause-somehow g c setup past reached = inl (reacts_as g.S.Store.holds g.S.Store.used g.S.Store.format g.S.Store.told g.S.Store.rose g.S.Store.was setup past.group c.args.cluster.now c.fetch.new.cluster c.args.event _ c.in-Fetch.is (Fetch c.in-Fetch.server c.in-Fetch.range) (λ found. refl) refl c.fetch.result (c.fetch.ensures setup past reached))
+returns-in-Fetch-clause-somehow g c setup past reached = inl (reacts_as g.S.Store.model setup past.group c.args.network.now c.fetch.new.network c.args.event _ c.in-Fetch.is (Fetch c.in-Fetch.server c.in-Fetch.range) (λ found. refl) refl c.fetch.result (c.fetch.ensures setup past reached))
 
 pub returns-in-Deliver-clause-step : goal.returns-in-Deliver-clause-step
-returns-in-Deliver-clause-step g c setup past reached told = reacts_as g.S.Store.holds g.S.Store.used g.S.Store.format g.S.Store.told g.S.Store.rose g.S.Store.was setup past.group c.args.cluster.now c.deliver.new.cluster c.args.event _ c.in-Deliver.is (Deliver c.in-Deliver.k) (λ found. refl) refl c.deliver.result (c.deliver.ensures setup past reached)
+returns-in-Deliver-clause-step g c setup past reached told = reacts_as g.S.Store.model setup past.group c.args.network.now c.deliver.new.network c.args.event _ c.in-Deliver.is (Deliver c.in-Deliver.k) (λ found. refl) refl c.deliver.result (c.deliver.ensures setup past reached)
 
 pub returns-in-Deliver-clause-somehow : goal.returns-in-Deliver-clause-somehow
-returns-in-Deliver-clause-somehow g c setup past reached = inl (reacts_as g.S.Store.holds g.S.Store.used g.S.Store.format g.S.Store.told g.S.Store.rose g.S.Store.was setup past.group c.args.cluster.now c.deliver.new.cluster c.args.event _ c.in-Deliver.is (Deliver c.in-Deliver.k) (λ found. refl) refl c.deliver.result (c.deliver.ensures setup past reached))
+returns-in-Deliver-clause-somehow g c setup past reached = inl (reacts_as g.S.Store.model setup past.group c.args.network.now c.deliver.new.network c.args.event _ c.in-Deliver.is (Deliver c.in-Deliver.k) (λ found. refl) refl c.deliver.result (c.deliver.ensures setup past reached))
 
 pub returns-in-Lose-clause-step : goal.returns-in-Lose-clause-step
-returns-in-Lose-clause-step g c setup past reached told = reacts_as g.S.Store.holds g.S.Store.used g.S.Store.format g.S.Store.told g.S.Store.rose g.S.Store.was setup past.group c.args.cluster.now c.lose.new.cluster c.args.event _ c.in-Lose.is (Lose c.in-Lose.k) (λ found. refl) refl (Ok c.lose.result) (c.lose.ensures setup past reached)
+returns-in-Lose-clause-step g c setup past reached told = reacts_as g.S.Store.model setup past.group c.args.network.now c.lose.new.network c.args.event _ c.in-Lose.is (Lose c.in-Lose.k) (λ found. refl) refl (Ok c.lose.result) (c.lose.ensures setup past reached)
 
 pub returns-in-Lose-clause-somehow : goal.returns-in-Lose-clause-somehow
-returns-in-Lose-clause-somehow g c setup past reached = inl (reacts_as g.S.Store.holds g.S.Store.used g.S.Store.format g.S.Store.told g.S.Store.rose g.S.Store.was setup past.group c.args.cluster.now c.lose.new.cluster c.args.event _ c.in-Lose.is (Lose c.in-Lose.k) (λ found. refl) refl (Ok c.lose.result) (c.lose.ensures setup past reached))
+returns-in-Lose-clause-somehow g c setup past reached = inl (reacts_as g.S.Store.model setup past.group c.args.network.now c.lose.new.network c.args.event _ c.in-Lose.is (Lose c.in-Lose.k) (λ found. refl) refl (Ok c.lose.result) (c.lose.ensures setup past reached))
 
 pub returns-in-Elect-clause-step : goal.returns-in-Elect-clause-step
-returns-in-Elect-clause-step g c setup past reached told = reacts_as g.S.Store.holds g.S.Store.used g.S.Store.format g.S.Store.told g.S.Store.rose g.S.Store.was setup past.group c.args.cluster.now c.elect.new.cluster c.args.event _ c.in-Elect.is (Elect c.in-Elect.server) (λ found. refl) refl c.elect.result (c.elect.ensures setup past reached)
+returns-in-Elect-clause-step g c setup past reached told = reacts_as g.S.Store.model setup past.group c.args.network.now c.elect.new.network c.args.event _ c.in-Elect.is (Elect c.in-Elect.server) (λ found. refl) refl c.elect.result (c.elect.ensures setup past reached)
 
 pub returns-in-Elect-clause-somehow : goal.returns-in-Elect-clause-somehow
-returns-in-Elect-clause-somehow g c setup past reached = inl (reacts_as g.S.Store.holds g.S.Store.used g.S.Store.format g.S.Store.told g.S.Store.rose g.S.Store.was setup past.group c.args.cluster.now c.elect.new.cluster c.args.event _ c.in-Elect.is (Elect c.in-Elect.server) (λ found. refl) refl c.elect.result (c.elect.ensures setup past reached))
+returns-in-Elect-clause-somehow g c setup past reached = inl (reacts_as g.S.Store.model setup past.group c.args.network.now c.elect.new.network c.args.event _ c.in-Elect.is (Elect c.in-Elect.server) (λ found. refl) refl c.elect.result (c.elect.ensures setup past reached))
 
 pub returns-in-Resend-clause-step : goal.returns-in-Resend-clause-step
-returns-in-Resend-clause-step g c setup past reached told = reacts_as g.S.Store.holds g.S.Store.used g.S.Store.format g.S.Store.told g.S.Store.rose g.S.Store.was setup past.group c.args.cluster.now c.resend.new.cluster c.args.event _ c.in-Resend.is (Resend c.in-Resend.server) (λ found. refl) refl c.resend.result (c.resend.ensures setup past reached)
+returns-in-Resend-clause-step g c setup past reached told = reacts_as g.S.Store.model setup past.group c.args.network.now c.resend.new.network c.args.event _ c.in-Resend.is (Resend c.in-Resend.server) (λ found. refl) refl c.resend.result (c.resend.ensures setup past reached)
 
 pub returns-in-Resend-clause-somehow : goal.returns-in-Resend-clause-somehow
-returns-in-Resend-clause-somehow g c setup past reached = inl (reacts_as g.S.Store.holds g.S.Store.used g.S.Store.format g.S.Store.told g.S.Store.rose g.S.Store.was setup past.group c.args.cluster.now c.resend.new.cluster c.args.event _ c.in-Resend.is (Resend c.in-Resend.server) (λ found. refl) refl c.resend.result (c.resend.ensures setup past reached))
+returns-in-Resend-clause-somehow g c setup past reached = inl (reacts_as g.S.Store.model setup past.group c.args.network.now c.resend.new.network c.args.event _ c.in-Resend.is (Resend c.in-Resend.server) (λ found. refl) refl c.resend.result (c.resend.ensures setup past reached))
 
 pub returns-in-Stop-clause-step : goal.returns-in-Stop-clause-step
-returns-in-Stop-clause-step g c setup past reached told = reacts_as g.S.Store.holds g.S.Store.used g.S.Store.format g.S.Store.told g.S.Store.rose g.S.Store.was setup past.group c.args.cluster.now c.stop.new.cluster c.args.event _ c.in-Stop.is (Stop c.in-Stop.server) (λ found. refl) refl (Ok c.stop.result) (c.stop.ensures setup past reached)
+returns-in-Stop-clause-step g c setup past reached told = reacts_as g.S.Store.model setup past.group c.args.network.now c.stop.new.network c.args.event _ c.in-Stop.is (Stop c.in-Stop.server) (λ found. refl) refl (Ok c.stop.result) (c.stop.ensures setup past reached)
 
 pub returns-in-Stop-clause-somehow : goal.returns-in-Stop-clause-somehow
-returns-in-Stop-clause-somehow g c setup past reached = inl (reacts_as g.S.Store.holds g.S.Store.used g.S.Store.format g.S.Store.told g.S.Store.rose g.S.Store.was setup past.group c.args.cluster.now c.stop.new.cluster c.args.event _ c.in-Stop.is (Stop c.in-Stop.server) (λ found. refl) refl (Ok c.stop.result) (c.stop.ensures setup past reached))
+returns-in-Stop-clause-somehow g c setup past reached = inl (reacts_as g.S.Store.model setup past.group c.args.network.now c.stop.new.network c.args.event _ c.in-Stop.is (Stop c.in-Stop.server) (λ found. refl) refl (Ok c.stop.result) (c.stop.ensures setup past reached))
 
 pub returns-in-Restart-clause-step : goal.returns-in-Restart-clause-step
 returns-in-Restart-clause-step g c setup past reached told =
-    let so = subst (IsTold g.S.Store.told setup past.group c.args.cluster.now) c.in-Restart.is told in
-    reacts_back g.S.Store.holds g.S.Store.used g.S.Store.format g.S.Store.told g.S.Store.rose g.S.Store.was setup past.group c.args.cluster.now c.restart.new.cluster c.args.event c.in-Restart.server c.in-Restart.is c.restart.result (c.restart.ensures.told setup past reached so.0 so.1)
+    let so = subst (IsTold g.S.Store.model.told setup past.group c.args.network.now) c.in-Restart.is told in
+    reacts_back g.S.Store.model setup past.group c.args.network.now c.restart.new.network c.args.event c.in-Restart.server c.in-Restart.is c.restart.result (c.restart.ensures.told setup past reached so.0 so.1)
 
 pub returns-in-Restart-clause-somehow : goal.returns-in-Restart-clause-somehow
 returns-in-Restart-clause-somehow g c setup past reached = inr (c.in-Restart.server, c.in-Restart.is, c.restart.ensures.somehow setup past reached)
 
 pub returns-in-Claim-clause-step : goal.returns-in-Claim-clause-step
-returns-in-Claim-clause-step g c setup past reached told = reacts_as g.S.Store.holds g.S.Store.used g.S.Store.format g.S.Store.told g.S.Store.rose g.S.Store.was setup past.group c.args.cluster.now c.claim.new.cluster c.args.event _ c.in-Claim.is (Claim) (λ found. refl) refl c.claim.result (c.claim.ensures setup past reached)
+returns-in-Claim-clause-step g c setup past reached told = reacts_as g.S.Store.model setup past.group c.args.network.now c.claim.new.network c.args.event _ c.in-Claim.is (Claim) (λ found. refl) refl c.claim.result (c.claim.ensures setup past reached)
 
 pub returns-in-Claim-clause-somehow : goal.returns-in-Claim-clause-somehow
-returns-in-Claim-clause-somehow g c setup past reached = inl (reacts_as g.S.Store.holds g.S.Store.used g.S.Store.format g.S.Store.told g.S.Store.rose g.S.Store.was setup past.group c.args.cluster.now c.claim.new.cluster c.args.event _ c.in-Claim.is (Claim) (λ found. refl) refl c.claim.result (c.claim.ensures setup past reached))
+returns-in-Claim-clause-somehow g c setup past reached = inl (reacts_as g.S.Store.model setup past.group c.args.network.now c.claim.new.network c.args.event _ c.in-Claim.is (Claim) (λ found. refl) refl c.claim.result (c.claim.ensures setup past reached))
 
 pub returns-in-Finish-clause-step : goal.returns-in-Finish-clause-step
-returns-in-Finish-clause-step g c setup past reached told = reacts_as g.S.Store.holds g.S.Store.used g.S.Store.format g.S.Store.told g.S.Store.rose g.S.Store.was setup past.group c.args.cluster.now c.finish.new.cluster c.args.event _ c.in-Finish.is (Finish c.in-Finish.filled.server c.in-Finish.filled.life c.in-Finish.filled.slot) (λ found. refl) refl (Ok c.finish.result) (c.finish.ensures setup past reached)
+returns-in-Finish-clause-step g c setup past reached told = reacts_as g.S.Store.model setup past.group c.args.network.now c.finish.new.network c.args.event _ c.in-Finish.is (Finish c.in-Finish.filled.server c.in-Finish.filled.life c.in-Finish.filled.slot) (λ found. refl) refl (Ok c.finish.result) (c.finish.ensures setup past reached)
 
 pub returns-in-Finish-clause-somehow : goal.returns-in-Finish-clause-somehow
-returns-in-Finish-clause-somehow g c setup past reached = inl (reacts_as g.S.Store.holds g.S.Store.used g.S.Store.format g.S.Store.told g.S.Store.rose g.S.Store.was setup past.group c.args.cluster.now c.finish.new.cluster c.args.event _ c.in-Finish.is (Finish c.in-Finish.filled.server c.in-Finish.filled.life c.in-Finish.filled.slot) (λ found. refl) refl (Ok c.finish.result) (c.finish.ensures setup past reached))
+returns-in-Finish-clause-somehow g c setup past reached = inl (reacts_as g.S.Store.model setup past.group c.args.network.now c.finish.new.network c.args.event _ c.in-Finish.is (Finish c.in-Finish.filled.server c.in-Finish.filled.life c.in-Finish.filled.slot) (λ found. refl) refl (Ok c.finish.result) (c.finish.ensures setup past reached))
 
 pub returns-in-Checkpoint-clause-step : goal.returns-in-Checkpoint-clause-step
-returns-in-Checkpoint-clause-step g c setup past reached told = reacts_as g.S.Store.holds g.S.Store.used g.S.Store.format g.S.Store.told g.S.Store.rose g.S.Store.was setup past.group c.args.cluster.now c.checkpoint.new.cluster c.args.event _ c.in-Checkpoint.is (Checkpoint c.in-Checkpoint.server) (λ found. refl) refl c.checkpoint.result (c.checkpoint.ensures setup past reached)
+returns-in-Checkpoint-clause-step g c setup past reached told = reacts_as g.S.Store.model setup past.group c.args.network.now c.checkpoint.new.network c.args.event _ c.in-Checkpoint.is (Checkpoint c.in-Checkpoint.server) (λ found. refl) refl c.checkpoint.result (c.checkpoint.ensures setup past reached)
 
 pub returns-in-Checkpoint-clause-somehow : goal.returns-in-Checkpoint-clause-somehow
-returns-in-Checkpoint-clause-somehow g c setup past reached = inl (reacts_as g.S.Store.holds g.S.Store.used g.S.Store.format g.S.Store.told g.S.Store.rose g.S.Store.was setup past.group c.args.cluster.now c.checkpoint.new.cluster c.args.event _ c.in-Checkpoint.is (Checkpoint c.in-Checkpoint.server) (λ found. refl) refl c.checkpoint.result (c.checkpoint.ensures setup past reached))
+returns-in-Checkpoint-clause-somehow g c setup past reached = inl (reacts_as g.S.Store.model setup past.group c.args.network.now c.checkpoint.new.network c.args.event _ c.in-Checkpoint.is (Checkpoint c.in-Checkpoint.server) (λ found. refl) refl c.checkpoint.result (c.checkpoint.ensures setup past reached))

@@ -14,8 +14,8 @@ returns-then-term-me g c = record {
   step = λ d stands.
       let s = server_of d c.args.me.now in
       let same = sym (ack_passes s c.args.from c.args.term c.args.slot c.args.upto (other_term d c.args.me.now stands.cached c.args.term c.if-term-me.true)) in
-      renamed g.S.Store.holds g.S.Store.used g.S.Store.format g.S.Store.told g.S.Store.rose g.S.Store.was d c.args._store.now c.args._store.now c.args.me.now c.args.me.now c.args.out.now c.args.out.now _ _ _ (on_ack s c.args.from c.args.term c.args.slot c.args.upto s.role) (Ok Done) (ap (room_refusal c.args.out.now) same) same
-      (nothing_done g.S.Store.holds g.S.Store.used g.S.Store.format g.S.Store.told g.S.Store.rose g.S.Store.was d c.args._store.now c.args.me.now c.args.out.now stands c.requires.fresh);
+      renamed g.S.Store.model d c.args._store.now c.args._store.now c.args.me.now c.args.me.now c.args.out.now c.args.out.now _ _ _ (on_ack s c.args.from c.args.term c.args.slot c.args.upto s.role) (Ok Done) (ap (room_refusal c.args.out.now) same) same
+      (nothing_done g.S.Store.model d c.args._store.now c.args.me.now c.args.out.now stands c.requires.fresh);
 }
 
 pub returns-in_err-send_commit : goal.returns-in_err-send_commit
@@ -25,8 +25,8 @@ returns-in_err-send_commit g c = record {
       let o = counted_ack s c.args.from c.args.slot c.args.upto s.role in
       let same = sym (ack_counts s c.args.from c.args.term c.args.slot c.args.upto (own_term d c.args.me.now stands.cached c.args.term c.if-term-me.false)) in
       let ps = commits_same d c.args.me.now stands.cached c.args.from c.args.slot in
-      renamed g.S.Store.holds g.S.Store.used g.S.Store.format g.S.Store.told g.S.Store.rose g.S.Store.was d c.args._store.now c.args._store.now c.args.me.now c.args.me.now c.args.out.now c.send_commit.new.out _ _ o (on_ack s c.args.from c.args.term c.args.slot c.args.upto s.role) c.from_residual.result (ap (room_refusal c.args.out.now) same) same
-      (unsent g.S.Store.holds g.S.Store.used g.S.Store.format g.S.Store.told g.S.Store.rose g.S.Store.was d c.args._store.now c.args.me.now c.args.out.now c.send_commit.new.out stands o c.in_err-send_commit.field-0.0 c.send_commit.result c.from_residual.result
+      renamed g.S.Store.model d c.args._store.now c.args._store.now c.args.me.now c.args.me.now c.args.out.now c.send_commit.new.out _ _ o (on_ack s c.args.from c.args.term c.args.slot c.args.upto s.role) c.from_residual.result (ap (room_refusal c.args.out.now) same) same
+      (unsent g.S.Store.model d c.args._store.now c.args.me.now c.args.out.now c.send_commit.new.out stands o c.in_err-send_commit.field-0.0 c.send_commit.result c.from_residual.result
       (subst (λ ps. Sends c.args.out.now c.send_commit.new.out ps c.send_commit.result) ps c.send_commit.ensures) c.in_err-send_commit.was
       (err_from_is_err_and c.from_residual.result c.from_residual.ensures.1));
 }
@@ -40,7 +40,7 @@ returns g c = record {
       let ps = commits_same d c.args.me.now stands.cached c.args.from c.args.slot in
       let room : exceeds c.args.out.now (commits s s.role c.args.from c.args.slot) ≡ false = subst (λ ps. exceeds c.args.out.now ps ≡ false) ps c.in_ok-send_commit.ensures.0 in
       let sent : c.send_commit.new.out ≡ sent_by c.args.out.now (commits s s.role c.args.from c.args.slot) = subst (λ qs. c.send_commit.new.out ≡ sent_by c.args.out.now qs) ps c.in_ok-send_commit.ensures.1 in
-      renamed g.S.Store.holds g.S.Store.used g.S.Store.format g.S.Store.told g.S.Store.rose g.S.Store.was d c.args._store.now c.args._store.now c.args.me.now c.take.new.me c.args.out.now c.announce.new.out _ _ o (on_ack s c.args.from c.args.term c.args.slot c.args.upto s.role) (Ok Done) (ap (room_refusal c.args.out.now) same) same
-      (counted_done g.S.Store.holds g.S.Store.used g.S.Store.format g.S.Store.told g.S.Store.rose g.S.Store.was d c.args._store.now c.args.me.now c.args.out.now stands c.send_commit.new.out c.announce.new.out c.args.from c.args.slot c.args.upto c.take.new.me.role
+      renamed g.S.Store.model d c.args._store.now c.args._store.now c.args.me.now c.take.new.me c.args.out.now c.announce.new.out _ _ o (on_ack s c.args.from c.args.term c.args.slot c.args.upto s.role) (Ok Done) (ap (room_refusal c.args.out.now) same) same
+      (counted_done g.S.Store.model d c.args._store.now c.args.me.now c.args.out.now stands c.send_commit.new.out c.announce.new.out c.args.from c.args.slot c.args.upto c.take.new.me.role
       c.take.ensures.role c.take.ensures.kept room sent c.requires.fresh c.announce.ensures c.take.new.me c.take.ensures.others);
 }

@@ -19,8 +19,8 @@ returns-in_err-send_to_others g c = record {
       let o = elected s (c.args.me.now.term + 1) in
       let same = election d c.args.me.now stands.cached in
       let ps = sent_election d c.args.me.now (c.args.me.now.term + 1) c.base.result stands.cached c.base.ensures.base in
-      renamed g.S.Store.holds g.S.Store.used g.S.Store.format g.S.Store.told g.S.Store.rose g.S.Store.was d c.args.store.now c.args.store.now c.args.me.now c.args.me.now c.args.out.now c.send_to_others.new.out _ _ o (on_elect s) c.from_residual-in_err-send_to_others.result (ap (room_refusal c.args.out.now) same) same
-      (unsent g.S.Store.holds g.S.Store.used g.S.Store.format g.S.Store.told g.S.Store.rose g.S.Store.was d c.args.store.now c.args.me.now c.args.out.now c.send_to_others.new.out stands o c.in_err-send_to_others.field-0.0 c.send_to_others.result c.from_residual-in_err-send_to_others.result
+      renamed g.S.Store.model d c.args.store.now c.args.store.now c.args.me.now c.args.me.now c.args.out.now c.send_to_others.new.out _ _ o (on_elect s) c.from_residual-in_err-send_to_others.result (ap (room_refusal c.args.out.now) same) same
+      (unsent g.S.Store.model d c.args.store.now c.args.me.now c.args.out.now c.send_to_others.new.out stands o c.in_err-send_to_others.field-0.0 c.send_to_others.result c.from_residual-in_err-send_to_others.result
       (subst (λ ps. Sends c.args.out.now c.send_to_others.new.out ps c.send_to_others.result) ps c.send_to_others.ensures) c.in_err-send_to_others.was
       (err_from_is_err_and c.from_residual-in_err-send_to_others.result c.from_residual-in_err-send_to_others.ensures.1));
 }
@@ -34,7 +34,7 @@ returns g c = record {
       let ps = sent_election d c.args.me.now (c.args.me.now.term + 1) c.base.result stands.cached c.base.ensures.base in
       let room : exceeds c.args.out.now o.packets ≡ false = subst (λ ps. exceeds c.args.out.now ps ≡ false) ps c.in_ok-send_to_others.ensures.0 in
       let is : c.send_to_others.new.out ≡ sent_by c.args.out.now o.packets = c.in_ok-send_to_others.ensures.1 ∙ ap (sent_by c.args.out.now) ps in
-      renamed g.S.Store.holds g.S.Store.used g.S.Store.format g.S.Store.told g.S.Store.rose g.S.Store.was d c.args.store.now c.stand.new.store c.args.me.now c.stand.new.me c.args.out.now c.send_to_others.new.out _ _ o (on_elect s) c.stand.result (ap (room_refusal c.args.out.now) same) same
-      (after_sending g.S.Store.holds g.S.Store.used g.S.Store.format g.S.Store.told g.S.Store.rose g.S.Store.was d c.args.store.now c.stand.new.store c.args.me.now c.stand.new.me c.args.out.now c.send_to_others.new.out c.send_to_others.new.out o room is c.stand.result
+      renamed g.S.Store.model d c.args.store.now c.stand.new.store c.args.me.now c.stand.new.me c.args.out.now c.send_to_others.new.out _ _ o (on_elect s) c.stand.result (ap (room_refusal c.args.out.now) same) same
+      (after_sending g.S.Store.model d c.args.store.now c.stand.new.store c.args.me.now c.stand.new.me c.args.out.now c.send_to_others.new.out c.send_to_others.new.out o room is c.stand.result
       (c.stand.ensures d c.send_to_others.new.out stands (sent_acked c.args.out.now c.send_to_others.new.out o.packets is ∙ c.requires.fresh)));
 }

@@ -15,8 +15,8 @@ returns-in_err-send_again g c = record {
       let s = server_of d c.args.me.now in
       let ps = (on_resend s s.role).packets in
       let same = only_sends s s.role in
-      renamed g.S.Store.holds g.S.Store.used g.S.Store.format g.S.Store.told g.S.Store.rose g.S.Store.was d c.args._store.now c.args._store.now c.args.me.now c.args.me.now c.args.out.now c.send_again.new.out _ _ (sends s ps) (on_resend s s.role) c.from_residual.result (ap (room_refusal c.args.out.now) same) same
-      (unsent g.S.Store.holds g.S.Store.used g.S.Store.format g.S.Store.told g.S.Store.rose g.S.Store.was d c.args._store.now c.args.me.now c.args.out.now c.send_again.new.out stands (sends s ps) c.in_err-send_again.field-0.0 c.send_again.result c.from_residual.result
+      renamed g.S.Store.model d c.args._store.now c.args._store.now c.args.me.now c.args.me.now c.args.out.now c.send_again.new.out _ _ (sends s ps) (on_resend s s.role) c.from_residual.result (ap (room_refusal c.args.out.now) same) same
+      (unsent g.S.Store.model d c.args._store.now c.args.me.now c.args.out.now c.send_again.new.out stands (sends s ps) c.in_err-send_again.field-0.0 c.send_again.result c.from_residual.result
       (subst (λ ps. Sends c.args.out.now c.send_again.new.out ps c.send_again.result) (same_again d c.args.me.now stands.cached) c.send_again.ensures) c.in_err-send_again.was
       (err_from_is_err_and c.from_residual.result c.from_residual.ensures.1));
 }
@@ -30,6 +30,6 @@ returns g c = record {
       let again = same_again d c.args.me.now stands.cached in
       let room : exceeds c.args.out.now ps ≡ false = subst (λ ps. exceeds c.args.out.now ps ≡ false) again c.in_ok-send_again.ensures.0 in
       let sent : c.send_again.new.out ≡ sent_by c.args.out.now ps = c.in_ok-send_again.ensures.1 ∙ ap (sent_by c.args.out.now) again in
-      renamed g.S.Store.holds g.S.Store.used g.S.Store.format g.S.Store.told g.S.Store.rose g.S.Store.was d c.args._store.now c.args._store.now c.args.me.now c.args.me.now c.args.out.now c.send_again.new.out _ _ (sends s ps) (on_resend s s.role) (Ok Done) (ap (room_refusal c.args.out.now) same) same
-      (sent_only g.S.Store.holds g.S.Store.used g.S.Store.format g.S.Store.told g.S.Store.rose g.S.Store.was d c.args._store.now c.args.me.now c.args.out.now c.send_again.new.out stands ps room sent c.requires.fresh);
+      renamed g.S.Store.model d c.args._store.now c.args._store.now c.args.me.now c.args.me.now c.args.out.now c.send_again.new.out _ _ (sends s ps) (on_resend s s.role) (Ok Done) (ap (room_refusal c.args.out.now) same) same
+      (sent_only g.S.Store.model d c.args._store.now c.args.me.now c.args.out.now c.send_again.new.out stands ps room sent c.requires.fresh);
 }

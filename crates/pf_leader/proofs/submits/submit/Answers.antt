@@ -15,7 +15,7 @@ plan-requires g c = few_sectors c.args.me.now c.requires.bounded
 pub returns-in_err-entry : goal.returns-in_err-entry
 returns-in_err-entry g c = record {
   step = λ d stands.
-      unplanned g.S.Store.holds g.S.Store.used g.S.Store.format g.S.Store.told g.S.Store.rose g.S.Store.was d c.args.store.now c.args.me.now c.args.out.now stands c.args.op (on_submit (setup_of c.args.me.now) (server_of d c.args.me.now) c.args.op (server_of d c.args.me.now).role)
+      unplanned g.S.Store.model d c.args.store.now c.args.me.now c.args.out.now stands c.args.op (on_submit (setup_of c.args.me.now) (server_of d c.args.me.now) c.args.op (server_of d c.args.me.now).role)
       c.in_err-entry.field-0.0 c.plan.result c.from_residual.result c.plan.ensures c.in_err-entry.was (err_from_is_err_and c.from_residual.result c.from_residual.ensures.1);
 }
 
@@ -23,7 +23,7 @@ pub returns-in_err-reserve : goal.returns-in_err-reserve
 returns-in_err-reserve g c = record {
   step = λ d stands.
       let p = c.in_ok-entry.ensures in
-      short_of_memory g.S.Store.holds g.S.Store.used g.S.Store.format g.S.Store.told g.S.Store.rose g.S.Store.was d c.args.store.now c.args.me.now c.reserve.new.me stands c.args.out.now c.args.out.now _ _ c.from_residual-in_err-reserve.result
+      short_of_memory g.S.Store.model d c.args.store.now c.args.me.now c.reserve.new.me stands c.args.out.now c.args.out.now _ _ c.from_residual-in_err-reserve.result
       (err_from_is_err_and c.from_residual-in_err-reserve.result c.from_residual-in_err-reserve.ensures.1)
       (roomy_after c.args.me.now c.reserve.new.me c.reserve.ensures.same p.leader p.may.serves d stands.cached);
 }
@@ -31,7 +31,7 @@ returns-in_err-reserve g c = record {
 pub propose-requires-clause-stands : goal.propose-requires-clause-stands
 propose-requires-clause-stands g c =
     let p = c.in_ok-entry.ensures in
-    (c.requires.stands.0, roomy_stands c.args.me.now c.reserve.new.me c.reserve.ensures.same p.leader p.may.serves g.S.Store.holds g.S.Store.used g.S.Store.format c.requires.stands.0 c.args.store.now c.requires.stands.1)
+    (c.requires.stands.0, roomy_stands c.args.me.now c.reserve.new.me c.reserve.ensures.same p.leader p.may.serves g.S.Store.model c.requires.stands.0 c.args.store.now c.requires.stands.1)
 
 pub propose-requires-clause-canonical : goal.propose-requires-clause-canonical
 propose-requires-clause-canonical g c =
@@ -40,8 +40,8 @@ propose-requires-clause-canonical g c =
 
 pub propose-requires-clause-spelled : goal.propose-requires-clause-spelled
 propose-requires-clause-spelled g c =
-    plan_spelled c.args.me.now c.requires.bounded c.args.op c.requires.op c.in_ok-entry.entry c.in_ok-entry.ensures c.requires.stands.0 c.requires.stands.1.cached (g.S.Store.format c.args.store.now)
-    (half_of g.S.Store.holds g.S.Store.used g.S.Store.format c.requires.stands.0 c.args.store.now c.args.me.now c.requires.stands.1)
+    plan_spelled c.args.me.now c.requires.bounded c.args.op c.requires.op c.in_ok-entry.entry c.in_ok-entry.ensures c.requires.stands.0 c.requires.stands.1.cached (g.S.Store.model.format c.args.store.now)
+    (half_of g.S.Store.model c.requires.stands.0 c.args.store.now c.args.me.now c.requires.stands.1)
 
 pub propose-requires-clause-term : goal.propose-requires-clause-term
 propose-requires-clause-term g c =
@@ -76,12 +76,12 @@ returns g c = record {
       let own = proposed (server_of d me) (leader_of p.leader) e in
       let same = proposed_near (server_of d near) (server_of d me) (leader_of more.0) (leader_of p.leader) e server leader in
       let slot = plan_slot me c.requires.bounded c.args.op c.requires.op e p ∙ sym more.2 in
-      renamed g.S.Store.holds g.S.Store.used g.S.Store.format g.S.Store.told g.S.Store.rose g.S.Store.was d c.args.store.now c.propose.new.store me c.propose.new.me c.args.out.now c.propose.new.out
+      renamed g.S.Store.model d c.args.store.now c.propose.new.store me c.propose.new.me c.args.out.now c.propose.new.out
       _ _ own (on_submit (setup_of me) (server_of d me) c.args.op (server_of d me).role) c.propose.result
       (plan_refusal me c.args.op e p d stands.cached c.args.out.now) (plan_outcome me c.args.op e p d stands.cached)
-      (renamed g.S.Store.holds g.S.Store.used g.S.Store.format g.S.Store.told g.S.Store.rose g.S.Store.was d c.args.store.now c.propose.new.store me c.propose.new.me c.args.out.now c.propose.new.out
+      (renamed g.S.Store.model d c.args.store.now c.propose.new.store me c.propose.new.me c.args.out.now c.propose.new.out
       _ _ (proposed (server_of d near) (leader_of more.0) e) own c.propose.result (ap (room_refusal c.args.out.now) same) same
-      (with_more_room g.S.Store.holds g.S.Store.used g.S.Store.format g.S.Store.told g.S.Store.rose g.S.Store.was d c.args.store.now c.propose.new.store me near c.propose.new.me c.args.out.now c.propose.new.out server
+      (with_more_room g.S.Store.model d c.args.store.now c.propose.new.store me near c.propose.new.me c.args.out.now c.propose.new.out server
       (roomy_setup me near roomier p.leader p.may.serves) (proposed (server_of d near) (leader_of more.0) e) c.propose.result
-      (c.propose.ensures d more.0 (roomy_stands me near roomier p.leader p.may.serves g.S.Store.holds g.S.Store.used g.S.Store.format d c.args.store.now stands) more.1 slot)));
+      (c.propose.ensures more.0 more.1 slot d (roomy_stands me near roomier p.leader p.may.serves g.S.Store.model d c.args.store.now stands))));
 }

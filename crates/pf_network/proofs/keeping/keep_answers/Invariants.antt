@@ -16,7 +16,7 @@ abbrev pub invariant-loop-number : goal.invariant-loop-number
 invariant-loop-number g l =
     AreMoving l.initial.readings.items l.readings.items (answers_of l.initial.server.state) (answers_of l.server.state)
     × (l.server.seat ≡ l.initial.server.seat) × (l.server.store ≡ l.initial.server.store)
-    × ((s : ServerIs) → Meets g.S.Store.holds g.S.Store.used g.S.Store.format l.initial.server.seat l.initial.server.store l.initial.server.state (RunningIs s) → Meets g.S.Store.holds g.S.Store.used g.S.Store.format l.server.seat l.server.store l.server.state (RunningIs s))
+    × ((s : ServerIs) → Meets g.S.Store.model l.initial.server.seat l.initial.server.store l.initial.server.state (RunningIs s) → Meets g.S.Store.model l.server.seat l.server.store l.server.state (RunningIs s))
 
 abbrev pub decreases-loop-number : goal.decreases-loop-number
 decreases-loop-number g l = length (answers_of l.server.state)

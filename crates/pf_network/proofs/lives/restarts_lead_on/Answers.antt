@@ -3,4 +3,4 @@ use Rattle.pf_network.proofs.lives.restarts_lead_on.Goals as goal
 
 pub returns : goal.returns
 returns g c setup past old new reached room covers i low result goes =
-    somehow_leads_on g.S.Store.holds g.S.Store.used g.S.Store.format g.S.Store.told g.S.Store.rose g.S.Store.was setup past old new reached room covers i low result goes
+    somehow_leads_on g.S.Store.model setup past old new reached room covers i low result goes

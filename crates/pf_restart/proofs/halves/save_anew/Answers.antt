@@ -27,6 +27,6 @@ returns-in-Ok-clause-any_moment g c = λ d recorded l. inr (c.in-Ok.ensures.any_
 
 pub returns-in-Ok-clause-saved : goal.returns-in-Ok-clause-saved
 returns-in-Ok-clause-saved g c = λ d seat life made begun.
-    let l = begun_lives g.S.Store.holds g.S.Store.used g.S.Store.format d c.requires.lives.0 c.args.store.now c.args.me.now seat life made begun c.requires.lives.2 in
+    let l = begun_lives g.S.Store.model d c.requires.lives.0 c.args.store.now c.args.me.now seat life made begun c.requires.lives.2 in
     let is = image_here d c.args.me.now seat life made l.revived l.early c.args.body.now (c.requires.body d l) in
-    saved_begun g.S.Store.holds g.S.Store.used g.S.Store.format d c.args.me.now seat life made l.revived l.early c.save.new.self c.args.body.now is (c.in-Ok.ensures.ok d (image_of (anew d)) begun.stands.recorded is) c.in-Ok.ensures.used c.in-Ok.ensures.format
+    saved_begun g.S.Store.model d c.args.me.now seat life made l.revived l.early c.save.new.self c.args.body.now is (c.in-Ok.ensures.ok d (image_of (anew d)) begun.stands.recorded is) c.in-Ok.ensures.used c.in-Ok.ensures.format

@@ -12,7 +12,7 @@ invariant-loop-next l = record {
   rest : Every (λ r. is_image r ≡ false) l.records.items;
   state : but_used (recovered (state_in l.tables) l.records.items) ≡ but_used (recovered (state_in l.initial.tables) l.initial.records.items);
   used : l.tables.used ≡ l.initial.tables.used;
-  unmarked : l.tables.log.marks ≡ l.initial.tables.log.marks;
+  unmarked : l.tables.log.committed ≡ l.initial.tables.log.committed;
 }
 
 abbrev pub decreases-loop-next : goal.decreases-loop-next

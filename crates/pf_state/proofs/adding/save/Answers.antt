@@ -13,7 +13,7 @@ returns-then-body-gt-ROOM g c = λ d r whole is. record {
 
 pub returns-in_err-save : goal.returns-in_err-save
 returns-in_err-save g c = λ d r whole is.
-    is_in_doubt g.S.Store.holds g.S.Store.used g.S.Store.format g.S.Store.told g.S.Store.rose g.S.Store.was d r (empty_half + body_size r) 2 c.args.store.now c.save.new.self c.from_residual.result
+    is_in_doubt g.S.Store.model d r (empty_half + body_size r) 2 c.args.store.now c.save.new.self c.from_residual.result
     (err_from_is_err_and c.from_residual.result c.from_residual.ensures.1)
     (record {
       fits = omega (arith, c.if-body-gt-ROOM.false, image_len d r c.args.body.now is);

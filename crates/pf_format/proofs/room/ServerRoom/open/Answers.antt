@@ -1,8 +1,7 @@
 use Rattle.std.proofs.Common.{◌≡◌, ap, slice_index, subst, sym, ℕ, List}
-use Rattle.pf_entry.specs.Records.{Durable, image_of}
-use Rattle.pf_diskstore.specs.declared.kept.Kept.{Kept}
-use Rattle.pf_diskstore.specs.Kept.{IsFirst, IsKept}
-use Rattle.pf_image.specs.Pairs.{current_of, format_of}
+use Rattle.pf_entry.specs.Records.{image_of}
+use Rattle.pf_diskstore.specs.Kept.{IsFirst}
+use Rattle.pf_diskstore.specs.Model.{kept_model}
 use Rattle.pf_server.specs.Conditions.{IsRunning}
 use Rattle.pf_restart.specs.declared.seat.Seat.{Seat}
 use Rattle.pf_format.specs.Opening.{opening_server, seat_in}
@@ -22,12 +21,9 @@ new-requires-clause-fits g c = first_fits c.self.inside.seat c.self.inside.me c.
 
 pub returns-in-Ok-clause-opened : goal.returns-in-Ok-clause-opened
 returns-in-Ok-clause-opened g c = λ _ setup.
-    let S = Kept g.row.D.Denot in
-    let holds : S → Durable → Durable → Type 0 = λ kept before after. IsKept g.D.Disk.seen g.D.Disk.may_leave kept.pair before after in
-    let used : S → ℕ = λ kept. (current_of kept.pair).used in
-    let format : S → ℕ = λ kept. format_of kept.pair in
+    let model = kept_model g.D.Disk.seen g.D.Disk.may_leave g.D.Disk.faults g.D.Disk.moment g.D.Disk.left_since g.D.Disk.tells_moments in
     let seat = c.self.inside.seat in
-    subst (λ (p : Seat). p ≡ seat_in setup p.number → IsRunning holds used format seat c.in-Ok.store c.self.inside.me (opening_server setup p.number))
+    subst (λ (p : Seat). p ≡ seat_in setup p.number → IsRunning model seat c.in-Ok.store c.self.inside.me (opening_server setup p.number))
     (ap (λ (p : Place). p.seat) c.self.view_is)
-    (meets_opening seat c.self.inside.me c.self.inside.image.items c.self.invariant holds used format c.in-Ok.store c.deref.result.now c.deref.ensures.value (slice_index c.head_of-head.result 4)
+    (meets_opening seat c.self.inside.me c.self.inside.image.items c.self.invariant model c.in-Ok.store c.deref.result.now c.deref.ensures.value (slice_index c.head_of-head.result 4)
     (ap (λ (head : List ℕ). slice_index head 4) c.head_of-head.ensures) c.in-Ok.ensures.holds c.in-Ok.ensures.used c.in-Ok.ensures.format setup)

@@ -25,5 +25,5 @@ returns-clause-sound g c = sound _ _
 pub returns-clause-crash : goal.returns-clause-crash
 returns-clause-crash g c told =
     subst (AllLeaveAtCrash g.D.Disk.seen g.D.Disk.moment g.D.Disk.left_since g.D.Disk.tells_moments) c.self.view_is
-    (all_leave g.D.Disk.seen g.D.Disk.may_leave g.D.Disk.faults g.D.Disk.moment g.D.Disk.left_since g.D.Disk.tells g.D.Disk.tells_moments c.self.inside.number (setup_in c.self.inside) c.self.inside.began.happenings.value.items c.self.inside.began.cluster.value c.self.inside.past.happenings.items c.self.inside.cluster
+    (all_leave g.D.Disk.seen g.D.Disk.may_leave g.D.Disk.faults g.D.Disk.moment g.D.Disk.left_since g.D.Disk.tells g.D.Disk.tells_moments c.self.inside.number (setup_in c.self.inside) c.self.inside.began.happenings.value.items c.self.inside.began.network.value c.self.inside.past.happenings.items c.self.inside.network
     (stood g.D.Disk.seen g.D.Disk.may_leave g.D.Disk.faults g.D.Disk.moment g.D.Disk.left_since g.D.Disk.tells g.D.Disk.tells_moments c.self.inside c.self.invariant) g.D.Disk.tells (subst (λ (v : GroupIs). IsTrue v.told) (sym c.self.view_is) told))

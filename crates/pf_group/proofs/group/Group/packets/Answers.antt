@@ -1,21 +1,21 @@
 use Rattle.std.proofs.Common.{◌≡◌, ◌≤◌, IsTrue, length, sym, ap, subst, ◌∙◌}
 use Rattle.pf_network.proofs.Beginning.{few_parcels, same_packets}
+use Rattle.pf_diskstore.specs.Model.{kept_model}
 use Rattle.pf_group.specs.GroupIs.{GroupIs, state_of}
-use Rattle.pf_group.specs.Halves.{format_in, holds_in, told_in, used_in}
 use Rattle.pf_group.specs.Inside.{setup_in}
 use Rattle.pf_group.proofs.group.Group.packets.Goals as goal
 
 pub packet_count-requires : goal.packet_count-requires
-packet_count-requires g c = few_parcels (holds_in g.D.Disk.seen g.D.Disk.may_leave) used_in format_in (told_in g.D.Disk.seen) (setup_in c.self.inside) c.self.invariant.stands.past c.self.inside.cluster c.self.invariant.stands.reached
+packet_count-requires g c = few_parcels (kept_model g.D.Disk.seen g.D.Disk.may_leave g.D.Disk.faults g.D.Disk.moment g.D.Disk.left_since g.D.Disk.tells_moments) (setup_in c.self.inside) c.self.invariant.stands.past c.self.inside.network c.self.invariant.stands.reached
 
 pub returns-clause-few : goal.returns-clause-few
 returns-clause-few g c =
     let stands = c.self.invariant.stands in
-    subst (λ n. n ≤ 65536) (sym c.packet_count.ensures) (few_parcels (holds_in g.D.Disk.seen g.D.Disk.may_leave) used_in format_in (told_in g.D.Disk.seen) (setup_in c.self.inside) stands.past c.self.inside.cluster stands.reached)
+    subst (λ n. n ≤ 65536) (sym c.packet_count.ensures) (few_parcels (kept_model g.D.Disk.seen g.D.Disk.may_leave g.D.Disk.faults g.D.Disk.moment g.D.Disk.left_since g.D.Disk.tells_moments) (setup_in c.self.inside) stands.past c.self.inside.network stands.reached)
 
 pub returns-clause-count : goal.returns-clause-count
 returns-clause-count g c told =
     let stands = c.self.invariant.stands in
     let tell = subst (λ (v : GroupIs). IsTrue v.told) (sym c.self.view_is) told in
     subst (λ (v : GroupIs). c.packet_count.result ≡ length (state_of v).packets) c.self.view_is
-    (c.packet_count.ensures ∙ same_packets (holds_in g.D.Disk.seen g.D.Disk.may_leave) used_in format_in (told_in g.D.Disk.seen) (setup_in c.self.inside) stands.past c.self.inside.cluster stands.reached ∙ ap (λ x. length x.packets) (stands.replays tell).same)
+    (c.packet_count.ensures ∙ same_packets (kept_model g.D.Disk.seen g.D.Disk.may_leave g.D.Disk.faults g.D.Disk.moment g.D.Disk.left_since g.D.Disk.tells_moments) (setup_in c.self.inside) stands.past c.self.inside.network stands.reached ∙ ap (λ x. length x.packets) (stands.replays tell).same)

@@ -7,11 +7,11 @@ use Rattle.pf_server.proofs.server.Server.claim.Goals as goal
 
 pub claim-claimed-requires : goal.claim-claimed-requires
 claim-claimed-requires g c =
-    let known = known_here g.S.Store.holds g.S.Store.used g.S.Store.format c.args.self.now.seat c.args.self.now.store c.args.self.now.state c.in-Runs.me c.in-Runs.is c.requires in
-    record { cached = (known.0.durable, known.1.stands.cached); bounded = bounded_here g.S.Store.holds g.S.Store.used g.S.Store.format c.args.self.now.seat c.args.self.now.store c.in-Runs.me known.0 known.1 known.2 c.requires.made.setup }
+    let known = known_here g.S.Store.model c.args.self.now.seat c.args.self.now.store c.args.self.now.state c.in-Runs.me c.in-Runs.is c.requires in
+    record { cached = (known.0.durable, known.1.stands.cached); bounded = bounded_here g.S.Store.model c.args.self.now.seat c.args.self.now.store c.in-Runs.me known.0 known.1 known.2 c.requires.made.setup }
 
 pub returns-clause-step : goal.returns-clause-step
 returns-clause-step g c = λ s meets.
-    let runs = meets_here g.S.Store.holds g.S.Store.used g.S.Store.format c.args.self.now.seat c.args.self.now.store c.args.self.now.state c.in-Runs.me s c.in-Runs.is meets in
-    subst (λ z. Claims g.S.Store.holds g.S.Store.used g.S.Store.format c.args.self.now.seat c.args.self.now.store z s c.claim-claimed.result) (sym c.forget_answers.ensures)
-    (claims_by g.S.Store.holds g.S.Store.used g.S.Store.format c.args.self.now.seat c.args.self.now.store c.in-Runs.me c.claim-claimed.new.me s runs c.claim-claimed.result c.claim-claimed.ensures.ok c.claim-claimed.ensures.err)
+    let runs = meets_here g.S.Store.model c.args.self.now.seat c.args.self.now.store c.args.self.now.state c.in-Runs.me s c.in-Runs.is meets in
+    subst (λ z. Claims g.S.Store.model c.args.self.now.seat c.args.self.now.store z s c.claim-claimed.result) (sym c.forget_answers.ensures)
+    (claims_by g.S.Store.model c.args.self.now.seat c.args.self.now.store c.in-Runs.me c.claim-claimed.new.me s runs c.claim-claimed.result c.claim-claimed.ensures.ok c.claim-claimed.ensures.err)

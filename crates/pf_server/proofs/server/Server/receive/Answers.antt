@@ -13,28 +13,28 @@ use Rattle.pf_server.proofs.server.Server.receive.Goals as goal
 
 pub take_packet-ended-requires : goal.take_packet-ended-requires
 take_packet-ended-requires g c =
-    let known = known_here g.S.Store.holds g.S.Store.used g.S.Store.format c.args.self.now.seat c.args.self.now.store c.args.self.now.state c.in-Runs.me c.in-Runs.is c.requires.order in
+    let known = known_here g.S.Store.model c.args.self.now.seat c.args.self.now.store c.args.self.now.state c.in-Runs.me c.in-Runs.is c.requires.order in
     record {
       stands = (known.0.durable, known.1.stands);
-      bounded = bounded_here g.S.Store.holds g.S.Store.used g.S.Store.format c.args.self.now.seat c.args.self.now.store c.in-Runs.me known.0 known.1 known.2 c.requires.order.made.setup;
+      bounded = bounded_here g.S.Store.model c.args.self.now.seat c.args.self.now.store c.in-Runs.me known.0 known.1 known.2 c.requires.order.made.setup;
       fresh = c.requires.fresh;
-      coming = comes_here g.S.Store.holds g.S.Store.used g.S.Store.format c.args.self.now.seat c.args.self.now.store c.in-Runs.me known.0 known.1 known.2 c.args.packet c.requires.packet;
+      coming = comes_here g.S.Store.model c.args.self.now.seat c.args.self.now.store c.in-Runs.me known.0 known.1 known.2 c.args.packet c.requires.packet;
     }
 
 pub end-requires : goal.end-requires
 end-requires g c =
-    let known = known_here g.S.Store.holds g.S.Store.used g.S.Store.format c.args.self.now.seat c.args.self.now.store c.args.self.now.state c.in-Runs.me c.in-Runs.is c.requires.order in
+    let known = known_here g.S.Store.model c.args.self.now.seat c.args.self.now.store c.args.self.now.state c.in-Runs.me c.in-Runs.is c.requires.order in
     record {
-      life = subst (λ (b : Before). b.life < far) (sym c.note-before.ensures) (low_life g.S.Store.holds g.S.Store.used g.S.Store.format c.args.self.now.seat c.args.self.now.store c.in-Runs.me known.0 known.1 known.2);
-      answerable = row_ends g.S.Store.holds g.S.Store.used g.S.Store.format g.S.Store.told g.S.Store.rose g.S.Store.was c.args.self.now.seat c.args.self.now.store c.take_packet-ended.new.store c.in-Runs.me c.take_packet-ended.new.me c.args.out.now c.take_packet-ended.new.out (λ u z. room_refusal c.args.out.now (on_packet u z c.args.packet)) (λ u z. on_packet u z c.args.packet) c.take_packet-ended.result c.take_packet-ended.ensures known.0 known.1 (λ none. (packet_asks (setup_at c.args.self.now.seat) c.args.self.now.seat.sectors known.2.next known.0 known.2.asks c.args.packet).asked);
+      life = subst (λ (b : Before). b.life < far) (sym c.note-before.ensures) (low_life g.S.Store.model c.args.self.now.seat c.args.self.now.store c.in-Runs.me known.0 known.1 known.2);
+      answerable = row_ends g.S.Store.model c.args.self.now.seat c.args.self.now.store c.take_packet-ended.new.store c.in-Runs.me c.take_packet-ended.new.me c.args.out.now c.take_packet-ended.new.out (λ u z. room_refusal c.args.out.now (on_packet u z c.args.packet)) (λ u z. on_packet u z c.args.packet) c.take_packet-ended.result c.take_packet-ended.ensures known.0 known.1 (λ none. (packet_asks (setup_at c.args.self.now.seat) c.args.self.now.seat.sectors known.2.next known.0 known.2.asks c.args.packet).asked);
     }
 
 pub returns-clause-step : goal.returns-clause-step
 returns-clause-step g c = λ s meets.
-    let runs = meets_here g.S.Store.holds g.S.Store.used g.S.Store.format c.args.self.now.seat c.args.self.now.store c.args.self.now.state c.in-Runs.me s c.in-Runs.is meets in
-    row_comes g.S.Store.holds g.S.Store.used g.S.Store.format g.S.Store.told g.S.Store.rose g.S.Store.was c.args.self.now.seat c.args.self.now.store c.take_packet-ended.new.store c.in-Runs.me c.take_packet-ended.new.me c.args.out.now c.take_packet-ended.new.out (λ u z. room_refusal c.args.out.now (on_packet u z c.args.packet)) (λ u z. on_packet u z c.args.packet) c.take_packet-ended.result c.take_packet-ended.ensures s runs c.note-before.result c.note-before.ensures c.end.new.state c.end.result (room_roomy c.args.out.now (on_packet (setup_at c.args.self.now.seat) s c.args.packet)) c.end.ensures
+    let runs = meets_here g.S.Store.model c.args.self.now.seat c.args.self.now.store c.args.self.now.state c.in-Runs.me s c.in-Runs.is meets in
+    row_comes g.S.Store.model c.args.self.now.seat c.args.self.now.store c.take_packet-ended.new.store c.in-Runs.me c.take_packet-ended.new.me c.args.out.now c.take_packet-ended.new.out (λ u z. room_refusal c.args.out.now (on_packet u z c.args.packet)) (λ u z. on_packet u z c.args.packet) c.take_packet-ended.result c.take_packet-ended.ensures s runs c.note-before.result c.note-before.ensures c.end.new.state c.end.result (room_roomy c.args.out.now (on_packet (setup_at c.args.self.now.seat) s c.args.packet)) c.end.ensures
 
 pub returns-clause-told : goal.returns-clause-told
 returns-clause-told g c =
-    let known = known_here g.S.Store.holds g.S.Store.used g.S.Store.format c.args.self.now.seat c.args.self.now.store c.args.self.now.state c.in-Runs.me c.in-Runs.is c.requires.order in
-    row_told g.S.Store.holds g.S.Store.used g.S.Store.format g.S.Store.told g.S.Store.rose g.S.Store.was c.args.self.now.seat c.args.self.now.store c.take_packet-ended.new.store c.in-Runs.me c.take_packet-ended.new.me c.args.out.now c.take_packet-ended.new.out (λ u z. room_refusal c.args.out.now (on_packet u z c.args.packet)) (λ u z. on_packet u z c.args.packet) c.take_packet-ended.result c.take_packet-ended.ensures known.0 known.1
+    let known = known_here g.S.Store.model c.args.self.now.seat c.args.self.now.store c.args.self.now.state c.in-Runs.me c.in-Runs.is c.requires.order in
+    row_told g.S.Store.model c.args.self.now.seat c.args.self.now.store c.take_packet-ended.new.store c.in-Runs.me c.take_packet-ended.new.me c.args.out.now c.take_packet-ended.new.out (λ u z. room_refusal c.args.out.now (on_packet u z c.args.packet)) (λ u z. on_packet u z c.args.packet) c.take_packet-ended.result c.take_packet-ended.ensures known.0 known.1
