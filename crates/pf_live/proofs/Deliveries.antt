@@ -18,7 +18,7 @@ use Rattle.pf_shared.specs.Moments.{entry, happenings}
 use Rattle.pf_shared.specs.Since.{state_at}
 use Rattle.pf_shared.specs.Calls.{Adds, Finds, Steps}
 use Rattle.pf_shared.specs.Delivering.{DeliversLeft}
-use Rattle.pf_live.specs.Deliveries.{Line, deliveries, delivers, is_passed, passes_over}
+use Rattle.pf_live.specs.Deliveries.{Trace, deliveries, delivers, is_passed, passes_over}
 use Rattle.pf_live.specs.Switches.{Delivers, HasDelivered, IsSwitch}
 use Rattle.pf_live.proofs.Happenings.{begins_snoc, state_more}
 use Rattle.pf_live.proofs.Hands.{each_adds, each_finds}
@@ -30,7 +30,7 @@ use Rattle.pf_shared.specs.Seats.{IsSeatOf, number_of, root_in, seen_by}
 use Rattle.pf_live.specs.declared.switching.Switch.{Switch}
 
 -- packets are only sent and marked
-pub sent_later : (root : GroupIs) (seen new : Line) → Begins seen new → OnlySent (state_at root seen).packets (state_at root new).packets
+pub sent_later : (root : GroupIs) (seen new : Trace) → Begins seen new → OnlySent (state_at root seen).packets (state_at root new).packets
 sent_later root seen new p = subst (λ (g : Group). OnlySent (state_at root seen).packets g.packets) (state_more root seen p.0 new p.1) (run_sent root.setup (happenings p.0) (state_at root seen))
 
 passed_alike : (g : Group) (p q : ℕ → Bool) (next : ℕ) → ((k : ℕ) → q k ≡ p k) → IsPassedUpTo g p next → IsPassedUpTo g q next
@@ -46,10 +46,10 @@ or_last false true d is = is
 or_last false false d is = is
 
 -- one more entry
-passed_snoc : (k : ℕ) (list : Line) (e : Stamped Moment) → is_passed k (list ++ e ∷ []) ≡ (is_passed k list || (passes_over k e.what || false))
+passed_snoc : (k : ℕ) (list : Trace) (e : Stamped Moment) → is_passed k (list ++ e ∷ []) ≡ (is_passed k list || (passes_over k e.what || false))
 passed_snoc k list e = list_any-append (λ (x : Stamped Moment). passes_over k x.what) list (e ∷ [])
 
-deliveries_snoc : (list : Line) (e : Stamped Moment) (c : ℕ) → cond (delivers e.what) 1 0 ≡ c → deliveries (list ++ e ∷ []) ≡ deliveries list + c
+deliveries_snoc : (list : Trace) (e : Stamped Moment) (c : ℕ) → cond (delivers e.what) 1 0 ≡ c → deliveries (list ++ e ∷ []) ≡ deliveries list + c
 deliveries_snoc list e c is = let f : Stamped Moment → ℕ = λ x. cond (delivers x.what) 1 0 in let s : sum_by f (list ++ e ∷ []) ≡ sum_by f list + (0 + cond (delivers e.what) 1 0) = sum_by-append f list (e ∷ []) in omega (arith, s, is)
 
 and_true : (b c : Bool) → c ≡ true → (b && c) ≡ b
@@ -60,9 +60,9 @@ and_false : (b c : Bool) → c ≡ false → (b && c) ≡ false
 and_false true c is = is
 and_false false c is = refl
 
-module _ (turns : ℕ) (root : GroupIs) (begun : Line) (n : ℕ) (alone : Type 0) where
+module _ (turns : ℕ) (root : GroupIs) (begun : Trace) (n : ℕ) (alone : Type 0) where
   -- others added entries
-  pub delivered_finds : (seen new : Line) (next made : ℕ) → Finds n alone seen new → HasDelivered turns root begun n seen next made → HasDelivered turns root begun n new next made
+  pub delivered_finds : (seen new : Trace) (next made : ℕ) → Finds n alone seen new → HasDelivered turns root begun n seen next made → HasDelivered turns root begun n new next made
   delivered_finds seen new next made f h = let sent = sent_later root seen new f.begins in record {
     steps = each_finds n (Delivers turns root begun n) alone seen new f h.steps;
     sent = λ told. omega (arith, h.sent told, sent.longer);
@@ -73,14 +73,14 @@ module _ (turns : ℕ) (root : GroupIs) (begun : Line) (n : ℕ) (alone : Type 0
   }
 
   -- one more entry of its own
-  own_more : (seen new : Line) (what : Moment) → entries_of n new ≡ entries_of n seen ++ entry n what ∷ [] → begun ++ entries_of n new ≡ (begun ++ entries_of n seen) ++ entry n what ∷ []
+  own_more : (seen new : Trace) (what : Moment) → entries_of n new ≡ entries_of n seen ++ entry n what ∷ [] → begun ++ entries_of n new ≡ (begun ++ entries_of n seen) ++ entry n what ∷ []
   own_more seen new what own = ap (λ l. begun ++ l) own ∙ sym (append_assoc begun (entries_of n seen) (entry n what ∷ []))
 
-  passed_more : (seen new : Line) (what : Moment) → entries_of n new ≡ entries_of n seen ++ entry n what ∷ [] → (k : ℕ) → is_passed k (begun ++ entries_of n new) ≡ (is_passed k (begun ++ entries_of n seen) || (passes_over k what || false))
+  passed_more : (seen new : Trace) (what : Moment) → entries_of n new ≡ entries_of n seen ++ entry n what ∷ [] → (k : ℕ) → is_passed k (begun ++ entries_of n new) ≡ (is_passed k (begun ++ entries_of n seen) || (passes_over k what || false))
   passed_more seen new what own k = ap (is_passed k) (own_more seen new what own) ∙ passed_snoc k (begun ++ entries_of n seen) (entry n what)
 
   -- it looked
-  pub delivered_look : (seen new : Line) (next made : ℕ) → Adds n alone seen (Look None) new → HasDelivered turns root begun n seen next made → HasDelivered turns root begun n new next made
+  pub delivered_look : (seen new : Trace) (next made : ℕ) → Adds n alone seen (Look None) new → HasDelivered turns root begun n seen next made → HasDelivered turns root begun n new next made
   delivered_look seen new next made a h = let sent = sent_later root seen new (begins_snoc seen a.found new _ a.finds.begins a.listed) in record {
     steps = each_adds n (Delivers turns root begun n) alone seen new (Look None) a h.steps refl;
     sent = λ told. omega (arith, h.sent told, sent.longer);
@@ -92,7 +92,7 @@ module _ (turns : ℕ) (root : GroupIs) (begun : Line) (n : ℕ) (alone : Type 0
   }
 
   -- it delivered the least packet from `next` on, where the disks tell their content
-  module _ (seen new : Line) (next made k : ℕ) (answer : Answer) (h : HasDelivered turns root begun n seen next made) (s : Steps root n alone seen (Deliver k) answer new) (least : IsTrue root.told → least_from next (state_at root s.adds.found) ≡ Some k) where
+  module _ (seen new : Trace) (next made k : ℕ) (answer : Answer) (h : HasDelivered turns root begun n seen next made) (s : Steps root n alone seen (Deliver k) answer new) (least : IsTrue root.told → least_from next (state_at root s.adds.found) ≡ Some k) where
     abbrev what : Moment
     what = Happened (record { event = Deliver k; answer = answer })
 
@@ -144,7 +144,7 @@ module _ (turns : ℕ) (root : GroupIs) (begun : Line) (n : ℕ) (alone : Type 0
     }
 
 -- none was left
-pub looked_none : (root : GroupIs) (n : ℕ) (alone : Type 0) (seen : Line) (next : ℕ) (told : Option (ℕ × Answer)) (new : Line) → ((k : ℕ) (answer : Answer) → told ≡ Some (k, answer) → ⊥) → DeliversLeft root n alone seen next told new → Adds n alone seen (Look None) new
+pub looked_none : (root : GroupIs) (n : ℕ) (alone : Type 0) (seen : Trace) (next : ℕ) (told : Option (ℕ × Answer)) (new : Trace) → ((k : ℕ) (answer : Answer) → told ≡ Some (k, answer) → ⊥) → DeliversLeft root n alone seen next told new → Adds n alone seen (Look None) new
 looked_none root n alone seen next None new not_some looks = looks.adds
 looked_none root n alone seen next (Some (k, answer)) new not_some looks = absurd (not_some k answer refl)
 

@@ -9,21 +9,21 @@ use Rattle.pf_shared.specs.declared.moment.Moment.{Moment}
 use Rattle.pf_shared.specs.declared.moment.Moment.TheVariants.{Happened, Look}
 use Rattle.pf_shared.specs.Moments.{happenings, with_moment}
 use Rattle.pf_shared.specs.Since.{state_at, whole}
-use Rattle.pf_live.specs.Deliveries.{Line}
+use Rattle.pf_live.specs.Deliveries.{Trace}
 
 with-append : (what : Moment) (xs ys : History) → with_moment what (xs ++ ys) ≡ with_moment what xs ++ ys
 with-append (Happened h) xs ys = refl
 with-append (Look read) xs ys = refl
 
-pub happenings-append : (xs ys : Line) → happenings (xs ++ ys) ≡ happenings xs ++ happenings ys
+pub happenings-append : (xs ys : Trace) → happenings (xs ++ ys) ≡ happenings xs ++ happenings ys
 happenings-append [] ys = refl
 happenings-append (x ∷ xs) ys = ap (with_moment x.what) (happenings-append xs ys) ∙ with-append x.what (happenings xs) (happenings ys)
 
-pub begins_snoc : (seen found new : Line) (e : Stamped Moment) → Begins seen found → new ≡ found ++ e ∷ [] → Begins seen new
+pub begins_snoc : (seen found new : Trace) (e : Stamped Moment) → Begins seen found → new ≡ found ++ e ∷ [] → Begins seen new
 begins_snoc seen found new e p is = (p.0 ++ e ∷ [], sym (append_assoc seen p.0 (e ∷ [])) ∙ (ap (λ l. l ++ e ∷ []) p.1 ∙ sym is))
 
-pub whole_more : (root : GroupIs) (seen rest new : Line) → seen ++ rest ≡ new → whole root seen ++ happenings rest ≡ whole root new
+pub whole_more : (root : GroupIs) (seen rest new : Trace) → seen ++ rest ≡ new → whole root seen ++ happenings rest ≡ whole root new
 whole_more root seen rest new is = append_assoc root.history (happenings seen) (happenings rest) ∙ (ap (λ l. root.history ++ l) (sym (happenings-append seen rest)) ∙ ap (whole root) is)
 
-pub state_more : (root : GroupIs) (seen rest new : Line) → seen ++ rest ≡ new → run root.setup (state_at root seen) (happenings rest) ≡ state_at root new
+pub state_more : (root : GroupIs) (seen rest new : Trace) → seen ++ rest ≡ new → run root.setup (state_at root seen) (happenings rest) ≡ state_at root new
 state_more root seen rest new is = sym (run_parts root.setup _ (whole root seen) (happenings rest)) ∙ ap (λ l. replay root.setup l) (whole_more root seen rest new is)

@@ -31,13 +31,13 @@ use Rattle.pf_live.specs.declared.plan.Plan.{Plan}
 use Rattle.pf_live.specs.declared.serving.Served.{Served}
 use Rattle.pf_live.specs.declared.serving.Standing.{Standing}
 use Rattle.pf_live.specs.declared.serving.Standing.TheVariants.{Asked, Placed, Settled}
-use Rattle.pf_live.specs.Deliveries.{Line}
+use Rattle.pf_live.specs.Deliveries.{Trace}
 use Rattle.pf_live.specs.Submissions.{IsNextWrite, is_told, is_write_of, number_with, numbers_of, slot_at, slot_got, slot_with, slots_of}
 use Rattle.pf_live.specs.Submitters.{AllTold, AreWithin, IsCounted, IsFed, IsHanded, IsLast, ServesOn, Stands, Submits, SubmitsAlone, SubmitsNone, standing_after}
 use Rattle.pf_live.specs.Writes.{byte_of, first_requests, op_of, request_of, write_for}
 use Rattle.pf_live.proofs.Submissions.{all_told_later, alone_before, cond_false, cond_true, every_more, every_snoc, numbered, numbers_snoc, others_quiet, slots_snoc, submits_none, told_later}
 
-pub begins_on : (xs ys zs : Line) → Begins xs ys → Begins ys zs → Begins xs zs
+pub begins_on : (xs ys zs : Trace) → Begins xs ys → Begins ys zs → Begins xs zs
 begins_on xs ys zs p q = (p.0 ++ q.0, sym (append_assoc xs p.0 q.0) ∙ (ap (λ l. l ++ q.0) p.1 ∙ q.1))
 
 -- the last members of two lists
@@ -49,11 +49,11 @@ snoc_last (z ∷ []) [] x y is = absurd cc
 snoc_last (z ∷ (w ∷ zs)) [] x y is = absurd cc
 snoc_last (z ∷ zs) (w ∷ ws) x y is = let tails : zs ++ x ∷ [] ≡ ws ++ y ∷ [] = cc in let heads : z ≡ w = cc in let both = snoc_last zs ws x y tails in (let t = both.0 in cc, both.1)
 
-told_on : (root : GroupIs) (h : ℕ) (seen new : Line) → Begins seen new → slots_of root h new ≡ slots_of root h seen → AllTold root seen (slots_of root h seen) → AllTold root new (slots_of root h new)
+told_on : (root : GroupIs) (h : ℕ) (seen new : Trace) → Begins seen new → slots_of root h new ≡ slots_of root h seen → AllTold root seen (slots_of root h seen) → AllTold root new (slots_of root h new)
 told_on root h seen new p same t = subst (AllTold root new) (sym same) (all_told_later root seen new p (slots_of root h seen) t)
 
 -- others added entries
-module _ (root : GroupIs) (h : ℕ) (seen new : Line) (p : Begins seen new) (same : SubmitsNone root h seen new) where
+module _ (root : GroupIs) (h : ℕ) (seen new : Trace) (p : Begins seen new) (same : SubmitsNone root h seen new) where
   within_on : (taken : ℕ) → AreWithin root h seen taken → AreWithin root h new taken
   within_on taken w = subst (Every (λ j. j < taken)) (sym same.numbers) w
 
@@ -63,20 +63,20 @@ module _ (root : GroupIs) (h : ℕ) (seen new : Line) (p : Begins seen new) (sam
   stands_on taken (Placed term slot) s = (ap length same.slots ∙ s.0, s.1, s.2 ∙ sym same.slots, all_told_later root seen new p s.1 s.3, within_on taken s.4)
 
 -- the writes that are submitted are among those that were taken
-pub stands_within : (root : GroupIs) (h : ℕ) (list : Line) (taken : ℕ) (standing : Standing) → Stands root h list taken standing → AreWithin root h list taken
+pub stands_within : (root : GroupIs) (h : ℕ) (list : Trace) (taken : ℕ) (standing : Standing) → Stands root h list taken standing → AreWithin root h list taken
 stands_within root h list taken Settled s = s.2
 stands_within root h list taken (Asked request) s = s.2
 stands_within root h list taken (Placed term slot) s = s.4
 
 -- and all that were taken are submitted, if the last one is that has no slot
-pub all_submitted : (root : GroupIs) (h : ℕ) (list : Line) (taken : ℕ) (standing : Standing) → Stands root h list taken standing → ((request : Request) → standing ≡ Asked request → Contains (numbers_of root h list) (taken - 1)) → (j : ℕ) → j < taken → Contains (numbers_of root h list) j
+pub all_submitted : (root : GroupIs) (h : ℕ) (list : Trace) (taken : ℕ) (standing : Standing) → Stands root h list taken standing → ((request : Request) → standing ≡ Asked request → Contains (numbers_of root h list) (taken - 1)) → (j : ℕ) → j < taken → Contains (numbers_of root h list) j
 all_submitted root h list taken Settled s last j low = numbered root h list j (let count = s.0 in omega (arith, low, count))
 all_submitted root h list taken (Placed term slot) s last j low = numbered root h list j (let count = s.0 in omega (arith, low, count))
 all_submitted root h list taken (Asked request) s last j low = let count = s.0 in dite (ℕ_discrete j (length (slots_of root h list)))
     (λ is. let here : taken - 1 ≡ j = omega (arith, is, count) in subst (Contains (numbers_of root h list)) here (last request refl))
     (λ other. numbered root h list j (omega (arith, low, other, count)))
 
-stands_as : (root : GroupIs) (h : ℕ) (list : Line) (a b : Served) → b.taken ≡ a.taken → b.standing ≡ a.standing → Stands root h list a.taken a.standing → Stands root h list b.taken b.standing
+stands_as : (root : GroupIs) (h : ℕ) (list : Trace) (a b : Served) → b.taken ≡ a.taken → b.standing ≡ a.standing → Stands root h list a.taken a.standing → Stands root h list b.taken b.standing
 stands_as root h list a b t st s = subst (λ x. Stands root h list x b.standing) (sym t) (subst (λ y. Stands root h list a.taken y) (sym st) s)
 
 -- the request that has no slot yet is the host's next one
@@ -134,11 +134,11 @@ module _ (g : Group) (server : ℕ) (op : Op) (request : Request) where
   got (Ok term) (answers.Refused x) t = (refl, refl)
   got (Err down) (answers.Refused x) t = (refl, refl)
 
-module _ (plan : Plan) (root : GroupIs) (n h : ℕ) (a b : Served) (alone : Type 0) (seen new : Line) where
+module _ (plan : Plan) (root : GroupIs) (n h : ℕ) (a b : Served) (alone : Type 0) (seen new : Trace) where
   fed_kept : b.pass ≡ a.pass → b.taken ≡ a.taken → IsFed plan.sectors h b → IsFed plan.sectors h a
   fed_kept p t f = ap taken_by (sym p) ∙ (f ∙ ap (first_requests plan.sectors h) t)
 
-  module _ (f : Finds n alone seen new) (begun : Line) (begins : Begins begun seen) (al : SubmitsAlone n begun new) where
+  module _ (f : Finds n alone seen new) (begun : Trace) (begins : Begins begun seen) (al : SubmitsAlone n begun new) where
     pub none_found : (k : ℕ) → SubmitsNone root k seen new
     none_found k = submits_none root k seen f.begins.0 new f.begins.1 (others_quiet n begun seen new begins f.begins f.own al)
 
@@ -152,7 +152,7 @@ module _ (plan : Plan) (root : GroupIs) (n h : ℕ) (a b : Served) (alone : Type
     others = λ told al fed s k other. none_found f begun begins al k;
   }
 
-  module _ (what : Moment) (adds : Adds n alone seen what new) (begun : Line) (begins : Begins begun seen) where
+  module _ (what : Moment) (adds : Adds n alone seen what new) (begun : Trace) (begins : Begins begun seen) where
     to_found : Begins begun adds.found
     to_found = begins_on begun seen adds.found begins adds.finds.begins
 
@@ -233,7 +233,7 @@ module _ (plan : Plan) (root : GroupIs) (n h : ℕ) (a b : Served) (alone : Type
     op_next : IsFed plan.sectors h b → op ≡ op_of (request_of plan.sectors h m)
     op_next fed = op_is ∙ asks_is plan.sectors h m request (request_is plan h m a request counted (fed_kept p t fed) was one_less)
 
-    next_write : (begun : Line) (begins : Begins begun seen) → SubmitsAlone n begun new → IsFed plan.sectors h b → (IsTrue root.told → Stands root h seen a.taken (Asked request)) → IsNextWrite plan root steps.adds.found (Submit server op)
+    next_write : (begun : Trace) (begins : Begins begun seen) → SubmitsAlone n begun new → IsFed plan.sectors h b → (IsTrue root.told → Stands root h seen a.taken (Asked request)) → IsNextWrite plan root steps.adds.found (Submit server op)
     next_write begun begins al fed s = let same = (none_there what steps.adds begun begins al h).slots in record {
       h = h;
       low = low;
@@ -245,7 +245,7 @@ module _ (plan : Plan) (root : GroupIs) (n h : ℕ) (a b : Served) (alone : Type
       acked = λ told. subst (AllTold root steps.adds.found) (sym same) (all_told_later root seen steps.adds.found steps.adds.finds.begins (slots_of root h seen) (s told).1);
     }
 
-    module _ (begun : Line) (begins : Begins begun seen) (al : SubmitsAlone n begun new) (fed : IsFed plan.sectors h b) (s : Stands root h seen a.taken (Asked request)) where
+    module _ (begun : Trace) (begins : Begins begun seen) (al : SubmitsAlone n begun new) (fed : IsFed plan.sectors h b) (s : Stands root h seen a.taken (Asked request)) where
       writes_as : (k : ℕ) → is_write_of k (Submit server op) ≡ (byte_of h == byte_of k)
       writes_as k = ap (λ o. is_write_of k (Submit server o)) (op_next fed)
 
@@ -320,5 +320,5 @@ pub asks_as : (range : Span) (request : Request) (payload : List (List ℕ)) →
 asks_as range request payload is bytes = ap (Write range) bytes ∙ ap (λ (r : Span). Write r (replicate r.count (replicate 512 request.byte))) is
 
 -- the submission stands in the list
-pub handed_as : (n : ℕ) (alone : Type 0) (seen new : Line) (server : ℕ) (request : Request) (answer : Answer) (op : Op) → op ≡ write_for request → Adds n alone seen (Happened (record { event = Submit server op; answer = answer })) new → IsHanded n alone seen server request (Some answer) new
+pub handed_as : (n : ℕ) (alone : Type 0) (seen new : Trace) (server : ℕ) (request : Request) (answer : Answer) (op : Op) → op ≡ write_for request → Adds n alone seen (Happened (record { event = Submit server op; answer = answer })) new → IsHanded n alone seen server request (Some answer) new
 handed_as n alone seen new server request answer op is adds = subst (λ o. Adds n alone seen (Happened (record { event = Submit server o; answer = answer })) new) is adds

@@ -22,7 +22,7 @@ use Rattle.pf_shared.specs.declared.moment.Moment.TheVariants.{Happened, Look}
 use Rattle.pf_shared.specs.Moments.{entry, happenings}
 use Rattle.pf_shared.specs.Since.{rest_after, state_at}
 use Rattle.pf_shared.proofs.Since.{rest_of_all}
-use Rattle.pf_live.specs.Deliveries.{Line}
+use Rattle.pf_live.specs.Deliveries.{Trace}
 use Rattle.pf_live.specs.Submissions.{gathered, is_told, is_write_of, number_with, numbers_of, slot_at, slot_got, slot_with, slots_of}
 use Rattle.pf_live.specs.Submitters.{AllTold, SubmitsAlone, SubmitsNone, is_submit, submits}
 use Rattle.pf_live.proofs.Happenings.{state_more}
@@ -59,10 +59,10 @@ run_acks : (p : Acked → Bool) (setup : Setup) (history : History) (g : Group) 
 run_acks p setup history g h = let t = there_is p g.acked h in any_is p (run setup g history).acked t.k t.a (acks_stay setup history g t.k t.a t.at) t.is
 
 module _ (root : GroupIs) where
-  pub told_later : (seen new : Line) → Begins seen new → (a : Acked) → is_told (state_at root seen) a ≡ true → is_told (state_at root new) a ≡ true
+  pub told_later : (seen new : Trace) → Begins seen new → (a : Acked) → is_told (state_at root seen) a ≡ true → is_told (state_at root new) a ≡ true
   told_later seen new p a h = subst (λ (g : Group). is_told g a ≡ true) (state_more root seen p.0 new p.1) (run_acks (λ (x : Acked). (x.term == a.term) && (x.slot == a.slot)) root.setup (happenings p.0) (state_at root seen) h)
 
-  pub all_told_later : (seen new : Line) → Begins seen new → (slots : List Acked) → AllTold root seen slots → AllTold root new slots
+  pub all_told_later : (seen new : Trace) → Begins seen new → (slots : List Acked) → AllTold root seen slots → AllTold root new slots
   all_told_later seen new p [] h = tt
   all_told_later seen new p (a ∷ slots) h = (told_later seen new p a h.0, all_told_later seen new p slots h.1)
 
@@ -105,21 +105,21 @@ no_number : (h next : ℕ) (what : Moment) → submits what ≡ false → number
 no_number h next (Happened x) is = cond_false (is_write_of h x.event) (next ∷ []) [] (no_write h x.event is)
 no_number h next (Look read) is = refl
 
-module _ {A : Type 0} (f : Line → Moment → List A) where
-  gathered-append : (before xs ys : Line) → gathered f before (xs ++ ys) ≡ gathered f before xs ++ gathered f (before ++ xs) ys
+module _ {A : Type 0} (f : Trace → Moment → List A) where
+  gathered-append : (before xs ys : Trace) → gathered f before (xs ++ ys) ≡ gathered f before xs ++ gathered f (before ++ xs) ys
   gathered-append before [] ys = ap (λ b. gathered f b ys) (sym (append-nil before))
   gathered-append before (x ∷ xs) ys = ap (λ l. f before x.what ++ l) (gathered-append (before ++ x ∷ []) xs ys ∙ ap (λ b. gathered f (before ++ x ∷ []) xs ++ gathered f b ys) (append_assoc before (x ∷ []) xs))
       ∙ sym (append_assoc (f before x.what) (gathered f (before ++ x ∷ []) xs) (gathered f (before ++ x ∷ xs) ys))
 
-  gathered-snoc : (list : Line) (e : Stamped Moment) → gathered f [] (list ++ e ∷ []) ≡ gathered f [] list ++ f list e.what
+  gathered-snoc : (list : Trace) (e : Stamped Moment) → gathered f [] (list ++ e ∷ []) ≡ gathered f [] list ++ f list e.what
   gathered-snoc list e = gathered-append [] list (e ∷ []) ∙ ap (λ l. gathered f [] list ++ l) (append-nil (f list e.what))
 
-  module _ (none : (before : Line) (what : Moment) → submits what ≡ false → f before what ≡ []) where
-    gathered_none : (before ys : Line) → Every (λ (e : Stamped Moment). submits e.what ≡ false) ys → gathered f before ys ≡ []
+  module _ (none : (before : Trace) (what : Moment) → submits what ≡ false → f before what ≡ []) where
+    gathered_none : (before ys : Trace) → Every (λ (e : Stamped Moment). submits e.what ≡ false) ys → gathered f before ys ≡ []
     gathered_none before [] quiet = refl
     gathered_none before (e ∷ es) quiet = ap (λ l. l ++ gathered f (before ++ e ∷ []) es) (none before e.what quiet.0) ∙ gathered_none (before ++ e ∷ []) es quiet.1
 
-    gathered_quiet : (seen rest new : Line) → seen ++ rest ≡ new → Every (λ (e : Stamped Moment). submits e.what ≡ false) rest → gathered f [] new ≡ gathered f [] seen
+    gathered_quiet : (seen rest new : Trace) → seen ++ rest ≡ new → Every (λ (e : Stamped Moment). submits e.what ≡ false) rest → gathered f [] new ≡ gathered f [] seen
     gathered_quiet seen rest new is quiet = ap (gathered f []) (sym is) ∙ (gathered-append [] seen rest ∙ (ap (λ l. gathered f [] seen ++ l) (gathered_none seen rest quiet) ∙ append-nil (gathered f [] seen)))
 
 few_at : (o : Option Condition) (slot : ℕ) → length (slot_at o slot) ≤ 1
@@ -143,32 +143,32 @@ number_here g h next j (Happened x) rest low then = by (is_write_of h x.event) t
     by false on = on (omega (arith, low))
 
 module _ (root : GroupIs) (h : ℕ) where
-  abbrev slots_by : Line → Moment → List Acked
+  abbrev slots_by : Trace → Moment → List Acked
   slots_by before what = slot_with (state_at root before) h what
 
-  abbrev numbers_by : Line → Moment → List ℕ
+  abbrev numbers_by : Trace → Moment → List ℕ
   numbers_by before what = number_with h (length (slots_of root h before)) what
 
-  pub slots_snoc : (list : Line) (e : Stamped Moment) → slots_of root h (list ++ e ∷ []) ≡ slots_of root h list ++ slot_with (state_at root list) h e.what
+  pub slots_snoc : (list : Trace) (e : Stamped Moment) → slots_of root h (list ++ e ∷ []) ≡ slots_of root h list ++ slot_with (state_at root list) h e.what
   slots_snoc list e = gathered-snoc slots_by list e
 
-  pub numbers_snoc : (list : Line) (e : Stamped Moment) → numbers_of root h (list ++ e ∷ []) ≡ numbers_of root h list ++ number_with h (length (slots_of root h list)) e.what
+  pub numbers_snoc : (list : Trace) (e : Stamped Moment) → numbers_of root h (list ++ e ∷ []) ≡ numbers_of root h list ++ number_with h (length (slots_of root h list)) e.what
   numbers_snoc list e = gathered-snoc numbers_by list e
 
   -- nobody submitted
-  pub submits_none : (seen rest new : Line) → seen ++ rest ≡ new → Every (λ (e : Stamped Moment). submits e.what ≡ false) rest → SubmitsNone root h seen new
+  pub submits_none : (seen rest new : Trace) → seen ++ rest ≡ new → Every (λ (e : Stamped Moment). submits e.what ≡ false) rest → SubmitsNone root h seen new
   submits_none seen rest new is quiet = record {
     slots = gathered_quiet slots_by (λ before what none. no_slot (state_at root before) h what none) seen rest new is quiet;
     numbers = gathered_quiet numbers_by (λ before what none. no_number h (length (slots_of root h before)) what none) seen rest new is quiet;
   }
 
   -- a write that is submitted is so in a longer list
-  pub submitted_later : (seen new : Line) → Begins seen new → (j : ℕ) → Contains (numbers_of root h seen) j → Contains (numbers_of root h new) j
+  pub submitted_later : (seen new : Trace) → Begins seen new → (j : ℕ) → Contains (numbers_of root h seen) j → Contains (numbers_of root h new) j
   submitted_later seen new p j is =
       subst (λ l. Contains l j) (sym (gathered-append numbers_by [] seen p.0) ∙ ap (numbers_of root h) p.1) (Contains-append_left (numbers_of root h seen) (gathered numbers_by seen p.0) j is)
 
   -- each slot came by the submission of its write
-  numbered_after : (before list : Line) (j : ℕ) → length (slots_of root h before) ≤ j → j < length (slots_of root h (before ++ list)) → Contains (gathered numbers_by before list) j
+  numbered_after : (before list : Trace) (j : ℕ) → length (slots_of root h before) ≤ j → j < length (slots_of root h (before ++ list)) → Contains (gathered numbers_by before list) j
   numbered_after before [] j low high = absurd (let same : length (slots_of root h (before ++ [])) ≡ length (slots_of root h before) = ap (λ l. length (slots_of root h l)) (append-nil before) in omega (arith, low, high, same))
   numbered_after before (e ∷ es) j low high =
       number_here (state_at root before) h (length (slots_of root h before)) j e.what (gathered numbers_by (before ++ e ∷ []) es) low
@@ -176,11 +176,11 @@ module _ (root : GroupIs) (h : ℕ) where
       (let count : length (slots_of root h (before ++ e ∷ [])) ≡ length (slots_of root h before) + length (slot_with (state_at root before) h e.what) = ap length (slots_snoc before e) ∙ length-append (slots_of root h before) (slot_with (state_at root before) h e.what) in omega (arith, more, count))
       (subst (λ l. j < length (slots_of root h l)) (sym (append_assoc before (e ∷ []) es)) high))
 
-  pub numbered : (list : Line) (j : ℕ) → j < length (slots_of root h list) → Contains (numbers_of root h list) j
+  pub numbered : (list : Trace) (j : ℕ) → j < length (slots_of root h list) → Contains (numbers_of root h list) j
   numbered list j high = numbered_after [] list j (omega arith) high
 
   -- the last entry submits the next write
-  pub number_last : (list : Line) (n : ℕ) (event : Event) (answer : Answer) → is_write_of h event ≡ true → Contains (numbers_of root h (list ++ entry n (Happened (record { event = event; answer = answer })) ∷ [])) (length (slots_of root h list))
+  pub number_last : (list : Trace) (n : ℕ) (event : Event) (answer : Answer) → is_write_of h event ≡ true → Contains (numbers_of root h (list ++ entry n (Happened (record { event = event; answer = answer })) ∷ [])) (length (slots_of root h list))
   number_last list n event answer is = let next : ℕ = length (slots_of root h list) in
       subst (λ l. Contains l next) (sym (numbers_snoc list (entry n (Happened (record { event = event; answer = answer }))) ∙ ap (λ l. numbers_of root h list ++ l) (cond_true (is_write_of h event) (next ∷ []) [] is))) (Contains-push (numbers_of root h list) next)
 
@@ -198,7 +198,7 @@ every_at n xs all j is = at xs is.0 all is.1 is.2
     at (y ∷ ys) (suc k) all low is = at ys k all.1 (omega (arith, low)) is
 
 -- none of these entries is of the seat
-none_of : (n : ℕ) (ys : Line) → entries_of n ys ≡ [] → Every (λ (e : Stamped Moment). e.seat ≢ n) ys
+none_of : (n : ℕ) (ys : Trace) → entries_of n ys ≡ [] → Every (λ (e : Stamped Moment). e.seat ≢ n) ys
 none_of n [] is = tt
 none_of n (e ∷ es) is = let parts = by (eqb e.seat n) refl is in (parts.0, none_of n es parts.1)
   where
@@ -206,7 +206,7 @@ none_of n (e ∷ es) is = let parts = by (eqb e.seat n) refl is in (parts.0, non
     by true t h = absurd cc
     by false t h = (λ same. absurd (let x = eq-eqb e.seat n same in cc), h)
 
-both : (n : ℕ) (ys : Line) → Every (λ (e : Stamped Moment). e.seat ≢ n) ys → Every (λ (e : Stamped Moment). e.seat ≢ n → submits e.what ≡ false) ys → Every (λ (e : Stamped Moment). submits e.what ≡ false) ys
+both : (n : ℕ) (ys : Trace) → Every (λ (e : Stamped Moment). e.seat ≢ n) ys → Every (λ (e : Stamped Moment). e.seat ≢ n → submits e.what ≡ false) ys → Every (λ (e : Stamped Moment). submits e.what ≡ false) ys
 both n [] h k = tt
 both n (e ∷ es) h k = (k.0 h.0, both n es h.1 k.1)
 
@@ -214,18 +214,18 @@ every_head : {A : Type 0} → (P : A → Type 0) (xs ys : List A) → Every P (x
 every_head P [] ys h = tt
 every_head P (x ∷ xs) ys h = (h.0, every_head P xs ys h.1)
 
-module _ (n : ℕ) (begun : Line) where
+module _ (n : ℕ) (begun : Trace) where
   -- it submitted alone up to an earlier moment too
-  pub alone_before : (seen new : Line) → Begins begun seen → Begins seen new → SubmitsAlone n begun new → SubmitsAlone n begun seen
+  pub alone_before : (seen new : Trace) → Begins begun seen → Begins seen new → SubmitsAlone n begun new → SubmitsAlone n begun seen
   alone_before seen new b p is =
       subst (Every (λ (e : Stamped Moment). e.seat ≢ n → submits e.what ≡ false)) (sym (ap (rest_after begun) (sym b.1) ∙ rest_of_all begun b.0))
       (every_head (λ (e : Stamped Moment). e.seat ≢ n → submits e.what ≡ false) b.0 p.0 (subst (Every (λ (e : Stamped Moment). e.seat ≢ n → submits e.what ≡ false)) (rest_is seen new b p) is))
     where
-      rest_is : (seen new : Line) (b : Begins begun seen) (p : Begins seen new) → rest_after begun new ≡ b.0 ++ p.0
+      rest_is : (seen new : Trace) (b : Begins begun seen) (p : Begins seen new) → rest_after begun new ≡ b.0 ++ p.0
       rest_is seen new b p = ap (rest_after begun) (sym p.1 ∙ (ap (λ l. l ++ p.0) (sym b.1) ∙ append_assoc begun b.0 p.0)) ∙ rest_of_all begun (b.0 ++ p.0)
 
   -- what others added has no submission
-  pub others_quiet : (seen new : Line) → Begins begun seen → (p : Begins seen new) → entries_of n new ≡ entries_of n seen → SubmitsAlone n begun new → Every (λ (e : Stamped Moment). submits e.what ≡ false) p.0
+  pub others_quiet : (seen new : Trace) → Begins begun seen → (p : Begins seen new) → entries_of n new ≡ entries_of n seen → SubmitsAlone n begun new → Every (λ (e : Stamped Moment). submits e.what ≡ false) p.0
   others_quiet seen new b p own is =
       both n p.0 (none_of n p.0 (nothing_more (entries_of n seen) (entries_of n p.0) (sym (entries-append n seen p.0) ∙ (ap (entries_of n) p.1 ∙ own))))
       (every_front (λ (e : Stamped Moment). e.seat ≢ n → submits e.what ≡ false) b.0 p.0 (subst (Every (λ (e : Stamped Moment). e.seat ≢ n → submits e.what ≡ false)) rest_is is))

@@ -16,7 +16,7 @@ use Rattle.pf_shared.specs.Seats.{IsSeatOf, number_of, root_in, seen_by}
 use Rattle.pf_live.specs.declared.plan.Plan.{Plan}
 use Rattle.pf_live.specs.declared.serving.Served.{Served}
 use Rattle.pf_live.specs.declared.submitting.Submitter.{Submitter}
-use Rattle.pf_live.specs.Deliveries.{Line}
+use Rattle.pf_live.specs.Deliveries.{Trace}
 use Rattle.pf_live.specs.Submitters.{AllFed, AllStand, IsFed, IsServedIn, IsSubmitter, Serves, ServesOn, Stands, Submits, SubmitsAlone}
 use Rattle.pf_live.proofs.Submissions.{alone_before}
 use Rattle.pf_live.proofs.Stands.{begins_on, stands_on}
@@ -32,11 +32,11 @@ same_some : {X : Type 0} → (x y : X) → Some x ≡ Some y → x ≡ y
 same_some x y is = cc
 
 -- all that it knows of its own submissions
-pub record Knows (plan : Plan) (root : GroupIs) (n : ℕ) (begun seen : Line) (served : List Served) : Type 0 where
+pub record Knows (plan : Plan) (root : GroupIs) (n : ℕ) (begun seen : Trace) (served : List Served) : Type 0 where
   pub steps : SubmitsAlone n begun seen → AllFed plan served → EachOf n (Submits plan root) seen
   pub stand : IsTrue root.told → SubmitsAlone n begun seen → AllFed plan served → AllStand root seen served
 
-module _ (plan : Plan) (root : GroupIs) (n : ℕ) (begun seen later : Line) (served : List Served) (since : Begins begun seen) (host : ℕ) (old new : Served) (at : slice_get served host ≡ Some old) (on : ServesOn plan root n host old seen new later) where
+module _ (plan : Plan) (root : GroupIs) (n : ℕ) (begun seen later : Trace) (served : List Served) (since : Begins begun seen) (host : ℕ) (old new : Served) (at : slice_get served host ≡ Some old) (on : ServesOn plan root n host old seen new later) where
   s : Serves plan root n begun host old seen new later
   s = on begun since
 

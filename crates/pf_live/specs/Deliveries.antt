@@ -9,8 +9,8 @@ use Rattle.pf_group.specs.Packets.{is_left_in, is_passed_over}
 use Rattle.pf_shared.specs.declared.moment.Moment.{Moment}
 use Rattle.pf_shared.specs.declared.moment.Moment.TheVariants.{Happened, Look}
 
-abbrev pub Line : Type 0
-Line = List (Stamped Moment)
+abbrev pub Trace : Type 0
+Trace = List (Stamped Moment)
 
 abbrev pub is_delivery : Event → Bool
 is_delivery (Deliver k) = true
@@ -25,7 +25,7 @@ abbrev pub passes_over : ℕ → Moment → Bool
 passes_over k (Happened h) = is_delivery_of k h.event && is_passed_over h.answer
 passes_over k (Look read) = false
 
-abbrev pub is_passed : ℕ → Line → Bool
+abbrev pub is_passed : ℕ → Trace → Bool
 is_passed k list = list_any (λ (e : Stamped Moment). passes_over k e.what) list
 
 -- and does not count
@@ -33,15 +33,15 @@ abbrev pub delivers : Moment → Bool
 delivers (Happened h) = is_delivery h.event && not (is_passed_over h.answer)
 delivers (Look read) = false
 
-abbrev pub deliveries : Line → ℕ
+abbrev pub deliveries : Trace → ℕ
 deliveries list = sum_by (λ (e : Stamped Moment). if delivers e.what then 1 else 0) list
 
 -- the least packet that is left in the group and was not passed over in the list
-abbrev pub least_left : Group → Line → Option ℕ
+abbrev pub least_left : Group → Trace → Option ℕ
 least_left g list = find (λ k. is_left_in g k && not (is_passed k list)) (range_with_len 0 (length g.packets))
 
 -- A packet is delivered, after fewer than so many deliveries in the list: the least one left, where the disks tell their content
-pub record IsNextDelivery (told : Bool) (turns : ℕ) (g : Group) (list : Line) (event : Event) : Type 0 where
+pub record IsNextDelivery (told : Bool) (turns : ℕ) (g : Group) (list : Trace) (event : Event) : Type 0 where
   pub k : ℕ
   pub is : event ≡ Deliver k
   pub least : IsTrue told → least_left g list ≡ Some k

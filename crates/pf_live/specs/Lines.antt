@@ -10,7 +10,7 @@ use Rattle.pf_shared.specs.declared.moment.Moment.{Moment}
 use Rattle.pf_shared.specs.declared.moment.Moment.TheVariants.{Happened, Look}
 use Rattle.pf_shared.specs.Since.{state_at}
 use Rattle.pf_live.specs.declared.plan.Plan.{Plan}
-use Rattle.pf_live.specs.Deliveries.{IsNextDelivery, Line}
+use Rattle.pf_live.specs.Deliveries.{IsNextDelivery, Trace}
 use Rattle.pf_live.specs.Roles.{is_applying}
 use Rattle.pf_live.specs.Submissions.{IsNextWrite}
 
@@ -30,21 +30,21 @@ role_of workers zero = Submitting
 role_of workers (suc n) = role_at (n % (workers + 2))
 
 -- the event, after the list
-abbrev pub DoesAs : Role → Plan → GroupIs → Line → Event → Type 0
+abbrev pub DoesAs : Role → Plan → GroupIs → Trace → Event → Type 0
 DoesAs Submitting plan root list event = IsNextWrite plan root list event
 DoesAs Delivering plan root list event = IsNextDelivery root.told plan.turns (state_at root list) list event
 DoesAs Applying plan root list event = is_applying event ≡ true
 
-abbrev pub Does : Plan → GroupIs → (seat : ℕ) → Line → Moment → Type 0
+abbrev pub Does : Plan → GroupIs → (seat : ℕ) → Trace → Moment → Type 0
 Does plan root seat list (Happened h) = DoesAs (role_of plan.workers seat) plan root list h.event
 Does plan root seat list (Look read) = read ≡ None
 
 -- each entry is a step or a look by one of the line's seats
-abbrev pub IsLive : Plan → GroupIs → Line → Type 0
+abbrev pub IsLive : Plan → GroupIs → Trace → Type 0
 IsLive plan root list = AllOfSeats (Does plan root) list
 
 -- what was acknowledged in the line, and what was applied on a server
-abbrev pub acked_in : GroupIs → Line → ℕ
+abbrev pub acked_in : GroupIs → Trace → ℕ
 acked_in root list = length (state_at root list).acked - length (state_of root).acked
 
 abbrev pub applies_done : (server : ℕ) → Event → Answer → Bool
@@ -55,5 +55,5 @@ abbrev pub applies_at : (server : ℕ) → Moment → Bool
 applies_at server (Happened h) = applies_done server h.event h.answer
 applies_at server (Look read) = false
 
-abbrev pub applied_in : (server : ℕ) → Line → ℕ
+abbrev pub applied_in : (server : ℕ) → Trace → ℕ
 applied_in server list = sum_by (λ e. if applies_at server e.what then 1 else 0) list

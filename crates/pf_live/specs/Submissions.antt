@@ -14,7 +14,7 @@ use Rattle.pf_shared.specs.declared.moment.Moment.TheVariants.{Happened, Look}
 use Rattle.pf_shared.specs.Since.{state_at}
 use Rattle.pf_network.specs.Shown.{is_acked}
 use Rattle.pf_live.specs.declared.plan.Plan.{Plan}
-use Rattle.pf_live.specs.Deliveries.{Line}
+use Rattle.pf_live.specs.Deliveries.{Trace}
 use Rattle.pf_live.specs.Writes.{byte_of, op_of, request_of}
 
 -- a write is known by its byte as one of the host's
@@ -36,12 +36,12 @@ slot_with g h (Happened x) = if is_write_of h x.event then slot_got g x.event x.
 slot_with g h (Look read) = []
 
 -- what the entries of a list give, each by what stands before it
-abbrev pub gathered : {A : Type 0} → (Line → Moment → List A) → (before list : Line) → List A
+abbrev pub gathered : {A : Type 0} → (Trace → Moment → List A) → (before list : Trace) → List A
 gathered f before [] = []
 gathered f before (e ∷ es) = f before e.what ++ gathered f (before ++ e ∷ []) es
 
 -- the slots that the writes of host h got, in order
-abbrev pub slots_of : GroupIs → (h : ℕ) → Line → List Acked
+abbrev pub slots_of : GroupIs → (h : ℕ) → Trace → List Acked
 slots_of root h list = gathered (λ before what. slot_with (state_at root before) h what) [] list
 
 -- A submission of a write of host h is of its next one, the one that has as many before it as its writes have got slots
@@ -50,19 +50,19 @@ number_with h next (Happened x) = if is_write_of h x.event then next ∷ [] else
 number_with h next (Look read) = []
 
 -- the numbers of the writes of host h that are submitted, in order, one for each submission
-abbrev pub numbers_of : GroupIs → (h : ℕ) → Line → List ℕ
+abbrev pub numbers_of : GroupIs → (h : ℕ) → Trace → List ℕ
 numbers_of root h list = gathered (λ before what. number_with h (length (slots_of root h before)) what) [] list
 
 abbrev pub is_told : Group → Acked → Bool
 is_told g a = is_acked g a.term a.slot
 
 -- how many writes of the host were acknowledged
-abbrev pub acked_of : GroupIs → (h : ℕ) → Line → ℕ
+abbrev pub acked_of : GroupIs → (h : ℕ) → Trace → ℕ
 acked_of root h list = sum_by (λ a. if is_told (state_at root list) a then 1 else 0) (slots_of root h list)
 
 -- A write of a host is submitted. Where the disks tell their content, it is its next one, and each slot that its writes got was acknowledged. So
 -- one that was refused or halted comes again
-pub record IsNextWrite (plan : Plan) (root : GroupIs) (list : Line) (event : Event) : Type 0 where
+pub record IsNextWrite (plan : Plan) (root : GroupIs) (list : Trace) (event : Event) : Type 0 where
   pub h : ℕ
   pub low : h < plan.hosts
   pub number : ℕ

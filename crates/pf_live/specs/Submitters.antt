@@ -28,7 +28,7 @@ use Rattle.pf_live.specs.declared.serving.Served.{Served}
 use Rattle.pf_live.specs.declared.serving.Standing.{Standing}
 use Rattle.pf_live.specs.declared.serving.Standing.TheVariants.{Asked, Placed, Settled}
 use Rattle.pf_live.specs.declared.submitting.Submitter.{Submitter}
-use Rattle.pf_live.specs.Deliveries.{Line}
+use Rattle.pf_live.specs.Deliveries.{Trace}
 use Rattle.pf_live.specs.Submissions.{IsNextWrite, is_told, numbers_of, slots_of}
 use Rattle.pf_live.specs.Writes.{first_requests, write_for}
 
@@ -41,30 +41,30 @@ submits (Happened h) = is_submit h.event
 submits (Look read) = false
 
 -- since this list began, no other seat has submitted
-abbrev pub SubmitsAlone : (n : ℕ) (begun list : Line) → Type 0
+abbrev pub SubmitsAlone : (n : ℕ) (begun list : Trace) → Type 0
 SubmitsAlone n begun list = Every (λ e. e.seat ≢ n → submits e.what ≡ false) (rest_after begun list)
 
 -- a write of a host is submitted. Looks take no answer
-abbrev pub Submits : Plan → GroupIs → Line → Moment → Type 0
+abbrev pub Submits : Plan → GroupIs → Trace → Moment → Type 0
 Submits plan root before (Happened h) = IsNextWrite plan root before h.event
 Submits plan root before (Look read) = read ≡ None
 
 -- each of these slots is acknowledged
-abbrev pub AllTold : GroupIs → Line → List Acked → Type 0
+abbrev pub AllTold : GroupIs → Trace → List Acked → Type 0
 AllTold root list slots = Every (λ a. is_told (state_at root list) a ≡ true) slots
 
 -- each write of the host that the list submits is one of its first so many
-abbrev pub AreWithin : GroupIs → (h : ℕ) → Line → (taken : ℕ) → Type 0
+abbrev pub AreWithin : GroupIs → (h : ℕ) → Trace → (taken : ℕ) → Type 0
 AreWithin root h list taken = Every (λ j. j < taken) (numbers_of root h list)
 
 -- how the last one stands of so many requests of the host that were taken
-abbrev pub Stands : GroupIs → (h : ℕ) → Line → (taken : ℕ) → Standing → Type 0
+abbrev pub Stands : GroupIs → (h : ℕ) → Trace → (taken : ℕ) → Standing → Type 0
 Stands root h list taken Settled = (length (slots_of root h list) ≡ taken) × AllTold root list (slots_of root h list) × AreWithin root h list taken
 Stands root h list taken (Asked request) = (length (slots_of root h list) + 1 ≡ taken) × AllTold root list (slots_of root h list) × AreWithin root h list taken
 Stands root h list taken (Placed term slot) = (length (slots_of root h list) ≡ taken) × (front : List Acked) × (front ++ record { term = term; slot = slot } ∷ [] ≡ slots_of root h list) × AllTold root list front × AreWithin root h list taken
 
 -- the list went on with no submission of a write of the host
-pub record SubmitsNone (root : GroupIs) (h : ℕ) (seen later : Line) : Type 0 where
+pub record SubmitsNone (root : GroupIs) (h : ℕ) (seen later : Trace) : Type 0 where
   pub slots : slots_of root h later ≡ slots_of root h seen
   pub numbers : numbers_of root h later ≡ numbers_of root h seen
 
@@ -75,7 +75,7 @@ standing_after told answer request = Asked request
 
 -- The request was handed to a server, which gave this answer: the submission is an entry of the seat. Without an answer its range is none that
 -- may be written, and there is no entry
-abbrev pub IsHanded : (n : ℕ) (alone : Type 0) (seen : Line) (server : ℕ) → Request → Option Answer → (new : Line) → Type 0
+abbrev pub IsHanded : (n : ℕ) (alone : Type 0) (seen : Trace) (server : ℕ) → Request → Option Answer → (new : Trace) → Type 0
 IsHanded n alone seen server request (Some answer) new = Adds n alone seen (Happened (record { event = Submit server (write_for request); answer = answer })) new
 IsHanded n alone seen server request None new = (IsWritable request.range.first request.range.count → ⊥) × (new ≡ seen)
 
@@ -105,7 +105,7 @@ pub record IsServedIn (plan : Plan) (rings : List Ring) (h : ℕ) (a : Served) :
 
 -- What became of host h, as the seat went on from what it had seen. Where no other seat submitted, and the requests are the host's first
 -- ones, what was submitted was a write of the host each time: the next one, where the disks tell their content
-pub record Serves (plan : Plan) (root : GroupIs) (n : ℕ) (begun : Line) (h : ℕ) (a : Served) (seen : Line) (b : Served) (later : Line) : Type 0 where
+pub record Serves (plan : Plan) (root : GroupIs) (n : ℕ) (begun : Trace) (h : ℕ) (a : Served) (seen : Trace) (b : Served) (later : Trace) : Type 0 where
   pub begins : Begins seen later
   pub fed : IsFed plan.sectors h b → IsFed plan.sectors h a
   pub steps : SubmitsAlone n begun later → IsFed plan.sectors h b → EachOf n (Submits plan root) seen → (IsTrue root.told → Stands root h seen a.taken a.standing) → EachOf n (Submits plan root) later
@@ -113,13 +113,13 @@ pub record Serves (plan : Plan) (root : GroupIs) (n : ℕ) (begun : Line) (h : �
   pub others : IsTrue root.told → SubmitsAlone n begun later → IsFed plan.sectors h b → Stands root h seen a.taken a.standing → (k : ℕ) → k ≢ h → SubmitsNone root k seen later
 
 -- whatever the list was from which on it submits alone
-abbrev pub ServesOn : Plan → GroupIs → (n h : ℕ) → Served → (seen : Line) → Served → (later : Line) → Type 0
-ServesOn plan root n h a seen b later = (begun : Line) → Begins begun seen → Serves plan root n begun h a seen b later
+abbrev pub ServesOn : Plan → GroupIs → (n h : ℕ) → Served → (seen : Trace) → Served → (later : Trace) → Type 0
+ServesOn plan root n h a seen b later = (begun : Trace) → Begins begun seen → Serves plan root n begun h a seen b later
 
 abbrev pub AllFed : Plan → List Served → Type 0
 AllFed plan served = (h : ℕ) (a : Served) → slice_get served h ≡ Some a → IsFed plan.sectors h a
 
-abbrev pub AllStand : GroupIs → Line → List Served → Type 0
+abbrev pub AllStand : GroupIs → Trace → List Served → Type 0
 AllStand root list served = (h : ℕ) (a : Served) → slice_get served h ≡ Some a → Stands root h list a.taken a.standing
 
 module _ {D : Type 0} {disk : Ghosts D} where

@@ -13,17 +13,17 @@ use Rattle.pf_shared.specs.declared.parts.SharedGroup.{SharedGroup}
 use Rattle.pf_shared.specs.Seats.{IsSameSeat, IsSeatOf, number_of, root_in, seen_by}
 use Rattle.pf_shared.specs.Since.{state_at}
 use Rattle.pf_live.specs.declared.switching.Switch.{Switch}
-use Rattle.pf_live.specs.Deliveries.{IsNextDelivery, Line, deliveries, is_passed}
+use Rattle.pf_live.specs.Deliveries.{IsNextDelivery, Trace, deliveries, is_passed}
 
 -- seat n, which began after this list, delivers packets, the least one left each time where the disks tell their content: of the deliveries it
 -- counts those that stood there and its own. Its looks take no answer
-abbrev pub Delivers : (turns : ℕ) (root : GroupIs) (begun : Line) (n : ℕ) → Line → Moment → Type 0
+abbrev pub Delivers : (turns : ℕ) (root : GroupIs) (begun : Trace) (n : ℕ) → Trace → Moment → Type 0
 Delivers turns root begun n before (Happened h) = IsNextDelivery root.told turns (state_at root before) (begun ++ entries_of n before) h.event
 Delivers turns root begun n before (Look read) = read ≡ None
 
 -- What it has done: it counts so many deliveries, and where the disks tell their content, of the packets below `next` those that are left were
 -- passed over
-pub record HasDelivered (turns : ℕ) (root : GroupIs) (begun : Line) (n : ℕ) (seen : Line) (next made : ℕ) : Type 0 where
+pub record HasDelivered (turns : ℕ) (root : GroupIs) (begun : Trace) (n : ℕ) (seen : Trace) (next made : ℕ) : Type 0 where
   pub steps : EachOf n (Delivers turns root begun n) seen
   pub sent : IsTrue root.told → next ≤ length (state_at root seen).packets
   pub passed : IsTrue root.told → IsPassedUpTo (state_at root seen) (λ k. is_passed k (begun ++ entries_of n seen)) next

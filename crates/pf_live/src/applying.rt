@@ -3,7 +3,7 @@ ghost use Rattle.std.specs.Prelude.{◌≡◌, false, true, IfNone, IfOk, IfSome
 ghost use Rattle.pf_shared.specs.Seats.{IsSameSeat};
 ghost use Rattle.pf_live.specs.Workers.{HasNothing, Holds, IsApplier};
 
-use crate::line::Line;
+use crate::line::LiveLine;
 use pf_base::NoMemory;
 use pf_copy::{Gate, fill};
 use pf_crew::Turned;
@@ -28,7 +28,7 @@ pub struct Applier<D: Disk> {
 
 impl<D: Disk + Drop> Applier<D> {
     /// Claims a job, where one is free.
-    fn claim<R: Wait, G>(&mut self, rt: &R, line: &Line<D, G>) -> Result<Option<Job>, NoMemory>
+    fn claim<R: Wait, G>(&mut self, rt: &R, line: &LiveLine<D, G>) -> Result<Option<Job>, NoMemory>
         requires is { IsApplier line.now.group self.old }
         requires on { self.old.ended ≡ false }
         ensures job { IfOk result (λ job. IfSome job (λ job. Holds line.now.group job self.new)) }
@@ -46,7 +46,7 @@ impl<D: Disk + Drop> Applier<D> {
     }
 
     /// Memory ran out: it ends, and so are all.
-    fn give_up<G>(&mut self, line: &Line<D, G>) -> Turned
+    fn give_up<G>(&mut self, line: &LiveLine<D, G>) -> Turned
         requires { IsApplier line.now.group self.old }
         ensures is { IsApplier line.now.group self.new }
         ensures same { IsSameSeat self.old.seat self.new.seat }
@@ -58,7 +58,7 @@ impl<D: Disk + Drop> Applier<D> {
     }
 
     /// Brings the sectors of a job that it has in hand.
-    fn bring<R: Wait, G: Gate>(&mut self, rt: &R, line: &Line<D, G>, job: Job) -> Turned
+    fn bring<R: Wait, G: Gate>(&mut self, rt: &R, line: &LiveLine<D, G>, job: Job) -> Turned
         requires { Holds line.now.group job self.old }
         ensures is { IsApplier line.now.group self.new }
         ensures same { IsSameSeat self.old.seat self.new.seat }
@@ -80,7 +80,7 @@ impl<D: Disk + Drop> Applier<D> {
     }
 
     /// One turn: a claim, and then the end of its job. It ends where nothing is free and all are to end.
-    pub fn work<R: Wait, G: Gate>(&mut self, rt: &R, line: &Line<D, G>) -> Turned
+    pub fn work<R: Wait, G: Gate>(&mut self, rt: &R, line: &LiveLine<D, G>) -> Turned
         requires { IsApplier line.now.group self.old }
         ensures is { IsApplier line.now.group self.new }
         ensures same { IsSameSeat self.old.seat self.new.seat }
@@ -105,7 +105,7 @@ impl<D: Disk + Drop> Applier<D> {
     }
 
     /// Takes its turns until it has ended.
-    pub fn end<R: Wait, G: Gate>(&mut self, rt: &R, line: &Line<D, G>)
+    pub fn end<R: Wait, G: Gate>(&mut self, rt: &R, line: &LiveLine<D, G>)
         requires { IsApplier line.now.group self.old }
         ensures is { IsApplier line.now.group self.new }
         ensures same { IsSameSeat self.old.seat self.new.seat }

@@ -2,7 +2,7 @@
 ghost use Rattle.std.specs.Prelude.{◌≡◌, ◌+◌, ◌<◌, IsTrue, ◌↔◌, if◌then◌else◌};
 ghost use Rattle.pf_live.specs.Writes.{IsHost, IsHostIn, request_of};
 
-use crate::line::Line;
+use crate::line::LiveLine;
 use crate::plan::Plan;
 use pf_base::Range;
 use pf_copy::Gate;
@@ -64,7 +64,7 @@ impl Host {
 
     /// One turn. It ends where it put all its requests, or where all are to end; it waits while the request that it put last is not
     /// acknowledged, or its ring is full.
-    pub fn work<R: Wait, D: Disk, G: Gate>(&mut self, rt: &R, line: &Line<D, G>) -> Turned
+    pub fn work<R: Wait, D: Disk, G: Gate>(&mut self, rt: &R, line: &LiveLine<D, G>) -> Turned
         requires { IsHostIn line.now.plan line.now.rings.items self.old }
         ensures is { IsHostIn line.now.plan line.now.rings.items self.new }
         ensures host { self.new.host ≡ self.old.host }

@@ -11,7 +11,7 @@ mod switching;
 
 pub use applying::Applier;
 pub use hosting::Host;
-pub use line::Line;
+pub use line::LiveLine;
 pub use plan::Plan;
 pub use serving::{Served, Standing};
 pub use submitting::Submitter;

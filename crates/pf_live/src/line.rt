@@ -9,7 +9,7 @@ use std::sync::atomic::{AtomicBool, AtomicU64, Ordering};
 
 /// What the workers share: the group, the leader that the switch published, the gate that is called round each step, and two signs that
 /// decide nothing but when to look.
-pub struct Line<D: Disk, G> {
+pub struct LiveLine<D: Disk, G> {
     pub group: SharedGroup<D>,
     pub gate: G,
     pub alloc: Global,
@@ -27,7 +27,7 @@ pub struct Line<D: Disk, G> {
     pub stops: AtomicBool,
 }
 
-impl<D: Disk, G> Line<D, G> {
+impl<D: Disk, G> LiveLine<D, G> {
     /// The workers are to begin.
     pub fn begin(&self) {
         self.calm.store(u64::MAX, Ordering::SeqCst);

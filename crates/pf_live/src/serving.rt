@@ -6,10 +6,10 @@ ghost use Rattle.pf_leadercell.specs.Passes.{IsPassOf};
 ghost use Rattle.pf_shared.specs.Calls.{Finds};
 ghost use Rattle.pf_shared.specs.Seats.{IsAlone, IsSameSeat, IsSeatOf, number_of, root_in, seen_by};
 ghost use Rattle.pf_live.specs.declared.serving.Standing.TheVariants.{Asked, Placed, Settled};
-ghost use Rattle.pf_live.specs.Deliveries.{Line as Entries};
+ghost use Rattle.pf_live.specs.Deliveries.{Trace as Entries};
 ghost use Rattle.pf_live.specs.Submitters.{IsCounted, IsHanded, IsServed, IsServedIn, ServesOn, standing_after};
 
-use crate::line::Line;
+use crate::line::LiveLine;
 use crate::plan::Plan;
 use pf_base::{Data, NoMemory, Payload, Range, ServerId, Slot, Term};
 use pf_copy::Gate;
@@ -89,7 +89,7 @@ impl Served {
     }
 
     /// Takes the next request of this host, if it has more and its ring has one. Whether it did.
-    fn take_next<R: Wait, D: Disk, G>(&mut self, rt: &R, line: &Line<D, G>, host: u32) -> bool
+    fn take_next<R: Wait, D: Disk, G>(&mut self, rt: &R, line: &LiveLine<D, G>, host: u32) -> bool
         requires is { IsServedIn line.now.plan line.now.rings.items host self.old }
         requires settled { self.old.standing ≡ Settled }
         ensures is { IsServedIn line.now.plan line.now.rings.items host self.new }
@@ -109,7 +109,7 @@ impl Served {
     fn look<R: Wait, D: Disk + Drop, G>(
         &mut self,
         rt: &R,
-        line: &Line<D, G>,
+        line: &LiveLine<D, G>,
         seat: &mut GroupSeat<D>,
         host: u32,
         term: Term,
@@ -142,7 +142,7 @@ impl Served {
     pub fn hand<R: Wait, D: Disk + Drop, G>(
         &mut self,
         rt: &R,
-        line: &Line<D, G>,
+        line: &LiveLine<D, G>,
         seat: &mut GroupSeat<D>,
         host: u32,
         server: ServerId,
@@ -187,7 +187,7 @@ impl Served {
     fn submit<R: Wait, D: Disk + Drop, G: Gate>(
         &mut self,
         rt: &R,
-        line: &Line<D, G>,
+        line: &LiveLine<D, G>,
         seat: &mut GroupSeat<D>,
         leaders: &mut LeaderPass,
         host: u32,
@@ -222,7 +222,7 @@ impl Served {
     pub(crate) fn serve<R: Wait, D: Disk + Drop, G: Gate>(
         &mut self,
         rt: &R,
-        line: &Line<D, G>,
+        line: &LiveLine<D, G>,
         seat: &mut GroupSeat<D>,
         leaders: &mut LeaderPass,
         host: u32,

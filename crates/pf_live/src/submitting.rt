@@ -2,7 +2,7 @@
 ghost use Rattle.std.specs.Prelude.{◌≡◌, ◌<◌, OnErr, OnOk};
 ghost use Rattle.pf_live.specs.Submitters.{IsSubmitter, IsSameSubmitter};
 
-use crate::line::Line;
+use crate::line::LiveLine;
 use crate::serving::Served;
 use pf_base::NoMemory;
 use pf_copy::Gate;
@@ -32,7 +32,7 @@ pub struct Submitter<D: Disk> {
 
 impl<D: Disk + Drop> Submitter<D> {
     /// It is done, as all are to be.
-    fn end<G>(&mut self, line: &Line<D, G>, wants: bool) -> Turned
+    fn end<G>(&mut self, line: &LiveLine<D, G>, wants: bool) -> Turned
         requires { IsSubmitter line.now.group line.now.cell line.now.plan line.now.rings.items self.old }
         ensures is { IsSubmitter line.now.group line.now.cell line.now.plan line.now.rings.items self.new }
         ensures same { IsSameSubmitter self.old self.new }
@@ -44,7 +44,7 @@ impl<D: Disk + Drop> Submitter<D> {
     }
 
     /// Serves the host whose turn it is. Where memory runs out (`NoMemory`, 1) it may have begun to.
-    fn serve<R: Wait, G: Gate>(&mut self, rt: &R, line: &Line<D, G>) -> Result<Turned, NoMemory>
+    fn serve<R: Wait, G: Gate>(&mut self, rt: &R, line: &LiveLine<D, G>) -> Result<Turned, NoMemory>
         requires is { IsSubmitter line.now.group line.now.cell line.now.plan line.now.rings.items self.old }
         ensures is { IsSubmitter line.now.group line.now.cell line.now.plan line.now.rings.items self.new }
         ensures same { IsSameSubmitter self.old self.new }
@@ -60,7 +60,7 @@ impl<D: Disk + Drop> Submitter<D> {
     }
 
     /// Whether no host can get on unless the group is changed, and no packet is left to change it.
-    fn is_stuck<G>(&self, line: &Line<D, G>) -> bool {
+    fn is_stuck<G>(&self, line: &LiveLine<D, G>) -> bool {
         let moves = line.count();
         line.is_calm(moves)
             && self
@@ -70,7 +70,7 @@ impl<D: Disk + Drop> Submitter<D> {
     }
 
     /// One turn, in which it serves one host. It ends where all are to end, or no host can get on.
-    pub fn work<R: Wait, G: Gate>(&mut self, rt: &R, line: &Line<D, G>) -> Turned
+    pub fn work<R: Wait, G: Gate>(&mut self, rt: &R, line: &LiveLine<D, G>) -> Turned
         requires { IsSubmitter line.now.group line.now.cell line.now.plan line.now.rings.items self.old }
         ensures is { IsSubmitter line.now.group line.now.cell line.now.plan line.now.rings.items self.new }
         ensures same { IsSameSubmitter self.old self.new }

@@ -2,7 +2,7 @@
 ghost use Rattle.std.specs.Prelude.{◌≡◌, ◌<◌, OnErr, OnOk};
 ghost use Rattle.pf_live.specs.Switches.{IsSwitch, IsSameSwitch};
 
-use crate::line::Line;
+use crate::line::LiveLine;
 use pf_base::NoMemory;
 use pf_copy::Gate;
 use pf_crew::Turned;
@@ -39,7 +39,7 @@ pub struct Switch<D: Disk> {
 
 impl<D: Disk + Drop> Switch<D> {
     /// Memory ran out, or it is done: it ends, and so are all.
-    fn end<G>(&mut self, line: &Line<D, G>, wants: bool) -> Turned
+    fn end<G>(&mut self, line: &LiveLine<D, G>, wants: bool) -> Turned
         requires { IsSwitch line.now.group line.now.cell line.now.plan.turns self.old }
         ensures is { IsSwitch line.now.group line.now.cell line.now.plan.turns self.new }
         ensures same { IsSameSwitch self.old self.new }
@@ -51,7 +51,7 @@ impl<D: Disk + Drop> Switch<D> {
     }
 
     /// Publishes the leader, where there is one. Where memory runs out (`NoMemory`, 1) it does not.
-    fn publish<R: Wait, G>(&mut self, rt: &R, line: &Line<D, G>) -> Result<(), NoMemory>
+    fn publish<R: Wait, G>(&mut self, rt: &R, line: &LiveLine<D, G>) -> Result<(), NoMemory>
         requires { IsSwitch line.now.group line.now.cell line.now.plan.turns self.old }
         ensures is { IsSwitch line.now.group line.now.cell line.now.plan.turns self.new }
         ensures same { IsSameSwitch self.old self.new × (self.new.made ≡ self.old.made) }
@@ -64,7 +64,7 @@ impl<D: Disk + Drop> Switch<D> {
     }
 
     /// Whether a packet is left that was not passed over. Where memory runs out (`NoMemory`, 1) it is not known.
-    fn finds<R: Wait, G>(&mut self, rt: &R, line: &Line<D, G>) -> Result<bool, NoMemory>
+    fn finds<R: Wait, G>(&mut self, rt: &R, line: &LiveLine<D, G>) -> Result<bool, NoMemory>
         requires { IsSwitch line.now.group line.now.cell line.now.plan.turns self.old }
         ensures is { IsSwitch line.now.group line.now.cell line.now.plan.turns self.new }
         ensures same { IsSameSwitch self.old self.new × (self.new.made ≡ self.old.made) }
@@ -77,7 +77,7 @@ impl<D: Disk + Drop> Switch<D> {
 
     /// Delivers the least packet that is left and was not passed over, if there still is one. Where memory runs out (`NoMemory`, 1) it
     /// does not.
-    fn deliver<R: Wait, G>(&mut self, rt: &R, line: &Line<D, G>) -> Result<(), NoMemory>
+    fn deliver<R: Wait, G>(&mut self, rt: &R, line: &LiveLine<D, G>) -> Result<(), NoMemory>
         requires is { IsSwitch line.now.group line.now.cell line.now.plan.turns self.old }
         requires few { self.old.made < line.now.plan.turns }
         ensures is { IsSwitch line.now.group line.now.cell line.now.plan.turns self.new }
@@ -101,7 +101,7 @@ impl<D: Disk + Drop> Switch<D> {
 
     /// One step: a delivery between the calls of the gate, and the leader that comes of it. It ends where it made all its deliveries
     /// and a packet is left.
-    fn step<R: Wait, G: Gate>(&mut self, rt: &R, line: &Line<D, G>) -> Result<Turned, NoMemory>
+    fn step<R: Wait, G: Gate>(&mut self, rt: &R, line: &LiveLine<D, G>) -> Result<Turned, NoMemory>
         requires { IsSwitch line.now.group line.now.cell line.now.plan.turns self.old }
         ensures is { IsSwitch line.now.group line.now.cell line.now.plan.turns self.new }
         ensures same { IsSameSwitch self.old self.new }
@@ -132,7 +132,7 @@ impl<D: Disk + Drop> Switch<D> {
     }
 
     /// One turn. It ends where it made all its deliveries and a packet is left, or where all are to end.
-    pub fn work<R: Wait, G: Gate>(&mut self, rt: &R, line: &Line<D, G>) -> Turned
+    pub fn work<R: Wait, G: Gate>(&mut self, rt: &R, line: &LiveLine<D, G>) -> Turned
         requires { IsSwitch line.now.group line.now.cell line.now.plan.turns self.old }
         ensures is { IsSwitch line.now.group line.now.cell line.now.plan.turns self.new }
         ensures same { IsSameSwitch self.old self.new }

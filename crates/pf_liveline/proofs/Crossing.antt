@@ -12,7 +12,7 @@ use Rattle.pf_shared.specs.contracts.behind.Behind as Behind
 use Rattle.pf_shared.specs.contracts.parts.GroupSeat as GroupSeat
 use Rattle.pf_shared.specs.contracts.parts.SharedGroup as SharedGroup
 use Rattle.pf_live.specs.contracts.applying.Applier as Applier
-use Rattle.pf_live.specs.contracts.line.Line as Line
+use Rattle.pf_live.specs.contracts.line.LiveLine as LiveLine
 use Rattle.pf_live.specs.contracts.submitting.Submitter as Submitter
 use Rattle.pf_live.specs.contracts.switching.Switch as Switch
 use Rattle.pf_liveline.specs.contracts.worker.Worker as Worker
@@ -24,7 +24,7 @@ use Rattle.std.proofs.sync.atomic.AtomicBool.TheSendSync as bit
 use Rattle.pf_turn.proofs.parts.TurnSeat.TheSendSync as seat
 use Rattle.pf_turn.proofs.parts.TurnLock.TheSendSync as lock
 use Rattle.pf_turn.proofs.log.Stamped.TheSendSync as stamped
-use Rattle.pf_network.proofs.cluster.Cluster.TheSendSync as cluster
+use Rattle.pf_network.proofs.network.Network.TheSendSync as network
 use Rattle.pf_diskstore.proofs.kept.Kept.TheSendSync as kept
 use Rattle.pf_group.proofs.past.Past.TheSendSync as past
 use Rattle.pf_shared.proofs.moment.Did.TheSendSync as did
@@ -36,7 +36,7 @@ use Rattle.std.proofs.alloc.Global.TheSendSync as heap
 use Rattle.std.proofs.Crossing.{frees}
 
 pub group_send : (D : RattleType) (g : Ghosts D.Denot) → IsSend D → IsSend (Group.the_row D g)
-group_send D g d = view_send _ _ _ _ _ (recorded_send _ _ _ (Inside.the_type D g).to_one (struct_send (shape (Inside.the_type D g)) (search sendable, (search sendable, (search sendable, (search sendable, (search (sendable, vec.the_send, heap.the_send, frees) depth 30, (cluster.the_field_send _ (kept.the_send D d), (past.the_field_send, (search sendable depth 30, tt))))))))))
+group_send D g d = view_send _ _ _ _ _ (recorded_send _ _ _ (Inside.the_type D g).to_one (struct_send (shape (Inside.the_type D g)) (search sendable, (search sendable, (search sendable, (search sendable, (search (sendable, vec.the_send, heap.the_send, frees) depth 30, (network.the_field_send _ (kept.the_send D d), (past.the_field_send, (search sendable depth 30, tt))))))))))
 
 pub start_send : (D : RattleType) (g : Ghosts D.Denot) → IsSend D → IsSend (Start.the_row D g)
 start_send D g d = search sendable depth 30
@@ -65,6 +65,6 @@ worker_send D g d = recorded_send _ _ _ (Worker.the_type D g).to_one (enum_send 
 pub shared_sync : (D : RattleType) (g : Ghosts D.Denot) → IsSend D → IsSync (SharedGroup.the_field D g).row
 shared_sync D g d = let b = behind_send D g d (group_send D g d) (start_send D g d) in struct_sync (shape (SharedGroup.the_type D g)) (lock.the_field_sync Moment.the_row (Start.the_row D g) (Behind.the_row D g) _ b, tt)
 
-pub line_sync : (D G : RattleType) (g : Ghosts D.Denot) → IsSend D → IsSync G → IsSync (Line.the_row D G g)
+pub line_sync : (D G : RattleType) (g : Ghosts D.Denot) → IsSend D → IsSync G → IsSync (LiveLine.the_row D G g)
 line_sync D G g d y = let s = shared_sync D g d in
-    recorded_sync _ _ _ (Line.the_type D G g).to_one (struct_sync (shape (Line.the_type D G g)) (s, (y, (search (sendable, heap.the_field_sync), (cell.the_field_sync, (plan.the_field_sync, (search (sendable, vec.the_sync, ring.the_sync, heap.the_sync, frees) depth 30, (search (sendable, vec.the_sync, word.the_sync, heap.the_sync, frees) depth 30, (search (sendable, word.the_sync), (search (sendable, word.the_sync), (search (sendable, bit.the_sync, word.the_sync), tt)))))))))))
+    recorded_sync _ _ _ (LiveLine.the_type D G g).to_one (struct_sync (shape (LiveLine.the_type D G g)) (s, (y, (search (sendable, heap.the_field_sync), (cell.the_field_sync, (plan.the_field_sync, (search (sendable, vec.the_sync, ring.the_sync, heap.the_sync, frees) depth 30, (search (sendable, vec.the_sync, word.the_sync, heap.the_sync, frees) depth 30, (search (sendable, word.the_sync), (search (sendable, word.the_sync), (search (sendable, bit.the_sync, word.the_sync), tt)))))))))))

@@ -4,11 +4,11 @@ use Rattle.pf_group.specs.GroupIs.{GroupIs}
 use Rattle.pf_base.specs.declared.live_end.LiveEnd.{LiveEnd}
 use Rattle.pf_base.specs.declared.live_end.LiveEnd.TheVariants.{Done, Stalled, TurnsSpent}
 use Rattle.pf_live.specs.declared.plan.Plan.{Plan}
-use Rattle.pf_live.specs.Deliveries.{Line, least_left}
+use Rattle.pf_live.specs.Deliveries.{Trace, least_left}
 use Rattle.pf_live.specs.Ends.{HasEnd, IsOpen, NoneIsLeft}
 use Rattle.pf_live.specs.Submissions.{acked_of}
 
-module _ (plan : Plan) (root : GroupIs) (list : Line) where
+module _ (plan : Plan) (root : GroupIs) (list : Trace) where
   done_open : ((h : ℕ) → h < plan.hosts → acked_of root h list ≡ plan.writes) → (h : ℕ) × IsOpen plan root list h → ⊥
   done_open all one = let is = all one.0 one.1.0 in let low = one.1.1 in omega arith
 

@@ -39,7 +39,7 @@ use Rattle.pf_live.specs.declared.hosting.Host.{Host}
 use Rattle.pf_live.specs.declared.plan.Plan.{Plan}
 use Rattle.pf_live.specs.declared.serving.Served.{Served}
 use Rattle.pf_live.specs.declared.serving.Standing.TheVariants.{Asked}
-use Rattle.pf_live.specs.Deliveries.{Line, deliveries}
+use Rattle.pf_live.specs.Deliveries.{Trace, deliveries}
 use Rattle.pf_live.specs.Ends.{IsRefused}
 use Rattle.pf_live.specs.Lines.{Does, IsLive}
 use Rattle.pf_live.specs.Submissions.{is_write_of, numbers_of, slots_of}
@@ -60,16 +60,16 @@ abbrev pub handed : Request → (server : ℕ) → Answer → Moment
 handed request server answer = Happened (record { event = Submit server (write_for request); answer = answer })
 
 -- it made one entry, or none
-abbrev pub HandsOver : (n : ℕ) → Request → (server : ℕ) → (seen new : Line) → Type 0
+abbrev pub HandsOver : (n : ℕ) → Request → (server : ℕ) → (seen new : Trace) → Type 0
 HandsOver n request server seen new = (new ≡ seen) ⊎ ((answer : Answer) × (new ≡ seen ++ entry n (handed request server answer) ∷ []))
 
-pub hands_over : (n : ℕ) (alone : Type 0) (seen new : Line) (server : ℕ) (request : Request) → alone → (r : Result (Option Answer) NoMemory) → IfOk r (λ told. IsHanded n alone seen server request told new) → OnErr r (Finds n alone seen new) → HandsOver n request server seen new
+pub hands_over : (n : ℕ) (alone : Type 0) (seen new : Trace) (server : ℕ) (request : Request) → alone → (r : Result (Option Answer) NoMemory) → IfOk r (λ told. IsHanded n alone seen server request told new) → OnErr r (Finds n alone seen new) → HandsOver n request server seen new
 hands_over n alone seen new server request is (Ok (Some answer)) adds none = inr (answer, adds.listed ∙ ap (λ l. l ++ entry n (handed request server answer) ∷ []) (adds.finds.exact is))
 hands_over n alone seen new server request is (Ok None) kept none = inl kept.1
 hands_over n alone seen new server request is (Err e) adds none = inl (none.exact is)
 
 -- where it was refused there is the entry
-pub refused_entry : (n : ℕ) (alone : Type 0) (seen new : Line) (server : ℕ) (request : Request) (refusal : Refusal) → alone → IsHanded n alone seen server request (Some (Refused refusal)) new → new ≡ seen ++ entry n (handed request server (Refused refusal)) ∷ []
+pub refused_entry : (n : ℕ) (alone : Type 0) (seen new : Trace) (server : ℕ) (request : Request) (refusal : Refusal) → alone → IsHanded n alone seen server request (Some (Refused refusal)) new → new ≡ seen ++ entry n (handed request server (Refused refusal)) ∷ []
 refused_entry n alone seen new server request refusal is adds = adds.listed ∙ ap (λ l. l ++ entry n (handed request server (Refused refusal)) ∷ []) (adds.finds.exact is)
 
 -- a write of a host may be written, so it is handed over
@@ -80,7 +80,7 @@ writable plan h m request is = subst (λ (r : Request). IsWritable r.range.first
   low = let below = mod_below (h + m) plan.sectors plan.some_sectors in let most = plan.few_sectors in omega (arith, below, most);
 })
 
-entered : (n : ℕ) (alone : Type 0) (seen new : Line) (server : ℕ) (request : Request) → alone → IsWritable request.range.first request.range.count → (told : Option Answer) → IsHanded n alone seen server request told new → (answer : Answer) × (new ≡ seen ++ entry n (handed request server answer) ∷ [])
+entered : (n : ℕ) (alone : Type 0) (seen new : Trace) (server : ℕ) (request : Request) → alone → IsWritable request.range.first request.range.count → (told : Option Answer) → IsHanded n alone seen server request told new → (answer : Answer) × (new ≡ seen ++ entry n (handed request server answer) ∷ [])
 entered n alone seen new server request is writes (Some answer) adds = (answer, adds.listed ∙ ap (λ l. l ++ entry n (handed request server answer) ∷ []) (adds.finds.exact is))
 entered n alone seen new server request is writes None kept = absurd (kept.0 writes)
 
@@ -90,23 +90,23 @@ same_member (w ∷ ws) zero y z x at_y at_x = cc
 same_member (w ∷ ws) (suc i) y z x at_y at_x = same_member ws i y z x at_y at_x
 
 -- none is to be refused where the last request of the host has a slot
-pub none_asked : (plan : Plan) (list : Line) (server : ℕ) (served : List Served) (h : ℕ) (t : Served) → slice_get served h ≡ Some t → ((request : Request) → t.standing ≡ Asked request → ⊥) → IsRefusedBy plan list server served h
+pub none_asked : (plan : Plan) (list : Trace) (server : ℕ) (served : List Served) (h : ℕ) (t : Served) → slice_get served h ≡ Some t → ((request : Request) → t.standing ≡ Asked request → ⊥) → IsRefusedBy plan list server served h
 none_asked plan list server served h t there none s request found asked = let same : s ≡ t = cc in absurd (none request (ap (λ x. x.standing) (sym same) ∙ asked))
 
 -- the entries of one seat, of those of all
-pub each_of_all : (P : ℕ → Line → Moment → Type 0) (n : ℕ) (b list : Line) → AllAfter P b list → EachAfter n (P n) b list
+pub each_of_all : (P : ℕ → Trace → Moment → Type 0) (n : ℕ) (b list : Trace) → AllAfter P b list → EachAfter n (P n) b list
 each_of_all P n b [] all = tt
 each_of_all P n b (e ∷ es) all = (λ is. subst (λ m. P m b e.what) is all.0, each_of_all P n (b ++ e ∷ []) es all.1)
 
 -- what the first seat does in a line's list
-pub each_submits : (plan : Plan) (root : GroupIs) (list : Line) → IsLive plan root list → EachOf 0 (Submits plan root) list
+pub each_submits : (plan : Plan) (root : GroupIs) (list : Trace) → IsLive plan root list → EachOf 0 (Submits plan root) list
 each_submits plan root list live = each_map_does [] list (each_of_all (Does plan root) 0 [] list live)
   where
-    one : (b : Line) (what : Moment) → Does plan root 0 b what → Submits plan root b what
+    one : (b : Trace) (what : Moment) → Does plan root 0 b what → Submits plan root b what
     one b (Happened h) does = does
     one b (Look read) does = does
 
-    each_map_does : (b xs : Line) → EachAfter 0 (Does plan root 0) b xs → EachAfter 0 (Submits plan root) b xs
+    each_map_does : (b xs : Trace) → EachAfter 0 (Does plan root 0) b xs → EachAfter 0 (Submits plan root) b xs
     each_map_does b [] each = tt
     each_map_does b (e ∷ es) each = (λ is. one b e.what (each.0 is), each_map_does (b ++ e ∷ []) es each.1)
 
@@ -135,13 +135,13 @@ pub fed_same : (plan : Plan) (h : ℕ) (s t : Served) → t.pass ≡ s.pass → 
 fed_same plan h s t pass old new fed = ap taken_by pass ∙ (fed ∙ ap (first_requests plan.sectors h) (sym (taken_same plan s t pass old new)))
 
 -- no other seat submitted
-alone_none : (n : ℕ) (seen new : Line) → new ≡ seen → SubmitsAlone n seen new
+alone_none : (n : ℕ) (seen new : Trace) → new ≡ seen → SubmitsAlone n seen new
 alone_none n seen new is = subst (SubmitsAlone n seen) (append-nil seen ∙ sym is) (subst (Every (λ (e : Stamped Moment). e.seat ≢ n → submits e.what ≡ false)) (sym (rest_of_all seen [])) tt)
 
-alone_one : (n : ℕ) (seen new : Line) (what : Moment) → new ≡ seen ++ entry n what ∷ [] → SubmitsAlone n seen new
+alone_one : (n : ℕ) (seen new : Trace) (what : Moment) → new ≡ seen ++ entry n what ∷ [] → SubmitsAlone n seen new
 alone_one n seen new what is = subst (SubmitsAlone n seen) (sym is) (subst (Every (λ (e : Stamped Moment). e.seat ≢ n → submits e.what ≡ false)) (sym (rest_of_all seen (entry n what ∷ []))) (λ other. absurd (other refl), tt))
 
-pub alone_handed : (n : ℕ) (request : Request) (server : ℕ) (seen new : Line) → HandsOver n request server seen new → SubmitsAlone n seen new
+pub alone_handed : (n : ℕ) (request : Request) (server : ℕ) (seen new : Trace) → HandsOver n request server seen new → SubmitsAlone n seen new
 alone_handed n request server seen new (inl is) = alone_none n seen new is
 alone_handed n request server seen new (inr one) = alone_one n seen new (handed request server one.0) one.1
 
@@ -303,18 +303,18 @@ leader_low g None is = tt
 leader_low g (Some (term, i)) is = is.0.low
 
 -- its term was published
-pub published_some : (root : GroupIs) (list : Line) (term i : ℕ) (first : LeaderPass) → (IsTrue root.told → IsLeader (state_at root list) (Some (term, i))) → term ≤ (last_of (cells.seen_by first)).0 → IsPublished root list first
+pub published_some : (root : GroupIs) (list : Trace) (term i : ℕ) (first : LeaderPass) → (IsTrue root.told → IsLeader (state_at root list) (Some (term, i))) → term ≤ (last_of (cells.seen_by first)).0 → IsPublished root list first
 published_some root list term i first is reached told other j leads = let most = (is told).1 j other leads.0 in omega (arith, most, reached)
 
 -- none serves
-pub published_none : (root : GroupIs) (list : Line) (first : LeaderPass) → (IsTrue root.told → IsLeader (state_at root list) None) → IsPublished root list first
+pub published_none : (root : GroupIs) (list : Trace) (first : LeaderPass) → (IsTrue root.told → IsLeader (state_at root list) None) → IsPublished root list first
 published_none root list first none told other j leads = absurd (none told j other leads.0)
 
-pub published_on : (root : GroupIs) (old new : Line) (before after : LeaderPass) → IsUnchanged root old new → after ≡ before → IsPublished root old before → IsPublished root new after
+pub published_on : (root : GroupIs) (old new : Trace) (before after : LeaderPass) → IsUnchanged root old new → after ≡ before → IsPublished root old before → IsPublished root new after
 published_on root old new before after un same was told term i leads = subst (λ p. term ≤ (last_of (cells.seen_by p)).0) (sym same) (was told term i (subst (λ g. IsLeader g (Some (term, i))) un.state leads))
 
 -- the requests that a server refused which leads now were refused by the leader
-pub refused_leads : (plan : Plan) (root : GroupIs) (list new : Line) (served : List Served) (leader : Option (ℕ × ℕ)) (server : ℕ) → IsUnchanged root list new → (IsTrue root.told → IsLeader (state_at root new) leader) → (term : ℕ) × (leader ≡ Some (term, server)) → ((h : ℕ) → h < plan.hosts → IsRefusedBy plan list server served h) → AreRefused plan root new served
+pub refused_leads : (plan : Plan) (root : GroupIs) (list new : Trace) (served : List Served) (leader : Option (ℕ × ℕ)) (server : ℕ) → IsUnchanged root list new → (IsTrue root.told → IsLeader (state_at root new) leader) → (term : ℕ) × (leader ≡ Some (term, server)) → ((h : ℕ) → h < plan.hosts → IsRefusedBy plan list server served h) → AreRefused plan root new served
 refused_leads plan root list new served leader server un is leads refused told h s request low there asked = record {
   server = server;
   term = leads.0;

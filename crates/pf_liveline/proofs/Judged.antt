@@ -22,7 +22,7 @@ use Rattle.pf_live.specs.declared.hosting.Host.{Host}
 use Rattle.pf_live.specs.declared.plan.Plan.{Plan}
 use Rattle.pf_live.specs.declared.serving.Served.{Served}
 use Rattle.pf_live.specs.declared.serving.Standing.TheVariants.{Asked, Placed, Settled}
-use Rattle.pf_live.specs.Deliveries.{Line, deliveries, delivers, is_passed, least_left}
+use Rattle.pf_live.specs.Deliveries.{Trace, deliveries, delivers, is_passed, least_left}
 use Rattle.pf_live.specs.Ends.{HasEnd, IsOpen, IsRefused, NoneIsLeft, WaitsInVain, WasRefused}
 use Rattle.pf_live.specs.Submissions.{acked_of, is_told, slots_of}
 use Rattle.pf_rings.specs.Passes.{taken_by}
@@ -66,7 +66,7 @@ pub not_below : (i n : ℕ) → i < n → false ≡ nat_lt i n → ⊥
 not_below i n low is = true≢false (sym (lt-ltb i n low) ∙ sym is)
 
 -- how many writes of a host are acknowledged
-module _ (plan : Plan) (root : GroupIs) (h : ℕ) (list : Line) (taken : ℕ) (few : taken ≤ plan.writes) where
+module _ (plan : Plan) (root : GroupIs) (h : ℕ) (list : Trace) (taken : ℕ) (few : taken ≤ plan.writes) where
   all_acked : AllTold root list (slots_of root h list) → acked_of root h list ≡ length (slots_of root h list)
   all_acked all = sum_told (is_told (state_at root list)) (slots_of root h list) all
 
@@ -104,7 +104,7 @@ module _ (plan : Plan) (root : GroupIs) (h : ℕ) (list : Line) (taken : ℕ) (f
   }
 
 -- nothing was delivered since
-pub refused_later : (plan : Plan) (old new : Line) → Begins old new → deliveries new ≡ deliveries old → (h j server : ℕ) → IsRefused plan old h j server → IsRefused plan new h j server
+pub refused_later : (plan : Plan) (old new : Trace) → Begins old new → deliveries new ≡ deliveries old → (h j server : ℕ) → IsRefused plan old h j server → IsRefused plan new h j server
 refused_later plan old new begins count h j server r = record {
   before = r.before;
   seat = r.seat;
@@ -119,7 +119,7 @@ refused_later plan old new begins count h j server r = record {
     refused_at = entry r.seat (Happened (record { event = Submit server (op_of (request_of plan.sectors h j)); answer = Refused r.refusal }))
 
 -- what was found is so after looks
-module _ (plan : Plan) (root : GroupIs) (old new : Line) (un : IsUnchanged root old new) where
+module _ (plan : Plan) (root : GroupIs) (old new : Trace) (un : IsUnchanged root old new) where
   pub acked_same : (h : ℕ) → acked_of root h new ≡ acked_of root h old
   acked_same h = ap (λ g. sum_by (λ a. weigh (is_told g a)) (slots_of root h new)) un.state ∙ ap (sum_by (λ a. weigh (is_told (state_at root old) a))) (un.none h).slots
 
@@ -136,14 +136,14 @@ module _ (plan : Plan) (root : GroupIs) (old new : Line) (un : IsUnchanged root 
   vain_on h (inr (inr refused)) = inr (inr (subst (WasRefused plan root new h) (sym (acked_same h)) (refused_on h (acked_of root h old) refused)))
 
 -- of the hosts below this one: each that has a write left waits in vain
-pub record SoFar (plan : Plan) (root : GroupIs) (list : Line) (leader : Option (ℕ × ℕ)) (waits : Bool) (end : ℕ) : Type 0 where
+pub record SoFar (plan : Plan) (root : GroupIs) (list : Trace) (leader : Option (ℕ × ℕ)) (waits : Bool) (end : ℕ) : Type 0 where
   pub none : NoneIsLeft root list
   pub leads : IsLeader (state_at root list) leader
   pub vain : (h : ℕ) → h < end → IsOpen plan root list h → WaitsInVain plan root list h
   pub found : waits ≡ true → (h : ℕ) × IsOpen plan root list h
   pub all : waits ≡ false → (h : ℕ) → h < end → acked_of root h list ≡ plan.writes
 
-pub so_far_on : (plan : Plan) (root : GroupIs) (old new : Line) (leader : Option (ℕ × ℕ)) (waits : Bool) (end : ℕ) → IsUnchanged root old new → SoFar plan root old leader waits end → SoFar plan root new leader waits end
+pub so_far_on : (plan : Plan) (root : GroupIs) (old new : Trace) (leader : Option (ℕ × ℕ)) (waits : Bool) (end : ℕ) → IsUnchanged root old new → SoFar plan root old leader waits end → SoFar plan root new leader waits end
 so_far_on plan root old new leader waits end un was = record {
   none = least_same plan root old new un ∙ was.none;
   leads = subst (λ g. IsLeader g leader) (sym un.state) was.leads;
@@ -157,7 +157,7 @@ none_there None e = refl
 none_there (Some k) e = absurd cc
 
 -- a packet is left
-module _ (plan : Plan) (root : GroupIs) (list : Line) where
+module _ (plan : Plan) (root : GroupIs) (list : Trace) where
   pub goes_on_left : (left : Option ℕ) → is_some left ≡ true → least_left (state_at root list) list ≡ left → deliveries list < plan.turns → MayGoOn plan root list
   goes_on_left None some is few = absurd cc
   goes_on_left (Some k) some is few = inl (k, is, few)
@@ -174,7 +174,7 @@ leads_one : (g : Rattle.pf_protocol.specs.Groups.Group) (leader : Option (ℕ ×
 leads_one g None e is = absurd cc
 leads_one g (Some one) e is = (one, is)
 
-module _ (plan : Plan) (root : GroupIs) (list : Line) (leader : Option (ℕ × ℕ)) (waits : Bool) (h : ℕ) (told : ℕ × Bool) (low : h < plan.hosts) (count : HasCount plan root list h told) (was : SoFar plan root list leader waits h) where
+module _ (plan : Plan) (root : GroupIs) (list : Trace) (leader : Option (ℕ × ℕ)) (waits : Bool) (h : ℕ) (told : ℕ × Bool) (low : h < plan.hosts) (count : HasCount plan root list h told) (was : SoFar plan root list leader waits h) where
   -- all writes of one more host are acknowledged
   pub so_far_acked : (told.0 < plan.writes → ⊥) → SoFar plan root list leader waits (h + 1)
   so_far_acked full = let is : acked_of root h list ≡ plan.writes = omega (arith, full, count.within, count.acked) in record {
@@ -208,7 +208,7 @@ module _ (plan : Plan) (root : GroupIs) (list : Line) (leader : Option (ℕ × �
   pub goes_on : told.0 < plan.writes → is_some leader ≡ true → told.1 ≡ false → MayGoOn plan root list
   goes_on less serving free = let l = leads_one (state_at root list) leader serving was.leads in inr (was.none, h, open_now less, count.acked ∙ count.settled free, l.0, l.1)
 
-module _ (plan : Plan) (root : GroupIs) (list : Line) (leader : Option (ℕ × ℕ)) where
+module _ (plan : Plan) (root : GroupIs) (list : Trace) (leader : Option (ℕ × ℕ)) where
   pub ends_stalled : SoFar plan root list leader true plan.hosts → HasEnd plan root list Stalled
   ends_stalled s = (s.none, s.found refl, λ h unacked. s.vain h unacked.0 unacked)
 
@@ -216,5 +216,5 @@ module _ (plan : Plan) (root : GroupIs) (list : Line) (leader : Option (ℕ × �
   ends_done s = (s.all refl, s.none)
 
 -- that the leader refused requests is so after looks
-pub are_refused_on : (plan : Plan) (root : GroupIs) (old new : Line) (served : List Served) → IsUnchanged root old new → AreRefused plan root old served → AreRefused plan root new served
+pub are_refused_on : (plan : Plan) (root : GroupIs) (old new : Trace) (served : List Served) → IsUnchanged root old new → AreRefused plan root old served → AreRefused plan root new served
 are_refused_on plan root old new served un are told h s request low there is = refused_on plan root old new un h (s.taken - 1) (are told h s request low there is)

@@ -21,7 +21,7 @@ use Rattle.pf_liveline.specs.declared.worker.Worker.TheVariants as any
 use Rattle.pf_live.specs.declared.plan.Plan.{Plan}
 use Rattle.pf_live.specs.declared.submitting.Submitter.{Submitter}
 use Rattle.pf_live.specs.declared.switching.Switch.{Switch}
-use Rattle.pf_live.specs.Deliveries.{Line}
+use Rattle.pf_live.specs.Deliveries.{Trace}
 use Rattle.pf_live.specs.Roles.{Applies, EndsWith, nothing_free}
 use Rattle.pf_leadercell.specs.Passes as cells
 use Rattle.pf_leadercell.specs.Passes.{IsPassOf}
@@ -39,7 +39,7 @@ use Rattle.pf_liveline.specs.Runs.{IsSince}
 use Rattle.pf_liveline.proofs.Entries.{each_map, each_own, each_within}
 use Rattle.pf_liveline.proofs.Mustered.{hosts_count, hosts_snoc}
 
-module _ (plan : Plan) (root : GroupIs) (begun : Line) (k : ℕ) (submitted : Line) where
+module _ (plan : Plan) (root : GroupIs) (begun : Trace) (k : ℕ) (submitted : Trace) where
   -- all entries stood there as the run began
   pub stood : (n : ℕ) → EachOf n (IsSince plan root begun k submitted n) begun
   stood n = each_map n (λ b e. length b < length begun) (IsSince plan root begun k submitted n) (λ b e low. inl low) [] begun (each_within n (length begun) [] begun (omega arith))
@@ -47,10 +47,10 @@ module _ (plan : Plan) (root : GroupIs) (begun : Line) (k : ℕ) (submitted : Li
   pub knows_submitter : (n : ℕ) → n ≡ k + 1 → EachOf n (IsSince plan root begun k submitted n) submitted
   knows_submitter n is = each_map n (λ b e. Begins (b ++ entry n e ∷ []) submitted) (IsSince plan root begun k submitted n) (λ b e p. inr (inl (is, p))) [] submitted (each_own n submitted [] submitted refl)
 
-  pub knows_switch : (n : ℕ) (list : Line) → n ≡ k + 2 → EachOf n (Delivers plan.turns root begun n) list → EachOf n (IsSince plan root begun k submitted n) list
+  pub knows_switch : (n : ℕ) (list : Trace) → n ≡ k + 2 → EachOf n (Delivers plan.turns root begun n) list → EachOf n (IsSince plan root begun k submitted n) list
   knows_switch n list is h = each_map n (Delivers plan.turns root begun n) (IsSince plan root begun k submitted n) (λ b e p. inr (inr (inl (is, p)))) [] list h
 
-  pub knows_applier : (n : ℕ) (list : Line) → k + 2 < n → n ≤ k + plan.workers + 2 → EachOf n Applies list → EachOf n (IsSince plan root begun k submitted n) list
+  pub knows_applier : (n : ℕ) (list : Trace) → k + 2 < n → n ≤ k + plan.workers + 2 → EachOf n Applies list → EachOf n (IsSince plan root begun k submitted n) list
   knows_applier n list low high h = each_map n Applies (IsSince plan root begun k submitted n) (λ b e p. inr (inr (inr (low, high, p)))) [] list h
 
 -- the first seat took in no seat of the run yet

@@ -25,7 +25,7 @@ use Rattle.pf_shared.specs.Moments.{entry}
 use Rattle.pf_shared.specs.Seats.{IsAlone, IsSameSeat, IsSeatOf, number_of, root_in, seen_by}
 use Rattle.pf_shared.specs.Since.{state_at}
 use Rattle.pf_live.specs.declared.plan.Plan.{Plan}
-use Rattle.pf_live.specs.Deliveries.{Line, deliveries, delivers, is_passed, least_left, passes_over}
+use Rattle.pf_live.specs.Deliveries.{Trace, deliveries, delivers, is_passed, least_left, passes_over}
 use Rattle.pf_live.specs.Lines.{Does, IsLive}
 use Rattle.pf_live.specs.Roles.{EndsWith, nothing_free}
 use Rattle.pf_live.specs.Submitters.{AllStand, SubmitsNone}
@@ -53,14 +53,14 @@ apart n m other = by (eqb n m) refl
     by false e = e
 
 -- an entry of seat n
-module _ (n : ℕ) (list : Line) (what : Moment) where
-  abbrev more : Line
+module _ (n : ℕ) (list : Trace) (what : Moment) where
+  abbrev more : Trace
   more = list ++ entry n what ∷ []
 
   pub others_same : (m : ℕ) → n ≢ m → entries_of m more ≡ entries_of m list
   others_same m other = entries-append m list (entry n what ∷ []) ∙ (ap (λ b. entries_of m list ++ cond b (entry n what ∷ []) []) (apart n m other) ∙ append-nil (entries_of m list))
 
-  pub live_more : (P : ℕ → Line → Moment → Type 0) → AllOfSeats P list → P n list what → AllOfSeats P more
+  pub live_more : (P : ℕ → Trace → Moment → Type 0) → AllOfSeats P list → P n list what → AllOfSeats P more
   live_more P all here = all_join P [] list (entry n what ∷ []) all (here, tt)
 
   -- that delivers nothing
@@ -81,8 +81,8 @@ module _ (n : ℕ) (list : Line) (what : Moment) where
         }
 
 -- a look
-module _ (root : GroupIs) (n : ℕ) (list : Line) where
-  abbrev looked : Line
+module _ (root : GroupIs) (n : ℕ) (list : Trace) where
+  abbrev looked : Trace
   looked = list ++ entry n (Look None) ∷ []
 
   state_same : state_at root looked ≡ state_at root list
@@ -100,10 +100,10 @@ module _ (root : GroupIs) (n : ℕ) (list : Line) where
     none = none_more;
   }
 
-pub unchanged_refl : (root : GroupIs) (list : Line) → IsUnchanged root list list
+pub unchanged_refl : (root : GroupIs) (list : Trace) → IsUnchanged root list list
 unchanged_refl root list = record { begins = begins_refl list; state = refl; passed = λ k. refl; count = refl; none = λ h. record { slots = refl; numbers = refl } }
 
-pub unchanged_trans : (root : GroupIs) (a b c : Line) → IsUnchanged root a b → IsUnchanged root b c → IsUnchanged root a c
+pub unchanged_trans : (root : GroupIs) (a b c : Trace) → IsUnchanged root a b → IsUnchanged root b c → IsUnchanged root a c
 unchanged_trans root a b c p q = record {
   begins = begins_trans a b c p.begins q.begins;
   state = q.state ∙ p.state;
@@ -113,7 +113,7 @@ unchanged_trans root a b c p q = record {
 }
 
 -- where it alone is, the look stands at the end of what it had seen
-pub alone_look : (root : GroupIs) (n : ℕ) (alone : Type 0) (seen new : Line) (P : Group → Type 0) → alone → Looks root n alone seen P new → (new ≡ seen ++ entry n (Look None) ∷ []) × (IsTrue root.told → P (state_at root new))
+pub alone_look : (root : GroupIs) (n : ℕ) (alone : Type 0) (seen new : Trace) (P : Group → Type 0) → alone → Looks root n alone seen P new → (new ≡ seen ++ entry n (Look None) ∷ []) × (IsTrue root.told → P (state_at root new))
 alone_look root n alone seen new P is look =
     let there : look.adds.found ≡ seen = look.adds.finds.exact is in
     let listed : new ≡ seen ++ entry n (Look None) ∷ [] = look.adds.listed ∙ ap (λ l. l ++ entry n (Look None) ∷ []) there in

@@ -23,7 +23,7 @@ use Rattle.pf_live.specs.declared.submitting.Submitter.{Submitter}
 use Rattle.pf_live.specs.declared.switching.Switch.{Switch}
 use Rattle.pf_liveline.specs.declared.worker.Worker.{Worker}
 use Rattle.pf_liveline.specs.declared.worker.Worker.TheVariants as any
-use Rattle.pf_live.specs.Deliveries.{Line, deliveries, is_passed}
+use Rattle.pf_live.specs.Deliveries.{Trace, deliveries, is_passed}
 use Rattle.pf_live.specs.Roles.{Applies}
 use Rattle.pf_live.specs.Submitters.{AllStand, IsServedIn, IsSubmitter, Submits}
 use Rattle.pf_live.specs.Switches.{Delivers, HasDelivered, IsSwitch}
@@ -56,7 +56,7 @@ hosts_snoc plan rings end h [] a are number is = (number ∙ sym are, is, ap (λ
 hosts_snoc plan rings end h (b ∷ bs) a are number is = (are.0, are.1, hosts_snoc plan rings end (h + 1) bs a are.2 number is)
 
 -- a new seat has made no entry
-pub has_begun : (turns : ℕ) (root : GroupIs) (list : Line) (n next made : ℕ) → entries_of n list ≡ [] → HasMade turns root list next made → HasDelivered turns root list n list next made
+pub has_begun : (turns : ℕ) (root : GroupIs) (list : Trace) (n next made : ℕ) → entries_of n list ≡ [] → HasMade turns root list next made → HasDelivered turns root list n list next made
 has_begun turns root list n next made fresh h = let same : list ≡ list ++ entries_of n list = sym (append-nil list) ∙ ap (λ l. list ++ l) (sym fresh) in record {
   steps = each_none n (Delivers turns root list n) [] list fresh;
   sent = h.sent;

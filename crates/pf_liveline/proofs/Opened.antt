@@ -81,11 +81,11 @@ new_at (t ∷ ts) all zero s there = let same : t ≡ s = cc in subst IsNew same
 new_at (t ∷ ts) all (suc h) s there = new_at ts all.1 h s there
 
 -- nothing was taken and nothing stands
-pub new_stand : (root : GroupIs) (list : Rattle.pf_live.specs.Deliveries.Line) (ss : List Served) → list ≡ [] → Every IsNew ss → AllStand root list ss
+pub new_stand : (root : GroupIs) (list : Rattle.pf_live.specs.Deliveries.Trace) (ss : List Served) → list ≡ [] → Every IsNew ss → AllStand root list ss
 new_stand root list ss none all h s there = let new = new_at ss all h s there in
     subst (λ l. Stands root h l s.taken s.standing) (sym none) (subst (λ y. Stands root h [] s.taken y) (sym new.1) (sym new.0, tt, tt))
 
-pub new_made : (turns : ℕ) (root : GroupIs) (list : Rattle.pf_live.specs.Deliveries.Line) → list ≡ [] → HasMade turns root list 0 0
+pub new_made : (turns : ℕ) (root : GroupIs) (list : Rattle.pf_live.specs.Deliveries.Trace) → list ≡ [] → HasMade turns root list 0 0
 new_made turns root list none = subst (λ l. HasMade turns root l 0 0) (sym none) record {
   sent = λ told. omega arith;
   passed = λ told. record { below = λ k is. absurd cc; all = λ k low left. absurd (omega arith) };

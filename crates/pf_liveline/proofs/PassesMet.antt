@@ -9,7 +9,7 @@ use Rattle.pf_live.specs.declared.hosting.Host.{Host}
 use Rattle.pf_live.specs.declared.plan.Plan.{Plan}
 use Rattle.pf_live.specs.declared.serving.Served.{Served}
 use Rattle.pf_group.specs.GroupIs.{GroupIs}
-use Rattle.pf_live.specs.Deliveries.{Line}
+use Rattle.pf_live.specs.Deliveries.{Trace}
 use Rattle.pf_live.specs.Submitters.{AllFed, AllStand, IsFed, Stands}
 use Rattle.pf_live.specs.Writes.{first_requests, request_of}
 use Rattle.pf_liveline.specs.Meeting.{AreMet, IsMet, IsSameServed}
@@ -79,10 +79,10 @@ fed_again plan rings end hs ss ts are same h s there = subst (λ m. IsFed plan.s
     (fed_before plan 0 ss ts same (λ j t at. subst (λ m. IsFed plan.sectors m t) (sym (Rattle.std.proofs.Common.zero-add j)) (all_fed plan rings end hs ts are j t at)) h s there)
 
 -- and how they stand is the same
-stands_same : (root : GroupIs) (list : Line) (h : ℕ) (s t : Served) → IsSameServed s t → Stands root h list s.taken s.standing → Stands root h list t.taken t.standing
+stands_same : (root : GroupIs) (list : Trace) (h : ℕ) (s t : Served) → IsSameServed s t → Stands root h list s.taken s.standing → Stands root h list t.taken t.standing
 stands_same root list h s t same is = subst (λ n. Stands root h list n t.standing) (sym same.1) (subst (λ y. Stands root h list s.taken y) (sym same.2) is)
 
-pub stand_same : (root : GroupIs) (list : Line) (h : ℕ) (ss ts : List Served) → Pairs IsSameServed ss ts → ((j : ℕ) (s : Served) → slice_get ss j ≡ Some s → Stands root (h + j) list s.taken s.standing) → (j : ℕ) (t : Served) → slice_get ts j ≡ Some t → Stands root (h + j) list t.taken t.standing
+pub stand_same : (root : GroupIs) (list : Trace) (h : ℕ) (ss ts : List Served) → Pairs IsSameServed ss ts → ((j : ℕ) (s : Served) → slice_get ss j ≡ Some s → Stands root (h + j) list s.taken s.standing) → (j : ℕ) (t : Served) → slice_get ts j ≡ Some t → Stands root (h + j) list t.taken t.standing
 stand_same root list h [] [] same stand j t there = absurd cc
 stand_same root list h [] (y ∷ ys) same stand j t there = absurd same
 stand_same root list h (x ∷ xs) [] same stand j t there = absurd same
@@ -90,6 +90,6 @@ stand_same root list h (x ∷ xs) (y ∷ ys) same stand zero t there = let is : 
 stand_same root list h (x ∷ xs) (y ∷ ys) same stand (suc j) t there = let shifted : (h + 1) + j ≡ h + suc j = omega arith in subst (λ m. Stands root m list t.taken t.standing) shifted
     (stand_same root list (h + 1) xs ys same.1 (λ i s at. let shift : h + suc i ≡ (h + 1) + i = omega arith in subst (λ m. Stands root m list s.taken s.standing) shift (stand (suc i) s at)) j t there)
 
-pub all_stand_same : (root : GroupIs) (list : Line) (ss ts : List Served) → Pairs IsSameServed ss ts → AllStand root list ss → AllStand root list ts
+pub all_stand_same : (root : GroupIs) (list : Trace) (ss ts : List Served) → Pairs IsSameServed ss ts → AllStand root list ss → AllStand root list ts
 all_stand_same root list ss ts same stand h t there = subst (λ m. Stands root m list t.taken t.standing) (Rattle.std.proofs.Common.zero-add h)
     (stand_same root list 0 ss ts same (λ j s at. subst (λ m. Stands root m list s.taken s.standing) (sym (Rattle.std.proofs.Common.zero-add j)) (stand j s at)) h t there)

@@ -20,7 +20,7 @@ use Rattle.pf_shared.specs.Moments.{entry}
 use Rattle.pf_shared.specs.Since.{state_at}
 use Rattle.pf_shared.proofs.Since.{rest_of_all}
 use Rattle.pf_live.specs.declared.plan.Plan.{Plan}
-use Rattle.pf_live.specs.Deliveries.{IsNextDelivery, Line, deliveries, delivers, is_delivery, is_delivery_of, is_passed, passes_over}
+use Rattle.pf_live.specs.Deliveries.{IsNextDelivery, Trace, deliveries, delivers, is_delivery, is_delivery_of, is_passed, passes_over}
 use Rattle.pf_live.specs.Lines.{Applying, Delivering, Does, DoesAs, IsLive, Submitting, role_at, role_of}
 use Rattle.pf_live.specs.Roles.{Applies, is_applying}
 use Rattle.pf_live.specs.Submitters.{Submits, SubmitsAlone, is_submit, submits}
@@ -74,14 +74,14 @@ not_passing k (Happened h) is = ap (λ b. b && is_passed_over h.answer) (not_del
 not_passing k (Look read) is = refl
 
 -- only seat n delivers in the list
-abbrev pub DeliversAlone : (n : ℕ) → Line → Type 0
+abbrev pub DeliversAlone : (n : ℕ) → Trace → Type 0
 DeliversAlone n list = Every (λ (e : Stamped Moment). e.seat ≢ n → is_delivering e.what ≡ false) list
 
 not_equal : (m n : ℕ) → eqb m n ≡ false → m ≢ n
 not_equal m n is same = absurd (let t = Rattle.std.proofs.Common.eq-eqb m n same in cc)
 
 module _ (n : ℕ) where
-  own_deliveries : (list : Line) → DeliversAlone n list → deliveries (entries_of n list) ≡ deliveries list
+  own_deliveries : (list : Trace) → DeliversAlone n list → deliveries (entries_of n list) ≡ deliveries list
   own_deliveries [] h = refl
   own_deliveries (e ∷ es) h = by (eqb e.seat n) refl (own_deliveries es h.1)
     where
@@ -92,7 +92,7 @@ module _ (n : ℕ) where
       by true is rest = sum_by-cons (λ (x : Stamped Moment). cond (delivers x.what) 1 0) e (entries_of n es) ∙ (ap (λ m. cond (delivers e.what) 1 0 + m) rest ∙ sym whole_is)
       by false is rest = rest ∙ sym (whole_is ∙ (ap (λ b. cond b 1 0 + deliveries es) (not_counted e.what (h.0 (not_equal e.seat n is))) ∙ Rattle.std.proofs.Common.zero-add (deliveries es)))
 
-  own_passed : (k : ℕ) (list : Line) → DeliversAlone n list → is_passed k (entries_of n list) ≡ is_passed k list
+  own_passed : (k : ℕ) (list : Trace) → DeliversAlone n list → is_passed k (entries_of n list) ≡ is_passed k list
   own_passed k [] h = refl
   own_passed k (e ∷ es) h = by (eqb e.seat n) refl (own_passed k es h.1)
     where
@@ -101,7 +101,7 @@ module _ (n : ℕ) where
       by false is rest = rest ∙ sym (ap (λ c. c || is_passed k es) (not_passing k e.what (h.0 (not_equal e.seat n is))))
 
 -- after a list without entries of the seat, the seat's own entries have all deliveries
-module _ (n : ℕ) (begun done : Line) (fresh : entries_of n begun ≡ []) (alone : DeliversAlone n done) where
+module _ (n : ℕ) (begun done : Trace) (fresh : entries_of n begun ≡ []) (alone : DeliversAlone n done) where
   own_is : begun ++ entries_of n (begun ++ done) ≡ begun ++ entries_of n done
   own_is = ap (λ l. begun ++ l) (entries-append n begun done ∙ ap (λ l. l ++ entries_of n done) fresh)
 
@@ -121,72 +121,72 @@ module _ (n : ℕ) (begun done : Line) (fresh : entries_of n begun ≡ []) (alon
     few = subst (λ m. m < turns) all_deliveries d.few;
   }
 
-module _ (plan : Plan) (root : GroupIs) (begun : Line) (k r : ℕ) (submitted : Line) (runs : k ≡ r * (plan.workers + 2)) where
+module _ (plan : Plan) (root : GroupIs) (begun : Trace) (k r : ℕ) (submitted : Trace) (runs : k ≡ r * (plan.workers + 2)) where
   -- the entries of the run, where its first seat submitted the hosts' next writes
-  abbrev Did : (n : ℕ) → Line → Moment → Type 0
+  abbrev Did : (n : ℕ) → Trace → Moment → Type 0
   Did n before what = ((n ≡ k + 1) × Submits plan root before what) ⊎ (((n ≡ k + 2) × Delivers plan.turns root begun n before what) ⊎ ((k + 2 < n) × (n ≤ k + plan.workers + 2) × Applies before what))
 
-  since_of : (n : ℕ) (b : Line) (e : Moment) → Begins begun b → IsSince plan root begun k submitted n b e → IsOfRun plan root begun k submitted n b e
+  since_of : (n : ℕ) (b : Trace) (e : Moment) → Begins begun b → IsSince plan root begun k submitted n b e → IsOfRun plan root begun k submitted n b e
   since_of n b e on (inl low) = absurd (let longer = ap length (sym on.1) in omega (arith, length-append begun on.0))
   since_of n b e on (inr is) = is
 
-  of_run : (rest : Line) → AllOfSeats (IsSince plan root begun k submitted) (begun ++ rest) → AllAfter (IsOfRun plan root begun k submitted) begun rest
+  of_run : (rest : Trace) → AllOfSeats (IsSince plan root begun k submitted) (begun ++ rest) → AllAfter (IsOfRun plan root begun k submitted) begun rest
   of_run rest h = all_map (IsSince plan root begun k submitted) (IsOfRun plan root begun k submitted) begun since_of begun rest (begins_refl begun) (all_rest (IsSince plan root begun k submitted) [] begun rest h)
 
-  delivers_only : (n : ℕ) (b : Line) (what : Moment) → Delivers plan.turns root begun n b what → submits what ≡ false
+  delivers_only : (n : ℕ) (b : Trace) (what : Moment) → Delivers plan.turns root begun n b what → submits what ≡ false
   delivers_only n b (Happened h) d = ap is_submit d.is
   delivers_only n b (Look read) d = refl
 
-  applies_only : (b : Line) (what : Moment) → Applies b what → submits what ≡ false
+  applies_only : (b : Trace) (what : Moment) → Applies b what → submits what ≡ false
   applies_only b (Happened h) a = applying_not_submit h.event a
   applies_only b (Look read) a = absurd a
 
-  no_submit : (e : Stamped Moment) (b : Line) → IsOfRun plan root begun k submitted e.seat b e.what → e.seat ≢ k + 1 → submits e.what ≡ false
+  no_submit : (e : Stamped Moment) (b : Trace) → IsOfRun plan root begun k submitted e.seat b e.what → e.seat ≢ k + 1 → submits e.what ≡ false
   no_submit e b (inl x) other = absurd (other x.0)
   no_submit e b (inr (inl x)) other = delivers_only e.seat b e.what x.1
   no_submit e b (inr (inr x)) other = applies_only b e.what x.2
 
   -- its first seat alone submits
-  pub submits_alone : (rest : Line) → AllOfSeats (IsSince plan root begun k submitted) (begun ++ rest) → SubmitsAlone (k + 1) begun (begun ++ rest)
+  pub submits_alone : (rest : Trace) → AllOfSeats (IsSince plan root begun k submitted) (begun ++ rest) → SubmitsAlone (k + 1) begun (begun ++ rest)
   submits_alone rest h = subst (Every (λ (e : Stamped Moment). e.seat ≢ k + 1 → submits e.what ≡ false)) (sym (rest_of_all begun rest))
       (every_of (IsOfRun plan root begun k submitted) (λ (e : Stamped Moment). e.seat ≢ k + 1 → submits e.what ≡ false) no_submit begun rest (of_run rest h))
 
-  did_of : EachOf (k + 1) (Submits plan root) submitted → (n : ℕ) (b : Line) (e : Moment) → Begins begun b → IsOfRun plan root begun k submitted n b e → Did n b e
+  did_of : EachOf (k + 1) (Submits plan root) submitted → (n : ℕ) (b : Trace) (e : Moment) → Begins begun b → IsOfRun plan root begun k submitted n b e → Did n b e
   did_of steps n b e on (inl x) = inl (x.0, each_at (k + 1) (Submits plan root) submitted b e steps (subst (λ m. Begins (b ++ entry m e ∷ []) submitted) x.0 x.1))
   did_of steps n b e on (inr x) = inr x
 
-  submits_only : (b : Line) (what : Moment) → Submits plan root b what → is_delivering what ≡ false
+  submits_only : (b : Trace) (what : Moment) → Submits plan root b what → is_delivering what ≡ false
   submits_only b (Happened h) s = ap is_delivery s.is
   submits_only b (Look read) s = refl
 
-  applies_not : (b : Line) (what : Moment) → Applies b what → is_delivering what ≡ false
+  applies_not : (b : Trace) (what : Moment) → Applies b what → is_delivering what ≡ false
   applies_not b (Happened h) a = applying_not_delivery h.event a
   applies_not b (Look read) a = absurd a
 
-  no_delivery : (e : Stamped Moment) (b : Line) → Did e.seat b e.what → e.seat ≢ k + 2 → is_delivering e.what ≡ false
+  no_delivery : (e : Stamped Moment) (b : Trace) → Did e.seat b e.what → e.seat ≢ k + 2 → is_delivering e.what ≡ false
   no_delivery e b (inl x) other = submits_only b e.what x.1
   no_delivery e b (inr (inl x)) other = absurd (other x.0)
   no_delivery e b (inr (inr x)) other = applies_not b e.what x.2
 
-  does_submit : (n : ℕ) (b : Line) (what : Moment) → role_of plan.workers n ≡ Submitting → Submits plan root b what → Does plan root n b what
+  does_submit : (n : ℕ) (b : Trace) (what : Moment) → role_of plan.workers n ≡ Submitting → Submits plan root b what → Does plan root n b what
   does_submit n b (Happened h) role s = subst (λ x. DoesAs x plan root b h.event) (sym role) s
   does_submit n b (Look read) role s = s
 
-  does_apply : (n : ℕ) (b : Line) (what : Moment) → role_of plan.workers n ≡ Applying → Applies b what → Does plan root n b what
+  does_apply : (n : ℕ) (b : Trace) (what : Moment) → role_of plan.workers n ≡ Applying → Applies b what → Does plan root n b what
   does_apply n b (Happened h) role a = subst (λ x. DoesAs x plan root b h.event) (sym role) a
   does_apply n b (Look read) role a = absurd a
 
   module _ (fresh : entries_of (k + 2) begun ≡ []) where
-    does_deliver : (done : Line) → DeliversAlone (k + 2) done → (what : Moment) → Delivers plan.turns root begun (k + 2) (begun ++ done) what → Does plan root (k + 2) (begun ++ done) what
+    does_deliver : (done : Trace) → DeliversAlone (k + 2) done → (what : Moment) → Delivers plan.turns root begun (k + 2) (begun ++ done) what → Does plan root (k + 2) (begun ++ done) what
     does_deliver done alone (Happened h) d = subst (λ x. DoesAs x plan root (begun ++ done) h.event) (sym (second_role plan.workers k r (k + 2) runs refl)) (next_delivery (k + 2) begun done fresh alone root.told plan.turns (state_at root (begun ++ done)) h.event d)
     does_deliver done alone (Look read) d = d
 
-    does_one : (n : ℕ) (done : Line) → DeliversAlone (k + 2) done → (what : Moment) → Did n (begun ++ done) what → Does plan root n (begun ++ done) what
+    does_one : (n : ℕ) (done : Trace) → DeliversAlone (k + 2) done → (what : Moment) → Did n (begun ++ done) what → Does plan root n (begun ++ done) what
     does_one n done alone what (inl x) = does_submit n (begun ++ done) what (first_role plan.workers k r n runs x.0) x.1
     does_one n done alone what (inr (inl x)) = subst (λ m. Does plan root m (begun ++ done) what) (sym x.0) (does_deliver done alone what (subst (λ m. Delivers plan.turns root begun m (begun ++ done) what) x.0 x.1))
     does_one n done alone what (inr (inr x)) = does_apply n (begun ++ done) what (other_role plan.workers k r n runs x.0 x.1) x.2
 
-    does_all : (done rest : Line) → DeliversAlone (k + 2) done → AllAfter Did (begun ++ done) rest → AllAfter (Does plan root) (begun ++ done) rest
+    does_all : (done rest : Trace) → DeliversAlone (k + 2) done → AllAfter Did (begun ++ done) rest → AllAfter (Does plan root) (begun ++ done) rest
     does_all done [] alone h = tt
     does_all done (e ∷ es) alone h = (
       does_one e.seat done alone e.what h.0,
@@ -194,7 +194,7 @@ module _ (plan : Plan) (root : GroupIs) (begun : Line) (k r : ℕ) (submitted : 
           (does_all (done ++ e ∷ []) es (every_snoc (λ (x : Stamped Moment). x.seat ≢ k + 2 → is_delivering x.what ≡ false) done e alone (no_delivery e (begun ++ done) h.0)) (subst (λ l. AllAfter Did l es) (append_assoc begun done (e ∷ [])) h.1)),
     )
 
-    module _ (rest : Line) (since : AllOfSeats (IsSince plan root begun k submitted) (begun ++ rest)) (steps : EachOf (k + 1) (Submits plan root) submitted) where
+    module _ (rest : Trace) (since : AllOfSeats (IsSince plan root begun k submitted) (begun ++ rest)) (steps : EachOf (k + 1) (Submits plan root) submitted) where
       did_all : AllAfter Did begun rest
       did_all = all_map (IsOfRun plan root begun k submitted) Did begun (did_of steps) begun rest (begins_refl begun) (of_run rest since)
 

@@ -14,7 +14,7 @@ use Rattle.pf_shared.specs.Hands.{Key, hand_of}
 use Rattle.pf_shared.specs.Seats.{IsAlone, IsSeatOf, gone_of, root_in, seen_by, splits_of}
 use Rattle.pf_shared.specs.Since.{state_at}
 use Rattle.pf_live.specs.declared.plan.Plan.{Plan}
-use Rattle.pf_live.specs.Deliveries.{Line, deliveries, is_passed}
+use Rattle.pf_live.specs.Deliveries.{Trace, deliveries, is_passed}
 use Rattle.pf_live.specs.Lines.{Applying, IsLive, role_of}
 use Rattle.pf_live.specs.Roles.{EndsWith, nothing_free}
 use Rattle.pf_live.specs.Submitters.{AllStand}
@@ -22,7 +22,7 @@ use Rattle.pf_liveline.specs.declared.crew.Crew.{Crew}
 use Rattle.pf_liveline.specs.Meeting.{AreMet}
 
 -- The list has so many deliveries. Where the disks tell their content, of the packets below `next` those that are left were passed over in it
-pub record HasMade (turns : ℕ) (root : GroupIs) (list : Line) (next made : ℕ) : Type 0 where
+pub record HasMade (turns : ℕ) (root : GroupIs) (list : Trace) (next made : ℕ) : Type 0 where
   pub sent : IsTrue root.told → next ≤ length (state_at root list).packets
   pub passed : IsTrue root.told → IsPassedUpTo (state_at root list) (λ k. is_passed k list) next
   pub count : made ≡ deliveries list

@@ -17,7 +17,7 @@ use Rattle.pf_base.specs.declared.live_end.LiveEnd.{LiveEnd}
 use Rattle.pf_live.specs.declared.plan.Plan.{Plan}
 use Rattle.pf_live.specs.declared.serving.Served.{Served}
 use Rattle.pf_live.specs.declared.serving.Standing.TheVariants.{Asked}
-use Rattle.pf_live.specs.Deliveries.{Line, deliveries, is_passed, least_left}
+use Rattle.pf_live.specs.Deliveries.{Trace, deliveries, is_passed, least_left}
 use Rattle.pf_live.specs.Ends.{HasEnd, IsOpen, IsRefused, NoneIsLeft, WaitsInVain, WasRefused}
 use Rattle.pf_live.specs.Submissions.{acked_of, numbers_of, slots_of}
 use Rattle.pf_live.specs.Submitters.{SubmitsNone}
@@ -25,7 +25,7 @@ use Rattle.pf_liveline.specs.declared.crew.Crew.{Crew}
 use Rattle.pf_liveline.specs.Crews.{AllEnded, IsCrew}
 
 -- the list went on without a submission, a delivery, or a change of the group
-pub record IsUnchanged (root : GroupIs) (old new : Line) : Type 0 where
+pub record IsUnchanged (root : GroupIs) (old new : Trace) : Type 0 where
   pub begins : Begins old new
   pub state : state_at root new ≡ state_at root old
   pub passed : (k : ℕ) → is_passed k new ≡ is_passed k old
@@ -50,27 +50,27 @@ module _ {D : Type 0} {disk : Ghosts D} where
     pub ended : AllEnded plan a.seat → AllEnded plan b.seat
 
 -- the last request of the host, if it has no slot, was refused by the server, and nothing was delivered since
-abbrev pub IsRefusedBy : Plan → Line → (server : ℕ) → List Served → (h : ℕ) → Type 0
+abbrev pub IsRefusedBy : Plan → Trace → (server : ℕ) → List Served → (h : ℕ) → Type 0
 IsRefusedBy plan list server served h = (s : Served) (request : Request) → slice_get served h ≡ Some s → s.standing ≡ Asked request → IsRefused plan list h (s.taken - 1) server
 
 -- that of each host was, by the leader, where the disks tell their content
-abbrev pub AreRefused : Plan → GroupIs → Line → List Served → Type 0
+abbrev pub AreRefused : Plan → GroupIs → Trace → List Served → Type 0
 AreRefused plan root list served = IsTrue root.told → (h : ℕ) (s : Served) (request : Request) → h < plan.hosts → slice_get served h ≡ Some s → s.standing ≡ Asked request → WasRefused plan root list h (s.taken - 1)
 
 -- each write of the host that was taken is submitted, where the disks tell their content
-abbrev pub AreSubmitted : GroupIs → Line → List Served → (h : ℕ) → Type 0
+abbrev pub AreSubmitted : GroupIs → Trace → List Served → (h : ℕ) → Type 0
 AreSubmitted root list served h = IsTrue root.told → (s : Served) → slice_get served h ≡ Some s → (j : ℕ) → j < s.taken → Contains (numbers_of root h list) j
 
 -- each of each host is
-abbrev pub AllSubmitted : Plan → GroupIs → Line → List Served → Type 0
+abbrev pub AllSubmitted : Plan → GroupIs → Trace → List Served → Type 0
 AllSubmitted plan root list served = (h : ℕ) → h < plan.hosts → AreSubmitted root list served h
 
 -- the pass has seen a term that is not below that of the leader, where the disks tell their content
-abbrev pub IsPublished : GroupIs → Line → LeaderPass → Type 0
+abbrev pub IsPublished : GroupIs → Trace → LeaderPass → Type 0
 IsPublished root list first = IsTrue root.told → (term server : ℕ) → IsLeader (state_at root list) (Some (term, server)) → term ≤ (last_of (cells.seen_by first)).0
 
 -- so many writes of the host are acknowledged, and whether it is known to wait in vain for one more
-pub record HasCount (plan : Plan) (root : GroupIs) (list : Line) (h : ℕ) (told : ℕ × Bool) : Type 0 where
+pub record HasCount (plan : Plan) (root : GroupIs) (list : Trace) (h : ℕ) (told : ℕ × Bool) : Type 0 where
   pub acked : acked_of root h list ≡ told.0
   pub within : told.0 ≤ plan.writes
   pub vain : told.1 ≡ true → WaitsInVain plan root list h
@@ -78,11 +78,11 @@ pub record HasCount (plan : Plan) (root : GroupIs) (list : Line) (h : ℕ) (told
 
 -- A turn can still be taken: a packet is left that may be delivered, or none is left, and a server serves to which a write can be handed
 -- that has no slot
-abbrev pub MayGoOn : Plan → GroupIs → Line → Type 0
+abbrev pub MayGoOn : Plan → GroupIs → Trace → Type 0
 MayGoOn plan root list = ((k : ℕ) × (least_left (state_at root list) list ≡ Some k) × (deliveries list < plan.turns))
     ⊎ (NoneIsLeft root list × (h : ℕ) × IsOpen plan root list h × (acked_of root h list ≡ length (slots_of root h list)) × (one : ℕ × ℕ) × IsLeader (state_at root list) (Some one))
 
 -- the line has this end, or may go on
-abbrev pub IsJudged : Plan → GroupIs → Line → Option LiveEnd → Type 0
+abbrev pub IsJudged : Plan → GroupIs → Trace → Option LiveEnd → Type 0
 IsJudged plan root list (Some end) = HasEnd plan root list end
 IsJudged plan root list None = MayGoOn plan root list

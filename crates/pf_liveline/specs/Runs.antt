@@ -5,15 +5,15 @@ use Rattle.pf_group.specs.GroupIs.{GroupIs}
 use Rattle.pf_shared.specs.declared.moment.Moment.{Moment}
 use Rattle.pf_shared.specs.Moments.{entry}
 use Rattle.pf_live.specs.declared.plan.Plan.{Plan}
-use Rattle.pf_live.specs.Deliveries.{Line}
+use Rattle.pf_live.specs.Deliveries.{Trace}
 use Rattle.pf_live.specs.Roles.{Applies}
 use Rattle.pf_live.specs.Switches.{Delivers}
 
 -- A run began after the list `begun`, when k seats had been split. The first of its seats submits: each entry of it stands in what that
 -- seat has seen. The second delivers, and the others apply
-abbrev pub IsOfRun : (plan : Plan) (root : GroupIs) (begun : Line) (k : ℕ) (submitted : Line) (n : ℕ) → Line → Moment → Type 0
+abbrev pub IsOfRun : (plan : Plan) (root : GroupIs) (begun : Trace) (k : ℕ) (submitted : Trace) (n : ℕ) → Trace → Moment → Type 0
 IsOfRun plan root begun k submitted n before what = ((n ≡ k + 1) × Begins (before ++ entry n what ∷ []) submitted) ⊎ (((n ≡ k + 2) × Delivers plan.turns root begun n before what) ⊎ ((k + 2 < n) × (n ≤ k + plan.workers + 2) × Applies before what))
 
 -- an entry of the run, or one that stood before it
-abbrev pub IsSince : (plan : Plan) (root : GroupIs) (begun : Line) (k : ℕ) (submitted : Line) (n : ℕ) → Line → Moment → Type 0
+abbrev pub IsSince : (plan : Plan) (root : GroupIs) (begun : Trace) (k : ℕ) (submitted : Trace) (n : ℕ) → Trace → Moment → Type 0
 IsSince plan root begun k submitted n before what = (length before < length begun) ⊎ IsOfRun plan root begun k submitted n before what

@@ -11,7 +11,7 @@ ghost use Rattle.pf_liveline.specs.Judging.{AllSubmitted, AreRefused, HasCount, 
 use pf_base::{LiveEnd, NoMemory, ServerId, Slot, Term};
 use pf_disk::Disk;
 use pf_leadercell::LeaderPass;
-use pf_live::{Host, Line, Served, Standing};
+use pf_live::{Host, LiveLine, Served, Standing};
 use pf_shared::GroupSeat;
 use std::sync::Wait;
 
@@ -35,7 +35,11 @@ pub struct Crew<D: Disk> {
 
 impl<D: Disk + Drop> Crew<D> {
     /// The least packet that is left and was not passed over. Where memory runs out (`NoMemory`, 1) it is not known.
-    fn least_left<R: Wait, G>(&mut self, rt: &R, line: &Line<D, G>) -> Result<Option<u32>, NoMemory>
+    fn least_left<R: Wait, G>(
+        &mut self,
+        rt: &R,
+        line: &LiveLine<D, G>,
+    ) -> Result<Option<u32>, NoMemory>
         requires { IsCrew line.now.group line.now.cell line.now.plan line.now.rings.items self.old }
         ensures looked { HasLooked line.now.group line.now.cell line.now.plan line.now.rings.items self.old self.new }
         ensures first { self.new.first ≡ self.old.first }
@@ -49,7 +53,7 @@ impl<D: Disk + Drop> Crew<D> {
     pub(crate) fn leader<R: Wait, G>(
         &mut self,
         rt: &R,
-        line: &Line<D, G>,
+        line: &LiveLine<D, G>,
     ) -> Result<Option<(Term, ServerId)>, NoMemory>
         requires { IsCrew line.now.group line.now.cell line.now.plan line.now.rings.items self.old }
         ensures looked { HasLooked line.now.group line.now.cell line.now.plan line.now.rings.items self.old self.new }
@@ -63,7 +67,7 @@ impl<D: Disk + Drop> Crew<D> {
     fn is_acked<R: Wait, G>(
         &mut self,
         rt: &R,
-        line: &Line<D, G>,
+        line: &LiveLine<D, G>,
         term: Term,
         slot: Slot,
     ) -> Result<bool, NoMemory>
@@ -81,7 +85,7 @@ impl<D: Disk + Drop> Crew<D> {
     fn count<R: Wait, G>(
         &mut self,
         rt: &R,
-        line: &Line<D, G>,
+        line: &LiveLine<D, G>,
         host: u32,
         refused: bool,
     ) -> Result<(u32, bool), NoMemory>
@@ -114,7 +118,7 @@ impl<D: Disk + Drop> Crew<D> {
     fn judge_hosts<R: Wait, G>(
         &mut self,
         rt: &R,
-        line: &Line<D, G>,
+        line: &LiveLine<D, G>,
         leader: Option<(Term, ServerId)>,
         refused: bool,
     ) -> Result<Option<LiveEnd>, NoMemory>
@@ -149,7 +153,7 @@ impl<D: Disk + Drop> Crew<D> {
     pub fn judge<R: Wait, G>(
         &mut self,
         rt: &R,
-        line: &Line<D, G>,
+        line: &LiveLine<D, G>,
     ) -> Result<Option<LiveEnd>, NoMemory>
         requires { IsCrew line.now.group line.now.cell line.now.plan line.now.rings.items self.old }
         ensures judged { HasJudged line.now.group line.now.cell line.now.plan line.now.rings.items self.old self.new }

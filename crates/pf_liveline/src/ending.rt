@@ -11,7 +11,7 @@ use crate::running::run;
 use pf_base::{LiveEnd, NoMemory};
 use pf_copy::Gate;
 use pf_disk::Disk;
-use pf_live::Line;
+use pf_live::LiveLine;
 use std::sync::Wait;
 use std::thread::Threads;
 
@@ -19,7 +19,7 @@ use std::thread::Threads;
 /// or after it, or where its seats would be too many.
 fn round<R: Threads + Wait + Sync, D: Disk + Drop + Send, G: Gate + Sync>(
     rt: &R,
-    line: &Line<D, G>,
+    line: &LiveLine<D, G>,
     crew: Crew<D>,
 ) -> (Crew<D>, Result<Option<LiveEnd>, NoMemory>)
     requires { IsCrew line.now.group line.now.cell line.now.plan line.now.rings.items crew }
@@ -42,7 +42,7 @@ fn round<R: Threads + Wait + Sync, D: Disk + Drop + Send, G: Gate + Sync>(
 /// or after it, or where its seats would be too many; the line goes on from where it is if it is run again.
 pub fn run_to_end<R: Threads + Wait + Sync, D: Disk + Drop + Send, G: Gate + Sync>(
     rt: &R,
-    line: &Line<D, G>,
+    line: &LiveLine<D, G>,
     crew: Crew<D>,
 ) -> (Crew<D>, Result<LiveEnd, NoMemory>)
     requires { IsCrew line.now.group line.now.cell line.now.plan line.now.rings.items crew }

@@ -11,7 +11,7 @@ ghost use Rattle.pf_liveline.specs.Judging.{AllSubmitted, AreSubmitted, HasJudge
 use crate::crew::Crew;
 use pf_base::{NoMemory, ServerId, Term};
 use pf_disk::Disk;
-use pf_live::{Line, Standing};
+use pf_live::{LiveLine, Standing};
 use pf_protocol::Answer;
 use std::sync::Wait;
 
@@ -28,7 +28,7 @@ impl<D: Disk + Drop> Crew<D> {
     fn hand<R: Wait, G>(
         &mut self,
         rt: &R,
-        line: &Line<D, G>,
+        line: &LiveLine<D, G>,
         host: u32,
         server: ServerId,
     ) -> Result<bool, NoMemory>
@@ -60,7 +60,7 @@ impl<D: Disk + Drop> Crew<D> {
     pub(crate) fn hand_all<R: Wait, G>(
         &mut self,
         rt: &R,
-        line: &Line<D, G>,
+        line: &LiveLine<D, G>,
         server: ServerId,
     ) -> Result<bool, NoMemory>
         requires crew { IsCrew line.now.group line.now.cell line.now.plan line.now.rings.items self.old }
@@ -80,7 +80,7 @@ impl<D: Disk + Drop> Crew<D> {
     pub(crate) fn publish<R: Wait, G>(
         &mut self,
         rt: &R,
-        line: &Line<D, G>,
+        line: &LiveLine<D, G>,
     ) -> Result<Option<(Term, ServerId)>, NoMemory>
         requires { IsCrew line.now.group line.now.cell line.now.plan line.now.rings.items self.old }
         ensures looked { HasLooked line.now.group line.now.cell line.now.plan line.now.rings.items self.old self.new }

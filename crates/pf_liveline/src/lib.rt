@@ -16,4 +16,3 @@ pub use crew::Crew;
 pub use ending::run_to_end;
 pub use opening::{Passes, close, open};
 pub use running::run;
-pub use worker::{Worker, run_workers};

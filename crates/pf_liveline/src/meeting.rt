@@ -7,11 +7,11 @@ ghost use Rattle.pf_liveline.specs.Meeting.{AreMet, IsMet, IsSameServed};
 ghost use Rattle.pf_liveline.specs.Mustered.{AreHosts, AreServed};
 
 use pf_disk::Disk;
-use pf_live::{Host, Line, Served};
+use pf_live::{Host, LiveLine, Served};
 use std::collections::VecDeque;
 
 /// The two passes of one host's ring meet.
-fn meet<D: Disk, G>(line: &Line<D, G>, host: Host, served: Served) -> (Host, Served)
+fn meet<D: Disk, G>(line: &LiveLine<D, G>, host: Host, served: Served) -> (Host, Served)
     requires host { IsHostIn line.now.plan line.now.rings.items host }
     requires served { IsServedIn line.now.plan line.now.rings.items host.host served }
     ensures met { IsMet line.now.plan line.now.rings.items host.host result.0 result.1 }
@@ -41,7 +41,7 @@ fn meet<D: Disk, G>(line: &Line<D, G>, host: Host, served: Served) -> (Host, Ser
 
 /// The two passes of each host's ring meet.
 pub(crate) fn meet_all<D: Disk, G>(
-    line: &Line<D, G>,
+    line: &LiveLine<D, G>,
     hosts: Vec<Host>,
     served: Vec<Served>,
     mut host_room: Vec<Host>,

@@ -7,14 +7,14 @@ ghost use Rattle.pf_liveline.specs.Mustered.{AreHosts, AreMustered};
 use crate::crew::Crew;
 use crate::worker::Worker;
 use pf_disk::Disk;
-use pf_live::{Applier, Host, Line, Submitter, Switch};
+use pf_live::{Applier, Host, LiveLine, Submitter, Switch};
 use pf_shared::GroupSeat;
 use std::collections::VecDeque;
 use std::snapshot::Snapshot;
 
 /// The hosts join the workers of a run.
 fn muster_hosts<D: Disk + Drop, G>(
-    line: &Line<D, G>,
+    line: &LiveLine<D, G>,
     _begun: &Snapshot<GroupSeat<D>>,
     hosts: Vec<Host>,
     mut workers: Vec<Worker<D>>,
@@ -35,7 +35,7 @@ fn muster_hosts<D: Disk + Drop, G>(
 
 /// A seat for each worker that applies.
 fn muster_appliers<D: Disk + Drop, G>(
-    line: &Line<D, G>,
+    line: &LiveLine<D, G>,
     _begun: &Snapshot<GroupSeat<D>>,
     first: &mut GroupSeat<D>,
     mut workers: Vec<Worker<D>>,
@@ -65,7 +65,7 @@ fn muster_appliers<D: Disk + Drop, G>(
 
 /// The workers of a run: a seat for the one that submits, one for the switch, the hosts, and a seat for each that applies.
 pub(crate) fn muster<D: Disk + Drop, G>(
-    line: &Line<D, G>,
+    line: &LiveLine<D, G>,
     begun: &Snapshot<GroupSeat<D>>,
     crew: Crew<D>,
     mut workers: Vec<Worker<D>>,

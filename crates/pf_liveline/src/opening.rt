@@ -17,7 +17,7 @@ use pf_base::NoMemory;
 use pf_disk::Disk;
 use pf_group::Group;
 use pf_leadercell::{LeaderCell, LeaderPass};
-use pf_live::{Host, Line, Plan, Served, Standing};
+use pf_live::{Host, LiveLine, Plan, Served, Standing};
 use pf_rings::Ring;
 use pf_shared::SharedGroup;
 use std::alloc::Global;
@@ -95,7 +95,7 @@ pub fn open<D: Disk + Drop, G: Drop>(
     group: Group<D>,
     plan: Plan,
     gate: G,
-) -> Result<(Line<D, G>, Crew<D>), (Group<D>, NoMemory)>
+) -> Result<(LiveLine<D, G>, Crew<D>), (Group<D>, NoMemory)>
     requires none { claims_of [] group.history ≡ [] }
     ensures crew { IfOk result (λ made. IsCrew made.0.group made.0.cell made.0.plan made.0.rings.items made.1) }
     ensures list { IfOk result (λ made. (seen_by made.1.seat ≡ []) × (splits_of made.1.seat ≡ 0)) }
@@ -116,7 +116,7 @@ pub fn open<D: Disk + Drop, G: Drop>(
         acked,
     } = made;
     let (group, seat) = SharedGroup::new(alloc, group)?;
-    let line = Line {
+    let line = LiveLine {
         group,
         gate,
         alloc,
@@ -142,7 +142,7 @@ pub fn open<D: Disk + Drop, G: Drop>(
 }
 
 /// The group, with all that happened to it in the line, and the passes of its rings and its leader cell.
-pub fn close<D: Disk + Drop, G: Drop>(line: Line<D, G>, crew: Crew<D>) -> (Group<D>, Passes)
+pub fn close<D: Disk + Drop, G: Drop>(line: LiveLine<D, G>, crew: Crew<D>) -> (Group<D>, Passes)
     requires { IsCrew line.group line.cell line.plan line.rings.items crew }
     ensures root { root_of result.0 ≡ root_of (root_in line.group) }
     ensures history { result.0.history ≡ whole (root_in line.group) (seen_by crew.seat) }
@@ -153,7 +153,7 @@ pub fn close<D: Disk + Drop, G: Drop>(line: Line<D, G>, crew: Crew<D>) -> (Group
     ensures served { result.1.served ≡ crew.served }
     ensures first { cells.IsPassOf result.1.cell result.1.first × cells.IsFirst result.1.first × (result.1.first ≡ crew.first) }
 {
-    let Line {
+    let LiveLine {
         group,
         gate: _,
         alloc: _,

@@ -15,7 +15,7 @@ use crate::worker::{Worker, run_workers};
 use pf_base::NoMemory;
 use pf_copy::Gate;
 use pf_disk::Disk;
-use pf_live::{Host, Line, Plan, Served};
+use pf_live::{Host, LiveLine, Plan, Served};
 use pf_shared::GroupSeat;
 use std::alloc::Global;
 use std::collections::VecDeque;
@@ -56,7 +56,7 @@ impl<D: Disk + Drop> Room<D> {
 /// The workers of a run are done: their seats are taken in, and the passes of each ring meet. Whether memory ran out in one of them.
 fn regroup<R: Wait, D: Disk + Drop, G: Gate>(
     rt: &R,
-    line: &Line<D, G>,
+    line: &LiveLine<D, G>,
     begun: &Snapshot<GroupSeat<D>>,
     splits: u64,
     mut first: GroupSeat<D>,
@@ -102,7 +102,7 @@ fn regroup<R: Wait, D: Disk + Drop, G: Gate>(
 /// Runs the workers, and tells whether there was no memory for it: then they took no turn.
 fn run_or_keep<R: Threads + Wait + Sync, D: Disk + Drop + Send, G: Gate + Sync>(
     rt: &R,
-    line: &Line<D, G>,
+    line: &LiveLine<D, G>,
     workers: Vec<Worker<D>>,
 ) -> (Vec<Worker<D>>, bool)
     requires { Each (IsWorker line.now.group line.now.cell line.now.plan line.now.rings.items) workers.items }
@@ -118,7 +118,7 @@ fn run_or_keep<R: Threads + Wait + Sync, D: Disk + Drop + Send, G: Gate + Sync>(
 /// on as that of a line. Whether memory ran out, for the run or in it, or its seats would be too many.
 pub fn run<R: Threads + Wait + Sync, D: Disk + Drop + Send, G: Gate + Sync>(
     rt: &R,
-    line: &Line<D, G>,
+    line: &LiveLine<D, G>,
     crew: Crew<D>,
 ) -> (Crew<D>, bool)
     requires { IsCrew line.now.group line.now.cell line.now.plan line.now.rings.items crew }

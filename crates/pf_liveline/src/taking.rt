@@ -15,7 +15,7 @@ use crate::worker::Worker;
 use pf_copy::Gate;
 use pf_disk::Disk;
 use pf_leadercell::LeaderPass;
-use pf_live::{Applier, Host, Line, Served, Submitter, Switch};
+use pf_live::{Applier, Host, LiveLine, Served, Submitter, Switch};
 use pf_shared::GroupSeat;
 use std::collections::VecDeque;
 use std::snapshot::Snapshot;
@@ -37,7 +37,7 @@ pub(crate) struct Taken<D: Disk> {
 
 /// The first two workers of a run.
 pub(crate) fn pop_two<D: Disk + Drop, G>(
-    line: &Line<D, G>,
+    line: &LiveLine<D, G>,
     _begun: &Snapshot<GroupSeat<D>>,
     workers: &mut VecDeque<Worker<D>>,
 ) -> (Submitter<D>, Switch<D>)
@@ -63,7 +63,7 @@ pub(crate) fn pop_two<D: Disk + Drop, G>(
 
 /// Takes in the seat that submitted and that of the switch.
 pub(crate) fn take_two<D: Disk + Drop, G>(
-    line: &Line<D, G>,
+    line: &LiveLine<D, G>,
     begun: &Snapshot<GroupSeat<D>>,
     first: &mut GroupSeat<D>,
     submitter: Submitter<D>,
@@ -115,7 +115,7 @@ pub(crate) fn take_two<D: Disk + Drop, G>(
 /// Takes in a seat that applied, once it has ended. Whether memory ran out in it.
 fn take_applier<R: Wait, D: Disk + Drop, G: Gate>(
     rt: &R,
-    line: &Line<D, G>,
+    line: &LiveLine<D, G>,
     begun: &Snapshot<GroupSeat<D>>,
     submitted: &Snapshot<GroupSeat<D>>,
     first: &mut GroupSeat<D>,
@@ -139,7 +139,7 @@ fn take_applier<R: Wait, D: Disk + Drop, G: Gate>(
 /// The hosts of a run, once all seats that applied are taken in, and whether memory ran out in one of these.
 pub(crate) fn take_back<R: Wait, D: Disk + Drop, G: Gate>(
     rt: &R,
-    line: &Line<D, G>,
+    line: &LiveLine<D, G>,
     begun: &Snapshot<GroupSeat<D>>,
     submitted: &Snapshot<GroupSeat<D>>,
     first: &mut GroupSeat<D>,

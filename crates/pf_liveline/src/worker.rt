@@ -7,7 +7,7 @@ use pf_base::NoMemory;
 use pf_copy::Gate;
 use pf_crew::{Turned, Works, run_all};
 use pf_disk::Disk;
-use pf_live::{Applier, Host, Line, Submitter, Switch};
+use pf_live::{Applier, Host, LiveLine, Submitter, Switch};
 use std::sync::Wait;
 use std::thread::Threads;
 
@@ -20,14 +20,14 @@ pub enum Worker<D: Disk> {
     Apply(Applier<D>),
 }
 
-impl<D: Disk + Drop, G: Gate> Works<Line<D, G>> for Worker<D> {
+impl<D: Disk + Drop, G: Gate> Works<LiveLine<D, G>> for Worker<D> {
     ghost use Rattle.pf_liveline.specs.Working.{IsSameWorker, IsWorker, same_worker, worker_on};
 
     ghost fits = { λ line a. IsWorker line.group line.cell line.plan line.rings.items a };
 
     ghost goes = { λ line x y. IsSameWorker x y };
 
-    fn turn<R: Wait>(&mut self, rt: &R, context: &Line<D, G>) -> Turned {
+    fn turn<R: Wait>(&mut self, rt: &R, context: &LiveLine<D, G>) -> Turned {
         match self {
             Worker::Host(host) => host.work(rt, context),
             Worker::Submit(submitter) => submitter.work(rt, context),
@@ -45,7 +45,7 @@ impl<D: Disk + Drop, G: Gate> Works<Line<D, G>> for Worker<D> {
 /// in their order. Where memory runs out (`NoMemory`, 1) before the first turn, they come back as they were.
 pub fn run_workers<R: Threads + Wait + Sync, D: Disk + Drop + Send, G: Gate + Sync>(
     rt: &R,
-    line: &Line<D, G>,
+    line: &LiveLine<D, G>,
     workers: Vec<Worker<D>>,
 ) -> Result<Vec<Worker<D>>, (Vec<Worker<D>>, NoMemory)>
     requires { Each (IsWorker line.now.group line.now.cell line.now.plan line.now.rings.items) workers.items }

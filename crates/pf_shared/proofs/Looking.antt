@@ -22,12 +22,16 @@ use Rattle.pf_shared.specs.declared.moment.Moment.TheVariants.{Look}
 use Rattle.pf_shared.specs.declared.moment.Did.{Did}
 use Rattle.pf_shared.specs.declared.moment.Did.TheVariants.{Looked}
 use Rattle.pf_shared.specs.declared.behind.Behind.{Behind}
+use Rattle.pf_shared.specs.declared.parts.GroupSeat.{GroupSeat}
+use Rattle.pf_shared.specs.declared.parts.SharedGroup.{SharedGroup}
 use Rattle.pf_shared.specs.Behinds.{HasLooked, Stays, list_of}
-use Rattle.pf_shared.specs.Calls.{Finds}
+use Rattle.pf_shared.specs.Calls.{Finds, IsHistory}
 use Rattle.pf_shared.specs.Hands.{Key, is_tidy}
 use Rattle.pf_shared.specs.Looks.{HandsOut, Looks, LooksAt, TakesRead, read_of, told_of}
 use Rattle.pf_shared.specs.Moments.{entry, handed_out, taken_with}
+use Rattle.pf_shared.specs.Seats.{IsAlone, IsFirst, IsSameSeat, IsSeatOf, number_of, out_of, root_in, seen_by}
 use Rattle.pf_shared.specs.Since.{since, state_at, whole}
+use Rattle.pf_shared.specs.Telling.{Tells, TellsAt}
 use Rattle.pf_shared.specs.Woven.{steps_in, woven}
 use Rattle.pf_shared.proofs.Acting.{handed-append}
 use Rattle.pf_shared.proofs.Claiming.{tidy_look}
@@ -35,7 +39,7 @@ use Rattle.pf_shared.proofs.Ending.{same_list, whole_is}
 use Rattle.pf_shared.proofs.Taking.{adds_of, grew_by, grew_none}
 use Rattle.pf_shared.proofs.Since.{since_same}
 use Rattle.pf_shared.proofs.Weaving.{did, steps-append, woven-look}
-use Rattle.pf_turn.specs.Lists.{GrewBy}
+use Rattle.pf_turn.specs.Lists.{Begins, GrewBy, entries_of}
 
 -- what was before, and one more look of a seat, to which nothing happened
 module _ (ds : List (Stamped Did)) (hs : History) (counted : steps_in ds ≡ length hs) (seat : ℕ) (read : Option ℕ) (es : List (Stamped Did)) (grown : es ≡ ds ++ did seat (Looked read) ∷ []) (hs' : History) (same : hs' ≡ hs) where
@@ -155,6 +159,30 @@ module _ {D : Type 0} {disk : Ghosts D} (root : GroupIs) (n m : ℕ) (number_is 
   pub take_err : {A : Type 0} → (r : Result A NoMemory) (after : Behind D disk) → new ≡ list_of after → OnErr r (Stays b after) → OnErr r (Finds n alone seen new)
   take_err (Ok a) after new_is stays = tt
   take_err (Err e) after new_is stays = subst (Finds n alone seen) (sym (new_is ∙ stays.listed)) finds
+
+-- a look of a seat, whose turn found b, and ended
+module _ {D : Type 0} {disk : Ghosts D} (shared : SharedGroup D disk) (old mid new : GroupSeat D disk) (b : Behind D disk) (rooted : b.start ≡ root_in shared) (begins : Begins (seen_by old) (list_of b)) (own : entries_of (number_of old) (list_of b) ≡ entries_of (number_of old) (seen_by old)) (alone : IsFirst old → out_of old ≡ 0 → list_of b ≡ seen_by old) (same : IsSameSeat old mid) (is : IsSeatOf shared new) (still : IsSameSeat mid new) (history : IsHistory (root_in shared) (seen_by new)) where
+  found : Finds (number_of old) (IsAlone old) (seen_by old) (list_of b)
+  found = record { begins = begins; own = own; exact = λ a. alone a.0 a.1 }
+
+  stands : IsSeatOf shared new × IsSameSeat old new
+  stands = (is, (still.0 ∙ same.0, still.1 ∙ same.1, still.2 ∙ same.2, still.3 ∙ same.3))
+
+  pub tells : {A : Type 0} → (P : A → Group → Type 0) (told r : Result A NoMemory) → IfOk told (λ a. IsTrue b.group.told → P a (state_of b.group)) → IfOk r (λ a. told ≡ Ok a) → OnOk r (seen_by new ≡ list_of b ++ entry (number_of mid) (Look None) ∷ []) → OnErr r (seen_by new ≡ list_of b) → Tells shared old new r P
+  tells P told r so from ok err = record {
+    seat = stands;
+    look = look_ok (root_in shared) (number_of old) (number_of mid) same.0 (IsAlone old) (seen_by old) b rooted found (seen_by new) P told r so from ok;
+    err = look_err (root_in shared) (number_of old) (number_of mid) same.0 (IsAlone old) (seen_by old) b rooted found (seen_by new) r err;
+    history = history;
+  }
+
+  pub tells_at : {A : Type 0} → (i : ℕ) (P : A → Server → Type 0) (told r : Result (Result A Down) NoMemory) → IfOk told (λ t. IsTrue b.group.told → TellsOf (state_of b.group) i t P) → IfOk r (λ t. told ≡ Ok t) → OnOk r (seen_by new ≡ list_of b ++ entry (number_of mid) (Look None) ∷ []) → OnErr r (seen_by new ≡ list_of b)
+      → (out : Result A LookFault) → out ≡ told_of r → TellsAt shared old new i out P
+  tells_at i P told r so from ok err out out_is = record {
+    seat = stands;
+    look = look_at (root_in shared) (number_of old) (number_of mid) same.0 (IsAlone old) (seen_by old) b rooted found (seen_by new) i P told r so from ok err out out_is;
+    history = history;
+  }
 
 -- what is so of the value is so of what is told
 pub told_so : {A : Type 0} → (P : A → Type 0) (told r : Result A NoMemory) → IfOk told P → IfOk r (λ it. told ≡ Ok it) → IfOk r P

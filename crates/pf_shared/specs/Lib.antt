@@ -9,5 +9,6 @@ pub mod Seats
 pub mod Calls
 pub mod Faults
 pub mod Looks
+pub mod Telling
 pub mod Delivering
 pub mod Submitting

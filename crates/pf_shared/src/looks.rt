@@ -14,9 +14,10 @@ ghost use Rattle.pf_turn.specs.Seats as turns;
 ghost use Rattle.pf_shared.specs.declared.moment.Moment.TheVariants.{Look};
 ghost use Rattle.pf_shared.specs.Behinds.{list_of};
 ghost use Rattle.pf_shared.specs.Calls.{Finds, IsHistory};
-ghost use Rattle.pf_shared.specs.Looks.{Looks, LooksAt, TakesRead, told_of};
+ghost use Rattle.pf_shared.specs.Looks.{TakesRead, told_of};
 ghost use Rattle.pf_shared.specs.Moments.{entry};
 ghost use Rattle.pf_shared.specs.Seats.{IsAlone, IsSameSeat, IsSeatOf, number_of, root_in, seen_by};
+ghost use Rattle.pf_shared.specs.Telling.{Tells, TellsAt};
 
 use crate::{Behind, GroupSeat, LookFault, SharedGroup, copies};
 use pf_base::{Data, NoMemory, Sectors, ServerId, Slot, Term};
@@ -91,10 +92,7 @@ impl<D: Disk + Drop> SharedGroup<D> {
         seat: &mut GroupSeat<D>,
     ) -> Result<Vec<Acked>, NoMemory>
         requires { IsSeatOf self.now seat.old }
-        ensures seat { IsSeatOf self.now seat.new × IsSameSeat seat.old seat.new }
-        ensures look { IfOk result (λ acked. Looks (root_in self.now) (number_of seat.old) (IsAlone seat.old) (seen_by seat.old) (λ g. acked.items ≡ map acked_of g.acked) (seen_by seat.new)) }
-        ensures err { OnErr result (Finds (number_of seat.old) (IsAlone seat.old) (seen_by seat.old) (seen_by seat.new)) }
-        ensures history { IsHistory (root_in self.now) (seen_by seat.new) }
+        ensures { Tells self.now seat.old seat.new result (λ acked g. acked.items ≡ map acked_of g.acked) }
     {
         let turn = self.lock.take(rt, &mut seat.seat);
         let told = copies::acked(alloc, &turn.value.group);
@@ -111,10 +109,7 @@ impl<D: Disk + Drop> SharedGroup<D> {
         slot: Slot,
     ) -> Result<bool, NoMemory>
         requires { IsSeatOf self.now seat.old }
-        ensures seat { IsSeatOf self.now seat.new × IsSameSeat seat.old seat.new }
-        ensures look { IfOk result (λ is. Looks (root_in self.now) (number_of seat.old) (IsAlone seat.old) (seen_by seat.old) (λ g. is ≡ is_acked g term slot) (seen_by seat.new)) }
-        ensures err { OnErr result (Finds (number_of seat.old) (IsAlone seat.old) (seen_by seat.old) (seen_by seat.new)) }
-        ensures history { IsHistory (root_in self.now) (seen_by seat.new) }
+        ensures { Tells self.now seat.old seat.new result (λ is g. is ≡ is_acked g term slot) }
     {
         let turn = self.lock.take(rt, &mut seat.seat);
         let told = Ok(copies::is_acked(&turn.value.group, term, slot));
@@ -130,11 +125,8 @@ impl<D: Disk + Drop> SharedGroup<D> {
         seat: &mut GroupSeat<D>,
     ) -> Result<Option<(Term, ServerId)>, NoMemory>
         requires { IsSeatOf self.now seat.old }
-        ensures seat { IsSeatOf self.now seat.new × IsSameSeat seat.old seat.new }
-        ensures look { IfOk result (λ leader. Looks (root_in self.now) (number_of seat.old) (IsAlone seat.old) (seen_by seat.old) (λ g. IsLeader g leader) (seen_by seat.new)) }
+        ensures told { Tells self.now seat.old seat.new result (λ leader g. IsLeader g leader) }
         ensures low { IfOk result (λ leader. IfSome leader (λ served. served.1 < 3)) }
-        ensures err { OnErr result (Finds (number_of seat.old) (IsAlone seat.old) (seen_by seat.old) (seen_by seat.new)) }
-        ensures history { IsHistory (root_in self.now) (seen_by seat.new) }
     {
         let turn = self.lock.take(rt, &mut seat.seat);
         let told = Ok(turn.value.group.leader());
@@ -149,11 +141,8 @@ impl<D: Disk + Drop> SharedGroup<D> {
         seat: &mut GroupSeat<D>,
     ) -> Result<u32, NoMemory>
         requires { IsSeatOf self.now seat.old }
-        ensures seat { IsSeatOf self.now seat.new × IsSameSeat seat.old seat.new }
-        ensures look { IfOk result (λ count. Looks (root_in self.now) (number_of seat.old) (IsAlone seat.old) (seen_by seat.old) (λ g. count ≡ length g.packets) (seen_by seat.new)) }
+        ensures told { Tells self.now seat.old seat.new result (λ count g. count ≡ length g.packets) }
         ensures few { IfOk result (λ count. count ≤ 65536) }
-        ensures err { OnErr result (Finds (number_of seat.old) (IsAlone seat.old) (seen_by seat.old) (seen_by seat.new)) }
-        ensures history { IsHistory (root_in self.now) (seen_by seat.new) }
     {
         let turn = self.lock.take(rt, &mut seat.seat);
         let told = Ok(turn.value.group.packets());
@@ -169,11 +158,8 @@ impl<D: Disk + Drop> SharedGroup<D> {
         from: u32,
     ) -> Result<Option<u32>, NoMemory>
         requires { IsSeatOf self.now seat.old }
-        ensures seat { IsSeatOf self.now seat.new × IsSameSeat seat.old seat.new }
-        ensures look { IfOk result (λ left. Looks (root_in self.now) (number_of seat.old) (IsAlone seat.old) (seen_by seat.old) (λ g. left ≡ least_from from g) (seen_by seat.new)) }
+        ensures told { Tells self.now seat.old seat.new result (λ left g. left ≡ least_from from g) }
         ensures few { IfOk result (λ left. IfSome left (λ k. (from ≤ k) × (k < 65536))) }
-        ensures err { OnErr result (Finds (number_of seat.old) (IsAlone seat.old) (seen_by seat.old) (seen_by seat.new)) }
-        ensures history { IsHistory (root_in self.now) (seen_by seat.new) }
     {
         let turn = self.lock.take(rt, &mut seat.seat);
         let told = Ok(turn.value.least_from(from));
@@ -189,11 +175,8 @@ impl<D: Disk + Drop> SharedGroup<D> {
         number: u32,
     ) -> Result<bool, NoMemory>
         requires { IsSeatOf self.now seat.old }
-        ensures seat { IsSeatOf self.now seat.new × IsSameSeat seat.old seat.new }
-        ensures look { IfOk result (λ left. Looks (root_in self.now) (number_of seat.old) (IsAlone seat.old) (seen_by seat.old) (λ g. left ≡ is_left (slice_get g.packets number)) (seen_by seat.new)) }
+        ensures told { Tells self.now seat.old seat.new result (λ left g. left ≡ is_left (slice_get g.packets number)) }
         ensures sent { IfOk result (λ left. IsTrue left → number < 65536) }
-        ensures err { OnErr result (Finds (number_of seat.old) (IsAlone seat.old) (seen_by seat.old) (seen_by seat.new)) }
-        ensures history { IsHistory (root_in self.now) (seen_by seat.new) }
     {
         let turn = self.lock.take(rt, &mut seat.seat);
         let told = Ok(turn.value.group.is_left(number));
@@ -212,9 +195,7 @@ impl<D: Disk + Drop> SharedGroup<D> {
     ) -> Result<Term, LookFault>
         requires seat { IsSeatOf self.now seat.old }
         requires server { server < 3 }
-        ensures seat { IsSeatOf self.now seat.new × IsSameSeat seat.old seat.new }
-        ensures look { LooksAt (root_in self.now) (number_of seat.old) (IsAlone seat.old) (seen_by seat.old) server result (λ term s. term ≡ s.durable.term) (seen_by seat.new) }
-        ensures history { IsHistory (root_in self.now) (seen_by seat.new) }
+        ensures { TellsAt self.now seat.old seat.new server result (λ term s. term ≡ s.durable.term) }
     {
         let turn = self.lock.take(rt, &mut seat.seat);
         let told = Ok(turn.value.group.term_of(server));
@@ -233,9 +214,7 @@ impl<D: Disk + Drop> SharedGroup<D> {
     ) -> Result<Slot, LookFault>
         requires seat { IsSeatOf self.now seat.old }
         requires server { server < 3 }
-        ensures seat { IsSeatOf self.now seat.new × IsSameSeat seat.old seat.new }
-        ensures look { LooksAt (root_in self.now) (number_of seat.old) (IsAlone seat.old) (seen_by seat.old) server result (λ base s. base ≡ s.durable.base) (seen_by seat.new) }
-        ensures history { IsHistory (root_in self.now) (seen_by seat.new) }
+        ensures { TellsAt self.now seat.old seat.new server result (λ base s. base ≡ s.durable.base) }
     {
         let turn = self.lock.take(rt, &mut seat.seat);
         let told = Ok(turn.value.group.base_of(server));
@@ -255,9 +234,7 @@ impl<D: Disk + Drop> SharedGroup<D> {
     ) -> Result<Option<Entry>, LookFault>
         requires seat { IsSeatOf self.now seat.old }
         requires server { server < 3 }
-        ensures seat { IsSeatOf self.now seat.new × IsSameSeat seat.old seat.new }
-        ensures look { LooksAt (root_in self.now) (number_of seat.old) (IsAlone seat.old) (seen_by seat.old) server result (λ held s. held ≡ finite.get s.durable.log slot) (seen_by seat.new) }
-        ensures history { IsHistory (root_in self.now) (seen_by seat.new) }
+        ensures { TellsAt self.now seat.old seat.new server result (λ held s. held ≡ finite.get s.durable.log slot) }
     {
         let turn = self.lock.take(rt, &mut seat.seat);
         let told = copies::entry_of(alloc, &turn.value.group, server, slot);
@@ -277,9 +254,7 @@ impl<D: Disk + Drop> SharedGroup<D> {
     ) -> Result<bool, LookFault>
         requires seat { IsSeatOf self.now seat.old }
         requires server { server < 3 }
-        ensures seat { IsSeatOf self.now seat.new × IsSameSeat seat.old seat.new }
-        ensures look { LooksAt (root_in self.now) (number_of seat.old) (IsAlone seat.old) (seen_by seat.old) server result (λ is s. is ≡ set.contains s.committed slot) (seen_by seat.new) }
-        ensures history { IsHistory (root_in self.now) (seen_by seat.new) }
+        ensures { TellsAt self.now seat.old seat.new server result (λ is s. is ≡ set.contains s.committed slot) }
     {
         let turn = self.lock.take(rt, &mut seat.seat);
         let told = Ok(turn.value.group.is_committed_of(server, slot));
@@ -298,9 +273,7 @@ impl<D: Disk + Drop> SharedGroup<D> {
     ) -> Result<SlotSet, LookFault>
         requires seat { IsSeatOf self.now seat.old }
         requires server { server < 3 }
-        ensures seat { IsSeatOf self.now seat.new × IsSameSeat seat.old seat.new }
-        ensures look { LooksAt (root_in self.now) (number_of seat.old) (IsAlone seat.old) (seen_by seat.old) server result (λ slots s. IsAppliedOf slots.slots s) (seen_by seat.new) }
-        ensures history { IsHistory (root_in self.now) (seen_by seat.new) }
+        ensures { TellsAt self.now seat.old seat.new server result (λ slots s. IsAppliedOf slots.slots s) }
     {
         let turn = self.lock.take(rt, &mut seat.seat);
         let told = copies::applied_of(alloc, &turn.value.group, server);
@@ -319,9 +292,7 @@ impl<D: Disk + Drop> SharedGroup<D> {
     ) -> Result<Sectors, LookFault>
         requires seat { IsSeatOf self.now seat.old }
         requires server { server < 3 }
-        ensures seat { IsSeatOf self.now seat.new × IsSameSeat seat.old seat.new }
-        ensures look { LooksAt (root_in self.now) (number_of seat.old) (IsAlone seat.old) (seen_by seat.old) server result (λ sectors s. sectors ≡ s.sectors) (seen_by seat.new) }
-        ensures history { IsHistory (root_in self.now) (seen_by seat.new) }
+        ensures { TellsAt self.now seat.old seat.new server result (λ sectors s. sectors ≡ s.sectors) }
     {
         let turn = self.lock.take(rt, &mut seat.seat);
         let told = copies::sectors_of(alloc, &turn.value.group, server);
@@ -340,10 +311,7 @@ impl<D: Disk + Drop> SharedGroup<D> {
     ) -> Result<Option<Sectors>, NoMemory>
         requires seat { IsSeatOf self.now seat.old }
         requires server { server < 3 }
-        ensures seat { IsSeatOf self.now seat.new × IsSameSeat seat.old seat.new }
-        ensures look { IfOk result (λ sectors. Looks (root_in self.now) (number_of seat.old) (IsAlone seat.old) (seen_by seat.old) (λ g. sectors ≡ snapshot_in (slice_get g.servers server) slot) (seen_by seat.new)) }
-        ensures err { OnErr result (Finds (number_of seat.old) (IsAlone seat.old) (seen_by seat.old) (seen_by seat.new)) }
-        ensures history { IsHistory (root_in self.now) (seen_by seat.new) }
+        ensures { Tells self.now seat.old seat.new result (λ sectors g. sectors ≡ snapshot_in (slice_get g.servers server) slot) }
     {
         let turn = self.lock.take(rt, &mut seat.seat);
         let told = copies::snapshot(alloc, &turn.value.group, server, slot);

@@ -4,16 +4,16 @@ use Rattle.pf_live.proofs.Deliveries.{delivered_finds, delivered_look, is_switch
 use Rattle.pf_live.proofs.switching.Switch.publish.Goals as goal
 
 pub returns-in_err-leader-clause-is : goal.returns-in_err-leader-clause-is
-returns-in_err-leader-clause-is g c = let a = c.args.self.now in let line = c.args.line.now in let e = c.leader.ensures in
+returns-in_err-leader-clause-is g c = let a = c.args.self.now in let line = c.args.line.now in let e = c.leader.ensures.told in
     is_switch line.group line.cell line.plan.turns a _ e.seat.0 e.seat.1.0 refl c.requires.pass
-    (delivered_finds line.plan.turns (root_in line.group) (seen_by a.begun.value) (number_of a.seat) (IsAlone a.seat) (seen_by a.seat) _ a.next a.made c.in_err-leader.ensures.err c.requires.did)
+    (delivered_finds line.plan.turns (root_in line.group) (seen_by a.begun.value) (number_of a.seat) (IsAlone a.seat) (seen_by a.seat) _ a.next a.made c.in_err-leader.ensures.told.err c.requires.did)
 
 pub returns-in-Some-clause-is : goal.returns-in-Some-clause-is
-returns-in-Some-clause-is g c = let a = c.args.self.now in let line = c.args.line.now in let e = c.leader.ensures in
+returns-in-Some-clause-is g c = let a = c.args.self.now in let line = c.args.line.now in let e = c.leader.ensures.told in
     is_switch line.group line.cell line.plan.turns a _ e.seat.0 e.seat.1.0 refl c.publish.ensures.pass
-    (delivered_look line.plan.turns (root_in line.group) (seen_by a.begun.value) (number_of a.seat) (IsAlone a.seat) (seen_by a.seat) _ a.next a.made c.in_ok-leader.ensures.look.adds c.requires.did)
+    (delivered_look line.plan.turns (root_in line.group) (seen_by a.begun.value) (number_of a.seat) (IsAlone a.seat) (seen_by a.seat) _ a.next a.made c.in_ok-leader.ensures.told.look.adds c.requires.did)
 
 pub returns-in_default-clause-is : goal.returns-in_default-clause-is
-returns-in_default-clause-is g c = let a = c.args.self.now in let line = c.args.line.now in let e = c.leader.ensures in
+returns-in_default-clause-is g c = let a = c.args.self.now in let line = c.args.line.now in let e = c.leader.ensures.told in
     is_switch line.group line.cell line.plan.turns a _ e.seat.0 e.seat.1.0 refl c.requires.pass
-    (delivered_look line.plan.turns (root_in line.group) (seen_by a.begun.value) (number_of a.seat) (IsAlone a.seat) (seen_by a.seat) _ a.next a.made c.in_ok-leader.ensures.look.adds c.requires.did)
+    (delivered_look line.plan.turns (root_in line.group) (seen_by a.begun.value) (number_of a.seat) (IsAlone a.seat) (seen_by a.seat) _ a.next a.made c.in_ok-leader.ensures.told.look.adds c.requires.did)
