@@ -24,7 +24,7 @@ use Rattle.pf_protocol.specs.declared.answers.Refusal.TheVariants.{Halted, Stale
 use Rattle.pf_protocol.specs.declared.events.Event.{Event}
 use Rattle.pf_protocol.specs.declared.events.Event.TheVariants.{Submit, Fetch, Deliver, Lose, Elect, Resend, Stop, Restart, Claim, Finish, GiveBack, Checkpoint}
 use Rattle.pf_protocol.specs.Servers.{Setup, Server, Condition, Running, Stopped, Unformatted, has_applied}
-use Rattle.pf_protocol.specs.Outcomes.{sends, refused}
+use Rattle.pf_protocol.specs.Outcomes.{sends, only_answers}
 use Rattle.pf_protocol.specs.Leading.{op_at}
 use Rattle.pf_protocol.specs.Rows.{settled}
 use Rattle.pf_protocol.specs.Saving.{claimable, claimed, is_claimable, applied_op, on_finish}
@@ -146,7 +146,7 @@ applied_left window s slot o =
 finish_left : (window : ℕ) (s : Server) (life slot : ℕ) → slots_left window (settled (on_finish s life slot).server) ≤ slots_left window s
 unfolding on_finish settled slots_left
 finish_left window s life slot =
-    by_test (life == s.life) (λ c. slots_left window (if c then sends (applied_op s slot (FinMap.get s.in_hand slot)) [] else refused s (Refused (Stale s.life))).server ≤ slots_left window s)
+    by_test (life == s.life) (λ c. slots_left window (if c then sends (applied_op s slot (FinMap.get s.in_hand slot)) [] else only_answers s (Refused (Stale s.life))).server ≤ slots_left window s)
     (λ _. applied_left window s slot (FinMap.get s.in_hand slot)) (λ _. omega arith)
 
 -- a place of a list after a write
@@ -193,7 +193,7 @@ module _ (window : ℕ) (g : Group) where
 no_job : (c : Option Condition) (life slot : ℕ) → is_job (finish_answer c life slot) ≡ false
 unfolding on_finish
 no_job (Some (Running s)) life slot =
-    by_test (life == s.life) (λ c. is_job (if c then sends (applied_op s slot (FinMap.get s.in_hand slot)) [] else refused s (Refused (Stale s.life))).answer ≡ false) (λ _. refl) (λ _. refl)
+    by_test (life == s.life) (λ c. is_job (if c then sends (applied_op s slot (FinMap.get s.in_hand slot)) [] else only_answers s (Refused (Stale s.life))).answer ≡ false) (λ _. refl) (λ _. refl)
 no_job (Some (Stopped now before after)) life slot = refl
 no_job (Some Unformatted) life slot = refl
 no_job None life slot = refl

@@ -16,7 +16,7 @@ use Rattle.pf_protocol.specs.declared.events.Event.TheVariants.{Claim}
 use Rattle.pf_protocol.specs.Servers.{Setup, Server, Condition, Running, Stopped, Unformatted, has_applied}
 use Rattle.pf_protocol.specs.Saving.{claimable, is_claimable}
 use Rattle.pf_protocol.specs.Groups.{Group, claim_of}
-use Rattle.pf_protocol.specs.Histories.{History, Runs, replay}
+use Rattle.pf_protocol.specs.Histories.{History, RunsAs, replay}
 use Rattle.pf_protocol.specs.Answers.{claims_of, claim_answer, claim_answer_at, answer_to, IsLegal}
 use Rattle.pf_protocol.proofs.ForHistories.{legal_fits}
 use Rattle.pf_applyrounds.specs.Closed.{IsClosed}
@@ -64,7 +64,7 @@ none_at window g (i ∷ is) answer =
     let both = passed_on window i (slice_get g.servers i) (claim_of window (slice_get g.servers i)) (claim_answer window g is) refl answer in
     (both.0, none_at window g is both.1)
 
-none_claimable : (setup : Setup) (g : Group) (i : ℕ) (s : Server) → i < 3 → Runs g i s → answer_to setup g Claim ≡ Refused NoneFree → claimable setup.window s ≡ None
+none_claimable : (setup : Setup) (g : Group) (i : ℕ) (s : Server) → i < 3 → RunsAs g i s → answer_to setup g Claim ≡ Refused NoneFree → claimable setup.window s ≡ None
 unfolding answer_to
 none_claimable setup g zero s low runs answer = (none_at setup.window g (0 ∷ 1 ∷ 2 ∷ []) answer).0 s runs
 none_claimable setup g (suc zero) s low runs answer = (none_at setup.window g (0 ∷ 1 ∷ 2 ∷ []) answer).1.0 s runs
@@ -93,14 +93,14 @@ all_applied window s none idle within e held committed free =
           absurd (false≢true (sym fails ∙ applied_or_claimable s e idle held committed free isnt))
     ]
 
-pub closed_at : (setup : Setup) (g : Group) (i : ℕ) (s : Server) → i < 3 → Runs g i s → ((slot : ℕ) → FinMap.get s.in_hand slot ≡ None) → IsWithin setup.window s → answer_to setup g Claim ≡ Refused NoneFree → IsClosed s
+pub closed_at : (setup : Setup) (g : Group) (i : ℕ) (s : Server) → i < 3 → RunsAs g i s → ((slot : ℕ) → FinMap.get s.in_hand slot ≡ None) → IsWithin setup.window s → answer_to setup g Claim ≡ Refused NoneFree → IsClosed s
 closed_at setup g i s low runs idle within answer slot = (
   λ is done begins closed. begins slot is,
   λ each. each (has_applied s) (λ p is. is) (all_applied setup.window s (none_claimable setup g i s low runs answer) idle within),
 )
 
 -- in every legal history with no open claim
-pub legal_closed : (setup : Setup) (history : History) (i : ℕ) (s : Server) → IsLegal setup history → claims_of [] history ≡ [] → answer_to setup (replay setup history) Claim ≡ Refused NoneFree → Runs (replay setup history) i s → IsClosed s
+pub legal_closed : (setup : Setup) (history : History) (i : ℕ) (s : Server) → IsLegal setup history → claims_of [] history ≡ [] → answer_to setup (replay setup history) Claim ≡ Refused NoneFree → RunsAs (replay setup history) i s → IsClosed s
 legal_closed setup history i s is none answer runs =
     let fits = (legal_fits setup history is).servers i (Running s) runs in
     closed_at setup (replay setup history) i s fits.0 runs (none_in_hand setup history i s is none runs) (λ slot e held. (fits.1.durable.vote.log slot e held).within) answer

@@ -21,13 +21,13 @@ use Rattle.pf_protocol.specs.declared.answers.Refusal.TheVariants.{Stale}
 use Rattle.pf_protocol.specs.declared.events.Event.{Event}
 use Rattle.pf_protocol.specs.declared.events.Event.TheVariants.{Submit, Fetch, Deliver, Lose, Elect, Resend, Stop, Restart, Claim, Finish, GiveBack, Checkpoint}
 use Rattle.pf_protocol.specs.Servers.{Setup, Role, Follower, Candidate, Merging, Serving, Server, Condition, Running, Stopped, Unformatted, upto}
-use Rattle.pf_protocol.specs.Outcomes.{Outcome, sends, refused, raise_term}
-use Rattle.pf_protocol.specs.Leading.{submitted, on_submit, on_fetch, on_elect, on_resend, merged, on_vote, marked, mark, on_ack, on_probe_ok, op_at}
+use Rattle.pf_protocol.specs.Outcomes.{Outcome, sends, only_answers, raise_term}
+use Rattle.pf_protocol.specs.Leading.{submitted, on_submit, on_fetch, on_elect, on_resend, merged, on_vote, commit_own, commit, on_ack, on_probe_ok, op_at}
 use Rattle.pf_protocol.specs.Following.{meets_term, on_request_vote, accepted, on_accept, on_nack, on_commit, on_probe, installed, on_image}
 use Rattle.pf_protocol.specs.Rows.{on_message, on_packet, settled}
 use Rattle.pf_protocol.specs.Saving.{renewed, restarted, is_short_of, trimmed, on_checkpoint, claimed, applied_op, on_finish, on_give_back}
-use Rattle.pf_protocol.specs.Groups.{Sent, Group, Ending, Whole, CutOff, Missed, Untouched, acted, cut_off, step_of, at_server, marked_in, delivered, lost, stopped, begun, restart, claim_of, claim_at, claim_or, first_claim, only, counted_election, ending, happens, opening, first_leader, opening_disk}
-use Rattle.pf_protocol.specs.Histories.{History, Runs, run, replay}
+use Rattle.pf_protocol.specs.Groups.{Sent, Group, Ending, Whole, CutOff, Missed, Untouched, acted, cut_off, step_of, at_server, delivered_in, delivered, lost, stopped, begun, restart, claim_of, claim_at, claim_or, first_claim, only, counted_election, ending, happens, opening, first_leader, opening_disk}
+use Rattle.pf_protocol.specs.Histories.{History, RunsAs, run, replay}
 use Rattle.pf_protocol.specs.Answers.{Claimed, is_claim, claims_with, claims_without, claims_after, claims_of, claim_answer, claim_answer_at, finish_answer, answer_to, may_halt, IsAnswer, IsLegalFrom, IsLegal}
 use Rattle.pf_entry.proofs.Cases.{by_test}
 use Rattle.pf_applyrounds.proofs.Bound.{answer_is}
@@ -84,7 +84,7 @@ module _ (s : Server) where
   vote_keeps term vote (Serving l) = kept
 
   ack_keeps : (from term slot upto_there : ℕ) (role : Role) → Keeps s (on_ack s from term slot upto_there role).server
-  unfolding on_ack marked
+  unfolding on_ack commit_own
   ack_keeps from term slot upto_there Follower = kept
   ack_keeps from term slot upto_there (Candidate own) = kept
   ack_keeps from term slot upto_there (Merging l) = either_keeps s (term == s.durable.term) _ _ (inl (refl, refl)) kept
@@ -106,7 +106,7 @@ module _ (s : Server) where
       (either_keeps s (holds s.durable e.slot e.term) _ _ kept (inl (refl, refl)))))
 
   message_keeps : (setup : Setup) (from term : ℕ) (body : Body) → Keeps s (on_message setup s from term body).server
-  unfolding on_message on_request_vote on_nack on_commit mark on_probe on_image installed
+  unfolding on_message on_request_vote on_nack on_commit commit on_probe on_image installed
   message_keeps setup from term (RequestVote base) = either_keeps s (nat_le term s.durable.term || nat_lt base s.durable.base) _ _ kept (inl (refl, refl))
   message_keeps setup from term (Vote vote) = vote_keeps term vote s.role
   message_keeps setup from term (Accept e) = accept_keeps setup from e
@@ -196,11 +196,11 @@ module _ (claims : List Claimed) (g : Group) (all : AllHanded claims g.servers) 
   counted_handed Missed = all
   counted_handed Untouched = all
 
-  marked_handed : (how : Ending) (k : ℕ) (p : Sent) → AllHanded claims (marked_in how g k p).servers
-  marked_handed Whole k p = all
-  marked_handed CutOff k p = all
-  marked_handed Missed k p = all
-  marked_handed Untouched k p = all
+  delivery_handed : (how : Ending) (k : ℕ) (p : Sent) → AllHanded claims (delivered_in how g k p).servers
+  delivery_handed Whole k p = all
+  delivery_handed CutOff k p = all
+  delivery_handed Missed k p = all
+  delivery_handed Untouched k p = all
 
   -- a claim
   job_of : (i slot : ℕ) (s : Server) → Claimed
@@ -294,7 +294,7 @@ module _ (claims : List Claimed) (g : Group) (all : AllHanded claims g.servers) 
 finish_returns : (life slot : ℕ) (s : Server) → Returns life slot s (on_finish s life slot).server
 unfolding on_finish applied_op
 finish_returns life slot s =
-    by_test (life == s.life) (λ c. (life == s.life) ≡ c → Returns life slot s (if c then sends (applied_op s slot (FinMap.get s.in_hand slot)) [] else refused s (Refused (Stale s.life))).server)
+    by_test (life == s.life) (λ c. (life == s.life) ≡ c → Returns life slot s (if c then sends (applied_op s slot (FinMap.get s.in_hand slot)) [] else only_answers s (Refused (Stale s.life))).server)
     (λ _ _. by_job (FinMap.get s.in_hand slot) refl)
     (λ _ other. record { same_life = refl; jobs = λ k op has. (has, λ now. absurd (eqb-false life s.life other (sym now))) }) refl
   where
@@ -313,15 +313,15 @@ give_back_returns life slot s =
 finish_took : (answer : Answer) (c : Option Condition) (life slot : ℕ) → answer ≡ finish_answer c life slot → (s : Server) → c ≡ Some (Running s) → (ending answer ≡ Whole) ⊎ (s.life ≢ life)
 unfolding on_finish
 finish_took answer c life slot is s at =
-    by_test (life == s.life) (λ b. (life == s.life) ≡ b → answer ≡ (if b then sends (applied_op s slot (FinMap.get s.in_hand slot)) [] else refused s (Refused (Stale s.life))).answer → (ending answer ≡ Whole) ⊎ (s.life ≢ life))
+    by_test (life == s.life) (λ b. (life == s.life) ≡ b → answer ≡ (if b then sends (applied_op s slot (FinMap.get s.in_hand slot)) [] else only_answers s (Refused (Stale s.life))).answer → (ending answer ≡ Whole) ⊎ (s.life ≢ life))
     (λ _ _ done. inl (ap ending done)) (λ _ other _. inr (λ now. eqb-false life s.life other (sym now))) refl (is ∙ ap (λ x. finish_answer x life slot) at)
 
 deliver_handed : (setup : Setup) (claims : List Claimed) (g : Group) → AllHanded claims g.servers → (how : Ending) (k : ℕ) (o : Option Sent) → AllHanded claims (delivered setup how g k o).servers
 unfolding on_packet
 deliver_handed setup claims g all how k None = all
 deliver_handed setup claims g all how k (Some p) =
-    by_test p.lost (λ c. AllHanded claims (if c then g else at_server how (marked_in how g k p) p.packet.to (λ s. on_packet setup s p.packet)).servers) (λ _. all)
-    (λ _. server_handed claims (marked_in how g k p) (marked_handed claims g all how k p) how p.packet.to (λ s. on_packet setup s p.packet) (λ s. message_keeps s setup p.packet.from p.packet.term p.packet.body))
+    by_test p.lost (λ c. AllHanded claims (if c then g else at_server how (delivered_in how g k p) p.packet.to (λ s. on_packet setup s p.packet)).servers) (λ _. all)
+    (λ _. server_handed claims (delivered_in how g k p) (delivery_handed claims g all how k p) how p.packet.to (λ s. on_packet setup s p.packet) (λ s. message_keeps s setup p.packet.from p.packet.term p.packet.body))
 
 -- every event
 happens_handed : (setup : Setup) (g : Group) (claims : List Claimed) → AllHanded claims g.servers → (event : Event) (answer : Answer) → IsAnswer setup g event answer → AllHanded (claims_after claims event answer) (happens setup g event (ending answer)).servers
@@ -359,11 +359,11 @@ opening_handed setup (suc (suc zero)) c at = subst (IsHanded [] 2) (same_Some _ 
 opening_handed setup (suc (suc (suc i))) c at = absurd (none-some c at)
 
 -- in every legal history
-pub legal_claimed : (setup : Setup) (history : History) (i : ℕ) (s : Server) (slot : ℕ) (op : Op) → IsLegal setup history → Runs (replay setup history) i s → FinMap.get s.in_hand slot ≡ Some op → list_any (is_claim i s.life slot) (claims_of [] history) ≡ true
+pub legal_claimed : (setup : Setup) (history : History) (i : ℕ) (s : Server) (slot : ℕ) (op : Op) → IsLegal setup history → RunsAs (replay setup history) i s → FinMap.get s.in_hand slot ≡ Some op → list_any (is_claim i s.life slot) (claims_of [] history) ≡ true
 legal_claimed setup history i s slot op is runs has = handed_from setup history (opening setup) [] (opening_handed setup) is.legal i (Running s) runs slot op has
 
 -- with no open claim, nothing is in hand
-pub none_in_hand : (setup : Setup) (history : History) (i : ℕ) (s : Server) → IsLegal setup history → claims_of [] history ≡ [] → Runs (replay setup history) i s → (slot : ℕ) → FinMap.get s.in_hand slot ≡ None
+pub none_in_hand : (setup : Setup) (history : History) (i : ℕ) (s : Server) → IsLegal setup history → claims_of [] history ≡ [] → RunsAs (replay setup history) i s → (slot : ℕ) → FinMap.get s.in_hand slot ≡ None
 none_in_hand setup history i s is none runs slot = by_job (FinMap.get s.in_hand slot) refl
   where
     by_job : (o : Option Op) → FinMap.get s.in_hand slot ≡ o → o ≡ None

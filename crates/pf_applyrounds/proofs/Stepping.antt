@@ -6,7 +6,7 @@ use Rattle.pf_base.specs.declared.filled.Filled.{Filled}
 use Rattle.pf_entry.specs.declared.ops.Job.{Job}
 use Rattle.pf_protocol.specs.Servers.{Condition, Running, Server, Setup, Stopped, Unformatted}
 use Rattle.pf_protocol.specs.Groups.{Group}
-use Rattle.pf_protocol.specs.Outcomes.{refused, sends}
+use Rattle.pf_protocol.specs.Outcomes.{only_answers, sends}
 use Rattle.pf_protocol.specs.Saving.{applied_op, on_finish}
 use Rattle.pf_protocol.specs.declared.answers.Answer.{Answer}
 use Rattle.pf_protocol.specs.declared.answers.Answer.TheVariants.{Done, Job as JobIs, Refused}
@@ -64,7 +64,7 @@ quiet_finish : (s : Server) (life slot : ℕ) → IsQuiet (on_finish s life slot
 unfolding on_finish
 quiet_finish s life slot = by (life == s.life)
   where
-    by : (b : Bool) → IsQuiet (if b then sends (applied_op s slot (FinMap.get s.in_hand slot)) [] else refused s (Refused (Stale s.life))).answer
+    by : (b : Bool) → IsQuiet (if b then sends (applied_op s slot (FinMap.get s.in_hand slot)) [] else only_answers s (Refused (Stale s.life))).answer
     by true = quiet_done
     by false = quiet_refused (Stale s.life) refl
 

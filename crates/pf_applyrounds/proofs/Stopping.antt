@@ -11,7 +11,7 @@ use Rattle.pf_protocol.specs.Servers.{Setup, Server, Condition, Running, Stopped
 use Rattle.pf_protocol.specs.Outcomes.{Outcome}
 use Rattle.pf_protocol.specs.Saving.{restarted, renewed, claimed}
 use Rattle.pf_protocol.specs.Rows.{on_packet, settled}
-use Rattle.pf_protocol.specs.Groups.{Sent, Group, Ending, Whole, CutOff, Missed, Untouched, acted, cut_off, ended, step_of, at_server, marked_in, delivered, lost, stopped, begun, restart, claim_of, claim_at, claim_or, first_claim, only, counted_election, ending, happens}
+use Rattle.pf_protocol.specs.Groups.{Sent, Group, Ending, Whole, CutOff, Missed, Untouched, acted, cut_off, ended, step_of, at_server, delivered_in, delivered, lost, stopped, begun, restart, claim_of, claim_at, claim_or, first_claim, only, counted_election, ending, happens}
 use Rattle.pf_network.specs.Going.{acts_at, receiver}
 use Rattle.pf_applyrounds.specs.Telling.{found_in}
 
@@ -119,19 +119,19 @@ module _ (setup : Setup) (g : Group) (answer : Answer) (i life : ℕ) (before af
     losses finds k None at = still finds g refl at
     losses finds k (Some sent) at = still finds (lost g k (Some sent)) refl at
 
-  marked_same : (how : Ending) (k : ℕ) (sent : Sent) → (marked_in how g k sent).servers ≡ g.servers
-  marked_same Whole k sent = refl
-  marked_same CutOff k sent = refl
-  marked_same Missed k sent = refl
-  marked_same Untouched k sent = refl
+  delivery_same : (how : Ending) (k : ℕ) (sent : Sent) → (delivered_in how g k sent).servers ≡ g.servers
+  delivery_same Whole k sent = refl
+  delivery_same CutOff k sent = refl
+  delivery_same Missed k sent = refl
+  delivery_same Untouched k sent = refl
 
   delivers : (how : Ending) → ending answer ≡ how → (k : ℕ) (sent : Option Sent) → slice_get g.packets k ≡ sent → StoppedIn (delivered setup how g k sent) → Stops (Deliver k)
   delivers how is k None there at = still (Deliver k) (λ _. refl) g refl at
   delivers how is k (Some sent) there at = by_loss sent.lost at
     where
-      by_loss : (c : Bool) → StoppedIn (if c then g else at_server how (marked_in how g k sent) sent.packet.to (λ s. on_packet setup s sent.packet)) → Stops (Deliver k)
+      by_loss : (c : Bool) → StoppedIn (if c then g else at_server how (delivered_in how g k sent) sent.packet.to (λ s. on_packet setup s sent.packet)) → Stops (Deliver k)
       by_loss true stands = still (Deliver k) (λ _. refl) g refl stands
-      by_loss false stands = steps (Deliver k) (λ _. refl) (marked_in how g k sent) (marked_same how k sent) how is sent.packet.to (ap receiver there) _ _ stands
+      by_loss false stands = steps (Deliver k) (λ _. refl) (delivered_in how g k sent) (delivery_same how k sent) how is sent.packet.to (ap receiver there) _ _ stands
 
   counted_same : (how : Ending) → (counted_election how g).servers ≡ g.servers
   counted_same Whole = refl

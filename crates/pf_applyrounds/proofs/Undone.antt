@@ -21,7 +21,7 @@ use Rattle.pf_protocol.specs.Outcomes.{sends}
 use Rattle.pf_protocol.specs.Rows.{is_ready, settled}
 use Rattle.pf_protocol.specs.Saving.{claimed, on_give_back, restarted}
 use Rattle.pf_protocol.specs.Groups.{Group, Ending, Whole, CutOff, Missed, Untouched, acted, answer_of, claim_at, claim_of, claim_or, ending, first_claim, first_leader, happens, only, opening, step_of}
-use Rattle.pf_protocol.specs.Histories.{History, Runs, replay, run}
+use Rattle.pf_protocol.specs.Histories.{History, RunsAs, replay, run}
 use Rattle.pf_protocol.specs.Answers.{Claimed, IsAnswer, IsLegal, IsLegalFrom, answer_to, claims_after, claims_of, may_halt}
 use Rattle.pf_protocol.proofs.ForMoments.{Came, Stays, Stepped, Begins, Claims, goes, opened, run_parts, legal_before}
 use Rattle.pf_applyrounds.specs.Begun.{IsClaimOrReturn}
@@ -34,7 +34,7 @@ abbrev IsSettled : Server → Type 0
 IsSettled s = Every (λ r. is_ready s r ≡ false) s.reads
 
 abbrev AllSettled : Group → Type 0
-AllSettled g = (i : ℕ) (s : Server) → Runs g i s → IsSettled s
+AllSettled g = (i : ℕ) (s : Server) → RunsAs g i s → IsSettled s
 
 settled_is : (s : Server) → IsSettled (settled s)
 unfolding settled

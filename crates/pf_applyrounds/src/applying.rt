@@ -2,7 +2,7 @@
 ghost use Rattle.std.specs.Prelude.{◌≡◌, ◌≤◌, ℕ, List, [], IfOk, IsTrue, OnErr, OnOk, is_some};
 ghost use Rattle.std.specs.List.{list_all};
 ghost use Rattle.pf_protocol.specs.Answers.{claims_of};
-ghost use Rattle.pf_protocol.specs.Histories.{Runs};
+ghost use Rattle.pf_protocol.specs.Histories.{RunsAs};
 ghost use Rattle.pf_protocol.specs.Servers.{Server};
 ghost use Rattle.pf_group.specs.GroupIs.{state_of};
 ghost use Rattle.pf_applyrounds.specs.Adding.{Adds, Goes, HasReturned};
@@ -18,10 +18,9 @@ ghost use Rattle.pf_applyrounds.specs.Rounds.{IsApplied, applied, finishes_since
 use crate::claiming::{ENOUGH, claim_all};
 use crate::ending::{finish_all, give_all_back};
 use pf_base::NoMemory;
-use pf_copy::{Gate, Work, bring_all};
+use pf_copy::{Gate, Work, Workers};
 use pf_disk::Disk;
 use pf_group::Group;
-use std::alloc::Global;
 use std::thread::Threads;
 
 /// Whether each job has its sectors.
@@ -31,19 +30,15 @@ fn are_filled(works: &[Work]) -> bool
     works.iter().all(|work| work.filled.is_some())
 }
 
-/// Copies the sectors of each job, on at most `workers` threads. `NoMemory` (1) where one has none.
+/// Copies the sectors of each job. `NoMemory` (1) where one has none.
 fn copy_all<R: Threads + Sync, G: Gate + Sync>(
-    rt: &R,
-    alloc: Global,
+    workers: &Workers<'_, R, G>,
     works: &mut Vec<Work>,
-    workers: u32,
-    gate: &G,
 ) -> Result<(), NoMemory>
-    requires { 1 ≤ workers }
     ensures jobs { jobs_of works.new.items ≡ jobs_of works.old.items }
     ensures filled { OnOk result (AreFilled works.new.items) }
 {
-    bring_all(rt, alloc, works.as_mut_slice(), workers, gate);
+    workers.bring_all(works.as_mut_slice());
     if are_filled(works.as_slice()) {
         Ok(())
     } else {
@@ -54,13 +49,9 @@ fn copy_all<R: Threads + Sync, G: Gate + Sync>(
 /// One round: claims jobs until none is free, copies their sectors, and finishes them in the order of their claims. The answer is how
 /// many there were. Where memory runs out (`NoMemory`, 1) all jobs of the round are given back.
 fn round<D: Disk + Drop, R: Threads + Sync, G: Gate + Sync>(
-    rt: &R,
-    alloc: Global,
+    workers: &Workers<'_, R, G>,
     group: &mut Group<D>,
-    workers: u32,
-    gate: &G,
 ) -> Result<u64, NoMemory>
-    requires workers { 1 ≤ workers }
     requires none { claims_of [] group.old.history ≡ [] }
     ensures goes { Goes group.old group.new }
     ensures none { claims_of [] group.new.history ≡ [] }
@@ -70,6 +61,7 @@ fn round<D: Disk + Drop, R: Threads + Sync, G: Gate + Sync>(
     ensures applied { IfOk result (λ count. count ≡ 0 → IsTrue group.new.told → IsApplied group.new.setup (state_of group.new)) }
     ensures returned { OnErr result (HasReturned group.old group.new) }
 {
+    let alloc = workers.alloc;
     let mut works = Vec::new(alloc);
     if let Err(NoMemory) = claim_all(alloc, group, &mut works) {
         give_all_back(group, works);
@@ -78,7 +70,7 @@ fn round<D: Disk + Drop, R: Threads + Sync, G: Gate + Sync>(
     if works.is_empty() {
         return Ok(0);
     }
-    if let Err(NoMemory) = copy_all(rt, alloc, &mut works, workers, gate) {
+    if let Err(NoMemory) = copy_all(workers, &mut works) {
         give_all_back(group, works);
         return Err(NoMemory);
     }
@@ -87,20 +79,16 @@ fn round<D: Disk + Drop, R: Threads + Sync, G: Gate + Sync>(
     Ok(count)
 }
 
-/// Applies everything that can be applied, in rounds: jobs are claimed until none is free, their sectors are copied on at most
-/// `workers` threads, and they are finished in the order of their claims, until a round claims nothing. Where the disks tell their
-/// content, each running server has then applied all that its look-behind lists allow. The answer is how many jobs were finished.
+/// Applies everything that can be applied, in rounds: jobs are claimed until none is free, their sectors are copied, and they are
+/// finished in the order of their claims, until a round claims nothing. Where the disks tell their content, each running server has then
+/// applied all that its look-behind lists allow. The answer is how many jobs were finished.
 ///
 /// Where memory runs out (`NoMemory`, 1) all jobs of that round are given back, and the rounds before it stand: a beginning of what it
 /// would have done.
 pub fn apply_all<D: Disk + Drop, R: Threads + Sync, G: Gate + Sync>(
-    rt: &R,
-    alloc: Global,
+    workers: &Workers<'_, R, G>,
     group: &mut Group<D>,
-    workers: u32,
-    gate: &G,
 ) -> Result<u64, NoMemory>
-    requires workers { (1 ≤ workers) × (workers ≤ 8) }
     requires none { claims_of [] group.old.history ≡ [] }
     ensures grown { HasGrown group.old group.new }
     ensures taken { group.new.taken ≡ group.old.taken }
@@ -108,13 +96,13 @@ pub fn apply_all<D: Disk + Drop, R: Threads + Sync, G: Gate + Sync>(
     ensures run { OnOk result ((halts : List Halt) → TellsOfGroup halts group.new → applied halts (chunk_of halts group.old) ≡ chunk_of halts group.new) }
     ensures applied { OnOk result (IsTrue group.new.told → IsApplied group.new.setup (state_of group.new)) }
     ensures begun { OnErr result ((halts : List Halt) → TellsOfGroup halts group.new → HasBegun halts group.old (applied halts (chunk_of halts group.old)) group.new) }
-    ensures closed { OnOk result (IsTrue group.new.told → (i : ℕ) (s : Server) → Runs (state_of group.new) i s → IsClosed s) }
+    ensures closed { OnOk result (IsTrue group.new.told → (i : ℕ) (s : Server) → RunsAs (state_of group.new) i s → IsClosed s) }
     ensures adds { IfOk result (λ count. Adds group.old group.new count count) }
     ensures count { IfOk result (λ count. count ≡ finishes_since group.old.history group.new.history) }
 {
     let mut count: u64 = 0;
     for _ in 0..ENOUGH {
-        let Ok(done) = round(rt, alloc, group, workers, gate) else {
+        let Ok(done) = round(workers, group) else {
             // In a legal history jobs that were claimed and given back leave the group as it was.
             let _legal = group.history();
             return Err(NoMemory);

@@ -20,6 +20,9 @@ use Rattle.pf_applyrounds.proofs.Extending.{Extends, after_extends, applied_exte
 use Rattle.pf_applyrounds.proofs.Growing.{grown_refl, grown_tells, grown_trans, left_grows, step_grows, taken_grows}
 use Rattle.pf_applyrounds.proofs.Paying.{only_faults}
 use Rattle.pf_applyrounds.proofs.Told.{told_longer, told_replays}
+use Rattle.pf_chunk.specs.declared.asked.Asked.{Asked}
+use Rattle.pf_chunk.specs.declared.asked.Asked.TheVariants as asks
+use Rattle.pf_chunk.specs.Asked.{asked_happened}
 use Rattle.pf_chunk.specs.Asking.{fetches, filled, is_range, no_range, submits}
 use Rattle.pf_chunk.specs.Happenings.{Happened, followed, happened}
 use Rattle.pf_chunk.specs.Runs.{ChunkRun}
@@ -57,6 +60,11 @@ module _ (halts : List Halt) (c : ChunkRun) where
 
   pub fetches_extend : (server first count : ℕ) → Extends c.group (fetches halts server first count c).chunk.group
   fetches_extend server first count = asked_extends server (is_range first count) _ (filled_extends (waits server) (events.Fetch server (record { first = first; count = count })) (λ m a. refl))
+
+  pub asked_extend : (asked : Asked) → Extends c.group (asked_happened halts asked c).chunk.group
+  asked_extend (asks.Event event) = happened_extends (event_of event false)
+  asked_extend (asks.Submit server first byte count) = submits_extend server first byte count
+  asked_extend (asks.Fetch server first count) = fetches_extend server first count
 
 -- as a run has it, the history of an earlier moment stands in front of that of a later one
 pub told_later : (halts : List Halt) (was is : GroupIs) → HasGrown was is → IsPrefix (told_history halts was) (told_history halts is)

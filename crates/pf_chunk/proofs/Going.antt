@@ -14,8 +14,8 @@ use Rattle.pf_protocol.specs.Outcomes.{Outcome, sends}
 use Rattle.pf_protocol.specs.Leading.{on_submit, on_fetch, on_elect, on_resend}
 use Rattle.pf_protocol.specs.Saving.{on_checkpoint, restarted, renewed, claimed, on_finish, on_give_back}
 use Rattle.pf_protocol.specs.Rows.{on_packet, settled, ready_reads}
-use Rattle.pf_protocol.specs.Groups.{Sent, Group, Ending, Whole, CutOff, Missed, Untouched, answer_of, reads_after, acted, cut_off, ended, ending, ending_of, step_of, at_server, with_sent, marked_in, delivered, lost, stopped, begun, restart, claim_of, claim_at, claim_or, first_claim, only, counted_election, happens}
-use Rattle.pf_protocol.specs.Histories.{Runs}
+use Rattle.pf_protocol.specs.Groups.{Sent, Group, Ending, Whole, CutOff, Missed, Untouched, answer_of, reads_after, acted, cut_off, ended, ending, ending_of, step_of, at_server, with_sent, delivered_in, delivered, lost, stopped, begun, restart, claim_of, claim_at, claim_or, first_claim, only, counted_election, happens}
+use Rattle.pf_protocol.specs.Histories.{RunsAs}
 use Rattle.pf_protocol.specs.Answers.{Turn, submit_turn, fetch_turn, elect_turn, deliver_turn, plain, answer_by, answer_at, delivery_answer, loss_answer, stop_answer, is_formatted, restart_answer, claim_answer_at, claim_answer, finish_answer, answer_to, IsAnswer}
 use Rattle.pf_entry.proofs.Cases.{by_test}
 use Rattle.pf_chunk.proofs.Numbering.{NoRead, refused_reads, done_reads}
@@ -23,7 +23,7 @@ use Rattle.pf_protocol.proofs.ForMoments.{IsRule, BySubmit, ByFetch, ByPacket, B
 
 -- one server took its step
 pub record Acted (setup : Setup) (g : Group) (event : Event) (answer : Answer) (after : Group) (i : ℕ) (s : Server) (o : Outcome) : Type 0 where
-  pub runs : Runs g i s
+  pub runs : RunsAs g i s
   pub rule : IsRule setup g i s event o
   pub told : answer ≡ o.answer
   pub servers : after.servers ≡ slice_set g.servers i (Running (settled o.server))
@@ -32,11 +32,11 @@ pub record Acted (setup : Setup) (g : Group) (event : Event) (answer : Answer) (
 
 -- the server has no reads that wait, or the same ones in the same term
 abbrev pub HasOld : Group → ℕ → Server → Type 0
-HasOld g i z = (z.reads ≡ []) ⊎ ((s : Server) × (Runs g i s) × (z.reads ≡ s.reads) × (z.durable.term ≡ s.durable.term))
+HasOld g i z = (z.reads ≡ []) ⊎ ((s : Server) × (RunsAs g i s) × (z.reads ≡ s.reads) × (z.durable.term ≡ s.durable.term))
 
 -- no server took a step
 pub record Rested (g after : Group) : Type 0 where
-  pub servers : (i : ℕ) (z : Server) → Runs after i z → HasOld g i z
+  pub servers : (i : ℕ) (z : Server) → RunsAs after i z → HasOld g i z
   pub answered : after.answered ≡ g.answered
   pub reads : after.reads ≡ g.reads
 
@@ -149,11 +149,11 @@ module _ (g : Group) where
   loses k None = still g (itself g)
   loses k (Some p) = still (with_sent g k (record p { lost = true })) (record { servers = refl; answered = refl; reads = refl })
 
-  marked_alike : (how : Ending) (k : ℕ) (p : Sent) → Alike g (marked_in how g k p)
-  marked_alike Whole k p = record { servers = refl; answered = refl; reads = refl }
-  marked_alike CutOff k p = record { servers = refl; answered = refl; reads = refl }
-  marked_alike Missed k p = record { servers = refl; answered = refl; reads = refl }
-  marked_alike Untouched k p = itself g
+  delivery_alike : (how : Ending) (k : ℕ) (p : Sent) → Alike g (delivered_in how g k p)
+  delivery_alike Whole k p = record { servers = refl; answered = refl; reads = refl }
+  delivery_alike CutOff k p = record { servers = refl; answered = refl; reads = refl }
+  delivery_alike Missed k p = record { servers = refl; answered = refl; reads = refl }
+  delivery_alike Untouched k p = itself g
 
   elections_alike : (how : Ending) → Alike g (counted_election how g)
   elections_alike Whole = record { servers = refl; answered = refl; reads = refl }
@@ -214,7 +214,7 @@ module _ (setup : Setup) (g : Group) (event : Event) (answer : Answer) where
   rested : (after : Group) → Rested g after → NoRead answer → Went setup g event answer after
   rested after h none = Rests h none
 
-  acts : (mid : Group) → Alike g mid → (i : ℕ) (s : Server) (o : Outcome) → Runs g i s → IsRule setup g i s event o → answer ≡ o.answer → Went setup g event answer (acted mid i o)
+  acts : (mid : Group) → Alike g mid → (i : ℕ) (s : Server) (o : Outcome) → RunsAs g i s → IsRule setup g i s event o → answer ≡ o.answer → Went setup g event answer (acted mid i o)
   unfolding acted
   acts mid a i s o runs rule told = Acts i s o (record {
     runs = runs;
@@ -225,7 +225,7 @@ module _ (setup : Setup) (g : Group) (event : Event) (answer : Answer) where
     reads = ap (λ n. reads_after n o.answer) a.reads;
   })
 
-  ends : (how : Ending) → ending answer ≡ how → (mid : Group) → Alike g mid → (i : ℕ) (s : Server) (o : Outcome) → Runs g i s → IsRule setup g i s event o → (ending answer ≡ Whole → answer ≡ o.answer) → Went setup g event answer (ended how mid i s o)
+  ends : (how : Ending) → ending answer ≡ how → (mid : Group) → Alike g mid → (i : ℕ) (s : Server) (o : Outcome) → RunsAs g i s → IsRule setup g i s event o → (ending answer ≡ Whole → answer ≡ o.answer) → Went setup g event answer (ended how mid i s o)
   unfolding cut_off
   ends Whole is mid a i s o runs rule told = acts mid a i s o runs rule (told is)
   ends CutOff is mid a i s o runs rule told = Rests (stops_at g mid a i (suc s.life) s.durable o.server.durable) (cut_reads answer CutOff is (λ e. grind (arith, e)))
@@ -249,9 +249,9 @@ module _ (setup : Setup) (g : Group) (answer : Answer) where
   delivers k None at judged = Rests (still g g (itself g)) (no_read (Refused NoPacket) answer (refused_reads NoPacket) judged)
   delivers k (Some p) at judged = by_loss p.lost judged
     where
-      by_loss : (c : Bool) → Judged (if c then Refused LostPacket else answer_at (slice_get g.servers p.packet.to) (deliver_turn setup g p)) answer → Went setup g (Deliver k) answer (if c then g else at_server (ending answer) (marked_in (ending answer) g k p) p.packet.to (λ s. on_packet setup s p.packet))
+      by_loss : (c : Bool) → Judged (if c then Refused LostPacket else answer_at (slice_get g.servers p.packet.to) (deliver_turn setup g p)) answer → Went setup g (Deliver k) answer (if c then g else at_server (ending answer) (delivered_in (ending answer) g k p) p.packet.to (λ s. on_packet setup s p.packet))
       by_loss true judged = Rests (still g g (itself g)) (no_read (Refused LostPacket) answer (refused_reads LostPacket) judged)
-      by_loss false judged = server_goes setup g (Deliver k) answer (marked_in (ending answer) g k p) (marked_alike g (ending answer) k p) p.packet.to (λ s. on_packet setup s p.packet) (λ s. ByPacket k p at refl)
+      by_loss false judged = server_goes setup g (Deliver k) answer (delivered_in (ending answer) g k p) (delivery_alike g (ending answer) k p) p.packet.to (λ s. on_packet setup s p.packet) (λ s. ByPacket k p at refl)
           (turn_from (slice_get g.servers p.packet.to) (deliver_turn setup g p) answer judged)
 
 loss_reads : (o : Option Sent) → NoRead (loss_answer o)

@@ -9,7 +9,7 @@ use Rattle.pf_protocol.specs.declared.events.Event.TheVariants.{Fetch}
 use Rattle.pf_protocol.specs.Servers.{Setup, Server, Running}
 use Rattle.pf_protocol.specs.Rows.{settled}
 use Rattle.pf_protocol.specs.Groups.{Group, ending, happens}
-use Rattle.pf_protocol.specs.Histories.{Runs}
+use Rattle.pf_protocol.specs.Histories.{RunsAs}
 use Rattle.pf_protocol.specs.Answers.{IsAnswer}
 use Rattle.pf_chunk.specs.Waiting.{IsAnsweredIn, ReadsWaitOnce, StepsReads, GoesOn, IsDropped, MayWait}
 use Rattle.pf_chunk.proofs.Numbering.{rule_number}
@@ -25,13 +25,13 @@ stays_so g after go i t n m none = record {
 }
 
 -- or until its server does not run in its term, after which no answer comes
-pub forgotten : (g : Group) (i t n : ℕ) → MayWait g i t n → ((s : Server) → Runs g i s → s.durable.term ≢ t) → IsDropped g n
+pub forgotten : (g : Group) (i t n : ℕ) → MayWait g i t n → ((s : Server) → RunsAs g i s → s.durable.term ≢ t) → IsDropped g n
 forgotten g i t n m gone = record {
   taken_up = m.taken_up;
   nowhere = λ x.
       let y = x.there in
       let at = m.only x.server x.term y in
-      gone y.server (subst (λ k. Runs g k y.server) at.0 y.runs) (y.in_term ∙ at.1);
+      gone y.server (subst (λ k. RunsAs g k y.server) at.0 y.runs) (y.in_term ∙ at.1);
   unanswered = m.unanswered;
 }
 
@@ -41,9 +41,9 @@ pub record TakenUp (g : Group) (event : Event) (after : Group) (n : ℕ) : Type 
   pub range : Span
   pub fetched : event ≡ Fetch server range
   pub before : Server
-  pub ran : Runs g server before
+  pub ran : RunsAs g server before
   pub now : Server
-  pub runs : Runs after server now
+  pub runs : RunsAs after server now
   pub numbered : n ≡ g.reads
 
 pub taken_up : (setup : Setup) (g : Group) (event : Event) (answer : Answer) → IsAnswer setup g event answer → (n : ℕ) → answer ≡ ReadIs n → TakenUp g event (happens setup g event (ending answer)) n
@@ -71,7 +71,7 @@ same_state : (x y : Server) → Some (Running x) ≡ Some (Running y) → x ≡ 
 same_state x y e = cc
 
 -- a read that is taken up is of the list, with the term in which its server runs then
-pub taken_so : (g : Group) (i : ℕ) (range : Span) (answer : Answer) (after : Group) → ReadsWaitOnce g → StepsReads g (Fetch i range) answer after → (n : ℕ) → answer ≡ ReadIs n → (z : Server) → Runs after i z → MayWait after i z.durable.term n
+pub taken_so : (g : Group) (i : ℕ) (range : Span) (answer : Answer) (after : Group) → ReadsWaitOnce g → StepsReads g (Fetch i range) answer after → (n : ℕ) → answer ≡ ReadIs n → (z : Server) → RunsAs after i z → MayWait after i z.durable.term n
 taken_so g i range answer after w h n told z runs = record {
   taken_up = omega (arith, is_next, h.reads, reads_are g.reads answer n told);
   unanswered = λ x. elim (h.answered n x) [

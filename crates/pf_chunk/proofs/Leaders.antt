@@ -3,7 +3,7 @@ use Rattle.std.proofs.Common.{◌≡◌, ℕ, ◌<◌, Option, Some, None, slice
 use Rattle.std.proofs.lemmas.Option.{none-some, same_Some}
 use Rattle.pf_protocol.specs.Servers.{Candidate, Condition, Follower, Merging, Role, Running, Server, Serving, Setup, Stopped, Unformatted}
 use Rattle.pf_protocol.specs.Groups.{Group}
-use Rattle.pf_protocol.specs.Histories.{History, Runs, replay}
+use Rattle.pf_protocol.specs.Histories.{History, RunsAs, replay}
 use Rattle.pf_protocol.specs.Safety.{OneLeader, leads}
 use Rattle.pf_protocol.proofs.ForMoments.{whole_prefix}
 use Rattle.pf_network.specs.Shown.{IsLeader, Serves}
@@ -14,7 +14,7 @@ module _ (g : Group) where
   serves_at : (i : ℕ) (x : ℕ × ℕ) → i < 3 → served_at g i ≡ Some x → Serves g i x.0 × (x.1 ≡ i)
   serves_at i x low is = by (slice_get g.servers i) refl is
     where
-      by_role : (s : Server) → Runs g i s → (role : Role) → s.role ≡ role → served_in s.durable.term i role ≡ Some x → Serves g i x.0 × (x.1 ≡ i)
+      by_role : (s : Server) → RunsAs g i s → (role : Role) → s.role ≡ role → served_in s.durable.term i role ≡ Some x → Serves g i x.0 × (x.1 ≡ i)
       by_role s runs (Serving leader) serves served =
           let same = same_Some (s.durable.term, i) x served in
           (record { low = low; s = s; leader = leader; runs = runs; serves = serves; in_term = ap (λ (p : ℕ × ℕ). p.0) same }, sym (ap (λ (p : ℕ × ℕ). p.1) same))

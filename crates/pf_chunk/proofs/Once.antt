@@ -13,7 +13,7 @@ use Rattle.pf_protocol.specs.Outcomes.{Outcome}
 use Rattle.pf_protocol.specs.Saving.{restarted}
 use Rattle.pf_protocol.specs.Rows.{is_ready, ready_reads, settled}
 use Rattle.pf_protocol.specs.Groups.{Answered, Group, answer_of, ending, happens, opening, first_leader}
-use Rattle.pf_protocol.specs.Histories.{History, Runs, replay}
+use Rattle.pf_protocol.specs.Histories.{History, RunsAs, replay}
 use Rattle.pf_protocol.specs.Answers.{IsAnswer, IsLegal}
 use Rattle.pf_protocol.proofs.ForRows.{does}
 use Rattle.pf_protocol.proofs.ForMoments.{legal_keeps, opened}
@@ -111,7 +111,7 @@ module _ (setup : Setup) (g : Group) (event : Event) (answer : Answer) (after : 
     ]
   ]
 
-  ascends_after : (j : ℕ) (z : Server) → Runs after j z → ascends (numbers z.reads) ≡ true
+  ascends_after : (j : ℕ) (z : Server) → RunsAs after j z → ascends (numbers z.reads) ≡ true
   ascends_after j z at = elim (at_place setup g event answer after i s o a j z at) [
     | inl here ↦ ap (λ x. ascends (numbers x.reads)) (sym here.1) ∙ ap (λ rs. ascends (numbers rs)) (left_reads o.server) ∙ fewer_ascend (λ r. not (is_ready o.server r)) o.server.reads sorted
     | inr there ↦ w.ascending j z there.1
@@ -171,7 +171,7 @@ next_once setup g event answer is w = by_way (went setup g event answer is)
     by_way (Rests r none) = rested_once g event answer _ r none w
 
 -- no read waits at the start
-opening_reads : (setup : Setup) (i : ℕ) (s : Server) → Runs (opening setup) i s → s.reads ≡ []
+opening_reads : (setup : Setup) (i : ℕ) (s : Server) → RunsAs (opening setup) i s → s.reads ≡ []
 unfolding first_leader restarted
 opening_reads setup = opened setup (λ s. s.reads ≡ []) refl (λ i. refl)
 

@@ -13,7 +13,7 @@ use Rattle.pf_protocol.specs.Servers.{Setup, Read, Server, Running}
 use Rattle.pf_protocol.specs.Outcomes.{Outcome}
 use Rattle.pf_protocol.specs.Rows.{is_ready, ready_reads, settled}
 use Rattle.pf_protocol.specs.Groups.{Group, answer_of, reads_after, ending, happens}
-use Rattle.pf_protocol.specs.Histories.{History, Runs, run}
+use Rattle.pf_protocol.specs.Histories.{History, RunsAs, run}
 use Rattle.pf_protocol.specs.Answers.{Claimed, IsAnswer, IsLegalFrom, claims_after}
 use Rattle.pf_protocol.proofs.ForMoments.{IsRule}
 use Rattle.pf_protocol.proofs.ForRows.{new_read, ReadsFrom, NoReads, SameReads, Takes, Confirms, does}
@@ -62,7 +62,7 @@ grows reads (JobIs job) = omega arith
 grows reads (Refused refusal) = omega arith
 
 -- what a server's rule does to its reads
-module _ (setup : Setup) (g : Group) (event : Event) (answer : Answer) (i : ℕ) (s : Server) (o : Outcome) (runs : Runs g i s) (rule : IsRule setup g i s event o) (told : answer ≡ o.answer) where
+module _ (setup : Setup) (g : Group) (event : Event) (answer : Answer) (i : ℕ) (s : Server) (o : Outcome) (runs : RunsAs g i s) (rule : IsRule setup g i s event o) (told : answer ≡ o.answer) where
   same_term : (n : ℕ) → HasRead o.server.reads n → o.server.durable.term ≡ s.durable.term
   same_term n h = elim ((does setup g i s event o rule).moves.reads) [
     | inl none ↦ absurd (none_has n (subst (λ rs. HasRead rs n) none h))
@@ -124,7 +124,7 @@ left_have z n h = fewer_have (λ r. not (is_ready z r)) z.reads n (subst (λ rs.
 
 -- one server's step
 module _ (setup : Setup) (g : Group) (event : Event) (answer : Answer) (after : Group) (i : ℕ) (s : Server) (o : Outcome) (a : Acted setup g event answer after i s o) where
-  pub at_place : (j : ℕ) (z : Server) → Runs after j z → ((j ≡ i) × (settled o.server ≡ z)) ⊎ ((j ≢ i) × Runs g j z)
+  pub at_place : (j : ℕ) (z : Server) → RunsAs after j z → ((j ≡ i) × (settled o.server ≡ z)) ⊎ ((j ≢ i) × RunsAs g j z)
   at_place j z at = elim (set_cases g.servers i (Running (settled o.server)) j (Running z) (ap (λ x. slice_get x j) (sym a.servers) ∙ at)) [
     | inl here ↦ inl (here.0, same_running (settled o.server) z here.1)
     | inr there ↦ inr there

@@ -7,7 +7,7 @@ use Rattle.pf_protocol.specs.declared.events.Event.TheVariants.{Fetch}
 use Rattle.pf_protocol.specs.declared.events.Happening.{Happening}
 use Rattle.pf_protocol.specs.Servers.{Condition, Running, Server, Setup, Stopped, Unformatted}
 use Rattle.pf_protocol.specs.Groups.{Group, opening}
-use Rattle.pf_protocol.specs.Histories.{History, IsPrefix, Runs, replay, run}
+use Rattle.pf_protocol.specs.Histories.{History, IsPrefix, RunsAs, replay, run}
 use Rattle.pf_protocol.specs.Answers.{IsLegal, IsLegalFrom, claims_of}
 use Rattle.pf_protocol.proofs.ForMoments.{legal_at, legal_before, replay_goes_on}
 use Rattle.pf_chunk.specs.declared.waiting.Waiting.{Waiting}
@@ -69,7 +69,7 @@ module _ (setup : Setup) (earlier history : History) (w : Waiting) (legal : IsLe
       let go = subst (GoesOn (replay setup here)) (later setup here earlier t.part) (legal_goes_on setup t.part.rest (replay setup here) (claims_of [] here) (rest_legal setup here earlier t.part legal_earlier)) in
       stays_so (replay setup here) (replay setup earlier) go w.server w.term w.number may_wait_here (unanswered setup earlier w.number legal_earlier none)
 
-  left_its_term : (s : Server) → Runs (replay setup earlier) w.server s → s.durable.term ≢ w.term
+  left_its_term : (s : Server) → RunsAs (replay setup earlier) w.server s → s.durable.term ≢ w.term
   left_its_term s runs same =
       false≢true
       (sym gone

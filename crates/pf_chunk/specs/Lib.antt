@@ -1,6 +1,7 @@
 pub mod Runs
 pub mod Happenings
 pub mod Saying
+pub mod Asked
 pub mod Asking
 pub mod Showing
 pub mod Waiting

@@ -8,7 +8,7 @@ use Rattle.pf_protocol.specs.declared.events.Event.{Event}
 use Rattle.pf_protocol.specs.declared.events.Event.TheVariants.{Fetch}
 use Rattle.pf_protocol.specs.Servers.{Read, Server}
 use Rattle.pf_protocol.specs.Groups.{Answered, Group, reads_after}
-use Rattle.pf_protocol.specs.Histories.{Runs}
+use Rattle.pf_protocol.specs.Histories.{RunsAs}
 
 -- one of these reads has the number
 pub record HasRead (reads : List Read) (n : ℕ) : Type 0 where
@@ -20,7 +20,7 @@ pub record HasRead (reads : List Read) (n : ℕ) : Type 0 where
 -- read n waits at the running server i, whose term is t
 pub record WaitsAt (g : Group) (i t n : ℕ) : Type 0 where
   pub server : Server
-  pub runs : Runs g i server
+  pub runs : RunsAs g i server
   pub in_term : server.durable.term ≡ t
   pub has : HasRead server.reads n
 
@@ -46,7 +46,7 @@ pub record ReadsWaitOnce (g : Group) : Type 0 where
   pub answered_below : (n : ℕ) → IsAnsweredIn g n → n < g.reads
   pub unanswered : (i t n : ℕ) → WaitsAt g i t n → IsAnsweredIn g n → ⊥
   pub one_server : (i j t u n : ℕ) → WaitsAt g i t n → WaitsAt g j u n → i ≡ j
-  pub ascending : (i : ℕ) (s : Server) → Runs g i s → ascends (map (λ r. r.number) s.reads) ≡ true
+  pub ascending : (i : ℕ) (s : Server) → RunsAs g i s → ascends (map (λ r. r.number) s.reads) ≡ true
   pub answered_once : (j k : ℕ) (a b : Answered) → slice_get g.answered j ≡ Some a → slice_get g.answered k ≡ Some b → a.number ≡ b.number → j ≡ k
 
 -- answers are only added

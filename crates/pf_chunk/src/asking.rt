@@ -1,21 +1,21 @@
 //! Lines that write and read sectors.
-ghost use Rattle.std.specs.Prelude.{◌≡◌, ◌≤◌, ◌<◌, ◌++◌, IfOk, IfSome, IsSome, IsTrue, OnErr, slice_get, vec_capacity, vec_len};
+ghost use Rattle.std.specs.Prelude.{◌≡◌, ◌<◌, ◌++◌, IfOk, IfSome, IsSome, IsTrue, OnErr, slice_get, vec_capacity, vec_len};
 ghost use Rattle.std.specs.Option.{option_to_list};
 ghost use Rattle.pf_group.specs.GroupIs.{state_of};
 ghost use Rattle.pf_protocol.specs.declared.answers.Answer.TheVariants.{Read};
 ghost use Rattle.pf_report.specs.Texts.{answer_text};
+ghost use Rattle.pf_chunk.specs.Asked.{MayAsk, asked_happened};
 ghost use Rattle.pf_chunk.specs.Asking.{fetches, no_range_answer, submits};
 ghost use Rattle.pf_chunk.specs.Steps.{HasFailed, HasHappened};
 ghost use Rattle.pf_chunk.specs.Telling.{read_of};
 ghost use Rattle.pf_chunk.specs.Views.{IsReady, run_of};
 
-use crate::{ChunkGroup, Waiting};
+use crate::{Asked, ChunkGroup, Waiting};
 use pf_base::{Data, NoMemory, Payload, Range, ServerId};
-use pf_copy::Gate;
+use pf_copy::{Gate, Workers};
 use pf_disk::Disk;
 use pf_group::GroupEvent;
 use pf_protocol::{Answer, Refusal};
-use std::alloc::Global;
 use std::thread::Threads;
 
 /// Keeps a read, if there is one. There is room for it.
@@ -60,22 +60,48 @@ impl<D: Disk + Drop> ChunkGroup<D> {
         }
     }
 
-    /// A host asks the server to write `count` sectors of one byte from `sector` on. Numbers that are no range of 1 to 8 sectors below
-    /// 4,096 are no event: `BadRange` (10) at a running server, else `Down` (51). For the rest see `happen`.
-    #[allow(clippy::too_many_arguments)]
-    pub fn submit<R: Threads + Sync, G: Gate + Sync>(
+    /// What a line asks for, and then what that made free is applied. A line for each read of a line that was answered is put at the end of
+    /// `out`, by the reads' numbers. Numbers that are no range of 1 to 8 sectors below 4,096 are no event: `BadRange` (10) at a running
+    /// server, else `Down` (51).
+    ///
+    /// After `NoMemory` (1) the group stands after its last whole step, with no job in hand: a beginning of what would have happened.
+    pub fn ask<R: Threads + Sync, G: Gate + Sync>(
         &mut self,
-        rt: &R,
-        alloc: Global,
+        workers: &Workers<'_, R, G>,
+        asked: Asked,
+        out: &mut Vec<u8>,
+    ) -> Result<Answer, NoMemory>
+        requires ready { IsReady self.old }
+        requires asked { MayAsk asked }
+        ensures went { IfOk result (λ answer. HasHappened (λ halts c. asked_happened halts asked c) self.old out.old.items answer out.new.items self.new) }
+        ensures err { OnErr result (HasFailed (λ halts. (asked_happened halts asked (run_of halts self.old)).chunk.group) self.old.group self.new.group) }
+    {
+        match asked {
+            Asked::Event(event) => self.happen(workers, event, out),
+            Asked::Submit {
+                server,
+                sector,
+                byte,
+                count,
+            } => self.submit(workers, server, sector, byte, count, out),
+            Asked::Fetch {
+                server,
+                sector,
+                count,
+            } => self.fetch(workers, server, sector, count, out),
+        }
+    }
+
+    /// A line that writes `count` sectors of one byte from `sector` on.
+    fn submit<R: Threads + Sync, G: Gate + Sync>(
+        &mut self,
+        workers: &Workers<'_, R, G>,
         server: ServerId,
         sector: u32,
         byte: u8,
         count: u32,
-        workers: u32,
-        gate: &G,
         out: &mut Vec<u8>,
     ) -> Result<Answer, NoMemory>
-        requires workers { (1 ≤ workers) × (workers ≤ 8) }
         requires ready { IsReady self.old }
         requires server { server < 3 }
         ensures went { IfOk result (λ answer. HasHappened (λ halts c. submits halts server sector byte count c) self.old out.old.items answer out.new.items self.new) }
@@ -84,29 +110,24 @@ impl<D: Disk + Drop> ChunkGroup<D> {
         let Ok(range) = Range::new(sector, count) else {
             return Ok(self.no_range(server));
         };
-        let payload = Payload::new(alloc, Data::filled(alloc, byte, count)?)?;
+        let payload = Payload::new(workers.alloc, Data::filled(workers.alloc, byte, count)?)?;
         let event = GroupEvent::Submit {
             server,
             range,
             payload,
         };
-        self.happen(rt, alloc, event, workers, gate, out)
+        self.happen(workers, event, out)
     }
 
-    /// A host asks the server for `count` sectors from `sector` on. For numbers that are no range see `submit`, for the rest `happen`.
-    #[allow(clippy::too_many_arguments)]
-    pub fn fetch<R: Threads + Sync, G: Gate + Sync>(
+    /// A line that reads `count` sectors from `sector` on.
+    fn fetch<R: Threads + Sync, G: Gate + Sync>(
         &mut self,
-        rt: &R,
-        alloc: Global,
+        workers: &Workers<'_, R, G>,
         server: ServerId,
         sector: u32,
         count: u32,
-        workers: u32,
-        gate: &G,
         out: &mut Vec<u8>,
     ) -> Result<Answer, NoMemory>
-        requires workers { (1 ≤ workers) × (workers ≤ 8) }
         requires ready { IsReady self.old }
         requires server { server < 3 }
         ensures went { IfOk result (λ answer. HasHappened (λ halts c. fetches halts server sector count c) self.old out.old.items answer out.new.items self.new) }
@@ -116,10 +137,12 @@ impl<D: Disk + Drop> ChunkGroup<D> {
             return Ok(self.no_range(server));
         };
         self.waiting.reserve(1)?;
-        let answer = self.group.step(alloc, GroupEvent::Fetch { server, range })?;
+        let answer = self
+            .group
+            .step(workers.alloc, GroupEvent::Fetch { server, range })?;
         let read = self.taken_up(server, &answer);
         keep(&mut self.waiting, read);
-        self.follow(rt, alloc, workers, gate, out)?;
+        self.follow(workers, out)?;
         Ok(answer)
     }
 }

@@ -1,5 +1,5 @@
 //! Ports of hosts into a chunk.
-ghost use Rattle.std.specs.Prelude.{◌≡◌, ◌≤◌, ◌<◌, IfOk, IfSome, IsSome, List, None, OnErr, OnOk, Some};
+ghost use Rattle.std.specs.Prelude.{◌≡◌, ◌<◌, IfOk, IfSome, IsSome, List, None, OnErr, OnOk, Some};
 ghost use Rattle.std.specs.Option.{option_and_then};
 ghost use Rattle.pf_asks.specs.Ports.{IsOfKind};
 ghost use Rattle.pf_base.specs.Asks.{Answers, IsValid};
@@ -13,7 +13,7 @@ ghost use Rattle.pf_chunk.specs.Views.{IsReady, run_of};
 use crate::ChunkGroup;
 use pf_asks::Port;
 use pf_base::{Ask, NoMemory, Range, Reply};
-use pf_copy::Gate;
+use pf_copy::{Gate, Workers};
 use pf_disk::Disk;
 use std::alloc::Global;
 use std::mem::replace;
@@ -66,21 +66,17 @@ impl<D: Disk + Drop> ChunkGroup<D> {
     }
 
     /// One step of the port of a mount for its pending ask: its reply, if the group has answered its last submission. Else the ask is
-    /// handed to the leader of the greatest term, if it goes there, which is one event of the group; what follows on it is as in `happen`.
+    /// handed to the leader of the greatest term, if it goes there, which is one event of the group; what follows on it is as in `ask`.
     /// A reply is of its ask's kind, and has as many sectors: disks that do not tell their content may lead a group to answer a read with
     /// others, which is not heeded.
     ///
     /// After `NoMemory` (1) the group stands after its last whole step, with no job in hand: a beginning of what would have happened.
     pub fn drive<R: Threads + Sync, G: Gate + Sync>(
         &mut self,
-        rt: &R,
-        alloc: Global,
+        workers: &Workers<'_, R, G>,
         mount: u8,
-        workers: u32,
-        gate: &G,
         out: &mut Vec<u8>,
     ) -> Result<Option<Reply>, NoMemory>
-        requires workers { (1 ≤ workers) × (workers ≤ 8) }
         requires ready { IsReady self.old }
         requires mount { mount < 16 }
         requires pending { IsSome (ask_of self.old.ports mount) }
@@ -91,11 +87,11 @@ impl<D: Disk + Drop> ChunkGroup<D> {
         ensures err { OnErr result (HasFailed (λ halts. (driven halts (run_of halts self.old) mount).chunk.group) self.old.group self.new.group) }
     {
         let before = self.history().len();
-        let reply = self.hand_on(alloc, mount)?;
+        let reply = self.hand_on(workers.alloc, mount)?;
         if self.history().len() == before {
             return Ok(reply);
         }
-        self.follow(rt, alloc, workers, gate, out)?;
+        self.follow(workers, out)?;
         Ok(reply)
     }
 

@@ -1,5 +1,5 @@
 //! One event, and what follows on it.
-ghost use Rattle.std.specs.Prelude.{◌≡◌, ◌≤◌, [], IfOk, OnErr, OnOk, false};
+ghost use Rattle.std.specs.Prelude.{◌≡◌, [], IfOk, OnErr, OnOk, false};
 ghost use Rattle.pf_protocol.specs.Answers.{claims_of};
 ghost use Rattle.pf_group.specs.Events.{event_of};
 ghost use Rattle.pf_applyrounds.specs.Agreeing.{chunk_of};
@@ -13,55 +13,43 @@ use crate::ChunkGroup;
 use crate::telling::tell_reads;
 use pf_applyrounds::apply_all;
 use pf_base::NoMemory;
-use pf_copy::Gate;
+use pf_copy::{Gate, Workers};
 use pf_disk::Disk;
 use pf_group::GroupEvent;
 use pf_protocol::Answer;
-use std::alloc::Global;
 use std::thread::Threads;
 
 impl<D: Disk + Drop> ChunkGroup<D> {
-    /// One event, and then what it made free is applied, on at most `workers` threads. A line for each read of a line that was answered
-    /// is put at the end of `out`, by the reads' numbers.
-    ///
-    /// After `NoMemory` (1) the group stands after its last whole step, with no job in hand: a beginning of what would have happened.
-    pub fn happen<R: Threads + Sync, G: Gate + Sync>(
+    /// One event, and what follows on it. After `NoMemory` (1) a beginning of that has happened.
+    pub(crate) fn happen<R: Threads + Sync, G: Gate + Sync>(
         &mut self,
-        rt: &R,
-        alloc: Global,
+        workers: &Workers<'_, R, G>,
         event: GroupEvent,
-        workers: u32,
-        gate: &G,
         out: &mut Vec<u8>,
     ) -> Result<Answer, NoMemory>
-        requires workers { (1 ≤ workers) × (workers ≤ 8) }
         requires ready { IsReady self.old }
         requires event { IsStep event }
         ensures went { IfOk result (λ answer. HasHappened (λ halts c. happened halts c (event_of event false)) self.old out.old.items answer out.new.items self.new) }
         ensures next { OnOk result (self.new.next ≡ self.old.next) }
         ensures err { OnErr result (HasFailed (λ halts. (happened halts (run_of halts self.old) (event_of event false)).chunk.group) self.old.group self.new.group) }
     {
-        let answer = self.group.step(alloc, event)?;
-        self.follow(rt, alloc, workers, gate, out)?;
+        let answer = self.group.step(workers.alloc, event)?;
+        self.follow(workers, out)?;
         Ok(answer)
     }
 
     /// What follows on an event.
     pub(crate) fn follow<R: Threads + Sync, G: Gate + Sync>(
         &mut self,
-        rt: &R,
-        alloc: Global,
-        workers: u32,
-        gate: &G,
+        workers: &Workers<'_, R, G>,
         out: &mut Vec<u8>,
     ) -> Result<(), NoMemory>
-        requires workers { (1 ≤ workers) × (workers ≤ 8) }
         requires none { claims_of [] self.old.group.history ≡ [] }
         requires listed { IsListed self.old.group.taken self.old.waiting }
         ensures went { OnOk result (HasFollowed self.old out.old.items out.new.items self.new) }
         ensures err { OnErr result (HasFailed (λ halts. applied halts (chunk_of halts self.old.group)) self.old.group self.new.group) }
     {
-        apply_all(rt, alloc, &mut self.group, workers, gate)?;
+        apply_all(workers, &mut self.group)?;
         // That the history is legal is asked of the proof alone.
         let _legal = self.group.history();
         tell_reads(&mut self.group, &mut self.waiting, self.number, out)

@@ -5,6 +5,7 @@
 //! The group may be handed out for a while, and what happened to it then is followed up once it is back.
 #![tactic(auto)]
 
+mod asked;
 mod asking;
 mod chunk;
 mod desk;
@@ -17,6 +18,7 @@ mod showing;
 mod telling;
 mod waiting;
 
+pub use asked::Asked;
 pub use chunk::ChunkGroup;
 pub use laws::reads_are_answered_while_they_wait;
 pub use lending::Lent;

@@ -11,10 +11,9 @@ ghost use Rattle.pf_chunk.specs.Views.{IsReady, run_of};
 
 use crate::ChunkGroup;
 use pf_base::NoMemory;
-use pf_copy::Gate;
+use pf_copy::{Gate, Workers};
 use pf_disk::Disk;
 use pf_group::{GroupEvent, is_passed_over};
-use std::alloc::Global;
 use std::thread::Threads;
 
 /// What became of a packet that a settling took.
@@ -56,16 +55,12 @@ impl<D: Disk + Drop> ChunkGroup<D> {
     }
 
     /// Delivers the next packet, which is left where the disks tell their content. Where its record or its packets have no room it is
-    /// passed over. For the rest see `happen`.
+    /// passed over. For the rest see `ask`.
     pub fn settle_one<R: Threads + Sync, G: Gate + Sync>(
         &mut self,
-        rt: &R,
-        alloc: Global,
-        workers: u32,
-        gate: &G,
+        workers: &Workers<'_, R, G>,
         out: &mut Vec<u8>,
     ) -> Result<Try, NoMemory>
-        requires workers { (1 ≤ workers) × (workers ≤ 8) }
         requires ready { IsReady self.old }
         requires next { self.old.next < 65536 }
         requires left { IsTrue self.old.group.told → is_left_in (state_of self.old.group) self.old.next ≡ true }
@@ -76,7 +71,7 @@ impl<D: Disk + Drop> ChunkGroup<D> {
         let k = self.next;
         // That the history is legal is asked of the proof alone.
         let _legal = self.group.history();
-        let answer = self.happen(rt, alloc, GroupEvent::Deliver(k), workers, gate, out)?;
+        let answer = self.happen(workers, GroupEvent::Deliver(k), out)?;
         if is_passed_over(&answer) {
             self.next = k + 1;
             Ok(Try::Passed)

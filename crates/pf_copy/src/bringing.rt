@@ -1,10 +1,11 @@
 //! Copies on several threads.
-ghost use Rattle.std.specs.Prelude.{◌≡◌, ◌≤◌, ℕ, Some, slice_get};
+ghost use Rattle.std.specs.Prelude.{◌≡◌, ℕ, Some, slice_get};
 ghost use Rattle.pf_copy.specs.Works.{AreBrought, IsBrought};
 
 use crate::filling::copied;
 use crate::gate::Gate;
 use crate::work::Work;
+use crate::workers::Workers;
 use pf_base::{Filled, NoMemory};
 use std::alloc::Global;
 use std::thread;
@@ -31,26 +32,21 @@ fn place(i: usize) -> u32 {
     u32::try_from(i).unwrap_or(u32::MAX)
 }
 
-/// Copies the sectors of each job, on at most `workers` threads, each copy between the two calls of the gate. A job whose copy found
-/// no memory has none.
-pub fn bring_all<R: Threads + Sync, G: Gate + Sync>(
-    rt: &R,
-    alloc: Global,
-    works: &mut [Work],
-    workers: u32,
-    gate: &G,
-)
-    requires { 1 ≤ workers }
-    ensures { AreBrought works.old works.new }
-{
-    thread::for_each_mut(
-        rt,
-        works,
-        workers as usize,
-        &|i, work: &mut Work| {
-            gate.before(place(i));
-            bring(alloc, work);
-            gate.after(place(i));
-        },
-    );
+impl<R: Threads + Sync, G: Gate + Sync> Workers<'_, R, G> {
+    /// Copies the sectors of each job, each copy between the two calls of the gate. A job whose copy found no memory has none.
+    pub fn bring_all(&self, works: &mut [Work])
+        ensures { AreBrought works.old works.new }
+    {
+        let (alloc, gate) = (self.alloc, self.gate);
+        thread::for_each_mut(
+            self.rt,
+            works,
+            self.count as usize,
+            &|i, work: &mut Work| {
+                gate.before(place(i));
+                bring(alloc, work);
+                gate.after(place(i));
+            },
+        );
+    }
 }

@@ -7,8 +7,9 @@ mod bringing;
 mod filling;
 mod gate;
 mod work;
+mod workers;
 
-pub use bringing::bring_all;
 pub use filling::fill;
 pub use gate::{Gate, OpenGate};
 pub use work::Work;
+pub use workers::Workers;

@@ -8,9 +8,8 @@ ghost use Rattle.pf_fleet.specs.Steps.{IsFleetOf};
 use crate::Fleet;
 use pf_base::NoMemory;
 use pf_chunk::{ChunkGroup, Try};
-use pf_copy::Gate;
+use pf_copy::{Gate, Workers};
 use pf_disk::Disk;
-use std::alloc::Global;
 use std::thread::Threads;
 
 /// A settling of all chunks begins: no packet was passed over yet.
@@ -42,18 +41,13 @@ impl Fleet {
     /// over, and counts as no delivery. After each delivery, also a refused one, each host takes its step. Lines are put at the end of `out`.
     ///
     /// After `NoMemory` (1) the groups stand after some whole tries and a beginning of one more; the hosts are not for use then.
-    #[allow(clippy::too_many_arguments)]
     pub fn settle<D: Disk + Drop, R: Threads + Sync, G: Gate + Sync>(
         &mut self,
-        rt: &R,
-        alloc: Global,
+        workers: &Workers<'_, R, G>,
         chunks: &mut [ChunkGroup<D>],
         limit: u32,
-        workers: u32,
-        gate: &G,
         out: &mut Vec<u8>,
     ) -> Result<bool, NoMemory>
-        requires workers { (1 ≤ workers) × (workers ≤ 8) }
         requires ready { AreReady chunks.old }
         requires fleet { IsFleetOf chunks.old self.old }
         requires limit { limit ≤ 1000000 }
@@ -67,11 +61,11 @@ impl Fleet {
                 return Ok(true);
             }
             let chunk = &mut chunks[place];
-            match chunk.settle_one(rt, alloc, workers, gate, out)? {
+            match chunk.settle_one(workers, out)? {
                 Try::Delivered => left -= 1,
                 Try::Passed => {}
             }
-            self.step(rt, alloc, chunks, workers, gate, out)?;
+            self.step(workers, chunks, out)?;
         }
         Ok(false)
     }

@@ -1,5 +1,5 @@
 //! Steps of hosts.
-ghost use Rattle.std.specs.Prelude.{◌<◌, ◌≤◌, OnErr, OnOk, length};
+ghost use Rattle.std.specs.Prelude.{◌<◌, OnErr, OnOk, length};
 ghost use Rattle.pf_hosts.specs.Steps.{AreReady};
 ghost use Rattle.pf_fleet.specs.Steps.{AllStay, AreSameHosts, HasGone, HasStopped, IsFleetOf};
 ghost use Rattle.pf_fleet.specs.Volumes.{host_steps, hosts_step};
@@ -7,24 +7,19 @@ ghost use Rattle.pf_fleet.specs.Volumes.{host_steps, hosts_step};
 use crate::Fleet;
 use pf_base::NoMemory;
 use pf_chunk::ChunkGroup;
-use pf_copy::Gate;
+use pf_copy::{Gate, Workers};
 use pf_disk::Disk;
-use std::alloc::Global;
 use std::thread::Threads;
 
 impl Fleet {
     /// One step of a host, if it is there.
     fn step_host<D: Disk + Drop, R: Threads + Sync, G: Gate + Sync>(
         &mut self,
-        rt: &R,
-        alloc: Global,
+        workers: &Workers<'_, R, G>,
         mount: usize,
         chunks: &mut [ChunkGroup<D>],
-        workers: u32,
-        gate: &G,
         out: &mut Vec<u8>,
     ) -> Result<(), NoMemory>
-        requires workers { (1 ≤ workers) × (workers ≤ 8) }
         requires ready { AreReady chunks.old }
         requires fleet { IsFleetOf chunks.old self.old }
         requires mount { mount < length self.old.hosts }
@@ -36,7 +31,7 @@ impl Fleet {
         let Some(host) = &mut self.hosts[mount] else {
             return Ok(());
         };
-        host.step(rt, alloc, chunks, workers, gate, out)
+        host.step(workers, chunks, out)
     }
 
     /// One step of each host, in the order of their numbers. Lines are put at the end of `out`: of reads of lines that were answered, of
@@ -45,14 +40,10 @@ impl Fleet {
     /// After `NoMemory` (1) each group stands at a beginning of what would have happened to it; the hosts are not for use then.
     pub fn step<D: Disk + Drop, R: Threads + Sync, G: Gate + Sync>(
         &mut self,
-        rt: &R,
-        alloc: Global,
+        workers: &Workers<'_, R, G>,
         chunks: &mut [ChunkGroup<D>],
-        workers: u32,
-        gate: &G,
         out: &mut Vec<u8>,
     ) -> Result<(), NoMemory>
-        requires workers { (1 ≤ workers) × (workers ≤ 8) }
         requires ready { AreReady chunks.old }
         requires fleet { IsFleetOf chunks.old self.old }
         ensures went { OnOk result (HasGone hosts_step chunks.old self.old out.old.items chunks.new self.new out.new.items) }
@@ -61,7 +52,7 @@ impl Fleet {
         ensures err { OnErr result (HasStopped hosts_step chunks.old self.old chunks.new) }
     {
         for mount in 0..self.hosts.len() {
-            self.step_host(rt, alloc, mount, chunks, workers, gate, out)?;
+            self.step_host(workers, mount, chunks, out)?;
         }
         Ok(())
     }

@@ -17,7 +17,7 @@ ghost use Rattle.pf_hosts.specs.Words.{read_call};
 use crate::names::name_of;
 use pf_base::{Call, NoMemory, Reply};
 use pf_chunk::ChunkGroup;
-use pf_copy::Gate;
+use pf_copy::{Gate, Workers};
 use pf_disk::Disk;
 use pf_files::{CallAnswer, CallName};
 use pf_mount::{Mount, MountFault, Next, StartFault};
@@ -49,16 +49,12 @@ impl Model for Host {
 
 /// The mount's port into a chunk takes a step.
 fn drive_at<D: Disk + Drop, R: Threads + Sync, G: Gate + Sync>(
-    rt: &R,
-    alloc: Global,
+    workers: &Workers<'_, R, G>,
     mount: u8,
     at: u8,
     chunks: &mut [ChunkGroup<D>],
-    workers: u32,
-    gate: &G,
     out: &mut Vec<u8>,
 ) -> Result<Option<Reply>, NoMemory>
-    requires workers { (1 ≤ workers) × (workers ≤ 8) }
     requires mount { mount < 16 }
     requires ready { AreReady chunks.old }
     requires pending { IsPending mount at chunks.old }
@@ -67,7 +63,7 @@ fn drive_at<D: Disk + Drop, R: Threads + Sync, G: Gate + Sync>(
     ensures err { OnErr result (HasNotDrove mount at chunks.old chunks.new) }
 {
     let chunk = &mut chunks[at as usize];
-    chunk.drive(rt, alloc, mount, workers, gate, out)
+    chunk.drive(workers, mount, out)
 }
 
 /// Puts the event line of a call that ended. A mount whose superblock is another's ends without one.
@@ -221,20 +217,15 @@ impl Host {
     }
 
     /// One step of the host. Where its pending ask was answered, its mount hears the reply and asks the next thing; and then the pending ask
-    /// goes to the leader of the greatest term, where its port's rule says so. What that event makes free is applied, on at most `workers`
-    /// threads. Lines are put at the end of `out`: of reads of lines that were answered, of a mount that is ready, of a call that ended.
+    /// goes to the leader of the greatest term, where its port's rule says so. What that event makes free is applied. Lines are put at the end of `out`: of reads of lines that were answered, of a mount that is ready, of a call that ended.
     ///
     /// After `NoMemory` (1) each group stands at a beginning of what would have happened to it; the host is not for use then.
     pub fn step<D: Disk + Drop, R: Threads + Sync, G: Gate + Sync>(
         &mut self,
-        rt: &R,
-        alloc: Global,
+        workers: &Workers<'_, R, G>,
         chunks: &mut [ChunkGroup<D>],
-        workers: u32,
-        gate: &G,
         out: &mut Vec<u8>,
     ) -> Result<(), NoMemory>
-        requires workers { (1 ≤ workers) × (workers ≤ 8) }
         requires ready { AreReady chunks.old }
         requires host { IsHostOf chunks.old self.old }
         ensures went { OnOk result (HasStepped chunks.old out.old.items self.old chunks.new out.new.items self.new) }
@@ -244,15 +235,15 @@ impl Host {
             return Ok(());
         };
         let number = self.mount.number();
-        let Some(reply) = drive_at(rt, alloc, number, at, chunks, workers, gate, out)? else {
+        let Some(reply) = drive_at(workers, number, at, chunks, out)? else {
             return Ok(());
         };
-        self.hear(alloc, reply, chunks, out)?;
+        self.hear(workers.alloc, reply, chunks, out)?;
         let Some(at) = self.at else {
             return Ok(());
         };
         // It was not handed on before, so that nothing is answered yet.
-        let _reply = drive_at(rt, alloc, number, at, chunks, workers, gate, out)?;
+        let _reply = drive_at(workers, number, at, chunks, out)?;
         Ok(())
     }
 }

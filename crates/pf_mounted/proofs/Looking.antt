@@ -9,7 +9,7 @@ use Rattle.pf_base.specs.declared.asks.Reply.{Reply}
 use Rattle.pf_base.specs.declared.asks.Reply.TheVariants.{Bytes}
 use Rattle.pf_protocol.specs.Servers.{Candidate, Condition, Follower, Merging, Role, Running, Server, Serving, Setup, Stopped, Unformatted}
 use Rattle.pf_protocol.specs.Groups.{Acked, Answered, Group}
-use Rattle.pf_protocol.specs.Histories.{Runs, replay}
+use Rattle.pf_protocol.specs.Histories.{RunsAs, replay}
 use Rattle.pf_network.specs.Showing.{HasAnswer}
 use Rattle.pf_network.specs.Shown.{IsLeader, Serves, is_acked}
 use Rattle.pf_network.proofs.Shown.{IsGreatest, one_more_leader}
@@ -27,7 +27,7 @@ module _ (g : Group) where
   serves_at : (i : ℕ) (x : ℕ × ℕ) → i < 3 → served_at g i ≡ Some x → Serves g i x.0 × (x.1 ≡ i)
   serves_at i x low is = by (slice_get g.servers i) refl is
     where
-      by_role : (s : Server) → Runs g i s → (role : Role) → s.role ≡ role → served_in s.durable.term i role ≡ Some x → Serves g i x.0 × (x.1 ≡ i)
+      by_role : (s : Server) → RunsAs g i s → (role : Role) → s.role ≡ role → served_in s.durable.term i role ≡ Some x → Serves g i x.0 × (x.1 ≡ i)
       by_role s runs (Serving leader) serves served =
           let same = same_Some (s.durable.term, i) x served in
           (record { low = low; s = s; leader = leader; runs = runs; serves = serves; in_term = ap (λ (p : ℕ × ℕ). p.0) same }, sym (ap (λ (p : ℕ × ℕ). p.1) same))

@@ -2,7 +2,7 @@
 use Rattle.std.proofs.Common.{◌≡◌, ◌↔◌, ℕ, zero, suc, ◌-◌, ◌<◌, ◌≤◌, IsTrue, List, [], ◌∷◌, Contains, Some, slice_get, drop, length, length-append, append-nil, ◌++◌, inl, inr, arith, refl, sym, ap, ◌∙◌, subst}
 use Rattle.pf_disk.specs.declared.disk.Disk.{Ghosts}
 use Rattle.pf_protocol.specs.Answers.{claims_of}
-use Rattle.pf_protocol.specs.Histories.{History, IsPrefix, Runs}
+use Rattle.pf_protocol.specs.Histories.{History, IsPrefix, RunsAs}
 use Rattle.pf_protocol.specs.Servers.{Server}
 use Rattle.pf_group.specs.GroupIs.{GroupIs, state_of}
 use Rattle.pf_leadercell.specs.Passes as cells
@@ -104,7 +104,7 @@ stopped_none plan g none = record {
 
 -- what is free was applied, and nothing else happened
 pub has_applied : (old new : GroupIs) (count : ℕ) → HasGrown old new → new.taken ≡ old.taken → claims_of [] new.history ≡ [] → ((halts : List Halt) → TellsOfGroup halts new → applied halts (chunk_of halts old) ≡ chunk_of halts new) → (IsTrue new.told → IsApplied new.setup (state_of new)) → Adds old new count count
-    → (IsTrue new.told → (i : ℕ) (s : Server) → Runs (state_of new) i s → IsClosed s) → HasApplied old new
+    → (IsTrue new.told → (i : ℕ) (s : Server) → RunsAs (state_of new) i s → IsClosed s) → HasApplied old new
 has_applied old new count grown taken none run all adds closed = record { grown = grown; taken = taken; none = none; run = run; applied_all = all; count = count; adds = adds; closed = closed }
 
 -- a history that went on is no shorter

@@ -1,7 +1,7 @@
 //! Whole lines over disks in memory, whose threads meet.
 use crate::{Lived, live};
 use pf_base::{LiveEnd, NoMemory};
-use pf_copy::Gate;
+use pf_copy::{Gate, Workers};
 use pf_disk::RamDisk;
 use pf_group::{Group, Six};
 use pf_live::Plan;
@@ -38,7 +38,13 @@ fn line<R: Threads + Wait + Sync, G: Gate + Sync>(
         Ok((group, _)) => group,
         Err((_, NoMemory)) => return Err(NoMemory),
     };
-    let (_, lived) = live(rt, alloc, group, plan, gate);
+    let workers = Workers {
+        rt,
+        alloc,
+        gate,
+        count: 1,
+    };
+    let (_, lived) = live(&workers, group, plan);
     lived
 }
 

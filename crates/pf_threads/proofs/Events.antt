@@ -20,7 +20,7 @@ use Rattle.pf_shared.specs.declared.moment.Moment.{Moment}
 use Rattle.pf_shared.specs.declared.moment.Moment.TheVariants.{Happened, Look}
 use Rattle.pf_shared.specs.Moments.{happenings, with_moment}
 use Rattle.pf_live.specs.declared.plan.Plan.{Plan}
-use Rattle.pf_live.specs.Deliveries.{Line}
+use Rattle.pf_live.specs.Deliveries.{Trace}
 use Rattle.pf_live.specs.Lines.{Applying, Delivering, Does, DoesAs, IsLive, Role, Submitting, role_of}
 use Rattle.pf_live.specs.Roles.{is_applying}
 use Rattle.pf_chunk.proofs.Keeping.{taken_up}
@@ -39,7 +39,7 @@ of_applying (Finish server life slot) is = tt
 of_applying (GiveBack server life slot) is = tt
 of_applying event is = absurd (false≢true is)
 
-of_role : (role : Role) (plan : Plan) (root : GroupIs) (before : Line) (event : Event) → DoesAs role plan root before event → IsOfLine event
+of_role : (role : Role) (plan : Plan) (root : GroupIs) (before : Trace) (event : Event) → DoesAs role plan root before event → IsOfLine event
 of_role Submitting plan root before event does = subst IsOfLine (sym does.is) tt
 of_role Delivering plan root before event does = subst IsOfLine (sym does.is) tt
 of_role Applying plan root before event does = of_applying event does
@@ -47,15 +47,15 @@ of_role Applying plan root before event does = of_applying event does
 abbrev pub AreOfLine : History → Type 0
 AreOfLine history = Every (λ h. IsOfLine h.event) history
 
-of_moment : (plan : Plan) (root : GroupIs) (seat : ℕ) (before : Line) (what : Moment) (rest : History) → Does plan root seat before what → AreOfLine rest → AreOfLine (with_moment what rest)
+of_moment : (plan : Plan) (root : GroupIs) (seat : ℕ) (before : Trace) (what : Moment) (rest : History) → Does plan root seat before what → AreOfLine rest → AreOfLine (with_moment what rest)
 of_moment plan root seat before (Happened h) rest does are = (of_role (role_of plan.workers seat) plan root before h.event does, are)
 of_moment plan root seat before (Look read) rest does are = are
 
-of_entries : (plan : Plan) (root : GroupIs) (before list : Line) → AllAfter (Does plan root) before list → AreOfLine (happenings list)
+of_entries : (plan : Plan) (root : GroupIs) (before list : Trace) → AllAfter (Does plan root) before list → AreOfLine (happenings list)
 of_entries plan root before [] all = tt
 of_entries plan root before (e ∷ es) all = of_moment plan root e.seat before e.what (happenings es) all.0 (of_entries plan root (before ++ e ∷ []) es all.1)
 
-pub of_line : (plan : Plan) (root : GroupIs) (list : Line) → IsLive plan root list → AreOfLine (happenings list)
+pub of_line : (plan : Plan) (root : GroupIs) (list : Trace) → IsLive plan root list → AreOfLine (happenings list)
 of_line plan root list live = of_entries plan root [] list live
 
 -- a run has them as they are

@@ -19,7 +19,7 @@ use Rattle.pf_shared.specs.Moments.{happenings}
 use Rattle.pf_shared.specs.Since.{whole}
 use Rattle.pf_live.specs.declared.plan.Plan.{Plan}
 use Rattle.pf_base.specs.declared.live_end.LiveEnd.{LiveEnd}
-use Rattle.pf_live.specs.Deliveries.{Line}
+use Rattle.pf_live.specs.Deliveries.{Trace}
 use Rattle.pf_live.specs.Ends.{HasEnd}
 use Rattle.pf_session.specs.Sessions.{HasList}
 use Rattle.pf_chunk.specs.Lending.{after_all}
@@ -52,7 +52,7 @@ same_chunk halts a b number setup history =
     ap (λ n. chunk_at halts n a.setup a.history) (sym number) ∙ ap (λ s. chunk_at halts b.number s a.history) (sym setup) ∙ ap (chunk_at halts b.number b.setup) (sym history)
 
 -- what the seats of a line left
-module _ (plan : Plan) (old mid : GroupIs) (list : Line) (listed : HasList plan old list mid) (legal : IsTrue old.told → IsLegal mid.setup mid.history) (halts : List Halt) (tells : TellsOfGroup halts mid) where
+module _ (plan : Plan) (old mid : GroupIs) (list : Trace) (listed : HasList plan old list mid) (legal : IsTrue old.told → IsLegal mid.setup mid.history) (halts : List Halt) (tells : TellsOfGroup halts mid) where
   was_told : IsTrue old.told
   was_told = subst IsTrue listed.grown.told tells.told
 

@@ -16,7 +16,7 @@ use Rattle.pf_applyrounds.proofs.Extending.{applied_extends}
 use Rattle.pf_applyrounds.proofs.Growing.{grown_tells, grown_trans}
 use Rattle.pf_shared.specs.Moments.{happenings}
 use Rattle.pf_live.specs.declared.plan.Plan.{Plan}
-use Rattle.pf_live.specs.Deliveries.{Line}
+use Rattle.pf_live.specs.Deliveries.{Trace}
 use Rattle.pf_session.specs.declared.session.Lived.{Lived}
 use Rattle.pf_session.specs.Sessions.{HasList, HasLived, HasStopped}
 use Rattle.pf_chunk.specs.Lending.{after_all, all_happened}
@@ -29,7 +29,7 @@ use Rattle.pf_threads.proofs.Sessions.{comes_to, events_in, part}
 
 module _ (plan : Plan) (old new : ChunkIs) (legal : IsTrue new.group.told → IsLegal new.group.setup new.group.history) where
   -- what its seats did is not all followed up
-  module _ (mid : GroupIs) (list : Line) (listed : HasList plan old.group list mid) (f : HasFailed (apply_of mid) mid new.group) where
+  module _ (mid : GroupIs) (list : Trace) (listed : HasList plan old.group list mid) (f : HasFailed (apply_of mid) mid new.group) where
     mid_legal : IsTrue old.group.told → IsLegal mid.setup mid.history
     mid_legal is =
         let there = subst IsTrue (sym (f.grown.told ∙ listed.grown.told)) is in

@@ -11,7 +11,7 @@ use Rattle.pf_shared.specs.declared.moment.Moment.{Moment}
 use Rattle.pf_shared.specs.declared.moment.Moment.TheVariants.{Happened, Look}
 use Rattle.pf_shared.specs.Moments.{handed_out, happenings, taken_with, with_moment}
 use Rattle.pf_live.specs.declared.plan.Plan.{Plan}
-use Rattle.pf_live.specs.Deliveries.{Line}
+use Rattle.pf_live.specs.Deliveries.{Trace}
 use Rattle.pf_live.specs.Lines.{Does}
 use Rattle.pf_session.specs.declared.session.Lived.{Lived}
 use Rattle.pf_session.specs.Sessions.{HasLived}
@@ -21,11 +21,11 @@ use Rattle.pf_chunk.proofs.Ready.{taken_still}
 use Rattle.pf_threads.proofs.Events.{TakeNone}
 
 -- a read that pends, pends after one more entry
-one_pends : (plan : Plan) (root : GroupIs) (seat : ℕ) (before : Line) (what : Moment) → Does plan root seat before what → (taken : List Bool) (n : ℕ) → slice_get taken n ≡ Some false → slice_get (taken_with taken what) n ≡ Some false
+one_pends : (plan : Plan) (root : GroupIs) (seat : ℕ) (before : Trace) (what : Moment) → Does plan root seat before what → (taken : List Bool) (n : ℕ) → slice_get taken n ≡ Some false → slice_get (taken_with taken what) n ≡ Some false
 one_pends plan root seat before (Happened h) does taken n is = taken_still taken h.answer n false is
 one_pends plan root seat before (Look read) does taken n is = subst (λ r. slice_get (taken_with taken (Look r)) n ≡ Some false) (sym does) is
 
-still_pends : (plan : Plan) (root : GroupIs) (before list : Line) → AllAfter (Does plan root) before list → (taken : List Bool) (n : ℕ) → slice_get taken n ≡ Some false → slice_get (handed_out taken list) n ≡ Some false
+still_pends : (plan : Plan) (root : GroupIs) (before list : Trace) → AllAfter (Does plan root) before list → (taken : List Bool) (n : ℕ) → slice_get taken n ≡ Some false → slice_get (handed_out taken list) n ≡ Some false
 still_pends plan root before [] all taken n is = is
 still_pends plan root before (e ∷ es) all taken n is =
     still_pends plan root (before ++ e ∷ []) es all.1 (taken_with taken e.what) n (one_pends plan root e.seat before e.what all.0 taken n is)
@@ -40,7 +40,7 @@ answer_none taken (BaseIs base) none = refl
 answer_none taken (JobIs job) none = refl
 answer_none taken (Refused refusal) none = refl
 
-one_none : (plan : Plan) (root : GroupIs) (seat : ℕ) (before : Line) (what : Moment) (rest : History) → Does plan root seat before what → TakeNone (with_moment what rest) → (taken : List Bool) → taken_with taken what ≡ taken
+one_none : (plan : Plan) (root : GroupIs) (seat : ℕ) (before : Trace) (what : Moment) (rest : History) → Does plan root seat before what → TakeNone (with_moment what rest) → (taken : List Bool) → taken_with taken what ≡ taken
 one_none plan root seat before (Happened h) rest does none taken = answer_none taken h.answer none.0
 one_none plan root seat before (Look read) rest does none taken = ap (λ r. taken_with taken (Look r)) does
 
@@ -48,7 +48,7 @@ rest_none : (what : Moment) (rest : History) → TakeNone (with_moment what rest
 rest_none (Happened h) rest none = none.1
 rest_none (Look read) rest none = none
 
-pub none_handed : (plan : Plan) (root : GroupIs) (before list : Line) → AllAfter (Does plan root) before list → (taken : List Bool) → TakeNone (happenings list) → handed_out taken list ≡ taken
+pub none_handed : (plan : Plan) (root : GroupIs) (before list : Trace) → AllAfter (Does plan root) before list → (taken : List Bool) → TakeNone (happenings list) → handed_out taken list ≡ taken
 none_handed plan root before [] all taken none = refl
 none_handed plan root before (e ∷ es) all taken none =
     ap (λ t. handed_out t es) (one_none plan root e.seat before e.what (happenings es) all.0 none taken)

@@ -10,7 +10,7 @@ use Rattle.pf_shared.specs.Moments.{happenings}
 use Rattle.pf_base.specs.declared.live_end.LiveEnd.{LiveEnd}
 use Rattle.pf_base.specs.declared.live_end.LiveEnd.TheVariants.{Done}
 use Rattle.pf_live.specs.declared.plan.Plan.{Plan}
-use Rattle.pf_live.specs.Deliveries.{Line}
+use Rattle.pf_live.specs.Deliveries.{Trace}
 use Rattle.pf_live.specs.Ends.{HasEnd}
 use Rattle.pf_live.specs.Lines.{IsLive}
 use Rattle.pf_session.specs.Totals.{applied_on_each}
@@ -49,7 +49,7 @@ pub record IsPartOfSession (halts : List Halt) (plan : Plan) (c : Chunk) (events
   pub root : GroupIs
   pub told : IsTrue root.told
   pub stands : chunk_of halts root ≡ c
-  pub list : Line
+  pub list : Trace
   pub live : IsLive plan root list
   pub happened : (after_all halts c events).history ≡ c.history ++ happenings list
 
@@ -59,7 +59,7 @@ pub record IsSession (halts : List Halt) (plan : Plan) (c : Chunk) (session : Se
   pub ends : HasEnd plan part.root part.list session.ended
 
 -- and this is its list, over this group
-pub record IsSessionOf (halts : List Halt) (plan : Plan) (c : Chunk) (session : Session) (root : GroupIs) (list : Line) : Type 0 where
+pub record IsSessionOf (halts : List Halt) (plan : Plan) (c : Chunk) (session : Session) (root : GroupIs) (list : Trace) : Type 0 where
   pub is : IsSession halts plan c session
   pub over : is.part.root ≡ root
   pub of_list : is.part.list ≡ list

@@ -5,7 +5,7 @@ use Rattle.pf_protocol.specs.declared.events.Event.{Event}
 use Rattle.pf_applyrounds.specs.Halts.{Halt}
 use Rattle.pf_applyrounds.specs.Agreeing.{TellsOfGroup, chunk_of}
 use Rattle.pf_live.specs.declared.plan.Plan.{Plan}
-use Rattle.pf_live.specs.Deliveries.{Line}
+use Rattle.pf_live.specs.Deliveries.{Trace}
 use Rattle.pf_session.specs.declared.session.Lived.{Lived}
 use Rattle.pf_session.specs.Sessions.{AreKept}
 use Rattle.pf_session.specs.Totals.{AreTotals}
@@ -15,13 +15,13 @@ use Rattle.pf_chunk.specs.Views.{ChunkIs, run_of}
 use Rattle.pf_threads.specs.Sessions.{IsPartOfSession, IsSessionOf, Session}
 
 -- The threads did this to the group, and then it was followed up: under every list of halts that tells of it, the run comes to the chunk that
--- there is now, what they did is a line's, and the end and the totals that are told are those of that. Over any disks the passes agree with the
--- list of this line
+-- there is now, what they did is a line's, and the end and the totals that are told are those of that. The passes agree with the list of this
+-- line: over any disks those of each ring meet, and where the disks tell their content what was taken is submitted, and the last leader published
 pub record HasHeld (plan : Plan) (old : ChunkIs) (before : List ℕ) (told : Lived) (after : List ℕ) (new : ChunkIs) : Type 0 where
   pub session : Session
   pub went : HasHappened (λ halts c. all_happened halts session.events c) old before Done after new
   pub next : new.next ≡ old.next
-  pub list : Line
+  pub list : Trace
   pub is_session : (halts : List Halt) → TellsOfGroup halts new.group → IsSessionOf halts plan (chunk_of halts old.group) session old.group list
   pub kept : AreKept plan old.group list told.passes
   pub ended : told.end ≡ session.ended

@@ -1,15 +1,14 @@
 //! A live line over a chunk.
-ghost use Rattle.std.specs.Prelude.{◌≡◌, ◌<◌, ◌≤◌, IfOk, OnErr, Some, length, slice_get};
+ghost use Rattle.std.specs.Prelude.{◌≡◌, ◌<◌, IfOk, OnErr, Some, length, slice_get};
 ghost use Rattle.pf_chunk.specs.Views.{ChunkIs, IsReady};
 ghost use Rattle.pf_threads.specs.Steps.{HasHeld, HasNotLived, IsAt};
 
 use pf_base::NoMemory;
 use pf_chunk::ChunkGroup;
-use pf_copy::Gate;
+use pf_copy::{Gate, Workers};
 use pf_disk::Disk;
 use pf_live::Plan;
 use pf_session::Lived;
-use std::alloc::Global;
 use std::sync::Wait;
 use std::thread::Threads;
 
@@ -20,20 +19,17 @@ use std::thread::Threads;
 /// After `NoMemory` (1) the group stands after its last whole step, with no job in hand: a beginning of what would have come of what the
 /// threads did.
 pub fn live<R: Threads + Wait + Sync, D: Disk + Drop + Send, G: Gate + Sync>(
-    rt: &R,
-    alloc: Global,
+    workers: &Workers<'_, R, G>,
     chunk: ChunkGroup<D>,
     plan: Plan,
-    gate: &G,
     out: &mut Vec<u8>,
 ) -> (ChunkGroup<D>, Result<Lived, NoMemory>)
-    requires workers { (1 ≤ plan.workers) × (plan.workers ≤ 8) }
     requires ready { IsReady chunk }
     ensures went { IfOk result.1 (λ told. HasHeld plan chunk out.old.items told out.new.items result.0) }
     ensures err { OnErr result.1 (HasNotLived plan chunk result.0) }
 {
     let (group, lent) = chunk.lend();
-    let (group, told) = pf_session::live(rt, alloc, group, plan, gate);
+    let (group, told) = pf_session::live(workers, group, plan);
     let mut chunk = lent.back(group);
     // That the history is legal is asked of the proof alone.
     let _legal = chunk.history();
@@ -47,24 +43,20 @@ pub fn live<R: Threads + Wait + Sync, D: Disk + Drop + Send, G: Gate + Sync>(
 }
 
 /// The same over one of some chunks. It is out of the list meanwhile.
-#[allow(clippy::too_many_arguments)]
 pub fn live_at<R: Threads + Wait + Sync, D: Disk + Drop + Send, G: Gate + Sync>(
-    rt: &R,
-    alloc: Global,
+    workers: &Workers<'_, R, G>,
     chunks: &mut Vec<ChunkGroup<D>>,
     at: u8,
     plan: Plan,
-    gate: &G,
     out: &mut Vec<u8>,
 ) -> Result<Lived, NoMemory>
-    requires workers { (1 ≤ plan.workers) × (plan.workers ≤ 8) }
     requires at { at < length chunks.old.items }
     requires ready { (c : ChunkIs) → slice_get chunks.old.items at ≡ Some c → IsReady c }
     ensures went { IfOk result (λ told. IsAt at chunks.old.items chunks.new.items (λ was is. HasHeld plan was out.old.items told out.new.items is)) }
     ensures err { OnErr result (IsAt at chunks.old.items chunks.new.items (HasNotLived plan)) }
 {
     let chunk = chunks.remove(at as usize);
-    let (chunk, told) = live(rt, alloc, chunk, plan, gate, out);
+    let (chunk, told) = live(workers, chunk, plan, out);
     // There is room for it: it was there.
     let _ = chunks.insert(at as usize, chunk);
     told

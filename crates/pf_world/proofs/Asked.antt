@@ -1,56 +1,48 @@
 -- Lines that write and read sectors.
-use Rattle.std.proofs.Common.{[], ◌≡◌, ℕ, true, false, if◌then◌else◌, IfSome, IsSome, IsTrue, List, ◌++◌, Option, Some, slice_get, refl, sym, ap, ◌∙◌}
+use Rattle.std.proofs.Common.{[], ◌≡◌, ℕ, true, false, IfSome, IsSome, IsTrue, List, ◌++◌, Option, Some, None, slice_get, refl, sym, ap, subst, ◌∙◌}
+use Rattle.std.proofs.lemmas.Bool.{false≢true}
 use Rattle.pf_script.specs.declared.command.Command.{Command}
+use Rattle.pf_script.specs.declared.command.Command.TheVariants as commands
 use Rattle.pf_protocol.specs.declared.answers.Answer.{Answer}
 use Rattle.pf_group.specs.GroupIs.{state_of}
 use Rattle.pf_report.specs.Texts.{answer_text, line_of}
 use Rattle.pf_applyrounds.specs.Halts.{Halt}
-use Rattle.std.proofs.lemmas.Bool.{false≢true}
-use Rattle.pf_chunk.specs.Asking.{is_range, no_range_answer, submits}
-use Rattle.pf_chunk.specs.Happenings.{Happened}
-use Rattle.pf_chunk.specs.Runs.{ChunkRun}
+use Rattle.pf_chunk.specs.declared.asked.Asked.{Asked}
+use Rattle.pf_chunk.specs.declared.asked.Asked.TheVariants.{Submit}
+use Rattle.pf_chunk.specs.Asking.{no_range_answer}
 use Rattle.pf_chunk.specs.Saying.{said}
 use Rattle.pf_chunk.specs.Views.{ChunkIs}
+use Rattle.pf_hosts.specs.Steps.{HaveBegun}
 use Rattle.pf_hosts.proofs.Groups.{run_there}
 use Rattle.pf_fleet.specs.Volumes.{quietly}
+use Rattle.pf_threads.specs.Sessions.{Session}
 use Rattle.pf_world.specs.declared.kind.Kind.{Kind}
-use Rattle.pf_world.specs.Worlds.{Told, World, at_chunk, refused_text, said_only}
 use Rattle.pf_world.specs.declared.kind.Kind.TheVariants.{Mounted, Raw}
-use Rattle.pf_world.specs.Lines.{asked, decided, is_mounted, line_told, no_event_of, submit_told, submits_as, with_kind}
+use Rattle.pf_world.specs.Asked.{IsAllowed, IsSubmit, asked_of}
+use Rattle.pf_world.specs.Worlds.{Told, World, refused_text, said_only}
+use Rattle.pf_world.specs.Lines.{decided, is_mounted, line_told, no_event_of, submit_told, submits_as, with_kind}
 use Rattle.pf_world.specs.Headline.{is_live}
-use Rattle.pf_world.specs.Steps.{Ends, HasFailed, HasRun, IsWithin, StopsIn}
+use Rattle.pf_world.specs.Steps.{Ends, GoesOn, HasFailed, HasRun, IsWithin, StopsIn}
 use Rattle.pf_world.specs.Views.{IsWorld, WorldIs, stands_at}
 use Rattle.pf_world.proofs.Failing.{said_fails}
-use Rattle.pf_world.proofs.Happening.{answer_put, becomes, said_runs}
+use Rattle.pf_world.proofs.Happening.{answer_put, said_runs}
 
--- numbers that are a range ask for an event
-pub in_range_told : (halts : List Halt) (w : World) (number chunk server first count : ℕ) (event : ChunkRun → Happened) → is_range first count ≡ true → asked halts w number chunk server first count event ≡ at_chunk halts w number chunk event
-in_range_told halts w number chunk server first count event ranges =
-    ap (λ b. if b then at_chunk halts w number chunk event else no_event_of w number server (slice_get w.volume.chunks chunk)) ranges
-
--- numbers that are none ask for nothing
-no_range_told : (halts : List Halt) (w : World) (number chunk server first count : ℕ) (event : ChunkRun → Happened) → is_range first count ≡ false → asked halts w number chunk server first count event ≡ no_event_of w number server (slice_get w.volume.chunks chunk)
-no_range_told halts w number chunk server first count event not =
-    ap (λ b. if b then at_chunk halts w number chunk event else no_event_of w number server (slice_get w.volume.chunks chunk)) not
-
-module _ (old : WorldIs) (number chunk server first count : ℕ) (command : Command) (event : List Halt → ChunkRun → Happened) (not : is_range first count ≡ false) (c : ChunkIs) (there : slice_get old.chunks chunk ≡ Some c) (kind : Option Kind)
-    (line : (halts : List Halt) → line_told halts (stands_at halts [] old) number command ≡ asked halts (record (stands_at halts [] old) { kind = kind }) number chunk server first count (event halts)) where
+-- a line whose numbers are no range
+module _ (old : WorldIs) (number chunk server : ℕ) (command : Command) (c : ChunkIs) (there : slice_get old.chunks chunk ≡ Some c) (line : (halts : List Halt) → line_told halts (stands_at halts [] old) number command ≡ no_event_of (stands_at halts [] old) number server (slice_get (stands_at halts [] old).volume.chunks chunk)) where
   abbrev pub refusal : Answer
   refusal = no_range_answer (slice_get (state_of c.group).servers server)
 
-  tells : (halts : List Halt) → line_told halts (stands_at halts [] old) number command ≡ said_only (record (stands_at halts [] old) { kind = kind }) number (said refusal)
-  tells halts =
-      line halts ∙ no_range_told halts (record (stands_at halts [] old) { kind = kind }) number chunk server first count (event halts) not
-      ∙ ap (no_event_of (record (stands_at halts [] old) { kind = kind }) number server) (run_there halts old.chunks chunk c there)
+  tells : (halts : List Halt) → line_told halts (stands_at halts [] old) number command ≡ said_only (stands_at halts [] old) number (said refusal)
+  tells halts = line halts ∙ ap (no_event_of (stands_at halts [] old) number server) (run_there halts old.chunks chunk c there)
 
   pub no_range_runs : IsWorld old → is_live command ≡ false → (before after : List ℕ) (answer : Answer) → IsSome (answer_text answer) → (IsTrue c.group.told → answer ≡ refusal) → IfSome (answer_text answer) (λ text. after ≡ before ++ line_of number text)
-      → ((halts : List Halt) → Ends halts (stands_at halts [] old) command) → HasRun old number command before after (becomes old old.chunks old.fleet kind)
+      → ((halts : List Halt) → Ends halts (stands_at halts [] old) command) → HasRun old number command before after old
   no_range_runs world plain before after answer some is put ends =
-      said_runs old number command world plain kind before after (said answer) (λ halts v. quietly v) (λ halts. refl) (answer_put (answer_text answer) number before after some put)
-      (λ halts all. tells halts ∙ ap (λ a. said_only (record (stands_at halts [] old) { kind = kind }) number (said a)) (sym (is (all chunk c there).told))) ends
+      said_runs old number command world plain old.kind before after (said answer) (λ halts v. quietly v) (λ halts. refl) (answer_put (answer_text answer) number before after some put)
+      (λ halts all. tells halts ∙ ap (λ a. said_only (stands_at halts [] old) number (said a)) (sym (is (all chunk c there).told))) ends
 
-  pub no_range_fails : ((new : WorldIs) → IsWithin old [] number command new → StopsIn old number command new) → HasFailed old number command (becomes old old.chunks old.fleet kind)
-  no_range_fails within = said_fails old number command within kind old.fleet (λ halts. ap (λ (t : Told). t.world.volume.chunks) (tells halts))
+  pub no_range_fails : ((new : WorldIs) → IsWithin old [] number command new → StopsIn old number command new) → HasFailed old number command old
+  no_range_fails within = said_fails old number command within old.kind old.fleet (λ halts. ap (λ (t : Told). t.world.volume.chunks) (tells halts))
 
 -- The kind of a run
 
@@ -70,5 +62,71 @@ module _ (halts : List Halt) (w : World) (number chunk server first byte count :
   pub mounted_told : kind ≡ Mounted → submit_told halts w number chunk server first byte count ≡ said_only (record w { kind = Some kind }) number (refused_text 94)
   mounted_told mounted = told_as ∙ ap (λ k. submits_as k halts (with_kind w kind) number chunk server first byte count) mounted
 
-  pub raw_told : kind ≡ Raw → submit_told halts w number chunk server first byte count ≡ asked halts (record w { kind = Some kind }) number chunk server first count (submits halts server first byte count)
-  raw_told raw = told_as ∙ ap (λ k. submits_as k halts (with_kind w kind) number chunk server first byte count) raw
+-- a line that submits, in a run with mounts
+pub submit_mounted : (command : Command) → IsSubmit command → (halts : List Halt) (w : World) (number : ℕ) (kind : Kind) → kind ≡ decided w.kind Raw → kind ≡ Mounted → line_told halts w number command ≡ said_only (record w { kind = Some kind }) number (refused_text 94)
+submit_mounted (commands.Submit g i s b n) submits halts w number kind is mounted = mounted_told halts w number g i s b n kind is mounted
+submit_mounted command submits halts w number kind is mounted = absurd submits
+
+pub submit_plain : (command : Command) → IsSubmit command → is_live command ≡ false
+submit_plain (commands.Submit g i s b n) submits = refl
+submit_plain command submits = absurd submits
+
+pub submit_within : (command : Command) → IsSubmit command → (old : WorldIs) (number : ℕ) (new : WorldIs) → IsWithin old [] number command new → StopsIn old number command new
+submit_within (commands.Submit g i s b n) submits old number new within = within
+submit_within command submits old number new within = absurd submits
+
+pub submit_ends : (command : Command) → IsSubmit command → (halts : List Halt) (w : World) → Ends halts w command
+submit_ends (commands.Submit g i s b n) submits halts w = tt
+submit_ends command submits halts w = absurd submits
+
+pub submit_asks : (command : Command) → IsSubmit command → asked_of command ≡ None → ⊥
+submit_asks (commands.Submit g i s b n) submits none = none_asked (g, Submit i s b n) none
+  where
+    none_asked : (p : ℕ × Asked) → Some p ≡ None → ⊥
+    none_asked p is = cc
+submit_asks command submits none = absurd submits
+
+pub allowed_raw : (command : Command) (kind : Kind) → kind ≡ Raw → IsAllowed (Some kind) command
+allowed_raw (commands.Submit g i s b n) kind raw = ap Some raw
+allowed_raw command kind raw = tt
+
+-- once the kind is decided
+pub kind_world : (w : WorldIs) (kind : Option Kind) → IsWorld w → IsWorld (record w { kind = kind })
+kind_world w kind world = record {
+  volume = world.volume;
+  each = λ k c there. let its = world.each k c there in record { number = its.number; failed = its.failed; setup = its.setup; ready = its.ready };
+  is_fleet = world.is_fleet;
+  extent = world.extent;
+}
+
+on_from : (old new : WorldIs) (kind : Option Kind) → GoesOn (record old { kind = kind }) new → GoesOn old new
+on_from old new kind on = record { sectors = on.sectors; names = on.names; format = on.format; chunks = on.chunks; grown = on.grown }
+
+submit_same : (halts : List Halt) (sessions : List Session) (old : WorldIs) (number g i s b n : ℕ) (kind : Kind) → kind ≡ decided old.kind Raw
+    → line_told halts (stands_at halts sessions (record old { kind = Some kind })) number (commands.Submit g i s b n) ≡ line_told halts (stands_at halts sessions old) number (commands.Submit g i s b n)
+submit_same halts sessions old number g i s b n kind is = ap (λ k. submits_as k halts (with_kind (stands_at halts sessions old) k) number g i s b n) is
+
+pub submit_runs : (command : Command) → IsSubmit command → (old : WorldIs) (number : ℕ) (kind : Kind) → kind ≡ decided old.kind Raw → (before after : List ℕ) (new : WorldIs) → HasRun (record old { kind = Some kind }) number command before after new → HasRun old number command before after new
+submit_runs (commands.Submit g i s b n) submits old number kind is before after new ran = record {
+  told = ran.told;
+  put = ran.put;
+  runs = record {
+    is_world = ran.runs.is_world;
+    goes_on = on_from old new (Some kind) ran.runs.goes_on;
+    calls = ran.runs.calls;
+    sessions = ran.runs.sessions;
+    takes = ran.runs.takes;
+    run = λ halts rest tells. sym (submit_same halts (ran.runs.sessions ++ rest) old number g i s b n kind is) ∙ ran.runs.run halts rest tells;
+    ends = λ halts rest tells. tt;
+    keeps = ran.runs.keeps;
+  };
+}
+submit_runs command submits old number kind is before after new ran = absurd submits
+
+pub submit_fails : (command : Command) → IsSubmit command → (old : WorldIs) (number : ℕ) (kind : Kind) → kind ≡ decided old.kind Raw → (new : WorldIs) → HasFailed (record old { kind = Some kind }) number command new → HasFailed old number command new
+submit_fails (commands.Submit g i s b n) submits old number kind is new failed = record {
+  goes_on = on_from old new (Some kind) failed.goes_on;
+  passes = failed.passes;
+  stopped = λ halts tells. subst (λ (t : Told). HaveBegun halts old.chunks t.world.volume.chunks new.chunks) (submit_same halts [] old number g i s b n kind is) (failed.stopped halts tells);
+}
+submit_fails command submits old number kind is new failed = absurd submits

@@ -1,104 +1,140 @@
 -- What lines ask of one chunk.
-use Rattle.std.proofs.Common.{[], ◌≡◌, ℕ, ◌<◌, false, List, Some, None, refl, sym, ap, subst, arith}
+use Rattle.std.proofs.Common.{[], ◌≡◌, ℕ, ◌<◌, false, if◌then◌else◌, List, Option, Some, None, slice_get, refl, sym, ap, subst, ◌∙◌, arith}
 use Rattle.std.proofs.lemmas.Bool.Decides.{nat_tests}
 use Rattle.std.proofs.lemmas.Option.{same_Some}
 use Rattle.pf_script.specs.declared.command.Command.{Command}
 use Rattle.pf_script.specs.declared.command.Command.TheVariants as commands
-use Rattle.pf_group.specs.declared.event.GroupEvent.{GroupEvent}
-use Rattle.pf_group.specs.declared.event.GroupEvent.TheVariants as asked
-use Rattle.pf_group.specs.Events.{event_of}
+use Rattle.pf_entry.proofs.Cases.{by_test}
+use Rattle.pf_group.specs.declared.event.GroupEvent.TheVariants as events
 use Rattle.pf_applyrounds.specs.Halts.{Halt}
-use Rattle.pf_chunk.specs.Happenings.{happened}
+use Rattle.pf_chunk.specs.declared.asked.Asked.{Asked}
+use Rattle.pf_chunk.specs.declared.asked.Asked.TheVariants as asks
+use Rattle.pf_chunk.specs.Asked.{MayAsk, asked_happened, no_range_of, unless_range}
+use Rattle.pf_chunk.specs.Asking.{is_range, submits}
 use Rattle.pf_chunk.specs.Steps.{Event}
-use Rattle.pf_world.specs.Worlds.{World, at_chunk}
-use Rattle.pf_world.specs.Lines.{line_told}
+use Rattle.pf_world.specs.declared.kind.Kind.TheVariants.{Raw}
+use Rattle.pf_world.specs.Worlds.{Told, World, at_chunk}
+use Rattle.pf_world.specs.Lines.{asked, decided, line_told, no_event_of, submit_told, submits_as, with_kind}
 use Rattle.pf_world.specs.Views.{WorldIs}
-use Rattle.pf_world.specs.Asked.{asked_of}
+use Rattle.pf_world.specs.Asked.{IsAllowed, asked_of}
 use Rattle.pf_world.specs.Headline.{is_live}
 use Rattle.pf_world.specs.Steps.{Ends, IsWithin, MayRun, StopsIn}
 
--- the event of a line that is one event of a group
-abbrev pub event_in : GroupEvent → Event
-event_in event halts c = happened halts c (event_of event false)
+-- what a line asks of a chunk
+abbrev pub event_in : Asked → Event
+event_in a halts c = asked_happened halts a c
 
 abbrev PairOf : Type 0
-PairOf = ℕ × GroupEvent
+PairOf = ℕ × Asked
 
-told_from : (halts : List Halt) (w : World) (number : ℕ) (p q : PairOf) → Some p ≡ Some q → at_chunk halts w number q.0 (event_in q.1 halts) ≡ at_chunk halts w number p.0 (event_in p.1 halts)
-told_from halts w number p q is = ap (λ (r : PairOf). at_chunk halts w number r.0 (event_in r.1 halts)) (sym (same_Some p q is))
+some_none : {X : Type 0} (x : X) → Some x ≡ None → ⊥
+some_none x is = cc
 
 none_is_none : (p : PairOf) → Some p ≡ None → ⊥
-none_is_none p is = cc
+none_is_none p is = some_none p is
 
-pub asked_told : (command : Command) (g : ℕ) (e : GroupEvent) → Some (g, e) ≡ asked_of command → (halts : List Halt) (w : World) (number : ℕ) → line_told halts w number command ≡ at_chunk halts w number g (event_in e halts)
-asked_told (commands.Elect h i) g e is halts w number = told_from halts w number (g, e) (h, asked.Elect i) is
-asked_told (commands.Resend h i) g e is halts w number = told_from halts w number (g, e) (h, asked.Resend i) is
-asked_told (commands.Stop h i) g e is halts w number = told_from halts w number (g, e) (h, asked.Stop i) is
-asked_told (commands.Restart h i) g e is halts w number = told_from halts w number (g, e) (h, asked.Restart i) is
-asked_told (commands.Checkpoint h i) g e is halts w number = told_from halts w number (g, e) (h, asked.Checkpoint i) is
-asked_told (commands.Deliver h k) g e is halts w number = told_from halts w number (g, e) (h, asked.Deliver k) is
-asked_told (commands.Lose h k) g e is halts w number = told_from halts w number (g, e) (h, asked.Lose k) is
-asked_told (commands.Mark h i) g e is halts w number = told_from halts w number (g, e) (h, asked.Mark i) is
-asked_told (commands.Volume c s n f) g e is halts w number = absurd (none_is_none (g, e) is)
-asked_told (commands.Submit h i s b n) g e is halts w number = absurd (none_is_none (g, e) is)
-asked_told (commands.Fetch h i s n) g e is halts w number = absurd (none_is_none (g, e) is)
-asked_told (commands.Settle limit) g e is halts w number = absurd (none_is_none (g, e) is)
-asked_told (commands.Live h hosts writes workers turns) g e is halts w number = absurd (none_is_none (g, e) is)
-asked_told (commands.ShowLog h i) g e is halts w number = absurd (none_is_none (g, e) is)
-asked_told (commands.ShowApplied h i) g e is halts w number = absurd (none_is_none (g, e) is)
-asked_told (commands.ShowSectors h i) g e is halts w number = absurd (none_is_none (g, e) is)
-asked_told (commands.ShowAcked h) g e is halts w number = absurd (none_is_none (g, e) is)
-asked_told (commands.ShowMark h i s) g e is halts w number = absurd (none_is_none (g, e) is)
-asked_told commands.Mount g e is halts w number = absurd (none_is_none (g, e) is)
-asked_told (commands.Kill m) g e is halts w number = absurd (none_is_none (g, e) is)
-asked_told (commands.Call m call) g e is halts w number = absurd (none_is_none (g, e) is)
-asked_told (commands.ShowMount m) g e is halts w number = absurd (none_is_none (g, e) is)
+-- what is asked for, where its numbers are a range, or are none
+
+abbrev told_by : List Halt → World → (number : ℕ) → Option ℕ → PairOf → Told
+told_by halts w number None p = at_chunk halts w number p.0 (event_in p.1 halts)
+told_by halts w number (Some server) p = no_event_of w number server (slice_get w.volume.chunks p.0)
+
+told_from : (halts : List Halt) (w : World) (number : ℕ) (p q : PairOf) → Some p ≡ Some q → told_by halts w number (no_range_of q.1) q ≡ told_by halts w number (no_range_of p.1) p
+told_from halts w number p q is = ap (λ (r : PairOf). told_by halts w number (no_range_of r.1) r) (sym (same_Some p q is))
+
+ranged : (halts : List Halt) (w : World) (number chunk server first count : ℕ) (a : Asked) → asked halts w number chunk server first count (event_in a halts) ≡ told_by halts w number (unless_range (is_range first count) server) (chunk, a)
+ranged halts w number chunk server first count a =
+    by_test (is_range first count) (λ b. (if b then at_chunk halts w number chunk (event_in a halts) else no_event_of w number server (slice_get w.volume.chunks chunk)) ≡ told_by halts w number (unless_range b server) (chunk, a)) (λ _. refl) (λ _. refl)
+
+allowed_world : (w : World) → w.kind ≡ Some Raw → with_kind w Raw ≡ w
+allowed_world w is = ap (λ k. let v : World = record w { kind = k } in v) (sym is)
+
+submit_allowed : (halts : List Halt) (w : World) (number chunk server first byte count : ℕ) → w.kind ≡ Some Raw → submit_told halts w number chunk server first byte count ≡ asked halts w number chunk server first count (submits halts server first byte count)
+submit_allowed halts w number chunk server first byte count is =
+    ap (λ k. submits_as (decided k Raw) halts (with_kind w (decided k Raw)) number chunk server first byte count) is
+    ∙ ap (λ v. asked halts v number chunk server first count (submits halts server first byte count)) (allowed_world w is)
+
+pub asked_by : (command : Command) (g : ℕ) (a : Asked) → Some (g, a) ≡ asked_of command → (halts : List Halt) (w : World) (number : ℕ) → IsAllowed w.kind command → line_told halts w number command ≡ told_by halts w number (no_range_of a) (g, a)
+asked_by (commands.Submit h i s b n) g a is halts w number allowed =
+    submit_allowed halts w number h i s b n allowed ∙ ranged halts w number h i s n (asks.Submit i s b n) ∙ told_from halts w number (g, a) (h, asks.Submit i s b n) is
+asked_by (commands.Fetch h i s n) g a is halts w number allowed =
+    ranged halts w number h i s n (asks.Fetch i s n) ∙ told_from halts w number (g, a) (h, asks.Fetch i s n) is
+asked_by (commands.Elect h i) g a is halts w number allowed = told_from halts w number (g, a) (h, asks.Event (events.Elect i)) is
+asked_by (commands.Resend h i) g a is halts w number allowed = told_from halts w number (g, a) (h, asks.Event (events.Resend i)) is
+asked_by (commands.Stop h i) g a is halts w number allowed = told_from halts w number (g, a) (h, asks.Event (events.Stop i)) is
+asked_by (commands.Restart h i) g a is halts w number allowed = told_from halts w number (g, a) (h, asks.Event (events.Restart i)) is
+asked_by (commands.Checkpoint h i) g a is halts w number allowed = told_from halts w number (g, a) (h, asks.Event (events.Checkpoint i)) is
+asked_by (commands.Deliver h k) g a is halts w number allowed = told_from halts w number (g, a) (h, asks.Event (events.Deliver k)) is
+asked_by (commands.Lose h k) g a is halts w number allowed = told_from halts w number (g, a) (h, asks.Event (events.Lose k)) is
+asked_by (commands.Mark h i) g a is halts w number allowed = told_from halts w number (g, a) (h, asks.Event (events.Mark i)) is
+asked_by (commands.Volume c s n f) g a is halts w number allowed = absurd (none_is_none (g, a) is)
+asked_by (commands.Settle limit) g a is halts w number allowed = absurd (none_is_none (g, a) is)
+asked_by (commands.Live h hosts writes workers turns) g a is halts w number allowed = absurd (none_is_none (g, a) is)
+asked_by (commands.ShowLog h i) g a is halts w number allowed = absurd (none_is_none (g, a) is)
+asked_by (commands.ShowApplied h i) g a is halts w number allowed = absurd (none_is_none (g, a) is)
+asked_by (commands.ShowSectors h i) g a is halts w number allowed = absurd (none_is_none (g, a) is)
+asked_by (commands.ShowAcked h) g a is halts w number allowed = absurd (none_is_none (g, a) is)
+asked_by (commands.ShowMark h i s) g a is halts w number allowed = absurd (none_is_none (g, a) is)
+asked_by commands.Mount g a is halts w number allowed = absurd (none_is_none (g, a) is)
+asked_by (commands.Kill m) g a is halts w number allowed = absurd (none_is_none (g, a) is)
+asked_by (commands.Call m call) g a is halts w number allowed = absurd (none_is_none (g, a) is)
+asked_by (commands.ShowMount m) g a is halts w number allowed = absurd (none_is_none (g, a) is)
+
+-- a range: an event of the chunk
+pub asked_told : (command : Command) (g : ℕ) (a : Asked) → Some (g, a) ≡ asked_of command → no_range_of a ≡ None → (halts : List Halt) (w : World) (number : ℕ) → IsAllowed w.kind command → line_told halts w number command ≡ at_chunk halts w number g (event_in a halts)
+asked_told command g a is range halts w number allowed = asked_by command g a is halts w number allowed ∙ ap (λ o. told_by halts w number o (g, a)) range
+
+-- no range: none
+pub no_range_told : (command : Command) (g : ℕ) (a : Asked) (server : ℕ) → Some (g, a) ≡ asked_of command → no_range_of a ≡ Some server → (halts : List Halt) (w : World) (number : ℕ) → IsAllowed w.kind command
+    → line_told halts w number command ≡ no_event_of w number server (slice_get w.volume.chunks g)
+no_range_told command g a server is none halts w number allowed = asked_by command g a is halts w number allowed ∙ ap (λ o. told_by halts w number o (g, a)) none
 
 -- such a line is no settling and no line of threads
-pub asked_within : (old : WorldIs) (number : ℕ) (command : Command) (g : ℕ) (e : GroupEvent) → Some (g, e) ≡ asked_of command → (new : WorldIs) → IsWithin old [] number command new → StopsIn old number command new
+pub asked_within : (old : WorldIs) (number : ℕ) (command : Command) (g : ℕ) (e : Asked) → Some (g, e) ≡ asked_of command → (new : WorldIs) → IsWithin old [] number command new → StopsIn old number command new
 asked_within old number (commands.Settle limit) g e is new within = absurd (none_is_none (g, e) is)
 asked_within old number (commands.Live h hosts writes workers turns) g e is new within = absurd (none_is_none (g, e) is)
 asked_within old number command g e is new within = within
 
 -- only settlings may go on without end
-pub asked_ends : (command : Command) (g : ℕ) (e : GroupEvent) → Some (g, e) ≡ asked_of command → (halts : List Halt) (w : World) → Ends halts w command
+pub asked_ends : (command : Command) (g : ℕ) (e : Asked) → Some (g, e) ≡ asked_of command → (halts : List Halt) (w : World) → Ends halts w command
 asked_ends (commands.Settle limit) g e is halts w = absurd (none_is_none (g, e) is)
 asked_ends (commands.Live h hosts writes workers turns) g e is halts w = absurd (none_is_none (g, e) is)
 asked_ends command g e is halts w = tt
 
-pub asked_plain : (command : Command) (g : ℕ) (e : GroupEvent) → Some (g, e) ≡ asked_of command → is_live command ≡ false
+pub asked_plain : (command : Command) (g : ℕ) (e : Asked) → Some (g, e) ≡ asked_of command → is_live command ≡ false
 asked_plain (commands.Live h hosts writes workers turns) g e is = absurd (none_is_none (g, e) is)
 asked_plain command g e is = refl
 
-low_from : (n : ℕ) (p q : PairOf) → Some p ≡ Some q → q.0 < n → p.0 < n
-low_from n p q is low = subst (λ (r : PairOf). r.0 < n) (sym (same_Some p q is)) low
+low_from : (n : ℕ) (p q : PairOf) → Some p ≡ Some q → (q.0 < n) × MayAsk q.1 → (p.0 < n) × MayAsk p.1
+low_from n p q is low = subst (λ (r : PairOf). (r.0 < n) × MayAsk r.1) (sym (same_Some p q is)) low
 
-pub asked_group : (n : ℕ) (command : Command) (g : ℕ) (e : GroupEvent) → MayRun n command → Some (g, e) ≡ asked_of command → g < n
-asked_group n (commands.Elect h i) g e may is = low_from n (g, e) (h, asked.Elect i) is (grind (arith, nat_tests))
-asked_group n (commands.Resend h i) g e may is = low_from n (g, e) (h, asked.Resend i) is (grind (arith, nat_tests))
-asked_group n (commands.Stop h i) g e may is = low_from n (g, e) (h, asked.Stop i) is (grind (arith, nat_tests))
-asked_group n (commands.Restart h i) g e may is = low_from n (g, e) (h, asked.Restart i) is (grind (arith, nat_tests))
-asked_group n (commands.Checkpoint h i) g e may is = low_from n (g, e) (h, asked.Checkpoint i) is (grind (arith, nat_tests))
-asked_group n (commands.Deliver h k) g e may is = low_from n (g, e) (h, asked.Deliver k) is (grind (arith, nat_tests))
-asked_group n (commands.Lose h k) g e may is = low_from n (g, e) (h, asked.Lose k) is (grind (arith, nat_tests))
-asked_group n (commands.Mark h i) g e may is = low_from n (g, e) (h, asked.Mark i) is (grind (arith, nat_tests))
-asked_group n (commands.Volume c s m f) g e may is = absurd may
-asked_group n (commands.Submit h i s b m) g e may is = absurd (none_is_none (g, e) is)
-asked_group n (commands.Fetch h i s m) g e may is = absurd (none_is_none (g, e) is)
-asked_group n (commands.Settle limit) g e may is = absurd (none_is_none (g, e) is)
-asked_group n (commands.Live h hosts writes workers turns) g e may is = absurd (none_is_none (g, e) is)
-asked_group n (commands.ShowLog h i) g e may is = absurd (none_is_none (g, e) is)
-asked_group n (commands.ShowApplied h i) g e may is = absurd (none_is_none (g, e) is)
-asked_group n (commands.ShowSectors h i) g e may is = absurd (none_is_none (g, e) is)
-asked_group n (commands.ShowAcked h) g e may is = absurd (none_is_none (g, e) is)
-asked_group n (commands.ShowMark h i s) g e may is = absurd (none_is_none (g, e) is)
-asked_group n commands.Mount g e may is = absurd (none_is_none (g, e) is)
-asked_group n (commands.Kill m) g e may is = absurd (none_is_none (g, e) is)
-asked_group n (commands.Call m call) g e may is = absurd (none_is_none (g, e) is)
-asked_group n (commands.ShowMount m) g e may is = absurd (none_is_none (g, e) is)
+-- a line that may be run asks for what may be asked
+pub asked_may : (n : ℕ) (command : Command) (g : ℕ) (a : Asked) → MayRun n command → Some (g, a) ≡ asked_of command → (g < n) × MayAsk a
+asked_may n (commands.Submit h i s b m) g a may is = low_from n (g, a) (h, asks.Submit i s b m) is (grind (arith, nat_tests), (grind (arith, nat_tests), grind (arith, nat_tests), grind (arith, nat_tests)))
+asked_may n (commands.Fetch h i s m) g a may is = low_from n (g, a) (h, asks.Fetch i s m) is (grind (arith, nat_tests), (grind (arith, nat_tests), grind (arith, nat_tests), grind (arith, nat_tests)))
+asked_may n (commands.Elect h i) g a may is = low_from n (g, a) (h, asks.Event (events.Elect i)) is (grind (arith, nat_tests), grind (arith, nat_tests))
+asked_may n (commands.Resend h i) g a may is = low_from n (g, a) (h, asks.Event (events.Resend i)) is (grind (arith, nat_tests), grind (arith, nat_tests))
+asked_may n (commands.Stop h i) g a may is = low_from n (g, a) (h, asks.Event (events.Stop i)) is (grind (arith, nat_tests), grind (arith, nat_tests))
+asked_may n (commands.Restart h i) g a may is = low_from n (g, a) (h, asks.Event (events.Restart i)) is (grind (arith, nat_tests), grind (arith, nat_tests))
+asked_may n (commands.Checkpoint h i) g a may is = low_from n (g, a) (h, asks.Event (events.Checkpoint i)) is (grind (arith, nat_tests), grind (arith, nat_tests))
+asked_may n (commands.Deliver h k) g a may is = low_from n (g, a) (h, asks.Event (events.Deliver k)) is (grind (arith, nat_tests), tt)
+asked_may n (commands.Lose h k) g a may is = low_from n (g, a) (h, asks.Event (events.Lose k)) is (grind (arith, nat_tests), tt)
+asked_may n (commands.Mark h i) g a may is = low_from n (g, a) (h, asks.Event (events.Mark i)) is (grind (arith, nat_tests), (grind (arith, nat_tests), tt))
+asked_may n (commands.Volume c s m f) g a may is = absurd may
+asked_may n (commands.Settle limit) g a may is = absurd (none_is_none (g, a) is)
+asked_may n (commands.Live h hosts writes workers turns) g a may is = absurd (none_is_none (g, a) is)
+asked_may n (commands.ShowLog h i) g a may is = absurd (none_is_none (g, a) is)
+asked_may n (commands.ShowApplied h i) g a may is = absurd (none_is_none (g, a) is)
+asked_may n (commands.ShowSectors h i) g a may is = absurd (none_is_none (g, a) is)
+asked_may n (commands.ShowAcked h) g a may is = absurd (none_is_none (g, a) is)
+asked_may n (commands.ShowMark h i s) g a may is = absurd (none_is_none (g, a) is)
+asked_may n commands.Mount g a may is = absurd (none_is_none (g, a) is)
+asked_may n (commands.Kill m) g a may is = absurd (none_is_none (g, a) is)
+asked_may n (commands.Call m call) g a may is = absurd (none_is_none (g, a) is)
+asked_may n (commands.ShowMount m) g a may is = absurd (none_is_none (g, a) is)
 
-pub submit_group : (n g i s b k : ℕ) → MayRun n (commands.Submit g i s b k) → g < n
-submit_group n g i s b k may = grind (arith, nat_tests)
+pub asked_group : (n : ℕ) (command : Command) (g : ℕ) (a : Asked) → MayRun n command → Some (g, a) ≡ asked_of command → g < n
+asked_group n command g a may is = (asked_may n command g a may is).0
 
-pub fetch_group : (n g i s k : ℕ) → MayRun n (commands.Fetch g i s k) → g < n
-fetch_group n g i s k may = grind (arith, nat_tests)
+pub asked_asks : (n : ℕ) (command : Command) (g : ℕ) (a : Asked) → MayRun n command → Some (g, a) ≡ asked_of command → MayAsk a
+asked_asks n command g a may is = (asked_may n command g a may is).1

@@ -21,7 +21,7 @@ use Rattle.pf_world.specs.Reports.{followed, run_from, world_run}
 use Rattle.pf_world.specs.Views.{WorldIs, stands_at}
 use Rattle.pf_world.specs.Agreeing.{Tells}
 use Rattle.pf_threads.specs.Sessions.{Session}
-use Rattle.pf_world.specs.Steps.{Ends, GoesOn, IsMade, Runs, TakesSessions}
+use Rattle.pf_world.specs.Steps.{Ends, GoesOn, IsMade, IsLineRun, TakesSessions}
 use Rattle.pf_world.specs.Headline.{EndEach, IsRunTo, RunsTo, is_live}
 use Rattle.pf_applyrounds.proofs.Growing.{grown_tells, grown_trans}
 use Rattle.pf_network.proofs.Lists.{something_there}
@@ -91,7 +91,7 @@ run_begins chunks sectors names format number w answer made = record {
 }
 
 -- and each line that was run goes on with it
-pub run_goes_on : (lines : List Line) (text : List ℕ) (old : WorldIs) (number : ℕ) (command : Command) (more : List Moment) (new : WorldIs) → RunsTo lines text old → Runs old number command more new → RunsTo (lines ++ record { number = number; command = command } ∷ []) (text ++ text_of more) new
+pub run_goes_on : (lines : List Line) (text : List ℕ) (old : WorldIs) (number : ℕ) (command : Command) (more : List Moment) (new : WorldIs) → RunsTo lines text old → IsLineRun old number command more new → RunsTo (lines ++ record { number = number; command = command } ∷ []) (text ++ text_of more) new
 run_goes_on lines text old number command more new before runs =
     let line : Line = record { number = number; command = command } in
     let all = before.sessions ++ runs.sessions in record {

@@ -1,21 +1,35 @@
 -- What lines ask of one chunk.
-use Rattle.std.specs.Prelude.{ℕ, Option, Some, None}
+use Rattle.std.specs.Prelude.{◌≡◌, ℕ, Option, Some, None}
 use Rattle.pf_script.specs.declared.command.Command.{Command}
 use Rattle.pf_script.specs.declared.command.Command.TheVariants as commands
-use Rattle.pf_group.specs.declared.event.GroupEvent.{GroupEvent}
-use Rattle.pf_group.specs.declared.event.GroupEvent.TheVariants as asked
+use Rattle.pf_group.specs.declared.event.GroupEvent.TheVariants as events
+use Rattle.pf_chunk.specs.declared.asked.Asked.{Asked}
+use Rattle.pf_chunk.specs.declared.asked.Asked.TheVariants.{Event, Fetch, Submit}
+use Rattle.pf_world.specs.declared.kind.Kind.{Kind}
+use Rattle.pf_world.specs.declared.kind.Kind.TheVariants.{Raw}
 
--- the event of a line that is one event of a group, with the group's number
-abbrev pub asked_of : Command → Option (ℕ × GroupEvent)
-asked_of (commands.Elect g i) = Some (g, asked.Elect i)
-asked_of (commands.Resend g i) = Some (g, asked.Resend i)
-asked_of (commands.Stop g i) = Some (g, asked.Stop i)
-asked_of (commands.Restart g i) = Some (g, asked.Restart i)
-asked_of (commands.Checkpoint g i) = Some (g, asked.Checkpoint i)
-asked_of (commands.Deliver g k) = Some (g, asked.Deliver k)
-asked_of (commands.Lose g k) = Some (g, asked.Lose k)
-asked_of (commands.Mark g i) = Some (g, asked.Mark i)
+-- what a line asks of a group, with the group's number
+abbrev pub asked_of : Command → Option (ℕ × Asked)
+asked_of (commands.Submit g i s b n) = Some (g, Submit i s b n)
+asked_of (commands.Fetch g i s n) = Some (g, Fetch i s n)
+asked_of (commands.Elect g i) = Some (g, Event (events.Elect i))
+asked_of (commands.Resend g i) = Some (g, Event (events.Resend i))
+asked_of (commands.Stop g i) = Some (g, Event (events.Stop i))
+asked_of (commands.Restart g i) = Some (g, Event (events.Restart i))
+asked_of (commands.Checkpoint g i) = Some (g, Event (events.Checkpoint i))
+asked_of (commands.Deliver g k) = Some (g, Event (events.Deliver k))
+asked_of (commands.Lose g k) = Some (g, Event (events.Lose k))
+asked_of (commands.Mark g i) = Some (g, Event (events.Mark i))
 asked_of command = None
+
+abbrev pub IsSubmit : Command → Type 0
+IsSubmit (commands.Submit g i s b n) = Unit {0}
+IsSubmit command = ⊥
+
+-- in a raw run alone lines submit
+abbrev pub IsAllowed : Option Kind → Command → Type 0
+IsAllowed kind (commands.Submit g i s b n) = kind ≡ Some Raw
+IsAllowed kind command = Unit {0}
 
 -- a line that shows a group
 abbrev pub IsShow : Command → Type 0

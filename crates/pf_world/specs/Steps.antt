@@ -17,7 +17,7 @@ use Rattle.pf_fleet.specs.Settled.{HasNotSettled, HasSettled}
 use Rattle.pf_fleet.specs.Settling.{HasEnded, settled}
 use Rattle.pf_fleet.specs.Steps.{FleetIs}
 use Rattle.pf_live.specs.declared.plan.Plan.{Plan}
-use Rattle.pf_live.specs.Deliveries.{Line}
+use Rattle.pf_live.specs.Deliveries.{Trace}
 use Rattle.pf_liveline.specs.declared.opening.Passes.{Passes}
 use Rattle.pf_session.specs.Sessions.{AreKept}
 use Rattle.pf_threads.specs.Sessions.{IsPartOfSession, IsPlan, IsSession, IsSessionOf, Session, next_session}
@@ -73,8 +73,9 @@ Ends halts w (commands.Settle limit) = HasEnded (settled halts limit w.volume)
 Ends halts w (commands.Live chunk hosts writes workers turns) = LivesAs (decided w.kind Raw) halts w chunk hosts writes workers turns
 Ends halts w command = Unit {0}
 
--- The world keeps the passes of a live line with these numbers. Over any disks they agree with a list over the chunk's group, which under every
--- list of halts that tells of the world is that of the session
+-- The world keeps the passes of a live line with these numbers. They agree with a list over the chunk's group, which under every list of halts
+-- that tells of the world is that of the session: over any disks those of each ring meet, and where the disks tell their content what was taken
+-- is submitted, and the last leader published
 pub record HasKept (old : WorldIs) (session : Session) (chunk hosts writes workers turns : ℕ) (new : WorldIs) : Type 0 where
   pub c : ChunkIs
   pub there : slice_get old.chunks chunk ≡ Some c
@@ -82,7 +83,7 @@ pub record HasKept (old : WorldIs) (session : Session) (chunk hosts writes worke
   pub is_plan : IsPlan hosts writes workers turns old.sectors plan
   pub passes : Passes
   pub passes_are : new.passes ≡ Some passes
-  pub list : Line
+  pub list : Trace
   pub kept : AreKept plan c.group list passes
   pub is_session : (halts : List Halt) → Tells halts new → IsSessionOf halts plan (chunk_of halts c.group) session c.group list
 
@@ -102,7 +103,7 @@ TakesSessions command sessions = sessions ≡ []
 
 -- the line was run: under every list of halts that tells of the world afterwards, this world and what was told are the run's, with these
 -- sessions
-pub record Runs (old : WorldIs) (number : ℕ) (command : Command) (told : List Moment) (new : WorldIs) : Type 0 where
+pub record IsLineRun (old : WorldIs) (number : ℕ) (command : Command) (told : List Moment) (new : WorldIs) : Type 0 where
   pub is_world : IsWorld new
   pub goes_on : GoesOn old new
   pub calls : new.fleet.calls ≤ suc old.fleet.calls
@@ -116,7 +117,7 @@ pub record Runs (old : WorldIs) (number : ℕ) (command : Command) (told : List 
 pub record HasRun (old : WorldIs) (number : ℕ) (command : Command) (before after : List ℕ) (new : WorldIs) : Type 0 where
   pub told : List Moment
   pub put : after ≡ before ++ text_of told
-  pub runs : Runs old number command told new
+  pub runs : IsLineRun old number command told new
 
 -- under a list of halts that tells of the world, each group stands at a beginning of what the line would have done to it with these sessions
 abbrev pub IsWithin : (old : WorldIs) → List Session → (number : ℕ) → Command → (new : WorldIs) → Type 0

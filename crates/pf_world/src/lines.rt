@@ -1,53 +1,87 @@
 //! The lines of a script.
 ghost use Rattle.std.specs.Prelude.{◌≡◌, ◌<◌, ◌≤◌, ◌+◌, ◌^◌, IsTrue, OnErr, OnOk, Some, length};
 ghost use Rattle.pf_script.specs.declared.command.Command.{Command as CommandIs};
-ghost use Rattle.pf_script.specs.declared.command.Command.TheVariants.{Fetch, Settle, Submit};
-ghost use Rattle.pf_chunk.specs.Asking.{is_range};
-ghost use Rattle.pf_chunk.specs.Events.{IsStep};
-ghost use Rattle.pf_world.specs.Asked.{asked_of};
+ghost use Rattle.pf_script.specs.declared.command.Command.TheVariants.{Settle};
+ghost use Rattle.pf_chunk.specs.Asked.{MayAsk};
+ghost use Rattle.pf_world.specs.Asked.{IsAllowed, IsSubmit, asked_of};
 ghost use Rattle.pf_world.specs.Headline.{IsSoundWorld, WorldLeavesAtCrash};
 ghost use Rattle.pf_world.specs.Steps.{HasFailed, HasRun, MayRun};
 ghost use Rattle.pf_world.specs.Views.{IsWorld};
 
 use crate::World;
 use crate::kind::Kind;
-use pf_base::{NoMemory, ServerId};
-use pf_copy::Gate;
+use pf_base::NoMemory;
+use pf_chunk::Asked;
+use pf_copy::{Gate, Workers};
 use pf_disk::Disk;
 use pf_group::GroupEvent;
+use pf_live::Plan;
 use pf_report::{put_answer, put_refusal, put_settle};
 use pf_script::Command;
-use std::alloc::Global;
 use std::sync::Wait;
 use std::thread::Threads;
 
 /// The number of the refusal of a line that writes in a run with mounts.
 pub(crate) const MOUNTED: u32 = 94;
 
-/// The event of a line that is one event of a group, with the group's number.
-fn event_of(command: &Command) -> Option<(u8, GroupEvent)>
+/// What a line asks of a group, with the group's number.
+fn asked_of(command: &Command) -> Option<(u8, Asked)>
     ensures { result ≡ asked_of command.now }
 {
     match command {
-        Command::Elect { group, server } => Some((*group, GroupEvent::Elect(*server))),
-        Command::Resend { group, server } => Some((*group, GroupEvent::Resend(*server))),
-        Command::Stop { group, server } => Some((*group, GroupEvent::Stop(*server))),
-        Command::Restart { group, server } => Some((*group, GroupEvent::Restart(*server))),
-        Command::Checkpoint { group, server } => Some((*group, GroupEvent::Checkpoint(*server))),
-        Command::Deliver { group, packet } => Some((*group, GroupEvent::Deliver(*packet))),
-        Command::Lose { group, packet } => Some((*group, GroupEvent::Lose(*packet))),
-        Command::Mark { group, server } => Some((*group, GroupEvent::Mark(*server))),
+        Command::Submit {
+            group,
+            server,
+            sector,
+            byte,
+            count,
+        } => Some((
+            *group,
+            Asked::Submit {
+                server: *server,
+                sector: *sector,
+                byte: *byte,
+                count: *count,
+            },
+        )),
+        Command::Fetch {
+            group,
+            server,
+            sector,
+            count,
+        } => Some((
+            *group,
+            Asked::Fetch {
+                server: *server,
+                sector: *sector,
+                count: *count,
+            },
+        )),
+        Command::Elect { group, server } => Some((
+            *group,
+            Asked::Event(GroupEvent::Elect(*server)),
+        )),
+        Command::Resend { group, server } => Some((
+            *group,
+            Asked::Event(GroupEvent::Resend(*server)),
+        )),
+        Command::Stop { group, server } => Some((*group, Asked::Event(GroupEvent::Stop(*server)))),
+        Command::Restart { group, server } => Some((
+            *group,
+            Asked::Event(GroupEvent::Restart(*server)),
+        )),
+        Command::Checkpoint { group, server } => Some((
+            *group,
+            Asked::Event(GroupEvent::Checkpoint(*server)),
+        )),
+        Command::Deliver { group, packet } => Some((
+            *group,
+            Asked::Event(GroupEvent::Deliver(*packet)),
+        )),
+        Command::Lose { group, packet } => Some((*group, Asked::Event(GroupEvent::Lose(*packet)))),
+        Command::Mark { group, server } => Some((*group, Asked::Event(GroupEvent::Mark(*server)))),
         _ => None,
     }
-}
-
-/// Whether a write or a read may name `count` sectors from `first` on: 1 to 8 of those below 4,096.
-fn is_range(first: u32, count: u32) -> bool
-    requires first { first < 65536 }
-    requires count { count < 65536 }
-    ensures { result ≡ is_range first count }
-{
-    1 <= count && count <= 8 && first + count <= 4096
 }
 
 impl<D: Disk + Drop + Send> World<D> {
@@ -65,11 +99,9 @@ impl<D: Disk + Drop + Send> World<D> {
     /// this line or before it, left of each of its servers what that may hold before that step or right after it.
     pub fn line<R: Threads + Wait + Sync, G: Gate + Sync>(
         &mut self,
-        rt: &R,
-        alloc: Global,
+        workers: &Workers<'_, R, G>,
         number: u32,
         command: &Command,
-        gate: &G,
         out: &mut Vec<u8>,
     ) -> Result<(), NoMemory>
         requires world { IsWorld self.old.world }
@@ -81,7 +113,7 @@ impl<D: Disk + Drop + Send> World<D> {
         ensures sound { IsSoundWorld self.new.world }
         ensures crash { IsTrue D.tells → WorldLeavesAtCrash D.seen D.moment D.left_since D.tells_moments self.new.world }
     {
-        let done = self.run(rt, alloc, number, command, gate, out);
+        let done = self.run(workers, number, command, out);
         self.laws();
         done
     }
@@ -89,11 +121,9 @@ impl<D: Disk + Drop + Send> World<D> {
     /// The same, but for the laws.
     fn run<R: Threads + Wait + Sync, G: Gate + Sync>(
         &mut self,
-        rt: &R,
-        alloc: Global,
+        workers: &Workers<'_, R, G>,
         number: u32,
         command: &Command,
-        gate: &G,
         out: &mut Vec<u8>,
     ) -> Result<(), NoMemory>
         requires world { IsWorld self.old.world }
@@ -104,43 +134,30 @@ impl<D: Disk + Drop + Send> World<D> {
         ensures spare { self.new.spare ≡ self.old.spare }
     {
         match command {
-            Command::Submit {
-                group,
-                server,
-                sector,
-                byte,
-                count,
-            } => self.submit_line(
-                rt, alloc, number, *group, *server, *sector, *byte, *count, gate, out,
-            ),
-            Command::Fetch {
-                group,
-                server,
-                sector,
-                count,
-            } => self.fetch_line(
-                rt, alloc, number, *group, *server, *sector, *count, gate, out,
-            ),
-            Command::Settle { limit } => self.settle_line(rt, alloc, number, *limit, gate, out),
+            Command::Submit { .. } => self.submit_line(workers, number, command, out),
+            Command::Settle { limit } => self.settle_line(workers, number, *limit, out),
             Command::Live {
                 group,
                 hosts,
                 writes,
-                workers,
+                workers: appliers,
                 turns,
-            } => self.live_line(
-                rt, alloc, number, *group, *hosts, *writes, *workers, *turns, gate, out,
-            ),
-            Command::Mount => self.mount_line(rt, alloc, number, gate, out),
-            Command::Kill { mount } => self.kill_line(number, *mount, out),
-            Command::Call { mount, call } => {
-                self.call_line(rt, alloc, number, *mount, call, gate, out)
+            } => {
+                let plan = Plan {
+                    hosts: *hosts,
+                    writes: *writes,
+                    workers: *appliers,
+                    turns: *turns,
+                    sectors: self.sectors,
+                };
+                self.live_line(workers, number, *group, plan, out)
             }
-            Command::ShowMount { mount } => self.show_mount(alloc, number, *mount, out),
-            other => match event_of(other) {
-                Some((group, event)) => {
-                    self.event_line(rt, alloc, number, group, event, gate, out)
-                }
+            Command::Mount => self.mount_line(workers, number, out),
+            Command::Kill { mount } => self.kill_line(number, *mount, out),
+            Command::Call { mount, call } => self.call_line(workers, number, *mount, call, out),
+            Command::ShowMount { mount } => self.show_mount(workers.alloc, number, *mount, out),
+            other => match asked_of(other) {
+                Some((group, asked)) => self.ask_line(workers, number, group, asked, out),
                 None => self.show(number, other, out),
             },
         }
@@ -148,57 +165,45 @@ impl<D: Disk + Drop + Send> World<D> {
 }
 
 impl<D: Disk + Drop> World<D> {
-    /// A line that is one event of a group.
-    #[allow(clippy::too_many_arguments)]
-    fn event_line<R: Threads + Sync, G: Gate + Sync>(
+    /// A line that asks a group for something. Numbers that are no range are no event: no host takes a step.
+    fn ask_line<R: Threads + Sync, G: Gate + Sync>(
         &mut self,
-        rt: &R,
-        alloc: Global,
+        workers: &Workers<'_, R, G>,
         number: u32,
         group: u8,
-        event: GroupEvent,
-        gate: &G,
+        asked: Asked,
         out: &mut Vec<u8>,
     ) -> Result<(), NoMemory>
         requires world { IsWorld self.old.world }
         requires group { group < length self.old.world.chunks }
-        requires event { IsStep event }
-        ensures ran { OnOk result ((command : CommandIs) → asked_of command ≡ Some (group, event) → HasRun self.old.world number command out.old.items out.new.items self.new.world) }
-        ensures err { OnErr result ((command : CommandIs) → asked_of command ≡ Some (group, event) → HasFailed self.old.world number command self.new.world) }
+        requires asked { MayAsk asked }
+        ensures ran { OnOk result ((command : CommandIs) → asked_of command ≡ Some (group, asked) → IsAllowed self.old.world.kind command → HasRun self.old.world number command out.old.items out.new.items self.new.world) }
+        ensures err { OnErr result ((command : CommandIs) → asked_of command ≡ Some (group, asked) → IsAllowed self.old.world.kind command → HasFailed self.old.world number command self.new.world) }
         ensures spare { self.new.spare ≡ self.old.spare }
     {
-        let answer = self.fleet.happen(
-            rt,
-            alloc,
-            &mut self.chunks,
-            group,
-            event,
-            self.workers,
-            gate,
-            out,
-        )?;
+        if let Some(server) = asked.no_range() {
+            let answer = self.chunk(group).no_range(server);
+            return put_answer(out, number, &answer);
+        }
+        let answer = self
+            .fleet
+            .ask(workers, &mut self.chunks, group, asked, out)?;
         put_answer(out, number, &answer)
     }
 
-    /// A line that writes sectors.
-    #[allow(clippy::too_many_arguments)]
+    /// A line that writes sectors. In a run with mounts it is refused.
     fn submit_line<R: Threads + Sync, G: Gate + Sync>(
         &mut self,
-        rt: &R,
-        alloc: Global,
+        workers: &Workers<'_, R, G>,
         number: u32,
-        group: u8,
-        server: ServerId,
-        sector: u32,
-        byte: u8,
-        count: u32,
-        gate: &G,
+        command: &Command,
         out: &mut Vec<u8>,
     ) -> Result<(), NoMemory>
         requires world { IsWorld self.old.world }
-        requires command { MayRun (length self.old.world.chunks) (Submit group server sector byte count) }
-        ensures ran { OnOk result (HasRun self.old.world number (Submit group server sector byte count) out.old.items out.new.items self.new.world) }
-        ensures err { OnErr result (HasFailed self.old.world number (Submit group server sector byte count) self.new.world) }
+        requires command { MayRun (length self.old.world.chunks) command.now }
+        requires submits { IsSubmit command.now }
+        ensures ran { OnOk result (HasRun self.old.world number command.now out.old.items out.new.items self.new.world) }
+        ensures err { OnErr result (HasFailed self.old.world number command.now self.new.world) }
         ensures spare { self.new.spare ≡ self.old.spare }
     {
         let kind = Kind::Raw.decided(self.kind);
@@ -206,73 +211,18 @@ impl<D: Disk + Drop> World<D> {
         if kind.is_mounted() {
             return put_refusal(out, number, MOUNTED);
         }
-        if !is_range(sector, count) {
-            let answer = self.chunk(group).no_range(server);
-            return put_answer(out, number, &answer);
-        }
-        let answer = self.fleet.submit(
-            rt,
-            alloc,
-            &mut self.chunks,
-            group,
-            server,
-            sector,
-            byte,
-            count,
-            self.workers,
-            gate,
-            out,
-        )?;
-        put_answer(out, number, &answer)
-    }
-
-    /// A line that reads sectors.
-    #[allow(clippy::too_many_arguments)]
-    fn fetch_line<R: Threads + Sync, G: Gate + Sync>(
-        &mut self,
-        rt: &R,
-        alloc: Global,
-        number: u32,
-        group: u8,
-        server: ServerId,
-        sector: u32,
-        count: u32,
-        gate: &G,
-        out: &mut Vec<u8>,
-    ) -> Result<(), NoMemory>
-        requires world { IsWorld self.old.world }
-        requires command { MayRun (length self.old.world.chunks) (Fetch group server sector count) }
-        ensures ran { OnOk result (HasRun self.old.world number (Fetch group server sector count) out.old.items out.new.items self.new.world) }
-        ensures err { OnErr result (HasFailed self.old.world number (Fetch group server sector count) self.new.world) }
-        ensures spare { self.new.spare ≡ self.old.spare }
-    {
-        if !is_range(sector, count) {
-            let answer = self.chunk(group).no_range(server);
-            return put_answer(out, number, &answer);
-        }
-        let answer = self.fleet.fetch(
-            rt,
-            alloc,
-            &mut self.chunks,
-            group,
-            server,
-            sector,
-            count,
-            self.workers,
-            gate,
-            out,
-        )?;
-        put_answer(out, number, &answer)
+        let Some((group, asked)) = asked_of(command) else {
+            unreachable!()
+        };
+        self.ask_line(workers, number, group, asked, out)
     }
 
     /// A line that settles.
     fn settle_line<R: Threads + Sync, G: Gate + Sync>(
         &mut self,
-        rt: &R,
-        alloc: Global,
+        workers: &Workers<'_, R, G>,
         number: u32,
         limit: u32,
-        gate: &G,
         out: &mut Vec<u8>,
     ) -> Result<(), NoMemory>
         requires world { IsWorld self.old.world }
@@ -281,15 +231,7 @@ impl<D: Disk + Drop> World<D> {
         ensures err { OnErr result (HasFailed self.old.world number (Settle limit) self.new.world) }
         ensures spare { self.new.spare ≡ self.old.spare }
     {
-        let stopped = self.fleet.settle(
-            rt,
-            alloc,
-            &mut self.chunks,
-            limit,
-            self.workers,
-            gate,
-            out,
-        )?;
+        let stopped = self.fleet.settle(workers, &mut self.chunks, limit, out)?;
         put_settle(out, number, stopped)
     }
 }

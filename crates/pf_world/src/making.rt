@@ -32,7 +32,7 @@ fn unless_done(first: Answer, second: Answer) -> Answer
 impl<D: Disk + Drop> World<D> {
     /// Makes a volume of 1 to 8 chunks, each of 16 to 4,096 sectors, a multiple of 8, with look-behind lists of up to `names` names and
     /// disks of the given format. Disk 6g + 2i + h is half h of server i of chunk g; there are enough, whatever they held and whatever they
-    /// tell. Sectors are copied on at most `workers` threads, 1 to 8. `Done`, or `Halted` (52) where a disk failed while it was formatted.
+    /// tell. `Done`, or `Halted` (52) where a disk failed while it was formatted.
     ///
     /// `NoMemory` (1) gives the disks back in their order, those of the first chunks, which were made, with what these left on them, and the
     /// others as they were.
@@ -42,11 +42,9 @@ impl<D: Disk + Drop> World<D> {
         sectors: u32,
         names: u8,
         format: u8,
-        workers: u32,
         disks: Vec<D>,
     ) -> Result<(World<D>, Answer), (Vec<D>, NoMemory)>
         requires volume { is_volume chunks sectors names format ≡ true }
-        requires workers { (1 ≤ workers) × (workers ≤ 8) }
         requires disks { 6 * chunks ≤ length disks.items }
         ensures made { IfOk result (λ made. IsMade chunks sectors names format made.0.world made.1) }
         ensures sound { IfOk result (λ made. IsSoundWorld made.0.world) }
@@ -60,7 +58,6 @@ impl<D: Disk + Drop> World<D> {
             sectors,
             names,
             format,
-            workers,
             chunks: Vec::new(alloc),
             fleet: Fleet::new(alloc, Volume::new(chunks, sectors)),
             kind: None,

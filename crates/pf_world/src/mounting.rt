@@ -10,12 +10,11 @@ ghost use Rattle.pf_world.specs.Views.{IsWorld};
 use crate::World;
 use crate::kind::Kind;
 use pf_base::{Call, NoMemory};
-use pf_copy::Gate;
+use pf_copy::{Gate, Workers};
 use pf_disk::Disk;
 use pf_fleet::{CallFault, JoinFault};
 use pf_protocol::Answer;
 use pf_report::{put_answer, put_mount, put_refusal, put_started};
-use std::alloc::Global;
 use std::thread::Threads;
 
 /// The number of the refusal of a mount in a raw run.
@@ -25,10 +24,8 @@ impl<D: Disk + Drop> World<D> {
     /// A line that makes a mount. Each host takes a step at its end.
     pub(crate) fn mount_line<R: Threads + Sync, G: Gate + Sync>(
         &mut self,
-        rt: &R,
-        alloc: Global,
+        workers: &Workers<'_, R, G>,
         number: u32,
-        gate: &G,
         out: &mut Vec<u8>,
     ) -> Result<(), NoMemory>
         requires world { IsWorld self.old.world }
@@ -41,15 +38,15 @@ impl<D: Disk + Drop> World<D> {
         if !kind.is_mounted() {
             return put_refusal(out, number, RAW);
         }
-        match self.fleet.mount(alloc, &mut self.chunks) {
+        match self.fleet.mount(workers.alloc, &mut self.chunks) {
             Ok(mount) => {
-                self.step_hosts(rt, alloc, gate, out)?;
+                self.step_hosts(workers, out)?;
                 put_mount(out, number, mount)
             }
             Err(fault) => match fault {
                 JoinFault::NoMemory => Err(NoMemory),
                 _ => {
-                    self.step_hosts(rt, alloc, gate, out)?;
+                    self.step_hosts(workers, out)?;
                     put_refusal(out, number, fault.number())
                 }
             },
@@ -75,15 +72,12 @@ impl<D: Disk + Drop> World<D> {
     }
 
     /// A line that begins a call of a mount. Each host takes a step at its end.
-    #[allow(clippy::too_many_arguments)]
     pub(crate) fn call_line<R: Threads + Sync, G: Gate + Sync>(
         &mut self,
-        rt: &R,
-        alloc: Global,
+        workers: &Workers<'_, R, G>,
         number: u32,
         mount: u8,
         call: &Call,
-        gate: &G,
         out: &mut Vec<u8>,
     ) -> Result<(), NoMemory>
         requires world { IsWorld self.old.world }
@@ -92,15 +86,18 @@ impl<D: Disk + Drop> World<D> {
         ensures err { OnErr result (HasFailed self.old.world number (commands.Call mount call.now) self.new.world) }
         ensures spare { self.new.spare ≡ self.old.spare }
     {
-        match self.fleet.call(alloc, mount, call, &mut self.chunks, out) {
+        match self
+            .fleet
+            .call(workers.alloc, mount, call, &mut self.chunks, out)
+        {
             Ok(()) => {
-                self.step_hosts(rt, alloc, gate, out)?;
+                self.step_hosts(workers, out)?;
                 put_started(out, number)
             }
             Err(fault) => match fault {
                 CallFault::NoMemory => Err(NoMemory),
                 _ => {
-                    self.step_hosts(rt, alloc, gate, out)?;
+                    self.step_hosts(workers, out)?;
                     put_refusal(out, number, fault.number())
                 }
             },
@@ -110,9 +107,7 @@ impl<D: Disk + Drop> World<D> {
     /// Each host takes a step.
     pub(crate) fn step_hosts<R: Threads + Sync, G: Gate + Sync>(
         &mut self,
-        rt: &R,
-        alloc: Global,
-        gate: &G,
+        workers: &Workers<'_, R, G>,
         out: &mut Vec<u8>,
     ) -> Result<(), NoMemory>
         requires ready { AreReady self.old.world.chunks }
@@ -125,7 +120,6 @@ impl<D: Disk + Drop> World<D> {
         ensures others { self.new.world ≡ record self.old.world { chunks = self.new.world.chunks; fleet = self.new.world.fleet } }
         ensures spare { self.new.spare ≡ self.old.spare }
     {
-        self.fleet
-            .step(rt, alloc, &mut self.chunks, self.workers, gate, out)
+        self.fleet.step(workers, &mut self.chunks, out)
     }
 }

@@ -12,8 +12,6 @@ pub struct World<D: Disk> {
     pub(crate) sectors: u32,
     pub(crate) names: u8,
     pub(crate) format: u8,
-    /// How many threads copy sectors at once, 1 to 8.
-    pub(crate) workers: u32,
     pub(crate) chunks: Vec<ChunkGroup<D>>,
     pub(crate) fleet: Fleet,
     /// Once a line has decided it.
@@ -32,5 +30,5 @@ impl<D: Disk> Model for World<D> {
 
     ghost view = { λ w. record { world = record { sectors = w.sectors; names = w.names; format = w.format; chunks = w.chunks.items; fleet = w.fleet; kind = w.kind; passes = w.passes }; spare = reverse w.spare.items } };
 
-    ghost invariant = { λ w. (1 ≤ w.workers) × (w.workers ≤ 8) × (vec_len w.spare + 6 * length w.chunks.items ≤ vec_capacity w.spare) };
+    ghost invariant = { λ w. vec_len w.spare + 6 * length w.chunks.items ≤ vec_capacity w.spare };
 }

@@ -10,7 +10,7 @@ use crate::lines::run_lines;
 use crate::script::read_script;
 use crate::status::Status;
 use pf_base::NoMemory;
-use pf_copy::Gate;
+use pf_copy::{Gate, Workers};
 use pf_disk::Disk;
 use pf_gen::script;
 use pf_io::{Sink, SureSource};
@@ -33,18 +33,15 @@ fn sum_text(alloc: Global, number: u64, acked: (usize, usize)) -> Result<Vec<u8>
 
 /// Runs the script that a number generates over the disks, and writes its one line when all its lines have run.
 pub fn generate<K: Sink, D: Disk + Drop + Send, R: Threads + Wait + Sync, G: Gate + Sync>(
-    rt: &R,
-    alloc: Global,
+    workers: &Workers<'_, R, G>,
     number: u64,
-    workers: u32,
     sink: &mut K,
     disks: &mut Vec<D>,
-    gate: &G,
 ) -> Status
-    requires workers { (1 ≤ workers) × (workers ≤ 8) }
     requires disks { 48 ≤ length disks.old.items }
     ensures { HasGenerated D.seen D.may_leave D.faults D.moment D.left_since D.tells D.tells_moments result number (K.taken sink.old) (K.taken sink.new) (Rose (K.faults sink.old) (K.faults sink.new)) disks.old.items disks.new.items }
 {
+    let alloc = workers.alloc;
     let Ok(text) = script(alloc, number) else {
         return Status::NoMemory;
     };
@@ -52,7 +49,7 @@ pub fn generate<K: Sink, D: Disk + Drop + Send, R: Threads + Wait + Sync, G: Gat
     let Ok(lines) = read_script(alloc, &mut SureSource::new(text)) else {
         return Status::NoMemory;
     };
-    let (status, acked) = run_lines(rt, alloc, &lines, workers, &mut Nowhere, disks, gate);
+    let (status, acked) = run_lines(workers, &lines, &mut Nowhere, disks);
     let Status::Ok = status else {
         return Status::NoMemory;
     };

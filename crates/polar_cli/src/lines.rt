@@ -10,7 +10,7 @@ ghost use Rattle.polar_cli.specs.Running.{HasGoneOn, HasNotOpened, HasOpened, Ha
 
 use crate::ends::write_all;
 use crate::status::Status;
-use pf_copy::Gate;
+use pf_copy::{Gate, Workers};
 use pf_disk::Disk;
 use pf_io::Sink;
 use pf_mounted::runs_have_one_list;
@@ -26,11 +26,9 @@ use std::thread::Threads;
 fn open<D: Disk + Drop>(
     alloc: Global,
     line: &Line,
-    workers: u32,
     disks: Vec<D>,
 ) -> Result<(World<D>, Vec<u8>), Vec<D>>
     requires volume { (chunks : ℕ) × IsVolume chunks line.now.command }
-    requires workers { (1 ≤ workers) × (workers ≤ 8) }
     requires disks { 48 ≤ length disks.items }
     ensures opened { IfOk result (λ opened. HasOpened D.faults line.now opened.1.items disks.items opened.0) }
     ensures back { IfErr result (λ back. HasNotOpened D.seen D.may_leave D.faults D.moment D.left_since D.tells D.tells_moments line.now disks.items back.items) }
@@ -44,7 +42,7 @@ fn open<D: Disk + Drop>(
     else {
         unreachable!()
     };
-    match World::new(alloc, chunks, sectors, names, format, workers, disks) {
+    match World::new(alloc, chunks, sectors, names, format, disks) {
         Ok((world, answer)) => {
             let mut text = Vec::new(alloc);
             if put_answer(&mut text, line.number, &answer).is_err() {
@@ -57,16 +55,13 @@ fn open<D: Disk + Drop>(
 }
 
 /// Writes the text of the volume's line, runs the lines behind it one after another, and writes the text of each.
-#[allow(clippy::too_many_arguments)]
 fn go_on<K: Sink, D: Disk + Drop + Send, R: Threads + Wait + Sync, G: Gate + Sync>(
-    rt: &R,
-    alloc: Global,
+    workers: &Workers<'_, R, G>,
     volume: &Line,
     opened: &[u8],
     lines: &[Line],
     world: &mut World<D>,
     sink: &mut K,
-    gate: &G,
 ) -> Status
     requires world { IsWorld world.old.world }
     requires run { RunsTo (volume.now ∷ []) opened.now world.old.world }
@@ -80,9 +75,9 @@ fn go_on<K: Sink, D: Disk + Drop + Send, R: Threads + Wait + Sync, G: Gate + Syn
         return Status::WriteFault;
     }
     for line in lines {
-        let mut text = Vec::new(alloc);
+        let mut text = Vec::new(workers.alloc);
         if world
-            .line(rt, alloc, line.number, &line.command, gate, &mut text)
+            .line(workers, line.number, &line.command, &mut text)
             .is_err()
         {
             return Status::NoMemory;
@@ -96,18 +91,13 @@ fn go_on<K: Sink, D: Disk + Drop + Send, R: Threads + Wait + Sync, G: Gate + Syn
 
 /// Runs the lines of a script over the disks, and writes the text of each line after it has run. With `Ok` come the counts of the slots
 /// that groups 0 and 1 acknowledged.
-#[allow(clippy::too_many_arguments)]
 pub fn run_lines<K: Sink, D: Disk + Drop + Send, R: Threads + Wait + Sync, G: Gate + Sync>(
-    rt: &R,
-    alloc: Global,
+    workers: &Workers<'_, R, G>,
     lines: &[Line],
-    workers: u32,
     sink: &mut K,
     disks: &mut Vec<D>,
-    gate: &G,
 ) -> (Status, (usize, usize))
     requires lines { IsWhole lines.now }
-    requires workers { (1 ≤ workers) × (workers ≤ 8) }
     requires disks { 48 ≤ length disks.old.items }
     ensures { HasRunLines D.seen D.may_leave D.faults D.moment D.left_since D.tells D.tells_moments result.0 result.1 lines.now (K.taken sink.old) (K.taken sink.new) (Rose (K.faults sink.old) (K.faults sink.new)) disks.old.items disks.new.items }
 {
@@ -115,9 +105,10 @@ pub fn run_lines<K: Sink, D: Disk + Drop + Send, R: Threads + Wait + Sync, G: Ga
     let [volume, rest @ ..] = lines else {
         unreachable!()
     };
-    match open(alloc, volume, workers, mem::replace(disks, Vec::new(alloc))) {
+    let alloc = workers.alloc;
+    match open(alloc, volume, mem::replace(disks, Vec::new(alloc))) {
         Ok((mut world, text)) => {
-            let status = go_on(rt, alloc, volume, &text, rest, &mut world, sink, gate);
+            let status = go_on(workers, volume, &text, rest, &mut world, sink);
             let acked = (world.acked_count(0), world.acked_count(1));
             *disks = world.close();
             (status, acked)

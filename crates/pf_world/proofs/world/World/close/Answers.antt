@@ -6,7 +6,7 @@ use Rattle.pf_world.proofs.world.World.close.Goals as goal
 
 pub loop-chunk-init : goal.loop-chunk-init
 loop-chunk-init g c = record {
-  room = omega (arith, c.self.invariant.2, c.self.inside.chunks.ok.0);
+  room = omega (arith, c.self.invariant, c.self.inside.chunks.ok.0);
   closing = none_closed g.D.Disk.seen g.D.Disk.may_leave g.D.Disk.faults g.D.Disk.moment g.D.Disk.left_since g.D.Disk.tells g.D.Disk.tells_moments c.self.inside.chunks.items c.self.inside.spare.items;
 }
 
