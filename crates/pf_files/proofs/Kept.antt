@@ -17,10 +17,10 @@ tree_after v before after txn is e =
     let P : Held → Type 0 = λ h. IsTreeOf v h.tables in subst P (sym e) (tree_with v before.tables txn is)
 
 -- the tree that is taken over has the one before as its spare
-pub taken_over : (v : Extent) (before held after new : Held) (txn : Option Txn) → before ≡ held → new ≡ after → IsTreeOf v held.tables → held.first ≡ 513 → after.tables ≡ applied_in held.tables txn → after.first ≡ 513 → IsTreeOf v new.tables × (new.first ≡ 513) × (new ≡ record before { tables = applied_in before.tables txn })
-taken_over v before held after new txn was is form first tables starts =
+pub taken_over : (v : Extent) (before held after new : Held) (txn : Option Txn) → before ≡ held → new ≡ after → IsTreeOf v held.tables → after.tables ≡ applied_in held.tables txn → after.first ≡ held.first → IsTreeOf v new.tables × (new ≡ record before { tables = applied_in before.tables txn })
+taken_over v before held after new txn was is form tables starts =
     let P : Held → Type 0 = λ h. IsTreeOf v h.tables in
     let Q : Tables → Type 0 = IsTreeOf v in
     let t : new.tables ≡ applied_in before.tables txn = ap (λ (h : Held). h.tables) is ∙ tables ∙ ap (λ (h : Held). applied_in h.tables txn) (sym was) in
-    let f : new.first ≡ before.first = ap (λ (h : Held). h.first) is ∙ starts ∙ sym first ∙ ap (λ (h : Held). h.first) (sym was) in
-    (subst Q (sym t) (tree_with v before.tables txn (subst P (sym was) form)), ap (λ (h : Held). h.first) is ∙ starts, λ i. record { first = f i; tables = t i })
+    let f : new.first ≡ before.first = ap (λ (h : Held). h.first) is ∙ starts ∙ ap (λ (h : Held). h.first) (sym was) in
+    (subst Q (sym t) (tree_with v before.tables txn (subst P (sym was) form)), λ i. record { first = f i; tables = t i })

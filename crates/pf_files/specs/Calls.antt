@@ -63,6 +63,18 @@ pub record WorkIs : Type 0 where
   pub calls : ℕ  -- how many were started
   pub pending : Option Pending  -- the call that has not ended
 
+-- the same, with the first block of its file data
+pub record FilesIs : Type 0 where
+  pub mount : ℕ
+  pub volume : Extent
+  pub first : ℕ
+  pub tables : Tables
+  pub calls : ℕ
+  pub pending : Option Pending
+
+abbrev pub work_of : FilesIs → WorkIs
+work_of f = record { mount = f.mount; volume = f.volume; tables = f.tables; calls = f.calls; pending = f.pending }
+
 -- file data begin at block 513
 abbrev pub data_of : Tables → Data
 data_of tables = record { first = 513; blocks = length tables.tags }

@@ -2,11 +2,12 @@
 ghost use Rattle.std.specs.Prelude.{◌≡◌, ◌+◌, ◌/◌, ◌<◌, ◌^◌, IfOk, None, OnErr, OnOk, Some, suc};
 ghost use Rattle.pf_volume.specs.Volumes.{size_of};
 ghost use Rattle.pf_inodes.specs.Tables.{new_tables};
+ghost use Rattle.pf_tree.specs.Held.{data_of};
 ghost use Rattle.pf_tree.specs.Plans.{node_at};
 ghost use Rattle.pf_tree.specs.Trees.{size_at};
 ghost use Rattle.pf_txn.specs.Reading.{txn_in};
 ghost use Rattle.pf_files.specs.Moving.{IsTreeOf};
-ghost use Rattle.pf_files.specs.Calls.{PlansInside, applied_in, data_of, is_of, planned, planned_with, size_in};
+ghost use Rattle.pf_files.specs.Calls.{PlansInside, applied_in, is_of, planned, planned_with, size_in};
 
 use crate::answers::{CallFault, refused};
 use crate::laws::data_are_asked_inside;
@@ -55,7 +56,8 @@ fn size_at(tree: &Tree, path: &Names) -> u32
     tree.size_at(path).unwrap_or(0)
 }
 
-/// Plans a call on the tables of a tree. On whatever tables, what is asked lies in the volume. The one error is `NoMemory` (1).
+/// Plans a call on the tables of a tree whose file data begin at its first block. On whatever tables, what is asked lies in the volume. The
+/// one error is `NoMemory` (1).
 pub fn plan(
     alloc: Global,
     mount: u8,
@@ -63,9 +65,8 @@ pub fn plan(
     tree: &Tree,
     pending: &Pending,
 ) -> Result<Planned, NoMemory>
-    requires tree { IsTreeOf volume.now tree.now.tables }
-    requires data { tree.now.first ≡ 513 }
-    ensures planned { IfOk result (λ p. p ≡ planned mount volume.now (data_of tree.now.tables) tree.now.tables pending.now) }
+    requires { IsTreeOf volume.now tree.now.tables }
+    ensures planned { IfOk result (λ p. p ≡ planned mount volume.now (data_of tree.now.first tree.now.tables) tree.now.tables pending.now) }
     ensures inside { IfOk result (PlansInside volume.now) }
 {
     match tree.plan_call(alloc, &pending.call) {

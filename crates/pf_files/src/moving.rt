@@ -161,30 +161,24 @@ fn fills_file(alloc: Global, volume: &Volume, tree: &Tree, fill: Fill) -> Result
     fills(alloc, volume, tree, fill, first as u64)
 }
 
-/// Reads a file from one place up to another.
+/// Reads so many bytes of a file of this size, from one place on.
 fn reads_file(
     alloc: Global,
     volume: &Volume,
     tree: &Tree,
     inode: u16,
+    size: u32,
     offset: u32,
-    to: u32,
+    count: u32,
 ) -> Result<Moved, NoMemory>
     requires { IsTreeOf volume.now tree.now.tables }
-    ensures { IfOk result (λ step. step ≡ reads_file volume.now tree.now.tables inode offset to) }
+    ensures { IfOk result (λ step. step ≡ reads_file volume.now tree.now.tables inode offset (read_end size offset count)) }
 {
     let none = Vec::new(alloc);
+    let to = read_end(size, offset, count);
     if offset < to {
-        return gathers(
-            alloc,
-            volume,
-            tree,
-            inode,
-            offset,
-            to,
-            (offset / 4096) as u64,
-            none,
-        );
+        let first = (offset / 4096) as u64;
+        return gathers(alloc, volume, tree, inode, offset, to, first, none);
     }
     Ok(Moved::Ends(CallAnswer::Bytes(Bytes::new(none))))
 }
@@ -248,8 +242,8 @@ pub fn moves(
             offset,
             count,
         } => {
-            let to = read_end(size, *offset, *count);
-            reads_file(alloc, volume, tree, tree.inode_at(path), *offset, to)
+            let inode = tree.inode_at(path);
+            reads_file(alloc, volume, tree, inode, size, *offset, *count)
         }
         FileCall::Stat { path } => Ok(Moved::Ends(stat_of(tree, path))),
         FileCall::Listing { path } => {

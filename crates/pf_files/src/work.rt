@@ -1,4 +1,4 @@
-//! The tables of a mount and its pending call.
+//! The tables of a mount and its pending call, where file data begin at block 513.
 ghost use Rattle.std.specs.Prelude.{◌≡◌, ◌+◌, ◌/◌, ◌<◌, ◌^◌, IfOk, None, Some, suc};
 ghost use Rattle.pf_volume.specs.Volumes.{size_of};
 ghost use Rattle.pf_inodes.specs.Tables.{new_tables};
@@ -6,38 +6,33 @@ ghost use Rattle.pf_txn.specs.Reading.{txn_in};
 ghost use Rattle.pf_files.specs.Moving.{IsTreeOf};
 ghost use Rattle.pf_files.specs.Calls.{WorkIs, applied_in};
 
-use crate::calls::{Pending, applied_in};
-use crate::spare::{Applied, Spare};
+use crate::calls::Pending;
+use crate::files::FileWork;
+use crate::spare::Applied;
 use pf_base::{NoMemory, Value};
 use pf_tree::{FileCall, Tree};
-use pf_txn::read_txn;
 use pf_volume::Volume;
 use std::alloc::Global;
 use std::marker::Model;
-use std::mem::replace;
 
-/// The tables of a mount, the calls that it started, and the one that is pending. It knows nothing of ballots: what proposes
-/// values brings them here once they are decided.
+/// The first block of file data.
+const FIRST: u32 = 513;
+
+/// The tables of a mount, the calls that it started, and the one that is pending, where file data begin at block 513.
 #[derive(Drop)]
 pub struct CallWork {
-    mount: u8,
-    volume: Volume,
-    tree: Tree,
-    spare: Option<Spare>,
-    calls: u32,
-    pending: Option<Pending>,
+    files: FileWork,
 }
 
 impl Model for CallWork {
     ghost use Rattle.std.specs.Prelude.{◌≡◌};
-    ghost use Rattle.pf_files.specs.Calls.{IsSpareOf, WorkIs};
-    ghost use Rattle.pf_files.specs.Moving.{IsTreeOf};
+    ghost use Rattle.pf_files.specs.Calls.{WorkIs, work_of};
 
     ghost Value = { WorkIs };
 
-    ghost view = { λ w. record { mount = w.mount; volume = w.volume; tables = w.tree.tables; calls = w.calls; pending = w.pending } };
+    ghost view = { λ w. work_of w.files };
 
-    ghost invariant = { λ w. IsTreeOf w.volume w.tree.tables × (w.tree.first ≡ 513) × IsSpareOf w.tree w.spare };
+    ghost invariant = { λ w. w.files.first ≡ 513 };
 }
 
 impl CallWork {
@@ -45,29 +40,22 @@ impl CallWork {
     pub fn new(alloc: Global, mount: u8, volume: Volume) -> Result<CallWork, NoMemory>
         ensures { IfOk result (λ work. work ≡ record { mount = mount; volume = volume; tables = new_tables (size_of volume / 8); calls = 0; pending = None }) }
     {
-        let tree = Tree::new(alloc, volume.size() / 8)?;
-        Ok(CallWork {
-            mount,
-            volume,
-            tree,
-            spare: None,
-            calls: 0,
-            pending: None,
-        })
+        let files = FileWork::new(alloc, mount, volume, FIRST)?;
+        Ok(CallWork { files })
     }
 
     /// The number of the mount.
     pub fn mount(&self) -> u8
         ensures { result ≡ self.now.mount }
     {
-        self.mount
+        self.files.mount()
     }
 
     /// The volume.
     pub fn volume(&self) -> Volume
         ensures { result ≡ self.now.volume }
     {
-        self.volume
+        self.files.volume()
     }
 
     /// The tables.
@@ -76,21 +64,21 @@ impl CallWork {
         ensures form { IsTreeOf self.now.volume result.now.tables }
         ensures first { result.now.first ≡ 513 }
     {
-        &self.tree
+        self.files.tree()
     }
 
     /// How many calls were started.
     pub fn calls(&self) -> u32
         ensures { result ≡ self.now.calls }
     {
-        self.calls
+        self.files.calls()
     }
 
     /// The call that has not ended, if there is one.
     pub fn pending(&self) -> &Option<Pending>
         ensures { result.now ≡ self.now.pending }
     {
-        &self.pending
+        self.files.pending()
     }
 
     /// Begins a call.
@@ -98,18 +86,14 @@ impl CallWork {
         requires { self.old.calls + 1 < 2 ^ 32 }
         ensures { self.new ≡ record self.old { calls = suc self.old.calls; pending = Some (record { number = suc self.old.calls; call = call }) } }
     {
-        self.calls += 1;
-        self.pending = Some(Pending {
-            number: self.calls,
-            call,
-        });
+        self.files.start(call);
     }
 
     /// Ends the call that is pending.
     pub fn end(&mut self)
         ensures { self.new ≡ record self.old { pending = None } }
     {
-        self.pending = None;
+        self.files.end();
     }
 
     /// The tables with the changes of a decided value, if it is the spelling of a transaction. Whoever takes them over lets the next ones
@@ -121,22 +105,7 @@ impl CallWork {
         ensures first { IfOk result (λ after. after.tree.first ≡ 513) }
         ensures txn { IfOk result (λ after. after.txn ≡ txn_in value.now) }
     {
-        let txn = read_txn(alloc, value)?;
-        let tree = self.second_tree(alloc)?;
-        let tree = applied_in(alloc, tree, &txn)?;
-        Ok(Applied { tree, txn })
-    }
-
-    /// The tables once more: the spare ones, or a copy where there are none.
-    fn second_tree(&mut self, alloc: Global) -> Result<Tree, NoMemory>
-        ensures same { self.new ≡ self.old }
-        ensures tree { IfOk result (λ tree. tree ≡ record { first = 513; tables = self.old.tables }) }
-        ensures form { IfOk result (λ tree. IsTreeOf self.old.volume tree.tables) }
-    {
-        match self.spare.take() {
-            Some(spare) => spare.caught_up(alloc),
-            None => self.tree.copied(alloc),
-        }
+        self.files.applied(alloc, value)
     }
 
     /// Takes over the tables with the changes of a decided value.
@@ -145,8 +114,6 @@ impl CallWork {
         requires first { after.tree.first ≡ 513 }
         ensures { self.new ≡ record self.old { tables = after.tree.tables } }
     {
-        let Applied { tree, txn } = after;
-        let before = replace(&mut self.tree, tree);
-        self.spare = Some(Spare { before, txn });
+        self.files.take_over(after);
     }
 }

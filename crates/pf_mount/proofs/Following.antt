@@ -99,7 +99,7 @@ gathers_awaits v tables inode offset to index bytes =
     moved_if (nat_lt index (block_count to)) (AsksFor (reads_block v (block_at tables inode index)) (Gathers inode offset to index bytes)) (Ends (BytesRead (wanted offset to bytes)))
     (gather_awaits v (block_at tables inode index) inode offset to index bytes) (bytes_end (wanted offset to bytes))
 
-moves_awaits : (v : Extent) (tables : Tables) (size : ℕ) (call : FileCall) → AwaitsMoved (moves v tables size call)
+pub moves_awaits : (v : Extent) (tables : Tables) (size : ℕ) (call : FileCall) → AwaitsMoved (moves v tables size call)
 moves_awaits v tables size (Write p offset byte count) =
     let f : Fill = record { inode = found tables p; size = size; start = offset; byte = byte; count = count } in
     moved_if (count == 0) (Ends Fine) (fills_file v tables f) fine_ends (fills_awaits v tables f (first_of f))
@@ -114,7 +114,7 @@ moves_awaits v tables size (Stat p) = stat_ends (node_at tables p)
 moves_awaits v tables size (Listing p) = names_end (names_of tables p)
 moves_awaits v tables size call = fine_ends
 
-moves_on_awaits : (v : Extent) (tables : Tables) (moving : Moving) (reply : Reply) → AwaitsMoved (moves_on v tables moving reply)
+pub moves_on_awaits : (v : Extent) (tables : Tables) (moving : Moving) (reply : Reply) → AwaitsMoved (moves_on v tables moving reply)
 moves_on_awaits v tables (Fetches f index) (Bytes sectors) = stores_awaits v (block_at tables f.inode index) f index (bytes_of sectors)
 moves_on_awaits v tables (Stores f index) Written = fills_awaits v tables f (suc index)
 moves_on_awaits v tables (Gathers inode offset to index bytes) (Bytes sectors) = gathers_awaits v tables inode offset to (suc index) (bytes ++ bytes_of sectors)

@@ -57,7 +57,7 @@ fn super_read(
 }
 
 /// Whether some block has a nonzero bal.
-fn has_bal(blocks: &[Block]) -> bool
+pub fn has_bal(blocks: &[Block]) -> bool
     ensures { result ≡ has_bal blocks.now }
 {
     blocks.iter().any(|block| 0 < block.bal)

@@ -86,8 +86,13 @@ pub fn writes_super(alloc: Global, volume: &Volume) -> Result<Ask, NoMemory>
     writes_one(alloc, volume, 0, sector)
 }
 
-/// A write of one sector.
-fn writes_one(alloc: Global, volume: &Volume, first: u32, sector: Sector) -> Result<Ask, NoMemory>
+/// A write of one sector of the volume. The one error is `NoMemory` (1).
+pub fn writes_one(
+    alloc: Global,
+    volume: &Volume,
+    first: u32,
+    sector: Sector,
+) -> Result<Ask, NoMemory>
     requires { first < size_of volume.now }
     ensures { IfOk result (λ ask. ask ≡ writes volume.now first (sector ∷ [])) }
 {

@@ -9,14 +9,19 @@ mod laws;
 mod mount;
 mod plans;
 mod position;
+mod rivals;
 mod stand;
 mod work;
 
-pub use asks::{blocks_in, reads_first, reads_half, reads_super, writes_own, writes_super};
+pub use answers::has_bal;
+pub use asks::{
+    blocks_in, reads_first, reads_half, reads_super, writes_one, writes_own, writes_super,
+};
 pub use faults::{MountFault, StartFault};
 pub use laws::{
     asks_are_answered_in_kind, calls_are_answered_as_planned, journal_is_asked_inside,
     mounts_are_ready_once_and_calls_end_once, tables_follow_decisions,
 };
 pub use mount::Mount;
+pub use rivals::Rivals;
 pub use work::{Next, Work};

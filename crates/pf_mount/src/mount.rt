@@ -125,12 +125,7 @@ impl Mount {
         ensures awaits { IfOk result (AwaitsNext self.new) }
         ensures err { OnErr result (self.new ≡ self.old) }
     {
-        let stand = Stand {
-            mount: self.files.mount(),
-            volume: self.files.volume(),
-            upto: self.upto,
-            position: self.position,
-        };
+        let stand = Stand::new(&self.files, self.upto, self.position);
         let step = answered(alloc, stand, &mut self.files, &self.work, &reply)?;
         Ok(self.take(step))
     }
@@ -166,12 +161,7 @@ impl Mount {
         ensures awaits { IfOk result (AwaitsNext self.new) }
         ensures err { OnErr result (self.new ≡ self.old) }
     {
-        let stand = Stand {
-            mount: self.files.mount(),
-            volume: self.files.volume(),
-            upto: self.upto,
-            position: self.position,
-        };
+        let stand = Stand::new(&self.files, self.upto, self.position);
         let number = self.files.calls() + 1;
         let pending = Some(Pending { number, call });
         let step = syncs(alloc, stand, self.files.tree(), &pending)?;

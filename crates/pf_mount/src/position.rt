@@ -6,32 +6,26 @@ ghost use Rattle.pf_paxos.specs.Proposers.{IsWriting, read_in, started, written_
 ghost use Rattle.pf_mount.specs.Mounts.{finds_value};
 ghost use Rattle.pf_mount.specs.Positions.{CanAsk, IsReadPending, can_start, having_aborted, having_seen, new_position, pause_of};
 
+use crate::Rivals;
 use pf_base::Value;
-use pf_paxos::{Block, Next, Proposer, greatest_of};
+use pf_paxos::{Block, Next, Proposer};
 use std::marker::Model;
-
-/// The most ballots that are counted as aborted.
-const MOST_ABORTS: u32 = 16;
 
 /// A mount at a position. No call takes memory.
 #[derive(Clone, Copy)]
 pub(crate) struct Position {
     proposer: Proposer,
-    seen: u64,
-    aborts: u32,
+    rivals: Rivals,
 }
 
 impl Model for Position {
-    ghost use Rattle.std.specs.Prelude.{◌<◌, ◌≤◌, ◌^◌};
     ghost use Rattle.pf_mount.specs.Positions.{PositionIs};
 
     ghost Value = { PositionIs };
 
-    ghost view = { λ p. record { proposer = p.proposer; seen = p.seen; aborts = p.aborts } };
+    ghost view = { λ p. record { proposer = p.proposer; seen = p.rivals.seen; aborts = p.rivals.aborts } };
 
-    ghost invariant = { λ p. (p.seen < 2 ^ 62) × (p.aborts ≤ 16) };
-
-    ghost inverse = { λ p. record { proposer = p.proposer; seen = p.seen; aborts = p.aborts } };
+    ghost inverse = { λ p. record { proposer = p.proposer; rivals = record { seen = p.seen; aborts = p.aborts } } };
 }
 
 impl Position {
@@ -47,8 +41,7 @@ impl Position {
         };
         Position {
             proposer: Proposer::new(mount, own),
-            seen: 0,
-            aborts: 0,
+            rivals: Rivals::new(),
         }
     }
 
@@ -57,37 +50,29 @@ impl Position {
         requires { AreBlocks blocks.now }
         ensures { self.new ≡ having_seen self.old blocks.now }
     {
-        self.seen = self.seen.max(greatest_of(blocks));
+        self.rivals.see(blocks);
     }
 
     /// A ballot was aborted.
     pub(crate) fn abort(&mut self)
         ensures { self.new ≡ having_aborted self.old }
     {
-        self.aborts = MOST_ABORTS.min(self.aborts + 1);
+        self.rivals.abort();
     }
 
-    /// The reads of a pause after an aborted ballot of a mount.
-    pub(crate) fn pause(&self, mount: u8) -> u32
-        requires { mount < 16 }
-        ensures { result ≡ pause_of mount self.now }
-    {
-        8 * self.aborts * (u32::from(mount) + 1)
-    }
-
-    /// The reads of that pause but for the first.
+    /// The reads of a pause after an aborted ballot of a mount, but for the first.
     pub(crate) fn rest(&self, mount: u8) -> u32
         requires { mount < 16 }
         ensures { result ≡ pred (pause_of mount self.now) }
     {
-        self.pause(mount).saturating_sub(1)
+        self.rivals.rest(mount)
     }
 
     /// Whether a ballot is left.
     pub(crate) fn can_start(&self) -> bool
         ensures { result ≡ can_start self.now }
     {
-        self.proposer.can_start(self.seen)
+        self.proposer.can_start(self.rivals.seen())
     }
 
     /// Begins the least ballot above all that was seen. This is the block that claims it.
@@ -98,7 +83,7 @@ impl Position {
         ensures block { result ≡ (started self.old.proposer self.old.seen input).proposer.own }
         ensures form { IsBlock result }
     {
-        let _ = self.proposer.start(self.seen, input);
+        let _ = self.proposer.start(self.rivals.seen(), input);
         *self.proposer.own()
     }
 

@@ -4,7 +4,7 @@ ghost use Rattle.std.specs.Prelude.{◌≡◌, ◌<◌, IsTrue, length};
 use crate::position::Position;
 use crate::{Next, Work};
 use pf_base::{Ask, Value};
-use pf_files::CallAnswer;
+use pf_files::{CallAnswer, CallWork};
 use pf_paxos::{Block, Next as BallotNext};
 use pf_volume::Volume;
 
@@ -36,6 +36,18 @@ impl Stand {
     ghost use Rattle.pf_mount.specs.Positions.{CanAsk, IsReadPending, can_start, having_seen};
     ghost use Rattle.pf_mount.specs.Steps.{IsStand, advanced_stand, with_proposer};
 
+    /// Where the mount with these tables stands.
+    pub(crate) fn new(files: &CallWork, upto: u32, position: Position) -> Stand
+        ensures { result ≡ record { mount = files.now.mount; volume = files.now.volume; upto = upto; position = position } }
+    {
+        Stand {
+            mount: files.mount(),
+            volume: files.volume(),
+            upto,
+            position,
+        }
+    }
+
     /// The least ballot above all that was seen begins: the stand then, and the block that claims it.
     pub(crate) fn started(&self, input: Option<Value>) -> (Stand, Block)
         requires left { IsTrue (can_start self.now.position) }
@@ -46,13 +58,7 @@ impl Stand {
     {
         let mut position = self.position;
         let block = position.start(input);
-        let stand = Stand {
-            mount: self.mount,
-            volume: self.volume,
-            upto: self.upto,
-            position,
-        };
-        (stand, block)
+        (self.at(position), block)
     }
 
     /// The write that its ballot asked for was answered: the stand then, and what is next.
@@ -63,13 +69,7 @@ impl Stand {
     {
         let mut position = self.position;
         let next = position.on_written();
-        let stand = Stand {
-            mount: self.mount,
-            volume: self.volume,
-            upto: self.upto,
-            position,
-        };
-        (stand, next)
+        (self.at(position), next)
     }
 
     /// The read that its ballot asked for was answered with these eight blocks: the stand then, and what is next.
@@ -84,13 +84,7 @@ impl Stand {
     {
         let mut position = self.position;
         let next = position.on_read(blocks);
-        let stand = Stand {
-            mount: self.mount,
-            volume: self.volume,
-            upto: self.upto,
-            position,
-        };
-        (stand, next)
+        (self.at(position), next)
     }
 
     /// These blocks of the position were read.
@@ -100,12 +94,14 @@ impl Stand {
     {
         let mut position = self.position;
         position.see(blocks);
-        Stand {
-            mount: self.mount,
-            volume: self.volume,
-            upto: self.upto,
-            position,
-        }
+        self.at(position)
+    }
+
+    /// With its position so.
+    fn at(&self, position: Position) -> Stand
+        ensures { result ≡ record self.now { position = position } }
+    {
+        Stand { position, ..*self }
     }
 
     /// The first of the next position.

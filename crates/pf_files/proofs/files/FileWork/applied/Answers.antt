@@ -1,5 +1,5 @@
 use Rattle.pf_files.proofs.Kept.{tree_after}
-use Rattle.pf_files.proofs.work.CallWork.applied.Goals as goal
+use Rattle.pf_files.proofs.files.FileWork.applied.Goals as goal
 
 pub returns-clause-form : goal.returns-clause-form
 returns-clause-form c =
