@@ -1,0 +1,81 @@
+-- A mount that takes over a step is as every mount is.
+use Rattle.std.proofs.Common.{◌≡◌, ℕ, ◌<◌, Bool, true, false, if◌then◌else◌, length, Option, None, refl, sym, ap, subst, ◌∙◌}
+use Rattle.pf_base.specs.declared.asks.Reply.{Reply}
+use Rattle.pf_volume.specs.Volumes.{Extent, IsVolume}
+use Rattle.pf_inodes.specs.Tables.{Tables}
+use Rattle.pf_tree.specs.declared.calls.FileCall.{FileCall}
+use Rattle.pf_files.specs.declared.calls.Pending.{Pending}
+use Rattle.pf_files.specs.declared.moving.Moving.{Moving}
+use Rattle.pf_files.specs.Calls.{FilesIs}
+use Rattle.pf_files.specs.Moving.{AsksInside, IsTreeOf, moves, moves_on}
+use Rattle.pf_mount.specs.Steps.{IsShortFor}
+use Rattle.pf_anchormount.specs.declared.stand.Stand.{Stand}
+use Rattle.pf_anchormount.specs.declared.stand.Step.{Step}
+use Rattle.pf_anchormount.specs.declared.work.Task.{Task}
+use Rattle.pf_anchorage.specs.Places.{HasAnchors}
+use Rattle.pf_anchormount.specs.Anchored.{AnchoredIs, Outcome, Worked, answered, port_answered, stand_of, taken, takes}
+use Rattle.pf_anchormount.specs.Anchored.{held_in}
+use Rattle.pf_anchormount.specs.Standing.{IsMount, IsTask}
+use Rattle.pf_anchormount.proofs.Keeping.{IsStep, IsWorked, port_worked, task_after}
+
+short_if : (ends : Bool) (p : Option Pending) → IsShortFor p → IsShortFor (if ends then None else p)
+short_if true p is = tt
+short_if false p is = is
+
+pub taken_is_mount : (files : FilesIs) (task : Task) (before : ℕ) (step : Step) → files.mount < 16 → HasAnchors files.volume → length files.tables.inodes ≡ 1024 → IsShortFor files.pending → IsTask files.volume before task → IsStep files.volume before step → IsMount (taken files task step).mount
+taken_is_mount files task before step number anchors inodes call was is = record {
+  number = number;
+  anchors = anchors;
+  upto = is.upto;
+  inodes = inodes;
+  call = short_if step.ends files.pending call;
+  task = task_after files.volume before step.stand.upto step.task task was is.task;
+}
+
+-- the tables of a mount are other ones
+pub mount_with : (m : AnchoredIs) (tables : Tables) → IsMount m → length tables.inodes ≡ 1024 → IsMount (record m { files = record m.files { tables = tables } })
+mount_with m tables is inodes = record { number = is.number; anchors = is.anchors; upto = is.upto; inodes = inodes; call = is.call; task = is.task }
+
+-- what is worked out of an answer is taken over
+pub taken_as : (m : AnchoredIs) (files : FilesIs) (port : ℕ) (reply : Reply) (step : Step) (o : Outcome) → files ≡ record m.files { tables = files.tables } → record { step = step; tables = files.tables } ≡ port_answered (stand_of m) (held_in m.files) m.files.pending m.task.work port reply → o ≡ taken files m.task step → o ≡ answered m port reply
+taken_as m files port reply step o kept made is =
+    is
+    ∙ ap (λ (f : FilesIs). taken f m.task step) kept
+    ∙ ap (λ (w : Worked). takes m w) made
+
+module _ (first : (v : Extent) (tables : Tables) (size : ℕ) (call : FileCall) → IsVolume v → IsTreeOf v tables → AsksInside v (moves v tables size call)) (next : (v : Extent) (tables : Tables) (moving : Moving) (reply : Reply) → IsVolume v → IsTreeOf v tables → AsksInside v (moves_on v tables moving reply)) (m : AnchoredIs) (is : IsMount m) (volume : IsVolume m.files.volume) (tree : IsTreeOf m.files.volume m.files.tables) where
+  pub answer_worked : (port : ℕ) (reply : Reply) (w : Worked) → w ≡ port_answered (stand_of m) (held_in m.files) m.files.pending m.task.work port reply → IsWorked m.files.volume m.upto w
+  answer_worked port reply w made =
+      let P : Worked → Type 0 = IsWorked m.files.volume m.upto in
+      subst P (sym made) (port_worked first next m.upto (stand_of m) (held_in m.files) m.files.pending is.upto refl volume tree is.inodes m.task.work is.task.work port reply)
+
+-- the fields of a mount are its value
+pub answer_as : (m n : AnchoredIs) (s : Stand) (files : FilesIs) (port : ℕ) (reply : Reply) (step : Step) (o : Outcome) → m ≡ n → s ≡ stand_of n → files ≡ record m.files { tables = files.tables } → record { step = step; tables = files.tables } ≡ port_answered s (held_in m.files) m.files.pending m.task.work port reply → o ≡ taken files m.task step → o ≡ answered n port reply
+answer_as m n s files port reply step o same s_is kept made is =
+    let P : AnchoredIs → Type 0 = λ x. s ≡ stand_of x → o ≡ answered x port reply in
+    subst P same
+    (λ here. taken_as m files port reply step o kept (made ∙ ap (λ (x : Stand). port_answered x (held_in m.files) m.files.pending m.task.work port reply) here) is)
+    s_is
+
+module _ (first : (v : Extent) (tables : Tables) (size : ℕ) (call : FileCall) → IsVolume v → IsTreeOf v tables → AsksInside v (moves v tables size call)) (next : (v : Extent) (tables : Tables) (moving : Moving) (reply : Reply) → IsVolume v → IsTreeOf v tables → AsksInside v (moves_on v tables moving reply)) (m n : AnchoredIs) (same : m ≡ n) (is : IsMount n) (volume : IsVolume n.files.volume) (tree : IsTreeOf n.files.volume n.files.tables) (s : Stand) (s_is : s ≡ stand_of n) (files : FilesIs) (port : ℕ) (reply : Reply) (step : Step) (kept : files ≡ record m.files { tables = files.tables }) (made : record { step = step; tables = files.tables } ≡ port_answered s (held_in m.files) m.files.pending m.task.work port reply) where
+  is_mount : IsMount m
+  is_mount = subst IsMount (sym same) is
+
+  worked : IsWorked m.files.volume m.upto (record { step = step; tables = files.tables })
+  worked =
+      let V : AnchoredIs → Type 0 = λ x. IsVolume x.files.volume in
+      let T : AnchoredIs → Type 0 = λ x. IsTreeOf x.files.volume x.files.tables in
+      let here : s ≡ stand_of m = s_is ∙ ap stand_of (sym same) in
+      answer_worked first next m is_mount (subst V (sym same) volume) (subst T (sym same) tree) port reply (record { step = step; tables = files.tables })
+      (made ∙ ap (λ (x : Stand). port_answered x (held_in m.files) m.files.pending m.task.work port reply) here)
+
+  -- with the tables that were decided, before the step is taken over
+  pub mount_between : IsMount (record m { files = files })
+  mount_between =
+      let P : FilesIs → Type 0 = λ f. IsMount (record m { files = f }) in
+      subst P (sym kept) (mount_with m files.tables is_mount worked.inodes)
+
+  pub mount_after : IsMount (taken files m.task step).mount
+  mount_after =
+      let P : FilesIs → Type 0 = λ f. IsMount (taken f m.task step).mount in
+      subst P (sym kept) (taken_is_mount (record m.files { tables = files.tables }) m.task m.upto step is_mount.number is_mount.anchors worked.inodes is_mount.call is_mount.task worked.step)

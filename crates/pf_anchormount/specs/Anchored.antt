@@ -1,0 +1,310 @@
+-- A mount over three anchors, as a pure machine: what a call that is started makes of it, what an answer at one of its ports does, and what
+-- it asks at a port. Ports 0 to 2 are those into the anchors, port 3 is that for file data.
+use Rattle.std.specs.Prelude.{ℕ, zero, suc, ◌/◌, true, false, not, ◌&&◌, ◌==◌, if◌then◌else◌, List, Option, Some, None, unwrap_or}
+use Rattle.pf_base.specs.declared.asks.Ask.{Ask}
+use Rattle.pf_base.specs.declared.asks.Reply.{Reply}
+use Rattle.pf_base.specs.declared.asks.Reply.TheVariants.{Written, Bytes}
+use Rattle.pf_volume.specs.Volumes.{Extent, size_of}
+use Rattle.pf_tree.specs.declared.calls.FileCall.{FileCall}
+use Rattle.pf_tree.specs.Held.{Held, data_of}
+use Rattle.pf_inodes.specs.declared.changes.Txn.{Txn}
+use Rattle.pf_inodes.specs.Tables.{Tables, new_tables}
+use Rattle.pf_txn.specs.Spelling.{spell_txn}
+use Rattle.pf_txn.specs.Reading.{txn_in}
+use Rattle.pf_paxos.specs.declared.block.Block.{Block}
+use Rattle.pf_anchors.specs.declared.anchors.AnchorNext.{AnchorNext}
+use Rattle.pf_anchors.specs.declared.anchors.AnchorNext.TheVariants.{Write, Read, Idle}
+use Rattle.pf_anchors.specs.declared.anchors.AnchorStep.{AnchorStep}
+use Rattle.pf_anchors.specs.declared.anchors.AnchorStep.TheVariants.{Go, Abort, NoValue, Decided}
+use Rattle.pf_anchors.specs.declared.anchors.Stage.{Stage}
+use Rattle.pf_anchors.specs.declared.anchors.Stage.TheVariants.{ReadsLow, ReadsHigh}
+use Rattle.pf_anchors.specs.Anchors.{next_of, read_at}
+use Rattle.pf_files.specs.declared.answers.CallAnswer.{CallAnswer}
+use Rattle.pf_files.specs.declared.answers.CallAnswer.TheVariants.{Refused}
+use Rattle.pf_files.specs.declared.answers.CallFault.TheVariants.{JournalFull}
+use Rattle.pf_files.specs.declared.calls.Pending.{Pending}
+use Rattle.pf_files.specs.declared.calls.Planned.{Planned}
+use Rattle.pf_files.specs.declared.calls.Planned.TheVariants.{Refuses, Proposes, Goes}
+use Rattle.pf_files.specs.declared.moving.Moved.{Moved}
+use Rattle.pf_files.specs.declared.moving.Moved.TheVariants.{Asks, Ends}
+use Rattle.pf_files.specs.Calls.{planned, applied_in, is_of, size_in}
+use Rattle.pf_files.specs.Moving.{moves, moves_on}
+use Rattle.pf_mount.specs.Mounts.{blocks_in}
+use Rattle.pf_anchorage.specs.declared.errands.Errand.{Errand}
+use Rattle.pf_anchorage.specs.declared.errands.Errand.TheVariants.{Free, OfSync, OfPause}
+use Rattle.pf_anchorage.specs.declared.errands.Errands.{Errands}
+use Rattle.pf_anchorage.specs.declared.looks.Looks.{Looks}
+use Rattle.pf_anchorage.specs.declared.position.Position.{Position}
+use Rattle.pf_anchormount.specs.declared.stand.Handed.{Handed}
+use Rattle.pf_anchormount.specs.declared.stand.Stand.{Stand}
+use Rattle.pf_anchormount.specs.declared.stand.Step.{Step}
+use Rattle.pf_anchormount.specs.declared.work.AnchoredNext.{AnchoredNext}
+use Rattle.pf_anchormount.specs.declared.work.AnchoredNext.TheVariants.{Ready, Done}
+use Rattle.pf_anchormount.specs.declared.work.Task.{Task}
+use Rattle.pf_anchormount.specs.declared.work.Work.{Work}
+use Rattle.pf_anchormount.specs.declared.work.Work.TheVariants.{Rests, Syncs, Ballots, Pauses, Moves}
+use Rattle.pf_files.specs.Calls.{FilesIs}
+use Rattle.pf_anchorage.specs.Places.{reads_first, reads_half, writes_own}
+use Rattle.pf_anchorage.specs.Positions.{new_position, can_start, having_aborted, having_asked, having_read, having_seen, having_written, rest_of, starting_ballot}
+use Rattle.pf_anchorage.specs.Errands.{all_late, all_left, errand_at, is_free, is_waiting, least_free, no_errands, with_errand}
+use Rattle.pf_anchorage.specs.Looks.{are_looked, have_found, having_looked, look_at, new_looks}
+
+-- its tables, and the first block of file data
+abbrev pub held_in : FilesIs → Held
+held_in files = record { first = files.first; tables = files.tables }
+
+pub record AnchoredIs : Type 0 where
+  pub files : FilesIs  -- the tables, and the call that has not ended
+  pub upto : ℕ  -- the position at which it stands: so many transactions are applied
+  pub position : Position
+  pub errands : Errands
+  pub task : Task
+
+-- the mount after a step, and what ends by it
+pub record Outcome : Type 0 where
+  pub mount : AnchoredIs
+  pub next : Option AnchoredNext
+
+-- A step is worked out on where the mount stands, its tables and the call that has not ended. It leaves other tables where a value was
+-- decided.
+pub record Worked : Type 0 where
+  pub step : Step
+  pub tables : Tables
+
+-- what the mount is at work on stays
+abbrev pub stays : Stand → Step
+stays s = record { stand = s; task = None; ends = false; next = None }
+
+-- it is at work on this from now on, and nothing ends
+abbrev pub turns_to : Stand → Work → Step
+turns_to s work = record { stand = s; task = Some (record { work = work; ask = None }); ends = false; next = None }
+
+abbrev pub done : Stand → CallAnswer → Step
+done s answer = record { stand = s; task = Some (record { work = Rests; ask = None }); ends = true; next = Some (Done answer) }
+
+-- a step of file data
+abbrev pub moved : Stand → Moved → Step
+moved s (Asks ask moving) = record { stand = s; task = Some (record { work = Moves moving; ask = Some ask }); ends = false; next = None }
+moved s (Ends answer) = done s answer
+
+-- Ballots
+
+-- a pause of so many reads and one
+abbrev pub pauses : Stand → (input : Option (List ℕ)) → (left : ℕ) → Step
+pauses s input left = turns_to s (Pauses input left)
+
+abbrev pub aborted : Stand → (input : Option (List ℕ)) → Step
+aborted s input = pauses (record s { position = having_aborted s.position }) input (rest_of s.mount (having_aborted s.position))
+
+-- the least ballot above all that was seen here begins. Where none is left, one read, and then it is tried again
+abbrev pub ballots : Stand → (input : Option (List ℕ)) → Step
+ballots s input =
+    if can_start s.position
+    then turns_to (record s { position = starting_ballot s.position input }) (Ballots input)
+    else pauses s input 0
+
+-- a sector of a pause was read; nobody looks at it
+abbrev pub paused : Stand → (input : Option (List ℕ)) → (left : ℕ) → Step
+paused s input zero = ballots s input
+paused s input (suc left) = pauses s input left
+
+-- Calls
+
+-- a change is proposed at the position, unless there is none any more
+abbrev pub proposes : Stand → Txn → Step
+proposes s txn = if s.upto == 255 then done s (Refused JournalFull) else ballots s (Some (spell_txn txn))
+
+abbrev pub plans_as : Stand → Planned → Step
+plans_as s (Refuses fault) = done s (Refused fault)
+plans_as s (Proposes txn) = proposes s txn
+plans_as s (Goes step) = moved s step
+
+abbrev pub plans : Stand → Held → Pending → Step
+plans s h p = plans_as s (planned s.mount s.volume (data_of h.first h.tables) h.tables p)
+
+-- Syncs
+
+-- a sync that ends: the mount is ready, or its call is planned
+abbrev pub synced : Stand → Held → Option Pending → Step
+synced s h None = record { stand = s; task = Some (record { work = Rests; ask = None }); ends = false; next = Some Ready }
+synced s h (Some p) = plans s h p
+
+-- both halves of the position are read on the anchors; past the last position there is nothing to read
+abbrev pub syncs : Stand → Held → Option Pending → Step
+syncs s h p =
+    if s.upto == 255 then synced s h p else turns_to (record s { errands = all_late s.errands }) (Syncs new_looks)
+
+-- once two anchors are read: where none of their blocks has a nonzero bal the sync ends; else ballots without an own input decide the
+-- position
+abbrev pub syncs_on : Stand → Held → Option Pending → Looks → Step
+syncs_on s h p looks =
+    if not (are_looked looks) then turns_to s (Syncs looks)
+    else if have_found looks then ballots s None
+    else synced s h p
+
+-- Decisions
+
+-- the first of the next position
+abbrev pub advanced : Stand → Stand
+advanced s = record s { upto = suc s.upto; position = new_position s.mount; errands = all_left s.errands s.position.anchors.parts }
+
+-- The value of a position is decided, and its transaction applied. A sync goes on at the next position. A call goes on to its data where
+-- the transaction is its own, and else is planned again, without another sync
+abbrev pub proceeds_with : Stand → (before after : Held) → Option Txn → Pending → Step
+proceeds_with s before after txn p =
+    if is_of s.mount p.number txn
+    then moved s (moves s.volume after.tables (size_in before.tables p.call) p.call)
+    else plans s after p
+
+abbrev pub proceeds : Stand → (before after : Held) → Option Txn → (input : Option (List ℕ)) → Option Pending → Step
+proceeds s before after txn (Some input) (Some p) = proceeds_with s before after txn p
+proceeds s before after txn (Some input) None = syncs s after None
+proceeds s before after txn None p = syncs s after p
+
+abbrev pub decided : Stand → Held → Option Pending → (input : Option (List ℕ)) → Option Txn → Worked
+decided s h p input txn = record {
+  step = proceeds (advanced s) h (record h { tables = applied_in h.tables txn }) txn input p;
+  tables = applied_in h.tables txn;
+}
+
+-- what comes of an answered read of a ballot
+abbrev pub balloted : Stand → Held → Option Pending → (input : Option (List ℕ)) → AnchorStep → Worked
+balloted s h p input Go = record { step = stays s; tables = h.tables }
+balloted s h p input (Abort mbal) = record { step = aborted s input; tables = h.tables }
+balloted s h p input NoValue = record { step = synced s h p; tables = h.tables }
+balloted s h p input (Decided value) = decided s h p input (txn_in value)
+
+-- Answers
+
+abbrev pub freed : Stand → (anchor : ℕ) → Stand
+freed s anchor = record s { errands = with_errand s.errands anchor Free }
+
+-- a half was read in a ballot. While the mount is at other work no ballot runs, and the answer frees the anchor alone
+abbrev pub ballot_read : Stand → Held → Option Pending → Work → (anchor : ℕ) → List Block → Worked
+ballot_read s h p (Ballots input) anchor blocks =
+    balloted (record s { position = having_read s.position anchor blocks }) h p input (read_at s.position.anchors anchor blocks).step
+ballot_read s h p work anchor blocks = record { step = stays (record s { position = having_read s.position anchor blocks }); tables = h.tables }
+
+abbrev pub ballot_answered : Stand → Held → Option Pending → Work → (anchor : ℕ) → Reply → Worked
+ballot_answered s h p work anchor Written = record { step = stays (record s { position = having_written s.position anchor }); tables = h.tables }
+ballot_answered s h p work anchor (Bytes sectors) = ballot_read s h p work anchor (blocks_in sectors)
+
+-- a half was read in a sync
+abbrev pub look_answered : Stand → Held → Option Pending → Work → (anchor : ℕ) → Reply → Step
+look_answered s h p (Syncs looks) anchor (Bytes sectors) =
+    syncs_on (record s { position = having_seen s.position (blocks_in sectors) }) h p (having_looked looks anchor (blocks_in sectors))
+look_answered s h p work anchor reply = stays s
+
+abbrev pub pause_answered : Stand → Work → Step
+pause_answered s (Pauses input left) = paused s input left
+pause_answered s work = stays s
+
+abbrev pub errand_answered : Errand → Stand → Held → Option Pending → Work → (anchor : ℕ) → Reply → Worked
+errand_answered Free s h p work anchor reply = ballot_answered s h p work anchor reply
+errand_answered OfSync s h p work anchor reply = record { step = look_answered (freed s anchor) h p work anchor reply; tables = h.tables }
+errand_answered OfPause s h p work anchor reply = record { step = pause_answered (freed s anchor) work; tables = h.tables }
+errand_answered errand s h p work anchor reply = record { step = stays (freed s anchor); tables = h.tables }
+
+abbrev pub data_answered : Stand → Held → Work → Reply → Step
+data_answered s h (Moves moving) reply = moved s (moves_on s.volume h.tables moving reply)
+data_answered s h work reply = stays s
+
+abbrev pub port_answered : Stand → Held → Option Pending → Work → (port : ℕ) → Reply → Worked
+port_answered s h p work port reply =
+    if port == 3
+    then record { step = data_answered s h work reply; tables = h.tables }
+    else errand_answered (errand_at s.errands port) s h p work port reply
+
+-- The mount takes over a step
+
+abbrev pub stand_of : AnchoredIs → Stand
+stand_of m = record { mount = m.files.mount; volume = m.files.volume; upto = m.upto; position = m.position; errands = m.errands }
+
+abbrev pub taken : FilesIs → Task → Step → Outcome
+taken files task step = record {
+  mount = record {
+    files = record files { pending = if step.ends then None else files.pending };
+    upto = step.stand.upto;
+    position = step.stand.position;
+    errands = step.stand.errands;
+    task = unwrap_or step.task task;
+  };
+  next = step.next;
+}
+
+abbrev pub takes : AnchoredIs → Worked → Outcome
+takes m w = taken (record m.files { tables = w.tables }) m.task w.step
+
+-- the pending ask of a port is answered
+abbrev pub answered : AnchoredIs → (port : ℕ) → Reply → Outcome
+answered m port reply = takes m (port_answered (stand_of m) (held_in m.files) m.files.pending m.task.work port reply)
+
+-- a call begins with a sync
+abbrev pub having_started : AnchoredIs → FileCall → AnchoredIs
+having_started m call = record m { files = record m.files { calls = suc m.files.calls; pending = Some (record { number = suc m.files.calls; call = call }) } }
+
+abbrev pub starting : AnchoredIs → FileCall → Outcome
+starting m call = let n = having_started m call in taken n.files n.task (syncs (stand_of n) (held_in n.files) n.files.pending)
+
+-- a new mount begins with a sync; its file data begin at block 1,536, past the anchors
+abbrev pub opening : (number : ℕ) → Extent → AnchoredIs
+opening number v = record {
+  files = record { mount = number; volume = v; first = 1536; tables = new_tables (size_of v / 8); calls = 0; pending = None };
+  upto = 0;
+  position = new_position number;
+  errands = no_errands;
+  task = record { work = Syncs new_looks; ask = None };
+}
+
+-- Asks
+
+abbrev pub hands_nothing : Stand → Handed
+hands_nothing s = record { stand = s; ask = None }
+
+abbrev pub hands : Stand → (anchor : ℕ) → Errand → Ask → Handed
+hands s anchor errand ask = record { stand = record s { errands = with_errand s.errands anchor errand }; ask = Some ask }
+
+-- a sync's next half
+abbrev pub looks_on : Stand → (anchor : ℕ) → Stage → Handed
+looks_on s anchor ReadsLow = hands s anchor OfSync (reads_half s.volume anchor s.upto 0)
+looks_on s anchor ReadsHigh = hands s anchor OfSync (reads_half s.volume anchor s.upto 1)
+looks_on s anchor stage = hands_nothing s
+
+-- a ballot's next ask
+abbrev pub asks_next : Stand → (anchor : ℕ) → AnchorNext → Option Ask
+asks_next s anchor (Write block) = Some (writes_own s.volume anchor s.upto s.mount block)
+asks_next s anchor (Read half) = Some (reads_half s.volume anchor s.upto half)
+asks_next s anchor Idle = None
+
+abbrev pub ballots_on : Stand → (anchor : ℕ) → Handed
+ballots_on s anchor = record { stand = record s { position = having_asked s.position anchor }; ask = asks_next s anchor (next_of s.position.anchors anchor) }
+
+-- one read of a pause is pending at a time, on the least anchor that has no pending ask
+abbrev pub pauses_on : Stand → (anchor : ℕ) → Handed
+pauses_on s anchor =
+    if not (is_waiting s.errands) && (anchor == least_free s.errands s.position.anchors.parts)
+    then hands s anchor OfPause (reads_first s.volume anchor s.upto)
+    else hands_nothing s
+
+abbrev pub works_on : Stand → Work → (anchor : ℕ) → Handed
+works_on s (Syncs looks) anchor = looks_on s anchor (look_at looks anchor).stage
+works_on s (Ballots input) anchor = ballots_on s anchor
+works_on s (Pauses input left) anchor = pauses_on s anchor
+works_on s work anchor = hands_nothing s
+
+abbrev pub anchor_hands : Stand → Work → (anchor : ℕ) → Handed
+anchor_hands s work anchor = if is_free s.errands s.position.anchors.parts anchor then works_on s work anchor else hands_nothing s
+
+-- what is to be asked at a port now, if its last ask is answered and there is something to do
+abbrev pub ask_at : AnchoredIs → (port : ℕ) → Option Ask
+ask_at m port = if port == 3 then m.task.ask else (anchor_hands (stand_of m) m.task.work port).ask
+
+-- the mount once that is handed out
+abbrev pub asked_data : AnchoredIs → AnchoredIs
+asked_data m = record m { task = record m.task { ask = None } }
+
+abbrev pub asked_anchor : AnchoredIs → (anchor : ℕ) → AnchoredIs
+asked_anchor m anchor = let s = (anchor_hands (stand_of m) m.task.work anchor).stand in record m { position = s.position; errands = s.errands }
+
+abbrev pub asked : AnchoredIs → (port : ℕ) → AnchoredIs
+asked m port = if port == 3 then asked_data m else asked_anchor m port

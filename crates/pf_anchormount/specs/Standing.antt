@@ -1,0 +1,134 @@
+-- What is true of every mount over anchors, and what an answer at a port may be.
+use Rattle.std.specs.Prelude.{◌≡◌, ℕ, ◌<◌, ◌≤◌, length, Option, Some, None}
+use Rattle.pf_base.specs.Asks.{Answers as AnswersAsk}
+use Rattle.pf_base.specs.declared.asks.Ask.{Ask}
+use Rattle.pf_base.specs.declared.asks.Reply.{Reply}
+use Rattle.pf_base.specs.declared.asks.Reply.TheVariants.{Written, Bytes}
+use Rattle.pf_base.specs.declared.calls.Call.{Call}
+use Rattle.pf_volume.specs.Volumes.{Extent}
+use Rattle.pf_layout.specs.Calls.{IsReadAs}
+use Rattle.pf_tree.specs.declared.calls.FileCall.{FileCall}
+use Rattle.pf_tree.specs.Held.{Held}
+use Rattle.pf_paxos.specs.Standing.{IsInput}
+use Rattle.pf_anchors.specs.declared.anchors.AnchorNext.{AnchorNext}
+use Rattle.pf_anchors.specs.declared.anchors.AnchorNext.TheVariants.{Write, Read, Idle}
+use Rattle.pf_anchors.specs.Anchors.{part_at}
+use Rattle.pf_files.specs.Blocks.{IsInside}
+use Rattle.pf_files.specs.declared.moving.Moving.{Moving}
+use Rattle.pf_files.specs.declared.moving.Moved.{Moved}
+use Rattle.pf_files.specs.declared.moving.Moved.TheVariants.{Asks, Ends}
+use Rattle.pf_files.specs.Calls.{FilesIs}
+use Rattle.pf_files.specs.Moving.{IsTreeOf}
+use Rattle.pf_mount.specs.Mounts.{AnswersMoving}
+use Rattle.pf_mount.specs.Steps.{IsShortFor}
+use Rattle.pf_anchorage.specs.declared.errands.Errand.{Errand}
+use Rattle.pf_anchorage.specs.declared.errands.Errand.TheVariants.{Free, OfSync, OfPause, LateWrite, LateRead}
+use Rattle.pf_anchormount.specs.declared.stand.Stand.{Stand}
+use Rattle.pf_anchormount.specs.declared.work.Task.{Task}
+use Rattle.pf_anchormount.specs.declared.work.Work.{Work}
+use Rattle.pf_anchormount.specs.declared.work.Work.TheVariants.{Syncs, Ballots, Pauses, Moves}
+use Rattle.pf_anchorage.specs.Places.{HasAnchors}
+use Rattle.pf_anchorage.specs.Errands.{errand_at}
+use Rattle.pf_anchormount.specs.Anchored.{AnchoredIs, Outcome, starting}
+
+-- Answers
+
+abbrev pub IsWritten : Reply → Type 0
+IsWritten Written = Unit {0}
+IsWritten (Bytes sectors) = ⊥
+
+abbrev pub HasSectors : (count : ℕ) → Reply → Type 0
+HasSectors count Written = ⊥
+HasSectors count (Bytes sectors) = length sectors ≡ count
+
+abbrev pub AnswersBallot : AnchorNext → Reply → Type 0
+AnswersBallot (Write block) reply = IsWritten reply
+AnswersBallot (Read half) reply = HasSectors 8 reply
+AnswersBallot Idle reply = ⊥
+
+-- by what is pending at an anchor
+abbrev pub AnswersErrand : Errand → (asked : AnchorNext) → Reply → Type 0
+AnswersErrand Free asked reply = AnswersBallot asked reply
+AnswersErrand OfSync asked reply = HasSectors 8 reply
+AnswersErrand OfPause asked reply = HasSectors 1 reply
+AnswersErrand LateWrite asked reply = IsWritten reply
+AnswersErrand (LateRead count) asked reply = HasSectors count reply
+
+-- an ask for file data is pending once it was handed out
+abbrev pub AnswersData : Work → (waiting : Option Ask) → Reply → Type 0
+AnswersData (Moves moving) None reply = AnswersMoving moving reply
+AnswersData work waiting reply = ⊥
+
+-- The port has a pending ask, and the reply is of its kind, and has as many sectors
+pub record Answers (m : AnchoredIs) (port : ℕ) (reply : Reply) : Type 0 where
+  pub port_low : port < 4
+  pub anchor : port < 3 → AnswersErrand (errand_at m.errands port) (part_at m.position.anchors.parts port).asked reply
+  pub data_port : port ≡ 3 → AnswersData m.task.work m.task.ask reply
+
+-- each answer to what is asked is one that the port takes then
+abbrev pub Awaits : AnchoredIs → (port : ℕ) → Option Ask → Type 0
+Awaits m port None = Unit {0}
+Awaits m port (Some ask) = (reply : Reply) → AnswersAsk ask reply → Answers m port reply
+
+-- what is asked is valid, and lies in a chunk of the volume
+abbrev pub AsksWithin : Extent → Option Ask → Type 0
+AsksWithin v None = Unit {0}
+AsksWithin v (Some ask) = IsInside v ask
+
+-- Where a mount stands
+
+-- one of sixteen mounts, of a volume with anchors, at one of 255 positions or past them
+pub record IsStand (s : Stand) : Type 0 where
+  pub mount : s.mount < 16
+  pub anchors : HasAnchors s.volume
+  pub upto : s.upto ≤ 255
+
+-- tables of the volume, with their 1,024 inodes
+pub record IsHeldFor (v : Extent) (h : Held) : Type 0 where
+  pub blocks : IsTreeOf v h.tables
+  pub inodes : length h.tables.inodes ≡ 1024
+
+-- the tables and the call of a mount that stands here
+pub record AreFilesFor (s : Stand) (files : FilesIs) : Type 0 where
+  pub volume : files.volume ≡ s.volume
+  pub inodes : length files.tables.inodes ≡ 1024
+  pub call : IsShortFor files.pending
+
+-- a position is read or decided only where there is one, and an input has a byte at least
+abbrev pub IsWorkAt : (upto : ℕ) → Work → Type 0
+IsWorkAt upto (Syncs looks) = upto < 255
+IsWorkAt upto (Ballots input) = (upto < 255) × IsInput input
+IsWorkAt upto (Pauses input left) = (upto < 255) × IsInput input
+IsWorkAt upto work = Unit {0}
+
+-- an ask for file data is valid, lies in a chunk of the volume, and each answer to it is one that this takes
+pub record IsDataAsk (v : Extent) (moving : Moving) (ask : Ask) : Type 0 where
+  pub inside : IsInside v ask
+  pub awaits : (reply : Reply) → AnswersAsk ask reply → AnswersMoving moving reply
+
+abbrev pub IsMoved : Extent → Moved → Type 0
+IsMoved v (Asks ask moving) = IsDataAsk v moving ask
+IsMoved v (Ends answer) = Unit {0}
+
+-- an ask waits only at file data
+abbrev pub IsAskOf : Extent → Work → Option Ask → Type 0
+IsAskOf v work None = Unit {0}
+IsAskOf v (Moves moving) (Some ask) = IsDataAsk v moving ask
+IsAskOf v work (Some ask) = ⊥
+
+pub record IsTask (v : Extent) (upto : ℕ) (task : Task) : Type 0 where
+  pub work : IsWorkAt upto task.work
+  pub ask : IsAskOf v task.work task.ask
+
+-- what is true of every mount, beside what its tables and its ballots are
+pub record IsMount (m : AnchoredIs) : Type 0 where
+  pub number : m.files.mount < 16
+  pub anchors : HasAnchors m.files.volume
+  pub upto : m.upto ≤ 255
+  pub inodes : length m.files.tables.inodes ≡ 1024
+  pub call : IsShortFor m.files.pending
+  pub task : IsTask m.files.volume m.upto m.task
+
+-- the mount starts the call with its paths read
+abbrev pub Starts : AnchoredIs → Call → Outcome → Type 0
+Starts m call outcome = (file : FileCall) × IsReadAs call file × (outcome ≡ starting m file)

@@ -1,0 +1,298 @@
+//! The steps of a mount whose ask at a port was answered.
+ghost use Rattle.std.specs.Prelude.{◌≡◌, ◌<◌, IfOk, OnErr, length};
+ghost use Rattle.pf_paxos.specs.Standing.{AreBlocks, IsInput};
+ghost use Rattle.pf_anchors.specs.Anchors.{IsRead, part_at};
+ghost use Rattle.pf_txn.specs.Reading.{txn_in};
+ghost use Rattle.pf_txn.specs.Spelling.{IsShortCall};
+ghost use Rattle.pf_mount.specs.Steps.{IsShortFor};
+ghost use Rattle.pf_anchorage.specs.Errands.{errand_at};
+ghost use Rattle.pf_anchormount.specs.Anchored.{ballot_answered, ballot_read, balloted, data_answered, decided, errand_answered, look_answered, pause_answered, port_answered, proceeds, proceeds_with};
+ghost use Rattle.pf_anchormount.specs.Anchored.{held_in};
+ghost use Rattle.pf_anchormount.specs.Standing.{AnswersBallot, AnswersData, AnswersErrand, AreFilesFor, IsHeldFor, IsStand, IsWorkAt};
+
+use crate::Work;
+use crate::ballots::{aborted, paused};
+use crate::plans::{moved, plans, synced, syncs, syncs_on};
+use crate::stand::{Stand, Step};
+use pf_anchorage::Errand;
+use pf_anchors::{AnchorNext, AnchorStep};
+use pf_base::{NoMemory, Reply, Value};
+use pf_files::{FileWork, Pending, is_of, moves, moves_on, size_in};
+use pf_mount::blocks_in;
+use pf_paxos::Block;
+use pf_tree::{Tree, Txn};
+use std::alloc::Global;
+
+/// A half was read in a ballot. While the mount is at other work no ballot runs, and the answer frees the anchor alone.
+fn ballot_read(
+    alloc: Global,
+    stand: Stand,
+    files: &mut FileWork,
+    work: &Work,
+    anchor: u8,
+    half: u8,
+    blocks: &[Block],
+) -> Result<Step, NoMemory>
+    requires stand { IsStand stand }
+    requires files { AreFilesFor stand files.old }
+    requires work { IsWorkAt stand.upto work.now }
+    requires anchor { anchor < 3 }
+    requires asked { IsRead half (part_at stand.position.anchors.parts anchor).asked }
+    requires eight { length blocks.now ≡ 8 }
+    requires forms { AreBlocks blocks.now }
+    ensures kept { files.new ≡ record files.old { tables = files.new.tables } }
+    ensures makes { IfOk result (λ step. record { step = step; tables = files.new.tables } ≡ ballot_read stand (held_in files.old) files.old.pending work.now anchor blocks.now) }
+    ensures err { OnErr result (files.new ≡ files.old) }
+{
+    let mut position = stand.position;
+    let step = position.on_read(anchor, half, blocks);
+    let stand = stand.at(position);
+    match work {
+        Work::Ballots { input } => balloted(alloc, stand, files, *input, step),
+        _ => Ok(Step::stays(stand)),
+    }
+}
+
+/// What comes of an answered read of a ballot.
+fn balloted(
+    alloc: Global,
+    stand: Stand,
+    files: &mut FileWork,
+    input: Option<Value>,
+    step: AnchorStep,
+) -> Result<Step, NoMemory>
+    requires stand { IsStand stand }
+    requires upto { stand.upto < 255 }
+    requires files { AreFilesFor stand files.old }
+    requires input { IsInput input }
+    ensures kept { files.new ≡ record files.old { tables = files.new.tables } }
+    ensures makes { IfOk result (λ made. record { step = made; tables = files.new.tables } ≡ balloted stand (held_in files.old) files.old.pending input step) }
+    ensures err { OnErr result (files.new ≡ files.old) }
+{
+    match step {
+        AnchorStep::Go => Ok(Step::stays(stand)),
+        AnchorStep::Abort(_) => Ok(aborted(stand, input)),
+        AnchorStep::NoValue => synced(alloc, stand, files.tree(), files.pending()),
+        AnchorStep::Decided(value) => decided(alloc, stand, files, input, &value),
+    }
+}
+
+/// The value of the position is decided: its changes are taken over with the step.
+fn decided(
+    alloc: Global,
+    stand: Stand,
+    files: &mut FileWork,
+    input: Option<Value>,
+    value: &Value,
+) -> Result<Step, NoMemory>
+    requires stand { IsStand stand }
+    requires upto { stand.upto < 255 }
+    requires files { AreFilesFor stand files.old }
+    ensures kept { files.new ≡ record files.old { tables = files.new.tables } }
+    ensures makes { IfOk result (λ step. record { step = step; tables = files.new.tables } ≡ decided stand (held_in files.old) files.old.pending input (txn_in value.now)) }
+    ensures err { OnErr result (files.new ≡ files.old) }
+{
+    let after = files.applied(alloc, value)?;
+    let step = proceeds(
+        alloc,
+        stand.advanced(),
+        files.tree(),
+        &after.tree,
+        files.pending(),
+        &after.txn,
+        input,
+    )?;
+    files.take_over(after);
+    Ok(step)
+}
+
+/// The step after a decision. A sync goes on at the next position.
+fn proceeds(
+    alloc: Global,
+    stand: Stand,
+    before: &Tree,
+    after: &Tree,
+    pending: &Option<Pending>,
+    txn: &Option<Txn>,
+    input: Option<Value>,
+) -> Result<Step, NoMemory>
+    requires tree { IsHeldFor stand.volume after.now }
+    requires call { IsShortFor pending.now }
+    ensures { IfOk result (λ step. step ≡ proceeds stand before.now after.now txn.now input pending.now) }
+{
+    match (input, pending) {
+        (Some(_), Some(pending)) => proceeds_with(alloc, stand, before, after, pending, txn),
+        _ => syncs(alloc, stand, after, pending),
+    }
+}
+
+/// The step of a call after a decision: it goes on to its data where the transaction is its own, and else is planned again.
+fn proceeds_with(
+    alloc: Global,
+    stand: Stand,
+    before: &Tree,
+    after: &Tree,
+    pending: &Pending,
+    txn: &Option<Txn>,
+) -> Result<Step, NoMemory>
+    requires tree { IsHeldFor stand.volume after.now }
+    requires call { IsShortCall pending.now.call }
+    ensures { IfOk result (λ step. step ≡ proceeds_with stand before.now after.now txn.now pending.now) }
+{
+    if is_of(stand.mount, pending.number, txn) {
+        let size = size_in(alloc, before, &pending.call);
+        let step = moves(alloc, &stand.volume, after, size, &pending.call)?;
+        return Ok(moved(stand, step));
+    }
+    plans(alloc, stand, after, pending)
+}
+
+/// An ask of a ballot was answered.
+fn ballot_answered(
+    alloc: Global,
+    stand: Stand,
+    files: &mut FileWork,
+    work: &Work,
+    anchor: u8,
+    reply: &Reply,
+) -> Result<Step, NoMemory>
+    requires stand { IsStand stand }
+    requires files { AreFilesFor stand files.old }
+    requires work { IsWorkAt stand.upto work.now }
+    requires anchor { anchor < 3 }
+    requires answers { AnswersBallot (part_at stand.position.anchors.parts anchor).asked reply.now }
+    ensures kept { files.new ≡ record files.old { tables = files.new.tables } }
+    ensures makes { IfOk result (λ step. record { step = step; tables = files.new.tables } ≡ ballot_answered stand (held_in files.old) files.old.pending work.now anchor reply.now) }
+    ensures err { OnErr result (files.new ≡ files.old) }
+{
+    match reply {
+        Reply::Written => {
+            let mut position = stand.position;
+            position.on_written(anchor);
+            Ok(Step::stays(stand.at(position)))
+        }
+        Reply::Bytes(sectors) => {
+            let AnchorNext::Read(half) = stand.position.asked(anchor) else {
+                unreachable!();
+            };
+            let blocks = blocks_in(alloc, sectors.as_slice())?;
+            ballot_read(alloc, stand, files, work, anchor, half, &blocks)
+        }
+    }
+}
+
+/// A half was read in a sync. One of an earlier sync frees the anchor alone.
+fn look_answered(
+    alloc: Global,
+    stand: Stand,
+    tree: &Tree,
+    pending: &Option<Pending>,
+    work: &Work,
+    anchor: u8,
+    reply: &Reply,
+) -> Result<Step, NoMemory>
+    requires tree { IsHeldFor stand.volume tree.now }
+    requires call { IsShortFor pending.now }
+    ensures { IfOk result (λ step. step ≡ look_answered stand tree.now pending.now work.now anchor reply.now) }
+{
+    match (work, reply) {
+        (Work::Syncs(looks), Reply::Bytes(sectors)) => {
+            let blocks = blocks_in(alloc, sectors.as_slice())?;
+            let looks = looks.read(anchor, &blocks);
+            syncs_on(alloc, stand.seeing(&blocks), tree, pending, looks)
+        }
+        _ => Ok(Step::stays(stand)),
+    }
+}
+
+/// A sector of a pause was read.
+fn pause_answered(stand: Stand, work: &Work) -> Step
+    requires { IsWorkAt stand.upto work.now }
+    ensures { result ≡ pause_answered stand work.now }
+{
+    match work {
+        Work::Pauses { input, left } => paused(stand, *input, *left),
+        _ => Step::stays(stand),
+    }
+}
+
+/// What was pending at an anchor was answered.
+fn errand_answered(
+    alloc: Global,
+    stand: Stand,
+    files: &mut FileWork,
+    work: &Work,
+    anchor: u8,
+    reply: &Reply,
+) -> Result<Step, NoMemory>
+    requires stand { IsStand stand }
+    requires files { AreFilesFor stand files.old }
+    requires work { IsWorkAt stand.upto work.now }
+    requires anchor { anchor < 3 }
+    requires answers { AnswersErrand (errand_at stand.errands anchor) (part_at stand.position.anchors.parts anchor).asked reply.now }
+    ensures kept { files.new ≡ record files.old { tables = files.new.tables } }
+    ensures makes { IfOk result (λ step. record { step = step; tables = files.new.tables } ≡ errand_answered (errand_at stand.errands anchor) stand (held_in files.old) files.old.pending work.now anchor reply.now) }
+    ensures err { OnErr result (files.new ≡ files.old) }
+{
+    let free = stand.with(anchor, Errand::Free);
+    match stand.errands.at(anchor) {
+        Errand::Free => ballot_answered(alloc, stand, files, work, anchor, reply),
+        Errand::OfSync => look_answered(
+            alloc,
+            free,
+            files.tree(),
+            files.pending(),
+            work,
+            anchor,
+            reply,
+        ),
+        Errand::OfPause => Ok(pause_answered(free, work)),
+        _ => Ok(Step::stays(free)),
+    }
+}
+
+/// An ask for file data was answered.
+fn data_answered(
+    alloc: Global,
+    stand: Stand,
+    tree: &Tree,
+    work: &Work,
+    reply: &Reply,
+) -> Result<Step, NoMemory>
+    requires tree { IsHeldFor stand.volume tree.now }
+    requires answers { AnswersData work.now None reply.now }
+    ensures { IfOk result (λ step. step ≡ data_answered stand tree.now work.now reply.now) }
+{
+    match work {
+        Work::Moves(moving) => {
+            let step = moves_on(alloc, &stand.volume, tree, moving, reply)?;
+            Ok(moved(stand, step))
+        }
+        _ => Ok(Step::stays(stand)),
+    }
+}
+
+/// The pending ask of a port was answered: the step. Where a transaction was decided, its changes are taken over.
+pub(crate) fn answered(
+    alloc: Global,
+    stand: Stand,
+    files: &mut FileWork,
+    work: &Work,
+    port: u8,
+    reply: &Reply,
+) -> Result<Step, NoMemory>
+    requires stand { IsStand stand }
+    requires files { AreFilesFor stand files.old }
+    requires work { IsWorkAt stand.upto work.now }
+    requires port { port < 4 }
+    requires anchor { port < 3 → AnswersErrand (errand_at stand.errands port) (part_at stand.position.anchors.parts port).asked reply.now }
+    requires data_port { port ≡ 3 → AnswersData work.now None reply.now }
+    ensures kept { files.new ≡ record files.old { tables = files.new.tables } }
+    ensures makes { IfOk result (λ step. record { step = step; tables = files.new.tables } ≡ port_answered stand (held_in files.old) files.old.pending work.now port reply.now) }
+    ensures err { OnErr result (files.new ≡ files.old) }
+{
+    if port == 3 {
+        return data_answered(alloc, stand, files.tree(), work, reply);
+    }
+    errand_answered(alloc, stand, files, work, port, reply)
+}

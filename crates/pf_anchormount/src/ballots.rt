@@ -1,0 +1,58 @@
+//! The steps of a mount that begin a ballot or a pause.
+ghost use Rattle.std.specs.Prelude.{◌≡◌, ◌<◌, IsTrue};
+ghost use Rattle.pf_paxos.specs.Standing.{IsInput};
+ghost use Rattle.pf_anchormount.specs.Anchored.{aborted, ballots, paused, pauses};
+ghost use Rattle.pf_anchorage.specs.Positions.{can_start};
+
+use crate::Work;
+use crate::stand::{Stand, Step};
+use pf_base::Value;
+
+/// A pause of so many reads and one.
+fn pauses(stand: Stand, input: Option<Value>, left: u32) -> Step
+    ensures { result ≡ pauses stand input left }
+{
+    Step::turns_to(stand, Work::Pauses { input, left })
+}
+
+/// The pause after an aborted ballot.
+pub(crate) fn aborted(stand: Stand, input: Option<Value>) -> Step
+    requires { stand.mount < 16 }
+    ensures { result ≡ aborted stand input }
+{
+    let mut position = stand.position;
+    position.rivals.abort();
+    let left = position.rivals.rest(stand.mount);
+    pauses(stand.at(position), input, left)
+}
+
+/// The least ballot above all that was seen begins. Where none is left, one sector is read, and then it is tried again.
+pub(crate) fn ballots(stand: Stand, input: Option<Value>) -> Step
+    requires { IsInput input }
+    ensures { result ≡ ballots stand input }
+{
+    if !stand.position.can_start() {
+        return pauses(stand, input, 0);
+    }
+    starts(stand, &input)
+}
+
+/// The least ballot above all that was seen begins.
+fn starts(stand: Stand, input: &Option<Value>) -> Step
+    requires input { IsInput input.now }
+    requires left { IsTrue (can_start stand.position) }
+    ensures { result ≡ ballots stand input.now }
+{
+    Step::turns_to(stand.started(*input), Work::Ballots { input: *input })
+}
+
+/// A sector of a pause was read; nobody looks at it.
+pub(crate) fn paused(stand: Stand, input: Option<Value>, left: u32) -> Step
+    requires { IsInput input }
+    ensures { result ≡ paused stand input left }
+{
+    if left == 0 {
+        return ballots(stand, input);
+    }
+    pauses(stand, input, left - 1)
+}

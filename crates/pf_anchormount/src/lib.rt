@@ -1,0 +1,15 @@
+//! A mount whose journal lies on three anchors, of which each ballot and each sync needs any two.
+#![tactic(auto)]
+
+mod answers;
+mod ballots;
+mod hands;
+mod laws;
+mod mount;
+mod plans;
+mod stand;
+mod work;
+
+pub use laws::mounts_are_ready_once_and_calls_end_once;
+pub use mount::AnchoredMount;
+pub use work::{AnchoredNext, Task, Work};

@@ -1,0 +1,170 @@
+//! Where a mount stands, what a step makes of it, and what is handed out.
+ghost use Rattle.std.specs.Prelude.{◌≡◌, ◌<◌, IsTrue};
+ghost use Rattle.pf_paxos.specs.Standing.{AreBlocks, IsInput};
+ghost use Rattle.pf_anchormount.specs.declared.work.AnchoredNext.TheVariants.{Done};
+ghost use Rattle.pf_anchormount.specs.declared.work.Work.TheVariants.{Rests};
+
+use crate::{AnchoredNext, Task, Work};
+use pf_anchorage::{Errand, Errands, Position};
+use pf_base::{Ask, Value};
+use pf_files::CallAnswer;
+use pf_paxos::Block;
+use pf_volume::Volume;
+
+/// Where a mount stands as a step begins.
+#[derive(Clone, Copy)]
+pub(crate) struct Stand {
+    pub(crate) mount: u8,
+    pub(crate) volume: Volume,
+    /// So many transactions are applied.
+    pub(crate) upto: u32,
+    pub(crate) position: Position,
+    pub(crate) errands: Errands,
+}
+
+/// What a step makes of a mount. It is worked out whole, and then the mount takes it over.
+#[derive(Drop)]
+pub(crate) struct Step {
+    pub(crate) stand: Stand,
+    /// What the mount is at work on from now on; `None` where that stays.
+    pub(crate) task: Option<Task>,
+    /// The call ends.
+    pub(crate) ends: bool,
+    pub(crate) next: Option<AnchoredNext>,
+}
+
+/// What is handed out at an anchor, and where the mount stands then.
+#[derive(Drop)]
+pub(crate) struct Handed {
+    pub(crate) stand: Stand,
+    pub(crate) ask: Option<Ask>,
+}
+
+impl Stand {
+    ghost use Rattle.pf_anchormount.specs.Anchored.{advanced};
+    ghost use Rattle.pf_anchorage.specs.Errands.{all_late, with_errand};
+    ghost use Rattle.pf_anchorage.specs.Positions.{can_start, having_seen, starting_ballot};
+
+    /// These blocks of the position were read.
+    pub(crate) fn seeing(&self, blocks: &[Block]) -> Stand
+        requires { AreBlocks blocks.now }
+        ensures { result ≡ record self.now { position = having_seen self.now.position blocks.now } }
+    {
+        let mut position = self.position;
+        position.rivals.see(blocks);
+        self.at(position)
+    }
+
+    /// The least ballot above all that was seen begins.
+    pub(crate) fn started(&self, input: Option<Value>) -> Stand
+        requires left { IsTrue (can_start self.now.position) }
+        requires input { IsInput input }
+        ensures { result ≡ record self.now { position = starting_ballot self.now.position input } }
+    {
+        let mut position = self.position;
+        position.start(input);
+        self.at(position)
+    }
+
+    /// With its position so.
+    pub(crate) fn at(&self, position: Position) -> Stand
+        ensures { result ≡ record self.now { position = position } }
+    {
+        Stand { position, ..*self }
+    }
+
+    /// With this errand at an anchor.
+    pub(crate) fn with(&self, anchor: u8, errand: Errand) -> Stand
+        ensures { result ≡ record self.now { errands = with_errand self.now.errands anchor errand } }
+    {
+        let errands = self.errands.with(anchor, errand);
+        Stand { errands, ..*self }
+    }
+
+    /// As a sync begins: what is pending is of earlier work from then on.
+    pub(crate) fn late(&self) -> Stand
+        ensures { result ≡ record self.now { errands = all_late self.now.errands } }
+    {
+        let errands = self.errands.late();
+        Stand { errands, ..*self }
+    }
+
+    /// The first of the next position.
+    pub(crate) fn advanced(&self) -> Stand
+        requires mount { self.now.mount < 16 }
+        requires upto { self.now.upto < 255 }
+        ensures { result ≡ advanced self.now }
+    {
+        Stand {
+            mount: self.mount,
+            volume: self.volume,
+            upto: self.upto + 1,
+            position: Position::new(self.mount),
+            errands: self.errands.left(&self.position),
+        }
+    }
+}
+
+impl Step {
+    ghost use Rattle.pf_anchormount.specs.Anchored.{done, stays, turns_to};
+
+    /// What the mount is at work on stays.
+    pub(crate) fn stays(stand: Stand) -> Step
+        ensures { result ≡ stays stand }
+    {
+        Step {
+            stand,
+            task: None,
+            ends: false,
+            next: None,
+        }
+    }
+
+    /// The mount is at work on this from now on, and nothing ends.
+    pub(crate) fn turns_to(stand: Stand, work: Work) -> Step
+        ensures { result ≡ turns_to stand work }
+    {
+        Step {
+            stand,
+            task: Some(Task { work, ask: None }),
+            ends: false,
+            next: None,
+        }
+    }
+
+    /// The call ends with this answer.
+    pub(crate) fn ends(stand: Stand, answer: CallAnswer) -> Step
+        ensures { result ≡ done stand answer }
+    {
+        Step {
+            stand,
+            task: Some(Task {
+                work: Work::Rests,
+                ask: None,
+            }),
+            ends: true,
+            next: Some(AnchoredNext::Done(answer)),
+        }
+    }
+}
+
+impl Handed {
+    ghost use Rattle.pf_anchormount.specs.Anchored.{hands, hands_nothing};
+
+    /// Nothing.
+    pub(crate) fn nothing(stand: Stand) -> Handed
+        ensures { result ≡ hands_nothing stand }
+    {
+        Handed { stand, ask: None }
+    }
+
+    /// This ask, for this errand.
+    pub(crate) fn new(stand: Stand, anchor: u8, errand: Errand, ask: Ask) -> Handed
+        ensures { result ≡ hands stand anchor errand ask }
+    {
+        Handed {
+            stand: stand.with(anchor, errand),
+            ask: Some(ask),
+        }
+    }
+}

@@ -1,0 +1,36 @@
+//! What a mount is at work on, and what ends by a step.
+
+use pf_anchorage::Looks;
+use pf_base::{Ask, Value};
+use pf_files::{CallAnswer, Moving};
+
+/// What a mount is at work on.
+#[derive(Drop)]
+pub enum Work {
+    /// It is ready, and no call is pending.
+    Rests,
+    /// A sync reads both halves of its position on the anchors.
+    Syncs(Looks),
+    /// A ballot, with an own input where the call has a change to propose.
+    Ballots { input: Option<Value> },
+    /// A pause before the next ballot, with so many reads after the next or pending one.
+    Pauses { input: Option<Value>, left: u32 },
+    /// File data of the call.
+    Moves(Moving),
+}
+
+/// The work of a mount, and its ask for file data until that is handed out.
+#[derive(Drop)]
+pub struct Task {
+    pub work: Work,
+    pub ask: Option<Ask>,
+}
+
+/// What ends by a step of a mount.
+#[derive(Drop)]
+pub enum AnchoredNext {
+    /// The mount is ready.
+    Ready,
+    /// The call ends with this answer.
+    Done(CallAnswer),
+}
