@@ -5,3 +5,4 @@ pub mod Standing
 pub mod Replying
 pub mod Stepping
 pub mod Worked
+mod Rehomed

@@ -1,14 +1,15 @@
 //! Laws of every port and its group.
-ghost use Rattle.std.specs.Prelude.{◌≡◌, List, Some};
+ghost use Rattle.std.specs.Prelude.{◌≡◌, ℕ, ◌<◌, List, Some, None};
 ghost use Rattle.pf_base.specs.declared.asks.Ask.{Ask as AskIs};
 ghost use Rattle.pf_base.specs.declared.asks.Reply.{Reply as ReplyIs};
 ghost use Rattle.pf_entry.specs.Lists.{Every};
 ghost use Rattle.pf_protocol.specs.Answers.{IsLegal};
+ghost use Rattle.pf_protocol.specs.Histories.{History};
 ghost use Rattle.pf_protocol.specs.Ports.{FollowsRule};
 ghost use Rattle.pf_protocol.specs.Servers.{Setup};
 ghost use Rattle.pf_asks.specs.Desks.{Call, IsLook};
-ghost use Rattle.pf_asks.specs.Ports.{PortIs};
-ghost use Rattle.pf_ports.specs.Calls.{Past, SayInTurn};
+ghost use Rattle.pf_asks.specs.Ports.{PortIs, rehomed};
+ghost use Rattle.pf_ports.specs.Calls.{Past, new_past, SayInTurn};
 ghost use Rattle.pf_ports.specs.Driven.{IsDriven, IsStep};
 ghost use Rattle.pf_ports.specs.Replies.{IsReplied};
 ghost use Rattle.pf_ports.specs.Rising.{IsRising};
@@ -33,4 +34,11 @@ pub fn replies_answer_the_last_submission()
 /// Where a step ends for want of memory its calls are looks alone, and so nothing has happened.
 pub fn looks_do_nothing()
     ensures { (setup : Setup) (old new : Past) (calls : List Call) → Every IsLook calls → SayInTurn setup old calls new → new ≡ old }
+{}
+
+/// A port that was taken to another group is, in that group, one that begins there with nothing to ask, and into which the pending ask was
+/// put again, if there is one. So these laws hold of it in each group through which it goes.
+pub fn rehomed_ports_begin_anew()
+    ensures pending { (setup : Setup) (history : History) (port : PortIs) (ask : AskIs) (number : ℕ) → port.ask ≡ Some ask → 0 < number → IsDriven setup (record (new_past history) { asks = number }) (rehomed port) }
+    ensures idle { (setup : Setup) (history : History) (port : PortIs) → port.ask ≡ None → IsDriven setup (new_past history) (rehomed port) }
 {}

@@ -8,5 +8,5 @@ mod laws;
 pub use examples::a_write_is_acknowledged;
 pub use laws::{
     driven_ports_follow_the_rule, driven_ports_hand_writes_to_leaders, looks_do_nothing,
-    replies_answer_the_last_submission,
+    rehomed_ports_begin_anew, replies_answer_the_last_submission,
 };
