@@ -272,7 +272,7 @@ applied_chosen setup history i s slot at above is =
 pub applies_in_order : (setup : Setup) (history : History) → AppliesInOrder setup history
 applies_in_order setup history = record {
   chosen = applied_chosen setup history;
-  sectors = λ i s x n bytes ops at is bound are.
+  sectors = λ i s at x n bytes ops is bound are.
       let k = ((told setup history).follows.servers i (Running s) at).1.knows.applied in
       k.in_order x n bytes ops is bound (λ slot above done.
       let o = are slot above done in

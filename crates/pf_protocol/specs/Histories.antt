@@ -1,6 +1,8 @@
 -- Histories of a group, and what was proposed, accepted and chosen in them.
-use Rattle.std.specs.Prelude.{◌≡◌, ℕ, ◌<◌, ◌≤◌, ◌≢◌, ◌⊎◌, false, List, [], ◌∷◌, ◌++◌, length, Some, slice_get}
+use Rattle.std.specs.Prelude.{◌≡◌, ℕ, ◌<◌, ◌≤◌, ◌≢◌, ◌⊎◌, Bool, true, false, Option, List, [], ◌∷◌, ◌++◌, length, Some, slice_get}
 use Rattle.std.specs.FinMap
+use Rattle.pf_entry.specs.Ops.{Sector, zero_sector}
+use Rattle.pf_entry.specs.Applying.{fold_to}
 use Rattle.pf_entry.specs.declared.ops.Op.{Op}
 use Rattle.pf_entry.specs.declared.ops.Op.TheVariants.{Noop}
 use Rattle.pf_entry.specs.declared.entries.Entry.{Entry}
@@ -105,6 +107,10 @@ pub record IsChosen (setup : Setup) (history : History) (slot term : ℕ) (op : 
   pub apart : one ≢ two
   pub one_accepted : HasAccepted setup history one entry
   pub two_accepted : HasAccepted setup history two entry
+
+-- each sector is what the chosen ops of the done slots leave in the order of their slots
+abbrev pub AreFolds : Setup → History → (done : ℕ → Bool) → List Sector → Type 0
+AreFolds setup history done sectors = (x n : ℕ) (bytes : Sector) (ops : ℕ → Option Op) → slice_get sectors x ≡ Some bytes → ((slot : ℕ) → done slot ≡ true → slot ≤ n) → ((slot : ℕ) → 0 < slot → done slot ≡ true → (op : Op) × (ops slot ≡ Some op) × ((t : ℕ) × IsChosen setup history slot t op)) → bytes ≡ fold_to ops done x zero_sector n
 
 -- the op of a merge was taken from this entry, the one of the highest term that is not void
 pub record IsTakenFrom (setup : Setup) (history : History) (e from : Entry) : Type 0 where

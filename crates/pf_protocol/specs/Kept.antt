@@ -2,16 +2,16 @@
 use Rattle.std.specs.Prelude.{◌≡◌, ℕ, ◌<◌, ◌≤◌, ◌≢◌, ◌⊎◌, Bool, true, false, List, Option, Some, slice_get}
 use Rattle.std.specs.FinMap
 use Rattle.pf_base.specs.Span.{overlaps}
-use Rattle.pf_entry.specs.Ops.{Sector, range_of, zero_sector}
+use Rattle.pf_entry.specs.Ops.{Sector, range_of}
 use Rattle.pf_entry.specs.declared.ops.Op.{Op}
 use Rattle.pf_entry.specs.declared.ops.Op.TheVariants.{Noop}
 use Rattle.pf_entry.specs.declared.entries.Named.{Named}
 use Rattle.pf_entry.specs.declared.entries.Entry.{Entry}
 use Rattle.pf_entry.specs.Records.{Durable}
-use Rattle.pf_entry.specs.Applying.{passes, fold_to}
+use Rattle.pf_entry.specs.Applying.{passes}
 use Rattle.pf_protocol.specs.Servers.{Setup, Leader, Merging, Serving, Server, Stopped, has_applied}
 use Rattle.pf_protocol.specs.Groups.{Group}
-use Rattle.pf_protocol.specs.Histories.{History, RunsAs, HasAccepted, IsProposal, IsChosen}
+use Rattle.pf_protocol.specs.Histories.{History, RunsAs, HasAccepted, IsProposal, IsChosen, AreFolds}
 
 -- what the disks of a server may stand for: one state while it runs; while it is stopped, the one without the record of its last
 -- step or the one with it
@@ -67,7 +67,7 @@ pub record IsPassed (setup : Setup) (history : History) (a p : ℕ) : Type 0 whe
 pub record IsCovered (setup : Setup) (history : History) (term : ℕ) (done : ℕ → Bool) (sectors : List Sector) : Type 0 where
   pub chosen : (slot : ℕ) → 0 < slot → done slot ≡ true → HasChosen setup history slot term
   pub passed : (a p : ℕ) → 0 < p → p < a → done a ≡ true → done p ≡ false → IsPassed setup history a p
-  pub folded : (x n : ℕ) (bytes : Sector) (ops : ℕ → Option Op) → slice_get sectors x ≡ Some bytes → ((slot : ℕ) → done slot ≡ true → slot ≤ n) → ((slot : ℕ) → 0 < slot → done slot ≡ true → (op : Op) × (ops slot ≡ Some op) × ((t : ℕ) × IsChosen setup history slot t op)) → bytes ≡ fold_to ops done x zero_sector n
+  pub folded : AreFolds setup history done sectors
 
 -- a job in hand
 pub record IsInHand (setup : Setup) (history : History) (s : Server) (slot : ℕ) (op : Op) : Type 0 where

@@ -1,15 +1,12 @@
 -- What holds of every history.
-use Rattle.std.specs.Prelude.{◌≡◌, ℕ, ◌<◌, ◌≤◌, Bool, true, false, Option, Some, slice_get}
+use Rattle.std.specs.Prelude.{◌≡◌, ℕ, ◌<◌, Bool, true, false, Some, slice_get}
 use Rattle.std.specs.FinMap
 use Rattle.pf_entry.specs.Sets
 use Rattle.pf_entry.specs.declared.ops.Op.{Op}
-use Rattle.pf_entry.specs.Ops.{Sector}
-use Rattle.pf_entry.specs.Ops.{zero_sector}
 use Rattle.pf_entry.specs.declared.entries.Entry.{Entry}
-use Rattle.pf_entry.specs.Applying.{fold_to}
 use Rattle.pf_protocol.specs.Servers.{Setup, Leader, Role, Serving, Merging, Server, has_applied}
 use Rattle.pf_protocol.specs.Groups.{Acked}
-use Rattle.pf_protocol.specs.Histories.{History, IsPrefix, replay, RunsAs, IsChosen}
+use Rattle.pf_protocol.specs.Histories.{History, IsPrefix, replay, RunsAs, IsChosen, AreFolds}
 
 abbrev pub leads : Role → Bool
 leads (Merging l) = true
@@ -28,7 +25,7 @@ pub record Agrees (setup : Setup) (history : History) : Type 0 where
 -- each applied slot has a chosen op, and each sector is what these ops leave in slot order
 pub record AppliesInOrder (setup : Setup) (history : History) : Type 0 where
   pub chosen : (i : ℕ) (s : Server) (slot : ℕ) → RunsAs (replay setup history) i s → 0 < slot → has_applied s slot ≡ true → (t : ℕ) × ((op : Op) × IsChosen setup history slot t op)
-  pub sectors : (i : ℕ) (s : Server) (x n : ℕ) (bytes : Sector) (ops : ℕ → Option Op) → RunsAs (replay setup history) i s → slice_get s.sectors x ≡ Some bytes → ((slot : ℕ) → has_applied s slot ≡ true → slot ≤ n) → ((slot : ℕ) → 0 < slot → has_applied s slot ≡ true → (op : Op) × (ops slot ≡ Some op) × ((t : ℕ) × IsChosen setup history slot t op)) → bytes ≡ fold_to ops (has_applied s) x zero_sector n
+  pub sectors : (i : ℕ) (s : Server) → RunsAs (replay setup history) i s → AreFolds setup history (has_applied s) s.sectors
 
 -- what was acknowledged in an earlier term is under a serving server's checkpoint, or committed in its log with this op
 pub record KeepsAcknowledged (setup : Setup) (history : History) : Type 0 where
