@@ -7,8 +7,7 @@ ghost use Rattle.pf_anchorage.specs.Positions.{can_start, having_asked, having_r
 
 use pf_anchors::{AnchorNext, AnchorStep, Anchors};
 use pf_base::Value;
-use pf_mount::Rivals;
-use pf_paxos::Block;
+use pf_paxos::{Block, Rivals};
 
 /// A mount at a position. No call takes memory.
 #[derive(Clone, Copy)]

@@ -12,11 +12,6 @@ pub record PositionIs : Type 0 where
   pub seen : ℕ  -- the greatest mbal that its syncs and ballots have read here
   pub aborts : ℕ  -- how many ballots were aborted, counted up to 16
 
--- of that, what it has met of the other mounts
-pub record RivalsAre : Type 0 where
-  pub seen : ℕ
-  pub aborts : ℕ
-
 -- nothing was read here yet
 abbrev pub new_position : (mount : ℕ) → PositionIs
 new_position mount = record { proposer = new_proposer mount zero_block; seen = 0; aborts = 0 }

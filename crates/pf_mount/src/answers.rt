@@ -1,14 +1,13 @@
 //! The steps of a mount whose ask was answered.
 ghost use Rattle.std.specs.Prelude.{◌≡◌, ◌<◌, IfOk, OnErr, Some, length};
 ghost use Rattle.pf_mount.specs.declared.work.Work.TheVariants.{ReadsSuper, Syncs, Ballots, Moves};
-ghost use Rattle.pf_paxos.specs.Proposers.{IsWriting, read_in, written_in};
 ghost use Rattle.pf_paxos.specs.Standing.{AreBlocks, IsInput};
 ghost use Rattle.pf_txn.specs.Reading.{txn_in};
 ghost use Rattle.pf_txn.specs.Spelling.{IsShortCall};
 ghost use Rattle.pf_files.specs.Calls.{applied_in};
 ghost use Rattle.pf_mount.specs.Positions.{CanAsk, IsReadPending};
 ghost use Rattle.pf_mount.specs.Mounts.{AnswersMoving, AnswersWork, ballot_read, balloted, decided, has_bal, paused, proceeds_with, super_read, syncs_on};
-ghost use Rattle.pf_mount.specs.Steps.{AreFilesAt, IsHeldFor, IsShortFor, IsStand, IsStep, IsWorkAt, Makes, MakesAfter, MakesAnswer, MakesOn, Rest, advanced_stand, mount_at, outcome_of};
+ghost use Rattle.pf_mount.specs.Steps.{AreFilesAt, IsHeldFor, IsShortFor, IsStand, IsStep, IsWorkAt, Makes, MakesAfter, MakesAnswer, MakesOn, Rest, mount_at, outcome_of};
 
 use crate::asks::{blocks_in, reads_half, writes_super};
 use crate::ballots::{aborted, asks_read, asks_write, ballots, moved, pauses};

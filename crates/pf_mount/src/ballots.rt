@@ -1,5 +1,5 @@
 //! The steps of a mount that end in an ask of a ballot, in a pause, or in file data.
-ghost use Rattle.std.specs.Prelude.{◌≡◌, ◌<◌, IfOk, IsTrue};
+ghost use Rattle.std.specs.Prelude.{◌<◌, IfOk, IsTrue};
 ghost use Rattle.pf_paxos.specs.Blocks.{IsBlock};
 ghost use Rattle.pf_paxos.specs.Standing.{IsInput};
 ghost use Rattle.pf_mount.specs.declared.work.Work.TheVariants.{Ballots};

@@ -1,5 +1,5 @@
 //! Laws of mounts.
-ghost use Rattle.std.specs.Prelude.{◌≡◌, None, ℕ, suc, ◌*◌, ◌<◌, ◌≤◌, List, ◌∷◌, []};
+ghost use Rattle.std.specs.Prelude.{◌≡◌, ℕ, suc, ◌*◌, ◌<◌, ◌≤◌, List, ◌∷◌, []};
 ghost use Rattle.pf_volume.specs.Volumes.{Extent, IsVolume, size_of};
 ghost use Rattle.pf_journal.specs.Places.{place_of};
 ghost use Rattle.pf_files.specs.Blocks.{IsInside, reads, writes};

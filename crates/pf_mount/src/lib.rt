@@ -9,7 +9,6 @@ mod laws;
 mod mount;
 mod plans;
 mod position;
-mod rivals;
 mod stand;
 mod work;
 
@@ -23,5 +22,4 @@ pub use laws::{
     mounts_are_ready_once_and_calls_end_once, tables_follow_decisions,
 };
 pub use mount::Mount;
-pub use rivals::Rivals;
 pub use work::{Next, Work};

@@ -1,5 +1,5 @@
 //! The steps of a mount that plan its call.
-ghost use Rattle.std.specs.Prelude.{◌≡◌, IfOk, Some};
+ghost use Rattle.std.specs.Prelude.{IfOk, Some};
 ghost use Rattle.pf_txn.specs.Spelling.{CanSpell, IsShortCall};
 ghost use Rattle.pf_files.specs.Calls.{PlansInside};
 ghost use Rattle.pf_files.specs.declared.answers.CallAnswer.TheVariants.{Refused};
@@ -15,7 +15,6 @@ use pf_files::{
     CallAnswer, CallFault, Pending, Planned, plan, planned_calls_follow_the_tree, spell_input,
 };
 use pf_tree::{Tree, Txn};
-use pf_volume::Volume;
 use std::alloc::Global;
 
 /// The positions of a journal.

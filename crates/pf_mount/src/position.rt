@@ -6,9 +6,8 @@ ghost use Rattle.pf_paxos.specs.Proposers.{IsWriting, read_in, started, written_
 ghost use Rattle.pf_mount.specs.Mounts.{finds_value};
 ghost use Rattle.pf_mount.specs.Positions.{CanAsk, IsReadPending, can_start, having_aborted, having_seen, new_position, pause_of};
 
-use crate::Rivals;
 use pf_base::Value;
-use pf_paxos::{Block, Next, Proposer};
+use pf_paxos::{Block, Next, Proposer, Rivals};
 use std::marker::Model;
 
 /// A mount at a position. No call takes memory.

@@ -1,9 +1,9 @@
-//! What a mount has met of the other mounts at a position of the journal.
+//! What a proposer has met of the others at its position.
 ghost use Rattle.std.specs.Prelude.{◌≡◌, ◌+◌, ◌*◌, ◌<◌, ◌^◌, max, min, pred};
 ghost use Rattle.pf_paxos.specs.Blocks.{greatest_mbal};
 ghost use Rattle.pf_paxos.specs.Standing.{AreBlocks};
 
-use pf_paxos::{Block, greatest_of};
+use crate::{Block, greatest_of};
 use std::marker::Model;
 
 /// The most ballots that are counted as aborted.
@@ -19,7 +19,7 @@ pub struct Rivals {
 
 impl Model for Rivals {
     ghost use Rattle.std.specs.Prelude.{◌<◌, ◌≤◌, ◌^◌};
-    ghost use Rattle.pf_mount.specs.Positions.{RivalsAre};
+    ghost use Rattle.pf_paxos.specs.Rivals.{RivalsAre};
 
     ghost Value = { RivalsAre };
 
