@@ -6,7 +6,7 @@ ghost use Rattle.pf_codec.specs.Reading.{name_at, sectors_of, write_at, op_tagge
 
 use crate::keys::ascend;
 use crate::{Bounds, ReadFault, Reader};
-use pf_base::{Data, Payload, Range, Slot};
+use pf_base::{Data, Payload, Range, Sectors, Slot};
 use pf_entry::{Entry, Look, Named, Op};
 use std::alloc::Global;
 
@@ -43,7 +43,7 @@ fn read_payload(alloc: Global, reader: &mut Reader, range: Range) -> Result<Op, 
     ensures { Gives (λ op. op) result reader.new (sectors_of range reader.old) }
 {
     let sectors = reader.sectors(alloc, range.count())?;
-    let payload = Payload::new(alloc, Data::copied(alloc, &sectors)?)?;
+    let payload = Payload::new(alloc, Data::from_sectors(Sectors::new(sectors)))?;
     Ok(Op::Write { range, payload })
 }
 

@@ -10,6 +10,9 @@ use pf_base::{Range, Sector};
 use std::alloc::Global;
 use std::marker::Model;
 
+/// The bytes of a sector.
+const SECTOR_BYTES: usize = 512;
+
 /// The bytes that are still to be read. Each call takes a value from their front. It answers `Malformed` where no spelling of
 /// such a value stands there, and calls that take memory `NoMemory` (1); after an `Err` the reader is of no more use.
 #[derive(Drop)]
@@ -119,7 +122,8 @@ impl<'a> Reader<'a> {
     pub(crate) fn sectors(&mut self, alloc: Global, count: u32) -> Result<Vec<Sector>, ReadFault>
         ensures { Gives (λ sectors. sectors.items) result self.new (row_at sector_at count self.old) }
     {
-        let mut sectors = Vec::new(alloc);
+        let room = (count as usize).min(self.rest.len() / SECTOR_BYTES);
+        let mut sectors = Vec::with_capacity(alloc, room)?;
         for _ in 0..count {
             let sector = self.sector()?;
             sectors.push(sector)?;
