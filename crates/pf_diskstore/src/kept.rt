@@ -1,5 +1,5 @@
 //! Records on two disks.
-ghost use Rattle.std.specs.Prelude.{◌≡◌, ◌≢◌, ◌⊎◌, ◌+◌, ◌≤◌, ◌<◌, ◌^◌, ◌&&◌, [], ◌∷◌, ℕ, List, Err, IfErr, IfOk, IfSome, IsErrOf, IsTrue, OnErr, OnOk, is_some, length, slice_index};
+ghost use Rattle.std.specs.Prelude.{◌≡◌, ◌≢◌, ◌⊎◌, ◌+◌, ◌≤◌, ◌<◌, ◌^◌, ◌&&◌, [], ◌∷◌, Err, IfErr, IfOk, IfSome, IsErrOf, IsTrue, is_some, length, slice_index};
 ghost use Rattle.std.specs.List.{AllZip};
 ghost use Rattle.pf_disk.specs.Causes.{Rose};
 ghost use Rattle.pf_chunklog.specs.Records.{blocks};
@@ -8,7 +8,7 @@ ghost use Rattle.pf_entry.specs.Records.{Durable};
 ghost use Rattle.pf_entry.specs.declared.records.Record.{Record as RecordIs};
 ghost use Rattle.pf_store.specs.Stores.{StandsFor, state_of};
 ghost use Rattle.pf_image.specs.Recovery.{AreRecoverable, Spells};
-ghost use Rattle.pf_image.specs.Pairs.{AreLater, current_of, format_of, moved_to};
+ghost use Rattle.pf_image.specs.Pairs.{AreLater, current_of, format_of};
 ghost use Rattle.pf_diskstore.specs.Model.{kept_model};
 ghost use Rattle.pf_diskstore.specs.Kept.{FindsState, IsFirst, IsKept, IsReread, LeavesStates, OneRose, WentOn, tells};
 

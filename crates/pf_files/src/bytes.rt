@@ -1,5 +1,5 @@
 //! Bytes as sectors, and back.
-ghost use Rattle.std.specs.Prelude.{◌≡◌, ◌+◌, ◌*◌, ◌≤◌, ◌++◌, IfOk, OnOk, length, replicate};
+ghost use Rattle.std.specs.Prelude.{◌≡◌, ◌+◌, ◌*◌, ◌++◌, IfOk, OnOk, length, replicate};
 ghost use Rattle.pf_files.specs.Blocks.{bytes_of, sectors_of};
 
 use pf_base::{NoMemory, Sector};

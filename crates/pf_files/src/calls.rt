@@ -1,23 +1,18 @@
 //! The calls of a mount on its tables, one at a time.
-ghost use Rattle.std.specs.Prelude.{◌≡◌, ◌+◌, ◌/◌, ◌<◌, ◌^◌, IfOk, None, OnErr, OnOk, Some, suc};
-ghost use Rattle.pf_volume.specs.Volumes.{size_of};
-ghost use Rattle.pf_inodes.specs.Tables.{new_tables};
+ghost use Rattle.std.specs.Prelude.{◌≡◌, ◌/◌, ◌<◌, IfOk, None, Some};
 ghost use Rattle.pf_tree.specs.Held.{data_of};
 ghost use Rattle.pf_tree.specs.Plans.{node_at};
 ghost use Rattle.pf_tree.specs.Trees.{size_at};
-ghost use Rattle.pf_txn.specs.Reading.{txn_in};
 ghost use Rattle.pf_files.specs.Moving.{IsTreeOf};
 ghost use Rattle.pf_files.specs.Calls.{PlansInside, applied_in, is_of, planned, planned_with, size_in};
 
 use crate::answers::{CallFault, refused};
 use crate::laws::data_are_asked_inside;
 use crate::moving::{Moved, moves};
-use pf_base::{Names, NoMemory, Value};
+use pf_base::{Names, NoMemory};
 use pf_tree::{Change, Changes, FileCall, Tree, Txn};
-use pf_txn::read_txn;
 use pf_volume::Volume;
 use std::alloc::Global;
-use std::marker::Model;
 
 /// A call that has not ended, with its number.
 #[derive(Debug, Drop)]

@@ -1,5 +1,5 @@
 //! What follows when the metadata of a call stand: file data go from block to block, and the call ends.
-ghost use Rattle.std.specs.Prelude.{◌≡◌, ◌/◌, ◌<◌, IfOk, length, suc};
+ghost use Rattle.std.specs.Prelude.{◌≡◌, ◌/◌, ◌<◌, IfOk, length};
 ghost use Rattle.pf_volume.specs.Volumes.{size_of};
 ghost use Rattle.pf_files.specs.Moving.{HasBlock, IsTreeOf, block_at, fills, fills_block, fills_file, gathers, moves, moves_on, reads_file, stat_of, stores};
 ghost use Rattle.pf_files.specs.Filling.{read_end, wanted};

@@ -1,5 +1,5 @@
 //! One function for each event.
-ghost use Rattle.std.specs.Prelude.{◌≡◌, ◌<◌, Bool, IfOk};
+ghost use Rattle.std.specs.Prelude.{◌<◌};
 ghost use Rattle.pf_base.specs.Span.{IsWritable};
 ghost use Rattle.pf_protocol.specs.Servers.{Setup};
 ghost use Rattle.pf_network.specs.Pasts.{Past};

@@ -10,7 +10,6 @@ use crate::Group;
 use pf_base::{NoMemory, ServerId};
 use pf_disk::Disk;
 use pf_protocol::Happening;
-use std::alloc::Global;
 use std::marker::Model;
 
 /// How a group was made.

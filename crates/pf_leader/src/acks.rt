@@ -1,5 +1,5 @@
 //! An acknowledgement comes.
-ghost use Rattle.std.specs.Prelude.{◌≡◌, ◌≢◌, ◌<◌, ◌&&◌, if◌then◌else◌, [], ◌∷◌, None, Some};
+ghost use Rattle.std.specs.Prelude.{◌≡◌, ◌<◌, ◌&&◌, if◌then◌else◌, [], ◌∷◌, None, Some};
 ghost use Rattle.std.specs.FinMap as finite;
 ghost use Rattle.pf_entry.specs.Sets as set;
 ghost use Rattle.pf_entry.specs.Canonical.{IsCanonicalPacket};

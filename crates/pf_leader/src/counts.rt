@@ -1,5 +1,5 @@
 //! What a leader counts.
-ghost use Rattle.std.specs.Prelude.{◌≡◌, ◌<◌, ◌≤◌, ◌+◌};
+ghost use Rattle.std.specs.Prelude.{◌≡◌, ◌<◌, ◌+◌};
 ghost use Rattle.pf_protocol.specs.Leading.{is_own, other_acked};
 ghost use Rattle.pf_state.specs.Standing.{leader_of, role_of, IsLeaderKept, IsRoleKept};
 ghost use Rattle.pf_leader.specs.Acking.{IsCounted, IsSettled, after_ack, announces, owns, served};

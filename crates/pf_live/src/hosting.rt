@@ -1,5 +1,5 @@
 //! The workers that put the requests of hosts into their rings.
-ghost use Rattle.std.specs.Prelude.{◌≡◌, ◌+◌, ◌<◌, IsTrue, ◌↔◌, if◌then◌else◌};
+ghost use Rattle.std.specs.Prelude.{◌≡◌, ◌+◌, ◌<◌, if◌then◌else◌};
 ghost use Rattle.pf_live.specs.Writes.{IsHost, IsHostIn, request_of};
 
 use crate::line::LiveLine;

@@ -1,6 +1,5 @@
 //! A host, as the worker that submits knows it.
 ghost use Rattle.std.specs.Prelude.{◌≡◌, ℕ, ◌<◌, IfOk, OnErr};
-ghost use Rattle.pf_turn.specs.Lists.{Begins};
 ghost use Rattle.pf_group.specs.GroupIs.{GroupIs};
 ghost use Rattle.pf_leadercell.specs.Passes.{IsPassOf};
 ghost use Rattle.pf_shared.specs.Calls.{Finds};

@@ -1,5 +1,5 @@
 //! The worker that hands the requests of hosts to the leader.
-ghost use Rattle.std.specs.Prelude.{◌≡◌, ◌<◌, OnErr, OnOk};
+ghost use Rattle.std.specs.Prelude.{◌<◌};
 ghost use Rattle.pf_live.specs.Submitters.{IsSubmitter, IsSameSubmitter};
 
 use crate::line::LiveLine;

@@ -1,5 +1,5 @@
 //! The worker that delivers packets.
-ghost use Rattle.std.specs.Prelude.{◌≡◌, ◌<◌, OnErr, OnOk};
+ghost use Rattle.std.specs.Prelude.{◌≡◌, ◌<◌};
 ghost use Rattle.pf_live.specs.Switches.{IsSwitch, IsSameSwitch};
 
 use crate::line::LiveLine;

@@ -1,5 +1,5 @@
 //! A live line is opened over a group, and closed.
-ghost use Rattle.std.specs.Prelude.{◌≡◌, [], IfErr, IfOk, IsTrue};
+ghost use Rattle.std.specs.Prelude.{◌≡◌, [], IfErr, IfOk};
 ghost use Rattle.pf_entry.specs.Lists.{Every};
 ghost use Rattle.pf_protocol.specs.Answers.{claims_of};
 ghost use Rattle.pf_group.specs.Roots.{root_of};

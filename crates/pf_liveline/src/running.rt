@@ -1,5 +1,5 @@
 //! One run of the threads.
-ghost use Rattle.std.specs.Prelude.{◌≡◌, ◌+◌, ◌<◌, ◌≤◌, ◌^◌, [], IfOk, false, vec_capacity};
+ghost use Rattle.std.specs.Prelude.{◌≡◌, ◌+◌, ◌<◌, ◌≤◌, [], IfOk, false, vec_capacity};
 ghost use Rattle.pf_crew.specs.Places.{Each, Pairs};
 ghost use Rattle.pf_turn.specs.Lists.{Begins};
 ghost use Rattle.pf_shared.specs.Seats.{IsFirst, IsSeatOf, gone_of, out_of, seen_by, splits_of};

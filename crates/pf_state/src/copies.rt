@@ -1,5 +1,5 @@
 //! Copies of what a server holds.
-ghost use Rattle.std.specs.Prelude.{◌≡◌, ◌≤◌, ◌<◌, ◌^◌, IfOk};
+ghost use Rattle.std.specs.Prelude.{◌≡◌, ◌≤◌, ◌<◌, IfOk};
 ghost use Rattle.pf_entry.specs.Records.{above, vote_of};
 ghost use Rattle.pf_state.specs.Bounds.{far};
 ghost use Rattle.pf_state.specs.Standing.{bare};

@@ -1,6 +1,5 @@
 //! What a running server has in memory.
-ghost use Rattle.std.specs.Prelude.{◌≡◌, ◌≤◌, ◌<◌, ◌^◌, ℕ, true};
-ghost use Rattle.pf_entry.specs.Sets as set;
+ghost use Rattle.std.specs.Prelude.{◌≡◌, ◌<◌};
 ghost use Rattle.pf_entry.specs.Records.{Durable};
 ghost use Rattle.pf_protocol.specs.Servers.{upto, has_applied};
 ghost use Rattle.pf_state.specs.Standing.{server_of, IsCached};

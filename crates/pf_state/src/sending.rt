@@ -1,8 +1,6 @@
 //! Sending to the other servers.
-ghost use Rattle.std.specs.Prelude.{◌≡◌, ◌≢◌, ◌<◌, [], ◌∷◌, map};
+ghost use Rattle.std.specs.Prelude.{◌≡◌, ◌≢◌, ◌<◌, [], ◌∷◌};
 ghost use Rattle.pf_entry.specs.Canonical.{IsCanonicalPacket};
-ghost use Rattle.pf_entry.specs.declared.packets.Body.{Body as BodyIs};
-ghost use Rattle.pf_entry.specs.declared.packets.Packet.{Packet as PacketIs};
 ghost use Rattle.pf_protocol.specs.Outcomes.{others};
 ghost use Rattle.pf_state.specs.Outgoing.{Sends};
 ghost use Rattle.pf_state.specs.Packets.{packet, packets_to, AreCanonical};
