@@ -1,11 +1,12 @@
 -- Routes as the fields of `Routes` hold them.
-use Rattle.std.proofs.Common.{◌≡◌, ◌↔◌, ℕ, ◌<◌, ◌≤◌, nat_eq, IsTrue, List, length, take, slice_get, Option, Some, None, refl, sym, ◌∙◌, ap, subst, get_or, set, arith}
+use Rattle.std.proofs.Common.{◌≡◌, ◌↔◌, ℕ, ◌<◌, ◌≤◌, nat_eq, IsTrue, List, length, take, slice_get, Option, Some, None, refl, sym, ◌∙◌, ap, inl, inr, subst, get_or, set, arith}
 use Rattle.std.proofs.lemmas.Option.{slice_get-get_or}
 use Rattle.std.proofs.lemmas.List.{get_or-take, length-take-le}
 use Rattle.std.proofs.Math.Seq.{take-set-lt}
 use Rattle.pf_move.specs.declared.routes.Moving.{Moving}
 use Rattle.pf_move.specs.declared.routes.Route.{Route}
-use Rattle.pf_move.specs.Routes.{IsMoving, RoutesIs, Switches, risen}
+use Rattle.std.proofs.lemmas.Bool.{cases_eq}
+use Rattle.pf_move.specs.Routes.{IsMoving, RoutesIs, Switches, group_at, risen, served_in}
 
 pub is_moved : (r : RoutesIs) (o : Option Moving) (m : Moving) (chunk : ℕ) → o ≡ r.moving → o ≡ Some m → IsTrue (nat_eq m.chunk chunk) ↔ IsMoving r chunk
 is_moved r o m chunk same is = (
@@ -38,3 +39,11 @@ switches old all n m epoch fits low same moving rose =
           ∙ ap (λ (e : ℕ). set old.routes m.chunk (R e)) rose;
       none = refl;
     }
+
+pub served_unmoved : (routes : List Route) (moving : Option Moving) (chunk : ℕ) → (IsMoving (record { routes = routes; moving = moving }) chunk → ⊥) → served_in routes moving chunk ≡ group_at routes chunk
+served_unmoved routes None chunk not = refl
+served_unmoved routes (Some m) chunk not =
+    elim (cases_eq m.chunk chunk) [
+      | inl same ↦ absurd (not (m.to, ap (λ (c : ℕ). let moving : Moving = record { chunk = c; to = m.to } in Some moving) same))
+      | inr other ↦ grind (arith, other)
+    ]

@@ -1,5 +1,6 @@
 -- Which group serves each chunk, in which epoch.
-use Rattle.std.specs.Prelude.{◌≡◌, ℕ, ◌+◌, ◌-◌, ◌^◌, ◌<◌, min, List, length, slice_get, slice_set, Option, Some, None}
+use Rattle.std.specs.Prelude.{◌≡◌, ℕ, ◌+◌, ◌-◌, ◌^◌, ◌<◌, ◌≤◌, ◌==◌, min, if◌then◌else◌, IfSome, List, length, slice_get, slice_set, Option, Some, None}
+use Rattle.std.specs.Option.{option_map}
 use Rattle.pf_move.specs.declared.routes.Moving.{Moving}
 use Rattle.pf_move.specs.declared.routes.Route.{Route}
 
@@ -29,3 +30,57 @@ pub record Switches (old new : RoutesIs) : Type 0 where
   pub found : slice_get old.routes moved.chunk ≡ Some was
   pub routes : new.routes ≡ slice_set old.routes moved.chunk (record { group = moved.to; epoch = risen was.epoch })
   pub none : new.moving ≡ None
+
+-- Where asks for a chunk go
+
+abbrev pub group_at : List Route → (chunk : ℕ) → Option ℕ
+group_at routes chunk = option_map (λ (r : Route). r.group) (slice_get routes chunk)
+
+-- the group that serves the chunk: none while the chunk is moving
+abbrev pub served_in : List Route → (moving : Option Moving) → (chunk : ℕ) → Option ℕ
+served_in routes None chunk = group_at routes chunk
+served_in routes (Some moving) chunk = if moving.chunk == chunk then None else group_at routes chunk
+
+abbrev pub served_by : RoutesIs → (chunk : ℕ) → Option ℕ
+served_by r chunk = served_in r.routes r.moving chunk
+
+-- the group that has the asks for the chunk: those for one that is moving wait at its new group
+abbrev pub home_in : List Route → (moving : Option Moving) → (chunk : ℕ) → Option ℕ
+home_in routes None chunk = group_at routes chunk
+home_in routes (Some moving) chunk = if moving.chunk == chunk then Some moving.to else group_at routes chunk
+
+abbrev pub home_of : RoutesIs → (chunk : ℕ) → Option ℕ
+home_of r chunk = home_in r.routes r.moving chunk
+
+-- The chunk that is moving is served by its new group from here on
+abbrev pub switched_to : List Route → Moving → Option Route → List Route
+switched_to routes moving None = routes
+switched_to routes moving (Some was) = slice_set routes moving.chunk (record { group = moving.to; epoch = risen was.epoch })
+
+abbrev pub switched_in : RoutesIs → Option Moving → RoutesIs
+switched_in r None = r
+switched_in r (Some moving) = record { routes = switched_to r.routes moving (slice_get r.routes moving.chunk); moving = None }
+
+abbrev pub switched : RoutesIs → RoutesIs
+switched r = switched_in r r.moving
+
+-- The groups through which a chunk that is moving goes: the one that is read, and the one that is written
+pub record Between : Type 0 where
+  pub from : ℕ
+  pub to : ℕ
+
+abbrev pub between_in : List Route → Option Moving → Option Between
+between_in routes None = None
+between_in routes (Some moving) = option_map (λ group. record { from = group; to = moving.to }) (group_at routes moving.chunk)
+
+abbrev pub between : RoutesIs → Option Between
+between r = between_in r.routes r.moving
+
+-- Each of so many groups has the asks for one chunk at most, a chunk that is moving is one of these, and its new group is none that it had
+pub record AreRouted (groups : ℕ) (r : RoutesIs) : Type 0 where
+  pub chunks : length r.routes ≤ 8
+  pub within : (chunk group : ℕ) → home_of r chunk ≡ Some group → group < groups
+  pub apart : (chunk other group : ℕ) → home_of r chunk ≡ Some group → home_of r other ≡ Some group → chunk ≡ other
+  pub moving : IfSome r.moving (λ moving. moving.chunk < length r.routes)
+  pub old : IfSome (between r) (λ b. (b.from < groups) × (b.from < b.to))
+  pub old_alone : (chunk : ℕ) → IfSome (between r) (λ b. home_of r chunk ≡ Some b.from → ⊥)

@@ -1,6 +1,7 @@
 //! Which group serves each chunk.
 ghost use Rattle.std.specs.Prelude.{◌≡◌, ◌↔◌, ◌<◌, ◌≤◌, IfSome, IsSome, IsTrue, None, Some, length, slice_get};
-ghost use Rattle.pf_move.specs.Routes.{AreFirst, IsMoving, Switches};
+ghost use Rattle.std.specs.Option.{option_map};
+ghost use Rattle.pf_move.specs.Routes.{AreFirst, IsMoving, Switches, home_of, served_by, switched};
 
 use std::marker::Model;
 
@@ -62,11 +63,31 @@ impl Routes {
         requires { chunk < length self.now.routes }
         ensures moving { (result ≡ None) ↔ IsMoving self.now chunk }
         ensures route { IfSome result (λ route. slice_get self.now.routes chunk ≡ Some route) }
+        ensures served { option_map (λ route. route.group) result ≡ served_by self.now chunk }
     {
         if self.is_moving(chunk) {
             return None;
         }
-        Some(self.routes[chunk as usize])
+        Some(self.last_route(chunk))
+    }
+
+    /// The route of a chunk; of one that is moving, its old one.
+    pub fn last_route(&self, chunk: u8) -> Route
+        requires { chunk < length self.now.routes }
+        ensures { slice_get self.now.routes chunk ≡ Some result }
+    {
+        self.routes[chunk as usize]
+    }
+
+    /// The group that has the asks for a chunk: the one that serves it, or is to serve it where the chunk is moving.
+    pub fn home(&self, chunk: u8) -> u8
+        requires { chunk < length self.now.routes }
+        ensures { home_of self.now chunk ≡ Some result }
+    {
+        match self.moving {
+            Some(moving) if moving.chunk == chunk => moving.to,
+            _ => self.last_route(chunk).group,
+        }
     }
 
     fn is_moving(&self, chunk: u8) -> bool
@@ -98,7 +119,8 @@ impl Routes {
     /// Ends the move: from here on the chunk's new group serves it, in the next epoch, or in epoch 2^64 - 1 for good. All else stays.
     pub fn switch(&mut self)
         requires { IsSome self.old.moving }
-        ensures { Switches self.old self.new }
+        ensures switches { Switches self.old self.new }
+        ensures is { self.new ≡ switched self.old }
     {
         if let Some(moving) = self.moving() {
             self.switch_to(moving);

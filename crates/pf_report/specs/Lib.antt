@@ -3,3 +3,4 @@ pub mod Refusals
 pub mod Mounts
 pub mod Records
 pub mod Live
+pub mod Moves

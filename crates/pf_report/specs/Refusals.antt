@@ -33,6 +33,9 @@ refusal_texts =
     ∷ (95, codes "raw")
     ∷ (96, codes "no mount")
     ∷ (97, codes "old format")
+    ∷ (100, codes "no spare")
+    ∷ (101, codes "moving")
+    ∷ (102, codes "no group")
     ∷ []
 
 -- the text of a number in such a table

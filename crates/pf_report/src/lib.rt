@@ -8,6 +8,7 @@ mod lines;
 mod live;
 mod logs;
 mod mounts;
+mod moves;
 mod records;
 mod sectors;
 
@@ -15,5 +16,6 @@ pub use answers::{put_answer, put_refusal, put_settle};
 pub use live::put_live;
 pub use logs::{put_acked, put_applied, put_log};
 pub use mounts::{put_call, put_mount, put_ready, put_started, put_state, put_tree};
+pub use moves::{put_moved, put_moving};
 pub use records::put_record;
 pub use sectors::{put_mark, put_read, put_sectors};

@@ -7,7 +7,7 @@ ghost use Rattle.pf_script.specs.declared.command.Command.TheVariants as command
 
 use crate::call_forms::CallForm;
 use crate::form::{Form, PacketVerb, ServerVerb};
-use crate::{Command, LineFault};
+use crate::{Command, LineFault, Named};
 use pf_base::ServerId;
 use std::alloc::Global;
 
@@ -41,10 +41,10 @@ fn fits_volume(chunks: u64, sectors: u64, names: u64, format: u64) -> bool
         && (format == 2 || (format == 1 && names <= 2))
 }
 
-fn fits_server(chunks: u32, group: u64, server: u64) -> bool
-    ensures { result ≡ is_server chunks group server }
+fn fits_server(named: Named, group: u64, server: u64) -> bool
+    ensures { result ≡ is_server named.groups group server }
 {
-    group < u64::from(chunks) && server < 3
+    group < u64::from(named.groups) && server < 3
 }
 
 impl ServerVerb {
@@ -101,47 +101,47 @@ fn place_first(form: Form) -> Result<Command, LineFault>
 }
 
 fn place_server(
-    chunks: u32,
+    named: Named,
     verb: ServerVerb,
     group: u64,
     server: u64,
 ) -> Result<Command, LineFault>
-    requires { chunks ≤ 8 }
-    ensures { result ≡ within chunks (server_command verb group server) }
+    requires { named.groups ≤ 8 }
+    ensures { result ≡ within named (server_command verb group server) }
 {
-    if !fits_server(chunks, group, server) {
+    if !fits_server(named, group, server) {
         return Err(LineFault::OutOfRange);
     }
     Ok(verb.command(group as u8, server as u8))
 }
 
 fn place_packet(
-    chunks: u32,
+    named: Named,
     verb: PacketVerb,
     group: u64,
     packet: u64,
 ) -> Result<Command, LineFault>
-    requires { chunks ≤ 8 }
-    ensures { result ≡ within chunks (packet_command verb group packet) }
+    requires { named.groups ≤ 8 }
+    ensures { result ≡ within named (packet_command verb group packet) }
 {
-    if group >= u64::from(chunks) || packet >= LIMIT {
+    if group >= u64::from(named.groups) || packet >= LIMIT {
         return Err(LineFault::OutOfRange);
     }
     Ok(verb.command(group as u8, packet as u32))
 }
 
 fn place_submit(
-    chunks: u32,
+    named: Named,
     group: u64,
     server: u64,
     sector: u64,
     byte: u8,
     count: u64,
 ) -> Result<Command, LineFault>
-    requires { chunks ≤ 8 }
-    ensures { result ≡ within chunks (commands.Submit group server sector byte count) }
+    requires { named.groups ≤ 8 }
+    ensures { result ≡ within named (commands.Submit group server sector byte count) }
 {
-    if !fits_server(chunks, group, server) || sector >= LIMIT || count >= LIMIT {
+    if !fits_server(named, group, server) || sector >= LIMIT || count >= LIMIT {
         return Err(LineFault::OutOfRange);
     }
     Ok(Command::Submit {
@@ -154,16 +154,16 @@ fn place_submit(
 }
 
 fn place_fetch(
-    chunks: u32,
+    named: Named,
     group: u64,
     server: u64,
     sector: u64,
     count: u64,
 ) -> Result<Command, LineFault>
-    requires { chunks ≤ 8 }
-    ensures { result ≡ within chunks (commands.Fetch group server sector count) }
+    requires { named.groups ≤ 8 }
+    ensures { result ≡ within named (commands.Fetch group server sector count) }
 {
-    if !fits_server(chunks, group, server) || sector >= LIMIT || count >= LIMIT {
+    if !fits_server(named, group, server) || sector >= LIMIT || count >= LIMIT {
         return Err(LineFault::OutOfRange);
     }
     Ok(Command::Fetch {
@@ -175,7 +175,7 @@ fn place_fetch(
 }
 
 fn place_settle(limit: u64) -> Result<Command, LineFault>
-    ensures { (chunks : ℕ) → result ≡ within chunks (commands.Settle limit) }
+    ensures { (named : Named) → result ≡ within named (commands.Settle limit) }
 {
     if limit > MOST_DELIVERIES {
         return Err(LineFault::OutOfRange);
@@ -193,17 +193,17 @@ fn is_up_to(most: u64, number: u64) -> bool
 }
 
 fn place_live(
-    chunks: u32,
+    named: Named,
     group: u64,
     hosts: u64,
     writes: u64,
     workers: u64,
     turns: u64,
 ) -> Result<Command, LineFault>
-    requires { chunks ≤ 8 }
-    ensures { result ≡ within chunks (commands.Live group hosts writes workers turns) }
+    requires { named.groups ≤ 8 }
+    ensures { result ≡ within named (commands.Live group hosts writes workers turns) }
 {
-    let fits = group < u64::from(chunks)
+    let fits = group < u64::from(named.groups)
         && is_up_to(MOST_WORKERS, hosts)
         && is_up_to(MOST_WRITES, writes)
         && is_up_to(MOST_WORKERS, workers)
@@ -220,21 +220,21 @@ fn place_live(
     })
 }
 
-fn place_acked(chunks: u32, group: u64) -> Result<Command, LineFault>
-    requires { chunks ≤ 8 }
-    ensures { result ≡ within chunks (commands.ShowAcked group) }
+fn place_acked(named: Named, group: u64) -> Result<Command, LineFault>
+    requires { named.groups ≤ 8 }
+    ensures { result ≡ within named (commands.ShowAcked group) }
 {
-    if group >= u64::from(chunks) {
+    if group >= u64::from(named.groups) {
         return Err(LineFault::OutOfRange);
     }
     Ok(Command::ShowAcked { group: group as u8 })
 }
 
-fn place_mark(chunks: u32, group: u64, server: u64, slot: u64) -> Result<Command, LineFault>
-    requires { chunks ≤ 8 }
-    ensures { result ≡ within chunks (commands.ShowMark group server slot) }
+fn place_mark(named: Named, group: u64, server: u64, slot: u64) -> Result<Command, LineFault>
+    requires { named.groups ≤ 8 }
+    ensures { result ≡ within named (commands.ShowMark group server slot) }
 {
-    if !fits_server(chunks, group, server) || slot > u64::from(u32::MAX) {
+    if !fits_server(named, group, server) || slot > u64::from(u32::MAX) {
         return Err(LineFault::OutOfRange);
     }
     Ok(Command::ShowMark {
@@ -245,7 +245,7 @@ fn place_mark(chunks: u32, group: u64, server: u64, slot: u64) -> Result<Command
 }
 
 fn place_kill(mount: u64) -> Result<Command, LineFault>
-    ensures { (chunks : ℕ) → result ≡ within chunks (commands.Kill mount) }
+    ensures { (named : Named) → result ≡ within named (commands.Kill mount) }
 {
     if mount >= MOUNTS {
         return Err(LineFault::OutOfRange);
@@ -254,7 +254,7 @@ fn place_kill(mount: u64) -> Result<Command, LineFault>
 }
 
 fn place_show_mount(mount: u64) -> Result<Command, LineFault>
-    ensures { (chunks : ℕ) → result ≡ within chunks (commands.ShowMount mount) }
+    ensures { (named : Named) → result ≡ within named (commands.ShowMount mount) }
 {
     if mount >= MOUNTS {
         return Err(LineFault::OutOfRange);
@@ -264,7 +264,7 @@ fn place_show_mount(mount: u64) -> Result<Command, LineFault>
 
 /// The words of the call are copied once its numbers are judged.
 fn place_call(alloc: Global, mount: u64, call: CallForm) -> Result<Command, LineFault>
-    ensures { (chunks : ℕ) → Gives (within chunks (commands.Call mount (call_from call.entry))) result }
+    ensures { (named : Named) → Gives (within named (commands.Call mount (call_from call.entry))) result }
 {
     if mount >= MOUNTS || !call.fits() {
         return Err(LineFault::OutOfRange);
@@ -276,11 +276,22 @@ fn place_call(alloc: Global, mount: u64, call: CallForm) -> Result<Command, Line
     })
 }
 
-/// The command of a form after a volume of so many chunks.
+fn place_move(named: Named, chunk: u64) -> Result<Command, LineFault>
+    requires { named.chunks ≤ 8 }
+    ensures { result ≡ within named (commands.Move chunk) }
+{
+    if chunk >= u64::from(named.chunks) {
+        return Err(LineFault::OutOfRange);
+    }
+    Ok(Command::Move { chunk: chunk as u8 })
+}
+
+/// The command of a form where lines may name so much.
 #[tactic(auto, using(crate::proofs::Memory::exact_gives))]
-fn place_later(alloc: Global, chunks: u32, form: Form) -> Result<Command, LineFault>
-    requires { chunks ≤ 8 }
-    ensures { Gives (placed (Some chunks) form.entry) result }
+fn place_later(alloc: Global, named: Named, form: Form) -> Result<Command, LineFault>
+    requires chunks { named.chunks ≤ 8 }
+    requires groups { named.groups ≤ 8 }
+    ensures { Gives (placed (Some named) form.entry) result }
 {
     match form {
         Form::Volume { .. } => Err(LineFault::NoVolume),
@@ -288,25 +299,25 @@ fn place_later(alloc: Global, chunks: u32, form: Form) -> Result<Command, LineFa
             verb,
             group,
             server,
-        } => place_server(chunks, verb, group, server),
+        } => place_server(named, verb, group, server),
         Form::OfPacket {
             verb,
             group,
             packet,
-        } => place_packet(chunks, verb, group, packet),
+        } => place_packet(named, verb, group, packet),
         Form::Submit {
             group,
             server,
             sector,
             byte,
             count,
-        } => place_submit(chunks, group, server, sector, byte, count),
+        } => place_submit(named, group, server, sector, byte, count),
         Form::Fetch {
             group,
             server,
             sector,
             count,
-        } => place_fetch(chunks, group, server, sector, count),
+        } => place_fetch(named, group, server, sector, count),
         Form::Settle { limit } => place_settle(limit),
         Form::Live {
             group,
@@ -314,31 +325,32 @@ fn place_later(alloc: Global, chunks: u32, form: Form) -> Result<Command, LineFa
             writes,
             workers,
             turns,
-        } => place_live(chunks, group, hosts, writes, workers, turns),
-        Form::ShowAcked { group } => place_acked(chunks, group),
+        } => place_live(named, group, hosts, writes, workers, turns),
+        Form::ShowAcked { group } => place_acked(named, group),
         Form::ShowMark {
             group,
             server,
             slot,
-        } => place_mark(chunks, group, server, slot),
+        } => place_mark(named, group, server, slot),
         Form::Mount => Ok(Command::Mount),
         Form::Kill { mount } => place_kill(mount),
         Form::Call { mount, call } => place_call(alloc, mount, call),
         Form::ShowMount { mount } => place_show_mount(mount),
+        Form::Move { chunk } => place_move(named, chunk),
     }
 }
 
-/// The command of a form in a script whose volume has so many chunks, or has not come yet.
+/// The command of a form in a script whose lines may name so much, or whose volume has not come yet.
 ///
 /// A form in the wrong place is `NoVolume` (24); else a number outside its range is `OutOfRange` (22). The words of a call
 /// are copied, so there `NoMemory` (1) may come.
 #[tactic(auto, using(crate::proofs::Memory::exact_gives))]
-pub fn place(alloc: Global, volume: Option<u32>, form: Form) -> Result<Command, LineFault>
-    requires { ForSome volume (λ chunks. chunks ≤ 8) }
+pub fn place(alloc: Global, volume: Option<Named>, form: Form) -> Result<Command, LineFault>
+    requires { ForSome volume (λ named. (named.chunks ≤ 8) × (named.groups ≤ 8)) }
     ensures { Gives (placed volume form.entry) result }
 {
     match volume {
         None => place_first(form),
-        Some(chunks) => place_later(alloc, chunks, form),
+        Some(named) => place_later(alloc, named, form),
     }
 }
