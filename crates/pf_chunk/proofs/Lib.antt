@@ -17,6 +17,7 @@ pub mod Happened
 pub mod Begun
 pub mod Midway
 pub mod Leasts
+pub mod Rehomed
 pub mod Made
 pub mod Ranges
 pub mod Tried

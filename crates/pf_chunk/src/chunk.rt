@@ -20,8 +20,10 @@ use pf_protocol::{Answer, Happening};
 use std::alloc::Global;
 use std::marker::Model;
 
-/// A volume has at most so many mounts.
-const MOST_PORTS: usize = 16;
+/// The port of the mover of a chunk, behind those of the sixteen mounts that a volume may have.
+pub const MOVER: u8 = 16;
+
+const MOST_PORTS: usize = 17;
 
 /// The group of a chunk, with the ports of hosts into it.
 #[derive(Drop)]
@@ -34,7 +36,7 @@ pub struct ChunkGroup<D: Disk> {
     pub(crate) first_left: u32,
     /// Of the packets from `first_left` to this one those that are left were passed over by the settling that goes on.
     pub(crate) next: u32,
-    /// The ways of hosts to the group, each by the number of its mount.
+    /// The ways of hosts to the group, each by the number of its mount, and that of a mover.
     pub(crate) ports: Vec<Port>,
 }
 
@@ -49,7 +51,7 @@ impl<D: Disk> Model for ChunkGroup<D> {
     ghost invariant = { λ c. c.group.number ≡ c.number };
 }
 
-/// A port for each mount that there may be.
+/// A port for each mount that there may be, and one for a mover.
 fn new_ports(alloc: Global) -> Result<Vec<Port>, NoMemory>
     ensures { IfOk result (λ ports. ports.items ≡ replicate most_ports new_port) }
 {

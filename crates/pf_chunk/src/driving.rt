@@ -1,12 +1,13 @@
-//! Ports of hosts into a chunk.
-ghost use Rattle.std.specs.Prelude.{◌≡◌, ◌<◌, IfOk, IfSome, IsSome, List, None, OnErr, OnOk, Some};
+//! Ports of hosts, and of the mover of a chunk, into a group.
+ghost use Rattle.std.specs.Prelude.{◌≡◌, ◌<◌, IfOk, IfSome, IsSome, List, None, OnErr, OnOk, Some, map};
 ghost use Rattle.std.specs.Option.{option_and_then};
-ghost use Rattle.pf_asks.specs.Ports.{IsOfKind};
+ghost use Rattle.pf_asks.specs.Ports.{IsOfKind, rehomed};
 ghost use Rattle.pf_base.specs.Asks.{Answers, IsValid};
 ghost use Rattle.pf_base.specs.Span.{IsWritable};
 ghost use Rattle.pf_base.specs.declared.asks.Ask.{Ask as AskIs};
 ghost use Rattle.pf_applyrounds.specs.Halts.{Halt};
 ghost use Rattle.pf_chunk.specs.Driving.{HasDriven, HandsOn, Heeds, PortDrove, ask_of, asked, driven, read_in};
+ghost use Rattle.pf_chunk.specs.Runs.{left_by_ports, most_ports, new_ports, taking_ports};
 ghost use Rattle.pf_chunk.specs.Steps.{HasFailed};
 ghost use Rattle.pf_chunk.specs.Views.{IsReady, run_of};
 
@@ -16,7 +17,7 @@ use pf_base::{Ask, NoMemory, Range, Reply};
 use pf_copy::{Gate, Workers};
 use pf_disk::Disk;
 use std::alloc::Global;
-use std::mem::replace;
+use std::mem::{replace, swap};
 use std::thread::Threads;
 
 /// The chunk and the range of a pending read.
@@ -51,10 +52,10 @@ fn heed(port: &mut Port, read: Option<(u8, Range)>, reply: Option<Reply>) -> Opt
 }
 
 impl<D: Disk + Drop> ChunkGroup<D> {
-    /// Puts an ask into the port of a mount, which has none. Nothing happens to the group yet.
+    /// Puts an ask into the port of a mount, or of the mover, which has none. Nothing happens to the group yet.
     pub fn put(&mut self, mount: u8, ask: Ask)
         requires ready { IsReady self.old }
-        requires mount { mount < 16 }
+        requires mount { mount < most_ports }
         requires none { ask_of self.old.ports mount ≡ None }
         requires valid { IsValid ask }
         ensures put { (halts : List Halt) → run_of halts self.new ≡ asked (run_of halts self.old) mount ask }
@@ -65,7 +66,24 @@ impl<D: Disk + Drop> ChunkGroup<D> {
         port.put(ask);
     }
 
-    /// One step of the port of a mount for its pending ask: its reply, if the group has answered its last submission. Else the ask is
+    /// The chunk of this group goes to `next`, a new group: with it go all ports, which begin anew there. Their pending asks count as not
+    /// submitted, so that no answer of this group is a reply to them; this group has new ports. It takes no memory.
+    pub fn hand_ports(&mut self, next: &mut ChunkGroup<D>)
+        requires from { IsReady self.old }
+        requires to { IsReady next.old }
+        requires new { next.old.ports ≡ new_ports }
+        ensures from { self.new ≡ record self.old { ports = new_ports } }
+        ensures to { next.new ≡ record next.old { ports = map rehomed self.old.ports } }
+        ensures run { (halts : List Halt) → (run_of halts self.new ≡ left_by_ports (run_of halts self.old)) × (run_of halts next.new ≡ taking_ports (run_of halts self.old) (run_of halts next.old)) }
+        ensures ready { IsReady self.new × IsReady next.new }
+    {
+        swap(&mut self.ports, &mut next.ports);
+        for port in next.ports.iter_mut() {
+            port.rehome();
+        }
+    }
+
+    /// One step of the port of a mount, or of the mover, for its pending ask: its reply, if the group has answered its last submission. Else the ask is
     /// handed to the leader of the greatest term, if it goes there, which is one event of the group; what follows on it is as in `ask`.
     /// A reply is of its ask's kind, and has as many sectors: disks that do not tell their content may lead a group to answer a read with
     /// others, which is not heeded.
@@ -78,7 +96,7 @@ impl<D: Disk + Drop> ChunkGroup<D> {
         out: &mut Vec<u8>,
     ) -> Result<Option<Reply>, NoMemory>
         requires ready { IsReady self.old }
-        requires mount { mount < 16 }
+        requires mount { mount < most_ports }
         requires pending { IsSome (ask_of self.old.ports mount) }
         ensures went { IfOk result (λ reply. HasDriven mount self.old out.old.items reply out.new.items self.new) }
         ensures answers { IfOk result (λ reply. IfSome reply (λ r. (ask : AskIs) → ask_of self.old.ports mount ≡ Some ask → Answers ask r)) }
@@ -98,7 +116,7 @@ impl<D: Disk + Drop> ChunkGroup<D> {
     /// The step itself; what follows on it is left to the caller. `NoMemory` (1) leaves the chunk as it was.
     fn hand_on(&mut self, alloc: Global, mount: u8) -> Result<Option<Reply>, NoMemory>
         requires ready { IsReady self.old }
-        requires mount { mount < 16 }
+        requires mount { mount < most_ports }
         requires pending { IsSome (ask_of self.old.ports mount) }
         ensures went { IfOk result (λ reply. HandsOn mount self.old reply self.new) }
         ensures answers { IfOk result (λ reply. IfSome reply (λ r. (ask : AskIs) → ask_of self.old.ports mount ≡ Some ask → Answers ask r)) }

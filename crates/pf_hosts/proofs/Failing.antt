@@ -10,7 +10,8 @@ use Rattle.pf_applyrounds.specs.Halts.{Halt}
 use Rattle.pf_applyrounds.proofs.Growing.{grown_refl, grown_tells, grown_trans}
 use Rattle.pf_chunk.specs.Runs.{ChunkRun}
 use Rattle.pf_chunk.specs.Views.{ChunkIs, run_of}
-use Rattle.pf_hosts.specs.Hosts.{Drove, HostIs, Stepped, drove, hands_at, number_of, replied, stepped, stepped_at}
+use Rattle.pf_move.specs.Routes.{RoutesIs}
+use Rattle.pf_hosts.specs.Hosts.{Drove, HostIs, Stepped, drove, group_of, hands_to, number_of, replied, stepped, stepped_at}
 use Rattle.pf_hosts.specs.Steps.{HasNotStepped, HaveBegun, HaveGrown, TellsAll, runs}
 use Rattle.pf_hosts.specs.Parts.{HasCome, HasDrove, HasNotDrove, name_in}
 use Rattle.pf_hosts.proofs.Groups.{all_begun, begun_on, run_there}
@@ -40,35 +41,35 @@ all_lengthen halts old mid would tells grown longer = record {
 }
 
 -- the first part was not done
-pub not_drove : (old new : List ChunkIs) (host : HostIs) (k : ℕ) → host.at ≡ Some k → HasNotDrove (number_of host.mount) k old new → HasNotStepped old host new
+pub not_drove : (routes : RoutesIs) (old new : List ChunkIs) (host : HostIs) (k : ℕ) → group_of routes host ≡ Some k → HasNotDrove (number_of host.mount) k old new → HasNotStepped routes old host new
 unfolding stepped
-not_drove old new host k at f = record {
+not_drove routes old new host k at f = record {
   grown = f.grown;
   begun = λ halts tells.
       let d = drove halts (runs halts old) (number_of host.mount) k in
-      subst (λ (w : List ChunkRun). HaveBegun halts old w new) (sym (ap (λ (it : Option ℕ). (stepped_at halts (runs halts old) host it).chunks) at))
-      (begun_before halts old old new d.chunks (replied halts host k d d.reply).chunks (grown_refl_all old) (f.begun halts tells) (replied_lengthens halts host k d d.reply));
+      subst (λ (w : List ChunkRun). HaveBegun halts old w new) (sym (ap (λ (it : Option ℕ). (stepped_at halts routes (runs halts old) host it).chunks) at))
+      (begun_before halts old old new d.chunks (replied halts routes host k d d.reply).chunks (grown_refl_all old) (f.begun halts tells) (replied_lengthens halts routes host k d d.reply));
 }
 
 -- the reply was not heard
-pub not_heard : (old mid : List ChunkIs) (host : HostIs) (k : ℕ) (r : Reply) (before after : List ℕ) → host.at ≡ Some k → HasDrove (number_of host.mount) k old before (Some r) after mid → HasNotStepped old host mid
+pub not_heard : (routes : RoutesIs) (old mid : List ChunkIs) (host : HostIs) (k : ℕ) (r : Reply) (before after : List ℕ) → group_of routes host ≡ Some k → HasDrove (number_of host.mount) k old before (Some r) after mid → HasNotStepped routes old host mid
 unfolding stepped
-not_heard old mid host k r before after at d = record {
+not_heard routes old mid host k r before after at d = record {
   grown = gone_grown (number_of host.mount) old mid d.gone;
   begun = λ halts tells.
       let now : Drove = record { chunks = runs halts mid; reply = Some r; told = d.told } in
       subst (λ (w : List ChunkRun). HaveBegun halts old w mid)
-      (sym (ap (λ (it : Option ℕ). (stepped_at halts (runs halts old) host it).chunks) at ∙ ap (λ (it : Drove). (replied halts host k it it.reply).chunks) (d.run halts tells)))
-      (all_lengthen halts old mid (replied halts host k now (Some r)).chunks tells (gone_grown (number_of host.mount) old mid d.gone) (replied_lengthens halts host k now (Some r)));
+      (sym (ap (λ (it : Option ℕ). (stepped_at halts routes (runs halts old) host it).chunks) at ∙ ap (λ (it : Drove). (replied halts routes host k it it.reply).chunks) (d.run halts tells)))
+      (all_lengthen halts old mid (replied halts routes host k now (Some r)).chunks tells (gone_grown (number_of host.mount) old mid d.gone) (replied_lengthens halts routes host k now (Some r)));
 }
 
 -- the next ask was not handed on
-pub not_handed : (old mid new last : List ChunkIs) (host next : HostIs) (k j : ℕ) (r : Reply) (before between_out after : List ℕ) (at : host.at ≡ Some k)
+pub not_handed : (routes : RoutesIs) (old mid new last : List ChunkIs) (host next : HostIs) (k j : ℕ) (r : Reply) (before between_out after : List ℕ) (at : group_of routes host ≡ Some k)
     → (d : HasDrove (number_of host.mount) k old before (Some r) between_out mid)
-    → (h : HasCome (answered host.mount r) (name_in host.mount.files.pending) mid between_out new after next)
-    → next.at ≡ Some j → HasNotDrove (number_of next.mount) j new last → HasNotStepped old host last
-not_handed old mid new last host next k j r before between_out after at d h next_at f =
-    let gone = gone_so_far old mid new host next k r before between_out after at d h in
+    → (h : HasCome routes (answered host.mount r) (name_in host.mount.files.pending) mid between_out new after next)
+    → group_of routes next ≡ Some j → HasNotDrove (number_of next.mount) j new last → HasNotStepped routes old host last
+not_handed routes old mid new last host next k j r before between_out after at d h next_at f =
+    let gone = gone_so_far routes old mid new host next k r before between_out after at d h in
     let grown = gone_grown (number_of host.mount) old new gone in record {
       grown = record {
         count = f.grown.count ∙ grown.count;
@@ -82,6 +83,6 @@ not_handed old mid new last host next k j r before between_out after at d h next
           grown_tells halts x.group mid_one.0.group (f.grown.each i x mid_one.0 from mid_one.1) (tells i mid_one.0 mid_one.1) in
           let s : Stepped = record { chunks = runs halts new; host = next; told = h.told (Some (heard_of r d.is)) } in
           subst (λ (w : List ChunkRun). HaveBegun halts old w last)
-          (sym (ap (λ (it : Stepped). it.chunks) (run_so_far old mid new host next k r before between_out after at d h halts tells_new) ∙ ap (λ (it : Option ℕ). (hands_at halts s it).chunks) next_at))
+          (sym (ap (λ (it : Stepped). it.chunks) (run_so_far routes old mid new host next k r before between_out after at d h halts tells_new) ∙ ap (λ (it : Option ℕ). (hands_to halts s it).chunks) next_at))
           (begun_before halts old new last (drove halts (runs halts new) (number_of next.mount) j).chunks (drove halts (runs halts new) (number_of next.mount) j).chunks grown (f.begun halts tells) (lengthens_refl _));
     }

@@ -17,8 +17,9 @@ use Rattle.pf_chunk.specs.Runs.{ChunkRun}
 use Rattle.pf_asks.specs.Ports.{PortIs}
 use Rattle.pf_chunk.specs.Driving.{asked, asked_at, driven}
 use Rattle.pf_chunk.proofs.Driven.{driven_extends}
+use Rattle.pf_move.specs.Routes.{RoutesIs, home_of}
 use Rattle.pf_hosts.specs.Moments.{Heard}
-use Rattle.pf_hosts.specs.Hosts.{Drove, HostIs, Stepped, begun, call_of, comes_of, drove, drove_of, events_of, hands_at, hands_on, made_host, next_of, number_of, replied, run_after, stepped, stepped_at, with_run}
+use Rattle.pf_hosts.specs.Hosts.{Drove, HostIs, Stepped, begun, call_of, comes_of, drove, drove_of, events_of, group_of, hands_on, hands_to, made_host, next_of, number_of, put_at, replied, run_after, stepped, stepped_at, with_run}
 
 -- each chunk of the second list extends that of the first
 pub record Lengthens (old new : List ChunkRun) : Type 0 where
@@ -59,10 +60,14 @@ asked_lengthens : (chunks : List ChunkRun) (k m : ℕ) (ask : Ask) (at : Option 
 asked_lengthens chunks k m ask None there = lengthens_refl chunks
 asked_lengthens chunks k m ask (Some c) there = lengthens_one chunks k c (asked c m ask) there (asked_extends c m ask (slice_get c.ports m))
 
-pub next_lengthens : (chunks : List ChunkRun) (heard : Option Heard) (call : Option FileCall) (mount : MountIs) (next : Next) → Lengthens chunks (next_of chunks heard call mount next).chunks
-next_lengthens chunks heard call mount (nexts.Ask ask) = asked_lengthens chunks (chunk_of ask) (number_of mount) ask (slice_get chunks (chunk_of ask)) refl
-next_lengthens chunks heard call mount nexts.Ready = lengthens_refl chunks
-next_lengthens chunks heard call mount (nexts.Done answer) = lengthens_refl chunks
+pub put_lengthens : (chunks : List ChunkRun) (group : Option ℕ) (m : ℕ) (ask : Ask) → Lengthens chunks (put_at chunks group m ask)
+put_lengthens chunks None m ask = lengthens_refl chunks
+put_lengthens chunks (Some k) m ask = asked_lengthens chunks k m ask (slice_get chunks k) refl
+
+pub next_lengthens : (routes : RoutesIs) (chunks : List ChunkRun) (heard : Option Heard) (call : Option FileCall) (mount : MountIs) (next : Next) → Lengthens chunks (next_of routes chunks heard call mount next).chunks
+next_lengthens routes chunks heard call mount (nexts.Ask ask) = put_lengthens chunks (home_of routes (chunk_of ask)) (number_of mount) ask
+next_lengthens routes chunks heard call mount nexts.Ready = lengthens_refl chunks
+next_lengthens routes chunks heard call mount (nexts.Done answer) = lengthens_refl chunks
 
 drove_at : (halts : List Halt) (chunks : List ChunkRun) (m k : ℕ) (at : Option ChunkRun) → slice_get chunks k ≡ at → Lengthens chunks (drove_of halts chunks m k at).chunks
 drove_at halts chunks m k None there = lengthens_refl chunks
@@ -71,33 +76,33 @@ drove_at halts chunks m k (Some c) there = lengthens_one chunks k c (driven halt
 pub drove_lengthens : (halts : List Halt) (chunks : List ChunkRun) (m k : ℕ) → Lengthens chunks (drove halts chunks m k).chunks
 drove_lengthens halts chunks m k = drove_at halts chunks m k (slice_get chunks k) refl
 
-hands_at_lengthens : (halts : List Halt) (s : Stepped) (at : Option ℕ) → Lengthens s.chunks (hands_at halts s at).chunks
-hands_at_lengthens halts s None = lengthens_refl s.chunks
-hands_at_lengthens halts s (Some k) = drove_lengthens halts s.chunks (number_of s.host.mount) k
+hands_to_lengthens : (halts : List Halt) (s : Stepped) (group : Option ℕ) → Lengthens s.chunks (hands_to halts s group).chunks
+hands_to_lengthens halts s None = lengthens_refl s.chunks
+hands_to_lengthens halts s (Some k) = drove_lengthens halts s.chunks (number_of s.host.mount) k
 
-pub hands_on_lengthens : (halts : List Halt) (s : Stepped) → Lengthens s.chunks (hands_on halts s).chunks
-hands_on_lengthens halts s = hands_at_lengthens halts s s.host.at
+pub hands_on_lengthens : (halts : List Halt) (routes : RoutesIs) (s : Stepped) → Lengthens s.chunks (hands_on halts routes s).chunks
+hands_on_lengthens halts routes s = hands_to_lengthens halts s (group_of routes s.host)
 
-pub replied_lengthens : (halts : List Halt) (host : HostIs) (k : ℕ) (d : Drove) (reply : Option Reply) → Lengthens d.chunks (replied halts host k d reply).chunks
-replied_lengthens halts host k d None = lengthens_refl d.chunks
-replied_lengthens halts host k d (Some reply) =
+pub replied_lengthens : (halts : List Halt) (routes : RoutesIs) (host : HostIs) (k : ℕ) (d : Drove) (reply : Option Reply) → Lengthens d.chunks (replied halts routes host k d reply).chunks
+replied_lengthens halts routes host k d None = lengthens_refl d.chunks
+replied_lengthens halts routes host k d (Some reply) =
     let heard : Heard = record { reply = reply; by = events_of (slice_get d.chunks k) } in
     let o : Outcome = answered host.mount reply in
-    let s = comes_of d.chunks (Some heard) (call_of host.mount.files.pending) o in
-    lengthens_trans d.chunks s.chunks (hands_on halts s).chunks (next_lengthens d.chunks (Some heard) (call_of host.mount.files.pending) o.mount o.next) (hands_on_lengthens halts s)
+    let s = comes_of routes d.chunks (Some heard) (call_of host.mount.files.pending) o in
+    lengthens_trans d.chunks s.chunks (hands_on halts routes s).chunks (next_lengthens routes d.chunks (Some heard) (call_of host.mount.files.pending) o.mount o.next) (hands_on_lengthens halts routes s)
 
-at_lengthens : (halts : List Halt) (chunks : List ChunkRun) (host : HostIs) (at : Option ℕ) → Lengthens chunks (stepped_at halts chunks host at).chunks
-at_lengthens halts chunks host None = lengthens_refl chunks
-at_lengthens halts chunks host (Some k) =
+at_lengthens : (halts : List Halt) (routes : RoutesIs) (chunks : List ChunkRun) (host : HostIs) (group : Option ℕ) → Lengthens chunks (stepped_at halts routes chunks host group).chunks
+at_lengthens halts routes chunks host None = lengthens_refl chunks
+at_lengthens halts routes chunks host (Some k) =
     let d = drove halts chunks (number_of host.mount) k in
-    lengthens_trans chunks d.chunks (replied halts host k d d.reply).chunks (drove_lengthens halts chunks (number_of host.mount) k) (replied_lengthens halts host k d d.reply)
+    lengthens_trans chunks d.chunks (replied halts routes host k d d.reply).chunks (drove_lengthens halts chunks (number_of host.mount) k) (replied_lengthens halts routes host k d d.reply)
 
-pub stepped_lengthens : (halts : List Halt) (chunks : List ChunkRun) (host : HostIs) → Lengthens chunks (stepped halts chunks host).chunks
+pub stepped_lengthens : (halts : List Halt) (routes : RoutesIs) (chunks : List ChunkRun) (host : HostIs) → Lengthens chunks (stepped halts routes chunks host).chunks
 unfolding stepped
-stepped_lengthens halts chunks host = at_lengthens halts chunks host host.at
+stepped_lengthens halts routes chunks host = at_lengthens halts routes chunks host (group_of routes host)
 
-pub made_lengthens : (chunks : List ChunkRun) (number : ℕ) (v : Extent) → Lengthens chunks (made_host chunks number v).chunks
-made_lengthens chunks number v = let o : Outcome = opening number v in next_lengthens chunks None None o.mount o.next
+pub made_lengthens : (routes : RoutesIs) (chunks : List ChunkRun) (number : ℕ) (v : Extent) → Lengthens chunks (made_host routes chunks number v).chunks
+made_lengthens routes chunks number v = let o : Outcome = opening number v in next_lengthens routes chunks None None o.mount o.next
 
-pub begun_lengthens : (chunks : List ChunkRun) (host : HostIs) (call : FileCall) → Lengthens chunks (begun chunks host call).chunks
-begun_lengthens chunks host call = let o : Outcome = starting host.mount call in next_lengthens chunks None (Some call) o.mount o.next
+pub begun_lengthens : (routes : RoutesIs) (chunks : List ChunkRun) (host : HostIs) (call : FileCall) → Lengthens chunks (begun routes chunks host call).chunks
+begun_lengthens routes chunks host call = let o : Outcome = starting host.mount call in next_lengthens routes chunks None (Some call) o.mount o.next

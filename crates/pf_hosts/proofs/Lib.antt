@@ -3,6 +3,7 @@ pub mod Lengthening
 pub mod Machine
 pub mod Driving
 pub mod Coming
+pub mod Routing
 pub mod Stepping
 pub mod Failing
 pub mod Words

@@ -10,6 +10,7 @@ use Rattle.pf_mount.specs.declared.faults.StartFault.{StartFault}
 use Rattle.pf_mount.specs.declared.faults.StartFault.TheVariants.{NoMemory, BadName, CallPending}
 use Rattle.pf_applyrounds.specs.Halts.{Halt}
 use Rattle.pf_chunk.specs.Views.{ChunkIs}
+use Rattle.pf_move.specs.Routes.{RoutesIs}
 use Rattle.pf_hosts.specs.Moments.{Moment, text_of}
 use Rattle.pf_hosts.specs.Hosts.{HostIs, begun, made_host, number_of}
 use Rattle.pf_hosts.specs.Steps.{AreReady, HaveGone, IsHostOf, runs}
@@ -28,29 +29,29 @@ name_of_words (calls.Stat path) = Stat
 name_of_words (calls.List path) = Lists
 
 -- the host of a new mount, whose first ask is in its port
-pub record HasMade (m : ℕ) (v : Extent) (old new : List ChunkIs) (host : HostIs) : Type 0 where
+pub record HasMade (routes : RoutesIs) (m : ℕ) (v : Extent) (old new : List ChunkIs) (host : HostIs) : Type 0 where
   pub ready : AreReady new
   pub gone : HaveGone m old new
-  pub is_host : IsHostOf new host
+  pub is_host : IsHostOf routes new host
   pub number : number_of host.mount ≡ m
   pub volume : host.mount.files.volume ≡ v
   pub calls : host.mount.files.calls ≡ 0
   pub told : List Moment
-  pub run : (halts : List Halt) → made_host (runs halts old) m v ≡ record { chunks = runs halts new; host = host; told = told }
+  pub run : (halts : List Halt) → made_host routes (runs halts old) m v ≡ record { chunks = runs halts new; host = host; told = told }
 
 -- a call began, with its paths read
-pub record HasBegunCall (call : Call) (old : List ChunkIs) (before : List ℕ) (host : HostIs) (new : List ChunkIs) (after : List ℕ) (next : HostIs) : Type 0 where
+pub record HasBegunCall (routes : RoutesIs) (call : Call) (old : List ChunkIs) (before : List ℕ) (host : HostIs) (new : List ChunkIs) (after : List ℕ) (next : HostIs) : Type 0 where
   pub file : FileCall
   pub read : read_call call ≡ Some file
   pub ready : AreReady new
   pub gone : HaveGone (number_of host.mount) old new
-  pub is_host : IsHostOf new next
+  pub is_host : IsHostOf routes new next
   pub number : number_of next.mount ≡ number_of host.mount
   pub volume : next.mount.files.volume ≡ host.mount.files.volume
   pub calls : next.mount.files.calls ≡ suc host.mount.files.calls
   pub told : List Moment
   pub put : after ≡ before ++ text_of told
-  pub run : (halts : List Halt) → begun (runs halts old) host file ≡ record { chunks = runs halts new; host = next; told = told }
+  pub run : (halts : List Halt) → begun routes (runs halts old) host file ≡ record { chunks = runs halts new; host = next; told = told }
 
 -- a refusal leaves the host as it was
 abbrev pub Refuses : StartFault → (old new : HostIs) → Type 0

@@ -1,5 +1,6 @@
--- A host of a volume: its mount, and its ports into the chunks.
+-- A host of a volume: its mount, and its ports into the groups that serve the chunks.
 use Rattle.std.specs.Prelude.{ℕ, List, [], ◌∷◌, ◌++◌, length, Option, Some, None, slice_get, slice_set}
+use Rattle.std.specs.Option.{option_and_then}
 use Rattle.pf_base.specs.declared.asks.Ask.{Ask}
 use Rattle.pf_base.specs.declared.asks.Reply.{Reply}
 use Rattle.pf_base.specs.Asks.{chunk_of}
@@ -15,6 +16,7 @@ use Rattle.pf_report.specs.Texts.{event_line}
 use Rattle.pf_report.specs.Mounts.{call_text, ready_text}
 use Rattle.pf_applyrounds.specs.Halts.{Halt}
 use Rattle.pf_chunk.specs.Runs.{ChunkRun}
+use Rattle.pf_move.specs.Routes.{RoutesIs, home_of, served_by}
 use Rattle.pf_chunk.specs.Driving.{Driven, asked, driven}
 use Rattle.pf_hosts.specs.Moments.{Heard, Moment, Writes, Begins, Turns, Hands, Ends}
 
@@ -25,7 +27,7 @@ pub record HostIs : Type 0 where
 abbrev pub number_of : MountIs → ℕ
 number_of m = m.files.mount
 
--- the chunks of a volume and one of its hosts, and what is told
+-- the groups of a volume and one of its hosts, and what is told
 pub record Stepped : Type 0 where
   pub chunks : List ChunkRun
   pub host : HostIs
@@ -34,7 +36,7 @@ pub record Stepped : Type 0 where
 abbrev pub after_telling : List Moment → Stepped → Stepped
 after_telling told s = record s { told = told ++ s.told }
 
--- chunk k, where there is one, after this
+-- group k, where there is one, after this
 abbrev pub with_run : List ChunkRun → (k : ℕ) → Option ChunkRun → List ChunkRun
 with_run chunks k None = chunks
 with_run chunks k (Some c) = slice_set chunks k c
@@ -43,10 +45,15 @@ abbrev pub run_after : Option ChunkRun → (ChunkRun → ChunkRun) → Option Ch
 run_after None step = None
 run_after (Some c) step = Some (step c)
 
--- an ask goes into the mount's port of its chunk
-abbrev pub puts : List ChunkRun → MountIs → Option Heard → Ask → Stepped
-puts chunks mount heard ask = record {
-  chunks = with_run chunks (chunk_of ask) (run_after (slice_get chunks (chunk_of ask)) (λ c. asked c (number_of mount) ask));
+-- an ask goes into the port of this number into a group
+abbrev pub put_at : List ChunkRun → (group : Option ℕ) → (m : ℕ) → Ask → List ChunkRun
+put_at chunks None m ask = chunks
+put_at chunks (Some g) m ask = with_run chunks g (run_after (slice_get chunks g) (λ c. asked c m ask))
+
+-- an ask goes into the mount's port into the group that has the asks for its chunk
+abbrev pub puts : RoutesIs → List ChunkRun → MountIs → Option Heard → Ask → Stepped
+puts routes chunks mount heard ask = record {
+  chunks = put_at chunks (home_of routes (chunk_of ask)) (number_of mount) ask;
   host = record { mount = mount; at = Some (chunk_of ask) };
   told = Turns (number_of mount) heard (Some ask) ∷ [];
 }
@@ -65,25 +72,25 @@ ended_line mount None answer = []
 ended_line mount (Some call) answer = event_line (call_text mount (name_of call) answer)
 
 -- what comes of a step of the mount that heard this, and in which this call was pending
-abbrev pub next_of : List ChunkRun → Option Heard → Option FileCall → MountIs → Next → Stepped
-next_of chunks heard call mount (Asks ask) = puts chunks mount heard ask
-next_of chunks heard call mount Ready = rests chunks mount heard (Writes (event_line (ready_text (number_of mount))) ∷ [])
-next_of chunks heard call mount (Done answer) = rests chunks mount heard (Ends (number_of mount) answer ∷ Writes (ended_line (number_of mount) call answer) ∷ [])
+abbrev pub next_of : RoutesIs → List ChunkRun → Option Heard → Option FileCall → MountIs → Next → Stepped
+next_of routes chunks heard call mount (Asks ask) = puts routes chunks mount heard ask
+next_of routes chunks heard call mount Ready = rests chunks mount heard (Writes (event_line (ready_text (number_of mount))) ∷ [])
+next_of routes chunks heard call mount (Done answer) = rests chunks mount heard (Ends (number_of mount) answer ∷ Writes (ended_line (number_of mount) call answer) ∷ [])
 
-abbrev pub comes_of : List ChunkRun → Option Heard → Option FileCall → Outcome → Stepped
-comes_of chunks heard call o = next_of chunks heard call o.mount o.next
+abbrev pub comes_of : RoutesIs → List ChunkRun → Option Heard → Option FileCall → Outcome → Stepped
+comes_of routes chunks heard call o = next_of routes chunks heard call o.mount o.next
 
 -- a host of a new mount
-abbrev pub made_host : List ChunkRun → (number : ℕ) → Extent → Stepped
-made_host chunks number volume = comes_of chunks None None (opening number volume)
+abbrev pub made_host : RoutesIs → List ChunkRun → (number : ℕ) → Extent → Stepped
+made_host routes chunks number volume = comes_of routes chunks None None (opening number volume)
 
 -- a call begins
-abbrev pub begun : List ChunkRun → HostIs → FileCall → Stepped
-begun chunks host call = after_telling (Begins (number_of host.mount) call ∷ []) (comes_of chunks None (Some call) (starting host.mount call))
+abbrev pub begun : RoutesIs → List ChunkRun → HostIs → FileCall → Stepped
+begun routes chunks host call = after_telling (Begins (number_of host.mount) call ∷ []) (comes_of routes chunks None (Some call) (starting host.mount call))
 
 -- Steps
 
--- a port's step at chunk k
+-- a port's step at group k
 pub record Drove : Type 0 where
   pub chunks : List ChunkRun
   pub reply : Option Reply
@@ -103,15 +110,19 @@ drove_of halts chunks mount k (Some c) = drove_as chunks mount k (driven halts c
 abbrev pub drove : List Halt → List ChunkRun → (mount k : ℕ) → Drove
 drove halts chunks mount k = drove_of halts chunks mount k (slice_get chunks k)
 
--- the pending ask is handed on
-abbrev pub hands_at : List Halt → Stepped → (at : Option ℕ) → Stepped
-hands_at halts s None = s
-hands_at halts s (Some k) =
+-- the pending ask is handed on to this group
+abbrev pub hands_to : List Halt → Stepped → (group : Option ℕ) → Stepped
+hands_to halts s None = s
+hands_to halts s (Some k) =
     let d = drove halts s.chunks (number_of s.host.mount) k in
     record s { chunks = d.chunks; told = s.told ++ d.told }
 
-abbrev pub hands_on : List Halt → Stepped → Stepped
-hands_on halts s = hands_at halts s s.host.at
+-- the group to which the host's pending ask goes: none where it asks nothing, or its chunk is moving
+abbrev pub group_of : RoutesIs → HostIs → Option ℕ
+group_of routes host = option_and_then (served_by routes) host.at
+
+abbrev pub hands_on : List Halt → RoutesIs → Stepped → Stepped
+hands_on halts routes s = hands_to halts s (group_of routes s.host)
 
 abbrev pub events_of : Option ChunkRun → ℕ
 events_of None = 0
@@ -122,20 +133,20 @@ call_of None = None
 call_of (Some p) = Some p.call
 
 -- an answered ask goes to the mount, and its next ask is handed on
-abbrev pub replied : List Halt → HostIs → (k : ℕ) → Drove → Option Reply → Stepped
-replied halts host k d None = record { chunks = d.chunks; host = host; told = d.told }
-replied halts host k d (Some reply) =
+abbrev pub replied : List Halt → RoutesIs → HostIs → (k : ℕ) → Drove → Option Reply → Stepped
+replied halts routes host k d None = record { chunks = d.chunks; host = host; told = d.told }
+replied halts routes host k d (Some reply) =
     let heard : Heard = record { reply = reply; by = events_of (slice_get d.chunks k) } in
     after_telling d.told
-    (hands_on halts (comes_of d.chunks (Some heard) (call_of host.mount.files.pending) (answered host.mount reply)))
+    (hands_on halts routes (comes_of routes d.chunks (Some heard) (call_of host.mount.files.pending) (answered host.mount reply)))
 
-abbrev pub stepped_at : List Halt → List ChunkRun → HostIs → (at : Option ℕ) → Stepped
-stepped_at halts chunks host None = record { chunks = chunks; host = host; told = [] }
-stepped_at halts chunks host (Some k) =
+abbrev pub stepped_at : List Halt → RoutesIs → List ChunkRun → HostIs → (group : Option ℕ) → Stepped
+stepped_at halts routes chunks host None = record { chunks = chunks; host = host; told = [] }
+stepped_at halts routes chunks host (Some k) =
     let d = drove halts chunks (number_of host.mount) k in
-    replied halts host k d d.reply
+    replied halts routes host k d d.reply
 
 -- one step of a host: where its pending ask was answered, the reply goes to its mount, which asks the next thing; and then the pending ask
--- goes to the leader of the greatest term, where its port's rule says so
-unfoldable pub stepped : List Halt → List ChunkRun → HostIs → Stepped
-stepped halts chunks host = stepped_at halts chunks host host.at
+-- goes to the leader of the greatest term, where its port's rule says so. An ask for a chunk that is moving waits
+unfoldable pub stepped : List Halt → RoutesIs → List ChunkRun → HostIs → Stepped
+stepped halts routes chunks host = stepped_at halts routes chunks host (group_of routes host)

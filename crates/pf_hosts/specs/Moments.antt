@@ -4,6 +4,7 @@ use Rattle.pf_base.specs.declared.asks.Ask.{Ask}
 use Rattle.pf_base.specs.declared.asks.Reply.{Reply}
 use Rattle.pf_tree.specs.declared.calls.FileCall.{FileCall}
 use Rattle.pf_files.specs.declared.answers.CallAnswer.{CallAnswer}
+use Rattle.pf_move.specs.declared.mover.MoveNext.{MoveNext}
 
 -- what was answered, when so many events of the chunk's group had happened
 pub record Heard : Type 0 where
@@ -17,10 +18,15 @@ pub data Moment : Type 0 where
   Begins : (mount : ℕ) → FileCall → Moment
   -- its pending ask was answered, or nothing was; and it asks the next thing, or nothing
   Turns : (mount : ℕ) → Option Heard → Option Ask → Moment
-  -- its port into the chunk handed the pending ask on, by the event at this place of the group's history
-  Hands : (mount chunk place : ℕ) → Moment
+  -- its port into the group handed the pending ask on, by the event at this place of the group's history; or that of the mover, whose
+  -- number is the one behind those of mounts
+  Hands : (mount group place : ℕ) → Moment
   -- its call ends
   Ends : (mount : ℕ) → CallAnswer → Moment
+  -- the chunk begins to move to this group, which is made for it: its ports go there and wait
+  Moves : (chunk group : ℕ) → Moment
+  -- the pending ask of its mover was answered, or nothing was; and it asks the next thing, or the new group serves the chunk from here on
+  Carries : (chunk : ℕ) → Option Heard → MoveNext → Moment
 
 -- the lines of the report among what is told
 abbrev pub lines_in : Moment → List ℕ

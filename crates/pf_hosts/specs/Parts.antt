@@ -1,6 +1,6 @@
 -- What the parts of a step come to.
 use Rattle.std.specs.Prelude.{◌≡◌, ◌≢◌, ℕ, ◌++◌, [], List, length, Option, Some, None, slice_get, slice_set}
-use Rattle.std.specs.Option.{option_map}
+use Rattle.std.specs.Option.{option_and_then, option_map}
 use Rattle.pf_base.specs.declared.asks.Ask.{Ask}
 use Rattle.pf_base.specs.declared.asks.Reply.{Reply}
 use Rattle.pf_tree.specs.declared.calls.FileCall.{FileCall}
@@ -15,6 +15,7 @@ use Rattle.pf_report.specs.Mounts.{call_text}
 use Rattle.pf_applyrounds.specs.Halts.{Halt}
 use Rattle.pf_chunk.specs.Driving.{PortDrove}
 use Rattle.pf_chunk.specs.Views.{ChunkIs}
+use Rattle.pf_move.specs.Routes.{RoutesIs, home_of}
 use Rattle.pf_hosts.specs.Moments.{Heard, Moment, text_of}
 use Rattle.pf_hosts.specs.Hosts.{HostIs, comes_of, drove, number_of}
 use Rattle.pf_hosts.specs.Steps.{AreReady, HaveBegun, HaveGone, HaveGrown, IsHostOf, TellsAll, runs}
@@ -73,12 +74,12 @@ end_text mount (Some name) answer = event_line (call_text mount name answer)
 
 -- What comes of a step of the mount, with a call of this name: it asks by its port, or a line tells what it did. What it heard, and what the
 -- call was, stand in what is told alone
-pub record HasCome (outcome : Outcome) (name : Option CallName) (old : List ChunkIs) (before : List ℕ) (new : List ChunkIs) (after : List ℕ) (host : HostIs) : Type 0 where
+pub record HasCome (routes : RoutesIs) (outcome : Outcome) (name : Option CallName) (old : List ChunkIs) (before : List ℕ) (new : List ChunkIs) (after : List ℕ) (host : HostIs) : Type 0 where
   pub ready : AreReady new
   pub ports : ArePut (number_of outcome.mount) old new
   pub mount : host.mount ≡ outcome.mount
-  pub is_host : IsHostOf new host
-  pub unsent : (k : ℕ) → host.at ≡ Some k → (c : ChunkIs) (port : PortIs) → slice_get new k ≡ Some c → slice_get c.ports (number_of outcome.mount) ≡ Some port → port.sent ≡ None
+  pub is_host : IsHostOf routes new host
+  pub unsent : (k : ℕ) → option_and_then (home_of routes) host.at ≡ Some k → (c : ChunkIs) (port : PortIs) → slice_get new k ≡ Some c → slice_get c.ports (number_of outcome.mount) ≡ Some port → port.sent ≡ None
   pub told : Option Heard → List Moment
   pub put : (heard : Option Heard) → after ≡ before ++ text_of (told heard)
-  pub run : (halts : List Halt) (heard : Option Heard) (call : Option FileCall) → option_map name_of call ≡ name → comes_of (runs halts old) heard call outcome ≡ record { chunks = runs halts new; host = host; told = told heard }
+  pub run : (halts : List Halt) (heard : Option Heard) (call : Option FileCall) → option_map name_of call ≡ name → comes_of routes (runs halts old) heard call outcome ≡ record { chunks = runs halts new; host = host; told = told heard }

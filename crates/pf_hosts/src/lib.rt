@@ -1,9 +1,9 @@
-//! A host of a volume: a mount, and its ports into the chunks.
+//! A host of a volume: a mount, and its ports into the groups that serve the chunks.
 #![tactic(auto)]
 
 mod host;
 mod laws;
 mod names;
 
-pub use host::Host;
+pub use host::{Host, drive_at};
 pub use laws::calls_are_read_by_their_words;

@@ -43,22 +43,22 @@ module _ (mount k : ℕ) (chunks : List ChunkIs) (d : ChunkIs) (pending : IsPend
   all_answered (Err e) its = tt
 
 pub drive-requires-clause-ready : goal.drive-requires-clause-ready
-drive-requires-clause-ready g c κs within = (c.requires.ready c.args.at _ (at_it c.args.mount c.args.at c.args.chunks.now c.index-chunks-at.result c.requires.pending)).1
+drive-requires-clause-ready g c κs within = (c.requires.ready c.args.group _ (at_it c.args.mount c.args.group c.args.chunks.now c.index-chunks-group.result c.requires.pending)).1
 
 pub drive-requires-clause-pending : goal.drive-requires-clause-pending
 drive-requires-clause-pending g c κs within =
     subst (λ (o : Option Ask). IsSome o)
-    (sym (ap (option_and_then (λ (p : PortIs). p.ask)) (its_port c.args.mount c.args.at c.args.chunks.now c.index-chunks-at.result c.requires.pending) ∙ c.requires.pending.pending)) refl
+    (sym (ap (option_and_then (λ (p : PortIs). p.ask)) (its_port c.args.mount c.args.group c.args.chunks.now c.index-chunks-group.result c.requires.pending) ∙ c.requires.pending.pending)) refl
 
 pub returns-clause-went : goal.returns-clause-went
 returns-clause-went g c =
-    all_went c.args.mount c.args.at c.args.chunks.now c.index-chunks-at.result c.requires.pending c.args.out.now.items c.drive.new.out.items c.drive.new.self c.drive.result
+    all_went c.args.mount c.args.group c.args.chunks.now c.index-chunks-group.result c.requires.pending c.args.out.now.items c.drive.new.out.items c.drive.new.self c.drive.result
     c.requires.ready c.drive.ensures.went c.drive.ensures.port c.drive.ensures.next
 
 pub returns-clause-answers : goal.returns-clause-answers
-returns-clause-answers g c = all_answered c.args.mount c.args.at c.args.chunks.now c.index-chunks-at.result c.requires.pending c.drive.result c.drive.ensures.answers
+returns-clause-answers g c = all_answered c.args.mount c.args.group c.args.chunks.now c.index-chunks-group.result c.requires.pending c.drive.result c.drive.ensures.answers
 
 pub returns-clause-err : goal.returns-clause-err
 returns-clause-err g c =
-    all_failed c.args.mount c.args.at c.args.chunks.now c.index-chunks-at.result c.requires.pending c.args.out.now.items c.drive.new.out.items c.drive.new.self c.drive.result
+    all_failed c.args.mount c.args.group c.args.chunks.now c.index-chunks-group.result c.requires.pending c.args.out.now.items c.drive.new.out.items c.drive.new.self c.drive.result
     c.drive.ensures.err

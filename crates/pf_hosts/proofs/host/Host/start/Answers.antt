@@ -29,13 +29,13 @@ take-requires-clause-quiet g c k chunk at port its =
     let started = c.in_ok-next.ensures.ok in
     let number = ap (λ (o : Outcome). number_of o.mount) started.2 ∙ (starting_keeps c.self.inside.mount started.0).0 ∙ ap (λ (h : HostIs). number_of h.mount) c.self.view_is in
     let rests = subst (λ (h : HostIs). (h.mount.work ≢ Rests) → ⊥) c.self.view_is (λ no. ok_is_no_err c.start.result c.in_ok-next.next CallPending c.in_ok-next.was (c.start.ensures.pending.1 no)) in
-    rests_quiet c.args.chunks.now c.args.self.now c.requires.host rests k chunk at port (subst (λ n. slice_get chunk.ports n ≡ Some port) number its)
+    rests_quiet c.args.routes.now c.args.chunks.now c.args.self.now c.requires.host rests k chunk at port (subst (λ n. slice_get chunk.ports n ≡ Some port) number its)
 
 pub returns-clause-began : goal.returns-clause-began
 returns-clause-began g c =
     let started = c.in_ok-next.ensures.ok in
     let is = started.2 ∙ ap (λ (h : HostIs). starting h.mount started.0) c.self.view_is in
-    began_so c.args.call started.0 (record { mount = c.start.new.self; next = c.in_ok-next.next }) c.name_of-name.result c.args.chunks.now c.take.new.chunks c.args.out.now.items c.take.new.out.items c.args.self.now c.take.new.self
+    began_so c.args.routes.now c.args.call started.0 (record { mount = c.start.new.self; next = c.in_ok-next.next }) c.name_of-name.result c.args.chunks.now c.take.new.chunks c.args.out.now.items c.take.new.out.items c.args.self.now c.take.new.self
     started.1 c.name_of-name.ensures is c.in_ok-take.ensures.came
 
 pub returns-in_err-next-clause-bad_name : goal.returns-in_err-next-clause-bad_name
