@@ -1,4 +1,4 @@
--- An event of a chunk, and then a step of each host.
+-- An event of a chunk, and then a step of each host and of the mover.
 use Rattle.std.proofs.Common.{◌≡◌, ℕ, List, [], ◌∷◌, ◌++◌, Some, slice_get, slice_set, append-nil, sym, ap, subst, ◌∙◌}
 use Rattle.pf_entry.proofs.Lists.{set_there}
 use Rattle.pf_network.proofs.Lists.{set_mapped}
@@ -13,8 +13,8 @@ use Rattle.pf_hosts.specs.Moments.{Writes}
 use Rattle.pf_hosts.specs.Steps.{AreReady, HaveBegun, runs}
 use Rattle.pf_hosts.proofs.Driving.{ready_one}
 use Rattle.pf_fleet.specs.Steps.{FleetIs, HasAnswered, HasGone, HasNotAnswered, HasStopped, IsFleetOf, Part, stands_at}
-use Rattle.pf_fleet.specs.Volumes.{happens, hosts_step, saying, with_chunk}
-use Rattle.pf_fleet.proofs.Growing.{hosts_lengthen, one_begun, one_grown, tells_before}
+use Rattle.pf_fleet.specs.Volumes.{all_step, happens, saying, with_chunk}
+use Rattle.pf_fleet.proofs.Growing.{all_lengthen, one_begun, one_grown, tells_before}
 use Rattle.pf_fleet.proofs.Keeping.{fleet_after_event}
 use Rattle.pf_fleet.proofs.Parts.{stopped_on, then_stopped, went_on}
 
@@ -48,15 +48,15 @@ module _ (event : Event) (k : ℕ) (old : List ChunkIs) (was is : ChunkIs) (flee
       put = h.put ∙ ap (λ text. before ++ text) (sym (append-nil h.text));
       run = λ halts tells.
           ap (λ (it : Happened). saying it.text (with_chunk (stands_at halts old fleet) it.chunk)) (h.run halts (tells k is (set_there old k was is there)))
-          ∙ ap (λ (chunks : List ChunkRun). saying h.text (record { extent = fleet.volume; chunks = chunks; hosts = fleet.hosts }))
+          ∙ ap (λ (chunks : List ChunkRun). saying h.text (record { extent = fleet.volume; chunks = chunks; hosts = fleet.hosts; routes = fleet.routes; mover = fleet.mover }))
           (ap (λ n. slice_set (runs halts old) n (run_of halts is)) number_is ∙ set_mapped (run_of halts) old k is);
     }
 
     -- and the hosts took their steps
-    pub event_then_steps : (new : List ChunkIs) (next : FleetIs) (after : List ℕ) → HasGone hosts_step (slice_set old k is) fleet middle new next after → HasGone (event_and_steps event was) old fleet before new next after
-    event_then_steps new next after steps = went_on (event_at event was) hosts_step old (slice_set old k is) new fleet fleet next before middle after event_went steps
+    pub event_then_steps : (new : List ChunkIs) (next : FleetIs) (after : List ℕ) → HasGone all_step (slice_set old k is) fleet middle new next after → HasGone (event_and_steps event was) old fleet before new next after
+    event_then_steps new next after steps = went_on (event_at event was) all_step old (slice_set old k is) new fleet fleet next before middle after event_went steps
 
-    pub event_answered : (new : List ChunkIs) (next : FleetIs) (after : List ℕ) → HasGone hosts_step (slice_set old k is) fleet middle new next after → HasAnswered event k old fleet before answer new next after
+    pub event_answered : (new : List ChunkIs) (next : FleetIs) (after : List ℕ) → HasGone all_step (slice_set old k is) fleet middle new next after → HasAnswered event k old fleet before answer new next after
     event_answered new next after steps = record {
       was = was;
       there = there;
@@ -67,10 +67,10 @@ module _ (event : Event) (k : ℕ) (old : List ChunkIs) (was is : ChunkIs) (flee
     }
 
     -- there was no memory for the steps
-    pub event_then_stopped : (new : List ChunkIs) → HasStopped hosts_step (slice_set old k is) fleet new → HasStopped (event_and_steps event was) old fleet new
-    event_then_stopped new steps = then_stopped (event_at event was) hosts_step old (slice_set old k is) new fleet fleet before middle event_went steps
+    pub event_then_stopped : (new : List ChunkIs) → HasStopped all_step (slice_set old k is) fleet new → HasStopped (event_and_steps event was) old fleet new
+    event_then_stopped new steps = then_stopped (event_at event was) all_step old (slice_set old k is) new fleet fleet before middle event_went steps
 
-    pub event_not_answered : (new : List ChunkIs) → HasStopped hosts_step (slice_set old k is) fleet new → HasNotAnswered event k old fleet new
+    pub event_not_answered : (new : List ChunkIs) → HasStopped all_step (slice_set old k is) fleet new → HasNotAnswered event k old fleet new
     event_not_answered new steps = record { was = was; there = there; stopped = event_then_stopped new steps }
 
   -- There was no memory for the event
@@ -86,7 +86,7 @@ module _ (event : Event) (k : ℕ) (old : List ChunkIs) (was is : ChunkIs) (flee
     }
 
     pub event_stopped : HasStopped (event_and_steps event was) old fleet (slice_set old k is)
-    event_stopped = stopped_on (event_at event was) hosts_step old (slice_set old k is) fleet began hosts_lengthen
+    event_stopped = stopped_on (event_at event was) all_step old (slice_set old k is) fleet began all_lengthen
 
     pub event_failed : HasNotAnswered event k old fleet (slice_set old k is)
     event_failed = record { was = was; there = there; stopped = event_stopped }

@@ -3,6 +3,7 @@ use Rattle.std.proofs.Common.{◌≡◌, ℕ, ◌<◌, Bool, IsTrue, List, [], �
 use Rattle.std.proofs.lemmas.List.{length-map}
 use Rattle.std.proofs.lemmas.Option.{same_Some, slice_get_within}
 use Rattle.std.specs.List.{range_with_len}
+use Rattle.std.specs.Option.{option_map}
 use Rattle.pf_entry.proofs.Lists.{set_cases, set_there}
 use Rattle.pf_network.proofs.Lists.{set_elsewhere, set_length, something_there}
 use Rattle.pf_protocol.specs.Groups.{Group, opening}
@@ -16,16 +17,23 @@ use Rattle.pf_applyrounds.specs.Growing.{HasGrown}
 use Rattle.pf_applyrounds.specs.Halts.{Halt}
 use Rattle.pf_applyrounds.proofs.Extending.{extends_refl}
 use Rattle.pf_applyrounds.proofs.Growing.{grown_refl, grown_tells, grown_trans}
-use Rattle.pf_chunk.specs.Runs.{ChunkRun}
+use Rattle.pf_chunk.specs.Runs.{ChunkRun, mover_port}
 use Rattle.pf_chunk.specs.Views.{ChunkIs, run_of}
 use Rattle.pf_chunk.proofs.Following.{run_on}
-use Rattle.pf_hosts.specs.Hosts.{HostIs}
+use Rattle.pf_base.specs.declared.asks.Ask.TheVariants as asks
+use Rattle.pf_base.specs.declared.asks.Reply.{Reply}
+use Rattle.pf_move.specs.declared.mover.MoveNext.{MoveNext}
+use Rattle.pf_move.specs.declared.mover.MoveNext.TheVariants.{Read, Write, Switch}
+use Rattle.pf_move.specs.Movers.{MoverIs, Step, step}
+use Rattle.pf_move.specs.Routes as routes
+use Rattle.pf_hosts.specs.Moments.{Heard}
+use Rattle.pf_hosts.specs.Hosts.{Drove, HostIs, drove, events_of}
 use Rattle.pf_hosts.specs.Steps.{HaveBegun, HaveGone, HaveGrown, TellsAll, runs}
 use Rattle.pf_hosts.proofs.Driving.{one_by_one}
 use Rattle.pf_hosts.proofs.Groups.{all_begun, begun_on, run_there}
-use Rattle.pf_hosts.proofs.Lengthening.{Lengthens, lengthens_refl, lengthens_trans, stepped_lengthens}
+use Rattle.pf_hosts.proofs.Lengthening.{Lengthens, drove_lengthens, lengthens_refl, lengthens_trans, put_lengthens, stepped_lengthens}
 use Rattle.pf_fleet.specs.Steps.{AllStay, Stays}
-use Rattle.pf_fleet.specs.Volumes.{VolumeRun, host_at, host_steps, hosts_step, step_of, these_step}
+use Rattle.pf_fleet.specs.Volumes.{VolumeRun, all_step, carries, host_at, host_steps, hosts_step, mover_group, mover_hands, mover_hands_to, mover_hears_in, mover_replied, mover_steps, mover_steps_at, step_of, these_step}
 
 pub grown_refl_all : (chunks : List ChunkIs) → HaveGrown chunks chunks
 grown_refl_all chunks = record { count = refl; each = λ k x y at to. subst (λ (z : ChunkIs). HasGrown x.group z.group) (same_Some x y (sym at ∙ to)) (grown_refl x.group) }
@@ -129,11 +137,22 @@ one_begun halts old k was is would here tells begun = record {
         (all_begun halts x.group x.group (run_of halts x).group (subst (λ (z : ChunkIs). TellsOfGroup halts z.group) y_x (tells j y to)) (grown_refl x.group) (extends_refl (run_of halts x).group)))
   ]
 
+-- what came to these chunks stands at a whole beginning
+pub all_stand : (halts : List Halt) (chunks : List ChunkIs) → TellsAll halts chunks → HaveBegun halts chunks (runs halts chunks) chunks
+all_stand halts chunks tells = record {
+  count = length-map chunks (run_of halts);
+  each = λ k x y run at to there.
+      let y_x : y ≡ x = same_Some y x (sym to ∙ at) in
+      let run_is : run_of halts y ≡ run = same_Some (run_of halts y) run (sym (run_there halts chunks k y to) ∙ there) in
+      subst (λ (z : ChunkRun). HasBegun halts x.group z.group y.group) run_is
+      (all_begun halts x.group y.group (run_of halts y).group (tells k y to) (subst (λ (z : ChunkIs). HasGrown z.group y.group) y_x (grown_refl y.group)) (extends_refl (run_of halts y).group));
+}
+
 -- Steps of hosts only add to histories
 
 at_lengthens : (halts : List Halt) (m : ℕ) (v : VolumeRun) (host : Option HostIs) → Lengthens v.chunks (step_of halts m v host).volume.chunks
 at_lengthens halts m v None = lengthens_refl v.chunks
-at_lengthens halts m v (Some host) = stepped_lengthens halts v.chunks host
+at_lengthens halts m v (Some host) = stepped_lengthens halts v.routes v.chunks host
 
 pub host_lengthens : (halts : List Halt) (m : ℕ) (v : VolumeRun) → Lengthens v.chunks (host_steps halts m v).volume.chunks
 host_lengthens halts m v = at_lengthens halts m v (host_at v.hosts m)
@@ -147,3 +166,44 @@ these_lengthen halts (m ∷ mounts) v =
 pub hosts_lengthen : (halts : List Halt) (v : VolumeRun) → Lengthens v.chunks (hosts_step halts v).volume.chunks
 unfolding hosts_step
 hosts_lengthen halts v = these_lengthen halts (range_with_len 0 (length v.hosts)) v
+
+-- So do steps of the mover
+
+pub carries_lengthens : (v : VolumeRun) (mover : MoverIs) (heard : Option Heard) (next : MoveNext) → Lengthens v.chunks (carries v mover heard next).volume.chunks
+carries_lengthens v mover heard (Read span) = put_lengthens v.chunks (option_map (λ (b : routes.Between). b.from) (routes.between v.routes)) mover_port (asks.Read mover.chunk span)
+carries_lengthens v mover heard (Write span sectors) = put_lengthens v.chunks (option_map (λ (b : routes.Between). b.to) (routes.between v.routes)) mover_port (asks.Write mover.chunk span sectors)
+carries_lengthens v mover heard Switch = lengthens_refl v.chunks
+
+hears_lengthens : (v : VolumeRun) (heard : Heard) (mover : Option MoverIs) → Lengthens v.chunks (mover_hears_in v heard mover).volume.chunks
+hears_lengthens v heard None = lengthens_refl v.chunks
+hears_lengthens v heard (Some mover) = let s : Step = step mover (Some heard.reply) in carries_lengthens v s.mover (Some heard) s.next
+
+hands_lengthens_to : (halts : List Halt) (group : Option ℕ) (v : VolumeRun) → Lengthens v.chunks (mover_hands_to halts group v).volume.chunks
+hands_lengthens_to halts None v = lengthens_refl v.chunks
+hands_lengthens_to halts (Some k) v = drove_lengthens halts v.chunks mover_port k
+
+pub hands_lengthens : (halts : List Halt) (v : VolumeRun) → Lengthens v.chunks (mover_hands halts v).volume.chunks
+hands_lengthens halts v = hands_lengthens_to halts (mover_group v) v
+
+pub replied_lengthens : (halts : List Halt) (v : VolumeRun) (k : ℕ) (d : Drove) (reply : Option Reply) → Lengthens d.chunks (mover_replied halts v k d reply).volume.chunks
+replied_lengthens halts v k d None = lengthens_refl d.chunks
+replied_lengthens halts v k d (Some reply) =
+    let heard : Heard = record { reply = reply; by = events_of (slice_get d.chunks k) } in
+    let mid : VolumeRun = record v { chunks = d.chunks } in
+    let heard_so : VolumeRun = (mover_hears_in mid heard v.mover).volume in
+    lengthens_trans d.chunks heard_so.chunks (mover_hands halts heard_so).volume.chunks (hears_lengthens mid heard v.mover) (hands_lengthens halts heard_so)
+
+steps_lengthen_at : (halts : List Halt) (group : Option ℕ) (v : VolumeRun) → Lengthens v.chunks (mover_steps_at halts group v).volume.chunks
+steps_lengthen_at halts None v = lengthens_refl v.chunks
+steps_lengthen_at halts (Some k) v =
+    let d : Drove = drove halts v.chunks mover_port k in
+    lengthens_trans v.chunks d.chunks (mover_replied halts v k d d.reply).volume.chunks (drove_lengthens halts v.chunks mover_port k) (replied_lengthens halts v k d d.reply)
+
+pub mover_lengthens : (halts : List Halt) (v : VolumeRun) → Lengthens v.chunks (mover_steps halts v).volume.chunks
+unfolding mover_steps
+mover_lengthens halts v = steps_lengthen_at halts (mover_group v) v
+
+pub all_lengthen : (halts : List Halt) (v : VolumeRun) → Lengthens v.chunks (all_step halts v).volume.chunks
+all_lengthen halts v =
+    let mid : VolumeRun = (hosts_step halts v).volume in
+    lengthens_trans v.chunks mid.chunks (mover_steps halts mid).volume.chunks (hosts_lengthen halts v) (mover_lengthens halts mid)

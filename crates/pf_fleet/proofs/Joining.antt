@@ -6,6 +6,8 @@ use Rattle.pf_network.proofs.Lists.{at_end, set_length}
 use Rattle.pf_mount.specs.declared.work.Work.{Work}
 use Rattle.pf_mount.specs.declared.work.Work.TheVariants.{Rests, Fails, ReadsSuper, WritesSuper, Syncs, Ballots, Pauses, Moves}
 use Rattle.pf_volume.specs.Volumes.{Extent, size_of}
+use Rattle.pf_move.specs.Routes.{RoutesIs}
+use Rattle.pf_chunk.specs.Runs.{mover_port}
 use Rattle.pf_chunk.specs.Views.{ChunkIs}
 use Rattle.pf_hosts.specs.Calling.{HasBegunCall, HasMade}
 use Rattle.pf_hosts.specs.Hosts.{HostIs, Stepped}
@@ -15,7 +17,7 @@ use Rattle.pf_hosts.proofs.Stepping.{gone_grown}
 use Rattle.pf_fleet.specs.Calls.{HasCalled, HasJoined}
 use Rattle.pf_fleet.specs.Steps.{FleetIs, IsFleetOf, IsHostAt, stands_at}
 use Rattle.pf_fleet.specs.Volumes.{Hosts, host_at, joined, there, with_host}
-use Rattle.pf_fleet.proofs.Keeping.{HasPorts, fleet_keeps, fleet_with_host, gone_ports, others_put}
+use Rattle.pf_fleet.proofs.Keeping.{fleet_keeps, fleet_with_host, gone_ports, others_put, same_ports}
 
 -- Hosts come
 
@@ -31,10 +33,10 @@ abbrev pub with_new : FleetIs → HostIs → FleetIs
 with_new f host = record f { hosts = f.hosts ++ Some host ∷ [] }
 
 -- a new mount writes nothing, since it asks
-made_quietly : (n : ℕ) (v : Extent) (old new : List ChunkIs) (host : HostIs) (h : HasMade n v old new host) → text_of h.told ≡ []
-made_quietly n v old new host h = sym (ap (λ (s : Stepped). text_of s.told) (h.run []))
+made_quietly : (routes : RoutesIs) (n : ℕ) (v : Extent) (old new : List ChunkIs) (host : HostIs) (h : HasMade routes n v old new host) → text_of h.told ≡ []
+made_quietly routes n v old new host h = sym (ap (λ (s : Stepped). text_of s.told) (h.run []))
 
-module _ (old : List ChunkIs) (f : FleetIs) (is : IsFleetOf old f) (new : List ChunkIs) (host : HostIs) (h : HasMade (length f.hosts) f.volume old new host) (few : length f.hosts < 16) (large : 4112 ≤ size_of f.volume) where
+module _ (old : List ChunkIs) (f : FleetIs) (is : IsFleetOf old f) (new : List ChunkIs) (host : HostIs) (h : HasMade f.routes (length f.hosts) f.volume old new host) (few : length f.hosts < 16) (large : 4112 ≤ size_of f.volume) where
   one_more : length (with_new f host).hosts ≡ length f.hosts + 1
   one_more = length-append f.hosts (Some host ∷ [])
 
@@ -48,14 +50,16 @@ module _ (old : List ChunkIs) (f : FleetIs) (is : IsFleetOf old f) (new : List C
   joined_fleet = fleet_keeps (length f.hosts) old new f (with_new f host) (record {
     count = h.gone.count;
     stay = λ n other. gone_ports (length f.hosts) n old new h.gone other;
+    mover_stay = gone_ports (length f.hosts) mover_port old new h.gone (λ e. absurd (omega (arith, e, few)));
     volume = refl;
+    routes = (refl, refl);
     calls = omega arith;
     few = omega (arith, one_more, few);
     large = λ some. large;
     others = λ n other. ap there (joined_elsewhere f.hosts (Some host) n other);
     past = λ n other high. omega (arith, one_more, high);
     its = λ x at. subst (IsHostAt new (with_new f host) (length f.hosts)) (new_is_last x at) new_is_host;
-    quiet = λ high. absurd (omega (arith, one_more, high));
+    quiet = λ high under. absurd (omega (arith, one_more, high));
   }) is
 
   pub host_joined : HasJoined old f (length f.hosts) new (with_new f host)
@@ -66,11 +70,12 @@ module _ (old : List ChunkIs) (f : FleetIs) (is : IsFleetOf old f) (new : List C
       is_fleet = joined_fleet;
       grown = gone_grown (length f.hosts) old new h.gone;
       told = h.told;
-      put = sym (made_quietly (length f.hosts) f.volume old new host h);
+      put = sym (made_quietly f.routes (length f.hosts) f.volume old new host h);
       run = λ halts tells. ap (joined (stands_at halts old f)) (h.run halts);
     };
     count = omega (arith, one_more);
     volume = refl;
+    routes = (refl, refl);
     calls = refl;
   }
 
@@ -93,12 +98,12 @@ it_rests work not_at_work = elim (rests_or_not work) [ inl rests ↦ rests | inr
 module _ (m : ℕ) (old : List ChunkIs) (f : FleetIs) (is : IsFleetOf old f) (host : HostIs) (at : host_at f.hosts m ≡ Some host) where
   -- fewer calls of it were begun than of all
   pub call_fits : (most : ℕ) → f.calls + 1 < most → host.mount.files.calls + 1 < most
-  call_fits most few = omega (arith, few, (is.each m host at).calls)
+  call_fits most few = omega (arith, few, (is.are_hosts.each m host at).calls)
 
-  pub host_called : (call : Call) (before after : List ℕ) (new : List ChunkIs) (next : HostIs) → host.mount.work ≡ Rests → HasBegunCall call old before host new after next
+  pub host_called : (call : Call) (before after : List ℕ) (new : List ChunkIs) (next : HostIs) → host.mount.work ≡ Rests → HasBegunCall f.routes call old before host new after next
       → HasCalled m call old f before new (record f { hosts = slice_set f.hosts m (Some next); calls = f.calls + 1 }) after
   host_called call before after new next rests h =
-      let here : IsHostAt old f m host = is.each m host at in
+      let here : IsHostAt old f m host = is.are_hosts.each m host at in
       let gone : HaveGone m old new = subst (λ n. HaveGone n old new) here.number h.gone in record {
         host = host;
         there = at;
@@ -115,13 +120,11 @@ module _ (m : ℕ) (old : List ChunkIs) (f : FleetIs) (is : IsFleetOf old f) (ho
         };
         count = set_length f.hosts m (Some next);
         volume = refl;
+        routes = (refl, refl);
         calls = omega arith;
       }
 
 -- They go
-
-same_ports : (n : ℕ) (chunks : List ChunkIs) → HasPorts n chunks chunks
-same_ports n chunks = record { count = refl; each = λ k was is at to. ap (λ (c : ChunkIs). slice_get c.ports n) (same_Some is was (sym to ∙ at)) }
 
 none_put : (hosts : Hosts) (m : ℕ) → host_at (slice_set hosts m None) m ≡ None
 none_put [] m = refl
@@ -136,12 +139,14 @@ fleet_without m chunks f is =
     fleet_keeps m chunks chunks f g (record {
       count = refl;
       stay = λ n other. same_ports n chunks;
+      mover_stay = same_ports mover_port chunks;
       volume = refl;
+      routes = (refl, refl);
       calls = omega arith;
-      few = omega (arith, count, is.few);
-      large = λ some. is.large (λ none. some (count ∙ none));
+      few = omega (arith, count, is.are_hosts.few);
+      large = λ some. is.are_hosts.large (λ none. some (count ∙ none));
       others = λ n other. others_put f.hosts m n None other;
       past = λ n other high. omega (arith, count, high);
       its = λ host at. let none = none_put f.hosts m in absurd (cc);
-      quiet = λ high. is.free m (omega (arith, count, high));
+      quiet = λ high under. is.are_hosts.free m (omega (arith, count, high)) under;
     }) is

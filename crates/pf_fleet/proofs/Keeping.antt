@@ -1,17 +1,22 @@
--- The hosts of a volume stay those of its chunks.
+-- The hosts of a volume stay those of its groups.
 use Rattle.std.proofs.Common.{◌≡◌, ◌≢◌, ℕ, ◌<◌, ◌≤◌, List, length, Option, Some, None, slice_get, slice_set, inl, inr, refl, sym, ap, subst, ◌∙◌, arith}
 use Rattle.std.proofs.lemmas.Bool.{cases_eq}
 use Rattle.std.proofs.lemmas.Option.{same_Some, slice_get_within}
 use Rattle.pf_entry.proofs.Lists.{set_there}
 use Rattle.pf_network.proofs.Lists.{set_elsewhere, set_length, something_there}
 use Rattle.pf_volume.specs.Volumes.{Extent, IsVolume, size_of}
+use Rattle.pf_move.specs.declared.mover.Asked.{Asked}
+use Rattle.pf_move.specs.declared.routes.Moving.{Moving}
+use Rattle.pf_move.specs.Movers.{MoverIs}
+use Rattle.pf_move.specs.Routes.{AreRouted, Between, RoutesIs, between}
+use Rattle.pf_chunk.specs.Runs.{mover_port}
 use Rattle.pf_chunk.specs.Views.{ChunkIs}
 use Rattle.pf_hosts.specs.Hosts.{HostIs, number_of}
 use Rattle.pf_hosts.specs.Parts.{AreQuiet}
-use Rattle.pf_hosts.specs.Steps.{HaveGone, IsAsking, IsHostOf}
+use Rattle.pf_hosts.specs.Steps.{HaveGone, IsAskingAt, IsHostOf}
 use Rattle.pf_hosts.proofs.Driving.{one_by_one}
-use Rattle.pf_fleet.specs.Steps.{FleetIs, IsFleetOf, IsHostAt}
-use Rattle.pf_fleet.specs.Volumes.{Hosts, host_at, there}
+use Rattle.pf_fleet.specs.Steps.{AreHostsOf, AwaitsAt, FleetIs, HasMover, IsFleetOf, IsHostAt}
+use Rattle.pf_fleet.specs.Volumes.{Hosts, asked_group, host_at, there}
 
 -- the ports of mount n are as they were
 pub record HasPorts (n : ℕ) (old new : List ChunkIs) : Type 0 where
@@ -29,11 +34,14 @@ one_ports n k old was is at ports = record {
   each = one_by_one n k old was is at (λ x y. slice_get y.ports n ≡ slice_get x.ports n) (ap (λ ps. slice_get ps n) ports) (λ c. refl);
 }
 
+pub same_ports : (n : ℕ) (chunks : List ChunkIs) → HasPorts n chunks chunks
+same_ports n chunks = record { count = refl; each = λ k was is at to. ap (λ (c : ChunkIs). slice_get c.ports n) (same_Some is was (sym to ∙ at)) }
+
 module _ (n : ℕ) (old new : List ChunkIs) (stay : HasPorts n old new) where
-  before : (k : ℕ) (is : ChunkIs) → slice_get new k ≡ Some is → (was : ChunkIs) × (slice_get old k ≡ Some was)
+  pub before : (k : ℕ) (is : ChunkIs) → slice_get new k ≡ Some is → (was : ChunkIs) × (slice_get old k ≡ Some was)
   before k is at = something_there old k (subst (λ c. k < c) stay.count (slice_get_within new k is at))
 
-  after : (k : ℕ) (was : ChunkIs) → slice_get old k ≡ Some was → (is : ChunkIs) × (slice_get new k ≡ Some is)
+  pub after : (k : ℕ) (was : ChunkIs) → slice_get old k ≡ Some was → (is : ChunkIs) × (slice_get new k ≡ Some is)
   after k was at = something_there new k (subst (λ c. k < c) (sym stay.count) (slice_get_within old k was at))
 
   pub quiet_stays : AreQuiet n old → AreQuiet n new
@@ -41,92 +49,78 @@ module _ (n : ℕ) (old new : List ChunkIs) (stay : HasPorts n old new) where
       let was = before k is at in
       quiet k was.0 was.1 port (sym (stay.each k was.0 is was.1 at) ∙ its)
 
-  module _ (host : HostIs) (number : number_of host.mount ≡ n) where
+  module _ (routes : RoutesIs) (host : HostIs) (number : number_of host.mount ≡ n) where
     port_stays : (k : ℕ) (was is : ChunkIs) → slice_get old k ≡ Some was → slice_get new k ≡ Some is → slice_get is.ports (number_of host.mount) ≡ slice_get was.ports (number_of host.mount)
     port_stays k was is at to = subst (λ m. slice_get is.ports m ≡ slice_get was.ports m) (sym number) (stay.each k was is at to)
 
-    asking_stays : (k : ℕ) → (c : ChunkIs) × (slice_get old k ≡ Some c) × IsAsking host.mount k c → (c : ChunkIs) × (slice_get new k ≡ Some c) × IsAsking host.mount k c
-    asking_stays k (was, at, asking) =
-        let is = after k was at in (
-          is.0,
-          is.1,
-          record {
-            port = asking.port;
-            there = port_stays k was is.0 at is.1 ∙ asking.there;
-            ask = asking.ask;
-            pending = asking.pending;
-            of_chunk = asking.of_chunk;
-            awaits = asking.awaits;
-          },
-        )
+    asking_stays : (chunk : ℕ) → IsAskingAt routes old host.mount chunk → IsAskingAt routes new host.mount chunk
+    asking_stays chunk at =
+        let is = after at.k at.c at.there in record {
+          k = at.k;
+          home = at.home;
+          c = is.0;
+          there = is.1;
+          asking = record {
+            port = at.asking.port;
+            there = port_stays at.k at.c is.0 at.there is.1 ∙ at.asking.there;
+            ask = at.asking.ask;
+            pending = at.asking.pending;
+            of_chunk = at.asking.of_chunk;
+            awaits = at.asking.awaits;
+          };
+        }
 
-    pub host_stays : IsHostOf old host → IsHostOf new host
+    pub host_stays : IsHostOf routes old host → IsHostOf routes new host
     host_stays is_host = record {
-      volume = is_host.volume ∙ sym stay.count;
-      asking = λ k at. asking_stays k (is_host.asking k at);
+      volume = is_host.volume;
+      asking = λ chunk at. asking_stays chunk (is_host.asking chunk at);
       quiet = λ k is other at port its.
           let was = before k is at in
           is_host.quiet k was.0 other was.1 port (sym (port_stays k was.0 is was.1 at) ∙ its);
       resting = is_host.resting;
     }
 
+  awaits_stay : n ≡ mover_port → (mover : MoverIs) (asked : Asked) (k : ℕ) → AwaitsAt old mover asked k → AwaitsAt new mover asked k
+  awaits_stay number mover asked k at =
+      let is = after k at.c at.there in record {
+        c = is.0;
+        there = is.1;
+        port = at.port;
+        its = subst (λ m. slice_get is.0.ports m ≡ slice_get at.c.ports m) number (stay.each k at.c is.0 at.there is.1) ∙ at.its;
+        ask = at.ask;
+        pending = at.pending;
+        of_kind = at.of_kind;
+      }
+
+-- a mover whose ports are as they were
+pub mover_stays : (old new : List ChunkIs) → HasPorts mover_port old new → (sectors : ℕ) (moving : Option Moving) (b : Option Between) (mover : Option MoverIs) → HasMover old sectors moving b mover → HasMover new sectors moving b mover
+mover_stays old new stay sectors (Some moving) (Some b) (Some mover) is = record {
+  chunk = is.chunk;
+  pieces = is.pieces;
+  going = is.going;
+  asked = is.asked;
+  asks = is.asks;
+  awaits = awaits_stay mover_port old new stay refl mover is.asked (asked_group b is.asked) is.awaits;
+  quiet = λ k c other at port its.
+      let was = before mover_port old new stay k c at in
+      is.quiet k was.0 other was.1 port (sym (stay.each k was.0 c was.1 at) ∙ its);
+}
+mover_stays old new stay sectors (Some moving) (Some b) None is = absurd is
+mover_stays old new stay sectors (Some moving) None (Some mover) is = absurd is
+mover_stays old new stay sectors (Some moving) None None is = absurd is
+mover_stays old new stay sectors None (Some b) (Some mover) is = absurd is
+mover_stays old new stay sectors None (Some b) None quiet = quiet_stays mover_port old new stay quiet
+mover_stays old new stay sectors None None (Some mover) is = absurd is
+mover_stays old new stay sectors None None None quiet = quiet_stays mover_port old new stay quiet
+
 -- a host whose ports are as they were
-pub at_stays : (old new : List ChunkIs) (f g : FleetIs) (m : ℕ) (host : HostIs) → HasPorts m old new → g.volume ≡ f.volume → f.calls ≤ g.calls → IsHostAt old f m host → IsHostAt new g m host
-at_stays old new f g m host stay volume calls is = record {
+pub at_stays : (old new : List ChunkIs) (f g : FleetIs) (m : ℕ) (host : HostIs) → HasPorts m old new → g.volume ≡ f.volume → g.routes ≡ f.routes → f.calls ≤ g.calls → IsHostAt old f m host → IsHostAt new g m host
+at_stays old new f g m host stay volume routes calls is = record {
   number = is.number;
   volume = is.volume ∙ sym volume;
-  is_host = host_stays m old new stay host is.number is.is_host;
+  is_host = subst (λ (r : RoutesIs). IsHostOf r new host) (sym routes) (host_stays m old new stay f.routes host is.number is.is_host);
   calls = omega (arith, is.calls, calls);
 }
-
--- the same hosts, where all ports are as they were
-pub fleet_stays : (old new : List ChunkIs) (f : FleetIs) → length new ≡ length old → ((n : ℕ) → HasPorts n old new) → IsFleetOf old f → IsFleetOf new f
-fleet_stays old new f count stay is = record {
-  volume = is.volume;
-  count = is.count ∙ sym count;
-  few = is.few;
-  large = is.large;
-  each = λ m host at. at_stays old new f f m host (stay m) refl (omega arith) (is.each m host at);
-  free = λ m high. quiet_stays m old new (stay m) (is.free m high);
-}
-
--- An event of one chunk
-pub fleet_after_event : (k : ℕ) (old : List ChunkIs) (was is : ChunkIs) (f : FleetIs) → slice_get old k ≡ Some was → is.ports ≡ was.ports → IsFleetOf old f → IsFleetOf (slice_set old k is) f
-fleet_after_event k old was is f at ports = fleet_stays old (slice_set old k is) f (set_length old k is) (λ n. one_ports n k old was is at ports)
-
--- Hosts that differ at mount m alone, whose ports alone may be others
-pub record DifferAt (m : ℕ) (old new : List ChunkIs) (f g : FleetIs) : Type 0 where
-  pub count : length new ≡ length old
-  pub stay : (n : ℕ) → n ≢ m → HasPorts n old new
-  pub volume : g.volume ≡ f.volume
-  pub calls : f.calls ≤ g.calls
-  pub few : length g.hosts ≤ 16
-  pub large : length g.hosts ≢ 0 → 4112 ≤ size_of f.volume
-  pub others : (n : ℕ) → n ≢ m → host_at g.hosts n ≡ host_at f.hosts n
-  pub past : (n : ℕ) → n ≢ m → length g.hosts ≤ n → length f.hosts ≤ n
-  pub its : (host : HostIs) → host_at g.hosts m ≡ Some host → IsHostAt new g m host
-  pub quiet : length g.hosts ≤ m → AreQuiet m new
-
-pub fleet_keeps : (m : ℕ) (old new : List ChunkIs) (f g : FleetIs) → DifferAt m old new f g → IsFleetOf old f → IsFleetOf new g
-fleet_keeps m old new f g d is = record {
-  volume = subst IsVolume (sym d.volume) is.volume;
-  count = ap (λ (v : Extent). v.chunks) d.volume ∙ is.count ∙ sym d.count;
-  few = d.few;
-  large = λ some. subst (λ v. 4112 ≤ size_of v) (sym d.volume) (d.large some);
-  each = each;
-  free = free;
-} where
-  each : (n : ℕ) (host : HostIs) → host_at g.hosts n ≡ Some host → IsHostAt new g n host
-  each n host at = elim (cases_eq n m) [
-    | inl same ↦ subst (λ k. IsHostAt new g k host) (sym same) (d.its host (subst (λ k. host_at g.hosts k ≡ Some host) same at))
-    | inr other ↦ at_stays old new f g n host (d.stay n other) d.volume d.calls (is.each n host (sym (d.others n other) ∙ at))
-  ]
-
-  free : (n : ℕ) → length g.hosts ≤ n → AreQuiet n new
-  free n high = elim (cases_eq n m) [
-    | inl same ↦ subst (λ k. AreQuiet k new) (sym same) (d.quiet (subst (λ k. length g.hosts ≤ k) same high))
-    | inr other ↦ quiet_stays n old new (d.stay n other) (is.free n (d.past n other high))
-  ]
 
 -- Host m is put in its place
 
@@ -137,6 +131,88 @@ place_there hosts m host is = by (slice_get hosts m) refl is where
   by None at none = absurd (cc)
   by (Some it) at is_it = at ∙ ap (λ (x : Option HostIs). Some x) is_it
 
+-- its number is below the mover's
+pub host_is_low : (hosts : Hosts) (m : ℕ) (host : HostIs) → host_at hosts m ≡ Some host → length hosts ≤ 16 → m < mover_port
+host_is_low hosts m host at few = omega (arith, few, slice_get_within hosts m (Some host) (place_there hosts m host at))
+
+-- the same hosts, where all ports of theirs are as they were
+pub hosts_stay : (old new : List ChunkIs) (f g : FleetIs) → length new ≡ length old → ((n : ℕ) → n < mover_port → HasPorts n old new) → (g.hosts ≡ f.hosts) × (g.calls ≡ f.calls) × (g.volume ≡ f.volume) × (g.routes ≡ f.routes) → AreHostsOf old f → AreHostsOf new g
+hosts_stay old new f g count stay (hosts, calls, volume, routes) is = record {
+  volume = subst IsVolume (sym volume) is.volume;
+  groups = subst (λ n. n ≤ 8) (sym count) is.groups;
+  count = ap (λ (v : Extent). v.chunks) volume ∙ is.count ∙ ap (λ (r : RoutesIs). length r.routes) (sym routes);
+  routed = subst (AreRouted (length new)) (sym routes) (subst (λ n. AreRouted n f.routes) (sym count) is.routed);
+  few = subst (λ (hs : Hosts). length hs ≤ 16) (sym hosts) is.few;
+  large = λ some. subst (λ v. 4112 ≤ size_of v) (sym volume) (is.large (λ none. some (ap (λ (hs : Hosts). length hs) hosts ∙ none)));
+  each = λ m host at.
+      let at_old : host_at f.hosts m ≡ Some host = ap (λ (hs : Hosts). host_at hs m) (sym hosts) ∙ at in
+      at_stays old new f g m host (stay m (host_is_low f.hosts m host at_old is.few)) volume routes (omega (arith, calls)) (is.each m host at_old);
+  free = λ m high low. quiet_stays m old new (stay m low) (is.free m (subst (λ (hs : Hosts). length hs ≤ m) hosts high) low);
+}
+
+-- they know nothing of the mover
+pub hosts_of : (chunks : List ChunkIs) (f : FleetIs) (mover : Option MoverIs) → AreHostsOf chunks f → AreHostsOf chunks (record f { mover = mover })
+hosts_of chunks f mover is = hosts_stay chunks chunks f (record f { mover = mover }) refl (λ n low. same_ports n chunks) (refl, refl, refl, refl) is
+
+pub fleet_stays : (old new : List ChunkIs) (f : FleetIs) → length new ≡ length old → ((n : ℕ) → HasPorts n old new) → IsFleetOf old f → IsFleetOf new f
+fleet_stays old new f count stay is = record {
+  are_hosts = hosts_stay old new f f count (λ n low. stay n) (refl, refl, refl, refl) is.are_hosts;
+  mover = mover_stays old new (stay mover_port) f.volume.sectors f.routes.moving (between f.routes) f.mover is.mover;
+}
+
+-- An event of one chunk
+pub fleet_after_event : (k : ℕ) (old : List ChunkIs) (was is : ChunkIs) (f : FleetIs) → slice_get old k ≡ Some was → is.ports ≡ was.ports → IsFleetOf old f → IsFleetOf (slice_set old k is) f
+fleet_after_event k old was is f at ports = fleet_stays old (slice_set old k is) f (set_length old k is) (λ n. one_ports n k old was is at ports)
+
+-- Hosts that differ at mount m alone, whose ports alone may be others
+pub record DifferAt (m : ℕ) (old new : List ChunkIs) (f g : FleetIs) : Type 0 where
+  pub count : length new ≡ length old
+  pub stay : (n : ℕ) → n ≢ m → HasPorts n old new
+  pub mover_stay : HasPorts mover_port old new
+  pub volume : g.volume ≡ f.volume
+  pub routes : (g.routes ≡ f.routes) × (g.mover ≡ f.mover)
+  pub calls : f.calls ≤ g.calls
+  pub few : length g.hosts ≤ 16
+  pub large : length g.hosts ≢ 0 → 4112 ≤ size_of f.volume
+  pub others : (n : ℕ) → n ≢ m → host_at g.hosts n ≡ host_at f.hosts n
+  pub past : (n : ℕ) → n ≢ m → length g.hosts ≤ n → length f.hosts ≤ n
+  pub its : (host : HostIs) → host_at g.hosts m ≡ Some host → IsHostAt new g m host
+  pub quiet : length g.hosts ≤ m → m < mover_port → AreQuiet m new
+
+module _ (m : ℕ) (old new : List ChunkIs) (f g : FleetIs) (d : DifferAt m old new f g) where
+  hosts_keep : AreHostsOf old f → AreHostsOf new g
+  hosts_keep is = record {
+    volume = subst IsVolume (sym d.volume) is.volume;
+    groups = subst (λ n. n ≤ 8) (sym d.count) is.groups;
+    count = ap (λ (v : Extent). v.chunks) d.volume ∙ is.count ∙ ap (λ (r : RoutesIs). length r.routes) (sym d.routes.0);
+    routed = subst (AreRouted (length new)) (sym d.routes.0) (subst (λ n. AreRouted n f.routes) (sym d.count) is.routed);
+    few = d.few;
+    large = λ some. subst (λ v. 4112 ≤ size_of v) (sym d.volume) (d.large some);
+    each = each;
+    free = free;
+  } where
+    each : (n : ℕ) (host : HostIs) → host_at g.hosts n ≡ Some host → IsHostAt new g n host
+    each n host at = elim (cases_eq n m) [
+      | inl same ↦ subst (λ k. IsHostAt new g k host) (sym same) (d.its host (subst (λ k. host_at g.hosts k ≡ Some host) same at))
+      | inr other ↦ at_stays old new f g n host (d.stay n other) d.volume d.routes.0 d.calls (is.each n host (sym (d.others n other) ∙ at))
+    ]
+
+    free : (n : ℕ) → length g.hosts ≤ n → n < mover_port → AreQuiet n new
+    free n high low = elim (cases_eq n m) [
+      | inl same ↦ subst (λ k. AreQuiet k new) (sym same) (d.quiet (subst (λ k. length g.hosts ≤ k) same high) (subst (λ k. k < mover_port) same low))
+      | inr other ↦ quiet_stays n old new (d.stay n other) (is.free n (d.past n other high) low)
+    ]
+
+  pub fleet_keeps : IsFleetOf old f → IsFleetOf new g
+  fleet_keeps is =
+      let stays = mover_stays old new d.mover_stay f.volume.sectors f.routes.moving (between f.routes) f.mover is.mover in record {
+        are_hosts = hosts_keep is.are_hosts;
+        mover =
+            subst (λ (v : Extent). HasMover new v.sectors g.routes.moving (between g.routes) g.mover) (sym d.volume)
+            (subst (λ (r : RoutesIs). HasMover new f.volume.sectors r.moving (between r) g.mover) (sym d.routes.0)
+            (subst (λ (mover : Option MoverIs). HasMover new f.volume.sectors f.routes.moving (between f.routes) mover) (sym d.routes.1) stays));
+      }
+
 pub host_put : (hosts : Hosts) (m : ℕ) (host next : HostIs) → host_at hosts m ≡ Some host → host_at (slice_set hosts m (Some next)) m ≡ Some next
 host_put hosts m host next is = ap there (set_there hosts m (Some host) (Some next) (place_there hosts m host is))
 
@@ -144,7 +220,7 @@ pub others_put : (hosts : Hosts) (m n : ℕ) (next : Option HostIs) → n ≢ m 
 others_put hosts m n next other = ap there (set_elsewhere hosts m n next other)
 
 -- a host goes on, and so do the chunks
-pub fleet_with_host : (m : ℕ) (old new : List ChunkIs) (f : FleetIs) (host next : HostIs) (calls : ℕ) → IsFleetOf old f → host_at f.hosts m ≡ Some host → HaveGone m old new → IsHostOf new next
+pub fleet_with_host : (m : ℕ) (old new : List ChunkIs) (f : FleetIs) (host next : HostIs) (calls : ℕ) → IsFleetOf old f → host_at f.hosts m ≡ Some host → HaveGone m old new → IsHostOf f.routes new next
     → number_of next.mount ≡ m → next.mount.files.volume ≡ f.volume → next.mount.files.calls ≤ calls → f.calls ≤ calls
     → IsFleetOf new (record f { hosts = slice_set f.hosts m (Some next); calls = calls })
 fleet_with_host m old new f host next calls is at gone is_host number volume few more =
@@ -154,13 +230,15 @@ fleet_with_host m old new f host next calls is at gone is_host number volume few
     fleet_keeps m old new f g (record {
       count = gone.count;
       stay = λ n other. gone_ports m n old new gone other;
+      mover_stay = gone_ports m mover_port old new gone (λ e. let under = host_is_low f.hosts m host at is.are_hosts.few in absurd (omega (arith, e, under)));
       volume = refl;
+      routes = (refl, refl);
       calls = more;
-      few = subst (λ n. n ≤ 16) (sym length_is) is.few;
-      large = λ some. is.large (λ none. some (length_is ∙ none));
+      few = subst (λ n. n ≤ 16) (sym length_is) is.are_hosts.few;
+      large = λ some. is.are_hosts.large (λ none. some (length_is ∙ none));
       others = λ n other. others_put f.hosts m n (Some next) other;
       past = λ n other high. subst (λ c. c ≤ n) length_is high;
       its = λ x at_x. subst (λ (h : HostIs). IsHostAt new g m h) (same_Some next x (sym (host_put f.hosts m host next at) ∙ at_x))
           (record { number = number; volume = volume; is_host = is_host; calls = few });
-      quiet = λ high. absurd (omega (arith, high, length_is, low));
+      quiet = λ high under. absurd (omega (arith, high, length_is, low));
     }) is

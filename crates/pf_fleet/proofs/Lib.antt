@@ -5,6 +5,10 @@ pub mod Parts
 pub mod Events
 pub mod Steps
 pub mod Joining
+pub mod Routing
+pub mod Driving
+pub mod Taking
+pub mod Beginning
 pub mod SameChunks
 pub mod Places
 pub mod Rooms

@@ -19,7 +19,7 @@ use Rattle.pf_hosts.proofs.Stepping.{told_both}
 use Rattle.pf_fleet.specs.Nexts.{AllBegin, AllMoveUp, IsNext}
 use Rattle.pf_fleet.specs.Settling.{Name, goes_on, having_told, settle_to, tried}
 use Rattle.pf_fleet.specs.Steps.{AllStay, AreSameHosts, FleetIs, HasGone, IsFleetOf, stands_at}
-use Rattle.pf_fleet.specs.Volumes.{Told, hosts_step}
+use Rattle.pf_fleet.specs.Volumes.{Told, all_step}
 use Rattle.pf_fleet.proofs.Events.{event_and_steps, event_then_steps}
 use Rattle.pf_fleet.proofs.Growing.{all_told, grown_trans_all, tells_before, told_before}
 use Rattle.pf_fleet.proofs.Places.{begin_ready, begin_same, move_ready, move_same}
@@ -48,7 +48,7 @@ begins limit old fleet out now ready is_fleet b =
     let same = begin_same old now b in
     let grown = same_grown old now same in
     let are_ready = begin_ready old now b ready in
-    let few : length now ≤ 8 = omega (arith, is_fleet.volume.few_chunks, is_fleet.count, b.count) in
+    let few : length now ≤ 8 = omega (arith, is_fleet.are_hosts.groups, b.count) in
     record {
       ready = are_ready;
       is_fleet = same_fleet old now same fleet is_fleet;
@@ -115,10 +115,10 @@ found limit old fleet before left out head mid so_far now m place d next = recor
   next = next;
 }
 
--- one try, and the steps of the hosts
+-- one try, and the steps of the hosts and of the mover
 module _ (limit : ℕ) (old : List ChunkIs) (fleet : FleetIs) (before : List ℕ) (left : ℕ) (out : List ℕ) (now : List ChunkIs) (mid : FleetIs) (place : ℕ) (c : ChunkIs) (has : HasNext limit old fleet before (suc left) out now mid place c)
     (which : Try) (middle : List ℕ) (is : ChunkIs) (t : HasTried c out which middle is) (low : c.next < most_packets)
-    (new : List ChunkIs) (last : FleetIs) (after : List ℕ) (steps : HasGone hosts_step (slice_set now place is) mid middle new last after) (same : AreSameHosts mid last) (stay : AllStay (slice_set now place is) new) where
+    (new : List ChunkIs) (last : FleetIs) (after : List ℕ) (steps : HasGone all_step (slice_set now place is) mid middle new last after) (same : AreSameHosts mid last) (stay : AllStay (slice_set now place is) new) where
   went : HasGone (event_and_steps (delivery c) c) now mid out new last after
   went = event_then_steps (delivery c) place now c is mid has.there has.so_far.ready has.so_far.is_fleet out middle t.answer t.went new last after steps
 

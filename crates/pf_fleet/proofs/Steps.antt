@@ -1,4 +1,4 @@
--- Steps of the hosts of a volume.
+-- Steps of the hosts of a volume, and of its mover.
 use Rattle.std.proofs.Common.{◌≡◌, ℕ, ◌+◌, ◌-◌, ◌<◌, List, [], ◌∷◌, ◌++◌, length, Option, Some, None, slice_set, append-nil, append_assoc, refl, sym, ap, subst, ◌∙◌, arith}
 use Rattle.std.specs.List.{range_with_len}
 use Rattle.pf_network.proofs.Lists.{set_length}
@@ -9,8 +9,8 @@ use Rattle.pf_hosts.specs.Hosts.{HostIs, Stepped, number_of}
 use Rattle.pf_hosts.specs.Steps.{AreReady, HasNotStepped, HasStepped, HaveBegun, HaveGone}
 use Rattle.pf_hosts.proofs.Stepping.{gone_grown}
 use Rattle.pf_fleet.specs.Steps.{AllStay, AreSameHosts, FleetIs, HasGone, HasStopped, IsFleetOf, stands_at}
-use Rattle.pf_fleet.specs.Volumes.{Told, VolumeRun, after_telling, followed, host_at, host_steps, hosts_step, step_of, these_step, with_host}
-use Rattle.pf_fleet.proofs.Growing.{gone_stays, grown_refl_all, stay_refl, stay_trans, these_lengthen}
+use Rattle.pf_fleet.specs.Volumes.{Told, VolumeRun, after_telling, all_step, followed, host_at, host_steps, hosts_step, mover_steps, step_of, these_step, with_host}
+use Rattle.pf_fleet.proofs.Growing.{gone_stays, grown_refl_all, mover_lengthens, stay_refl, stay_trans, these_lengthen}
 use Rattle.pf_fleet.proofs.Keeping.{fleet_with_host}
 use Rattle.pf_fleet.proofs.Lists.{range_parts}
 use Rattle.pf_fleet.proofs.Parts.{gone_as, stopped_as, stopped_on, then_stopped, went_on}
@@ -44,15 +44,15 @@ module _ (m : ℕ) (old : List ChunkIs) (f : FleetIs) (is_fleet : IsFleetOf old 
 
   module _ (host : HostIs) (at : host_at f.hosts m ≡ Some host) where
     number_is : number_of host.mount ≡ m
-    number_is = (is_fleet.each m host at).number
+    number_is = (is_fleet.are_hosts.each m host at).number
 
-    module _ (before after : List ℕ) (new : List ChunkIs) (next : HostIs) (h : HasStepped old before host new after next) where
+    module _ (before after : List ℕ) (new : List ChunkIs) (next : HostIs) (h : HasStepped f.routes old before host new after next) where
       gone_at : HaveGone m old new
       gone_at = subst (λ n. HaveGone n old new) number_is h.gone
 
       pub host_went : HasGone (λ halts v. host_steps halts m v) old f before new (fleet_with f m next) after
       host_went =
-          let is = is_fleet.each m host at in record {
+          let is = is_fleet.are_hosts.each m host at in record {
             ready = h.ready;
             is_fleet = fleet_with_host m old new f host next f.calls is_fleet at gone_at h.is_host (h.number ∙ number_is) (h.volume ∙ is.volume) (omega (arith, h.calls, is.calls)) (omega arith);
             grown = gone_grown m old new gone_at;
@@ -66,7 +66,7 @@ module _ (m : ℕ) (old : List ChunkIs) (f : FleetIs) (is_fleet : IsFleetOf old 
       pub host_stays : AllStay old new
       host_stays = gone_stays m old new gone_at
 
-    pub host_stopped : (new : List ChunkIs) → HasNotStepped old host new → HasStopped (λ halts v. host_steps halts m v) old f new
+    pub host_stopped : (new : List ChunkIs) → HasNotStepped f.routes old host new → HasStopped (λ halts v. host_steps halts m v) old f new
     host_stopped new h = record {
       grown = h.grown;
       begun = λ halts tells.
@@ -122,14 +122,25 @@ module _ (old : List ChunkIs) (f : FleetIs) (before : List ℕ) (n : ℕ) (now :
     stay = stay_trans old now new s.went.grown went.grown s.stay stay;
   }
 
-  pub all_stepped : n ≡ length f.hosts → HasGone hosts_step old f before now g middle
+  all_stepped : n ≡ length f.hosts → HasGone hosts_step old f before now g middle
   unfolding hosts_step
   all_stepped all = gone_as (λ halts v. these_step halts (range_with_len 0 n) v) hosts_step old now f g before middle (λ halts. ap (λ k. these_step halts (range_with_len 0 k) (stands_at halts old f)) (sym all)) s.went
 
+  -- and then the mover its own
+  pub all_went : n ≡ length f.hosts → (new : List ChunkIs) (h : FleetIs) (after : List ℕ) → HasGone mover_steps now g middle new h after → HasGone all_step old f before new h after
+  all_went all new h after went = went_on hosts_step mover_steps old now new f g h before middle after (all_stepped all) went
+
+  pub all_stay : (new : List ChunkIs) (h : FleetIs) (after : List ℕ) → HasGone mover_steps now g middle new h after → AllStay now new → AllStay old new
+  all_stay new h after went stay = stay_trans old now new s.went.grown went.grown s.stay stay
+
+  -- for which there was no memory
+  pub all_stopped : n ≡ length f.hosts → (new : List ChunkIs) → HasStopped mover_steps now g new → HasStopped all_step old f new
+  all_stopped all new stopped = then_stopped hosts_step mover_steps old now new f g before middle (all_stepped all) stopped
+
   -- there was no memory for one of them
-  pub steps_stopped : (new : List ChunkIs) → n < length f.hosts → HasStopped (λ halts v. host_steps halts n v) now g new → HasStopped hosts_step old f new
+  hosts_stopped : (new : List ChunkIs) → n < length f.hosts → HasStopped (λ halts v. host_steps halts n v) now g new → HasStopped hosts_step old f new
   unfolding hosts_step
-  steps_stopped new low stopped =
+  hosts_stopped new low stopped =
       let rest : ℕ = length f.hosts - (n + 1) in
       let whole : length f.hosts ≡ n + 1 + rest = omega (arith, low) in
       stopped_as (λ halts v. followed (these_step halts (range_with_len 0 (n + 1)) v) (λ w. these_step halts (range_with_len (0 + (n + 1)) rest) w)) hosts_step old new f
@@ -142,3 +153,6 @@ module _ (old : List ChunkIs) (f : FleetIs) (before : List ℕ) (n : ℕ) (now :
       (λ halts. these_more halts n (stands_at halts old f))
       (then_stopped (λ halts v. these_step halts (range_with_len 0 n) v) (λ halts v. host_steps halts n v) old now new f g before middle s.went stopped))
       (λ halts v. these_lengthen halts (range_with_len (0 + (n + 1)) rest) v))
+
+  pub steps_stopped : (new : List ChunkIs) → n < length f.hosts → HasStopped (λ halts v. host_steps halts n v) now g new → HasStopped all_step old f new
+  steps_stopped new low stopped = stopped_on hosts_step mover_steps old new f (hosts_stopped new low stopped) mover_lengthens

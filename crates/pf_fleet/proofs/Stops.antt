@@ -19,7 +19,7 @@ use Rattle.pf_fleet.specs.Settling.{Name, Next, Settled, delivered, enough_tries
 use Rattle.pf_fleet.specs.Steps.{FleetIs, HasStopped, stands_at}
 use Rattle.pf_fleet.specs.Volumes.{VolumeRun, happens, with_chunk}
 use Rattle.pf_fleet.proofs.Ends.{goes_nowhere, settled_is}
-use Rattle.pf_fleet.proofs.Growing.{begun_through, grown_trans_all, hosts_lengthen, tells_before}
+use Rattle.pf_fleet.proofs.Growing.{all_lengthen, begun_through, grown_trans_all, tells_before}
 use Rattle.pf_fleet.proofs.Tries.{settle_suc}
 
 -- each chunk has the number of its place
@@ -45,7 +45,7 @@ happens_lengthens : (halts : List Halt) (v : VolumeRun) (h : Happened) (k : ℕ)
 happens_lengthens halts v h k c there number longer =
     let mid : VolumeRun = with_chunk v h.chunk in
     let first : Lengthens v.chunks mid.chunks = subst (λ n. Lengthens v.chunks (slice_set v.chunks n h.chunk)) (sym (longer.0 ∙ number)) (lengthens_one v.chunks k c h.chunk there longer) in
-    lengthens_trans v.chunks mid.chunks (happens halts v h).volume.chunks first (hosts_lengthen halts mid)
+    lengthens_trans v.chunks mid.chunks (happens halts v h).volume.chunks first (all_lengthen halts mid)
 
 delivery_lengthens : (halts : List Halt) (passed : List Name) (v : VolumeRun) (next : Next) → AreInPlace v.chunks → next_of passed v.chunks ≡ Some next → Lengthens v.chunks (happens halts v (delivered halts next)).volume.chunks
 delivery_lengthens halts passed v next place is =

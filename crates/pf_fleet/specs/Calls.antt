@@ -45,6 +45,7 @@ pub record HasJoined (old : List ChunkIs) (fleet : FleetIs) (number : ℕ) (new 
   pub went : HasGone (λ halts v. comes v) old fleet [] new next []
   pub count : length next.hosts ≡ suc (length fleet.hosts)
   pub volume : next.volume ≡ fleet.volume
+  pub routes : (next.routes ≡ fleet.routes) × (next.mover ≡ fleet.mover)
   pub calls : next.calls ≡ fleet.calls
 
 -- a call of host m began, with its paths read
@@ -57,6 +58,7 @@ pub record HasCalled (m : ℕ) (call : Call) (old : List ChunkIs) (fleet : Fleet
   pub went : HasGone (λ halts v. begins m host file v) old fleet before new next after
   pub count : length next.hosts ≡ length fleet.hosts
   pub volume : next.volume ≡ fleet.volume
+  pub routes : (next.routes ≡ fleet.routes) × (next.mover ≡ fleet.mover)
   pub calls : next.calls ≡ suc fleet.calls
 
 -- the cause of each refusal

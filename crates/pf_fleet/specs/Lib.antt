@@ -4,3 +4,4 @@ pub mod Calls
 pub mod Settling
 pub mod Settled
 pub mod Nexts
+pub mod Moves

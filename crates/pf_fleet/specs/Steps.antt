@@ -1,5 +1,14 @@
 -- What happens to a volume on its disks.
-use Rattle.std.specs.Prelude.{◌≡◌, ◌≢◌, ℕ, ◌++◌, ◌≤◌, IsSome, List, length, Some, slice_get}
+use Rattle.std.specs.Prelude.{◌≡◌, ◌≢◌, ℕ, ◌*◌, ◌++◌, ◌<◌, ◌≤◌, IsSome, List, length, Option, Some, None, slice_get}
+use Rattle.pf_base.specs.declared.asks.Ask.{Ask}
+use Rattle.pf_base.specs.declared.asks.Ask.TheVariants as asks
+use Rattle.pf_asks.specs.Ports.{PortIs}
+use Rattle.pf_move.specs.declared.mover.Asked.{Asked}
+use Rattle.pf_move.specs.declared.mover.Asked.TheVariants.{Reading, Writing}
+use Rattle.pf_move.specs.declared.routes.Moving.{Moving}
+use Rattle.pf_move.specs.Movers.{MoverIs, piece}
+use Rattle.pf_move.specs.Routes.{AreRouted, Between, RoutesIs, between}
+use Rattle.pf_chunk.specs.Runs.{mover_port}
 use Rattle.pf_protocol.specs.declared.answers.Answer.{Answer}
 use Rattle.pf_group.specs.GroupIs.{state_of}
 use Rattle.pf_group.specs.Packets.{NoneComesBack}
@@ -12,33 +21,75 @@ use Rattle.pf_hosts.specs.Moments.{Moment, text_of}
 use Rattle.pf_hosts.specs.Hosts.{HostIs, number_of}
 use Rattle.pf_hosts.specs.Parts.{AreQuiet}
 use Rattle.pf_hosts.specs.Steps.{AreReady, HaveBegun, HaveGrown, IsHostOf, TellsAll, runs}
-use Rattle.pf_fleet.specs.Volumes.{Hosts, Told, VolumeRun, happens, host_at}
+use Rattle.pf_fleet.specs.Volumes.{Hosts, Told, VolumeRun, asked_group, happens, host_at}
 
--- the hosts of a volume, and how many calls of them were begun
+-- the hosts of a volume, and how many calls of them were begun; which group serves each chunk, and the mover of the one that is moving
 pub record FleetIs : Type 0 where
   pub volume : Extent
   pub hosts : Hosts
   pub calls : ℕ
+  pub routes : RoutesIs
+  pub mover : Option MoverIs
 
--- where a run stands that came to these chunks and hosts
+-- where a run stands that came to these groups and hosts
 abbrev pub stands_at : List Halt → List ChunkIs → FleetIs → VolumeRun
-stands_at halts chunks f = record { extent = f.volume; chunks = runs halts chunks; hosts = f.hosts }
+stands_at halts chunks f = record { extent = f.volume; chunks = runs halts chunks; hosts = f.hosts; routes = f.routes; mover = f.mover }
 
 -- host m is of this volume
 pub record IsHostAt (chunks : List ChunkIs) (f : FleetIs) (m : ℕ) (host : HostIs) : Type 0 where
   pub number : number_of host.mount ≡ m
   pub volume : host.mount.files.volume ≡ f.volume
-  pub is_host : IsHostOf chunks host
+  pub is_host : IsHostOf f.routes chunks host
   pub calls : host.mount.files.calls ≤ f.calls
 
--- the hosts are those of a volume of these chunks: the ports of a mount that was never made have nothing to ask
-pub record IsFleetOf (chunks : List ChunkIs) (f : FleetIs) : Type 0 where
+-- what the mover asks of its next piece
+abbrev pub IsAskOf : MoverIs → Asked → Ask → Type 0
+IsAskOf mover Reading (asks.Read chunk span) = (chunk ≡ mover.chunk) × (span ≡ piece mover.done)
+IsAskOf mover Writing (asks.Write chunk span sectors) = (chunk ≡ mover.chunk) × (span ≡ piece mover.done)
+IsAskOf mover asked ask = ⊥
+
+-- the mover waits for the answer of this, which it asked of the group at this place
+pub record AwaitsAt (chunks : List ChunkIs) (mover : MoverIs) (asked : Asked) (k : ℕ) : Type 0 where
+  pub c : ChunkIs
+  pub there : slice_get chunks k ≡ Some c
+  pub port : PortIs
+  pub its : slice_get c.ports mover_port ≡ Some port
+  pub ask : Ask
+  pub pending : port.ask ≡ Some ask
+  pub of_kind : IsAskOf mover asked ask
+
+-- it carries the chunk that is moving, and its one ask pends in one of its ports
+pub record IsMoverOf (chunks : List ChunkIs) (sectors : ℕ) (moving : Moving) (b : Between) (mover : MoverIs) : Type 0 where
+  pub chunk : mover.chunk ≡ moving.chunk
+  pub pieces : 8 * mover.pieces ≡ sectors
+  pub going : mover.done < mover.pieces
+  pub asked : Asked
+  pub asks : mover.asked ≡ Some asked
+  pub awaits : AwaitsAt chunks mover asked (asked_group b asked)
+  pub quiet : (k : ℕ) (c : ChunkIs) → k ≢ asked_group b asked → slice_get chunks k ≡ Some c → (port : PortIs) → slice_get c.ports mover_port ≡ Some port → port.ask ≡ None
+
+-- there is a mover exactly while a chunk is moving
+abbrev pub HasMover : (chunks : List ChunkIs) → (sectors : ℕ) → Option Moving → Option Between → Option MoverIs → Type 0
+HasMover chunks sectors (Some moving) (Some b) (Some mover) = IsMoverOf chunks sectors moving b mover
+HasMover chunks sectors None b None = AreQuiet mover_port chunks
+HasMover chunks sectors moving b mover = ⊥
+
+-- The hosts are those of a volume of these groups, at most eight: the ports of a mount that was never made have nothing to ask. The ports of a
+-- group have nothing to ask whose chunk has moved on
+pub record AreHostsOf (chunks : List ChunkIs) (f : FleetIs) : Type 0 where
   pub volume : IsVolume f.volume
-  pub count : f.volume.chunks ≡ length chunks
+  pub groups : length chunks ≤ 8
+  pub count : f.volume.chunks ≡ length f.routes.routes
+  pub routed : AreRouted (length chunks) f.routes
   pub few : length f.hosts ≤ 16
   pub large : length f.hosts ≢ 0 → 4112 ≤ size_of f.volume
   pub each : (m : ℕ) (host : HostIs) → host_at f.hosts m ≡ Some host → IsHostAt chunks f m host
-  pub free : (m : ℕ) → length f.hosts ≤ m → AreQuiet m chunks
+  pub free : (m : ℕ) → length f.hosts ≤ m → m < mover_port → AreQuiet m chunks
+
+-- and the mover is that of the chunk that is moving
+pub record IsFleetOf (chunks : List ChunkIs) (f : FleetIs) : Type 0 where
+  pub are_hosts : AreHostsOf chunks f
+  pub mover : HasMover chunks f.volume.sectors f.routes.moving (between f.routes) f.mover
 
 -- what a list of halts makes of a volume
 abbrev pub Part : Type 0
@@ -67,13 +118,13 @@ pub record Stays (was is : ChunkIs) : Type 0 where
 abbrev pub AllStay : (old new : List ChunkIs) → Type 0
 AllStay old new = (k : ℕ) (was is : ChunkIs) → slice_get old k ≡ Some was → slice_get new k ≡ Some is → Stays was is
 
--- The same list of hosts but for what they did: none comes and none goes, and no call begins
+-- The same list of hosts but for what they did: none comes and none goes, and no call begins. (A move may end)
 pub record AreSameHosts (f g : FleetIs) : Type 0 where
   pub volume : g.volume ≡ f.volume
   pub count : length g.hosts ≡ length f.hosts
   pub calls : g.calls ≡ f.calls
 
--- an event of chunk k, and then a step of each host
+-- an event of group k, and then a step of each host and of the mover
 pub record HasAnswered (event : Event) (k : ℕ) (old : List ChunkIs) (fleet : FleetIs) (before : List ℕ) (answer : Answer) (new : List ChunkIs) (next : FleetIs) (after : List ℕ) : Type 0 where
   pub was : ChunkIs
   pub there : slice_get old k ≡ Some was

@@ -1,4 +1,4 @@
-//! What a line asks of a chunk, and what follows on it.
+//! What a line asks of a group, and what follows on it.
 ghost use Rattle.std.specs.Prelude.{◌<◌, IfOk, OnErr, length};
 ghost use Rattle.pf_chunk.specs.Asked.{MayAsk, asked_happened};
 ghost use Rattle.pf_hosts.specs.Steps.{AreReady};
@@ -13,8 +13,8 @@ use pf_protocol::Answer;
 use std::thread::Threads;
 
 impl Fleet {
-    /// What a line asks of chunk `at`. What that made free is applied; a line for each read of a line that was answered is put at the end of `out`;
-    /// and then each host takes its step.
+    /// What a line asks of group `at`. What that made free is applied; a line for each read of a line that was answered is put at the end of `out`;
+    /// and then each host takes its step, and the mover.
     ///
     /// After `NoMemory` (1) each group stands at a beginning of what would have happened to it; the hosts are not for use then.
     pub fn ask<D: Disk + Drop, R: Threads + Sync, G: Gate + Sync>(

@@ -41,7 +41,7 @@ impl Fleet {
         }
         self.hosts.reserve(1)?;
         let number = self.hosts.len() as u8;
-        let host = Host::new(alloc, number, self.volume, chunks)?;
+        let host = Host::new(alloc, number, self.volume, &self.routes, chunks)?;
         self.hosts.push_reserved(Some(host));
         Ok(number)
     }
@@ -92,7 +92,7 @@ impl Fleet {
             return Err(CallFault::NoMount);
         };
         let call = copy_of(alloc, call)?;
-        host.start(alloc, call, chunks, out)?;
+        host.start(alloc, call, &self.routes, chunks, out)?;
         self.calls += 1;
         Ok(())
     }

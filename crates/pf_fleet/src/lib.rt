@@ -1,10 +1,11 @@
-//! The hosts of a volume, and how they run over its chunks.
+//! The hosts of a volume and the mover of a chunk, and how they run over its groups.
 //!
-//! After each event of a chunk each host takes one step, in the order of their numbers.
+//! After each event of a group each host takes one step, in the order of their numbers, and then the mover.
 #![tactic(auto)]
 
 mod asking;
 mod calling;
+mod carrying;
 mod copies;
 mod faults;
 mod fleet;

@@ -38,7 +38,7 @@ fn next_chunk<D: Disk + Drop>(chunks: &mut [ChunkGroup<D>]) -> Option<usize>
 impl Fleet {
     /// Makes up to `limit` deliveries, at most 1,000,000, each of the least packet that is left in the least chunk that has one, and answers
     /// whether it was the limit that ended it. A packet whose delivery is refused for want of room in a log or among the packets is passed
-    /// over, and counts as no delivery. After each delivery, also a refused one, each host takes its step. Lines are put at the end of `out`.
+    /// over, and counts as no delivery. After each delivery, also a refused one, each host takes its step, and the mover. Lines are put at the end of `out`.
     ///
     /// After `NoMemory` (1) the groups stand after some whole tries and a beginning of one more; the hosts are not for use then.
     pub fn settle<D: Disk + Drop, R: Threads + Sync, G: Gate + Sync>(

@@ -1,8 +1,8 @@
-//! Steps of hosts.
+//! Steps of hosts, and of the mover.
 ghost use Rattle.std.specs.Prelude.{◌<◌, OnErr, OnOk, length};
 ghost use Rattle.pf_hosts.specs.Steps.{AreReady};
 ghost use Rattle.pf_fleet.specs.Steps.{AllStay, AreSameHosts, HasGone, HasStopped, IsFleetOf};
-ghost use Rattle.pf_fleet.specs.Volumes.{host_steps, hosts_step};
+ghost use Rattle.pf_fleet.specs.Volumes.{all_step, host_steps};
 
 use crate::Fleet;
 use pf_base::NoMemory;
@@ -31,11 +31,11 @@ impl Fleet {
         let Some(host) = &mut self.hosts[mount] else {
             return Ok(());
         };
-        host.step(workers, chunks, out)
+        host.step(workers, &self.routes, chunks, out)
     }
 
-    /// One step of each host, in the order of their numbers. Lines are put at the end of `out`: of reads of lines that were answered, of
-    /// mounts that are ready, of calls that ended.
+    /// One step of each host, in the order of their numbers, and then one of the mover. Lines are put at the end of `out`: of reads of lines
+    /// that were answered, of mounts that are ready, of calls that ended, of a chunk that has moved.
     ///
     /// After `NoMemory` (1) each group stands at a beginning of what would have happened to it; the hosts are not for use then.
     pub fn step<D: Disk + Drop, R: Threads + Sync, G: Gate + Sync>(
@@ -46,14 +46,14 @@ impl Fleet {
     ) -> Result<(), NoMemory>
         requires ready { AreReady chunks.old }
         requires fleet { IsFleetOf chunks.old self.old }
-        ensures went { OnOk result (HasGone hosts_step chunks.old self.old out.old.items chunks.new self.new out.new.items) }
+        ensures went { OnOk result (HasGone all_step chunks.old self.old out.old.items chunks.new self.new out.new.items) }
         ensures same { OnOk result (AreSameHosts self.old self.new) }
         ensures stay { OnOk result (AllStay chunks.old chunks.new) }
-        ensures err { OnErr result (HasStopped hosts_step chunks.old self.old chunks.new) }
+        ensures err { OnErr result (HasStopped all_step chunks.old self.old chunks.new) }
     {
         for mount in 0..self.hosts.len() {
             self.step_host(workers, mount, chunks, out)?;
         }
-        Ok(())
+        self.carry(workers, chunks, out)
     }
 }

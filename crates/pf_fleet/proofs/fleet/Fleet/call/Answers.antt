@@ -32,8 +32,8 @@ module _ (m : ℕ) (old : List ChunkIs) (v f : FleetIs) (same : v ≡ f) (is_fle
   at_it : host_at v.hosts m ≡ Some host
   at_it = ap there (slice_get_read v.hosts (length v.hosts) m it refl low read) ∙ is
 
-  its_host : IsHostOf old host
-  its_host = (of_these.each m host at_it).is_host
+  its_host : IsHostOf v.routes old host
+  its_host = (of_these.are_hosts.each m host at_it).is_host
 
   its_calls : f.calls + 1 < 2 ^ 32 → host.mount.files.calls + 1 < 2 ^ 32
   its_calls few = call_fits m old v of_these host at_it (2 ^ 32) (subst (λ (x : FleetIs). x.calls + 1 < 2 ^ 32) (sym same) few)
@@ -46,7 +46,7 @@ module _ (m : ℕ) (old : List ChunkIs) (v f : FleetIs) (same : v ≡ f) (is_fle
   cause_of BadName call pending misnamed = (host, at_now, it_rests host.mount.work (λ works. let no = pending.1 works in cc), misnamed refl)
   cause_of CallPending call pending misnamed = (host, at_now, pending.0 refl)
 
-  called : (call : Call) (before after : List ℕ) (new : List ChunkIs) (next : HostIs) → ((host.mount.work ≢ Rests) → ⊥) → HasBegunCall call old before host new after next
+  called : (call : Call) (before after : List ℕ) (new : List ChunkIs) (next : HostIs) → ((host.mount.work ≢ Rests) → ⊥) → HasBegunCall v.routes call old before host new after next
       → HasCalled m call old f before new (record v { hosts = slice_set v.hosts m (Some next); calls = v.calls + 1 }) after
   called call before after new next rests h =
       subst (λ (x : FleetIs). HasCalled m call old x before new (record v { hosts = slice_set v.hosts m (Some next); calls = v.calls + 1 }) after) same
@@ -54,18 +54,18 @@ module _ (m : ℕ) (old : List ChunkIs) (v f : FleetIs) (same : v ≡ f) (is_fle
 
 pub start-requires-clause-host : goal.start-requires-clause-host
 start-requires-clause-host g c =
-    let v : FleetIs = record { volume = c.self.inside.volume; hosts = c.self.inside.hosts.items; calls = c.self.inside.calls } in
+    let v : FleetIs = record { volume = c.self.inside.volume; hosts = c.self.inside.hosts.items; calls = c.self.inside.calls; routes = c.self.inside.routes; mover = c.self.inside.mover } in
     its_host c.args.mount c.args.chunks.now v c.args.self.now c.self.view_is c.requires.fleet (omega arith) c.index_mut.result.now c.index_mut.ensures.value c.in-Some.host c.in-Some.is
 
 pub start-requires-clause-few : goal.start-requires-clause-few
 start-requires-clause-few g c =
-    let v : FleetIs = record { volume = c.self.inside.volume; hosts = c.self.inside.hosts.items; calls = c.self.inside.calls } in
+    let v : FleetIs = record { volume = c.self.inside.volume; hosts = c.self.inside.hosts.items; calls = c.self.inside.calls; routes = c.self.inside.routes; mover = c.self.inside.mover } in
     its_calls c.args.mount c.args.chunks.now v c.args.self.now c.self.view_is c.requires.fleet (omega arith) c.index_mut.result.now c.index_mut.ensures.value c.in-Some.host c.in-Some.is
     c.requires.few
 
 pub returns-in_err-start-clause-cause : goal.returns-in_err-start-clause-cause
 returns-in_err-start-clause-cause g c =
-    let v : FleetIs = record { volume = c.self.inside.volume; hosts = c.self.inside.hosts.items; calls = c.self.inside.calls } in
+    let v : FleetIs = record { volume = c.self.inside.volume; hosts = c.self.inside.hosts.items; calls = c.self.inside.calls; routes = c.self.inside.routes; mover = c.self.inside.mover } in
     let fault : StartFault = c.in_err-start.field-0.0 in
     let p = err_from_is_err_and c.from_residual-in_err-start.result c.from_residual-in_err-start.ensures.1 in
     rw (p.1, p.2) (cause_of c.args.mount c.args.chunks.now v c.args.self.now c.self.view_is c.requires.fleet (omega arith) c.index_mut.result.now c.index_mut.ensures.value c.in-Some.host c.in-Some.is
@@ -73,11 +73,11 @@ returns-in_err-start-clause-cause g c =
 
 pub returns-clause-called : goal.returns-clause-called
 returns-clause-called g c =
-    let v : FleetIs = record { volume = c.self.inside.volume; hosts = c.self.inside.hosts.items; calls = c.self.inside.calls } in
+    let v : FleetIs = record { volume = c.self.inside.volume; hosts = c.self.inside.hosts.items; calls = c.self.inside.calls; routes = c.self.inside.routes; mover = c.self.inside.mover } in
     let out = c.args.out.now.items in
     let new = c.start.new.chunks in
     let after = c.start.new.out.items in
     let next = c.start.new.self in
     called c.args.mount c.args.chunks.now v c.args.self.now c.self.view_is c.requires.fleet (omega arith) c.index_mut.result.now c.index_mut.ensures.value c.in-Some.host c.in-Some.is
     c.args.call.now out after new next (λ works. let no = c.in_ok-start.ensures.pending.1 works in cc)
-    (subst (λ (call : Call). HasBegunCall call c.args.chunks.now out c.in-Some.host new after next) c.in_ok-call.ensures c.in_ok-start.ensures.began)
+    (subst (λ (call : Call). HasBegunCall v.routes call c.args.chunks.now out c.in-Some.host new after next) c.in_ok-call.ensures c.in_ok-start.ensures.began)

@@ -10,17 +10,17 @@ use Rattle.pf_fleet.proofs.Joining.{host_joined}
 use Rattle.pf_fleet.proofs.fleet.Fleet.mount.Goals as goal
 
 -- the host has the next number, and stands at the end
-at_the_end : (old new : List ChunkIs) (was now : FleetIs) (n : ℕ) (host : HostIs) (hosts : Hosts) → was ≡ now → IsFleetOf old was → n ≡ length was.hosts → hosts ≡ was.hosts ++ Some host ∷ [] → HasMade n was.volume old new host
+at_the_end : (old new : List ChunkIs) (was now : FleetIs) (n : ℕ) (host : HostIs) (hosts : Hosts) → was ≡ now → IsFleetOf old was → n ≡ length was.hosts → hosts ≡ was.hosts ++ Some host ∷ [] → HasMade was.routes n was.volume old new host
     → length was.hosts < 16 → 4112 ≤ size_of was.volume → HasJoined old now n new (record was { hosts = hosts })
 at_the_end old new was now n host hosts same is number put made few large =
     subst (λ (f : FleetIs). HasJoined old f n new (record was { hosts = hosts })) same
     (subst (λ (hs : Hosts). HasJoined old was n new (record was { hosts = hs })) (sym put)
     (subst (λ k. HasJoined old was k new (record was { hosts = was.hosts ++ Some host ∷ [] })) (sym number)
-    (host_joined old was is new host (subst (λ k. HasMade k was.volume old new host) number made) few large)))
+    (host_joined old was is new host (subst (λ k. HasMade was.routes k was.volume old new host) number made) few large)))
 
 pub returns-clause-joined : goal.returns-clause-joined
 returns-clause-joined g c =
-    let was : FleetIs = record { volume = c.self.inside.volume; hosts = c.self.inside.hosts.items; calls = c.self.inside.calls } in
+    let was : FleetIs = record { volume = c.self.inside.volume; hosts = c.self.inside.hosts.items; calls = c.self.inside.calls; routes = c.self.inside.routes; mover = c.self.inside.mover } in
     let fleet : IsFleetOf c.args.chunks.now was = subst (IsFleetOf c.args.chunks.now) (sym c.self.view_is) c.requires.fleet in
     let host : HostIs = c.in_ok-host.host in
     let few : length c.self.inside.hosts.items < 16 = omega arith in

@@ -28,48 +28,48 @@ module _ (m : ℕ) (old : List ChunkIs) (v f : FleetIs) (same : v ≡ f) (is_fle
     at_it : host_at v.hosts m ≡ Some host
     at_it = ap there place_is ∙ is
 
-    its_host : IsHostOf old host
-    its_host = (of_these.each m host at_it).is_host
+    its_host : IsHostOf v.routes old host
+    its_host = (of_these.are_hosts.each m host at_it).is_host
 
-    one_went : (before after : List ℕ) (new : List ChunkIs) (next : HostIs) → HasStepped old before host new after next → HasGone (λ halts v. host_steps halts m v) old f before new (fleet_with v m next) after
+    one_went : (before after : List ℕ) (new : List ChunkIs) (next : HostIs) → HasStepped v.routes old before host new after next → HasGone (λ halts v. host_steps halts m v) old f before new (fleet_with v m next) after
     one_went before after new next h =
         subst (λ (x : FleetIs). HasGone (λ halts v. host_steps halts m v) old x before new (fleet_with v m next) after) same
         (host_went m old v of_these host at_it before after new next h)
 
-    one_stays : (before after : List ℕ) (new : List ChunkIs) (next : HostIs) → HasStepped old before host new after next → AllStay old new
+    one_stays : (before after : List ℕ) (new : List ChunkIs) (next : HostIs) → HasStepped v.routes old before host new after next → AllStay old new
     one_stays before after new next h = host_stays m old v of_these host at_it before after new next h
 
-    one_stopped : (new : List ChunkIs) → HasNotStepped old host new → HasStopped (λ halts v. host_steps halts m v) old f new
+    one_stopped : (new : List ChunkIs) → HasNotStepped v.routes old host new → HasStopped (λ halts v. host_steps halts m v) old f new
     one_stopped new h = subst (λ (x : FleetIs). HasStopped (λ halts v. host_steps halts m v) old x new) same (host_stopped m old v of_these host at_it new h)
 
 pub returns-in_default-clause-went : goal.returns-in_default-clause-went
 returns-in_default-clause-went g c =
-    let v : FleetIs = record { volume = c.self.inside.volume; hosts = c.self.inside.hosts.items; calls = c.self.inside.calls } in
+    let v : FleetIs = record { volume = c.self.inside.volume; hosts = c.self.inside.hosts.items; calls = c.self.inside.calls; routes = c.self.inside.routes; mover = c.self.inside.mover } in
     none_went c.args.mount c.args.chunks.now v c.args.self.now c.self.view_is c.requires.fleet c.requires.mount c.index_mut.result.now c.index_mut.ensures.value
     c.args.out.now.items c.requires.ready c.in_default.is
 
 pub step-requires-clause-host : goal.step-requires-clause-host
 step-requires-clause-host g c κs within =
-    let v : FleetIs = record { volume = c.self.inside.volume; hosts = c.self.inside.hosts.items; calls = c.self.inside.calls } in
+    let v : FleetIs = record { volume = c.self.inside.volume; hosts = c.self.inside.hosts.items; calls = c.self.inside.calls; routes = c.self.inside.routes; mover = c.self.inside.mover } in
     its_host c.args.mount c.args.chunks.now v c.args.self.now c.self.view_is c.requires.fleet c.requires.mount c.index_mut.result.now c.index_mut.ensures.value c.in-Some.host c.in-Some.is
 
 pub returns-clause-went : goal.returns-clause-went
 returns-clause-went g c =
-    let v : FleetIs = record { volume = c.self.inside.volume; hosts = c.self.inside.hosts.items; calls = c.self.inside.calls } in
+    let v : FleetIs = record { volume = c.self.inside.volume; hosts = c.self.inside.hosts.items; calls = c.self.inside.calls; routes = c.self.inside.routes; mover = c.self.inside.mover } in
     on_ok_weaker c.step.result
     (one_went c.args.mount c.args.chunks.now v c.args.self.now c.self.view_is c.requires.fleet c.requires.mount c.index_mut.result.now c.index_mut.ensures.value c.in-Some.host c.in-Some.is
     c.args.out.now.items c.step.new.out.items c.step.new.chunks c.step.new.self) c.step.ensures.went
 
 pub returns-clause-stay : goal.returns-clause-stay
 returns-clause-stay g c =
-    let v : FleetIs = record { volume = c.self.inside.volume; hosts = c.self.inside.hosts.items; calls = c.self.inside.calls } in
+    let v : FleetIs = record { volume = c.self.inside.volume; hosts = c.self.inside.hosts.items; calls = c.self.inside.calls; routes = c.self.inside.routes; mover = c.self.inside.mover } in
     on_ok_weaker c.step.result
     (one_stays c.args.mount c.args.chunks.now v c.args.self.now c.self.view_is c.requires.fleet c.requires.mount c.index_mut.result.now c.index_mut.ensures.value c.in-Some.host c.in-Some.is
     c.args.out.now.items c.step.new.out.items c.step.new.chunks c.step.new.self) c.step.ensures.went
 
 pub returns-clause-err : goal.returns-clause-err
 returns-clause-err g c =
-    let v : FleetIs = record { volume = c.self.inside.volume; hosts = c.self.inside.hosts.items; calls = c.self.inside.calls } in
+    let v : FleetIs = record { volume = c.self.inside.volume; hosts = c.self.inside.hosts.items; calls = c.self.inside.calls; routes = c.self.inside.routes; mover = c.self.inside.mover } in
     on_err_weaker c.step.result
     (one_stopped c.args.mount c.args.chunks.now v c.args.self.now c.self.view_is c.requires.fleet c.requires.mount c.index_mut.result.now c.index_mut.ensures.value c.in-Some.host c.in-Some.is
     c.step.new.chunks) c.step.ensures.err
