@@ -1,6 +1,7 @@
 -- Lines that write and read sectors.
-use Rattle.std.proofs.Common.{[], ◌≡◌, ℕ, true, false, IfSome, IsSome, IsTrue, List, ◌++◌, Option, Some, None, slice_get, refl, sym, ap, subst, ◌∙◌}
+use Rattle.std.proofs.Common.{[], ◌≡◌, ℕ, ◌<◌, length, true, false, IfSome, IsSome, IsTrue, List, ◌++◌, Option, Some, None, slice_get, refl, sym, ap, subst, ◌∙◌}
 use Rattle.std.proofs.lemmas.Bool.{false≢true}
+use Rattle.std.proofs.lemmas.List.{length-map}
 use Rattle.pf_script.specs.declared.command.Command.{Command}
 use Rattle.pf_script.specs.declared.command.Command.TheVariants as commands
 use Rattle.pf_protocol.specs.declared.answers.Answer.{Answer}
@@ -11,7 +12,7 @@ use Rattle.pf_chunk.specs.declared.asked.Asked.{Asked}
 use Rattle.pf_chunk.specs.declared.asked.Asked.TheVariants.{Submit}
 use Rattle.pf_chunk.specs.Asking.{no_range_answer}
 use Rattle.pf_chunk.specs.Saying.{said}
-use Rattle.pf_chunk.specs.Views.{ChunkIs}
+use Rattle.pf_chunk.specs.Views.{ChunkIs, run_of}
 use Rattle.pf_hosts.specs.Steps.{HaveBegun}
 use Rattle.pf_hosts.proofs.Groups.{run_there}
 use Rattle.pf_fleet.specs.Volumes.{quietly}
@@ -20,10 +21,12 @@ use Rattle.pf_world.specs.declared.kind.Kind.{Kind}
 use Rattle.pf_world.specs.declared.kind.Kind.TheVariants.{Mounted, Raw}
 use Rattle.pf_world.specs.Asked.{IsAllowed, IsSubmit, asked_of}
 use Rattle.pf_world.specs.Worlds.{Told, World, refused_text, said_only}
-use Rattle.pf_world.specs.Lines.{decided, is_mounted, line_told, no_event_of, submit_told, submits_as, with_kind}
+use Rattle.pf_world.specs.Lines.{decided, is_made, is_mounted, line_told, no_event_of, submit_told, submits_as, with_kind}
 use Rattle.pf_world.specs.Headline.{is_live}
-use Rattle.pf_world.specs.Steps.{Ends, GoesOn, HasFailed, HasRun, IsWithin, StopsIn}
+use Rattle.pf_world.specs.Steps.{Ends, GoesOn, HasFailed, HasRun, IsOfMade, IsWithin, StopsIn, moves_after}
 use Rattle.pf_world.specs.Views.{IsWorld, WorldIs, stands_at}
+use Rattle.pf_script.specs.Lines.{group_of}
+use Rattle.pf_world.proofs.Asking.{low_made, made_told}
 use Rattle.pf_world.proofs.Failing.{said_fails}
 use Rattle.pf_world.proofs.Happening.{answer_put, said_runs}
 
@@ -35,14 +38,14 @@ module _ (old : WorldIs) (number chunk server : ℕ) (command : Command) (c : Ch
   tells : (halts : List Halt) → line_told halts (stands_at halts [] old) number command ≡ said_only (stands_at halts [] old) number (said refusal)
   tells halts = line halts ∙ ap (no_event_of (stands_at halts [] old) number server) (run_there halts old.chunks chunk c there)
 
-  pub no_range_runs : IsWorld old → is_live command ≡ false → (before after : List ℕ) (answer : Answer) → IsSome (answer_text answer) → (IsTrue c.group.told → answer ≡ refusal) → IfSome (answer_text answer) (λ text. after ≡ before ++ line_of number text)
+  pub no_range_runs : IsWorld old → is_live command ≡ false → moves_after old.moves command ≡ old.moves → (before after : List ℕ) (answer : Answer) → IsSome (answer_text answer) → (IsTrue c.group.told → answer ≡ refusal) → IfSome (answer_text answer) (λ text. after ≡ before ++ line_of number text)
       → ((halts : List Halt) → Ends halts (stands_at halts [] old) command) → HasRun old number command before after old
-  no_range_runs world plain before after answer some is put ends =
-      said_runs old number command world plain old.kind before after (said answer) (λ halts v. quietly v) (λ halts. refl) (answer_put (answer_text answer) number before after some put)
+  no_range_runs world plain stays before after answer some is put ends =
+      said_runs old number command world plain stays old.kind before after (said answer) (λ halts v. quietly v) (λ halts. refl) (answer_put (answer_text answer) number before after some put)
       (λ halts all. tells halts ∙ ap (λ a. said_only (stands_at halts [] old) number (said a)) (sym (is (all chunk c there).told))) ends
 
-  pub no_range_fails : ((new : WorldIs) → IsWithin old [] number command new → StopsIn old number command new) → HasFailed old number command old
-  no_range_fails within = said_fails old number command within old.kind old.fleet (λ halts. ap (λ (t : Told). t.world.volume.chunks) (tells halts))
+  pub no_range_fails : ((new : WorldIs) → IsWithin old [] number command new → StopsIn old number command new) → moves_after old.moves command ≡ old.moves → HasFailed old number command old
+  no_range_fails within stays = said_fails old number command within stays old.kind old.fleet (λ halts. ap (λ (t : Told). t.world.volume.chunks) (tells halts))
 
 -- The kind of a run
 
@@ -63,9 +66,9 @@ module _ (halts : List Halt) (w : World) (number chunk server first byte count :
   mounted_told mounted = told_as ∙ ap (λ k. submits_as k halts (with_kind w kind) number chunk server first byte count) mounted
 
 -- a line that submits, in a run with mounts
-pub submit_mounted : (command : Command) → IsSubmit command → (halts : List Halt) (w : World) (number : ℕ) (kind : Kind) → kind ≡ decided w.kind Raw → kind ≡ Mounted → line_told halts w number command ≡ said_only (record w { kind = Some kind }) number (refused_text 94)
-submit_mounted (commands.Submit g i s b n) submits halts w number kind is mounted = mounted_told halts w number g i s b n kind is mounted
-submit_mounted command submits halts w number kind is mounted = absurd submits
+pub submit_mounted : (command : Command) → IsSubmit command → (halts : List Halt) (w : World) (number : ℕ) (kind : Kind) → is_made w (group_of command) ≡ true → kind ≡ decided w.kind Raw → kind ≡ Mounted → line_told halts w number command ≡ said_only (record w { kind = Some kind }) number (refused_text 94)
+submit_mounted (commands.Submit g i s b n) submits halts w number kind made is mounted = made_told halts w number (commands.Submit g i s b n) made ∙ mounted_told halts w number g i s b n kind is mounted
+submit_mounted command submits halts w number kind made is mounted = absurd submits
 
 pub submit_plain : (command : Command) → IsSubmit command → is_live command ≡ false
 submit_plain (commands.Submit g i s b n) submits = refl
@@ -76,8 +79,12 @@ submit_within (commands.Submit g i s b n) submits old number new within = within
 submit_within command submits old number new within = absurd submits
 
 pub submit_ends : (command : Command) → IsSubmit command → (halts : List Halt) (w : World) → Ends halts w command
-submit_ends (commands.Submit g i s b n) submits halts w = tt
+submit_ends (commands.Submit g i s b n) submits halts w = λ made. tt
 submit_ends command submits halts w = absurd submits
+
+pub submit_stays : (command : Command) → IsSubmit command → (n : ℕ) → moves_after n command ≡ n
+submit_stays (commands.Submit g i s b n) submits moves = refl
+submit_stays command submits moves = absurd submits
 
 pub submit_asks : (command : Command) → IsSubmit command → asked_of command ≡ None → ⊥
 submit_asks (commands.Submit g i s b n) submits none = none_asked (g, Submit i s b n) none
@@ -96,37 +103,62 @@ kind_world w kind world = record {
   volume = world.volume;
   each = λ k c there. let its = world.each k c there in record { number = its.number; failed = its.failed; setup = its.setup; ready = its.ready };
   is_fleet = world.is_fleet;
-  extent = world.extent;
+  sectors_are = world.sectors_are;
+  made = world.made;
+  few = world.few;
 }
 
 on_from : (old new : WorldIs) (kind : Option Kind) → GoesOn (record old { kind = kind }) new → GoesOn old new
-on_from old new kind on = record { sectors = on.sectors; names = on.names; format = on.format; chunks = on.chunks; grown = on.grown }
+on_from old new kind on = record { sectors = on.sectors; names = on.names; format = on.format; at_least = on.at_least; grown = on.grown }
 
-submit_same : (halts : List Halt) (sessions : List Session) (old : WorldIs) (number g i s b n : ℕ) (kind : Kind) → kind ≡ decided old.kind Raw
+-- where its group is made
+made_in : (halts : List Halt) (sessions : List Session) (w : WorldIs) (g : ℕ) → g < length w.chunks → is_made (stands_at halts sessions w) (Some g) ≡ true
+made_in halts sessions w g low = low_made (stands_at halts sessions w) (Some g) g refl (subst (λ n. g < n) (sym (length-map w.chunks (run_of halts))) low)
+
+submit_same : (halts : List Halt) (sessions : List Session) (old : WorldIs) (number g i s b n : ℕ) (kind : Kind) → g < length old.chunks → kind ≡ decided old.kind Raw
     → line_told halts (stands_at halts sessions (record old { kind = Some kind })) number (commands.Submit g i s b n) ≡ line_told halts (stands_at halts sessions old) number (commands.Submit g i s b n)
-submit_same halts sessions old number g i s b n kind is = ap (λ k. submits_as k halts (with_kind (stands_at halts sessions old) k) number g i s b n) is
+submit_same halts sessions old number g i s b n kind low is =
+    made_told halts (stands_at halts sessions (record old { kind = Some kind })) number (commands.Submit g i s b n) (made_in halts sessions (record old { kind = Some kind }) g low)
+    ∙ ap (λ k. submits_as k halts (with_kind (stands_at halts sessions old) k) number g i s b n) is
+    ∙ sym (made_told halts (stands_at halts sessions old) number (commands.Submit g i s b n) (made_in halts sessions old g low))
 
-pub submit_runs : (command : Command) → IsSubmit command → (old : WorldIs) (number : ℕ) (kind : Kind) → kind ≡ decided old.kind Raw → (before after : List ℕ) (new : WorldIs) → HasRun (record old { kind = Some kind }) number command before after new → HasRun old number command before after new
-submit_runs (commands.Submit g i s b n) submits old number kind is before after new ran = record {
+pub submit_runs : (command : Command) → IsSubmit command → (old : WorldIs) (number : ℕ) (kind : Kind) → IsOfMade old command → kind ≡ decided old.kind Raw → (before after : List ℕ) (new : WorldIs) → HasRun (record old { kind = Some kind }) number command before after new → HasRun old number command before after new
+submit_runs (commands.Submit g i s b n) submits old number kind low is before after new ran = record {
   told = ran.told;
   put = ran.put;
   runs = record {
     is_world = ran.runs.is_world;
     goes_on = on_from old new (Some kind) ran.runs.goes_on;
+    groups = ran.runs.groups;
+    volume = ran.runs.volume;
     calls = ran.runs.calls;
+    moves = ran.runs.moves;
     sessions = ran.runs.sessions;
     takes = ran.runs.takes;
-    run = λ halts rest tells. sym (submit_same halts (ran.runs.sessions ++ rest) old number g i s b n kind is) ∙ ran.runs.run halts rest tells;
-    ends = λ halts rest tells. tt;
+    run = λ halts rest tells. sym (submit_same halts (ran.runs.sessions ++ rest) old number g i s b n kind low is) ∙ ran.runs.run halts rest tells;
+    ends = λ halts rest tells made. tt;
     keeps = ran.runs.keeps;
   };
 }
-submit_runs command submits old number kind is before after new ran = absurd submits
+submit_runs command submits old number kind low is before after new ran = absurd submits
 
-pub submit_fails : (command : Command) → IsSubmit command → (old : WorldIs) (number : ℕ) (kind : Kind) → kind ≡ decided old.kind Raw → (new : WorldIs) → HasFailed (record old { kind = Some kind }) number command new → HasFailed old number command new
-submit_fails (commands.Submit g i s b n) submits old number kind is new failed = record {
+pub submit_fails : (command : Command) → IsSubmit command → (old : WorldIs) (number : ℕ) (kind : Kind) → IsOfMade old command → kind ≡ decided old.kind Raw → (new : WorldIs) → HasFailed (record old { kind = Some kind }) number command new → HasFailed old number command new
+submit_fails (commands.Submit g i s b n) submits old number kind low is new failed = record {
   goes_on = on_from old new (Some kind) failed.goes_on;
+  groups = failed.groups;
   passes = failed.passes;
-  stopped = λ halts tells. subst (λ (t : Told). HaveBegun halts old.chunks t.world.volume.chunks new.chunks) (submit_same halts [] old number g i s b n kind is) (failed.stopped halts tells);
+  stopped = λ halts tells. subst (λ (t : Told). HaveBegun halts old.chunks t.world.volume.chunks new.chunks) (submit_same halts [] old number g i s b n kind low is) (failed.stopped halts tells);
 }
-submit_fails command submits old number kind is new failed = absurd submits
+submit_fails command submits old number kind low is new failed = absurd submits
+
+-- the same of any line that names one
+pub made_of : (halts : List Halt) (sessions : List Session) (w : WorldIs) (command : Command) → IsOfMade w command → is_made (stands_at halts sessions w) (group_of command) ≡ true
+made_of halts sessions w command made = by_name (group_of command) made where
+  by_name : (o : Option ℕ) → IfSome o (λ g. g < length w.chunks) → is_made (stands_at halts sessions w) o ≡ true
+  by_name None low = refl
+  by_name (Some g) low = made_in halts sessions w g low
+
+-- a line that does not submit may be run in a run of any kind
+pub not_submit : (command : Command) (kind : Option Kind) → ((g i s b n : ℕ) → command ≡ commands.Submit g i s b n → ⊥) → IsAllowed kind command
+not_submit (commands.Submit g i s b n) kind not = absurd (not g i s b n refl)
+not_submit command kind not = tt

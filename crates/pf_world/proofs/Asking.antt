@@ -1,9 +1,11 @@
 -- What lines ask of one chunk.
-use Rattle.std.proofs.Common.{[], ◌≡◌, ℕ, ◌<◌, false, if◌then◌else◌, List, Option, Some, None, slice_get, refl, sym, ap, subst, ◌∙◌, arith}
+use Rattle.std.proofs.Common.{[], ◌≡◌, ℕ, ◌<◌, true, false, IfSome, length, if◌then◌else◌, List, Option, Some, None, slice_get, refl, sym, ap, subst, ◌∙◌, arith}
 use Rattle.std.proofs.lemmas.Bool.Decides.{nat_tests}
 use Rattle.std.proofs.lemmas.Option.{same_Some}
 use Rattle.pf_script.specs.declared.command.Command.{Command}
 use Rattle.pf_script.specs.declared.command.Command.TheVariants as commands
+use Rattle.pf_script.specs.declared.named.Named.{Named}
+use Rattle.pf_script.specs.Lines.{group_of}
 use Rattle.pf_entry.proofs.Cases.{by_test}
 use Rattle.pf_group.specs.declared.event.GroupEvent.TheVariants as events
 use Rattle.pf_applyrounds.specs.Halts.{Halt}
@@ -13,12 +15,12 @@ use Rattle.pf_chunk.specs.Asked.{MayAsk, asked_happened, no_range_of, unless_ran
 use Rattle.pf_chunk.specs.Asking.{is_range, submits}
 use Rattle.pf_chunk.specs.Steps.{Event}
 use Rattle.pf_world.specs.declared.kind.Kind.TheVariants.{Raw}
-use Rattle.pf_world.specs.Worlds.{Told, World, at_chunk}
-use Rattle.pf_world.specs.Lines.{asked, decided, line_told, no_event_of, submit_told, submits_as, with_kind}
+use Rattle.pf_world.specs.Worlds.{Told, World, at_chunk, refused_text, said_only}
+use Rattle.pf_world.specs.Lines.{asked, decided, is_made, kind_after, line_told, no_event_of, run_told, submit_told, submits_as, with_kind}
 use Rattle.pf_world.specs.Views.{WorldIs}
 use Rattle.pf_world.specs.Asked.{IsAllowed, asked_of}
 use Rattle.pf_world.specs.Headline.{is_live}
-use Rattle.pf_world.specs.Steps.{Ends, IsWithin, MayRun, StopsIn}
+use Rattle.pf_world.specs.Steps.{Ends, IsOfMade, IsWithin, MayRun, StopsIn, moves_after}
 
 -- what a line asks of a chunk
 abbrev pub event_in : Asked → Event
@@ -54,7 +56,7 @@ submit_allowed halts w number chunk server first byte count is =
     ap (λ k. submits_as (decided k Raw) halts (with_kind w (decided k Raw)) number chunk server first byte count) is
     ∙ ap (λ v. asked halts v number chunk server first count (submits halts server first byte count)) (allowed_world w is)
 
-pub asked_by : (command : Command) (g : ℕ) (a : Asked) → Some (g, a) ≡ asked_of command → (halts : List Halt) (w : World) (number : ℕ) → IsAllowed w.kind command → line_told halts w number command ≡ told_by halts w number (no_range_of a) (g, a)
+pub asked_by : (command : Command) (g : ℕ) (a : Asked) → Some (g, a) ≡ asked_of command → (halts : List Halt) (w : World) (number : ℕ) → IsAllowed w.kind command → run_told halts w number command ≡ told_by halts w number (no_range_of a) (g, a)
 asked_by (commands.Submit h i s b n) g a is halts w number allowed =
     submit_allowed halts w number h i s b n allowed ∙ ranged halts w number h i s n (asks.Submit i s b n) ∙ told_from halts w number (g, a) (h, asks.Submit i s b n) is
 asked_by (commands.Fetch h i s n) g a is halts w number allowed =
@@ -79,27 +81,70 @@ asked_by commands.Mount g a is halts w number allowed = absurd (none_is_none (g,
 asked_by (commands.Kill m) g a is halts w number allowed = absurd (none_is_none (g, a) is)
 asked_by (commands.Call m call) g a is halts w number allowed = absurd (none_is_none (g, a) is)
 asked_by (commands.ShowMount m) g a is halts w number allowed = absurd (none_is_none (g, a) is)
+asked_by (commands.Move m) g a is halts w number allowed = absurd (none_is_none (g, a) is)
+
+group_from : (p q : PairOf) → Some p ≡ Some q → Some q.0 ≡ Some p.0
+group_from p q is = ap (λ (r : PairOf). Some r.0) (sym (same_Some p q is))
+
+-- a line that asks something of a group names it
+pub asked_names : (command : Command) (g : ℕ) (a : Asked) → Some (g, a) ≡ asked_of command → group_of command ≡ Some g
+asked_names (commands.Submit h i s b n) g a is = group_from (g, a) (h, asks.Submit i s b n) is
+asked_names (commands.Fetch h i s n) g a is = group_from (g, a) (h, asks.Fetch i s n) is
+asked_names (commands.Elect h i) g a is = group_from (g, a) (h, asks.Event (events.Elect i)) is
+asked_names (commands.Resend h i) g a is = group_from (g, a) (h, asks.Event (events.Resend i)) is
+asked_names (commands.Stop h i) g a is = group_from (g, a) (h, asks.Event (events.Stop i)) is
+asked_names (commands.Restart h i) g a is = group_from (g, a) (h, asks.Event (events.Restart i)) is
+asked_names (commands.Checkpoint h i) g a is = group_from (g, a) (h, asks.Event (events.Checkpoint i)) is
+asked_names (commands.Deliver h k) g a is = group_from (g, a) (h, asks.Event (events.Deliver k)) is
+asked_names (commands.Lose h k) g a is = group_from (g, a) (h, asks.Event (events.Lose k)) is
+asked_names (commands.Mark h i) g a is = group_from (g, a) (h, asks.Event (events.Mark i)) is
+asked_names (commands.Volume c s n f) g a is = absurd (none_is_none (g, a) is)
+asked_names (commands.Settle limit) g a is = absurd (none_is_none (g, a) is)
+asked_names (commands.Live h hosts writes workers turns) g a is = absurd (none_is_none (g, a) is)
+asked_names (commands.ShowLog h i) g a is = absurd (none_is_none (g, a) is)
+asked_names (commands.ShowApplied h i) g a is = absurd (none_is_none (g, a) is)
+asked_names (commands.ShowSectors h i) g a is = absurd (none_is_none (g, a) is)
+asked_names (commands.ShowAcked h) g a is = absurd (none_is_none (g, a) is)
+asked_names (commands.ShowMark h i s) g a is = absurd (none_is_none (g, a) is)
+asked_names commands.Mount g a is = absurd (none_is_none (g, a) is)
+asked_names (commands.Kill m) g a is = absurd (none_is_none (g, a) is)
+asked_names (commands.Call m call) g a is = absurd (none_is_none (g, a) is)
+asked_names (commands.ShowMount m) g a is = absurd (none_is_none (g, a) is)
+asked_names (commands.Move m) g a is = absurd (none_is_none (g, a) is)
+
+-- where its group is made, it is run
+pub made_told : (halts : List Halt) (w : World) (number : ℕ) (command : Command) → is_made w (group_of command) ≡ true → line_told halts w number command ≡ run_told halts w number command
+made_told halts w number command made = ap (λ b. if b then run_told halts w number command else said_only (record w { kind = kind_after w.kind command }) number (refused_text 102)) made
+
+pub low_made : (w : World) (o : Option ℕ) (g : ℕ) → o ≡ Some g → g < length w.volume.chunks → is_made w o ≡ true
+low_made w o g is low = ap (is_made w) is ∙ grind (arith, nat_tests)
 
 -- a range: an event of the chunk
-pub asked_told : (command : Command) (g : ℕ) (a : Asked) → Some (g, a) ≡ asked_of command → no_range_of a ≡ None → (halts : List Halt) (w : World) (number : ℕ) → IsAllowed w.kind command → line_told halts w number command ≡ at_chunk halts w number g (event_in a halts)
-asked_told command g a is range halts w number allowed = asked_by command g a is halts w number allowed ∙ ap (λ o. told_by halts w number o (g, a)) range
+pub asked_told : (command : Command) (g : ℕ) (a : Asked) → Some (g, a) ≡ asked_of command → no_range_of a ≡ None → (halts : List Halt) (w : World) (number : ℕ) → g < length w.volume.chunks → IsAllowed w.kind command → line_told halts w number command ≡ at_chunk halts w number g (event_in a halts)
+asked_told command g a is range halts w number low allowed = made_told halts w number command (low_made w (group_of command) g (asked_names command g a is) low) ∙ asked_by command g a is halts w number allowed ∙ ap (λ o. told_by halts w number o (g, a)) range
 
 -- no range: none
-pub no_range_told : (command : Command) (g : ℕ) (a : Asked) (server : ℕ) → Some (g, a) ≡ asked_of command → no_range_of a ≡ Some server → (halts : List Halt) (w : World) (number : ℕ) → IsAllowed w.kind command
+pub no_range_told : (command : Command) (g : ℕ) (a : Asked) (server : ℕ) → Some (g, a) ≡ asked_of command → no_range_of a ≡ Some server → (halts : List Halt) (w : World) (number : ℕ) → g < length w.volume.chunks → IsAllowed w.kind command
     → line_told halts w number command ≡ no_event_of w number server (slice_get w.volume.chunks g)
-no_range_told command g a server is none halts w number allowed = asked_by command g a is halts w number allowed ∙ ap (λ o. told_by halts w number o (g, a)) none
+no_range_told command g a server is none halts w number low allowed = made_told halts w number command (low_made w (group_of command) g (asked_names command g a is) low) ∙ asked_by command g a is halts w number allowed ∙ ap (λ o. told_by halts w number o (g, a)) none
 
 -- such a line is no settling and no line of threads
 pub asked_within : (old : WorldIs) (number : ℕ) (command : Command) (g : ℕ) (e : Asked) → Some (g, e) ≡ asked_of command → (new : WorldIs) → IsWithin old [] number command new → StopsIn old number command new
 asked_within old number (commands.Settle limit) g e is new within = absurd (none_is_none (g, e) is)
 asked_within old number (commands.Live h hosts writes workers turns) g e is new within = absurd (none_is_none (g, e) is)
+asked_within old number (commands.Move chunk) g e is new within = absurd (none_is_none (g, e) is)
 asked_within old number command g e is new within = within
 
 -- only settlings may go on without end
 pub asked_ends : (command : Command) (g : ℕ) (e : Asked) → Some (g, e) ≡ asked_of command → (halts : List Halt) (w : World) → Ends halts w command
 asked_ends (commands.Settle limit) g e is halts w = absurd (none_is_none (g, e) is)
 asked_ends (commands.Live h hosts writes workers turns) g e is halts w = absurd (none_is_none (g, e) is)
-asked_ends command g e is halts w = tt
+asked_ends command g e is halts w = λ made. tt
+
+-- it is no line that moves a chunk
+pub asked_stays : (command : Command) (g : ℕ) (e : Asked) → Some (g, e) ≡ asked_of command → (n : ℕ) → moves_after n command ≡ n
+asked_stays (commands.Move chunk) g e is n = absurd (none_is_none (g, e) is)
+asked_stays command g e is n = refl
 
 pub asked_plain : (command : Command) (g : ℕ) (e : Asked) → Some (g, e) ≡ asked_of command → is_live command ≡ false
 asked_plain (commands.Live h hosts writes workers turns) g e is = absurd (none_is_none (g, e) is)
@@ -109,17 +154,17 @@ low_from : (n : ℕ) (p q : PairOf) → Some p ≡ Some q → (q.0 < n) × MayAs
 low_from n p q is low = subst (λ (r : PairOf). (r.0 < n) × MayAsk r.1) (sym (same_Some p q is)) low
 
 -- a line that may be run asks for what may be asked
-pub asked_may : (n : ℕ) (command : Command) (g : ℕ) (a : Asked) → MayRun n command → Some (g, a) ≡ asked_of command → (g < n) × MayAsk a
-asked_may n (commands.Submit h i s b m) g a may is = low_from n (g, a) (h, asks.Submit i s b m) is (grind (arith, nat_tests), (grind (arith, nat_tests), grind (arith, nat_tests), grind (arith, nat_tests)))
-asked_may n (commands.Fetch h i s m) g a may is = low_from n (g, a) (h, asks.Fetch i s m) is (grind (arith, nat_tests), (grind (arith, nat_tests), grind (arith, nat_tests), grind (arith, nat_tests)))
-asked_may n (commands.Elect h i) g a may is = low_from n (g, a) (h, asks.Event (events.Elect i)) is (grind (arith, nat_tests), grind (arith, nat_tests))
-asked_may n (commands.Resend h i) g a may is = low_from n (g, a) (h, asks.Event (events.Resend i)) is (grind (arith, nat_tests), grind (arith, nat_tests))
-asked_may n (commands.Stop h i) g a may is = low_from n (g, a) (h, asks.Event (events.Stop i)) is (grind (arith, nat_tests), grind (arith, nat_tests))
-asked_may n (commands.Restart h i) g a may is = low_from n (g, a) (h, asks.Event (events.Restart i)) is (grind (arith, nat_tests), grind (arith, nat_tests))
-asked_may n (commands.Checkpoint h i) g a may is = low_from n (g, a) (h, asks.Event (events.Checkpoint i)) is (grind (arith, nat_tests), grind (arith, nat_tests))
-asked_may n (commands.Deliver h k) g a may is = low_from n (g, a) (h, asks.Event (events.Deliver k)) is (grind (arith, nat_tests), tt)
-asked_may n (commands.Lose h k) g a may is = low_from n (g, a) (h, asks.Event (events.Lose k)) is (grind (arith, nat_tests), tt)
-asked_may n (commands.Mark h i) g a may is = low_from n (g, a) (h, asks.Event (events.Mark i)) is (grind (arith, nat_tests), (grind (arith, nat_tests), tt))
+pub asked_may : (n : Named) (command : Command) (g : ℕ) (a : Asked) → MayRun n command → Some (g, a) ≡ asked_of command → (g < n.groups) × MayAsk a
+asked_may n (commands.Submit h i s b m) g a may is = low_from n.groups (g, a) (h, asks.Submit i s b m) is (grind (arith, nat_tests), (grind (arith, nat_tests), grind (arith, nat_tests), grind (arith, nat_tests)))
+asked_may n (commands.Fetch h i s m) g a may is = low_from n.groups (g, a) (h, asks.Fetch i s m) is (grind (arith, nat_tests), (grind (arith, nat_tests), grind (arith, nat_tests), grind (arith, nat_tests)))
+asked_may n (commands.Elect h i) g a may is = low_from n.groups (g, a) (h, asks.Event (events.Elect i)) is (grind (arith, nat_tests), grind (arith, nat_tests))
+asked_may n (commands.Resend h i) g a may is = low_from n.groups (g, a) (h, asks.Event (events.Resend i)) is (grind (arith, nat_tests), grind (arith, nat_tests))
+asked_may n (commands.Stop h i) g a may is = low_from n.groups (g, a) (h, asks.Event (events.Stop i)) is (grind (arith, nat_tests), grind (arith, nat_tests))
+asked_may n (commands.Restart h i) g a may is = low_from n.groups (g, a) (h, asks.Event (events.Restart i)) is (grind (arith, nat_tests), grind (arith, nat_tests))
+asked_may n (commands.Checkpoint h i) g a may is = low_from n.groups (g, a) (h, asks.Event (events.Checkpoint i)) is (grind (arith, nat_tests), grind (arith, nat_tests))
+asked_may n (commands.Deliver h k) g a may is = low_from n.groups (g, a) (h, asks.Event (events.Deliver k)) is (grind (arith, nat_tests), tt)
+asked_may n (commands.Lose h k) g a may is = low_from n.groups (g, a) (h, asks.Event (events.Lose k)) is (grind (arith, nat_tests), tt)
+asked_may n (commands.Mark h i) g a may is = low_from n.groups (g, a) (h, asks.Event (events.Mark i)) is (grind (arith, nat_tests), (grind (arith, nat_tests), tt))
 asked_may n (commands.Volume c s m f) g a may is = absurd may
 asked_may n (commands.Settle limit) g a may is = absurd (none_is_none (g, a) is)
 asked_may n (commands.Live h hosts writes workers turns) g a may is = absurd (none_is_none (g, a) is)
@@ -132,9 +177,11 @@ asked_may n commands.Mount g a may is = absurd (none_is_none (g, a) is)
 asked_may n (commands.Kill m) g a may is = absurd (none_is_none (g, a) is)
 asked_may n (commands.Call m call) g a may is = absurd (none_is_none (g, a) is)
 asked_may n (commands.ShowMount m) g a may is = absurd (none_is_none (g, a) is)
+asked_may n (commands.Move m) g a may is = absurd (none_is_none (g, a) is)
 
-pub asked_group : (n : ℕ) (command : Command) (g : ℕ) (a : Asked) → MayRun n command → Some (g, a) ≡ asked_of command → g < n
-asked_group n command g a may is = (asked_may n command g a may is).0
+-- and its group is made
+pub asked_group : (w : WorldIs) (command : Command) (g : ℕ) (a : Asked) → IsOfMade w command → Some (g, a) ≡ asked_of command → g < length w.chunks
+asked_group w command g a made is = subst (λ o. IfSome o (λ h. h < length w.chunks)) (asked_names command g a is) made
 
-pub asked_asks : (n : ℕ) (command : Command) (g : ℕ) (a : Asked) → MayRun n command → Some (g, a) ≡ asked_of command → MayAsk a
+pub asked_asks : (n : Named) (command : Command) (g : ℕ) (a : Asked) → MayRun n command → Some (g, a) ≡ asked_of command → MayAsk a
 asked_asks n command g a may is = (asked_may n command g a may is).1

@@ -19,8 +19,7 @@ use Rattle.pf_chunk.proofs.Members.{every_place}
 use Rattle.pf_chunk.specs.Views.{ChunkIs}
 use Rattle.pf_world.specs.Disks.{AreLeft, six_list}
 use Rattle.pf_world.specs.Headline.{AreCaused, AreHalts, FailedTimes, IsCaused, IsPlaceOf, IsSoundWorld, StandsIn}
-use Rattle.pf_world.specs.Making.{AreNew}
-use Rattle.pf_world.specs.Steps.{GoesOn}
+use Rattle.pf_world.specs.Making.{AreMadeOn}
 use Rattle.pf_world.specs.Views.{WorldIs}
 use Rattle.pf_world.proofs.Servers.{IsOwn, halts_own, halts_placed}
 use Rattle.pf_world.proofs.Sixes.{six_there}
@@ -79,13 +78,12 @@ failed_times n x y z paid le0 le1 = elim paid.enough [
   | inr last ↦ inr (elim last [ inl first ↦ inl (omega (arith, first, le0)) | inr second ↦ inr (omega (arith, second, le1)) ])
 ]
 
-module _ {D : Type 0} (seen : D → Option (List ℕ)) (may_leave : D → Images) (faults moment : D → ℕ) (left_since : D → ℕ → Images) (tells tells_moments : Bool) (disks after : List D) (first w : WorldIs) where
-  -- a world that was made on these disks, perhaps in part, after more had happened to its chunks, which left the disks so
+module _ {D : Type 0} (seen : D → Option (List ℕ)) (may_leave : D → Images) (faults moment : D → ℕ) (left_since : D → ℕ → Images) (tells tells_moments : Bool) (disks after : List D) (w : WorldIs) where
+  -- a world whose groups were made on these disks one after another, after more had happened to them, which left the disks so
   pub record HasPassed : Type 0 where
-    pub numbers : (k : ℕ) (c : ChunkIs) → slice_get first.chunks k ≡ Some c → c.group.number ≡ k
+    pub numbers : (k : ℕ) (c : ChunkIs) → slice_get w.chunks k ≡ Some c → c.group.number ≡ k
     pub sound : IsSoundWorld w
-    pub fresh : AreNew faults disks first
-    pub goes_on : GoesOn first w
+    pub made : AreMadeOn faults disks w.chunks
     pub left : AreLeft seen may_leave faults moment left_since tells tells_moments w.chunks disks after
 
   -- where disks tell their content
@@ -93,22 +91,8 @@ module _ {D : Type 0} (seen : D → Option (List ℕ)) (may_leave : D → Images
     told : AreTold w
     told k c there = subst (λ b. IsTrue b) (sym (p.left.told k c there)) tell
 
-    -- a chunk, as it was when it was made
-    record Lives (k : ℕ) (c : ChunkIs) : Type 0 where
-      made : ChunkIs
-      made_there : slice_get first.chunks k ≡ Some made
-      before : HasGrown made.group c.group
-
-    lives : (k : ℕ) (c : ChunkIs) → slice_get w.chunks k ≡ Some c → Lives k c
-    lives k c at =
-        let low = slice_get_within w.chunks k c at in
-        let made = something_there first.chunks k (omega (arith, low, p.goes_on.chunks)) in
-        record { made = made.0; made_there = made.1; before = p.goes_on.grown k made.0 c made.1 at }
-
     are_numbered : AreNumbered w
-    are_numbered k c there =
-        let life = lives k c there in
-        (life.before.number ∙ p.numbers k life.made life.made_there, subst (λ setup. Every (λ i. i < 3) setup.failed) (sym life.before.setup) (p.fresh.each k life.made life.made_there).few)
+    are_numbered k c there = (p.numbers k c there, (p.made.each k c there).2.few)
 
     own : AreOwn (groups_of w.chunks)
     own k g there =
@@ -117,17 +101,16 @@ module _ {D : Type 0} (seen : D → Option (List ℕ)) (may_leave : D → Images
         subst (λ (x : GroupIs). (x.number ≡ k) × Every (IsOwn k) (halts_of_group x)) (sym at.2)
         (is.0, subst (λ n. Every (IsOwn n) (halts_of_group at.0.group)) is.0 (halts_own at.0.group ((p.sound k at.0 at.1).legal (told k at.0 at.1)) is.1))
 
-    disks_are : flat_map six_list p.fresh.sixes ++ drop (6 * length first.chunks) disks ≡ disks
-    disks_are = ap (λ ds. ds ++ drop (6 * length first.chunks) disks) (sym p.fresh.given) ∙ take-append-drop (6 * length first.chunks) disks
+    disks_are : flat_map six_list p.made.sixes ++ drop (6 * length w.chunks) disks ≡ disks
+    disks_are = ap (λ ds. ds ++ drop (6 * length w.chunks) disks) (sym p.made.given) ∙ take-append-drop (6 * length w.chunks) disks
 
     -- a server of a chunk
     caused_at : (k i : ℕ) (g : GroupIs) → slice_get (groups_of w.chunks) k ≡ Some g → i < 3 → IsCaused faults (world_halts w) disks after k i
     caused_at k i g there low =
         let at = get_mapped (λ (c : ChunkIs). c.group) w.chunks k g there in
-        let life = lives k at.0 at.1 in
-        let new = p.fresh.each k life.made life.made_there in
-        let six = six_there faults p.fresh.sixes (drop (6 * length first.chunks) disks) k i new.six new.there low in
-        let paid = since_grown (six_faults faults new.six) life.made.group at.0.group (subst (λ b. IsTrue b) life.before.told (told k at.0 at.1)) new.paid life.before in
+        let made = p.made.each k at.0 at.1 in
+        let six = six_there faults p.made.sixes (drop (6 * length w.chunks) disks) k i made.0 made.1 low in
+        let paid = made.2.paid (told k at.0 at.1) in
         let halves = p.left.halves k i at.0 at.1 low in
         let times = failed_times (halts_at (halts_of_group at.0.group) at.0.group.number i) (faults six.zero, faults six.one) (faults halves.zero, faults halves.one) (faults halves.zero, faults halves.one) (paid.each i (faults six.zero, faults six.one) (faults halves.zero, faults halves.one) six.counts halves.counts) (omega arith) (omega arith) in
         let all = counted (groups_of w.chunks) own k i g there ∙ ap (λ (x : GroupIs). halts_at (halts_of_group x) x.number i) at.2 in

@@ -1,5 +1,5 @@
 -- Where memory runs out in the middle of a line.
-use Rattle.std.proofs.Common.{[], ◌≡◌, inl, inr, ℕ, Bool, List, Option, Some, Result, Ok, Err, OnErr, slice_get, refl, sym, ap, subst, ◌∙◌}
+use Rattle.std.proofs.Common.{[], length, ◌≡◌, inl, inr, ℕ, Bool, List, Option, Some, Result, Ok, Err, OnErr, slice_get, refl, sym, ap, subst, ◌∙◌}
 use Rattle.std.proofs.lemmas.List.{length-map}
 use Rattle.std.proofs.lemmas.Option.{same_Some}
 use Rattle.pf_fleet.proofs.Growing.{grown_trans_all}
@@ -21,8 +21,8 @@ use Rattle.pf_world.specs.declared.kind.Kind.{Kind}
 use Rattle.pf_world.specs.Worlds.{Told, at_chunk, told_of}
 use Rattle.pf_world.specs.Lines.{line_told}
 use Rattle.pf_world.specs.Views.{WorldIs, stands_at}
-use Rattle.pf_world.specs.Steps.{HasFailed, IsWithin, StopsIn}
-use Rattle.pf_world.proofs.Happening.{all_grew, becomes, same_world}
+use Rattle.pf_world.specs.Steps.{HasFailed, IsWithin, StopsIn, moves_after}
+use Rattle.pf_world.proofs.Happening.{all_grew, becomes, same_groups, same_world}
 
 pub on_err : {X E : Type 0} (r : Result X E) (P : Type 0) → P → OnErr r P
 on_err (Ok x) P p = tt
@@ -38,12 +38,13 @@ have_all_begun halts old new grown tells = record {
       (all_begun halts was.group is.group (run_of halts is).group (tells k is to) (grown.each k was is at to) (extends_refl (run_of halts is).group));
 }
 
-module _ (old : WorldIs) (number : ℕ) (command : Command) (within : (new : WorldIs) → IsWithin old [] number command new → StopsIn old number command new) where
+module _ (old : WorldIs) (number : ℕ) (command : Command) (within : (new : WorldIs) → IsWithin old [] number command new → StopsIn old number command new) (stays : moves_after old.moves command ≡ old.moves) where
   -- a part was begun
   pub stopped_fails : (part : Part) (kind : Option Kind) (chunks : List ChunkIs) (fleet : FleetIs) → HasStopped part old.chunks old.fleet chunks
       → ((halts : List Halt) → TellsAll halts chunks → (line_told halts (stands_at halts [] old) number command).world.volume.chunks ≡ (part halts (fleets.stands_at halts old.chunks old.fleet)).volume.chunks) → HasFailed old number command (becomes old chunks fleet kind)
   stopped_fails part kind chunks fleet s line = record {
     goes_on = all_grew old chunks fleet kind s.grown;
+    groups = same_groups old.moves command stays (length old.chunks) (length chunks) s.grown.count;
     passes = refl;
     stopped = within (becomes old chunks fleet kind) (λ halts tells. subst (λ cs. HaveBegun halts old.chunks cs chunks) (sym (line halts tells)) (s.begun halts tells));
   }
@@ -61,6 +62,7 @@ module _ (old : WorldIs) (number : ℕ) (command : Command) (within : (new : Wor
   pub said_fails : (kind : Option Kind) (fleet : FleetIs) → ((halts : List Halt) → (line_told halts (stands_at halts [] old) number command).world.volume.chunks ≡ runs halts old.chunks) → HasFailed old number command (becomes old old.chunks fleet kind)
   said_fails kind fleet line = record {
     goes_on = all_grew old old.chunks fleet kind (record { count = refl; each = (same_world old).grown });
+    groups = same_groups old.moves command stays (length old.chunks) (length old.chunks) refl;
     passes = refl;
     stopped = within (becomes old old.chunks fleet kind) (λ halts tells. subst (λ cs. HaveBegun halts old.chunks cs old.chunks) (sym (line halts))
         (have_all_begun halts old.chunks old.chunks (record { count = refl; each = (same_world old).grown }) tells));
@@ -85,6 +87,7 @@ settling_grown limit old fleet new n = grown_trans_all old n.mid new n.grown n.s
 pub settling_fails : (old : WorldIs) (number limit : ℕ) (kind : Option Kind) (chunks : List ChunkIs) (fleet : FleetIs) → HasNotSettled limit old.chunks old.fleet chunks → HasFailed old number (commands.Settle limit) (becomes old chunks fleet kind)
 settling_fails old number limit kind chunks fleet n = record {
   goes_on = all_grew old chunks fleet kind (settling_grown limit old.chunks old.fleet chunks n);
+  groups = (settling_grown limit old.chunks old.fleet chunks n).count;
   passes = refl;
   stopped = inl n;
 }
@@ -93,6 +96,7 @@ pub settled_fails : (old : WorldIs) (number limit : ℕ) (kind : Option Kind) (c
     → HasFailed old number (commands.Settle limit) (becomes old chunks fleet kind)
 settled_fails old number limit kind chunks fleet before after stopped s = record {
   goes_on = all_grew old chunks fleet kind s.went.grown;
+  groups = s.went.grown.count;
   passes = refl;
   stopped = inr (record { next = fleet; before = before; after = after; stopped = stopped; settled = s });
 }

@@ -1,11 +1,12 @@
 -- What happens to a volume and its hosts makes a line.
-use Rattle.std.proofs.Common.{◌≡◌, ℕ, suc, ◌<◌, ◌≤◌, Bool, false, IsSome, IfSome, List, [], ◌∷◌, ◌++◌, Option, Some, None, unwrap_or, refl, sym, ap, subst, ◌∙◌, arith}
+use Rattle.std.proofs.Common.{◌≡◌, ℕ, suc, min, length, ◌+◌, ◌<◌, ◌≤◌, Bool, false, IsSome, IfSome, List, [], ◌∷◌, ◌++◌, Option, Some, None, unwrap_or, refl, sym, ap, subst, ◌∙◌, arith}
 use Rattle.std.proofs.lemmas.Bool.{false≢true}
 use Rattle.std.proofs.lemmas.List.{append_assoc, append-nil}
 use Rattle.std.proofs.lemmas.Grind.{flat_map-append}
 use Rattle.std.proofs.lemmas.Option.{same_Some, slice_get_within}
 use Rattle.pf_script.specs.Lines.{is_volume}
 use Rattle.pf_script.specs.declared.command.Command.{Command}
+use Rattle.pf_script.specs.declared.command.Command.TheVariants as commands
 use Rattle.pf_script.specs.declared.command.Command.TheVariants.{Settle}
 use Rattle.pf_protocol.specs.declared.answers.Answer.{Answer}
 use Rattle.pf_network.proofs.Lists.{something_there}
@@ -26,11 +27,12 @@ use Rattle.pf_fleet.specs.Volumes.{happens}
 use Rattle.pf_world.specs.declared.kind.Kind.{Kind}
 use Rattle.pf_world.specs.Worlds.{at_chunk, ended, told_of}
 use Rattle.pf_world.specs.Lines.{line_told}
-use Rattle.pf_world.specs.Views.{IsWorld, WorldIs, stands_at}
+use Rattle.pf_volume.specs.Volumes.{Extent}
+use Rattle.pf_world.specs.Views.{IsWorld, WorldIs, named_in, stands_at}
 use Rattle.pf_world.specs.Headline.{is_live}
 use Rattle.pf_liveline.specs.declared.opening.Passes.{Passes}
 use Rattle.pf_threads.specs.Sessions.{Session}
-use Rattle.pf_world.specs.Steps.{Ends, GoesOn, HasRun, Keeps, TakesSessions}
+use Rattle.pf_world.specs.Steps.{Ends, GoesOn, HasRun, Keeps, MakesGroups, TakesSessions, moves_after}
 use Rattle.pf_world.proofs.Others.{ends_other, keeps_none, line_other, takes_none, told_with}
 
 pub same_world : (w : WorldIs) → GoesOn w w
@@ -38,16 +40,21 @@ same_world w = record {
   sectors = refl;
   names = refl;
   format = refl;
-  chunks = refl;
+  at_least = omega arith;
   grown = λ k was is there now. subst (λ (c : ChunkIs). HasGrown was.group c.group) (same_Some was is (sym there ∙ now)) (grown_refl was.group);
 }
+
+-- a line that moves no chunk makes no group
+pub same_groups : (n : ℕ) (command : Command) → moves_after n command ≡ n → (was is : ℕ) → is ≡ was → MakesGroups command was is
+same_groups n (commands.Move chunk) stays was is same = absurd (omega (arith, stays))
+same_groups n command stays was is same = same
 
 -- the world with other chunks and hosts
 abbrev pub becomes : WorldIs → List ChunkIs → FleetIs → Option Kind → WorldIs
 becomes w chunks fleet kind = record w { chunks = chunks; fleet = fleet; kind = kind }
 
 pub all_grew : (old : WorldIs) (chunks : List ChunkIs) (fleet : FleetIs) (kind : Option Kind) → HaveGrown old.chunks chunks → GoesOn old (becomes old chunks fleet kind)
-all_grew old chunks fleet kind grown = record { sectors = refl; names = refl; format = refl; chunks = grown.count; grown = grown.each }
+all_grew old chunks fleet kind grown = record { sectors = refl; names = refl; format = refl; at_least = omega (arith, grown.count); grown = grown.each }
 
 -- each chunk of a world stands between two events
 pub chunks_ready : (w : WorldIs) → IsWorld w → AreReady w.chunks
@@ -56,13 +63,15 @@ chunks_ready w world k c there = let is = world.each k c there in (is.number, is
 pub still_world : (old : WorldIs) (chunks : List ChunkIs) (fleet : FleetIs) (kind : Option Kind) → IsWorld old → AreReady chunks → IsFleetOf chunks fleet → HaveGrown old.chunks chunks → fleet.volume ≡ old.fleet.volume
     → IsWorld (becomes old chunks fleet kind)
 still_world old chunks fleet kind world ready is_fleet grown volume = record {
-  volume = ap (λ n. is_volume n old.sectors old.names old.format) grown.count ∙ world.volume;
+  volume = ap (λ (v : Extent). is_volume v.chunks old.sectors old.names old.format) volume ∙ world.volume;
   each = λ k c there.
       let was = something_there old.chunks k (subst (λ n. k < n) grown.count (slice_get_within chunks k c there)) in
       let its = world.each k was.0 was.1 in
       record { number = (ready k c there).0; failed = its.failed; setup = (grown.each k was.0 c was.1 there).setup ∙ its.setup; ready = (ready k c there).1 };
   is_fleet = is_fleet;
-  extent = volume ∙ world.extent ∙ ap (λ n. record { chunks = n; sectors = old.sectors }) (sym grown.count);
+  sectors_are = ap (λ (v : Extent). v.sectors) volume ∙ world.sectors_are;
+  made = omega (arith, ap (λ (v : Extent). v.chunks) volume, grown.count, world.made);
+  few = subst (λ (v : Extent). length chunks ≤ min (v.chunks + old.moves) 8) (sym volume) (subst (λ n. n ≤ (named_in old).groups) (sym grown.count) world.few);
 }
 
 -- and other passes
@@ -71,11 +80,13 @@ passed_world w passes world = record {
   volume = world.volume;
   each = λ k c there. let its = world.each k c there in record { number = its.number; failed = its.failed; setup = its.setup; ready = its.ready };
   is_fleet = world.is_fleet;
-  extent = world.extent;
+  sectors_are = world.sectors_are;
+  made = world.made;
+  few = world.few;
 }
 
 pub passed_on : (old new : WorldIs) (passes : Option Passes) → GoesOn old new → GoesOn old (record new { passes = passes })
-passed_on old new passes on = record { sectors = on.sectors; names = on.names; format = on.format; chunks = on.chunks; grown = on.grown }
+passed_on old new passes on = record { sectors = on.sectors; names = on.names; format = on.format; at_least = on.at_least; grown = on.grown }
 
 -- the line's own text comes behind what was told
 text_after : (told : List Moment) (text : List ℕ) → text_of (told ++ Writes text ∷ []) ≡ text_of told ++ text
@@ -88,7 +99,7 @@ answer_put None number middle after is put = absurd (false≢true is)
 pub le_suc : (n : ℕ) → n ≤ suc n
 le_suc n = omega arith
 
-module _ (old : WorldIs) (number : ℕ) (command : Command) (world : IsWorld old) where
+module _ (old : WorldIs) (number : ℕ) (command : Command) (world : IsWorld old) (stays : moves_after old.moves command ≡ old.moves) where
   -- the chunks and the hosts went through a part with these sessions, and then the line's text was put
   pub went_runs : (sessions : List Session) (part : Part) (kind : Option Kind) (passes : Option Passes) (chunks : List ChunkIs) (fleet : FleetIs) (before middle after text : List ℕ) → TakesSessions command sessions → HasGone part old.chunks old.fleet before chunks fleet middle
       → after ≡ middle ++ line_of number text → fleet.volume ≡ old.fleet.volume → fleet.calls ≤ suc old.fleet.calls
@@ -101,7 +112,10 @@ module _ (old : WorldIs) (number : ℕ) (command : Command) (world : IsWorld old
     runs = record {
       is_world = passed_world (becomes old chunks fleet kind) passes (still_world old chunks fleet kind world went.ready went.is_fleet went.grown volume);
       goes_on = passed_on old (becomes old chunks fleet kind) passes (all_grew old chunks fleet kind went.grown);
+      groups = same_groups old.moves command stays (length old.chunks) (length chunks) went.grown.count;
+      volume = volume;
       calls = calls;
+      moves = sym stays;
       sessions = sessions;
       takes = takes;
       run = λ halts rest tells. line halts rest tells ∙ ap (λ t. ended (record (stands_at halts rest old) { kind = kind }) number t text) (went.run halts tells);
@@ -110,14 +124,14 @@ module _ (old : WorldIs) (number : ℕ) (command : Command) (world : IsWorld old
     };
   }
 
-module _ (old : WorldIs) (number : ℕ) (command : Command) (world : IsWorld old) (plain : is_live command ≡ false) where
+module _ (old : WorldIs) (number : ℕ) (command : Command) (world : IsWorld old) (plain : is_live command ≡ false) (stays : moves_after old.moves command ≡ old.moves) where
   -- and without one
   pub gone_runs : (part : Part) (kind : Option Kind) (chunks : List ChunkIs) (fleet : FleetIs) (before middle after text : List ℕ) → HasGone part old.chunks old.fleet before chunks fleet middle → after ≡ middle ++ line_of number text
       → fleet.volume ≡ old.fleet.volume → fleet.calls ≤ suc old.fleet.calls
       → ((halts : List Halt) → TellsAll halts chunks → line_told halts (stands_at halts [] old) number command ≡ ended (record (stands_at halts [] old) { kind = kind }) number (part halts (fleets.stands_at halts old.chunks old.fleet)) text)
       → ((halts : List Halt) → TellsAll halts chunks → Ends halts (stands_at halts [] old) command) → HasRun old number command before after (becomes old chunks fleet kind)
   gone_runs part kind chunks fleet before middle after text went put volume calls line ends =
-      went_runs old number command world [] part kind old.passes chunks fleet before middle after text (takes_none command plain) went put volume calls
+      went_runs old number command world stays [] part kind old.passes chunks fleet before middle after text (takes_none command plain) went put volume calls
       (λ halts rest tells. line_other halts rest (stands_at halts [] old) number command plain ∙ ap (told_with halts rest) (line halts tells))
       (λ halts rest tells. ends_other halts rest (stands_at halts [] old) command plain (ends halts tells))
       (keeps_none old (becomes old chunks fleet kind) command plain refl)
@@ -153,6 +167,6 @@ module _ (old : WorldIs) (number : ℕ) (command : Command) (world : IsWorld old
 pub settled_runs : (old : WorldIs) (number limit : ℕ) → IsWorld old → (chunks : List ChunkIs) (fleet : FleetIs) (before middle after : List ℕ) (stopped : Bool) → HasSettled limit old.chunks old.fleet before stopped chunks fleet middle → after ≡ middle ++ line_of number (settle_text stopped)
     → HasRun old number (Settle limit) before after (becomes old chunks fleet old.kind)
 settled_runs old number limit world chunks fleet before middle after stopped s put =
-    gone_runs old number (Settle limit) world refl (settling limit) old.kind chunks fleet before middle after (settle_text stopped) s.went put s.same.volume (subst (λ n. n ≤ suc old.fleet.calls) (sym s.same.calls) (le_suc old.fleet.calls))
+    gone_runs old number (Settle limit) world refl refl (settling limit) old.kind chunks fleet before middle after (settle_text stopped) s.went put s.same.volume (subst (λ n. n ≤ suc old.fleet.calls) (sym s.same.calls) (le_suc old.fleet.calls))
     (λ halts tells. ap (λ b. ended (stands_at halts [] old) number (settling limit halts (fleets.stands_at halts old.chunks old.fleet)) (settle_text b)) (s.answered halts tells))
-    (λ halts tells. s.ends halts tells)
+    (λ halts tells made. s.ends halts tells)

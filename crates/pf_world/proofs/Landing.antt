@@ -19,7 +19,7 @@ handed_back new items len same all =
     ∙ ap (λ n. take n new) (all ∙ sym same)
     ∙ take-length new
 
-module _ (sectors names format : ℕ) (items : List ChunkIs) (fleet : FleetIs) (kind : Option Kind) (passes : Option Passes) (old : WorldIs) (same : record { sectors = sectors; names = names; format = format; chunks = items; fleet = fleet; kind = kind; passes = passes } ≡ old) where
+module _ (sectors names format : ℕ) (items : List ChunkIs) (fleet : FleetIs) (moves : ℕ) (kind : Option Kind) (passes : Option Passes) (old : WorldIs) (same : record { sectors = sectors; names = names; format = format; chunks = items; fleet = fleet; moves = moves; kind = kind; passes = passes } ≡ old) where
   module _ (slice : List ChunkIs) (is : slice ≡ items) where
     chunks_are : slice ≡ old.chunks
     chunks_are = is ∙ ap (λ (w : WorldIs). w.chunks) same
@@ -39,13 +39,13 @@ module _ (sectors names format : ℕ) (items : List ChunkIs) (fleet : FleetIs) (
 
   -- the world with what came back
   pub lands : (len : ℕ) (chunks : List ChunkIs) (next : FleetIs) (then : Option Kind) → len ≡ length items → length chunks ≡ length items
-      → becomes old chunks next then ≡ record { sectors = sectors; names = names; format = format; chunks = take len (chunks ++ drop (length chunks) items); fleet = next; kind = then; passes = passes }
+      → becomes old chunks next then ≡ record { sectors = sectors; names = names; format = format; chunks = take len (chunks ++ drop (length chunks) items); fleet = next; moves = moves; kind = then; passes = passes }
   lands len chunks next then all count =
       ap (λ (w : WorldIs). becomes w chunks next then) (sym same)
-      ∙ ap (λ cs. let w : WorldIs = record { sectors = sectors; names = names; format = format; chunks = cs; fleet = next; kind = then; passes = passes } in w) (sym (handed_back chunks items len count all))
+      ∙ ap (λ cs. let w : WorldIs = record { sectors = sectors; names = names; format = format; chunks = cs; fleet = next; moves = moves; kind = then; passes = passes } in w) (sym (handed_back chunks items len count all))
 
   -- with the kind of before
   pub comes_back : (len : ℕ) (chunks : List ChunkIs) (next : FleetIs) → len ≡ length items → length chunks ≡ length old.chunks
-      → becomes old chunks next old.kind ≡ record { sectors = sectors; names = names; format = format; chunks = take len (chunks ++ drop (length chunks) items); fleet = next; kind = kind; passes = passes }
+      → becomes old chunks next old.kind ≡ record { sectors = sectors; names = names; format = format; chunks = take len (chunks ++ drop (length chunks) items); fleet = next; moves = moves; kind = kind; passes = passes }
   comes_back len chunks next all count =
       ap (becomes old chunks next) (sym (ap (λ (w : WorldIs). w.kind) same)) ∙ lands len chunks next kind all (count ∙ ap (λ (w : WorldIs). length w.chunks) (sym same))

@@ -17,3 +17,6 @@ pub mod Shown
 pub mod Mounts
 pub mod Sessions
 pub mod Lived
+pub mod Made
+pub mod Unmade
+pub mod Moved

@@ -26,7 +26,7 @@ use Rattle.pf_fleet.specs.declared.faults.JoinFault.TheVariants as joins_not
 use Rattle.pf_fleet.specs.Calls.{HasCalled, HasJoined, IsCause, call_number, join_number}
 use Rattle.pf_fleet.specs.Steps.{AreSameHosts, FleetIs, HasGone, HasStopped, IsFleetOf, Part}
 use Rattle.pf_fleet.specs.Steps as fleets
-use Rattle.pf_fleet.specs.Volumes.{Told, begins, followed, host_at, hosts_step, killed, mounts, quietly}
+use Rattle.pf_fleet.specs.Volumes.{Told, begins, followed, host_at, all_step, killed, mounts, quietly}
 use Rattle.pf_world.specs.declared.kind.Kind.{Kind}
 use Rattle.pf_world.specs.declared.kind.Kind.TheVariants.{Mounted, Raw}
 use Rattle.pf_world.specs.Worlds as worlds
@@ -34,12 +34,12 @@ use Rattle.pf_world.specs.Worlds.{World, refused_text, stepped}
 use Rattle.pf_world.specs.Lines.{begins_if, call_of, decided, kill_of, line_told, mounts_as, rests, with_kind}
 use Rattle.pf_world.specs.Views.{IsWorld, WorldIs, stands_at}
 use Rattle.pf_world.specs.Headline.{is_live}
-use Rattle.pf_world.specs.Steps.{Ends, HasFailed, HasRun, IsWithin, StopsIn}
+use Rattle.pf_world.specs.Steps.{Ends, HasFailed, HasRun, IsWithin, StopsIn, moves_after}
 use Rattle.pf_world.proofs.Failing.{gone_fails, have_all_begun, said_fails, stopped_fails}
-use Rattle.pf_world.proofs.Happening.{all_grew, becomes, gone_runs, le_suc, said_runs}
+use Rattle.pf_world.proofs.Happening.{all_grew, becomes, gone_runs, le_suc, said_runs, same_groups}
 use Rattle.pf_world.proofs.Landing.{handed_back}
 use Rattle.pf_world.proofs.Shown.{still_gone}
-use Rattle.pf_fleet.proofs.Growing.{begun_through, grown_refl_all, hosts_lengthen}
+use Rattle.pf_fleet.proofs.Growing.{begun_through, grown_refl_all, all_lengthen}
 use Rattle.pf_fleet.proofs.Parts.{then_stopped, went_on}
 
 -- A mount ends
@@ -52,14 +52,14 @@ module _ (old : WorldIs) (number mount : ℕ) (world : IsWorld old) (before afte
   pub killed_runs : (next : FleetIs) → next ≡ record old.fleet { hosts = slice_set old.fleet.hosts mount None } → IsFleetOf old.chunks next → (host : HostIs) → host_at old.fleet.hosts mount ≡ Some host
       → after ≡ before ++ line_of number (said Done) → HasRun old number (commands.Kill mount) before after (becomes old old.chunks next old.kind)
   killed_runs next is is_fleet host there put =
-      gone_runs old number (commands.Kill mount) world refl (λ halts v. quietly (killed mount v)) old.kind old.chunks next before before after (said Done)
+      gone_runs old number (commands.Kill mount) world refl refl (λ halts v. quietly (killed mount v)) old.kind old.chunks next before before after (said Done)
       (still_gone old world (λ halts v. quietly (killed mount v)) next is_fleet [] before before (sym (append-nil before)) (λ halts. ap (λ f. quietly (fleets.stands_at halts old.chunks f)) (sym is)))
-      put (ap (λ (f : FleetIs). f.volume) is) (subst (λ (f : FleetIs). f.calls ≤ suc old.fleet.calls) (sym is) (omega arith)) (λ halts tells. ap (kill_of (stands_at halts [] old) number mount) there) (λ halts tells. tt)
+      put (ap (λ (f : FleetIs). f.volume) is) (subst (λ (f : FleetIs). f.calls ≤ suc old.fleet.calls) (sym is) (omega arith)) (λ halts tells. ap (kill_of (stands_at halts [] old) number mount) there) (λ halts tells made. tt)
 
   pub none_killed_runs : (next : FleetIs) → next ≡ old.fleet → host_at old.fleet.hosts mount ≡ None → after ≡ before ++ line_of number (refused_text 96) → HasRun old number (commands.Kill mount) before after (becomes old old.chunks next old.kind)
   none_killed_runs next same none put =
       subst (λ f. HasRun old number (commands.Kill mount) before after (becomes old old.chunks f old.kind)) (sym same)
-      (said_runs old number (commands.Kill mount) world refl old.kind before after (refused_text 96) (λ halts v. quietly v) (λ halts. refl) put (λ halts tells. ap (kill_of (stands_at halts [] old) number mount) none) (λ halts. tt))
+      (said_runs old number (commands.Kill mount) world refl refl old.kind before after (refused_text 96) (λ halts v. quietly v) (λ halts. refl) put (λ halts tells. ap (kill_of (stands_at halts [] old) number mount) none) (λ halts made. tt))
 
 chunks_killed : (w : World) (number mount : ℕ) (host : Option HostIs) → (kill_of w number mount host).world.volume.chunks ≡ w.volume.chunks
 chunks_killed w number mount None = refl
@@ -67,7 +67,7 @@ chunks_killed w number mount (Some host) = refl
 
 pub killed_fails : (old : WorldIs) (number mount : ℕ) (next : FleetIs) → HasFailed old number (commands.Kill mount) (becomes old old.chunks next old.kind)
 killed_fails old number mount next =
-    said_fails old number (commands.Kill mount) (λ new within. within) old.kind next (λ halts. chunks_killed (stands_at halts [] old) number mount (host_at old.fleet.hosts mount))
+    said_fails old number (commands.Kill mount) (λ new within. within) refl old.kind next (λ halts. chunks_killed (stands_at halts [] old) number mount (host_at old.fleet.hosts mount))
 
 -- A part of a line, and then a step of each host
 
@@ -75,46 +75,47 @@ module _ (old : WorldIs) (number : ℕ) (command : Command) (part : Part) (kind 
   -- the world between the two, and the world afterwards
   module _ (between next : WorldIs) (is : becomes old mid fleet kind ≡ between) (others : next ≡ record between { chunks = next.chunks; fleet = next.fleet }) where
     abbrev whole : Part
-    whole halts v = followed (part halts v) (hosts_step halts)
+    whole halts v = followed (part halts v) (all_step halts)
 
     becomes_next : becomes old next.chunks next.fleet kind ≡ next
     becomes_next = sym (others ∙ ap (λ w. becomes w next.chunks next.fleet w.kind) (sym is))
 
-    all_gone : (later : List ℕ) → HasGone hosts_step between.chunks between.fleet middle next.chunks next.fleet later → HasGone whole old.chunks old.fleet before next.chunks next.fleet later
+    all_gone : (later : List ℕ) → HasGone all_step between.chunks between.fleet middle next.chunks next.fleet later → HasGone whole old.chunks old.fleet before next.chunks next.fleet later
     all_gone later second =
-        went_on part hosts_step old.chunks mid next.chunks old.fleet fleet next.fleet before middle later first (subst (λ (w : WorldIs). HasGone hosts_step w.chunks w.fleet middle next.chunks next.fleet later) (sym is) second)
+        went_on part all_step old.chunks mid next.chunks old.fleet fleet next.fleet before middle later first (subst (λ (w : WorldIs). HasGone all_step w.chunks w.fleet middle next.chunks next.fleet later) (sym is) second)
 
-    pub steps_run : (later after text : List ℕ) → HasGone hosts_step between.chunks between.fleet middle next.chunks next.fleet later → AreSameHosts between.fleet next.fleet → IsWorld old → is_live command ≡ false
+    pub steps_run : (later after text : List ℕ) → HasGone all_step between.chunks between.fleet middle next.chunks next.fleet later → AreSameHosts between.fleet next.fleet → IsWorld old → is_live command ≡ false → moves_after old.moves command ≡ old.moves
         → fleet.volume ≡ old.fleet.volume → fleet.calls ≤ suc old.fleet.calls → after ≡ later ++ line_of number text
         → ((halts : List Halt) → line_told halts (stands_at halts [] old) number command ≡ stepped halts (record (stands_at halts [] old) { kind = kind }) number (part halts (fleets.stands_at halts old.chunks old.fleet)) text)
         → ((halts : List Halt) → Ends halts (stands_at halts [] old) command) → HasRun old number command before after next
-    steps_run later after text second hosts world plain volume calls put line ends =
+    steps_run later after text second hosts world plain stays volume calls put line ends =
         let same = subst (λ (w : WorldIs). AreSameHosts w.fleet next.fleet) (sym is) hosts in
         subst (HasRun old number command before after) becomes_next
-        (gone_runs old number command world plain whole kind next.chunks next.fleet before later after text (all_gone later second) put (same.volume ∙ volume) (subst (λ n. n ≤ suc old.fleet.calls) (sym same.calls) calls)
+        (gone_runs old number command world plain stays whole kind next.chunks next.fleet before later after text (all_gone later second) put (same.volume ∙ volume) (subst (λ n. n ≤ suc old.fleet.calls) (sym same.calls) calls)
         (λ halts tells. line halts) (λ halts tells. ends halts))
 
-    module _ (within : (new : WorldIs) → IsWithin old [] number command new → StopsIn old number command new) (text : List ℕ)
+    module _ (within : (new : WorldIs) → IsWithin old [] number command new → StopsIn old number command new) (stays : moves_after old.moves command ≡ old.moves) (text : List ℕ)
         (line : (halts : List Halt) → line_told halts (stands_at halts [] old) number command ≡ stepped halts (record (stands_at halts [] old) { kind = kind }) number (part halts (fleets.stands_at halts old.chunks old.fleet)) text) where
       -- there was no memory for the line's text
-      pub steps_fail : (later : List ℕ) → HasGone hosts_step between.chunks between.fleet middle next.chunks next.fleet later → HasFailed old number command next
+      pub steps_fail : (later : List ℕ) → HasGone all_step between.chunks between.fleet middle next.chunks next.fleet later → HasFailed old number command next
       steps_fail later second =
           subst (HasFailed old number command) becomes_next
-          (gone_fails old number command within whole kind next.chunks next.fleet before later (all_gone later second) (λ halts tells. ap (λ (t : worlds.Told). t.world.volume.chunks) (line halts)))
+          (gone_fails old number command within stays whole kind next.chunks next.fleet before later (all_gone later second) (λ halts tells. ap (λ (t : worlds.Told). t.world.volume.chunks) (line halts)))
 
       -- for the steps of the hosts
-      pub steps_stop : HasStopped hosts_step between.chunks between.fleet next.chunks → HasFailed old number command next
+      pub steps_stop : HasStopped all_step between.chunks between.fleet next.chunks → HasFailed old number command next
       steps_stop second =
           subst (HasFailed old number command) becomes_next
-          (stopped_fails old number command within whole kind next.chunks next.fleet
-          (then_stopped part hosts_step old.chunks mid next.chunks old.fleet fleet before middle first (subst (λ (w : WorldIs). HasStopped hosts_step w.chunks w.fleet next.chunks) (sym is) second))
+          (stopped_fails old number command within stays whole kind next.chunks next.fleet
+          (then_stopped part all_step old.chunks mid next.chunks old.fleet fleet before middle first (subst (λ (w : WorldIs). HasStopped all_step w.chunks w.fleet next.chunks) (sym is) second))
           (λ halts tells. ap (λ (t : worlds.Told). t.world.volume.chunks) (line halts)))
 
 -- the line was not begun: all that it does only adds to histories
-pub not_begun : (old : WorldIs) (number : ℕ) (command : Command) → ((new : WorldIs) → IsWithin old [] number command new → StopsIn old number command new) → (kind : Option Kind) (fleet : FleetIs)
+pub not_begun : (old : WorldIs) (number : ℕ) (command : Command) → ((new : WorldIs) → IsWithin old [] number command new → StopsIn old number command new) → moves_after old.moves command ≡ old.moves → (kind : Option Kind) (fleet : FleetIs)
     → ((halts : List Halt) → Lengthens (runs halts old.chunks) (line_told halts (stands_at halts [] old) number command).world.volume.chunks) → HasFailed old number command (becomes old old.chunks fleet kind)
-not_begun old number command within kind fleet longer = record {
+not_begun old number command within stays kind fleet longer = record {
   goes_on = all_grew old old.chunks fleet kind (grown_refl_all old.chunks);
+  groups = same_groups old.moves command stays (length old.chunks) (length old.chunks) refl;
   passes = refl;
   stopped = within (becomes old old.chunks fleet kind) (λ halts tells.
       let would = (line_told halts (stands_at halts [] old) number command).world.volume.chunks in
@@ -148,7 +149,7 @@ silent_gone part old new fleet next before gone = record {
 }
 
 stepped_lengthens : (halts : List Halt) (w : World) (number : ℕ) (t : Told) (text : List ℕ) → Lengthens w.volume.chunks t.volume.chunks → Lengthens w.volume.chunks (stepped halts w number t text).world.volume.chunks
-stepped_lengthens halts w number t text longer = lengthens_trans w.volume.chunks t.volume.chunks (hosts_step halts t.volume).volume.chunks longer (hosts_lengthen halts t.volume)
+stepped_lengthens halts w number t text longer = lengthens_trans w.volume.chunks t.volume.chunks (all_step halts t.volume).volume.chunks longer (all_lengthen halts t.volume)
 
 -- A mount is made
 
@@ -165,7 +166,7 @@ module _ (halts : List Halt) (w : World) (number : ℕ) where
   by_room : (small full : Bool) → Lengthens w.volume.chunks (if small then Small else if full then Full else Joined).world.volume.chunks
   by_room true full = stepped_lengthens halts w number (quietly w.volume) (refused_text 93) (lengthens_refl w.volume.chunks)
   by_room false true = stepped_lengthens halts w number (quietly w.volume) (refused_text 92) (lengthens_refl w.volume.chunks)
-  by_room false false = stepped_lengthens halts w number (mounts w.volume) (mount_text (length w.volume.hosts)) (made_lengthens w.volume.chunks (length w.volume.hosts) w.volume.extent)
+  by_room false false = stepped_lengthens halts w number (mounts w.volume) (mount_text (length w.volume.hosts)) (made_lengthens w.volume.routes w.volume.chunks (length w.volume.hosts) w.volume.extent)
 
   by_kind : (kind : Kind) → Lengthens w.volume.chunks (mounts_as kind halts w number).world.volume.chunks
   by_kind Raw = lengthens_refl w.volume.chunks
@@ -220,20 +221,20 @@ no_mount_said joins_not.SmallVolume other = refl
 
 pub mount_not_begun : (old : WorldIs) (number : ℕ) (fleet : FleetIs) (kind : Option Kind) → HasFailed old number commands.Mount (becomes old old.chunks fleet kind)
 mount_not_begun old number fleet kind =
-    not_begun old number commands.Mount (λ new within. within) kind fleet (λ halts. let decided_kind = decided old.kind Mounted in by_kind halts (with_kind (stands_at halts [] old) decided_kind) number decided_kind)
+    not_begun old number commands.Mount (λ new within. within) refl kind fleet (λ halts. let decided_kind = decided old.kind Mounted in by_kind halts (with_kind (stands_at halts [] old) decided_kind) number decided_kind)
 
 -- in a raw run nothing is mounted
 pub raw_runs : (old : WorldIs) (number : ℕ) (before after : List ℕ) → IsWorld old → decided old.kind Mounted ≡ Raw → after ≡ before ++ line_of number (refused_text 95)
     → HasRun old number commands.Mount before after (becomes old old.chunks old.fleet (Some (decided old.kind Mounted)))
 raw_runs old number before after world raw put =
-    said_runs old number commands.Mount world refl (Some (decided old.kind Mounted)) before after (refused_text 95) (λ halts v. quietly v) (λ halts. refl) put
-    (λ halts tells. ap (λ kind. mounts_as kind halts (with_kind (stands_at halts [] old) (decided old.kind Mounted)) number) raw) (λ halts. tt)
+    said_runs old number commands.Mount world refl refl (Some (decided old.kind Mounted)) before after (refused_text 95) (λ halts v. quietly v) (λ halts. refl) put
+    (λ halts tells. ap (λ kind. mounts_as kind halts (with_kind (stands_at halts [] old) (decided old.kind Mounted)) number) raw) (λ halts made. tt)
 
 -- A call begins
 
 begins_lengthens : (halts : List Halt) (w : World) (number mount : ℕ) (host : HostIs) (call : Option FileCall) → Lengthens w.volume.chunks (begins_if halts w number mount host call).world.volume.chunks
 begins_lengthens halts w number mount host None = stepped_lengthens halts w number (quietly w.volume) (refused_text 80) (lengthens_refl w.volume.chunks)
-begins_lengthens halts w number mount host (Some call) = stepped_lengthens halts w number (begins mount host call w.volume) started_text (begun_lengthens w.volume.chunks host call)
+begins_lengthens halts w number mount host (Some call) = stepped_lengthens halts w number (begins mount host call w.volume) started_text (begun_lengthens w.volume.routes w.volume.chunks host call)
 
 module _ (halts : List Halt) (w : World) (number mount : ℕ) (call : Call) where
   abbrev at_rest : (resting : Bool) → HostIs → worlds.Told
@@ -271,7 +272,7 @@ no_call_said faults.NoMount other = refl
 
 pub call_not_begun : (old : WorldIs) (number mount : ℕ) (call : Call) (fleet : FleetIs) → HasFailed old number (commands.Call mount call) (becomes old old.chunks fleet old.kind)
 call_not_begun old number mount call fleet =
-    not_begun old number (commands.Call mount call) (λ new within. within) old.kind fleet (λ halts. call_lengthens halts (stands_at halts [] old) number mount call (host_at old.fleet.hosts mount))
+    not_begun old number (commands.Call mount call) (λ new within. within) refl old.kind fleet (λ halts. call_lengthens halts (stands_at halts [] old) number mount call (host_at old.fleet.hosts mount))
 
 -- Whole lines
 
@@ -296,19 +297,19 @@ module _ (old : WorldIs) (number : ℕ) (before : List ℕ) (world : IsWorld old
       came = silent_gone (λ halts v. mounts v) old.chunks mid old.fleet fleet before joined.went
 
       module _ (small : IsErrOf (Ok m) joins_not.SmallVolume ↔ (size_of old.fleet.volume < 4112)) (full : IsErrOf (Ok m) joins_not.MountsFull ↔ (16 ≤ length old.fleet.hosts)) where
-        pub joined_runs : (later after : List ℕ) → HasGone hosts_step come.chunks come.fleet before next.chunks next.fleet later → AreSameHosts fleet next.fleet → after ≡ later ++ line_of number (mount_text m) → HasRun old number commands.Mount before after next
+        pub joined_runs : (later after : List ℕ) → HasGone all_step come.chunks come.fleet before next.chunks next.fleet later → AreSameHosts fleet next.fleet → after ≡ later ++ line_of number (mount_text m) → HasRun old number commands.Mount before after next
         joined_runs later after steps same put =
-            steps_run old number commands.Mount (λ halts v. mounts v) settled_kind mid fleet before before came come next come_is others later after (mount_text (length old.fleet.hosts)) steps same world refl joined.volume
-            (subst (λ n. n ≤ suc old.fleet.calls) (sym joined.calls) (le_suc old.fleet.calls)) (put ∙ ap (λ n. later ++ line_of number (mount_text n)) joined.number_is) (λ halts. mount_line_told old number is_mounted halts m small full) (λ halts. tt)
+            steps_run old number commands.Mount (λ halts v. mounts v) settled_kind mid fleet before before came come next come_is others later after (mount_text (length old.fleet.hosts)) steps same world refl refl joined.volume
+            (subst (λ n. n ≤ suc old.fleet.calls) (sym joined.calls) (le_suc old.fleet.calls)) (put ∙ ap (λ n. later ++ line_of number (mount_text n)) joined.number_is) (λ halts. mount_line_told old number is_mounted halts m small full) (λ halts made. tt)
 
-        pub joined_fails : (later : List ℕ) → HasGone hosts_step come.chunks come.fleet before next.chunks next.fleet later → HasFailed old number commands.Mount next
+        pub joined_fails : (later : List ℕ) → HasGone all_step come.chunks come.fleet before next.chunks next.fleet later → HasFailed old number commands.Mount next
         joined_fails later steps =
-            steps_fail old number commands.Mount (λ halts v. mounts v) settled_kind mid fleet before before came come next come_is others (λ new within. within) (mount_text (length old.fleet.hosts))
+            steps_fail old number commands.Mount (λ halts v. mounts v) settled_kind mid fleet before before came come next come_is others (λ new within. within) refl (mount_text (length old.fleet.hosts))
             (λ halts. mount_line_told old number is_mounted halts m small full) later steps
 
-        pub joined_stops : HasStopped hosts_step come.chunks come.fleet next.chunks → HasFailed old number commands.Mount next
+        pub joined_stops : HasStopped all_step come.chunks come.fleet next.chunks → HasFailed old number commands.Mount next
         joined_stops stopped =
-            steps_stop old number commands.Mount (λ halts v. mounts v) settled_kind mid fleet before before came come next come_is others (λ new within. within) (mount_text (length old.fleet.hosts))
+            steps_stop old number commands.Mount (λ halts v. mounts v) settled_kind mid fleet before before came come next come_is others (λ new within. within) refl (mount_text (length old.fleet.hosts))
             (λ halts. mount_line_told old number is_mounted halts m small full) stopped
 
     -- none came
@@ -320,19 +321,19 @@ module _ (old : WorldIs) (number : ℕ) (before : List ℕ) (world : IsWorld old
       stays_is = ap (λ k. becomes old old.chunks old.fleet (Some k)) (sym decides) ∙ ap (λ f. becomes old old.chunks f (Some kind)) (sym fleet_is) ∙ still_handed old len mid fleet (Some kind) all chunks_are
 
       module _ (fault : JoinFault) (other : fault ≢ joins_not.NoMemory) (small : IsErrOf {T = ℕ} (Err fault) joins_not.SmallVolume ↔ (size_of old.fleet.volume < 4112)) (full : IsErrOf {T = ℕ} (Err fault) joins_not.MountsFull ↔ (16 ≤ length old.fleet.hosts)) where
-        pub none_joined_runs : (later after : List ℕ) → HasGone hosts_step stays.chunks stays.fleet before next.chunks next.fleet later → AreSameHosts fleet next.fleet → after ≡ later ++ line_of number (refused_text (join_number fault)) → HasRun old number commands.Mount before after next
+        pub none_joined_runs : (later after : List ℕ) → HasGone all_step stays.chunks stays.fleet before next.chunks next.fleet later → AreSameHosts fleet next.fleet → after ≡ later ++ line_of number (refused_text (join_number fault)) → HasRun old number commands.Mount before after next
         none_joined_runs later after steps same put =
-            steps_run old number commands.Mount (λ halts v. quietly v) settled_kind old.chunks old.fleet before before (quiet_gone old world before) stays next stays_is others later after (refused_text (join_number fault)) steps same world refl refl
-            (le_suc old.fleet.calls) put (λ halts. no_mount_line old number is_mounted halts fault other small full) (λ halts. tt)
+            steps_run old number commands.Mount (λ halts v. quietly v) settled_kind old.chunks old.fleet before before (quiet_gone old world before) stays next stays_is others later after (refused_text (join_number fault)) steps same world refl refl refl
+            (le_suc old.fleet.calls) put (λ halts. no_mount_line old number is_mounted halts fault other small full) (λ halts made. tt)
 
-        pub none_joined_fails : (later : List ℕ) → HasGone hosts_step stays.chunks stays.fleet before next.chunks next.fleet later → HasFailed old number commands.Mount next
+        pub none_joined_fails : (later : List ℕ) → HasGone all_step stays.chunks stays.fleet before next.chunks next.fleet later → HasFailed old number commands.Mount next
         none_joined_fails later steps =
-            steps_fail old number commands.Mount (λ halts v. quietly v) settled_kind old.chunks old.fleet before before (quiet_gone old world before) stays next stays_is others (λ new within. within) (refused_text (join_number fault))
+            steps_fail old number commands.Mount (λ halts v. quietly v) settled_kind old.chunks old.fleet before before (quiet_gone old world before) stays next stays_is others (λ new within. within) refl (refused_text (join_number fault))
             (λ halts. no_mount_line old number is_mounted halts fault other small full) later steps
 
-        pub none_joined_stops : HasStopped hosts_step stays.chunks stays.fleet next.chunks → HasFailed old number commands.Mount next
+        pub none_joined_stops : HasStopped all_step stays.chunks stays.fleet next.chunks → HasFailed old number commands.Mount next
         none_joined_stops stopped =
-            steps_stop old number commands.Mount (λ halts v. quietly v) settled_kind old.chunks old.fleet before before (quiet_gone old world before) stays next stays_is others (λ new within. within) (refused_text (join_number fault))
+            steps_stop old number commands.Mount (λ halts v. quietly v) settled_kind old.chunks old.fleet before before (quiet_gone old world before) stays next stays_is others (λ new within. within) refl (refused_text (join_number fault))
             (λ halts. no_mount_line old number is_mounted halts fault other small full) stopped
 
   -- the line of a call
@@ -348,18 +349,18 @@ module _ (old : WorldIs) (number : ℕ) (before : List ℕ) (world : IsWorld old
       line_begins : (halts : List Halt) → line_told halts (stands_at halts [] old) number (commands.Call m call) ≡ stepped halts (stands_at halts [] old) number (begins m called.host called.file (fleets.stands_at halts old.chunks old.fleet)) started_text
       line_begins halts = called_line halts (stands_at halts [] old) number m call called.host called.file called.there called.rests called.read
 
-      pub called_runs : (later after : List ℕ) → HasGone hosts_step begun.chunks begun.fleet middle next.chunks next.fleet later → AreSameHosts fleet next.fleet → after ≡ later ++ line_of number started_text → HasRun old number (commands.Call m call) before after next
+      pub called_runs : (later after : List ℕ) → HasGone all_step begun.chunks begun.fleet middle next.chunks next.fleet later → AreSameHosts fleet next.fleet → after ≡ later ++ line_of number started_text → HasRun old number (commands.Call m call) before after next
       called_runs later after steps same put =
-          steps_run old number (commands.Call m call) (λ halts v. begins m called.host called.file v) old.kind mid fleet before middle called.went begun next begun_is others later after started_text steps same world refl called.volume
-          (subst (λ n. n ≤ suc old.fleet.calls) (sym called.calls) (omega arith)) put line_begins (λ halts. tt)
+          steps_run old number (commands.Call m call) (λ halts v. begins m called.host called.file v) old.kind mid fleet before middle called.went begun next begun_is others later after started_text steps same world refl refl called.volume
+          (subst (λ n. n ≤ suc old.fleet.calls) (sym called.calls) (omega arith)) put line_begins (λ halts made. tt)
 
-      pub called_fails : (later : List ℕ) → HasGone hosts_step begun.chunks begun.fleet middle next.chunks next.fleet later → HasFailed old number (commands.Call m call) next
+      pub called_fails : (later : List ℕ) → HasGone all_step begun.chunks begun.fleet middle next.chunks next.fleet later → HasFailed old number (commands.Call m call) next
       called_fails later steps =
-          steps_fail old number (commands.Call m call) (λ halts v. begins m called.host called.file v) old.kind mid fleet before middle called.went begun next begun_is others (λ new within. within) started_text line_begins later steps
+          steps_fail old number (commands.Call m call) (λ halts v. begins m called.host called.file v) old.kind mid fleet before middle called.went begun next begun_is others (λ new within. within) refl started_text line_begins later steps
 
-      pub called_stops : HasStopped hosts_step begun.chunks begun.fleet next.chunks → HasFailed old number (commands.Call m call) next
+      pub called_stops : HasStopped all_step begun.chunks begun.fleet next.chunks → HasFailed old number (commands.Call m call) next
       called_stops stopped =
-          steps_stop old number (commands.Call m call) (λ halts v. begins m called.host called.file v) old.kind mid fleet before middle called.went begun next begun_is others (λ new within. within) started_text line_begins stopped
+          steps_stop old number (commands.Call m call) (λ halts v. begins m called.host called.file v) old.kind mid fleet before middle called.went begun next begun_is others (λ new within. within) refl started_text line_begins stopped
 
     -- it was refused
     module _ (chunks_are : mid ≡ old.chunks) (fleet_is : fleet ≡ old.fleet) (fault : CallFault) (other : fault ≢ faults.NoMemory) (cause : IsCause fault m call old.fleet.hosts) where
@@ -369,16 +370,16 @@ module _ (old : WorldIs) (number : ℕ) (before : List ℕ) (world : IsWorld old
       line_refuses : (halts : List Halt) → line_told halts (stands_at halts [] old) number (commands.Call m call) ≡ stepped halts (stands_at halts [] old) number (quietly (fleets.stands_at halts old.chunks old.fleet)) (refused_text (call_number fault))
       line_refuses halts = refused_line halts (stands_at halts [] old) number m call fault other cause
 
-      pub refused_runs : (later after : List ℕ) → HasGone hosts_step begun.chunks begun.fleet before next.chunks next.fleet later → AreSameHosts fleet next.fleet → after ≡ later ++ line_of number (refused_text (call_number fault)) → HasRun old number (commands.Call m call) before after next
+      pub refused_runs : (later after : List ℕ) → HasGone all_step begun.chunks begun.fleet before next.chunks next.fleet later → AreSameHosts fleet next.fleet → after ≡ later ++ line_of number (refused_text (call_number fault)) → HasRun old number (commands.Call m call) before after next
       refused_runs later after steps same put =
-          steps_run old number (commands.Call m call) (λ halts v. quietly v) old.kind old.chunks old.fleet before before (quiet_gone old world before) begun next unbegun_is others later after (refused_text (call_number fault)) steps same world refl refl
-          (le_suc old.fleet.calls) put line_refuses (λ halts. tt)
+          steps_run old number (commands.Call m call) (λ halts v. quietly v) old.kind old.chunks old.fleet before before (quiet_gone old world before) begun next unbegun_is others later after (refused_text (call_number fault)) steps same world refl refl refl
+          (le_suc old.fleet.calls) put line_refuses (λ halts made. tt)
 
       -- there was no memory for the line's text: whatever stood in the buffer before
-      pub refused_fails : (later : List ℕ) → HasGone hosts_step begun.chunks begun.fleet before next.chunks next.fleet later → HasFailed old number (commands.Call m call) next
+      pub refused_fails : (later : List ℕ) → HasGone all_step begun.chunks begun.fleet before next.chunks next.fleet later → HasFailed old number (commands.Call m call) next
       refused_fails later steps =
-          steps_fail old number (commands.Call m call) (λ halts v. quietly v) old.kind old.chunks old.fleet before before (quiet_gone old world before) begun next unbegun_is others (λ new within. within) (refused_text (call_number fault)) line_refuses later steps
+          steps_fail old number (commands.Call m call) (λ halts v. quietly v) old.kind old.chunks old.fleet before before (quiet_gone old world before) begun next unbegun_is others (λ new within. within) refl (refused_text (call_number fault)) line_refuses later steps
 
-      pub refused_stops : HasStopped hosts_step begun.chunks begun.fleet next.chunks → HasFailed old number (commands.Call m call) next
+      pub refused_stops : HasStopped all_step begun.chunks begun.fleet next.chunks → HasFailed old number (commands.Call m call) next
       refused_stops stopped =
-          steps_stop old number (commands.Call m call) (λ halts v. quietly v) old.kind old.chunks old.fleet before before (quiet_gone old world before) begun next unbegun_is others (λ new within. within) (refused_text (call_number fault)) line_refuses stopped
+          steps_stop old number (commands.Call m call) (λ halts v. quietly v) old.kind old.chunks old.fleet before before (quiet_gone old world before) begun next unbegun_is others (λ new within. within) refl (refused_text (call_number fault)) line_refuses stopped

@@ -1,5 +1,5 @@
 -- Lines that are not of threads take no session, and leave those that are still to come.
-use Rattle.std.proofs.Common.{◌≡◌, ℕ, true, false, not, if◌then◌else◌, List, [], length, Option, Some, None, slice_get, refl, sym}
+use Rattle.std.proofs.Common.{◌≡◌, ℕ, lit≤, true, false, not, if◌then◌else◌, List, [], length, Option, Some, None, slice_get, refl, sym, ap, ◌∙◌}
 use Rattle.std.specs.Prelude.{nat_le, nat_lt}
 use Rattle.std.proofs.lemmas.Bool.{false≢true}
 use Rattle.pf_base.specs.declared.calls.Call.{Call}
@@ -8,6 +8,9 @@ use Rattle.pf_tree.specs.declared.calls.FileCall.{FileCall}
 use Rattle.pf_script.specs.declared.command.Command.{Command}
 use Rattle.pf_script.specs.declared.command.Command.TheVariants as commands
 use Rattle.pf_volume.specs.Volumes.{size_of}
+use Rattle.std.specs.Option.{is_some}
+use Rattle.pf_script.specs.Lines.{group_of}
+use Rattle.pf_report.specs.Moves.{moving_text}
 use Rattle.pf_report.specs.Mounts.{mount_text}
 use Rattle.pf_applyrounds.specs.Chunks.{Chunk}
 use Rattle.pf_applyrounds.specs.Halts.{Halt}
@@ -16,14 +19,14 @@ use Rattle.pf_chunk.specs.Happenings.{Happened}
 use Rattle.pf_chunk.specs.Runs.{ChunkRun}
 use Rattle.pf_hosts.specs.Hosts.{HostIs}
 use Rattle.pf_hosts.specs.Words.{read_call}
-use Rattle.pf_fleet.specs.Volumes.{host_at, mounts, quietly}
+use Rattle.pf_fleet.specs.Volumes.{host_at, mounts, moves, quietly}
 use Rattle.pf_threads.specs.Sessions.{Session}
 use Rattle.pf_world.specs.declared.kind.Kind.{Kind}
 use Rattle.pf_world.specs.declared.kind.Kind.TheVariants.{Mounted, Raw}
-use Rattle.pf_world.specs.Worlds.{Told, World, at_chunk, refused_text, stepped, told_of}
-use Rattle.pf_world.specs.Lines.{asked, begins_if, call_of, decided, joins, kill_of, line_told, mounts_as, no_event_of, rests, show_of, shown_of, submits_as, with_kind}
+use Rattle.pf_world.specs.Worlds.{Told, World, at_chunk, refused_text, said_only, stepped, told_of}
+use Rattle.pf_world.specs.Lines.{asked, begins_if, begins_move, is_made, is_of_mounts, kind_after, made_group, move_told, run_told, call_of, decided, joins, kill_of, line_told, mounts_as, no_event_of, rests, show_of, shown_of, submits_as, with_kind}
 use Rattle.pf_world.specs.Headline.{is_live}
-use Rattle.pf_world.specs.Steps.{Ends, Keeps, TakesSessions}
+use Rattle.pf_world.specs.Steps.{Ends, EndsIn, Keeps, TakesSessions}
 use Rattle.pf_world.specs.Views.{WorldIs}
 
 module _ (halts : List Halt) (sessions : List Session) where
@@ -88,34 +91,63 @@ module _ (halts : List Halt) (sessions : List Session) where
   show_other w number mount None = refl
   show_other w number mount (Some host) = refl
 
+  begins_move_other : (w : World) (number chunk : ℕ) → begins_move halts (with_others w) number chunk ≡ told_with (begins_move halts w number chunk)
+  begins_move_other w number chunk =
+      let v = w.volume in
+      let refused : World → ℕ → Told = λ x fault. stepped halts x number (quietly v) (refused_text fault) in
+      let new : World → Told = λ x. stepped halts x number (moves chunk (made_group halts w) v) (moving_text (length v.chunks)) in
+      let few : World → Told = λ x. if nat_le 8 (length v.chunks) then refused x 100 else new x in
+      by_test (is_some v.routes.moving) (λ b. (if b then refused (with_others w) 101 else few (with_others w)) ≡ told_with (if b then refused w 101 else few w)) (λ _. refl)
+      (λ _. by_test (nat_le 8 (length v.chunks)) (λ b. (if b then refused (with_others w) 100 else new (with_others w)) ≡ told_with (if b then refused w 100 else new w)) (λ _. refl) (λ _. refl))
+
+  move_other : (w : World) (number chunk : ℕ) → move_told halts (with_others w) number chunk ≡ told_with (move_told halts w number chunk)
+  move_other w number chunk =
+      by_test (is_of_mounts w.kind) (λ b. (if b then begins_move halts (with_others w) number chunk else said_only (with_others w) number (refused_text 95)) ≡ told_with (if b then begins_move halts w number chunk else said_only w number (refused_text 95)))
+      (λ _. begins_move_other w number chunk) (λ _. refl)
+
+  run_other : (w : World) (number : ℕ) (command : Command) → is_live command ≡ false → run_told halts (with_others w) number command ≡ told_with (run_told halts w number command)
+  run_other w number (commands.Volume chunks sectors names format) plain = refl
+  run_other w number (commands.Elect g i) plain = chunk_other w number _ (slice_get w.volume.chunks g)
+  run_other w number (commands.Resend g i) plain = chunk_other w number _ (slice_get w.volume.chunks g)
+  run_other w number (commands.Stop g i) plain = chunk_other w number _ (slice_get w.volume.chunks g)
+  run_other w number (commands.Restart g i) plain = chunk_other w number _ (slice_get w.volume.chunks g)
+  run_other w number (commands.Checkpoint g i) plain = chunk_other w number _ (slice_get w.volume.chunks g)
+  run_other w number (commands.Deliver g k) plain = chunk_other w number _ (slice_get w.volume.chunks g)
+  run_other w number (commands.Lose g k) plain = chunk_other w number _ (slice_get w.volume.chunks g)
+  run_other w number (commands.Submit g i s b n) plain = let kind : Kind = decided w.kind Raw in submits_other (with_kind w kind) number kind g i s b n
+  run_other w number (commands.Fetch g i s n) plain = asked_other w number g i s n (fetches halts i s n)
+  run_other w number (commands.Mark g i) plain = chunk_other w number _ (slice_get w.volume.chunks g)
+  run_other w number (commands.Settle limit) plain = refl
+  run_other w number (commands.Live g hosts writes workers turns) plain = absurd (false≢true (sym plain))
+  run_other w number commands.Mount plain = let kind : Kind = decided w.kind Mounted in mounts_other (with_kind w kind) number kind
+  run_other w number (commands.Kill m) plain = kill_other w number m (host_at w.volume.hosts m)
+  run_other w number (commands.Call m call) plain = call_other w number m call (host_at w.volume.hosts m)
+  run_other w number (commands.ShowLog g i) plain = shown_other w number (slice_get w.volume.chunks g) _
+  run_other w number (commands.ShowApplied g i) plain = shown_other w number (slice_get w.volume.chunks g) _
+  run_other w number (commands.ShowSectors g i) plain = shown_other w number (slice_get w.volume.chunks g) _
+  run_other w number (commands.ShowAcked g) plain = shown_other w number (slice_get w.volume.chunks g) _
+  run_other w number (commands.ShowMark g i s) plain = shown_other w number (slice_get w.volume.chunks g) _
+  run_other w number (commands.ShowMount m) plain = show_other w number m (host_at w.volume.hosts m)
+  run_other w number (commands.Move chunk) plain = move_other w number chunk
+
+  made_other : (w : World) (o : Option ℕ) → is_made (with_others w) o ≡ is_made w o
+  made_other w None = refl
+  made_other w (Some g) = refl
+
   pub line_other : (w : World) (number : ℕ) (command : Command) → is_live command ≡ false → line_told halts (with_others w) number command ≡ told_with (line_told halts w number command)
-  line_other w number (commands.Volume chunks sectors names format) plain = refl
-  line_other w number (commands.Elect g i) plain = chunk_other w number _ (slice_get w.volume.chunks g)
-  line_other w number (commands.Resend g i) plain = chunk_other w number _ (slice_get w.volume.chunks g)
-  line_other w number (commands.Stop g i) plain = chunk_other w number _ (slice_get w.volume.chunks g)
-  line_other w number (commands.Restart g i) plain = chunk_other w number _ (slice_get w.volume.chunks g)
-  line_other w number (commands.Checkpoint g i) plain = chunk_other w number _ (slice_get w.volume.chunks g)
-  line_other w number (commands.Deliver g k) plain = chunk_other w number _ (slice_get w.volume.chunks g)
-  line_other w number (commands.Lose g k) plain = chunk_other w number _ (slice_get w.volume.chunks g)
-  line_other w number (commands.Submit g i s b n) plain = let kind : Kind = decided w.kind Raw in submits_other (with_kind w kind) number kind g i s b n
-  line_other w number (commands.Fetch g i s n) plain = asked_other w number g i s n (fetches halts i s n)
-  line_other w number (commands.Mark g i) plain = chunk_other w number _ (slice_get w.volume.chunks g)
-  line_other w number (commands.Settle limit) plain = refl
-  line_other w number (commands.Live g hosts writes workers turns) plain = absurd (false≢true (sym plain))
-  line_other w number commands.Mount plain = let kind : Kind = decided w.kind Mounted in mounts_other (with_kind w kind) number kind
-  line_other w number (commands.Kill m) plain = kill_other w number m (host_at w.volume.hosts m)
-  line_other w number (commands.Call m call) plain = call_other w number m call (host_at w.volume.hosts m)
-  line_other w number (commands.ShowLog g i) plain = shown_other w number (slice_get w.volume.chunks g) _
-  line_other w number (commands.ShowApplied g i) plain = shown_other w number (slice_get w.volume.chunks g) _
-  line_other w number (commands.ShowSectors g i) plain = shown_other w number (slice_get w.volume.chunks g) _
-  line_other w number (commands.ShowAcked g) plain = shown_other w number (slice_get w.volume.chunks g) _
-  line_other w number (commands.ShowMark g i s) plain = shown_other w number (slice_get w.volume.chunks g) _
-  line_other w number (commands.ShowMount m) plain = show_other w number m (host_at w.volume.hosts m)
+  line_other w number command plain =
+      let refused : World → Told = λ x. said_only (record x { kind = kind_after w.kind command }) number (refused_text 102) in
+      ap (λ b. if b then run_told halts (with_others w) number command else refused (with_others w)) (made_other w (group_of command))
+      ∙ by_test (is_made w (group_of command)) (λ b. (if b then run_told halts (with_others w) number command else refused (with_others w)) ≡ told_with (if b then run_told halts w number command else refused w))
+      (λ _. run_other w number command plain) (λ _. refl)
+
+  ends_in_other : (w : World) (command : Command) → is_live command ≡ false → EndsIn halts w command → EndsIn halts (with_others w) command
+  ends_in_other w (commands.Settle limit) plain ends = ends
+  ends_in_other w (commands.Live g hosts writes workers turns) plain ends = absurd (false≢true (sym plain))
+  ends_in_other w command plain ends = tt
 
   pub ends_other : (w : World) (command : Command) → is_live command ≡ false → Ends halts w command → Ends halts (with_others w) command
-  ends_other w (commands.Settle limit) plain ends = ends
-  ends_other w (commands.Live g hosts writes workers turns) plain ends = absurd (false≢true (sym plain))
-  ends_other w command plain ends = tt
+  ends_other w command plain ends = λ made. ends_in_other w command plain (ends (sym (made_other w (group_of command)) ∙ made))
 
 pub takes_none : (command : Command) → is_live command ≡ false → TakesSessions command []
 takes_none (commands.Live g hosts writes workers turns) plain = absurd (false≢true (sym plain))
@@ -125,3 +157,8 @@ takes_none command plain = refl
 pub keeps_none : (old new : WorldIs) (command : Command) → is_live command ≡ false → new.passes ≡ old.passes → Keeps old [] command new
 keeps_none old new (commands.Live g hosts writes workers turns) plain same = absurd (false≢true (sym plain))
 keeps_none old new command plain same = same
+
+-- any line may take no session
+pub takes_nothing : (command : Command) → TakesSessions command []
+takes_nothing (commands.Live g hosts writes workers turns) = lit≤ tt
+takes_nothing command = refl

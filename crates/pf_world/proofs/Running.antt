@@ -36,7 +36,7 @@ made_says halts sessions w = ap making_answer (flat_mapped w.chunks) where
 -- a list that tells of a world told of it before
 pub tells_earlier : (halts : List Halt) (old new : WorldIs) → GoesOn old new → Tells halts new → Tells halts old
 tells_earlier halts old new on tells k was there =
-    let low : k < length new.chunks = subst (λ n. k < n) (sym on.chunks) (slice_get_within old.chunks k was there) in
+    let low : k < length new.chunks = omega (arith, on.at_least, slice_get_within old.chunks k was there) in
     let now = slice_get-get_or new.chunks k was low in
     grown_tells halts was.group (get_or new.chunks k was).group (on.grown k was (get_or new.chunks k was) there now) (tells k (get_or new.chunks k was) now)
 
@@ -45,9 +45,9 @@ goes_trans a b c first second = record {
   sectors = second.sectors ∙ first.sectors;
   names = second.names ∙ first.names;
   format = second.format ∙ first.format;
-  chunks = second.chunks ∙ first.chunks;
+  at_least = omega (arith, first.at_least, second.at_least);
   grown = λ k was is before after.
-      let low : k < length b.chunks = subst (λ n. k < n) (sym first.chunks) (slice_get_within a.chunks k was before) in
+      let low : k < length b.chunks = omega (arith, first.at_least, slice_get_within a.chunks k was before) in
       let mid = something_there b.chunks k low in
       grown_trans was.group mid.0.group is.group (first.grown k was mid.0 before mid.1) (second.grown k mid.0 is mid.1 after);
 }
@@ -86,7 +86,7 @@ run_begins chunks sectors names format number w answer made = record {
       record {
         world = ap (λ (t : Told). t.world) told;
         report = ap (λ (t : Told). text_of t.told) told ∙ append-nil (answer_line number (made_answer (stands_at halts rest w))) ∙ ap (answer_line number) (made_says halts rest w ∙ sym made.answered);
-        ends = (tt, tt);
+        ends = (λ made. tt, tt);
       };
 }
 

@@ -1,6 +1,7 @@
 -- Lines of threads.
-use Rattle.std.proofs.Common.{◌≡◌, ℕ, suc, ◌+◌, ◌≤◌, Bool, cond, List, [], ◌∷◌, ◌++◌, drop, length, Option, Some, slice_get, slice_set, lit≤, refl, sym, ap, subst, ◌∙◌}
+use Rattle.std.proofs.Common.{◌≡◌, ℕ, suc, ◌+◌, ◌<◌, ◌≤◌, arith, Bool, true, cond, nat_lt, List, [], ◌∷◌, ◌++◌, drop, length, Option, Some, slice_get, slice_set, lit≤, refl, sym, ap, subst, ◌∙◌}
 use Rattle.std.specs.Prelude.{IsTrue}
+use Rattle.std.proofs.lemmas.Bool.Decides.{nat_tests}
 use Rattle.std.proofs.lemmas.List.Sums.{sum_by-cons}
 use Rattle.std.proofs.lemmas.Option.{slice_get_within}
 use Rattle.pf_protocol.specs.declared.answers.Answer.{Answer}
@@ -35,7 +36,7 @@ use Rattle.pf_hosts.specs.Steps.{AreReady, HaveBegun, HaveGrown, TellsAll}
 use Rattle.pf_hosts.proofs.Groups.{run_there}
 use Rattle.pf_fleet.specs.Steps.{AreSameHosts, FleetIs, HasGone, HasStopped, IsFleetOf}
 use Rattle.pf_fleet.specs.Steps as fleets
-use Rattle.pf_fleet.specs.Volumes.{hosts_step, quietly}
+use Rattle.pf_fleet.specs.Volumes.{all_step, quietly}
 use Rattle.pf_fleet.proofs.Events.{event_and_steps, event_stopped, event_then_steps, event_then_stopped, fleet_after, ready_after}
 use Rattle.pf_fleet.proofs.Growing.{grown_refl_all, tells_before}
 use Rattle.pf_threads.specs.Sessions.{IsPartOfSession, IsPlan, Session, no_session, session_text}
@@ -43,10 +44,12 @@ use Rattle.pf_threads.specs.Steps.{HasHeld}
 use Rattle.pf_threads.specs.Steps as threads
 use Rattle.pf_world.specs.declared.kind.Kind.{Kind}
 use Rattle.pf_world.specs.declared.kind.Kind.TheVariants.{Mounted, Raw}
-use Rattle.pf_world.specs.Lines.{decided, held_told, line_told, live_as, with_kind}
-use Rattle.pf_world.specs.Steps.{HasFailed, HasKept, HasRun, IsNextSession, IsPartOfNext, KeepsAs, LivesAs, LivesInPart}
+use Rattle.pf_world.specs.Lines.{decided, held_told, line_told, live_as, run_told, with_kind}
+use Rattle.pf_world.specs.Steps.{HasFailed, HasKept, HasRun, IsNextSession, IsPartOfNext, Keeps, KeepsAs, KeepsWhere, LivesAs, LivesInPart}
 use Rattle.pf_world.specs.Views.{IsWorld, WorldIs, stands_at}
 use Rattle.pf_world.specs.Worlds.{Told, ended, refused_text, said_only}
+use Rattle.pf_world.proofs.Asked.{made_of}
+use Rattle.pf_world.proofs.Asking.{made_told}
 use Rattle.pf_world.proofs.Failing.{have_all_begun}
 use Rattle.pf_world.proofs.Happening.{all_grew, becomes, chunks_ready, le_suc, went_runs}
 use Rattle.pf_world.proofs.Mounts.{quiet_gone}
@@ -103,39 +106,49 @@ added halts was is grown =
 
 -- The line
 
-module _ (old : WorldIs) (number chunk hosts writes workers turns : ℕ) (world : IsWorld old) where
+module _ (old : WorldIs) (number chunk hosts writes workers turns : ℕ) (world : IsWorld old) (low : chunk < length old.chunks) where
   abbrev pub kind_then : Option Kind
   kind_then = Some (decided old.kind Raw)
 
   abbrev live : Command
   live = commands.Live chunk hosts writes workers turns
 
+  is_there : nat_lt chunk (length old.chunks) ≡ true
+  is_there = grind (arith, nat_tests)
+
+  is_run : (halts : List Halt) (sessions : List Session) → line_told halts (stands_at halts sessions old) number live ≡ run_told halts (stands_at halts sessions old) number live
+  is_run halts sessions = made_told halts (stands_at halts sessions old) number live (made_of halts sessions old live low)
+
+  keeps_so : (sessions : List Session) (new : WorldIs) → KeepsAs (decided old.kind Raw) old sessions chunk hosts writes workers turns new → Keeps old sessions live new
+  keeps_so sessions new kept = subst (λ b. KeepsWhere b old sessions chunk hosts writes workers turns new) (sym is_there) kept
+
   -- in a run with mounts
   module _ (mounted : decided old.kind Raw ≡ Mounted) where
     refused : (halts : List Halt) (sessions : List Session) → line_told halts (stands_at halts sessions old) number live ≡ said_only (record (stands_at halts sessions old) { kind = kind_then }) number (refused_text 94)
-    refused halts sessions = ap (λ k. live_as k halts (with_kind (stands_at halts sessions old) (decided old.kind Raw)) number chunk) mounted
+    refused halts sessions = is_run halts sessions ∙ ap (λ k. live_as k halts (with_kind (stands_at halts sessions old) (decided old.kind Raw)) number chunk) mounted
 
     pub refused_runs : (before after : List ℕ) → after ≡ before ++ line_of number (refused_text 94) → HasRun old number live before after (becomes old old.chunks old.fleet kind_then)
     refused_runs before after put =
-        went_runs old number live world [] (λ halts v. quietly v) kind_then old.passes old.chunks old.fleet before before after (refused_text 94) (lit≤ tt) (quiet_gone old world before) put refl (le_suc old.fleet.calls)
-        (λ halts rest tells. refused halts rest) (λ halts rest tells. subst (λ k. LivesAs k halts (stands_at halts rest old) chunk hosts writes workers turns) (sym mounted) tt)
-        (subst (λ k. KeepsAs k old [] chunk hosts writes workers turns (becomes old old.chunks old.fleet kind_then)) (sym mounted) refl)
+        went_runs old number live world refl [] (λ halts v. quietly v) kind_then old.passes old.chunks old.fleet before before after (refused_text 94) (lit≤ tt) (quiet_gone old world before) put refl (le_suc old.fleet.calls)
+        (λ halts rest tells. refused halts rest) (λ halts rest tells made. subst (λ k. LivesAs k halts (stands_at halts rest old) chunk hosts writes workers turns) (sym mounted) tt)
+        (keeps_so [] (becomes old old.chunks old.fleet kind_then) (subst (λ k. KeepsAs k old [] chunk hosts writes workers turns (becomes old old.chunks old.fleet kind_then)) (sym mounted) refl))
 
     pub refused_fails : HasFailed old number live (becomes old old.chunks old.fleet kind_then)
     refused_fails = record {
       goes_on = all_grew old old.chunks old.fleet kind_then (grown_refl_all old.chunks);
+      groups = refl;
       passes = refl;
       stopped = record {
         session = no_session;
         within = λ halts tells. subst (λ (t : Told). HaveBegun halts old.chunks t.world.volume.chunks old.chunks) (sym (refused halts (no_session ∷ []))) (have_all_begun halts old.chunks old.chunks (grown_refl_all old.chunks) tells);
-        is_part = λ halts tells. subst (λ k. LivesInPart k halts (stands_at halts (no_session ∷ []) old) chunk hosts writes workers turns) (sym mounted) tt;
+        is_part = λ there halts tells. subst (λ k. LivesInPart k halts (stands_at halts (no_session ∷ []) old) chunk hosts writes workers turns) (sym mounted) tt;
       };
     }
 
   -- in any other
   module _ (raw : decided old.kind Raw ≡ Raw) (plan : Plan) (is_plan : IsPlan hosts writes workers turns old.sectors plan) (was : ChunkIs) (there : slice_get old.chunks chunk ≡ Some was) where
     plan_there : IsPlan hosts writes workers turns old.fleet.volume.sectors plan
-    plan_there = subst (λ n. IsPlan hosts writes workers turns n plan) (sym (ap (λ e. e.sectors) world.extent)) is_plan
+    plan_there = subst (λ n. IsPlan hosts writes workers turns n plan) (sym world.sectors_are) is_plan
 
     abbrev of_session : Session → ChunkEvent
     of_session s halts c = all_happened halts s.events c
@@ -144,7 +157,8 @@ module _ (old : WorldIs) (number chunk hosts writes workers turns : ℕ) (world 
         ≡ ended (record (stands_at halts rest old) { kind = kind_then }) number (event_and_steps (of_session s) was halts (fleets.stands_at halts old.chunks old.fleet))
         (session_text (chunk_of halts was.group) (all_happened halts s.events (run_of halts was)).chunk.group s.ended)
     held halts s rest =
-        ap (λ k. live_as k halts (with_kind (stands_at halts (s ∷ rest) old) (decided old.kind Raw)) number chunk) raw
+        is_run halts (s ∷ rest)
+        ∙ ap (λ k. live_as k halts (with_kind (stands_at halts (s ∷ rest) old) (decided old.kind Raw)) number chunk) raw
         ∙ ap (held_told halts (record (stands_at halts rest old) { kind = kind_then }) number s) (run_there halts old.chunks chunk was there)
 
     -- some of a session was held
@@ -152,11 +166,12 @@ module _ (old : WorldIs) (number chunk hosts writes workers turns : ℕ) (world 
         → ((halts : List Halt) → TellsAll halts chunks → IsPartOfSession halts plan (chunk_of halts was.group) s.events) → HasFailed old number live (becomes old chunks fleet kind_then)
     not_lived s chunks fleet stopped is_part = record {
       goes_on = all_grew old chunks fleet kind_then stopped.grown;
+      groups = stopped.grown.count;
       passes = refl;
       stopped = record {
         session = s;
         within = λ halts tells. subst (λ (t : Told). HaveBegun halts old.chunks t.world.volume.chunks chunks) (sym (held halts s [])) (stopped.begun halts tells);
-        is_part = λ halts tells.
+        is_part = λ within halts tells.
             let its : IsPartOfNext halts (stands_at halts (s ∷ []) old) chunk hosts writes workers turns =
             record { c = run_of halts was; plan = plan; at = record { there = run_there halts old.chunks chunk was there; is_plan = plan_there }; is_part = is_part halts tells } in
             subst (λ k. LivesInPart k halts (stands_at halts (s ∷ []) old) chunk hosts writes workers turns) (sym raw) its;
@@ -189,12 +204,12 @@ module _ (old : WorldIs) (number chunk hosts writes workers turns : ℕ) (world 
       part_held halts chunks grown tells = (h.is_session halts (tells_mid halts chunks grown tells)).is.part
 
       -- there was no memory for the steps of the hosts
-      pub steps_fail : (chunks : List ChunkIs) (fleet : FleetIs) → HasStopped hosts_step mid old.fleet chunks → HasFailed old number live (becomes old chunks fleet kind_then)
+      pub steps_fail : (chunks : List ChunkIs) (fleet : FleetIs) → HasStopped all_step mid old.fleet chunks → HasFailed old number live (becomes old chunks fleet kind_then)
       steps_fail chunks fleet stopped =
           not_lived h.session chunks fleet (event_then_stopped (of_session h.session) chunk old.chunks was is old.fleet there (chunks_ready old world) world.is_fleet before middle Done h.went chunks stopped)
           (λ halts. part_held halts chunks stopped.grown)
 
-      module _ (chunks : List ChunkIs) (fleet : FleetIs) (later : List ℕ) (steps : HasGone hosts_step mid old.fleet middle chunks fleet later) where
+      module _ (chunks : List ChunkIs) (fleet : FleetIs) (later : List ℕ) (steps : HasGone all_step mid old.fleet middle chunks fleet later) where
         gone : HasGone (event_and_steps (of_session h.session) was) old.chunks old.fleet before chunks fleet later
         gone = event_then_steps (of_session h.session) chunk old.chunks was is old.fleet there (chunks_ready old world) world.is_fleet before middle Done h.went chunks fleet later steps
 
@@ -235,12 +250,12 @@ module _ (old : WorldIs) (number chunk hosts writes workers turns : ℕ) (world 
 
         pub lived_runs : (after : List ℕ) → AreSameHosts old.fleet fleet → after ≡ later ++ line_of number text → HasRun old number live before after its
         lived_runs after same put =
-            went_runs old number live world (h.session ∷ []) (event_and_steps (of_session h.session) was) kind_then (Some told.passes) chunks fleet before later after text (lit≤ tt) gone put same.volume (subst (λ n. n ≤ suc old.fleet.calls) (sym same.calls) (le_suc old.fleet.calls))
+            went_runs old number live world refl (h.session ∷ []) (event_and_steps (of_session h.session) was) kind_then (Some told.passes) chunks fleet before later after text (lit≤ tt) gone put same.volume (subst (λ n. n ≤ suc old.fleet.calls) (sym same.calls) (le_suc old.fleet.calls))
             (λ halts rest tells.
             held halts h.session rest
             ∙ ap (ended (record (stands_at halts rest old) { kind = kind_then }) number (event_and_steps (of_session h.session) was halts (fleets.stands_at halts old.chunks old.fleet))) (text_is halts (tells_mid halts chunks steps.grown tells)))
-            (λ halts rest tells.
+            (λ halts rest tells made.
             let next : IsNextSession halts (stands_at halts (h.session ∷ rest) old) chunk hosts writes workers turns =
             record { c = run_of halts was; plan = plan; at = record { there = run_there halts old.chunks chunk was there; is_plan = plan_there }; is_session = (h.is_session halts (tells_mid halts chunks steps.grown tells)).is } in
             subst (λ k. LivesAs k halts (stands_at halts (h.session ∷ rest) old) chunk hosts writes workers turns) (sym raw) next)
-            (subst (λ k. KeepsAs k old (h.session ∷ []) chunk hosts writes workers turns its) (sym raw) kept)
+            (keeps_so (h.session ∷ []) its (subst (λ k. KeepsAs k old (h.session ∷ []) chunk hosts writes workers turns its) (sym raw) kept))

@@ -22,11 +22,13 @@ use Rattle.pf_fleet.specs.Steps.{FleetIs, HasGone, IsFleetOf, Part}
 use Rattle.pf_fleet.specs.Steps as fleets
 use Rattle.pf_fleet.specs.Volumes.{host_at, quietly, saying}
 use Rattle.pf_world.specs.Asked.{IsShow}
-use Rattle.pf_world.specs.Worlds.{World, refused_text, said_only}
-use Rattle.pf_world.specs.Lines.{line_told, rests, show_of, shown_of, shows}
+use Rattle.pf_world.specs.Worlds.{Told, World, refused_text, said_only}
+use Rattle.pf_world.specs.Lines.{line_told, rests, run_told, show_of, shown_of, shows}
 use Rattle.pf_world.specs.Views.{IsWorld, WorldIs, stands_at}
 use Rattle.pf_world.specs.Headline.{is_live}
-use Rattle.pf_world.specs.Steps.{Ends, HasFailed, HasRun, IsWithin, StopsIn}
+use Rattle.pf_world.specs.Steps.{Ends, HasFailed, HasRun, IsOfMade, IsWithin, StopsIn, moves_after}
+use Rattle.pf_world.proofs.Asked.{made_of}
+use Rattle.pf_world.proofs.Asking.{made_told}
 use Rattle.pf_world.proofs.Failing.{said_fails}
 use Rattle.pf_world.proofs.Happening.{chunks_ready, gone_runs, le_suc, said_runs, same_world}
 
@@ -44,25 +46,30 @@ still_gone old world part next is_fleet told before after put run = record {
 
 -- Groups
 
-pub shown_runs : (w : WorldIs) (number : ℕ) (command : Command) (k : ℕ) (c : ChunkIs) (text : Group → List ℕ) (before after : List ℕ) → IsWorld w → is_live command ≡ false → slice_get w.chunks k ≡ Some c → IsShown c.group.told number (text (state_of c.group)) before after
-    → ((halts : List Halt) → line_told halts (stands_at halts [] w) number command ≡ shows (stands_at halts [] w) number k (λ d. text d.state))
+pub shown_runs : (w : WorldIs) (number : ℕ) (command : Command) (k : ℕ) (c : ChunkIs) (text : Group → List ℕ) (before after : List ℕ) → IsWorld w → is_live command ≡ false → moves_after w.moves command ≡ w.moves → IsOfMade w command → slice_get w.chunks k ≡ Some c → IsShown c.group.told number (text (state_of c.group)) before after
+    → ((halts : List Halt) → run_told halts (stands_at halts [] w) number command ≡ shows (stands_at halts [] w) number k (λ d. text d.state))
     → ((halts : List Halt) → Ends halts (stands_at halts [] w) command) → HasRun w number command before after w
-shown_runs w number command k c text before after world plain there shown line ends =
-    said_runs w number command world plain w.kind before after shown.text (λ halts v. quietly v) (λ halts. refl) shown.put
+shown_runs w number command k c text before after world plain stays made there shown line ends =
+    said_runs w number command world plain stays w.kind before after shown.text (λ halts v. quietly v) (λ halts. refl) shown.put
     (λ halts tells.
-    line halts ∙ ap (λ d. shown_of (stands_at halts [] w) number d (λ x. text x.state)) (run_there halts w.chunks k c there)
+    made_told halts (stands_at halts [] w) number command (made_of halts [] w command made) ∙ line halts ∙ ap (λ d. shown_of (stands_at halts [] w) number d (λ x. text x.state)) (run_there halts w.chunks k c there)
     ∙ ap (said_only (stands_at halts [] w) number) (sym (shown.same (tells k c there).told))) ends
 
 shown_within : (command : Command) → IsShow command → (old : WorldIs) (number : ℕ) (new : WorldIs) → IsWithin old [] number command new → StopsIn old number command new
 shown_within (commands.Settle limit) shows old number new within = absurd shows
 shown_within (commands.Live g hosts writes workers turns) shows old number new within = absurd shows
+shown_within (commands.Move chunk) shows old number new within = absurd shows
 shown_within command shows old number new within = within
+
+shown_stays : (command : Command) → IsShow command → (n : ℕ) → moves_after n command ≡ n
+shown_stays (commands.Move chunk) shows n = absurd shows
+shown_stays command shows n = refl
 
 none_shown : (w : World) (number : ℕ) (c : Option ChunkRun) (text : Chunk → List ℕ) → (shown_of w number c text).world ≡ w
 none_shown w number None text = refl
 none_shown w number (Some c) text = refl
 
-same_shown : (halts : List Halt) (w : World) (number : ℕ) (command : Command) → IsShow command → (line_told halts w number command).world ≡ w
+same_shown : (halts : List Halt) (w : World) (number : ℕ) (command : Command) → IsShow command → (run_told halts w number command).world ≡ w
 same_shown halts w number (commands.ShowLog g i) shows = none_shown w number (slice_get w.volume.chunks g) _
 same_shown halts w number (commands.ShowApplied g i) shows = none_shown w number (slice_get w.volume.chunks g) _
 same_shown halts w number (commands.ShowSectors g i) shows = none_shown w number (slice_get w.volume.chunks g) _
@@ -70,9 +77,10 @@ same_shown halts w number (commands.ShowAcked g) shows = none_shown w number (sl
 same_shown halts w number (commands.ShowMark g i s) shows = none_shown w number (slice_get w.volume.chunks g) _
 same_shown halts w number command shows = absurd shows
 
-pub shown_fails : (w : WorldIs) (number : ℕ) (command : Command) → IsShow command → HasFailed w number command w
-shown_fails w number command shows =
-    said_fails w number command (shown_within command shows w number) w.kind w.fleet (λ halts. ap (λ (x : World). x.volume.chunks) (same_shown halts (stands_at halts [] w) number command shows))
+pub shown_fails : (w : WorldIs) (number : ℕ) (command : Command) → IsShow command → IsOfMade w command → HasFailed w number command w
+shown_fails w number command shows made =
+    said_fails w number command (shown_within command shows w number) (shown_stays command shows w.moves) w.kind w.fleet (λ halts.
+    ap (λ (t : Told). t.world.volume.chunks) (made_told halts (stands_at halts [] w) number command (made_of halts [] w command made)) ∙ ap (λ (x : World). x.volume.chunks) (same_shown halts (stands_at halts [] w) number command shows))
 
 -- Mounts
 
@@ -93,15 +101,15 @@ pending_is pending work both = pending_by pending (rests work) work refl both
 module _ (w : WorldIs) (number mount : ℕ) (world : IsWorld w) (before after : List ℕ) where
   pub no_mount_runs : host_at w.fleet.hosts mount ≡ None → after ≡ before ++ line_of number (refused_text 96) → HasRun w number (commands.ShowMount mount) before after w
   no_mount_runs none put =
-      said_runs w number (commands.ShowMount mount) world refl w.kind before after (refused_text 96) (λ halts v. quietly v) (λ halts. refl) put (λ halts tells. ap (show_of (stands_at halts [] w) number mount) none) (λ halts. tt)
+      said_runs w number (commands.ShowMount mount) world refl refl w.kind before after (refused_text 96) (λ halts v. quietly v) (λ halts. refl) put (λ halts tells. ap (show_of (stands_at halts [] w) number mount) none) (λ halts made. tt)
 
   pub tree_shown : (host : HostIs) (middle : List ℕ) → host_at w.fleet.hosts mount ≡ Some host → middle ≡ before ++ tree_lines (listing host.mount.files.tables)
       → after ≡ middle ++ line_of number (state_text mount host.mount.upto (not (rests host.mount.work))) → HasRun w number (commands.ShowMount mount) before after w
   tree_shown host middle there tree put =
       let lines = tree_lines (listing host.mount.files.tables) in
-      gone_runs w number (commands.ShowMount mount) world refl (λ halts v. saying lines v) w.kind w.chunks w.fleet before middle after (state_text mount host.mount.upto (not (rests host.mount.work)))
+      gone_runs w number (commands.ShowMount mount) world refl refl (λ halts v. saying lines v) w.kind w.chunks w.fleet before middle after (state_text mount host.mount.upto (not (rests host.mount.work)))
       (still_gone w world (λ halts v. saying lines v) w.fleet world.is_fleet (Writes lines ∷ []) before middle (tree ∙ ap (λ xs. before ++ xs) (sym (append-nil lines))) (λ halts. refl))
-      put refl (le_suc w.fleet.calls) (λ halts tells. ap (show_of (stands_at halts [] w) number mount) there) (λ halts tells. tt)
+      put refl (le_suc w.fleet.calls) (λ halts tells. ap (show_of (stands_at halts [] w) number mount) there) (λ halts tells made. tt)
 
 same_of : (w : World) (number mount : ℕ) (host : Option HostIs) → (show_of w number mount host).world ≡ w
 same_of w number mount None = refl
@@ -109,4 +117,4 @@ same_of w number mount (Some host) = refl
 
 pub mount_shown_fails : (w : WorldIs) (number mount : ℕ) → HasFailed w number (commands.ShowMount mount) w
 mount_shown_fails w number mount =
-    said_fails w number (commands.ShowMount mount) (λ new within. within) w.kind w.fleet (λ halts. ap (λ (x : World). x.volume.chunks) (same_of (stands_at halts [] w) number mount (host_at w.fleet.hosts mount)))
+    said_fails w number (commands.ShowMount mount) (λ new within. within) refl w.kind w.fleet (λ halts. ap (λ (x : World). x.volume.chunks) (same_of (stands_at halts [] w) number mount (host_at w.fleet.hosts mount)))

@@ -1,8 +1,10 @@
 -- What each line of a script does to a world, and what it tells.
 use Rattle.std.specs.Prelude.{ℕ, Bool, true, false, not, nat_le, nat_lt, if◌then◌else◌, List, [], ◌∷◌, drop, length, Option, Some, None, slice_get}
+use Rattle.std.specs.Option.{is_some}
 use Rattle.pf_base.specs.declared.calls.Call.{Call}
 use Rattle.pf_tree.specs.declared.calls.FileCall.{FileCall}
 use Rattle.pf_tree.specs.Listings.{listing}
+use Rattle.pf_script.specs.Lines.{group_of}
 use Rattle.pf_script.specs.declared.command.Command.{Command}
 use Rattle.pf_script.specs.declared.command.Command.TheVariants as commands
 use Rattle.pf_entry.specs.declared.ops.Op.TheVariants.{Mark}
@@ -11,14 +13,15 @@ use Rattle.pf_protocol.specs.declared.events.Event.TheVariants as events
 use Rattle.pf_volume.specs.Volumes.{size_of}
 use Rattle.pf_mount.specs.declared.work.Work.{Work}
 use Rattle.pf_mount.specs.declared.work.Work.TheVariants.{Rests}
+use Rattle.pf_report.specs.Moves.{moving_text}
 use Rattle.pf_report.specs.Texts.{settle_text}
 use Rattle.pf_report.specs.Mounts.{mount_text, started_text, state_text, tree_lines}
 use Rattle.pf_applyrounds.specs.Halts.{Halt}
-use Rattle.pf_applyrounds.specs.Chunks.{Chunk}
+use Rattle.pf_applyrounds.specs.Chunks.{Chunk, made_chunk}
 use Rattle.pf_chunk.specs.Asking.{fetches, is_range, no_range_answer, submits}
 use Rattle.pf_chunk.specs.Happenings.{Happened, happened}
 use Rattle.pf_chunk.specs.Lending.{all_happened}
-use Rattle.pf_chunk.specs.Runs.{ChunkRun}
+use Rattle.pf_chunk.specs.Runs.{ChunkRun, new_run}
 use Rattle.pf_chunk.specs.Saying.{answer_line, said}
 use Rattle.pf_chunk.specs.Showing.{acked_shown, applied_shown, log_shown, mark_shown, of_server, sectors_shown}
 use Rattle.pf_hosts.specs.Moments.{Writes}
@@ -26,7 +29,7 @@ use Rattle.pf_hosts.specs.Hosts.{HostIs}
 use Rattle.pf_hosts.specs.Words.{read_call}
 use Rattle.pf_fleet.specs.Settling.{settled}
 use Rattle.pf_fleet.specs.Settled.{settling}
-use Rattle.pf_fleet.specs.Volumes.{begins, happens, host_at, killed, mounts, quietly, saying}
+use Rattle.pf_fleet.specs.Volumes.{begins, happens, host_at, killed, mounts, moves, quietly, saying}
 use Rattle.pf_threads.specs.Sessions.{Session, next_session, session_text}
 use Rattle.pf_world.specs.declared.kind.Kind.{Kind}
 use Rattle.pf_world.specs.declared.kind.Kind.TheVariants.{Mounted, Raw}
@@ -141,27 +144,69 @@ show_of w number mount None = said_only w number (refused_text 96)
 show_of w number mount (Some host) =
     ended w number (saying (tree_lines (listing host.mount.files.tables)) w.volume) (state_text mount host.mount.upto (not (rests host.mount.work)))
 
--- a line, by its number and its command
+-- Moves
+
+-- in a run that a mount began
+abbrev pub is_of_mounts : Option Kind → Bool
+is_of_mounts None = false
+is_of_mounts (Some kind) = is_mounted kind
+
+-- a new group, with the next number
+abbrev pub made_group : List Halt → World → ChunkRun
+made_group halts w = new_run (made_chunk halts w.volume.extent.sectors w.names w.format (length w.volume.chunks))
+
+-- the chunk begins to move, where no chunk is moving, and there are fewer than eight groups
+abbrev pub begins_move : List Halt → World → (number chunk : ℕ) → Told
+begins_move halts w number chunk =
+    if is_some w.volume.routes.moving then stepped halts w number (quietly w.volume) (refused_text 101)
+    else if nat_le 8 (length w.volume.chunks) then stepped halts w number (quietly w.volume) (refused_text 100)
+    else stepped halts w number (moves chunk (made_group halts w) w.volume) (moving_text (length w.volume.chunks))
+
+abbrev pub move_told : List Halt → World → (number chunk : ℕ) → Told
+move_told halts w number chunk =
+    if is_of_mounts w.kind then begins_move halts w number chunk else said_only w number (refused_text 95)
+
+-- Lines
+
+-- a line of groups that are made, by its number and its command
+abbrev pub run_told : List Halt → World → (number : ℕ) → Command → Told
+run_told halts w number (commands.Volume chunks sectors names format) = volume_told number (made halts w.sessions chunks sectors names format)
+run_told halts w number (commands.Elect g i) = at_chunk halts w number g (λ c. happened halts c (events.Elect i))
+run_told halts w number (commands.Resend g i) = at_chunk halts w number g (λ c. happened halts c (events.Resend i))
+run_told halts w number (commands.Stop g i) = at_chunk halts w number g (λ c. happened halts c (events.Stop i))
+run_told halts w number (commands.Restart g i) = at_chunk halts w number g (λ c. happened halts c (events.Restart i false))
+run_told halts w number (commands.Checkpoint g i) = at_chunk halts w number g (λ c. happened halts c (events.Checkpoint i))
+run_told halts w number (commands.Deliver g k) = at_chunk halts w number g (λ c. happened halts c (events.Deliver k))
+run_told halts w number (commands.Lose g k) = at_chunk halts w number g (λ c. happened halts c (events.Lose k))
+run_told halts w number (commands.Submit g i s b n) = submit_told halts w number g i s b n
+run_told halts w number (commands.Fetch g i s n) = asked halts w number g i s n (fetches halts i s n)
+run_told halts w number (commands.Mark g i) = at_chunk halts w number g (λ c. happened halts c (events.Submit i Mark))
+run_told halts w number (commands.Settle limit) = settle_told halts w number limit
+run_told halts w number (commands.Live g hosts writes workers turns) = live_told halts w number g
+run_told halts w number commands.Mount = mount_told halts w number
+run_told halts w number (commands.Kill m) = kill_of w number m (host_at w.volume.hosts m)
+run_told halts w number (commands.Call m call) = call_of halts w number m call (host_at w.volume.hosts m)
+run_told halts w number (commands.ShowLog g i) = shows w number g (λ c. of_server c.state i log_shown)
+run_told halts w number (commands.ShowApplied g i) = shows w number g (λ c. of_server c.state i applied_shown)
+run_told halts w number (commands.ShowSectors g i) = shows w number g (λ c. of_server c.state i sectors_shown)
+run_told halts w number (commands.ShowAcked g) = shows w number g (λ c. acked_shown c.state)
+run_told halts w number (commands.ShowMark g i s) = shows w number g (λ c. of_server c.state i (mark_shown s))
+run_told halts w number (commands.ShowMount m) = show_of w number m (host_at w.volume.hosts m)
+run_told halts w number (commands.Move chunk) = move_told halts w number chunk
+
+-- the kind of the run after a line, also after one that is refused
+abbrev pub kind_after : Option Kind → Command → Option Kind
+kind_after kind (commands.Submit g i s b n) = Some (decided kind Raw)
+kind_after kind (commands.Live g hosts writes workers turns) = Some (decided kind Raw)
+kind_after kind commands.Mount = Some (decided kind Mounted)
+kind_after kind command = kind
+
+abbrev pub is_made : World → (group : Option ℕ) → Bool
+is_made w None = true
+is_made w (Some g) = nat_lt g (length w.volume.chunks)
+
+-- a line, by its number and its command: one that names a group that is not made is refused before all else
 abbrev pub line_told : List Halt → World → (number : ℕ) → Command → Told
-line_told halts w number (commands.Volume chunks sectors names format) = volume_told number (made halts w.sessions chunks sectors names format)
-line_told halts w number (commands.Elect g i) = at_chunk halts w number g (λ c. happened halts c (events.Elect i))
-line_told halts w number (commands.Resend g i) = at_chunk halts w number g (λ c. happened halts c (events.Resend i))
-line_told halts w number (commands.Stop g i) = at_chunk halts w number g (λ c. happened halts c (events.Stop i))
-line_told halts w number (commands.Restart g i) = at_chunk halts w number g (λ c. happened halts c (events.Restart i false))
-line_told halts w number (commands.Checkpoint g i) = at_chunk halts w number g (λ c. happened halts c (events.Checkpoint i))
-line_told halts w number (commands.Deliver g k) = at_chunk halts w number g (λ c. happened halts c (events.Deliver k))
-line_told halts w number (commands.Lose g k) = at_chunk halts w number g (λ c. happened halts c (events.Lose k))
-line_told halts w number (commands.Submit g i s b n) = submit_told halts w number g i s b n
-line_told halts w number (commands.Fetch g i s n) = asked halts w number g i s n (fetches halts i s n)
-line_told halts w number (commands.Mark g i) = at_chunk halts w number g (λ c. happened halts c (events.Submit i Mark))
-line_told halts w number (commands.Settle limit) = settle_told halts w number limit
-line_told halts w number (commands.Live g hosts writes workers turns) = live_told halts w number g
-line_told halts w number commands.Mount = mount_told halts w number
-line_told halts w number (commands.Kill m) = kill_of w number m (host_at w.volume.hosts m)
-line_told halts w number (commands.Call m call) = call_of halts w number m call (host_at w.volume.hosts m)
-line_told halts w number (commands.ShowLog g i) = shows w number g (λ c. of_server c.state i log_shown)
-line_told halts w number (commands.ShowApplied g i) = shows w number g (λ c. of_server c.state i applied_shown)
-line_told halts w number (commands.ShowSectors g i) = shows w number g (λ c. of_server c.state i sectors_shown)
-line_told halts w number (commands.ShowAcked g) = shows w number g (λ c. acked_shown c.state)
-line_told halts w number (commands.ShowMark g i s) = shows w number g (λ c. of_server c.state i (mark_shown s))
-line_told halts w number (commands.ShowMount m) = show_of w number m (host_at w.volume.hosts m)
+line_told halts w number command =
+    if is_made w (group_of command) then run_told halts w number command
+    else said_only (record w { kind = kind_after w.kind command }) number (refused_text 102)

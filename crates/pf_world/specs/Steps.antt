@@ -1,13 +1,16 @@
 -- What the making of a world and one line of a script come to.
-use Rattle.std.specs.Prelude.{◌≡◌, ◌⊎◌, ℕ, suc, ◌≤◌, Bool, true, List, [], ◌∷◌, ◌++◌, length, None, Some, slice_get}
+use Rattle.std.specs.Prelude.{◌≡◌, ◌⊎◌, ℕ, suc, ◌<◌, ◌≤◌, IfSome, Bool, true, false, nat_lt, List, [], ◌∷◌, ◌++◌, length, None, Some, slice_get}
 use Rattle.std.specs.List.{flat_map}
 use Rattle.pf_script.specs.declared.command.Command.{Command}
 use Rattle.pf_script.specs.declared.command.Command.TheVariants as commands
-use Rattle.pf_script.specs.Lines.{fits}
+use Rattle.pf_script.specs.declared.named.Named.{Named}
+use Rattle.pf_script.specs.Lines.{fits, group_of, named_after}
 use Rattle.pf_protocol.specs.declared.answers.Answer.{Answer}
 use Rattle.pf_applyrounds.specs.Halts.{Halt}
+use Rattle.pf_group.specs.GroupIs.{GroupIs}
 use Rattle.pf_group.specs.Making.{making_answer}
 use Rattle.pf_applyrounds.specs.Agreeing.{chunk_of}
+use Rattle.pf_applyrounds.specs.Begun.{HasBegun}
 use Rattle.pf_applyrounds.specs.Growing.{HasGrown}
 use Rattle.pf_chunk.specs.Runs.{ChunkRun}
 use Rattle.pf_chunk.specs.Views.{ChunkIs}
@@ -24,32 +27,52 @@ use Rattle.pf_threads.specs.Sessions.{IsPartOfSession, IsPlan, IsSession, IsSess
 use Rattle.pf_world.specs.declared.kind.Kind.{Kind}
 use Rattle.pf_world.specs.declared.kind.Kind.TheVariants.{Mounted, Raw}
 use Rattle.pf_world.specs.Worlds.{World, made}
-use Rattle.pf_world.specs.Lines.{decided, line_told}
+use Rattle.pf_world.specs.declared.line.Line.{Line}
+use Rattle.pf_world.specs.Lines.{decided, is_made, line_told}
 use Rattle.pf_world.specs.Views.{IsWorld, WorldIs, stands_at}
 use Rattle.pf_world.specs.Agreeing.{Tells}
 
 -- a volume was made with these numbers: under every list of halts that tells of it, it is the one that the run makes
 pub record IsMade (chunks sectors names format : ℕ) (w : WorldIs) (answer : Answer) : Type 0 where
   pub is_world : IsWorld w
-  pub count : length w.chunks ≡ chunks
+  pub count : (length w.chunks ≡ chunks) × (w.fleet.volume.chunks ≡ chunks)
   pub numbers : (w.sectors ≡ sectors) × (w.names ≡ names) × (w.format ≡ format)
   pub calls : w.fleet.calls ≡ 0
+  pub moves : w.moves ≡ 0
   pub passes : w.passes ≡ None
   pub run : (halts : List Halt) (sessions : List Session) → Tells halts w → made halts sessions chunks sectors names format ≡ stands_at halts sessions w
   pub answered : answer ≡ making_answer (flat_map (λ c. c.group.setup.failed) w.chunks)
 
--- the same volume, with chunks to which more happened
+-- the same groups, to which more happened, and perhaps new ones
 pub record GoesOn (old new : WorldIs) : Type 0 where
   pub sectors : new.sectors ≡ old.sectors
   pub names : new.names ≡ old.names
   pub format : new.format ≡ old.format
-  pub chunks : length new.chunks ≡ length old.chunks
+  pub at_least : length old.chunks ≤ length new.chunks
   pub grown : (k : ℕ) (was is : ChunkIs) → slice_get old.chunks k ≡ Some was → slice_get new.chunks k ≡ Some is → HasGrown was.group is.group
 
--- a line that may be run in a volume of so many chunks: any but another volume
-abbrev pub MayRun : (chunks : ℕ) → Command → Type 0
-MayRun chunks (commands.Volume c s n f) = ⊥
-MayRun chunks command = fits chunks command ≡ true
+-- a line that may be run where lines may name so much: any but another volume
+abbrev pub MayRun : Named → Command → Type 0
+MayRun named (commands.Volume c s n f) = ⊥
+MayRun named command = fits named command ≡ true
+
+-- so it is of each of these lines in turn
+abbrev pub MayRunAll : Named → List Line → Type 0
+MayRunAll named [] = Unit {0}
+MayRunAll named (line ∷ lines) = MayRun named line.command × MayRunAll (named_after named line.command) lines
+
+-- its group, if it names one, is made
+abbrev pub IsOfMade : WorldIs → Command → Type 0
+IsOfMade w command = IfSome (group_of command) (λ g. g < length w.chunks)
+
+abbrev pub moves_after : ℕ → Command → ℕ
+moves_after moves (commands.Move chunk) = suc moves
+moves_after moves command = moves
+
+-- of so many groups there are so many after a line: one that moves a chunk makes one at most, and no other makes any
+abbrev pub MakesGroups : Command → (was is : ℕ) → Type 0
+MakesGroups (commands.Move chunk) was is = (was ≤ is) × (is ≤ suc was)
+MakesGroups command was is = is ≡ was
 
 -- the chunk, and the plan of a live line with these numbers
 pub record IsLiveAt (w : World) (chunk hosts writes workers turns : ℕ) (c : ChunkRun) (plan : Plan) : Type 0 where
@@ -67,11 +90,14 @@ abbrev pub LivesAs : Kind → List Halt → World → (chunk hosts writes worker
 LivesAs Mounted halts w chunk hosts writes workers turns = Unit {0}
 LivesAs Raw halts w chunk hosts writes workers turns = IsNextSession halts w chunk hosts writes workers turns
 
+abbrev pub EndsIn : List Halt → World → Command → Type 0
+EndsIn halts w (commands.Settle limit) = HasEnded (settled halts limit w.volume)
+EndsIn halts w (commands.Live chunk hosts writes workers turns) = LivesAs (decided w.kind Raw) halts w chunk hosts writes workers turns
+EndsIn halts w command = Unit {0}
+
 -- each settling ends by itself, and the session of a live line that is not refused is one of its numbers
 abbrev pub Ends : List Halt → World → Command → Type 0
-Ends halts w (commands.Settle limit) = HasEnded (settled halts limit w.volume)
-Ends halts w (commands.Live chunk hosts writes workers turns) = LivesAs (decided w.kind Raw) halts w chunk hosts writes workers turns
-Ends halts w command = Unit {0}
+Ends halts w command = is_made w (group_of command) ≡ true → EndsIn halts w command
 
 -- The world keeps the passes of a live line with these numbers. They agree with a list over the chunk's group, which under every list of halts
 -- that tells of the world is that of the session: over any disks those of each ring meet, and where the disks tell their content what was taken
@@ -91,9 +117,13 @@ abbrev pub KeepsAs : Kind → (old : WorldIs) → List Session → (chunk hosts 
 KeepsAs Mounted old sessions chunk hosts writes workers turns new = new.passes ≡ old.passes
 KeepsAs Raw old sessions chunk hosts writes workers turns new = HasKept old (next_session sessions) chunk hosts writes workers turns new
 
+abbrev pub KeepsWhere : (made : Bool) → (old : WorldIs) → List Session → (chunk hosts writes workers turns : ℕ) → (new : WorldIs) → Type 0
+KeepsWhere false old sessions chunk hosts writes workers turns new = new.passes ≡ old.passes
+KeepsWhere true old sessions chunk hosts writes workers turns new = KeepsAs (decided old.kind Raw) old sessions chunk hosts writes workers turns new
+
 -- a live line that is not refused leaves its own passes, and any other line those that were there
 abbrev pub Keeps : (old : WorldIs) → List Session → Command → (new : WorldIs) → Type 0
-Keeps old sessions (commands.Live chunk hosts writes workers turns) new = KeepsAs (decided old.kind Raw) old sessions chunk hosts writes workers turns new
+Keeps old sessions (commands.Live chunk hosts writes workers turns) new = KeepsWhere (nat_lt chunk (length old.chunks)) old sessions chunk hosts writes workers turns new
 Keeps old sessions command new = new.passes ≡ old.passes
 
 -- a live line takes one session at most, and no other line takes any
@@ -106,7 +136,10 @@ TakesSessions command sessions = sessions ≡ []
 pub record IsLineRun (old : WorldIs) (number : ℕ) (command : Command) (told : List Moment) (new : WorldIs) : Type 0 where
   pub is_world : IsWorld new
   pub goes_on : GoesOn old new
+  pub groups : MakesGroups command (length old.chunks) (length new.chunks)
+  pub volume : new.fleet.volume ≡ old.fleet.volume
   pub calls : new.fleet.calls ≤ suc old.fleet.calls
+  pub moves : new.moves ≡ moves_after old.moves command
   pub sessions : List Session
   pub takes : TakesSessions command sessions
   pub run : (halts : List Halt) (rest : List Session) → Tells halts new → line_told halts (stands_at halts (sessions ++ rest) old) number command ≡ record { world = stands_at halts rest new; told = told }
@@ -140,7 +173,7 @@ LivesInPart Raw halts w chunk hosts writes workers turns = IsPartOfNext halts w 
 pub record HasNotLived (old : WorldIs) (number chunk hosts writes workers turns : ℕ) (new : WorldIs) : Type 0 where
   pub session : Session
   pub within : IsWithin old (session ∷ []) number (commands.Live chunk hosts writes workers turns) new
-  pub is_part : (halts : List Halt) → Tells halts new → LivesInPart (decided old.kind Raw) halts (stands_at halts (session ∷ []) old) chunk hosts writes workers turns
+  pub is_part : chunk < length old.chunks → (halts : List Halt) → Tells halts new → LivesInPart (decided old.kind Raw) halts (stands_at halts (session ∷ []) old) chunk hosts writes workers turns
 
 -- it settled, and there was no memory for the line that tells so
 pub record HasSettledOnly (limit : ℕ) (old new : WorldIs) : Type 0 where
@@ -150,14 +183,22 @@ pub record HasSettledOnly (limit : ℕ) (old new : WorldIs) : Type 0 where
   pub stopped : Bool
   pub settled : HasSettled limit old.chunks old.fleet before stopped new.chunks next after
 
+-- A chunk had begun to move to a new group, or had not: each group, also the new one, which had no history, stands at a beginning of
+-- what the line would have done to it
+pub record HasNotMoved (old : WorldIs) (number chunk : ℕ) (new : WorldIs) : Type 0 where
+  pub begun : (halts : List Halt) → Tells halts new → (k : ℕ) (was is : ChunkIs) (run : ChunkRun) → slice_get old.chunks k ≡ Some was → slice_get new.chunks k ≡ Some is → slice_get (line_told halts (stands_at halts [] old) number (commands.Move chunk)).world.volume.chunks k ≡ Some run → HasBegun halts was.group run.group is.group
+  pub new_one : (is : ChunkIs) → slice_get new.chunks (length old.chunks) ≡ Some is → (made : GroupIs) × (made.history ≡ []) × ((halts : List Halt) → Tells halts new → (run : ChunkRun) → slice_get (line_told halts (stands_at halts [] old) number (commands.Move chunk)).world.volume.chunks (length old.chunks) ≡ Some run → HasBegun halts made run.group is.group)
+
 -- a settling stands after some whole tries and a beginning of one more, and a live line after some of what its threads do
 abbrev pub StopsIn : (old : WorldIs) → (number : ℕ) → Command → (new : WorldIs) → Type 0
 StopsIn old number (commands.Settle limit) new = HasNotSettled limit old.chunks old.fleet new.chunks ⊎ HasSettledOnly limit old new
 StopsIn old number (commands.Live chunk hosts writes workers turns) new = HasNotLived old number chunk hosts writes workers turns new
+StopsIn old number (commands.Move chunk) new = HasNotMoved old number chunk new
 StopsIn old number command new = IsWithin old [] number command new
 
 -- there was no memory for the whole of it: the world stands in the middle of the line, with the passes of before
 pub record HasFailed (old : WorldIs) (number : ℕ) (command : Command) (new : WorldIs) : Type 0 where
   pub goes_on : GoesOn old new
+  pub groups : MakesGroups command (length old.chunks) (length new.chunks)
   pub passes : new.passes ≡ old.passes
   pub stopped : StopsIn old number command new

@@ -1,5 +1,6 @@
 -- A world, as contracts see it.
-use Rattle.std.specs.Prelude.{◌≡◌, ℕ, true, List, length, Option, Some, slice_get}
+use Rattle.std.specs.Prelude.{◌≡◌, ℕ, ◌+◌, ◌≤◌, min, true, List, length, Option, Some, slice_get}
+use Rattle.pf_script.specs.declared.named.Named.{Named}
 use Rattle.pf_script.specs.Lines.{is_volume}
 use Rattle.pf_group.specs.Making.{setup_with}
 use Rattle.pf_applyrounds.specs.Halts.{Halt}
@@ -11,22 +12,27 @@ use Rattle.pf_threads.specs.Sessions.{Session}
 use Rattle.pf_world.specs.declared.kind.Kind.{Kind}
 use Rattle.pf_world.specs.Worlds.{World}
 
--- a volume with its chunks, in the order of their numbers, and its hosts; the kind of the run; and the passes of its last live line that was not
--- refused
+-- a volume with its groups, in the order of their numbers, and its hosts; how many `move` lines it was given; the kind of the run; and the
+-- passes of its last live line that was not refused
 pub record WorldIs : Type 0 where
   pub sectors : ℕ  -- of each chunk
   pub names : ℕ
   pub format : ℕ
   pub chunks : List ChunkIs
   pub fleet : FleetIs
+  pub moves : ℕ
   pub kind : Option Kind
   pub passes : Option Passes
 
 -- where a run stands that came to this world, with the sessions that are still to come
 abbrev pub stands_at : List Halt → List Session → WorldIs → World
-stands_at halts sessions w = record { volume = fleets.stands_at halts w.chunks w.fleet; kind = w.kind; sessions = sessions }
+stands_at halts sessions w = record { volume = fleets.stands_at halts w.chunks w.fleet; names = w.names; format = w.format; kind = w.kind; sessions = sessions }
 
--- chunk k between two lines is of this volume
+-- what the next line may name: each `move` line so far made a group or was refused
+abbrev pub named_in : WorldIs → Named
+named_in w = record { chunks = w.fleet.volume.chunks; groups = min (w.fleet.volume.chunks + w.moves) 8 }
+
+-- group k between two lines is of this volume
 pub record IsChunkOf (w : WorldIs) (k : ℕ) (c : ChunkIs) : Type 0 where
   pub number : c.group.number ≡ k
   pub failed : List ℕ
@@ -34,10 +40,12 @@ pub record IsChunkOf (w : WorldIs) (k : ℕ) (c : ChunkIs) : Type 0 where
   pub ready : IsReady c
 
 pub record IsWorld (w : WorldIs) : Type 0 where
-  pub volume : is_volume (length w.chunks) w.sectors w.names w.format ≡ true
+  pub volume : is_volume w.fleet.volume.chunks w.sectors w.names w.format ≡ true
   pub each : (k : ℕ) (c : ChunkIs) → slice_get w.chunks k ≡ Some c → IsChunkOf w k c
   pub is_fleet : IsFleetOf w.chunks w.fleet
-  pub extent : w.fleet.volume ≡ record { chunks = length w.chunks; sectors = w.sectors }
+  pub sectors_are : w.fleet.volume.sectors ≡ w.sectors
+  pub made : w.fleet.volume.chunks ≤ length w.chunks
+  pub few : length w.chunks ≤ (named_in w).groups
 
 -- a world with the disks that no chunk has, in their order
 pub record WorldOn (D : Type 0) : Type 0 where

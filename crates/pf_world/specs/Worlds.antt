@@ -12,24 +12,32 @@ use Rattle.pf_chunk.specs.Happenings.{Happened}
 use Rattle.pf_chunk.specs.Runs.{ChunkRun, new_run}
 use Rattle.pf_chunk.specs.Saying.{said}
 use Rattle.pf_hosts.specs.Moments.{Moment, Writes}
-use Rattle.pf_fleet.specs.Volumes.{VolumeRun, happens, hosts_step, quietly}
+use Rattle.pf_fleet.specs.Volumes.{VolumeRun, all_step, happens, quietly}
 use Rattle.pf_fleet.specs.Volumes as volumes
+use Rattle.pf_move.specs.Routes.{RoutesIs}
 use Rattle.pf_threads.specs.Sessions.{Session}
 use Rattle.pf_world.specs.declared.kind.Kind.{Kind}
 
--- a volume with its hosts; the kind of the run, once a line has decided it; and the sessions of the live lines that are still to come
+-- A volume with its hosts, and with what a new group of it is made; the kind of the run, once a line has decided it; and the sessions of the
+-- live lines that are still to come
 pub record World : Type 0 where
   pub volume : VolumeRun
+  pub names : ℕ
+  pub format : ℕ
   pub kind : Option Kind
   pub sessions : List Session
 
--- so many chunks without hosts
+-- each chunk is served by the group of its own number
+abbrev pub first_routes : (chunks : ℕ) → RoutesIs
+first_routes chunks = record { routes = map (λ k. record { group = k; epoch = 0 }) (range_with_len 0 chunks); moving = None }
+
+-- a volume with these groups, without hosts
 abbrev pub new_volume : Extent → List ChunkRun → VolumeRun
-new_volume extent chunks = record { extent = extent; chunks = chunks; hosts = [] }
+new_volume extent chunks = record { extent = extent; chunks = chunks; hosts = []; routes = first_routes extent.chunks; mover = None }
 
 -- before the volume is made
 abbrev pub no_world : List Session → World
-no_world sessions = record { volume = new_volume (record { chunks = 0; sectors = 0 }) []; kind = None; sessions = sessions }
+no_world sessions = record { volume = new_volume (record { chunks = 0; sectors = 0 }) []; names = 0; format = 0; kind = None; sessions = sessions }
 
 -- a world after a line, and what was told
 pub record Told : Type 0 where
@@ -40,7 +48,7 @@ pub record Told : Type 0 where
 abbrev pub made : List Halt → List Session → (chunks sectors names format : ℕ) → World
 made halts sessions chunks sectors names format =
     let made_chunks = map (λ k. new_run (made_chunk halts sectors names format k)) (range_with_len 0 chunks) in
-    record { volume = new_volume (record { chunks = chunks; sectors = sectors }) made_chunks; kind = None; sessions = sessions }
+    record { volume = new_volume (record { chunks = chunks; sectors = sectors }) made_chunks; names = names; format = format; kind = None; sessions = sessions }
 
 -- halted where some server could not be formatted
 abbrev pub made_answer : World → Answer
@@ -58,9 +66,9 @@ said_only w number text = ended w number (quietly w.volume) text
 abbrev pub refused_text : (fault : ℕ) → List ℕ
 refused_text fault = unwrap_or (refusal_text fault) []
 
--- at the end of a line of a mount each host takes a step
+-- at the end of a line of a mount or of a move each host takes a step, and the mover
 abbrev pub stepped : List Halt → World → (number : ℕ) → volumes.Told → (text : List ℕ) → Told
-stepped halts w number t text = ended w number (volumes.followed t (hosts_step halts)) text
+stepped halts w number t text = ended w number (volumes.followed t (all_step halts)) text
 
 abbrev pub told_of : List Halt → World → (number : ℕ) → Option ChunkRun → (ChunkRun → Happened) → Told
 told_of halts w number None event = record { world = w; told = [] }

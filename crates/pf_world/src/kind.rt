@@ -1,6 +1,8 @@
 //! Kinds of runs.
 ghost use Rattle.std.specs.Prelude.{◌≡◌};
-ghost use Rattle.pf_world.specs.Lines.{decided, is_mounted};
+ghost use Rattle.pf_world.specs.Lines.{decided, is_mounted, is_of_mounts, kind_after};
+
+use pf_script::Command;
 
 /// What writes to the volume in a run. Its first line that submits or mounts decides it.
 #[derive(Clone, Copy, Debug, PartialEq, Eq)]
@@ -27,5 +29,27 @@ impl Kind {
         ensures { result ≡ decided was self }
     {
         was.unwrap_or(self)
+    }
+}
+
+/// The kind of a run after a line, also after one that is refused.
+pub(crate) fn kind_after(kind: Option<Kind>, command: &Command) -> Option<Kind>
+    ensures { result ≡ kind_after kind command.now }
+{
+    match command {
+        Command::Submit { .. } => Some(Kind::Raw.decided(kind)),
+        Command::Live { .. } => Some(Kind::Raw.decided(kind)),
+        Command::Mount => Some(Kind::Mounted.decided(kind)),
+        _ => kind,
+    }
+}
+
+/// Whether a mount began the run.
+pub(crate) fn is_of_mounts(kind: Option<Kind>) -> bool
+    ensures { result ≡ is_of_mounts kind }
+{
+    match kind {
+        Some(kind) => kind.is_mounted(),
+        None => false,
     }
 }

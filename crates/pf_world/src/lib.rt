@@ -11,6 +11,7 @@ mod lines;
 mod living;
 mod making;
 mod mounting;
+mod moving;
 mod showing;
 mod world;
 

@@ -1,15 +1,18 @@
 //! The lines of a script.
-ghost use Rattle.std.specs.Prelude.{◌≡◌, ◌<◌, ◌≤◌, ◌+◌, ◌^◌, IsTrue, OnErr, OnOk, Some, length};
+ghost use Rattle.std.specs.Prelude.{◌≡◌, ◌<◌, ◌≤◌, ◌+◌, ◌*◌, ◌^◌, IsTrue, OnErr, OnOk, Some, false, length, nat_lt, true};
+ghost use Rattle.std.specs.Option.{option_map_or};
 ghost use Rattle.pf_script.specs.declared.command.Command.{Command as CommandIs};
 ghost use Rattle.pf_script.specs.declared.command.Command.TheVariants.{Settle};
+ghost use Rattle.pf_script.specs.Lines.{group_of};
 ghost use Rattle.pf_chunk.specs.Asked.{MayAsk};
 ghost use Rattle.pf_world.specs.Asked.{IsAllowed, IsSubmit, asked_of};
 ghost use Rattle.pf_world.specs.Headline.{IsSoundWorld, WorldLeavesAtCrash};
-ghost use Rattle.pf_world.specs.Steps.{HasFailed, HasRun, MayRun};
-ghost use Rattle.pf_world.specs.Views.{IsWorld};
+ghost use Rattle.pf_world.specs.Making.{HasMadeMore};
+ghost use Rattle.pf_world.specs.Steps.{HasFailed, HasRun, IsOfMade, MayRun};
+ghost use Rattle.pf_world.specs.Views.{IsWorld, named_in};
 
 use crate::World;
-use crate::kind::Kind;
+use crate::kind::{Kind, kind_after};
 use pf_base::NoMemory;
 use pf_chunk::Asked;
 use pf_copy::{Gate, Workers};
@@ -23,6 +26,9 @@ use std::thread::Threads;
 
 /// The number of the refusal of a line that writes in a run with mounts.
 pub(crate) const MOUNTED: u32 = 94;
+
+/// The number of the refusal of a line that names a group that is not made.
+const NO_GROUP: u32 = 102;
 
 /// What a line asks of a group, with the group's number.
 fn asked_of(command: &Command) -> Option<(u8, Asked)>
@@ -87,7 +93,9 @@ fn asked_of(command: &Command) -> Option<(u8, Asked)>
 impl<D: Disk + Drop + Send> World<D> {
     /// One line of a script, with its number and its command, which is no volume and whose numbers are in their ranges. Lines for what
     /// happened meanwhile (reads that were answered, mounts that are ready, calls that ended), and then its own line, are put at the end
-    /// of `out`. Fewer than 2^32 - 1 calls were begun before.
+    /// of `out`. Fewer than 2^32 - 1 calls were begun before, fewer `move` lines given, and there are disks for eight groups.
+    ///
+    /// A line that names a group that is not made is refused before all else: `NoGroup` (102).
     ///
     /// A line of threads runs on threads of its own, and ends by itself; the gate is called round each of their steps. The passes of the
     /// last one that was not refused stay in the world.
@@ -105,11 +113,13 @@ impl<D: Disk + Drop + Send> World<D> {
         out: &mut Vec<u8>,
     ) -> Result<(), NoMemory>
         requires world { IsWorld self.old.world }
-        requires command { MayRun (length self.old.world.chunks) command.now }
+        requires command { MayRun (named_in self.old.world) command.now }
         requires few { self.old.world.fleet.calls + 1 < 2 ^ 32 }
+        requires lines { self.old.world.moves + 1 < 2 ^ 32 }
+        requires disks { 48 ≤ 6 * length self.old.world.chunks + length self.old.spare }
         ensures ran { OnOk result (HasRun self.old.world number command.now out.old.items out.new.items self.new.world) }
         ensures err { OnErr result (HasFailed self.old.world number command.now self.new.world) }
-        ensures spare { self.new.spare ≡ self.old.spare }
+        ensures made { HasMadeMore D.faults self.old self.new }
         ensures sound { IsSoundWorld self.new.world }
         ensures crash { IsTrue D.tells → WorldLeavesAtCrash D.seen D.moment D.left_since D.tells_moments self.new.world }
     {
@@ -118,7 +128,7 @@ impl<D: Disk + Drop + Send> World<D> {
         done
     }
 
-    /// The same, but for the laws.
+    /// A line without the laws.
     fn run<R: Threads + Wait + Sync, G: Gate + Sync>(
         &mut self,
         workers: &Workers<'_, R, G>,
@@ -127,11 +137,60 @@ impl<D: Disk + Drop + Send> World<D> {
         out: &mut Vec<u8>,
     ) -> Result<(), NoMemory>
         requires world { IsWorld self.old.world }
-        requires command { MayRun (length self.old.world.chunks) command.now }
+        requires command { MayRun (named_in self.old.world) command.now }
         requires few { self.old.world.fleet.calls + 1 < 2 ^ 32 }
+        requires lines { self.old.world.moves + 1 < 2 ^ 32 }
+        requires disks { 48 ≤ 6 * length self.old.world.chunks + length self.old.spare }
         ensures ran { OnOk result (HasRun self.old.world number command.now out.old.items out.new.items self.new.world) }
         ensures err { OnErr result (HasFailed self.old.world number command.now self.new.world) }
-        ensures spare { self.new.spare ≡ self.old.spare }
+        ensures made { HasMadeMore D.faults self.old self.new }
+    {
+        if self.is_made(command.group()) {
+            self.run_made(workers, number, command, out)
+        } else {
+            self.refuse(number, command, out)
+        }
+    }
+
+    /// Whether this group is made, if it is one.
+    fn is_made(&self, group: Option<u8>) -> bool
+        ensures { result ≡ option_map_or (λ g. nat_lt g (length self.now.world.chunks)) group true }
+    {
+        match group {
+            None => true,
+            Some(group) => (group as usize) < self.chunks.len(),
+        }
+    }
+
+    /// Refuses a line whose group is not made.
+    fn refuse(&mut self, number: u32, command: &Command, out: &mut Vec<u8>) -> Result<(), NoMemory>
+        requires world { IsWorld self.old.world }
+        requires unmade { option_map_or (λ g. nat_lt g (length self.old.world.chunks)) (group_of command.now) true ≡ false }
+        ensures ran { OnOk result (HasRun self.old.world number command.now out.old.items out.new.items self.new.world) }
+        ensures err { OnErr result (HasFailed self.old.world number command.now self.new.world) }
+        ensures made { HasMadeMore D.faults self.old self.new }
+    {
+        self.kind = kind_after(self.kind, command);
+        put_refusal(out, number, NO_GROUP)
+    }
+
+    /// A line whose group, if it names one, is made.
+    fn run_made<R: Threads + Wait + Sync, G: Gate + Sync>(
+        &mut self,
+        workers: &Workers<'_, R, G>,
+        number: u32,
+        command: &Command,
+        out: &mut Vec<u8>,
+    ) -> Result<(), NoMemory>
+        requires world { IsWorld self.old.world }
+        requires command { MayRun (named_in self.old.world) command.now }
+        requires made { IsOfMade self.old.world command.now }
+        requires few { self.old.world.fleet.calls + 1 < 2 ^ 32 }
+        requires lines { self.old.world.moves + 1 < 2 ^ 32 }
+        requires disks { 48 ≤ 6 * length self.old.world.chunks + length self.old.spare }
+        ensures ran { OnOk result (HasRun self.old.world number command.now out.old.items out.new.items self.new.world) }
+        ensures err { OnErr result (HasFailed self.old.world number command.now self.new.world) }
+        ensures made { HasMadeMore D.faults self.old self.new }
     {
         match command {
             Command::Submit { .. } => self.submit_line(workers, number, command, out),
@@ -155,6 +214,7 @@ impl<D: Disk + Drop + Send> World<D> {
             Command::Mount => self.mount_line(workers, number, out),
             Command::Kill { mount } => self.kill_line(number, *mount, out),
             Command::Call { mount, call } => self.call_line(workers, number, *mount, call, out),
+            Command::Move { chunk } => self.move_line(workers, number, *chunk, out),
             Command::ShowMount { mount } => self.show_mount(workers.alloc, number, *mount, out),
             other => match asked_of(other) {
                 Some((group, asked)) => self.ask_line(workers, number, group, asked, out),
@@ -200,7 +260,8 @@ impl<D: Disk + Drop> World<D> {
         out: &mut Vec<u8>,
     ) -> Result<(), NoMemory>
         requires world { IsWorld self.old.world }
-        requires command { MayRun (length self.old.world.chunks) command.now }
+        requires command { MayRun (named_in self.old.world) command.now }
+        requires made { IsOfMade self.old.world command.now }
         requires submits { IsSubmit command.now }
         ensures ran { OnOk result (HasRun self.old.world number command.now out.old.items out.new.items self.new.world) }
         ensures err { OnErr result (HasFailed self.old.world number command.now self.new.world) }

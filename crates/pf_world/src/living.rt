@@ -1,8 +1,8 @@
 //! Lines of threads.
-ghost use Rattle.std.specs.Prelude.{◌≡◌, OnErr, OnOk, length};
+ghost use Rattle.std.specs.Prelude.{◌≡◌, ◌<◌, OnErr, OnOk, length};
 ghost use Rattle.pf_script.specs.declared.command.Command.TheVariants.{Live};
 ghost use Rattle.pf_world.specs.Steps.{HasFailed, HasRun, MayRun};
-ghost use Rattle.pf_world.specs.Views.{IsWorld};
+ghost use Rattle.pf_world.specs.Views.{IsWorld, named_in};
 
 use crate::World;
 use crate::kind::Kind;
@@ -28,7 +28,8 @@ impl<D: Disk + Drop + Send> World<D> {
         out: &mut Vec<u8>,
     ) -> Result<(), NoMemory>
         requires world { IsWorld self.old.world }
-        requires command { MayRun (length self.old.world.chunks) (Live group plan.hosts plan.writes plan.workers plan.turns) }
+        requires made { group < length self.old.world.chunks }
+        requires command { MayRun (named_in self.old.world) (Live group plan.hosts plan.writes plan.workers plan.turns) }
         requires sectors { plan.sectors ≡ self.old.world.sectors }
         ensures ran { OnOk result (HasRun self.old.world number (Live group plan.hosts plan.writes plan.workers plan.turns) out.old.items out.new.items self.new.world) }
         ensures err { OnErr result (HasFailed self.old.world number (Live group plan.hosts plan.writes plan.workers plan.turns) self.new.world) }

@@ -1,11 +1,11 @@
 //! How a world is made, and ends.
-ghost use Rattle.std.specs.Prelude.{◌≡◌, ◌≤◌, ◌*◌, ℕ, List, [], true, IfErr, IfOk, OnErr, drop, length};
+ghost use Rattle.std.specs.Prelude.{◌≡◌, ◌≤◌, ◌*◌, List, [], true, IfErr, IfOk, OnErr, drop, length, reverse, vec_capacity, vec_len};
 ghost use Rattle.pf_script.specs.Lines.{is_volume};
 ghost use Rattle.pf_protocol.specs.Answers.{IsSetup};
 ghost use Rattle.pf_group.specs.Making.{setup_with};
 ghost use Rattle.pf_chunk.specs.Views.{ChunkIs};
 ghost use Rattle.pf_world.specs.Disks.{AreLeft};
-ghost use Rattle.pf_world.specs.Making.{AreBegun, AreNew, HasAdded, unless_done};
+ghost use Rattle.pf_world.specs.Making.{AreBegun, AreNew, HasAdded, HasMade, unless_done};
 ghost use Rattle.pf_world.specs.Headline.{IsSoundWorld};
 ghost use Rattle.pf_world.specs.Steps.{IsMade};
 
@@ -26,6 +26,33 @@ fn unless_done(first: Answer, second: Answer) -> Answer
     match second {
         Answer::Done => first,
         other => other,
+    }
+}
+
+/// Makes a group on the last six of these disks, the first of them last. `NoMemory` (1) leaves them as they were.
+pub(crate) fn make<D: Disk + Drop>(
+    alloc: Global,
+    number: u8,
+    sectors: u32,
+    names: u8,
+    format: u8,
+    spare: &mut Vec<D>,
+) -> Result<(ChunkGroup<D>, Answer), NoMemory>
+    requires setup { IsSetup (setup_with sectors names format []) }
+    requires disks { 6 ≤ vec_len spare.old }
+    ensures made { IfOk result (λ made. HasMade D.faults D.tells number sectors names format (reverse spare.old.items) made.0 made.1 (reverse spare.new.items)) }
+    ensures err { OnErr result (spare.new.items ≡ spare.old.items) }
+    ensures room { vec_capacity spare.old ≤ vec_capacity spare.new }
+{
+    let Some(six) = take_six(spare) else {
+        unreachable!()
+    };
+    match ChunkGroup::new(alloc, number, sectors, names, format, six) {
+        Ok(made) => Ok(made),
+        Err((six, error)) => {
+            put_six(spare, six);
+            Err(error)
+        }
     }
 }
 
@@ -60,6 +87,7 @@ impl<D: Disk + Drop> World<D> {
             format,
             chunks: Vec::new(alloc),
             fleet: Fleet::new(alloc, Volume::new(chunks, sectors)),
+            moves: 0,
             kind: None,
             passes: None,
             spare,
@@ -75,7 +103,7 @@ impl<D: Disk + Drop> World<D> {
         Ok((world, answer))
     }
 
-    /// Makes the next chunk. `NoMemory` (1) leaves the world as it was.
+    /// Makes the group of the next chunk. `NoMemory` (1) leaves the world as it was.
     fn add(&mut self, alloc: Global, number: u8) -> Result<Answer, NoMemory>
         requires setup { IsSetup (setup_with self.old.world.sectors self.old.world.names self.old.world.format []) }
         requires number { number ≡ length self.old.world.chunks }
@@ -84,19 +112,16 @@ impl<D: Disk + Drop> World<D> {
         ensures err { OnErr result (self.new ≡ self.old) }
     {
         self.chunks.reserve(1)?;
-        let Some(six) = take_six(&mut self.spare) else {
-            unreachable!()
-        };
-        match ChunkGroup::new(alloc, number, self.sectors, self.names, self.format, six) {
-            Ok((chunk, answer)) => {
-                let _ = self.chunks.push(chunk);
-                Ok(answer)
-            }
-            Err((six, error)) => {
-                put_six(&mut self.spare, six);
-                Err(error)
-            }
-        }
+        let (chunk, answer) = make(
+            alloc,
+            number,
+            self.sectors,
+            self.names,
+            self.format,
+            &mut self.spare,
+        )?;
+        self.chunks.push_reserved(chunk);
+        Ok(answer)
     }
 
     /// Gives the disks back, in their order, with what the chunks left on them, where disks of their type tell it. It takes no memory.

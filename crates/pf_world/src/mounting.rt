@@ -3,7 +3,7 @@ ghost use Rattle.std.specs.Prelude.{◌≡◌, ◌<◌, ◌+◌, ◌^◌, OnErr,
 ghost use Rattle.pf_script.specs.declared.command.Command.TheVariants as commands;
 ghost use Rattle.pf_hosts.specs.Steps.{AreReady};
 ghost use Rattle.pf_fleet.specs.Steps.{AreSameHosts, HasGone, HasStopped, IsFleetOf};
-ghost use Rattle.pf_fleet.specs.Volumes.{hosts_step};
+ghost use Rattle.pf_fleet.specs.Volumes.{all_step};
 ghost use Rattle.pf_world.specs.Steps.{HasFailed, HasRun};
 ghost use Rattle.pf_world.specs.Views.{IsWorld};
 
@@ -104,7 +104,7 @@ impl<D: Disk + Drop> World<D> {
         }
     }
 
-    /// Each host takes a step.
+    /// Each host takes a step, and the mover.
     pub(crate) fn step_hosts<R: Threads + Sync, G: Gate + Sync>(
         &mut self,
         workers: &Workers<'_, R, G>,
@@ -112,9 +112,9 @@ impl<D: Disk + Drop> World<D> {
     ) -> Result<(), NoMemory>
         requires ready { AreReady self.old.world.chunks }
         requires fleet { IsFleetOf self.old.world.chunks self.old.world.fleet }
-        ensures went { OnOk result (HasGone hosts_step self.old.world.chunks self.old.world.fleet out.old.items self.new.world.chunks self.new.world.fleet out.new.items) }
+        ensures went { OnOk result (HasGone all_step self.old.world.chunks self.old.world.fleet out.old.items self.new.world.chunks self.new.world.fleet out.new.items) }
         ensures same { OnOk result (AreSameHosts self.old.world.fleet self.new.world.fleet) }
-        ensures err { OnErr result (HasStopped hosts_step self.old.world.chunks self.old.world.fleet self.new.world.chunks) }
+        ensures err { OnErr result (HasStopped all_step self.old.world.chunks self.old.world.fleet self.new.world.chunks) }
 
         // All else of the world is as it was.
         ensures others { self.new.world ≡ record self.old.world { chunks = self.new.world.chunks; fleet = self.new.world.fleet } }

@@ -4,8 +4,8 @@ ghost use Rattle.std.specs.Option.{option_map_or};
 ghost use Rattle.pf_script.specs.declared.command.Command.TheVariants.{ShowMount};
 ghost use Rattle.pf_group.specs.GroupIs.{state_of};
 ghost use Rattle.pf_world.specs.Asked.{IsShow};
-ghost use Rattle.pf_world.specs.Steps.{HasFailed, HasRun, MayRun};
-ghost use Rattle.pf_world.specs.Views.{IsWorld};
+ghost use Rattle.pf_world.specs.Steps.{HasFailed, HasRun, IsOfMade, MayRun};
+ghost use Rattle.pf_world.specs.Views.{IsWorld, named_in};
 
 use crate::World;
 use pf_base::NoMemory;
@@ -25,7 +25,8 @@ impl<D: Disk + Drop> World<D> {
         out: &mut Vec<u8>,
     ) -> Result<(), NoMemory>
         requires world { IsWorld self.now.world }
-        requires command { MayRun (length self.now.world.chunks) command.now }
+        requires command { MayRun (named_in self.now.world) command.now }
+        requires made { IsOfMade self.now.world command.now }
         requires shows { IsShow command.now }
         ensures ran { OnOk result (HasRun self.now.world number command.now out.old.items out.new.items self.now.world) }
         ensures err { OnErr result (HasFailed self.now.world number command.now self.now.world) }

@@ -6,7 +6,7 @@ use pf_fleet::Fleet;
 use pf_liveline::Passes;
 use std::marker::Model;
 
-/// The chunks of a volume, on the disks that they were given, and its hosts.
+/// The groups of a volume, in the order in which they were made, on the disks that they were given, and its hosts.
 #[derive(Drop)]
 pub struct World<D: Disk> {
     pub(crate) sectors: u32,
@@ -14,6 +14,8 @@ pub struct World<D: Disk> {
     pub(crate) format: u8,
     pub(crate) chunks: Vec<ChunkGroup<D>>,
     pub(crate) fleet: Fleet,
+    /// How many `move` lines it was given.
+    pub(crate) moves: u32,
     /// Once a line has decided it.
     pub(crate) kind: Option<Kind>,
     /// Those of its last live line that was not refused.
@@ -28,7 +30,7 @@ impl<D: Disk> Model for World<D> {
 
     ghost Value = { WorldOn D };
 
-    ghost view = { λ w. record { world = record { sectors = w.sectors; names = w.names; format = w.format; chunks = w.chunks.items; fleet = w.fleet; kind = w.kind; passes = w.passes }; spare = reverse w.spare.items } };
+    ghost view = { λ w. record { world = record { sectors = w.sectors; names = w.names; format = w.format; chunks = w.chunks.items; fleet = w.fleet; moves = w.moves; kind = w.kind; passes = w.passes }; spare = reverse w.spare.items } };
 
     ghost invariant = { λ w. vec_len w.spare + 6 * length w.chunks.items ≤ vec_capacity w.spare };
 }

@@ -6,7 +6,7 @@ use Rattle.pf_chunk.specs.Views.{ChunkIs}
 use Rattle.pf_hosts.specs.Steps.{AreReady}
 use Rattle.pf_fleet.specs.Calls.{HasCalled, call_number}
 use Rattle.pf_fleet.specs.Steps.{HasGone, IsFleetOf}
-use Rattle.pf_fleet.specs.Volumes.{hosts_step}
+use Rattle.pf_fleet.specs.Volumes.{all_step}
 use Rattle.pf_world.specs.Steps.{HasFailed, HasRun}
 use Rattle.pf_world.specs.Views.{IsWorld, WorldIs, WorldOn}
 use Rattle.pf_world.proofs.Failing.{on_err}
@@ -19,12 +19,12 @@ use Rattle.pf_world.proofs.world.World.call_line.Goals as goal
 pub call-requires-clause-ready : goal.call-requires-clause-ready
 call-requires-clause-ready g c =
     let w = c.self.inside in
-    ready_given w.sectors w.names w.format w.chunks.items w.fleet w.kind w.passes c.args.self.now.world (ap (λ (o : WorldOn g.row.D.Denot). o.world) c.self.view_is) c.deref_mut.result.now c.deref_mut.ensures.value c.requires.world
+    ready_given w.sectors w.names w.format w.chunks.items w.fleet w.moves w.kind w.passes c.args.self.now.world (ap (λ (o : WorldOn g.row.D.Denot). o.world) c.self.view_is) c.deref_mut.result.now c.deref_mut.ensures.value c.requires.world
 
 pub step_hosts-requires-clause-ready : goal.step_hosts-requires-clause-ready
 step_hosts-requires-clause-ready g c κs within =
     let i = c.self.inside in
-    let old : WorldIs = record { sectors = i.sectors; names = i.names; format = i.format; chunks = i.chunks.items; fleet = i.fleet; kind = i.kind; passes = i.passes } in
+    let old : WorldIs = record { sectors = i.sectors; names = i.names; format = i.format; chunks = i.chunks.items; fleet = i.fleet; moves = i.moves; kind = i.kind; passes = i.passes } in
     let same : old ≡ c.args.self.now.world = ap (λ (o : WorldOn g.row.D.Denot). o.world) c.self.view_is in
     let all : i.chunks.len ≡ length i.chunks.items = omega (arith, c.deref_mut.ensures.len, ap length c.deref_mut.ensures.value) in
     let world : IsWorld old = subst IsWorld (sym same) c.requires.world in
@@ -36,7 +36,7 @@ step_hosts-requires-clause-ready g c κs within =
 pub returns-in_err-step_hosts-in-Ok-clause-err : goal.returns-in_err-step_hosts-in-Ok-clause-err
 returns-in_err-step_hosts-in-Ok-clause-err g c =
     let i = c.self.inside in
-    let old : WorldIs = record { sectors = i.sectors; names = i.names; format = i.format; chunks = i.chunks.items; fleet = i.fleet; kind = i.kind; passes = i.passes } in
+    let old : WorldIs = record { sectors = i.sectors; names = i.names; format = i.format; chunks = i.chunks.items; fleet = i.fleet; moves = i.moves; kind = i.kind; passes = i.passes } in
     let same : old ≡ c.args.self.now.world = ap (λ (o : WorldOn g.row.D.Denot). o.world) c.self.view_is in
     let all : i.chunks.len ≡ length i.chunks.items = omega (arith, c.deref_mut.ensures.len, ap length c.deref_mut.ensures.value) in
     let world : IsWorld old = subst IsWorld (sym same) c.requires.world in
@@ -49,7 +49,7 @@ returns-in_err-step_hosts-in-Ok-clause-err g c =
 pub returns-in_ok-step_hosts-in-Ok-clause-ran : goal.returns-in_ok-step_hosts-in-Ok-clause-ran
 returns-in_ok-step_hosts-in-Ok-clause-ran g c =
     let i = c.self.inside in
-    let old : WorldIs = record { sectors = i.sectors; names = i.names; format = i.format; chunks = i.chunks.items; fleet = i.fleet; kind = i.kind; passes = i.passes } in
+    let old : WorldIs = record { sectors = i.sectors; names = i.names; format = i.format; chunks = i.chunks.items; fleet = i.fleet; moves = i.moves; kind = i.kind; passes = i.passes } in
     let same : old ≡ c.args.self.now.world = ap (λ (o : WorldOn g.row.D.Denot). o.world) c.self.view_is in
     let all : i.chunks.len ≡ length i.chunks.items = omega (arith, c.deref_mut.ensures.len, ap length c.deref_mut.ensures.value) in
     let world : IsWorld old = subst IsWorld (sym same) c.requires.world in
@@ -62,7 +62,7 @@ returns-in_ok-step_hosts-in-Ok-clause-ran g c =
 pub returns-in_ok-step_hosts-in-Ok-clause-err : goal.returns-in_ok-step_hosts-in-Ok-clause-err
 returns-in_ok-step_hosts-in-Ok-clause-err g c =
     let i = c.self.inside in
-    let old : WorldIs = record { sectors = i.sectors; names = i.names; format = i.format; chunks = i.chunks.items; fleet = i.fleet; kind = i.kind; passes = i.passes } in
+    let old : WorldIs = record { sectors = i.sectors; names = i.names; format = i.format; chunks = i.chunks.items; fleet = i.fleet; moves = i.moves; kind = i.kind; passes = i.passes } in
     let same : old ≡ c.args.self.now.world = ap (λ (o : WorldOn g.row.D.Denot). o.world) c.self.view_is in
     let all : i.chunks.len ≡ length i.chunks.items = omega (arith, c.deref_mut.ensures.len, ap length c.deref_mut.ensures.value) in
     let world : IsWorld old = subst IsWorld (sym same) c.requires.world in
@@ -75,7 +75,7 @@ returns-in_ok-step_hosts-in-Ok-clause-err g c =
 pub returns-in-NoMemory-clause-err : goal.returns-in-NoMemory-clause-err
 returns-in-NoMemory-clause-err g c =
     let i = c.self.inside in
-    let old : WorldIs = record { sectors = i.sectors; names = i.names; format = i.format; chunks = i.chunks.items; fleet = i.fleet; kind = i.kind; passes = i.passes } in
+    let old : WorldIs = record { sectors = i.sectors; names = i.names; format = i.format; chunks = i.chunks.items; fleet = i.fleet; moves = i.moves; kind = i.kind; passes = i.passes } in
     let same : old ≡ c.args.self.now.world = ap (λ (o : WorldOn g.row.D.Denot). o.world) c.self.view_is in
     let all : i.chunks.len ≡ length i.chunks.items = omega (arith, c.deref_mut.ensures.len, ap length c.deref_mut.ensures.value) in
     let chunks_are : c.call.new.chunks ≡ i.chunks.items = c.in-Err.ensures.err ∙ c.deref_mut.ensures.value in
@@ -86,7 +86,7 @@ returns-in-NoMemory-clause-err g c =
 pub step_hosts-requires-in_default-clause-ready : goal.step_hosts-requires-in_default-clause-ready
 step_hosts-requires-in_default-clause-ready g c κs within =
     let i = c.self.inside in
-    let old : WorldIs = record { sectors = i.sectors; names = i.names; format = i.format; chunks = i.chunks.items; fleet = i.fleet; kind = i.kind; passes = i.passes } in
+    let old : WorldIs = record { sectors = i.sectors; names = i.names; format = i.format; chunks = i.chunks.items; fleet = i.fleet; moves = i.moves; kind = i.kind; passes = i.passes } in
     let same : old ≡ c.args.self.now.world = ap (λ (o : WorldOn g.row.D.Denot). o.world) c.self.view_is in
     let all : i.chunks.len ≡ length i.chunks.items = omega (arith, c.deref_mut.ensures.len, ap length c.deref_mut.ensures.value) in
     let world : IsWorld old = subst IsWorld (sym same) c.requires.world in
@@ -96,7 +96,7 @@ step_hosts-requires-in_default-clause-ready g c κs within =
 pub step_hosts-requires-in_default-clause-fleet : goal.step_hosts-requires-in_default-clause-fleet
 step_hosts-requires-in_default-clause-fleet g c κs within =
     let i = c.self.inside in
-    let old : WorldIs = record { sectors = i.sectors; names = i.names; format = i.format; chunks = i.chunks.items; fleet = i.fleet; kind = i.kind; passes = i.passes } in
+    let old : WorldIs = record { sectors = i.sectors; names = i.names; format = i.format; chunks = i.chunks.items; fleet = i.fleet; moves = i.moves; kind = i.kind; passes = i.passes } in
     let same : old ≡ c.args.self.now.world = ap (λ (o : WorldOn g.row.D.Denot). o.world) c.self.view_is in
     let all : i.chunks.len ≡ length i.chunks.items = omega (arith, c.deref_mut.ensures.len, ap length c.deref_mut.ensures.value) in
     let world : IsWorld old = subst IsWorld (sym same) c.requires.world in
@@ -107,7 +107,7 @@ step_hosts-requires-in_default-clause-fleet g c κs within =
 pub returns-in_err-step_hosts-in_default : goal.returns-in_err-step_hosts-in_default
 returns-in_err-step_hosts-in_default g c =
     let i = c.self.inside in
-    let old : WorldIs = record { sectors = i.sectors; names = i.names; format = i.format; chunks = i.chunks.items; fleet = i.fleet; kind = i.kind; passes = i.passes } in
+    let old : WorldIs = record { sectors = i.sectors; names = i.names; format = i.format; chunks = i.chunks.items; fleet = i.fleet; moves = i.moves; kind = i.kind; passes = i.passes } in
     let same : old ≡ c.args.self.now.world = ap (λ (o : WorldOn g.row.D.Denot). o.world) c.self.view_is in
     let all : i.chunks.len ≡ length i.chunks.items = omega (arith, c.deref_mut.ensures.len, ap length c.deref_mut.ensures.value) in
     let world : IsWorld old = subst IsWorld (sym same) c.requires.world in
@@ -123,7 +123,7 @@ returns-in_err-step_hosts-in_default g c =
 pub returns-in_ok-step_hosts-in_default : goal.returns-in_ok-step_hosts-in_default
 returns-in_ok-step_hosts-in_default g c =
     let i = c.self.inside in
-    let old : WorldIs = record { sectors = i.sectors; names = i.names; format = i.format; chunks = i.chunks.items; fleet = i.fleet; kind = i.kind; passes = i.passes } in
+    let old : WorldIs = record { sectors = i.sectors; names = i.names; format = i.format; chunks = i.chunks.items; fleet = i.fleet; moves = i.moves; kind = i.kind; passes = i.passes } in
     let same : old ≡ c.args.self.now.world = ap (λ (o : WorldOn g.row.D.Denot). o.world) c.self.view_is in
     let all : i.chunks.len ≡ length i.chunks.items = omega (arith, c.deref_mut.ensures.len, ap length c.deref_mut.ensures.value) in
     let world : IsWorld old = subst IsWorld (sym same) c.requires.world in
@@ -137,7 +137,7 @@ returns-in_ok-step_hosts-in_default g c =
     record {
       ran = on_ok c.put_refusal.result _ _ (λ put. (subst (λ (x : WorldIs). HasRun x c.args.number (commands.Call c.args.mount c.args.call.now) before after c.step_hosts-in_default.new.self.world) same
           (refused_runs old c.args.number before world i.chunks.len all c.args.mount c.args.call.now c.call.new.chunks c.call.new.self c.step_hosts-in_default.new.self.world c.step_hosts-in_default.ensures.others chunks_are fleet_is c.in-Err.fault c.in_default.not-NoMemory c.in-Err.ensures.cause later after
-          (subst (λ text. HasGone hosts_step (handed old i.chunks.len c.call.new.chunks c.call.new.self i.kind).chunks c.call.new.self text c.step_hosts-in_default.new.self.world.chunks c.step_hosts-in_default.new.self.world.fleet later) unsaid went) c.in_ok-step_hosts-in_default.ensures.same
+          (subst (λ text. HasGone all_step (handed old i.chunks.len c.call.new.chunks c.call.new.self i.kind).chunks c.call.new.self text c.step_hosts-in_default.new.self.world.chunks c.step_hosts-in_default.new.self.world.fleet later) unsaid went) c.in_ok-step_hosts-in_default.ensures.same
           (answer_put (refusal_text (call_number c.in-Err.fault)) c.args.number later after (no_call_said c.in-Err.fault c.in_default.not-NoMemory)
           (subst (λ n. IfSome (refusal_text n) (λ text. after ≡ later ++ line_of c.args.number text)) c.number.ensures put))))) c.put_refusal.ensures.ok;
       err = on_err c.put_refusal.result _ (subst (λ (x : WorldIs). HasFailed x c.args.number (commands.Call c.args.mount c.args.call.now) c.step_hosts-in_default.new.self.world) same

@@ -17,7 +17,7 @@ pub returns-clause-ran : goal.returns-clause-ran
 returns-clause-ran g c =
     let i = c.self.inside in
     let before = c.args.out.now.items in
-    let old : WorldIs = record { sectors = i.sectors; names = i.names; format = i.format; chunks = i.chunks.items; fleet = i.fleet; kind = i.kind; passes = i.passes } in
+    let old : WorldIs = record { sectors = i.sectors; names = i.names; format = i.format; chunks = i.chunks.items; fleet = i.fleet; moves = i.moves; kind = i.kind; passes = i.passes } in
     let same : old ≡ c.args.self.now.world = ap (λ (o : WorldOn g.row.D.Denot). o.world) c.self.view_is in
     let world : IsWorld old = subst IsWorld (sym same) c.requires.world in
     let next : WorldIs = becomes old old.chunks c.kill.new.self old.kind in

@@ -20,7 +20,7 @@ use Rattle.pf_world.proofs.world.World.mount_line.Goals as goal
 pub returns-then-not-is_mounted-clause-ran : goal.returns-then-not-is_mounted-clause-ran
 returns-then-not-is_mounted-clause-ran g c =
     let i = c.self.inside in
-    let old : WorldIs = record { sectors = i.sectors; names = i.names; format = i.format; chunks = i.chunks.items; fleet = i.fleet; kind = i.kind; passes = i.passes } in
+    let old : WorldIs = record { sectors = i.sectors; names = i.names; format = i.format; chunks = i.chunks.items; fleet = i.fleet; moves = i.moves; kind = i.kind; passes = i.passes } in
     let same : old ≡ c.args.self.now.world = ap (λ (o : WorldOn g.row.D.Denot). o.world) c.self.view_is in
     let raw : decided i.kind Mounted ≡ Raw = sym c.decided-kind.ensures ∙ raw_kind c.decided-kind.result (sym c.if-not-is_mounted.ensures) in
     on_ok c.put_refusal.result _ _ (λ put.
@@ -39,12 +39,12 @@ returns-then-not-is_mounted-clause-err g c =
 pub mount-requires-clause-ready : goal.mount-requires-clause-ready
 mount-requires-clause-ready g c =
     let w = c.self.inside in
-    ready_given w.sectors w.names w.format w.chunks.items w.fleet w.kind w.passes c.args.self.now.world (ap (λ (o : WorldOn g.row.D.Denot). o.world) c.self.view_is) c.deref_mut.result.now c.deref_mut.ensures.value c.requires.world
+    ready_given w.sectors w.names w.format w.chunks.items w.fleet w.moves w.kind w.passes c.args.self.now.world (ap (λ (o : WorldOn g.row.D.Denot). o.world) c.self.view_is) c.deref_mut.result.now c.deref_mut.ensures.value c.requires.world
 
 pub step_hosts-requires-clause-ready : goal.step_hosts-requires-clause-ready
 step_hosts-requires-clause-ready g c κs within =
     let i = c.self.inside in
-    let old : WorldIs = record { sectors = i.sectors; names = i.names; format = i.format; chunks = i.chunks.items; fleet = i.fleet; kind = i.kind; passes = i.passes } in
+    let old : WorldIs = record { sectors = i.sectors; names = i.names; format = i.format; chunks = i.chunks.items; fleet = i.fleet; moves = i.moves; kind = i.kind; passes = i.passes } in
     let joined : HasJoined i.chunks.items i.fleet c.in-Ok.mount c.mount.new.chunks c.mount.new.self =
     subst (λ (cs : List ChunkIs). HasJoined cs i.fleet c.in-Ok.mount c.mount.new.chunks c.mount.new.self) c.deref_mut.ensures.value c.in-Ok.ensures.joined in
     subst (λ (w : WorldIs). AreReady w.chunks)
@@ -54,7 +54,7 @@ step_hosts-requires-clause-ready g c κs within =
 pub returns-in_err-step_hosts-in-Ok-clause-err : goal.returns-in_err-step_hosts-in-Ok-clause-err
 returns-in_err-step_hosts-in-Ok-clause-err g c =
     let i = c.self.inside in
-    let old : WorldIs = record { sectors = i.sectors; names = i.names; format = i.format; chunks = i.chunks.items; fleet = i.fleet; kind = i.kind; passes = i.passes } in
+    let old : WorldIs = record { sectors = i.sectors; names = i.names; format = i.format; chunks = i.chunks.items; fleet = i.fleet; moves = i.moves; kind = i.kind; passes = i.passes } in
     let same : old ≡ c.args.self.now.world = ap (λ (o : WorldOn g.row.D.Denot). o.world) c.self.view_is in
     let all : i.chunks.len ≡ length i.chunks.items = omega (arith, c.deref_mut.ensures.len, ap length c.deref_mut.ensures.value) in
     let world : IsWorld old = subst IsWorld (sym same) c.requires.world in
@@ -68,7 +68,7 @@ returns-in_err-step_hosts-in-Ok-clause-err g c =
 pub returns-in_ok-step_hosts-in-Ok-clause-ran : goal.returns-in_ok-step_hosts-in-Ok-clause-ran
 returns-in_ok-step_hosts-in-Ok-clause-ran g c =
     let i = c.self.inside in
-    let old : WorldIs = record { sectors = i.sectors; names = i.names; format = i.format; chunks = i.chunks.items; fleet = i.fleet; kind = i.kind; passes = i.passes } in
+    let old : WorldIs = record { sectors = i.sectors; names = i.names; format = i.format; chunks = i.chunks.items; fleet = i.fleet; moves = i.moves; kind = i.kind; passes = i.passes } in
     let same : old ≡ c.args.self.now.world = ap (λ (o : WorldOn g.row.D.Denot). o.world) c.self.view_is in
     let all : i.chunks.len ≡ length i.chunks.items = omega (arith, c.deref_mut.ensures.len, ap length c.deref_mut.ensures.value) in
     let world : IsWorld old = subst IsWorld (sym same) c.requires.world in
@@ -82,7 +82,7 @@ returns-in_ok-step_hosts-in-Ok-clause-ran g c =
 pub returns-in_ok-step_hosts-in-Ok-clause-err : goal.returns-in_ok-step_hosts-in-Ok-clause-err
 returns-in_ok-step_hosts-in-Ok-clause-err g c =
     let i = c.self.inside in
-    let old : WorldIs = record { sectors = i.sectors; names = i.names; format = i.format; chunks = i.chunks.items; fleet = i.fleet; kind = i.kind; passes = i.passes } in
+    let old : WorldIs = record { sectors = i.sectors; names = i.names; format = i.format; chunks = i.chunks.items; fleet = i.fleet; moves = i.moves; kind = i.kind; passes = i.passes } in
     let same : old ≡ c.args.self.now.world = ap (λ (o : WorldOn g.row.D.Denot). o.world) c.self.view_is in
     let all : i.chunks.len ≡ length i.chunks.items = omega (arith, c.deref_mut.ensures.len, ap length c.deref_mut.ensures.value) in
     let world : IsWorld old = subst IsWorld (sym same) c.requires.world in
@@ -96,7 +96,7 @@ returns-in_ok-step_hosts-in-Ok-clause-err g c =
 pub returns-in-NoMemory-clause-err : goal.returns-in-NoMemory-clause-err
 returns-in-NoMemory-clause-err g c =
     let i = c.self.inside in
-    let old : WorldIs = record { sectors = i.sectors; names = i.names; format = i.format; chunks = i.chunks.items; fleet = i.fleet; kind = i.kind; passes = i.passes } in
+    let old : WorldIs = record { sectors = i.sectors; names = i.names; format = i.format; chunks = i.chunks.items; fleet = i.fleet; moves = i.moves; kind = i.kind; passes = i.passes } in
     let same : old ≡ c.args.self.now.world = ap (λ (o : WorldOn g.row.D.Denot). o.world) c.self.view_is in
     let all : i.chunks.len ≡ length i.chunks.items = omega (arith, c.deref_mut.ensures.len, ap length c.deref_mut.ensures.value) in
     let kind = Some c.decided-kind.result in
@@ -108,7 +108,7 @@ returns-in-NoMemory-clause-err g c =
 pub step_hosts-requires-in_default-clause-ready : goal.step_hosts-requires-in_default-clause-ready
 step_hosts-requires-in_default-clause-ready g c κs within =
     let i = c.self.inside in
-    let old : WorldIs = record { sectors = i.sectors; names = i.names; format = i.format; chunks = i.chunks.items; fleet = i.fleet; kind = i.kind; passes = i.passes } in
+    let old : WorldIs = record { sectors = i.sectors; names = i.names; format = i.format; chunks = i.chunks.items; fleet = i.fleet; moves = i.moves; kind = i.kind; passes = i.passes } in
     let same : old ≡ c.args.self.now.world = ap (λ (o : WorldOn g.row.D.Denot). o.world) c.self.view_is in
     let all : i.chunks.len ≡ length i.chunks.items = omega (arith, c.deref_mut.ensures.len, ap length c.deref_mut.ensures.value) in
     let world : IsWorld old = subst IsWorld (sym same) c.requires.world in
@@ -118,7 +118,7 @@ step_hosts-requires-in_default-clause-ready g c κs within =
 pub returns-in_err-step_hosts-in_default : goal.returns-in_err-step_hosts-in_default
 returns-in_err-step_hosts-in_default g c =
     let i = c.self.inside in
-    let old : WorldIs = record { sectors = i.sectors; names = i.names; format = i.format; chunks = i.chunks.items; fleet = i.fleet; kind = i.kind; passes = i.passes } in
+    let old : WorldIs = record { sectors = i.sectors; names = i.names; format = i.format; chunks = i.chunks.items; fleet = i.fleet; moves = i.moves; kind = i.kind; passes = i.passes } in
     let same : old ≡ c.args.self.now.world = ap (λ (o : WorldOn g.row.D.Denot). o.world) c.self.view_is in
     let all : i.chunks.len ≡ length i.chunks.items = omega (arith, c.deref_mut.ensures.len, ap length c.deref_mut.ensures.value) in
     let world : IsWorld old = subst IsWorld (sym same) c.requires.world in
@@ -135,7 +135,7 @@ returns-in_err-step_hosts-in_default g c =
 pub returns-in_ok-step_hosts-in_default : goal.returns-in_ok-step_hosts-in_default
 returns-in_ok-step_hosts-in_default g c =
     let i = c.self.inside in
-    let old : WorldIs = record { sectors = i.sectors; names = i.names; format = i.format; chunks = i.chunks.items; fleet = i.fleet; kind = i.kind; passes = i.passes } in
+    let old : WorldIs = record { sectors = i.sectors; names = i.names; format = i.format; chunks = i.chunks.items; fleet = i.fleet; moves = i.moves; kind = i.kind; passes = i.passes } in
     let same : old ≡ c.args.self.now.world = ap (λ (o : WorldOn g.row.D.Denot). o.world) c.self.view_is in
     let all : i.chunks.len ≡ length i.chunks.items = omega (arith, c.deref_mut.ensures.len, ap length c.deref_mut.ensures.value) in
     let world : IsWorld old = subst IsWorld (sym same) c.requires.world in

@@ -4,6 +4,8 @@ use Rattle.std.proofs.lemmas.List.{reverse-reverse}
 use Rattle.pf_protocol.specs.Answers.{IsSetup}
 use Rattle.pf_group.specs.Making.{setup_with}
 use Rattle.pf_fleet.specs.Steps.{FleetIs}
+use Rattle.pf_move.specs.Routes.{AreFirst}
+use Rattle.pf_volume.specs.Volumes.{Extent}
 use Rattle.pf_world.specs.Views.{WorldIs, WorldOn}
 use Rattle.pf_world.specs.Disks.{six_list}
 use Rattle.pf_world.proofs.Sixes.{length_sixes}
@@ -16,8 +18,9 @@ new-requires-2 g c = volume_extent c.args.chunks c.args.sectors c.args.names c.a
 pub loop-number-init : goal.loop-number-init
 loop-number-init g c = record {
   begun = begun_none g.D.Disk.faults g.D.Disk.tells c.args.disks.items (reverse c.reverse.new.self.items) c.args.sectors c.args.names c.args.format c.new.result.items c.new-3.result c.new.ensures.items
-      (ap reverse c.reverse.ensures.items ∙ reverse-reverse c.args.disks.items) (ap (λ (f : FleetIs). f.hosts) c.new-3.ensures) (ap (λ (f : FleetIs). f.calls) c.new-3.ensures);
-  extent = ap (λ (f : FleetIs). f.volume) c.new-3.ensures ∙ c.new-2.ensures;
+      (ap reverse c.reverse.ensures.items ∙ reverse-reverse c.args.disks.items) (ap (λ (f : FleetIs). f.hosts) c.new-3.ensures.new) (ap (λ (f : FleetIs). f.calls) c.new-3.ensures.new) (ap (λ (f : FleetIs). f.mover) c.new-3.ensures.new);
+  extent = ap (λ (f : FleetIs). f.volume) c.new-3.ensures.new ∙ c.new-2.ensures;
+  routes = subst (λ (v : Extent). AreFirst v.chunks c.new-3.result.routes) c.new-2.ensures c.new-3.ensures.routes;
 }
 
 pub add-requires-clause-setup : goal.add-requires-clause-setup
@@ -49,13 +52,14 @@ loop-number-preserved g c = record {
   begun = subst (Begun g.D.Disk.faults g.D.Disk.tells c.args.disks.items c.args.sectors c.args.names c.args.format (c.loop-number.number + 1) c.add.new.self) (sym c.unless_done-answer.ensures)
       (begun_more g.D.Disk.faults g.D.Disk.tells c.args.disks.items c.args.sectors c.args.names c.args.format c.loop-number.number c.loop-number.world c.add.new.self c.loop-number.answer c.in-Ok.made c.loop-number.invariant.begun c.in-Ok.ensures.added);
   extent = ap (λ (w : WorldIs). w.fleet.volume) c.in-Ok.ensures.added.world ∙ c.loop-number.invariant.extent;
+  routes = subst (AreFirst c.args.chunks) (sym (ap (λ (w : WorldIs). w.fleet.routes) c.in-Ok.ensures.added.world)) c.loop-number.invariant.routes;
 }
 
 pub returns-clause-made : goal.returns-clause-made
 returns-clause-made g c =
     let all : c.loop-number.number ≡ c.args.chunks = omega (arith, c.loop-number-test.false, c.loop-number.auto.number-end) in
     let b = subst (λ n. Begun g.D.Disk.faults g.D.Disk.tells c.args.disks.items c.args.sectors c.args.names c.args.format n c.loop-number.world c.loop-number.answer) all c.loop-number.invariant.begun in
-    all_made g.D.Disk.faults g.D.Disk.tells c.args.disks.items c.args.chunks c.args.sectors c.args.names c.args.format c.loop-number.world c.loop-number.answer b c.requires.volume c.loop-number.invariant.extent
+    all_made g.D.Disk.faults g.D.Disk.tells c.args.disks.items c.args.chunks c.args.sectors c.args.names c.args.format c.loop-number.world c.loop-number.answer b c.requires.volume c.loop-number.invariant.extent c.loop-number.invariant.routes
 
 pub returns-clause-fresh : goal.returns-clause-fresh
 returns-clause-fresh g c = all_new g.D.Disk.faults g.D.Disk.tells c.args.disks.items c.loop-number.number c.args.sectors c.args.names c.args.format c.loop-number.world c.loop-number.answer c.loop-number.invariant.begun
