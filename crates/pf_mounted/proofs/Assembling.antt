@@ -1,72 +1,56 @@
--- The positions of a run's journal lie in the groups of its chunks.
-use Rattle.std.proofs.Common.{◌≡◌, ℕ, zero, suc, ◌+◌, ◌*◌, ◌<◌, ◌≤◌, List, [], take, length, Option, Some, None, slice_get, arith, refl, sym, subst, ◌∙◌}
-use Rattle.std.proofs.Math.Nat.{div-lt_iff_lt-mul}
-use Rattle.std.proofs.lemmas.Option.{none-some}
-use Rattle.pf_entry.specs.Sets.{empty}
-use Rattle.pf_network.proofs.Lists.{something_there}
-use Rattle.pf_protocol.specs.Answers.{IsLegal}
-use Rattle.pf_protocol.specs.Groups.{Answered}
-use Rattle.pf_protocol.proofs.ForMoments.{legal_before}
-use Rattle.pf_volume.specs.Volumes.{Extent, IsVolume, size_of}
-use Rattle.pf_positions.specs.Deeds.{Deed, Fits, Groups}
+-- The positions of a run's journal lie in chunks that move.
+use Rattle.std.proofs.Common.{◌≡◌, ℕ, ◌+◌, ◌*◌, ◌/◌, ◌%◌, ◌<◌, ◌≤◌, List, Some, slice_get, arith, ap, ◌∙◌}
+use Rattle.std.proofs.lemmas.Nat.{mod-mul-add}
+use Rattle.pf_entry.specs.Ops.{Sector}
+use Rattle.pf_protocol.specs.Ports.{Submission}
+use Rattle.pf_registers.specs.Orders.{given}
+use Rattle.pf_positions.specs.Deeds.{Deed, Groups}
 use Rattle.pf_positions.specs.Homes.{Home, chunk_of, sector_of}
-use Rattle.pf_positions.specs.Hosted.{AreAlone, IsHosted}
-use Rattle.pf_positions.specs.Moves.{mover_into}
 use Rattle.pf_positions.specs.Volumes.{half_at, home_of}
-use Rattle.pf_positions.proofs.Answers.{prefix_taken}
-use Rattle.pf_positions.proofs.Volumes.{inside}
+use Rattle.pf_epochs.specs.Positions.{IsRoutedPosition}
+use Rattle.pf_epochs.specs.Routed.{IsRouted}
 use Rattle.pf_journal.specs.Sectors.{block_in}
 use Rattle.pf_journal.proofs.Spelled.{zeros}
-use Rattle.pf_chunk.specs.Runs.{ChunkRun}
-use Rattle.pf_hosts.specs.Moments.{Moment}
-use Rattle.pf_mounted.specs.Handing.{reached}
-use Rattle.pf_mounted.specs.Hosted.{groups_of, history_of, setup_of}
-use Rattle.pf_mounted.proofs.Sizing.{AreChunks}
+use Rattle.pf_volume.specs.Volumes.{Extent, IsVolume, size_of}
+use Rattle.pf_mounted.proofs.Owned.{in_volume}
 
--- nothing was ever read
-no_answer : Answered
-no_answer = record { number = 0; server = 0; term = 0; range = record { first = 0; count = 0 }; base = 0; applied = empty; bytes = [] }
+-- eights in eights
+eights : (n k : ℕ) → 0 < k → (8 * n) % (8 * k) ≡ 8 * (n % k)
+eights n k some =
+    let parts : n ≡ k * (n / k) + n % k = omega (arith, some) in
+    let less : n % k < k = omega (arith, some) in
+    let whole : 8 * n ≡ (n / k) * (8 * k) + 8 * (n % k) = grind (arith, parts) in
+    ap (λ m. m % (8 * k)) whole ∙ mod-mul-add (n / k) (8 * k) (8 * (n % k)) (omega (arith, less))
 
-module _ (v : Extent) (answer_at : ℕ → Answered) (chunks : List ChunkRun) (told : List Moment) (volume : IsVolume v) (room : 4112 ≤ size_of v) (are : AreChunks v chunks)
-    (legal : (k : ℕ) (c : ChunkRun) → slice_get chunks k ≡ Some c → IsLegal c.group.setup c.group.history) where
-  abbrev groups : Groups
-  groups = groups_of v answer_at chunks told
+module _ (v : Extent) (volume : IsVolume v) (room : 4112 ≤ size_of v) (groups : Groups) (q : ℕ) (low : q < 256) where
+  abbrev home : Home
+  home = home_of v.sectors q
 
-  module _ (q : ℕ) (low : q < 256) where
-    abbrev home : Home
-    home = home_of v.sectors q
+  piece_of : ℕ → ℕ
+  piece_of half = (1 + 2 * q + half) % volume.blocks.0
 
-    in_volume : (half : ℕ) → half < 2 → home.chunk half < length chunks
-    in_volume half few =
-        let count = are.count in
-        let some = volume.some_sectors in
-        let far : half_at q half < v.chunks * v.sectors = omega (arith, low, few, room) in
-        subst (λ n. home.chunk half < n) (sym count) ((div-lt_iff_lt-mul (omega (arith, some))).1 far)
+  its_piece : (half : ℕ) → home.first half ≡ 8 * piece_of half
+  unfolding piece_of
+  its_piece half =
+      let is = volume.blocks.1 in
+      let some = volume.some_sectors in
+      ap (λ s. half_at q half % s) is ∙ eights (1 + 2 * q + half) volume.blocks.0 (omega (arith, is, some))
 
-    its_legal : (k : ℕ) (o : Option ChunkRun) → slice_get chunks k ≡ o → k < length chunks → IsLegal (setup_of o) (take (reached k told) (history_of o))
-    its_legal k None at within = absurd (let there = something_there chunks k within in none-some there.0 (sym at ∙ there.1))
-    its_legal k (Some c) at within = legal_before c.group.setup (take (reached k told) c.group.history) c.group.history (prefix_taken (reached k told) c.group.history) (legal k c at)
+  piece_low : (half : ℕ) → 8 * piece_of half < v.sectors
+  unfolding piece_of
+  piece_low half =
+      let is = volume.blocks.1 in
+      let some = volume.some_sectors in
+      let less : (1 + 2 * q + half) % volume.blocks.0 < volume.blocks.0 = omega (arith, is, some) in
+      omega (arith, less, is)
 
-    its_size : (k : ℕ) (o : Option ChunkRun) → slice_get chunks k ≡ o → k < length chunks → (setup_of o).chunk ≡ v.sectors
-    its_size k None at within = absurd (let there = something_there chunks k within in none-some there.0 (sym at ∙ there.1))
-    its_size k (Some c) at within = are.sized k c at
-
-    module _ (ds : List Deed) (fits : (k : ℕ) (c : ChunkRun) → slice_get chunks k ≡ Some c → Fits groups ds k)
-        (alone : (block : ℕ) → block < 16 → AreAlone (groups.history (chunk_of home block) 0) [] (groups.writes (chunk_of home block) 0 block) (sector_of home block)) where
-      by_epoch : (block epoch : ℕ) → block < 16
-          → AreAlone (groups.history (chunk_of home block) epoch) (mover_into groups (chunk_of home block) epoch) (groups.writes (chunk_of home block) epoch block) (sector_of home block)
-      by_epoch block zero few = alone block few
-      by_epoch block (suc epoch) few = alone block few
-
-      pub its_hosted : IsHosted groups block_in home ds
-      its_hosted = record {
-        zeros = zeros;
-        legal = λ half epoch few first. its_legal (home.chunk half) (slice_get chunks (home.chunk half)) refl (in_volume half few);
-        inside = λ half epoch few first.
-            subst (λ n. home.first half + 8 ≤ n) (sym (its_size (home.chunk half) (slice_get chunks (home.chunk half)) refl (in_volume half few)))
-            (inside v.sectors volume.blocks.0 q half volume.blocks.1 (let some = volume.some_sectors in omega (arith, some, volume.blocks.1)));
-        fits = λ half few. let there = something_there chunks (home.chunk half) (in_volume half few) in fits (home.chunk half) there.0 there.1;
-        alone = λ block epoch few first. by_epoch block epoch few;
-        last = λ half epoch. no_answer;
-        moved = λ half epoch few past. absurd (omega (arith, past));
-      }
+  pub its_routed : (ds : List Deed) → ((chunk piece : ℕ) → chunk < v.chunks → 8 * piece < v.sectors → IsRouted groups ds chunk piece)
+      → ((block epoch client k : ℕ) (a : Submission) (bytes : Sector) → block < 16 → slice_get (groups.writes (chunk_of home block) epoch client) k ≡ Some a → given a.op (sector_of home block) ≡ Some bytes → client ≡ block)
+      → IsRoutedPosition groups block_in home ds
+  its_routed ds routed own = record {
+    zeros = zeros;
+    piece = piece_of;
+    at_piece = λ half few. its_piece half;
+    routed = λ half few. routed (home.chunk half) (piece_of half) (in_volume v volume room q half low few) (piece_low half);
+    own = λ block epoch client k a bytes few le at gives. own block epoch client k a bytes few at gives;
+  }

@@ -6,7 +6,7 @@ use Rattle.pf_volume.specs.Volumes.{IsVolume}
 use Rattle.pf_tree.specs.declared.calls.FileCall.{FileCall}
 use Rattle.pf_files.specs.declared.answers.CallAnswer.{CallAnswer}
 use Rattle.pf_paxos.specs.Journals.{AreAllRegisters}
-use Rattle.pf_positions.proofs.Volumes.{journal}
+use Rattle.pf_epochs.proofs.Positions.{routed_journal}
 use Rattle.pf_journal.specs.Sectors.{block_in}
 use Rattle.pf_mount.specs.Mounts.{MountIs}
 use Rattle.pf_hosts.specs.Moments.{Moment, Begins, Ends}
@@ -28,7 +28,7 @@ use Rattle.pf_mounted.proofs.Lawful.{answers, asks_told, can_be, known}
 use Rattle.pf_mounted.proofs.Missing.{planned_late_of_all}
 use Rattle.pf_mounted.proofs.Sizing.{has_room}
 use Rattle.pf_mounted.proofs.Standing.{each_done, hosts_are_told}
-use Rattle.pf_mounted.proofs.Together.{held}
+use Rattle.pf_mounted.proofs.Together.{registers_held}
 
 module _ (halts : List Halt) (sessions : List Session) (lines : List Line) (script : IsScript lines) (lawful : IsLawfulRun (world_run halts sessions lines).world) (volume : IsVolume (world_run halts sessions lines).world.volume.extent)
     (some : 0 < length (world_run halts sessions lines).world.volume.hosts) where
@@ -39,8 +39,7 @@ module _ (halts : List Halt) (sessions : List Session) (lines : List Line) (scri
       let chunks = run.world.volume.chunks in
       let its = answers halts sessions lines script lawful in
       let room = has_room halts sessions lines script in
-      journal (groups_of v its chunks run.told) block_in v.sectors 256 (deeds v its run.told) (doings v its run.told)
-      (held v chunks its run.told (known halts sessions lines script lawful) volume (room.room some) room.chunks (mounts_alone halts sessions lines script (room.mounted some)) (calls_of_words halts sessions lines script) (asks_told halts sessions lines script lawful))
+      registers_held v chunks its run.told (known halts sessions lines script lawful) volume (room.room some) room.chunks (mounts_alone halts sessions lines script (room.mounted some)) (calls_of_words halts sessions lines script) (asks_told halts sessions lines script lawful)
 
   pub planned_late : (before mid after : List Moment) (m : ℕ) (call : FileCall) → (world_run halts sessions lines).told ≡ before ++ Begins m call ∷ (mid ++ after)
       → (mount : MountIs) → mount_after (world_run halts sessions lines).world.volume.extent (before ++ Begins m call ∷ mid) m ≡ Some mount → IsPlanned mount.work
@@ -57,7 +56,7 @@ module _ (halts : List Halt) (sessions : List Session) (lines : List Line) (scri
   registers =
       let run = world_run halts sessions lines in
       let v = run.world.volume.extent in
-      journal (groups_of v is.answer_at run.world.volume.chunks run.told) block_in v.sectors 256 (deeds v is.answer_at run.told) (doings v is.answer_at run.told) is.hosted
+      routed_journal (groups_of v is.answer_at run.world.volume.chunks run.told) block_in v.sectors 256 (deeds v is.answer_at run.told) (doings v is.answer_at run.told) is.routed
 
   numbers : (m : ℕ) (mount : MountIs) → mount_after (world_run halts sessions lines).world.volume.extent (world_run halts sessions lines).told m ≡ Some mount → mount.files.calls < 2 ^ 32
   numbers m mount made = let most = calls_of_lines halts sessions lines m mount made in omega (arith, most, few)

@@ -1,7 +1,7 @@
 -- The deeds of a part of a run: what they bring of a chunk, and the places that they hand on.
-use Rattle.std.proofs.Common.{◌≡◌, ℕ, suc, ◌+◌, ◌<◌, ◌≤◌, inl, inr, List, length, take, Option, Some, slice_get, arith, refl, ap, ◌∙◌}
+use Rattle.std.proofs.Common.{◌≡◌, ℕ, suc, ◌+◌, ◌<◌, ◌≤◌, inl, inr, List, length, take, Option, Some, slice_get, arith, refl, ap, ◌∙◌, drop, sym, subst, take-append-drop}
 use Rattle.std.proofs.lemmas.Bool.{cases_lt}
-use Rattle.std.proofs.lemmas.Option.{none-some}
+use Rattle.std.proofs.lemmas.Option.{none-some, same_Some}
 use Rattle.pf_base.specs.Asks.{Answers, chunk_of}
 use Rattle.pf_base.specs.Span.{Span}
 use Rattle.pf_base.specs.declared.asks.Ask.{Ask}
@@ -18,56 +18,59 @@ use Rattle.pf_volume.specs.Volumes.{Extent}
 use Rattle.pf_hosts.specs.Moments.{Heard, Moment, Hands, Turns}
 use Rattle.pf_mounted.specs.Handing.{reach_at, reached}
 use Rattle.pf_mounted.specs.Journals.{client_of, deeds, port_ask, port_reply}
+use Rattle.pf_mounted.specs.Epochs.{epoch_of, group_at, serving}
+use Rattle.pf_mounted.specs.Movers.{IsAtRest}
 use Rattle.pf_mounted.specs.Mounts.{Life, last_ask, life_of}
 use Rattle.pf_mounted.proofs.Dealing.{IsTaken, submitted_at, taken_at}
-use Rattle.pf_mounted.proofs.Following.{small_turn}
+use Rattle.pf_mounted.proofs.Following.{small_mount, small_turn}
+use Rattle.pf_mounted.proofs.Epoching.{AreBegun, begun_until, epoch_rises, group_stays, home_group, same_home, some_group}
 use Rattle.pf_mounted.proofs.Known.{IsKnown}
 use Rattle.pf_mounted.proofs.Listing.{before_end, count, count_next, count_rises, deed_of, deeds_at}
-use Rattle.pf_mounted.proofs.Placing.{get_take, take_fewer}
+use Rattle.pf_mounted.proofs.Placing.{get_take, take_fewer, some_within, take_goes_on}
 use Rattle.pf_mounted.proofs.Reached.{hands_reach, heard_reaches, reaches}
 
 -- Replies
 
 -- a write that was acknowledged
-pub record IsPut (ask : Ask) (by : ℕ) (reply : Reply) (chunk epoch its : ℕ) (op : Op) : Type 0 where
+pub record IsPut (ask : Ask) (now by : ℕ) (reply : Reply) (chunk epoch its : ℕ) (op : Op) : Type 0 where
   pub span : Span
   pub sectors : List Sector
   pub asked : ask ≡ Write chunk span sectors
   pub replied : reply ≡ Written
-  pub first : epoch ≡ 0
+  pub first : epoch ≡ now
   pub since : by ≡ its
   pub same : op ≡ ops.Write span sectors
 
-pub put_is : (ask : Ask) (by : ℕ) (answer : Answered) (reply : Reply) (chunk epoch its : ℕ) (op : Op) → port_reply ask by answer reply ≡ Some (Put chunk epoch its op) → IsPut ask by reply chunk epoch its op
-put_is (Write k span sectors) by answer Written chunk epoch its op is = record { span = span; sectors = sectors; asked = ap (λ i. Write i span sectors) (cc); replied = refl; first = cc; since = cc; same = cc }
-put_is (Write k span sectors) by answer (Bytes read) chunk epoch its op is = absurd (none-some (Put chunk epoch its op) is)
-put_is (Read k span) by answer Written chunk epoch its op is = absurd (none-some (Put chunk epoch its op) is)
-put_is (Read k span) by answer (Bytes read) chunk epoch its op is = absurd (cc)
+pub put_is : (ask : Ask) (now by : ℕ) (answer : Answered) (reply : Reply) (chunk epoch its : ℕ) (op : Op) → port_reply ask now by answer reply ≡ Some (Put chunk epoch its op) → IsPut ask now by reply chunk epoch its op
+put_is (Write k span sectors) now by answer Written chunk epoch its op is = record { span = span; sectors = sectors; asked = ap (λ i. Write i span sectors) (cc); replied = refl; first = cc; since = cc; same = cc }
+put_is (Write k span sectors) now by answer (Bytes read) chunk epoch its op is = absurd (none-some (Put chunk epoch its op) is)
+put_is (Read k span) now by answer Written chunk epoch its op is = absurd (none-some (Put chunk epoch its op) is)
+put_is (Read k span) now by answer (Bytes read) chunk epoch its op is = absurd (cc)
 
 -- a read that was answered
-pub record IsGot (ask : Ask) (by : ℕ) (answer : Answered) (reply : Reply) (chunk epoch its : ℕ) (read : Answered) : Type 0 where
+pub record IsGot (ask : Ask) (now by : ℕ) (answer : Answered) (reply : Reply) (chunk epoch its : ℕ) (read : Answered) : Type 0 where
   pub span : Span
   pub sectors : List Sector
   pub asked : ask ≡ Read chunk span
   pub replied : reply ≡ Bytes sectors
-  pub first : epoch ≡ 0
+  pub first : epoch ≡ now
   pub since : by ≡ its
   pub same : answer ≡ read
 
-pub got_is : (ask : Ask) (by : ℕ) (answer : Answered) (reply : Reply) (chunk epoch its : ℕ) (read : Answered) → port_reply ask by answer reply ≡ Some (Got chunk epoch its read) → IsGot ask by answer reply chunk epoch its read
-got_is (Read k span) by answer (Bytes sectors) chunk epoch its read is = record { span = span; sectors = sectors; asked = ap (λ i. Read i span) (cc); replied = refl; first = cc; since = cc; same = cc }
-got_is (Read k span) by answer Written chunk epoch its read is = absurd (none-some (Got chunk epoch its read) is)
-got_is (Write k span sectors) by answer (Bytes bytes) chunk epoch its read is = absurd (none-some (Got chunk epoch its read) is)
-got_is (Write k span sectors) by answer Written chunk epoch its read is = absurd (cc)
+pub got_is : (ask : Ask) (now by : ℕ) (answer : Answered) (reply : Reply) (chunk epoch its : ℕ) (read : Answered) → port_reply ask now by answer reply ≡ Some (Got chunk epoch its read) → IsGot ask now by answer reply chunk epoch its read
+got_is (Read k span) now by answer (Bytes sectors) chunk epoch its read is = record { span = span; sectors = sectors; asked = ap (λ i. Read i span) (cc); replied = refl; first = cc; since = cc; same = cc }
+got_is (Read k span) now by answer Written chunk epoch its read is = absurd (none-some (Got chunk epoch its read) is)
+got_is (Write k span sectors) now by answer (Bytes bytes) chunk epoch its read is = absurd (none-some (Got chunk epoch its read) is)
+got_is (Write k span sectors) now by answer Written chunk epoch its read is = absurd (cc)
 
 -- a write is answered as one
-pub write_reply : (ask : Ask) (by : ℕ) (answer : Answered) (reply : Reply) (k : ℕ) (op : Op) → port_ask ask ≡ Puts k op → Answers ask reply → port_reply ask by answer reply ≡ Some (Put k 0 by op)
-write_reply (Write chunk span sectors) by answer Written k op is kind =
-    ap (λ i. Some (Put i 0 by (ops.Write span sectors))) (let same : chunk ≡ k = cc in same) ∙ ap (λ o. Some (Put k 0 by o)) (let same : ops.Write span sectors ≡ op = cc in same)
-write_reply (Write chunk span sectors) by answer (Bytes bytes) k op is kind = absurd kind
-write_reply (Read chunk span) by answer reply k op is kind = absurd (cc)
+pub write_reply : (ask : Ask) (now by : ℕ) (answer : Answered) (reply : Reply) (k : ℕ) (op : Op) → port_ask ask ≡ Puts k op → Answers ask reply → port_reply ask now by answer reply ≡ Some (Put k now by op)
+write_reply (Write chunk span sectors) now by answer Written k op is kind =
+    ap (λ i. Some (Put i now by (ops.Write span sectors))) (let same : chunk ≡ k = cc in same) ∙ ap (λ o. Some (Put k now by o)) (let same : ops.Write span sectors ≡ op = cc in same)
+write_reply (Write chunk span sectors) now by answer (Bytes bytes) k op is kind = absurd kind
+write_reply (Read chunk span) now by answer reply k op is kind = absurd (cc)
 
-module _ (v : Extent) (chunks : List ChunkRun) (answer_at : ℕ → Answered) (told : List Moment) (k : ℕ) (c : ChunkRun) (known : IsKnown v chunks answer_at told k c) where
+module _ (v : Extent) (chunks : List ChunkRun) (answer_at : ℕ → Answered) (told : List Moment) (chunk epoch k : ℕ) (c : ChunkRun) (known : IsKnown v chunks answer_at told chunk epoch k c) where
   abbrev ds : List Deed
   ds = deeds v answer_at told
 
@@ -76,20 +79,59 @@ module _ (v : Extent) (chunks : List ChunkRun) (answer_at : ℕ → Answered) (t
 
   -- Deeds and their moments
 
-  pub record IsHandedAt (i chunk epoch place : ℕ) : Type 0 where
+  pub begun_by : (p : ℕ) → AreBegun v.chunks (take p told)
+  begun_by p = begun_until v.chunks (take p told) (drop p told) (subst (AreBegun v.chunks) (sym (take-append-drop p told)) known.begun)
+
+  pub stays_till_end : (p its j group : ℕ) → group_at (take p told) its j ≡ Some group → group_at told its j ≡ Some group
+  stays_till_end p its j group at = ap (λ (b : List Moment). group_at b its j) (sym (take-append-drop p told)) ∙ group_stays (take p told) (drop p told) its j group at
+
+  -- the group is that of its epoch, where the chunk was in this epoch already
+  pub same_group : (p group : ℕ) → group_at (take p told) chunk epoch ≡ Some group → group ≡ k
+  same_group p group at = same_Some group k (sym (stays_till_end p chunk epoch group at) ∙ known.at)
+
+  pub serving_then : (p : ℕ) → epoch ≡ epoch_of (take p told) chunk → serving (take p told) chunk ≡ Some k
+  serving_then p now =
+      let low = now in
+      let some = some_group v.chunks (take p told) (begun_by p) chunk epoch (omega (arith, low)) in
+      ap (λ e. group_at (take p told) chunk e) (sym now) ∙ some.1 ∙ ap (λ g. Some g) (same_group p some.0 some.1)
+
+  -- what a mount's port into a group of the chunk handed on
+  pub record IsHandedAt (i its place : ℕ) : Type 0 where
     pub moment : ℕ
     pub m : ℕ
-    pub at : slice_get told moment ≡ Some (Hands m chunk place)
-    pub first : epoch ≡ 0
+    pub group : ℕ
+    pub at : slice_get told moment ≡ Some (Hands m group place)
+    pub small : m < 16
+    pub home : group_at (take moment told) chunk its ≡ Some group
+    pub now : its ≡ epoch_of (take moment told) chunk
+    pub rests : IsAtRest v.chunks (take moment told) chunk
     pub there : i ≡ so_many moment
 
-  handed_at : (i client chunk epoch place : ℕ) → slice_get ds i ≡ Some (Submits client chunk epoch place) → IsHandedAt i chunk epoch place
-  handed_at i client chunk epoch place at =
-      let x = deed_of v answer_at told i (Submits client chunk epoch place) at in
-      let s = submitted_at v (take x.moment told) (answer_at (length (take x.moment told))) x.is x.place client chunk epoch place x.deed in
+  pub handed_at : (i client its place : ℕ) → slice_get ds i ≡ Some (Submits client chunk its place) → IsHandedAt i its place
+  handed_at i client its place at =
+      let x = deed_of v answer_at told i (Submits client chunk its place) at in
+      let before = take x.moment told in
+      let s = submitted_at v before (answer_at (length before)) x.is x.place client chunk its place x.deed in
       let there = x.there in
       let only = s.only in
-      record { moment = x.moment; m = s.m; at = x.at ∙ ap (λ y. Some y) s.is; first = s.first; there = omega (arith, there, only) }
+      let here : slice_get told x.moment ≡ Some (Hands s.m s.k place) = x.at ∙ ap (λ y. Some y) s.is in
+      let within = some_within told x.moment (Hands s.m s.k place) here in
+      let small = small_mount v answer_at told known.each x.moment (omega (arith, within)) s.m s.now s.made in
+      let h = known.handed x.moment s.m s.k place here small in
+      let rests = known.rests x.moment s.m s.k place h.ask here small h.pending in
+      let home = home_group v.chunks before (begun_by x.moment) s.k (record { chunk = chunk; epoch = its }) s.home in
+      let same = same_home v.chunks before (begun_by x.moment) (chunk_of h.ask) chunk (epoch_of before (chunk_of h.ask)) its s.k rests.small known.small h.of home.1 in
+      record {
+        moment = x.moment;
+        m = s.m;
+        group = s.k;
+        at = here;
+        small = small;
+        home = home.1;
+        now = sym same.1 ∙ ap (epoch_of before) same.0;
+        rests = subst (IsAtRest v.chunks before) same.0 rests;
+        there = omega (arith, there, only);
+      }
 
   pub record IsTurnAt (i client : ℕ) (reply : Option PortReply) (ask : Option PortAsk) : Type 0 where
     pub moment : ℕ
@@ -100,7 +142,7 @@ module _ (v : Extent) (chunks : List ChunkRun) (answer_at : ℕ → Answered) (t
     pub small : m < 16
     pub place : ℕ
     pub many : ℕ
-    pub taken : IsTaken v m (life_of v (take moment told) m) (last_ask (take moment told) m) (answer_at (length (take moment told))) heard next place many client reply ask
+    pub taken : IsTaken v m (life_of v (take moment told) m) (last_ask (take moment told) m) (epoch_of (take moment told)) (answer_at (length (take moment told))) heard next place many client reply ask
     pub there : i ≡ so_many moment + place
     pub start : so_many moment ≤ i
     pub end : i < so_many (suc moment)
@@ -138,7 +180,7 @@ module _ (v : Extent) (chunks : List ChunkRun) (answer_at : ℕ → Answered) (t
     pub made : life_of v (take moment told) m ≡ Some now
     pub ask : Ask
     pub pending : last_ask (take moment told) m ≡ Some ask
-    pub is : port_reply ask its.by (answer_at (length (take moment told))) its.reply ≡ Some reply
+    pub is : port_reply ask (epoch_of (take moment told) (chunk_of ask)) its.by (answer_at (length (take moment told))) its.reply ≡ Some reply
     pub of : client ≡ client_of m now.outcome.mount.work
     pub there : i ≡ so_many moment
 
@@ -162,34 +204,48 @@ module _ (v : Extent) (chunks : List ChunkRun) (answer_at : ℕ → Answered) (t
         there = omega (arith, there, first);
       }
 
-  -- a reply of the chunk's group
-  pub record IsBrought (i epoch by : ℕ) : Type 0 where
+  -- a reply of a group of the chunk
+  pub record IsBrought (i its by : ℕ) : Type 0 where
     pub moment : ℕ
     pub m : ℕ
-    pub its : Heard
+    pub back : Heard
     pub next : Option Ask
-    pub at : slice_get told moment ≡ Some (Turns m (Some its) next)
+    pub at : slice_get told moment ≡ Some (Turns m (Some back) next)
     pub ask : Ask
     pub pending : last_ask (take moment told) m ≡ Some ask
-    pub of : chunk_of ask ≡ k
-    pub first : epoch ≡ 0
-    pub since : its.by ≡ by
+    pub of : chunk_of ask ≡ chunk
+    pub now : its ≡ epoch_of (take moment told) chunk
+    pub since : back.by ≡ by
     pub there : i ≡ so_many moment
 
-  brought_at : (i epoch by : ℕ) (d : Deed) → slice_get ds i ≡ Some d → BringsBy k epoch by d → IsBrought i epoch by
-  brought_at i epoch by _ at (Acks client op ask) =
-      let r = replied_at i client (Put k epoch by op) ask at in
-      let p = put_is r.ask r.its.by (answer_at (length (take r.moment told))) r.its.reply k epoch by op r.is in
-      record { moment = r.moment; m = r.m; its = r.its; next = r.next; at = r.at; ask = r.ask; pending = r.pending; of = ap chunk_of p.asked; first = p.first; since = p.since; there = r.there }
-  brought_at i epoch by _ at (Reads client read ask) =
-      let r = replied_at i client (Got k epoch by read) ask at in
-      let p = got_is r.ask r.its.by (answer_at (length (take r.moment told))) r.its.reply k epoch by read r.is in
-      record { moment = r.moment; m = r.m; its = r.its; next = r.next; at = r.at; ask = r.ask; pending = r.pending; of = ap chunk_of p.asked; first = p.first; since = p.since; there = r.there }
+  pub brought_at : (i its by : ℕ) (d : Deed) → slice_get ds i ≡ Some d → BringsBy chunk its by d → IsBrought i its by
+  brought_at i its by _ at (Acks client op ask) =
+      let r = replied_at i client (Put chunk its by op) ask at in
+      let p = put_is r.ask (epoch_of (take r.moment told) (chunk_of r.ask)) r.its.by (answer_at (length (take r.moment told))) r.its.reply chunk its by op r.is in
+      record { moment = r.moment; m = r.m; back = r.its; next = r.next; at = r.at; ask = r.ask; pending = r.pending; of = ap chunk_of p.asked; now = p.first ∙ ap (λ (a : Ask). epoch_of (take r.moment told) (chunk_of a)) p.asked; since = p.since; there = r.there }
+  brought_at i its by _ at (Reads client read ask) =
+      let r = replied_at i client (Got chunk its by read) ask at in
+      let p = got_is r.ask (epoch_of (take r.moment told) (chunk_of r.ask)) r.its.by (answer_at (length (take r.moment told))) r.its.reply chunk its by read r.is in
+      record { moment = r.moment; m = r.m; back = r.its; next = r.next; at = r.at; ask = r.ask; pending = r.pending; of = ap chunk_of p.asked; now = p.first ∙ ap (λ (a : Ask). epoch_of (take r.moment told) (chunk_of a)) p.asked; since = p.since; there = r.there }
 
-  -- all epochs are the first
-  pub first_epoch : (i epoch : ℕ) (d : Deed) → slice_get ds i ≡ Some d → IsOfEpoch k epoch d → epoch ≡ 0
-  first_epoch i epoch _ at (HandsOn client place) = (handed_at i client k epoch place at).first
-  first_epoch i epoch _ at (Brings by d is) = (brought_at i epoch by d at is).first
+  -- Epochs
+
+  -- the deed begins a moment at which the chunk was in its epoch
+  pub record IsInEpoch (i its : ℕ) : Type 0 where
+    pub moment : ℕ
+    pub now : its ≡ epoch_of (take moment told) chunk
+    pub there : i ≡ so_many moment
+
+  pub in_epoch : (i its : ℕ) (d : Deed) → slice_get ds i ≡ Some d → IsOfEpoch chunk its d → IsInEpoch i its
+  in_epoch i its _ at (HandsOn client place) = let h = handed_at i client its place at in record { moment = h.moment; now = h.now; there = h.there }
+  in_epoch i its _ at (Brings by d is) = let b = brought_at i its by d at is in record { moment = b.moment; now = b.now; there = b.there }
+
+  pub epoch_reached : (i its : ℕ) (d : Deed) → slice_get ds i ≡ Some d → IsOfEpoch chunk its d → its ≤ epoch_of told chunk
+  epoch_reached i its d at is =
+      let x = in_epoch i its d at is in
+      let now = x.now in
+      let more = epoch_rises (take x.moment told) (drop x.moment told) chunk in
+      let all = ap (λ (b : List Moment). epoch_of b chunk) (take-append-drop x.moment told) in omega (arith, now, more, all)
 
   -- Places
 
@@ -201,24 +257,39 @@ module _ (v : Extent) (chunks : List ChunkRun) (answer_at : ℕ → Answered) (t
   ]
 
   -- so far its history was told of before the later one
-  reached_before : (p q : ℕ) (x : Moment) → slice_get told p ≡ Some x → p < q → reach_at k (take p told) x ≤ reached k (take q told)
+  pub reached_before : (p q : ℕ) (x : Moment) → slice_get told p ≡ Some x → p < q → reach_at k (take p told) x ≤ reached k (take q told)
   reached_before p q x at low =
       let to = reaches k (take q told) p x (get_take told q p low ∙ at) in
       let same = ap (λ (b : List Moment). reach_at k b x) (take_fewer told q p (omega (arith, low))) in omega (arith, to, same)
 
-  pub places_rise : (i j epoch client other place next : ℕ) → i < j → slice_get ds i ≡ Some (Submits client k epoch place) → slice_get ds j ≡ Some (Submits other k epoch next) → place < next
-  places_rise i j epoch client other place next low at its =
-      let x = handed_at i client k epoch place at in
-      let y = handed_at j other k epoch next its in
-      let to = reached_before x.moment y.moment (Hands x.m k place) x.at (earlier_moment i j x.moment y.moment x.there y.there low) in
-      let is = hands_reach k (take x.moment told) x.m place in
-      let behind = known.behind y.moment y.m next y.at in omega (arith, to, is, behind)
+  pub epochs_rise : (i j its other : ℕ) (d next : Deed) → i < j → slice_get ds i ≡ Some d → IsOfEpoch chunk its d → slice_get ds j ≡ Some next → IsOfEpoch chunk other next → its ≤ other
+  epochs_rise i j its other d next low at is there that =
+      let x = in_epoch i its d at is in
+      let y = in_epoch j other next there that in
+      let earlier = earlier_moment i j x.moment y.moment x.there y.there low in
+      let more = take_goes_on told y.moment x.moment (omega (arith, earlier)) in
+      let rises = epoch_rises (take x.moment told) more.0 chunk in
+      let same = ap (λ (b : List Moment). epoch_of b chunk) more.1 in
+      let now = x.now in
+      let then = y.now in omega (arith, rises, same, now, then)
 
-  pub rises_after : (i j epoch client by place : ℕ) (d : Deed) → i < j → slice_get ds i ≡ Some d → BringsBy k epoch by d → slice_get ds j ≡ Some (Submits client k epoch place) → by ≤ place
-  rises_after i j epoch client by place d low at is its =
+  pub places_rise : (i j client other place next : ℕ) → i < j → slice_get ds i ≡ Some (Submits client chunk epoch place) → slice_get ds j ≡ Some (Submits other chunk epoch next) → place < next
+  places_rise i j client other place next low at its =
+      let x = handed_at i client epoch place at in
+      let y = handed_at j other epoch next its in
+      let one = same_group x.moment x.group x.home in
+      let two = same_group y.moment y.group y.home in
+      let to = reached_before x.moment y.moment (Hands x.m k place) (x.at ∙ ap (λ g. Some (Hands x.m g place)) one) (earlier_moment i j x.moment y.moment x.there y.there low) in
+      let is = hands_reach k (take x.moment told) x.m place in
+      let behind = known.behind y.moment y.m k next (y.at ∙ ap (λ g. Some (Hands y.m g next)) two) in omega (arith, to, is, behind)
+
+  pub rises_after : (i j client by place : ℕ) (d : Deed) → i < j → slice_get ds i ≡ Some d → BringsBy chunk epoch by d → slice_get ds j ≡ Some (Submits client chunk epoch place) → by ≤ place
+  rises_after i j client by place d low at is its =
       let x = brought_at i epoch by d at is in
-      let y = handed_at j client k epoch place its in
-      let to = reached_before x.moment y.moment (Turns x.m (Some x.its) x.next) x.at (earlier_moment i j x.moment y.moment x.there y.there low) in
-      let heard = heard_reaches k (take x.moment told) x.m x.its x.next x.ask x.pending x.of in
-      let behind = known.behind y.moment y.m place y.at in
+      let y = handed_at j client epoch place its in
+      let two = same_group y.moment y.group y.home in
+      let to = reached_before x.moment y.moment (Turns x.m (Some x.back) x.next) x.at (earlier_moment i j x.moment y.moment x.there y.there low) in
+      let serves : serving (take x.moment told) (chunk_of x.ask) ≡ Some k = ap (serving (take x.moment told)) x.of ∙ serving_then x.moment x.now in
+      let heard = heard_reaches k (take x.moment told) x.m x.back x.next x.ask x.pending serves in
+      let behind = known.behind y.moment y.m k place (y.at ∙ ap (λ g. Some (Hands y.m g place)) two) in
       let since = x.since in omega (arith, to, heard, behind, since)

@@ -1,7 +1,7 @@
 -- Each line of a script begins one call at most, so no mount has started more calls than there are lines.
 use Rattle.std.proofs.Common.{◌≡◌, ℕ, zero, suc, ◌+◌, ◌≤◌, ◌==◌, Bool, true, false, nat_le, nat_lt, if◌then◌else◌, List, [], ◌∷◌, ◌++◌, drop, length, Option, Some, None, slice_get, arith, refl, sym, ap}
 use Rattle.std.specs.List.{fold, range_with_len}
-use Rattle.std.specs.Option.{option_map}
+use Rattle.std.specs.Option.{is_some, option_map}
 use Rattle.std.proofs.lemmas.Option.{none-some, same_Some}
 use Rattle.pf_base.specs.declared.asks.Reply.{Reply}
 use Rattle.pf_base.specs.declared.calls.Call.{Call}
@@ -24,20 +24,24 @@ use Rattle.pf_chunk.specs.Asking.{fetches, is_range, submits}
 use Rattle.pf_chunk.specs.Happenings.{Happened}
 use Rattle.pf_chunk.specs.Lending.{all_happened}
 use Rattle.pf_chunk.specs.Runs.{ChunkRun}
-use Rattle.pf_hosts.specs.Moments.{Begins, Ends, Hands, Heard, Moment, Turns, Writes}
-use Rattle.pf_hosts.specs.Hosts.{Drove, HostIs, Stepped, call_of, comes_of, drove, events_of, hands_at, hands_on, next_of, number_of, replied, stepped, stepped_at}
+use Rattle.pf_hosts.specs.Moments.{Begins, Carries, Ends, Hands, Heard, Moment, Moves as MovesTo, Turns, Writes}
+use Rattle.pf_hosts.specs.Hosts.{Drove, HostIs, Stepped, call_of, comes_of, drove, events_of, group_of, hands_on, hands_to, next_of, number_of, replied, stepped, stepped_at}
 use Rattle.pf_hosts.specs.Words.{read_call}
-use Rattle.pf_fleet.specs.Settling.{Goes, Name, Settled, delivered, enough_tries, goes_on, name_of, settle_next, settle_to, settled, tried}
+use Rattle.pf_fleet.specs.Settling.{Goes, Name, delivered, enough_tries, goes_on, name_of, settle_next, settle_to, settled}
 use Rattle.pf_fleet.specs.Settling as settling_specs
-use Rattle.pf_fleet.specs.Volumes.{VolumeRun, begins, happens, host_at, host_steps, hosts_step, mounts, quietly, step_of, these_step}
+use Rattle.pf_fleet.specs.Volumes.{VolumeRun, all_step, begins, happens, host_at, host_steps, hosts_step, mounts, mover_steps, moves, quietly, step_of, these_step}
 use Rattle.pf_fleet.specs.Volumes as volumes
+use Rattle.pf_script.specs.Lines.{group_of as group_of_line}
+use Rattle.pf_move.specs.Routes.{RoutesIs, home_of}
+use Rattle.pf_report.specs.Moves.{moving_text}
+use Rattle.pf_mounted.proofs.Hauling.{mover_quiet, moves_quiet}
 use Rattle.pf_world.specs.declared.kind.Kind.{Kind}
 use Rattle.pf_world.specs.declared.kind.Kind.TheVariants.{Mounted, Raw}
 use Rattle.pf_threads.specs.Sessions.{Session, next_session}
 use Rattle.pf_world.specs.declared.line.Line.{Line}
-use Rattle.pf_world.specs.Worlds.{World, at_chunk, refused_text, told_of}
+use Rattle.pf_world.specs.Worlds.{World, at_chunk, refused_text, said_only, told_of}
 use Rattle.pf_world.specs.Worlds as worlds
-use Rattle.pf_world.specs.Lines.{asked, begins_if, decided, held_told, joins, kill_of, line_told, live_as, mounts_as, no_event_of, rests, show_of, shown_of, submits_as, with_kind}
+use Rattle.pf_world.specs.Lines.{asked, begins_if, begins_move, decided, held_told, is_made, is_of_mounts, joins, kill_of, kind_after, line_told, live_as, made_group, mounts_as, no_event_of, rests, run_told, show_of, shown_of, submits_as, with_kind}
 use Rattle.pf_world.specs.Lines as lines_specs
 use Rattle.pf_world.specs.Reports.{run_from, world_run}
 use Rattle.pf_mounted.specs.Mounts.{Life, calling, life_of, lived, mount_after, mount_in, turned}
@@ -69,6 +73,8 @@ none_begun (Begins m call) none = absurd none
 none_begun (Turns m heard next) none = refl
 none_begun (Hands m k place) none = refl
 none_begun (Writes text) none = refl
+none_begun (MovesTo its to) none = refl
+none_begun (Carries its reply wants) none = refl
 none_begun (Ends m answer) none = refl
 
 all_none : (told : List Moment) → Every BeginsNone told → begun_in told ≡ 0
@@ -101,6 +107,8 @@ module _ (v : Extent) (m : ℕ) where
   moment_calls life (Begins n call) = by_test (n == m) (λ b. calls_in (if b then option_map (calling call) life else life) ≤ calls_in life + 1) (λ _. called_calls call life) (λ _. omega arith)
   moment_calls life (Turns n heard next) = by_test (n == m) (λ b. calls_in (if b then turned v m heard life else life) ≤ calls_in life + 0) (λ _. turned_calls heard life) (λ _. omega arith)
   moment_calls life (Writes text) = omega arith
+  moment_calls life (MovesTo its to) = omega arith
+  moment_calls life (Carries its reply wants) = omega arith
   moment_calls life (Hands n k place) = omega arith
   moment_calls life (Ends n answer) = omega arith
 
@@ -131,41 +139,43 @@ quiet_none (Begins m call) quiet = absurd quiet
 quiet_none (Turns m heard next) quiet = tt
 quiet_none (Hands m k place) quiet = tt
 quiet_none (Writes text) quiet = tt
+quiet_none (MovesTo its to) quiet = tt
+quiet_none (Carries its reply wants) quiet = tt
 quiet_none (Ends m answer) quiet = tt
 
-next_none : (chunks : List ChunkRun) (heard : Option Heard) (call : Option FileCall) (mount : MountIs) (next : Next) → AreNone (next_of chunks heard call mount next).told
-next_none chunks heard call mount (Asks ask) = (tt, tt)
-next_none chunks heard call mount Ready = (tt, (tt, tt))
-next_none chunks heard call mount (Done answer) = (tt, (tt, (tt, tt)))
+next_none : (r : RoutesIs) (chunks : List ChunkRun) (heard : Option Heard) (call : Option FileCall) (mount : MountIs) (next : Next) → AreNone (next_of r chunks heard call mount next).told
+next_none r chunks heard call mount (Asks ask) = (tt, tt)
+next_none r chunks heard call mount Ready = (tt, (tt, tt))
+next_none r chunks heard call mount (Done answer) = (tt, (tt, (tt, tt)))
 
 module _ (halts : List Halt) where
   drove_none : (chunks : List ChunkRun) (m k : ℕ) → AreNone (drove halts chunks m k).told
   drove_none chunks m k = every_more IsQuiet BeginsNone quiet_none (drove halts chunks m k).told (drives_at halts chunks m k).quiet
 
-  handed_none : (s : Stepped) (at : Option ℕ) → AreNone s.told → AreNone (hands_at halts s at).told
+  handed_none : (s : Stepped) (at : Option ℕ) → AreNone s.told → AreNone (hands_to halts s at).told
   handed_none s None none = none
   handed_none s (Some k) none = both s.told (drove halts s.chunks (number_of s.host.mount) k).told none (drove_none s.chunks (number_of s.host.mount) k)
 
-  reply_none : (host : HostIs) (k : ℕ) (d : Drove) (reply : Option Reply) → AreNone d.told → AreNone (replied halts host k d reply).told
-  reply_none host k d None none = none
-  reply_none host k d (Some reply) none =
+  reply_none : (r : RoutesIs) (host : HostIs) (k : ℕ) (d : Drove) (reply : Option Reply) → AreNone d.told → AreNone (replied halts r host k d reply).told
+  reply_none r host k d None none = none
+  reply_none r host k d (Some reply) none =
       let heard : Heard = record { reply = reply; by = events_of (slice_get d.chunks k) } in
       let o : Outcome = answered host.mount reply in
       let call = call_of host.mount.files.pending in
-      let s : Stepped = comes_of d.chunks (Some heard) call o in
-      both d.told (hands_on halts s).told none (handed_none s s.host.at (next_none d.chunks (Some heard) call o.mount o.next))
+      let s : Stepped = comes_of r d.chunks (Some heard) call o in
+      both d.told (hands_on halts r s).told none (handed_none s (group_of r s.host) (next_none r d.chunks (Some heard) call o.mount o.next))
 
-  at_none : (chunks : List ChunkRun) (host : HostIs) (at : Option ℕ) → AreNone (stepped_at halts chunks host at).told
-  at_none chunks host None = tt
-  at_none chunks host (Some k) = let d = drove halts chunks (number_of host.mount) k in reply_none host k d d.reply (drove_none chunks (number_of host.mount) k)
+  at_none : (r : RoutesIs) (chunks : List ChunkRun) (host : HostIs) (at : Option ℕ) → AreNone (stepped_at halts r chunks host at).told
+  at_none r chunks host None = tt
+  at_none r chunks host (Some k) = let d = drove halts chunks (number_of host.mount) k in reply_none r host k d d.reply (drove_none chunks (number_of host.mount) k)
 
-  stepped_none : (chunks : List ChunkRun) (host : HostIs) → AreNone (stepped halts chunks host).told
+  stepped_none : (r : RoutesIs) (chunks : List ChunkRun) (host : HostIs) → AreNone (stepped halts r chunks host).told
   unfolding stepped
-  stepped_none chunks host = at_none chunks host host.at
+  stepped_none r chunks host = at_none r chunks host (group_of r host)
 
   step_none : (m : ℕ) (v : VolumeRun) (o : Option HostIs) → AreNone (step_of halts m v o).told
   step_none m v None = tt
-  step_none m v (Some host) = stepped_none v.chunks host
+  step_none m v (Some host) = stepped_none v.routes v.chunks host
 
   these_none : (ms : List ℕ) (v : VolumeRun) → AreNone (these_step halts ms v).told
   these_none [] v = tt
@@ -175,8 +185,15 @@ module _ (halts : List Halt) where
   unfolding hosts_step
   hosts_none v = these_none (range_with_len 0 (length v.hosts)) v
 
+  -- nor does the mover
+  mover_none : (v : VolumeRun) → AreNone (mover_steps halts v).told
+  mover_none v = every_more IsQuiet BeginsNone quiet_none (mover_steps halts v).told (mover_quiet halts v)
+
+  all_none_begin : (v : VolumeRun) → AreNone (all_step halts v).told
+  all_none_begin v = let t = hosts_step halts v in both t.told (mover_steps halts t.volume).told (hosts_none v) (mover_none t.volume)
+
   happens_none : (v : VolumeRun) (h : Happened) → AreNone (happens halts v h).told
-  happens_none v h = (tt, hosts_none (volumes.with_chunk v h.chunk))
+  happens_none v h = (tt, all_none_begin (volumes.with_chunk v h.chunk))
 
   -- Settlings
 
@@ -210,7 +227,7 @@ module _ (halts : List Halt) where
     ended_none t text none = both t.told _ none (tt, tt)
 
     stepped_too : (t : volumes.Told) (text : List ℕ) → AreNone t.told → AreNone (worlds.stepped halts w number t text).told
-    stepped_too t text none = ended_none (volumes.followed t (hosts_step halts)) text (both t.told (hosts_step halts t.volume).told none (hosts_none t.volume))
+    stepped_too t text none = ended_none (volumes.followed t (all_step halts)) text (both t.told (all_step halts t.volume).told none (all_none_begin t.volume))
 
     told_none : (o : Option ChunkRun) (event : ChunkRun → Happened) → AreNone (told_of halts w number o event).told
     told_none None event = tt
@@ -251,7 +268,7 @@ module _ (halts : List Halt) where
         let refused : ℕ → worlds.Told = λ fault. worlds.stepped halts w number (quietly v) (refused_text fault) in
         by_test (nat_lt (size_of v.extent) 4112) (λ b. AreNone (if b then refused 93 else if nat_le 16 (length v.hosts) then refused 92 else new).told) (λ _. stepped_too (quietly v) (refused_text 93) tt)
         (λ _. by_test (nat_le 16 (length v.hosts)) (λ b. AreNone (if b then refused 92 else new).told) (λ _. stepped_too (quietly v) (refused_text 92) tt)
-        (λ _. let o : Outcome = opening (length v.hosts) v.extent in stepped_too (mounts v) (mount_text (length v.hosts)) (next_none v.chunks None None o.mount o.next)))
+        (λ _. let o : Outcome = opening (length v.hosts) v.extent in stepped_too (mounts v) (mount_text (length v.hosts)) (next_none v.routes v.chunks None None o.mount o.next)))
 
     mount_none : (kind : Kind) → AreNone (mounts_as kind halts w number).told
     mount_none Raw = (tt, tt)
@@ -270,9 +287,9 @@ module _ (halts : List Halt) where
     begins_one m host None = few _ (stepped_too (quietly w.volume) (refused_text 80) tt)
     begins_one m host (Some call) =
         let o : Outcome = starting host.mount call in
-        let s : Stepped = comes_of w.volume.chunks None (Some call) o in
+        let s : Stepped = comes_of w.volume.routes w.volume.chunks None (Some call) o in
         let t : volumes.Told = begins m host call w.volume in
-        one (number_of host.mount) call _ (both (s.told ++ (hosts_step halts t.volume).told) _ (both s.told (hosts_step halts t.volume).told (next_none w.volume.chunks None (Some call) o.mount o.next) (hosts_none t.volume)) (tt, tt))
+        one (number_of host.mount) call _ (both (s.told ++ (all_step halts t.volume).told) _ (both s.told (all_step halts t.volume).told (next_none w.volume.routes w.volume.chunks None (Some call) o.mount o.next) (all_none_begin t.volume)) (tt, tt))
 
     call_one : (m : ℕ) (words : Call) (o : Option HostIs) → begun_in (lines_specs.call_of halts w number m words o).told ≤ 1
     call_one m words None = few _ (stepped_too (quietly w.volume) (refused_text 96) tt)
@@ -280,29 +297,50 @@ module _ (halts : List Halt) where
         by_test (rests host.mount.work) (λ b. begun_in (if b then begins_if halts w number m host (read_call words) else worlds.stepped halts w number (quietly w.volume) (refused_text 91)).told ≤ 1)
         (λ _. begins_one m host (read_call words)) (λ _. few _ (stepped_too (quietly w.volume) (refused_text 91) tt))
 
+  -- a move begins no call
+  begins_move_one : (w : World) (number chunk : ℕ) → begun_in (begins_move halts w number chunk).told ≤ 1
+  begins_move_one w number chunk =
+      let new = worlds.stepped halts w number (moves chunk (made_group halts w) w.volume) (moving_text (length w.volume.chunks)) in
+      let refused : ℕ → worlds.Told = λ fault. worlds.stepped halts w number (quietly w.volume) (refused_text fault) in
+      by_test (is_some w.volume.routes.moving) (λ b. begun_in (if b then refused 101 else if nat_le 8 (length w.volume.chunks) then refused 100 else new).told ≤ 1) (λ _. few _ (stepped_too w number (quietly w.volume) (refused_text 101) tt))
+      (λ _. by_test (nat_le 8 (length w.volume.chunks)) (λ b. begun_in (if b then refused 100 else new).told ≤ 1) (λ _. few _ (stepped_too w number (quietly w.volume) (refused_text 100) tt))
+      (λ _. few _ (stepped_too w number (moves chunk (made_group halts w) w.volume) (moving_text (length w.volume.chunks))
+      (every_more IsQuiet BeginsNone quiet_none (moves chunk (made_group halts w) w.volume).told (moves_quiet chunk (home_of w.volume.routes chunk) (made_group halts w) w.volume)))))
+
+  move_one : (w : World) (number chunk : ℕ) (kind : Option Kind) → begun_in (if is_of_mounts kind then begins_move halts w number chunk else said_only w number (refused_text 95)).told ≤ 1
+  move_one w number chunk None = omega arith
+  move_one w number chunk (Some Raw) = omega arith
+  move_one w number chunk (Some Mounted) = begins_move_one w number chunk
+
+  run_one : (w : World) (number : ℕ) (command : Command) → begun_in (run_told halts w number command).told ≤ 1
+  run_one w number (commands.Volume chunks sectors names format) = omega arith
+  run_one w number (commands.Elect g i) = few _ (chunk_none w number g _)
+  run_one w number (commands.Resend g i) = few _ (chunk_none w number g _)
+  run_one w number (commands.Stop g i) = few _ (chunk_none w number g _)
+  run_one w number (commands.Restart g i) = few _ (chunk_none w number g _)
+  run_one w number (commands.Checkpoint g i) = few _ (chunk_none w number g _)
+  run_one w number (commands.Deliver g k) = few _ (chunk_none w number g _)
+  run_one w number (commands.Lose g k) = few _ (chunk_none w number g _)
+  run_one w number (commands.Submit g i s b n) = let kind : Kind = decided w.kind Raw in few _ (submit_none (with_kind w kind) number kind g i s b n)
+  run_one w number (commands.Fetch g i s n) = few _ (asked_none w number g i s n (fetches halts i s n))
+  run_one w number (commands.Mark g i) = few _ (chunk_none w number g _)
+  run_one w number (commands.Settle limit) = few _ (both (settled halts limit w.volume).told _ (settled_none limit w.volume) (tt, tt))
+  run_one w number (commands.Live g hosts writes workers turns) = let kind : Kind = decided w.kind Raw in few _ (live_none (with_kind w kind) number kind g)
+  run_one w number commands.Mount = let kind : Kind = decided w.kind Mounted in few _ (mount_none (with_kind w kind) number kind)
+  run_one w number (commands.Kill m) = few _ (kill_none w number m (host_at w.volume.hosts m))
+  run_one w number (commands.Call m words) = call_one w number m words (host_at w.volume.hosts m)
+  run_one w number (commands.ShowLog g i) = few _ (shown_none w number (slice_get w.volume.chunks g) _)
+  run_one w number (commands.ShowApplied g i) = few _ (shown_none w number (slice_get w.volume.chunks g) _)
+  run_one w number (commands.ShowSectors g i) = few _ (shown_none w number (slice_get w.volume.chunks g) _)
+  run_one w number (commands.ShowAcked g) = few _ (shown_none w number (slice_get w.volume.chunks g) _)
+  run_one w number (commands.ShowMark g i s) = few _ (shown_none w number (slice_get w.volume.chunks g) _)
+  run_one w number (commands.ShowMount m) = few _ (show_none w number m (host_at w.volume.hosts m))
+  run_one w number (commands.Move chunk) = move_one w number chunk w.kind
+
   line_one : (w : World) (number : ℕ) (command : Command) → begun_in (line_told halts w number command).told ≤ 1
-  line_one w number (commands.Volume chunks sectors names format) = omega arith
-  line_one w number (commands.Elect g i) = few _ (chunk_none w number g _)
-  line_one w number (commands.Resend g i) = few _ (chunk_none w number g _)
-  line_one w number (commands.Stop g i) = few _ (chunk_none w number g _)
-  line_one w number (commands.Restart g i) = few _ (chunk_none w number g _)
-  line_one w number (commands.Checkpoint g i) = few _ (chunk_none w number g _)
-  line_one w number (commands.Deliver g k) = few _ (chunk_none w number g _)
-  line_one w number (commands.Lose g k) = few _ (chunk_none w number g _)
-  line_one w number (commands.Submit g i s b n) = let kind : Kind = decided w.kind Raw in few _ (submit_none (with_kind w kind) number kind g i s b n)
-  line_one w number (commands.Fetch g i s n) = few _ (asked_none w number g i s n (fetches halts i s n))
-  line_one w number (commands.Mark g i) = few _ (chunk_none w number g _)
-  line_one w number (commands.Settle limit) = few _ (both (settled halts limit w.volume).told _ (settled_none limit w.volume) (tt, tt))
-  line_one w number (commands.Live g hosts writes workers turns) = let kind : Kind = decided w.kind Raw in few _ (live_none (with_kind w kind) number kind g)
-  line_one w number commands.Mount = let kind : Kind = decided w.kind Mounted in few _ (mount_none (with_kind w kind) number kind)
-  line_one w number (commands.Kill m) = few _ (kill_none w number m (host_at w.volume.hosts m))
-  line_one w number (commands.Call m words) = call_one w number m words (host_at w.volume.hosts m)
-  line_one w number (commands.ShowLog g i) = few _ (shown_none w number (slice_get w.volume.chunks g) _)
-  line_one w number (commands.ShowApplied g i) = few _ (shown_none w number (slice_get w.volume.chunks g) _)
-  line_one w number (commands.ShowSectors g i) = few _ (shown_none w number (slice_get w.volume.chunks g) _)
-  line_one w number (commands.ShowAcked g) = few _ (shown_none w number (slice_get w.volume.chunks g) _)
-  line_one w number (commands.ShowMark g i s) = few _ (shown_none w number (slice_get w.volume.chunks g) _)
-  line_one w number (commands.ShowMount m) = few _ (show_none w number m (host_at w.volume.hosts m))
+  line_one w number command =
+      by_test (is_made w (group_of_line command)) (λ b. begun_in (if b then run_told halts w number command else said_only (record w { kind = kind_after w.kind command }) number (refused_text 102)).told ≤ 1)
+      (λ _. run_one w number command) (λ _. omega arith)
 
   lines_begin : (w : World) (lines : List Line) → begun_in (run_from halts w lines).told ≤ length lines
   lines_begin w [] = omega arith

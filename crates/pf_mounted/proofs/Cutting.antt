@@ -1,9 +1,11 @@
 -- Deeds that fit still do where they end with what a client was answered, and it has not asked yet.
-use Rattle.std.proofs.Common.{◌≡◌, ℕ, zero, suc, ◌<◌, ◌≤◌, ◌⊎◌, inl, inr, List, [], ◌∷◌, ◌++◌, length, Option, Some, None, slice_get, arith, refl, ap, ◌∙◌}
+use Rattle.std.proofs.Common.{◌≡◌, ℕ, zero, suc, ◌*◌, ◌<◌, ◌≤◌, ◌⊎◌, inl, inr, List, [], ◌∷◌, ◌++◌, length, Option, Some, None, slice_get, arith, refl, ap, ◌∙◌}
 use Rattle.std.proofs.lemmas.Option.{none-some, same_Some}
 use Rattle.pf_entry.specs.declared.ops.Op.{Op}
 use Rattle.pf_protocol.specs.Groups.{Answered}
 use Rattle.pf_positions.specs.Deeds.{Acks, Brings, BringsBy, Deed, Fits, Got, Groups, Hands, IsHanded, IsOfEpoch, IsPending, IsPort, PortAsk, PortReply, Put, Reads, Submits, Takes, WasGot, WasPut}
+use Rattle.pf_positions.specs.Moves.{IsMoved}
+use Rattle.pf_epochs.specs.Routed.{IsRouted}
 use Rattle.pf_mounted.proofs.Placing.{at_seam, get_either, get_first, some_within}
 
 -- no deed is a submission
@@ -181,4 +183,31 @@ module _ (first : List Deed) (client : ℕ) (reply : Option PortReply) (ask : Op
       got = λ c moment epoch by read next at.
           let was = cut_takes moment c (Some (Got chunk epoch by read)) next at in
           got_in_cut chunk epoch c moment by read (cut_within moment (Takes c (Some (Got chunk epoch by read)) next) at) (f.got c moment epoch by read was.0 was.1);
+    }
+
+    moved_in_cut : (chunk first epoch : ℕ) (last : Answered) → IsMoved groups whole chunk first epoch last → IsMoved groups cut chunk first epoch last
+    moved_in_cut chunk first_sector epoch last m = record {
+      k = m.k;
+      answered = m.answered;
+      from = m.from;
+      eight = m.eight;
+      place = m.place;
+      server = m.server;
+      taken = m.taken;
+      after_move = m.after_move;
+      after_answers = λ moment by deed at is. let was = brought moment chunk epoch by deed at is in m.after_answers moment by was.deed was.at was.is;
+      rule = m.rule;
+      same = m.same;
+      all = m.all;
+      clients_wait = λ moment c by at. m.clients_wait moment c by (cut_submits moment c chunk (suc epoch) by at);
+    }
+
+    pub cut_routed : (chunk piece : ℕ) → IsRouted groups whole chunk piece → IsRouted groups cut chunk piece
+    cut_routed chunk piece r = record {
+      fits = cut_fits chunk r.fits;
+      legal = r.legal;
+      inside = r.inside;
+      of_ports = r.of_ports;
+      last = r.last;
+      moved = λ epoch ended. moved_in_cut chunk (8 * piece) epoch (r.last epoch) (r.moved epoch ended);
     }

@@ -17,9 +17,9 @@ use Rattle.pf_paxos.specs.Journals.{Doing, Does, Journal, event_at, events_at, e
 use Rattle.pf_paxos.proofs.Standing.{position_run}
 use Rattle.pf_positions.specs.Deeds.{Deed, Groups, Takes}
 use Rattle.pf_positions.specs.Homes.{Home, if_asked, reply_in, turn_in, turn_or_idle, turns_in}
-use Rattle.pf_positions.specs.Hosted.{IsHosted}
+use Rattle.pf_epochs.specs.Positions.{IsRoutedPosition}
 use Rattle.pf_positions.specs.Volumes.{home_of}
-use Rattle.pf_positions.proofs.Copied.{registers as are_registers}
+use Rattle.pf_epochs.proofs.Positions.{position_registers}
 use Rattle.pf_positions.proofs.Volumes.{turns_told}
 use Rattle.pf_journal.specs.Sectors.{block_in}
 use Rattle.pf_mount.specs.declared.work.Work.TheVariants.{Ballots}
@@ -84,7 +84,7 @@ module _ (v : Extent) (blocks : ℕ) (is : v.sectors ≡ 8 * blocks) (many : 1 <
       subst (λ (l : Option Life). StandsIn v blocks is many m l (last_ask before m) (journal_from new_journal done)) there (told_stand v blocks is many answer_at before of can m) in
       subst (λ w. HasRoom w life.outcome.mount.upto) at stands.0.room
 
-  module _ (m : ℕ) (life : Life) (there : life_of v before m ≡ Some life) (ask : Ask) (asked : last_ask before m ≡ Some ask) (answer : Answered) (heard : Heard) (next : Option Ask) (hears : IsHearing life.outcome.mount ask answer heard next)
+  module _ (m : ℕ) (life : Life) (there : life_of v before m ≡ Some life) (ask : Ask) (asked : last_ask before m ≡ Some ask) (epoch : ℕ) (answer : Answered) (heard : Heard) (next : Option Ask) (hears : IsHearing life.outcome.mount ask answer heard next)
       (input : Option (List ℕ)) (at : life.outcome.mount.work ≡ Ballots input)
       (last_free : (ts : List Turn) (t : Turn) (a : Option registers.Ask) → AreRegisters (ts ++ t ∷ []) → AreRegisters (ts ++ record t { ask = a } ∷ [])) where
     abbrev mount : MountIs
@@ -94,7 +94,7 @@ module _ (v : Extent) (blocks : ℕ) (is : v.sectors ≡ 8 * blocks) (many : 1 <
     p = mount.position.proposer
 
     abbrev deed : Deed
-    deed = Takes m (port_reply ask heard.by answer heard.reply) None
+    deed = Takes m (port_reply ask epoch heard.by answer heard.reply) None
 
     abbrev AsTold : Type 0
     AsTold = Stands v m life (Some ask) × Matches (journal_from new_journal done) m life.decided p
@@ -121,10 +121,10 @@ module _ (v : Extent) (blocks : ℕ) (is : v.sectors ≡ 8 * blocks) (many : 1 <
     pends = subst (λ w. Pends w mount (Some ask)) at (stands.waits ask refl).0
 
     -- the deed brings the reply to the position
-    replied : reply_in block_in home m (port_reply ask heard.by answer heard.reply) ≡ Some (replies heard.reply)
+    replied : reply_in block_in home m (port_reply ask epoch heard.by answer heard.reply) ≡ Some (replies heard.reply)
     replied =
         let waits = stands.waits ask refl in
-        heard_there v blocks is many m stands.small mount stands.number stands.volume (journal_from new_journal done) ask heard.by answer heard.reply hears.in_kind hears.answers mount.upto low (Ballots input)
+        heard_there v blocks is many m stands.small mount stands.number stands.volume (journal_from new_journal done) ask epoch heard.by answer heard.reply hears.in_kind hears.answers mount.upto low (Ballots input)
         (subst (λ w. Pends w mount (Some ask)) at waits.0) (subst (λ w. CanBeTold v w mount (Some ask)) at waits.1)
         ∙ ap (λ a. if_asked a (replies heard.reply)) (cond-true (mount.upto == mount.upto) (ballot_seen p.phase p.own) None (eq-eqb mount.upto mount.upto refl))
         ∙ asked_something p.phase mount p.own ask (replies heard.reply) pends
@@ -149,9 +149,9 @@ module _ (v : Extent) (blocks : ℕ) (is : v.sectors ≡ 8 * blocks) (many : 1 <
     abbrev ds : List Deed
     ds = deeds v answer_at before
 
-    -- Where these are the deeds of a hosted position, its blocks are registers, with the reply too
-    pub still_registers : (groups : Groups) → IsHosted groups block_in home (ds ++ deed ∷ []) → AreRegisters (turns_at mount.upto (done ++ does ∷ []))
-    still_registers groups hosted =
+    -- Where these are the deeds of a position in chunks that move, its blocks are registers, with the reply too
+    pub still_registers : (groups : Groups) → IsRoutedPosition groups block_in home (ds ++ deed ∷ []) → AreRegisters (turns_at mount.upto (done ++ does ∷ []))
+    still_registers groups routed =
         let j = journal_from new_journal done in
         let same : turns_at mount.upto done ≡ turns_in block_in home ds = turns_told block_in v.sectors 256 ds done (told_same v blocks is many answer_at before of can) mount.upto low in
         let told : turns_in block_in home (ds ++ deed ∷ []) ≡ turns_at mount.upto done ++ turn None ∷ [] =
@@ -159,4 +159,4 @@ module _ (v : Extent) (blocks : ℕ) (is : v.sectors ≡ 8 * blocks) (many : 1 <
         let more : turns_at mount.upto (done ++ does ∷ []) ≡ turns_at mount.upto done ++ turn (ask_of move.outcome.next) ∷ [] =
         turns_at_more mount.upto done does ∙ ap (λ t. turns_at mount.upto done ++ t ∷ []) does_turn in
         subst AreRegisters (sym more)
-        (last_free (turns_at mount.upto done) (turn None) (ask_of move.outcome.next) (subst AreRegisters told (are_registers groups block_in home (ds ++ deed ∷ []) hosted)))
+        (last_free (turns_at mount.upto done) (turn None) (ask_of move.outcome.next) (subst AreRegisters told (position_registers groups block_in home (ds ++ deed ∷ []) routed)))

@@ -1,9 +1,8 @@
 -- The deed in which a mount asked what it waits for, and the turn that follows it.
 use Rattle.std.proofs.Common.{◌≡◌, ℕ, zero, suc, ◌+◌, ◌-◌, ◌<◌, ◌≤◌, ◌⊎◌, inl, inr, List, [], ◌∷◌, length, take, Option, Some, None, slice_get, arith, refl, sym, ap, subst, ◌∙◌}
 use Rattle.std.proofs.lemmas.Bool.{cases_eq, cases_lt}
-use Rattle.std.proofs.lemmas.Option.{same_Some}
+use Rattle.std.proofs.lemmas.Option.{none-some, same_Some}
 use Rattle.std.proofs.Math.Seq.{length-take-le}
-use Rattle.pf_base.specs.Asks.{chunk_of}
 use Rattle.pf_base.specs.declared.asks.Ask.{Ask}
 use Rattle.pf_network.proofs.Lists.{something_there}
 use Rattle.pf_protocol.specs.Groups.{Answered}
@@ -12,16 +11,18 @@ use Rattle.pf_volume.specs.Volumes.{Extent}
 use Rattle.pf_positions.specs.Deeds.{IsPending, PortReply, Takes}
 use Rattle.pf_mount.specs.declared.work.Work.{Work}
 use Rattle.pf_mount.specs.declared.work.Work.TheVariants.{Rests, Fails, ReadsSuper, WritesSuper, Syncs, Ballots, Pauses, Moves}
-use Rattle.pf_hosts.specs.Moments.{Heard, Moment, Begins, Ends, Hands, Turns, Writes}
+use Rattle.pf_hosts.specs.Moments.{Begins, Carries, Ends, Hands, Heard, Moment, Moves as MovesTo, Turns, Writes}
+use Rattle.pf_mounted.specs.Epochs.{epoch_of}
 use Rattle.pf_mounted.specs.Journals.{IsOfMount, IsTurn, client_of, deeds, port_ask}
-use Rattle.pf_mounted.specs.Mounts.{Life, asked_in, last_ask, life_of, turned}
+use Rattle.pf_mounted.specs.Mounts.{Life, asked_in, last_ask, life_of, mount_in, turned}
+use Rattle.pf_mount.specs.Mounts.{MountIs}
 use Rattle.pf_mounted.specs.Pasts.{trace_of}
 use Rattle.pf_mounted.proofs.Dealing.{ask_taken, taken_at}
 use Rattle.pf_mounted.proofs.Listing.{before_end, count, count_next, count_rises, deed_of, deed_there}
 use Rattle.pf_mounted.proofs.Lives.{ask_on, not_its_own, turned_ask}
 use Rattle.pf_mounted.proofs.Pending.{MayPend}
 use Rattle.pf_mounted.proofs.Placing.{get_take, some_within, take_fewer, take_one_more}
-use Rattle.pf_mounted.proofs.Tracked.{IsNoTurn}
+use Rattle.pf_mounted.proofs.Tracked.{IsNoTurn, IsNumbered}
 use Rattle.pf_mounted.proofs.Waiting.{AreEach, MayWait, all_wait, last_asked}
 
 -- Clients
@@ -46,6 +47,8 @@ same_client m n work its small also same = elim (client_is m work) [
 no_turn_asks : (m : ℕ) (ask : Option Ask) (x : Moment) → IsNoTurn m x → asked_in m ask x ≡ ask
 no_turn_asks m ask (Turns n heard next) other = not_its_own n m next ask other
 no_turn_asks m ask (Writes text) _ = refl
+no_turn_asks m ask (MovesTo moved to) _ = refl
+no_turn_asks m ask (Carries moved back wants) _ = refl
 no_turn_asks m ask (Begins n call) _ = refl
 no_turn_asks m ask (Hands n k place) _ = refl
 no_turn_asks m ask (Ends n answer) _ = refl
@@ -71,6 +74,14 @@ module _ (v : Extent) (answer_at : ℕ → Answered) (told : List Moment) (each 
       small None last turn waits = turn.0
       small (Some life) last turn waits = waits.0
 
+  -- a mount that is there
+  pub small_mount : (p : ℕ) → p ≤ length told → (m : ℕ) (now : MountIs) → mount_in (life_of v (take p told) m) ≡ Some now → m < 16
+  small_mount p low m now made = of_life (life_of v (take p told) m) made (waits_at p low m)
+    where
+      of_life : (life : Option Life) → mount_in life ≡ Some now → MayWait v answer_at m life (last_ask (take p told) m) → m < 16
+      of_life None is waits = absurd (none-some now is)
+      of_life (Some life) is waits = waits.0
+
   -- What pends was asked in the last deed of the mount's last turn, as which it still stands, and the port's ask has the number of that turn
 
   pub record WasAsked (p m : ℕ) (ask : Ask) : Type 0 where
@@ -86,7 +97,7 @@ module _ (v : Extent) (answer_at : ℕ → Answered) (told : List Moment) (each 
     pub deed : slice_get (deeds v answer_at told) asked ≡ Some (Takes (client_of m now.outcome.mount.work) reply (Some (port_ask ask)))
     pub start : count v answer_at (take moment told) ≤ asked
     pub end : suc asked ≡ count v answer_at (take (suc moment) told)
-    pub number : (history : History) (k : ℕ) → chunk_of ask ≡ k → (trace_of history m k (take p told)).asks ≡ suc moment
+    pub number : (history : History) (k chunks : ℕ) → IsNumbered (suc moment) ask (trace_of history m k chunks (take p told))
     pub small : m < 16
     pub pends : MayPend now.outcome.mount.work (Some ask)
 
@@ -99,7 +110,7 @@ module _ (v : Extent) (answer_at : ℕ → Answered) (told : List Moment) (each 
       let earlier : a.moment < p = omega (arith, within, so_long) in
       let at : slice_get told a.moment ≡ Some x = sym (get_take told p a.moment earlier) ∙ a.at in
       let front : take a.moment (take p told) ≡ take a.moment told = take_fewer told p a.moment (omega (arith, earlier)) in
-      let t = ask_taken v m (life_of v (take a.moment told) m) (last_ask (take a.moment told) m) (answer_at (length (take a.moment told))) a.heard ask (each a.moment x at) in
+      let t = ask_taken v m (life_of v (take a.moment told) m) (last_ask (take a.moment told) m) (epoch_of (take a.moment told)) (answer_at (length (take a.moment told))) a.heard ask (each a.moment x at) in
       let life : life_of v (take p told) m ≡ Some t.now = a.life ∙ ap (λ (b : List Moment). turned v m a.heard (life_of v b m)) front ∙ t.made in
       let waits : MayWait v answer_at m (Some t.now) (Some ask) =
       subst (MayWait v answer_at m (Some t.now)) pending (subst (λ l. MayWait v answer_at m l (last_ask (take p told) m)) life (waits_at p low m)) in
@@ -117,7 +128,7 @@ module _ (v : Extent) (answer_at : ℕ → Answered) (told : List Moment) (each 
         deed = deed_there v answer_at told a.moment x t.place (count v answer_at (take a.moment told) + t.place) (Takes (client_of m t.now.outcome.mount.work) t.reply (Some (port_ask ask))) at t.at refl;
         start = omega arith;
         end = omega (arith, next, end);
-        number = λ history k of. a.number history k of;
+        number = λ history k chunks. a.number history k chunks;
         small = waits.0;
         pends = waits.1;
       }
@@ -193,6 +204,8 @@ module _ (v : Extent) (answer_at : ℕ → Answered) (told : List Moment) (each 
     is_no_turn : (x : Moment) (its : Option Heard) (a : Option Ask) → IsNoTurn m x → x ≡ Turns m its a → ⊥
     is_no_turn (Turns n h b) its a other is = other (cc)
     is_no_turn (Writes text) its a _ is = absurd (cc)
+    is_no_turn (MovesTo moved to) its a _ is = absurd (cc)
+    is_no_turn (Carries moved back wants) its a _ is = absurd (cc)
     is_no_turn (Begins n call) its a _ is = absurd (cc)
     is_no_turn (Hands n k place) its a _ is = absurd (cc)
     is_no_turn (Ends n answer) its a _ is = absurd (cc)
@@ -210,6 +223,8 @@ module _ (v : Extent) (answer_at : ℕ → Answered) (told : List Moment) (each 
       | inr other ↦ later other
     ]
     here_or_later j (Writes text) there above low pending none later = later tt
+    here_or_later j (MovesTo moved to) there above low pending none later = later tt
+    here_or_later j (Carries moved back wants) there above low pending none later = later tt
     here_or_later j (Begins i call) there above low pending none later = later tt
     here_or_later j (Hands i k place) there above low pending none later = later tt
     here_or_later j (Ends i answer) there above low pending none later = later tt

@@ -205,7 +205,7 @@ module _ (v : Extent) (blocks : ℕ) (is : v.sectors ≡ 8 * blocks) (many : 1 <
 
   -- A reply
 
-  module _ (j : Journal) (life : Life) (ask : Ask) (answer : Answered) (heard : Heard) (stands : Stands v m life (Some ask)) (matches : Matches j m life.decided life.outcome.mount.position.proposer)
+  module _ (j : Journal) (life : Life) (ask : Ask) (epoch : ℕ) (answer : Answered) (heard : Heard) (stands : Stands v m life (Some ask)) (matches : Matches j m life.decided life.outcome.mount.position.proposer)
       (kind : Answers ask heard.reply) (answers : IsAnswerOf ask heard.reply answer) where
     abbrev mount : MountIs
     mount = life.outcome.mount
@@ -220,7 +220,7 @@ module _ (v : Extent) (blocks : ℕ) (is : v.sectors ≡ 8 * blocks) (many : 1 <
     next = ask_in o.next
 
     abbrev reply_told : Option PortReply
-    reply_told = port_reply ask heard.by answer heard.reply
+    reply_told = port_reply ask epoch heard.by answer heard.reply
 
     abbrev hear : Work → Step
     hear work = record { deed = Takes (client_of m work) reply_told None; doing = hears m mount.upto work heard.reply }
@@ -240,7 +240,7 @@ module _ (v : Extent) (blocks : ℕ) (is : v.sectors ≡ 8 * blocks) (many : 1 <
     -- in no ballot
     in_none : IsNoBallot mount.work → CanBeTold v o.mount.work o.mount next → Goes j (steps_if false mount.work) (became None) next
     in_none none told =
-        let same = other_same v blocks is many m small mount stands.number stands.volume j ask heard.by answer heard.reply kind answers mount.work none stands.room waits.0 waits.1 in
+        let same = other_same v blocks is many m small mount stands.number stands.volume j ask epoch heard.by answer heard.reply kind answers mount.work none stands.room waits.0 waits.1 in
         let comes = other_heard mount ask heard.reply none stands.room waits.0 kind in
         let still = hears_still j m mount.upto mount.work heard.reply none in
         subst (λ list. Goes j (steps_if false mount.work) (record { outcome = o; decided = list }) next) (sym (append-nil life.decided))
@@ -276,7 +276,7 @@ module _ (v : Extent) (blocks : ℕ) (is : v.sectors ≡ 8 * blocks) (many : 1 <
         same = λ q few.
             turns_so j m small life.decided p matches (call_of heard.reply) move moves q
             ∙ ap (λ n. if q == n then record { client = m; reply = Some (replies heard.reply); ask = ask_of (made p heard.reply).next } else idle_turn) (sym stands.upto)
-            ∙ sym (ap (λ r. turn_or_idle m r (next_in block_in (home_of v.sectors q) m port)) (heard_there v blocks is many m small mount stands.number stands.volume j ask heard.by answer heard.reply kind answers q few (Ballots input) pends spelled) ∙ turned q few);
+            ∙ sym (ap (λ r. turn_or_idle m r (next_in block_in (home_of v.sectors q) m port)) (heard_there v blocks is many m small mount stands.number stands.volume j ask epoch heard.by answer heard.reply kind answers q few (Ballots input) pends spelled) ∙ turned q few);
         none = λ q past. turns_so j m small life.decided p matches (call_of heard.reply) move moves q ∙ past_there q (length life.decided) _ (omega (arith, low, stands.upto)) past;
       }
 
@@ -337,25 +337,25 @@ module _ (v : Extent) (blocks : ℕ) (is : v.sectors ≡ 8 * blocks) (many : 1 <
           ends_here (life.decided ++ value ∷ []) (new_proposer mount.files.mount zero_block) (suc mount.upto) left refl (omega (arith, more, stands.upto)) (ap ask_of e)
           (subst (λ n. Matches onward m (life.decided ++ value ∷ []) (new_proposer n zero_block)) (sym stands.number) (decides_match j m small life.decided p matches (call_of heard.reply) move moves value e)) told_so
 
-      in_ballot : CanBeTold v o.mount.work o.mount next → Goes j (hearing_steps m mount ask answer heard next) (hearing heard.reply life) next
+      in_ballot : CanBeTold v o.mount.work o.mount next → Goes j (hearing_steps m mount ask epoch answer heard next) (hearing heard.reply life) next
       in_ballot told_so =
-          subst (λ value. Goes j (hearing_steps m mount ask answer heard next) (became value) next) (sym (decided_is mount input heard.reply at))
+          subst (λ value. Goes j (hearing_steps m mount ask epoch answer heard next) (became value) next) (sym (decided_is mount input heard.reply at))
           (subst (λ w. Goes j (steps_if (stays_in w p heard.reply) w) (became (value_in (ballot_next p heard.reply))) next) (sym at)
           (by_next (ballot_next p heard.reply) (made_next p heard.reply) (ballot_heard mount input heard.reply at low finds)
           (subst (WaitsFor (made p heard.reply).proposer) (made_next p heard.reply) (made_waits p heard.reply)) told_so))
 
-    by_work : (work : Work) → mount.work ≡ work → FindsValue mount.work mount heard.reply → CanBeTold v o.mount.work o.mount next → Goes j (hearing_steps m mount ask answer heard next) (hearing heard.reply life) next
+    by_work : (work : Work) → mount.work ≡ work → FindsValue mount.work mount heard.reply → CanBeTold v o.mount.work o.mount next → Goes j (hearing_steps m mount ask epoch answer heard next) (hearing heard.reply life) next
     by_work (Ballots input) at finds told_so = in_ballot input at (subst (λ w. FindsValue w mount heard.reply) at finds) told_so
     by_work work at finds told_so = other (subst IsNoBallot (sym at) tt) told_so
       where
-        other : IsNoBallot mount.work → CanBeTold v o.mount.work o.mount next → Goes j (hearing_steps m mount ask answer heard next) (hearing heard.reply life) next
+        other : IsNoBallot mount.work → CanBeTold v o.mount.work o.mount next → Goes j (hearing_steps m mount ask epoch answer heard next) (hearing heard.reply life) next
         other none told_so =
-            subst (λ value. Goes j (hearing_steps m mount ask answer heard next) (became value) next) (sym (no_decision mount.work p heard.reply none))
+            subst (λ value. Goes j (hearing_steps m mount ask epoch answer heard next) (became value) next) (sym (no_decision mount.work p heard.reply none))
             (subst (λ b. Goes j (steps_if b mount.work) (became None) next) (sym (no_stay mount.work p heard.reply none)) (in_none none told_so))
 
-  pub heard_goes : (j : Journal) (life : Life) (ask : Ask) (answer : Answered) (heard : Heard) (next : Option Ask) → Stands v m life (Some ask) → Matches j m life.decided life.outcome.mount.position.proposer
-      → IsHearing life.outcome.mount ask answer heard next → CanTurn v (Some life) (Some heard) next → Goes j (hearing_steps m life.outcome.mount ask answer heard next) (hearing heard.reply life) next
-  heard_goes j life ask answer heard _ stands matches hears_it can =
+  pub heard_goes : (j : Journal) (life : Life) (ask : Ask) (epoch : ℕ) (answer : Answered) (heard : Heard) (next : Option Ask) → Stands v m life (Some ask) → Matches j m life.decided life.outcome.mount.position.proposer
+      → IsHearing life.outcome.mount ask answer heard next → CanTurn v (Some life) (Some heard) next → Goes j (hearing_steps m life.outcome.mount ask epoch answer heard next) (hearing heard.reply life) next
+  heard_goes j life ask epoch answer heard _ stands matches hears_it can =
       let o = answered life.outcome.mount heard.reply in
-      subst (λ n. Goes j (hearing_steps m life.outcome.mount ask answer heard n) (hearing heard.reply life) n) (sym hears_it.asks)
-      (by_work j life ask answer heard stands matches hears_it.in_kind hears_it.answers life.outcome.mount.work refl can.0 (subst (CanBeTold v o.mount.work o.mount) hears_it.asks can.1))
+      subst (λ n. Goes j (hearing_steps m life.outcome.mount ask epoch answer heard n) (hearing heard.reply life) n) (sym hears_it.asks)
+      (by_work j life ask epoch answer heard stands matches hears_it.in_kind hears_it.answers life.outcome.mount.work refl can.0 (subst (CanBeTold v o.mount.work o.mount) hears_it.asks can.1))

@@ -1,7 +1,7 @@
 -- In the run of every script each port was driven as was told, each reply that a mount heard is its group's, and what ports handed on is told.
-use Rattle.std.proofs.Common.{◌≡◌, ◌≢◌, ℕ, zero, suc, ◌+◌, ◌≤◌, inl, inr, true, List, [], ◌∷◌, ◌++◌, length, Option, Some, None, slice_get, slice_set, replicate, arith, refl, sym, ap, subst, ◌∙◌}
-use Rattle.std.specs.Option.{option_map}
-use Rattle.std.proofs.lemmas.Bool.{false≢true}
+use Rattle.std.proofs.Common.{◌≡◌, ◌≢◌, ℕ, zero, suc, ◌+◌, ◌<◌, ◌≤◌, nat_le, inl, inr, true, false, List, [], ◌∷◌, ◌++◌, length, Option, Some, None, slice_get, slice_set, replicate, arith, refl, sym, ap, subst, ◌∙◌, append-nil}
+use Rattle.std.specs.Option.{option_and_then, option_map}
+use Rattle.std.proofs.lemmas.Bool.{false≢true, leb-false}
 use Rattle.std.proofs.lemmas.Option.{none-some, same_Some}
 use Rattle.pf_base.specs.Asks.{chunk_of}
 use Rattle.pf_base.specs.declared.asks.Ask.{Ask}
@@ -13,6 +13,11 @@ use Rattle.pf_protocol.specs.declared.events.Event.TheVariants.{Submit}
 use Rattle.pf_tree.specs.declared.calls.FileCall.{FileCall}
 use Rattle.pf_mount.specs.declared.work.Work.{Work}
 use Rattle.pf_mount.specs.Mounts.{Outcome, opening, starting}
+use Rattle.pf_move.specs.declared.mover.Asked.{Asked}
+use Rattle.pf_move.specs.declared.mover.Asked.TheVariants.{Reading, Writing}
+use Rattle.pf_move.specs.declared.routes.Route.{Route}
+use Rattle.pf_move.specs.Movers.{MoverIs}
+use Rattle.pf_move.specs.Routes.{Between, between, home_of}
 use Rattle.pf_asks.specs.Ports.{PortIs, new_port}
 use Rattle.pf_ports.specs.Driven.{Begins as BeginsDriven, IsDriven}
 use Rattle.pf_applyrounds.specs.Halts.{Halt}
@@ -20,12 +25,13 @@ use Rattle.pf_applyrounds.specs.Chunks.{made_chunk}
 use Rattle.pf_chunk.specs.Asking.{fetched}
 use Rattle.pf_chunk.specs.Happenings.{happened}
 use Rattle.pf_chunk.specs.Lending.{all_happened}
-use Rattle.pf_chunk.specs.Runs.{ChunkRun, most_ports, new_run}
+use Rattle.pf_chunk.specs.Runs.{ChunkRun, most_ports, mover_port, new_run}
 use Rattle.pf_hosts.specs.Moments.{Begins, Hands, Heard, Moment, Turns, Writes}
-use Rattle.pf_hosts.specs.Hosts.{HostIs, Stepped, comes_of, number_of, stepped}
+use Rattle.pf_hosts.specs.Hosts.{HostIs, Stepped, begun, comes_of, made_host, number_of, stepped}
 use Rattle.pf_hosts.specs.Words.{read_call}
 use Rattle.pf_hosts.proofs.Machine.{starting_keeps}
-use Rattle.pf_fleet.specs.Volumes.{Hosts, VolumeRun, begins, host_at, mounts, with_chunk}
+use Rattle.pf_fleet.specs.Volumes.{Hosts, VolumeRun, asks_in, begins, host_at, mounts, mover_steps, mover_steps_at, quietly, with_chunk}
+use Rattle.pf_fleet.specs.Volumes as volumes
 use Rattle.pf_world.specs.Lines.{rests}
 use Rattle.pf_world.specs.Reports.{world_run}
 use Rattle.pf_world.specs.Worlds.{Told, made}
@@ -33,132 +39,233 @@ use Rattle.pf_world.specs.declared.kind.Kind.{Kind}
 use Rattle.pf_world.specs.declared.kind.Kind.TheVariants.{Mounted, Raw}
 use Rattle.pf_threads.specs.Sessions.{Session}
 use Rattle.pf_world.specs.declared.line.Line.{Line}
+use Rattle.pf_mounted.specs.Epochs.{serving}
 use Rattle.pf_mounted.specs.Handing.{AreCallsOfWords, AreHandedOn, AreMountsAlone, reached}
 use Rattle.pf_mounted.specs.Hearing.{IsHeard}
 use Rattle.pf_mounted.specs.Mounts.{last_ask, life_of}
-use Rattle.pf_mounted.specs.Pasts.{past_of}
+use Rattle.pf_mounted.specs.Pasts.{mover_trace, past_in, past_of}
 use Rattle.pf_mounted.specs.Scripts.{IsScript}
+use Rattle.pf_mounted.proofs.Bearing.{IsBearing, bearing_on}
 use Rattle.pf_mounted.proofs.Writers.{adds_none, alone_set, alone_told}
 use Rattle.pf_mounted.proofs.Each.{AreEach, each_at, none_told, one_more}
 use Rattle.pf_mounted.proofs.Growing.{all_grow, all_ports, Grows, fetched_grows, happened_grows}
 use Rattle.pf_mounted.proofs.Hearing.{IsSo, all_grown, grow_set, told_low}
 use Rattle.pf_mounted.proofs.Hosting.{AreSo, behind, comes_so, stepped_so}
-use Rattle.pf_mounted.proofs.Hosts.{WorksAt}
+use Rattle.pf_mounted.proofs.Hosts.{StepsTo, WorksAt, begins_to, makes_to, steps_to}
+use Rattle.pf_mounted.proofs.Leaving.{moves_so}
 use Rattle.pf_mounted.proofs.Lives.{IsQuiet}
-use Rattle.pf_mounted.proofs.Ports.{HasAsked, fetched_ports, happened_ports}
+use Rattle.pf_mounted.proofs.Ports.{HasAsked, asked_still, fetched_ports, happened_ports, none_asked_of}
+use Rattle.pf_mounted.proofs.Routing.{Having, IsHome, still_routes}
 use Rattle.pf_mounted.proofs.Running.{IsKeptIn, running_in}
-use Rattle.pf_mounted.proofs.Standing.{AreTold, all_told, new_chunk, new_told}
-use Rattle.pf_mounted.proofs.Telling.{IsAsTold, passed, regrown}
-use Rattle.pf_mounted.proofs.Tracing.{Passes, writes_pass}
+use Rattle.pf_mounted.proofs.Standing.{all_told, few_at, new_chunk, new_told}
+use Rattle.pf_mounted.proofs.Steering.{IsBorne, mover_so}
+use Rattle.pf_mounted.proofs.Telling.{IsAsTold, MoverAsTold, passed, regrown}
+use Rattle.pf_mounted.proofs.Tracing.{Passes, asks_of, writes_pass}
 use Rattle.pf_mounted.proofs.Writing.{AddsNoWrite, fetched_adds, happened_adds}
 
 record IsAsRun (kind : Option Kind) (v : VolumeRun) (told : List Moment) : Type 0 where
-  hosts : AreTold v told
-  so : AreSo kind told v.chunks
-  none : kind ≢ Some Mounted → (v.hosts ≡ []) × AreEach (λ before. IsQuiet) told
+  borne : IsBorne kind v told
+  none : kind ≢ Some Mounted → (v.hosts ≡ []) × (v.mover ≡ None) × AreEach (λ before. IsQuiet) told
 
 -- a moment that is nothing to any port
-told_too : (kind : Option Kind) (told : List Moment) (chunks : List ChunkRun) (y : Moment) → ((k : ℕ) → Passes k y) → IsSo chunks told y → AreSo kind told chunks → AreSo kind (told ++ y ∷ []) chunks
-told_too kind told chunks y pass so is = record {
-  ports = λ k c at. passed told k c y (pass k) (is.ports k c at);
-  each = one_more (IsSo chunks) told y is.each so;
+told_too : (kind : Option Kind) (count : ℕ) (told : List Moment) (chunks : List ChunkRun) (y : Moment) → ((k : ℕ) → Passes (asks_of count told k) k y) → IsSo count chunks told y → AreSo kind count told chunks → AreSo kind count (told ++ y ∷ []) chunks
+told_too kind count told chunks y pass so is = record {
+  ports = λ k c at. passed count told k c y (is.ports k c at) (pass k);
+  each = one_more (IsSo count chunks) told y is.each so;
   alone = λ own. alone_told chunks told (y ∷ []) (is.alone own);
 }
 
--- an event of a chunk
+-- an event of a group
 event_so : (kind : Option Kind) (v : VolumeRun) (told : List Moment) (k : ℕ) (c d : ChunkRun) → slice_get v.chunks k ≡ Some c → d.ports ≡ c.ports → Grows c.group d.group → (kind ≢ Some Raw → AddsNoWrite c.group.history d.group.history)
-    → AreSo kind told v.chunks → AreSo kind told (with_chunk v d).chunks
+    → AreSo kind v.extent.chunks told v.chunks → AreSo kind v.extent.chunks told (with_chunk v d).chunks
 event_so kind v told k c d at ports grows adds is =
+    let count = v.extent.chunks in
     let number : d.group.number ≡ k = grows.number ∙ (is.ports k c at).number in
-    subst (λ (n : ℕ). AreSo kind told (slice_set v.chunks n d)) (sym number) (record {
+    subst (λ (n : ℕ). AreSo kind count told (slice_set v.chunks n d)) (sym number) (record {
       ports = λ j x now. elim (set_cases v.chunks k d j x now) [
         | inl here ↦
-            subst (λ (i : ℕ). IsAsTold told i x) (sym here.0) (subst (λ (y : ChunkRun). IsAsTold told k y) here.1 (regrown told k c d ports grows (is.ports k c at)))
+            subst (λ (i : ℕ). IsAsTold count told i x) (sym here.0) (subst (λ (y : ChunkRun). IsAsTold count told k y) here.1 (regrown count told k c d ports grows (is.ports k c at)))
         | inr away ↦ is.ports j x away.1
       ];
-      each = all_grown told v.chunks (slice_set v.chunks k d) (grow_set v.chunks k c d at grows) is.each;
+      each = all_grown count told v.chunks (slice_set v.chunks k d) (grow_set v.chunks k c d at grows) is.each;
       alone = λ own. alone_set v.chunks told told (λ j place was. was) k c d at (adds_none told k c d (adds own)) (is.alone own);
     })
 
+-- the mover's ports are as they were
+still_bearing : (v : VolumeRun) (told : List Moment) (k : ℕ) (c d : ChunkRun) → slice_get v.chunks k ≡ Some c → d.ports ≡ c.ports → d.group.number ≡ k → IsBearing v.extent.chunks told v.chunks v.routes v.routes.moving v.mover
+    → IsBearing v.extent.chunks told (with_chunk v d).chunks v.routes v.routes.moving v.mover
+still_bearing v told k c d at ports number is =
+    subst (λ (all : List Moment). IsBearing v.extent.chunks all (with_chunk v d).chunks v.routes v.routes.moving v.mover) (append-nil told)
+    (bearing_on v.extent.chunks told [] v.chunks (with_chunk v d).chunks v.routes tt
+    (λ of ask. asked_still of mover_port ask v.chunks d.group.number c d (ap (slice_get v.chunks) number ∙ at) (ap (λ ps. slice_get ps mover_port) ports)) v.routes.moving v.mover is)
+
+-- after a step of a host
+step_bearing : (v : VolumeRun) (told : List Moment) (m : ℕ) (s : Stepped) (of : Having) (homes : (chunk : ℕ) → IsHome of chunk (home_of v.routes chunk)) → m < mover_port → StepsTo v.routes of homes v.extent m told v.chunks s
+    → IsBearing v.extent.chunks told v.chunks v.routes v.routes.moving v.mover → IsBearing v.extent.chunks (told ++ s.told) s.chunks v.routes v.routes.moving v.mover
+step_bearing v told m s of homes small steps is =
+    bearing_on v.extent.chunks told s.told v.chunks s.chunks v.routes steps.still (λ have ask. steps.others have mover_port ask (λ same. omega (arith, small, same))) v.routes.moving v.mover is
+
 no_host : (hosts : Hosts) (m : ℕ) (host : HostIs) → hosts ≡ [] → host_at hosts m ≡ Some host → ⊥
 no_host hosts m host none at = none-some host (sym (ap (λ (hs : Hosts). host_at hs m) none) ∙ at)
+
+-- without a mover nothing happens
+no_group : (b : Option Between) → asks_in b None ≡ None
+no_group None = refl
+no_group (Some b) = refl
+
+no_mover : (halts : List Halt) (v : VolumeRun) → v.mover ≡ None → mover_steps halts v ≡ quietly v
+unfolding mover_steps
+no_mover halts v none =
+    ap (λ o. mover_steps_at halts o v) (ap (λ o. asks_in (between v.routes) (option_and_then (λ (m : MoverIs). m.asked) o)) none ∙ no_group (between v.routes))
 
 -- a mount that rests asks nothing
 pub none_asked : (work : Work) (at : Option ℕ) (ask : Option Ask) → at ≡ option_map chunk_of ask → WorksAt work at → rests work ≡ true → ask ≡ None
 none_asked work at None same works rest = refl
 none_asked work at (Some ask) same works rest = absurd (false≢true (sym (subst (WorksAt work) same works) ∙ rest))
 
-module _ (kind : Option Kind) (halts : List Halt) (v : VolumeRun) (told : List Moment) (is : IsAsRun kind v told) where
-  step_so : (m : ℕ) (host : HostIs) → host_at v.hosts m ≡ Some host → AreSo kind (told ++ (stepped halts v.chunks host).told) (stepped halts v.chunks host).chunks
+module _ (kind : Option Kind) (halts : List Halt) (v : VolumeRun) (told : List Moment) (is : IsBorne kind v told) where
+  abbrev count : ℕ
+  count = v.extent.chunks
+
+  abbrev of : Having
+  of = asks_of count told
+
+  step_so : (m : ℕ) (host : HostIs) → host_at v.hosts m ≡ Some host → AreSo kind count (told ++ (stepped halts v.routes v.chunks host).told) (stepped halts v.routes v.chunks host).chunks
   step_so m host at =
       let h = is.hosts.hosts m host at in
-      stepped_so kind halts told v.chunks is.so host (subst (λ n. HasAsked n (last_ask told n) v.chunks) (sym h.number) (is.hosts.ports m)) (h.at ∙ ap (λ n. option_map chunk_of (last_ask told n)) (sym h.number))
+      let small = few_at halts v told is.hosts m host at in
+      stepped_so kind count (length v.chunks) v.routes halts told is.hosts.routes v.chunks is.so host (subst (λ n. n < mover_port) (sym h.number) small) (subst (λ n. HasAsked of n (last_ask told n) v.chunks) (sym h.number) (is.hosts.ports m small))
+      (h.at ∙ ap (λ n. option_map chunk_of (last_ask told n)) (sym h.number))
 
-  mount_so : AreSo kind (told ++ (mounts v).told) (mounts v).volume.chunks
-  mount_so =
-      let m = length v.hosts in
-      comes_so kind told v.chunks is.so None None (opening m v.extent) (subst (λ ask. HasAsked m ask v.chunks) (is.hosts.past m (omega arith)).1 (is.hosts.ports m)) tt
+  step_borne : (m : ℕ) (host : HostIs) → host_at v.hosts m ≡ Some host → IsBearing count (told ++ (stepped halts v.routes v.chunks host).told) (stepped halts v.routes v.chunks host).chunks v.routes v.routes.moving v.mover
+  step_borne m host at =
+      let small = few_at halts v told is.hosts m host at in
+      step_bearing v told m (stepped halts v.routes v.chunks host) of is.hosts.routes.homes small
+      (steps_to v.routes of is.hosts.routes.homes halts v.extent m told v.chunks host (is.hosts.hosts m host at) (is.hosts.ports m small) is.hosts.placed) is.bears
 
-  begin_so : (m : ℕ) (host : HostIs) (words : Call) (call : FileCall) → host_at v.hosts m ≡ Some host → rests host.mount.work ≡ true → read_call words ≡ Some call
-      → AreSo kind (told ++ (begins m host call v).told) (begins m host call v).volume.chunks
-  begin_so m host words call at rest said =
-      let h = is.hosts.hosts m host at in
-      let first : Moment = Begins (number_of host.mount) call in
-      let o : Outcome = starting host.mount call in
-      let s : Stepped = comes_of v.chunks None (Some call) o in
-      let number : number_of o.mount ≡ m = (starting_keeps host.mount call).0 ∙ h.number in
-      let free : HasAsked m None v.chunks = subst (λ ask. HasAsked m ask v.chunks) (none_asked host.mount.work host.at (last_ask told m) h.at h.works rest) (is.hosts.ports m) in
-      behind kind told (first ∷ []) s.told s.chunks
-      (comes_so kind (told ++ first ∷ []) v.chunks (told_too kind told v.chunks first (λ k. record { nothing = λ history n t. refl; within = λ n. tt }) (words, said) is.so) None (Some call) o
-      (subst (λ n. HasAsked n None v.chunks) (sym number) free) tt)
+  module _ (small : length v.hosts < mover_port) where
+    free_mount : HasAsked of (length v.hosts) None v.chunks
+    free_mount = subst (λ ask. HasAsked of (length v.hosts) ask v.chunks) (is.hosts.past (length v.hosts) (omega arith)).1 (is.hosts.ports (length v.hosts) small)
+
+    mount_so : AreSo kind count (told ++ (mounts v).told) (mounts v).volume.chunks
+    mount_so = comes_so kind count (length v.chunks) v.routes told is.hosts.routes v.chunks is.so None None (opening (length v.hosts) v.extent) small free_mount tt
+
+    mount_borne : IsBearing count (told ++ (mounts v).told) (mounts v).volume.chunks v.routes v.routes.moving v.mover
+    mount_borne =
+        let none = is.hosts.past (length v.hosts) (omega arith) in
+        step_bearing v told (length v.hosts) (made_host v.routes v.chunks (length v.hosts) v.extent) of is.hosts.routes.homes small
+        (makes_to v.routes of is.hosts.routes.homes v.extent (length v.hosts) told v.chunks none.0 none.1 (is.hosts.ports (length v.hosts) small) is.hosts.placed) is.bears
+
+  module _ (m : ℕ) (host : HostIs) (words : Call) (call : FileCall) (at : host_at v.hosts m ≡ Some host) (rest : rests host.mount.work ≡ true) (said : read_call words ≡ Some call) where
+    begin_so : AreSo kind count (told ++ (begins m host call v).told) (begins m host call v).volume.chunks
+    begin_so =
+        let h = is.hosts.hosts m host at in
+        let small = few_at halts v told is.hosts m host at in
+        let first : Moment = Begins (number_of host.mount) call in
+        let o : Outcome = starting host.mount call in
+        let s : Stepped = comes_of v.routes v.chunks None (Some call) o in
+        let number : number_of o.mount ≡ m = (starting_keeps host.mount call).0 ∙ h.number in
+        let free : HasAsked of m None v.chunks = subst (λ ask. HasAsked of m ask v.chunks) (none_asked host.mount.work host.at (last_ask told m) h.at h.works rest) (is.hosts.ports m small) in
+        let on = told ++ first ∷ [] in
+        behind kind count told (first ∷ []) s.told s.chunks
+        (comes_so kind count (length v.chunks) v.routes on (still_routes count (length v.chunks) v.routes told (first ∷ []) (tt, tt) is.hosts.routes) v.chunks
+        (told_too kind count told v.chunks first (λ k. record { nothing = λ history n t same. refl; hauls = λ history t. refl; within = λ n. tt; still = tt }) (words, said) is.so) None (Some call) o (subst (λ n. n < mover_port) (sym number) small)
+        (subst (λ n. HasAsked (asks_of count on) n None v.chunks) (sym number) (none_asked_of of (asks_of count on) m v.chunks free)) tt)
+
+    begin_borne : IsBearing count (told ++ (begins m host call v).told) (begins m host call v).volume.chunks v.routes v.routes.moving v.mover
+    begin_borne =
+        let small = few_at halts v told is.hosts m host at in
+        step_bearing v told m (begun v.routes v.chunks host call) of is.hosts.routes.homes small
+        (begins_to v.routes of is.hosts.routes.homes halts v.extent m told v.chunks host (is.hosts.hosts m host at) (is.hosts.ports m small) is.hosts.placed call rest) is.bears
 
 module _ (halts : List Halt) where
+  fewer_hosts : (n : ℕ) → nat_le 16 n ≡ false → n < mover_port
+  fewer_hosts n few = omega (arith, leb-false 16 n few)
+
   kept : IsKeptIn halts IsAsRun
   kept =
       let hosts = all_told halts in record {
         deciding = λ kind v told is. record {
-          hosts = is.hosts;
-          so = record { ports = is.so.ports; each = is.so.each; alone = λ own. is.so.alone (none-some Raw) };
+          borne = record {
+            hosts = is.borne.hosts;
+            so = record { ports = is.borne.so.ports; each = is.borne.so.each; alone = λ own. is.borne.so.alone (none-some Raw) };
+            bears = is.borne.bears;
+          };
           none = λ other. is.none (none-some Mounted);
         };
         writing = λ kind v told text is. record {
-          hosts = hosts.writing v told text is.hosts;
-          so = told_too kind told v.chunks (Writes text) (λ k. writes_pass k text) tt is.so;
-          none = λ other. ((is.none other).0, one_more (λ before. IsQuiet) told (Writes text) (is.none other).1 tt);
+          borne = record {
+            hosts = hosts.writing v told text is.borne.hosts;
+            so = told_too kind v.extent.chunks told v.chunks (Writes text) (λ k. writes_pass (asks_of v.extent.chunks told k) k text) tt is.borne.so;
+            bears = bearing_on v.extent.chunks told (Writes text ∷ []) v.chunks v.chunks v.routes (tt, tt) (λ of ask asked. asked) v.routes.moving v.mover is.borne.bears;
+          };
+          none = λ other. let was = is.none other in (was.0, was.1, one_more (λ before. IsQuiet) told (Writes text) was.2 tt);
         };
         happening = λ kind v told k c event at never is. record {
-          hosts = hosts.happening v told k c event at is.hosts;
-          so = event_so kind v told k c (happened halts c event).chunk at (happened_ports halts c event) (happened_grows halts c event) (λ own. happened_adds halts c event never) is.so;
+          borne = record {
+            hosts = hosts.happening v told k c event at is.borne.hosts;
+            so = event_so kind v told k c (happened halts c event).chunk at (happened_ports halts c event) (happened_grows halts c event) (λ own. happened_adds halts c event never) is.borne.so;
+            bears = still_bearing v told k c (happened halts c event).chunk at (happened_ports halts c event) ((happened_grows halts c event).number ∙ (is.borne.so.ports k c at).number) is.borne.bears;
+          };
           none = is.none;
         };
         submitting = λ v told k c server op at is.
             let event : Event = Submit server op in record {
-              hosts = hosts.happening v told k c event at is.hosts;
-              so = event_so (Some Raw) v told k c (happened halts c event).chunk at (happened_ports halts c event) (happened_grows halts c event) (λ own. absurd (own refl)) is.so;
+              borne = record {
+                hosts = hosts.happening v told k c event at is.borne.hosts;
+                so = event_so (Some Raw) v told k c (happened halts c event).chunk at (happened_ports halts c event) (happened_grows halts c event) (λ own. absurd (own refl)) is.borne.so;
+                bears = still_bearing v told k c (happened halts c event).chunk at (happened_ports halts c event) ((happened_grows halts c event).number ∙ (is.borne.so.ports k c at).number) is.borne.bears;
+              };
               none = is.none;
             };
         threading = λ v told k c its at is. record {
-          hosts = hosts.threading v told k c its at is.hosts;
-          so = event_so (Some Raw) v told k c (all_happened halts its c).chunk at (all_ports halts c its) (all_grow halts c its) (λ own. absurd (own refl)) is.so;
+          borne = record {
+            hosts = hosts.threading v told k c its at is.borne.hosts;
+            so = event_so (Some Raw) v told k c (all_happened halts its c).chunk at (all_ports halts c its) (all_grow halts c its) (λ own. absurd (own refl)) is.borne.so;
+            bears = still_bearing v told k c (all_happened halts its c).chunk at (all_ports halts c its) ((all_grow halts c its).number ∙ (is.borne.so.ports k c at).number) is.borne.bears;
+          };
           none = is.none;
         };
         reading = λ kind v told k c server range at is. record {
-          hosts = hosts.reading v told k c server range at is.hosts;
-          so = event_so kind v told k c (fetched halts server range c).chunk at (fetched_ports halts server range c) (fetched_grows halts c server range) (λ own. fetched_adds halts c server range) is.so;
+          borne = record {
+            hosts = hosts.reading v told k c server range at is.borne.hosts;
+            so = event_so kind v told k c (fetched halts server range c).chunk at (fetched_ports halts server range c) (fetched_grows halts c server range) (λ own. fetched_adds halts c server range) is.borne.so;
+            bears = still_bearing v told k c (fetched halts server range c).chunk at (fetched_ports halts server range c) ((fetched_grows halts c server range).number ∙ (is.borne.so.ports k c at).number) is.borne.bears;
+          };
           none = is.none;
         };
         stepping = λ kind v told m host at is. record {
-          hosts = hosts.stepping v told m host at is.hosts;
-          so = step_so kind halts v told is m host at;
+          borne = record { hosts = hosts.stepping v told m host at is.borne.hosts; so = step_so kind halts v told is.borne m host at; bears = step_borne kind halts v told is.borne m host at };
           none = λ other. absurd (no_host v.hosts m host (is.none other).0 at);
         };
-        mounting = λ v told large few is. record { hosts = hosts.mounting v told large few is.hosts; so = mount_so (Some Mounted) halts v told is; none = λ other. absurd (other refl) };
+        carrying = λ kind v told is. record {
+          borne = mover_so kind halts v told is.borne;
+          none = λ other.
+              let was = is.none other in
+              let same = no_mover halts v was.1 in (
+                ap (λ (t : volumes.Told). t.volume.hosts) same ∙ was.0,
+                ap (λ (t : volumes.Told). t.volume.mover) same ∙ was.1,
+                subst (λ (t : volumes.Told). AreEach (λ before. IsQuiet) (told ++ t.told)) (sym same) (subst (AreEach (λ before. IsQuiet)) (sym (append-nil told)) was.2),
+              );
+        };
+        moving = λ v told names format chunk free few is. record { borne = moves_so halts v told names format chunk free (Some Mounted) is.borne; none = λ other. absurd (other refl) };
+        mounting = λ v told large few is.
+            let small = fewer_hosts (length v.hosts) few in record {
+              borne = record { hosts = hosts.mounting v told large few is.borne.hosts; so = mount_so (Some Mounted) halts v told is.borne small; bears = mount_borne (Some Mounted) halts v told is.borne small };
+              none = λ other. absurd (other refl);
+            };
         beginning = λ kind v told m host words call at rest said is. record {
-          hosts = hosts.beginning v told m host call at rest is.hosts;
-          so = begin_so kind halts v told is m host words call at rest said;
+          borne = record {
+            hosts = hosts.beginning v told m host call at rest is.borne.hosts;
+            so = begin_so kind halts v told is.borne m host words call at rest said;
+            bears = begin_borne kind halts v told is.borne m host words call at rest said;
+          };
           none = λ other. absurd (no_host v.hosts m host (is.none other).0 at);
         };
-        killing = λ kind v told m host at is. record { hosts = hosts.killing v told m host at is.hosts; so = is.so; none = λ other. absurd (no_host v.hosts m host (is.none other).0 at) };
+        killing = λ kind v told m host at is. record {
+          borne = record { hosts = hosts.killing v told m host at is.borne.hosts; so = is.borne.so; bears = is.borne.bears };
+          none = λ other. absurd (no_host v.hosts m host (is.none other).0 at);
+        };
       }
 
   -- A new volume
@@ -168,26 +275,39 @@ module _ (halts : List Halt) where
   new_port_at (suc n) zero port at = same_Some new_port port at
   new_port_at (suc n) (suc m) port at = new_port_at n m port at
 
-  new_so : (sectors names format k : ℕ) → IsAsTold [] k (new_run (made_chunk halts sectors names format k))
-  new_so sectors names format k = record {
+  new_port_there : (n m : ℕ) → m < n → slice_get (replicate n new_port) m ≡ Some new_port
+  new_port_there zero m low = absurd (omega (arith, low))
+  new_port_there (suc n) zero low = refl
+  new_port_there (suc n) (suc m) low = new_port_there n m (omega (arith, low))
+
+  new_so : (count sectors names format k : ℕ) → IsAsTold count [] k (new_run (made_chunk halts sectors names format k))
+  new_so count sectors names format k = record {
     number = refl;
     stands = refl;
     within = tt;
-    driven = λ m port at. subst (λ (p : PortIs). IsDriven (made_chunk halts sectors names format k).setup (past_of [] m k []) p) (new_port_at most_ports m port at) (BeginsDriven []);
+    driven = λ m low. record { port = new_port; its = BeginsDriven []; there = λ chunk has. new_port_there most_ports m (omega (arith, low)) };
+    hauled = by;
   }
+    where
+      by : (role : Asked) → MoverAsTold count [] k (new_run (made_chunk halts sectors names format k)) role
+      by Reading = record { port = new_port; its = BeginsDriven []; there = λ none. absurd (none-some Reading none) }
+      by Writing = record { port = new_port; its = BeginsDriven []; there = λ none. absurd (none-some Writing none) }
 
   new : (sessions : List Session) (chunks sectors names format : ℕ) → IsAsRun None (made halts sessions chunks sectors names format).volume []
   new sessions chunks sectors names format =
       let is : (k : ℕ) (c : ChunkRun) → slice_get (made halts sessions chunks sectors names format).volume.chunks k ≡ Some c → new_run (made_chunk halts sectors names format k) ≡ c =
       λ k c at. let same : 0 + k ≡ k = omega arith in ap (λ i. new_run (made_chunk halts sectors names format i)) (sym same) ∙ new_chunk (λ i. new_run (made_chunk halts sectors names format i)) chunks 0 k c at in record {
-        hosts = new_told halts sessions chunks sectors names format;
-        so = record {
-          ports = λ k c at. subst (λ (x : ChunkRun). IsAsTold [] k x) (is k c at) (new_so sectors names format k);
-          each = none_told (IsSo (made halts sessions chunks sectors names format).volume.chunks);
-          alone = λ own k place server c range sectors_of answer there at.
-              absurd (none-some (record { event = Submit server (Write range sectors_of); answer = answer }) (ap (λ (x : ChunkRun). slice_get x.group.history place) (is k c there) ∙ at));
+        borne = record {
+          hosts = new_told halts sessions chunks sectors names format;
+          so = record {
+            ports = λ k c at. subst (λ (x : ChunkRun). IsAsTold chunks [] k x) (is k c at) (new_so chunks sectors names format k);
+            each = none_told (IsSo chunks (made halts sessions chunks sectors names format).volume.chunks);
+            alone = λ own k place server c range sectors_of answer there at.
+                absurd (none-some (record { event = Submit server (Write range sectors_of); answer = answer }) (ap (λ (x : ChunkRun). slice_get x.group.history place) (is k c there) ∙ at));
+          };
+          bears = λ k c port at its. ap (λ (p : PortIs). p.ask) (sym (new_port_at most_ports mover_port port (ap (λ (x : ChunkRun). slice_get x.ports mover_port) (is k c at) ∙ its)));
         };
-        none = λ other. (refl, none_told (λ before. IsQuiet));
+        none = λ other. (refl, refl, none_told (λ before. IsQuiet));
       }
 
   as_run : (sessions : List Session) (lines : List Line) → IsScript lines → IsAsRun (world_run halts sessions lines).world.kind (world_run halts sessions lines).world.volume (world_run halts sessions lines).told
@@ -200,50 +320,72 @@ module _ (halts : List Halt) where
     abbrev chunks : List ChunkRun
     chunks = run.world.volume.chunks
 
-    -- each moment is so
-    pub moments_so : AreEach (IsSo chunks) run.told
-    moments_so = (as_run sessions lines script).so.each
+    abbrev many : ℕ
+    many = run.world.volume.extent.chunks
 
-    each_so : (before : List Moment) (y : Moment) (after : List Moment) → run.told ≡ before ++ y ∷ after → IsSo chunks before y
-    each_so before y after same = each_at (IsSo chunks) run.told before y after moments_so same
+    pub is_borne : IsBorne run.world.kind run.world.volume run.told
+    is_borne = (as_run sessions lines script).borne
+
+    -- each moment is so
+    pub moments_so : AreEach (IsSo many chunks) run.told
+    moments_so = is_borne.so.each
+
+    pub each_so : (before : List Moment) (y : Moment) (after : List Moment) → run.told ≡ before ++ y ∷ after → IsSo many chunks before y
+    each_so before y after same = each_at (IsSo many chunks) run.told before y after moments_so same
 
     -- each port was driven as was told
-    pub ports_driven : (k m : ℕ) (c : ChunkRun) (port : PortIs) → slice_get chunks k ≡ Some c → slice_get c.ports m ≡ Some port → IsDriven c.group.setup (past_of c.group.history m k run.told) port
-    ports_driven k m c port at its = ((as_run sessions lines script).so.ports k c at).driven m port its
+    pub ports_driven : (k m : ℕ) (c : ChunkRun) → m < mover_port → slice_get chunks k ≡ Some c → (port : PortIs) × IsDriven c.group.setup (past_of many c.group.history m k run.told) port
+    ports_driven k m c small at = let port = (is_borne.so.ports k c at).driven m small in (port.port, port.its)
+
+    -- and is there while the group has the asks of a chunk
+    pub ports_there : (chunk k m : ℕ) (c : ChunkRun) (port : PortIs) → m < mover_port → home_of run.world.volume.routes chunk ≡ Some k → slice_get chunks k ≡ Some c → slice_get c.ports m ≡ Some port
+        → IsDriven c.group.setup (past_of many c.group.history m k run.told) port
+    ports_there chunk k m c port small home at its =
+        let was = (is_borne.so.ports k c at).driven m small in
+        let has = (subst (IsHome (asks_of many run.told) chunk) home (is_borne.hosts.routes.homes chunk)).here in
+        subst (IsDriven c.group.setup (past_of many c.group.history m k run.told)) (same_Some was.port port (sym (was.there chunk has) ∙ its)) was.its
+
+    -- so were the mover's
+    pub movers_driven : (k : ℕ) (role : Asked) (c : ChunkRun) → slice_get chunks k ≡ Some c → (port : PortIs) × IsDriven c.group.setup (past_in c.group.history (mover_trace c.group.history k role many run.told)) port
+    movers_driven k role c at = let port = (is_borne.so.ports k c at).hauled role in (port.port, port.its)
+
+    -- the routes are as was told
+    pub routes_told : (chunk : ℕ) (route : Route) → slice_get run.world.volume.routes.routes chunk ≡ Some route → serving run.told chunk ≡ Some route.group
+    routes_told chunk route there = (is_borne.hosts.routes.served chunk route there).0
 
     -- whatever a mount heard is its group's answer
-    pub replies_heard : (m : ℕ) (before after : List Moment) (heard : Heard) (next : Option Ask) → run.told ≡ before ++ Turns m (Some heard) next ∷ after → IsHeard chunks m before heard
-    replies_heard m before after heard next same = (each_so before (Turns m (Some heard) next) after same).0
+    pub replies_heard : (m : ℕ) (before after : List Moment) (heard : Heard) (next : Option Ask) → run.told ≡ before ++ Turns m (Some heard) next ∷ after → IsHeard many chunks m before heard
+    replies_heard m before after heard next same = (each_so before (Turns m (Some heard) next) after same).is
 
     -- by events of all the history that was told of
-    pub replies_since : (m : ℕ) (before after : List Moment) (heard : Heard) (next : Option Ask) (ask : Ask) → run.told ≡ before ++ Turns m (Some heard) next ∷ after → last_ask before m ≡ Some ask → reached (chunk_of ask) before ≤ heard.by
-    replies_since m before after heard next ask same pending = (each_so before (Turns m (Some heard) next) after same).1 ask pending
+    pub replies_since : (m : ℕ) (before after : List Moment) (heard : Heard) (next : Option Ask) (ask : Ask) → run.told ≡ before ++ Turns m (Some heard) next ∷ after → last_ask before m ≡ Some ask → (k : ℕ) → serving before (chunk_of ask) ≡ Some k → reached k before ≤ heard.by
+    replies_since m before after heard next ask same pending k serves = (each_so before (Turns m (Some heard) next) after same).since ask pending k serves
 
     pub ports_full : (k : ℕ) (c : ChunkRun) → slice_get chunks k ≡ Some c → length c.ports ≡ most_ports
-    ports_full k c there = ((as_run sessions lines script).hosts.placed k c there).ports
+    ports_full k c there = (is_borne.hosts.placed k c there).ports
 
     -- what ports handed on is told
     pub handed_on : AreHandedOn chunks run.told
     handed_on = record {
-      each = λ before after m k place same. (each_so before (Hands m k place) after same).0;
-      behind = λ before after m k place same. (each_so before (Hands m k place) after same).1;
+      each = λ before after m k place same small. (each_so before (Hands m k place) after same).of_mount small;
+      behind = λ before after m k place same. (each_so before (Hands m k place) after same).behind;
     }
 
     pub reached_within : (k : ℕ) (c : ChunkRun) → slice_get chunks k ≡ Some c → reached k run.told ≤ length c.group.history
-    reached_within k c there = let is = (as_run sessions lines script).so in told_low run.told chunks k c there is.each (is.ports k c there)
+    reached_within k c there = told_low many run.told chunks k c there moments_so
 
     raw_apart : Some Mounted ≡ Some Raw → ⊥
     raw_apart same = cc
 
     pub mounts_alone : run.world.kind ≡ Some Mounted → AreMountsAlone chunks run.told
-    mounts_alone mounted = (as_run sessions lines script).so.alone (λ raw. raw_apart (sym mounted ∙ raw))
+    mounts_alone mounted = is_borne.so.alone (λ raw. raw_apart (sym mounted ∙ raw))
 
     -- but in a run with mounts there is none
     pub none_turns : run.world.kind ≢ Some Mounted → (before after : List Moment) (m : ℕ) (heard : Option Heard) (next : Option Ask) → run.told ≡ before ++ Turns m heard next ∷ after → ⊥
-    none_turns other before after m heard next same = each_at (λ before. IsQuiet) run.told before (Turns m heard next) after ((as_run sessions lines script).none other).1 same
+    none_turns other before after m heard next same = each_at (λ before. IsQuiet) run.told before (Turns m heard next) after ((as_run sessions lines script).none other).2 same
 
     pub none_lives : run.world.kind ≢ Some Mounted → (m : ℕ) → life_of run.world.volume.extent run.told m ≡ None
-    none_lives other m = let is = as_run sessions lines script in (is.hosts.past m (omega (arith, ap length (is.none other).0))).0
+    none_lives other m = let is = as_run sessions lines script in (is.borne.hosts.past m (omega (arith, ap length (is.none other).0))).0
 
     pub calls_of_words : AreCallsOfWords run.told
     calls_of_words before after m call same = each_so before (Begins m call) after same

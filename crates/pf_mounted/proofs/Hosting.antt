@@ -1,6 +1,6 @@
 -- Steps of hosts are as they were told.
-use Rattle.std.proofs.Common.{◌≡◌, ◌≢◌, ℕ, inl, inr, List, [], ◌∷◌, ◌++◌, Option, Some, None, slice_get, slice_set, refl, sym, ap, subst, ◌∙◌, append-nil}
-use Rattle.std.specs.Option.{option_map}
+use Rattle.std.proofs.Common.{◌≡◌, ◌≢◌, ℕ, ◌<◌, inl, inr, List, [], ◌∷◌, ◌++◌, Option, Some, None, slice_get, slice_set, refl, sym, ap, subst, ◌∙◌, append-nil}
+use Rattle.std.specs.Option.{option_and_then, option_map}
 use Rattle.std.proofs.lemmas.List.{append_assoc}
 use Rattle.std.proofs.lemmas.Option.{none-some}
 use Rattle.pf_base.specs.Asks.{chunk_of}
@@ -12,162 +12,234 @@ use Rattle.pf_tree.specs.declared.calls.FileCall.{FileCall}
 use Rattle.pf_mount.specs.declared.work.Next.{Next}
 use Rattle.pf_mount.specs.declared.work.Next.TheVariants.{Ask as Asks, Ready, Done}
 use Rattle.pf_mount.specs.Mounts.{MountIs, Outcome, answered}
+use Rattle.pf_move.specs.Routes.{RoutesIs, home_of, served_by}
 use Rattle.pf_applyrounds.specs.Halts.{Halt}
 use Rattle.pf_chunk.specs.Driving.{Driven, ask_after, asked, driven}
-use Rattle.pf_chunk.specs.Runs.{ChunkRun}
+use Rattle.pf_chunk.specs.Runs.{ChunkRun, mover_port}
 use Rattle.pf_hosts.specs.Moments.{Heard, Moment, Turns, Writes}
-use Rattle.pf_hosts.specs.Hosts.{Drove, HostIs, Stepped, call_of, comes_of, drove, drove_of, events_of, handed, hands_at, hands_on, next_of, number_of, replied, run_after, stepped, stepped_at, with_run}
+use Rattle.pf_hosts.specs.Hosts.{Drove, HostIs, Stepped, call_of, comes_of, drove, drove_of, events_of, group_of, handed, hands_on, hands_to, next_of, number_of, put_at, replied, run_after, stepped, stepped_at, with_run}
 use Rattle.pf_hosts.proofs.Machine.{answered_keeps}
 use Rattle.pf_world.specs.declared.kind.Kind.{Kind}
 use Rattle.pf_world.specs.declared.kind.Kind.TheVariants.{Raw}
 use Rattle.pf_mounted.specs.Handing.{AreMountsAlone}
 use Rattle.pf_mounted.specs.Mounts.{last_ask}
 use Rattle.pf_mounted.proofs.Writers.{alone_told, asked_alone, drove_alone}
-use Rattle.pf_mounted.proofs.Driving.{driven_told}
-use Rattle.pf_mounted.proofs.Hearing.{AllSo, IsHeardIf, IsHeardSince, IsPlain, all_grown, all_plain, asked_grow, drove_heard, drove_said, turn_so}
+use Rattle.pf_mounted.proofs.Driving.{host_told}
+use Rattle.pf_mounted.proofs.Hearing.{AllSo, IsHeardIf, IsHeardSince, IsPlain, all_grown, all_plain, host_heard, host_said, put_grow, turn_so}
 use Rattle.pf_mounted.proofs.Lives.{ask_turned}
-use Rattle.pf_mounted.proofs.Ports.{HasAsked, drives_at, put_asked}
+use Rattle.pf_mounted.proofs.Ports.{HasAsked, asked_for, drives_at, none_asked_of, put_asked}
+use Rattle.pf_mounted.proofs.Routing.{AreRoutes, Having, IsHome, IsHomeOf, IsStill, served_home, served_is, still_routes}
+use Rattle.pf_mounted.proofs.Standing.{having, still_of}
 use Rattle.pf_mounted.proofs.Telling.{AreAsTold, IsAsTold, asked_told, passed}
-use Rattle.pf_mounted.proofs.Tracing.{Passes, asks_pass, hands_pass, rests_pass, writes_pass}
+use Rattle.pf_mounted.proofs.Tracing.{Passes, asks_of, asks_pass, asks_still, hands_pass, rests_pass, writes_pass}
 
--- what was told of the ports of these chunks, and of each moment, is so; and but in a raw run each write was handed on by a port
-pub record AreSo (kind : Option Kind) (told : List Moment) (chunks : List ChunkRun) : Type 0 where
-  pub ports : AreAsTold told chunks
-  pub each : AllSo told chunks
+-- what was told of the ports of these groups, and of each moment, is so; and but in a raw run each write was handed on by a port
+pub record AreSo (kind : Option Kind) (count : ℕ) (told : List Moment) (chunks : List ChunkRun) : Type 0 where
+  pub ports : AreAsTold count told chunks
+  pub each : AllSo count told chunks
   pub alone : kind ≢ Some Raw → AreMountsAlone chunks told
 
--- moments that are nothing to the ports of a chunk
-passed_all : (told : List Moment) (k : ℕ) (c : ChunkRun) (more : List Moment) → Every (Passes k) more → IsAsTold told k c → IsAsTold (told ++ more) k c
-passed_all told k c [] pass is = subst (λ (all : List Moment). IsAsTold all k c) (sym (append-nil told)) is
-passed_all told k c (y ∷ more) pass is =
-    subst (λ (all : List Moment). IsAsTold all k c) (append_assoc told (y ∷ []) more) (passed_all (told ++ y ∷ []) k c more pass.1 (passed told k c y pass.0 is))
+-- moments that are nothing to the ports of a group
+pub passed_all : (count : ℕ) (told : List Moment) (k : ℕ) (c : ChunkRun) (more : List Moment) → Every (Passes (asks_of count told k) k) more → IsAsTold count told k c → IsAsTold count (told ++ more) k c
+passed_all count told k c [] pass is = subst (λ (all : List Moment). IsAsTold count all k c) (sym (append-nil told)) is
+passed_all count told k c (y ∷ more) pass is =
+    subst (λ (all : List Moment). IsAsTold count all k c) (append_assoc told (y ∷ []) more)
+    (passed_all count (told ++ y ∷ []) k c more (subst (λ of. Every (Passes of k) more) (sym (asks_still count told (y ∷ []) k (pass.0.still, tt))) pass.1) (passed count told k c y is pass.0))
 
-module _ (kind : Option Kind) where
+module _ (kind : Option Kind) (count : ℕ) where
   -- told one after the other
-  pub behind : (told first last : List Moment) (chunks : List ChunkRun) → AreSo kind ((told ++ first) ++ last) chunks → AreSo kind (told ++ (first ++ last)) chunks
-  behind told first last chunks is = subst (λ (all : List Moment). AreSo kind all chunks) (append_assoc told first last) is
+  pub behind : (told first last : List Moment) (chunks : List ChunkRun) → AreSo kind count ((told ++ first) ++ last) chunks → AreSo kind count (told ++ (first ++ last)) chunks
+  behind told first last chunks is = subst (λ (all : List Moment). AreSo kind count all chunks) (append_assoc told first last) is
 
-  nothing_told : (told : List Moment) (chunks : List ChunkRun) → AreSo kind told chunks → AreSo kind (told ++ []) chunks
-  nothing_told told chunks is = subst (λ (all : List Moment). AreSo kind all chunks) (sym (append-nil told)) is
+  pub nothing_told : (told : List Moment) (chunks : List ChunkRun) → AreSo kind count told chunks → AreSo kind count (told ++ []) chunks
+  nothing_told told chunks is = subst (λ (all : List Moment). AreSo kind count all chunks) (sym (append-nil told)) is
 
--- one chunk is another, and the ports of all others had no part in what was told
-pub set_told : (told more : List Moment) (chunks : List ChunkRun) (k : ℕ) (d : ChunkRun) → AreAsTold told chunks → IsAsTold (told ++ more) k d → ((j : ℕ) → k ≢ j → Every (Passes j) more) → AreAsTold (told ++ more) (slice_set chunks k d)
-set_told told more chunks k d are is others j x now = elim (set_cases chunks k d j x now) [
-  | inl here ↦ subst (λ (i : ℕ). IsAsTold (told ++ more) i x) (sym here.0) (subst (λ (y : ChunkRun). IsAsTold (told ++ more) k y) here.1 is)
-  | inr away ↦ passed_all told j x more (others j (λ same. away.0 (sym same))) (are j x away.1)
+-- one group is another, and the ports of all others had no part in what was told
+pub set_told : (count : ℕ) (told more : List Moment) (chunks : List ChunkRun) (k : ℕ) (d : ChunkRun) → AreAsTold count told chunks → IsAsTold count (told ++ more) k d → ((j : ℕ) → k ≢ j → Every (Passes (asks_of count told j) j) more)
+    → AreAsTold count (told ++ more) (slice_set chunks k d)
+set_told count told more chunks k d are is others j x now = elim (set_cases chunks k d j x now) [
+  | inl here ↦ subst (λ (i : ℕ). IsAsTold count (told ++ more) i x) (sym here.0) (subst (λ (y : ChunkRun). IsAsTold count (told ++ more) k y) here.1 is)
+  | inr away ↦ passed_all count told j x more (others j (λ same. away.0 (sym same))) (are j x away.1)
 ]
 
 -- A port's step
 
-handed_passes : (j m k : ℕ) (place : Option ℕ) (text : List ℕ) → k ≢ j → Every (Passes j) (handed m k place ++ Writes text ∷ [])
-handed_passes j m k None text apart = (writes_pass j text, tt)
-handed_passes j m k (Some place) text apart = (hands_pass j m k place apart, (writes_pass j text, tt))
+pub handed_passes : (of : Option ℕ) (j m k : ℕ) (place : Option ℕ) (text : List ℕ) → k ≢ j → Every (Passes of j) (handed m k place ++ Writes text ∷ [])
+handed_passes of j m k None text apart = (writes_pass of j text, tt)
+handed_passes of j m k (Some place) text apart = (hands_pass of j m k place apart, (writes_pass of j text, tt))
 
-module _ (kind : Option Kind) (halts : List Halt) (told : List Moment) (chunks : List ChunkRun) (is : AreSo kind told chunks) (m : ℕ) (asks : HasAsked m (last_ask told m) chunks) (k : ℕ) where
-  drove_ports : (o : Option ChunkRun) → slice_get chunks k ≡ o → AreAsTold (told ++ (drove_of halts chunks m k o).told) (drove_of halts chunks m k o).chunks
-  drove_ports None there = λ j c at. passed_all told j c [] tt (is.ports j c at)
+-- into the group that serves the chunk
+module _ (kind : Option Kind) (halts : List Halt) (count n : ℕ) (r : RoutesIs) (told : List Moment) (routes : AreRoutes count n r told) (chunks : List ChunkRun) (is : AreSo kind count told chunks) (m : ℕ) (small : m < mover_port)
+    (asks : HasAsked (asks_of count told) m (last_ask told m) chunks) (k chunk : ℕ) (served : served_by r chunk ≡ Some k) where
+  has_it : asks_of count told k ≡ Some chunk
+  has_it = (subst (IsHome (asks_of count told) chunk) (served_home r chunk k served) (routes.homes chunk)).here
+
+  drove_ports : (o : Option ChunkRun) → slice_get chunks k ≡ o → AreAsTold count (told ++ (drove_of halts chunks m k o).told) (drove_of halts chunks m k o).chunks
+  drove_ports None there = λ j c at. passed_all count told j c [] tt (is.ports j c at)
   drove_ports (Some c) there =
       let d : Driven = driven halts c m in
-      set_told told (handed m k d.place ++ Writes d.text ∷ []) chunks k d.chunk is.ports (driven_told halts told k c (is.ports k c there) m) (λ j apart. handed_passes j m k d.place d.text apart)
+      set_told count told (handed m k d.place ++ Writes d.text ∷ []) chunks k d.chunk is.ports (host_told halts count told k c (is.ports k c there) m small chunk has_it)
+      (λ j apart. handed_passes (asks_of count told j) j m k d.place d.text apart)
 
-  drove_so : AreSo kind (told ++ (drove halts chunks m k).told) (drove halts chunks m k).chunks
-  drove_so = record {
-    ports = drove_ports (slice_get chunks k) refl;
-    each = drove_said halts told chunks is.ports is.each m asks k (slice_get chunks k) refl;
-    alone = λ own. drove_alone halts chunks told (is.alone own) m k (slice_get chunks k) refl;
-  }
+  pub drove_so : AreSo kind count (told ++ (drove halts chunks m k).told) (drove halts chunks m k).chunks
+  drove_so =
+      let srv = served_is count n r told routes chunk k served in record {
+        ports = drove_ports (slice_get chunks k) refl;
+        each = host_said halts count told chunks is.ports is.each m small (asks_of count told) asks k chunk has_it has_it srv.rests srv.serves (slice_get chunks k) refl;
+        alone = λ own. drove_alone halts chunks told (is.alone own) m k (slice_get chunks k) refl;
+      }
+
+  pub drove_heard : (reply : Reply) → (drove halts chunks m k).reply ≡ Some reply → IsHeardSince count (drove halts chunks m k).chunks m (told ++ (drove halts chunks m k).told) (record { reply = reply; by = events_of (slice_get (drove halts chunks m k).chunks k) })
+  drove_heard = let srv = served_is count n r told routes chunk k served in host_heard halts count told chunks is.ports is.each m small (asks_of count told) asks k chunk has_it has_it srv.rests srv.serves
 
 -- What comes of a step of the mount
 
-module _ (kind : Option Kind) (told : List Moment) (chunks : List ChunkRun) (is : AreSo kind told chunks) (heard : Option Heard) (mount : MountIs) (free : HasAsked (number_of mount) None chunks) (new : IsHeardIf chunks (number_of mount) told heard) where
+module _ (kind : Option Kind) (count n : ℕ) (r : RoutesIs) (told : List Moment) (routes : AreRoutes count n r told) (chunks : List ChunkRun) (is : AreSo kind count told chunks) (heard : Option Heard) (mount : MountIs) (small : number_of mount < mover_port)
+    (free : HasAsked (asks_of count told) (number_of mount) None chunks) (new : IsHeardIf count chunks (number_of mount) told heard) where
   abbrev m : ℕ
   m = number_of mount
 
+  abbrev of : Having
+  of = asks_of count told
+
   -- nothing is asked
-  rests_so : (more : List Moment) → ((k : ℕ) → Every (Passes k) more) → Every IsPlain more → AreSo kind (told ++ Turns m heard None ∷ more) chunks
+  rests_so : (more : List Moment) → ((k : ℕ) → Every (Passes (of k) k) more) → Every IsPlain more → AreSo kind count (told ++ Turns m heard None ∷ more) chunks
   rests_so more pass plain =
       let turn : Moment = Turns m heard None in record {
-        ports = λ k c there. passed_all told k c (turn ∷ more) (rests_pass k m heard, pass k) (is.ports k c there);
+        ports = λ k c there. passed_all count told k c (turn ∷ more) (rests_pass (of k) k m heard, pass k) (is.ports k c there);
         each =
-            subst (λ (all : List Moment). AllSo all chunks) (append_assoc told (turn ∷ []) more)
-            (all_plain chunks (told ++ turn ∷ []) more (turn_so chunks told is.each m heard None new) plain);
+            subst (λ (all : List Moment). AllSo count all chunks) (append_assoc told (turn ∷ []) more)
+            (all_plain count chunks (told ++ turn ∷ []) more (turn_so count chunks told is.each m heard None new) plain);
         alone = λ own. alone_told chunks told (turn ∷ more) (is.alone own);
       }
 
   -- an ask is put into the port of its chunk
-  asks_ports : (ask : Ask) (o : Option ChunkRun) → slice_get chunks (chunk_of ask) ≡ o → AreAsTold (told ++ Turns m heard (Some ask) ∷ []) (with_run chunks (chunk_of ask) (run_after o (λ c. asked c m ask)))
-  asks_ports ask None there = λ j c now.
-      passed told j c (Turns m heard (Some ask)) (asks_pass j m heard ask (λ same. none-some c (sym there ∙ ap (slice_get chunks) same ∙ now))) (is.ports j c now)
-  asks_ports ask (Some c) there =
-      let k = chunk_of ask in
-      set_told told (Turns m heard (Some ask) ∷ []) chunks k (asked c m ask) is.ports (asked_told told k c (is.ports k c there) m heard ask refl (λ p its. free k c p there its)) (λ j apart. (asks_pass j m heard ask apart, tt))
+  module _ (ask : Ask) where
+    abbrev asking : Moment
+    asking = Turns m heard (Some ask)
 
-  next_so : (call : Option FileCall) (next : Next) → AreSo kind (told ++ (next_of chunks heard call mount next).told) (next_of chunks heard call mount next).chunks
+    all_pass : (chunks_pass : (j : ℕ) (c : ChunkRun) → slice_get chunks j ≡ Some c → of j ≡ Some (chunk_of ask) → ⊥) → AreAsTold count (told ++ asking ∷ []) chunks
+    all_pass away j c now = passed count told j c asking (is.ports j c now) (asks_pass (of j) j m heard ask (away j c now))
+
+    put_ports : (g : ℕ) → IsHomeOf of (chunk_of ask) g → (o : Option ChunkRun) → slice_get chunks g ≡ o → AreAsTold count (told ++ asking ∷ []) (with_run chunks g (run_after o (λ c. asked c m ask)))
+    put_ports g home None there = all_pass (λ j c now has. none-some c (sym there ∙ ap (slice_get chunks) (sym (home.alone j has)) ∙ now))
+    put_ports g home (Some c) there =
+        set_told count told (asking ∷ []) chunks g (asked c m ask) is.ports (asked_told count told g c (is.ports g c there) m small heard ask home.here (λ p its. free g c p there its ∙ none_of (of g)))
+        (λ j apart. (asks_pass (of j) j m heard ask (λ has. apart (sym (home.alone j has))), tt))
+      where
+        none_of : (o : Option ℕ) → asked_for o None ≡ None
+        none_of None = refl
+        none_of (Some k) = refl
+
+    asks_ports : (home : Option ℕ) → IsHome of (chunk_of ask) home → AreAsTold count (told ++ asking ∷ []) (put_at chunks home m ask)
+    asks_ports None home = all_pass (λ j c now. home j)
+    asks_ports (Some g) home = put_ports g home (slice_get chunks g) refl
+
+    put_alone : (home : Option ℕ) → AreMountsAlone chunks told → AreMountsAlone (put_at chunks home m ask) (told ++ asking ∷ [])
+    put_alone None own = alone_told chunks told (asking ∷ []) own
+    put_alone (Some g) own = asked_alone chunks told (asking ∷ []) m g ask (slice_get chunks g) refl own
+
+  next_so : (call : Option FileCall) (next : Next) → AreSo kind count (told ++ (next_of r chunks heard call mount next).told) (next_of r chunks heard call mount next).chunks
   next_so call (Asks ask) =
-      let k = chunk_of ask in record {
-        ports = asks_ports ask (slice_get chunks k) refl;
-        each = all_grown _ chunks _ (asked_grow chunks m k ask (slice_get chunks k) refl) (turn_so chunks told is.each m heard (Some ask) new);
-        alone = λ own. asked_alone chunks told (Turns m heard (Some ask) ∷ []) m k ask (slice_get chunks k) refl (is.alone own);
+      let home = home_of r (chunk_of ask) in record {
+        ports = asks_ports ask home (routes.homes (chunk_of ask));
+        each = all_grown count _ chunks _ (put_grow chunks home m ask) (turn_so count chunks told is.each m heard (Some ask) new);
+        alone = λ own. put_alone ask home (is.alone own);
       }
-  next_so call Ready = rests_so _ (λ k. (writes_pass k _, tt)) (tt, tt)
-  next_so call (Done answer) = rests_so _ (λ k. (record { nothing = λ history n t. refl; within = λ n. tt }, (writes_pass k _, tt))) (tt, (tt, tt))
+  next_so call Ready = rests_so _ (λ k. (writes_pass (of k) k _, tt)) (tt, tt)
+  next_so call (Done answer) = rests_so _ (λ k. (record { nothing = λ history n t same. refl; hauls = λ history t. refl; within = λ n. tt; still = tt }, (writes_pass (of k) k _, tt))) (tt, (tt, tt))
+
+  next_still : (call : Option FileCall) (next : Next) → Every IsStill (next_of r chunks heard call mount next).told
+  next_still call (Asks ask) = (tt, tt)
+  next_still call Ready = (tt, (tt, tt))
+  next_still call (Done answer) = (tt, (tt, (tt, tt)))
 
   -- what it asks next stands in its port
-  next_asks : (call : Option FileCall) (next : Next) → let s : Stepped = next_of chunks heard call mount next in HasAsked (number_of s.host.mount) (last_ask (told ++ s.told) (number_of s.host.mount)) s.chunks
-  next_asks call (Asks ask) = subst (λ o. HasAsked m o (next_of chunks heard call mount (Asks ask)).chunks) (sym (ask_turned m m refl told [] tt heard (Some ask))) (put_asked m ask chunks free)
-  next_asks call Ready = subst (λ o. HasAsked m o chunks) (sym (ask_turned m m refl told _ (tt, tt) heard None)) free
-  next_asks call (Done answer) = subst (λ o. HasAsked m o chunks) (sym (ask_turned m m refl told _ (tt, (tt, tt)) heard None)) free
+  next_asks : (call : Option FileCall) (next : Next) → let s : Stepped = next_of r chunks heard call mount next in HasAsked of (number_of s.host.mount) (last_ask (told ++ s.told) (number_of s.host.mount)) s.chunks
+  next_asks call (Asks ask) = subst (λ o. HasAsked of m o (next_of r chunks heard call mount (Asks ask)).chunks) (sym (ask_turned m m refl told [] tt heard (Some ask))) (put_asked m ask chunks of (home_of r (chunk_of ask)) (routes.homes (chunk_of ask)) free)
+  next_asks call Ready = subst (λ o. HasAsked of m o chunks) (sym (ask_turned m m refl told _ (tt, tt) heard None)) free
+  next_asks call (Done answer) = subst (λ o. HasAsked of m o chunks) (sym (ask_turned m m refl told _ (tt, (tt, tt)) heard None)) free
 
-module _ (kind : Option Kind) where
-  pub comes_so : (told : List Moment) (chunks : List ChunkRun) → AreSo kind told chunks → (heard : Option Heard) (call : Option FileCall) (o : Outcome) → HasAsked (number_of o.mount) None chunks → IsHeardIf chunks (number_of o.mount) told heard
-      → AreSo kind (told ++ (comes_of chunks heard call o).told) (comes_of chunks heard call o).chunks
-  comes_so told chunks is heard call o free new = next_so kind told chunks is heard o.mount free new call o.next
+  next_number : (call : Option FileCall) (next : Next) → number_of (next_of r chunks heard call mount next).host.mount ≡ m
+  next_number call (Asks ask) = refl
+  next_number call Ready = refl
+  next_number call (Done answer) = refl
+
+module _ (kind : Option Kind) (count n : ℕ) (r : RoutesIs) where
+  pub comes_so : (told : List Moment) → AreRoutes count n r told → (chunks : List ChunkRun) → AreSo kind count told chunks → (heard : Option Heard) (call : Option FileCall) (o : Outcome) → number_of o.mount < mover_port
+      → HasAsked (asks_of count told) (number_of o.mount) None chunks → IsHeardIf count chunks (number_of o.mount) told heard → AreSo kind count (told ++ (comes_of r chunks heard call o).told) (comes_of r chunks heard call o).chunks
+  comes_so told routes chunks is heard call o small free new = next_so kind count n r told routes chunks is heard o.mount small free new call o.next
+
+  waits_at : (at : Option ℕ) (k : ℕ) → option_and_then (served_by r) at ≡ Some k → (chunk : ℕ) × (served_by r chunk ≡ Some k)
+  waits_at None k is = absurd (none-some k is)
+  waits_at (Some chunk) k is = (chunk, is)
 
   module _ (halts : List Halt) where
     -- and is handed on
-    hand_so : (told : List Moment) (s : Stepped) (at : Option ℕ) → HasAsked (number_of s.host.mount) (last_ask (told ++ s.told) (number_of s.host.mount)) s.chunks → AreSo kind (told ++ s.told) s.chunks
-        → AreSo kind (told ++ (hands_at halts s at).told) (hands_at halts s at).chunks
-    hand_so told s None asks is = is
-    hand_so told s (Some k) asks is =
+    hand_so : (told : List Moment) (s : Stepped) → AreRoutes count n r (told ++ s.told) → number_of s.host.mount < mover_port → (at : Option ℕ) → group_of r s.host ≡ at
+        → HasAsked (asks_of count (told ++ s.told)) (number_of s.host.mount) (last_ask (told ++ s.told) (number_of s.host.mount)) s.chunks → AreSo kind count (told ++ s.told) s.chunks → AreSo kind count (told ++ (hands_to halts s at).told) (hands_to halts s at).chunks
+    hand_so told s routes small None at asks is = is
+    hand_so told s routes small (Some k) at asks is =
         let d : Drove = drove halts s.chunks (number_of s.host.mount) k in
-        behind kind told s.told d.told d.chunks (drove_so kind halts (told ++ s.told) s.chunks is (number_of s.host.mount) asks k)
+        let served = waits_at s.host.at k at in
+        behind kind count told s.told d.told d.chunks (drove_so kind halts count n r (told ++ s.told) routes s.chunks is (number_of s.host.mount) small asks k served.0 served.1)
 
     -- A step of a host that waits for the chunk of its last ask
 
-    module _ (told : List Moment) (chunks : List ChunkRun) (is : AreSo kind told chunks) (host : HostIs) (asks : HasAsked (number_of host.mount) (last_ask told (number_of host.mount)) chunks)
-        (waits : host.at ≡ option_map chunk_of (last_ask told (number_of host.mount))) where
+    module _ (told : List Moment) (routes : AreRoutes count n r told) (chunks : List ChunkRun) (is : AreSo kind count told chunks) (host : HostIs) (small : number_of host.mount < mover_port)
+        (asks : HasAsked (asks_of count told) (number_of host.mount) (last_ask told (number_of host.mount)) chunks) (waits : host.at ≡ option_map chunk_of (last_ask told (number_of host.mount))) where
       abbrev mine : ℕ
       mine = number_of host.mount
 
-      module _ (k : ℕ) (at : host.at ≡ Some k) where
+      module _ (k : ℕ) (at : group_of r host ≡ Some k) where
         abbrev d : Drove
         d = drove halts chunks mine k
 
-        after_port : AreSo kind (told ++ d.told) d.chunks
-        after_port = drove_so kind halts told chunks is mine asks k
+        waiting : (o : Option ℕ) → option_and_then (served_by r) o ≡ Some k → (chunk : ℕ) × (o ≡ Some chunk) × (served_by r chunk ≡ Some k)
+        waiting None none = absurd (none-some k none)
+        waiting (Some chunk) its = (chunk, refl, its)
+
+        srv : (chunk : ℕ) × (host.at ≡ Some chunk) × (served_by r chunk ≡ Some k)
+        srv = waiting host.at at
+
+        after_port : AreSo kind count (told ++ d.told) d.chunks
+        after_port = drove_so kind halts count n r told routes chunks is mine small asks k srv.0 srv.2
+
+        routes_on : AreRoutes count n r (told ++ d.told)
+        routes_on = still_routes count n r told d.told (drives_at halts chunks mine k).still routes
 
         -- an answered ask is pending no more
-        free : (reply : Reply) → d.reply ≡ Some reply → HasAsked mine None d.chunks
-        free reply same = subst (λ r. HasAsked mine (ask_after r (last_ask told mine)) d.chunks) same ((drives_at halts chunks mine k).its (last_ask told mine) (sym waits ∙ at) asks)
+        free : (reply : Reply) → d.reply ≡ Some reply → HasAsked (asks_of count (told ++ d.told)) mine None d.chunks
+        free reply same =
+            none_asked_of (asks_of count told) (asks_of count (told ++ d.told)) mine d.chunks
+            (subst (λ o. HasAsked (asks_of count told) mine (ask_after o (last_ask told mine)) d.chunks) same
+            ((drives_at halts chunks mine k).its (asks_of count told) srv.0 (last_ask told mine) (sym waits ∙ srv.1) (subst (IsHome (asks_of count told) srv.0) (served_home r srv.0 k srv.2) (routes.homes srv.0)) asks))
 
-        reply_so : (reply : Option Reply) → d.reply ≡ reply → AreSo kind (told ++ (replied halts host k d reply).told) (replied halts host k d reply).chunks
+        reply_so : (reply : Option Reply) → d.reply ≡ reply → AreSo kind count (told ++ (replied halts r host k d reply).told) (replied halts r host k d reply).chunks
         reply_so None same = after_port
         reply_so (Some reply) same =
             let heard : Heard = record { reply = reply; by = events_of (slice_get d.chunks k) } in
             let call = call_of host.mount.files.pending in
             let o : Outcome = answered host.mount reply in
             let number : number_of o.mount ≡ mine = (answered_keeps host.mount reply).0 in
-            let s : Stepped = comes_of d.chunks (Some heard) call o in
-            let last : Stepped = hands_on halts s in
-            let none = subst (λ n. HasAsked n None d.chunks) (sym number) (free reply same) in
-            let new = subst (λ n. IsHeardSince d.chunks n (told ++ d.told) heard) (sym number) (drove_heard halts told chunks is.ports is.each mine asks k reply same) in
-            behind kind told d.told last.told last.chunks
-            (hand_so (told ++ d.told) s s.host.at (next_asks kind (told ++ d.told) d.chunks after_port (Some heard) o.mount none new call o.next) (comes_so (told ++ d.told) d.chunks after_port (Some heard) call o none new))
+            let s : Stepped = comes_of r d.chunks (Some heard) call o in
+            let last : Stepped = hands_on halts r s in
+            let all = told ++ d.told in
+            let low : number_of o.mount < mover_port = subst (λ i. i < mover_port) (sym number) small in
+            let none = subst (λ i. HasAsked (asks_of count all) i None d.chunks) (sym number) (free reply same) in
+            let new = subst (λ i. IsHeardSince count d.chunks i all heard) (sym number) (drove_heard kind halts count n r told routes chunks is mine small asks k srv.0 srv.2 reply same) in
+            let still = next_still kind count n r all routes_on d.chunks after_port (Some heard) o.mount low none new call o.next in
+            let its = next_number kind count n r all routes_on d.chunks after_port (Some heard) o.mount low none new call o.next in
+            let asks_on = next_asks kind count n r all routes_on d.chunks after_port (Some heard) o.mount low none new call o.next in
+            behind kind count told d.told last.told last.chunks
+            (hand_so all s (still_routes count n r all s.told still routes_on) (subst (λ i. i < mover_port) (sym its) low) (group_of r s.host) refl
+            (having (asks_of count all) (asks_of count (all ++ s.told)) (number_of s.host.mount) (last_ask (all ++ s.told) (number_of s.host.mount)) s.chunks (λ j. sym (still_of count all s.told j still)) asks_on)
+            (comes_so all routes_on d.chunks after_port (Some heard) call o low none new))
 
-      at_so : (at : Option ℕ) → host.at ≡ at → AreSo kind (told ++ (stepped_at halts chunks host at).told) (stepped_at halts chunks host at).chunks
-      at_so None at = nothing_told kind told chunks is
+      at_so : (at : Option ℕ) → group_of r host ≡ at → AreSo kind count (told ++ (stepped_at halts r chunks host at).told) (stepped_at halts r chunks host at).chunks
+      at_so None at = nothing_told kind count told chunks is
       at_so (Some k) at = reply_so k at (drove halts chunks mine k).reply refl
 
-      pub stepped_so : AreSo kind (told ++ (stepped halts chunks host).told) (stepped halts chunks host).chunks
+      pub stepped_so : AreSo kind count (told ++ (stepped halts r chunks host).told) (stepped halts r chunks host).chunks
       unfolding stepped
-      stepped_so = at_so host.at refl
+      stepped_so = at_so (group_of r host) refl

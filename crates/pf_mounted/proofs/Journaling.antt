@@ -4,6 +4,7 @@ use Rattle.std.specs.Option.{option_map}
 use Rattle.std.proofs.lemmas.Bool.{eqb-true, eqb-false}
 use Rattle.std.proofs.lemmas.List.{append_assoc}
 use Rattle.std.proofs.lemmas.Option.{none-some, same_Some}
+use Rattle.pf_base.specs.Asks.{chunk_of}
 use Rattle.pf_base.specs.declared.asks.Ask.{Ask}
 use Rattle.pf_base.specs.declared.asks.Reply.{Reply}
 use Rattle.pf_base.specs.declared.asks.Reply.TheVariants.{Written, Bytes}
@@ -22,9 +23,10 @@ use Rattle.pf_journal.specs.Sectors.{block_in}
 use Rattle.pf_mount.specs.declared.work.Work.{Work}
 use Rattle.pf_mount.specs.declared.work.Work.TheVariants.{Rests, Fails, ReadsSuper, WritesSuper, Syncs, Ballots, Pauses, Moves}
 use Rattle.pf_mount.specs.Mounts.{MountIs, answered, opening, starting}
-use Rattle.pf_hosts.specs.Moments.{Heard, Moment, Begins, Ends, Hands, Turns, Writes}
+use Rattle.pf_hosts.specs.Moments.{Begins, Carries, Ends, Hands, Heard, Moment, Moves as MovesTo, Turns, Writes}
 use Rattle.pf_mount.specs.declared.work.Next.{Next}
 use Rattle.pf_mounted.specs.Mounts.{Life, ask_in, asked_in, calling, values_in, decisions, hearing, last_ask, life_of, lived, mount_after, mount_in, opened, turned}
+use Rattle.pf_mounted.specs.Epochs.{Home, epoch_of, home_of as home_in}
 use Rattle.pf_mounted.specs.Journals.{AreOfMounts, CanBeDoing, CanBeDoings, CanBeTold, CanBegin, CanTurn, call_of, client_of, hand_steps, hearing_steps, hears, port_ask, port_reply, puts, stays_in, IsOfMount, IsTurn, Step, asking, deeds, doings, steps_at, steps_from, steps_of, turn_steps}
 use Rattle.pf_mounted.proofs.Balloting.{IsNoBallot, starting_no_ballot}
 use Rattle.pf_mounted.proofs.Changing.{having_started, starting_keeps}
@@ -101,20 +103,20 @@ asking_of : (m : ℕ) (mount : MountIs) (next : Option Ask) → AreDoingsOf m (a
 asking_of m mount None = tt
 asking_of m mount (Some ask) = (puts_of m mount.upto mount.position.seen mount.work, tt)
 
-hearing_of : (m : ℕ) (mount : MountIs) (ask : Ask) (answer : Answered) (heard : Heard) (next : Option Ask) → AreDoingsOf m (hearing_steps m mount ask answer heard next)
-hearing_of m mount ask answer heard next =
-    let reply = port_reply ask heard.by answer heard.reply in
+hearing_of : (m : ℕ) (mount : MountIs) (ask : Ask) (epoch : ℕ) (answer : Answered) (heard : Heard) (next : Option Ask) → AreDoingsOf m (hearing_steps m mount ask epoch answer heard next)
+hearing_of m mount ask epoch answer heard next =
+    let reply = port_reply ask epoch heard.by answer heard.reply in
     let on : Step = record { deed = Takes m reply (option_map port_ask next); doing = Does m (call_of heard.reply) } in
     let hear : Step = record { deed = Takes (client_of m mount.work) reply None; doing = hears m mount.upto mount.work heard.reply } in
     by_test (stays_in mount.work mount.position.proposer heard.reply) (λ b. AreDoingsOf m (if b then on ∷ [] else hear ∷ asking m (answered mount heard.reply).mount next))
     (λ _. (refl, tt)) (λ _. (hears_of m mount.upto mount.work heard.reply, asking_of m (answered mount heard.reply).mount next))
 
-turn_of_mount : (v : Extent) (m : ℕ) (life : Option Life) (last : Option Ask) (answer : Answered) (heard : Option Heard) (next : Option Ask) → AreDoingsOf m (turn_steps v m life last answer heard next)
-turn_of_mount v m None last answer None next = asking_of m (opening m v).mount next
-turn_of_mount v m (Some life) last answer None next = asking_of m life.outcome.mount next
-turn_of_mount v m None last answer (Some heard) next = tt
-turn_of_mount v m (Some life) None answer (Some heard) next = tt
-turn_of_mount v m (Some life) (Some ask) answer (Some heard) next = hearing_of m life.outcome.mount ask answer heard next
+turn_of_mount : (v : Extent) (m : ℕ) (life : Option Life) (last : Option Ask) (epoch : ℕ → ℕ) (answer : Answered) (heard : Option Heard) (next : Option Ask) → AreDoingsOf m (turn_steps v m life last epoch answer heard next)
+turn_of_mount v m None last epoch answer None next = asking_of m (opening m v).mount next
+turn_of_mount v m (Some life) last epoch answer None next = asking_of m life.outcome.mount next
+turn_of_mount v m None last epoch answer (Some heard) next = tt
+turn_of_mount v m (Some life) None epoch answer (Some heard) next = tt
+turn_of_mount v m (Some life) (Some ask) epoch answer (Some heard) next = hearing_of m life.outcome.mount ask (epoch (chunk_of ask)) answer heard next
 
 pub room_most : (work : Work) (upto : ℕ) → HasRoom work upto → upto ≤ 256
 room_most (Ballots input) upto room = omega (arith, room)
@@ -161,20 +163,20 @@ module _ (v : Extent) (blocks : ℕ) (is : v.sectors ≡ 8 * blocks) (many : 1 <
       let its = goes.1.0 in
       (goes.0, (record { small = its.small; number = its.number; volume = its.volume; upto = its.upto; room = its.room; idle = its.idle; waits = its.waits }, goes.1.1)))
 
-  turn_goes : (m : ℕ) (l : Option Life) (last : Option Ask) (answer : Answered) (heard : Option Heard) (next : Option Ask) (j : Journal) → IsTurn v m l last answer heard next → CanTurn v l heard next → StandsIn m l last j
-      → AreSame v.sectors j (turn_steps v m l last answer heard next) × StandsIn m (turned v m heard l) next (after j (turn_steps v m l last answer heard next))
-  turn_goes m None last answer (Some heard) next j turn can stands = absurd (none-some heard (sym turn.1))
-  turn_goes m None last answer None next j turn can stands =
+  turn_goes : (m : ℕ) (l : Option Life) (last : Option Ask) (epoch : ℕ → ℕ) (answer : Answered) (heard : Option Heard) (next : Option Ask) (j : Journal) → IsTurn v m l last answer heard next → CanTurn v l heard next → StandsIn m l last j
+      → AreSame v.sectors j (turn_steps v m l last epoch answer heard next) × StandsIn m (turned v m heard l) next (after j (turn_steps v m l last epoch answer heard next))
+  turn_goes m None last epoch answer (Some heard) next j turn can stands = absurd (none-some heard (sym turn.1))
+  turn_goes m None last epoch answer None next j turn can stands =
       subst (λ n. TurnGoes j m (asking m (opening m v).mount n) (opened v m) n) (sym turn.2)
       (as_goes m turn.0 j (asking m (opening m v).mount (ask_in (opening m v).next)) (opened v m) (ask_in (opening m v).next)
       (comes_after v blocks is many m turn.0 (opening m v).mount (opening m v) (opening_comes m v) refl refl refl [] refl j stands tt))
-  turn_goes m (Some life) last answer None next j turn can stands =
+  turn_goes m (Some life) last epoch answer None next j turn can stands =
       subst (λ n. TurnGoes j m (asking m life.outcome.mount n) life n) (sym turn.asks)
       (begun_goes m j turn.before turn.call life.decided last life.outcome.next life.outcome.mount turn.began stands.0 stands.1 (subst (CanBeTold v life.outcome.mount.work life.outcome.mount) turn.asks can))
-  turn_goes m (Some life) None answer (Some heard) next j turn can stands = absurd turn
-  turn_goes m (Some life) (Some ask) answer (Some heard) next j turn can stands =
-      as_goes m stands.0.small j (hearing_steps m life.outcome.mount ask answer heard next) (hearing heard.reply life) next
-      (heard_goes v blocks is many m stands.0.small j life ask answer heard next stands.0 stands.1 turn can)
+  turn_goes m (Some life) None epoch answer (Some heard) next j turn can stands = absurd turn
+  turn_goes m (Some life) (Some ask) epoch answer (Some heard) next j turn can stands =
+      as_goes m stands.0.small j (hearing_steps m life.outcome.mount ask (epoch (chunk_of ask)) answer heard next) (hearing heard.reply life) next
+      (heard_goes v blocks is many m stands.0.small j life ask (epoch (chunk_of ask)) answer heard next stands.0 stands.1 turn can)
 
   -- a call begins at rest
   call_stands : (m : ℕ) (call : FileCall) (l : Option Life) (last : Option Ask) (j : Journal) → CanBegin (mount_in l) → StandsIn m l last j → StandsIn m (option_map (calling call) l) last j
@@ -211,13 +213,15 @@ module _ (v : Extent) (blocks : ℕ) (is : v.sectors ≡ 8 * blocks) (many : 1 <
   other_stands m n other None last j steps of stands = steps_keep m n other [] (new_proposer n zero_block) j steps of stands
   other_stands m n other (Some life) last j steps of stands = (stands.0, steps_keep m n other life.decided life.outcome.mount.position.proposer j steps of stands.1)
 
-  hand_goes : (m k place : ℕ) (mount : Option MountIs) (j : Journal) → AreSame v.sectors j (hand_steps m k place mount)
-  hand_goes m k place None j = tt
-  hand_goes m k place (Some mount) j = (record { same = λ q low. nothing_turns j q; none = λ q past. nothing_turns j q }, tt)
+  hand_goes : (m place : ℕ) (home : Option Home) (mount : Option MountIs) (j : Journal) → AreSame v.sectors j (hand_steps m place home mount)
+  hand_goes m place None mount j = tt
+  hand_goes m place (Some home) None j = tt
+  hand_goes m place (Some home) (Some mount) j = (record { same = λ q low. nothing_turns j q; none = λ q past. nothing_turns j q }, tt)
 
-  hand_after : (m k place : ℕ) (mount : Option MountIs) (j : Journal) → after j (hand_steps m k place mount) ≡ j
-  hand_after m k place None j = refl
-  hand_after m k place (Some mount) j = refl
+  hand_after : (m place : ℕ) (home : Option Home) (mount : Option MountIs) (j : Journal) → after j (hand_steps m place home mount) ≡ j
+  hand_after m place None mount j = refl
+  hand_after m place (Some home) None j = refl
+  hand_after m place (Some home) (Some mount) j = refl
 
   -- each mount stands as all that was told has it, and the journal matches it
   abbrev pub AllStand : Journal → List Moment → Type 0
@@ -234,10 +238,13 @@ module _ (v : Extent) (blocks : ℕ) (is : v.sectors ≡ 8 * blocks) (many : 1 <
   moment_goes : (j : Journal) (before : List Moment) (answer : Answered) (moment : Moment) → IsOfMount v before answer moment → CanBeDoing v before moment → AllStand j before
       → AreSame v.sectors j (steps_at v before answer moment) × Moves_on (after j (steps_at v before answer moment)) before moment
   moment_goes j before answer (Writes text) of can stand = (tt, stand)
+  moment_goes j before answer (MovesTo moved to) of can stand = (tt, stand)
+  moment_goes j before answer (Carries moved back wants) of can stand = (tt, stand)
   moment_goes j before answer (Ends m call) of can stand = (tt, stand)
   moment_goes j before answer (Hands m k place) of can stand =
       let mount = mount_in (life_of v before m) in
-      (hand_goes m k place mount j, subst (λ (x : Journal). AllStand x before) (sym (hand_after m k place mount j)) stand)
+      let home = home_in v.chunks before k in
+      (hand_goes m place home mount j, subst (λ (x : Journal). AllStand x before) (sym (hand_after m place home mount j)) stand)
   moment_goes j before answer (Begins m call) of can stand = (
     tt,
     λ n. by_test (m == n) (λ b. StandsIn n (if b then option_map (calling call) (life_of v before n) else life_of v before n) (last_ask before n) j)
@@ -245,12 +252,12 @@ module _ (v : Extent) (blocks : ℕ) (is : v.sectors ≡ 8 * blocks) (many : 1 <
         (λ _. stand n),
   )
   moment_goes j before answer (Turns m heard next) of can stand =
-      let steps = turn_steps v m (life_of v before m) (last_ask before m) answer heard next in
-      let goes = turn_goes m (life_of v before m) (last_ask before m) answer heard next j of can (stand m) in (
+      let steps = turn_steps v m (life_of v before m) (last_ask before m) (epoch_of before) answer heard next in
+      let goes = turn_goes m (life_of v before m) (last_ask before m) (epoch_of before) answer heard next j of can (stand m) in (
         goes.0,
         λ n. by_test (m == n) (λ b. StandsIn n (if b then turned v n heard (life_of v before n) else life_of v before n) (if b then next else last_ask before n) (after j steps))
             (λ same. subst (λ k. StandsIn k (turned v k heard (life_of v before k)) next (after j steps)) (eqb-true m n same) goes.1)
-            (λ other. other_stands m n (λ e. eqb-false m n other (sym e)) (life_of v before n) (last_ask before n) j steps (turn_of_mount v m (life_of v before m) (last_ask before m) answer heard next) (stand n)),
+            (λ other. other_stands m n (λ e. eqb-false m n other (sym e)) (life_of v before n) (last_ask before n) j steps (turn_of_mount v m (life_of v before m) (last_ask before m) (epoch_of before) answer heard next) (stand n)),
       )
 
   module _ (answer_at : ℕ → Answered) where

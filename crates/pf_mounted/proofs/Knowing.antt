@@ -4,6 +4,7 @@ use Rattle.std.specs.Option.{option_map}
 use Rattle.std.proofs.lemmas.Bool.{eqb-true, eqb-false, false≢true}
 use Rattle.std.proofs.lemmas.List.{append_assoc, map-append}
 use Rattle.std.proofs.lemmas.Option.{none-some, same_Some}
+use Rattle.pf_base.specs.Asks.{chunk_of}
 use Rattle.pf_base.specs.declared.asks.Ask.{Ask}
 use Rattle.pf_base.specs.declared.asks.Reply.{Reply}
 use Rattle.pf_base.specs.declared.asks.Reply.TheVariants.{Written, Bytes}
@@ -20,9 +21,10 @@ use Rattle.pf_positions.specs.Deeds.{Takes}
 use Rattle.pf_mount.specs.declared.work.Work.{Work}
 use Rattle.pf_mount.specs.declared.work.Work.TheVariants.{Rests, Fails, ReadsSuper, WritesSuper, Syncs, Ballots, Pauses, Moves}
 use Rattle.pf_mount.specs.Mounts.{MountIs, aborted, answered, balloted, blocks_in, finds_value, goes_on, on_bytes, on_written, opening, seeing, starting, with_proposer}
-use Rattle.pf_hosts.specs.Moments.{Heard, Moment, Begins, Ends, Hands, Turns, Writes}
+use Rattle.pf_hosts.specs.Moments.{Begins, Carries, Ends, Hands, Heard, Moment, Moves as MovesTo, Turns, Writes}
 use Rattle.pf_mounted.specs.Finding.{HasFound}
 use Rattle.pf_mounted.specs.Mounts.{Life, asked_in, calling, last_ask, life_of, lived, mount_after, mount_in, turned}
+use Rattle.pf_mounted.specs.Epochs.{Home, epoch_of, home_of}
 use Rattle.pf_mounted.specs.Journals.{AreOfMounts, CanBeDoing, CanBeDoings, CanBegin, IsOfMount, IsTurn, Step, asking, asks_on, ballot_next, call_of, client_of, doings, hand_steps, hearing_steps, hears, port_ask, port_reply, puts, stays_in, steps_at, steps_from, turn_steps}
 use Rattle.pf_mounted.proofs.Coming.{Pends}
 use Rattle.pf_mounted.proofs.Goes.{IsIdle}
@@ -62,24 +64,25 @@ module _ (m n : ℕ) (other : m ≢ n) where
   asking_apart mount None = tt
   asking_apart mount (Some ask) = (puts_apart mount.upto mount.position.seen mount.work, tt)
 
-  hearing_apart : (mount : MountIs) (ask : Ask) (answer : Answered) (heard : Heard) (next : Option Ask) → AreApart (17 + n) (hearing_steps m mount ask answer heard next)
-  hearing_apart mount ask answer heard next =
-      let reply = port_reply ask heard.by answer heard.reply in
+  hearing_apart : (mount : MountIs) (ask : Ask) (epoch : ℕ) (answer : Answered) (heard : Heard) (next : Option Ask) → AreApart (17 + n) (hearing_steps m mount ask epoch answer heard next)
+  hearing_apart mount ask epoch answer heard next =
+      let reply = port_reply ask epoch heard.by answer heard.reply in
       let on : Step = record { deed = Takes m reply (option_map port_ask next); doing = Does m (call_of heard.reply) } in
       let hear : Step = record { deed = Takes (client_of m mount.work) reply None; doing = hears m mount.upto mount.work heard.reply } in
       by_test (stays_in mount.work mount.position.proposer heard.reply) (λ b. AreApart (17 + n) (if b then on ∷ [] else hear ∷ asking m (answered mount heard.reply).mount next))
       (λ _. (tt, tt)) (λ _. (hears_apart mount.upto mount.work heard.reply, asking_apart (answered mount heard.reply).mount next))
 
-  pub turn_apart : (v : Extent) (life : Option Life) (last : Option Ask) (answer : Answered) (heard : Option Heard) (next : Option Ask) → AreApart (17 + n) (turn_steps v m life last answer heard next)
-  turn_apart v None last answer None next = asking_apart (opening m v).mount next
-  turn_apart v (Some life) last answer None next = asking_apart life.outcome.mount next
-  turn_apart v None last answer (Some heard) next = tt
-  turn_apart v (Some life) None answer (Some heard) next = tt
-  turn_apart v (Some life) (Some ask) answer (Some heard) next = hearing_apart life.outcome.mount ask answer heard next
+  pub turn_apart : (v : Extent) (life : Option Life) (last : Option Ask) (epoch : ℕ → ℕ) (answer : Answered) (heard : Option Heard) (next : Option Ask) → AreApart (17 + n) (turn_steps v m life last epoch answer heard next)
+  turn_apart v None last epoch answer None next = asking_apart (opening m v).mount next
+  turn_apart v (Some life) last epoch answer None next = asking_apart life.outcome.mount next
+  turn_apart v None last epoch answer (Some heard) next = tt
+  turn_apart v (Some life) None epoch answer (Some heard) next = tt
+  turn_apart v (Some life) (Some ask) epoch answer (Some heard) next = hearing_apart life.outcome.mount ask (epoch (chunk_of ask)) answer heard next
 
-pub hand_apart : (n m k place : ℕ) (mount : Option MountIs) → AreApart (17 + n) (hand_steps m k place mount)
-hand_apart n m k place None = tt
-hand_apart n m k place (Some mount) = ((λ same. absurd (omega (arith, same))), tt)
+pub hand_apart : (n m place : ℕ) (home : Option Home) (mount : Option MountIs) → AreApart (17 + n) (hand_steps m place home mount)
+hand_apart n m place None mount = tt
+hand_apart n m place (Some home) None = tt
+hand_apart n m place (Some home) (Some mount) = ((λ same. absurd (omega (arith, same))), tt)
 
 -- What a mount knows
 
@@ -155,7 +158,7 @@ ballot_on m input (Bytes sectors) at on =
     (by_test (finds_value m.position.proposer blocks) (λ b. IsNoSync (if b then goes_on (seeing m blocks) input o else aborted (seeing m blocks) input).mount.work)
     (λ _. balloted_on (with_proposer (seeing m blocks) o.proposer) input o.next on) (λ _. tt))
 
-module _ (ds : List Doing) (m : ℕ) (mount : MountIs) (ask : Ask) (answer : Answered) (heard : Heard) (next : Option Ask) (knows : Knows ds m mount (Some ask))
+module _ (ds : List Doing) (m : ℕ) (mount : MountIs) (ask : Ask) (epoch : ℕ) (answer : Answered) (heard : Heard) (next : Option Ask) (knows : Knows ds m mount (Some ask))
     (idle : IsIdle mount.work ((journal_from new_journal ds).proposers mount.upto m).phase) (pends : Pends mount.work mount (Some ask)) where
   abbrev after : MountIs
   after = (answered mount heard.reply).mount
@@ -198,10 +201,10 @@ module _ (ds : List Doing) (m : ℕ) (mount : MountIs) (ask : Ask) (answer : Ans
   }
 
   abbrev on : Step
-  on = record { deed = Takes m (port_reply ask heard.by answer heard.reply) (option_map port_ask next); doing = Does m (call_of heard.reply) }
+  on = record { deed = Takes m (port_reply ask epoch heard.by answer heard.reply) (option_map port_ask next); doing = Does m (call_of heard.reply) }
 
   abbrev hear : Step
-  hear = record { deed = Takes (client_of m mount.work) (port_reply ask heard.by answer heard.reply) None; doing = hears m mount.upto mount.work heard.reply }
+  hear = record { deed = Takes (client_of m mount.work) (port_reply ask epoch heard.by answer heard.reply) None; doing = hears m mount.upto mount.work heard.reply }
 
   abbrev Then : Bool → Type 0
   Then stays = Knows (ds ++ map (λ (s : Step). s.doing) (if stays then on ∷ [] else hear ∷ asking m after next)) m after next
@@ -212,7 +215,7 @@ module _ (ds : List Doing) (m : ℕ) (mount : MountIs) (ask : Ask) (answer : Ans
       (by_test (asks_on (ballot_next mount.position.proposer heard.reply)) Then (λ goes. goes_then input at goes) (λ _. hears_then))
   by_work work at = subst (λ w. Then (stays_in w mount.position.proposer heard.reply)) (sym at) hears_then
 
-  hearing_knows : Knows (ds ++ map (λ (s : Step). s.doing) (hearing_steps m mount ask answer heard next)) m after next
+  hearing_knows : Knows (ds ++ map (λ (s : Step). s.doing) (hearing_steps m mount ask epoch answer heard next)) m after next
   hearing_knows = by_work mount.work refl
 
 -- Moments
@@ -265,17 +268,17 @@ module _ (v : Extent) (blocks : ℕ) (is : v.sectors ≡ 8 * blocks) (many : 1 <
         awaits = awaits_still ds rest m mount.upto mount.work last apart knows.awaits;
       }
 
-  turn_knows : (ds : List Doing) (m : ℕ) (l : Option Life) (last : Option Ask) (answer : Answered) (heard : Option Heard) (next : Option Ask) → IsTurn v m l last answer heard next
-      → StandsIn v blocks is many m l last (journal_from new_journal ds) → KnowsIn ds m l last → KnowsIn (more ds (turn_steps v m l last answer heard next)) m (turned v m heard l) next
-  turn_knows ds m None last answer None next turn stands knows = asks_know ds m (opening m v).mount next (opening_has (HasFound ds m) m v)
-  turn_knows ds m None last answer (Some heard) next turn stands knows = absurd (none-some heard (sym turn.1))
-  turn_knows ds m (Some life) last answer None next turn stands knows = asks_know ds m life.outcome.mount next knows.has
-  turn_knows ds m (Some life) None answer (Some heard) next turn stands knows = absurd turn
-  turn_knows ds m (Some life) (Some ask) answer (Some heard) next turn stands knows =
+  turn_knows : (ds : List Doing) (m : ℕ) (l : Option Life) (last : Option Ask) (epoch : ℕ → ℕ) (answer : Answered) (heard : Option Heard) (next : Option Ask) → IsTurn v m l last answer heard next
+      → StandsIn v blocks is many m l last (journal_from new_journal ds) → KnowsIn ds m l last → KnowsIn (more ds (turn_steps v m l last epoch answer heard next)) m (turned v m heard l) next
+  turn_knows ds m None last epoch answer None next turn stands knows = asks_know ds m (opening m v).mount next (opening_has (HasFound ds m) m v)
+  turn_knows ds m None last epoch answer (Some heard) next turn stands knows = absurd (none-some heard (sym turn.1))
+  turn_knows ds m (Some life) last epoch answer None next turn stands knows = asks_know ds m life.outcome.mount next knows.has
+  turn_knows ds m (Some life) None epoch answer (Some heard) next turn stands knows = absurd turn
+  turn_knows ds m (Some life) (Some ask) epoch answer (Some heard) next turn stands knows =
       let mount = life.outcome.mount in
       let j : Journal = journal_from new_journal ds in
       let same = ap (λ n. (j.proposers n m).phase) stands.0.upto ∙ ap (λ (x : ProposerIs). x.phase) stands.1.here in
-      hearing_knows ds m mount ask answer heard next knows (subst (IsIdle mount.work) (sym same) stands.0.idle) (stands.0.waits ask refl).0
+      hearing_knows ds m mount ask (epoch (chunk_of ask)) answer heard next knows (subst (IsIdle mount.work) (sym same) stands.0.idle) (stands.0.waits ask refl).0
 
   call_knows : (ds : List Doing) (m : ℕ) (call : FileCall) (l : Option Life) (last : Option Ask) (j : Journal) → CanBegin (mount_in l) → StandsIn v blocks is many m l last j → KnowsIn ds m l last
       → KnowsIn ds m (option_map (calling call) l) last
@@ -296,21 +299,24 @@ module _ (v : Extent) (blocks : ℕ) (is : v.sectors ≡ 8 * blocks) (many : 1 <
   moment_knows : (ds : List Doing) (told : List Moment) (answer : Answered) (moment : Moment) → IsOfMount v told answer moment → AllStand v blocks is many (journal_from new_journal ds) told → AllKnow ds told
       → Know_on (more ds (steps_at v told answer moment)) told moment
   moment_knows ds told answer (Writes text) of stand know = λ n. subst (λ all. KnowsIn all n (life_of v told n) (last_ask told n)) (sym (append-nil ds)) (know n)
+  moment_knows ds told answer (MovesTo moved to) of stand know = λ n. subst (λ all. KnowsIn all n (life_of v told n) (last_ask told n)) (sym (append-nil ds)) (know n)
+  moment_knows ds told answer (Carries moved back wants) of stand know = λ n. subst (λ all. KnowsIn all n (life_of v told n) (last_ask told n)) (sym (append-nil ds)) (know n)
   moment_knows ds told answer (Ends m call) of stand know = λ n. subst (λ all. KnowsIn all n (life_of v told n) (last_ask told n)) (sym (append-nil ds)) (know n)
   moment_knows ds told answer (Hands m k place) of stand know = λ n.
-      let steps = hand_steps m k place (mount_in (life_of v told m)) in
-      knows_still ds steps n (life_of v told n) (last_ask told n) (hand_apart n m k place (mount_in (life_of v told m))) (know n)
+      let home = home_of v.chunks told k in
+      let steps = hand_steps m place home (mount_in (life_of v told m)) in
+      knows_still ds steps n (life_of v told n) (last_ask told n) (hand_apart n m place home (mount_in (life_of v told m))) (know n)
   moment_knows ds told answer (Begins m call) of stand know = λ n.
       subst (λ all. KnowsIn all n (lived v n (life_of v told n) (Begins m call)) (last_ask told n)) (sym (append-nil ds))
       (by_test (m == n) (λ b. KnowsIn ds n (if b then option_map (calling call) (life_of v told n) else life_of v told n) (last_ask told n))
       (λ same. call_knows ds n call (life_of v told n) (last_ask told n) (journal_from new_journal ds) (subst (λ k. CanBegin (mount_in (life_of v told k))) (eqb-true m n same) of) (stand n) (know n))
       (λ _. know n))
   moment_knows ds told answer (Turns m heard next) of stand know = λ n.
-      let steps = turn_steps v m (life_of v told m) (last_ask told m) answer heard next in
+      let steps = turn_steps v m (life_of v told m) (last_ask told m) (epoch_of told) answer heard next in
       by_test (m == n) (λ b. KnowsIn (more ds steps) n (if b then turned v n heard (life_of v told n) else life_of v told n) (if b then next else last_ask told n))
       (λ same. subst (λ k. KnowsIn (more ds steps) k (turned v k heard (life_of v told k)) next) (eqb-true m n same)
-      (turn_knows ds m (life_of v told m) (last_ask told m) answer heard next of (stand m) (know m)))
-      (λ other. knows_still ds steps n (life_of v told n) (last_ask told n) (turn_apart m n (eqb-false m n other) v (life_of v told m) (last_ask told m) answer heard next) (know n))
+      (turn_knows ds m (life_of v told m) (last_ask told m) (epoch_of told) answer heard next of (stand m) (know m)))
+      (λ other. knows_still ds steps n (life_of v told n) (last_ask told n) (turn_apart m n (eqb-false m n other) v (life_of v told m) (last_ask told m) (epoch_of told) answer heard next) (know n))
 
   module _ (answer_at : ℕ → Answered) where
     all_know : (more told : List Moment) → AreOfMounts v answer_at [] told → CanBeDoings v [] told → AreOfMounts v answer_at told more → CanBeDoings v told more → AllKnow (doings v answer_at told) told

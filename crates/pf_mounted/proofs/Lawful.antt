@@ -14,6 +14,7 @@ use Rattle.pf_mounted.specs.Scripts.{IsScript}
 use Rattle.pf_mounted.proofs.Beginning.{turns_free}
 use Rattle.pf_mounted.proofs.Holding.{calls_of_words, handed_on, mounts_alone, ports_driven, ports_full, reached_within, replies_heard, replies_since}
 use Rattle.pf_mounted.proofs.OfMounts.{run_of_mounts}
+use Rattle.pf_mounted.proofs.RunMoves.{run_moves}
 use Rattle.pf_mounted.proofs.Sizing.{has_room}
 use Rattle.pf_mounted.proofs.Standing.{each_done, hosts_are_told}
 use Rattle.pf_mounted.proofs.Together.{AsksTold, can_all}
@@ -32,10 +33,11 @@ module _ (halts : List Halt) (sessions : List Session) (lines : List Line) (scri
         begins = λ m before after next same. turns_free halts sessions lines script before after m next same;
         reads = moments.2;
         heard = λ m before after heard next same. replies_heard halts sessions lines script m before after heard next same;
-        since = λ m before after heard next ask same asked. replies_since halts sessions lines script m before after heard next ask same asked;
+        since = λ m before after heard next ask same asked k serves. replies_since halts sessions lines script m before after heard next ask same asked k serves;
         legal = λ k c at. (lawful k c at).legal;
         driven = ports_driven halts sessions lines script;
         ports = ports_full halts sessions lines script;
+        moves = run_moves halts sessions lines script lawful;
       }
 
   -- each turn asks what its mount asks

@@ -4,6 +4,7 @@ use Rattle.std.specs.Option.{option_map}
 use Rattle.std.proofs.lemmas.Bool.{cases_lt, eqb-true, eqb-false, false≢true, ltb-false}
 use Rattle.std.proofs.lemmas.List.{append_assoc, take_at}
 use Rattle.std.proofs.lemmas.Option.{none-some, same_Some}
+use Rattle.pf_base.specs.Asks.{chunk_of}
 use Rattle.pf_base.specs.declared.asks.Ask.{Ask}
 use Rattle.pf_base.specs.declared.asks.Reply.{Reply}
 use Rattle.pf_base.specs.declared.asks.Reply.TheVariants.{Written, Bytes}
@@ -23,9 +24,10 @@ use Rattle.pf_positions.specs.Deeds.{Takes}
 use Rattle.pf_mount.specs.declared.work.Work.{Work}
 use Rattle.pf_mount.specs.declared.work.Work.TheVariants.{Rests, Fails, ReadsSuper, WritesSuper, Syncs, Ballots, Pauses, Moves}
 use Rattle.pf_mount.specs.Mounts.{MountIs, answered, blocks_in, has_bal, opening, starting}
-use Rattle.pf_hosts.specs.Moments.{Heard, Moment, Begins, Ends, Hands, Turns, Writes}
+use Rattle.pf_hosts.specs.Moments.{Begins, Carries, Ends, Hands, Heard, Moment, Moves as MovesTo, Turns, Writes}
 use Rattle.pf_mounted.specs.Late.{IsPlanned}
 use Rattle.pf_mounted.specs.Mounts.{Life, asked_in, calling, last_ask, life_of, lived, mount_after, mount_in, turned}
+use Rattle.pf_mounted.specs.Epochs.{epoch_of, home_of}
 use Rattle.pf_mounted.specs.Journals.{AreOfMounts, CanBeDoings, CanBegin, IsOfMount, IsTurn, Step, asking, asks_on, ballot_next, call_of, client_of, doings, hand_steps, hearing_steps, hears, port_ask, port_reply, puts, stays_in, steps_at, steps_from, turn_steps}
 use Rattle.pf_mounted.proofs.Coming.{Pends}
 use Rattle.pf_mounted.proofs.Inducting.{of_at, of_until}
@@ -188,7 +190,7 @@ module _ (low : ℕ) (most : low ≤ 256) (from : ℕ) where
 
   -- A reply
 
-  module _ (ds : List Doing) (m : ℕ) (mount : MountIs) (ask : Ask) (answer : Answered) (heard : Heard) (next : Option Ask) (within : from ≤ length ds) (knows : Knows ds m mount (Some ask)) (pends : Pends mount.work mount (Some ask)) where
+  module _ (ds : List Doing) (m : ℕ) (mount : MountIs) (ask : Ask) (epoch : ℕ) (answer : Answered) (heard : Heard) (next : Option Ask) (within : from ≤ length ds) (knows : Knows ds m mount (Some ask)) (pends : Pends mount.work mount (Some ask)) where
     abbrev after : MountIs
     after = (answered mount heard.reply).mount
 
@@ -247,10 +249,10 @@ module _ (low : ℕ) (most : low ≤ 256) (from : ℕ) where
     }
 
     abbrev on : Step
-    on = record { deed = Takes m (port_reply ask heard.by answer heard.reply) (option_map port_ask next); doing = Does m (call_of heard.reply) }
+    on = record { deed = Takes m (port_reply ask epoch heard.by answer heard.reply) (option_map port_ask next); doing = Does m (call_of heard.reply) }
 
     abbrev hear : Step
-    hear = record { deed = Takes (client_of m mount.work) (port_reply ask heard.by answer heard.reply) None; doing = hears m mount.upto mount.work heard.reply }
+    hear = record { deed = Takes (client_of m mount.work) (port_reply ask epoch heard.by answer heard.reply) None; doing = hears m mount.upto mount.work heard.reply }
 
     abbrev done : Bool → List Doing
     done stays = ds ++ map (λ (s : Step). s.doing) (if stays then on ∷ [] else hear ∷ asking m after next)
@@ -264,7 +266,7 @@ module _ (low : ℕ) (most : low ≤ 256) (from : ℕ) where
         (by_test (asks_on (ballot_next mount.position.proposer heard.reply)) Then (λ goes. goes_then input at goes) (λ _. hears_then))
     by_work work at = subst (λ w. Then (stays_in w mount.position.proposer heard.reply)) (sym at) hears_then
 
-    hearing_knows : Bounded (ds ++ map (λ (s : Step). s.doing) (hearing_steps m mount ask answer heard next)) → Knows (ds ++ map (λ (s : Step). s.doing) (hearing_steps m mount ask answer heard next)) m after next
+    hearing_knows : Bounded (ds ++ map (λ (s : Step). s.doing) (hearing_steps m mount ask epoch answer heard next)) → Knows (ds ++ map (λ (s : Step). s.doing) (hearing_steps m mount ask epoch answer heard next)) m after next
     hearing_knows = by_work mount.work refl
 
   -- Moments
@@ -288,14 +290,14 @@ module _ (low : ℕ) (most : low ≤ 256) (from : ℕ) where
         let mount = life.outcome.mount in
         record { late = late_still ds rest mount knows.late; awaits = awaits_still ds rest m mount.upto mount.work last apart knows.awaits }
 
-    turn_knows : (ds : List Doing) (l : Option Life) (last : Option Ask) (answer : Answered) (heard : Option Heard) (next : Option Ask) → from ≤ length ds → IsTurn v m l last answer heard next
-        → StandsIn v blocks is many m l last (journal_from new_journal ds) → KnowsIn ds l last → Bounded (more ds (turn_steps v m l last answer heard next)) → KnowsIn (more ds (turn_steps v m l last answer heard next)) (turned v m heard l) next
-    turn_knows ds None last answer None next within turn stands knows bounded = asks_know ds m (opening m v).mount next within (record { late = tt })
-    turn_knows ds None last answer (Some heard) next within turn stands knows bounded = absurd (none-some heard (sym turn.1))
-    turn_knows ds (Some life) last answer None next within turn stands knows bounded = asks_know ds m life.outcome.mount next within knows.late
-    turn_knows ds (Some life) None answer (Some heard) next within turn stands knows bounded = absurd turn
-    turn_knows ds (Some life) (Some ask) answer (Some heard) next within turn stands knows bounded =
-        hearing_knows ds m life.outcome.mount ask answer heard next within knows (stands.0.waits ask refl).0 bounded
+    turn_knows : (ds : List Doing) (l : Option Life) (last : Option Ask) (epoch : ℕ → ℕ) (answer : Answered) (heard : Option Heard) (next : Option Ask) → from ≤ length ds → IsTurn v m l last answer heard next
+        → StandsIn v blocks is many m l last (journal_from new_journal ds) → KnowsIn ds l last → Bounded (more ds (turn_steps v m l last epoch answer heard next)) → KnowsIn (more ds (turn_steps v m l last epoch answer heard next)) (turned v m heard l) next
+    turn_knows ds None last epoch answer None next within turn stands knows bounded = asks_know ds m (opening m v).mount next within (record { late = tt })
+    turn_knows ds None last epoch answer (Some heard) next within turn stands knows bounded = absurd (none-some heard (sym turn.1))
+    turn_knows ds (Some life) last epoch answer None next within turn stands knows bounded = asks_know ds m life.outcome.mount next within knows.late
+    turn_knows ds (Some life) None epoch answer (Some heard) next within turn stands knows bounded = absurd turn
+    turn_knows ds (Some life) (Some ask) epoch answer (Some heard) next within turn stands knows bounded =
+        hearing_knows ds m life.outcome.mount ask (epoch (chunk_of ask)) answer heard next within knows (stands.0.waits ask refl).0 bounded
 
     call_knows : (ds : List Doing) (call : FileCall) (l : Option Life) (last : Option Ask) → CanBegin (mount_in l) → StandsIn v blocks is many m l last (journal_from new_journal ds) → KnowsIn ds (option_map (calling call) l) last
     call_knows ds call None last rests stands = tt
@@ -328,10 +330,13 @@ module _ (low : ℕ) (most : low ≤ 256) (from : ℕ) where
           → Bounded (more (doings v answer_at before) (steps_at v before (answer_at (length before)) moment)) → Known before
           → KnowsIn (more (doings v answer_at before) (steps_at v before (answer_at (length before)) moment)) (lived v m (life_of v before m) moment) (asked_in m (last_ask before m) moment)
       moment_knows before (Writes text) within its stands all know = subst (λ ds. KnowsIn ds (life_of v before m) (last_ask before m)) (sym (append-nil (doings v answer_at before))) know
+      moment_knows before (MovesTo moved to) within its stands all know = subst (λ ds. KnowsIn ds (life_of v before m) (last_ask before m)) (sym (append-nil (doings v answer_at before))) know
+      moment_knows before (Carries moved back wants) within its stands all know = subst (λ ds. KnowsIn ds (life_of v before m) (last_ask before m)) (sym (append-nil (doings v answer_at before))) know
       moment_knows before (Ends n answer) within its stands all know = subst (λ ds. KnowsIn ds (life_of v before m) (last_ask before m)) (sym (append-nil (doings v answer_at before))) know
       moment_knows before (Hands n k place) within its stands all know =
-          let steps = hand_steps n k place (mount_in (life_of v before n)) in
-          knows_still (doings v answer_at before) steps (life_of v before m) (last_ask before m) (hand_apart m n k place (mount_in (life_of v before n))) know
+          let home = home_of v.chunks before k in
+          let steps = hand_steps n place home (mount_in (life_of v before n)) in
+          knows_still (doings v answer_at before) steps (life_of v before m) (last_ask before m) (hand_apart m n place home (mount_in (life_of v before n))) know
       moment_knows before (Begins n call) within its stands all know =
           let ds = doings v answer_at before in
           subst (λ ds. KnowsIn ds (lived v m (life_of v before m) (Begins n call)) (last_ask before m)) (sym (append-nil ds))
@@ -341,14 +346,14 @@ module _ (low : ℕ) (most : low ≤ 256) (from : ℕ) where
       moment_knows before (Turns n heard next) within its stands all know =
           let ds = doings v answer_at before in
           let answer = answer_at (length before) in
-          let steps : ℕ → List Step = λ k. turn_steps v k (life_of v before k) (last_ask before k) answer heard next in
+          let steps : ℕ → List Step = λ k. turn_steps v k (life_of v before k) (last_ask before k) (epoch_of before) answer heard next in
           by_test (n == m) (λ b. KnowsIn (more ds (steps n)) (if b then turned v m heard (life_of v before m) else life_of v before m) (if b then next else last_ask before m))
           (λ own.
           let same = eqb-true n m own in
           subst (λ k. KnowsIn (more ds (steps k)) (turned v m heard (life_of v before m)) next) (sym same)
-          (turn_knows ds (life_of v before m) (last_ask before m) answer heard next within (subst (λ k. IsTurn v k (life_of v before k) (last_ask before k) answer heard next) same its) stands know
+          (turn_knows ds (life_of v before m) (last_ask before m) (epoch_of before) answer heard next within (subst (λ k. IsTurn v k (life_of v before k) (last_ask before k) answer heard next) same its) stands know
           (subst (λ k. Bounded (more ds (steps k))) same all)))
-          (λ other. knows_still ds (steps n) (life_of v before m) (last_ask before m) (turn_apart n m (eqb-false n m other) v (life_of v before n) (last_ask before n) answer heard next) know)
+          (λ other. knows_still ds (steps n) (life_of v before m) (last_ask before m) (turn_apart n m (eqb-false n m other) v (life_of v before n) (last_ask before n) (epoch_of before) answer heard next) know)
 
       all_know : (mid before after : List Moment) → told ≡ before ++ (mid ++ after) → from ≤ length (doings v answer_at before) → Known before → Known (before ++ mid)
       all_know [] before after same within know = subst Known (sym (append-nil before)) know

@@ -14,7 +14,7 @@ use Rattle.pf_files.specs.Calls.{WorkIs}
 use Rattle.pf_files.specs.declared.calls.Pending.{Pending}
 use Rattle.pf_mount.specs.Mounts.{MountIs, answered, opening, starting}
 use Rattle.pf_network.proofs.Lists.{at_end, at_front}
-use Rattle.pf_hosts.specs.Moments.{Heard, Moment, Begins, Ends, Hands, Turns, Writes}
+use Rattle.pf_hosts.specs.Moments.{Begins, Carries, Ends, Hands, Heard, Moment, Moves as MovesTo, Turns, Writes}
 use Rattle.pf_mounted.specs.Mounts.{Life, RestsIn, calling, life_of, lived, mount_after, mount_in, turned}
 use Rattle.pf_mounted.specs.Trees.{AreBegunAtRest, call_begun, call_named, calls_of, numbered}
 use Rattle.pf_mounted.proofs.Changing.{answered_keeps, starting_keeps}
@@ -55,6 +55,8 @@ module _ (m : ℕ) where
   begins_it (Begins n begun) call is = begins_if n begun call (n == m) refl is
   begins_it (Turns n heard next) call is = absurd (none-some call is)
   begins_it (Writes text) call is = absurd (none-some call is)
+  begins_it (MovesTo its to) call is = absurd (none-some call is)
+  begins_it (Carries its reply wants) call is = absurd (none-some call is)
   begins_it (Hands n k place) call is = absurd (none-some call is)
   begins_it (Ends n answer) call is = absurd (none-some call is)
 
@@ -149,6 +151,8 @@ module _ (v : Extent) (m : ℕ) where
       by_test (n == m) (λ b. AreNamed (calls ++ []) (if b then turned v m heard life else life))
       (λ _. no_more calls (turned v m heard life) (turned_named calls heard life is)) (λ _. no_more calls life is)
   moment_named calls life (Writes text) rests is = no_more calls life is
+  moment_named calls life (MovesTo its to) rests is = no_more calls life is
+  moment_named calls life (Carries its reply wants) rests is = no_more calls life is
   moment_named calls life (Hands n k place) rests is = no_more calls life is
   moment_named calls life (Ends n answer) rests is = no_more calls life is
 
@@ -156,6 +160,8 @@ module _ (v : Extent) (m : ℕ) where
   rests_at told more (Begins n call) rest = λ same. subst (λ k. RestsIn (life_of v told k)) same (rest n told more call refl)
   rests_at told more (Turns n heard next) rest = tt
   rests_at told more (Writes text) rest = tt
+  rests_at told more (MovesTo its to) rest = tt
+  rests_at told more (Carries its reply wants) rest = tt
   rests_at told more (Hands n k place) rest = tt
   rests_at told more (Ends n answer) rest = tt
 

@@ -1,10 +1,8 @@
 -- No mount of a run ever meets the superblock of another volume.
-use Rattle.std.proofs.Common.{◌≡◌, ℕ, ◌+◌, ◌-◌, ◌*◌, ◌/◌, ◌%◌, ◌<◌, ◌==◌, if◌then◌else◌, List, [], ◌∷◌, ◌++◌, length, replicate, take, Option, Some, None, slice_get, inl, inr, arith, refl, sym, ap, subst, ◌∙◌, append-nil}
+use Rattle.std.proofs.Common.{◌≡◌, ◌⊎◌, ℕ, zero, suc, ◌+◌, ◌-◌, ◌*◌, ◌/◌, ◌%◌, ◌<◌, ◌≤◌, ◌==◌, if◌then◌else◌, List, [], ◌∷◌, ◌++◌, length, replicate, take, Option, Some, None, slice_get, inl, inr, arith, refl, sym, ap, subst, ◌∙◌, append-nil}
 use Rattle.std.specs.Option.{option_map}
-use Rattle.std.proofs.lemmas.Bool.{eqb-true}
 use Rattle.std.proofs.lemmas.List.{append_assoc}
 use Rattle.std.proofs.lemmas.Option.{none-some, same_Some}
-use Rattle.pf_base.specs.Asks.{Answers}
 use Rattle.pf_base.specs.Span.{Span}
 use Rattle.pf_base.specs.declared.asks.Ask.{Ask}
 use Rattle.pf_base.specs.declared.asks.Reply.{Reply}
@@ -26,8 +24,28 @@ use Rattle.pf_mount.specs.declared.work.Work.TheVariants.{ReadsSuper}
 use Rattle.pf_mount.specs.Mounts.{MountIs}
 use Rattle.pf_chunk.specs.Driving.{event_of_ask}
 use Rattle.pf_chunk.specs.Runs.{ChunkRun}
-use Rattle.pf_hosts.specs.Moments.{Heard, Moment, Begins, Ends, Hands, Turns, Writes}
+use Rattle.pf_hosts.specs.Moments.{Begins, Carries, Ends, Hands, Heard, Moment, Moves as MovesTo, Turns, Writes}
 use Rattle.pf_paxos.specs.Journals.{journal_from, new_journal}
+use Rattle.std.proofs.lemmas.Bool.{cases_lt, eqb-true}
+use Rattle.std.proofs.Math.Seq.{take-append_seam}
+use Rattle.pf_base.specs.Asks.{Answers, chunk_of}
+use Rattle.pf_entry.specs.declared.ops.Op.{Op}
+use Rattle.pf_protocol.specs.declared.answers.Answer.{Answer}
+use Rattle.pf_protocol.specs.Histories.{History}
+use Rattle.pf_protocol.specs.Ports.{Submission}
+use Rattle.pf_registers.specs.Firsts.{IsPorts}
+use Rattle.pf_positions.specs.Deeds.{Groups}
+use Rattle.pf_positions.specs.Moves.{mover_into}
+use Rattle.pf_positions.proofs.Answers.{taken_before}
+use Rattle.pf_epochs.proofs.Copying.{were_carried}
+use Rattle.pf_mounted.specs.Epochs.{epoch_of, group_at, serving}
+use Rattle.pf_mounted.specs.Handing.{reach_at, reached}
+use Rattle.pf_mounted.specs.Hosted.{groups_of, history_of, told_history}
+use Rattle.pf_mounted.proofs.Epoching.{epoch_rises, same_home}
+use Rattle.pf_mounted.proofs.Fits.{has_group}
+use Rattle.pf_mounted.proofs.Moved.{legal_of, some_pieces, was_carried}
+use Rattle.pf_mounted.proofs.Placing.{at_seam}
+use Rattle.pf_mounted.proofs.Reached.{heard_reaches, reaches}
 use Rattle.pf_mounted.specs.Fitting.{IsOfRun}
 use Rattle.pf_mounted.specs.Handing.{AreMountsAlone}
 use Rattle.pf_mounted.specs.Journals.{CanBeDoings, IsHearing, IsTurn, doings}
@@ -36,7 +54,7 @@ use Rattle.pf_mounted.proofs.Coming.{Pends}
 use Rattle.pf_mounted.proofs.Inducting.{of_at, of_until}
 use Rattle.pf_mounted.proofs.Journaling.{StandsIn, told_stand}
 use Rattle.pf_mounted.proofs.Lives.{life_on}
-use Rattle.pf_mounted.proofs.Submitting.{IsMade, WritesAt, doings_before, event_there, made_from, write_of, writes_so}
+use Rattle.pf_mounted.proofs.Submitting.{IsMade, IsWriteOf, WritesAt, begun, by_mover, doings_before, event_there, group_till, made_from, write_of, writes_so}
 use Rattle.pf_mounted.proofs.Supers.{WasGiven, given_bytes, given_to_read, super_write}
 use Rattle.pf_mounted.proofs.Unfailing.{HasFailed, IsOwnSuper, ReplyIsOwn, SuperIsOwn, answered_works, starting_works}
 
@@ -99,23 +117,121 @@ module _ (v : Extent) (chunks : List ChunkRun) (answer_at : ℕ → Answered) (t
           let waits = stands.0.waits ask asked in
           super_write v blocks is many life.outcome.mount stands.0.volume life.outcome.mount.work ask waits.0 waits.1 written
 
-  -- what the first sector was given
-  given_super : (k : ℕ) (c : ChunkRun) → k ≡ 0 / v.sectors → slice_get chunks k ≡ Some c → (by : ℕ) (bytes : Sector) → WasGiven (take by c.group.history) (0 % v.sectors) bytes → bytes ≡ super
-  given_super k c chunk at by bytes was =
-      let x = 0 % v.sectors in
-      let a = was.submission in
-      let w = write_of a.op x bytes was.gives in
-      let there = event_there c.group.history a.before by (submitting a) was.made ∙ ap (λ op. Some (record { event = events.Submit a.server op; answer = a.answer })) w.is in
-      let hands = alone k (length a.before) a.server c w.range w.sectors a.answer at there in
-      let handed = run.handed.each hands.0 hands.2 hands.1 k (length a.before) hands.3 in
-      let chunk_is : handed.chunk ≡ c = same_Some handed.chunk c (sym handed.there ∙ at) in
-      let event : Happening = record { event = event_of_ask handed.ask handed.server; answer = handed.answer } in
-      let same : event ≡ record { event = events.Submit a.server (Write w.range w.sectors); answer = a.answer } =
-      same_Some event _ (sym handed.is ∙ ap (λ (d : ChunkRun). slice_get d.group.history (length a.before)) chunk_is ∙ there) in
-      let written = subst (λ n. WritesAt handed.ask n x) (handed.of ∙ chunk) (writes_so handed.ask handed.server a.server w.range w.sectors x (ap (λ (h : Happening). h.event) same) w.inside) in
-      let ask_is = handed_super hands.0 (Hands hands.1 k (length a.before) ∷ hands.2) hands.1 handed.ask hands.3 handed.pending written in
-      let op_is : events.Submit handed.server (Write (run_at v 0 1) (super ∷ [])) ≡ events.Submit a.server (Write w.range w.sectors) = ap (λ z. event_of_ask z handed.server) (sym ask_is) ∙ ap (λ (h : Happening). h.event) same in
-      of_super v bytes handed.server a.server w.range w.sectors op_is (given_bytes w.range w.sectors x bytes (ap (λ op. given op x) (sym w.is) ∙ was.gives))
+  -- What the first sector was given
+
+  abbrev first_chunk : ℕ
+  first_chunk = 0 / v.sectors
+
+  abbrev first_sector : ℕ
+  first_sector = 0 % v.sectors
+
+  first_is : first_sector ≡ 0
+  first_is = let some = volume.some_sectors in omega (arith, some)
+
+  first_small : first_chunk < v.chunks
+  first_small =
+      let some = volume.some_sectors in
+      let chunks_are = volume.some_chunks in
+      let is : first_chunk ≡ 0 = omega (arith, some) in omega (arith, is, chunks_are)
+
+  abbrev groups : Groups
+  groups = groups_of v answer_at chunks told
+
+  abbrev all : told ≡ told ++ []
+  all = sym (append-nil told)
+
+  abbrev IsSuper : Sector → Type 0
+  IsSuper bytes = (bytes ≡ super) ⊎ (bytes ≡ zero_sector)
+
+  -- by a port of a mount, or by that of the mover
+  module _ (e k : ℕ) (c : ChunkRun) (group : group_at told first_chunk e ≡ Some k) (at : slice_get chunks k ≡ Some c) (by : ℕ) (bytes : Sector) (was : WasGiven (take by c.group.history) first_sector bytes) where
+    abbrev a : Submission
+    a = was.submission
+
+    w : IsWriteOf a.op first_sector
+    w = write_of a.op first_sector bytes was.gives
+
+    there : slice_get c.group.history (length a.before) ≡ Some (record { event = events.Submit a.server (Write w.range w.sectors); answer = a.answer })
+    there = event_there c.group.history a.before by (submitting a) was.made ∙ ap (λ op. Some (record { event = events.Submit a.server op; answer = a.answer })) w.is
+
+    by_mount : (before after : List Moment) (m : ℕ) → told ≡ before ++ Hands m k (length a.before) ∷ after → m < 16 → bytes ≡ super
+    by_mount before after m same few =
+        let handed = run.handed.each before after m k (length a.before) same few in
+        let rests = run.moves.hands before after m k (length a.before) handed.ask same few handed.pending in
+        let home = same_home v.chunks told (begun v answer_at chunks told told [] run.moves run.handed all) (chunk_of handed.ask) first_chunk (epoch_of before (chunk_of handed.ask)) e k rests.small first_small
+        (group_till v answer_at chunks told told [] run.moves run.handed all before (Hands m k (length a.before) ∷ after) same (chunk_of handed.ask) (epoch_of before (chunk_of handed.ask)) k handed.of) group in
+        let chunk_is : handed.chunk ≡ c = same_Some handed.chunk c (sym handed.there ∙ at) in
+        let event : Happening = record { event = event_of_ask handed.ask handed.server; answer = handed.answer } in
+        let one : event ≡ record { event = events.Submit a.server (Write w.range w.sectors); answer = a.answer } =
+        same_Some event _ (sym handed.is ∙ ap (λ (d : ChunkRun). slice_get d.group.history (length a.before)) chunk_is ∙ there) in
+        let written = subst (λ n. WritesAt handed.ask n first_sector) home.0 (writes_so handed.ask handed.server a.server w.range w.sectors first_sector (ap (λ (h : Happening). h.event) one) w.inside) in
+        let ask_is = handed_super before (Hands m k (length a.before) ∷ after) m handed.ask same handed.pending written in
+        let op_is : events.Submit handed.server (Write (run_at v 0 1) (super ∷ [])) ≡ events.Submit a.server (Write w.range w.sectors) = ap (λ z. event_of_ask z handed.server) (sym ask_is) ∙ ap (λ (h : Happening). h.event) one in
+        of_super v bytes handed.server a.server w.range w.sectors op_is (given_bytes w.range w.sectors first_sector bytes (ap (λ op. given op first_sector) (sym w.is) ∙ was.gives))
+
+    by_port : ((earlier : History) → IsPorts (mover_into groups first_chunk e) earlier a.server (Write w.range w.sectors) a.answer → IsSuper bytes) → IsSuper bytes
+    by_port mover =
+        let hands = alone k (length a.before) a.server c w.range w.sectors a.answer at there in
+        let same : told ≡ hands.0 ++ Hands hands.1 k (length a.before) ∷ hands.2 = hands.3 in
+        elim (cases_lt hands.1 16) [
+          | inl few ↦ inl (by_mount hands.0 hands.2 hands.1 same few)
+          | inr many_ports ↦
+              let on = run.moves.on hands.0 hands.2 hands.1 k (length a.before) same many_ports in
+              mover (take (length a.before) c.group.history)
+              (by_mover v answer_at chunks told told [] run.moves run.handed all alone first_chunk e k c first_small group at (length a.before) a.server (Write w.range w.sectors) a.answer there hands.0 hands.2 hands.1 same on.0 on.1)
+        ]
+
+    wrote_it : given (Write w.range w.sectors) first_sector ≡ Some bytes
+    wrote_it = ap (λ op. given op first_sector) (sym w.is) ∙ was.gives
+
+  history_is : (e k : ℕ) (c : ChunkRun) → group_at told first_chunk e ≡ Some k → slice_get chunks k ≡ Some c → groups.history first_chunk e ≡ take (reached k told) c.group.history
+  history_is e k c group at = ap (told_history v answer_at chunks told) group ∙ ap (λ o. take (reached k told) (history_of o)) at
+
+  -- what the mover wrote the old group had given
+  copied_super : (e : ℕ) → suc e ≤ epoch_of told first_chunk → ((bytes : Sector) → WasGiven (groups.history first_chunk e) first_sector bytes → IsSuper bytes)
+      → (bytes : Sector) (earlier : History) (server : ℕ) (op : Op) (answer : Answer) → IsPorts (mover_into groups first_chunk (suc e)) earlier server op answer → given op first_sector ≡ Some bytes → IsSuper bytes
+  copied_super e low before bytes earlier server op answer port gives =
+      let carried = was_carried v chunks answer_at told run volume told [] all first_chunk e first_small low in
+      let some = some_pieces v chunks answer_at told run volume told [] all in
+      let pieces = v.sectors / 8 in
+      let zero_piece : 0 < pieces = some in
+      let legal = legal_of v chunks answer_at told run volume told [] all first_chunk e first_small (omega (arith, low)) in
+      let were = were_carried groups first_chunk e pieces 0 carried.last carried.turns carried.carried legal zero_piece in
+      let is = first_is in
+      let here : 8 * 0 + 0 ≡ first_sector = omega (arith, is) in
+      let its : given port.submission.op (8 * 0 + 0) ≡ Some bytes = ap (given port.submission.op) here ∙ ap (λ o. given o first_sector) port.has_op ∙ gives in
+      let there = were.same port.k 0 port.submission bytes port.there (omega arith) its in
+      let read = carried.carried.read 0 zero_piece in
+      let range = ap (λ (r : Span). r.first) read.2 in
+      elim (given_to_read (groups.setup first_chunk e) (groups.history first_chunk e) first_sector read.0 (carried.last 0) bytes read.1 (omega (arith, range, is)) there) [
+        | inl zeros ↦ inr zeros
+        | inr was ↦ before bytes was
+      ]
+
+  given_so : (e : ℕ) → e ≤ epoch_of told first_chunk → (bytes : Sector) → WasGiven (groups.history first_chunk e) first_sector bytes → IsSuper bytes
+  given_so zero low bytes was =
+      let g = has_group v chunks answer_at told run told [] all first_chunk 0 first_small low in
+      let its = subst (λ h. WasGiven h first_sector bytes) (history_is 0 g.k g.c g.at g.there) was in
+      by_port 0 g.k g.c g.at g.there (reached g.k told) bytes its (λ earlier port. absurd (none-some _ port.there))
+  given_so (suc e) low bytes was =
+      let g = has_group v chunks answer_at told run told [] all first_chunk (suc e) first_small low in
+      let its = subst (λ h. WasGiven h first_sector bytes) (history_is (suc e) g.k g.c g.at g.there) was in
+      let so_far = given_so e (omega (arith, low)) in
+      by_port (suc e) g.k g.c g.at g.there (reached g.k told) bytes its (λ earlier port. copied_super e low so_far bytes earlier its.submission.server _ its.submission.answer port (wrote_it (suc e) g.k g.c g.at g.there (reached g.k told) bytes its))
+
+  -- of a group that served the chunk, as far as was told
+  given_super : (before after : List Moment) (k : ℕ) (c : ChunkRun) → told ≡ before ++ after → serving before first_chunk ≡ Some k → slice_get chunks k ≡ Some c → (by : ℕ) → by ≤ reached k told → (bytes : Sector) → WasGiven (take by c.group.history) first_sector bytes → IsSuper bytes
+  given_super before after k c same serves at by low bytes was =
+      let e = epoch_of before first_chunk in
+      let rises = epoch_rises before after first_chunk in
+      let all_epochs = ap (λ (b : List Moment). epoch_of b first_chunk) same in
+      let group = group_till v answer_at chunks told told [] run.moves run.handed all before after same first_chunk e k serves in
+      let starts = taken_before by (reached k told) c.group.history low in
+      given_so e (omega (arith, rises, all_epochs)) bytes (subst (λ h. WasGiven h first_sector bytes) (sym (history_is e k c group at)) (record {
+        submission = was.submission;
+        made = record { rest = was.made.rest ++ starts.rest; whole = sym (append_assoc (was.submission.before ++ submitting was.submission ∷ []) was.made.rest starts.rest) ∙ ap (λ h. h ++ starts.rest) was.made.whole ∙ starts.whole };
+        gives = was.gives;
+      }))
 
   -- A reply
 
@@ -133,6 +249,9 @@ module _ (v : Extent) (chunks : List ChunkRun) (answer_at : ℕ → Answered) (t
           same_Some ask (reads mount.files.volume 0 1) (subst (λ w. Pends w mount (Some ask)) at (stands.0.waits ask asked).0)
           ∙ ap (λ (e : Extent). reads e 0 1) stands.0.volume
 
+      told_there : slice_get told (length before) ≡ Some (Turns m (Some heard) next)
+      told_there = ap (λ (b : List Moment). slice_get b (length before)) same ∙ at_seam before after (Turns m (Some heard) next) (length before) refl
+
       own_sector : (sectors : List Sector) → heard.reply ≡ Bytes sectors → length sectors ≡ 1 → IsOwnSuper v (bytes_of sectors)
       own_sector [] reply one = absurd (omega (arith, one))
       own_sector (a ∷ b ∷ rest) reply one = absurd (omega (arith, one))
@@ -144,7 +263,15 @@ module _ (v : Extent) (chunks : List ChunkRun) (answer_at : ℕ → Answered) (t
           let has : slice_get w.read.bytes 0 ≡ Some bytes = ap (λ (bs : List Sector). slice_get bs 0) w.gives in
           elim (given_to_read of.chunk.group.setup (take heard.by of.chunk.group.history) (0 % v.sectors) w.k w.read bytes w.answered first has) [
             | inl zeros ↦ inr (append-nil bytes ∙ zeros ∙ zeros_are)
-            | inr was ↦ inl (append-nil bytes ∙ given_super k of.chunk refl of.there heard.by bytes was)
+            | inr was ↦
+                let to = reaches of.group told (length before) (Turns m (Some heard) next) told_there in
+                let front : take (length before) told ≡ before = ap (take (length before)) same ∙ take-append_seam before (Turns m (Some heard) next ∷ after) in
+                let reach = ap (λ (b : List Moment). reach_at of.group b (Turns m (Some heard) next)) front in
+                let is_by = heard_reaches of.group before m heard next ask asked (ap (λ (x : Ask). serving before (chunk_of x)) ask_is ∙ of.serves) in
+                elim (given_super before (Turns m (Some heard) next ∷ after) of.group of.chunk same of.serves of.there heard.by (omega (arith, to, reach, is_by)) bytes was) [
+                  | inl own ↦ inl (append-nil bytes ∙ own)
+                  | inr zeros ↦ inr (append-nil bytes ∙ zeros ∙ zeros_are)
+                ]
           ]
 
     own_work : (sectors : List Sector) → heard.reply ≡ Bytes sectors → (work : Work) → mount.work ≡ work → SuperIsOwn work mount.files.volume sectors
@@ -179,6 +306,8 @@ module _ (v : Extent) (chunks : List ChunkRun) (answer_at : ℕ → Answered) (t
 
     by_moment : (y : Moment) → x ≡ y → (m : ℕ) (life : Life) → lived v m (life_of v before m) y ≡ Some life → HasFailed life.outcome.mount.work → ⊥
     by_moment (Writes text) is m life made failed = none m life made failed
+    by_moment (MovesTo moved to) is m life made failed = none m life made failed
+    by_moment (Carries moved back wants) is m life made failed = none m life made failed
     by_moment (Hands n k place) is m life made failed = none m life made failed
     by_moment (Ends n answer) is m life made failed = none m life made failed
     by_moment (Begins n call) is m life made failed =

@@ -21,17 +21,23 @@ use Rattle.pf_chunk.specs.Driving.{driven}
 use Rattle.pf_chunk.specs.Happenings.{Happened}
 use Rattle.pf_chunk.specs.Lending.{all_happened}
 use Rattle.pf_chunk.specs.Runs.{ChunkRun}
-use Rattle.pf_hosts.specs.Hosts.{Drove, HostIs, Stepped, call_of as pending_call, comes_of, drove, drove_of, events_of, hands_at, hands_on, handed, next_of, number_of, replied, stepped, stepped_at}
-use Rattle.pf_hosts.specs.Moments.{Heard, Moment, Begins, Writes}
+use Rattle.pf_hosts.specs.Hosts.{Drove, HostIs, Stepped, call_of as pending_call, comes_of, drove, drove_of, events_of, group_of, handed, hands_on, hands_to, next_of, number_of, replied, stepped, stepped_at}
+use Rattle.pf_hosts.specs.Moments.{Begins, Carries, Ends, Hands, Heard, Moment, Moves as MovesTo, Turns, Writes}
 use Rattle.pf_hosts.specs.Words.{read_call}
 use Rattle.pf_fleet.specs.Settling.{Goes, Name, Next, delivered, enough_tries, goes_on, name_of, next_of as left_of, settle_next, settle_to, settled}
-use Rattle.pf_fleet.specs.Volumes.{Told, VolumeRun, begins, happens, host_at, host_steps, hosts_step, mounts, quietly, step_of, these_step}
+use Rattle.pf_fleet.specs.Volumes.{Told, VolumeRun, all_step, begins, happens, host_at, host_steps, hosts_step, mounts, mover_steps, moves, quietly, step_of, these_step}
+use Rattle.pf_script.specs.Lines.{group_of as group_of_line}
+use Rattle.pf_move.specs.Routes.{RoutesIs, home_of}
+use Rattle.pf_report.specs.Moves.{moving_text}
+use Rattle.std.specs.Option.{is_some}
+use Rattle.pf_mounted.proofs.Hauling.{mover_quiet, moves_quiet}
+use Rattle.pf_mounted.proofs.Lives.{AreQuiet}
 use Rattle.pf_world.specs.declared.kind.Kind.{Kind}
 use Rattle.pf_world.specs.declared.kind.Kind.TheVariants.{Mounted, Raw}
 use Rattle.pf_threads.specs.Sessions.{Session, next_session}
 use Rattle.pf_world.specs.declared.line.Line.{Line}
-use Rattle.pf_world.specs.Worlds.{World, at_chunk, refused_text, no_world, stepped as line_stepped, told_of}
-use Rattle.pf_world.specs.Lines.{asked, begins_if, call_of, decided, held_told, joins, kill_of, line_told, live_as, mounts_as, no_event_of, rests, show_of, shown_of, submits_as, with_kind}
+use Rattle.pf_world.specs.Worlds.{World, at_chunk, no_world, refused_text, said_only, stepped as line_stepped, told_of}
+use Rattle.pf_world.specs.Lines.{asked, begins_if, begins_move, call_of, decided, held_told, is_made, is_of_mounts, joins, kill_of, kind_after, line_told, live_as, made_group, mounts_as, no_event_of, rests, run_told, show_of, shown_of, submits_as, with_kind}
 use Rattle.pf_world.specs.Reports.{run_from, world_run}
 use Rattle.pf_mounted.specs.Trees.{calls_of}
 use Rattle.pf_mounted.proofs.Naming.{calls_on}
@@ -55,10 +61,10 @@ module _ (m : ℕ) where
 
   -- Hosts
 
-  next_still : (chunks : List ChunkRun) (heard : Option Heard) (call : Option FileCall) (mount : MountIs) (next : MountNext) → IsStill (next_of chunks heard call mount next).told
-  next_still chunks heard call mount (Asks ask) = refl
-  next_still chunks heard call mount Ready = refl
-  next_still chunks heard call mount (Done answer) = refl
+  next_still : (r : RoutesIs) (chunks : List ChunkRun) (heard : Option Heard) (call : Option FileCall) (mount : MountIs) (next : MountNext) → IsStill (next_of r chunks heard call mount next).told
+  next_still r chunks heard call mount (Asks ask) = refl
+  next_still r chunks heard call mount Ready = refl
+  next_still r chunks heard call mount (Done answer) = refl
 
   handed_still : (mount k : ℕ) (place : Option ℕ) (text : List ℕ) → IsStill (handed mount k place ++ Writes text ∷ [])
   handed_still mount k None text = refl
@@ -69,31 +75,31 @@ module _ (m : ℕ) where
     drove_still chunks mount k None = refl
     drove_still chunks mount k (Some c) = let d = driven halts c mount in handed_still mount k d.place d.text
 
-    hands_still : (s : Stepped) (at : Option ℕ) → IsStill s.told → IsStill (hands_at halts s at).told
+    hands_still : (s : Stepped) (at : Option ℕ) → IsStill s.told → IsStill (hands_to halts s at).told
     hands_still s None still = still
     hands_still s (Some k) still = both_still s.told _ still (drove_still s.chunks (number_of s.host.mount) k (slice_get s.chunks k))
 
-    replied_still : (host : HostIs) (k : ℕ) (d : Drove) (reply : Option Reply) → IsStill d.told → IsStill (replied halts host k d reply).told
-    replied_still host k d None still = still
-    replied_still host k d (Some reply) still =
+    replied_still : (r : RoutesIs) (host : HostIs) (k : ℕ) (d : Drove) (reply : Option Reply) → IsStill d.told → IsStill (replied halts r host k d reply).told
+    replied_still r host k d None still = still
+    replied_still r host k d (Some reply) still =
         let heard : Heard = record { reply = reply; by = events_of (slice_get d.chunks k) } in
         let o = answered host.mount reply in
-        let s = comes_of d.chunks (Some heard) (pending_call host.mount.files.pending) o in
-        both_still d.told (hands_on halts s).told still (hands_still s s.host.at (next_still d.chunks (Some heard) (pending_call host.mount.files.pending) o.mount o.next))
+        let s = comes_of r d.chunks (Some heard) (pending_call host.mount.files.pending) o in
+        both_still d.told (hands_on halts r s).told still (hands_still s (group_of r s.host) (next_still r d.chunks (Some heard) (pending_call host.mount.files.pending) o.mount o.next))
 
-    stepped_at_still : (chunks : List ChunkRun) (host : HostIs) (at : Option ℕ) → IsStill (stepped_at halts chunks host at).told
-    stepped_at_still chunks host None = refl
-    stepped_at_still chunks host (Some k) =
+    stepped_at_still : (r : RoutesIs) (chunks : List ChunkRun) (host : HostIs) (at : Option ℕ) → IsStill (stepped_at halts r chunks host at).told
+    stepped_at_still r chunks host None = refl
+    stepped_at_still r chunks host (Some k) =
         let d = drove halts chunks (number_of host.mount) k in
-        replied_still host k d d.reply (drove_still chunks (number_of host.mount) k (slice_get chunks k))
+        replied_still r host k d d.reply (drove_still chunks (number_of host.mount) k (slice_get chunks k))
 
-    stepped_still : (chunks : List ChunkRun) (host : HostIs) → IsStill (stepped halts chunks host).told
+    stepped_still : (r : RoutesIs) (chunks : List ChunkRun) (host : HostIs) → IsStill (stepped halts r chunks host).told
     unfolding stepped
-    stepped_still chunks host = stepped_at_still chunks host host.at
+    stepped_still r chunks host = stepped_at_still r chunks host (group_of r host)
 
     step_still : (k : ℕ) (v : VolumeRun) (host : Option HostIs) → IsStill (step_of halts k v host).told
     step_still k v None = refl
-    step_still k v (Some host) = stepped_still v.chunks host
+    step_still k v (Some host) = stepped_still v.routes v.chunks host
 
     these_still : (ms : List ℕ) (v : VolumeRun) → IsStill (these_step halts ms v).told
     these_still [] v = refl
@@ -105,8 +111,22 @@ module _ (m : ℕ) where
     unfolding hosts_step
     hosts_still v = these_still (range_with_len 0 (length v.hosts)) v
 
+    -- nor does the mover begin one
+    quiet_still : (told : List Moment) → AreQuiet told → IsStill told
+    quiet_still [] quiet = refl
+    quiet_still (Writes text ∷ told) quiet = quiet_still told quiet.1
+    quiet_still (Hands n g place ∷ told) quiet = quiet_still told quiet.1
+    quiet_still (MovesTo chunk to ∷ told) quiet = quiet_still told quiet.1
+    quiet_still (Carries chunk heard next ∷ told) quiet = quiet_still told quiet.1
+    quiet_still (Ends n answer ∷ told) quiet = quiet_still told quiet.1
+    quiet_still (Begins n call ∷ told) quiet = absurd quiet.0
+    quiet_still (Turns n heard next ∷ told) quiet = absurd quiet.0
+
+    all_still : (v : VolumeRun) → IsStill (all_step halts v).told
+    all_still v = let t = hosts_step halts v in both_still t.told (mover_steps halts t.volume).told (hosts_still v) (quiet_still (mover_steps halts t.volume).told (mover_quiet halts t.volume))
+
     happens_still : (v : VolumeRun) (h : Happened) → IsStill (happens halts v h).told
-    happens_still v h = hosts_still _
+    happens_still v h = all_still _
 
     -- Settlings
 
@@ -146,9 +166,9 @@ module _ (m : ℕ) where
 
     stepped_few : (w : World) (number : ℕ) (t : Told) (text : List ℕ) → IsFew t.told → IsFew (line_stepped halts w number t text).told
     stepped_few w number t text few =
-        let hosts = (hosts_step halts t.volume).told in
+        let hosts = (all_step halts t.volume).told in
         let all = count_on t.told hosts in
-        let still = hosts_still t.volume in
+        let still = all_still t.volume in
         ended_few (t.told ++ hosts) _ (omega (arith, all, still, few))
 
     refused_few : (w : World) (number : ℕ) (text : List ℕ) → IsFew (line_stepped halts w number (quietly w.volume) text).told
@@ -187,9 +207,9 @@ module _ (m : ℕ) where
       begun_few k host call =
           let o = starting host.mount call in
           let first : List Moment = Begins (number_of host.mount) call ∷ [] in
-          let rest = comes_of w.volume.chunks None (Some call) o in
+          let rest = comes_of w.volume.routes w.volume.chunks None (Some call) o in
           let all = count_on first rest.told in
-          let still = next_still w.volume.chunks None (Some call) o.mount o.next in
+          let still = next_still w.volume.routes w.volume.chunks None (Some call) o.mount o.next in
           omega (arith, all, still, one_few (number_of host.mount) call)
 
       begins_few : (k : ℕ) (host : HostIs) (call : Option FileCall) → IsFew (begins_if halts w number k host call).told
@@ -218,7 +238,7 @@ module _ (m : ℕ) where
       joined_few =
           let new = line_stepped halts w number (mounts w.volume) (mount_text (length w.volume.hosts)) in
           let o = opening (length w.volume.hosts) w.volume.extent in
-          let still = next_still w.volume.chunks None None o.mount o.next in
+          let still = next_still w.volume.routes w.volume.chunks None None o.mount o.next in
           let full = line_stepped halts w number (quietly w.volume) (refused_text 92) in
           by_test (nat_lt (size_of w.volume.extent) 4112) (λ b. IsFew (if b then line_stepped halts w number (quietly w.volume) (refused_text 93) else if nat_le 16 (length w.volume.hosts) then full else new).told)
           (λ _. refused_few w number (refused_text 93))
@@ -229,29 +249,51 @@ module _ (m : ℕ) where
       mounted_few Raw = omega arith
       mounted_few Mounted = joined_few
 
+    -- a move begins no call
+    begins_move_few : (w : World) (number chunk : ℕ) → IsFew (begins_move halts w number chunk).told
+    begins_move_few w number chunk =
+        let t = moves chunk (made_group halts w) w.volume in
+        let new = line_stepped halts w number t (moving_text (length w.volume.chunks)) in
+        let full = line_stepped halts w number (quietly w.volume) (refused_text 100) in
+        let still = quiet_still t.told (moves_quiet chunk (home_of w.volume.routes chunk) (made_group halts w) w.volume) in
+        by_test (is_some w.volume.routes.moving) (λ b. IsFew (if b then line_stepped halts w number (quietly w.volume) (refused_text 101) else if nat_le 8 (length w.volume.chunks) then full else new).told) (λ _. refused_few w number (refused_text 101))
+        (λ _. by_test (nat_le 8 (length w.volume.chunks)) (λ b. IsFew (if b then full else new).told) (λ _. refused_few w number (refused_text 100))
+        (λ _. stepped_few w number t (moving_text (length w.volume.chunks)) (omega (arith, still))))
+
+    move_few : (w : World) (number chunk : ℕ) (kind : Option Kind) → IsFew (if is_of_mounts kind then begins_move halts w number chunk else said_only w number (refused_text 95)).told
+    move_few w number chunk None = omega arith
+    move_few w number chunk (Some Raw) = omega arith
+    move_few w number chunk (Some Mounted) = begins_move_few w number chunk
+
+    run_line_few : (w : World) (number : ℕ) (command : Command) → IsFew (run_told halts w number command).told
+    run_line_few w number (commands.Volume chunks sectors names format) = omega arith
+    run_line_few w number (commands.Elect g i) = at_few w number g _
+    run_line_few w number (commands.Resend g i) = at_few w number g _
+    run_line_few w number (commands.Stop g i) = at_few w number g _
+    run_line_few w number (commands.Restart g i) = at_few w number g _
+    run_line_few w number (commands.Checkpoint g i) = at_few w number g _
+    run_line_few w number (commands.Deliver g k) = at_few w number g _
+    run_line_few w number (commands.Lose g k) = at_few w number g _
+    run_line_few w number (commands.Submit g i s b n) = submits_few (with_kind w (decided w.kind Raw)) number (decided w.kind Raw) g i s b n
+    run_line_few w number (commands.Fetch g i s n) = asked_few w number g i s n (fetches halts i s n)
+    run_line_few w number (commands.Mark g i) = at_few w number g _
+    run_line_few w number (commands.Settle limit) = still_few (settled halts limit w.volume).told _ (settled_still limit w.volume)
+    run_line_few w number (commands.Live g hosts writes workers turns) = live_few (with_kind w (decided w.kind Raw)) number (decided w.kind Raw) g
+    run_line_few w number commands.Mount = mounted_few (with_kind w (decided w.kind Mounted)) number (decided w.kind Mounted)
+    run_line_few w number (commands.Kill k) = killed_few w number k (host_at w.volume.hosts k)
+    run_line_few w number (commands.Call k call) = called_few w number k call (host_at w.volume.hosts k)
+    run_line_few w number (commands.ShowLog g i) = shown_few w number (slice_get w.volume.chunks g) _
+    run_line_few w number (commands.ShowApplied g i) = shown_few w number (slice_get w.volume.chunks g) _
+    run_line_few w number (commands.ShowSectors g i) = shown_few w number (slice_get w.volume.chunks g) _
+    run_line_few w number (commands.ShowAcked g) = shown_few w number (slice_get w.volume.chunks g) _
+    run_line_few w number (commands.ShowMark g i s) = shown_few w number (slice_get w.volume.chunks g) _
+    run_line_few w number (commands.ShowMount k) = show_few w number k (host_at w.volume.hosts k)
+    run_line_few w number (commands.Move chunk) = move_few w number chunk w.kind
+
     line_few : (w : World) (number : ℕ) (command : Command) → IsFew (line_told halts w number command).told
-    line_few w number (commands.Volume chunks sectors names format) = omega arith
-    line_few w number (commands.Elect g i) = at_few w number g _
-    line_few w number (commands.Resend g i) = at_few w number g _
-    line_few w number (commands.Stop g i) = at_few w number g _
-    line_few w number (commands.Restart g i) = at_few w number g _
-    line_few w number (commands.Checkpoint g i) = at_few w number g _
-    line_few w number (commands.Deliver g k) = at_few w number g _
-    line_few w number (commands.Lose g k) = at_few w number g _
-    line_few w number (commands.Submit g i s b n) = submits_few (with_kind w (decided w.kind Raw)) number (decided w.kind Raw) g i s b n
-    line_few w number (commands.Fetch g i s n) = asked_few w number g i s n (fetches halts i s n)
-    line_few w number (commands.Mark g i) = at_few w number g _
-    line_few w number (commands.Settle limit) = still_few (settled halts limit w.volume).told _ (settled_still limit w.volume)
-    line_few w number (commands.Live g hosts writes workers turns) = live_few (with_kind w (decided w.kind Raw)) number (decided w.kind Raw) g
-    line_few w number commands.Mount = mounted_few (with_kind w (decided w.kind Mounted)) number (decided w.kind Mounted)
-    line_few w number (commands.Kill k) = killed_few w number k (host_at w.volume.hosts k)
-    line_few w number (commands.Call k call) = called_few w number k call (host_at w.volume.hosts k)
-    line_few w number (commands.ShowLog g i) = shown_few w number (slice_get w.volume.chunks g) _
-    line_few w number (commands.ShowApplied g i) = shown_few w number (slice_get w.volume.chunks g) _
-    line_few w number (commands.ShowSectors g i) = shown_few w number (slice_get w.volume.chunks g) _
-    line_few w number (commands.ShowAcked g) = shown_few w number (slice_get w.volume.chunks g) _
-    line_few w number (commands.ShowMark g i s) = shown_few w number (slice_get w.volume.chunks g) _
-    line_few w number (commands.ShowMount k) = show_few w number k (host_at w.volume.hosts k)
+    line_few w number command =
+        by_test (is_made w (group_of_line command)) (λ b. IsFew (if b then run_told halts w number command else said_only (record w { kind = kind_after w.kind command }) number (refused_text 102)).told)
+        (λ _. run_line_few w number command) (λ _. omega arith)
 
     lines_few : (w : World) (lines : List Line) → count (run_from halts w lines).told ≤ length lines
     lines_few w [] = omega arith

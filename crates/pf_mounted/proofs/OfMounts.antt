@@ -25,13 +25,14 @@ use Rattle.pf_ports.specs.Calls.{Past}
 use Rattle.pf_ports.specs.Replies.{IsReplied}
 use Rattle.pf_applyrounds.specs.Halts.{Halt}
 use Rattle.pf_chunk.specs.Runs.{ChunkRun}
-use Rattle.pf_hosts.specs.Moments.{Begins, Ends, Hands, Heard, Moment, Turns, Writes}
+use Rattle.pf_hosts.specs.Moments.{Begins, Carries, Ends, Hands, Heard, Moment, Moves as MovesTo, Turns, Writes}
 use Rattle.pf_world.specs.Headline.{IsLawfulRun}
 use Rattle.pf_world.specs.Lines.{rests}
 use Rattle.pf_world.specs.Reports.{world_run}
 use Rattle.pf_world.specs.Worlds.{Told}
 use Rattle.pf_threads.specs.Sessions.{Session}
 use Rattle.pf_world.specs.declared.line.Line.{Line}
+use Rattle.pf_mounted.specs.Epochs.{serving}
 use Rattle.pf_mounted.specs.Hearing.{IsHeard}
 use Rattle.pf_mounted.specs.Hosted.{AreOfReads, IsOfRead}
 use Rattle.pf_mounted.specs.Journals.{AreOfMounts, CanBegin, HasBegun, IsAnswerOf, IsOfMount, IsTurn}
@@ -53,23 +54,23 @@ any_answer : Answered
 any_answer = record { number = 0; server = 0; term = 0; range = record { first = 0; count = 0 }; base = 0; applied = Sets.empty; bytes = [] }
 
 -- bytes that were heard are those of this answer
-abbrev IsReadOf : List ChunkRun → (before : List Moment) (m : ℕ) (heard : Heard) → Option Ask → Reply → Answered → Type 0
-IsReadOf chunks before m heard (Some (asks.Read k range)) (Bytes sectors) answer = IsOfRead chunks before m heard k range sectors answer
-IsReadOf chunks before m heard ask reply answer = Unit {0}
+abbrev IsReadOf : (count : ℕ) → List ChunkRun → (before : List Moment) (m : ℕ) (heard : Heard) → Option Ask → Reply → Answered → Type 0
+IsReadOf count chunks before m heard (Some (asks.Read k range)) (Bytes sectors) answer = IsOfRead count chunks before m heard k range sectors answer
+IsReadOf count chunks before m heard ask reply answer = Unit {0}
 
-abbrev IsReadIn : List ChunkRun → (before : List Moment) → Moment → Answered → Type 0
-IsReadIn chunks before (Turns m (Some heard) next) answer = IsReadOf chunks before m heard (last_ask before m) heard.reply answer
-IsReadIn chunks before moment answer = Unit {0}
+abbrev IsReadIn : (count : ℕ) → List ChunkRun → (before : List Moment) → Moment → Answered → Type 0
+IsReadIn count chunks before (Turns m (Some heard) next) answer = IsReadOf count chunks before m heard (last_ask before m) heard.reply answer
+IsReadIn count chunks before moment answer = Unit {0}
 
-module _ (chunks : List ChunkRun) (before : List Moment) (m : ℕ) (heard : Heard) where
-  reply_answer : (chunk : ChunkRun) (ask : Ask) (reply : Reply) → slice_get chunks (chunk_of ask) ≡ Some chunk → IsReplied chunk.group.setup (past_of (take heard.by chunk.group.history) m (chunk_of ask) before) ask reply
-      → (answer : Answered) × IsReadOf chunks before m heard (Some ask) reply answer
-  reply_answer chunk (asks.Read k range) (Bytes sectors) there replied = (replied.read, record { chunk = chunk; there = there; read = replied; is = refl })
-  reply_answer chunk (asks.Read k range) Written there replied = (any_answer, tt)
-  reply_answer chunk (asks.Write k range sectors) reply there replied = (any_answer, tt)
+module _ (count : ℕ) (chunks : List ChunkRun) (before : List Moment) (m : ℕ) (heard : Heard) where
+  reply_answer : (group : ℕ) (chunk : ChunkRun) (ask : Ask) (reply : Reply) → serving before (chunk_of ask) ≡ Some group → slice_get chunks group ≡ Some chunk
+      → IsReplied chunk.group.setup (past_of count (take heard.by chunk.group.history) m group before) ask reply → (answer : Answered) × IsReadOf count chunks before m heard (Some ask) reply answer
+  reply_answer group chunk (asks.Read k range) (Bytes sectors) serves there replied = (replied.read, record { group = group; serves = serves; chunk = chunk; there = there; read = replied; is = refl })
+  reply_answer group chunk (asks.Read k range) Written serves there replied = (any_answer, tt)
+  reply_answer group chunk (asks.Write k range sectors) reply serves there replied = (any_answer, tt)
 
   -- such an answer is the reply's
-  its_answer : (ask : Ask) (reply : Reply) (answer : Answered) → IsReadOf chunks before m heard (Some ask) reply answer → IsAnswerOf ask reply answer
+  its_answer : (ask : Ask) (reply : Reply) (answer : Answered) → IsReadOf count chunks before m heard (Some ask) reply answer → IsAnswerOf ask reply answer
   its_answer (asks.Read k range) (Bytes sectors) answer is =
       (subst (λ (a : Answered). a.range ≡ range) is.is is.read.of_range, subst (λ (a : Answered). a.bytes ≡ sectors) is.is is.read.gives)
   its_answer (asks.Read k range) Written answer is = tt
@@ -111,6 +112,8 @@ module _ (v : Extent) (m : ℕ) where
       by_test (n == m) (λ b. (if b then Some (calling call life) else Some life) ≡ None → ask ≡ None) (λ _ its. absurd (none-some (calling call life) (sym its))) (λ _. so_far) none
   unasked_by life ask (Hands n k place) so_far none = so_far none
   unasked_by life ask (Writes text) so_far none = so_far none
+  unasked_by life ask (MovesTo its to) so_far none = so_far none
+  unasked_by life ask (Carries its reply wants) so_far none = so_far none
   unasked_by life ask (Ends n answer) so_far none = so_far none
 
   unasked_from : (told : List Moment) (life : Option Life) (ask : Option Ask) → (life ≡ None → ask ≡ None) → fold (lived v m) life told ≡ None → fold (asked_in m) ask told ≡ None
@@ -127,6 +130,8 @@ module _ (v : Extent) (m : ℕ) where
   lives_by life (Begins n call) = by_test (n == m) (λ b. (its : Life) × ((if b then Some (calling call life) else Some life) ≡ Some its)) (λ _. (calling call life, refl)) (λ _. (life, refl))
   lives_by life (Hands n k place) = (life, refl)
   lives_by life (Writes text) = (life, refl)
+  lives_by life (MovesTo its to) = (life, refl)
+  lives_by life (Carries its reply wants) = (life, refl)
   lives_by life (Ends n answer) = (life, refl)
 
   lives_from : (told : List Moment) (life : Option Life) (its : Life) → life ≡ Some its → fold (lived v m) life told ≡ None → ⊥
@@ -151,6 +156,9 @@ module _ (halts : List Halt) (sessions : List Session) (lines : List Line) (scri
 
   abbrev chunks : List ChunkRun
   chunks = run.world.volume.chunks
+
+  abbrev count : ℕ
+  count = run.world.volume.extent.chunks
 
   are : AreTold run.world.volume run.told
   are = hosts_are_told halts sessions lines script
@@ -185,34 +193,36 @@ module _ (halts : List Halt) (sessions : List Session) (lines : List Line) (scri
       legal k c there = (lawful k c there).legal
 
       -- a reply was heard
-      heard_turn : (was : Option Life) (last : Option Ask) (heard : Heard) → run.told ≡ before ++ Turns m (Some heard) next ∷ after → life ≡ was → last_ask before m ≡ last → IsHeard chunks m before heard
-          → IsReadOf chunks before m heard last heard.reply answer → IsTurn e m was last answer (Some heard) next
+      heard_turn : (was : Option Life) (last : Option Ask) (heard : Heard) → run.told ≡ before ++ Turns m (Some heard) next ∷ after → life ≡ was → last_ask before m ≡ last → IsHeard count chunks m before heard
+          → IsReadOf count chunks before m heard last heard.reply answer → IsTurn e m was last answer (Some heard) next
       heard_turn None last heard same there pending is read = absurd (none-some is.ask (sym (unasked e m before there) ∙ is.pending))
       heard_turn (Some its) None heard same there pending is read = none-some is.ask (sym pending ∙ is.pending)
       heard_turn (Some its) (Some ask) heard same there pending is read =
           let its_ask : is.ask ≡ ask = same_Some is.ask ask (sym is.pending ∙ pending) in
           let history : History = is.chunk.group.history in
-          let lawful_so = legal (chunk_of is.ask) is.chunk is.there in
-          let past : Past = past_of (take heard.by history) m (chunk_of is.ask) before in
+          let lawful_so = legal is.group is.chunk is.there in
+          let past : Past = past_of count (take heard.by history) m is.group before in
           let kind = in_kind is.chunk.group.setup past is.ask heard.reply (legal_before is.chunk.group.setup (take heard.by history) history (prefix_taken heard.by history) lawful_so) (is.replied lawful_so) in record {
             in_kind = subst (λ (a : Ask). Answers a heard.reply) its_ask kind;
             asks = asked (Some heard) (Some its) same there;
-            answers = its_answer chunks before m heard ask heard.reply answer read;
+            answers = its_answer count chunks before m heard ask heard.reply answer read;
           }
 
   module _ (lawful : IsLawfulRun run.world) where
     abbrev IsAnswered : (place : ℕ) → Answered → Type 0
-    IsAnswered place answer = (y : Moment) → slice_get run.told place ≡ Some y → IsReadIn chunks (take place run.told) y answer
+    IsAnswered place answer = (y : Moment) → slice_get run.told place ≡ Some y → IsReadIn count chunks (take place run.told) y answer
 
-    moment_answer : (before : List Moment) (y : Moment) → IsSo chunks before y → (answer : Answered) × IsReadIn chunks before y answer
+    moment_answer : (before : List Moment) (y : Moment) → IsSo count chunks before y → (answer : Answered) × IsReadIn count chunks before y answer
     moment_answer before (Turns m (Some heard) next) is =
-        let h = is.0 in
-        let a = reply_answer chunks before m heard h.chunk h.ask heard.reply h.there (h.replied (lawful (chunk_of h.ask) h.chunk h.there).legal) in
-        (a.0, subst (λ (o : Option Ask). IsReadOf chunks before m heard o heard.reply a.0) (sym h.pending) a.1)
+        let h = is.is in
+        let a = reply_answer count chunks before m heard h.group h.chunk h.ask heard.reply h.serves h.there (h.replied (lawful h.group h.chunk h.there).legal) in
+        (a.0, subst (λ (o : Option Ask). IsReadOf count chunks before m heard o heard.reply a.0) (sym h.pending) a.1)
     moment_answer before (Turns m None next) is = (any_answer, tt)
     moment_answer before (Begins m call) is = (any_answer, tt)
     moment_answer before (Hands m k place) is = (any_answer, tt)
     moment_answer before (Writes text) is = (any_answer, tt)
+    moment_answer before (MovesTo its to) is = (any_answer, tt)
+    moment_answer before (Carries its reply wants) is = (any_answer, tt)
     moment_answer before (Ends m answer) is = (any_answer, tt)
 
     answer_of : (place : ℕ) → (answer : Answered) × IsAnswered place answer
@@ -222,23 +232,23 @@ module _ (halts : List Halt) (sessions : List Session) (lines : List Line) (scri
         by None none = (any_answer, λ y at. absurd (none-some y (sym none ∙ at)))
         by (Some x) at =
             let a = moment_answer (take place run.told) x (moments_so halts sessions lines script place x at) in
-            (a.0, λ y there. subst (λ (z : Moment). IsReadIn chunks (take place run.told) z a.0) (same_Some x y (sym at ∙ there)) a.1)
+            (a.0, λ y there. subst (λ (z : Moment). IsReadIn count chunks (take place run.told) z a.0) (same_Some x y (sym at ∙ there)) a.1)
 
     abbrev answer_at : ℕ → Answered
     answer_at place = (answer_of place).0
 
-    all_read : AreEach (λ before y. IsReadIn chunks before y (answer_at (length before))) run.told
+    all_read : AreEach (λ before y. IsReadIn count chunks before y (answer_at (length before))) run.told
     all_read place y at =
-        let count : length (take place run.told) ≡ place = length-take-le place run.told (let low = slice_get_within run.told place y at in omega (arith, low)) in
-        subst (λ n. IsReadIn chunks (take place run.told) y (answer_at n)) (sym count) ((answer_of place).1 y at)
+        let so_long : length (take place run.told) ≡ place = length-take-le place run.told (let low = slice_get_within run.told place y at in omega (arith, low)) in
+        subst (λ n. IsReadIn count chunks (take place run.told) y (answer_at n)) (sym so_long) ((answer_of place).1 y at)
 
-    read_in : (before : List Moment) (y : Moment) (after : List Moment) → run.told ≡ before ++ y ∷ after → IsReadIn chunks before y (answer_at (length before))
-    read_in before y after same = each_at (λ first x. IsReadIn chunks first x (answer_at (length first))) run.told before y after all_read same
+    read_in : (before : List Moment) (y : Moment) (after : List Moment) → run.told ≡ before ++ y ∷ after → IsReadIn count chunks before y (answer_at (length before))
+    read_in before y after same = each_at (λ first x. IsReadIn count chunks first x (answer_at (length first))) run.told before y after all_read same
 
-    of_reads : AreOfReads chunks answer_at run.told
+    of_reads : AreOfReads count chunks answer_at run.told
     of_reads before after m k heard next range sectors same pending bytes =
-        subst (λ (reply : Reply). IsReadOf chunks before m heard (Some (asks.Read k range)) reply (answer_at (length before))) bytes
-        (subst (λ (o : Option Ask). IsReadOf chunks before m heard o heard.reply (answer_at (length before))) pending (read_in before (Turns m (Some heard) next) after same))
+        subst (λ (reply : Reply). IsReadOf count chunks before m heard (Some (asks.Read k range)) reply (answer_at (length before))) bytes
+        (subst (λ (o : Option Ask). IsReadOf count chunks before m heard o heard.reply (answer_at (length before))) pending (read_in before (Turns m (Some heard) next) after same))
 
     of_mount : (before : List Moment) (y : Moment) (after : List Moment) → run.told ≡ before ++ y ∷ after → IsOfMount e before (answer_at (length before)) y
     of_mount before (Begins m call) after same = can_begin (life_of e before m) (done before (Begins m call) after m same refl)
@@ -247,6 +257,8 @@ module _ (halts : List Halt) (sessions : List Session) (lines : List Line) (scri
         heard_turn before after m next (answer_at (length before)) lawful (life_of e before m) (last_ask before m) heard same refl refl (replies_heard halts sessions lines script m before after heard next same) (read_in before (Turns m (Some heard) next) after same)
     of_mount before (Hands m k place) after same = tt
     of_mount before (Writes text) after same = tt
+    of_mount before (MovesTo its to) after same = tt
+    of_mount before (Carries its reply wants) after same = tt
     of_mount before (Ends m answer) after same = tt
 
     of_mounts : (before rest : List Moment) → run.told ≡ before ++ rest → AreOfMounts e answer_at before rest
@@ -254,5 +266,5 @@ module _ (halts : List Halt) (sessions : List Session) (lines : List Line) (scri
     of_mounts before (y ∷ rest) same = (of_mount before y rest same, of_mounts (before ++ y ∷ []) rest (same ∙ sym (append_assoc before (y ∷ []) rest)))
 
     -- each moment is what its mount does, with the group's answers
-    pub run_of_mounts : (answer_at : ℕ → Answered) × AreOfMounts e answer_at [] run.told × AreOfReads chunks answer_at run.told
+    pub run_of_mounts : (answer_at : ℕ → Answered) × AreOfMounts e answer_at [] run.told × AreOfReads count chunks answer_at run.told
     run_of_mounts = (answer_at, of_mounts [] run.told refl, of_reads)

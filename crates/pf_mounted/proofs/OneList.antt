@@ -1,28 +1,23 @@
 -- Each mount of a run stands in one list.
-use Rattle.std.proofs.Common.{◌≡◌, ℕ, ◌*◌, ◌<◌, ◌≤◌, List, [], ◌∷◌, ◌++◌, length, map, take, Some, slice_get, arith, refl, sym, ap, subst, ◌∙◌, append-nil, length-append}
+use Rattle.std.proofs.Common.{◌≡◌, ℕ, ◌*◌, ◌<◌, ◌≤◌, List, [], ◌∷◌, ◌++◌, length, map, take, Some, arith, refl, sym, ap, subst, ◌∙◌, append-nil, length-append}
 use Rattle.std.proofs.lemmas.List.{append_assoc, map-append, take_at}
 use Rattle.pf_protocol.specs.Groups.{Answered}
-use Rattle.pf_protocol.specs.Answers.{IsLegal}
-use Rattle.pf_volume.specs.Volumes.{Extent, IsVolume, size_of}
-use Rattle.pf_paxos.specs.Journals.{Begins, IsTransactionList, journal_before, journal_from, new_journal}
-use Rattle.pf_positions.specs.Deeds.{Fits}
-use Rattle.pf_positions.specs.Homes.{chunk_of, sector_of}
-use Rattle.pf_positions.specs.Hosted.{AreAlone}
-use Rattle.pf_positions.specs.Volumes.{IsHostedJournal, home_of}
-use Rattle.pf_positions.proofs.Volumes.{journal}
+use Rattle.pf_volume.specs.Volumes.{Extent, IsVolume}
+use Rattle.pf_paxos.specs.Journals.{AreAllRegisters, Begins, IsTransactionList, journal_before, journal_from, new_journal}
+use Rattle.pf_positions.specs.Volumes.{home_of}
+use Rattle.pf_epochs.specs.Positions.{IsRoutedJournal, IsRoutedPosition}
+use Rattle.pf_epochs.proofs.Positions.{routed_journal}
 use Rattle.pf_journal.specs.Sectors.{block_in}
 use Rattle.pf_mount.specs.Mounts.{MountIs}
 use Rattle.pf_chunk.specs.Runs.{ChunkRun}
 use Rattle.pf_hosts.specs.Moments.{Moment}
-use Rattle.pf_mounted.specs.Hosted.{AreOfReads, groups_of}
+use Rattle.pf_mounted.specs.Hosted.{groups_of}
 use Rattle.pf_mounted.specs.Journals.{AreOfMounts, CanBeDoings, Step, deeds, doings, steps_at, steps_from, steps_of}
 use Rattle.pf_mounted.specs.Mounts.{decisions, mount_after, tables_from}
 use Rattle.pf_mounted.specs.Trees.{IsOverList}
-use Rattle.pf_mounted.proofs.Assembling.{its_hosted}
 use Rattle.pf_mounted.proofs.Decided.{tables_of_decisions}
 use Rattle.pf_mounted.proofs.Inducting.{of_until}
 use Rattle.pf_mounted.proofs.Journaling.{told_lists, told_same}
-use Rattle.pf_mounted.proofs.Sizing.{AreChunks}
 
 -- steps of a beginning come first
 steps_on : (v : Extent) (answer_at : ℕ → Answered) (before first more : List Moment) → steps_from v answer_at before (first ++ more) ≡ steps_from v answer_at before first ++ steps_from v answer_at (before ++ first) more
@@ -44,11 +39,8 @@ module _ (v : Extent) (answer_at : ℕ → Answered) where
       ap (map (λ (s : Step). s.doing)) (steps_on v answer_at [] first more)
       ∙ map-append (λ (s : Step). s.doing) (steps_of v answer_at first) (steps_from v answer_at first more)
 
-  module _ (chunks : List ChunkRun) (told : List Moment) (volume : IsVolume v) (room : 4112 ≤ size_of v) (are : AreChunks v chunks)
-      (legal : (k : ℕ) (c : ChunkRun) → slice_get chunks k ≡ Some c → IsLegal c.group.setup c.group.history)
-      (of : AreOfMounts v answer_at [] told) (reads : AreOfReads chunks answer_at told) (can : CanBeDoings v [] told)
-      (fits : (k : ℕ) (c : ChunkRun) → slice_get chunks k ≡ Some c → Fits (groups_of v answer_at chunks told) (deeds v answer_at told) k)
-      (alone : (q block : ℕ) → q < 256 → block < 16 → let home = home_of v.sectors q in let groups = groups_of v answer_at chunks told in AreAlone (groups.history (chunk_of home block) 0) [] (groups.writes (chunk_of home block) 0 block) (sector_of home block)) where
+  module _ (chunks : List ChunkRun) (told : List Moment) (volume : IsVolume v) (of : AreOfMounts v answer_at [] told) (can : CanBeDoings v [] told)
+      (positions : (q : ℕ) → q < 256 → IsRoutedPosition (groups_of v answer_at chunks told) block_in (home_of v.sectors q) (deeds v answer_at told)) where
     abbrev blocks : ℕ
     blocks = volume.blocks.0
 
@@ -58,11 +50,11 @@ module _ (v : Extent) (answer_at : ℕ → Answered) where
     many : 1 < blocks
     many = let some = volume.some_sectors in omega (arith, is, some)
 
-    pub hosted : IsHostedJournal (groups_of v answer_at chunks told) block_in v.sectors 256 (deeds v answer_at told) (doings v answer_at told)
-    hosted = record {
-      hosted = λ q low. its_hosted v answer_at chunks told volume room are legal q low (deeds v answer_at told) fits (λ block few. alone q block low few);
-      same = told_same v blocks is many answer_at told of can;
-    }
+    pub routed : IsRoutedJournal (groups_of v answer_at chunks told) block_in v.sectors 256 (deeds v answer_at told) (doings v answer_at told)
+    routed = record { routed = positions; same = told_same v blocks is many answer_at told of can }
+
+    pub all_registers : AreAllRegisters (doings v answer_at told)
+    all_registers = routed_journal (groups_of v answer_at chunks told) block_in v.sectors 256 (deeds v answer_at told) (doings v answer_at told) routed
 
     module _ (one : (list : List (List ℕ)) × IsTransactionList (doings v answer_at told) list × ((mount moment : ℕ) → Begins ((journal_before (doings v answer_at told) moment).list mount) list)) where
       pub stands_there : (before after : List Moment) (m : ℕ) (mount : MountIs) → told ≡ before ++ after → mount_after v before m ≡ Some mount → (mount.upto ≤ length one.0) × (mount.files.tables ≡ tables_from v (take mount.upto one.0))
@@ -80,4 +72,4 @@ module _ (v : Extent) (answer_at : ℕ → Answered) where
 
       -- what the trees of the list ask for
       pub over_list : IsOverList v answer_at told one.0
-      over_list = record { mounts = of; can = can; registers = journal (groups_of v answer_at chunks told) block_in v.sectors 256 (deeds v answer_at told) (doings v answer_at told) hosted; is = one.1; begins = one.2 }
+      over_list = record { mounts = of; can = can; registers = all_registers; is = one.1; begins = one.2 }

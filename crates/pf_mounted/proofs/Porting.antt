@@ -23,7 +23,12 @@ use Rattle.pf_mount.specs.declared.work.Work.{Work}
 use Rattle.pf_mount.specs.declared.work.Work.TheVariants.{Rests, Fails, ReadsSuper, WritesSuper, Syncs, Ballots, Pauses, Moves}
 use Rattle.pf_hosts.specs.Moments.{Moment, Hands}
 use Rattle.pf_mounted.specs.Handing.{reached}
-use Rattle.pf_mounted.specs.Hosted.{among_deeds, groups_of, history_of, setup_of, writes_of}
+use Rattle.pf_mounted.specs.Epochs.{epoch_of, group_at, home_of}
+use Rattle.pf_mounted.specs.Hosted.{among_deeds, groups_of, history_of, setup_at, setup_of, told_history, writes_at}
+use Rattle.pf_mounted.proofs.Asking.{has_asks}
+use Rattle.pf_mounted.proofs.Bringing.{begun_by, stays_till_end}
+use Rattle.pf_mounted.proofs.Epoching.{group_home, same_home}
+use Rattle.pf_mounted.proofs.Tracing.{asks_of, is_trace}
 use Rattle.pf_mounted.specs.Journals.{client_of, deeds, port_ask}
 use Rattle.pf_mounted.specs.Mounts.{last_ask, mount_in}
 use Rattle.pf_mounted.specs.Pasts.{trace_of}
@@ -54,7 +59,7 @@ own_client m (Ballots input) ask write pends = refl
 own_client m (Pauses input left) ask write pends = refl
 own_client m (Moves moving) ask write pends = refl
 
-module _ (v : Extent) (chunks : List ChunkRun) (answer_at : ℕ → Answered) (told : List Moment) (k : ℕ) (c : ChunkRun) (known : IsKnown v chunks answer_at told k c) where
+module _ (v : Extent) (chunks : List ChunkRun) (answer_at : ℕ → Answered) (told : List Moment) (chunk epoch k : ℕ) (c : ChunkRun) (known : IsKnown v chunks answer_at told chunk epoch k c) where
   abbrev pub Asked : (p m : ℕ) → Ask → Type 0
   Asked p m ask = WasAsked v answer_at told known.each p m ask
 
@@ -66,35 +71,50 @@ module _ (v : Extent) (chunks : List ChunkRun) (answer_at : ℕ → Answered) (t
 
   -- The chunk's group
 
-  pub same_setup : setup_of (slice_get chunks k) ≡ c.group.setup
-  same_setup = ap setup_of known.there
+  pub same_setup : groups.setup chunk epoch ≡ c.group.setup
+  same_setup = ap (setup_at v answer_at chunks told) known.at ∙ ap setup_of known.there
 
-  pub same_history : take (reached k told) (history_of (slice_get chunks k)) ≡ take (reached k told) c.group.history
-  same_history = ap (λ o. take (reached k told) (history_of o)) known.there
+  pub same_history : groups.history chunk epoch ≡ take (reached k told) c.group.history
+  same_history = ap (told_history v answer_at chunks told) known.at ∙ ap (λ o. take (reached k told) (history_of o)) known.there
 
-  pub mounts_writes : (m : ℕ) → m < 16 → writes_of v answer_at chunks told k m ≡ map numbered (trace_of c.group.history m k told).writes
+  pub mounts_writes : (m : ℕ) → m < 16 → groups.writes chunk epoch m ≡ map numbered (trace_of c.group.history m k v.chunks told).writes
   mounts_writes m small =
-      ap (λ b. if b then map numbered (trace_of (history_of (slice_get chunks k)) m k told).writes else []) (lt-ltb m 16 small)
-      ∙ ap (λ o. map numbered (trace_of (history_of o) m k told).writes) known.there
+      ap (writes_at v answer_at chunks told m) known.at
+      ∙ ap (λ b. if b then map numbered (trace_of (history_of (slice_get chunks k)) m k v.chunks told).writes else []) (lt-ltb m 16 small)
+      ∙ ap (λ o. map numbered (trace_of (history_of o) m k v.chunks told).writes) known.there
 
   -- What was handed on
 
-  -- the mount's pending ask, by this event
+  -- the mount's pending ask, by this event, while the chunk was in this epoch
   pub record IsHandOf (p m place : ℕ) : Type 0 where
     pub ask : Ask
     pub pending : last_ask (take p told) m ≡ Some ask
-    pub of : chunk_of ask ≡ k
+    pub of : chunk_of ask ≡ chunk
+    pub now : epoch ≡ epoch_of (take p told) chunk
+    pub group : group_at (take p told) chunk epoch ≡ Some k
+    pub home : home_of v.chunks (take p told) k ≡ Some (record { chunk = chunk; epoch = epoch })
+    pub asks : asks_of v.chunks (take p told) k ≡ Some (chunk_of ask)
     pub server : ℕ
     pub answer : Answer
     pub is : slice_get c.group.history place ≡ Some (record { event = event_of_ask ask server; answer = answer })
 
-  pub hand_of : (p m place : ℕ) → slice_get told p ≡ Some (Hands m k place) → IsHandOf p m place
-  hand_of p m place at =
-      let h = known.handed p m place at in
-      let same : h.chunk ≡ c = same_Some h.chunk c (sym h.there ∙ known.there) in record {
+  pub hand_of : (p m place : ℕ) → m < 16 → slice_get told p ≡ Some (Hands m k place) → IsHandOf p m place
+  hand_of p m place small at =
+      let before = take p told in
+      let h = known.handed p m k place at small in
+      let rests = known.rests p m k place h.ask at small h.pending in
+      let same : h.chunk ≡ c = same_Some h.chunk c (sym h.there ∙ known.there) in
+      let begun = begun_by v chunks answer_at told chunk epoch k c known p in
+      let there = stays_till_end v chunks answer_at told chunk epoch k c known p (chunk_of h.ask) (epoch_of before (chunk_of h.ask)) k h.of in
+      let its = same_home v.chunks told known.begun (chunk_of h.ask) chunk (epoch_of before (chunk_of h.ask)) epoch k rests.small known.small there known.at in
+      let now : group_at before chunk epoch ≡ Some k = ap (group_at before chunk) (sym its.1) ∙ ap (λ i. group_at before i (epoch_of before (chunk_of h.ask))) (sym its.0) ∙ h.of in record {
         ask = h.ask;
         pending = h.pending;
-        of = h.of;
+        of = its.0;
+        now = sym its.1 ∙ ap (epoch_of before) its.0;
+        group = now;
+        home = group_home v.chunks before begun chunk epoch k known.small now;
+        asks = has_asks v.chunks before begun (chunk_of h.ask) (epoch_of before (chunk_of h.ask)) k rests.small h.of rests.groups;
         server = h.server;
         answer = h.answer;
         is = ap (λ (x : ChunkRun). slice_get x.group.history place) (sym same) ∙ h.is;
@@ -114,16 +134,16 @@ module _ (v : Extent) (chunks : List ChunkRun) (answer_at : ℕ → Answered) (t
     pub is : slice_get c.group.history place ≡ Some (submitting a)
     pub since : a.before ≡ take place c.group.history
     pub ask : Ask
-    pub same : port_ask ask ≡ Puts k a.op
+    pub same : port_ask ask ≡ Puts chunk a.op
     pub asked : Asked moment m ask
     pub number : a.write ≡ suc asked.moment
     pub own : client_of m asked.now.outcome.mount.work ≡ m
-    pub stands : slice_get (trace_of c.group.history m k (take (suc moment) told)).writes j ≡ Some a
+    pub stands : slice_get (trace_of c.group.history m k v.chunks (take (suc moment) told)).writes j ≡ Some a
 
-  pub written_at : (m j : ℕ) (a : Submission) → slice_get (trace_of c.group.history m k told).writes j ≡ Some a → IsWritten m j a
-  written_at m j a at =
-      let w = (all_handed_on c.group.history m k told).0 j a at in
-      let h = hand_of w.handed.moment m w.handed.place w.handed.at in
+  pub written_at : (m : ℕ) → m < 16 → (j : ℕ) (a : Submission) → slice_get (trace_of c.group.history m k v.chunks told).writes j ≡ Some a → IsWritten m j a
+  written_at m small j a at =
+      let w = (all_handed_on c.group.history m k v.chunks told).0 j a at in
+      let h = hand_of w.handed.moment m w.handed.place small w.handed.at in
       let within = some_within told w.handed.moment (Hands m k w.handed.place) w.handed.at in
       let asked = pending_at v answer_at told known.each w.handed.moment (omega (arith, within)) m h.ask h.pending in
       let event : event_of_ask h.ask h.server ≡ Submit a.server a.op =
@@ -137,7 +157,7 @@ module _ (v : Extent) (chunks : List ChunkRun) (answer_at : ℕ → Answered) (t
         ask = h.ask;
         same = write.0 ∙ ap (λ i. Puts i a.op) h.of;
         asked = asked;
-        number = w.handed.asked ∙ asked.number c.group.history k h.of;
+        number = w.handed.asked ∙ (asked.number c.group.history k v.chunks).asks ((is_trace c.group.history m k v.chunks (take w.handed.moment told)).of ∙ h.asks);
         own = own_client m asked.now.outcome.mount.work h.ask write.1 asked.pends;
         stands = w.stands;
       }
@@ -152,7 +172,7 @@ module _ (v : Extent) (chunks : List ChunkRun) (answer_at : ℕ → Answered) (t
         let within = some_within c.group.history x.place (submitting a) x.is in
         ap length x.since ∙ length-take-le x.place c.group.history (omega (arith, within))
 
-    happened : IsPrefix (a.before ++ submitting a ∷ []) (take (reached k told) (history_of (slice_get chunks k)))
+    happened : IsPrefix (a.before ++ submitting a ∷ []) (groups.history chunk epoch)
     happened =
         let low = place_reached x.moment m x.place x.at in
         let more = take_goes_on c.group.history (reached k told) (suc x.place) (omega (arith, low)) in
@@ -161,18 +181,19 @@ module _ (v : Extent) (chunks : List ChunkRun) (answer_at : ℕ → Answered) (t
           whole = ap (λ b. (b ++ submitting a ∷ []) ++ more.0) x.since ∙ ap (λ b. b ++ more.0) (sym (take_one_more c.group.history x.place (submitting a) x.is)) ∙ sym more.1;
         })
 
-    handed_on : IsHanded (deeds v answer_at told) k 0 m (numbered a)
-    handed_on =
+    handed_on : m < 16 → IsHanded (deeds v answer_at told) chunk epoch m (numbered a)
+    handed_on small =
         let before = take x.moment told in
         let now = x.asked.now.outcome.mount in
-        let hand = hand_deed v before (answer_at (length before)) m k x.place now (ap mount_in x.asked.life) in
+        let h = hand_of x.moment m x.place small x.at in
+        let hand = hand_deed v before (answer_at (length before)) m k x.place now (record { chunk = chunk; epoch = epoch }) h.home (ap mount_in x.asked.life) in
         let pending = is_pending v answer_at told known.each x.moment m x.ask x.asked (count v answer_at before) refl in record {
           moment = count v answer_at before;
-          at = deed_there v answer_at told x.moment (Hands m k x.place) 0 (count v answer_at before) (Submits m k 0 (length a.before)) x.at
-              (hand ∙ ap (λ n. Some (Submits n k 0 x.place)) x.own ∙ ap (λ n. Some (Submits m k 0 n)) (sym its_place)) (omega arith);
+          at = deed_there v answer_at told x.moment (Hands m k x.place) 0 (count v answer_at before) (Submits m chunk epoch (length a.before)) x.at
+              (hand ∙ ap (λ n. Some (Submits n chunk epoch x.place)) x.own ∙ ap (λ n. Some (Submits m chunk epoch n)) (sym its_place)) (omega arith);
           pending =
-              subst (λ n. IsPending (deeds v answer_at told) n (numbered a).write (count v answer_at before) (Puts k a.op)) x.own
-              (subst (λ n. IsPending (deeds v answer_at told) (client_of m now.work) n (count v answer_at before) (Puts k a.op)) (sym (numbered_by m j a x))
+              subst (λ n. IsPending (deeds v answer_at told) n (numbered a).write (count v answer_at before) (Puts chunk a.op)) x.own
+              (subst (λ n. IsPending (deeds v answer_at told) (client_of m now.work) n (count v answer_at before) (Puts chunk a.op)) (sym (numbered_by m j a x))
               (subst (IsPending (deeds v answer_at told) (client_of m now.work) x.asked.asked (count v answer_at before)) x.same pending));
         }
 
@@ -184,11 +205,11 @@ module _ (v : Extent) (chunks : List ChunkRun) (answer_at : ℕ → Answered) (t
 
   -- Ports
 
-  module _ (m : ℕ) (list : List Submission) (are : writes_of v answer_at chunks told k m ≡ map numbered list) (written : (j : ℕ) (a : Submission) → slice_get list j ≡ Some a → IsWritten m j a) (rising : IsRising c.group.setup list) (ordered : AreInOrder list) where
-    of_list : (j : ℕ) (a : Submission) → slice_get (writes_of v answer_at chunks told k m) j ≡ Some a → (b : Submission) × (slice_get list j ≡ Some b) × (numbered b ≡ a)
+  module _ (m : ℕ) (list : List Submission) (are : groups.writes chunk epoch m ≡ map numbered list) (written : (j : ℕ) (a : Submission) → slice_get list j ≡ Some a → IsWritten m j a × (m < 16)) (rising : IsRising c.group.setup list) (ordered : AreInOrder list) where
+    of_list : (j : ℕ) (a : Submission) → slice_get (groups.writes chunk epoch m) j ≡ Some a → (b : Submission) × (slice_get list j ≡ Some b) × (numbered b ≡ a)
     of_list j a at = get_mapped numbered list j a (ap (λ (l : List Submission). slice_get l j) (sym are) ∙ at)
 
-    in_front : (j : ℕ) (a b : Submission) → slice_get (writes_of v answer_at chunks told k m) j ≡ Some a → slice_get (writes_of v answer_at chunks told k m) (suc j) ≡ Some b → length a.before < length b.before
+    in_front : (j : ℕ) (a b : Submission) → slice_get (groups.writes chunk epoch m) j ≡ Some a → slice_get (groups.writes chunk epoch m) (suc j) ≡ Some b → length a.before < length b.before
     in_front j a b at its =
         let x = of_list j a at in
         let y = of_list (suc j) b its in
@@ -198,24 +219,24 @@ module _ (v : Extent) (chunks : List ChunkRun) (answer_at : ℕ → Answered) (t
         let whole = ap length first.whole in
         omega (arith, whole, a_long, b_long, length-append (x.0.before ++ submitting x.0 ∷ []) first.rest, length-append x.0.before (submitting x.0 ∷ []))
 
-    pub port_of : IsPort groups (deeds v answer_at told) k 0 m
+    pub port_of : IsPort groups (deeds v answer_at told) chunk epoch m
     port_of = record {
       happened = λ j a at.
           let x = of_list j a at in
-          subst (λ (s : Submission). IsPrefix (s.before ++ submitting s ∷ []) (take (reached k told) (history_of (slice_get chunks k)))) x.2 (happened m j x.0 (written j x.0 x.1));
-      handed = λ j a at. let x = of_list j a at in subst (IsHanded (deeds v answer_at told) k 0 m) x.2 (handed_on m j x.0 (written j x.0 x.1));
+          subst (λ (s : Submission). IsPrefix (s.before ++ submitting s ∷ []) (groups.history chunk epoch)) x.2 (happened m j x.0 (written j x.0 x.1).0);
+      handed = λ j a at. let x = of_list j a at in subst (IsHanded (deeds v answer_at told) chunk epoch m) x.2 (handed_on m j x.0 (written j x.0 x.1).0 (written j x.0 x.1).1);
       in_order = in_front;
       term = rising.term;
       in_term = λ j a at.
           let x = of_list j a at in
-          subst (λ (s : Submission). (t : IsTarget (setup_of (slice_get chunks k)) s) → t.server.durable.term ≡ rising.term j) x.2
+          subst (λ (s : Submission). (t : IsTarget (groups.setup chunk epoch) s) → t.server.durable.term ≡ rising.term j) x.2
           (subst (λ (setup : Setup). (t : IsTarget setup (numbered x.0)) → t.server.durable.term ≡ rising.term j) (sym same_setup)
           (λ t. rising.in_term j x.0 x.1 (record { server = t.server; leader = t.leader; runs = t.runs; serves = t.serves })));
       no_lower = λ j a b at its. let x = of_list j a at in let y = of_list (suc j) b its in rising.no_lower j (suc j) x.0 y.0 x.1 y.1 (omega arith);
       again = λ j a b at its same how.
           let x = of_list j a at in
           let y = of_list (suc j) b its in
-          let one = same_number m j (suc j) x.0 y.0 (written j x.0 x.1) (written (suc j) y.0 y.1) (ap (λ (s : Submission). s.write) x.2 ∙ same ∙ sym (ap (λ (s : Submission). s.write) y.2)) in
+          let one = same_number m j (suc j) x.0 y.0 (written j x.0 x.1).0 (written (suc j) y.0 y.1).0 (ap (λ (s : Submission). s.write) x.2 ∙ same ∙ sym (ap (λ (s : Submission). s.write) y.2)) in
           rising.again j (suc j) x.0 y.0 x.1 y.1 (omega arith) one (ap (λ (s : Submission). ending s.answer) x.2 ∙ how);
     }
 
@@ -228,10 +249,10 @@ module _ (v : Extent) (chunks : List ChunkRun) (answer_at : ℕ → Answered) (t
     again = λ j i a b at. absurd (none-some a at);
   }
 
-  pub every_port : (m : ℕ) → IsPort groups (deeds v answer_at told) k 0 m
+  pub every_port : (m : ℕ) → IsPort groups (deeds v answer_at told) chunk epoch m
   every_port m = elim (cases_lt m 16) [
-    | inl small ↦ port_of m (trace_of c.group.history m k told).writes (mounts_writes m small) (written_at m) (known.rising m small) (known.ordered m small)
+    | inl small ↦ port_of m (trace_of c.group.history m k v.chunks told).writes (mounts_writes m small) (λ j a at. (written_at m small j a at, small)) (known.rising m small) (known.ordered m small)
     | inr past ↦
-        port_of m [] (ap (λ b. if b then map numbered (trace_of (history_of (slice_get chunks k)) m k told).writes else []) (le-ltb m 16 past)) (λ j a at. absurd (none-some a at)) none_rising
+        port_of m [] (ap (writes_at v answer_at chunks told m) known.at ∙ ap (λ b. if b then map numbered (trace_of (history_of (slice_get chunks k)) m k v.chunks told).writes else []) (le-ltb m 16 past)) (λ j a at. absurd (none-some a at)) none_rising
         (λ j i a b at. absurd (none-some a at))
   ]

@@ -4,6 +4,7 @@ use Rattle.std.specs.Option.{option_map}
 use Rattle.std.proofs.lemmas.Bool.{cond-true, eq-eqb}
 use Rattle.std.proofs.lemmas.List.{append_assoc}
 use Rattle.std.proofs.lemmas.Option.{none-some, same_Some}
+use Rattle.pf_base.specs.Asks.{chunk_of}
 use Rattle.pf_base.specs.declared.asks.Ask.{Ask}
 use Rattle.pf_base.specs.declared.asks.Reply.{Reply}
 use Rattle.pf_base.specs.declared.asks.Reply.TheVariants.{Written, Bytes}
@@ -19,9 +20,10 @@ use Rattle.pf_positions.specs.Deeds.{Takes}
 use Rattle.pf_mount.specs.declared.work.Work.{Work}
 use Rattle.pf_mount.specs.declared.work.Work.TheVariants.{Ballots, Syncs}
 use Rattle.pf_mount.specs.Mounts.{MountIs, answered, opening}
-use Rattle.pf_hosts.specs.Moments.{Heard, Moment, Begins, Ends, Hands, Turns, Writes}
+use Rattle.pf_hosts.specs.Moments.{Begins, Carries, Ends, Hands, Heard, Moment, Moves as MovesTo, Turns, Writes}
 use Rattle.pf_mounted.specs.Finding.{HasPutIn}
 use Rattle.pf_mounted.specs.Mounts.{Life, last_ask, life_of, mount_after, mount_in, turned}
+use Rattle.pf_mounted.specs.Epochs.{Home, epoch_of, home_of}
 use Rattle.pf_mounted.specs.Journals.{AreOfMounts, CanBeDoings, Step, asking, call_of, client_of, doings, hand_steps, hearing_steps, hears, port_ask, port_reply, puts, stays_in, steps_at, turn_steps}
 use Rattle.pf_mounted.proofs.Decided.{tables_of_decisions}
 use Rattle.pf_mounted.proofs.Goes.{after}
@@ -130,10 +132,10 @@ module _ (v : Extent) where
     hears_put j upto (Syncs half found) (Bytes sectors) = tt
     hears_put j upto work reply = tt
 
-    hearing_put : (j : Journal) (mount : MountIs) (ask : Ask) (answer : Answered) (heard : Heard) (next : Option Ask) → mount_after v told m ≡ Some (answered mount heard.reply).mount
-        → Stands_after j (hearing_steps m mount ask answer heard next) (answered mount heard.reply).mount → ArePutIn told j (doings_in (hearing_steps m mount ask answer heard next))
-    hearing_put j mount ask answer heard next stood =
-        let reply = port_reply ask heard.by answer heard.reply in
+    hearing_put : (j : Journal) (mount : MountIs) (ask : Ask) (epoch : ℕ) (answer : Answered) (heard : Heard) (next : Option Ask) → mount_after v told m ≡ Some (answered mount heard.reply).mount
+        → Stands_after j (hearing_steps m mount ask epoch answer heard next) (answered mount heard.reply).mount → ArePutIn told j (doings_in (hearing_steps m mount ask epoch answer heard next))
+    hearing_put j mount ask epoch answer heard next stood =
+        let reply = port_reply ask epoch heard.by answer heard.reply in
         let later = (answered mount heard.reply).mount in
         let on : Step = record { deed = Takes m reply (option_map port_ask next); doing = Does m (call_of heard.reply) } in
         let hear : Step = record { deed = Takes (client_of m mount.work) reply None; doing = hears m mount.upto mount.work heard.reply } in
@@ -141,19 +143,20 @@ module _ (v : Extent) where
         by_test (stays_in mount.work mount.position.proposer heard.reply) (λ b. Stands_after j (steps b) later → ArePutIn told j (doings_in (steps b)))
         (λ _ there. (call_put j heard.reply, tt)) (λ _ there. (hears_put j mount.upto mount.work heard.reply, asking_put (goes_on j hear.doing) later next stood there))
 
-    turn_put : (j : Journal) (life : Option Life) (last : Option Ask) (answer : Answered) (heard : Option Heard) (next : Option Ask) → mount_after v told m ≡ mount_in (turned v m heard life)
-        → ((mount : MountIs) → mount_after v told m ≡ Some mount → Stands_after j (turn_steps v m life last answer heard next) mount) → ArePutIn told j (doings_in (turn_steps v m life last answer heard next))
-    turn_put j None last answer None next stood there = asking_put j (opening m v).mount next stood (there (opening m v).mount stood)
-    turn_put j (Some life) last answer None next stood there = asking_put j life.outcome.mount next stood (there life.outcome.mount stood)
-    turn_put j None last answer (Some heard) next stood there = tt
-    turn_put j (Some life) None answer (Some heard) next stood there = tt
-    turn_put j (Some life) (Some ask) answer (Some heard) next stood there =
+    turn_put : (j : Journal) (life : Option Life) (last : Option Ask) (epoch : ℕ → ℕ) (answer : Answered) (heard : Option Heard) (next : Option Ask) → mount_after v told m ≡ mount_in (turned v m heard life)
+        → ((mount : MountIs) → mount_after v told m ≡ Some mount → Stands_after j (turn_steps v m life last epoch answer heard next) mount) → ArePutIn told j (doings_in (turn_steps v m life last epoch answer heard next))
+    turn_put j None last epoch answer None next stood there = asking_put j (opening m v).mount next stood (there (opening m v).mount stood)
+    turn_put j (Some life) last epoch answer None next stood there = asking_put j life.outcome.mount next stood (there life.outcome.mount stood)
+    turn_put j None last epoch answer (Some heard) next stood there = tt
+    turn_put j (Some life) None epoch answer (Some heard) next stood there = tt
+    turn_put j (Some life) (Some ask) epoch answer (Some heard) next stood there =
         let later = (answered life.outcome.mount heard.reply).mount in
-        hearing_put j life.outcome.mount ask answer heard next stood (there later stood)
+        hearing_put j life.outcome.mount ask (epoch (chunk_of ask)) answer heard next stood (there later stood)
 
-  hand_put : (told : List Moment) (j : Journal) (m k place : ℕ) (mount : Option MountIs) → ArePutIn told j (doings_in (hand_steps m k place mount))
-  hand_put told j m k place None = tt
-  hand_put told j m k place (Some mount) = (tt, tt)
+  hand_put : (told : List Moment) (j : Journal) (m place : ℕ) (home : Option Home) (mount : Option MountIs) → ArePutIn told j (doings_in (hand_steps m place home mount))
+  hand_put told j m place None mount = tt
+  hand_put told j m place (Some home) None = tt
+  hand_put told j m place (Some home) (Some mount) = (tt, tt)
 
 module _ (v : Extent) (blocks : ℕ) (is : v.sectors ≡ 8 * blocks) (many : 1 < blocks) (answer_at : ℕ → Answered) where
   abbrev journal_of : List Moment → Journal
@@ -166,15 +169,17 @@ module _ (v : Extent) (blocks : ℕ) (is : v.sectors ≡ 8 * blocks) (many : 1 <
   moment_put : (told : List Moment) (moment : Moment) → AreOfMounts v answer_at [] (told ++ moment ∷ []) → CanBeDoings v [] (told ++ moment ∷ [])
       → ArePutIn v (told ++ moment ∷ []) (journal_of told) (doings_in (steps_at v told (answer_at (length told)) moment))
   moment_put told (Writes text) of can = tt
+  moment_put told (MovesTo moved to) of can = tt
+  moment_put told (Carries moved back wants) of can = tt
   moment_put told (Begins m call) of can = tt
   moment_put told (Ends m call) of can = tt
-  moment_put told (Hands m k place) of can = hand_put v (told ++ Hands m k place ∷ []) (journal_of told) m k place (mount_in (life_of v told m))
+  moment_put told (Hands m k place) of can = hand_put v (told ++ Hands m k place ∷ []) (journal_of told) m place (home_of v.chunks told k) (mount_in (life_of v told m))
   moment_put told (Turns m heard next) of can =
       let now : List Moment = told ++ Turns m heard next ∷ [] in
       let answer = answer_at (length told) in
-      let steps = turn_steps v m (life_of v told m) (last_ask told m) answer heard next in
+      let steps = turn_steps v m (life_of v told m) (last_ask told m) (epoch_of told) answer heard next in
       let same = ap (journal_from new_journal) (doings_on v answer_at told (Turns m heard next)) ∙ journal_on new_journal (doings v answer_at told) (doings_in steps) in
-      turn_put v now m (journal_of told) (life_of v told m) (last_ask told m) answer heard next (ap mount_in (turned_life v m m refl told [] tt heard next))
+      turn_put v now m (journal_of told) (life_of v told m) (last_ask told m) (epoch_of told) answer heard next (ap mount_in (turned_life v m m refl told [] tt heard next))
       (λ mount made. ap (λ (j : Journal). stands j m) (sym same) ∙ stands_so now of can m mount made)
 
   all_put : (more told : List Moment) → AreOfMounts v answer_at [] told → CanBeDoings v [] told → AreOfMounts v answer_at told more → CanBeDoings v told more → ArePutIn v told new_journal (doings v answer_at told)

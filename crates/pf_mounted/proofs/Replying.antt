@@ -7,7 +7,9 @@ use Rattle.pf_entry.proofs.Cases.{by_test}
 use Rattle.pf_protocol.specs.Answers.{IsLegal}
 use Rattle.pf_protocol.specs.declared.events.Event.{Event}
 use Rattle.pf_asks.specs.Ports.{PortIs, answered as answered_port, goes_to}
+use Rattle.pf_protocol.specs.Histories.{replay}
 use Rattle.pf_ports.specs.Calls.{Past}
+use Rattle.pf_ports.specs.Driven.{IsDriven}
 use Rattle.pf_ports.specs.Replies.{IsReplied}
 use Rattle.pf_ports.proofs.Stepping.{answers}
 use Rattle.pf_applyrounds.specs.Chunks.{answered}
@@ -15,10 +17,9 @@ use Rattle.pf_applyrounds.specs.Halts.{Halt}
 use Rattle.pf_chunk.specs.Asks.{leader_of, reply_to}
 use Rattle.pf_chunk.specs.Driving.{Driven, driven, driven_at, driven_for, event_of_ask, handed_to, idle, led_to, replied, sent_of, with_port}
 use Rattle.pf_chunk.specs.Runs.{ChunkRun}
-use Rattle.pf_hosts.specs.Moments.{Moment}
-use Rattle.pf_mounted.specs.Pasts.{past_of}
+use Rattle.pf_mounted.specs.Pasts.{Trace, past_in}
 use Rattle.pf_mounted.proofs.Growing.{Grows, grows_refl, happened_grows}
-use Rattle.pf_mounted.proofs.Telling.{IsAsTold, reply_step}
+use Rattle.pf_mounted.proofs.Telling.{reply_step}
 
 module _ (halts : List Halt) (c : ChunkRun) (m : ℕ) where
   -- A step only adds to the history of the group
@@ -86,9 +87,9 @@ module _ (halts : List Halt) (c : ChunkRun) (m : ℕ) where
   pub driven_replies : RepliesIf (driven halts c m)
   driven_replies = port_replies (slice_get c.ports m) refl
 
--- and it is the group's answer
-pub reply_is : (told : List Moment) (k : ℕ) (c : ChunkRun) → IsAsTold told k c → (m : ℕ) (p : PortIs) → slice_get c.ports m ≡ Some p → (ask : Ask) → p.ask ≡ Some ask → (reply : Reply) → reply_to c.group.state p.sent p.last ≡ Some reply
-    → IsLegal c.group.setup c.group.history → IsReplied c.group.setup (past_of c.group.history m k told) ask reply
-reply_is told k c is m p there ask pending reply told_so legal =
-    let past : Past = past_of c.group.history m k told in
-    answers c.group.setup past past p (answered_port p) ask reply (is.driven m p there) (reply_step told k c is m p ask pending reply p.sent refl told_so) legal
+-- and it is the group's answer, by what the port did
+pub reply_is : (c : ChunkRun) → c.group.state ≡ replay c.group.setup c.group.history → (t : Trace) (p : PortIs) → IsDriven c.group.setup (past_in c.group.history t) p → (ask : Ask) → p.ask ≡ Some ask → (reply : Reply) → reply_to c.group.state p.sent p.last ≡ Some reply
+    → IsLegal c.group.setup c.group.history → IsReplied c.group.setup (past_in c.group.history t) ask reply
+reply_is c stands t p driven_so ask pending reply told_so legal =
+    let past : Past = past_in c.group.history t in
+    answers c.group.setup past past p (answered_port p) ask reply driven_so (reply_step c stands t p ask pending reply p.sent refl told_so) legal

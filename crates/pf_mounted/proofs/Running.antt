@@ -2,6 +2,7 @@
 use Rattle.std.proofs.Common.{◌≡◌, ℕ, zero, suc, Bool, true, false, not, if◌then◌else◌, List, [], ◌∷◌, ◌++◌, drop, length, Option, Some, None, slice_get, refl, sym, ap, subst, append-nil}
 use Rattle.std.specs.Prelude.{nat_le, nat_lt}
 use Rattle.std.specs.List.{range_with_len}
+use Rattle.std.specs.Option.{is_some}
 use Rattle.std.proofs.lemmas.Bool.{false≢true}
 use Rattle.std.proofs.lemmas.List.{append_assoc}
 use Rattle.std.proofs.lemmas.Option.{none-some, same_Some}
@@ -11,6 +12,7 @@ use Rattle.pf_entry.specs.Lists.{Every}
 use Rattle.pf_entry.specs.declared.ops.Op.{Op}
 use Rattle.pf_entry.specs.declared.ops.Op.TheVariants.{Mark}
 use Rattle.pf_entry.proofs.Cases.{by_test}
+use Rattle.pf_script.specs.Lines.{group_of}
 use Rattle.pf_script.specs.declared.command.Command.{Command}
 use Rattle.pf_script.specs.declared.command.Command.TheVariants as commands
 use Rattle.pf_protocol.specs.declared.answers.Answer.TheVariants.{Done}
@@ -20,15 +22,16 @@ use Rattle.pf_group.specs.Packets.{is_passed_over}
 use Rattle.pf_volume.specs.Volumes.{size_of}
 use Rattle.pf_tree.specs.declared.calls.FileCall.{FileCall}
 use Rattle.pf_tree.specs.Listings.{listing}
+use Rattle.pf_report.specs.Moves.{moving_text}
 use Rattle.pf_report.specs.Texts.{line_of, settle_text}
 use Rattle.pf_report.specs.Mounts.{mount_text, started_text, state_text, tree_lines}
 use Rattle.pf_applyrounds.specs.Halts.{Halt}
-use Rattle.pf_applyrounds.specs.Chunks.{Chunk}
+use Rattle.pf_applyrounds.specs.Chunks.{Chunk, made_chunk}
 use Rattle.pf_chunk.specs.Asking.{fetched, fetches, filled, is_range, no_range_answer, submits}
 use Rattle.pf_chunk.specs.Asking.{no_range as no_event}
 use Rattle.pf_chunk.specs.Happenings.{Happened, happened}
 use Rattle.pf_chunk.specs.Lending.{all_happened}
-use Rattle.pf_chunk.specs.Runs.{ChunkRun}
+use Rattle.pf_chunk.specs.Runs.{ChunkRun, new_run}
 use Rattle.pf_chunk.specs.Saying.{answer_line, said}
 use Rattle.pf_hosts.specs.Moments.{Moment, Writes}
 use Rattle.pf_hosts.specs.Hosts.{HostIs}
@@ -36,21 +39,25 @@ use Rattle.pf_hosts.specs.Hosts as hosts
 use Rattle.pf_hosts.specs.Words.{read_call}
 use Rattle.pf_fleet.specs.Settling.{Goes, Name, Next, Settled, delivered, ends, enough_tries, goes_on, least_left, name_of, next_in, next_of, settle_next, settle_to, settled, tried}
 use Rattle.pf_fleet.specs.Settled.{settling}
-use Rattle.pf_fleet.specs.Volumes.{VolumeRun, begins, happens, host_at, host_steps, hosts_step, killed, mounts, quietly, saying, step_of, these_step, with_chunk, with_host}
+use Rattle.pf_fleet.specs.Volumes.{VolumeRun, all_step, begins, happens, host_at, host_steps, hosts_step, killed, mounts, mover_steps, moves, quietly, saying, step_of, these_step, with_chunk, with_host}
 use Rattle.pf_fleet.specs.Volumes as volumes
 use Rattle.pf_world.specs.declared.kind.Kind.{Kind}
 use Rattle.pf_world.specs.declared.kind.Kind.TheVariants.{Mounted, Raw}
 use Rattle.pf_threads.specs.Sessions.{Session, next_session, session_text}
 use Rattle.pf_world.specs.declared.line.Line.{Line}
 use Rattle.pf_world.specs.Worlds.{Told, World, at_chunk, ended, made, made_answer, no_world, refused_text, said_only, stepped, told_of}
-use Rattle.pf_world.specs.Lines.{asked, begins_if, call_of, decided, held_told, joins, kill_of, line_told, live_as, mounts_as, no_event_of, rests, show_of, shown_of, submits_as}
+use Rattle.pf_world.specs.Lines.{asked, begins_if, begins_move, call_of, decided, held_told, is_made, is_of_mounts, joins, kill_of, kind_after, line_told, live_as, made_group, mounts_as, move_told, no_event_of, rests, run_told, show_of, shown_of, submits_as}
 use Rattle.pf_world.specs.Reports.{run_from, world_run}
 use Rattle.pf_mounted.specs.Scripts.{IsScript, makes_volume}
 use Rattle.pf_mounted.proofs.Writing.{IsNoWrite}
 
+-- a group that is made for a move
+abbrev pub new_group : List Halt → VolumeRun → (names format : ℕ) → ChunkRun
+new_group halts v names format = new_run (made_chunk halts v.extent.sectors names format (length v.chunks))
+
 -- A property of a run's kind, its volume and all that was told so far is kept where the kind is decided, by lines of text, by an event of a
--- chunk, by a write that a line submits or a session of threads in a raw run, by a read that a line takes up, by the step of a host, and where one comes in a run
--- with mounts, begins the call of words or goes
+-- chunk, by a write that a line submits or a session of threads in a raw run, by a read that a line takes up, by the step of a host or of the
+-- mover, where a host comes in a run with mounts, begins the call of words or goes, and where a chunk begins to move to a new group
 pub record IsKeptIn (halts : List Halt) (P : Option Kind → VolumeRun → List Moment → Type 0) : Type 0 where
   pub deciding : (kind : Kind) (v : VolumeRun) (told : List Moment) → P None v told → P (Some kind) v told
   pub writing : (kind : Option Kind) (v : VolumeRun) (told : List Moment) (text : List ℕ) → P kind v told → P kind v (told ++ Writes text ∷ [])
@@ -60,7 +67,10 @@ pub record IsKeptIn (halts : List Halt) (P : Option Kind → VolumeRun → List 
   pub threading : (v : VolumeRun) (told : List Moment) (k : ℕ) (c : ChunkRun) (its : List Event) → slice_get v.chunks k ≡ Some c → P (Some Raw) v told → P (Some Raw) (with_chunk v (all_happened halts its c).chunk) told
   pub reading : (kind : Option Kind) (v : VolumeRun) (told : List Moment) (k : ℕ) (c : ChunkRun) (server : ℕ) (range : Span) → slice_get v.chunks k ≡ Some c → P kind v told → P kind (with_chunk v (fetched halts server range c).chunk) told
   pub stepping : (kind : Option Kind) (v : VolumeRun) (told : List Moment) (m : ℕ) (host : HostIs) → host_at v.hosts m ≡ Some host → P kind v told
-      → P kind (with_host v m (hosts.stepped halts v.chunks host)).volume (told ++ (hosts.stepped halts v.chunks host).told)
+      → P kind (with_host v m (hosts.stepped halts v.routes v.chunks host)).volume (told ++ (hosts.stepped halts v.routes v.chunks host).told)
+  pub carrying : (kind : Option Kind) (v : VolumeRun) (told : List Moment) → P kind v told → P kind (mover_steps halts v).volume (told ++ (mover_steps halts v).told)
+  pub moving : (v : VolumeRun) (told : List Moment) (names format chunk : ℕ) → is_some v.routes.moving ≡ false → nat_le 8 (length v.chunks) ≡ false → P (Some Mounted) v told
+      → P (Some Mounted) (moves chunk (new_group halts v names format) v).volume (told ++ (moves chunk (new_group halts v names format) v).told)
   pub mounting : (v : VolumeRun) (told : List Moment) → nat_lt (size_of v.extent) 4112 ≡ false → nat_le 16 (length v.hosts) ≡ false → P (Some Mounted) v told → P (Some Mounted) (mounts v).volume (told ++ (mounts v).told)
   pub beginning : (kind : Option Kind) (v : VolumeRun) (told : List Moment) (m : ℕ) (host : HostIs) (words : Call) (call : FileCall) → host_at v.hosts m ≡ Some host → rests host.mount.work ≡ true → read_call words ≡ Some call → P kind v told
       → P kind (begins m host call v).volume (told ++ (begins m host call v).told)
@@ -73,7 +83,10 @@ pub record IsKept (halts : List Halt) (P : VolumeRun → List Moment → Type 0)
   pub threading : (v : VolumeRun) (told : List Moment) (k : ℕ) (c : ChunkRun) (its : List Event) → slice_get v.chunks k ≡ Some c → P v told → P (with_chunk v (all_happened halts its c).chunk) told
   pub reading : (v : VolumeRun) (told : List Moment) (k : ℕ) (c : ChunkRun) (server : ℕ) (range : Span) → slice_get v.chunks k ≡ Some c → P v told → P (with_chunk v (fetched halts server range c).chunk) told
   pub stepping : (v : VolumeRun) (told : List Moment) (m : ℕ) (host : HostIs) → host_at v.hosts m ≡ Some host → P v told
-      → P (with_host v m (hosts.stepped halts v.chunks host)).volume (told ++ (hosts.stepped halts v.chunks host).told)
+      → P (with_host v m (hosts.stepped halts v.routes v.chunks host)).volume (told ++ (hosts.stepped halts v.routes v.chunks host).told)
+  pub carrying : (v : VolumeRun) (told : List Moment) → P v told → P (mover_steps halts v).volume (told ++ (mover_steps halts v).told)
+  pub moving : (v : VolumeRun) (told : List Moment) (names format chunk : ℕ) → is_some v.routes.moving ≡ false → nat_le 8 (length v.chunks) ≡ false → P v told
+      → P (moves chunk (new_group halts v names format) v).volume (told ++ (moves chunk (new_group halts v names format) v).told)
   pub mounting : (v : VolumeRun) (told : List Moment) → nat_lt (size_of v.extent) 4112 ≡ false → nat_le 16 (length v.hosts) ≡ false → P v told → P (mounts v).volume (told ++ (mounts v).told)
   pub beginning : (v : VolumeRun) (told : List Moment) (m : ℕ) (host : HostIs) (call : FileCall) → host_at v.hosts m ≡ Some host → rests host.mount.work ≡ true → P v told
       → P (begins m host call v).volume (told ++ (begins m host call v).told)
@@ -88,6 +101,8 @@ in_any_kind halts P kept = record {
   threading = kept.threading;
   reading = λ kind. kept.reading;
   stepping = λ kind. kept.stepping;
+  carrying = λ kind. kept.carrying;
+  moving = kept.moving;
   mounting = kept.mounting;
   beginning = λ kind v told m host words call at rest said. kept.beginning v told m host call at rest;
   killing = λ kind. kept.killing;
@@ -124,13 +139,17 @@ module _ (halts : List Halt) (P : Option Kind → VolumeRun → List Moment → 
     these [] v told is = nothing_told v told is
     these (m ∷ ms) v told is = follow told (host_steps halts m v) (these_step halts ms) (host_step m v told is) (these ms)
 
-    all_step : (v : VolumeRun) (told : List Moment) → P kind v told → Comes told (hosts_step halts v)
+    hosts_all : (v : VolumeRun) (told : List Moment) → P kind v told → Comes told (hosts_step halts v)
     unfolding hosts_step
-    all_step v told is = these (range_with_len 0 (length v.hosts)) v told is
+    hosts_all v told is = these (range_with_len 0 (length v.hosts)) v told is
+
+    -- each host, and then the mover
+    all_on : (v : VolumeRun) (told : List Moment) → P kind v told → Comes told (all_step halts v)
+    all_on v told is = follow told (hosts_step halts v) (mover_steps halts) (hosts_all v told is) (kept.carrying kind)
 
     -- something happened to a chunk
     after_event : (v : VolumeRun) (told : List Moment) (h : Happened) → P kind (with_chunk v h.chunk) told → Comes told (happens halts v h)
-    after_event v told h is = follow told (saying h.text (with_chunk v h.chunk)) (hosts_step halts) (kept.writing kind (with_chunk v h.chunk) told h.text is) all_step
+    after_event v told h is = follow told (saying h.text (with_chunk v h.chunk)) (all_step halts) (kept.writing kind (with_chunk v h.chunk) told h.text is) all_on
 
     -- Settlings
 
@@ -185,7 +204,7 @@ module _ (halts : List Halt) (P : Option Kind → VolumeRun → List Moment → 
   say w number text told is = end w number (quietly w.volume) text told (nothing_told w.kind w.volume told is)
 
   step : (w : World) (number : ℕ) (t : volumes.Told) (text : List ℕ) (told : List Moment) → Comes w.kind told t → Tells told (stepped halts w number t text)
-  step w number t text told is = end w number (volumes.followed t (hosts_step halts)) text told (follow w.kind told t (hosts_step halts) is (all_step w.kind))
+  step w number t text told is = end w number (volumes.followed t (all_step halts)) text told (follow w.kind told t (all_step halts) is (all_on w.kind))
 
   refuse : (w : World) (number : ℕ) (text : List ℕ) (told : List Moment) → P w.kind w.volume told → Tells told (stepped halts w number (quietly w.volume) text)
   refuse w number text told is = step w number (quietly w.volume) text told (nothing_told w.kind w.volume told is)
@@ -251,9 +270,9 @@ module _ (halts : List Halt) (P : Option Kind → VolumeRun → List Moment → 
   decide None kind v told is = kept.deciding kind v told is
   decide (Some was) kind v told is = is
 
-  module _ (v : VolumeRun) (sessions : List Session) (number : ℕ) (told : List Moment) where
+  module _ (v : VolumeRun) (names format : ℕ) (sessions : List Session) (number : ℕ) (told : List Moment) where
     abbrev of_kind : Kind → World
-    of_kind kind = record { volume = v; kind = Some kind; sessions = sessions }
+    of_kind kind = record { volume = v; names = names; format = format; kind = Some kind; sessions = sessions }
 
     submit : P (Some Raw) v told → (chunk server first byte count : ℕ) → Tells told (asked halts (of_kind Raw) number chunk server first count (submits halts server first byte count))
     submit is chunk server first byte count = ask (of_kind Raw) number told is chunk server first count (submits halts server first byte count) (λ ranges c there.
@@ -288,36 +307,78 @@ module _ (halts : List Halt) (P : Option Kind → VolumeRun → List Moment → 
     mount_as Mounted is = join is
 
   -- a session of threads, of which the next one stands first
-  hold_as : (v : VolumeRun) (sessions : List Session) (number : ℕ) (told : List Moment) (kind : Kind) → P (Some kind) v told → (k : ℕ) → Tells told (live_as kind halts (record { volume = v; kind = Some kind; sessions = sessions }) number k)
-  hold_as v sessions number told Mounted is k = say (record { volume = v; kind = Some Mounted; sessions = sessions }) number (refused_text 94) told is
-  hold_as v sessions number told Raw is k = hold v (drop 1 sessions) number told is (next_session sessions) k (slice_get v.chunks k) refl
+  hold_as : (v : VolumeRun) (names format : ℕ) (sessions : List Session) (number : ℕ) (told : List Moment) (kind : Kind) → P (Some kind) v told → (k : ℕ)
+      → Tells told (live_as kind halts (record { volume = v; names = names; format = format; kind = Some kind; sessions = sessions }) number k)
+  hold_as v names format sessions number told Mounted is k = say (record { volume = v; names = names; format = format; kind = Some Mounted; sessions = sessions }) number (refused_text 94) told is
+  hold_as v names format sessions number told Raw is k = hold v names format (drop 1 sessions) number told is (next_session sessions) k (slice_get v.chunks k) refl
 
-  -- any line but a volume
-  line : (w : World) (number : ℕ) (told : List Moment) → P w.kind w.volume told → (command : Command) → makes_volume command ≡ false → Tells told (line_told halts w number command)
-  line w number told is (commands.Volume chunks sectors names format) none = absurd (false≢true (sym none))
-  line w number told is (commands.Elect g i) none = plain w number told is g (events.Elect i) tt
-  line w number told is (commands.Resend g i) none = plain w number told is g (events.Resend i) tt
-  line w number told is (commands.Stop g i) none = plain w number told is g (events.Stop i) tt
-  line w number told is (commands.Restart g i) none = plain w number told is g (events.Restart i false) tt
-  line w number told is (commands.Checkpoint g i) none = plain w number told is g (events.Checkpoint i) tt
-  line w number told is (commands.Deliver g k) none = plain w number told is g (events.Deliver k) tt
-  line w number told is (commands.Lose g k) none = plain w number told is g (events.Lose k) tt
-  line w number told is (commands.Submit g i s b n) none = let kind : Kind = decided w.kind Raw in submit_as w.volume w.sessions number told kind (decide w.kind Raw w.volume told is) g i s b n
-  line w number told is (commands.Fetch g i s n) none = fetch w number told is g i s n
-  line w number told is (commands.Mark g i) none = plain w number told is g (events.Submit i Mark) tt
-  line w number told is (commands.Settle limit) none =
+  -- Moves
+
+  module _ (w : World) (number : ℕ) (told : List Moment) (is : P w.kind w.volume told) where
+    abbrev begun_move : (chunk : ℕ) → Told
+    begun_move chunk = stepped halts w number (moves chunk (made_group halts w) w.volume) (moving_text (length w.volume.chunks))
+
+    abbrev if_fewer : (chunk : ℕ) → Told
+    if_fewer chunk = if nat_le 8 (length w.volume.chunks) then stepped halts w number (quietly w.volume) (refused_text 100) else begun_move chunk
+
+    begin_move : (chunk : ℕ) → Some Mounted ≡ w.kind → Tells told (begins_move halts w number chunk)
+    begin_move chunk mounted =
+        by_test (is_some w.volume.routes.moving) (λ b. Tells told (if b then stepped halts w number (quietly w.volume) (refused_text 101) else if_fewer chunk)) (λ _. refuse w number (refused_text 101) told is)
+        (λ free. by_test (nat_le 8 (length w.volume.chunks)) (λ b. Tells told (if b then stepped halts w number (quietly w.volume) (refused_text 100) else begun_move chunk)) (λ _. refuse w number (refused_text 100) told is)
+        (λ few. step w number (moves chunk (made_group halts w) w.volume) (moving_text (length w.volume.chunks)) told (
+        let t : volumes.Told = moves chunk (made_group halts w) w.volume in
+        subst (λ kind. P kind t.volume (told ++ t.told)) mounted
+        (kept.moving w.volume told w.names w.format chunk free few (subst (λ kind. P kind w.volume told) (sym mounted) is)))))
+
+    move_as : (chunk : ℕ) (kind : Option Kind) → w.kind ≡ kind → Tells told (if is_of_mounts kind then begins_move halts w number chunk else said_only w number (refused_text 95))
+    move_as chunk None same = say w number (refused_text 95) told is
+    move_as chunk (Some Raw) same = say w number (refused_text 95) told is
+    move_as chunk (Some Mounted) same = begin_move chunk (sym same)
+
+    move : (chunk : ℕ) → Tells told (move_told halts w number chunk)
+    move chunk = move_as chunk w.kind refl
+
+  -- any line but a volume, of groups that are made
+  run_line : (w : World) (number : ℕ) (told : List Moment) → P w.kind w.volume told → (command : Command) → makes_volume command ≡ false → Tells told (run_told halts w number command)
+  run_line w number told is (commands.Volume chunks sectors names format) none = absurd (false≢true (sym none))
+  run_line w number told is (commands.Elect g i) none = plain w number told is g (events.Elect i) tt
+  run_line w number told is (commands.Resend g i) none = plain w number told is g (events.Resend i) tt
+  run_line w number told is (commands.Stop g i) none = plain w number told is g (events.Stop i) tt
+  run_line w number told is (commands.Restart g i) none = plain w number told is g (events.Restart i false) tt
+  run_line w number told is (commands.Checkpoint g i) none = plain w number told is g (events.Checkpoint i) tt
+  run_line w number told is (commands.Deliver g k) none = plain w number told is g (events.Deliver k) tt
+  run_line w number told is (commands.Lose g k) none = plain w number told is g (events.Lose k) tt
+  run_line w number told is (commands.Submit g i s b n) none = let kind : Kind = decided w.kind Raw in submit_as w.volume w.names w.format w.sessions number told kind (decide w.kind Raw w.volume told is) g i s b n
+  run_line w number told is (commands.Fetch g i s n) none = fetch w number told is g i s n
+  run_line w number told is (commands.Mark g i) none = plain w number told is g (events.Submit i Mark) tt
+  run_line w number told is (commands.Settle limit) none =
       let s : Settled = settled halts limit w.volume in
       end w number (settling limit halts w.volume) (settle_text s.stopped) told (settles w.kind limit w.volume told is)
-  line w number told is (commands.Live g hosts writes workers turns) none = let kind : Kind = decided w.kind Raw in hold_as w.volume w.sessions number told kind (decide w.kind Raw w.volume told is) g
-  line w number told is commands.Mount none = let kind : Kind = decided w.kind Mounted in mount_as w.volume w.sessions number told kind (decide w.kind Mounted w.volume told is)
-  line w number told is (commands.Kill m) none = kill w number told is m (host_at w.volume.hosts m) refl
-  line w number told is (commands.Call m words) none = call w number told is m words (host_at w.volume.hosts m) refl
-  line w number told is (commands.ShowLog g i) none = show w number told is (slice_get w.volume.chunks g) _
-  line w number told is (commands.ShowApplied g i) none = show w number told is (slice_get w.volume.chunks g) _
-  line w number told is (commands.ShowSectors g i) none = show w number told is (slice_get w.volume.chunks g) _
-  line w number told is (commands.ShowAcked g) none = show w number told is (slice_get w.volume.chunks g) _
-  line w number told is (commands.ShowMark g i s) none = show w number told is (slice_get w.volume.chunks g) _
-  line w number told is (commands.ShowMount m) none = show_mount w number told is m (host_at w.volume.hosts m)
+  run_line w number told is (commands.Live g hosts writes workers turns) none = let kind : Kind = decided w.kind Raw in hold_as w.volume w.names w.format w.sessions number told kind (decide w.kind Raw w.volume told is) g
+  run_line w number told is commands.Mount none = let kind : Kind = decided w.kind Mounted in mount_as w.volume w.names w.format w.sessions number told kind (decide w.kind Mounted w.volume told is)
+  run_line w number told is (commands.Kill m) none = kill w number told is m (host_at w.volume.hosts m) refl
+  run_line w number told is (commands.Call m words) none = call w number told is m words (host_at w.volume.hosts m) refl
+  run_line w number told is (commands.ShowLog g i) none = show w number told is (slice_get w.volume.chunks g) _
+  run_line w number told is (commands.ShowApplied g i) none = show w number told is (slice_get w.volume.chunks g) _
+  run_line w number told is (commands.ShowSectors g i) none = show w number told is (slice_get w.volume.chunks g) _
+  run_line w number told is (commands.ShowAcked g) none = show w number told is (slice_get w.volume.chunks g) _
+  run_line w number told is (commands.ShowMark g i s) none = show w number told is (slice_get w.volume.chunks g) _
+  run_line w number told is (commands.ShowMount m) none = show_mount w number told is m (host_at w.volume.hosts m)
+  run_line w number told is (commands.Move chunk) none = move w number told is chunk
+
+  -- a line that is refused decides the kind all the same
+  refused_kind : (kind : Option Kind) (command : Command) (v : VolumeRun) (told : List Moment) → P kind v told → P (kind_after kind command) v told
+  refused_kind kind (commands.Submit g i s b n) v told is = decide kind Raw v told is
+  refused_kind kind (commands.Live g hosts writes workers turns) v told is = decide kind Raw v told is
+  refused_kind kind commands.Mount v told is = decide kind Mounted v told is
+  refused_kind kind command v told is = is
+
+  line : (w : World) (number : ℕ) (told : List Moment) → P w.kind w.volume told → (command : Command) → makes_volume command ≡ false → Tells told (line_told halts w number command)
+  line w number told is command none =
+      let refused : World = record w { kind = kind_after w.kind command } in
+      by_test (is_made w (group_of command)) (λ b. Tells told (if b then run_told halts w number command else said_only refused number (refused_text 102)))
+      (λ _. run_line w number told is command none)
+      (λ _. say refused number (refused_text 102) told (refused_kind w.kind command w.volume told is))
 
   run : (lines : List Line) (w : World) (told : List Moment) → Every (λ x. makes_volume x.command ≡ false) lines → P w.kind w.volume told → Tells told (run_from halts w lines)
   run [] w told none is = nothing_told w.kind w.volume told is

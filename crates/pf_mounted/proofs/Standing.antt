@@ -1,49 +1,84 @@
 -- In every run all hosts have the mounts that what is told makes.
-use Rattle.std.proofs.Common.{◌≡◌, ◌≢◌, ◌⊎◌, ℕ, zero, suc, ◌+◌, ◌<◌, ◌≤◌, List, [], ◌∷◌, ◌++◌, length, map, replicate, Option, Some, None, slice_get, slice_set, inl, inr, arith, refl, sym, ap, subst, ◌∙◌, length-append, lit≤, false, nat_le}
+use Rattle.std.proofs.Common.{◌≡◌, ◌≢◌, ◌⊎◌, ℕ, zero, suc, ◌+◌, ◌/◌, ◌<◌, ◌≤◌, if◌then◌else◌, nat_lt, append-nil, lt-ltb, List, [], ◌∷◌, ◌++◌, length, map, replicate, Option, Some, None, slice_get, slice_set, inl, inr, arith, refl, sym, ap, subst, ◌∙◌, length-append, lit≤, false, nat_le}
 use Rattle.std.specs.List.{range_with_len}
-use Rattle.std.specs.Option.{option_and_then, option_map}
-use Rattle.std.proofs.lemmas.Bool.{cases_eq, cases_lt, leb-false}
-use Rattle.std.proofs.lemmas.List.{length-replicate}
+use Rattle.std.specs.Option.{is_some, option_and_then, option_map}
+use Rattle.std.proofs.lemmas.Bool.{cases_eq, false≢true, leb-false, ltb-true}
+use Rattle.std.proofs.lemmas.List.{append_assoc, length-map, length-replicate}
+use Rattle.std.proofs.lemmas.List.FromFn.{length-range_with_len}
 use Rattle.std.proofs.lemmas.Option.{none-some, same_Some, slice_get_within}
 use Rattle.pf_base.specs.Span.{Span}
 use Rattle.pf_entry.specs.Lists.{Every}
-use Rattle.pf_entry.proofs.Lists.{set_cases}
+use Rattle.pf_base.specs.declared.asks.Ask.{Ask}
+use Rattle.pf_entry.proofs.Cases.{by_test}
+use Rattle.pf_entry.proofs.Lists.{every_more, set_cases}
 use Rattle.pf_network.proofs.Lists.{end_cases, set_length, something_there}
 use Rattle.pf_protocol.specs.declared.events.Event.TheVariants.{Fetch}
 use Rattle.pf_volume.specs.Volumes.{Extent}
-use Rattle.pf_asks.specs.Ports.{PortIs, new_port}
-use Rattle.pf_applyrounds.specs.Chunks.{after, made_chunk}
+use Rattle.pf_asks.specs.Ports.{PortIs, new_port, rehomed}
+use Rattle.pf_move.specs.declared.mover.MoveNext.{MoveNext}
+use Rattle.pf_move.specs.declared.mover.MoveNext.TheVariants.{Read, Switch, Write}
+use Rattle.pf_move.specs.declared.routes.Moving.{Moving}
+use Rattle.pf_move.specs.declared.routes.Route.{Route}
+use Rattle.pf_move.specs.Movers.{MoverIs, Step, new_mover, step}
+use Rattle.pf_move.specs.Routes.{RoutesIs, home_of, switched}
+use Rattle.pf_report.specs.Moves.{moved_text}
+use Rattle.pf_report.specs.Texts.{event_line}
+use Rattle.pf_applyrounds.specs.Chunks.{Chunk, after, made_chunk}
 use Rattle.pf_applyrounds.specs.Halts.{Halt}
 use Rattle.pf_applyrounds.proofs.Extending.{after_extends, applied_extends}
 use Rattle.pf_chunk.specs.Asking.{fetched}
 use Rattle.pf_chunk.specs.Driving.{ask_of}
 use Rattle.pf_chunk.specs.Happenings.{followed, happened}
 use Rattle.pf_chunk.specs.Lending.{all_happened}
-use Rattle.pf_chunk.specs.Runs.{ChunkRun, most_ports, new_run}
+use Rattle.pf_chunk.specs.Runs.{ChunkRun, left_by_ports, most_ports, mover_port, new_run, taking_ports}
 use Rattle.pf_chunk.proofs.Begun.{happened_extends}
-use Rattle.pf_hosts.specs.Moments.{Moment, Writes}
-use Rattle.pf_hosts.specs.Hosts.{HostIs, Stepped, begun, made_host, stepped}
-use Rattle.pf_fleet.specs.Volumes.{Hosts, VolumeRun, host_at, killed, there, with_chunk}
+use Rattle.pf_hosts.specs.Moments.{Carries, Heard, Moment, Moves as MovesTo, Writes}
+use Rattle.pf_hosts.specs.Hosts.{Drove, HostIs, Stepped, begun, drove, made_host, put_at, stepped}
+use Rattle.pf_fleet.specs.Volumes.{Hosts, VolumeRun, carries, carries_on, host_at, killed, moved_from, mover_group, mover_steps, moves, moves_from, there, with_chunk, with_new}
 use Rattle.pf_threads.specs.Sessions.{Session}
 use Rattle.pf_world.specs.declared.line.Line.{Line}
-use Rattle.pf_world.specs.Worlds.{made}
+use Rattle.pf_world.specs.Worlds.{first_routes, made}
 use Rattle.pf_world.specs.Reports.{world_run}
 use Rattle.pf_mounted.specs.Mounts.{AreDone, IsDone, Life, last_ask, life_of, mount_in, of_chunk}
+use Rattle.pf_mounted.specs.Pasts.{first_chunk}
 use Rattle.pf_mounted.specs.Scripts.{IsScript}
 use Rattle.pf_mounted.proofs.Growing.{all_grow, all_ports}
 use Rattle.pf_mounted.proofs.Hosts.{IsTold, StepsTo, begins_to, makes_to, steps_to, told_quietly}
 use Rattle.pf_mounted.proofs.Lives.{AreQuiet, IsOf, done_at, done_on, life_on, others_done, other_ask, other_life, same_ask, same_life}
-use Rattle.pf_mounted.proofs.Ports.{ArePlaced, HasAsked, asked_still, fetched_ports, happened_ports, placed_with}
-use Rattle.pf_mounted.proofs.Running.{IsKept, running}
+use Rattle.pf_mounted.proofs.Hauling.{hauled, step_chunk}
+use Rattle.pf_mounted.proofs.Ports.{ArePlaced, HasAsked, asked_for, asked_still, drives_at, fetched_ports, happened_ports, nothing_for, placed_with, put_counts, put_others, put_placed}
+use Rattle.pf_mounted.proofs.Routing.{AreRoutes, Having, IsAsk, IsHome, IsStill, ask_routes, move_routes, of_new, of_other, still_no_move, still_routes, switch_routes, switched_is}
+use Rattle.pf_mounted.proofs.Running.{IsKept, new_group, running}
+use Rattle.pf_mounted.proofs.Tracing.{IsNoMove, asks_of, asks_still, at_apart, at_same}
+
+-- there is a mover exactly while its chunk is moving
+abbrev pub IsPair : Option Moving → Option MoverIs → Type 0
+IsPair None None = Unit {0}
+IsPair (Some moving) (Some mover) = mover.chunk ≡ moving.chunk
+IsPair moving mover = ⊥
 
 -- what is kept by all that lines and hosts do
 pub record AreTold (v : VolumeRun) (told : List Moment) : Type 0 where
   pub hosts : (m : ℕ) (host : HostIs) → host_at v.hosts m ≡ Some host → IsTold v.extent m told host
-  pub ports : (m : ℕ) → HasAsked m (last_ask told m) v.chunks
+  pub routes : AreRoutes v.extent.chunks (length v.chunks) v.routes told
+  pub ports : (m : ℕ) → m < mover_port → HasAsked (asks_of v.extent.chunks told) m (last_ask told m) v.chunks
   pub placed : ArePlaced v.chunks
-  pub few : length v.hosts ≤ most_ports
+  pub few : length v.hosts ≤ mover_port
   pub done : (m : ℕ) → AreDone v.extent m None told
   pub past : (m : ℕ) → length v.hosts ≤ m → (life_of v.extent told m ≡ None) × (last_ask told m ≡ None)
+  pub pair : IsPair v.routes.moving v.mover
+
+-- Ports in their places
+
+new_port_asks : (n m : ℕ) (port : PortIs) → slice_get (replicate n new_port) m ≡ Some port → port.ask ≡ None
+new_port_asks zero m port is = absurd (none-some port is)
+new_port_asks (suc n) zero port is = ap (λ (p : PortIs). p.ask) (sym (same_Some new_port port is))
+new_port_asks (suc n) (suc m) port is = new_port_asks n m port is
+
+pub rehomed_at : (ports : List PortIs) (m : ℕ) (port : PortIs) → slice_get (map rehomed ports) m ≡ Some port → (before : PortIs) × (slice_get ports m ≡ Some before) × (port ≡ rehomed before)
+rehomed_at [] m port at = absurd (none-some port at)
+rehomed_at (p ∷ ports) zero port at = (p, refl, sym (same_Some (rehomed p) port at))
+rehomed_at (p ∷ ports) (suc m) port at = rehomed_at ports m port at
 
 -- Hosts in their places
 
@@ -79,15 +114,25 @@ told_of_another e m n told more host other of is = record {
   works = is.works;
 }
 
+-- the groups have the same asks
+pub having : (of its : Having) (m : ℕ) (ask : Option Ask) (chunks : List ChunkRun) → ((k : ℕ) → of k ≡ its k) → HasAsked of m ask chunks → HasAsked its m ask chunks
+having of its m ask chunks same before k c port at there = before k c port at there ∙ ap (λ o. asked_for o ask) (same k)
+
+pub still_of : (count : ℕ) (told more : List Moment) (k : ℕ) → Every IsStill more → asks_of count (told ++ more) k ≡ asks_of count told k
+still_of count told more k still = asks_still count told more k (every_more IsStill IsNoMove still_no_move more still)
+
 -- lines are told
-more_quietly : (v : VolumeRun) (told more : List Moment) → AreQuiet more → ((m : ℕ) (life : Option Life) → AreDone v.extent m life more) → AreTold v told → AreTold v (told ++ more)
-more_quietly v told more quiet done are = record {
+more_quietly : (v : VolumeRun) (told more : List Moment) → AreQuiet more → Every IsStill more → ((m : ℕ) (life : Option Life) → AreDone v.extent m life more) → AreTold v told → AreTold v (told ++ more)
+more_quietly v told more quiet still done are = record {
   done = λ m. done_on v.extent m told more None (are.done m) (done m (life_of v.extent told m));
   hosts = λ m host at. told_quietly v.extent m told more host quiet (are.hosts m host at);
-  ports = λ m. subst (λ ask. HasAsked m ask v.chunks) (sym (same_ask told more quiet m)) (are.ports m);
+  routes = still_routes v.extent.chunks (length v.chunks) v.routes told more still are.routes;
+  ports = λ m small. having (asks_of v.extent.chunks told) (asks_of v.extent.chunks (told ++ more)) m (last_ask (told ++ more) m) v.chunks (λ k. sym (still_of v.extent.chunks told more k still))
+      (subst (λ ask. HasAsked (asks_of v.extent.chunks told) m ask v.chunks) (sym (same_ask told more quiet m)) (are.ports m small));
   placed = are.placed;
   few = are.few;
   past = λ m high. (same_life told more quiet m v.extent ∙ (are.past m high).0, same_ask told more quiet m ∙ (are.past m high).1);
+  pair = are.pair;
 }
 
 -- something happens to a chunk and not to its ports
@@ -95,35 +140,42 @@ chunk_told : (v : VolumeRun) (told : List Moment) (k : ℕ) (c d : ChunkRun) →
 chunk_told v told k c d at ports number are =
     let place : slice_get v.chunks d.group.number ≡ Some c = ap (slice_get v.chunks) (number ∙ (are.placed k c at).number) ∙ at in record {
       hosts = are.hosts;
-      ports = λ m. asked_still m (last_ask told m) v.chunks d.group.number c d place (ap (λ ps. slice_get ps m) ports) (are.ports m);
+      routes = subst (λ n. AreRoutes v.extent.chunks n v.routes told) (sym (set_length v.chunks d.group.number d)) are.routes;
+      ports = λ m small. asked_still (asks_of v.extent.chunks told) m (last_ask told m) v.chunks d.group.number c d place (ap (λ ps. slice_get ps m) ports) (are.ports m small);
       placed = placed_with v.chunks d.group.number c d place number (ap length ports) are.placed;
       few = are.few;
       done = are.done;
       past = are.past;
+      pair = are.pair;
     }
 
 -- a host takes a step, or comes
-module _ (v : VolumeRun) (told : List Moment) (m : ℕ) (s : Stepped) (hosts : Hosts) (its_or : (n : ℕ) (host : HostIs) → host_at hosts n ≡ Some host → ItsOrAnother v.hosts m s.host n host) (within : m < length hosts) (longer : length v.hosts ≤ length hosts) (few : length hosts ≤ most_ports) where
-  pub step_told : AreTold v told → StepsTo v.extent m told v.chunks s → AreTold (record v { chunks = s.chunks; hosts = hosts }) (told ++ s.told)
+module _ (v : VolumeRun) (told : List Moment) (m : ℕ) (s : Stepped) (hosts : Hosts) (its_or : (n : ℕ) (host : HostIs) → host_at hosts n ≡ Some host → ItsOrAnother v.hosts m s.host n host) (within : m < length hosts) (longer : length v.hosts ≤ length hosts) (few : length hosts ≤ mover_port) (small : m < mover_port) where
+  abbrev of : Having
+  of = asks_of v.extent.chunks told
+
+  pub step_told : (are : AreTold v told) → StepsTo v.routes of are.routes.homes v.extent m told v.chunks s → AreTold (record v { chunks = s.chunks; hosts = hosts }) (told ++ s.told)
   step_told are is = record {
     hosts = λ n host at. elim (its_or n host at) [
       | inl here ↦ subst (λ (x : HostIs). IsTold v.extent n (told ++ s.told) x) here.1 (subst (λ j. IsTold v.extent j (told ++ s.told) s.host) (sym here.0) is.host)
-      | inr elsewhere ↦ told_of_another v.extent m n told s.told host elsewhere.0 is.of (are.hosts n host elsewhere.1)
+      | inr elsewhere ↦ told_of_another v.extent m n told s.told host elsewhere.0 is.its_own (are.hosts n host elsewhere.1)
     ];
-    ports = λ n. elim (cases_eq n m) [
-      | inl here ↦ subst (λ j. HasAsked j (last_ask (told ++ s.told) j) s.chunks) (sym here) is.its
-      | inr other ↦ subst (λ ask. HasAsked n ask s.chunks) (sym (other_ask m n other told s.told is.of)) (is.others n (last_ask told n) other (are.ports n))
-    ];
+    routes = subst (λ n. AreRoutes v.extent.chunks n v.routes (told ++ s.told)) (sym is.count) (still_routes v.extent.chunks (length v.chunks) v.routes told s.told is.still are.routes);
+    ports = λ n low. having of (asks_of v.extent.chunks (told ++ s.told)) n (last_ask (told ++ s.told) n) s.chunks (λ k. sym (still_of v.extent.chunks told s.told k is.still)) (elim (cases_eq n m) [
+      | inl here ↦ subst (λ j. HasAsked of j (last_ask (told ++ s.told) j) s.chunks) (sym here) is.its
+      | inr other ↦ subst (λ ask. HasAsked of n ask s.chunks) (sym (other_ask m n other told s.told is.its_own)) (is.others of n (last_ask told n) other (are.ports n low))
+    ]);
     placed = is.placed;
     few = few;
     done = λ n. done_on v.extent n told s.told None (are.done n) (elim (cases_eq n m) [
       | inl here ↦ subst (λ j. AreDone v.extent j (life_of v.extent told j) s.told) (sym here) is.done
-      | inr other ↦ others_done v.extent m n s.told (life_of v.extent told n) other is.of
+      | inr other ↦ others_done v.extent m n s.told (life_of v.extent told n) other is.its_own
     ]);
     past = λ n high.
         let other : n ≢ m = λ same. omega (arith, within, high, same) in
         let before = are.past n (omega (arith, longer, high)) in
-        (other_life m n other told s.told is.of v.extent ∙ before.0, other_ask m n other told s.told is.of ∙ before.1);
+        (other_life m n other told s.told is.its_own v.extent ∙ before.0, other_ask m n other told s.told is.its_own ∙ before.1);
+    pair = are.pair;
   }
 
 module _ (halts : List Halt) where
@@ -132,17 +184,17 @@ module _ (halts : List Halt) where
   fetched_number server range c = (applied_extends halts (after halts c.group (Fetch server range))).0 ∙ (after_extends halts c.group (Fetch server range)).0
 
   -- the host at a place steps so
-  hosts_told : (v : VolumeRun) (told : List Moment) (m : ℕ) (host : HostIs) (s : Stepped) → host_at v.hosts m ≡ Some host → AreTold v told → StepsTo v.extent m told v.chunks s
+  hosts_told : (v : VolumeRun) (told : List Moment) (m : ℕ) (host : HostIs) (s : Stepped) → host_at v.hosts m ≡ Some host → (are : AreTold v told) → StepsTo v.routes (asks_of v.extent.chunks told) are.routes.homes v.extent m told v.chunks s
       → AreTold (record v { chunks = s.chunks; hosts = slice_set v.hosts m (Some s.host) }) (told ++ s.told)
   hosts_told v told m host s at are is =
       let count = set_length v.hosts m (Some s.host) in
       let within = slice_get_within v.hosts m (Some host) (in_place v.hosts m host at) in
-      step_told v told m s (slice_set v.hosts m (Some s.host)) (set_host v.hosts m s.host) (omega (arith, count, within)) (omega (arith, count)) (omega (arith, count, are.few)) are is
+      step_told v told m s (slice_set v.hosts m (Some s.host)) (set_host v.hosts m s.host) (omega (arith, count, within)) (omega (arith, count)) (omega (arith, count, are.few)) (omega (arith, within, are.few)) are is
 
-  comes_told : (v : VolumeRun) (told : List Moment) → length v.hosts < most_ports → AreTold v told → (s : Stepped) → StepsTo v.extent (length v.hosts) told v.chunks s → AreTold (record v { chunks = s.chunks; hosts = v.hosts ++ Some s.host ∷ [] }) (told ++ s.told)
+  comes_told : (v : VolumeRun) (told : List Moment) → length v.hosts < mover_port → (are : AreTold v told) → (s : Stepped) → StepsTo v.routes (asks_of v.extent.chunks told) are.routes.homes v.extent (length v.hosts) told v.chunks s → AreTold (record v { chunks = s.chunks; hosts = v.hosts ++ Some s.host ∷ [] }) (told ++ s.told)
   comes_told v told few are s is =
       let count = length-append v.hosts (Some s.host ∷ []) in
-      step_told v told (length v.hosts) s (v.hosts ++ Some s.host ∷ []) (new_host v.hosts s.host) (omega (arith, count)) (omega (arith, count)) (omega (arith, count, few)) are is
+      step_told v told (length v.hosts) s (v.hosts ++ Some s.host ∷ []) (new_host v.hosts s.host) (omega (arith, count)) (omega (arith, count)) (omega (arith, count, few)) few are is
 
   goes_told : (v : VolumeRun) (told : List Moment) (m : ℕ) → AreTold v told → AreTold (killed m v) told
   goes_told v told m are = record {
@@ -150,6 +202,8 @@ module _ (halts : List Halt) where
       | inl here ↦ absurd (none-some host here.1)
       | inr elsewhere ↦ are.hosts n host (ap there elsewhere.1)
     ];
+    routes = are.routes;
+    pair = are.pair;
     ports = are.ports;
     placed = are.placed;
     few = omega (arith, set_length v.hosts m None, are.few);
@@ -157,37 +211,291 @@ module _ (halts : List Halt) where
     past = λ n high. are.past n (omega (arith, set_length v.hosts m None, high));
   }
 
-  fewer : (n : ℕ) → nat_le 16 n ≡ false → n < 16
+  pub few_at : (v : VolumeRun) (told : List Moment) → AreTold v told → (m : ℕ) (host : HostIs) → host_at v.hosts m ≡ Some host → m < mover_port
+  few_at v told are m host at = let within = slice_get_within v.hosts m (Some host) (in_place v.hosts m host at) in omega (arith, within, are.few)
+
+  pub fewer : (n : ℕ) → nat_le 16 n ≡ false → n < 16
   fewer n few = omega (arith, leb-false 16 n few)
+
+  -- The mover
+
+  -- its port takes a step
+  pub hauls_told : (v : VolumeRun) (told : List Moment) (k : ℕ) → mover_group v ≡ Some k → AreTold v told → AreTold (record v { chunks = (drove halts v.chunks mover_port k).chunks }) (told ++ (drove halts v.chunks mover_port k).told)
+  hauls_told v told k group are =
+      let d : Drove = drove halts v.chunks mover_port k in
+      let drives = drives_at halts v.chunks mover_port k in
+      more_quietly (record v { chunks = d.chunks }) told d.told drives.quiet drives.still (λ m life. drives.done v.extent m life) (record {
+        hosts = are.hosts;
+        routes = subst (λ n. AreRoutes v.extent.chunks n v.routes told) (sym drives.count) are.routes;
+        ports = λ m small. drives.others (asks_of v.extent.chunks told) m (last_ask told m) (λ same. omega (arith, small, same)) (are.ports m small);
+        placed = drives.placed are.placed;
+        few = are.few;
+        done = are.done;
+        past = are.past;
+        pair = are.pair;
+      })
+
+  -- it goes on: a moment is told that is nothing to any mount
+  module _ (v : VolumeRun) (told : List Moment) (are : AreTold v told) (y : Moment) (more : List Moment) (quiet : AreQuiet (y ∷ more)) (done : (m : ℕ) (life : Option Life) → AreDone v.extent m life (y ∷ more))
+      (chunks : List ChunkRun) (same_ports : (m : ℕ) (ask : Option Ask) (of : Having) → m < mover_port → HasAsked of m ask v.chunks → HasAsked of m ask chunks) (still_placed : ArePlaced v.chunks → ArePlaced chunks)
+      (r : RoutesIs) (mover : Option MoverIs) (still : (k : ℕ) → asks_of v.extent.chunks (told ++ y ∷ more) k ≡ asks_of v.extent.chunks told k) where
+    went_on : AreRoutes v.extent.chunks (length chunks) r (told ++ y ∷ more) → IsPair r.moving mover → AreTold (record v { chunks = chunks; routes = r; mover = mover }) (told ++ y ∷ more)
+    went_on routes pair = record {
+      hosts = λ m host at. told_quietly v.extent m told (y ∷ more) host quiet (are.hosts m host at);
+      routes = routes;
+      ports = λ m small. having (asks_of v.extent.chunks told) (asks_of v.extent.chunks (told ++ y ∷ more)) m (last_ask (told ++ y ∷ more) m) chunks (λ k. sym (still k))
+          (subst (λ ask. HasAsked (asks_of v.extent.chunks told) m ask chunks) (sym (same_ask told (y ∷ more) quiet m)) (same_ports m (last_ask told m) (asks_of v.extent.chunks told) small (are.ports m small)));
+      placed = still_placed are.placed;
+      few = are.few;
+      done = λ m. done_on v.extent m told (y ∷ more) None (are.done m) (done m (life_of v.extent told m));
+      past = λ m high. (same_life told (y ∷ more) quiet m v.extent ∙ (are.past m high).0, same_ask told (y ∷ more) quiet m ∙ (are.past m high).1);
+      pair = pair;
+    }
+
+  pair_on : (moving : Option Moving) (old mover : MoverIs) → mover.chunk ≡ old.chunk → IsPair moving (Some old) → IsPair moving (Some mover)
+  pair_on None old mover same pair = pair
+  pair_on (Some moving) old mover same pair = same ∙ pair
+
+  paired : (moving : Option Moving) (old : MoverIs) → IsPair moving (Some old) → (its : Moving) × (moving ≡ Some its) × (old.chunk ≡ its.chunk)
+  paired None old pair = absurd pair
+  paired (Some its) old pair = (its, refl, pair)
+
+  -- an ask of its goes into its port
+  asks_told : (v : VolumeRun) (told : List Moment) → AreTold v told → (old mover : MoverIs) → v.mover ≡ Some old → mover.chunk ≡ old.chunk → (heard : Option Heard) (next : MoveNext) → IsAsk next → (group : Option ℕ) (ask : Ask)
+      → AreTold (record v { chunks = put_at v.chunks group mover_port ask; mover = Some mover }) (told ++ Carries mover.chunk heard next ∷ [])
+  asks_told v told are old mover its same heard next is_ask group ask =
+      let chunks = put_at v.chunks group mover_port ask in
+      went_on v told are (Carries mover.chunk heard next) [] (tt, tt) (λ m life. (tt, tt)) chunks
+      (λ m its_ask of small. put_others mover_port ask v.chunks of group m its_ask (λ is. omega (arith, small, is))) (put_placed mover_port ask v.chunks group) v.routes (Some mover)
+      (λ k. asks_still v.extent.chunks told (Carries mover.chunk heard next ∷ []) k (tt, tt))
+      (subst (λ n. AreRoutes v.extent.chunks n v.routes (told ++ Carries mover.chunk heard next ∷ [])) (sym (put_counts mover_port ask v.chunks group)) (ask_routes v.extent.chunks (length v.chunks) v.routes told are.routes mover.chunk heard next is_ask))
+      (pair_on v.routes.moving old mover same (subst (IsPair v.routes.moving) its are.pair))
+
+  pub carries_told : (v : VolumeRun) (told : List Moment) → AreTold v told → (old mover : MoverIs) → v.mover ≡ Some old → mover.chunk ≡ old.chunk → (heard : Option Heard) (next : MoveNext)
+      → AreTold (carries v mover heard next).volume (told ++ (carries v mover heard next).told)
+  carries_told v told are old mover its same heard (Read span) = asks_told v told are old mover its same heard (Read span) tt _ _
+  carries_told v told are old mover its same heard (Write span sectors) = asks_told v told are old mover its same heard (Write span sectors) tt _ _
+  carries_told v told are old mover its same heard Switch =
+      let pair = paired v.routes.moving old (subst (IsPair v.routes.moving) its are.pair) in
+      let text = event_line (moved_text mover.chunk) in
+      let y : Moment = Carries mover.chunk heard Switch in
+      let first = subst (λ c. AreRoutes v.extent.chunks (length v.chunks) (switched v.routes) (told ++ Carries c heard Switch ∷ [])) (sym (same ∙ pair.2)) (switch_routes v.extent.chunks (length v.chunks) v.routes told are.routes pair.0 pair.1 heard) in
+      went_on v told are y (Writes text ∷ []) (tt, (tt, tt)) (λ m life. (tt, (tt, tt))) v.chunks (λ m ask of small is. is) (λ is. is) (switched v.routes) None
+      (λ k. asks_still v.extent.chunks told (y ∷ Writes text ∷ []) k (tt, (tt, tt)))
+      (subst (AreRoutes v.extent.chunks (length v.chunks) (switched v.routes)) (append_assoc told (y ∷ []) (Writes text ∷ [])) (still_routes v.extent.chunks (length v.chunks) (switched v.routes) (told ++ y ∷ []) (Writes text ∷ []) (tt, tt) first))
+      (subst (λ (x : RoutesIs). IsPair x.moving None) (sym (switched_is v.extent.chunks (length v.chunks) v.routes told are.routes pair.0 pair.1)) tt)
+
+  pub mover_told : (v : VolumeRun) (told : List Moment) → AreTold v told → AreTold (mover_steps halts v).volume (told ++ (mover_steps halts v).told)
+  mover_told v told are = hauled halts AreTold hauls_told (λ w so_far old heard its is. let s : Step = step old (Some heard.reply) in carries_told w so_far is old s.mover its (step_chunk old (Some heard.reply)) (Some heard) s.next) v told are
+
+  -- A chunk begins to move
+
+  -- the group that has its asks, and a new one
+  module _ (v : VolumeRun) (told : List Moment) (are : AreTold v told) (rests : v.routes.moving ≡ None) (chunk h : ℕ) (home : home_of v.routes chunk ≡ Some h) (group : Chunk) (number : group.number ≡ length v.chunks) where
+    abbrev count : ℕ
+    count = v.extent.chunks
+
+    abbrev n : ℕ
+    n = length v.chunks
+
+    abbrev told_on : List Moment
+    told_on = told ++ MovesTo chunk n ∷ []
+
+    pub from : (c : ChunkRun) × (slice_get v.chunks h ≡ Some c)
+    from = something_there v.chunks h (are.routes.within chunk h home)
+
+    abbrev chunks_on : List ChunkRun
+    chunks_on = slice_set v.chunks h (left_by_ports from.0) ++ taking_ports from.0 (new_run group) ∷ []
+
+    pub chunks_are : with_new v.chunks h (slice_get v.chunks h) (new_run group) ≡ chunks_on
+    chunks_are = ap (λ o. with_new v.chunks h o (new_run group)) from.1
+
+    pub longer : length chunks_on ≡ suc n
+    longer = let sum = length-append (slice_set v.chunks h (left_by_ports from.0)) (taking_ports from.0 (new_run group) ∷ []) in let same = set_length v.chunks h (left_by_ports from.0) in omega (arith, sum, same)
+
+    abbrev old : Having
+    old = asks_of count told
+
+    abbrev new : Having
+    new = asks_of count told_on
+
+    had : old h ≡ Some chunk
+    had = (subst (IsHome old chunk) home (are.routes.homes chunk)).here
+
+    pub apart : n ≢ h
+    apart same = let low = are.routes.within chunk h home in omega (arith, low, same)
+
+    left : new h ≡ None
+    left = of_other count n v.routes told are.routes rests chunk h home h apart ∙ ap (λ b. if b then None else old h) (at_same (old h) chunk had)
+
+    away : (k : ℕ) → n ≢ k → h ≢ k → new k ≡ old k
+    away k other elsewhere =
+        of_other count n v.routes told are.routes rests chunk h home k other
+        ∙ ap (λ b. if b then None else old k) (at_apart (old k) chunk (λ same. elsewhere (sym ((subst (IsHome old chunk) home (are.routes.homes chunk)).alone k same))))
+
+    -- where a group at a place came from
+    pub came_from : (k : ℕ) (c : ChunkRun) → slice_get chunks_on k ≡ Some c → ((k ≡ h) × (left_by_ports from.0 ≡ c)) ⊎ ((k ≢ h) × (slice_get v.chunks k ≡ Some c)) ⊎ ((k ≡ n) × (taking_ports from.0 (new_run group) ≡ c))
+    came_from k c at = elim (end_cases (slice_set v.chunks h (left_by_ports from.0)) (taking_ports from.0 (new_run group)) k c at) [
+      | inl before ↦ elim (set_cases v.chunks h (left_by_ports from.0) k c before) [
+        | inl here ↦ inl (here.0, here.1)
+        | inr elsewhere ↦ inr (inl (elsewhere.0, elsewhere.1))
+      ]
+      | inr last ↦ inr (inr (last.0 ∙ set_length v.chunks h (left_by_ports from.0), last.1))
+    ]
+
+    asks_there : (m : ℕ) → m < mover_port → HasAsked new m (last_ask told_on m) chunks_on
+    asks_there m small k c port at its = elim (came_from k c at) [
+      | inl here ↦
+          let none : port.ask ≡ None = new_port_asks most_ports m port (ap (λ (x : ChunkRun). slice_get x.ports m) here.1 ∙ its) in
+          none ∙ sym (ap (λ o. asked_for o (last_ask told_on m)) (ap new here.0 ∙ left))
+      | inr other ↦ elim other [
+        | inl elsewhere ↦
+            are.ports m small k c port elsewhere.1 its
+            ∙ ap (λ o. asked_for o (last_ask told m)) (sym (away k (λ same. let low = slice_get_within v.chunks k c elsewhere.1 in omega (arith, low, same)) (λ same. elsewhere.0 (sym same))))
+            ∙ ap (asked_for (new k)) (sym (same_ask told (MovesTo chunk n ∷ []) (tt, tt) m))
+        | inr last ↦
+            let taken = rehomed_at from.0.ports m port (ap (λ (x : ChunkRun). slice_get x.ports m) last.1 ∙ its) in
+            ap (λ (p : PortIs). p.ask) taken.2 ∙ are.ports m small h from.0 taken.0 from.1 taken.1
+            ∙ ap (λ o. asked_for o (last_ask told m)) (had ∙ sym (ap new last.0 ∙ of_new count n v.routes told are.routes rests chunk h home))
+            ∙ ap (asked_for (new k)) (sym (same_ask told (MovesTo chunk n ∷ []) (tt, tt) m))
+      ]
+    ]
+
+    placed_there : ArePlaced chunks_on
+    placed_there k c at = elim (came_from k c at) [
+      | inl here ↦ record { number = ap (λ (x : ChunkRun). x.group.number) (sym here.1) ∙ (are.placed h from.0 from.1).number ∙ sym here.0; ports = ap (λ (x : ChunkRun). length x.ports) (sym here.1) ∙ length-replicate most_ports new_port }
+      | inr other ↦ elim other [
+        | inl elsewhere ↦ are.placed k c elsewhere.1
+        | inr last ↦ record {
+          number = ap (λ (x : ChunkRun). x.group.number) (sym last.1) ∙ number ∙ sym last.0;
+          ports = ap (λ (x : ChunkRun). length x.ports) (sym last.1) ∙ length-map from.0.ports rehomed ∙ (are.placed h from.0 from.1).ports;
+        }
+      ]
+    ]
+
+    pub began : (mover : MoverIs) → mover.chunk ≡ chunk → AreTold (record v { chunks = chunks_on; routes = record v.routes { moving = Some (record { chunk = chunk; to = n }) }; mover = Some mover }) told_on
+    began mover its = record {
+      hosts = λ m host at. told_quietly v.extent m told (MovesTo chunk n ∷ []) host (tt, tt) (are.hosts m host at);
+      routes = subst (λ i. AreRoutes count i (record v.routes { moving = Some (record { chunk = chunk; to = n }) }) told_on) (sym longer) (move_routes count n v.routes told are.routes rests chunk h home);
+      ports = asks_there;
+      placed = placed_there;
+      few = are.few;
+      done = λ m. done_on v.extent m told (MovesTo chunk n ∷ []) None (are.done m) (tt, tt);
+      past = λ m high. (same_life told (MovesTo chunk n ∷ []) (tt, tt) m v.extent ∙ (are.past m high).0, same_ask told (MovesTo chunk n ∷ []) (tt, tt) m ∙ (are.past m high).1);
+      pair = its;
+    }
+
+  pub none_moving : (moving : Option Moving) → is_some moving ≡ false → moving ≡ None
+  none_moving None none = refl
+  none_moving (Some moving) none = absurd (false≢true (sym none))
+
+  pub moves_told : (v : VolumeRun) (told : List Moment) (names format chunk : ℕ) → is_some v.routes.moving ≡ false → AreTold v told
+      → AreTold (moves chunk (new_group halts v names format) v).volume (told ++ (moves chunk (new_group halts v names format) v).told)
+  moves_told v told names format chunk free are = by (home_of v.routes chunk) refl
+    where
+      by : (o : Option ℕ) → home_of v.routes chunk ≡ o → AreTold (moves_from chunk o (new_group halts v names format) v).volume (told ++ (moves_from chunk o (new_group halts v names format) v).told)
+      by None at = subst (AreTold v) (sym (append-nil told)) are
+      by (Some h) at =
+          let rests = none_moving v.routes.moving free in
+          let group = made_chunk halts v.extent.sectors names format (length v.chunks) in
+          let m : MoverIs = new_mover chunk (v.extent.sectors / 8) in
+          let s : Step = step m None in
+          let was = began v told are rests chunk h at group refl m refl in
+          let w : VolumeRun = moved_from v chunk h (new_run group) in
+          let first = subst (λ (chunks : List ChunkRun). AreTold (record w { chunks = chunks; mover = Some m }) (told ++ MovesTo chunk (length v.chunks) ∷ [])) (sym (chunks_are v told are rests chunk h at group refl)) was in
+          let t = carries_on w None s in
+          subst (AreTold t.volume) (append_assoc told (MovesTo chunk (length v.chunks) ∷ []) t.told)
+          (carries_told (record w { mover = Some m }) (told ++ MovesTo chunk (length v.chunks) ∷ []) first m s.mover refl (step_chunk m None) None s.next)
 
   pub all_told : IsKept halts AreTold
   all_told = record {
-    writing = λ v told text are. more_quietly v told (Writes text ∷ []) (tt, tt) (λ m life. (tt, tt)) are;
+    writing = λ v told text are. more_quietly v told (Writes text ∷ []) (tt, tt) (tt, tt) (λ m life. (tt, tt)) are;
     happening = λ v told k c event at are. chunk_told v told k c (happened halts c event).chunk at (happened_ports halts c event) (happened_extends halts c event).0 are;
     threading = λ v told k c its at are. chunk_told v told k c (all_happened halts its c).chunk at (all_ports halts c its) (all_grow halts c its).number are;
     reading = λ v told k c server range at are. chunk_told v told k c (fetched halts server range c).chunk at (fetched_ports halts server range c) (fetched_number server range c) are;
     stepping = λ v told m host at are.
-        hosts_told v told m host (stepped halts v.chunks host) at are (steps_to halts v.extent m told v.chunks host (are.hosts m host at) (are.ports m) are.placed);
+        hosts_told v told m host (stepped halts v.routes v.chunks host) at are
+        (steps_to v.routes (asks_of v.extent.chunks told) are.routes.homes halts v.extent m told v.chunks host (are.hosts m host at) (are.ports m (few_at v told are m host at)) are.placed);
+    carrying = mover_told;
+    moving = λ v told names format chunk free few are. moves_told v told names format chunk free are;
     mounting = λ v told large few are.
         let none = are.past (length v.hosts) (omega arith) in
-        comes_told v told (fewer (length v.hosts) few) are (made_host v.chunks (length v.hosts) v.extent) (makes_to v.extent (length v.hosts) told v.chunks none.0 none.1 (are.ports (length v.hosts)) are.placed);
+        let small = fewer (length v.hosts) few in
+        comes_told v told small are (made_host v.routes v.chunks (length v.hosts) v.extent)
+        (makes_to v.routes (asks_of v.extent.chunks told) are.routes.homes v.extent (length v.hosts) told v.chunks none.0 none.1 (are.ports (length v.hosts) small) are.placed);
     beginning = λ v told m host call at rest are.
-        hosts_told v told m host (begun v.chunks host call) at are (begins_to halts v.extent m told v.chunks host (are.hosts m host at) (are.ports m) are.placed call rest);
+        hosts_told v told m host (begun v.routes v.chunks host call) at are
+        (begins_to v.routes (asks_of v.extent.chunks told) are.routes.homes halts v.extent m told v.chunks host (are.hosts m host at) (are.ports m (few_at v told are m host at)) are.placed call rest);
     killing = λ v told m host at are. goes_told v told m are;
   }
 
 -- A new volume
-
-new_ports : (n m : ℕ) (port : PortIs) → slice_get (replicate n new_port) m ≡ Some port → port.ask ≡ None
-new_ports zero m port is = absurd (none-some port is)
-new_ports (suc n) zero port is = ap (λ (p : PortIs). p.ask) (sym (same_Some new_port port is))
-new_ports (suc n) (suc m) port is = new_ports n m port is
 
 -- the chunk at a place of new ones
 pub new_chunk : (f : ℕ → ChunkRun) (n first k : ℕ) (c : ChunkRun) → slice_get (map f (range_with_len first n)) k ≡ Some c → f (first + k) ≡ c
 new_chunk f zero first k c is = absurd (none-some c is)
 new_chunk f (suc n) first zero c is = let same : first + 0 ≡ first = omega arith in ap f same ∙ same_Some (f first) c is
 new_chunk f (suc n) first (suc k) c is = let same : first + suc k ≡ first + 1 + k = omega arith in ap f same ∙ new_chunk f n (first + 1) k c is
+
+-- each chunk is served by the group of its own number
+module _ (count : ℕ) where
+  abbrev first_of : ℕ → Route
+  first_of k = record { group = k; epoch = 0 }
+
+  abbrev firsts : RoutesIs
+  firsts = first_routes count
+
+  counted : length firsts.routes ≡ count
+  counted = length-map (range_with_len 0 count) first_of ∙ length-range_with_len 0 count
+
+  first_route : (n first k : ℕ) (route : Route) → slice_get (map first_of (range_with_len first n)) k ≡ Some route → first_of (first + k) ≡ route
+  first_route zero first k route is = absurd (none-some route is)
+  first_route (suc n) first zero route is = let same : first + 0 ≡ first = omega arith in ap first_of same ∙ same_Some (first_of first) route is
+  first_route (suc n) first (suc k) route is = let same : first + suc k ≡ first + 1 + k = omega arith in ap first_of same ∙ first_route n (first + 1) k route is
+
+  own : (chunk : ℕ) (route : Route) → slice_get firsts.routes chunk ≡ Some route → (route.group ≡ chunk) × (chunk < count)
+  own chunk route there =
+      let low = slice_get_within firsts.routes chunk route there in
+      let same : 0 + chunk ≡ chunk = omega arith in
+      (ap (λ (x : Route). x.group) (sym (first_route count 0 chunk route there)) ∙ same, omega (arith, low, counted))
+
+  first_has : (k chunk : ℕ) → first_chunk count k ≡ Some chunk → (k ≡ chunk) × (k < count)
+  first_has k chunk is = by_test (nat_lt k count) (λ b. nat_lt k count ≡ b → (if b then Some k else None) ≡ Some chunk → (k ≡ chunk) × (k < count))
+      (λ _ low same. (same_Some k chunk same, ltb-true k count low)) (λ _ _ none. absurd (none-some chunk none)) refl is
+
+  has_first : (k : ℕ) → k < count → first_chunk count k ≡ Some k
+  has_first k low = ap (λ b. if b then Some k else None) (lt-ltb k count low)
+
+  first_home : (chunk : ℕ) (o : Option Route) → slice_get firsts.routes chunk ≡ o → IsHome (first_chunk count) chunk (option_map (λ (x : Route). x.group) o)
+  first_home chunk None none = λ j has.
+      let is = first_has j chunk has in
+      let there = something_there firsts.routes chunk (let low : chunk < count = subst (λ i. i < count) is.0 is.1 in omega (arith, low, counted)) in
+      absurd (none-some there.0 (sym none ∙ there.1))
+  first_home chunk (Some route) there =
+      let is = own chunk route there in record {
+        here = ap (first_chunk count) is.0 ∙ has_first chunk is.1;
+        alone = λ j has. (first_has j chunk has).0 ∙ sym is.0;
+      }
+
+  first_group : (chunk k : ℕ) (o : Option Route) → slice_get firsts.routes chunk ≡ o → option_map (λ (x : Route). x.group) o ≡ Some k → k < count
+  first_group chunk k None there is = absurd (none-some k is)
+  first_group chunk k (Some route) there is = let its = own chunk route there in subst (λ i. i < count) (sym its.0 ∙ same_Some route.group k is) its.1
+
+  only_first : (chunk epoch group : ℕ) → slice_get (chunk ∷ []) epoch ≡ Some group → group ≡ chunk
+  only_first chunk zero group is = sym (same_Some chunk group is)
+  only_first chunk (suc epoch) group is = absurd (none-some group is)
+
+  pub new_routes : AreRoutes count count firsts []
+  new_routes = record {
+    count_is = counted;
+    made = omega arith;
+    homes = λ chunk. first_home chunk (slice_get firsts.routes chunk) refl;
+    within = λ chunk k home. first_group chunk k (slice_get firsts.routes chunk) refl home;
+    served = λ chunk route there. let is = own chunk route there in (ap (λ i. Some i) (sym is.0), subst (λ i. i < count) (sym is.0) is.1);
+    turns = λ chunk low. refl;
+    to = λ moving none. absurd (none-some moving none);
+    fresh = λ chunk epoch group low at. subst (λ i. i < count) (sym (only_first chunk epoch group at)) low;
+  }
 
 module _ (halts : List Halt) where
   pub new_told : (sessions : List Session) (chunks sectors names format : ℕ) → AreTold (made halts sessions chunks sectors names format).volume []
@@ -196,7 +504,10 @@ module _ (halts : List Halt) where
       let is : (k : ℕ) (c : ChunkRun) → slice_get (map f (range_with_len 0 chunks)) k ≡ Some c → f k ≡ c =
       λ k c at. let same : k ≡ 0 + k = omega arith in ap f same ∙ new_chunk f chunks 0 k c at in record {
         hosts = λ m host at. absurd (none-some host at);
-        ports = λ m k c port at its. new_ports most_ports m port (ap (λ (x : ChunkRun). slice_get x.ports m) (is k c at) ∙ its);
+        routes = subst (λ n. AreRoutes chunks n (first_routes chunks) []) (sym (length-map (range_with_len 0 chunks) f ∙ length-range_with_len 0 chunks)) (new_routes chunks);
+        pair = tt;
+        ports = λ m small k c port at its.
+            new_port_asks most_ports m port (ap (λ (x : ChunkRun). slice_get x.ports m) (is k c at) ∙ its) ∙ sym (nothing_for (first_chunk chunks k));
         placed = λ k c at. record {
           number = ap (λ (x : ChunkRun). x.group.number) (sym (is k c at));
           ports = ap (λ (x : ChunkRun). length x.ports) (sym (is k c at)) ∙ length-replicate most_ports new_port;
@@ -212,17 +523,32 @@ module _ (halts : List Halt) where
 
 -- The asks in ports
 
-module _ (v : VolumeRun) (told : List Moment) (are : AreTold v told) (k m : ℕ) (c : ChunkRun) (at : slice_get v.chunks k ≡ Some c) where
-  in_port : (o : Option PortIs) → slice_get c.ports m ≡ o → option_and_then (λ p. p.ask) o ≡ of_chunk k (last_ask told m)
-  in_port (Some port) here = are.ports m k c port at here
-  in_port None none = elim (cases_lt m (length c.ports)) [
-    | inl within ↦ absurd (none-some (something_there c.ports m within).0 (sym none ∙ (something_there c.ports m within).1))
-    | inr past ↦ ap (of_chunk k) (sym (are.past m (omega (arith, past, are.few, (are.placed k c at).ports))).1)
-  ]
+asked_at : (chunk : ℕ) (o : Option ℕ) (ask : Option Ask) → o ≡ Some chunk → asked_for o ask ≡ of_chunk chunk ask
+asked_at chunk o ask same = ap (λ x. asked_for x ask) same
 
-  -- in each port pends what the mount of its number asked last, if that was of the chunk
-  pub ask_in_port : ask_of c.ports m ≡ of_chunk k (last_ask told m)
-  ask_in_port = in_port (slice_get c.ports m) refl
+module _ (v : VolumeRun) (told : List Moment) (are : AreTold v told) (k m : ℕ) (c : ChunkRun) (small : m < mover_port) (at : slice_get v.chunks k ≡ Some c) where
+  pub port_there : (port : PortIs) × (slice_get c.ports m ≡ Some port)
+  port_there = something_there c.ports m (omega (arith, small, (are.placed k c at).ports))
+
+  in_port : (o : Option PortIs) → slice_get c.ports m ≡ o → option_and_then (λ p. p.ask) o ≡ asked_for (asks_of v.extent.chunks told k) (last_ask told m)
+  in_port (Some port) here = are.ports m small k c port at here
+  in_port None none = absurd (none-some port_there.0 (sym none ∙ port_there.1))
+
+  -- in each port into the group that has a chunk's asks pends what the mount of its number asked last, if that was of the chunk
+  pub ask_in_port : (chunk : ℕ) → home_of v.routes chunk ≡ Some k → ask_of c.ports m ≡ of_chunk chunk (last_ask told m)
+  ask_in_port chunk home = in_port (slice_get c.ports m) refl ∙ asked_at chunk (asks_of v.extent.chunks told k) (last_ask told m) (subst (IsHome (asks_of v.extent.chunks told) chunk) home (are.routes.homes chunk)).here
+
+  -- and in no other
+  pub no_ask_in_port : ((chunk : ℕ) → home_of v.routes chunk ≡ Some k → ⊥) → ask_of c.ports m ≡ None
+  no_ask_in_port none = in_port (slice_get c.ports m) refl ∙ no_chunk (asks_of v.extent.chunks told k) refl
+    where
+      at_home : (chunk : ℕ) (o : Option ℕ) → home_of v.routes chunk ≡ o → IsHome (asks_of v.extent.chunks told) chunk o → asks_of v.extent.chunks told k ≡ Some chunk → home_of v.routes chunk ≡ Some k
+      at_home chunk None there is has = absurd (is k has)
+      at_home chunk (Some j) there is has = there ∙ ap (λ i. Some i) (sym (is.alone k has))
+
+      no_chunk : (o : Option ℕ) → asks_of v.extent.chunks told k ≡ o → asked_for o (last_ask told m) ≡ None
+      no_chunk None is = refl
+      no_chunk (Some chunk) is = absurd (none chunk (at_home chunk (home_of v.routes chunk) refl (are.routes.homes chunk) is))
 
 -- each moment is what its mount did
 pub each_done : (v : VolumeRun) (told : List Moment) → AreTold v told → (m : ℕ) (before : List Moment) (moment : Moment) (after : List Moment) → told ≡ before ++ moment ∷ after

@@ -129,25 +129,25 @@ module _ (v : Extent) (blocks : ℕ) (is : v.sectors ≡ 8 * blocks) (many : 1 <
   -- Replies
 
   -- a reply is that of what was asked
-  pub reply_is : (q client : ℕ) (ask : Ask) (by : ℕ) (answer : Answered) (reply : Reply) → Answers ask reply → IsAnswerOf ask reply answer
-      → reply_in block_in (home_of v.sectors q) client (port_reply ask by answer reply) ≡ if_asked (ask_in block_in (home_of v.sectors q) client (port_ask ask)) (replies reply)
-  reply_is q client (Write chunk span payload) by answer Written kind answers = refl
-  reply_is q client (Write chunk span payload) by answer (Bytes sectors) kind answers = absurd kind
-  reply_is q client (Read chunk span) by answer Written kind answers = absurd kind
-  reply_is q client (Read chunk span) by answer (Bytes sectors) kind answers =
+  pub reply_is : (q client : ℕ) (ask : Ask) (epoch by : ℕ) (answer : Answered) (reply : Reply) → Answers ask reply → IsAnswerOf ask reply answer
+      → reply_in block_in (home_of v.sectors q) client (port_reply ask epoch by answer reply) ≡ if_asked (ask_in block_in (home_of v.sectors q) client (port_ask ask)) (replies reply)
+  reply_is q client (Write chunk span payload) epoch by answer Written kind answers = refl
+  reply_is q client (Write chunk span payload) epoch by answer (Bytes sectors) kind answers = absurd kind
+  reply_is q client (Read chunk span) epoch by answer Written kind answers = absurd kind
+  reply_is q client (Read chunk span) epoch by answer (Bytes sectors) kind answers =
       ap (λ (range : Span). if_asked (ask_in block_in (home_of v.sectors q) client (Gets chunk range)) (Gives (map block_in answer.bytes))) answers.0
       ∙ ap (λ bytes. if_asked (ask_in block_in (home_of v.sectors q) client (Gets chunk span)) (Gives (map block_in bytes))) answers.1
 
-  module _ (j : Journal) (ask : Ask) (by : ℕ) (answer : Answered) (reply : Reply) (kind : Answers ask reply) (answers : IsAnswerOf ask reply answer) where
+  module _ (j : Journal) (ask : Ask) (epoch by : ℕ) (answer : Answered) (reply : Reply) (kind : Answers ask reply) (answers : IsAnswerOf ask reply answer) where
     pub heard_there : (q : ℕ) → q < 256 → (work : Work) → Pends work mount (Some ask) → CanBeTold v work mount (Some ask)
-        → reply_in block_in (home_of v.sectors q) (client_of m work) (port_reply ask by answer reply) ≡ if_asked (if q == mount.upto then seen work mount else None) (replies reply)
-    heard_there q low work pends told = reply_is q (client_of m work) ask by answer reply kind answers ∙ ap (λ a. if_asked a (replies reply)) (in_position q low work ask pends told)
+        → reply_in block_in (home_of v.sectors q) (client_of m work) (port_reply ask epoch by answer reply) ≡ if_asked (if q == mount.upto then seen work mount else None) (replies reply)
+    heard_there q low work pends told = reply_is q (client_of m work) ask epoch by answer reply kind answers ∙ ap (λ a. if_asked a (replies reply)) (in_position q low work ask pends told)
 
     abbrev Heard : Work → Type 0
-    Heard work = IsSame v.sectors j (record { deed = Takes (client_of m work) (port_reply ask by answer reply) None; doing = hears m mount.upto work reply })
+    Heard work = IsSame v.sectors j (record { deed = Takes (client_of m work) (port_reply ask epoch by answer reply) None; doing = hears m mount.upto work reply })
 
     nothing_heard : (work : Work) → seen work mount ≡ None → Pends work mount (Some ask) → CanBeTold v work mount (Some ask)
-        → IsSame v.sectors j (record { deed = Takes (client_of m work) (port_reply ask by answer reply) None; doing = nothing })
+        → IsSame v.sectors j (record { deed = Takes (client_of m work) (port_reply ask epoch by answer reply) None; doing = nothing })
     nothing_heard work sees pends told = record {
       same = λ q low. nothing_turns j q
           ∙ sym (ap (λ r. turn_or_idle (client_of m work) r None) (heard_there q low work pends told ∙ ap (λ a. if_asked (if q == mount.upto then a else None) (replies reply)) sees) ∙ hears_nothing (q == mount.upto) (client_of m work) (replies reply));
@@ -155,24 +155,24 @@ module _ (v : Extent) (blocks : ℕ) (is : v.sectors ≡ 8 * blocks) (many : 1 <
     }
 
 -- what is heard in no ballot
-module _ (v : Extent) (blocks : ℕ) (is : v.sectors ≡ 8 * blocks) (many : 1 < blocks) (m : ℕ) (small : m < 16) (mount : MountIs) (number : mount.files.mount ≡ m) (volume : mount.files.volume ≡ v) (j : Journal) (ask : Ask) (by : ℕ) (answer : Answered) where
+module _ (v : Extent) (blocks : ℕ) (is : v.sectors ≡ 8 * blocks) (many : 1 < blocks) (m : ℕ) (small : m < 16) (mount : MountIs) (number : mount.files.mount ≡ m) (volume : mount.files.volume ≡ v) (j : Journal) (ask : Ask) (epoch by : ℕ) (answer : Answered) where
   abbrev pub HeardAs : Work → Reply → Type 0
-  HeardAs work reply = IsSame v.sectors j (record { deed = Takes (client_of m work) (port_reply ask by answer reply) None; doing = hears m mount.upto work reply })
+  HeardAs work reply = IsSame v.sectors j (record { deed = Takes (client_of m work) (port_reply ask epoch by answer reply) None; doing = hears m mount.upto work reply })
 
   read_heard : (half : ℕ) (found : Bool) (reply : Reply) → Answers ask reply → IsAnswerOf ask reply answer → mount.upto < 256 → Pends (Syncs half found) mount (Some ask) → HeardAs (Syncs half found) reply
   read_heard half found Written kind answers room pends = absurd (subst (λ a. Answers a Written) (same_Some _ _ pends.1) kind)
   read_heard half found (Bytes sectors) kind answers room pends =
       let turn : Turn = record { client = 17 + m; reply = Some (Gives (blocks_in sectors)); ask = None } in record {
         same = λ q low. read_turns j q m mount.upto turn refl
-            ∙ sym (ap (λ r. turn_or_idle (17 + m) r None) (heard_there v blocks is many m small mount number volume j ask by answer (Bytes sectors) kind answers q low (Syncs half found) pends tt)
+            ∙ sym (ap (λ r. turn_or_idle (17 + m) r None) (heard_there v blocks is many m small mount number volume j ask epoch by answer (Bytes sectors) kind answers q low (Syncs half found) pends tt)
             ∙ hears_here (q == mount.upto) (17 + m) (AsksRead half) (Gives (blocks_in sectors)));
         none = λ q past. read_turns j q m mount.upto turn refl ∙ past_there q mount.upto turn room past;
       }
 
   module _ (reply : Reply) (kind : Answers ask reply) (answers : IsAnswerOf ask reply answer) where
     idly : (work : Work) → seen work mount ≡ None → Pends work mount (Some ask) → CanBeTold v work mount (Some ask)
-        → IsSame v.sectors j (record { deed = Takes (client_of m work) (port_reply ask by answer reply) None; doing = nothing })
-    idly work sees pends told = nothing_heard v blocks is many m small mount number volume j ask by answer reply kind answers work sees pends told
+        → IsSame v.sectors j (record { deed = Takes (client_of m work) (port_reply ask epoch by answer reply) None; doing = nothing })
+    idly work sees pends told = nothing_heard v blocks is many m small mount number volume j ask epoch by answer reply kind answers work sees pends told
 
     pub other_same : (work : Work) → IsNoBallot work → HasRoom work mount.upto → Pends work mount (Some ask) → CanBeTold v work mount (Some ask) → HeardAs work reply
     other_same (Ballots input) none room pends told = absurd none

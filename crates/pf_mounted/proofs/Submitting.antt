@@ -1,11 +1,10 @@
 -- A write that a mount's port hands on gives no bytes to another mount's blocks.
-use Rattle.std.proofs.Common.{◌≡◌, ℕ, suc, ◌+◌, ◌*◌, ◌/◌, ◌%◌, ◌<◌, ◌≤◌, ◌⊎◌, inl, inr, ◌==◌, ◌&&◌, Bool, true, false, if◌then◌else◌, nat_lt, List, [], ◌∷◌, ◌++◌, length, map, take, drop, Option, Some, None, slice_get, arith, refl, sym, ap, subst, ◌∙◌}
+use Rattle.std.proofs.Common.{◌≡◌, ℕ, suc, ◌+◌, ◌*◌, ◌/◌, ◌%◌, ◌<◌, ◌≤◌, ◌⊎◌, inl, inr, ◌==◌, Bool, true, false, if◌then◌else◌, List, [], ◌∷◌, ◌++◌, length, map, take, drop, Option, Some, None, slice_get, arith, refl, sym, ap, subst, ◌∙◌, le-ltb, unwrap_or}
 use Rattle.std.specs.List.{fold}
 use Rattle.std.specs.Option.{option_map}
-use Rattle.std.proofs.lemmas.Bool.{cond-false, lt-ltb}
-use Rattle.std.proofs.lemmas.Grind.{fold-append}
+use Rattle.std.proofs.lemmas.Bool.{cond-false, lt-ltb, cases_lt}
 use Rattle.std.proofs.lemmas.List.{append_assoc, length-append, length-take, take-append-drop}
-use Rattle.std.proofs.lemmas.Option.{none-some, same_Some, slice_get-map}
+use Rattle.std.proofs.lemmas.Option.{none-some, same_Some}
 use Rattle.std.proofs.Math.Seq.{take-append_seam}
 use Rattle.pf_base.specs.Asks.{chunk_of as chunk_asked}
 use Rattle.pf_base.specs.Span.{Span, is_in}
@@ -19,7 +18,6 @@ use Rattle.pf_volume.specs.Volumes.{Extent}
 use Rattle.pf_layout.specs.Supers.{super_block}
 use Rattle.pf_tree.specs.declared.calls.FileCall.{FileCall}
 use Rattle.pf_protocol.specs.declared.answers.Answer.{Answer}
-use Rattle.pf_protocol.specs.declared.events.Event.{Event}
 use Rattle.pf_protocol.specs.declared.events.Event.TheVariants as events
 use Rattle.pf_protocol.specs.declared.events.Happening.{Happening}
 use Rattle.pf_protocol.specs.Groups.{Answered}
@@ -33,7 +31,6 @@ use Rattle.pf_paxos.specs.declared.proposer.Phase.{Phase}
 use Rattle.pf_paxos.specs.declared.proposer.Phase.TheVariants.{Idle, Claiming, GatheringLow, GatheringHigh, Proposing, ConfirmingLow, ConfirmingHigh}
 use Rattle.pf_paxos.specs.Journals.{journal_from, new_journal}
 use Rattle.pf_positions.specs.Homes.{chunk_of, sector_of}
-use Rattle.pf_positions.specs.Hosted.{AreAlone}
 use Rattle.pf_positions.specs.Volumes.{home_of}
 use Rattle.pf_journal.specs.Places.{place_of}
 use Rattle.pf_journal.specs.Sectors.{block_bytes}
@@ -42,17 +39,33 @@ use Rattle.pf_mount.specs.declared.work.Work.{Work}
 use Rattle.pf_mount.specs.declared.work.Work.TheVariants.{Rests, Fails, ReadsSuper, WritesSuper, Syncs, Ballots, Pauses, Moves}
 use Rattle.pf_mount.specs.Mounts.{MountIs, writes_own}
 use Rattle.pf_chunk.specs.Driving.{event_of_ask}
-use Rattle.pf_chunk.specs.Runs.{ChunkRun}
-use Rattle.pf_hosts.specs.Moments.{Begins, Ends, Hands, Heard, Moment, Turns, Writes}
-use Rattle.pf_mounted.specs.Handing.{AreHandedOn, AreMountsAlone, IsHandedOn, reached, reached_from}
-use Rattle.pf_mounted.specs.Hosted.{among_deeds, groups_of, history_of}
+use Rattle.pf_chunk.specs.Runs.{ChunkRun, mover_port}
+use Rattle.pf_hosts.specs.Moments.{Begins, Carries, Ends, Hands, Heard, Moment, Moves as MovesTo, Turns, Writes}
+use Rattle.pf_mounted.specs.Handing.{AreHandedOn, AreMountsAlone, reached, reached_from}
+use Rattle.pf_mounted.specs.Hosted.{among_deeds, groups_of, history_of, writes_at, told_history, among_copies, carried_into}
 use Rattle.pf_mounted.specs.Journals.{AreOfMounts, CanBeDoings, CanBeTold, IsOfData, doings}
 use Rattle.pf_mounted.specs.Mounts.{Life, asked_in, calling, last_ask, life_of, lived, turned}
-use Rattle.pf_mounted.specs.Pasts.{Trace, after_moment, at_moment, handed_at, handed_by, no_trace, trace_of}
+use Rattle.pf_mounted.specs.Pasts.{Trace, at_moment, handed_at, trace_of, mover_trace}
 use Rattle.pf_mounted.proofs.Coming.{Pends, ballot_ask}
 use Rattle.pf_mounted.proofs.Journaling.{StandsIn, told_stand}
 use Rattle.pf_mounted.proofs.Lying.{same_place, whole_place}
 use Rattle.pf_mounted.proofs.Seeing.{below, within}
+use Rattle.pf_mounted.specs.Movers.{role_of_ask, AreMoves, IsCarriedOn, group_of_role}
+use Rattle.pf_mounted.proofs.Epoching.{AreBegun, begun_until, group_stays, same_home}
+use Rattle.pf_mounted.specs.Epochs.{group_at, epoch_of}
+use Rattle.pf_mounted.proofs.Placing.{more_is_told, parted, get_mapped, map_get}
+use Rattle.pf_mounted.proofs.Tracked.{all_handed_on, IsElsewhere, trace_on, writes_stay}
+use Rattle.pf_mounted.proofs.Known.{are_begun}
+use Rattle.pf_entry.specs.Lists.{Every}
+use Rattle.pf_move.specs.declared.mover.Asked.TheVariants.{Writing}
+use Rattle.pf_positions.specs.Deeds.{Groups}
+use Rattle.pf_positions.specs.Moves.{mover_into}
+use Rattle.pf_epochs.specs.Routed.{AreOfPorts}
+use Rattle.pf_mounted.proofs.Shifting.{under_way}
+use Rattle.pf_mounted.proofs.Asking.{none_anew}
+use Rattle.pf_mounted.proofs.Carried.{among_carried}
+use Rattle.pf_move.specs.Turns.{Turn}
+use Rattle.pf_mounted.specs.Carrying.{moves_of}
 use Rattle.pf_mounted.proofs.Tracing.{test_same}
 
 -- Of an op
@@ -211,6 +224,8 @@ moment_made v m life ask (Turns n heard next) made =
 moment_made v m life ask (Begins n call) made =
     by_test (n == m) (λ b. IsMade (if b then option_map (calling call) life else life) ask) (λ _. called_made call life ask made) (λ _. made)
 moment_made v m life ask (Writes text) made = made
+moment_made v m life ask (MovesTo moved to) made = made
+moment_made v m life ask (Carries moved back wants) made = made
 moment_made v m life ask (Hands n k place) made = made
 moment_made v m life ask (Ends n answer) made = made
 
@@ -220,35 +235,10 @@ made_from v m (moment ∷ told) life ask made = made_from v m told (lived v m li
 
 -- Of a port
 
-module _ (history : History) (m k : ℕ) (j : ℕ) (a : Submission) where
-  abbrev Has : Trace → Type 0
-  Has t = slice_get t.writes j ≡ Some a
-
-  handed_has : (before : History) (event : Event) (answer : Answer) (t : Trace) → Has t → Has (handed_by before event answer t)
-  handed_has before (events.Submit server op) answer t has = at_front t.writes (record { write = t.asks; before = before; server = server; op = op; answer = answer } ∷ []) j a has
-  handed_has before event answer t has = has
-
-  at_has : (before : History) (h : Option Happening) (t : Trace) → Has t → Has (handed_at before h t)
-  at_has before None t has = has
-  at_has before (Some h) t has = handed_has before h.event h.answer t has
-
-  moment_has : (t : Trace) (y : Moment) → Has t → Has (after_moment history m k t y)
-  moment_has t (Hands mount chunk place) has =
-      by_test (mount == m && chunk == k) (λ b. Has (if b then handed_at (take place history) (slice_get history place) t else t)) (λ _. at_has (take place history) (slice_get history place) t has) (λ _. has)
-  moment_has t (Turns mount heard (Some ask)) has = by_test (mount == m && chunk_asked ask == k) (λ b. Has (if b then record t { asks = suc t.seen } else t)) (λ _. has) (λ _. has)
-  moment_has t (Turns mount heard None) has = has
-  moment_has t (Writes text) has = has
-  moment_has t (Begins mount call) has = has
-  moment_has t (Ends mount answer) has = has
-
-  has_from : (told : List Moment) (t : Trace) → Has t → Has (fold (after_moment history m k) t told)
-  has_from [] t has = has
-  has_from (y ∷ told) t has = has_from told (after_moment history m k t y) (moment_has t y has)
-
 -- what was handed on by this event is among the port's writes from then on
-module _ (history : History) (m k : ℕ) (before rest : List Moment) (place server : ℕ) (op : Op) (answer : Answer) (there : slice_get history place ≡ Some (record { event = events.Submit server op; answer = answer })) where
+module _ (history : History) (m k count : ℕ) (before rest : List Moment) (away : Every (IsElsewhere k) rest) (place server : ℕ) (op : Op) (answer : Answer) (there : slice_get history place ≡ Some (record { event = events.Submit server op; answer = answer })) where
   abbrev t : Trace
-  t = trace_of history m k before
+  t = trace_of history m k count before
 
   abbrev pub submitted : Submission
   submitted = record { write = t.asks; before = take place history; server = server; op = op; answer = answer }
@@ -258,11 +248,15 @@ module _ (history : History) (m k : ℕ) (before rest : List Moment) (place serv
       ap (λ (x : Trace). x.writes) (test_same m m k k (handed_at (take place history) (slice_get history place) t) t refl refl)
       ∙ ap (λ h. (handed_at (take place history) h t).writes) there
 
-  pub among_writes : slice_get (trace_of history m k (before ++ Hands m k place ∷ rest)).writes (length t.writes) ≡ Some submitted
+  here : slice_get (trace_of history m k count (before ++ Hands m k place ∷ [])).writes (length t.writes) ≡ Some submitted
+  here =
+      ap (λ (x : Trace). slice_get x.writes (length t.writes)) (trace_on history m k count before (Hands m k place))
+      ∙ ap (λ xs. slice_get xs (length t.writes)) handed_then ∙ at_end t.writes submitted
+
+  pub among_writes : slice_get (trace_of history m k count (before ++ Hands m k place ∷ rest)).writes (length t.writes) ≡ Some submitted
   among_writes =
-      subst (λ (x : Trace). slice_get x.writes (length t.writes) ≡ Some submitted) (sym (fold-append (after_moment history m k) no_trace before (Hands m k place ∷ rest)))
-      (has_from history m k (length t.writes) submitted rest (after_moment history m k t (Hands m k place))
-      (ap (λ xs. slice_get xs (length t.writes)) handed_then ∙ at_end t.writes submitted))
+      subst (λ (all : List Moment). slice_get (trace_of history m k count all).writes (length t.writes) ≡ Some submitted) (append_assoc before (Hands m k place ∷ []) rest)
+      (writes_stay history m k count (before ++ Hands m k place ∷ []) rest away (length t.writes) submitted here)
 
 -- a submission of the history as far as it was told of
 module _ (history earlier : History) (n : ℕ) (h : Happening) (starts : IsPrefix (earlier ++ h ∷ []) (take n history)) where
@@ -287,109 +281,203 @@ module _ (history earlier : History) (n : ℕ) (h : Happening) (starts : IsPrefi
 
 -- Together
 
-module _ (v : Extent) (blocks : ℕ) (is : v.sectors ≡ 8 * blocks) (many : 1 < blocks) (answer_at : ℕ → Answered) (q : ℕ) (low : q < 256) (block : ℕ) (small : block < 16) where
-  -- the mount of a write of the block's sector is the block's
-  its_mount : (before : List Moment) (m : ℕ) (ask : Ask) → AreOfMounts v answer_at [] before → CanBeDoings v [] before → last_ask before m ≡ Some ask
-      → WritesAt ask (place_of q block / v.sectors) (place_of q block % v.sectors) → m ≡ block
-  its_mount before m ask of can asked written =
-      by (life_of v before m) (made_from v m before None None refl) (told_stand v blocks is many answer_at before of can m)
-    where
-      by : (life : Option Life) → IsMade life (last_ask before m) → StandsIn v blocks is many m life (last_ask before m) (journal_from new_journal (doings v answer_at before)) → m ≡ block
-      by None made stands = absurd (none-some ask (sym made ∙ asked))
-      by (Some life) made stands =
-          let waits = stands.0.waits ask asked in
-          let number = stands.0.number in
-          let few = stands.0.small in
-          sym number ∙ own_write v blocks is many q low block small life.outcome.mount stands.0.volume (omega (arith, number, few)) life.outcome.mount.work ask waits.0 waits.1 written
+-- only a write is submitted
+pub writes_in : (ask : Ask) (server its : ℕ) (op : Op) → event_of_ask ask server ≡ events.Submit its op → role_of_ask ask ≡ Writing
+writes_in (asks.Write chunk span sectors) server its op is = refl
+writes_in (asks.Read chunk span) server its op is = absurd (cc)
 
-  module _ (chunks : List ChunkRun) (told before after : List Moment) (are : AreHandedOn chunks told) (mounts_alone : AreMountsAlone chunks told) (of : AreOfMounts v answer_at [] told)
-      (can : (earlier rest : List Moment) (m chunk place : ℕ) → before ≡ earlier ++ Hands m chunk place ∷ rest → CanBeDoings v [] earlier) (told_is : told ≡ before ++ after) where
-    abbrev k : ℕ
-    k = chunk_of (home_of v.sectors q) block
+module _ (v : Extent) (answer_at : ℕ → Answered) (chunks : List ChunkRun) (told before after : List Moment) (moves : AreMoves v chunks told) (are : AreHandedOn chunks told) (part : told ≡ before ++ after) where
+  abbrev groups : Groups
+  groups = groups_of v answer_at chunks before
 
-    abbrev x : ℕ
-    x = sector_of (home_of v.sectors q) block
+  pub begun : AreBegun v.chunks before
+  begun = begun_until v.chunks before after (subst (AreBegun v.chunks) part (are_begun v chunks told moves))
 
-    abbrev among : Submission → Submission
-    among = among_deeds v answer_at chunks before
+  begun_so : (first rest : List Moment) → before ≡ first ++ rest → AreBegun v.chunks first
+  begun_so first rest same = begun_until v.chunks first rest (subst (AreBegun v.chunks) same begun)
 
-    module _ (c : ChunkRun) (at : slice_get chunks k ≡ Some c) (place server : ℕ) (answer : Answer) (range : Span) (sectors : List Sector) (inside : is_in range x ≡ true)
-        (there : slice_get c.group.history place ≡ Some (record { event = events.Submit server (Write range sectors); answer = answer })) (reached_so : place < reached k before) where
-      -- the moment at which it was handed on was told so far
-      pub record IsToldSo : Type 0 where
-        pub earlier : List Moment
-        pub m : ℕ
-        pub rest : List Moment
-        pub whole : before ≡ earlier ++ Hands m k place ∷ rest
-        pub handed : IsHandedOn chunks earlier m k place
-        pub of_mounts : AreOfMounts v answer_at [] earlier
+  away_from : (first rest : List Moment) → before ≡ first ++ rest → (chunk epoch k : ℕ) → chunk < v.chunks → group_at first chunk epoch ≡ Some k → Every (IsElsewhere k) rest
+  away_from first rest same chunk epoch k small at = none_anew v.chunks first rest (subst (AreBegun v.chunks) same begun) chunk epoch k small at
 
-      is_told_so : IsToldSo
-      is_told_so =
-          let hands = mounts_alone k place server c range sectors answer at there in
-          let whole : told ≡ hands.0 ++ Hands hands.1 k place ∷ hands.2 = hands.3 in
-          elim (parts before after hands.0 hands.2 (Hands hands.1 k place) (sym told_is ∙ whole)) [
-            | inl front ↦ record {
-              earlier = hands.0;
-              m = hands.1;
-              rest = front.rest;
-              whole = front.whole;
-              handed = are.each hands.0 hands.2 hands.1 k place whole;
-              of_mounts = mounts_before v answer_at hands.0 (Hands hands.1 k place ∷ hands.2) [] (subst (AreOfMounts v answer_at []) whole of);
-            }
-            | inr starts ↦
-                let behind = are.behind hands.0 hands.2 hands.1 k place whole in
-                let more = reached_on k before starts.rest [] in
-                let same = ap (reached k) starts.whole in
-                absurd (omega (arith, behind, more, same, reached_so))
-          ]
+  told_so : (first rest : List Moment) (x : Moment) → before ≡ first ++ x ∷ rest → told ≡ first ++ x ∷ (rest ++ after)
+  told_so first rest x same = part ∙ more_is_told first x rest after before same
 
-      its_ask : (t : IsToldSo) → WritesAt t.handed.ask (place_of q block / v.sectors) (place_of q block % v.sectors)
-      its_ask t =
-          let some : 0 < blocks = omega (arith, many) in
-          let chunk_is : t.handed.chunk ≡ c = same_Some t.handed.chunk c (sym t.handed.there ∙ at) in
-          let event : Happening = record { event = event_of_ask t.handed.ask t.handed.server; answer = t.handed.answer } in
-          let same : event ≡ record { event = events.Submit server (Write range sectors); answer = answer } =
-          same_Some event _ (sym t.handed.is ∙ ap (λ (d : ChunkRun). slice_get d.group.history place) chunk_is ∙ there) in
-          let written = writes_so t.handed.ask t.handed.server server range sectors x (ap (λ (h : Happening). h.event) same) inside in
-          subst (λ n. WritesAt t.handed.ask n (place_of q block % v.sectors)) (t.handed.of ∙ chunk v.sectors blocks q block is some)
-          (subst (WritesAt t.handed.ask (chunk_asked t.handed.ask)) (sector v.sectors blocks q block is some) written)
+  pub group_till : (first rest : List Moment) → before ≡ first ++ rest → (chunk epoch k : ℕ) → group_at first chunk epoch ≡ Some k → group_at before chunk epoch ≡ Some k
+  group_till first rest same chunk epoch k at = ap (λ (b : List Moment). group_at b chunk epoch) same ∙ group_stays first rest chunk epoch k at
 
-      pub record HasWritten (m : ℕ) : Type 0 where
-        pub j : ℕ
-        pub number : ℕ
-        pub there_so : slice_get (trace_of c.group.history m k before).writes j ≡ Some (record { write = number; before = take place c.group.history; server = server; op = Write range sectors; answer = answer })
+  -- Each submission is of a port
 
-      pub its_port : HasWritten block
-      its_port =
-          let t = is_told_so in
-          let mount = its_mount t.earlier t.m t.handed.ask t.of_mounts (can t.earlier t.rest t.m k place t.whole) t.handed.pending (its_ask t) in
-          let trace : Trace = trace_of c.group.history t.m k t.earlier in
-          subst HasWritten mount (record {
-            j = length trace.writes;
-            number = trace.asks;
-            there_so = subst (λ all. slice_get (trace_of c.group.history t.m k all).writes (length trace.writes) ≡ Some (record { write = trace.asks; before = take place c.group.history; server = server; op = Write range sectors; answer = answer }))
-                (sym t.whole) (among_writes c.group.history t.m k t.earlier t.rest place server (Write range sectors) answer there);
+  module _ (mounts_alone : AreMountsAlone chunks told) (chunk epoch k : ℕ) (c : ChunkRun) (small : chunk < v.chunks) (at : group_at before chunk epoch ≡ Some k) (there : slice_get chunks k ≡ Some c) where
+    abbrev IsOfPort : (earlier : History) (server : ℕ) → Op → Answer → Type 0
+    IsOfPort earlier server op answer = IsPorts (mover_into groups chunk epoch) earlier server op answer ⊎ ((client : ℕ) × IsPorts (groups.writes chunk epoch client) earlier server op answer)
+
+    mounts_writes : (m : ℕ) → m < 16 → groups.writes chunk epoch m ≡ map (among_deeds v answer_at chunks before) (trace_of c.group.history m k v.chunks before).writes
+    mounts_writes m few =
+        ap (writes_at v answer_at chunks before m) at
+        ∙ ap (λ b. if b then map (among_deeds v answer_at chunks before) (trace_of (history_of (slice_get chunks k)) m k v.chunks before).writes else []) (lt-ltb m 16 few)
+        ∙ ap (λ o. map (among_deeds v answer_at chunks before) (trace_of (history_of o) m k v.chunks before).writes) there
+
+    module _ (place server : ℕ) (op : Op) (answer : Answer) (is : slice_get c.group.history place ≡ Some (record { event = events.Submit server op; answer = answer }))
+        (first rest : List Moment) (m : ℕ) (same : before ≡ first ++ Hands m k place ∷ rest) where
+      all_told : told ≡ first ++ Hands m k place ∷ (rest ++ after)
+      all_told = told_so first rest (Hands m k place) same
+
+      by_mount : m < 16 → IsOfPort (take place c.group.history) server op answer
+      by_mount few =
+          let h = are.each first (rest ++ after) m k place all_told few in
+          let rests = moves.hands first (rest ++ after) m k place h.ask all_told few h.pending in
+          let away = away_from first (Hands m k place ∷ rest) same (chunk_asked h.ask) (epoch_of first (chunk_asked h.ask)) k rests.small h.of in
+          let made : Submission = record { write = (trace_of c.group.history m k v.chunks first).asks; before = take place c.group.history; server = server; op = op; answer = answer } in
+          let nth = length (trace_of c.group.history m k v.chunks first).writes in
+          let among : slice_get (trace_of c.group.history m k v.chunks before).writes nth ≡ Some made =
+          ap (λ (b : List Moment). slice_get (trace_of c.group.history m k v.chunks b).writes nth) same ∙ among_writes c.group.history m k v.chunks first rest away.1 place server op answer is in
+          inr (
+            m,
+            record {
+              k = nth;
+              submission = among_deeds v answer_at chunks before made;
+              there = ap (λ (l : List Submission). slice_get l nth) (mounts_writes m few) ∙ map_get (among_deeds v answer_at chunks before) (trace_of c.group.history m k v.chunks before).writes nth made among;
+              at_moment = refl;
+              to = refl;
+              has_op = refl;
+              has_answer = refl;
+            },
+          )
+
+      pub by_mover : m ≡ mover_port → IsCarriedOn v.chunks chunks first k place → IsPorts (mover_into groups chunk epoch) (take place c.group.history) server op answer
+      by_mover mover h =
+          let c_is : h.group ≡ c = same_Some h.group c (sym h.there ∙ there) in
+          let event : event_of_ask h.ask h.server ≡ events.Submit server op =
+          ap (λ (x : Happening). x.event) (same_Some (record { event = event_of_ask h.ask h.server; answer = h.answer }) (record { event = events.Submit server op; answer = answer }) (sym h.is ∙ ap (λ (d : ChunkRun). slice_get d.group.history place) c_is ∙ is)) in
+          let writes_it = writes_in h.ask h.server server op event in
+          let e = epoch_of first h.chunk in
+          let group : group_at first h.chunk (suc e) ≡ Some k = subst (λ role. group_of_role first h.chunk role ≡ Some k) writes_it h.of in
+          let home = same_home v.chunks before begun h.chunk chunk (suc e) epoch k h.moving.small small (group_till first (Hands m k place ∷ rest) same h.chunk (suc e) k group) at in
+          let goes = under_way v.chunks first (begun_so first (Hands m k place ∷ rest) same) h.chunk h.moving in
+          let in_use = (goes.new c.group.history k group).role_is in
+          let away = away_from first (Hands m k place ∷ rest) same h.chunk (suc e) k h.moving.small group in
+          let t = mover_trace c.group.history k Writing v.chunks first in
+          let made : Submission = record { write = t.asks; before = take place c.group.history; server = server; op = op; answer = answer } in
+          let nth = length t.writes in
+          let told_by : before ≡ first ++ Hands mover_port k place ∷ rest = same ∙ ap (λ i. first ++ Hands i k place ∷ rest) mover in
+          let among : slice_get (mover_trace c.group.history k Writing v.chunks before).writes nth ≡ Some made =
+          ap (λ (b : List Moment). slice_get (mover_trace c.group.history k Writing v.chunks b).writes nth) told_by ∙ among_carried c.group.history k v.chunks first rest place server op answer is in_use away.1 in
+          let turns : List Turn = unwrap_or (slice_get (moves_of before chunk) e) [] in
+          let copied = among_copies v answer_at chunks before turns in
+          let at_next : group_at before chunk (suc e) ≡ Some k = ap (group_at before chunk) home.1 ∙ at in
+          let carried_there : groups.moved chunk e ≡ map copied (mover_trace c.group.history k Writing v.chunks before).writes =
+          ap (carried_into v answer_at chunks before chunk e) at_next ∙ ap (λ o. map copied (mover_trace (history_of o) k Writing v.chunks before).writes) there in
+          subst (λ i. IsPorts (mover_into groups chunk i) (take place c.group.history) server op answer) home.1 (record {
+            k = nth;
+            submission = copied made;
+            there = ap (λ (l : List Submission). slice_get l nth) carried_there ∙ map_get copied (mover_trace c.group.history k Writing v.chunks before).writes nth made among;
+            at_moment = refl;
+            to = refl;
+            has_op = refl;
+            has_answer = refl;
           })
 
-    of_chunk : (o : Option ChunkRun) → slice_get chunks k ≡ o → AreAlone (take (reached k before) (history_of o)) [] (if nat_lt block 16 then map among (trace_of (history_of o) block k before).writes else []) x
-    of_chunk None at earlier server op answer bytes starts took gives = absurd (none-some _ (event_there [] earlier (reached k before) (record { event = events.Submit server op; answer = answer }) starts))
-    of_chunk (Some c) at earlier server op answer bytes starts took gives =
+      of_port : IsOfPort (take place c.group.history) server op answer
+      of_port = elim (cases_lt m 16) [
+        | inl few ↦ by_mount few
+        | inr many ↦ let on = moves.on first (rest ++ after) m k place all_told many in inl (by_mover on.0 on.1)
+      ]
+
+    -- it was told before that so much of the history was
+    found : (place server : ℕ) (range : Span) (sectors : List Sector) (answer : Answer) → slice_get c.group.history place ≡ Some (record { event = events.Submit server (Write range sectors); answer = answer }) → place < reached k before
+        → IsOfPort (take place c.group.history) server (Write range sectors) answer
+    found place server range sectors answer is low =
+        let hands = mounts_alone k place server c range sectors answer there is in
+        let whole_is : told ≡ hands.0 ++ Hands hands.1 k place ∷ hands.2 = hands.3 in
+        elim (parts before after hands.0 hands.2 (Hands hands.1 k place) (sym part ∙ whole_is)) [
+          | inl front ↦ of_port place server (Write range sectors) answer is hands.0 front.rest hands.1 front.whole
+          | inr starts ↦
+              let behind = are.behind hands.0 hands.2 hands.1 k place whole_is in
+              let more = reached_on k before starts.rest [] in
+              let same = ap (reached k) starts.whole in
+              absurd (omega (arith, behind, more, same, low))
+        ]
+
+    history_is : groups.history chunk epoch ≡ take (reached k before) c.group.history
+    history_is = ap (told_history v answer_at chunks before) at ∙ ap (λ o. take (reached k before) (history_of o)) there
+
+    pub of_ports : (x : ℕ) → AreOfPorts groups chunk epoch x
+    of_ports x earlier server op answer bytes starts took gives =
         let history = c.group.history in
         let h : Happening = record { event = events.Submit server op; answer = answer } in
-        let there = event_there history earlier (reached k before) h starts in
+        let begins : IsPrefix (earlier ++ h ∷ []) (take (reached k before) history) = subst (IsPrefix (earlier ++ h ∷ [])) history_is starts in
+        let event = event_there history earlier (reached k before) h begins in
         let w = write_of op x bytes gives in
-        let wrote = its_port c at (length earlier) server answer w.range w.sectors w.inside (there ∙ ap (λ o. Some (record { event = events.Submit server o; answer = answer })) w.is) (is_below history earlier (reached k before) h starts) in
-        let made : Submission = record { write = wrote.number; before = take (length earlier) history; server = server; op = Write w.range w.sectors; answer = answer } in
-        inr (subst (λ b. IsPorts (if b then map among (trace_of history block k before).writes else []) earlier server op answer) (sym (lt-ltb block 16 small)) (record {
-          k = wrote.j;
-          submission = among made;
-          there = slice_get-map among (trace_of history block k before).writes wrote.j ∙ ap (option_map among) wrote.there_so;
-          at_moment = events_before history earlier (reached k before) h starts;
-          to = refl;
-          has_op = sym w.is;
-          has_answer = refl;
-        }))
+        let port = found (length earlier) server w.range w.sectors answer (event ∙ ap (λ o. Some (record { event = events.Submit server o; answer = answer })) w.is) (is_below history earlier (reached k before) h begins) in
+        subst (λ e. IsOfPort e server op answer) (events_before history earlier (reached k before) h begins)
+        (subst (λ o. IsOfPort (take (length earlier) history) server o answer) (sym w.is) port)
 
-    pub are_alone : let groups = groups_of v answer_at chunks before in AreAlone (groups.history k 0) [] (groups.writes k 0 block) x
-    are_alone = of_chunk (slice_get chunks k) refl
+  -- A client's write of a block is of its own
+
+  module _ (blocks : ℕ) (is : v.sectors ≡ 8 * blocks) (many : 1 < blocks) (q : ℕ) (low : q < 256) (block : ℕ) (small : block < 16)
+      (within_volume : chunk_of (home_of v.sectors q) block < v.chunks) (of : AreOfMounts v answer_at [] before)
+      (can : (earlier rest : List Moment) (m group place : ℕ) → before ≡ earlier ++ Hands m group place ∷ rest → CanBeDoings v [] earlier) where
+    abbrev here_chunk : ℕ
+    here_chunk = chunk_of (home_of v.sectors q) block
+
+    abbrev here_sector : ℕ
+    here_sector = sector_of (home_of v.sectors q) block
+
+    -- the mount of a write of the block's sector is the block's
+    its_mount : (earlier : List Moment) (m : ℕ) (ask : Ask) → AreOfMounts v answer_at [] earlier → CanBeDoings v [] earlier → last_ask earlier m ≡ Some ask
+        → WritesAt ask (place_of q block / v.sectors) (place_of q block % v.sectors) → m ≡ block
+    its_mount earlier m ask of_mounts can_be asked written =
+        by (life_of v earlier m) (made_from v m earlier None None refl) (told_stand v blocks is many answer_at earlier of_mounts can_be m)
+      where
+        by : (life : Option Life) → IsMade life (last_ask earlier m) → StandsIn v blocks is many m life (last_ask earlier m) (journal_from new_journal (doings v answer_at earlier)) → m ≡ block
+        by None made stands = absurd (none-some ask (sym made ∙ asked))
+        by (Some life) made stands =
+            let waits = stands.0.waits ask asked in
+            let number = stands.0.number in
+            let few = stands.0.small in
+            sym number ∙ own_write v blocks is many q low block small life.outcome.mount stands.0.volume (omega (arith, number, few)) life.outcome.mount.work ask waits.0 waits.1 written
+
+    of_write : (epoch client k j : ℕ) (c : ChunkRun) (a : Submission) (bytes : Sector) → group_at before here_chunk epoch ≡ Some k → slice_get chunks k ≡ Some c → client < 16
+        → slice_get (trace_of c.group.history client k v.chunks before).writes j ≡ Some a → given a.op here_sector ≡ Some bytes → client ≡ block
+    of_write epoch client k j c a bytes group there few at gives =
+        let h = (all_handed_on c.group.history client k v.chunks before).0 j a at in
+        let earlier = take h.handed.moment before in
+        let rest = drop (suc h.handed.moment) before in
+        let x : Moment = Hands client k h.handed.place in
+        let same : before ≡ earlier ++ x ∷ rest = parted before h.handed.moment x h.handed.at in
+        let whole = told_so earlier rest x same in
+        let handed = are.each earlier (rest ++ after) client k h.handed.place whole few in
+        let rests = moves.hands earlier (rest ++ after) client k h.handed.place handed.ask whole few handed.pending in
+        let home = same_home v.chunks before begun (chunk_asked handed.ask) here_chunk (epoch_of earlier (chunk_asked handed.ask)) epoch k rests.small within_volume
+        (group_till earlier (x ∷ rest) same (chunk_asked handed.ask) (epoch_of earlier (chunk_asked handed.ask)) k handed.of) group in
+        let c_is : handed.chunk ≡ c = same_Some handed.chunk c (sym handed.there ∙ there) in
+        let event : event_of_ask handed.ask handed.server ≡ events.Submit a.server a.op =
+        ap (λ (y : Happening). y.event) (same_Some (record { event = event_of_ask handed.ask handed.server; answer = handed.answer }) (record { event = events.Submit a.server a.op; answer = a.answer })
+        (sym handed.is ∙ ap (λ (d : ChunkRun). slice_get d.group.history h.handed.place) c_is ∙ h.handed.is)) in
+        let w = write_of a.op here_sector bytes gives in
+        let some : 0 < blocks = omega (arith, many) in
+        let written = writes_so handed.ask handed.server a.server w.range w.sectors here_sector (event ∙ ap (events.Submit a.server) w.is) w.inside in
+        its_mount earlier client handed.ask (mounts_before v answer_at earlier (x ∷ rest) [] (subst (AreOfMounts v answer_at []) same of)) (can earlier rest client k h.handed.place same) handed.pending
+        (subst (λ n. WritesAt handed.ask n (place_of q block % v.sectors)) (home.0 ∙ chunk v.sectors blocks q block is some)
+        (subst (WritesAt handed.ask (chunk_asked handed.ask)) (sector v.sectors blocks q block is some) written))
+
+    by_group : (epoch client j : ℕ) (a : Submission) (bytes : Sector) → ((k : ℕ) → group_at before here_chunk epoch ≡ Some k → (c : ChunkRun) × (slice_get chunks k ≡ Some c))
+        → (o : Option ℕ) → group_at before here_chunk epoch ≡ o → slice_get (writes_at v answer_at chunks before client o) j ≡ Some a → given a.op here_sector ≡ Some bytes → client ≡ block
+    by_group epoch client j a bytes there None group at gives = absurd (none-some a at)
+    by_group epoch client j a bytes there (Some k) group at gives =
+        let c = there k group in
+        let among = among_deeds v answer_at chunks before in
+        elim (cases_lt client 16) [
+          | inl few ↦
+              let traced : slice_get (map among (trace_of c.0.group.history client k v.chunks before).writes) j ≡ Some a =
+              ap (λ o. slice_get (map among (trace_of (history_of o) client k v.chunks before).writes) j) (sym c.1)
+              ∙ sym (ap (λ b. slice_get (if b then map among (trace_of (history_of (slice_get chunks k)) client k v.chunks before).writes else []) j) (lt-ltb client 16 few)) ∙ at in
+              let x = get_mapped among (trace_of c.0.group.history client k v.chunks before).writes j a traced in
+              of_write epoch client k j c.0 x.0 bytes group c.1 few x.1 (ap (λ (s : Submission). given s.op here_sector) x.2 ∙ gives)
+          | inr past ↦
+              absurd (none-some a (sym (ap (λ b. slice_get (if b then map among (trace_of (history_of (slice_get chunks k)) client k v.chunks before).writes else []) j) (le-ltb client 16 past)) ∙ at))
+        ]
+
+    pub own_writes : ((epoch k : ℕ) → group_at before here_chunk epoch ≡ Some k → (c : ChunkRun) × (slice_get chunks k ≡ Some c))
+        → (epoch client j : ℕ) (a : Submission) (bytes : Sector) → slice_get (groups.writes here_chunk epoch client) j ≡ Some a → given a.op here_sector ≡ Some bytes → client ≡ block
+    own_writes there epoch client j a bytes at gives = by_group epoch client j a bytes (there epoch) (group_at before here_chunk epoch) refl at gives

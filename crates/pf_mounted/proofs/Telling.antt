@@ -1,141 +1,217 @@
 -- What was told of a chunk tells what its ports did.
-use Rattle.std.proofs.Common.{◌≡◌, ◌≢◌, ℕ, suc, ◌≤◌, inl, inr, true, ◌==◌, cond, List, [], ◌∷◌, ◌++◌, length, Option, Some, None, slice_get, arith, refl, sym, ap, subst, ◌∙◌}
+use Rattle.std.proofs.Common.{◌≡◌, ◌≢◌, ℕ, suc, ◌<◌, ◌≤◌, inl, inr, true, cond, if◌then◌else◌, List, [], ◌∷◌, ◌++◌, length, Option, Some, None, slice_get, slice_set, arith, refl, sym, ap, subst, ◌∙◌}
 use Rattle.std.proofs.lemmas.Bool.{cases_eq}
 use Rattle.std.proofs.lemmas.List.{length-append}
-use Rattle.std.proofs.lemmas.Option.{none-some}
+use Rattle.std.proofs.lemmas.Option.{none-some, same_Some, slice_get_within}
 use Rattle.pf_base.specs.Asks.{chunk_of}
 use Rattle.pf_base.specs.declared.asks.Ask.{Ask}
 use Rattle.pf_base.specs.declared.asks.Reply.{Reply}
 use Rattle.pf_entry.specs.Lists.{Every}
-use Rattle.pf_entry.proofs.Lists.{every_append, every_more, set_cases}
+use Rattle.pf_entry.proofs.Lists.{every_append, every_more}
 use Rattle.pf_protocol.specs.Histories.{History, IsPrefix, replay}
 use Rattle.pf_protocol.specs.Servers.{Setup}
 use Rattle.pf_network.specs.Shown.{IsLeader}
+use Rattle.pf_network.proofs.Lists.{set_elsewhere, set_there}
 use Rattle.pf_asks.specs.declared.port.Sent.{Sent}
 use Rattle.pf_asks.specs.Desks.{Call, Led}
 use Rattle.pf_asks.specs.Ports.{DrivesFrom, Hands as HandsTo, IsHanded, IsLed, PortIs, Stays, answered as answered_port, goes_to}
+use Rattle.pf_move.specs.declared.mover.Asked.{Asked}
 use Rattle.pf_ports.specs.Calls.{Past, Says}
 use Rattle.pf_ports.specs.Driven.{IsDriven, IsStep, Others, Puts}
+use Rattle.pf_applyrounds.specs.Chunks.{Chunk}
 use Rattle.pf_chunk.specs.Asks.{leader_of, reply_to}
 use Rattle.pf_chunk.specs.Driving.{asked, asked_at, with_port}
-use Rattle.pf_chunk.specs.Runs.{ChunkRun}
+use Rattle.pf_chunk.specs.Runs.{ChunkRun, mover_port}
 use Rattle.pf_hosts.specs.Moments.{Heard, Moment, Turns}
-use Rattle.pf_mounted.specs.Pasts.{Trace, past_in, past_of, trace_of}
+use Rattle.pf_mounted.specs.Pasts.{MoverTrace, Trace, asks_after, asking, at_carry, at_moment, mover_trace, moves_into, past_in, past_of, trace_in, trace_of}
 use Rattle.pf_mounted.proofs.Growing.{Grows}
+use Rattle.pf_mounted.proofs.Lives.{its_own, not_its_own}
 use Rattle.pf_mounted.proofs.Looking.{Looks, leader_leads, looked_up}
-use Rattle.pf_mounted.proofs.Tracing.{IsWithin, Passes, asks_low, past_more, past_same, test_other, test_same, trace_longer, within_more}
+use Rattle.pf_mounted.proofs.Tracing.{IsNoMove, IsWithin, Passes, asks_of, asks_still, at_same, is_trace, moves_longer, moves_more, past_more, past_same, trace_longer, within_more}
 
--- the chunk has its place, its group stands where its history leads, and each port was driven as was told
-pub record IsAsTold (told : List Moment) (k : ℕ) (c : ChunkRun) : Type 0 where
+-- the port of mount m into group k, which has this history and this chunk's asks, as it was told: there is such a one, and it is in its place while
+-- the group has the asks of a chunk
+pub record PortAsTold (count : ℕ) (told : List Moment) (k : ℕ) (c : ChunkRun) (m : ℕ) : Type 0 where
+  pub port : PortIs
+  pub its : IsDriven c.group.setup (past_of count c.group.history m k told) port
+  pub there : (chunk : ℕ) → asks_of count told k ≡ Some chunk → slice_get c.ports m ≡ Some port
+
+-- the mover's port of a role into it: it is in its place while the group has that role
+pub record MoverAsTold (count : ℕ) (told : List Moment) (k : ℕ) (c : ChunkRun) (role : Asked) : Type 0 where
+  pub port : PortIs
+  pub its : IsDriven c.group.setup (past_in c.group.history (mover_trace c.group.history k role count told)) port
+  pub there : (moves_into c.group.history k count told).role ≡ Some role → slice_get c.ports mover_port ≡ Some port
+
+-- the group has its place, it stands where its history leads, and each port was driven as was told
+pub record IsAsTold (count : ℕ) (told : List Moment) (k : ℕ) (c : ChunkRun) : Type 0 where
   pub number : c.group.number ≡ k
   pub stands : c.group.state ≡ replay c.group.setup c.group.history
   pub within : Every (IsWithin k (length c.group.history)) told
-  pub driven : (m : ℕ) (port : PortIs) → slice_get c.ports m ≡ Some port → IsDriven c.group.setup (past_of c.group.history m k told) port
+  pub driven : (m : ℕ) → m < mover_port → PortAsTold count told k c m
+  pub hauled : (role : Asked) → MoverAsTold count told k c role
 
-abbrev pub AreAsTold : List Moment → List ChunkRun → Type 0
-AreAsTold told chunks = (k : ℕ) (c : ChunkRun) → slice_get chunks k ≡ Some c → IsAsTold told k c
+abbrev pub AreAsTold : (count : ℕ) → List Moment → List ChunkRun → Type 0
+AreAsTold count told chunks = (k : ℕ) (c : ChunkRun) → slice_get chunks k ≡ Some c → IsAsTold count told k c
 
 prefix_length : (earlier history : History) → IsPrefix earlier history → length earlier ≤ length history
 prefix_length earlier history p = omega (arith, length-append earlier p.rest, ap length p.whole)
 
-others : (setup : Setup) (history rest : History) (m k : ℕ) (told : List Moment) (port : PortIs) → Every (IsWithin k (length history)) told → IsDriven setup (past_of history m k told) port → IsDriven setup (past_of (history ++ rest) m k told) port
-others setup history rest m k told port within is =
-    subst (λ (t : Trace). IsDriven setup (past_in (history ++ rest) t) port) (sym (trace_longer history rest m k told within)) (Others (past_of history m k told) port rest is)
+-- Others make events
 
--- others make events
-pub regrown : (told : List Moment) (k : ℕ) (c d : ChunkRun) → d.ports ≡ c.ports → Grows c.group d.group → IsAsTold told k c → IsAsTold told k d
-regrown told k c d ports g is = record {
-  number = g.number ∙ is.number;
-  stands = g.stands is.stands;
-  within = every_more (IsWithin k (length c.group.history)) (IsWithin k (length d.group.history)) (within_more k (length c.group.history) (length d.group.history) (prefix_length c.group.history d.group.history g.later)) told is.within;
-  driven = λ m port at.
-      let was = is.driven m port (ap (λ (ps : List PortIs). slice_get ps m) (sym ports) ∙ at) in
-      subst (λ (setup : Setup). IsDriven setup (past_of d.group.history m k told) port) (sym g.setup)
-      (subst (λ (history : History). IsDriven c.group.setup (past_of history m k told) port) g.later.whole (others c.group.setup c.group.history g.later.rest m k told port is.within was));
-}
+module _ (count : ℕ) (told : List Moment) (k : ℕ) (c d : ChunkRun) (ports : d.ports ≡ c.ports) (g : Grows c.group d.group) (is : IsAsTold count told k c) where
+  -- a trace of the one history is that of the other
+  others : (t u : Trace) (port : PortIs) → u ≡ t → IsDriven c.group.setup (past_in c.group.history t) port → IsDriven d.group.setup (past_in d.group.history u) port
+  others t u port same driven_so =
+      subst (λ (setup : Setup). IsDriven setup (past_in d.group.history u) port) (sym g.setup)
+      (subst (λ (x : Trace). IsDriven c.group.setup (past_in d.group.history x) port) (sym same)
+      (subst (λ (history : History). IsDriven c.group.setup (past_in history t) port) g.later.whole (Others (past_in c.group.history t) port g.later.rest driven_so)))
 
--- what is told is nothing to the chunk's ports
-pub passed : (told : List Moment) (k : ℕ) (c : ChunkRun) (y : Moment) → Passes k y → IsAsTold told k c → IsAsTold (told ++ y ∷ []) k c
-passed told k c y p is = record {
-  number = is.number;
-  stands = is.stands;
-  within = every_append (IsWithin k (length c.group.history)) told (y ∷ []) is.within (p.within (length c.group.history), tt);
-  driven = λ m port at.
-      subst (λ (past : Past). IsDriven c.group.setup past port) (sym (past_same c.group.history m k told y (p.nothing c.group.history m (trace_of c.group.history m k told)))) (is.driven m port at);
-}
+  moves_same : moves_into d.group.history k count told ≡ moves_into c.group.history k count told
+  moves_same = ap (λ (history : History). moves_into history k count told) (sym g.later.whole) ∙ moves_longer c.group.history g.later.rest k count told is.within
 
--- a port that was driven stands in its place
-pub ported : (told : List Moment) (k : ℕ) (c : ChunkRun) (m : ℕ) (q : PortIs) → IsAsTold told k c → IsDriven c.group.setup (past_of c.group.history m k told) q → IsAsTold told k (with_port c m q)
-ported told k c m q is its = record {
+  pub regrown : IsAsTold count told k d
+  regrown = record {
+    number = g.number ∙ is.number;
+    stands = g.stands is.stands;
+    within = every_more (IsWithin k (length c.group.history)) (IsWithin k (length d.group.history)) (within_more k (length c.group.history) (length d.group.history) (prefix_length c.group.history d.group.history g.later)) told is.within;
+    driven = λ m small.
+        let was = is.driven m small in
+        let same : trace_of d.group.history m k count told ≡ trace_of c.group.history m k count told =
+        ap (λ (history : History). trace_of history m k count told) (sym g.later.whole) ∙ trace_longer c.group.history g.later.rest k m count told is.within in record {
+          port = was.port;
+          its = others (trace_of c.group.history m k count told) (trace_of d.group.history m k count told) was.port same was.its;
+          there = λ chunk of. ap (λ (ps : List PortIs). slice_get ps m) ports ∙ was.there chunk of;
+        };
+    hauled = λ role.
+        let was = is.hauled role in record {
+          port = was.port;
+          its = others (mover_trace c.group.history k role count told) (mover_trace d.group.history k role count told) was.port (ap (λ (t : MoverTrace). trace_in t role) moves_same) was.its;
+          there = λ its_role. ap (λ (ps : List PortIs). slice_get ps mover_port) ports ∙ was.there (sym (ap (λ (t : MoverTrace). t.role) moves_same) ∙ its_role);
+        };
+  }
+
+-- More is told
+
+-- a moment that leaves the past of each port
+module _ (count : ℕ) (told : List Moment) (k : ℕ) (c : ChunkRun) (y : Moment) (is : IsAsTold count told k c) where
+  -- of mounts' ports
+  pub port_passed : (m : ℕ) → IsNoMove y → past_in c.group.history (at_moment c.group.history m k (trace_of c.group.history m k count told) y) ≡ past_of count c.group.history m k told → PortAsTold count told k c m → PortAsTold count (told ++ y ∷ []) k c m
+  port_passed m still same was = record {
+    port = was.port;
+    its = subst (λ (past : Past). IsDriven c.group.setup past was.port) (sym (past_same c.group.history m k count told y same)) was.its;
+    there = λ chunk of. was.there chunk (sym (asks_still count told (y ∷ []) k (still, tt)) ∙ of);
+  }
+
+  -- of the mover's
+  pub mover_passed : at_carry c.group.history k (moves_into c.group.history k count told) y ≡ moves_into c.group.history k count told → (role : Asked) → MoverAsTold count told k c role → MoverAsTold count (told ++ y ∷ []) k c role
+  mover_passed same role was =
+      let all : moves_into c.group.history k count (told ++ y ∷ []) ≡ moves_into c.group.history k count told = moves_more c.group.history k count told y ∙ same in record {
+        port = was.port;
+        its = subst (λ (t : MoverTrace). IsDriven c.group.setup (past_in c.group.history (trace_in t role)) was.port) (sym all) was.its;
+        there = λ its_role. was.there (sym (ap (λ (t : MoverTrace). t.role) all) ∙ its_role);
+      }
+
+  pub passed : Passes (asks_of count told k) k y → IsAsTold count (told ++ y ∷ []) k c
+  passed p = record {
+    number = is.number;
+    stands = is.stands;
+    within = every_append (IsWithin k (length c.group.history)) told (y ∷ []) is.within (p.within (length c.group.history), tt);
+    driven = λ m small. port_passed m p.still (p.nothing c.group.history m (trace_of c.group.history m k count told) (is_trace c.group.history m k count told).of) (is.driven m small);
+    hauled = λ role. mover_passed (p.hauls c.group.history (moves_into c.group.history k count told)) role (is.hauled role);
+  }
+
+-- A port that was driven stands in its place
+pub ported : (count : ℕ) (told : List Moment) (k : ℕ) (c : ChunkRun) (m : ℕ) (q : PortIs) → m < mover_port → IsAsTold count told k c → slice_get (slice_set c.ports m q) m ≡ Some q → IsDriven c.group.setup (past_of count c.group.history m k told) q → IsAsTold count told k (with_port c m q)
+ported count told k c m q small is there its = record {
   number = is.number;
   stands = is.stands;
   within = is.within;
-  driven = λ j port at. elim (set_cases c.ports m q j port at) [
-    | inl here ↦
-        subst (λ (x : PortIs). IsDriven c.group.setup (past_of c.group.history j k told) x) here.1
-        (subst (λ (i : ℕ). IsDriven c.group.setup (past_of c.group.history i k told) q) (sym here.0) its)
-    | inr away ↦ is.driven j port away.1
+  driven = λ j low. elim (cases_eq j m) [
+    | inl same ↦ subst (λ i. PortAsTold count told k (with_port c m q) i) (sym same) (record { port = q; its = its; there = λ chunk of. there })
+    | inr apart ↦ let was = is.driven j low in record { port = was.port; its = was.its; there = λ chunk of. set_elsewhere c.ports m j q apart ∙ was.there chunk of }
   ];
+  hauled = λ role. let was = is.hauled role in record { port = was.port; its = was.its; there = λ its_role. set_elsewhere c.ports m mover_port q (λ same. omega (arith, small, same)) ∙ was.there its_role };
 }
 
 -- An ask is put into a port
 
-module _ (told : List Moment) (k : ℕ) (c : ChunkRun) (is : IsAsTold told k c) (m : ℕ) (heard : Option Heard) (ask : Ask) (its : chunk_of ask ≡ k) where
-  abbrev asking : List Moment
-  asking = told ++ Turns m heard (Some ask) ∷ []
+-- of a mount
+module _ (count : ℕ) (told : List Moment) (k : ℕ) (c : ChunkRun) (is : IsAsTold count told k c) (m : ℕ) (small : m < mover_port) (heard : Option Heard) (ask : Ask) (of : asks_of count told k ≡ Some (chunk_of ask)) where
+  abbrev turn : Moment
+  turn = Turns m heard (Some ask)
 
-  asked_within : Every (IsWithin k (length c.group.history)) asking
-  asked_within = every_append (IsWithin k (length c.group.history)) told (Turns m heard (Some ask) ∷ []) is.within (tt, tt)
+  abbrev asking_told : List Moment
+  asking_told = told ++ turn ∷ []
 
-  other_asks : (j : ℕ) (port : PortIs) → j ≢ m → slice_get c.ports j ≡ Some port → IsDriven c.group.setup (past_of c.group.history j k asking) port
-  other_asks j port apart at =
-      let t = trace_of c.group.history j k told in
-      subst (λ (past : Past). IsDriven c.group.setup past port)
-      (sym (past_same c.group.history j k told (Turns m heard (Some ask)) (test_other (chunk_of ask == k) m j (record t { asks = suc t.seen }) t (λ same. apart (sym same)))))
-      (is.driven j port at)
+  abbrev history : History
+  history = c.group.history
 
-  own_ask : (p : PortIs) → slice_get c.ports m ≡ Some p → p.ask ≡ None → IsDriven c.group.setup (past_of c.group.history m k asking) (record p { ask = Some ask; sent = None })
-  own_ask p there none =
-      let history = c.group.history in
-      let t = trace_of history m k told in
-      let low = asks_low history m k told in
+  other_asks : (j : ℕ) → j ≢ m → PortAsTold count told k c j → PortAsTold count asking_told k c j
+  other_asks j apart was =
+      let t = trace_of history j k count told in
+      port_passed count told k c turn is j tt (ap (past_in history) (not_its_own m j (record t { pending = asking t (Some ask); asks = asks_after t (Some ask) }) t (λ same. apart (sym same)))) was
+
+  own_ask : (p : PortIs) → IsDriven c.group.setup (past_of count history m k told) p → p.ask ≡ None → IsDriven c.group.setup (past_of count history m k asking_told) (record p { ask = Some ask; sent = None })
+  own_ask p driven_so none =
+      let t = trace_of history m k count told in
+      let known = is_trace history m k count told in
       subst (λ (past : Past). IsDriven c.group.setup past (record p { ask = Some ask; sent = None }))
-      (sym (past_more history m k told (Turns m heard (Some ask)) ∙ ap (past_in history) (test_same m m (chunk_of ask) k (record t { asks = suc t.seen }) t refl its)))
-      (Puts (past_of history m k told) p ask (suc t.seen) (omega (arith, low)) none (is.driven m p there))
+      (sym (past_more history m k count told turn ∙ ap (past_in history) (its_own m m (record t { pending = asking t (Some ask); asks = asks_after t (Some ask) }) t refl)
+      ∙ ap (λ b. let past : Past = record { history = history; asks = (if b then suc t.seen else t.asks); writes = t.writes; reads = t.reads } in past) (at_same t.of (chunk_of ask) (known.of ∙ of))))
+      (Puts (past_of count history m k told) p ask (suc t.seen) (omega (arith, known.low)) none driven_so)
 
-  pub asked_told : ((p : PortIs) → slice_get c.ports m ≡ Some p → p.ask ≡ None) → IsAsTold asking k (asked c m ask)
-  asked_told none = by (slice_get c.ports m) refl
-    where
-      by : (o : Option PortIs) → slice_get c.ports m ≡ o → IsAsTold asking k (asked_at c m ask o)
-      by None there = record {
-        number = is.number;
-        stands = is.stands;
-        within = asked_within;
-        driven = λ j port at. elim (cases_eq j m) [
-          | inl same ↦ absurd (none-some port (sym there ∙ ap (slice_get c.ports) (sym same) ∙ at))
-          | inr apart ↦ other_asks j port apart at
-        ];
+  asked_port : (o : Option PortIs) → slice_get c.ports m ≡ o → ((p : PortIs) → slice_get c.ports m ≡ Some p → p.ask ≡ None) → PortAsTold count asking_told k (asked_at c m ask o) m
+  asked_port None there none = absurd (none-some (is.driven m small).port (sym there ∙ (is.driven m small).there (chunk_of ask) of))
+  asked_port (Some p) there none =
+      let was = is.driven m small in
+      let same : was.port ≡ p = same_Some was.port p (sym (was.there (chunk_of ask) of) ∙ there) in
+      let q : PortIs = record p { ask = Some ask; sent = None } in record {
+        port = q;
+        its = own_ask p (subst (IsDriven c.group.setup (past_of count history m k told)) same was.its) (none p there);
+        there = λ chunk _. set_there c.ports m q (slice_get_within c.ports m p there);
       }
-      by (Some p) there = record {
-        number = is.number;
-        stands = is.stands;
-        within = asked_within;
-        driven = λ j port at. elim (set_cases c.ports m (record p { ask = Some ask; sent = None }) j port at) [
-          | inl here ↦
-              subst (λ (x : PortIs). IsDriven c.group.setup (past_of c.group.history j k asking) x) here.1
-              (subst (λ (i : ℕ). IsDriven c.group.setup (past_of c.group.history i k asking) (record p { ask = Some ask; sent = None })) (sym here.0) (own_ask p there (none p there)))
-          | inr away ↦ other_asks j port away.0 away.1
+
+  other_port : (o : Option PortIs) (j : ℕ) → j ≢ m → slice_get (asked_at c m ask o).ports j ≡ slice_get c.ports j
+  other_port None j apart = refl
+  other_port (Some p) j apart = set_elsewhere c.ports m j (record p { ask = Some ask; sent = None }) apart
+
+  same_group : (o : Option PortIs) → (asked_at c m ask o).group ≡ c.group
+  same_group None = refl
+  same_group (Some p) = refl
+
+  pub asked_told : ((p : PortIs) → slice_get c.ports m ≡ Some p → p.ask ≡ None) → IsAsTold count asking_told k (asked c m ask)
+  asked_told none =
+      let o = slice_get c.ports m in
+      let d = asked c m ask in
+      let group = same_group o in record {
+        number = ap (λ (g : Chunk). g.number) group ∙ is.number;
+        stands = subst (λ (g : Chunk). g.state ≡ replay g.setup g.history) (sym group) is.stands;
+        within = subst (λ (g : Chunk). Every (IsWithin k (length g.history)) asking_told) (sym group) (every_append (IsWithin k (length history)) told (turn ∷ []) is.within (tt, tt));
+        driven = λ j low. elim (cases_eq j m) [
+          | inl same ↦ subst (λ i. PortAsTold count asking_told k d i) (sym same) (asked_port o refl none)
+          | inr apart ↦
+              let was = other_asks j apart (is.driven j low) in record {
+                port = was.port;
+                its = subst (λ (g : Chunk). IsDriven g.setup (past_of count g.history j k asking_told) was.port) (sym group) was.its;
+                there = λ chunk of_it. other_port o j apart ∙ was.there chunk of_it;
+              }
         ];
+        hauled = λ role.
+            let was = mover_passed count told k c turn is refl role (is.hauled role) in record {
+              port = was.port;
+              its = subst (λ (g : Chunk). IsDriven g.setup (past_in g.history (mover_trace g.history k role count asking_told)) was.port) (sym group) was.its;
+              there = λ its_role. other_port o mover_port (λ same. omega (arith, small, same)) ∙ was.there (subst (λ (g : Chunk). (moves_into g.history k count asking_told).role ≡ Some role) group its_role);
+            };
       }
 
 -- Steps of a port
 
-module _ (told : List Moment) (k : ℕ) (c : ChunkRun) (is : IsAsTold told k c) (m : ℕ) (p : PortIs) (ask : Ask) (pending : p.ask ≡ Some ask) where
+module _ (c : ChunkRun) (stands : c.group.state ≡ replay c.group.setup c.group.history) (t : Trace) (p : PortIs) (ask : Ask) (pending : p.ask ≡ Some ask) where
   abbrev past : Past
-  past = past_of c.group.history m k told
+  past = past_in c.group.history t
 
   looks : (sent : Sent) (reply : Option Reply) → reply_to c.group.state (Some sent) p.last ≡ reply → Looks c.group.setup past sent p.last reply
-  looks sent reply told_so = looked_up c.group.setup past sent p.last reply (ap (λ g. reply_to g (Some sent) p.last) (sym is.stands) ∙ told_so)
+  looks sent reply told_so = looked_up c.group.setup past sent p.last reply (ap (λ g. reply_to g (Some sent) p.last) (sym stands) ∙ told_so)
 
   -- the ask was answered
   pub reply_step : (reply : Reply) (sent : Option Sent) → p.sent ≡ sent → reply_to c.group.state sent p.last ≡ Some reply → IsStep c.group.setup past p ask (Some reply) past (answered_port p)
@@ -152,7 +228,7 @@ module _ (told : List Moment) (k : ℕ) (c : ChunkRun) (is : IsAsTold told k c) 
   module _ (term server : ℕ) (led : leader_of c.group.state ≡ Some (term, server)) (goes : goes_to p.sent p.last term ≡ true)
       (call : Call) (sent : Option Sent) (new : Past) (next : PortIs) (hands : HandsTo ask server call sent) (says : Says c.group.setup past call new) (next_is : next ≡ record p { sent = sent; last = term }) where
     leads : IsLeader (replay c.group.setup c.group.history) (Some (term, server))
-    leads = subst (IsLeader (replay c.group.setup c.group.history)) (ap leader_of (sym is.stands) ∙ led) (leader_leads (replay c.group.setup c.group.history))
+    leads = subst (IsLeader (replay c.group.setup c.group.history)) (ap leader_of (sym stands) ∙ led) (leader_leads (replay c.group.setup c.group.history))
 
     is_led : IsLed p ask (Led (Some (term, server)) ∷ call ∷ []) next
     is_led = record {

@@ -10,13 +10,17 @@ use Rattle.pf_protocol.specs.Groups.{Answered}
 use Rattle.pf_volume.specs.Volumes.{Extent, IsVolume, size_of}
 use Rattle.pf_paxos.specs.Registers as registers
 use Rattle.pf_paxos.specs.Registers.{AreRegisters, Turn}
-use Rattle.pf_paxos.specs.Journals.{Begins, Does, Doing, IsTransactionList, journal_before, turns_at}
+use Rattle.pf_paxos.specs.Journals.{AreAllRegisters, Does, turns_at}
 use Rattle.pf_paxos.specs.Proposers.{ProposerIs}
 use Rattle.pf_paxos.specs.Runs.{IsRead}
-use Rattle.pf_positions.specs.Deeds.{Deed, Fits, Groups, Takes}
+use Rattle.pf_positions.specs.Deeds.{Takes}
 use Rattle.pf_positions.specs.Homes.{chunk_of, sector_of}
-use Rattle.pf_positions.specs.Hosted.{AreAlone}
-use Rattle.pf_positions.specs.Volumes.{IsHostedJournal, home_of}
+use Rattle.pf_positions.specs.Volumes.{home_of}
+use Rattle.pf_epochs.specs.Positions.{IsRoutedJournal, IsRoutedPosition}
+use Rattle.pf_epochs.specs.Routed.{IsRouted}
+use Rattle.pf_protocol.specs.Ports.{Submission}
+use Rattle.pf_registers.specs.Orders.{given}
+use Rattle.pf_base.specs.Asks.{chunk_of as chunk_asked}
 use Rattle.pf_journal.specs.Sectors.{block_in}
 use Rattle.pf_mount.specs.Decisions.{decided_by, decided_in}
 use Rattle.pf_mount.specs.declared.work.Work.{Work}
@@ -27,6 +31,7 @@ use Rattle.pf_inodes.specs.declared.changes.Txn.{Txn}
 use Rattle.pf_txn.specs.Spelling.{spell_txn}
 use Rattle.pf_txn.proofs.TxnLaws.{txn_found}
 use Rattle.pf_hosts.specs.Moments.{Heard, Moment, Hands, Turns}
+use Rattle.pf_mounted.specs.Epochs.{epoch_of}
 use Rattle.pf_mounted.specs.Fitting.{IsOfRun}
 use Rattle.pf_mounted.specs.Finding.{HasPutIn}
 use Rattle.pf_mounted.specs.Handing.{AreCallsOfWords, AreMountsAlone}
@@ -35,18 +40,21 @@ use Rattle.pf_mounted.specs.Journals.{AreOfMounts, CanBeDoings, FindsValue, IsTu
 use Rattle.pf_mounted.specs.Lists.{HasOneList}
 use Rattle.pf_mounted.specs.Mounts.{Life, last_ask, life_of, mount_after, mount_in, next_ask}
 use Rattle.pf_mounted.specs.Sound.{IsDataValue, IsSound, IsSoundWork}
-use Rattle.pf_mounted.proofs.Assembling.{its_hosted}
+use Rattle.pf_mounted.proofs.Assembling.{its_routed}
+use Rattle.pf_mounted.proofs.Cutting.{cut_routed}
 use Rattle.pf_mounted.proofs.Extending.{at_position, still_registers}
 use Rattle.pf_mounted.proofs.Concluding.{decided_was_put_in, ends_with_value}
-use Rattle.pf_mounted.proofs.Fits.{deeds_fit, heard_deeds_fit}
+use Rattle.pf_mounted.proofs.Fits.{heard_cut}
 use Rattle.pf_mounted.proofs.Inducting.{of_at, of_until, split_end, told_good}
 use Rattle.pf_mounted.proofs.Listed.{AreCalls, has_one}
-use Rattle.pf_mounted.proofs.OneList.{hosted}
+use Rattle.pf_mounted.proofs.Moved.{is_routed}
+use Rattle.pf_mounted.proofs.OneList.{all_registers, routed}
+use Rattle.pf_mounted.proofs.Owned.{own_by}
 use Rattle.pf_mounted.proofs.Shortness.{short_call}
 use Rattle.pf_mounted.proofs.Sounding.{answered_stays, opening_is_sound, starting_stays}
 use Rattle.pf_mounted.proofs.Turning.{freed_registers}
 use Rattle.pf_mounted.proofs.Sizing.{AreChunks}
-use Rattle.pf_mounted.proofs.Submitting.{are_alone, doings_before}
+use Rattle.pf_mounted.proofs.Submitting.{doings_before}
 
 -- a moment behind which something stands is not the last of a list
 not_whole : (before : List Moment) (x : Moment) (earlier rest : List Moment) (y : Moment) → before ++ x ∷ [] ≡ earlier ++ y ∷ rest → earlier ≡ before ++ x ∷ [] → ⊥
@@ -66,10 +74,17 @@ module _ (v : Extent) (chunks : List ChunkRun) (answer_at : ℕ → Answered) (t
   many : 1 < blocks
   many = let some = volume.some_sectors in omega (arith, is, some)
 
-  -- each block is written by its mount alone
-  its_alone : (before after : List Moment) → told ≡ before ++ after → ((earlier rest : List Moment) (m chunk place : ℕ) → before ≡ earlier ++ Hands m chunk place ∷ rest → CanBeDoings v [] earlier)
-      → (q block : ℕ) → q < 256 → block < 16 → let home = home_of v.sectors q in let groups = groups_of v answer_at chunks before in AreAlone (groups.history (chunk_of home block) 0) [] (groups.writes (chunk_of home block) 0 block) (sector_of home block)
-  its_alone before after same can q block low few = are_alone v blocks is many answer_at q low block few chunks told before after run.handed alone run.turns can same
+  abbrev Routed : (before : List Moment) → Type 0
+  Routed before = (chunk piece : ℕ) → chunk < v.chunks → 8 * piece < v.sectors → IsRouted (groups_of v answer_at chunks before) (deeds v answer_at before) chunk piece
+
+  abbrev Owned : (before : List Moment) → (q : ℕ) → Type 0
+  Owned before q =
+      (block epoch client k : ℕ) (a : Submission) (bytes : Sector) → block < 16
+      → let home = home_of v.sectors q in slice_get ((groups_of v answer_at chunks before).writes (chunk_of home block) epoch client) k ≡ Some a → given a.op (sector_of home block) ≡ Some bytes → client ≡ block
+
+  its_own : (before after : List Moment) → told ≡ before ++ after → ((earlier rest : List Moment) (m group place : ℕ) → before ≡ earlier ++ Hands m group place ∷ rest → CanBeDoings v [] earlier) → (q : ℕ) → q < 256 → Owned before q
+  its_own before after same can q low block epoch client k a bytes few at gives =
+      own_by v chunks answer_at told before after volume room run.moves run.handed run.turns can same q block epoch client k a bytes low few at gives
 
   can_each : (before : List Moment) → CanBeDoings v [] before → (earlier rest : List Moment) (m chunk place : ℕ) → before ≡ earlier ++ Hands m chunk place ∷ rest → CanBeDoings v [] earlier
   can_each before can earlier rest m chunk place whole = doings_before v earlier (Hands m chunk place ∷ rest) [] (subst (CanBeDoings v []) whole can)
@@ -84,8 +99,6 @@ module _ (v : Extent) (chunks : List ChunkRun) (answer_at : ℕ → Answered) (t
   -- A reply of a ballot
 
   module _ (last_free : (ts : List Turn) (t : Turn) (ask : Option registers.Ask) → AreRegisters (ts ++ t ∷ []) → AreRegisters (ts ++ record t { ask = ask } ∷ []))
-      (fits : (before after : List Moment) (m : ℕ) (heard : Heard) (next : Option Ask) (life : Life) (ask : Ask) → told ≡ before ++ Turns m (Some heard) next ∷ after → life_of v before m ≡ Some life → last_ask before m ≡ Some ask
-      → (k : ℕ) (c : ChunkRun) → slice_get chunks k ≡ Some c → Fits (groups_of v answer_at chunks (before ++ Turns m (Some heard) next ∷ [])) (deeds v answer_at before ++ Takes (client_of m life.outcome.mount.work) (port_reply ask heard.by (answer_at (length before)) heard.reply) None ∷ []) k)
       (before after : List Moment) (m : ℕ) (heard : Heard) (next : Option Ask) (life : Life) (same : told ≡ before ++ Turns m (Some heard) next ∷ after) (there : life_of v before m ≡ Some life) (can : CanBeDoings v [] before)
       (input : Option (List ℕ)) (at : life.outcome.mount.work ≡ Ballots input) where
     pub reply_registers : AreRegisters (turns_at life.outcome.mount.upto (doings v answer_at before ++ Does m (call_of heard.reply) ∷ []))
@@ -94,17 +107,25 @@ module _ (v : Extent) (chunks : List ChunkRun) (answer_at : ℕ → Answered) (t
         by : (last : Option Ask) → last_ask before m ≡ last → IsTurn v m (Some life) last (answer_at (length before)) (Some heard) next
             → AreRegisters (turns_at life.outcome.mount.upto (doings v answer_at before ++ Does m (call_of heard.reply) ∷ []))
         by None asked turn = absurd turn
-        by (Some ask) asked turn =
+        by (Some ask) asked turn_is =
             let of = of_until v answer_at told run.turns before (Turns m (Some heard) next ∷ after) same in
             let q = life.outcome.mount.upto in
-            let groups = groups_of v answer_at chunks (before ++ Turns m (Some heard) next ∷ []) in
-            let ds = deeds v answer_at before ++ Takes m (port_reply ask heard.by (answer_at (length before)) heard.reply) None ∷ [] in
+            let turn : Moment = Turns m (Some heard) next in
+            let now = before ++ turn ∷ [] in
+            let groups = groups_of v answer_at chunks now in
+            let client = client_of m life.outcome.mount.work in
+            let epoch = epoch_of before (chunk_asked ask) in
+            let answer = answer_at (length before) in
+            let reply = port_reply ask epoch heard.by answer heard.reply in
             let low = at_position v blocks is many answer_at before of can m life there ask asked input at in
-            let told_so : told ≡ (before ++ Turns m (Some heard) next ∷ []) ++ after = same ∙ sym (append_assoc before (Turns m (Some heard) next ∷ []) after) in
-            still_registers v blocks is many answer_at before of can m life there ask asked (answer_at (length before)) heard next turn input at last_free groups
-            (its_hosted v answer_at chunks (before ++ Turns m (Some heard) next ∷ []) volume room are run.legal q low ds
-            (λ k c its. subst (λ w. Fits groups (deeds v answer_at before ++ Takes (client_of m w) (port_reply ask heard.by (answer_at (length before)) heard.reply) None ∷ []) k) at (fits before after m heard next life ask same there asked k c its))
-            (λ block few. its_alone (before ++ Turns m (Some heard) next ∷ []) after told_so (can_more before (Turns m (Some heard) next) can) q block low few))
+            let told_so : told ≡ now ++ after = same ∙ sym (append_assoc before (turn ∷ []) after) in
+            let cut = heard_cut v chunks answer_at told run before m heard next life ask there asked in
+            let routed : (chunk piece : ℕ) → chunk < v.chunks → 8 * piece < v.sectors → IsRouted groups (deeds v answer_at before ++ Takes m reply None ∷ []) chunk piece = λ chunk piece small few.
+            subst (λ w. IsRouted groups (deeds v answer_at before ++ Takes (client_of m w) reply None ∷ []) chunk piece) at
+            (cut_routed (deeds v answer_at before) client reply cut.ask cut.rest cut.silent groups chunk piece
+            (subst (λ ds. IsRouted groups ds chunk piece) cut.whole (is_routed v chunks answer_at told run volume now after told_so are alone chunk piece small few))) in
+            still_registers v blocks is many answer_at before of can m life there ask asked epoch answer heard next turn_is input at last_free groups
+            (its_routed v volume room groups q low (deeds v answer_at before ++ Takes m reply None ∷ []) routed (its_own now after told_so (can_more before turn can) q low))
 
 -- Each turn asks what its mount asks
 abbrev pub AsksTold : Extent → List Moment → Type 0
@@ -158,7 +179,7 @@ module _ (v : Extent) (chunks : List ChunkRun) (answer_at : ℕ → Answered) (t
     with_bytes : (sectors : List Sector) → heard.reply ≡ Bytes sectors → AreRegisters (turns_at life.outcome.mount.upto (doings v answer_at before ++ Does m (IsRead (blocks_in sectors)) ∷ []))
     with_bytes sectors reply =
         subst (λ r. AreRegisters (turns_at life.outcome.mount.upto (doings v answer_at before ++ Does m (call_of r) ∷ []))) reply
-        (reply_registers v chunks answer_at told run volume room are alone freed_registers (λ before after m heard next life ask same there asked k c at. heard_deeds_fit v chunks answer_at told run before after m heard next life ask same there asked k c at)
+        (reply_registers v chunks answer_at told run volume room are alone freed_registers
         before after m heard next life same there can input at)
 
     finds_for : (reply : Reply) → heard.reply ≡ reply → FindsValue (Ballots input) life.outcome.mount reply
@@ -197,20 +218,20 @@ module _ (v : Extent) (chunks : List ChunkRun) (answer_at : ℕ → Answered) (t
       (λ before after m life heard next input same there can at. finds_for before after m life heard next same there can input at heard.reply refl)
       put_in).can
 
-  -- What ports and mounts did is what they do over a journal in the groups of the chunks
+  -- What ports and mounts did is what they do over a journal in chunks that move
 
-  its_fits : (k : ℕ) (c : ChunkRun) → slice_get chunks k ≡ Some c → Fits (groups_of v answer_at chunks told) (deeds v answer_at told) k
-  its_fits k c there = deeds_fit v chunks answer_at told run told [] (sym (append-nil told)) k c there
+  positions : (q : ℕ) → q < 256 → IsRoutedPosition (groups_of v answer_at chunks told) block_in (home_of v.sectors q) (deeds v answer_at told)
+  positions q low =
+      let all = sym (append-nil told) in
+      its_routed v volume room (groups_of v answer_at chunks told) q low (deeds v answer_at told) (is_routed v chunks answer_at told run volume told [] all are alone)
+      (its_own v chunks answer_at told run volume room are alone told [] all (can_each v chunks answer_at told run volume room are alone told can_all) q low)
 
-  all_alone : (q block : ℕ) → q < 256 → block < 16 → let home = home_of v.sectors q in let groups = groups_of v answer_at chunks told in AreAlone (groups.history (chunk_of home block) 0) [] (groups.writes (chunk_of home block) 0 block) (sector_of home block)
-  all_alone q block low few =
-      its_alone v chunks answer_at told run volume room are alone told [] (sym (append-nil told)) (can_each v chunks answer_at told run volume room are alone told can_all) q block low few
+  pub held : IsRoutedJournal (groups_of v answer_at chunks told) block_in v.sectors 256 (deeds v answer_at told) (doings v answer_at told)
+  held = routed v answer_at chunks told volume run.turns can_all positions
 
-  pub held : IsHostedJournal (groups_of v answer_at chunks told) block_in v.sectors 256 (deeds v answer_at told) (doings v answer_at told)
-  held = hosted v answer_at chunks told volume room are run.legal run.turns run.reads can_all its_fits all_alone
+  pub registers_held : AreAllRegisters (doings v answer_at told)
+  registers_held = all_registers v answer_at chunks told volume run.turns can_all positions
 
   -- one list
-  pub one_list : AreCalls v told → (lists : (groups : Groups) (sectors : ℕ) (deeds : List Deed) (doings : List Doing) → IsHostedJournal groups block_in sectors 256 deeds doings
-      → (list : List (List ℕ)) × IsTransactionList doings list × ((mount moment : ℕ) → Begins ((journal_before doings moment).list mount) list)) → HasOneList v chunks told
-  one_list calls lists =
-      has_one v answer_at chunks told volume room are run.legal run.turns run.reads can_all its_fits all_alone (lists (groups_of v answer_at chunks told) v.sectors (deeds v answer_at told) (doings v answer_at told) held) calls
+  pub one_list : AreCalls v told → HasOneList v chunks told
+  one_list calls = has_one v answer_at chunks told volume run.turns run.reads can_all positions calls

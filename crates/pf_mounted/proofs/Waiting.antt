@@ -5,7 +5,6 @@ use Rattle.std.proofs.lemmas.Bool.{cases_eq, eqb-true}
 use Rattle.std.proofs.lemmas.List.{append_assoc, length-append, take-append-le}
 use Rattle.std.proofs.lemmas.Option.{none-some, same_Some}
 use Rattle.std.proofs.Math.Seq.{take-append_seam}
-use Rattle.pf_base.specs.Asks.{chunk_of}
 use Rattle.pf_base.specs.declared.asks.Ask.{Ask}
 use Rattle.pf_entry.proofs.Cases.{by_test}
 use Rattle.pf_protocol.specs.Groups.{Answered}
@@ -13,14 +12,14 @@ use Rattle.pf_protocol.specs.Histories.{History}
 use Rattle.pf_tree.specs.declared.calls.FileCall.{FileCall}
 use Rattle.pf_volume.specs.Volumes.{Extent}
 use Rattle.pf_mount.specs.Mounts.{MountIs, answered, opening, starting}
-use Rattle.pf_hosts.specs.Moments.{Heard, Moment, Begins, Ends, Hands, Turns, Writes}
+use Rattle.pf_hosts.specs.Moments.{Begins, Carries, Ends, Hands, Heard, Moment, Moves as MovesTo, Turns, Writes}
 use Rattle.pf_mounted.specs.Journals.{AreOfMounts, CanBegin, IsOfMount, IsTurn}
 use Rattle.pf_mounted.specs.Mounts.{Life, ask_in, asked_in, calling, last_ask, life_of, lived, mount_in, turned}
 use Rattle.pf_mounted.specs.Pasts.{trace_of}
 use Rattle.pf_mounted.proofs.Lives.{ask_on, its_own, life_on, not_its_own, turned_life}
 use Rattle.pf_mounted.proofs.Pending.{MayPend, answered_pends, none_pends, opening_pends, starting_pends}
 use Rattle.pf_mounted.proofs.Placing.{at_seam, by_ends, get_either, get_first, more_is_told, parted, some_within}
-use Rattle.pf_mounted.proofs.Tracked.{IsNoTurn, asks_anew, asks_stay}
+use Rattle.pf_mounted.proofs.Tracked.{IsNoTurn, IsNumbered, numbered_anew, numbered_still}
 
 module _ (v : Extent) (answer_at : ℕ → Answered) where
   -- each moment by its place
@@ -83,6 +82,8 @@ module _ (v : Extent) (answer_at : ℕ → Answered) where
       (λ same. turn_waits m (life_of v told m) (last_ask told m) answer heard next (subst (λ i. IsTurn v i (life_of v told i) (last_ask told i) answer heard next) (eqb-true n m same) of) (wait m))
       (λ _. wait m)
   moment_waits told answer (Writes text) of wait m = wait m
+  moment_waits told answer (MovesTo moved to) of wait m = wait m
+  moment_waits told answer (Carries moved back wants) of wait m = wait m
   moment_waits told answer (Hands n k place) of wait m = wait m
   moment_waits told answer (Ends n call) of wait m = wait m
 
@@ -103,7 +104,7 @@ module _ (v : Extent) (answer_at : ℕ → Answered) where
     pub at : slice_get told moment ≡ Some (Turns m heard (Some ask))
     pub no_later : (j : ℕ) (its : Option Heard) (next : Option Ask) → moment < j → slice_get told j ≡ Some (Turns m its next) → ⊥
     pub life : life_of v told m ≡ turned v m heard (life_of v (take moment told) m)
-    pub number : (history : History) (k : ℕ) → chunk_of ask ≡ k → (trace_of history m k told).asks ≡ suc moment
+    pub number : (history : History) (k chunks : ℕ) → IsNumbered (suc moment) ask (trace_of history m k chunks told)
 
   no_turn_in : (told : List Moment) (y : Moment) (m q : ℕ) → IsNoTurn m y → ((j : ℕ) (its : Option Heard) (next : Option Ask) → q < j → slice_get told j ≡ Some (Turns m its next) → ⊥)
       → (j : ℕ) (its : Option Heard) (next : Option Ask) → q < j → slice_get (told ++ y ∷ []) j ≡ Some (Turns m its next) → ⊥
@@ -116,6 +117,8 @@ module _ (v : Extent) (answer_at : ℕ → Answered) where
       only (Turns n h a) zero away at = away (let is = same_Some (Turns n h a) (Turns m its next) at in cc)
       only (Begins n call) zero _ at = absurd (cc)
       only (Writes text) zero _ at = absurd (cc)
+      only (MovesTo moved to) zero _ at = absurd (cc)
+      only (Carries moved back wants) zero _ at = absurd (cc)
       only (Hands n k place) zero _ at = absurd (cc)
       only (Ends n answer) zero _ at = absurd (cc)
       only y (suc i) away at = none-some (Turns m its next) at
@@ -130,7 +133,7 @@ module _ (v : Extent) (answer_at : ℕ → Answered) where
         life =
             life_on v told (y ∷ []) m ∙ same ∙ a.life
             ∙ ap (λ (part : List Moment). turned v m a.heard (life_of v part m)) (sym (take-append-le a.moment told (y ∷ []) (omega (arith, low))));
-        number = λ history k of. asks_stay history m k told y away ∙ a.number history k of;
+        number = λ history k chunks. numbered_still history m k chunks (suc a.moment) ask told y away (a.number history k chunks);
       }
 
   asked_now : (told : List Moment) (m : ℕ) (heard : Option Heard) (ask : Ask) → IsAsked (told ++ Turns m heard (Some ask) ∷ []) m ask
@@ -141,7 +144,7 @@ module _ (v : Extent) (answer_at : ℕ → Answered) where
         at = at_seam told [] y (length told) refl;
         no_later = λ j its next above at. let low = some_within (told ++ y ∷ []) j (Turns m its next) at in absurd (omega (arith, above, low, length-append told (y ∷ [])));
         life = turned_life v m m refl told [] tt heard (Some ask) ∙ ap (λ (part : List Moment). turned v m heard (life_of v part m)) (sym (take-append_seam told (y ∷ [])));
-        number = λ history k of. asks_anew history m k told heard ask of;
+        number = λ history k chunks. numbered_anew history m k chunks told heard ask;
       }
 
   -- where a call begins, nothing pends
@@ -166,6 +169,8 @@ module _ (v : Extent) (answer_at : ℕ → Answered) where
     | inr apart ↦ asked_still told (Begins n call) m ask tt (not_its_own n m (option_map (calling call) (life_of v told m)) (life_of v told m) apart) (so_far pending)
   ]
   asked_more told answer (Writes text) m ask of wait so_far pending = asked_still told (Writes text) m ask tt refl (so_far pending)
+  asked_more told answer (MovesTo moved to) m ask of wait so_far pending = asked_still told (MovesTo moved to) m ask tt refl (so_far pending)
+  asked_more told answer (Carries moved back wants) m ask of wait so_far pending = asked_still told (Carries moved back wants) m ask tt refl (so_far pending)
   asked_more told answer (Hands n k place) m ask of wait so_far pending = asked_still told (Hands n k place) m ask tt refl (so_far pending)
   asked_more told answer (Ends n call) m ask of wait so_far pending = asked_still told (Ends n call) m ask tt refl (so_far pending)
 

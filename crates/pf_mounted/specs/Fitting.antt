@@ -1,19 +1,21 @@
 -- What is known of all that a run told.
-use Rattle.std.specs.Prelude.{◌≡◌, ℕ, ◌≤◌, List, [], ◌∷◌, ◌++◌, length, Option, Some, None, slice_get}
+use Rattle.std.specs.Prelude.{◌≡◌, ℕ, ◌<◌, ◌≤◌, List, [], ◌∷◌, ◌++◌, length, Option, Some, None, slice_get}
 use Rattle.pf_base.specs.Asks.{chunk_of}
 use Rattle.pf_base.specs.declared.asks.Ask.{Ask}
 use Rattle.pf_asks.specs.Ports.{PortIs}
 use Rattle.pf_protocol.specs.Answers.{IsLegal}
 use Rattle.pf_protocol.specs.Groups.{Answered}
 use Rattle.pf_ports.specs.Driven.{IsDriven}
-use Rattle.pf_chunk.specs.Runs.{ChunkRun, most_ports}
+use Rattle.pf_chunk.specs.Runs.{ChunkRun, mover_port, most_ports}
 use Rattle.pf_volume.specs.Volumes.{Extent}
 use Rattle.pf_hosts.specs.Moments.{Heard, Moment, Turns}
 use Rattle.pf_mounted.specs.Handing.{AreHandedOn, reached}
 use Rattle.pf_mounted.specs.Hearing.{IsHeard}
 use Rattle.pf_mounted.specs.Hosted.{AreOfReads}
 use Rattle.pf_mounted.specs.Journals.{AreOfMounts}
+use Rattle.pf_mounted.specs.Epochs.{serving}
 use Rattle.pf_mounted.specs.Mounts.{last_ask}
+use Rattle.pf_mounted.specs.Movers.{AreMoves}
 use Rattle.pf_mounted.specs.Pasts.{past_of}
 
 -- of the chunks at its end, where the bytes that were heard at a moment are those of the moment's answer
@@ -23,10 +25,11 @@ pub record IsOfRun (v : Extent) (chunks : List ChunkRun) (answer_at : ℕ → An
   pub turns : AreOfMounts v answer_at [] told
   -- where a mount hears nothing, it had nothing to wait for
   pub begins : (m : ℕ) (before after : List Moment) (next : Option Ask) → told ≡ before ++ Turns m None next ∷ after → last_ask before m ≡ None
-  pub reads : AreOfReads chunks answer_at told
-  pub heard : (m : ℕ) (before after : List Moment) (heard : Heard) (next : Option Ask) → told ≡ before ++ Turns m (Some heard) next ∷ after → IsHeard chunks m before heard
+  pub reads : AreOfReads v.chunks chunks answer_at told
+  pub heard : (m : ℕ) (before after : List Moment) (heard : Heard) (next : Option Ask) → told ≡ before ++ Turns m (Some heard) next ∷ after → IsHeard v.chunks chunks m before heard
   -- what it hears was answered after all that was told of the group's history before
-  pub since : (m : ℕ) (before after : List Moment) (heard : Heard) (next : Option Ask) (ask : Ask) → told ≡ before ++ Turns m (Some heard) next ∷ after → last_ask before m ≡ Some ask → reached (chunk_of ask) before ≤ heard.by
+  pub since : (m : ℕ) (before after : List Moment) (heard : Heard) (next : Option Ask) (ask : Ask) → told ≡ before ++ Turns m (Some heard) next ∷ after → last_ask before m ≡ Some ask → (k : ℕ) → serving before (chunk_of ask) ≡ Some k → reached k before ≤ heard.by
   pub legal : (k : ℕ) (c : ChunkRun) → slice_get chunks k ≡ Some c → IsLegal c.group.setup c.group.history
-  pub driven : (k m : ℕ) (c : ChunkRun) (port : PortIs) → slice_get chunks k ≡ Some c → slice_get c.ports m ≡ Some port → IsDriven c.group.setup (past_of c.group.history m k told) port
+  pub driven : (k m : ℕ) (c : ChunkRun) → m < mover_port → slice_get chunks k ≡ Some c → (port : PortIs) × IsDriven c.group.setup (past_of v.chunks c.group.history m k told) port
   pub ports : (k : ℕ) (c : ChunkRun) → slice_get chunks k ≡ Some c → length c.ports ≡ most_ports
+  pub moves : AreMoves v chunks told

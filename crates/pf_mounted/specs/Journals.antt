@@ -22,6 +22,7 @@ use Rattle.pf_tree.specs.declared.calls.FileCall.{FileCall}
 use Rattle.pf_mount.specs.declared.work.Work.TheVariants.{Ballots, Moves, Rests, Syncs}
 use Rattle.pf_mount.specs.Mounts.{MountIs, answered, blocks_in, finds_value, opening, starting}
 use Rattle.pf_hosts.specs.Moments.{Heard, Moment, Begins, Turns, Hands}
+use Rattle.pf_mounted.specs.Epochs.{Home, epoch_of, home_of}
 use Rattle.pf_mounted.specs.Mounts.{Life, ask_in, last_ask, life_of, mount_after, mount_in, turned}
 
 -- what ports did, and what it is in the journal
@@ -33,17 +34,15 @@ pub record Step : Type 0 where
 abbrev pub nothing : Doing
 nothing = Reads 256 idle_turn
 
--- No chunk is moved, so that each has its first group
-
 abbrev pub port_ask : Ask → PortAsk
 port_ask (Write chunk span sectors) = Puts chunk (ops.Write span sectors)
 port_ask (Read chunk span) = Gets chunk span
 
--- the reply to an ask after so many events. (Bytes are those of an answer of the group)
-abbrev pub port_reply : Ask → (by : ℕ) → Answered → Reply → Option PortReply
-port_reply (Write chunk span sectors) by answer Written = Some (Put chunk 0 by (ops.Write span sectors))
-port_reply (Read chunk span) by answer (Bytes sectors) = Some (Got chunk 0 by answer)
-port_reply ask by answer reply = None
+-- the reply to an ask, from the group of an epoch of its chunk after so many events. (Bytes are those of an answer of the group)
+abbrev pub port_reply : Ask → (epoch by : ℕ) → Answered → Reply → Option PortReply
+port_reply (Write chunk span sectors) epoch by answer Written = Some (Put chunk epoch by (ops.Write span sectors))
+port_reply (Read chunk span) epoch by answer (Bytes sectors) = Some (Got chunk epoch by answer)
+port_reply ask epoch by answer reply = None
 
 -- the reads of a sync are those of another client than the mount's proposer
 abbrev pub client_of : (m : ℕ) → Work → ℕ
@@ -98,28 +97,29 @@ asking_in m (Some mount) next = asking m mount next
 
 -- Moments
 
--- Mount m hears what it asked, and asks the next thing. A ballot that goes on does both in one deed
-abbrev pub hearing_steps : (m : ℕ) → MountIs → Ask → Answered → Heard → Option Ask → List Step
-hearing_steps m mount ask answer heard next =
-    let reply = port_reply ask heard.by answer heard.reply in
+-- Mount m hears what it asked, in an epoch of the ask's chunk, and asks the next thing. A ballot that goes on does both in one deed
+abbrev pub hearing_steps : (m : ℕ) → MountIs → Ask → (epoch : ℕ) → Answered → Heard → Option Ask → List Step
+hearing_steps m mount ask epoch answer heard next =
+    let reply = port_reply ask epoch heard.by answer heard.reply in
     if stays_in mount.work mount.position.proposer heard.reply
     then record { deed = Takes m reply (option_map port_ask next); doing = Does m (call_of heard.reply) } ∷ []
     else record { deed = Takes (client_of m mount.work) reply None; doing = hears m mount.upto mount.work heard.reply } ∷ asking m (answered mount heard.reply).mount next
 
 -- who asked nothing hears nothing
-abbrev pub turn_steps : Extent → (m : ℕ) → Option Life → Option Ask → Answered → Option Heard → Option Ask → List Step
-turn_steps v m life last answer None next = asking_in m (mount_in (turned v m None life)) next
-turn_steps v m (Some life) (Some ask) answer (Some heard) next = hearing_steps m life.outcome.mount ask answer heard next
-turn_steps v m life last answer (Some heard) next = []
+abbrev pub turn_steps : Extent → (m : ℕ) → Option Life → Option Ask → (epoch : ℕ → ℕ) → Answered → Option Heard → Option Ask → List Step
+turn_steps v m life last epoch answer None next = asking_in m (mount_in (turned v m None life)) next
+turn_steps v m (Some life) (Some ask) epoch answer (Some heard) next = hearing_steps m life.outcome.mount ask (epoch (chunk_of ask)) answer heard next
+turn_steps v m life last epoch answer (Some heard) next = []
 
-abbrev pub hand_steps : (m k place : ℕ) → Option MountIs → List Step
-hand_steps m k place None = []
-hand_steps m k place (Some mount) = record { deed = Submits (client_of m mount.work) k 0 place; doing = nothing } ∷ []
+-- a mount's port hands on to the group of this chunk and epoch. (What the mover's hands on is the deed of no client)
+abbrev pub hand_steps : (m place : ℕ) → Option Home → Option MountIs → List Step
+hand_steps m place (Some home) (Some mount) = record { deed = Submits (client_of m mount.work) home.chunk home.epoch place; doing = nothing } ∷ []
+hand_steps m place home mount = []
 
 -- what a moment is, after all that was told before; bytes that were heard are those of this answer
 abbrev pub steps_at : Extent → (before : List Moment) → Answered → Moment → List Step
-steps_at v before answer (Turns m heard next) = turn_steps v m (life_of v before m) (last_ask before m) answer heard next
-steps_at v before answer (Hands m k place) = hand_steps m k place (mount_in (life_of v before m))
+steps_at v before answer (Turns m heard next) = turn_steps v m (life_of v before m) (last_ask before m) (epoch_of before) answer heard next
+steps_at v before answer (Hands m k place) = hand_steps m place (home_of v.chunks before k) (mount_in (life_of v before m))
 steps_at v before answer moment = []
 
 abbrev pub steps_from : Extent → (answer_at : ℕ → Answered) → (before told : List Moment) → List Step

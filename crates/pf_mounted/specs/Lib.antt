@@ -1,11 +1,14 @@
 pub mod Scripts
 pub mod Mounts
+pub mod Epochs
+pub mod Carrying
 pub mod Pasts
 pub mod Hearing
 pub mod Journals
 pub mod Handing
 pub mod Hosted
 pub mod Lists
+pub mod Moving
 pub mod Sound
 pub mod Finding
 pub mod Fitting
@@ -13,3 +16,4 @@ pub mod Trees
 pub mod Late
 pub mod Exchanges
 pub mod Answering
+pub mod Movers

@@ -3,7 +3,7 @@ use Rattle.std.specs.Prelude.{◌≡◌, ℕ, ◌≤◌, List, [], ◌∷◌, �
 use Rattle.pf_protocol.specs.Groups.{Answered}
 use Rattle.pf_volume.specs.Volumes.{Extent}
 use Rattle.pf_paxos.specs.Journals.{IsTransactionList}
-use Rattle.pf_positions.specs.Volumes.{IsHostedJournal}
+use Rattle.pf_epochs.specs.Positions.{IsRoutedJournal}
 use Rattle.pf_journal.specs.Sectors.{block_in}
 use Rattle.pf_inodes.specs.declared.changes.Txn.{Txn}
 use Rattle.pf_tree.specs.Standing.{StandsFor}
@@ -19,13 +19,14 @@ use Rattle.pf_mounted.specs.Journals.{AreOfMounts, deeds, doings}
 use Rattle.pf_mounted.specs.Mounts.{mount_after, tables_from}
 use Rattle.pf_mounted.specs.Trees.{data_blocks, tree_after}
 
--- What ports and mounts did, by what was told, is what they do over a journal of 256 positions whose blocks lie in the chunks' groups; and
+-- What ports and mounts did, by what was told, is what they do over a journal of 256 positions whose blocks lie in chunks that move from group to
+-- group; and
 -- this is its transaction list: the decided values of the positions up to the first that is not decided
 pub record IsListOf (v : Extent) (chunks : List ChunkRun) (told : List Moment) (list : List (List ℕ)) : Type 0 where
   pub answer_at : ℕ → Answered
   pub mounts : AreOfMounts v answer_at [] told
-  pub reads : AreOfReads chunks answer_at told
-  pub hosted : IsHostedJournal (groups_of v answer_at chunks told) block_in v.sectors 256 (deeds v answer_at told) (doings v answer_at told)
+  pub reads : AreOfReads v.chunks chunks answer_at told
+  pub routed : IsRoutedJournal (groups_of v answer_at chunks told) block_in v.sectors 256 (deeds v answer_at told) (doings v answer_at told)
   pub is : IsTransactionList (doings v answer_at told) list
 
 -- The mount stands behind the first transactions of the list. Its tables are those of a new volume after them, and they stand for the user's tree

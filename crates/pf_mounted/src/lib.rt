@@ -25,9 +25,10 @@ pub use handing::what_is_handed_on_is_told;
 pub use late::{calls_are_planned_late, calls_see_what_ended, ended_calls_are_below};
 pub use laws::{
     decisions_are_of_ballots, deeds_are_doings, hosts_are_told, mounts_do_what_is_told,
-    ports_of_runs_are_driven, replies_of_runs_are_the_groups, tables_are_those_of_decisions,
+    movers_of_runs_are_driven, ports_of_runs_are_driven, replies_of_runs_are_the_groups,
+    routes_are_told, tables_are_those_of_decisions,
 };
-pub use list::{runs_have_one_list, superblocks_are_the_volumes};
+pub use list::{runs_have_one_list, sectors_of_runs_are_registers, superblocks_are_the_volumes};
 pub use moments::{moments_are_of_mounts, turns_come_in_time};
 pub use once::{calls_are_of_lines, calls_have_one_transaction};
 pub use sound::{calls_of_words_are_short, mounts_stay_sound};

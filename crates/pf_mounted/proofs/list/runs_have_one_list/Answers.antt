@@ -25,4 +25,3 @@ returns c = λ halts sessions lines script lawful volume few some.
       ends = λ m before after answer same. each_done run.world.volume run.told (hosts_are_told halts sessions lines script) m before (Ends m answer) after same refl;
       lives = endures halts sessions lines script lawful volume some;
     })
-    c.journals_in_chunks_have_one_list.ensures.list

@@ -1,0 +1,445 @@
+-- Where a chunk begins to move, what is known of a run is kept.
+use Rattle.std.proofs.Common.{◌≡◌, ◌≢◌, ◌⊎◌, ℕ, zero, suc, ◌/◌, ◌≤◌, ◌==◌, ◌&&◌, if◌then◌else◌, le-ltb, inl, inr, List, [], ◌∷◌, ◌++◌, length, map, Option, Some, None, slice_get, slice_set, take, arith, refl, sym, ap, subst, ◌∙◌, append-nil, false}
+use Rattle.std.specs.List.{fold}
+use Rattle.std.specs.Option.{is_some}
+use Rattle.std.proofs.lemmas.List.{append_assoc}
+use Rattle.std.proofs.lemmas.Option.{none-some, same_Some, slice_get_within}
+use Rattle.pf_base.specs.Asks.{chunk_of}
+use Rattle.pf_base.specs.declared.asks.Ask.{Ask}
+use Rattle.pf_entry.specs.Lists.{Every}
+use Rattle.pf_entry.proofs.Cases.{by_test}
+use Rattle.pf_entry.proofs.Lists.{every_append}
+use Rattle.pf_protocol.specs.Histories.{History}
+use Rattle.pf_protocol.specs.Servers.{Setup}
+use Rattle.pf_network.proofs.Lists.{at_end, set_length, something_there}
+use Rattle.pf_asks.specs.Ports.{PortIs, new_port, rehomed}
+use Rattle.pf_move.specs.declared.mover.Asked.{Asked}
+use Rattle.pf_move.specs.declared.mover.Asked.TheVariants.{Reading, Writing}
+use Rattle.pf_move.specs.declared.routes.Moving.{Moving}
+use Rattle.pf_move.specs.Movers.{MoverIs, Step, new_mover, step}
+use Rattle.pf_move.specs.Routes.{RoutesIs, home_in, home_of}
+use Rattle.pf_move.specs.Routes as routes_of
+use Rattle.pf_ports.specs.Calls.{Past, new_past}
+use Rattle.pf_ports.specs.Driven.{Begins as BeginsDriven, IsDriven, Puts}
+use Rattle.pf_applyrounds.specs.Chunks.{Chunk, made_chunk}
+use Rattle.pf_applyrounds.specs.Halts.{Halt}
+use Rattle.pf_chunk.specs.Runs.{ChunkRun, left_by_ports, mover_port, new_run, taking_ports}
+use Rattle.pf_hosts.specs.Moments.{Begins, Carries, Ends, Hands, Moment, Moves as MovesTo, Turns, Writes}
+use Rattle.pf_fleet.specs.Volumes.{VolumeRun, carries_on, moved_from, moves, moves_from}
+use Rattle.pf_fleet.specs.Volumes as volumes
+use Rattle.pf_world.specs.declared.kind.Kind.{Kind}
+use Rattle.pf_mounted.specs.Handing.{AreMountsAlone}
+use Rattle.pf_mounted.specs.Mounts.{last_ask, of_chunk}
+use Rattle.pf_mounted.specs.Pasts.{LastAsk, MoverTrace, Trace, at_carry, first_chunk, handed_at, is_at, moves_into, moving, no_moves, no_trace, number_of, numbered, past_in, past_of, trace_in, trace_of, with_port as with_port_of}
+use Rattle.pf_mounted.proofs.Bearing.{IsBearing, IsFree, no_one, step_asks}
+use Rattle.pf_mounted.proofs.Each.{one_more}
+use Rattle.pf_mounted.proofs.Growing.{grows_refl}
+use Rattle.pf_mounted.proofs.Hauling.{step_chunk}
+use Rattle.pf_mounted.proofs.Hearing.{AllGrow, IsSo, all_grown, grow_more, grow_on, grow_set}
+use Rattle.pf_mounted.proofs.Hosting.{AreSo}
+use Rattle.pf_mounted.proofs.Lives.{its_own, not_its_own}
+use Rattle.pf_mounted.proofs.Ports.{HasAsked, asked_for}
+use Rattle.pf_mounted.proofs.Routing.{IsHome, all_rest, begins_fresh, of_other, small}
+use Rattle.pf_mounted.proofs.Running.{new_group}
+use Rattle.pf_mounted.proofs.Standing.{IsPair, began, came_from, chunks_are, from, none_moving, rehomed_at}
+use Rattle.pf_mounted.proofs.Steering.{IsBorne, went}
+use Rattle.pf_mounted.proofs.Telling.{IsAsTold, MoverAsTold}
+use Rattle.pf_mounted.proofs.Tracked.{IsElsewhere}
+use Rattle.pf_mounted.proofs.Tracing.{IsPending, IsWithin, asks_of, at_apart, at_same, is_hauled, is_trace, moves_more, past_more}
+use Rattle.pf_mounted.proofs.Writers.{alone_told}
+
+-- A group of which nothing was told
+
+pub every_of : (R : Moment → Type 0) (told : List Moment) → ((place : ℕ) (y : Moment) → slice_get told place ≡ Some y → R y) → Every R told
+every_of R [] each = tt
+every_of R (y ∷ told) each = (each zero y refl, every_of R told (λ place x at. each (suc place) x at))
+
+module _ (count : ℕ) (chunks : List ChunkRun) (n : ℕ) (none : (c : ChunkRun) → slice_get chunks n ≡ Some c → ⊥) where
+  abbrev IsStrange : Moment → Type 0
+  IsStrange y = IsWithin n 0 y × IsElsewhere n y
+
+  strange : (before : List Moment) (y : Moment) → IsSo count chunks before y → IsStrange y
+  strange before (Hands m g place) is = ((λ same. absurd (none is.group (ap (slice_get chunks) (sym same) ∙ is.there))), tt)
+  strange before (MovesTo chunk to) is = (tt, λ same. none is.group (ap (slice_get chunks) (sym same) ∙ is.there))
+  strange before (Turns m heard next) is = (tt, tt)
+  strange before (Writes text) is = (tt, tt)
+  strange before (Carries chunk heard next) is = (tt, tt)
+  strange before (Begins m call) is = (tt, tt)
+  strange before (Ends m answer) is = (tt, tt)
+
+-- no mover's port into it was in use
+record IsFresh (t : MoverTrace) : Type 0 where
+  of : t.of ≡ None
+  role : t.role ≡ None
+  read : t.read ≡ no_trace None
+
+module _ (n : ℕ) where
+  fresh_at : (y : Moment) (t : MoverTrace) → IsElsewhere n y → IsFresh t → IsFresh (at_carry [] n t y)
+  fresh_at (MovesTo chunk to) t away f =
+      let into : MoverTrace = record t { of = Some chunk; chunk = chunk; role = Some Writing; count = 0; written = no_trace None } in
+      let left : MoverTrace = record t { of = None; chunk = chunk; role = Some Reading; count = 0; read = no_trace None } in
+      let other : MoverTrace = record t { role = None } in
+      subst IsFresh (sym (not_its_own to n into (if is_at t.of chunk then left else other) away ∙ ap (λ b. if b then left else other) (at_apart t.of chunk (λ same. none-some chunk (sym f.of ∙ same)))))
+      (record { of = f.of; role = refl; read = f.read })
+  fresh_at (Hands m g place) t away f =
+      let change = handed_at (take_none place) (slice_get [] place) in
+      by_test (m == mover_port && g == n) (λ b. IsFresh (if b then with_port_of change t.role t else t)) (λ _. subst IsFresh (sym (ap (λ o. with_port_of change o t) f.role)) f) (λ _. f)
+    where
+      take_none : ℕ → History
+      take_none place = take place []
+  fresh_at (Carries chunk heard next) t away f =
+      let one : MoverTrace = record t { count = suc t.count } in
+      by_test (chunk == t.chunk) (λ b. IsFresh (if b then numbered (suc t.count) t.role next one else t)) (λ _. subst IsFresh (sym (ap (λ o. numbered (suc t.count) o next one) f.role)) (record { of = f.of; role = f.role; read = f.read })) (λ _. f)
+  fresh_at (Turns m heard next) t away f = f
+  fresh_at (Writes text) t away f = f
+  fresh_at (Begins m call) t away f = f
+  fresh_at (Ends m answer) t away f = f
+
+  fresh_from : (told : List Moment) (t : MoverTrace) → Every (IsElsewhere n) told → IsFresh t → IsFresh (fold (at_carry [] n) t told)
+  fresh_from [] t away f = f
+  fresh_from (y ∷ told) t away f = fresh_from told (at_carry [] n t y) away.1 (fresh_at y t away.0 f)
+
+  fresh_moves : (count : ℕ) (told : List Moment) → count ≤ n → Every (IsElsewhere n) told → IsFresh (moves_into [] n count told)
+  fresh_moves count told le away = fresh_from told (no_moves (first_chunk count n)) away (record { of = ap (λ b. if b then Some n else None) (le-ltb n count le); role = refl; read = refl })
+
+-- A port that goes there
+
+rehomed_driven : (setup : Setup) (history : History) (chunk seen : ℕ) (p : PortIs) (last : Option Ask) (pending : Option LastAsk) → p.ask ≡ of_chunk chunk last → IsPending seen last pending
+    → IsDriven setup (record { history = history; asks = number_of chunk pending; writes = []; reads = [] }) (rehomed p)
+rehomed_driven setup history chunk seen p None None asks is =
+    subst (λ a. let q : PortIs = record { ask = a; sent = None; last = 0 } in IsDriven setup (new_past history) q) (sym asks) (BeginsDriven history)
+rehomed_driven setup history chunk seen p None (Some l) asks is = absurd is
+rehomed_driven setup history chunk seen p (Some ask) None asks is = absurd is
+rehomed_driven setup history chunk seen p (Some ask) (Some l) asks is =
+    subst (λ c. IsDriven setup (record { history = history; asks = (if c == chunk then l.number else 0); writes = []; reads = [] }) (rehomed p)) (sym is.of) (
+    by_test (chunk_of ask == chunk) (λ b. p.ask ≡ (if b then Some ask else None) → IsDriven setup (record { history = history; asks = (if b then l.number else 0); writes = []; reads = [] }) (rehomed p))
+    (λ _ its. subst (λ a. let q : PortIs = record { ask = a; sent = None; last = 0 } in IsDriven setup (record { history = history; asks = l.number; writes = []; reads = [] }) q) (sym its)
+    (Puts (new_past history) new_port ask l.number (omega (arith, is.number)) refl (BeginsDriven history)))
+    (λ _ its. subst (λ a. let q : PortIs = record { ask = a; sent = None; last = 0 } in IsDriven setup (new_past history) q) (sym its) (BeginsDriven history))
+    asks)
+
+rehomed_there : (ports : List PortIs) (m : ℕ) (p : PortIs) → slice_get ports m ≡ Some p → slice_get (map rehomed ports) m ≡ Some (rehomed p)
+rehomed_there [] m p at = absurd (none-some p at)
+rehomed_there (q ∷ ports) zero p at = ap (λ (x : PortIs). Some (rehomed x)) (same_Some q p at)
+rehomed_there (q ∷ ports) (suc m) p at = rehomed_there ports m p at
+
+reading_apart : Reading ≡ Writing → ⊥
+reading_apart same = cc
+
+-- The chunk leaves one group and goes to the other
+
+module _ (kind : Option Kind) (halts : List Halt) (v : VolumeRun) (told : List Moment) (is : IsBorne kind v told) (rests : v.routes.moving ≡ None) (names format chunk h : ℕ) (home : home_of v.routes chunk ≡ Some h) where
+  abbrev count : ℕ
+  count = v.extent.chunks
+
+  abbrev n : ℕ
+  n = length v.chunks
+
+  abbrev group : Chunk
+  group = made_chunk halts v.extent.sectors names format n
+
+  abbrev y : Moment
+  y = MovesTo chunk n
+
+  abbrev told_on : List Moment
+  told_on = told ++ y ∷ []
+
+  abbrev source : ChunkRun
+  source = (from halts v told is.hosts rests chunk h home group refl).0
+
+  source_there : slice_get v.chunks h ≡ Some source
+  source_there = (from halts v told is.hosts rests chunk h home group refl).1
+
+  abbrev chunks_on : List ChunkRun
+  chunks_on = slice_set v.chunks h (left_by_ports source) ++ taking_ports source (new_run group) ∷ []
+
+  abbrev under : RoutesIs
+  under = record v.routes { moving = Some (record { chunk = chunk; to = n }) }
+
+  apart_home : n ≢ h
+  apart_home same = let low = is.hosts.routes.within chunk h home in omega (arith, low, same)
+
+  nobody : (c : ChunkRun) → slice_get v.chunks n ≡ Some c → ⊥
+  nobody c at = let low = slice_get_within v.chunks n c at in omega (arith, low)
+
+  strange_all : Every (IsWithin n 0) told × Every (IsElsewhere n) told
+  strange_all = (
+    every_of (IsWithin n 0) told (λ place x at. (strange count v.chunks n nobody (take place told) x (is.so.each place x at)).0),
+    every_of (IsElsewhere n) told (λ place x at. (strange count v.chunks n nobody (take place told) x (is.so.each place x at)).1),
+  )
+
+  had : asks_of count told h ≡ Some chunk
+  had = (subst (IsHome (asks_of count told) chunk) home (is.hosts.routes.homes chunk)).here
+
+  -- another group has not the asks of the chunk
+  away : (k : ℕ) → k ≢ h → asks_of count told k ≡ Some chunk → ⊥
+  away k other has = other ((subst (IsHome (asks_of count told) chunk) home (is.hosts.routes.homes chunk)).alone k has)
+
+  of_left : asks_of count told_on h ≡ None
+  of_left = of_other count n v.routes told is.hosts.routes rests chunk h home h apart_home ∙ ap (λ b. if b then None else asks_of count told h) (at_same (asks_of count told h) chunk had)
+
+  of_away : (k : ℕ) → n ≢ k → k ≢ h → asks_of count told_on k ≡ asks_of count told k
+  of_away k apart other =
+      of_other count n v.routes told is.hosts.routes rests chunk h home k apart ∙ ap (λ b. if b then None else asks_of count told k) (at_apart (asks_of count told k) chunk (away k other))
+
+  -- What the moment is to the traces
+
+  module _ (history : History) (m k : ℕ) where
+    abbrev t : Trace
+    t = trace_of history m k count told
+
+    anew : Trace
+    anew = record t { of = Some chunk; asks = number_of chunk t.pending; writes = []; reads = [] }
+
+    leaving : Trace
+    leaving = record t { of = None }
+
+    trace_new : n ≡ k → past_of count history m k told_on ≡ record { history = history; asks = number_of chunk t.pending; writes = []; reads = [] }
+    trace_new same =
+        past_more history m k count told y ∙ ap (past_in history) (its_own n k (record t { of = Some chunk; asks = number_of chunk t.pending; writes = []; reads = [] }) (if is_at t.of chunk then record t { of = None } else t) same)
+
+    trace_other : n ≢ k → past_of count history m k told_on ≡ past_of count history m k told
+    trace_other apart =
+        past_more history m k count told y ∙ ap (past_in history) (not_its_own n k (record t { of = Some chunk; asks = number_of chunk t.pending; writes = []; reads = [] }) (if is_at t.of chunk then record t { of = None } else t) apart)
+        ∙ by_test (is_at t.of chunk) (λ b. past_in history (if b then record t { of = None } else t) ≡ past_in history t) (λ _. refl) (λ _. refl)
+
+  module _ (history : History) (k : ℕ) where
+    abbrev u : MoverTrace
+    u = moves_into history k count told
+
+    abbrev into : MoverTrace
+    into = record u { of = Some chunk; chunk = chunk; role = Some Writing; count = 0; written = no_trace None }
+
+    abbrev left : MoverTrace
+    left = record u { of = None; chunk = chunk; role = Some Reading; count = 0; read = no_trace None }
+
+    abbrev other : MoverTrace
+    other = record u { role = None }
+
+    moves_new : n ≡ k → moves_into history k count told_on ≡ into
+    moves_new same = moves_more history k count told y ∙ its_own n k into (if is_at u.of chunk then left else other) same
+
+    moves_left : n ≢ k → asks_of count told k ≡ Some chunk → moves_into history k count told_on ≡ left
+    moves_left apart has =
+        moves_more history k count told y ∙ not_its_own n k into (if is_at u.of chunk then left else other) apart ∙ ap (λ b. if b then left else other) (at_same u.of chunk ((is_hauled history k count told).of ∙ has))
+
+    moves_other : n ≢ k → (asks_of count told k ≡ Some chunk → ⊥) → moves_into history k count told_on ≡ other
+    moves_other apart none =
+        moves_more history k count told y ∙ not_its_own n k into (if is_at u.of chunk then left else other) apart
+        ∙ ap (λ b. if b then left else other) (at_apart u.of chunk (λ same. none (sym (is_hauled history k count told).of ∙ same)))
+
+  -- The groups
+
+  within_on : (k : ℕ) (c : ChunkRun) → IsAsTold count told k c → Every (IsWithin k (length c.group.history)) told_on
+  within_on k c its = every_append (IsWithin k (length c.group.history)) told (y ∷ []) its.within (tt, tt)
+
+  -- the one that the ports leave
+  left_told : IsAsTold count told h source → IsAsTold count told_on h (left_by_ports source)
+  left_told its = record {
+    number = its.number;
+    stands = its.stands;
+    within = within_on h source its;
+    driven = λ m low.
+        let was = its.driven m low in record {
+          port = was.port;
+          its = subst (λ (past : Past). IsDriven source.group.setup past was.port) (sym (trace_other source.group.history m h apart_home)) was.its;
+          there = λ c has. absurd (none-some c (sym of_left ∙ has));
+        };
+    hauled = by;
+  }
+    where
+      history : History
+      history = source.group.history
+
+      now : moves_into source.group.history h count told_on ≡ left source.group.history h
+      now = moves_left source.group.history h apart_home had
+
+      by : (role : Asked) → MoverAsTold count told_on h (left_by_ports source) role
+      by Reading = record {
+        port = new_port;
+        its = subst (λ (x : MoverTrace). IsDriven source.group.setup (past_in source.group.history x.read) new_port) (sym now) (BeginsDriven source.group.history);
+        there = λ _. refl;
+      }
+      by Writing =
+          let was = its.hauled Writing in record {
+            port = was.port;
+            its = subst (λ (x : MoverTrace). IsDriven source.group.setup (past_in source.group.history x.written) was.port) (sym now) was.its;
+            there = λ has. absurd (reading_apart (same_Some Reading Writing (sym (ap (λ (x : MoverTrace). x.role) now) ∙ has)));
+          }
+
+  -- any other that was there
+  other_told : (k : ℕ) (c : ChunkRun) → n ≢ k → k ≢ h → IsAsTold count told k c → IsAsTold count told_on k c
+  other_told k c apart elsewhere its =
+      let now = moves_other c.group.history k apart (away k elsewhere) in record {
+        number = its.number;
+        stands = its.stands;
+        within = within_on k c its;
+        driven = λ m low.
+            let was = its.driven m low in record {
+              port = was.port;
+              its = subst (λ (past : Past). IsDriven c.group.setup past was.port) (sym (trace_other c.group.history m k apart)) was.its;
+              there = λ chunk_of_it has. was.there chunk_of_it (sym (of_away k apart elsewhere) ∙ has);
+            };
+        hauled = λ role.
+            let was = its.hauled role in record {
+              port = was.port;
+              its = subst (λ (past : Past). IsDriven c.group.setup past was.port) (sym (ap (λ (x : MoverTrace). past_in c.group.history (trace_in x role)) now ∙ role_past c.group.history k role)) was.its;
+              there = λ has. absurd (none-some role (sym (ap (λ (x : MoverTrace). x.role) now) ∙ has));
+            };
+      }
+    where
+      role_past : (history : History) (k : ℕ) (role : Asked) → past_in history (trace_in (other history k) role) ≡ past_in history (trace_in (u history k) role)
+      role_past history k Reading = refl
+      role_past history k Writing = refl
+
+  -- the new one
+  abbrev target : ChunkRun
+  target = taking_ports source (new_run group)
+
+  new_told : IsAsTold count told h source → IsAsTold count told_on n target
+  new_told its = record {
+    number = refl;
+    stands = refl;
+    within = every_append (IsWithin n 0) told (y ∷ []) strange_all.0 (tt, tt);
+    driven = λ m low.
+        let was = its.driven m low in
+        let there = was.there chunk had in
+        let known = is_trace [] m n count told in
+        let asks : was.port.ask ≡ of_chunk chunk (last_ask told m) = is.hosts.ports m low h source was.port source_there there ∙ ap (λ o. asked_for o (last_ask told m)) had in record {
+          port = rehomed was.port;
+          its = subst (λ (past : Past). IsDriven group.setup past (rehomed was.port)) (sym (trace_new [] m n refl))
+              (rehomed_driven group.setup [] chunk (trace_of [] m n count told).seen was.port (last_ask told m) (trace_of [] m n count told).pending asks known.pends);
+          there = λ _ _. rehomed_there source.ports m was.port there;
+        };
+    hauled = by;
+  }
+    where
+      now : moves_into [] n count told_on ≡ into [] n
+      now = moves_new [] n refl
+
+      fresh : IsFresh (moves_into [] n count told)
+      fresh = fresh_moves n count told is.hosts.routes.made strange_all.1
+
+      mover_port_there : (p : PortIs) × (slice_get source.ports mover_port ≡ Some p)
+      mover_port_there = something_there source.ports mover_port (let full = (is.hosts.placed h source source_there).ports in omega (arith, full))
+
+      none_there : (o : Option MoverIs) → IsPair None o → IsBearing count told v.chunks v.routes None o → HasAsked no_one mover_port None v.chunks
+      none_there None pair bears = bears
+      none_there (Some mover) pair bears = absurd pair
+
+      unasked : mover_port_there.0.ask ≡ None
+      unasked = none_there v.mover (subst (λ m. IsPair m v.mover) rests is.hosts.pair) (subst (λ m. IsBearing count told v.chunks v.routes m v.mover) rests is.bears) h source mover_port_there.0 source_there mover_port_there.1
+
+      by : (role : Asked) → MoverAsTold count told_on n target role
+      by Writing = record {
+        port = rehomed mover_port_there.0;
+        its = subst (λ (x : MoverTrace). IsDriven group.setup (past_in [] x.written) (rehomed mover_port_there.0)) (sym now)
+            (subst (λ a. let q : PortIs = record { ask = a; sent = None; last = 0 } in IsDriven group.setup (new_past []) q) (sym unasked) (BeginsDriven []));
+        there = λ _. rehomed_there source.ports mover_port mover_port_there.0 mover_port_there.1;
+      }
+      by Reading = record {
+        port = new_port;
+        its = subst (λ (x : MoverTrace). IsDriven group.setup (past_in [] x.read) new_port) (sym now)
+            (subst (λ (x : Trace). IsDriven group.setup (past_in [] x) new_port) (sym fresh.read) (BeginsDriven []));
+        there = λ has. absurd (reading_apart (sym (same_Some Writing Reading (sym (ap (λ (x : MoverTrace). x.role) now) ∙ has))));
+      }
+
+  -- All of them
+
+  abbrev where_from : (k : ℕ) (c : ChunkRun) → slice_get chunks_on k ≡ Some c → ((k ≡ h) × (left_by_ports source ≡ c)) ⊎ ((k ≢ h) × (slice_get v.chunks k ≡ Some c)) ⊎ ((k ≡ n) × (target ≡ c))
+  where_from = came_from halts v told is.hosts rests chunk h home group refl
+
+  grown_on : AllGrow v.chunks chunks_on
+  grown_on = grow_on v.chunks (slice_set v.chunks h (left_by_ports source)) chunks_on (grow_set v.chunks h source (left_by_ports source) source_there (grows_refl source.group)) (grow_more (slice_set v.chunks h (left_by_ports source)) target)
+
+  target_there : slice_get chunks_on n ≡ Some target
+  target_there = ap (slice_get chunks_on) (sym (set_length v.chunks h (left_by_ports source))) ∙ at_end (slice_set v.chunks h (left_by_ports source)) target
+
+  all_as_told : (k : ℕ) (c : ChunkRun) → slice_get chunks_on k ≡ Some c → IsAsTold count told_on k c
+  all_as_told k c at = elim (where_from k c at) [
+    | inl here ↦ subst (λ (i : ℕ). IsAsTold count told_on i c) (sym here.0) (subst (IsAsTold count told_on h) here.1 (left_told (is.so.ports h source source_there)))
+    | inr more ↦ elim more [
+      | inl old ↦ other_told k c (λ same. nobody c (ap (slice_get v.chunks) same ∙ old.1)) old.0 (is.so.ports k c old.1)
+      | inr new ↦ subst (λ (i : ℕ). IsAsTold count told_on i c) (sym new.0) (subst (IsAsTold count told_on n) new.1 (new_told (is.so.ports h source source_there)))
+    ]
+  ]
+
+  alone_on : AreMountsAlone v.chunks told → AreMountsAlone chunks_on told_on
+  alone_on are k place server c range sectors answer there at = elim (where_from k c there) [
+    | inl here ↦
+        alone_told v.chunks told (y ∷ []) are k place server source range sectors answer (ap (slice_get v.chunks) here.0 ∙ source_there) (ap (λ (x : ChunkRun). slice_get x.group.history place) here.1 ∙ at)
+    | inr more ↦ elim more [
+      | inl old ↦ alone_told v.chunks told (y ∷ []) are k place server c range sectors answer old.1 at
+      | inr new ↦ absurd (none-some _ (ap (λ (x : ChunkRun). slice_get x.group.history place) new.1 ∙ at))
+    ]
+  ]
+
+  pub leaves_so : AreSo kind count told_on chunks_on
+  leaves_so = record {
+    ports = all_as_told;
+    each = one_more (IsSo count chunks_on) told y (all_grown count told v.chunks chunks_on grown_on is.so.each) (record {
+      small = small count n v.routes told is.hosts.routes rests chunk h home;
+      rests = all_rest count n v.routes told is.hosts.routes rests chunk h home;
+      behind = is.hosts.routes.made;
+      fresh = begins_fresh count n v.routes told is.hosts.routes rests chunk h home;
+      group = target;
+      there = target_there;
+    });
+    alone = λ own. alone_on (is.so.alone own);
+  }
+
+  pub leaves_free : IsFree count told_on chunks_on under (record { chunk = chunk; to = n })
+  leaves_free = record {
+    from = h;
+    from_is = sym (ap (λ o. home_in v.routes.routes o chunk) rests) ∙ home;
+    apart = λ same. apart_home (sym same);
+    free = free_ports;
+    roles = record {
+      reads = λ history. (ap (λ (x : MoverTrace). x.role) (moves_left history h apart_home had), ap (λ (x : MoverTrace). x.chunk) (moves_left history h apart_home had));
+      writes = λ history. (ap (λ (x : MoverTrace). x.role) (moves_new history n refl), ap (λ (x : MoverTrace). x.chunk) (moves_new history n refl));
+      others = λ history k elsewhere apart. ap (λ (x : MoverTrace). x.role) (moves_other history k (λ same. apart (sym same)) (away k elsewhere));
+    };
+  }
+    where
+      none_there : (o : Option MoverIs) → IsPair None o → IsBearing count told v.chunks v.routes None o → HasAsked no_one mover_port None v.chunks
+      none_there None pair bears = bears
+      none_there (Some mover) pair bears = absurd pair
+
+      quiet : HasAsked no_one mover_port None v.chunks
+      quiet = none_there v.mover (subst (λ m. IsPair m v.mover) rests is.hosts.pair) (subst (λ m. IsBearing count told v.chunks v.routes m v.mover) rests is.bears)
+
+      free_ports : HasAsked no_one mover_port None chunks_on
+      free_ports k c port at its = elim (where_from k c at) [
+        | inl here ↦ ap (λ (p : PortIs). p.ask) (sym (same_Some new_port port (ap (λ (x : ChunkRun). slice_get x.ports mover_port) here.1 ∙ its)))
+        | inr more ↦ elim more [
+          | inl old ↦ quiet k c port old.1 its
+          | inr new ↦
+              let was = rehomed_at source.ports mover_port port (ap (λ (x : ChunkRun). slice_get x.ports mover_port) new.1 ∙ its) in
+              ap (λ (p : PortIs). p.ask) was.2 ∙ quiet h source was.0 source_there was.1
+        ]
+      ]
+
+-- The line
+
+module _ (halts : List Halt) where
+  pub moves_so : (v : VolumeRun) (told : List Moment) (names format chunk : ℕ) → is_some v.routes.moving ≡ false → (kind : Option Kind) → IsBorne kind v told
+      → let t : volumes.Told = moves chunk (new_group halts v names format) v in IsBorne kind t.volume (told ++ t.told)
+  moves_so v told names format chunk free kind is = by (home_of v.routes chunk) refl
+    where
+      by : (o : Option ℕ) → home_of v.routes chunk ≡ o → let t : volumes.Told = moves_from chunk o (new_group halts v names format) v in IsBorne kind t.volume (told ++ t.told)
+      by None at = subst (IsBorne kind v) (sym (append-nil told)) is
+      by (Some h) at =
+          let rests = none_moving halts v.routes.moving free in
+          let group = made_chunk halts v.extent.sectors names format (length v.chunks) in
+          let m : MoverIs = new_mover chunk (v.extent.sectors / 8) in
+          let s : Step = step m None in
+          let moving : Moving = record { chunk = chunk; to = length v.chunks } in
+          let source = (from halts v told is.hosts rests chunk h at group refl).0 in
+          let new : List ChunkRun = slice_set v.chunks h (left_by_ports source) ++ taking_ports source (new_run group) ∷ [] in
+          let w : List ChunkRun → VolumeRun = λ chunks. record v { chunks = chunks; routes = record v.routes { moving = Some moving }; mover = Some m } in
+          let on = told ++ MovesTo chunk (length v.chunks) ∷ [] in
+          let first = began halts v told is.hosts rests chunk h at group refl m refl in
+          let done = went kind halts (w new) on first (leaves_so kind halts v told is rests names format chunk h at) moving refl (leaves_free kind halts v told is rests names format chunk h at) m s.mover refl (step_chunk m None) None tt s.next (step_asks m None) in
+          let t : volumes.Told = carries_on (moved_from v chunk h (new_run group)) None s in
+          subst (IsBorne kind t.volume) (append_assoc told (MovesTo chunk (length v.chunks) ∷ []) t.told)
+          (subst (λ (chunks : List ChunkRun). let x : volumes.Told = carries_on (w chunks) None s in IsBorne kind x.volume (on ++ x.told)) (sym (chunks_are halts v told is.hosts rests chunk h at group refl)) done.0)

@@ -1,0 +1,13 @@
+use Rattle.pf_world.specs.Reports.{world_run}
+use Rattle.pf_mounted.proofs.Holding.{mounts_alone}
+use Rattle.pf_mounted.proofs.Lawful.{answers, known}
+use Rattle.pf_mounted.proofs.Moved.{are_routed}
+use Rattle.pf_mounted.proofs.Sizing.{has_room}
+use Rattle.pf_mounted.proofs.list.sectors_of_runs_are_registers.Goals as goal
+
+pub returns : goal.returns
+returns c = λ halts sessions lines script lawful volume some.
+    let run = world_run halts sessions lines in
+    let room = has_room halts sessions lines script in
+    are_routed run.world.volume.extent run.world.volume.chunks (answers halts sessions lines script lawful) run.told (known halts sessions lines script lawful) volume room.chunks
+    (mounts_alone halts sessions lines script (room.mounted some))
