@@ -19,7 +19,8 @@ use Rattle.pf_gen.specs.Draws.{count, group, kind, sector, server}
 use Rattle.pf_gen.specs.Lines.{drawn_line, drawn_text, of_server, submit_text, ended as fed_with}
 use Rattle.pf_gen.specs.Generated.{closing, drawn_lines, generated, opening}
 use Rattle.pf_gen.proofs.Drawing.{drawn_more, drawn_none}
-use Rattle.pf_script.specs.Lines.{command_of, fits, is_server, line_of, placed, server_command, volume_after}
+use Rattle.pf_script.specs.declared.named.Named.{Named}
+use Rattle.pf_script.specs.Lines.{command_of, first_named, fits, is_server, line_of, placed, server_command, volume_after}
 use Rattle.pf_script.specs.declared.form.Form.{Form}
 use Rattle.pf_script.specs.declared.form.Form.TheVariants as forms
 use Rattle.pf_script.specs.declared.form.ServerVerb.{ServerVerb}
@@ -121,11 +122,11 @@ no_return (b ∷ bytes) (suc k) e = no_return bytes k (both (is_inner b) (list_a
 
 -- ---- how they are fed
 
-fed_both : (s : Scanned (Option ℕ) Line) (xs ys : List ℕ) → fed_all script_rules s (xs ++ ys) ≡ fed_all script_rules (fed_all script_rules s xs) ys
+fed_both : (s : Scanned (Option Named) Line) (xs ys : List ℕ) → fed_all script_rules s (xs ++ ys) ≡ fed_all script_rules (fed_all script_rules s xs) ys
 fed_both s [] ys = refl
 fed_both s (x ∷ xs) ys = fed_both (fed script_rules s x) xs ys
 
-fed_inner : (lines : List Line) (n : ℕ) (v : Option ℕ) (begun bytes : List ℕ) → n ≤ 100000 → length begun + length bytes ≤ 1024 → list_all is_inner bytes ≡ true → fed_all script_rules (Open lines n v begun) bytes ≡ Open lines n v (begun ++ bytes)
+fed_inner : (lines : List Line) (n : ℕ) (v : Option Named) (begun bytes : List ℕ) → n ≤ 100000 → length begun + length bytes ≤ 1024 → list_all is_inner bytes ≡ true → fed_all script_rules (Open lines n v begun) bytes ≡ Open lines n v (begun ++ bytes)
 fed_inner lines n v begun [] few short e = ap (Open lines n v) (sym (append-nil begun))
 fed_inner lines n v begun (b ∷ bytes) few short e =
     let parts = both (is_inner b) (list_all is_inner bytes) e in
@@ -139,11 +140,11 @@ fed_inner lines n v begun (b ∷ bytes) few short e =
     not_over : (n length : ℕ) → n ≤ 100000 → length ≤ 1024 → ((nat_lt 100000 n && nat_lt 0 length) || nat_lt 1024 length) ≡ false
     not_over n length few short = grind (arith, nat_tests)
 
-    over_at : ℕ → Scanned (Option ℕ) Line
+    over_at : ℕ → Scanned (Option Named) Line
     over_at n = Refused n (over_fault n)
 
 -- what a line of plain words says
-read_joined : (n : ℕ) (v : Option ℕ) (word : List ℕ) (words : List (List ℕ)) → n ≤ 100000 → length words ≤ 100 → is_plain word ≡ true → list_all is_plain words ≡ true → read_line script_rules n v (joined word words) ≡ numbered_line n (command_of v (word ∷ words))
+read_joined : (n : ℕ) (v : Option Named) (word : List ℕ) (words : List (List ℕ)) → n ≤ 100000 → length words ≤ 100 → is_plain word ≡ true → list_all is_plain words ≡ true → read_line script_rules n v (joined word words) ≡ numbered_line n (command_of v (word ∷ words))
 read_joined n v word words few small e all =
     let text = joined word words in
     let short = length_joined word words e all in
@@ -159,7 +160,7 @@ read_joined n v word words few small e all =
     fits_in : (length : ℕ) → length ≤ 1024 → nat_lt 1024 length ≡ false
     fits_in length low = grind (arith, nat_tests)
 
-pub fed_joined : (lines : List Line) (n : ℕ) (v : Option ℕ) (word : List ℕ) (words : List (List ℕ)) → n ≤ 100000 → length words ≤ 100 → is_plain word ≡ true → list_all is_plain words ≡ true
+pub fed_joined : (lines : List Line) (n : ℕ) (v : Option Named) (word : List ℕ) (words : List (List ℕ)) → n ≤ 100000 → length words ≤ 100 → is_plain word ≡ true → list_all is_plain words ≡ true
     → fed_all script_rules (Open lines n v []) (joined word words ++ 10 ∷ []) ≡ fed_line script_rules lines n v (numbered_line n (command_of v (word ∷ words)))
 fed_joined lines n v word words few small e all =
     let text = joined word words in
@@ -217,6 +218,9 @@ byte_is b low =
 
 -- ---- the lines that are drawn
 
+abbrev two : Named
+two = first_named 2
+
 -- plain words that say a command, behind a volume of two chunks
 record IsLine (text : List ℕ) : Type 0 where
   word : List ℕ
@@ -226,12 +230,12 @@ record IsLine (text : List ℕ) : Type 0 where
   plain : is_plain word ≡ true
   plains : list_all is_plain words ≡ true
   command : Command
-  says : command_of (Some 2) (word ∷ words) ≡ Ok (Some command)
-  stays : volume_after (Some 2) (Some command) ≡ Some 2
+  says : command_of (Some two) (word ∷ words) ≡ Ok (Some command)
+  stays : volume_after (Some two) (Some command) ≡ Some two
   alone : is_live command ≡ false
 
 abbrev placing : Form → Result (Option Command) LineFault
-placing form = placed (Some 2) form >>= λ command. Ok (Some command)
+placing form = placed (Some two) form >>= λ command. Ok (Some command)
 
 mod_2 : (n : ℕ) → n % 2 < 2
 mod_2 n = omega arith
@@ -251,7 +255,7 @@ mod_256 n = omega arith
 is_here : (g i : ℕ) → g < 2 → i < 3 → is_server 2 g i ≡ true
 is_here g i low few = grind (arith, nat_tests)
 
-server_says : (verb : ServerVerb) (g i : ℕ) (dg di : List ℕ) → number dg ≡ Ok g → number di ≡ Ok i → fits 2 (server_command verb g i) ≡ true → (server_of verb (dg ∷ di ∷ []) >>= placing) ≡ Ok (Some (server_command verb g i))
+server_says : (verb : ServerVerb) (g i : ℕ) (dg di : List ℕ) → number dg ≡ Ok g → number di ≡ Ok i → fits two (server_command verb g i) ≡ true → (server_of verb (dg ∷ di ∷ []) >>= placing) ≡ Ok (Some (server_command verb g i))
 server_says verb g i dg di eg ei here =
     ap (λ r. (r >>= λ k. number di >>= λ j. Ok (forms.OfServer verb k j)) >>= placing) eg
     ∙ ap (λ r. (r >>= λ j. Ok (forms.OfServer verb g j)) >>= placing) ei
@@ -265,8 +269,8 @@ spread word a b c d e =
     ∙ append_assoc (word ++ 32 ∷ a) (32 ∷ b) (32 ∷ (c ++ 32 ∷ (d ++ 32 ∷ e)))
     ∙ append_assoc word (32 ∷ a) (32 ∷ (b ++ 32 ∷ (c ++ 32 ∷ (d ++ 32 ∷ e))))
 
-server_line : (word : List ℕ) (verb : ServerVerb) (x : ℕ) → is_plain word ≡ true → ((words : List (List ℕ)) → command_of (Some 2) (word ∷ words) ≡ (server_of verb words >>= placing)) → fits 2 (server_command verb (group x) (server x)) ≡ true
-    → volume_after (Some 2) (Some (server_command verb (group x) (server x))) ≡ Some 2 → is_live (server_command verb (group x) (server x)) ≡ false → IsLine (of_server word x)
+server_line : (word : List ℕ) (verb : ServerVerb) (x : ℕ) → is_plain word ≡ true → ((words : List (List ℕ)) → command_of (Some two) (word ∷ words) ≡ (server_of verb words >>= placing)) → fits two (server_command verb (group x) (server x)) ≡ true
+    → volume_after (Some two) (Some (server_command verb (group x) (server x))) ≡ Some two → is_live (server_command verb (group x) (server x)) ≡ false → IsLine (of_server word x)
 server_line word verb x plain says here stays alone =
     let g = number_is (group x) (omega (arith, mod_2 (x / 2 ^ 36))) in
     let i = number_is (server x) (omega (arith, mod_3 (x / 2 ^ 40))) in
@@ -286,8 +290,8 @@ server_line word verb x plain says here stays alone =
 here_of : (x : ℕ) → is_server 2 (group x) (server x) ≡ true
 here_of x = is_here (group x) (server x) (mod_2 (x / 2 ^ 36)) (mod_3 (x / 2 ^ 40))
 
-submit_says : (g i s b c : ℕ) (dg di ds hb dc : List ℕ) → number dg ≡ Ok g → number di ≡ Ok i → number ds ≡ Ok s → byte hb ≡ Ok b → number dc ≡ Ok c → fits 2 (commands.Submit g i s b c) ≡ true
-    → command_of (Some 2) (codes "submit" ∷ dg ∷ di ∷ ds ∷ hb ∷ dc ∷ []) ≡ Ok (Some (commands.Submit g i s b c))
+submit_says : (g i s b c : ℕ) (dg di ds hb dc : List ℕ) → number dg ≡ Ok g → number di ≡ Ok i → number ds ≡ Ok s → byte hb ≡ Ok b → number dc ≡ Ok c → fits two (commands.Submit g i s b c) ≡ true
+    → command_of (Some two) (codes "submit" ∷ dg ∷ di ∷ ds ∷ hb ∷ dc ∷ []) ≡ Ok (Some (commands.Submit g i s b c))
 submit_says g i s b c dg di ds hb dc eg ei es eb ec here =
     ap (λ r. (r >>= λ g. number di >>= λ i. number ds >>= λ s. byte hb >>= λ b. number dc >>= λ c. Ok (forms.Submit g i s b c)) >>= placing) eg
     ∙ ap (λ r. (r >>= λ i. number ds >>= λ s. byte hb >>= λ b. number dc >>= λ c. Ok (forms.Submit g i s b c)) >>= placing) ei
@@ -355,25 +359,25 @@ drawn x =
 -- ---- the whole script
 
 -- so many lines were read, of a volume of two chunks and without threads
-record HasRead (n : ℕ) (s : Scanned (Option ℕ) Line) : Type 0 where
+record HasRead (n : ℕ) (s : Scanned (Option Named) Line) : Type 0 where
   lines : List Line
-  is : s ≡ Open lines n (Some 2) []
+  is : s ≡ Open lines n (Some two) []
   count : length lines + 1 ≡ n
   none : live_lines lines ≡ 0
 
-more_read : (s : Scanned (Option ℕ) Line) (n : ℕ) (text : List ℕ) → HasRead n s → n ≤ 100000 → IsLine text → HasRead (n + 1) (fed_all script_rules s (fed_with text))
+more_read : (s : Scanned (Option Named) Line) (n : ℕ) (text : List ℕ) → HasRead n s → n ≤ 100000 → IsLine text → HasRead (n + 1) (fed_all script_rules s (fed_with text))
 more_read s n text read few line = record {
   lines = read.lines ++ said_list (numbered n (Some line.command));
   is = ap (λ t. fed_all script_rules t (fed_with text)) read.is
-      ∙ ap (λ bytes. fed_all script_rules (Open read.lines n (Some 2) []) (fed_with bytes)) line.text_is
-      ∙ fed_joined read.lines n (Some 2) line.word line.words few line.few line.plain line.plains
-      ∙ ap (λ r. fed_line script_rules read.lines n (Some 2) (numbered_line n r)) line.says
+      ∙ ap (λ bytes. fed_all script_rules (Open read.lines n (Some two) []) (fed_with bytes)) line.text_is
+      ∙ fed_joined read.lines n (Some two) line.word line.words few line.few line.plain line.plains
+      ∙ ap (λ r. fed_line script_rules read.lines n (Some two) (numbered_line n r)) line.says
       ∙ ap (λ v. Open (read.lines ++ said_list (numbered n (Some line.command))) (n + 1) v []) line.stays;
   count = omega (arith, read.count, length-append read.lines (said_list (numbered n (Some line.command))));
   none = omega (arith, read.none, sum_by-append (λ (l : Line). cond (is_live l.command) 1 0) read.lines (said_list (numbered n (Some line.command))), ap {B = ℕ} (λ b. cond b 1 0) line.alone);
 }
 
-drawn_read : (s : Scanned (Option ℕ) Line) (first k : ℕ) → HasRead 2 s → k ≤ 2000 → HasRead (k + 2) (fed_all script_rules s (drawn_lines first k))
+drawn_read : (s : Scanned (Option Named) Line) (first k : ℕ) → HasRead 2 s → k ≤ 2000 → HasRead (k + 2) (fed_all script_rules s (drawn_lines first k))
 drawn_read s first zero read few = subst (λ bytes. HasRead 2 (fed_all script_rules s bytes)) (sym (drawn_none first)) read
 drawn_read s first (suc k) read few =
     let before = drawn_read s first k read (omega (arith, few)) in

@@ -1,29 +1,53 @@
 -- Lines that are run one after another.
-use Rattle.std.proofs.Common.{◌≡◌, ℕ, zero, suc, ◌+◌, ◌^◌, ◌<◌, ◌≤◌, List, [], ◌∷◌, ◌++◌, length, take, drop, get_or, Option, refl, sym, ap, subst, drop-cons, ◌∙◌, arith}
+use Rattle.std.proofs.Common.{◌≡◌, ℕ, zero, suc, ◌+◌, ◌*◌, min, append_assoc, flat_map, length-append, ◌^◌, ◌<◌, ◌≤◌, List, [], ◌∷◌, ◌++◌, length, take, drop, get_or, Option, refl, sym, ap, subst, drop-cons, ◌∙◌, arith}
 use Rattle.std.specs.Io.KnownBytes.{Appends}
 use Rattle.std.proofs.lemmas.List.{take-append-drop, take_more}
 use Rattle.std.proofs.lemmas.Option.{same_Some, slice_get-get_or, slice_get_read}
 use Rattle.std.proofs.Math.ListN.{drop_of_length-le}
-use Rattle.pf_entry.specs.Lists.{Every}
-use Rattle.pf_script.specs.declared.command.Command.TheVariants.{Volume}
+use Rattle.pf_script.specs.declared.command.Command.{Command}
+use Rattle.pf_script.specs.declared.command.Command.TheVariants as commands
+use Rattle.pf_script.specs.Lines.{named_after}
+use Rattle.pf_volume.specs.Volumes.{Extent}
 use Rattle.pf_hosts.specs.Moments.{text_of}
 use Rattle.pf_world.specs.declared.line.Line.{Line}
 use Rattle.pf_world.specs.Headline.{IsSoundWorld, RunsTo}
-use Rattle.pf_world.specs.Steps.{GoesOn, HasFailed, HasRun, MayRun}
-use Rattle.pf_world.specs.Views.{IsWorld, WorldIs}
+use Rattle.pf_world.specs.Disks.{six_list}
+use Rattle.pf_world.specs.Making.{HasMadeMore}
+use Rattle.pf_world.specs.Steps.{GoesOn, HasFailed, HasRun, MayRun, MayRunAll, moves_after}
+use Rattle.pf_world.specs.Views.{IsWorld, WorldIs, WorldOn, named_in}
 use Rattle.pf_world.proofs.Happening.{same_world}
 use Rattle.pf_world.proofs.Running.{goes_trans, run_goes_on}
+use Rattle.pf_world.proofs.Sixes.{length_sixes}
 use Rattle.polar_cli.specs.declared.status.Status.TheVariants as statuses
 use Rattle.polar_cli.specs.Ends.{AppendsFront}
 use Rattle.polar_cli.specs.Running.{HasGoneOn}
 use Rattle.polar_cli.proofs.Taken.{appends_both, front_after}
 
 abbrev pub no_line : Line
-no_line = record { number = 0; command = Volume 0 0 0 0 }
+no_line = record { number = 0; command = commands.Volume 0 0 0 0 }
 
 -- the line that stands there
 pub item_is : (lines : List Line) (i : ℕ) (line : Line) → i < length lines → line ≡ get_or lines i line → line ≡ get_or lines i no_line
 item_is lines i line low is = same_Some line (get_or lines i no_line) (sym (slice_get_read lines (length lines) i line refl low is) ∙ slice_get-get_or lines i no_line low)
+
+at_most_one : (moves : ℕ) (command : Command) → moves_after moves command ≤ moves + 1
+at_most_one moves (commands.Move chunk) = omega arith
+at_most_one moves command = omega arith
+
+-- what lines may name behind one that was run
+named_is : (chunks moves : ℕ) (command : Command) → MayRun (record { chunks = chunks; groups = min (chunks + moves) 8 }) command
+    → record { chunks = chunks; groups = min (chunks + moves_after moves command) 8 } ≡ named_after (record { chunks = chunks; groups = min (chunks + moves) 8 }) command
+named_is chunks moves (commands.Volume c s n f) may = absurd may
+named_is chunks moves (commands.Move chunk) may =
+    let same : min (chunks + suc moves) 8 ≡ min (min (chunks + moves) 8 + 1) 8 = omega arith in
+    ap (λ groups. record { chunks = chunks; groups = groups }) same
+named_is chunks moves command may = refl
+
+named_next : (old new : WorldIs) (command : Command) → new.fleet.volume ≡ old.fleet.volume → new.moves ≡ moves_after old.moves command → MayRun (named_in old) command → named_in new ≡ named_after (named_in old) command
+named_next old new command volume moves may =
+    ap (λ (v : Extent). record { chunks = v.chunks; groups = min (v.chunks + new.moves) 8 }) volume
+    ∙ ap (λ n. record { chunks = old.fleet.volume.chunks; groups = min (old.fleet.volume.chunks + n) 8 }) moves
+    ∙ named_is old.fleet.volume.chunks old.moves command may
 
 -- after the volume these lines were run, and the texts written
 pub record HasGone (volume : Line) (done : List Line) (taken now : Option (List ℕ)) (old world : WorldIs) : Type 0 where
@@ -33,10 +57,12 @@ pub record HasGone (volume : Line) (done : List Line) (taken now : Option (List 
   pub is_world : IsWorld world
   pub goes_on : GoesOn old world
   pub calls : world.fleet.calls ≤ old.fleet.calls + length done
+  pub moves : world.moves ≤ old.moves + length done
+  pub may : (rest : List Line) → MayRunAll (named_in old) (done ++ rest) → MayRunAll (named_in world) rest
   pub written : Appends taken now text
 
 pub gone_none : (volume : Line) (text : List ℕ) (taken now : Option (List ℕ)) (w : WorldIs) → RunsTo (volume ∷ []) text w → IsWorld w → IsSoundWorld w → Appends taken now text → HasGone volume [] taken now w w
-gone_none volume text taken now w run is_world sound written = record { text = text; run = run; lawful = sound; is_world = is_world; goes_on = same_world w; calls = omega arith; written = written }
+gone_none volume text taken now w run is_world sound written = record { text = text; run = run; lawful = sound; is_world = is_world; goes_on = same_world w; calls = omega arith; moves = omega arith; may = λ rest all. all; written = written }
 
 length_taken : (lines : List Line) (i : ℕ) → i ≤ length lines → length (take i lines) ≡ i
 length_taken lines zero low = refl
@@ -57,6 +83,11 @@ gone_more volume lines i taken now later old w new out low gone ran sound put =
       is_world = ran.runs.is_world;
       goes_on = goes_trans old w new gone.goes_on ran.runs.goes_on;
       calls = omega (arith, gone.calls, ran.runs.calls, length_taken lines i (omega (arith, low)), length_taken lines (i + 1) (omega (arith, low)));
+      moves = omega (arith, gone.moves, ran.runs.moves, at_most_one w.moves line.command, length_taken lines i (omega (arith, low)), length_taken lines (i + 1) (omega (arith, low)));
+      may = λ rest all.
+          let parts : (take i lines ++ line ∷ []) ++ rest ≡ take i lines ++ line ∷ rest = append_assoc (take i lines) (line ∷ []) rest in
+          let behind = gone.may (line ∷ rest) (subst (MayRunAll (named_in old)) parts (subst (λ done. MayRunAll (named_in old) (done ++ rest)) (take_more lines i no_line low) all)) in
+          subst (λ named. MayRunAll named rest) (sym (named_next w new line.command ran.runs.volume ran.runs.moves behind.0)) behind.1;
       written = appends_both taken now later gone.text (text_of ran.told) gone.written (subst (Appends now later) ran.put put);
     }
 
@@ -75,7 +106,7 @@ gone_short volume lines i taken now full old w new low gone failed sound = recor
   lawful = gone.lawful;
   leaves = failed;
   lawful_left = sound;
-  count = failed.goes_on.chunks ∙ gone.goes_on.chunks;
+  count = omega (arith, failed.goes_on.at_least, gone.goes_on.at_least);
   wrote = gone.written;
 }
 
@@ -94,7 +125,7 @@ full_first volume lines text taken now full w run is_world sound rose front = re
   lawful = sound;
   leaves = refl;
   lawful_left = sound;
-  count = refl;
+  count = omega arith;
   wrote = (rose, front);
 }
 
@@ -117,7 +148,7 @@ full_later volume lines i taken now later full old w new out low gone ran sound 
       lawful = sound;
       leaves = refl;
       lawful_left = sound;
-      count = ran.runs.goes_on.chunks ∙ gone.goes_on.chunks;
+      count = omega (arith, ran.runs.goes_on.at_least, gone.goes_on.at_least);
       wrote = (rose, front_after taken now later gone.text (text_of ran.told) gone.written (subst (AppendsFront now later) ran.put front));
     }
 
@@ -136,21 +167,24 @@ gone_all volume lines i taken now full old w all gone = record {
   lawful = gone.lawful;
   leaves = refl;
   lawful_left = gone.lawful;
-  count = gone.goes_on.chunks;
+  count = gone.goes_on.at_least;
   wrote = (drop_of_length-le lines all, gone.written);
 }
 
-every_at : (P : Line → Type 0) (lines : List Line) (i : ℕ) (d : Line) → i < length lines → Every P lines → P (get_or lines i d)
-every_at P [] i d low all = absurd (omega arith)
-every_at P (line ∷ lines) zero d low all = all.0
-every_at P (line ∷ lines) (suc i) d low all = every_at P lines i d (omega arith) all.1
-
 -- the next line may be run
-pub may_run : (lines : List Line) (i : ℕ) (old w : WorldIs) → i < length lines → length w.chunks ≡ length old.chunks → Every (λ line. MayRun (length old.chunks) line.command) lines
-    → MayRun (length w.chunks) (get_or lines i no_line).command
-may_run lines i old w low count all =
-    subst (λ n. MayRun n (get_or lines i no_line).command) (sym count) (every_at (λ line. MayRun (length old.chunks) line.command) lines i no_line low all)
+pub may_run : (volume : Line) (lines : List Line) (i : ℕ) (taken now : Option (List ℕ)) (old w : WorldIs) → i < length lines → MayRunAll (named_in old) lines → HasGone volume (take i lines) taken now old w → MayRun (named_in w) (get_or lines i no_line).command
+may_run volume lines i taken now old w low all gone =
+    let whole : take i lines ++ get_or lines i no_line ∷ drop (suc i) lines ≡ lines = ap (λ behind. take i lines ++ behind) (sym (drop-cons lines i no_line low)) ∙ take-append-drop i lines in
+    (gone.may (get_or lines i no_line ∷ drop (suc i) lines) (subst (MayRunAll (named_in old)) (sym whole) all)).0
 
 -- so few calls were begun that the next line may begin one
 pub few_calls : (volume : Line) (lines : List Line) (i : ℕ) (taken now : Option (List ℕ)) (old w : WorldIs) → i < length lines → old.fleet.calls + length lines < 2 ^ 32 → HasGone volume (take i lines) taken now old w → w.fleet.calls + 1 < 2 ^ 32
 few_calls volume lines i taken now old w low few gone = omega (arith, low, few, gone.calls, length_taken lines i (omega (arith, low)))
+
+-- and so few moves
+pub few_moves : (volume : Line) (lines : List Line) (i : ℕ) (taken now : Option (List ℕ)) (old w : WorldIs) → i < length lines → old.moves + length lines < 2 ^ 32 → HasGone volume (take i lines) taken now old w → w.moves + 1 < 2 ^ 32
+few_moves volume lines i taken now old w low few gone = omega (arith, low, few, gone.moves, length_taken lines i (omega (arith, low)))
+
+-- no disk got lost
+pub disks_enough : {D : Type 0} (faults : D → ℕ) (old new : WorldOn D) → HasMadeMore faults old new → 48 ≤ 6 * length old.world.chunks + length old.spare → 48 ≤ 6 * length new.world.chunks + length new.spare
+disks_enough faults old new more enough = omega (arith, enough, more.count, ap length more.given, length-append (flat_map six_list more.sixes) new.spare, length_sixes more.sixes)

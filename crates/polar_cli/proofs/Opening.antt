@@ -1,10 +1,11 @@
 -- A volume is made on disks, or its first chunks are.
-use Rattle.std.proofs.Common.{◌≡◌, ℕ, Bool, ◌*◌, ◌≤◌, true, List, [], ◌∷◌, ◌++◌, IfSome, Option, drop, length, Some, None, flat_map, slice_get, refl, ap, sym, subst, ◌∙◌, arith}
+use Rattle.std.proofs.Common.{◌≡◌, ℕ, Bool, ◌+◌, ◌*◌, ◌≤◌, min, true, List, [], ◌∷◌, ◌++◌, IfSome, Option, drop, length, Some, None, flat_map, slice_get, refl, ap, sym, subst, ◌∙◌, arith}
 use Rattle.std.proofs.lemmas.Option.{slice_get_within}
 use Rattle.pf_disk.specs.Crashes.{Images}
 use Rattle.pf_script.specs.declared.command.Command.{Command}
 use Rattle.pf_script.specs.declared.command.Command.TheVariants as commands
-use Rattle.pf_script.specs.Lines.{is_volume}
+use Rattle.pf_script.specs.declared.named.Named.{Named}
+use Rattle.pf_script.specs.Lines.{first_named, is_volume}
 use Rattle.pf_protocol.specs.declared.answers.Answer.{Answer}
 use Rattle.pf_protocol.specs.Answers.{IsLegal, IsSetup}
 use Rattle.pf_protocol.specs.Servers.{Setup}
@@ -21,10 +22,10 @@ use Rattle.pf_world.specs.Steps.{IsMade}
 use Rattle.pf_world.specs.Views.{WorldIs, WorldOn}
 use Rattle.pf_world.proofs.Begun.{some_chunks, volume_setup}
 use Rattle.pf_world.proofs.Causes.{HasPassed}
-use Rattle.pf_world.proofs.Happening.{same_world}
 use Rattle.pf_world.proofs.Running.{run_begins}
-use Rattle.polar_cli.specs.Placed.{IsVolume}
+use Rattle.polar_cli.specs.Placed.{MakesVolume}
 use Rattle.polar_cli.specs.Running.{HasBegunVolume, HasNotOpened, HasOpened}
+use Rattle.polar_cli.proofs.Made.{new_made}
 
 -- a command that is a volume, with its numbers
 pub record VolumeOf (command : Command) : Type 0 where
@@ -35,29 +36,15 @@ pub record VolumeOf (command : Command) : Type 0 where
   pub is : command ≡ commands.Volume chunks sectors names format
   pub fits : is_volume chunks sectors names format ≡ true
 
-pub volume_of : (n : ℕ) (command : Command) → IsVolume n command → VolumeOf command
+pub volume_of : (n : ℕ) (command : Command) → MakesVolume n command → VolumeOf command
 volume_of n (commands.Volume c s names f) volume = record { chunks = c; sectors = s; names = names; format = f; is = refl; fits = volume.1 }
-volume_of n (commands.Elect g i) volume = absurd volume
-volume_of n (commands.Resend g i) volume = absurd volume
-volume_of n (commands.Stop g i) volume = absurd volume
-volume_of n (commands.Restart g i) volume = absurd volume
-volume_of n (commands.Checkpoint g i) volume = absurd volume
-volume_of n (commands.Deliver g k) volume = absurd volume
-volume_of n (commands.Lose g k) volume = absurd volume
-volume_of n (commands.Submit g i s byte c) volume = absurd volume
-volume_of n (commands.Fetch g i s c) volume = absurd volume
-volume_of n (commands.Mark g i) volume = absurd volume
-volume_of n (commands.Settle limit) volume = absurd volume
-volume_of n (commands.Live g hosts writes workers turns) volume = absurd volume
-volume_of n (commands.ShowLog g i) volume = absurd volume
-volume_of n (commands.ShowApplied g i) volume = absurd volume
-volume_of n (commands.ShowSectors g i) volume = absurd volume
-volume_of n (commands.ShowAcked g) volume = absurd volume
-volume_of n (commands.ShowMark g i s) volume = absurd volume
-volume_of n commands.Mount volume = absurd volume
-volume_of n (commands.Kill m) volume = absurd volume
-volume_of n (commands.Call m call) volume = absurd volume
-volume_of n (commands.ShowMount m) volume = absurd volume
+volume_of n command volume = absurd volume
+
+-- in a new volume lines may name what it has
+names_first : (n chunks moves : ℕ) → chunks ≡ n → moves ≡ 0 → n ≤ 8 → ◌≡◌ {A = Named} (record { chunks = chunks; groups = min (chunks + moves) 8 }) (first_named n)
+names_first n chunks moves is none few =
+    ap (λ c. record { chunks = c; groups = min (c + moves) 8 }) is
+    ∙ ap (λ groups. record { chunks = n; groups = groups }) (let same : min (n + moves) 8 ≡ n = omega (arith, none, few) in same)
 
 -- the text of a volume that was made
 made_says : (failed : List ℕ) (number : ℕ) (out : List ℕ) (answer : Answer) → answer ≡ making_answer failed → IfSome (answer_text answer) (λ text. out ≡ [] ++ line_of number text) → out ≡ answer_line number answer
@@ -79,8 +66,16 @@ none_at k c there = absurd (omega (arith, slice_get_within [] k c there))
 
 -- a world without chunks
 abbrev pub bare : (sectors names format : ℕ) → WorldIs
-bare sectors names format =
-    record { sectors = sectors; names = names; format = format; chunks = []; fleet = record { volume = record { chunks = 0; sectors = 0 }; hosts = []; calls = 0 }; kind = None; passes = None }
+bare sectors names format = record {
+  sectors = sectors;
+  names = names;
+  format = format;
+  chunks = [];
+  fleet = record { volume = record { chunks = 0; sectors = 0 }; hosts = []; calls = 0; routes = record { routes = []; moving = None }; mover = None };
+  moves = 0;
+  kind = None;
+  passes = None;
+}
 
 module _ {D : Type 0} (faults : D → ℕ) (command : Command) (before : List D) where
   -- no chunk of the volume was made yet
@@ -102,18 +97,17 @@ module _ {D : Type 0} (faults : D → ℕ) (command : Command) (before : List D)
       sound = sound c.group.setup c.group.history;
     }
 
-    pub begun_passed : (seen : D → Option (List ℕ)) (may_leave : D → Images) (moment : D → ℕ) (left_since : D → ℕ → Images) (tells tells_moments : Bool) (after : List D) → AreLeft seen may_leave faults moment left_since tells tells_moments made.chunks before after → HasPassed seen may_leave faults moment left_since tells tells_moments before after made made
+    pub begun_passed : (seen : D → Option (List ℕ)) (may_leave : D → Images) (moment : D → ℕ) (left_since : D → ℕ → Images) (tells tells_moments : Bool) (after : List D) → AreLeft seen may_leave faults moment left_since tells tells_moments made.chunks before after → HasPassed seen may_leave faults moment left_since tells tells_moments before after made
     begun_passed seen may_leave moment left_since tells tells_moments after left = record {
       numbers = λ k c there. (chunks_begun.numbers k c there).0;
       sound = begun_sound;
-      fresh = record { sixes = chunks_begun.sixes; given = chunks_begun.given; each = chunks_begun.each };
-      goes_on = same_world made;
+      made = new_made faults before made (record { sixes = chunks_begun.sixes; given = chunks_begun.given; each = chunks_begun.each });
       left = left;
     }
 
-module _ {D : Type 0} (seen : D → Option (List ℕ)) (may_leave : D → Images) (faults moment : D → ℕ) (left_since : D → ℕ → Images) (tells tells_moments : Bool) (line : Line) (chunks sectors names format : ℕ) (is : line.command ≡ commands.Volume chunks sectors names format) (requires : (n : ℕ) × IsVolume n line.command) where
+module _ {D : Type 0} (seen : D → Option (List ℕ)) (may_leave : D → Images) (faults moment : D → ℕ) (left_since : D → ℕ → Images) (tells tells_moments : Bool) (line : Line) (chunks sectors names format : ℕ) (is : line.command ≡ commands.Volume chunks sectors names format) (requires : (n : ℕ) × MakesVolume n line.command) where
   fits : is_volume chunks sectors names format ≡ true
-  fits = (subst (λ (c : Command). (n : ℕ) × IsVolume n c) is requires).1.1
+  fits = (subst (λ (c : Command). (n : ℕ) × MakesVolume n c) is requires).1.1
 
   -- all chunks were made
   pub opened : (text : List ℕ) (answer : Answer) (disks : List D) (on : WorldOn D) → IsMade chunks sectors names format on.world answer → IsSoundWorld on.world → AreNew faults disks on.world → on.spare ≡ drop (6 * chunks) disks → IfSome (answer_text answer) (λ out. text ≡ [] ++ line_of line.number out)
@@ -125,9 +119,11 @@ module _ {D : Type 0} (seen : D → Option (List ℕ)) (may_leave : D → Images
         run = subst (λ t. RunsTo (record { number = line.number; command = commands.Volume chunks sectors names format } ∷ []) t on.world) (sym (made_says (flat_map (λ c. c.group.setup.failed) on.world.chunks) line.number text answer made.answered put))
             (run_begins chunks sectors names format line.number on.world answer made);
         fresh = fresh;
-        volume = (sym made.count, fits);
+        volume = (sym made.count.0, fits);
+        named = names_first (length on.world.chunks) on.world.fleet.volume.chunks on.world.moves (made.count.1 ∙ sym made.count.0) made.moves (omega (arith, made.count.0, some_chunks chunks sectors names format fits));
         calls = made.calls;
-        spare = spare ∙ ap (λ n. drop (6 * n) disks) (sym made.count);
+        moves = made.moves;
+        spare = spare ∙ ap (λ n. drop (6 * n) disks) (sym made.count.0);
       })
 
   -- only the first were
@@ -141,7 +137,7 @@ module _ {D : Type 0} (seen : D → Option (List ℕ)) (may_leave : D → Images
       → ((given : List D) → drop (6 * length on.world.chunks) given ≡ on.spare → 6 * length on.world.chunks ≤ length given → AreLeft seen may_leave faults moment left_since tells tells_moments on.world.chunks given after) → HasNotOpened seen may_leave faults moment left_since tells tells_moments line before after
   untold answer on before after made fresh spare enough closed =
       let begun : AreBegun faults chunks sectors names format before on.world.chunks = record {
-        few = omega (arith, made.count);
+        few = omega (arith, made.count.0);
         sixes = fresh.sixes;
         given = fresh.given;
         each = fresh.each;
@@ -155,5 +151,5 @@ module _ {D : Type 0} (seen : D → Option (List ℕ)) (may_leave : D → Images
       record {
         made = on.world;
         begun = subst (λ c. HasBegunVolume faults c before on.world) (sym is) (made.numbers.0, made.numbers.1, made.numbers.2, begun);
-        left = closed before (ap (λ n. drop (6 * n) before) made.count ∙ sym spare) (omega (arith, made.count, some_chunks chunks sectors names format fits, enough));
+        left = closed before (ap (λ n. drop (6 * n) before) made.count.0 ∙ sym spare) (omega (arith, made.count.0, some_chunks chunks sectors names format fits, enough));
       }

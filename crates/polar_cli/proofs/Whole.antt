@@ -2,9 +2,9 @@
 use Rattle.std.proofs.Common.{◌≡◌, ℕ, Bool, IsTrue, ◌*◌, ◌<◌, ◌≤◌, List, [], ◌∷◌, ◌++◌, length, drop, get_or, Option, Some, Ok, Err, slice_get, refl, ap, sym, subst, ◌∙◌, append-nil, arith, lit≤, drop-cons, length-append, length-drop}
 use Rattle.std.proofs.lemmas.Option.{slice_get_within}
 use Rattle.pf_disk.specs.Crashes.{Images}
-use Rattle.pf_entry.specs.Lists.{Every}
 use Rattle.pf_script.specs.declared.command.Command.{Command}
 use Rattle.pf_script.specs.declared.command.Command.TheVariants as commands
+use Rattle.pf_script.specs.Lines.{first_named}
 use Rattle.pf_applyrounds.specs.Halts.{Halt}
 use Rattle.pf_chunk.specs.Views.{ChunkIs}
 use Rattle.pf_threads.specs.Sessions.{Session}
@@ -13,7 +13,8 @@ use Rattle.pf_world.specs.Agreeing.{Tells}
 use Rattle.pf_world.specs.Disks.{AreLeft}
 use Rattle.pf_world.specs.Headline.{AreHalts, IsLawfulRun, IsRunTo, IsSafeRun, IsSoundWorld, RunsTo}
 use Rattle.pf_world.specs.Reports.{world_run}
-use Rattle.pf_world.specs.Steps.{GoesOn, MayRun}
+use Rattle.pf_world.specs.Making.{HasMadeMore}
+use Rattle.pf_world.specs.Steps.{GoesOn, MayRunAll}
 use Rattle.pf_world.specs.Views.{WorldIs, WorldOn, stands_at}
 use Rattle.pf_world.proofs.Begun.{some_chunks}
 use Rattle.pf_world.proofs.Causes.{HasPassed, are_halts}
@@ -22,54 +23,40 @@ use Rattle.pf_world.proofs.Running.{goes_trans, tells_earlier}
 use Rattle.pf_world.proofs.Told.{lawful_run, safe_run, world_halts}
 use Rattle.polar_cli.specs.declared.status.Status.{Status}
 use Rattle.polar_cli.specs.declared.status.Status.TheVariants as statuses
-use Rattle.polar_cli.specs.Placed.{ArePlaced, IsVolume, IsWhole}
+use Rattle.polar_cli.specs.Placed.{ArePlaced, MakesVolume, IsWhole}
 use Rattle.polar_cli.specs.Scripts.{Judged, script_of}
 use Rattle.polar_cli.specs.Reports.{judged_lines}
 use Rattle.polar_cli.specs.Running.{Counts, HasGoneOn, HasNotOpened, HasOpened, HasRunLines, HasRunTo, IsRuled, LeavesWorld, Stops, acked_count}
 use Rattle.pf_mounted.specs.Lists.{HasOneList}
-use Rattle.polar_cli.proofs.Lists.{HaveLists, lists_of}
+use Rattle.pf_mounted.specs.Moving.{AreRoutedSectors}
+use Rattle.polar_cli.proofs.Lists.{HaveLists, HaveRegisters, lists_of, registers_of}
+use Rattle.polar_cli.proofs.Made.{have_enough, more_made, new_made, numbered, still_spare}
 use Rattle.polar_cli.proofs.Opening.{bare, begun_passed, begun_sound, none_begun, volume_of}
 use Rattle.polar_cli.proofs.Placing.{whole_script}
 use Rattle.polar_cli.proofs.Taken.{appends_none}
 
-one_count : (m n : ℕ) (command : Command) → IsVolume m command → IsVolume n command → m ≡ n
+one_count : (m n : ℕ) (command : Command) → MakesVolume m command → MakesVolume n command → m ≡ n
 one_count m n (commands.Volume c s names f) first second = sym first.0 ∙ second.0
-one_count m n (commands.Elect g i) first second = absurd first
-one_count m n (commands.Resend g i) first second = absurd first
-one_count m n (commands.Stop g i) first second = absurd first
-one_count m n (commands.Restart g i) first second = absurd first
-one_count m n (commands.Checkpoint g i) first second = absurd first
-one_count m n (commands.Deliver g k) first second = absurd first
-one_count m n (commands.Lose g k) first second = absurd first
-one_count m n (commands.Submit g i s byte c) first second = absurd first
-one_count m n (commands.Fetch g i s c) first second = absurd first
-one_count m n (commands.Mark g i) first second = absurd first
-one_count m n (commands.Settle limit) first second = absurd first
-one_count m n (commands.Live g hosts writes workers turns) first second = absurd first
-one_count m n (commands.ShowLog g i) first second = absurd first
-one_count m n (commands.ShowApplied g i) first second = absurd first
-one_count m n (commands.ShowSectors g i) first second = absurd first
-one_count m n (commands.ShowAcked g) first second = absurd first
-one_count m n (commands.ShowMark g i s) first second = absurd first
-one_count m n commands.Mount first second = absurd first
-one_count m n (commands.Kill i) first second = absurd first
-one_count m n (commands.Call i call) first second = absurd first
-one_count m n (commands.ShowMount i) first second = absurd first
+one_count m n command first second = absurd first
 
-rest_placed : (lines : List Line) (d : Line) (chunks n : ℕ) → ArePlaced (Some chunks) lines → IsVolume n (get_or lines 0 d).command → Every (λ line. MayRun n line.command) (drop 1 lines)
+is_few : (n : ℕ) (command : Command) → MakesVolume n command → n ≤ 8
+is_few n (commands.Volume c s names f) is = omega (arith, is.0, some_chunks c s names f is.1)
+is_few n command is = absurd is
+
+rest_placed : (lines : List Line) (d : Line) (chunks n : ℕ) → ArePlaced (Some chunks) lines → MakesVolume n (get_or lines 0 d).command → MayRunAll (first_named n) (drop 1 lines)
 rest_placed [] d chunks n placed volume = absurd placed
-rest_placed (first ∷ lines) d chunks n placed volume = subst (λ m. Every (λ line. MayRun m line.command) lines) (one_count chunks n first.command placed.0 volume) placed.1
+rest_placed (first ∷ lines) d chunks n placed volume = subst (λ m. MayRunAll (first_named m) lines) (one_count chunks n first.command placed.0 volume) placed.1
 
 -- the lines behind the volume may be run in it
-pub rest_may_run : (lines : List Line) (d : Line) (n : ℕ) → IsWhole lines → IsVolume n (get_or lines 0 d).command → Every (λ line. MayRun n line.command) (drop 1 lines)
+pub rest_may_run : (lines : List Line) (d : Line) (n : ℕ) → IsWhole lines → MakesVolume n (get_or lines 0 d).command → MayRunAll (first_named n) (drop 1 lines)
 rest_may_run lines d n whole volume = rest_placed lines d whole.chunks n whole.placed volume
 
-first_placed : (lines : List Line) (d : Line) (chunks : ℕ) → ArePlaced (Some chunks) lines → IsVolume chunks (get_or lines 0 d).command
+first_placed : (lines : List Line) (d : Line) (chunks : ℕ) → ArePlaced (Some chunks) lines → MakesVolume chunks (get_or lines 0 d).command
 first_placed [] d chunks placed = absurd placed
 first_placed (first ∷ lines) d chunks placed = placed.0
 
 -- the first line is a volume
-pub first_is_volume : (lines : List Line) (d : Line) → IsWhole lines → (chunks : ℕ) × IsVolume chunks (get_or lines 0 d).command
+pub first_is_volume : (lines : List Line) (d : Line) → IsWhole lines → (chunks : ℕ) × MakesVolume chunks (get_or lines 0 d).command
 first_is_volume lines d whole = (whole.chunks, first_placed lines d whole.chunks whole.placed)
 
 -- the world that is left is that of the lines, or the next line stopped in its middle
@@ -95,7 +82,7 @@ left_goes_on statuses.WriteFault rest was is same = subst (GoesOn was) (sym same
 -- no line, or first a volume
 abbrev pub Begins : List Line → Type 0
 Begins [] = Unit {0}
-Begins (line ∷ rest) = (chunks : ℕ) × IsVolume chunks line.command
+Begins (line ∷ rest) = (chunks : ℕ) × MakesVolume chunks line.command
 
 begin : (judged : Judged) → ((lines : List Line) → judged ≡ Ok lines → IsWhole lines) → Begins (judged_lines judged)
 begin (Ok []) whole = tt
@@ -122,8 +109,11 @@ module _ {D : Type 0} (seen : D → Option (List ℕ)) (may_leave : D → Images
   HasLists halts sessions done = let run = world_run halts sessions done in 0 < length run.world.volume.hosts → HasOneList run.world.volume.extent run.world.volume.chunks run.told
 
   -- what a list of halts that tells of the world that is left says of the run
+  abbrev HasRegisters : List Halt → List Session → List Line → Type 0
+  HasRegisters halts sessions done = let run = world_run halts sessions done in 0 < length run.world.volume.hosts → AreRoutedSectors run.world.volume.extent run.world.volume.chunks run.told
+
   went_by_rules : (done : List Line) (text : List ℕ) (before after : List D) (world left : WorldIs) (halts : List Halt) (run : RunsTo done text world) → IsSoundWorld world → IsSoundWorld left → Tells halts world → AreHalts faults halts before after left
-      → (IsLawfulRun (world_run halts run.sessions done).world → HasLists halts run.sessions done) → IsRuled faults run.sessions done text before after world left
+      → (IsLawfulRun (world_run halts run.sessions done).world → HasLists halts run.sessions done × HasRegisters halts run.sessions done) → IsRuled faults run.sessions done text before after world left
   went_by_rules done text before after world left halts run sound sound_left tell told lists =
       let ran : IsRunTo halts run.sessions [] done text world = subst (λ ss. IsRunTo halts ss [] done text world) (append-nil run.sessions) (run.run halts [] tell) in
       let same : stands_at halts [] world ≡ (world_run halts run.sessions done).world = sym ran.world in
@@ -137,7 +127,8 @@ module _ {D : Type 0} (seen : D → Option (List ℕ)) (may_leave : D → Images
           one_write_in_a_slot = λ k c earlier at part. (safe k c at earlier part).agrees;
           sectors_are_applied_writes = λ k c earlier at part. (safe k c at earlier part).in_order;
           acknowledged_writes_stay = λ k c earlier at part. (safe k c at earlier part).acknowledged;
-          one_list = lists lawful;
+          one_list = (lists lawful).0;
+          sectors_are_registers = (lists lawful).1;
           ends = ran.ends;
           shown = ran.report;
         };
@@ -147,32 +138,37 @@ module _ {D : Type 0} (seen : D → Option (List ℕ)) (may_leave : D → Images
       }
 
   -- the volume was made, lines were run, and the world was closed
-  pub ran_lines : HaveLists → (status : Status) (acked : ℕ × ℕ) (lines : List Line) (d : Line) (text : List ℕ) (taken now : Option (List ℕ)) (full : Type 0) (before after : List D) (old new : WorldOn D) → IsWhole lines → 0 < length lines → 48 ≤ length before
-      → HasOpened faults (get_or lines 0 d) text before old → HasGoneOn status (get_or lines 0 d) (drop 1 lines) taken now full old.world new.world → new.spare ≡ old.spare → (IsTrue tells → acked ≡ (acked_count new.world 0, acked_count new.world 1))
+  pub ran_lines : HaveLists → HaveRegisters → (status : Status) (acked : ℕ × ℕ) (lines : List Line) (d : Line) (text : List ℕ) (taken now : Option (List ℕ)) (full : Type 0) (before after : List D) (old new : WorldOn D) → IsWhole lines → 0 < length lines → 48 ≤ length before
+      → HasOpened faults (get_or lines 0 d) text before old → HasGoneOn status (get_or lines 0 d) (drop 1 lines) taken now full old.world new.world → HasMadeMore faults old new → (IsTrue tells → acked ≡ (acked_count new.world 0, acked_count new.world 1))
       → ((given : List D) → drop (6 * length new.world.chunks) given ≡ new.spare → 6 * length new.world.chunks ≤ length given → AreLeft seen may_leave faults moment left_since tells tells_moments new.world.chunks given after)
       → HasRunLines seen may_leave faults moment left_since tells tells_moments status acked lines taken now full before after
-  ran_lines have status acked lines d text taken now full before after old new whole some enough opened gone spare counted closed =
-      let small : length old.world.chunks ≤ 8 = some_chunks (length old.world.chunks) old.world.sectors old.world.names old.world.format opened.is_world.volume in
-      let count = gone.count in
-      let left = closed before (ap (λ n. drop (6 * n) before) count ∙ sym opened.spare ∙ sym spare) (omega (arith, count, small, enough)) in
+  ran_lines have registers status acked lines d text taken now full before after old new whole some enough opened gone made_more counted closed =
+      let small : length old.world.chunks ≤ 8 = is_few (length old.world.chunks) (get_or lines 0 d).command opened.volume in
+      let had : 6 * length old.world.chunks ≤ length before = omega (arith, small, enough) in
+      let made = new_made faults before old.world opened.fresh in
+      let given = still_spare faults before old new had made opened.spare made_more in
+      let left = closed before given (have_enough faults before old new had opened.spare made_more) in
       let more : GoesOn gone.world new.world = left_goes_on status gone.rest gone.world new.world gone.leaves in
-      let passed : HasPassed seen may_leave faults moment left_since tells tells_moments before after old.world new.world = record {
-        numbers = λ k c there. (opened.is_world.each k c there).number;
+      let grown = goes_trans old.world gone.world new.world gone.goes_on more in
+      let passed : HasPassed seen may_leave faults moment left_since tells tells_moments before after new.world = record {
+        numbers = numbered faults before old new had made opened.spare made_more grown (λ k c there. (opened.is_world.each k c there).number);
         sound = gone.lawful_left;
-        fresh = opened.fresh;
-        goes_on = goes_trans old.world gone.world new.world gone.goes_on more;
+        made = more_made faults before old new had made opened.spare made_more grown;
         left = left;
       } in
       let halts = world_halts new.world in
       let first : get_or lines 0 d ∷ gone.done ++ gone.rest ≡ lines = ap (λ l. get_or lines 0 d ∷ l) gone.first ∙ sym (drop-cons lines 0 d some) in
       let by_rules : IsTrue tells → IsRuled faults gone.run.sessions (get_or lines 0 d ∷ gone.done) gone.text before after gone.world new.world = λ tell.
-      let told : AreHalts faults halts before after new.world = are_halts seen may_leave faults moment left_since tells tells_moments before after old.world new.world passed tell in
+      let told : AreHalts faults halts before after new.world = are_halts seen may_leave faults moment left_since tells tells_moments before after new.world passed tell in
       let earlier = tells_earlier halts gone.world new.world more told.tells in
       went_by_rules (get_or lines 0 d ∷ gone.done) gone.text before after gone.world new.world halts gone.run gone.lawful gone.lawful_left earlier told
-      (lists_of have halts gone.run.sessions (get_or lines 0 d) gone.done gone.rest (length old.world.chunks) gone.world opened.volume
-      (subst (Every (λ line. MayRun (length old.world.chunks) line.command)) (sym gone.first) (rest_may_run lines d (length old.world.chunks) whole opened.volume))
-      gone.is_world (ap (λ ss. (world_run halts ss (get_or lines 0 d ∷ gone.done)).world) (sym (append-nil gone.run.sessions)) ∙ (gone.run.run halts [] earlier).world)
-      (omega (arith, whole.few, ap length gone.first, length-append gone.done gone.rest, length-drop 1 lines))) in
+      (λ lawful.
+      let may = subst (MayRunAll (first_named (length old.world.chunks))) (sym gone.first) (rest_may_run lines d (length old.world.chunks) whole opened.volume) in
+      let stands = ap (λ ss. (world_run halts ss (get_or lines 0 d ∷ gone.done)).world) (sym (append-nil gone.run.sessions)) ∙ (gone.run.run halts [] earlier).world in (
+        lists_of halts gone.run.sessions (get_or lines 0 d) gone.done gone.rest (length old.world.chunks) (first_named (length old.world.chunks)) gone.world opened.volume may gone.is_world stands lawful have
+            (omega (arith, whole.few, ap length gone.first, length-append gone.done gone.rest, length-drop 1 lines)),
+        registers_of halts gone.run.sessions (get_or lines 0 d) gone.done gone.rest (length old.world.chunks) (first_named (length old.world.chunks)) gone.world opened.volume may gone.is_world stands lawful registers,
+      )) in
       record {
         rest = gone.rest;
         text = gone.text;
@@ -192,10 +188,10 @@ module _ {D : Type 0} (seen : D → Option (List ℕ)) (may_leave : D → Images
       }
 
   -- no line was run
-  none_ran : (status : Status) (lines : List Line) (before after : List D) (sectors names format : ℕ) (left : WorldIs) (halts : List Halt) → IsSoundWorld left → (IsTrue tells → AreHalts faults halts before after left) → Stops faults status before [] lines (bare sectors names format) left
+  none_ran : (status : Status) (lines : List Line) (before after : List D) (left : WorldIs) (halts : List Halt) → IsSoundWorld left → (IsTrue tells → AreHalts faults halts before after left) → Stops faults status before [] lines (bare 0 0 0) left
       → AreLeft seen may_leave faults moment left_since tells tells_moments left.chunks before after → HasRunTo seen may_leave faults moment left_since tells tells_moments status lines lines [] before after
-  none_ran status lines before after sectors names format left halts sound told stops disks =
-      let world = bare sectors names format in
+  none_ran status lines before after left halts sound told stops disks =
+      let world = bare 0 0 0 in
       let run : RunsTo [] [] world = record { sessions = []; few = lit≤ tt; run = λ hs rest tell. record { world = refl; report = refl; ends = tt } } in
       record {
         done = [];
@@ -205,7 +201,7 @@ module _ {D : Type 0} (seen : D → Option (List ℕ)) (may_leave : D → Images
         none = λ none. refl;
         left = left;
         stops = stops;
-        ruled = λ tell. went_by_rules [] [] before after world left halts run (λ k c there. absurd (no_such k c there)) sound (λ k c there. absurd (no_such k c there)) (told tell) (λ lawful some. absurd (omega (arith, some)));
+        ruled = λ tell. went_by_rules [] [] before after world left halts run (λ k c there. absurd (no_such k c there)) sound (λ k c there. absurd (no_such k c there)) (told tell) (λ lawful. ((λ some. absurd (omega (arith, some))), (λ some. absurd (omega (arith, some)))));
         disks = disks;
       }
 
@@ -215,19 +211,19 @@ module _ {D : Type 0} (seen : D → Option (List ℕ)) (may_leave : D → Images
   none_made acked (line ∷ lines) d taken full before after whole not =
       let volume = volume_of whole.chunks line.command whole.placed.0 in
       let sound = begun_sound faults line.command before not.made volume not.begun in
-      let told = λ (tell : IsTrue tells). are_halts seen may_leave faults moment left_since tells tells_moments before after not.made not.made (begun_passed faults line.command before not.made volume not.begun seen may_leave moment left_since tells tells_moments after not.left) tell in
+      let told = λ (tell : IsTrue tells). are_halts seen may_leave faults moment left_since tells tells_moments before after not.made (begun_passed faults line.command before not.made volume not.begun seen may_leave moment left_since tells tells_moments after not.left) tell in
       record {
         rest = line ∷ lines;
         text = [];
-        ran = none_ran statuses.NoMemory (line ∷ lines) before after 0 0 0 not.made (world_halts not.made) sound told not.begun not.left;
+        ran = none_ran statuses.NoMemory (line ∷ lines) before after not.made (world_halts not.made) sound told not.begun not.left;
         wrote = appends_none taken;
         counted = λ tell. tt;
       }
 
   -- a world without chunks, where a run stops that has no line
-  untouched_in : (status : Status) (lines : List Line) (disks : List D) (sectors names format : ℕ) → Stops faults status disks [] lines (bare sectors names format) (bare sectors names format) → HasRunTo seen may_leave faults moment left_since tells tells_moments status lines lines [] disks disks
+  untouched_in : (status : Status) (lines : List Line) (disks : List D) (sectors names format : ℕ) → Stops faults status disks [] lines (bare 0 0 0) (bare sectors names format) → HasRunTo seen may_leave faults moment left_since tells tells_moments status lines lines [] disks disks
   untouched_in status lines disks sectors names format stops =
-      none_ran status lines disks disks sectors names format (bare sectors names format) [] (λ k c there. absurd (no_such k c there)) (λ tell. record { tells = λ k c there. absurd (no_such k c there); within = tt; causes = tt }) stops
+      none_ran status lines disks disks (bare sectors names format) [] (λ k c there. absurd (no_such k c there)) (λ tell. record { tells = λ k c there. absurd (no_such k c there); within = tt; causes = tt }) stops
       (record { told = λ k c there. absurd (no_such k c there); halves = λ k i c there low. absurd (no_such k c there); rest = refl; count = refl })
 
   -- nothing was run, and the disks are as they were

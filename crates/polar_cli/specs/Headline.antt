@@ -13,6 +13,7 @@ use Rattle.pf_world.specs.Views.{WorldIs}
 use Rattle.pf_world.specs.Worlds.{World, no_world}
 use Rattle.pf_world.specs.declared.line.Line.{Line}
 use Rattle.pf_mounted.specs.Lists.{HasOneList}
+use Rattle.pf_mounted.specs.Moving.{AreRoutedSectors}
 use Rattle.polar_cli.specs.Reports.{lines_for}
 use Rattle.pf_words.specs.Tasks.{IfRun}
 use Rattle.pf_words.specs.declared.words.Task.{Task}
@@ -26,13 +27,14 @@ AlwaysInEach Holds world =
 
 -- For the run of these lines under these halts, in which the threads of the live lines did what these sessions tell: no two servers of a group
 -- ever hold different committed writes in one slot; each server's sectors are its applied writes in slot order; every acknowledged write is
--- committed in each later leader's log; every mount's tree comes from a prefix of one transaction list; each session is one that its line can
+-- committed in each later leader's log; every mount's tree comes from a prefix of one transaction list; each sector of each chunk is one register, through all moves of the chunk; each session is one that its line can
 -- have, and each settling ends by itself; and the text shows exactly that run
 pub record Headline (halts : List Halt) (sessions : List Session) (lines : List Line) (text : List ℕ) : Type 0 where
   pub one_write_in_a_slot : AlwaysInEach Agrees (world_run halts sessions lines).world
   pub sectors_are_applied_writes : AlwaysInEach AppliesInOrder (world_run halts sessions lines).world
   pub acknowledged_writes_stay : AlwaysInEach KeepsAcknowledged (world_run halts sessions lines).world
   pub one_list : let run = world_run halts sessions lines in 0 < length run.world.volume.hosts → HasOneList run.world.volume.extent run.world.volume.chunks run.told
+  pub sectors_are_registers : let run = world_run halts sessions lines in 0 < length run.world.volume.hosts → AreRoutedSectors run.world.volume.extent run.world.volume.chunks run.told
   pub ends : EndEach halts (no_world sessions) lines
   pub shown : report_of halts sessions lines ≡ text
 

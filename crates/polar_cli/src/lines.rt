@@ -1,11 +1,11 @@
 //! The lines of a script, run over a world on disks.
-ghost use Rattle.std.specs.Prelude.{◌≡◌, ◌≤◌, ◌<◌, ◌+◌, ◌^◌, ℕ, List, [], ◌∷◌, IfErr, IfOk, length};
+ghost use Rattle.std.specs.Prelude.{◌≡◌, ◌≤◌, ◌<◌, ◌+◌, ◌*◌, ◌^◌, ℕ, List, [], ◌∷◌, IfErr, IfOk, length};
 ghost use Rattle.pf_io.specs.Causes.{Rose};
-ghost use Rattle.pf_entry.specs.Lists.{Every};
 ghost use Rattle.pf_world.specs.Headline.{IsSoundWorld, RunsTo};
-ghost use Rattle.pf_world.specs.Steps.{MayRun};
-ghost use Rattle.pf_world.specs.Views.{IsWorld};
-ghost use Rattle.polar_cli.specs.Placed.{IsVolume, IsWhole};
+ghost use Rattle.pf_world.specs.Making.{HasMadeMore};
+ghost use Rattle.pf_world.specs.Steps.{MayRunAll};
+ghost use Rattle.pf_world.specs.Views.{IsWorld, named_in};
+ghost use Rattle.polar_cli.specs.Placed.{MakesVolume, IsWhole};
 ghost use Rattle.polar_cli.specs.Running.{HasGoneOn, HasNotOpened, HasOpened, HasRunLines};
 
 use crate::ends::write_all;
@@ -13,7 +13,7 @@ use crate::status::Status;
 use pf_copy::{Gate, Workers};
 use pf_disk::Disk;
 use pf_io::Sink;
-use pf_mounted::runs_have_one_list;
+use pf_mounted::{runs_have_one_list, sectors_of_runs_are_registers};
 use pf_report::put_answer;
 use pf_script::Command;
 use pf_world::{Line, World};
@@ -28,7 +28,7 @@ fn open<D: Disk + Drop>(
     line: &Line,
     disks: Vec<D>,
 ) -> Result<(World<D>, Vec<u8>), Vec<D>>
-    requires volume { (chunks : ℕ) × IsVolume chunks line.now.command }
+    requires volume { (chunks : ℕ) × MakesVolume chunks line.now.command }
     requires disks { 48 ≤ length disks.items }
     ensures opened { IfOk result (λ opened. HasOpened D.faults line.now opened.1.items disks.items opened.0) }
     ensures back { IfErr result (λ back. HasNotOpened D.seen D.may_leave D.faults D.moment D.left_since D.tells D.tells_moments line.now disks.items back.items) }
@@ -66,10 +66,12 @@ fn go_on<K: Sink, D: Disk + Drop + Send, R: Threads + Wait + Sync, G: Gate + Syn
     requires world { IsWorld world.old.world }
     requires run { RunsTo (volume.now ∷ []) opened.now world.old.world }
     requires sound { IsSoundWorld world.old.world }
-    requires lines { Every (λ line. MayRun (length world.old.world.chunks) line.command) lines.now }
+    requires lines { MayRunAll (named_in world.old.world) lines.now }
     requires few { world.old.world.fleet.calls + length lines.now < 2 ^ 32 }
+    requires moves { world.old.world.moves + length lines.now < 2 ^ 32 }
+    requires disks { 48 ≤ 6 * length world.old.world.chunks + length world.old.spare }
     ensures gone { HasGoneOn result volume.now lines.now (K.taken sink.old) (K.taken sink.new) (Rose (K.faults sink.old) (K.faults sink.new)) world.old.world world.new.world }
-    ensures spare { world.new.spare ≡ world.old.spare }
+    ensures made { HasMadeMore D.faults world.old world.new }
 {
     if write_all(sink, opened).is_err() {
         return Status::WriteFault;
@@ -102,6 +104,7 @@ pub fn run_lines<K: Sink, D: Disk + Drop + Send, R: Threads + Wait + Sync, G: Ga
     ensures { HasRunLines D.seen D.may_leave D.faults D.moment D.left_since D.tells D.tells_moments result.0 result.1 lines.now (K.taken sink.old) (K.taken sink.new) (Rose (K.faults sink.old) (K.faults sink.new)) disks.old.items disks.new.items }
 {
     runs_have_one_list();
+    sectors_of_runs_are_registers();
     let [volume, rest @ ..] = lines else {
         unreachable!()
     };

@@ -1,16 +1,46 @@
-use Rattle.std.proofs.Common.{[], OnErr, OnOk, arith, get_or, refl, subst, ◌∙◌}
+use Rattle.std.proofs.Common.{[], OnErr, OnOk, arith, get_or, sym, subst}
 use Rattle.pf_world.specs.declared.line.Line.{Line}
 use Rattle.std.specs.Io.KnownBytes.{Appends}
 use Rattle.pf_io.specs.Causes.{Rose}
-use Rattle.pf_world.specs.Steps.{HasFailed, HasRun}
+use Rattle.pf_world.specs.Steps.{HasFailed, HasRun, MayRun}
+use Rattle.pf_world.specs.Views.{named_in}
 use Rattle.polar_cli.specs.Ends.{AppendsFront}
-use Rattle.polar_cli.proofs.Going.{few_calls, full_first, full_later, gone_all, gone_more, gone_none, gone_short, item_is, no_line}
+use Rattle.polar_cli.proofs.Going.{disks_enough, few_calls, few_moves, full_first, full_later, gone_all, gone_more, gone_none, gone_short, item_is, may_run, no_line}
+use Rattle.polar_cli.proofs.Made.{more_after, none_more}
 use Rattle.polar_cli.proofs.Writing.{done_of, failed_of}
 use Rattle.polar_cli.proofs.lines.go_on.Goals as goal
 
 pub line-requires-clause-few : goal.line-requires-clause-few
 line-requires-clause-few g c κs within =
     few_calls c.args.volume.now c.args.lines.now c.loop-line.line-index (g.K.Sink.taken c.args.sink.now) (g.K.Sink.taken c.loop-line.sink) c.args.world.now.world c.loop-line.world.world c.loop-line-test.true c.requires.few c.loop-line.invariant.gone
+
+pub line-requires-clause-command : goal.line-requires-clause-command
+line-requires-clause-command g c κs within =
+    let at = item_is c.args.lines.now c.loop-line.line-index c.line-item.result c.loop-line-test.true c.line-item.is in
+    subst (λ (l : Line). MayRun (named_in c.loop-line.world.world) l.command) (sym at)
+    (may_run c.args.volume.now c.args.lines.now c.loop-line.line-index (g.K.Sink.taken c.args.sink.now) (g.K.Sink.taken c.loop-line.sink) c.args.world.now.world c.loop-line.world.world c.loop-line-test.true c.requires.lines c.loop-line.invariant.gone)
+
+pub line-requires-clause-lines : goal.line-requires-clause-lines
+line-requires-clause-lines g c κs within =
+    few_moves c.args.volume.now c.args.lines.now c.loop-line.line-index (g.K.Sink.taken c.args.sink.now) (g.K.Sink.taken c.loop-line.sink) c.args.world.now.world c.loop-line.world.world c.loop-line-test.true c.requires.moves c.loop-line.invariant.gone
+
+pub line-requires-clause-disks : goal.line-requires-clause-disks
+line-requires-clause-disks g c κs within = disks_enough g.D.Disk.faults c.args.world.now c.loop-line.world c.loop-line.invariant.made c.requires.disks
+
+pub returns-then-is_err-clause-made : goal.returns-then-is_err-clause-made
+returns-then-is_err-clause-made g c = none_more g.D.Disk.faults c.args.world.now
+
+pub returns-then-is_err-2-clause-made : goal.returns-then-is_err-2-clause-made
+returns-then-is_err-2-clause-made g c =
+    let failed : HasFailed c.loop-line.world.world c.line-item.result.number c.line-item.result.command c.line.new.self.world =
+    failed_of c.line.result (HasFailed c.loop-line.world.world c.line-item.result.number c.line-item.result.command c.line.new.self.world) c.if-is_err-2.ensures.value c.line.ensures.err in
+    more_after g.D.Disk.faults c.args.world.now c.loop-line.world c.line.new.self c.loop-line.invariant.made c.line.ensures.made failed.goes_on
+
+pub returns-then-is_err-3-clause-made : goal.returns-then-is_err-3-clause-made
+returns-then-is_err-3-clause-made g c =
+    let ran : HasRun c.loop-line.world.world c.line-item.result.number c.line-item.result.command c.new-text.result.items c.line.new.out.items c.line.new.self.world =
+    done_of c.line.result (HasRun c.loop-line.world.world c.line-item.result.number c.line-item.result.command c.new-text.result.items c.line.new.out.items c.line.new.self.world) c.if-is_err-2.ensures.value c.line.ensures.ran in
+    more_after g.D.Disk.faults c.args.world.now c.loop-line.world c.line.new.self c.loop-line.invariant.made c.line.ensures.made ran.runs.goes_on
 
 pub returns-then-is_err-clause-gone : goal.returns-then-is_err-clause-gone
 returns-then-is_err-clause-gone g c =
@@ -63,7 +93,7 @@ loop-line-preserved g c =
           c.args.world.now.world c.loop-line.world.world c.line.new.self.world out c.loop-line-test.true c.loop-line.invariant.gone ran c.line.ensures.sound
           (subst (Appends (taken c.loop-line.sink) (taken c.write_all-in-loop-line.new.sink)) c.deref.ensures.value put);
       later = omega (arith, c.loop-line.invariant.later, c.write_all-in-loop-line.ensures.later);
-      spare = c.line.ensures.spare ∙ c.loop-line.invariant.spare;
+      made = more_after g.D.Disk.faults c.args.world.now c.loop-line.world c.line.new.self c.loop-line.invariant.made c.line.ensures.made ran.runs.goes_on;
     }
 
 pub returns-clause-gone : goal.returns-clause-gone
@@ -77,5 +107,5 @@ loop-line-init g c = record {
   gone = gone_none c.args.volume.now c.args.opened.now (g.K.Sink.taken c.args.sink.now) (g.K.Sink.taken c.write_all.new.sink) c.args.world.now.world c.requires.run c.requires.world c.requires.sound
       (done_of c.write_all.result (Appends (g.K.Sink.taken c.args.sink.now) (g.K.Sink.taken c.write_all.new.sink) c.args.opened.now) c.if-is_err.ensures.value c.write_all.ensures.ok);
   later = c.write_all.ensures.later;
-  spare = refl;
+  made = none_more g.D.Disk.faults c.args.world.now;
 }

@@ -1,4 +1,5 @@
-use Rattle.std.proofs.Common.{◌≡◌, ◌≤◌, take}
+use Rattle.std.proofs.Common.{◌≤◌, take}
+use Rattle.pf_world.specs.Making.{HasMadeMore}
 use Rattle.polar_cli.proofs.Going.{HasGone}
 use Rattle.polar_cli.proofs.lines.go_on.Given as goal
 
@@ -6,5 +7,5 @@ abbrev pub invariant-loop-line : goal.invariant-loop-line
 invariant-loop-line g l = record {
   gone : HasGone l.volume (take l.line-index l.lines) (g.K.Sink.taken l.fn.sink) (g.K.Sink.taken l.sink) l.fn.world.world l.world.world;
   later : g.K.Sink.faults l.fn.sink ≤ g.K.Sink.faults l.sink;
-  spare : l.world.spare ≡ l.fn.world.spare;
+  made : HasMadeMore g.D.Disk.faults l.fn.world l.world;
 }
