@@ -12,7 +12,7 @@ use Rattle.pf_script.specs.declared.form.Form.{Form}
 use Rattle.pf_script.specs.declared.form.Form.TheVariants as forms
 use Rattle.pf_script.specs.declared.named.Named.{Named}
 use Rattle.pf_script.specs.Forms.{form_of, ◌>>=◌}
-use Rattle.pf_script.specs.Words.{words_of, trimmed}
+use Rattle.pf_text.specs.Words.{words_of, trimmed}
 use Rattle.pf_script.specs.Lines.{fits, placed, command_from, is_silent, command_of, line_of, volume_after, Gives, is_in_range, fits_volume, first_named, one_more}
 
 -- lines may name 8 chunks and groups at most

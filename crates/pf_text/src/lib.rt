@@ -1,8 +1,10 @@
-//! Numbers, bytes and runs of bytes as text: how a script spells them, and how a report does.
+//! Numbers, bytes, runs of bytes and words as text: how a script spells them, and how a report does.
 #![tactic(auto)]
 
 mod put;
 mod read;
+mod words;
 
 pub use put::{put_decimal, put_runs, put_text};
 pub use read::{decimal, hex_byte};
+pub use words::{split_words, trim};
