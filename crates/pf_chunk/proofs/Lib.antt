@@ -27,3 +27,5 @@ pub mod Calls
 pub mod Handing
 pub mod Driven
 pub mod Waited
+pub mod Searching
+pub mod Unanswered

@@ -5,6 +5,7 @@ pub mod Asked
 pub mod Asking
 pub mod Showing
 pub mod Waiting
+pub mod Waiters
 pub mod Views
 pub mod Events
 pub mod Telling

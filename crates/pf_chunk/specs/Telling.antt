@@ -11,6 +11,7 @@ use Rattle.pf_protocol.specs.Groups.{Answered, Group}
 use Rattle.pf_group.specs.GroupIs.{GroupIs}
 use Rattle.pf_report.specs.Texts.{event_line, read_text}
 use Rattle.pf_chunk.specs.declared.waiting.Waiting.{Waiting}
+use Rattle.pf_chunk.specs.Waiters.{is_term}
 use Rattle.pf_chunk.specs.Waiting.{answers_of}
 
 abbrev pub is_some_of : List Answered → Bool
@@ -33,6 +34,10 @@ told_of chunk g waiting = flat_map (λ w. lines_of chunk g w.number) waiting
 abbrev pub runs_in : Option Condition → (term : ℕ) → Bool
 runs_in (Some (Running s)) term = s.durable.term == term
 runs_in c term = false
+
+-- each of these servers that runs does so in its term
+abbrev pub AreTermsOf : Group → List (Option ℕ) → Type 0
+AreTermsOf g terms = (server term : ℕ) → is_term (slice_get terms server) term ≡ true → runs_in (slice_get g.servers server) term ≡ true
 
 -- not answered, and its server runs in its term still
 abbrev pub may_wait : Group → Waiting → Bool

@@ -1,5 +1,5 @@
 //! Lines that write and read sectors.
-ghost use Rattle.std.specs.Prelude.{◌≡◌, ◌<◌, ◌++◌, IfOk, IfSome, IsSome, IsTrue, OnErr, slice_get, vec_capacity, vec_len};
+ghost use Rattle.std.specs.Prelude.{◌≡◌, ◌<◌, ◌++◌, IfOk, IfSome, IsSome, IsTrue, OnErr, slice_get};
 ghost use Rattle.std.specs.Option.{option_to_list};
 ghost use Rattle.pf_group.specs.GroupIs.{state_of};
 ghost use Rattle.pf_protocol.specs.declared.answers.Answer.TheVariants.{Read};
@@ -10,6 +10,7 @@ ghost use Rattle.pf_chunk.specs.Steps.{HasFailed, HasHappened};
 ghost use Rattle.pf_chunk.specs.Telling.{read_of};
 ghost use Rattle.pf_chunk.specs.Views.{IsReady, run_of};
 
+use crate::waiting::WaitingReads;
 use crate::{Asked, ChunkGroup, Waiting};
 use pf_base::{Data, NoMemory, Payload, Range, ServerId};
 use pf_copy::{Gate, Workers};
@@ -19,12 +20,12 @@ use pf_protocol::{Answer, Refusal};
 use std::thread::Threads;
 
 /// Keeps a read, if there is one. There is room for it.
-fn keep(waiting: &mut Vec<Waiting>, read: Option<Waiting>)
-    requires { vec_len waiting.old < vec_capacity waiting.old }
+fn keep(waiting: &mut WaitingReads, read: Option<Waiting>)
+    requires { 0 < waiting.old.places }
     ensures { waiting.new.items ≡ waiting.old.items ++ option_to_list read }
 {
     if let Some(read) = read {
-        let _ = waiting.push(read);
+        waiting.push(read);
     }
 }
 
@@ -136,7 +137,7 @@ impl<D: Disk + Drop> ChunkGroup<D> {
         let Ok(range) = Range::new(sector, count) else {
             return Ok(self.no_range(server));
         };
-        self.waiting.reserve(1)?;
+        self.waiting.reserve()?;
         let answer = self
             .group
             .step(workers.alloc, GroupEvent::Fetch { server, range })?;

@@ -11,7 +11,7 @@ ghost use Rattle.pf_applyrounds.specs.Halts.{Halt};
 ghost use Rattle.pf_chunk.specs.Runs.{most_ports, new_run};
 ghost use Rattle.pf_chunk.specs.Views.{IsReady, run_of};
 
-use crate::Waiting;
+use crate::waiting::WaitingReads;
 use pf_asks::Port;
 use pf_base::NoMemory;
 use pf_disk::Disk;
@@ -31,7 +31,7 @@ pub struct ChunkGroup<D: Disk> {
     pub(crate) group: Group<D>,
     pub(crate) number: u8,
     /// In the order of their numbers. A read is forgotten where its server runs in its term no more: then it is never answered.
-    pub(crate) waiting: Vec<Waiting>,
+    pub(crate) waiting: WaitingReads,
     /// No packet below this one is left.
     pub(crate) first_left: u32,
     /// Of the packets from `first_left` to this one those that are left were passed over by the settling that goes on.
@@ -90,7 +90,7 @@ impl<D: Disk + Drop> ChunkGroup<D> {
         let chunk = ChunkGroup {
             group,
             number,
-            waiting: Vec::new(alloc),
+            waiting: WaitingReads::new(alloc),
             first_left: 0,
             next: 0,
             ports,

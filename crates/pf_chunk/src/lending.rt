@@ -4,8 +4,9 @@ ghost use Rattle.pf_chunk.specs.Lending.{HasTold, with_group};
 ghost use Rattle.pf_chunk.specs.Telling.{now_taken};
 ghost use Rattle.pf_chunk.specs.Views.{IsListed};
 
+use crate::ChunkGroup;
 use crate::telling::tell_reads;
-use crate::{ChunkGroup, Waiting};
+use crate::waiting::WaitingReads;
 use pf_asks::Port;
 use pf_base::NoMemory;
 use pf_disk::Disk;
@@ -16,7 +17,7 @@ use std::marker::Model;
 #[derive(Drop)]
 pub struct Lent {
     number: u8,
-    waiting: Vec<Waiting>,
+    waiting: WaitingReads,
     first_left: u32,
     next: u32,
     ports: Vec<Port>,

@@ -23,8 +23,8 @@ use Rattle.pf_protocol.proofs.ForMoments.{replay_goes_on}
 use Rattle.pf_diskstore.specs.declared.kept.Kept.{Kept}
 use Rattle.pf_network.specs.declared.network.Network.{Network}
 use Rattle.pf_network.specs.Going.{HasBegunSomehow, HasFault, HasGone, HasKept, HasStayed, KeepsOthers, KeepsStores, acts_at, is_quiet}
-use Rattle.pf_network.specs.Readings.{is_taken, taken_after, taken_of}
-use Rattle.pf_network.specs.Showing.{Shows}
+use Rattle.pf_network.specs.Readings.{is_taken, taken_after}
+use Rattle.pf_network.specs.Showing.{Shows, taken_of}
 use Rattle.pf_diskstore.specs.Model.{kept_model}
 use Rattle.pf_group.specs.declared.event.GroupEvent.{GroupEvent}
 use Rattle.pf_group.specs.declared.event.GroupEvent.TheVariants as asked

@@ -17,8 +17,7 @@ use Rattle.pf_state.proofs.Applied.{is_applied_here}
 use Rattle.pf_diskstore.specs.declared.kept.Kept.{Kept}
 use Rattle.pf_network.specs.declared.network.Network.{Network}
 use Rattle.pf_network.specs.declared.kept.Parcel.{Parcel}
-use Rattle.pf_network.specs.Readings.{taken_of}
-use Rattle.pf_network.specs.Showing.{HasAnswer, parcel_of}
+use Rattle.pf_network.specs.Showing.{HasAnswer, parcel_of, taken_of}
 use Rattle.pf_entry.specs.Lists.{Every}
 use Rattle.pf_network.specs.Shown.{Idles, IsLeader, IsMemoryOf, IsRunningAt, TakesRead}
 use Rattle.pf_group.specs.declared.errors.Down.{Down}

@@ -4,13 +4,13 @@ use Rattle.pf_disk.specs.Crashes.{Images}
 use Rattle.pf_protocol.specs.Servers.{Setup}
 use Rattle.pf_protocol.specs.Groups.{Group}
 use Rattle.pf_network.specs.Going.{WasTouched}
-use Rattle.pf_network.specs.Readings.{taken_of}
 use Rattle.pf_diskstore.specs.Model.{kept_model}
 use Rattle.pf_group.specs.declared.group.Group.TheInside.{Inside}
 use Rattle.pf_group.specs.GroupIs.{GroupIs, IsLastStep}
 use Rattle.pf_protocol.specs.Histories.{History, replay}
 use Rattle.pf_diskstore.specs.declared.kept.Kept.{Kept}
 use Rattle.pf_network.specs.declared.network.Network.{Network}
+use Rattle.pf_network.specs.Showing.{taken_of}
 use Rattle.pf_group.specs.Making.{setup_with}
 use Rattle.pf_group.specs.Halves.{all_counts, told_in, was_in}
 use Rattle.pf_group.specs.Pasts.{IsPast}

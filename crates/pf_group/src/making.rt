@@ -12,7 +12,7 @@ use pf_base::{NoMemory, ServerId};
 use pf_disk::Disk;
 use pf_diskstore::Kept;
 use pf_format::ServerRoom;
-use pf_network::{AckedList, Network, put};
+use pf_network::{AckedList, Network, ReadTable, put};
 use pf_protocol::{Answer, Refusal};
 use pf_restart::Seat;
 use std::alloc::Global;
@@ -90,7 +90,7 @@ fn empty_network<D: Disk + Drop>(alloc: Global) -> Result<Network<Kept<D>>, NoMe
         packets: Vec::with_capacity(alloc, PLACES)?,
         byte_room: PACKET_BYTES,
         acked: AckedList::new(alloc),
-        readings: Vec::new(alloc),
+        readings: ReadTable::new(alloc),
         elections: 0,
     })
 }

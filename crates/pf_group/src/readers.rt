@@ -1,7 +1,7 @@
 //! What a group shows. Where its disks tell their content, that is of the state after its history.
 ghost use Rattle.std.specs.Prelude.{◌≡◌, ◌<◌, ◌≤◌, IfNone, IfSome, IsTrue, length, map, slice_get};
 ghost use Rattle.pf_network.specs.Showing.{acked_of};
-ghost use Rattle.pf_network.specs.Shown.{IsLeader, is_acked};
+ghost use Rattle.pf_network.specs.Shown.{IsLeader, ListsUnread, is_acked};
 ghost use Rattle.pf_group.specs.GroupIs.{state_of};
 ghost use Rattle.pf_group.specs.Readers.{HasTaken, LacksAnswer, is_left};
 
@@ -58,5 +58,12 @@ impl<D: Disk> Group<D> {
         ensures numbered { IsTrue self.old.told → length self.old.taken ≡ (state_of self.old).reads }
     {
         self.network.take_read(number)
+    }
+
+    /// The reads whose answers can be handed out, and maybe others. They are told without going through the reads.
+    pub fn unread(&self) -> &[u64]
+        ensures { IsTrue self.now.told → ListsUnread (state_of self.now) self.now.taken result.now }
+    {
+        self.network.unread()
     }
 }

@@ -22,8 +22,7 @@ use Rattle.pf_server.specs.Turns.{Claims}
 use Rattle.pf_network.specs.declared.network.Network.{Network}
 use Rattle.pf_network.specs.Claiming.{ClaimsAt, IsClaimedAt}
 use Rattle.pf_network.specs.Going.{HasGone, IsReached, KeepsStores}
-use Rattle.pf_network.specs.Readings.{taken_of}
-use Rattle.pf_network.specs.Showing.{IsMember, Shows}
+use Rattle.pf_network.specs.Showing.{IsMember, Shows, taken_of}
 use Rattle.pf_network.proofs.Alone.{alone, alone_still}
 use Rattle.pf_network.proofs.Beginning.{its_condition}
 use Rattle.pf_network.proofs.Laws.{its_number}

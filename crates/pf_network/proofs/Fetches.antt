@@ -1,6 +1,5 @@
 -- A read as the turn of a server.
-use Rattle.std.proofs.Common.{◌≡◌, ℕ, ◌<◌, Bool, true, false, not, List, [], ◌∷◌, length, map, Option, Some, None, Result, Ok, Err, slice_get, vec_len, arith, refl, sym, ap, subst, ◌∙◌}
-use Rattle.std.specs.Global.{Vec}
+use Rattle.std.proofs.Common.{◌≡◌, ℕ, ◌<◌, Bool, true, false, not, List, [], ◌∷◌, length, map, Option, Some, None, Result, Ok, Err, slice_get, arith, refl, sym, ap, subst, ◌∙◌}
 use Rattle.std.proofs.lemmas.Bool.{false≢true, true≢false}
 use Rattle.std.proofs.lemmas.List.{length-append}
 use Rattle.std.specs.Option.{option_map}
@@ -35,8 +34,9 @@ use Rattle.pf_network.specs.declared.kept.Reading.TheVariants.{Waiting}
 use Rattle.pf_entry.specs.Lists.{Every}
 use Rattle.pf_protocol.specs.Asked.{AreBelow}
 use Rattle.pf_network.specs.Going.{Goes, HasFault, IsReached, KeepsStores, KeepsTelling, Touches}
-use Rattle.pf_network.specs.Readings.{is_taken, readings_after, readings_with, taken_of}
-use Rattle.pf_network.specs.Showing.{AreReadings, HasTraffic, Shows, seat_of}
+use Rattle.pf_network.specs.Readings.{is_taken, readings_after, readings_with}
+use Rattle.pf_network.specs.Unread.{ReadingsAre}
+use Rattle.pf_network.specs.Showing.{AreReadings, HasTraffic, Shows, seat_of, taken_of}
 use Rattle.pf_network.specs.Turned.{Ends, HasTurned, IsTurnOf, reads_with}
 use Rattle.pf_network.proofs.Beginning.{its_condition}
 use Rattle.pf_network.proofs.Ended.{fault_of}
@@ -121,8 +121,8 @@ still_readings setup past viable readings count are (Refused refusal) = are
 
 module _ {S : Type 0} (model : StoreModel S) (setup : Setup) (past : Past) (old : Network S) (reached : IsReached model setup past old) where
   -- the number of the next read
-  pub its_number : vec_len old.readings ≡ past.group.reads
-  its_number = omega (arith, old.readings.ok, reached.shows.reads)
+  pub its_number : length old.readings.items ≡ past.group.reads
+  its_number = reached.shows.reads
 
   pub is_next : (i : ℕ) (me : Server S) (number : ℕ) → number ≡ past.group.reads → slice_get old.servers.items i ≡ Some me → (c : Condition) × Meets model me.seat me.store me.state c × IsNext c number
   is_next i me number is here =
@@ -134,7 +134,7 @@ module _ {S : Type 0} (model : StoreModel S) (setup : Setup) (past : Past) (old 
       next (StoppedIs life before after) there = tt
       next UnformattedIs there = tt
 
-  module _ (i : ℕ) (range : Span) (writable : IsWritable range.first range.count) (me next : Server S) (acked : AckedList) (readings : Vec Reading) (out out' : Outgoing) (number : ℕ) (numbered : number ≡ past.group.reads) (outcome : Result Answer NoMemory)
+  module _ (i : ℕ) (range : Span) (writable : IsWritable range.first range.count) (me next : Server S) (acked : AckedList) (readings : ReadingsAre) (out out' : Outgoing) (number : ℕ) (numbered : number ≡ past.group.reads) (outcome : Result Answer NoMemory)
       (did : DidTurn model setup past old reached i me next acked out out' (fetch_refusal (setup_at me.seat) out range number) (λ s. on_fetch s range number s.role) outcome)
       (kept : readings.items ≡ readings_with old.readings.items outcome) (room : (o : Outcome) → room_refusal out o ≡ group_room_refusal past.group o) where
     abbrev g : Group

@@ -1,5 +1,6 @@
 pub mod Finding
 pub mod Lists
+pub mod Unread
 pub mod Readings
 pub mod Members
 pub mod Parcels

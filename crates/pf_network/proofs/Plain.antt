@@ -24,8 +24,7 @@ use Rattle.pf_network.specs.declared.network.Network.{Network}
 use Rattle.pf_network.specs.AckedSlots.{HasRoom}
 use Rattle.pf_network.specs.declared.acked.AckedList.{AckedList}
 use Rattle.pf_network.specs.Going.{Goes, HasFault, IsReached, KeepsOthers, KeepsStores, KeepsTelling, Touches, acts_at}
-use Rattle.pf_network.specs.Readings.{taken_of}
-use Rattle.pf_network.specs.Showing.{HasTraffic, Shows}
+use Rattle.pf_network.specs.Showing.{HasTraffic, Shows, taken_of}
 use Rattle.pf_network.specs.Turned.{Ends, HasTurned, IsTurnOf, outbox_of, reads_with}
 use Rattle.pf_network.proofs.Beginning.{its_condition, server_there}
 use Rattle.pf_network.proofs.Ended.{fault_of}

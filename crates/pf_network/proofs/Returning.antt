@@ -41,8 +41,9 @@ use Rattle.pf_protocol.specs.Answers.{Claimed, IsOpen}
 use Rattle.pf_network.proofs.Laws.{viable_open}
 use Rattle.pf_server.specs.Conditions.{BringsBack}
 use Rattle.pf_network.specs.Going.{HasGone, IsBroughtBack, IsReached, KeepsStores}
-use Rattle.pf_network.specs.Readings.{taken_after, taken_of}
-use Rattle.pf_network.specs.Showing.{HasTraffic, IsMember, Shows}
+use Rattle.pf_network.specs.Readings.{taken_after}
+use Rattle.pf_network.specs.Unread.{ReadingsAre}
+use Rattle.pf_network.specs.Showing.{HasTraffic, IsMember, Shows, taken_of}
 use Rattle.pf_network.specs.Turned.{HasStepped, is_refused}
 use Rattle.pf_network.proofs.Acting.{read_there, shows_acted}
 use Rattle.pf_network.proofs.Alone.{alone_still}
@@ -54,8 +55,6 @@ use Rattle.pf_network.proofs.Stores.{stores_kept}
 use Rattle.pf_network.proofs.Taking.{stopped_idles, unformatted_idles}
 use Rattle.pf_network.proofs.Touching.{touches_kept}
 use Rattle.pf_network.specs.Keeping.{HavePlaces, with_answers}
-use Rattle.pf_network.specs.declared.kept.Reading.{Reading}
-use Rattle.std.specs.Global.{Vec}
 use Rattle.std.specs.FinMap
 use Rattle.std.specs.Option.{option_map}
 
@@ -137,12 +136,12 @@ module _ {S : Type 0} (model : StoreModel S) (setup : Setup) (past : Past) (old 
       job_places = subst (λ (x : Server S). HavePlaces old.readings.items (answers_of x.state)) (sym lent_is)
           (subst (HavePlaces old.readings.items) (sym done.settles.answers) (have_places old.readings.items (rule done.s).server (subst (λ n. AreBelow n (rule done.s).server.reads) (sym reached.shows.reads) done.below)))
 
-      pub job_stores : next.store ≡ me.store → (after : Server S) (readings : Vec Reading) → after.store ≡ lent.store → KeepsStores old (record mid { servers = with_item mid.servers i after; readings = readings })
+      pub job_stores : next.store ≡ me.store → (after : Server S) (readings : ReadingsAre) → after.store ≡ lent.store → KeepsStores old (record mid { servers = with_item mid.servers i after; readings = readings })
       job_stores kept after readings same j =
           stores_kept mid (record mid { servers = with_item mid.servers i after; readings = readings }) i after refl lent (set_there old.servers.items i next (slice_get_within old.servers.items i me here) ∙ ap Some (sym lent_is)) same j
           ∙ stores_kept old mid i next refl me here kept j
 
-      pub job_shows : (after : Server S) (readings : Vec Reading) → after.seat ≡ lent.seat → after.store ≡ lent.store
+      pub job_shows : (after : Server S) (readings : ReadingsAre) → after.seat ≡ lent.seat → after.store ≡ lent.store
           → ((s : ServerIs) → Meets model lent.seat lent.store lent.state (RunningIs s) → Meets model after.seat after.store after.state (RunningIs s))
           → readings.items ≡ with_answers old.readings.items (answers_of lent.state) → Shows model setup (record mid { servers = with_item mid.servers i after; readings = readings }) (at_server Whole g i rule)
       unfolding done_stepped job_stepped

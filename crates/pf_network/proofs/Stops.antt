@@ -21,8 +21,8 @@ use Rattle.pf_server.specs.Conditions.{IsHonest, IsKnown, Meets, runs}
 use Rattle.pf_server.specs.Turns.{Begins, BeginsAgain, BeginsSomehow, StopsUnread, WasBegunIn, next_life, stopped_in}
 use Rattle.pf_network.specs.declared.network.Network.{Network}
 use Rattle.pf_network.specs.Going.{GoesBack, GoesSomehow, HasFault, HasGone, IsHonestAt, IsReached, IsToldAt, ShowsSomehow, KeepsOthers, KeepsStores, KeepsTelling, Touches}
-use Rattle.pf_network.specs.Readings.{taken_after, taken_of}
-use Rattle.pf_network.specs.Showing.{IsMember, Shows, seat_of}
+use Rattle.pf_network.specs.Readings.{taken_after}
+use Rattle.pf_network.specs.Showing.{IsMember, Shows, seat_of, taken_of}
 use Rattle.pf_network.proofs.Alone.{alone, alone_still}
 use Rattle.pf_network.proofs.Beginning.{its_condition}
 use Rattle.pf_network.proofs.Laws.{is_known}

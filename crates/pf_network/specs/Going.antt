@@ -23,8 +23,8 @@ use Rattle.pf_server.specs.Conditions.{IsHonest}
 use Rattle.pf_server.specs.Turns.{IsOf, next_life}
 use Rattle.pf_server.specs.declared.server.Server.{Server}
 use Rattle.pf_network.specs.declared.network.Network.{Network}
-use Rattle.pf_network.specs.Readings.{taken_after, taken_of}
-use Rattle.pf_network.specs.Showing.{Shows, seat_of}
+use Rattle.pf_network.specs.Readings.{taken_after}
+use Rattle.pf_network.specs.Showing.{Shows, seat_of, taken_of}
 
 -- the server that a packet is for
 abbrev pub receiver : Option Sent → Option ℕ

@@ -6,6 +6,7 @@ pub mod Pasts
 pub mod Going
 pub mod Keeping
 pub mod Readings
+pub mod Unread
 pub mod Showing
 pub mod Shown
 pub mod Turned

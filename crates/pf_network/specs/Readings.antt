@@ -1,11 +1,10 @@
 -- Reads, and what became of them.
-use Rattle.std.specs.Prelude.{Bool, true, false, List, [], ◌∷◌, ◌++◌, map, Option, Some, None, Result, Ok, Err}
+use Rattle.std.specs.Prelude.{Bool, true, false, List, [], ◌∷◌, ◌++◌, Option, Some, None, Result, Ok, Err}
 use Rattle.pf_base.specs.declared.errors.NoMemory.{NoMemory}
 use Rattle.pf_protocol.specs.declared.answers.Answer.{Answer}
 use Rattle.pf_protocol.specs.declared.answers.Answer.TheVariants.{Read}
 use Rattle.pf_network.specs.declared.kept.Reading.{Reading}
 use Rattle.pf_entry.specs.Ops.{Sector}
-use Rattle.pf_network.specs.declared.network.Network.{Network}
 use Rattle.pf_network.specs.declared.kept.Reading.TheVariants.{Waiting, Answered, Taken}
 
 -- one more waits, where an answer is the number of a read
@@ -23,6 +22,11 @@ with_answer Waiting bytes = Answered bytes
 with_answer (Answered first) bytes = Answered first
 with_answer Taken bytes = Taken
 
+abbrev pub is_waiting : Reading → Bool
+is_waiting Waiting = true
+is_waiting (Answered bytes) = false
+is_waiting Taken = false
+
 -- the answer that can be taken out
 abbrev pub answer_in : Reading → Option (List Sector)
 answer_in Waiting = None
@@ -39,10 +43,6 @@ abbrev pub is_taken : Reading → Bool
 is_taken Waiting = false
 is_taken (Answered bytes) = false
 is_taken Taken = true
-
--- for each read by its number, whether its answer was handed out
-abbrev pub taken_of : {S : Type 0} → Network S → List Bool
-taken_of network = map is_taken network.readings.items
 
 -- one more, where an answer is the number of a read
 abbrev pub taken_after : List Bool → Answer → List Bool

@@ -1,5 +1,5 @@
 -- A network as the group of the rules.
-use Rattle.std.specs.Prelude.{◌≡◌, ◌≢◌, ℕ, ◌+◌, ◌≤◌, List, length, map, Some, slice_get, sum_by, vec_capacity}
+use Rattle.std.specs.Prelude.{◌≡◌, ◌≢◌, ℕ, ◌+◌, ◌≤◌, Bool, List, length, map, Some, slice_get, sum_by, vec_capacity}
 use Rattle.pf_entry.specs.Lists.{Every}
 use Rattle.pf_entry.specs.Ops.{Sector}
 use Rattle.pf_entry.specs.Sizes.{packet_size}
@@ -14,6 +14,7 @@ use Rattle.pf_network.specs.declared.kept.Parcel.{Parcel}
 use Rattle.pf_network.specs.declared.kept.Acked.{Acked}
 use Rattle.pf_network.specs.declared.kept.Reading.{Reading}
 use Rattle.pf_network.specs.declared.kept.Reading.TheVariants.{Waiting, Answered, Taken}
+use Rattle.pf_network.specs.Readings.{is_taken}
 use Rattle.pf_network.specs.declared.network.Network.{Network}
 
 -- what a server of the group is made with
@@ -42,6 +43,10 @@ IsReading answered number Taken = (bytes : List Sector) × HasAnswer answered nu
 -- what is there for each number of a read tells whether it was answered
 abbrev pub AreReadings : List AnsweredIs → List Reading → Type 0
 AreReadings answered readings = (number : ℕ) (reading : Reading) → slice_get readings number ≡ Some reading → IsReading answered number reading
+
+-- for each read by its number, whether its answer was handed out
+abbrev pub taken_of : {S : Type 0} → Network S → List Bool
+taken_of network = map is_taken network.readings.items
 
 module _ {S : Type 0} where
   -- all that is kept beside the servers

@@ -16,6 +16,7 @@ use Rattle.pf_server.specs.declared.state.State.{State}
 use Rattle.pf_server.specs.declared.state.State.TheVariants.{Runs as RunsHere}
 use Rattle.pf_network.specs.declared.network.Network.{Network}
 use Rattle.pf_network.specs.Showing.{HasAnswer, Shows}
+use Rattle.pf_network.specs.Unread.{IsAmong}
 
 -- the network stands for some group
 abbrev pub IsShown : {S : Type 0} → StoreModel S → Network S → Type 0
@@ -58,6 +59,10 @@ IsLeader g (Some (term, i)) = Serves g i term × ((j other : ℕ) → Serves g j
 abbrev pub TakesRead : Group → (number : ℕ) → (taken taken' : List Bool) → Option (List Sector) → Type 0
 TakesRead g number taken taken' (Some bytes) = (slice_get taken number ≡ Some false) × HasAnswer g.answered number bytes × (taken' ≡ slice_set taken number true)
 TakesRead g number taken taken' None = (slice_get taken number ≡ Some false → Every (λ a. a.number ≢ number) g.answered) × (taken' ≡ taken)
+
+-- each read that was answered, and whose answer was not handed out, is among these
+abbrev pub ListsUnread : Group → (taken : List Bool) → (numbers : List ℕ) → Type 0
+ListsUnread g taken numbers = (number : ℕ) (bytes : List Sector) → slice_get taken number ≡ Some false → HasAnswer g.answered number bytes → IsAmong numbers number
 
 -- in memory
 

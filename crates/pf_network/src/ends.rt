@@ -6,8 +6,7 @@ ghost use Rattle.pf_protocol.specs.Groups.{Group, acted};
 ghost use Rattle.pf_protocol.specs.Answers.{Turn};
 ghost use Rattle.pf_network.specs.AckedSlots.{HasRoom};
 ghost use Rattle.pf_network.specs.Going.{KeepsStores};
-ghost use Rattle.pf_network.specs.Readings.{taken_of};
-ghost use Rattle.pf_network.specs.Showing.{Shows};
+ghost use Rattle.pf_network.specs.Showing.{Shows, taken_of};
 ghost use Rattle.pf_network.specs.Turned.{Ends, HasStepped, HasTurned, is_refused};
 
 use crate::Network;

@@ -5,7 +5,7 @@ ghost use Rattle.pf_network.specs.Pasts.{Past};
 ghost use Rattle.pf_protocol.specs.declared.events.Event.TheVariants.{Finish, GiveBack};
 ghost use Rattle.pf_network.specs.Claiming.{ClaimsAt};
 ghost use Rattle.pf_network.specs.Going.{GoesTwice, HasGoneBy, HasPast, IsBroughtBack, IsReached, KeepsStores};
-ghost use Rattle.pf_network.specs.Readings.{taken_of};
+ghost use Rattle.pf_network.specs.Showing.{taken_of};
 
 use crate::Network;
 use crate::ends::is_refused;

@@ -7,7 +7,7 @@ ghost use Rattle.pf_network.specs.AckedSlots.{HasRoom};
 ghost use Rattle.pf_network.specs.Keeping.{HavePlaces, fresh_parcel, with_answers};
 ghost use Rattle.pf_network.specs.declared.kept.Acked.{Acked as AckedHere};
 
-use crate::{Acked, AckedList, Parcel, Reading};
+use crate::{Acked, AckedList, Parcel, ReadTable};
 use pf_base::{Slot, Term};
 use pf_server::Server;
 use pf_state::Outbox;
@@ -68,7 +68,7 @@ pub fn keep_acked<S: Store>(acked: &mut AckedList, server: &Server<S>, slot: Opt
 }
 
 /// Moves the answers of a step's reads to their numbers. It takes no memory.
-pub fn keep_answers<S: Store>(server: &mut Server<S>, readings: &mut Vec<Reading>)
+pub fn keep_answers<S: Store>(server: &mut Server<S>, readings: &mut ReadTable)
     requires sized { AreSized (answers_of server.old.state) }
     requires places { HavePlaces readings.old.items (answers_of server.old.state) }
     ensures readings { readings.new.items ≡ with_answers readings.old.items (answers_of server.old.state) }
@@ -77,6 +77,6 @@ pub fn keep_answers<S: Store>(server: &mut Server<S>, readings: &mut Vec<Reading
     ensures store { server.new.store ≡ server.old.store }
 {
     while let Some((number, sectors)) = server.take_answered() {
-        readings[number as usize].answer(sectors);
+        readings.answer(number, sectors);
     }
 }

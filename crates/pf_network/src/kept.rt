@@ -1,6 +1,6 @@
 //! What a network keeps beside its servers.
 ghost use Rattle.std.specs.Prelude.{◌≡◌, is_some};
-ghost use Rattle.pf_network.specs.Readings.{answer_in, with_answer, without_answer};
+ghost use Rattle.pf_network.specs.Readings.{answer_in, is_waiting, without_answer};
 
 use pf_base::{Bytes, Data, Slot, Term};
 use std::mem::replace;
@@ -32,12 +32,13 @@ pub enum Reading {
 }
 
 impl Reading {
-    /// The answer of a read that waits; a read is answered once.
-    pub(crate) fn answer(&mut self, sectors: Data)
-        ensures { self.new ≡ with_answer self.old sectors }
+    /// Whether it has no answer.
+    pub(crate) fn waits(&self) -> bool
+        ensures { result ≡ is_waiting self.now }
     {
-        if let Reading::Waiting = self {
-            *self = Reading::Answered(sectors);
+        match self {
+            Reading::Waiting => true,
+            Reading::Answered(_) | Reading::Taken => false,
         }
     }
 

@@ -16,6 +16,7 @@ mod network;
 mod packets;
 mod quiet;
 mod readers;
+mod reads;
 mod requests;
 mod upkeep;
 
@@ -25,3 +26,4 @@ pub use kept::{Acked, Parcel, Reading};
 pub use lives::restarts_lead_on;
 pub use network::Network;
 pub use quiet::is_quiet;
+pub use reads::ReadTable;

@@ -2,7 +2,7 @@
 ghost use Rattle.std.specs.Prelude.{◌≡◌, ◌≤◌, length};
 ghost use Rattle.pf_network.specs.Turned.{outbox_of};
 
-use crate::{AckedList, Parcel, Reading};
+use crate::{AckedList, Parcel, ReadTable};
 use pf_server::Server;
 use pf_state::Outbox;
 use pf_store::Store;
@@ -24,7 +24,7 @@ pub struct Network<S: Store> {
     /// The slots that were acknowledged to hosts, in order.
     pub acked: AckedList,
     /// The reads, by their numbers.
-    pub readings: Vec<Reading>,
+    pub readings: ReadTable,
     /// How many elections there were, at most 64.
     pub elections: u32,
 }

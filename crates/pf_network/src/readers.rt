@@ -3,9 +3,8 @@ ghost use Rattle.std.specs.Prelude.{◌≡◌, ◌≤◌, ◌<◌, ◌↔◌, If
 ghost use Rattle.pf_protocol.specs.Groups.{Group};
 ghost use Rattle.pf_protocol.specs.Servers.{Setup};
 ghost use Rattle.pf_network.specs.declared.kept.Parcel.{Parcel as ParcelIs};
-ghost use Rattle.pf_network.specs.Readings.{taken_of};
-ghost use Rattle.pf_network.specs.Showing.{Shows, acked_of};
-ghost use Rattle.pf_network.specs.Shown.{Idles, IsLeader, IsRunningAt, IsShown, TakesRead, is_acked, later_of, served_by};
+ghost use Rattle.pf_network.specs.Showing.{Shows, acked_of, taken_of};
+ghost use Rattle.pf_network.specs.Shown.{Idles, IsLeader, IsRunningAt, IsShown, ListsUnread, TakesRead, is_acked, later_of, served_by};
 
 use crate::{Acked, Network, Parcel};
 use pf_base::{Data, ServerId, Slot, Term};
@@ -111,13 +110,13 @@ impl<S: Store> Network<S> {
         ensures shows { (setup : Setup) (g : Group) → Shows S.model setup self.old g → Shows S.model setup self.new g }
         ensures same { self.new ≡ record self.old { readings = self.new.readings } }
     {
-        let place = number as usize;
-        if place >= self.readings.len() {
-            return None;
-        }
-        if !self.readings[place].has_answer() {
-            return None;
-        }
-        self.readings[place].take()
+        self.readings.take(number)
+    }
+
+    /// The reads whose answers can be taken out, and maybe others.
+    pub fn unread(&self) -> &[u64]
+        ensures { (setup : Setup) (g : Group) → Shows S.model setup self.now g → ListsUnread g (taken_of self.now) result.now }
+    {
+        self.readings.unread()
     }
 }

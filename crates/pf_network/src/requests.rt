@@ -1,13 +1,13 @@
 //! What hosts ask.
-ghost use Rattle.std.specs.Prelude.{◌≡◌, ◌<◌, vec_capacity, vec_len};
+ghost use Rattle.std.specs.Prelude.{◌≡◌, ◌<◌};
 ghost use Rattle.pf_base.specs.Span.{IsWritable};
 ghost use Rattle.pf_protocol.specs.Answers.{IsSubmitted};
 ghost use Rattle.pf_protocol.specs.declared.events.Event.TheVariants.{Fetch, Submit};
 ghost use Rattle.pf_network.specs.Readings.{readings_with};
+ghost use Rattle.pf_network.specs.Unread.{HasRoom};
 ghost use Rattle.pf_network.specs.Going.{GoesBy, HasPast};
 
-use crate::keeping::put;
-use crate::{Network, Reading};
+use crate::{Network, ReadTable};
 use pf_base::{NoMemory, Range, ServerId};
 use pf_entry::Op;
 use pf_protocol::Answer;
@@ -15,12 +15,12 @@ use pf_store::Store;
 use std::alloc::Global;
 
 /// The next read waits, where the answer is its number. It takes no memory.
-fn note_read(readings: &mut Vec<Reading>, outcome: &Result<Answer, NoMemory>)
-    requires { vec_len readings.old < vec_capacity readings.old }
+fn note_read(readings: &mut ReadTable, outcome: &Result<Answer, NoMemory>)
+    requires { HasRoom readings.old }
     ensures { readings.new.items ≡ readings_with readings.old.items outcome.now }
 {
     match outcome {
-        Ok(Answer::Read(_)) => put(readings, Reading::Waiting),
+        Ok(Answer::Read(_)) => readings.push(),
         Ok(_) => {}
         Err(_) => {}
     }
@@ -59,10 +59,10 @@ impl<S: Store> Network<S> {
         requires reached { HasPast S.model self.old }
         ensures { GoesBy S.model (Fetch server range) self.old self.new result }
     {
-        self.readings.reserve(1)?;
+        self.readings.reserve()?;
         self.acked.reserve()?;
         let mut out = self.outbox(alloc);
-        let number = self.readings.len() as u64;
+        let number = self.readings.count() as u64;
         let outcome = self.servers[server as usize].fetch(alloc, range, number, &mut out);
         note_read(&mut self.readings, &outcome);
         self.end(server, outcome, &mut out)

@@ -6,8 +6,7 @@ use Rattle.pf_protocol.specs.Groups.{Group}
 use Rattle.pf_protocol.specs.declared.answers.Answer.{Answer}
 use Rattle.pf_store.specs.Stores.{StoreModel}
 use Rattle.pf_network.specs.declared.network.Network.{Network}
-use Rattle.pf_network.specs.Readings.{taken_of}
-use Rattle.pf_network.specs.Showing.{Shows}
+use Rattle.pf_network.specs.Showing.{Shows, taken_of}
 use Rattle.pf_network.proofs.Touching.{touches_none}
 use Rattle.pf_protocol.specs.Servers.{Setup}
 use Rattle.pf_network.specs.Pasts.{Past}

@@ -1,4 +1,4 @@
-use Rattle.std.proofs.Common.{ap, ◌∙◌}
+use Rattle.std.proofs.Common.{length, ap, ◌∙◌}
 use Rattle.pf_protocol.specs.Answers.{fetch_turn}
 use Rattle.pf_network.specs.Readings.{readings_with}
 use Rattle.pf_network.proofs.Beginning.{few_parcels, in_order, same_room_refusal, server_there}
@@ -12,7 +12,7 @@ pub fetch-outcome-requires-clause-order : goal.fetch-outcome-requires-clause-ord
 fetch-outcome-requires-clause-order g c = in_order g.S.Store.model c.requires.reached.0 c.requires.reached.1.0 c.args.self.now c.requires.reached.1.1 c.args.server c.index_mut.result.now (server_there g.S.Store.model c.requires.reached.0 c.requires.reached.1.0 c.args.self.now c.requires.reached.1.1 c.args.server c.index_mut.result.now c.requires.server c.index_mut.ensures.value)
 
 pub fetch-outcome-requires-clause-next : goal.fetch-outcome-requires-clause-next
-fetch-outcome-requires-clause-next g c = is_next g.S.Store.model c.requires.reached.0 c.requires.reached.1.0 c.args.self.now c.requires.reached.1.1 c.args.server c.index_mut.result.now c.len-number.result (c.len-number.ensures ∙ c.reserve.ensures.len ∙ its_number g.S.Store.model c.requires.reached.0 c.requires.reached.1.0 c.args.self.now c.requires.reached.1.1) (server_there g.S.Store.model c.requires.reached.0 c.requires.reached.1.0 c.args.self.now c.requires.reached.1.1 c.args.server c.index_mut.result.now c.requires.server c.index_mut.ensures.value)
+fetch-outcome-requires-clause-next g c = is_next g.S.Store.model c.requires.reached.0 c.requires.reached.1.0 c.args.self.now c.requires.reached.1.1 c.args.server c.index_mut.result.now c.count-number.result (c.count-number.ensures ∙ ap length c.reserve.ensures.same ∙ its_number g.S.Store.model c.requires.reached.0 c.requires.reached.1.0 c.args.self.now c.requires.reached.1.1) (server_there g.S.Store.model c.requires.reached.0 c.requires.reached.1.0 c.args.self.now c.requires.reached.1.1 c.args.server c.index_mut.result.now c.requires.server c.index_mut.ensures.value)
 
 pub end-requires : goal.end-requires
 end-requires g c =
@@ -24,7 +24,7 @@ end-requires g c =
         c.requires.reached.1.0.group,
         (
           fetch_turn (c.requires.reached.0) c.requires.reached.1.0.group c.args.range,
-          fetch_turned g.S.Store.model c.requires.reached.0 c.requires.reached.1.0 c.args.self.now c.requires.reached.1.1 c.args.server c.args.range c.requires.range c.index_mut.result.now outcome.new.self c.reserve-2.new.self c.note_read.new.readings out outcome.new.out c.len-number.result (c.len-number.ensures ∙ c.reserve.ensures.len ∙ its_number g.S.Store.model c.requires.reached.0 c.requires.reached.1.0 c.args.self.now c.requires.reached.1.1) outcome.result
+          fetch_turned g.S.Store.model c.requires.reached.0 c.requires.reached.1.0 c.args.self.now c.requires.reached.1.1 c.args.server c.args.range c.requires.range c.index_mut.result.now outcome.new.self c.reserve-2.new.self c.note_read.new.readings out outcome.new.out c.count-number.result (c.count-number.ensures ∙ ap length c.reserve.ensures.same ∙ its_number g.S.Store.model c.requires.reached.0 c.requires.reached.1.0 c.args.self.now c.requires.reached.1.1) outcome.result
               (record {
                 low = c.requires.server;
                 read = c.index_mut.ensures.value;
@@ -35,7 +35,7 @@ end-requires g c =
                 fresh = c.outbox-out.ensures;
                 tells = outcome.ensures.step;
                 down = outcome.ensures.down;
-              }) (c.note_read.ensures ∙ ap (λ xs. readings_with xs outcome.result) c.reserve.ensures.items) room,
+              }) (c.note_read.ensures ∙ ap (λ xs. readings_with xs outcome.result) c.reserve.ensures.same) room,
         ),
       ),
     )
@@ -45,7 +45,7 @@ returns g c setup past reached =
     let outcome = c.fetch-outcome in
     let out = c.outbox-out.result in
     let room = same_room_refusal g.S.Store.model setup past c.args.self.now reached out c.outbox-out.ensures in
-    fetch_goes g.S.Store.model setup past c.args.self.now reached c.args.server c.args.range c.requires.range c.index_mut.result.now outcome.new.self c.reserve-2.new.self c.note_read.new.readings out outcome.new.out c.len-number.result (c.len-number.ensures ∙ c.reserve.ensures.len ∙ its_number g.S.Store.model setup past c.args.self.now reached) outcome.result
+    fetch_goes g.S.Store.model setup past c.args.self.now reached c.args.server c.args.range c.requires.range c.index_mut.result.now outcome.new.self c.reserve-2.new.self c.note_read.new.readings out outcome.new.out c.count-number.result (c.count-number.ensures ∙ ap length c.reserve.ensures.same ∙ its_number g.S.Store.model setup past c.args.self.now reached) outcome.result
     (record {
       low = c.requires.server;
       read = c.index_mut.ensures.value;
@@ -56,5 +56,5 @@ returns g c setup past reached =
       fresh = c.outbox-out.ensures;
       tells = outcome.ensures.step;
       down = outcome.ensures.down;
-    }) (c.note_read.ensures ∙ ap (λ xs. readings_with xs outcome.result) c.reserve.ensures.items) room
+    }) (c.note_read.ensures ∙ ap (λ xs. readings_with xs outcome.result) c.reserve.ensures.same) room
     c.end.new.self c.end.ensures.halted c.end.ensures.stores c.end.ensures.taken c.end.result c.end.ensures.same (c.end.ensures.step setup past.group (fetch_turn setup past.group c.args.range))

@@ -3,7 +3,7 @@ use Rattle.std.specs.Prelude.{IsTrue}
 use Rattle.pf_chunk.specs.Telling.{now_taken}
 use Rattle.pf_chunk.proofs.Told.{IsGoneThrough}
 use Rattle.pf_chunk.proofs.Through.{GoesThrough}
-use Rattle.pf_chunk.proofs.telling.tell_reads.Given as goal
+use Rattle.pf_chunk.proofs.telling.tell_all.Given as goal
 
 abbrev pub invariant-loop-place : goal.invariant-loop-place
 invariant-loop-place g l = record {
