@@ -7,4 +7,5 @@ pub mod Disks
 pub mod Making
 pub mod Steps
 pub mod Asked
+pub mod Running
 pub mod Headline

@@ -8,6 +8,7 @@ ghost use Rattle.pf_chunk.specs.Asked.{MayAsk};
 ghost use Rattle.pf_world.specs.Asked.{IsAllowed, IsSubmit, asked_of};
 ghost use Rattle.pf_world.specs.Headline.{IsSoundWorld, WorldLeavesAtCrash};
 ghost use Rattle.pf_world.specs.Making.{HasMadeMore};
+ghost use Rattle.pf_world.specs.Running.{MayBeRun};
 ghost use Rattle.pf_world.specs.Steps.{HasFailed, HasRun, IsOfMade, MayRun};
 ghost use Rattle.pf_world.specs.Views.{IsWorld, named_in};
 
@@ -136,11 +137,7 @@ impl<D: Disk + Drop + Send> World<D> {
         command: &Command,
         out: &mut Vec<u8>,
     ) -> Result<(), NoMemory>
-        requires world { IsWorld self.old.world }
-        requires command { MayRun (named_in self.old.world) command.now }
-        requires few { self.old.world.fleet.calls + 1 < 2 ^ 32 }
-        requires lines { self.old.world.moves + 1 < 2 ^ 32 }
-        requires disks { 48 ≤ 6 * length self.old.world.chunks + length self.old.spare }
+        requires may { MayBeRun self.old command.now }
         ensures ran { OnOk result (HasRun self.old.world number command.now out.old.items out.new.items self.new.world) }
         ensures err { OnErr result (HasFailed self.old.world number command.now self.new.world) }
         ensures made { HasMadeMore D.faults self.old self.new }
@@ -182,12 +179,8 @@ impl<D: Disk + Drop + Send> World<D> {
         command: &Command,
         out: &mut Vec<u8>,
     ) -> Result<(), NoMemory>
-        requires world { IsWorld self.old.world }
-        requires command { MayRun (named_in self.old.world) command.now }
+        requires may { MayBeRun self.old command.now }
         requires made { IsOfMade self.old.world command.now }
-        requires few { self.old.world.fleet.calls + 1 < 2 ^ 32 }
-        requires lines { self.old.world.moves + 1 < 2 ^ 32 }
-        requires disks { 48 ≤ 6 * length self.old.world.chunks + length self.old.spare }
         ensures ran { OnOk result (HasRun self.old.world number command.now out.old.items out.new.items self.new.world) }
         ensures err { OnErr result (HasFailed self.old.world number command.now self.new.world) }
         ensures made { HasMadeMore D.faults self.old self.new }
