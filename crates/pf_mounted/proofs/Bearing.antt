@@ -1,5 +1,5 @@
 -- Steps of the mover are as they were told.
-use Rattle.std.proofs.Common.{◌≡◌, ◌≢◌, ◌⊎◌, ℕ, suc, ◌+◌, ◌<◌, ◌≤◌, ◌==◌, ◌&&◌, Bool, true, false, cond, if◌then◌else◌, inl, inr, List, [], ◌∷◌, ◌++◌, length, Option, Some, None, slice_get, take, arith, refl, sym, ap, subst, ◌∙◌, append-nil}
+use Rattle.std.proofs.Common.{◌≡◌, ◌≢◌, ℕ, suc, ◌+◌, ◌<◌, ◌≤◌, ◌==◌, ◌&&◌, Bool, true, false, cond, if◌then◌else◌, inl, inr, List, [], ◌∷◌, ◌++◌, length, Option, Some, None, slice_get, take, arith, refl, sym, ap, subst, ◌∙◌, append-nil}
 use Rattle.std.specs.Option.{option_map}
 use Rattle.std.proofs.lemmas.Bool.{cases_eq, eqb-true}
 use Rattle.std.proofs.lemmas.Grind.{fold-append}
@@ -42,11 +42,11 @@ use Rattle.pf_mounted.specs.Epochs.{epoch_of, group_at, serving}
 use Rattle.pf_mounted.specs.Handing.{reached}
 use Rattle.pf_mounted.specs.Movers.{IsCarriedBack, IsOnTheMove, ask_to_carry, asked_to_carry, carried_ask, group_of_role, role_of_ask, role_of_reply}
 use Rattle.pf_mounted.specs.Pasts.{MoverTrace, Trace, at_carry, handed_at, mover_trace, moves_into, numbered, past_in, past_of, trace_in, with_port as with_port_of}
-use Rattle.pf_mounted.proofs.Driving.{mover_told}
+use Rattle.pf_mounted.proofs.Driving.{mover_told, same_role}
 use Rattle.pf_mounted.proofs.Each.{one_more}
 use Rattle.pf_mounted.proofs.Hearing.{AllSo, IsBackIf, IsSo, all_grown, all_plain, behind_all, by_is, drove_said, event_within, now_there, put_grow, reached_by, taken, told_is}
 use Rattle.pf_mounted.proofs.Handovers.{IsHandedAt}
-use Rattle.pf_mounted.proofs.Hosting.{AreSo, behind, handed_passes, passed_all, set_told}
+use Rattle.pf_mounted.proofs.Hosting.{AreSo, handed_passes, passed_all, set_told}
 use Rattle.pf_mounted.proofs.Lives.{its_own}
 use Rattle.pf_mounted.proofs.OfKinds.{reply_of_kind}
 use Rattle.pf_mounted.proofs.Ports.{HasAsked, asked_for, drives_at, none_asked_of, put_asked}
@@ -503,15 +503,6 @@ module _ (count : ℕ) (told : List Moment) (k : ℕ) (c : ChunkRun) (is : IsAsT
         there = λ is_its. absurd (apart (same_Some its role (sym (subst (λ (g : Chunk). (moves_into g.history k count (told ++ y ∷ [])).role ≡ Some its) (same_group o) is_its) ∙ still_role)));
       }
 
-  same_role : (its : Asked) → (its ≡ role) ⊎ (its ≢ role)
-  same_role = by role
-    where
-      by : (r its : Asked) → (its ≡ r) ⊎ (its ≢ r)
-      by Reading Reading = inl refl
-      by Writing Writing = inl refl
-      by Reading Writing = inr (λ same. cc)
-      by Writing Reading = inr (λ same. cc)
-
   pub carry_asked : IsAsTold count (told ++ y ∷ []) k (asked c mover_port ask)
   carry_asked =
       let o = slice_get c.ports mover_port in
@@ -525,7 +516,7 @@ module _ (count : ℕ) (told : List Moment) (k : ℕ) (c : ChunkRun) (is : IsAsT
               its = subst (λ (g : Chunk). IsDriven g.setup (past_of count g.history m k (told ++ y ∷ [])) was.port) (sym group) was.its;
               there = λ chunk its_chunk. other_port o m small ∙ was.there chunk its_chunk;
             };
-        hauled = λ its. elim (same_role its) [
+        hauled = λ its. elim (same_role its role) [
           | inl same ↦ subst (Of o) (sym same) (its_port o refl)
           | inr apart ↦ other_role o its apart
         ];

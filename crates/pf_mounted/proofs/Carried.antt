@@ -1,10 +1,10 @@
 -- What the mover's ports are told to have handed on: each by an event of its own, for the ask that the mover had then.
-use Rattle.std.proofs.Common.{◌≡◌, ◌≢◌, ℕ, zero, suc, ◌==◌, ◌&&◌, if◌then◌else◌, Bool, true, false, inl, inr, List, [], ◌∷◌, ◌++◌, length, take, Option, Some, None, slice_get, arith, refl, sym, ap, subst, ◌∙◌}
+use Rattle.std.proofs.Common.{◌≡◌, ℕ, suc, ◌==◌, ◌&&◌, if◌then◌else◌, inl, inr, List, [], ◌∷◌, ◌++◌, length, take, Option, Some, None, slice_get, arith, refl, sym, ap, subst, ◌∙◌}
 use Rattle.std.specs.List.{fold}
-use Rattle.std.proofs.lemmas.Bool.{eqb-true, false≢true}
+use Rattle.std.proofs.lemmas.Bool.{eqb-true}
 use Rattle.std.proofs.lemmas.Grind.{fold-append}
 use Rattle.std.proofs.lemmas.List.{take-append-le, length-append}
-use Rattle.std.proofs.lemmas.Option.{none-some, same_Some}
+use Rattle.std.proofs.lemmas.Option.{none-some}
 use Rattle.std.proofs.Math.Seq.{take-append_seam, take_all}
 use Rattle.pf_entry.proofs.Cases.{by_test}
 use Rattle.pf_entry.specs.Lists.{Every}
@@ -24,9 +24,9 @@ use Rattle.pf_chunk.specs.Runs.{mover_port}
 use Rattle.pf_hosts.specs.Moments.{Begins, Carries, Ends, Hands, Moment, Moves, Turns, Writes}
 use Rattle.pf_mounted.specs.Pasts.{MoverTrace, Trace, at_carry, carrying, first_chunk, handed_at, handed_by, is_at, mover_trace, moves_into, no_moves, no_trace, numbered, trace_in, with_port}
 use Rattle.pf_mounted.proofs.Lives.{not_its_own}
-use Rattle.pf_mounted.proofs.Placing.{at_seam, by_ends, get_either, get_first, some_within}
+use Rattle.pf_mounted.proofs.Placing.{at_seam, by_ends, get_either, get_first, only_one, some_within}
 use Rattle.pf_mounted.proofs.Tracing.{moves_more, test_same}
-use Rattle.pf_mounted.proofs.Tracked.{IsElsewhere}
+use Rattle.pf_mounted.proofs.Tracked.{IsElsewhere, both_tests}
 
 -- numbers are nothing to what was handed on
 numbered_writes : (count : ℕ) (role : Option Asked) (next : MoveNext) (t : MoverTrace) → ((numbered count role next t).written.writes ≡ t.written.writes) × ((numbered count role next t).read.reads ≡ t.read.reads)
@@ -96,10 +96,6 @@ module _ (history : History) (k count : ℕ) where
   all_still : (told : List Moment) (y : Moment) (t : MoverTrace) → AllCarriedOn told t → AllCarriedOn (told ++ y ∷ []) t
   all_still told y t all = (writes_still told y t all, reads_still told y t all)
 
-  only_one : {X : Type 0} → (j : ℕ) (x y : X) → slice_get (x ∷ []) j ≡ Some y → x ≡ y
-  only_one zero x y at = same_Some x y at
-  only_one (suc j) x y at = absurd (none-some y at)
-
   module _ (told : List Moment) (place : ℕ) (so_far : AllCarriedOn told (into told)) where
     abbrev t : MoverTrace
     t = into told
@@ -134,7 +130,7 @@ module _ (history : History) (k count : ℕ) where
         → (i : ℕ) → slice_get (its_write server op answer ∷ []) i ≡ Some a → slice_get (t.written.writes ++ its_write server op answer ∷ []) j ≡ Some a → IsCarriedWrite now j a
     new_write in_use j a server op answer is i at new =
         let it : Submission = its_write server op answer in
-        let same : it ≡ a = only_one i it a at in
+        let same : it ≡ a = (only_one it a i at).0 in
         let traced : (into now).written ≡ handed_by (take place history) (events.Submit server op) answer t.written =
         ap (λ (x : MoverTrace). x.written) (moves_more history k count told (Hands mover_port k place) ∙ changed Writing in_use) ∙ ap (λ h. handed_at (take place history) h t.written) is in
         subst (IsCarriedWrite now j) same (record {
@@ -160,7 +156,7 @@ module _ (history : History) (k count : ℕ) where
         let it : Fetching = record { ask = t.read.asks; before = take place history; server = server; range = range; answer = answer } in
         elim (get_either t.read.reads (it ∷ []) j f at) [
           | inl old ↦ reads_still told (Hands mover_port k place) t so_far j f old
-          | inr new ↦ subst (λ (x : Fetching). WasCarriedOn now Reading x.ask x.before (events.Fetch x.server x.range) x.answer) (only_one new.0 it f new.1) (here Reading in_use (events.Fetch server range) answer is)
+          | inr new ↦ subst (λ (x : Fetching). WasCarriedOn now Reading x.ask x.before (events.Fetch x.server x.range) x.answer) (only_one it f new.0 new.1).0 (here Reading in_use (events.Fetch server range) answer is)
         ]
     read_by in_use event answer is j f at = reads_still told (Hands mover_port k place) t so_far j f at
 
@@ -176,10 +172,6 @@ module _ (history : History) (k count : ℕ) where
     by_role None in_use = all_still told (Hands mover_port k place) t so_far
     by_role (Some Reading) in_use = (writes_still told (Hands mover_port k place) t so_far, read_at in_use (slice_get history place) refl)
     by_role (Some Writing) in_use = (written_at in_use (slice_get history place) refl, reads_still told (Hands mover_port k place) t so_far)
-
-  both_tests : (a b : Bool) → (a && b) ≡ true → (a ≡ true) × (b ≡ true)
-  both_tests true b both = (refl, both)
-  both_tests false b both = absurd (false≢true both)
 
   one_carried : (told : List Moment) (y : Moment) → AllCarriedOn told (into told) → AllCarriedOn (told ++ y ∷ []) (at_carry history k (into told) y)
   one_carried told (Hands n group place) so_far =

@@ -1,4 +1,4 @@
--- What the mover's port wrote into a group, in the move for which the group was made.
+-- A move of a chunk, by what was told: what its mover wrote follows the rule of ports, what it read the old group gave, and each piece was moved.
 use Rattle.std.proofs.Common.{◌≡◌, ◌≢◌, ℕ, suc, pred, ◌+◌, ◌*◌, ◌/◌, ◌<◌, ◌≤◌, inl, inr, unwrap_or, List, [], ◌∷◌, ◌++◌, length, map, take, drop, Option, Some, None, slice_get, arith, refl, sym, ap, subst, ◌∙◌, length-append, true}
 use Rattle.std.proofs.lemmas.Bool.{cases_lt}
 use Rattle.std.proofs.lemmas.List.{take-append-drop, take-append-le}
@@ -76,9 +76,9 @@ record IsWriteAsk (ask : Ask) (op : Op) : Type 0 where
   asks_it : ask ≡ asks.Write (chunk_of ask) copy.span copy.sectors
   is_op : op ≡ Write copy.span copy.sectors
 
-write_ask : (ask : Ask) (server its : ℕ) (op : Op) → event_of_ask ask server ≡ Submit its op → IsWriteAsk ask op
-write_ask (asks.Write chunk span sectors) server its op is = record { copy = record { span = span; sectors = sectors }; asks_it = refl; is_op = cc }
-write_ask (asks.Read chunk span) server its op is = absurd (cc)
+asked_write : (ask : Ask) (server its : ℕ) (op : Op) → event_of_ask ask server ≡ Submit its op → IsWriteAsk ask op
+asked_write (asks.Write chunk span sectors) server its op is = record { copy = record { span = span; sectors = sectors }; asks_it = refl; is_op = cc }
+asked_write (asks.Read chunk span) server its op is = absurd (cc)
 
 reads_in : (ask : Ask) (server its : ℕ) (range : Span) → event_of_ask ask server ≡ Fetch its range → role_of_ask ask ≡ Reading
 reads_in (asks.Read chunk span) server its range is = refl
@@ -149,12 +149,6 @@ module _ (v : Extent) (chunks : List ChunkRun) (answer_at : ℕ → Answered) (w
         let stay = turns_stay chunk e (take p told) (drop p told) (goes p m).turns (turns_then p m) in
         (stay.0, same_Some turns ((goes p m).turns ++ stay.0) (sym moves_at ∙ ap (λ (b : List Moment). slice_get (moves_of b chunk) e) (sym (take-append-drop p told)) ∙ stay.1))
 
-    pub turns_grow : (p q : ℕ) → p ≤ q → (m : IsInMove p) (n : IsInMove q) → (more : List Turn) × ((goes q n).turns ≡ (goes p m).turns ++ more)
-    turns_grow p q low m n =
-        let further = take_goes_on told q p low in
-        let stay = turns_stay chunk e (take p told) further.0 (goes p m).turns (turns_then p m) in
-        (stay.0, same_Some (goes q n).turns ((goes p m).turns ++ stay.0) (sym (turns_then q n) ∙ ap (λ (b : List Moment). slice_get (moves_of b chunk) e) further.1 ∙ stay.1))
-
     -- What was written
 
     pub record IsWriteAt (j : ℕ) (a : Submission) : Type 0 where
@@ -186,7 +180,7 @@ module _ (v : Extent) (chunks : List ChunkRun) (answer_at : ℕ → Answered) (w
         let home = same_home v.chunks told begun h.chunk chunk (suc its_epoch) (suc e) k1 h.moving.small small (till_end q h.chunk (suc its_epoch) k1 group) new_at in
         let same_epoch = home.1 in
         let m : IsInMove q = record { moving = subst (IsOnTheMove v.chunks (take q told)) home.0 h.moving; now = ap (epoch_of (take q told)) (sym home.0) ∙ (let one : its_epoch ≡ e = omega (arith, same_epoch) in one) } in
-        let asked = write_ask h.ask h.server a.server a.op event in
+        let asked = asked_write h.ask h.server a.server a.op event in
         let wants : wanted chunk (goes q m).turns ≡ Some h.ask = sym (goes q m).asked ∙ ap (carried_ask (take q told)) (sym home.0) ∙ h.pending in
         let used = (goes q m).new c1.group.history k1 (ap (λ i. group_at (take q told) chunk (suc i)) m.now ∙ new_then q m) in
         record {
@@ -351,9 +345,6 @@ module _ (v : Extent) (chunks : List ChunkRun) (answer_at : ℕ → Answered) (w
           rest = more.0;
           whole = ap (λ b. (b ++ submitting a ∷ []) ++ more.0) w.since ∙ ap (λ b. b ++ more.0) (sym (take_one_more c1.group.history w.place (submitting a) w.is)) ∙ sym more.1;
         })
-
-    to_trace : (a : Submission) → IsTarget (groups.setup chunk (suc e)) (copied a) → IsTarget c1.group.setup a
-    to_trace a t = subst (λ (setup : Setup). IsTarget setup a) new_setup (record { server = t.server; leader = t.leader; runs = t.runs; serves = t.serves })
 
     ended_so : (j i : ℕ) (a b : Submission) → slice_get trace_writes j ≡ Some a → slice_get trace_writes i ≡ Some b → a.write < b.write → HasEnded (groups.setup chunk (suc e)) (groups.moved chunk e) b.before (place_of a.write)
     ended_so j i a b at its low =

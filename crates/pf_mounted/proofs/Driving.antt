@@ -45,7 +45,7 @@ use Rattle.pf_mounted.proofs.Tracing.{IsWithin, asks_of, handed_if, moves_longer
 
 -- The mover's ports
 
-same_role : (one other : Asked) → (one ≡ other) ⊎ (one ≢ other)
+pub same_role : (one other : Asked) → (one ≡ other) ⊎ (one ≢ other)
 same_role Reading Reading = inl refl
 same_role Writing Writing = inl refl
 same_role Reading Writing = inr (λ same. cc)

@@ -12,7 +12,7 @@ use Rattle.pf_mounted.specs.Fitting.{IsOfRun}
 use Rattle.pf_mounted.specs.Journals.{CanBeDoings}
 use Rattle.pf_mounted.specs.Scripts.{IsScript}
 use Rattle.pf_mounted.proofs.Beginning.{turns_free}
-use Rattle.pf_mounted.proofs.Holding.{calls_of_words, handed_on, mounts_alone, ports_driven, ports_full, reached_within, replies_heard, replies_since}
+use Rattle.pf_mounted.proofs.Holding.{calls_of_words, handed_on, mounts_alone, ports_driven, reached_within, replies_heard, replies_since}
 use Rattle.pf_mounted.proofs.OfMounts.{run_of_mounts}
 use Rattle.pf_mounted.proofs.RunMoves.{run_moves}
 use Rattle.pf_mounted.proofs.Sizing.{has_room}
@@ -36,7 +36,6 @@ module _ (halts : List Halt) (sessions : List Session) (lines : List Line) (scri
         since = λ m before after heard next ask same asked k serves. replies_since halts sessions lines script m before after heard next ask same asked k serves;
         legal = λ k c at. (lawful k c at).legal;
         driven = ports_driven halts sessions lines script;
-        ports = ports_full halts sessions lines script;
         moves = run_moves halts sessions lines script lawful;
       }
 

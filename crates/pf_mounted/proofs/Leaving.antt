@@ -18,7 +18,6 @@ use Rattle.pf_move.specs.declared.mover.Asked.TheVariants.{Reading, Writing}
 use Rattle.pf_move.specs.declared.routes.Moving.{Moving}
 use Rattle.pf_move.specs.Movers.{MoverIs, Step, new_mover, step}
 use Rattle.pf_move.specs.Routes.{RoutesIs, home_in, home_of}
-use Rattle.pf_move.specs.Routes as routes_of
 use Rattle.pf_ports.specs.Calls.{Past, new_past}
 use Rattle.pf_ports.specs.Driven.{Begins as BeginsDriven, IsDriven, Puts}
 use Rattle.pf_applyrounds.specs.Chunks.{Chunk, made_chunk}
@@ -30,7 +29,7 @@ use Rattle.pf_fleet.specs.Volumes as volumes
 use Rattle.pf_world.specs.declared.kind.Kind.{Kind}
 use Rattle.pf_mounted.specs.Handing.{AreMountsAlone}
 use Rattle.pf_mounted.specs.Mounts.{last_ask, of_chunk}
-use Rattle.pf_mounted.specs.Pasts.{LastAsk, MoverTrace, Trace, at_carry, first_chunk, handed_at, is_at, moves_into, moving, no_moves, no_trace, number_of, numbered, past_in, past_of, trace_in, trace_of, with_port as with_port_of}
+use Rattle.pf_mounted.specs.Pasts.{LastAsk, MoverTrace, Trace, at_carry, first_chunk, handed_at, is_at, moves_into, no_moves, no_trace, number_of, numbered, past_in, past_of, trace_in, trace_of, with_port as with_port_of}
 use Rattle.pf_mounted.proofs.Bearing.{IsBearing, IsFree, no_one, step_asks}
 use Rattle.pf_mounted.proofs.Each.{one_more}
 use Rattle.pf_mounted.proofs.Growing.{grows_refl}
@@ -45,7 +44,7 @@ use Rattle.pf_mounted.proofs.Standing.{IsPair, began, came_from, chunks_are, fro
 use Rattle.pf_mounted.proofs.Steering.{IsBorne, went}
 use Rattle.pf_mounted.proofs.Telling.{IsAsTold, MoverAsTold}
 use Rattle.pf_mounted.proofs.Tracked.{IsElsewhere}
-use Rattle.pf_mounted.proofs.Tracing.{IsPending, IsWithin, asks_of, at_apart, at_same, is_hauled, is_trace, moves_more, past_more}
+use Rattle.pf_mounted.proofs.Tracing.{IsPending, IsWithin, asks_of, at_apart, at_same, is_hauled, is_trace, moves_more, past_more, reading_apart}
 use Rattle.pf_mounted.proofs.Writers.{alone_told}
 
 -- A group of which nothing was told
@@ -123,9 +122,6 @@ rehomed_there [] m p at = absurd (none-some p at)
 rehomed_there (q ∷ ports) zero p at = ap (λ (x : PortIs). Some (rehomed x)) (same_Some q p at)
 rehomed_there (q ∷ ports) (suc m) p at = rehomed_there ports m p at
 
-reading_apart : Reading ≡ Writing → ⊥
-reading_apart same = cc
-
 -- The chunk leaves one group and goes to the other
 
 module _ (kind : Option Kind) (halts : List Halt) (v : VolumeRun) (told : List Moment) (is : IsBorne kind v told) (rests : v.routes.moving ≡ None) (names format chunk h : ℕ) (home : home_of v.routes chunk ≡ Some h) where
@@ -181,6 +177,14 @@ module _ (kind : Option Kind) (halts : List Halt) (v : VolumeRun) (told : List M
   of_away : (k : ℕ) → n ≢ k → k ≢ h → asks_of count told_on k ≡ asks_of count told k
   of_away k apart other =
       of_other count n v.routes told is.hosts.routes rests chunk h home k apart ∙ ap (λ b. if b then None else asks_of count told k) (at_apart (asks_of count told k) chunk (away k other))
+
+  -- no chunk is moving: the mover's ports have nothing to ask
+  none_there : (o : Option MoverIs) → IsPair None o → IsBearing count told v.chunks v.routes None o → HasAsked no_one mover_port None v.chunks
+  none_there None pair bears = bears
+  none_there (Some mover) pair bears = absurd pair
+
+  quiet : HasAsked no_one mover_port None v.chunks
+  quiet = none_there v.mover (subst (λ m. IsPair m v.mover) rests is.hosts.pair) (subst (λ m. IsBearing count told v.chunks v.routes m v.mover) rests is.bears)
 
   -- What the moment is to the traces
 
@@ -323,12 +327,8 @@ module _ (kind : Option Kind) (halts : List Halt) (v : VolumeRun) (told : List M
       mover_port_there : (p : PortIs) × (slice_get source.ports mover_port ≡ Some p)
       mover_port_there = something_there source.ports mover_port (let full = (is.hosts.placed h source source_there).ports in omega (arith, full))
 
-      none_there : (o : Option MoverIs) → IsPair None o → IsBearing count told v.chunks v.routes None o → HasAsked no_one mover_port None v.chunks
-      none_there None pair bears = bears
-      none_there (Some mover) pair bears = absurd pair
-
       unasked : mover_port_there.0.ask ≡ None
-      unasked = none_there v.mover (subst (λ m. IsPair m v.mover) rests is.hosts.pair) (subst (λ m. IsBearing count told v.chunks v.routes m v.mover) rests is.bears) h source mover_port_there.0 source_there mover_port_there.1
+      unasked = quiet h source mover_port_there.0 source_there mover_port_there.1
 
       by : (role : Asked) → MoverAsTold count told_on n target role
       by Writing = record {
@@ -401,13 +401,6 @@ module _ (kind : Option Kind) (halts : List Halt) (v : VolumeRun) (told : List M
     };
   }
     where
-      none_there : (o : Option MoverIs) → IsPair None o → IsBearing count told v.chunks v.routes None o → HasAsked no_one mover_port None v.chunks
-      none_there None pair bears = bears
-      none_there (Some mover) pair bears = absurd pair
-
-      quiet : HasAsked no_one mover_port None v.chunks
-      quiet = none_there v.mover (subst (λ m. IsPair m v.mover) rests is.hosts.pair) (subst (λ m. IsBearing count told v.chunks v.routes m v.mover) rests is.bears)
-
       free_ports : HasAsked no_one mover_port None chunks_on
       free_ports k c port at its = elim (where_from k c at) [
         | inl here ↦ ap (λ (p : PortIs). p.ask) (sym (same_Some new_port port (ap (λ (x : ChunkRun). slice_get x.ports mover_port) here.1 ∙ its)))

@@ -67,6 +67,11 @@ module _ {X : Type 0} where
   pub more_is_told : (first : List X) (x : X) (second more : List X) (xs : List X) → xs ≡ first ++ x ∷ second → xs ++ more ≡ first ++ x ∷ (second ++ more)
   more_is_told first x second more xs is = ap (λ all. all ++ more) is ∙ append_assoc first (x ∷ second) more
 
+-- a list of one has nothing else
+pub only_one : {X : Type 0} → (x y : X) (j : ℕ) → slice_get (x ∷ []) j ≡ Some y → (x ≡ y) × (j ≡ 0)
+only_one x y zero at = (same_Some x y at, refl)
+only_one x y (suc j) at = absurd (none-some y at)
+
 -- what stands in a mapped list is of what stood there
 pub get_mapped : {X Y : Type 0} → (f : X → Y) (xs : List X) (k : ℕ) (y : Y) → slice_get (map f xs) k ≡ Some y → (x : X) × (slice_get xs k ≡ Some x) × (f x ≡ y)
 get_mapped f [] k y at = absurd (none-some y at)

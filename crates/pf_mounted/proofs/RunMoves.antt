@@ -1,5 +1,5 @@
 -- What is known of the moves of a lawful run.
-use Rattle.std.proofs.Common.{◌≡◌, ℕ, ◌+◌, ◌/◌, ◌<◌, List, ◌∷◌, ◌++◌, Some, take, arith}
+use Rattle.std.proofs.Common.{◌≡◌, ℕ, ◌/◌, ◌<◌, List, ◌∷◌, ◌++◌, Some, take, arith}
 use Rattle.pf_base.specs.Asks.{Answers}
 use Rattle.pf_base.specs.declared.asks.Ask.{Ask}
 use Rattle.pf_network.proofs.Lists.{something_there}

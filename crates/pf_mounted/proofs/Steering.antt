@@ -129,20 +129,20 @@ in_use kind v told k is group = by v.routes.moving v.mover refl refl is.bears
     its_group b Writing = refl
 
     by : (moving : Option Moving) (mover : Option MoverIs) → v.routes.moving ≡ moving → v.mover ≡ mover → IsBearing v.extent.chunks told v.chunks v.routes moving mover → InUse kind v told k
-    by None None moves its bears = absurd (none-some k (sym (asks_none (between v.routes)) ∙ ap (λ o. asks_in (between v.routes) (option_and_then (λ (m : MoverIs). m.asked) o)) (sym its) ∙ group))
-    by None (Some mover) moves its bears = absurd bears
-    by (Some moving) None moves its bears = absurd bears
-    by (Some moving) (Some mover) moves its b = record {
+    by None None moves here bears = absurd (none-some k (sym (asks_none (between v.routes)) ∙ ap (λ o. asks_in (between v.routes) (option_and_then (λ (m : MoverIs). m.asked) o)) (sym here) ∙ group))
+    by None (Some mover) moves here bears = absurd bears
+    by (Some moving) None moves here bears = absurd bears
+    by (Some moving) (Some mover) moves here b = record {
       moving = moving;
       moves = moves;
       mover = mover;
-      is = its;
+      is = here;
       b = b;
       group =
           let two : Between = record { from = b.from; to = moving.to } in
           let between_two : between v.routes ≡ Some two = ap (between_in v.routes.routes) moves ∙ ap (option_map (λ (g : ℕ). let x : Between = record { from = g; to = moving.to } in x)) b.from_is in
           sym (same_Some (asked_group two (role_of_ask b.ask)) k
-          (sym (ap (λ o. asks_in (between v.routes) (option_and_then (λ (m : MoverIs). m.asked) o)) its ∙ ap (asks_in (between v.routes)) b.asked ∙ ap (λ o. asks_in o (Some (role_of_ask b.ask))) between_two) ∙ group))
+          (sym (ap (λ o. asks_in (between v.routes) (option_and_then (λ (m : MoverIs). m.asked) o)) here ∙ ap (asks_in (between v.routes)) b.asked ∙ ap (λ o. asks_in o (Some (role_of_ask b.ask))) between_two) ∙ group))
           ∙ its_group two (role_of_ask b.ask);
     }
 

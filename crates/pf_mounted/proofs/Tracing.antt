@@ -360,7 +360,7 @@ pub record IsHauled (count : ℕ) (told : List Moment) (k : ℕ) (t : MoverTrace
   pub of : t.of ≡ asks_of count told k
   pub low : (role : Asked) → t.role ≡ Some role → (trace_in t role).asks ≤ t.count
 
-reading_apart : Reading ≡ Writing → ⊥
+pub reading_apart : Reading ≡ Writing → ⊥
 reading_apart same = cc
 
 none_role : {X : Type 0} → (role : Asked) → None ≡ Some role → X

@@ -1,5 +1,5 @@
 -- What a port is told to have handed on: each by an event of its own, for the ask that it had then.
-use Rattle.std.proofs.Common.{◌≡◌, ◌≢◌, ℕ, zero, suc, ◌==◌, ◌&&◌, if◌then◌else◌, Bool, true, false, inl, inr, List, [], ◌∷◌, ◌++◌, length, take, Option, Some, None, slice_get, arith, refl, sym, ap, subst, ◌∙◌}
+use Rattle.std.proofs.Common.{◌≡◌, ◌≢◌, ℕ, suc, ◌==◌, ◌&&◌, if◌then◌else◌, Bool, true, false, inl, inr, List, [], ◌∷◌, ◌++◌, length, take, Option, Some, None, slice_get, arith, refl, sym, ap, subst, ◌∙◌}
 use Rattle.std.specs.List.{fold}
 use Rattle.std.proofs.lemmas.Bool.{eqb-true, false≢true}
 use Rattle.std.proofs.lemmas.Grind.{fold-append}
@@ -21,8 +21,13 @@ use Rattle.pf_ports.specs.Calls.{Fetching}
 use Rattle.pf_hosts.specs.Moments.{Begins, Carries, Ends, Hands, Heard, Moment, Moves as MovesTo, Turns, Writes}
 use Rattle.pf_mounted.specs.Pasts.{LastAsk, Trace, after_moment, asking, asks_after, at_moment, first_chunk, handed_at, handed_by, is_at, no_trace, number_of, rehomed_in, trace_of}
 use Rattle.pf_mounted.proofs.Lives.{its_own, not_its_own}
-use Rattle.pf_mounted.proofs.Placing.{at_seam, by_ends, get_either, get_first, some_within}
+use Rattle.pf_mounted.proofs.Placing.{at_seam, by_ends, get_either, get_first, only_one, some_within}
 use Rattle.pf_mounted.proofs.Tracing.{at_same, handed_asks, handed_of, handed_pends, test_same}
+
+-- where both tests pass, each does
+pub both_tests : (a b : Bool) → (a && b) ≡ true → (a ≡ true) × (b ≡ true)
+both_tests true b both = (refl, both)
+both_tests false b both = absurd (false≢true both)
 
 -- the moment is no turn of mount m
 abbrev pub IsNoTurn : (m : ℕ) → Moment → Type 0
@@ -147,10 +152,6 @@ module _ (history : History) (m k chunks : ℕ) where
     λ j f at. handed_still told y f.ask f.before (events.Fetch f.server f.range) f.answer (all.1 j f at),
   )
 
-  only_one : {X : Type 0} → (j : ℕ) (x y : X) → slice_get (x ∷ []) j ≡ Some y → x ≡ y
-  only_one zero x y at = same_Some x y at
-  only_one (suc j) x y at = absurd (none-some y at)
-
   module _ (told : List Moment) (place : ℕ) (so_far : AllHandedOn told (trace_of history m k chunks told)) where
     abbrev now : List Moment
     now = told ++ Hands m k place ∷ []
@@ -174,7 +175,7 @@ module _ (history : History) (m k chunks : ℕ) where
         → slice_get (handed_by (take place history) (events.Submit server op) answer (trace_of history m k chunks told)).writes j ≡ Some a → IsWriteOf now j a
     new_write j a server op answer is i at new =
         let it : Submission = record { write = (trace_of history m k chunks told).asks; before = take place history; server = server; op = op; answer = answer } in
-        let same : it ≡ a = only_one i it a at in
+        let same : it ≡ a = (only_one it a i at).0 in
         let traced : trace_of history m k chunks now ≡ after_moment history m k (trace_of history m k chunks told) (Hands m k place) = trace_on told (Hands m k place) in
         let hand : at_moment history m k (trace_of history m k chunks told) (Hands m k place) ≡ handed_by (take place history) (events.Submit server op) answer (trace_of history m k chunks told) =
         test_same m m k k (handed_at (take place history) (slice_get history place) (trace_of history m k chunks told)) (trace_of history m k chunks told) refl refl
@@ -201,7 +202,7 @@ module _ (history : History) (m k chunks : ℕ) where
         | inl old ↦ (all_still told (Hands m k place) (trace_of history m k chunks told) so_far).1 j f old
         | inr new ↦
             subst (λ (x : Fetching). WasHandedOn now x.ask x.before (events.Fetch x.server x.range) x.answer)
-            (only_one new.0 (record { ask = (trace_of history m k chunks told).asks; before = take place history; server = server; range = range; answer = answer }) f new.1) (here (events.Fetch server range) answer is)
+            (only_one (record { ask = (trace_of history m k chunks told).asks; before = take place history; server = server; range = range; answer = answer }) f new.0 new.1).0 (here (events.Fetch server range) answer is)
       ],
     )
     by_event event answer is = all_still told (Hands m k place) (trace_of history m k chunks told) so_far
@@ -214,15 +215,11 @@ module _ (history : History) (m k chunks : ℕ) where
   one_handed told (Hands n chunk place) so_far =
       by_test (n == m && chunk == k) (λ b. AllHandedOn (told ++ Hands n chunk place ∷ []) (if b then handed_at (take place history) (slice_get history place) (trace_of history m k chunks told) else trace_of history m k chunks told))
       (λ both.
-      let is = both_test (n == m) (chunk == k) both in
+      let is = both_tests (n == m) (chunk == k) both in
       subst (λ (x : Moment). AllHandedOn (told ++ x ∷ []) (handed_at (take place history) (slice_get history place) (trace_of history m k chunks told)))
       (ap (λ i. Hands i k place) (sym (eqb-true n m is.0)) ∙ ap (λ i. Hands n i place) (sym (eqb-true chunk k is.1)))
       (by_place told place so_far (slice_get history place) refl))
       (λ _. all_still told (Hands n chunk place) (trace_of history m k chunks told) so_far)
-    where
-      both_test : (a b : Bool) → (a && b) ≡ true → (a ≡ true) × (b ≡ true)
-      both_test true b both = (refl, both)
-      both_test false b both = absurd (false≢true both)
   one_handed told (Turns n heard next) so_far =
       let t = trace_of history m k chunks told in
       by_test (n == m) (λ b. AllHandedOn (told ++ Turns n heard next ∷ []) (if b then record t { pending = asking t next; asks = asks_after t next } else t))

@@ -1,5 +1,5 @@
 -- The calls of a mover: what it waits for after each, and the moments that tell them.
-use Rattle.std.proofs.Common.{◌≡◌, ◌≢◌, ℕ, zero, suc, ◌+◌, ◌<◌, inl, inr, ◌==◌, ◌||◌, Bool, true, false, cond, if◌then◌else◌, List, [], ◌∷◌, ◌++◌, length, take, Option, Some, None, slice_get, arith, refl, sym, ap, subst, ◌∙◌, length-append, append-nil}
+use Rattle.std.proofs.Common.{◌≡◌, ℕ, zero, suc, ◌+◌, ◌<◌, inl, inr, ◌==◌, ◌||◌, Bool, true, false, cond, if◌then◌else◌, List, [], ◌∷◌, ◌++◌, length, take, Option, Some, None, slice_get, arith, refl, sym, ap, subst, ◌∙◌, length-append, append-nil}
 use Rattle.std.specs.List.{fold}
 use Rattle.std.proofs.lemmas.Bool.{cases_eq, cases_lt, eq-eqb, eqb-true, false≢true, ne_eqb}
 use Rattle.std.proofs.lemmas.Grind.{fold-append}
@@ -23,7 +23,7 @@ use Rattle.pf_mounted.specs.Epochs.{epoch_of}
 use Rattle.pf_mounted.specs.Movers.{IsOnTheMove, ask_to_carry}
 use Rattle.pf_mounted.proofs.Epoching.{AreBegun, begun_until, epoch_on}
 use Rattle.pf_mounted.proofs.Lives.{its_own, not_its_own}
-use Rattle.pf_mounted.proofs.Placing.{at_seam, by_ends, get_either, get_first, some_within}
+use Rattle.pf_mounted.proofs.Placing.{at_seam, by_ends, get_either, get_first, only_one, some_within}
 use Rattle.pf_mounted.proofs.Shifting.{IsUnderWay, is_called, moves_on, under_way, wanted, wanted_last}
 
 -- Lists of calls
@@ -354,16 +354,12 @@ module _ (count chunk : ℕ) (small : chunk < count) where
   same_calls : (told : List Moment) (x : Moment) → moves_of (told ++ x ∷ []) chunk ≡ moves_of told chunk → AreCalls told → AreCalls (told ++ x ∷ [])
   same_calls told x same so_far e turns i t at there = call_still told x e (take i turns) t (so_far e turns i t (ap (λ ms. slice_get ms e) (sym same) ∙ at) there)
 
-  only_list : {X : Type 0} → (x y : X) (j : ℕ) → slice_get (x ∷ []) j ≡ Some y → (x ≡ y) × (j ≡ 0)
-  only_list x y zero at = (same_Some x y at, refl)
-  only_list x y (suc j) at = absurd (none-some y at)
-
   begins_calls : (told : List Moment) (to : ℕ) → AreCalls told → AreCalls (told ++ Moves chunk to ∷ [])
   begins_calls told to so_far e turns i t at there =
       let grown = moves_on told (Moves chunk to) chunk ∙ its_own chunk chunk (moves_of told chunk ++ [] ∷ []) (moves_of told chunk) refl in
       elim (get_either (moves_of told chunk) ([] ∷ []) e turns (ap (λ ms. slice_get ms e) (sym grown) ∙ at)) [
         | inl old ↦ call_still told (Moves chunk to) e (take i turns) t (so_far e turns i t old there)
-        | inr new ↦ absurd (none-some t (ap (λ l. slice_get l i) (only_list [] turns new.0 new.1).0 ∙ there))
+        | inr new ↦ absurd (none-some t (ap (λ l. slice_get l i) (only_one [] turns new.0 new.1).0 ∙ there))
       ]
 
   carries_calls : (told : List Moment) (heard : Option Heard) (next : MoveNext) (goes : IsUnderWay count told chunk) → AreCalls told → AreCalls (told ++ Carries chunk heard next ∷ [])
@@ -374,7 +370,7 @@ module _ (count chunk : ℕ) (small : chunk < count) where
       elim (get_either goes.first ((goes.turns ++ turn ∷ []) ∷ []) e turns (ap (λ ms. slice_get ms e) (sym called.moves) ∙ at)) [
         | inl old ↦ call_still told x e (take i turns) t (so_far e turns i t (ap (λ ms. slice_get ms e) goes.moves ∙ get_first goes.first (goes.turns ∷ []) e turns old) there)
         | inr new ↦
-            let is = only_list (goes.turns ++ turn ∷ []) turns new.0 new.1 in
+            let is = only_one (goes.turns ++ turn ∷ []) turns new.0 new.1 in
             let zero_is = is.1 in
             let ended = goes.ended in
             let now : epoch_of told chunk ≡ e = omega (arith, new.2, zero_is, ended) in
@@ -391,7 +387,7 @@ module _ (count chunk : ℕ) (small : chunk < count) where
                 let low = some_within goes.turns i t old in
                 subst (λ l. IsCallAt (told ++ x ∷ []) e l t) (sym (take-append-le i goes.turns (turn ∷ []) (omega (arith, low)))) (call_still told x e (take i goes.turns) t (so_far e goes.turns i t at_e old))
             | inr new ↦
-                let one = only_list turn t new.0 new.1 in
+                let one = only_one turn t new.0 new.1 in
                 let zero_is = one.1 in
                 let place : i ≡ length goes.turns = omega (arith, new.2, zero_is) in
                 let front : take i (goes.turns ++ turn ∷ []) ≡ goes.turns = ap (λ n. take n (goes.turns ++ turn ∷ [])) place ∙ take-append_seam goes.turns (turn ∷ []) in

@@ -6,7 +6,7 @@ use Rattle.pf_asks.specs.Ports.{PortIs}
 use Rattle.pf_protocol.specs.Answers.{IsLegal}
 use Rattle.pf_protocol.specs.Groups.{Answered}
 use Rattle.pf_ports.specs.Driven.{IsDriven}
-use Rattle.pf_chunk.specs.Runs.{ChunkRun, mover_port, most_ports}
+use Rattle.pf_chunk.specs.Runs.{ChunkRun, mover_port}
 use Rattle.pf_volume.specs.Volumes.{Extent}
 use Rattle.pf_hosts.specs.Moments.{Heard, Moment, Turns}
 use Rattle.pf_mounted.specs.Handing.{AreHandedOn, reached}
@@ -31,5 +31,4 @@ pub record IsOfRun (v : Extent) (chunks : List ChunkRun) (answer_at : ℕ → An
   pub since : (m : ℕ) (before after : List Moment) (heard : Heard) (next : Option Ask) (ask : Ask) → told ≡ before ++ Turns m (Some heard) next ∷ after → last_ask before m ≡ Some ask → (k : ℕ) → serving before (chunk_of ask) ≡ Some k → reached k before ≤ heard.by
   pub legal : (k : ℕ) (c : ChunkRun) → slice_get chunks k ≡ Some c → IsLegal c.group.setup c.group.history
   pub driven : (k m : ℕ) (c : ChunkRun) → m < mover_port → slice_get chunks k ≡ Some c → (port : PortIs) × IsDriven c.group.setup (past_of v.chunks c.group.history m k told) port
-  pub ports : (k : ℕ) (c : ChunkRun) → slice_get chunks k ≡ Some c → length c.ports ≡ most_ports
   pub moves : AreMoves v chunks told

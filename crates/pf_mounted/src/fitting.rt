@@ -1,5 +1,5 @@
 //! What ports did in a run fits the groups of its chunks.
-ghost use Rattle.std.specs.Prelude.{◌≡◌, ℕ, ◌<◌, ◌++◌, ◌∷◌, [], List, None, Option, Some, length, slice_get};
+ghost use Rattle.std.specs.Prelude.{◌≡◌, ℕ, ◌<◌, ◌++◌, ◌∷◌, [], List, None, Option, Some, length};
 ghost use Rattle.pf_base.specs.Asks.{chunk_of};
 ghost use Rattle.pf_base.specs.declared.asks.Ask.{Ask as AskIs};
 ghost use Rattle.pf_chunk.specs.Runs.{ChunkRun};
