@@ -27,7 +27,7 @@ use Rattle.pf_script.specs.declared.form.ServerVerb.{ServerVerb}
 use Rattle.pf_script.specs.declared.form.ServerVerb.TheVariants.{Elect, Resend, Restart, Stop}
 use Rattle.pf_script.specs.Forms.{◌>>=◌, server_of}
 use Rattle.pf_script.specs.Values.{byte, number}
-use Rattle.pf_script.specs.Words.{is_blank, is_word, trimmed, words_of}
+use Rattle.pf_text.specs.Words.{is_blank, is_word, trimmed, words_of}
 use Rattle.pf_world.specs.declared.line.Line.{Line}
 use Rattle.polar_cli.specs.LineScans.{Open, Scanned, fed, fed_all, fed_line, Refused, is_feed, is_over, close, over_fault, read_line, said_list, scan}
 use Rattle.polar_cli.specs.Scripts.{numbered, numbered_line, script_rules}

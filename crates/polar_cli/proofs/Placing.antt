@@ -13,7 +13,7 @@ use Rattle.pf_script.specs.declared.form.PacketVerb.TheVariants.{Deliver, Lose}
 use Rattle.pf_script.specs.declared.form.Form.{Form}
 use Rattle.pf_script.specs.declared.form.Form.TheVariants as forms
 use Rattle.pf_script.specs.Calls.{call_from}
-use Rattle.pf_script.specs.Words.{words_of, trimmed}
+use Rattle.pf_text.specs.Words.{words_of, trimmed}
 use Rattle.pf_script.specs.Forms.{form_of, ◌>>=◌}
 use Rattle.pf_script.specs.declared.named.Named.{Named}
 use Rattle.pf_script.specs.Lines.{command_of, first_named, fits, is_silent, is_volume, line_of, named_after, placed, volume_after}

@@ -4,7 +4,7 @@ use Rattle.pf_inodes.specs.declared.changes.Txn.{Txn}
 use Rattle.pf_check.specs.HexLines.{txn_in_hex}
 use Rattle.pf_script.specs.declared.command.LineFault.{LineFault}
 use Rattle.pf_script.specs.declared.command.LineFault.TheVariants.{BadWord}
-use Rattle.pf_script.specs.Words.{trimmed}
+use Rattle.pf_text.specs.Words.{trimmed}
 use Rattle.polar_cli.specs.LineScans.{Judged, LineRules, judged}
 
 -- a line that spells no transaction is refused

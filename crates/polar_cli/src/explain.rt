@@ -1,7 +1,7 @@
 //! What a status leaves unsaid, on standard error.
 use crate::status::Status;
-use pf_io::{Sink, Source};
-use pf_messages::{Front, Refused, Tail, memory, reading, refusal, usage, writing};
+use pf_io::Source;
+use pf_messages::{Refused, Tail, memory, reading, refusal, usage, writing};
 use std::io::Write;
 
 /// Writes a message; that it can't be written changes nothing.
@@ -27,20 +27,21 @@ fn say_refused<S: Source + Drop>(
     }
 }
 
-/// Says what the status of a run leaves unsaid: nothing where all went well, and else what is wrong, in whole sentences.
-pub fn explain<S: Source + Drop, K: Sink>(
+/// Says what the status of a run leaves unsaid: nothing where all went well, and else what is wrong, in whole sentences. The refused line is
+/// the one that was written of a refused script.
+pub fn explain<S: Source + Drop>(
     rt: &HostRuntime,
     words: &[String],
     status: Status,
     source: &Tail<S>,
-    sink: &Front<K>,
+    refused: Option<Refused>,
 ) {
     match status {
         Status::Ok => {}
         Status::NoMemory => say_memory(rt),
         Status::Usage => say(rt, usage()),
         Status::Script => {
-            if let Some(refused) = Refused::read(sink.bytes()) {
+            if let Some(refused) = refused {
                 let is_list = words.first().is_some_and(|word| word.as_str() == "check");
                 say_refused(rt, refused, is_list, source);
             }

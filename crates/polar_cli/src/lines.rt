@@ -76,8 +76,8 @@ fn go_on<K: Sink, D: Disk + Drop + Send, R: Threads + Wait + Sync, G: Gate + Syn
     if write_all(sink, opened).is_err() {
         return Status::WriteFault;
     }
+    let mut text = Vec::new(workers.alloc);
     for line in lines {
-        let mut text = Vec::new(workers.alloc);
         if world
             .line(workers, line.number, &line.command, &mut text)
             .is_err()
@@ -87,6 +87,7 @@ fn go_on<K: Sink, D: Disk + Drop + Send, R: Threads + Wait + Sync, G: Gate + Syn
         if write_all(sink, &text).is_err() {
             return Status::WriteFault;
         }
+        text.clear();
     }
     Status::Ok
 }

@@ -38,8 +38,8 @@ returns-then-is_err-2-clause-made g c =
 
 pub returns-then-is_err-3-clause-made : goal.returns-then-is_err-3-clause-made
 returns-then-is_err-3-clause-made g c =
-    let ran : HasRun c.loop-line.world.world c.line-item.result.number c.line-item.result.command c.new-text.result.items c.line.new.out.items c.line.new.self.world =
-    done_of c.line.result (HasRun c.loop-line.world.world c.line-item.result.number c.line-item.result.command c.new-text.result.items c.line.new.out.items c.line.new.self.world) c.if-is_err-2.ensures.value c.line.ensures.ran in
+    let ran : HasRun c.loop-line.world.world c.line-item.result.number c.line-item.result.command c.loop-line.text.items c.line.new.out.items c.line.new.self.world =
+    done_of c.line.result (HasRun c.loop-line.world.world c.line-item.result.number c.line-item.result.command c.loop-line.text.items c.line.new.out.items c.line.new.self.world) c.if-is_err-2.ensures.value c.line.ensures.ran in
     more_after g.D.Disk.faults c.args.world.now c.loop-line.world c.line.new.self c.loop-line.invariant.made c.line.ensures.made ran.runs.goes_on
 
 pub returns-then-is_err-clause-gone : goal.returns-then-is_err-clause-gone
@@ -65,8 +65,8 @@ returns-then-is_err-3-clause-gone g c =
     let at = item_is c.args.lines.now i c.line-item.result c.loop-line-test.true c.line-item.is in
     let out = c.line.new.out.items in
     let ran : HasRun c.loop-line.world.world line.number line.command [] out c.line.new.self.world =
-    subst (λ before. HasRun c.loop-line.world.world line.number line.command before out c.line.new.self.world) c.new-text.ensures.items
-    (done_of c.line.result (HasRun c.loop-line.world.world line.number line.command c.new-text.result.items out c.line.new.self.world) c.if-is_err-2.ensures.value (subst (λ (l : Line). OnOk c.line.result (HasRun c.loop-line.world.world l.number l.command c.new-text.result.items out c.line.new.self.world)) at c.line.ensures.ran)) in
+    subst (λ before. HasRun c.loop-line.world.world line.number line.command before out c.line.new.self.world) c.loop-line.invariant.empty
+    (done_of c.line.result (HasRun c.loop-line.world.world line.number line.command c.loop-line.text.items out c.line.new.self.world) c.if-is_err-2.ensures.value (subst (λ (l : Line). OnOk c.line.result (HasRun c.loop-line.world.world l.number l.command c.loop-line.text.items out c.line.new.self.world)) at c.line.ensures.ran)) in
     let rose : Rose (g.K.Sink.faults c.loop-line.sink) (g.K.Sink.faults c.write_all-in-loop-line.new.sink) =
     failed_of c.write_all-in-loop-line.result (Rose (g.K.Sink.faults c.loop-line.sink) (g.K.Sink.faults c.write_all-in-loop-line.new.sink)) c.if-is_err-3.ensures.value c.write_all-in-loop-line.ensures.cause in
     let front : AppendsFront (taken c.loop-line.sink) (taken c.write_all-in-loop-line.new.sink) c.deref.result.now =
@@ -84,14 +84,15 @@ loop-line-preserved g c =
     let at = item_is c.args.lines.now i c.line-item.result c.loop-line-test.true c.line-item.is in
     let out = c.line.new.out.items in
     let ran : HasRun c.loop-line.world.world line.number line.command [] out c.line.new.self.world =
-    subst (λ before. HasRun c.loop-line.world.world line.number line.command before out c.line.new.self.world) c.new-text.ensures.items
-    (done_of c.line.result (HasRun c.loop-line.world.world line.number line.command c.new-text.result.items out c.line.new.self.world) c.if-is_err-2.ensures.value (subst (λ (l : Line). OnOk c.line.result (HasRun c.loop-line.world.world l.number l.command c.new-text.result.items out c.line.new.self.world)) at c.line.ensures.ran)) in
+    subst (λ before. HasRun c.loop-line.world.world line.number line.command before out c.line.new.self.world) c.loop-line.invariant.empty
+    (done_of c.line.result (HasRun c.loop-line.world.world line.number line.command c.loop-line.text.items out c.line.new.self.world) c.if-is_err-2.ensures.value (subst (λ (l : Line). OnOk c.line.result (HasRun c.loop-line.world.world l.number l.command c.loop-line.text.items out c.line.new.self.world)) at c.line.ensures.ran)) in
     let put : Appends (taken c.loop-line.sink) (taken c.write_all-in-loop-line.new.sink) c.deref.result.now =
     done_of c.write_all-in-loop-line.result (Appends (taken c.loop-line.sink) (taken c.write_all-in-loop-line.new.sink) c.deref.result.now) c.if-is_err-3.ensures.value c.write_all-in-loop-line.ensures.ok in
     record {
       gone = gone_more c.args.volume.now c.args.lines.now i (taken c.args.sink.now) (taken c.loop-line.sink) (taken c.write_all-in-loop-line.new.sink)
           c.args.world.now.world c.loop-line.world.world c.line.new.self.world out c.loop-line-test.true c.loop-line.invariant.gone ran c.line.ensures.sound
           (subst (Appends (taken c.loop-line.sink) (taken c.write_all-in-loop-line.new.sink)) c.deref.ensures.value put);
+      empty = c.clear.ensures.items;
       later = omega (arith, c.loop-line.invariant.later, c.write_all-in-loop-line.ensures.later);
       made = more_after g.D.Disk.faults c.args.world.now c.loop-line.world c.line.new.self c.loop-line.invariant.made c.line.ensures.made ran.runs.goes_on;
     }
@@ -106,6 +107,7 @@ pub loop-line-init : goal.loop-line-init
 loop-line-init g c = record {
   gone = gone_none c.args.volume.now c.args.opened.now (g.K.Sink.taken c.args.sink.now) (g.K.Sink.taken c.write_all.new.sink) c.args.world.now.world c.requires.run c.requires.world c.requires.sound
       (done_of c.write_all.result (Appends (g.K.Sink.taken c.args.sink.now) (g.K.Sink.taken c.write_all.new.sink) c.args.opened.now) c.if-is_err.ensures.value c.write_all.ensures.ok);
+  empty = c.new-text.ensures.items;
   later = c.write_all.ensures.later;
   made = none_more g.D.Disk.faults c.args.world.now;
 }
