@@ -1,7 +1,6 @@
 """The definitions of pf_tree, pf_files and pf_mount, word for word: the tables of a volume, and a mount as a pure machine."""
 
 MOST = 196608
-POSITIONS = 256
 
 
 def block_count(size):
@@ -12,14 +11,14 @@ def block_count(size):
 
 
 class Tables:
-    def __init__(self, blocks):
-        self.blocks = blocks
+    def __init__(self, blocks, first=513):
+        self.blocks, self.first = blocks, first
         self.inodes = ["dir"] + [None] * 1023
         self.entries = [[] for _ in range(1024)]
         self.tags = [None] * blocks
 
     def copy(self):
-        new = Tables(self.blocks)
+        new = Tables(self.blocks, self.first)
         new.inodes, new.entries, new.tags = list(self.inodes), [list(it) for it in self.entries], list(self.tags)
         return new
 
@@ -39,7 +38,7 @@ class Tables:
         return next((b for b, tag in enumerate(self.tags) if tag == (inode, index)), self.blocks)
 
     def free(self):
-        return [b for b in range(513, self.blocks) if self.tags[b] is None]
+        return [b for b in range(self.first, self.blocks) if self.tags[b] is None]
 
     def change(self, c):
         if c[0] == "inode" and c[3] <= MOST and (c[1] > 0 or c[2] > 1):
@@ -128,8 +127,10 @@ class Refusal(int):
 
 
 class Mount:
+    POSITIONS, FIRST = 256, 513
+
     def __init__(self, number, blocks):
-        self.number, self.tables, self.upto, self.calls, self.pending = number, Tables(blocks), 0, 0, None
+        self.number, self.tables, self.upto, self.calls, self.pending = number, Tables(blocks, self.FIRST), 0, 0, None
         self.new_position()
         self.planned_at = 0
 
@@ -152,7 +153,7 @@ class Mount:
         return self.syncs()
 
     def syncs(self):
-        if self.upto == POSITIONS:
+        if self.upto == self.POSITIONS:
             return self.synced()
         self.work = ("sync", 0, False)
         return self.half(0)
@@ -176,7 +177,7 @@ class Mount:
         wanted = changes(self.tables, call)
         if not wanted:
             return self.moves(self.tables.node(call[1]), call)
-        if self.upto == POSITIONS:
+        if self.upto == self.POSITIONS:
             return self.done(Refusal(90))
         return self.ballots((self.number, number, tuple(wanted)))
 

@@ -23,7 +23,7 @@ use Rattle.pf_anchormount.specs.declared.work.Work.TheVariants.{Rests, Syncs, Ba
 use Rattle.pf_anchorage.specs.Places.{reads_first, reads_half, writes_own}
 use Rattle.pf_anchorage.specs.Errands.{errand_at, is_free, is_free_of, is_waiting, least_free, with_errand}
 use Rattle.pf_anchorage.specs.Looks.{look_at}
-use Rattle.pf_anchormount.specs.Anchored.{AnchoredIs, anchor_hands, asked, asks_next, ballots_on, hands, hands_nothing, looks_on, pauses_on, works_on}
+use Rattle.pf_anchormount.specs.Anchored.{AnchoredIs, anchor_hands, asks_next, ballots_on, hands, hands_nothing, looks_on, pauses_on, works_on}
 use Rattle.pf_anchormount.specs.Standing.{Answers, AnswersBallot, AnswersErrand, Awaits, HasSectors, IsWritten}
 
 errand_same : (e : Errands) (a : ℕ) (x : Errand) → errand_at (with_errand e a x) a ≡ x

@@ -4,3 +4,6 @@ pub mod Answering
 pub mod Taking
 pub mod Living
 pub mod Beginning
+pub mod Asked
+pub mod Staying
+pub mod Going

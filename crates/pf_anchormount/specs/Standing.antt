@@ -70,6 +70,10 @@ abbrev pub Awaits : AnchoredIs → (port : ℕ) → Option Ask → Type 0
 Awaits m port None = Unit {0}
 Awaits m port (Some ask) = (reply : Reply) → AnswersAsk ask reply → Answers m port reply
 
+-- what a port awaited it awaits still
+abbrev pub AwaitsStill : (old new : AnchoredIs) → (port : ℕ) → Type 0
+AwaitsStill old new port = (ask : Option Ask) → Awaits old port ask → Awaits new port ask
+
 -- what is asked is valid, and lies in a chunk of the volume
 abbrev pub AsksWithin : Extent → Option Ask → Type 0
 AsksWithin v None = Unit {0}

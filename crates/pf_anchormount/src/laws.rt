@@ -1,11 +1,15 @@
-//! A law of mounts over anchors.
-ghost use Rattle.std.specs.Prelude.{ℕ, suc};
+//! Laws of mounts over anchors.
+ghost use Rattle.std.specs.Prelude.{◌≡◌, ◌≢◌, ℕ, ◌<◌, None, Some, suc};
 ghost use Rattle.pf_volume.specs.Volumes.{Extent};
+ghost use Rattle.pf_base.specs.Asks.{chunk_of};
+ghost use Rattle.pf_base.specs.declared.asks.Ask.{Ask};
 ghost use Rattle.pf_base.specs.declared.asks.Reply.{Reply};
 ghost use Rattle.pf_tree.specs.declared.calls.FileCall.{FileCall};
 ghost use Rattle.pf_files.specs.declared.calls.Pending.{Pending};
-ghost use Rattle.pf_anchormount.specs.Anchored.{AnchoredIs, answered, opening, starting};
+ghost use Rattle.pf_anchormount.specs.declared.work.Work.TheVariants.{Rests};
+ghost use Rattle.pf_anchormount.specs.Anchored.{AnchoredIs, answered, ask_at, asked, opening, starting};
 ghost use Rattle.pf_anchormount.specs.Lives.{CallsOn, IsAtCall, IsAtRest, IsMounting, MountsOn, RestsOn};
+ghost use Rattle.pf_anchormount.specs.Standing.{Awaits, AwaitsStill, IsMount};
 
 /// A mount tells once that it is ready, before any call, and each call ends once. A mount that is not ready stays so until it rests. A call
 /// is started from rest; it goes on until it ends, and then the mount rests. An answer at rest, to an ask of earlier work, ends nothing.
@@ -15,4 +19,14 @@ pub fn mounts_are_ready_once_and_calls_end_once()
     ensures starting { (m : AnchoredIs) (call : FileCall) → CallsOn (record { number = suc m.files.calls; call = call }) (starting m call).mount (starting m call).next }
     ensures calling { (m : AnchoredIs) (p : Pending) (port : ℕ) (reply : Reply) → IsAtCall p m → CallsOn p (answered m port reply).mount (answered m port reply).next }
     ensures resting { (m : AnchoredIs) (port : ℕ) (reply : Reply) → IsAtRest m → RestsOn (answered m port reply).mount (answered m port reply).next }
+{}
+
+/// What a port awaits it awaits until it is answered: what is answered or handed out at another port leaves it, and so does a call that is
+/// started at rest. A port that awaits an answer asks nothing. What is asked at a port below 3 goes to the anchor of that number.
+pub fn pending_asks_stay()
+    ensures answered { (m : AnchoredIs) (port other : ℕ) (reply : Reply) → port < 4 → other ≢ port → AwaitsStill m (answered m port reply).mount other }
+    ensures asked { (m : AnchoredIs) (port other : ℕ) → port < 4 → other ≢ port → AwaitsStill m (asked m port) other }
+    ensures starting { (m : AnchoredIs) (call : FileCall) (port : ℕ) → m.task.work ≡ Rests → AwaitsStill m (starting m call).mount port }
+    ensures silent { (m : AnchoredIs) (port : ℕ) (ask : Ask) → Awaits m port (Some ask) → ask_at m port ≡ None }
+    ensures of_anchors { (m : AnchoredIs) (port : ℕ) (ask : Ask) → IsMount m → port < 3 → ask_at m port ≡ Some ask → chunk_of ask ≡ port }
 {}

@@ -10,6 +10,6 @@ mod plans;
 mod stand;
 mod work;
 
-pub use laws::mounts_are_ready_once_and_calls_end_once;
+pub use laws::{mounts_are_ready_once_and_calls_end_once, pending_asks_stay};
 pub use mount::AnchoredMount;
 pub use work::{AnchoredNext, Task, Work};

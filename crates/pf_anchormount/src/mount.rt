@@ -1,6 +1,9 @@
 //! A mount over three anchors.
 ghost use Rattle.std.specs.Prelude.{◌≡◌, ◌≢◌, ◌↔◌, ◌+◌, ◌<◌, ◌≤◌, ◌^◌, IfOk, IsErrOf, IsTrue, OnErr, OnOk, Some};
+ghost use Rattle.std.specs.Option.{option_map};
+ghost use Rattle.pf_base.specs.Asks.{chunk_of};
 ghost use Rattle.pf_txn.specs.Spelling.{IsShortCall};
+ghost use Rattle.pf_files.specs.CallNames.{name_of as name_in};
 ghost use Rattle.pf_mount.specs.Starts.{IsMisspelled};
 ghost use Rattle.pf_anchormount.specs.declared.work.Work.TheVariants.{Rests};
 ghost use Rattle.pf_anchorage.specs.Places.{HasAnchors};
@@ -16,7 +19,7 @@ use crate::stand::{Stand, Step};
 use crate::{AnchoredNext, Task, Work};
 use pf_anchorage::{Errands, Looks, Position};
 use pf_base::{Ask, Call, NoMemory, Reply};
-use pf_files::{FileWork, Pending, data_are_asked_inside};
+use pf_files::{CallName, FileWork, Pending, data_are_asked_inside, name_of};
 use pf_layout::read_call;
 use pf_mount::StartFault;
 use pf_tree::{FileCall, Tree};
@@ -73,6 +76,14 @@ impl AnchoredMount {
         })
     }
 
+    /// Its number, below 16.
+    pub fn number(&self) -> u8
+        ensures number { result ≡ self.now.files.mount }
+        ensures is_mount { IsMount self.now }
+    {
+        self.files.mount()
+    }
+
     /// Its tables.
     pub fn tree(&self) -> &Tree
         ensures { result.now ≡ record { first = self.now.files.first; tables = self.now.files.tables } }
@@ -86,6 +97,26 @@ impl AnchoredMount {
         ensures most { result ≤ 255 }
     {
         self.upto
+    }
+
+    /// The name of the call that has not ended.
+    pub fn call(&self) -> Option<CallName>
+        ensures { result ≡ option_map (λ p. name_in p.call) self.now.files.pending }
+    {
+        match self.files.pending() {
+            Some(pending) => Some(name_of(&pending.call)),
+            None => None,
+        }
+    }
+
+    /// The chunk to which its next ask for file data goes, if one is to be handed out.
+    pub fn data_chunk(&self) -> Option<u8>
+        ensures { result ≡ option_map chunk_of self.now.task.ask }
+    {
+        match &self.task.ask {
+            Some(ask) => Some(ask.chunk()),
+            None => None,
+        }
     }
 
     /// Whether it is not ready, or a call of it has not ended.

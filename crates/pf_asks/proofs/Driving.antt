@@ -1,7 +1,7 @@
 -- The calls of a step.
 use Rattle.std.proofs.Common.{◌≡◌, ℕ, List, [], ◌∷◌, Bool, true, false, cond, Option, Some, None, Result, Ok, Err, OnErr, refl, sym, subst, ◌∙◌}
-use Rattle.std.specs.Option.{is_some, option_map}
-use Rattle.std.proofs.lemmas.Bool.{false≢true}
+use Rattle.std.specs.Option.{option_map}
+use Rattle.std.proofs.lemmas.Option.{none-some}
 use Rattle.pf_base.specs.declared.asks.Ask.{Ask}
 use Rattle.pf_base.specs.declared.asks.Reply.{Reply}
 use Rattle.pf_base.specs.declared.asks.Reply.TheVariants.{Bytes}
@@ -9,8 +9,8 @@ use Rattle.pf_entry.specs.Lists.{Every}
 use Rattle.pf_asks.specs.declared.port.Sent.{Sent}
 use Rattle.pf_asks.specs.declared.port.Sent.TheVariants.{Slot, Number}
 use Rattle.pf_asks.specs.Desks.{Call, CallsLead, IsLook, Led, Submitted, Fetched, WasAcked, Took}
-use Rattle.pf_asks.specs.Ports.{Drives, DrivesFrom, Goes, GoesOn, Hands, IsHanded, IsLed, LooksFor, NeverLower, PortIs, Stays, answered, goes_to}
-use Rattle.pf_asks.proofs.Terms.{never_lower}
+use Rattle.pf_asks.specs.Ports.{Drives, DrivesFrom, Goes, Hands, Hears, HearsFrom, IsHanded, IsLed, LooksFor, NeverLower, PortIs, Stays, goes_to, heard}
+use Rattle.pf_asks.proofs.Terms.{led_never_lower, never_lower}
 
 none_given : (answer : Option (List (List ℕ))) → option_map Bytes answer ≡ None → answer ≡ None
 none_given None none = refl
@@ -27,6 +27,25 @@ is_look (Number number) last (Led leader) reply none looks = tt
 is_look (Number number) last (Submitted i range payload s) reply none looks = absurd looks
 is_look (Number number) last (Fetched i range n) reply none looks = absurd looks
 is_look (Number number) last (WasAcked term s is) reply none looks = tt
+
+module _ (old : PortIs) (ask : Ask) where
+  drives_by : (sent : Option Sent) (calls : List Call) (reply : Reply) (new : PortIs) → HearsFrom sent old calls (Some reply) new → DrivesFrom sent old ask calls (Some reply) new
+  drives_by None calls reply new hears = absurd (none-some reply (sym hears.0))
+  drives_by (Some sent) calls reply new hears = record { look = hears.look; rest = []; asked = hears.once; looks = hears.looks; goes = (refl, hears.is) }
+
+  -- where a reply was heard, that is all of the step
+  pub drives_so : (calls : List Call) (reply : Reply) (new : PortIs) → Hears old calls (Some reply) new → Drives old ask calls (Some reply) new
+  drives_so calls reply new hears = drives_by old.sent calls reply new hears
+
+module _ {K : Type 0} (says : K → Call → K → Type 0) (old : PortIs) where
+  -- the answer was looked for
+  pub hears_it : (sent : Sent) → old.sent ≡ Some sent → (before after : K) (reply : Option Reply) → (look : Call) × says before look after × LooksFor sent old.last look reply
+      → (calls : List Call) × CallsLead says before calls after × Hears old calls reply (heard reply old)
+  hears_it sent is before after reply looked = (
+    looked.0 ∷ [],
+    (after, looked.1, refl),
+    subst (λ s. HearsFrom s old (looked.0 ∷ []) reply (heard reply old)) (sym is) (record { look = looked.0; once = refl; looks = looked.2; is = refl }),
+  )
 
 module _ {K : Type 0} (says : K → Call → K → Type 0) (old : PortIs) (ask : Ask) where
   -- the leader was asked for, and the ask went to it or stays
@@ -55,43 +74,54 @@ module _ {K : Type 0} (says : K → Call → K → Type 0) (old : PortIs) (ask :
       led before between after new (Some (term, server)) (handed.0 ∷ []) said (after, handed.1, refl)
       (subst (λ b. cond b (IsHanded old ask term server (handed.0 ∷ []) new) (Stays old (handed.0 ∷ []) new)) (sym is) (record { call = handed.0; once = refl; sent = sent; hands = handed.2; is = same }))
 
-  -- nothing was taken up yet
-  pub leads_first : (before after : K) (new : PortIs) → old.sent ≡ None → (rest : List Call) × CallsLead says before rest after × IsLed old ask rest new → (calls : List Call) × CallsLead says before calls after × Drives old ask calls None new
-  leads_first before after new none led = (led.0, led.1, subst (λ sent. DrivesFrom sent old ask led.0 None new) (sym none) (refl, led.2))
+  -- no reply was heard
+  module _ (before between : K) (mid : PortIs) (first : (calls : List Call) × CallsLead says before calls between × Hears old calls None mid) where
+    by_sent : (sent : Option Sent) (calls : List Call) → HearsFrom sent old calls None mid → mid ≡ old
+    by_sent None calls hears = hears.1.same
+    by_sent (Some sent) calls hears = hears.is
 
-  module _ (sent : Sent) (is : old.sent ≡ Some sent) (before between : K) (reply : Option Reply) (looked : (look : Call) × says before look between × LooksFor sent old.last look reply) where
-    abbrev look : Call
-    look = looked.0
+    pub unheard : mid ≡ old
+    unheard = by_sent old.sent first.0 first.2
 
-    goes_on : (r : Option Reply) → is_some r ≡ true → GoesOn r old ask [] (answered old)
-    goes_on None found = absurd (false≢true found)
-    goes_on (Some given) found = (refl, refl)
+    then_led : (sent : Option Sent) (calls : List Call) → CallsLead says before calls between → HearsFrom sent old calls None mid → (after : K) (new : PortIs) → (rest : List Call) × CallsLead says between rest after × IsLed old ask rest new
+        → (all : List Call) × CallsLead says before all after × DrivesFrom sent old ask all None new
+    then_led None calls lead hears after new led =
+        let here : between ≡ before = subst (λ cs. CallsLead says before cs between) hears.1.none lead in
+        (led.0, subst (λ d. CallsLead says d led.0 after) here led.1, (refl, led.2))
+    then_led (Some sent) calls lead hears after new led =
+        let looked = subst (λ cs. CallsLead says before cs between) hears.once lead in (
+          hears.look ∷ led.0,
+          (looked.0, looked.1, subst (λ d. CallsLead says d led.0 after) looked.2 led.1),
+          record { look = hears.look; rest = led.0; asked = refl; looks = hears.looks; goes = led.2 },
+        )
 
-    -- its answer was looked for, and found
-    pub replies : is_some reply ≡ true → (calls : List Call) × CallsLead says before calls between × Drives old ask calls reply (answered old)
-    replies found = (
-      look ∷ [],
-      (between, looked.1, refl),
-      subst (λ s. DrivesFrom s old ask (look ∷ []) reply (answered old)) (sym is)
-          (record { look = look; rest = []; asked = refl; looks = looked.2; goes = goes_on reply found }),
-    )
+    -- it is led then
+    pub leads_then : (after : K) (new : PortIs) → (rest : List Call) × CallsLead says between rest after × IsLed mid ask rest new → (calls : List Call) × CallsLead says before calls after × Drives old ask calls None new
+    leads_then after new led =
+        then_led old.sent first.0 first.1 first.2 after new (led.0, led.1, subst (λ (p : PortIs). IsLed p ask led.0 new) unheard led.2)
 
-    -- or not
-    pub leads_again : (after : K) (new : PortIs) → reply ≡ None → (rest : List Call) × CallsLead says between rest after × IsLed old ask rest new → (calls : List Call) × CallsLead says before calls after × Drives old ask calls None new
-    leads_again after new none led = (
-      look ∷ led.0,
-      (between, looked.1, led.1),
-      subst (λ s. DrivesFrom s old ask (look ∷ led.0) None new) (sym is)
-          (record { look = look; rest = led.0; asked = refl; looks = subst (LooksFor sent old.last look) none looked.2; goes = led.2 }),
-    )
+    then_looks : (sent : Option Sent) (calls : List Call) → CallsLead says before calls between → HearsFrom sent old calls None mid → (after : K) → (rest : List Call) × CallsLead says between rest after × Every IsLook rest
+        → (all : List Call) × CallsLead says before all after × Every IsLook all
+    then_looks None calls lead hears after rest =
+        let here : between ≡ before = subst (λ cs. CallsLead says before cs between) hears.1.none lead in
+        (rest.0, subst (λ d. CallsLead says d rest.0 after) here rest.1, rest.2)
+    then_looks (Some sent) calls lead hears after rest =
+        let looked = subst (λ cs. CallsLead says before cs between) hears.once lead in (
+          hears.look ∷ rest.0,
+          (looked.0, looked.1, subst (λ d. CallsLead says d rest.0 after) looked.2 rest.1),
+          (is_look sent old.last hears.look None refl hears.looks, rest.2),
+        )
 
     -- only looks were made where there was no memory then
-    pub looks_alone : (after : K) → reply ≡ None → (rest : List Call) × CallsLead says between rest after × Every IsLook rest → (calls : List Call) × CallsLead says before calls after × Every IsLook calls
-    looks_alone after none rest = (look ∷ rest.0, (between, looked.1, rest.1), (is_look sent old.last look reply none looked.2, rest.2))
+    pub looks_alone : (after : K) → (rest : List Call) × CallsLead says between rest after × Every IsLook rest → (calls : List Call) × CallsLead says before calls after × Every IsLook calls
+    looks_alone after rest = then_looks old.sent first.0 first.1 first.2 after rest
 
   -- no submission went to a leader of a lower term
   pub none_lower : (before after : K) (reply : Option Reply) (new : PortIs) → (calls : List Call) × CallsLead says before calls after × Drives old ask calls reply new → (calls : List Call) × CallsLead says before calls after × NeverLower old.last None calls
   none_lower before after reply new drove = (drove.0, drove.1, never_lower old new ask drove.0 reply drove.2)
+
+  pub led_lower : (before after : K) (new : PortIs) → (calls : List Call) × CallsLead says before calls after × IsLed old ask calls new → (calls : List Call) × CallsLead says before calls after × NeverLower old.last None calls
+  led_lower before after new led = (led.0, led.1, led_never_lower old new ask led.0 led.2)
 
 pub on_err : {X E : Type 0} (r : Result X E) (P : Type 0) → P → OnErr r P
 on_err (Ok x) P is = tt

@@ -70,6 +70,25 @@ LooksFor sent term call reply = ⊥
 abbrev pub answered : PortIs → PortIs
 answered port = record port { ask = None; sent = None }
 
+abbrev pub heard : Option Reply → PortIs → PortIs
+heard (Some reply) port = answered port
+heard None port = port
+
+-- the answer of an ask that was taken up is looked for by one call
+pub record IsHeard (old : PortIs) (sent : Sent) (calls : List Call) (reply : Option Reply) (new : PortIs) : Type 0 where
+  pub look : Call
+  pub once : calls ≡ look ∷ []
+  pub looks : LooksFor sent old.last look reply
+  pub is : new ≡ heard reply old
+
+abbrev pub HearsFrom : Option Sent → (old : PortIs) → List Call → Option Reply → (new : PortIs) → Type 0
+HearsFrom None old calls reply new = (reply ≡ None) × Stays old calls new
+HearsFrom (Some sent) old calls reply new = IsHeard old sent calls reply new
+
+-- A port hears its reply, if there is one, by these calls of the desk: none where nothing was taken up
+abbrev pub Hears : (old : PortIs) → List Call → Option Reply → (new : PortIs) → Type 0
+Hears old calls reply new = HearsFrom old.sent old calls reply new
+
 abbrev pub GoesOn : Option Reply → (old : PortIs) → Ask → List Call → (new : PortIs) → Type 0
 GoesOn (Some reply) old ask calls new = (calls ≡ []) × (new ≡ answered old)
 GoesOn None old ask calls new = IsLed old ask calls new

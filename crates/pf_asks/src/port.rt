@@ -5,7 +5,7 @@ ghost use Rattle.pf_entry.specs.Lists.{Every};
 ghost use Rattle.pf_base.specs.Asks.{Answers, IsValid};
 ghost use Rattle.pf_base.specs.declared.asks.Ask.{Ask as AskIs};
 ghost use Rattle.pf_asks.specs.Desks.{Call, CallsLead, IsLook};
-ghost use Rattle.pf_asks.specs.Ports.{Drives, Hands, IsCounted, IsLed, IsOfKind, IsSentOf, LooksFor, NeverLower, goes_to, new_port, rehomed};
+ghost use Rattle.pf_asks.specs.Ports.{Drives, Hands, Hears, IsCounted, IsLed, IsOfKind, IsSentOf, LooksFor, NeverLower, goes_to, new_port, rehomed};
 
 use crate::Desk;
 use pf_base::{Ask, NoMemory, Reply, ServerId, Slot, Term};
@@ -86,6 +86,27 @@ impl Port {
         self.sent = None;
     }
 
+    /// The reply to the pending ask, if the group has answered its last submission: then it is pending no more. Else nothing is different.
+    ///
+    /// `NoMemory` (1) leaves the port and the group as they were.
+    pub fn hear<K: Desk>(&mut self, alloc: Global, desk: &mut K) -> Result<Option<Reply>, NoMemory>
+        ensures heard { IfOk result (λ reply. (calls : List Call) × CallsLead K.says desk.old calls desk.new × Hears self.old calls reply self.new) }
+        ensures kind { IfOk result (λ reply. IfSome reply (λ r. (ask : AskIs) → self.old.ask ≡ Some ask → IsOfKind ask r)) }
+        // The bytes of a read are as many sectors as its range has, at a desk that was asked for it.
+        ensures whole { IsCounted (K.counts desk.old) self.old.sent self.old.ask → IfOk result (λ reply. IfSome reply (λ r. (ask : AskIs) → self.old.ask ≡ Some ask → Answers ask r)) }
+        ensures err { OnErr result ((self.new ≡ self.old) × (desk.new ≡ desk.old)) }
+    {
+        let Some(sent) = self.sent else {
+            return Ok(None);
+        };
+        let Some(reply) = answer_of(alloc, desk, sent, self.last)? else {
+            return Ok(None);
+        };
+        self.ask = None;
+        self.sent = None;
+        Ok(Some(reply))
+    }
+
     /// One step for the pending ask: its reply, if the group has answered its last submission. Else the ask is handed to the leader of
     /// the greatest term, where it was not submitted, or was refused, or was submitted to a leader of a lower term; never to a leader
     /// of a lower term than the port's last.
@@ -101,21 +122,21 @@ impl Port {
         ensures rises { IfOk result (λ _. self.old.last ≤ self.new.last) }
         ensures err { OnErr result ((self.new ≡ self.old) × ((calls : List Call) × CallsLead K.says desk.old calls desk.new × Every IsLook calls)) }
     {
-        if let Some(sent) = self.sent {
-            let reply = answer_of(alloc, desk, sent, self.last)?;
-            if reply.is_some() {
-                self.ask = None;
-                self.sent = None;
-                return Ok(reply);
-            }
+        if let Some(reply) = self.hear(alloc, desk)? {
+            return Ok(Some(reply));
         }
         self.lead(alloc, desk)?;
         Ok(None)
     }
 
-    /// Hands the pending ask to the leader, if it goes there.
-    fn lead<K: Desk>(&mut self, alloc: Global, desk: &mut K) -> Result<(), NoMemory>
+    /// The other half of a step: the pending ask is handed to the leader of the greatest term, if it goes there, whether its last submission
+    /// was answered or not; never to a leader of a lower term than the port's last.
+    ///
+    /// `NoMemory` (1) leaves the port as it was; the group was asked nothing but how things stand.
+    pub fn lead<K: Desk>(&mut self, alloc: Global, desk: &mut K) -> Result<(), NoMemory>
+        requires pending { (ask : AskIs) × (self.old.ask ≡ Some ask) }
         ensures led { IfOk result (λ _. (ask : AskIs) → self.old.ask ≡ Some ask → (calls : List Call) × CallsLead K.says desk.old calls desk.new × IsLed self.old ask calls self.new) }
+        ensures never_lower { IfOk result (λ _. (calls : List Call) × CallsLead K.says desk.old calls desk.new × NeverLower self.old.last None calls) }
         ensures rises { IfOk result (λ _. self.old.last ≤ self.new.last) }
         ensures err { OnErr result ((self.new ≡ self.old) × ((calls : List Call) × CallsLead K.says desk.old calls desk.new × Every IsLook calls)) }
     {

@@ -23,7 +23,7 @@ use Rattle.pf_protocol.specs.Answers.{IsAnswer, IsLegal, answer_at, answer_by, a
 use Rattle.pf_asks.specs.declared.port.Sent.{Sent}
 use Rattle.pf_asks.specs.declared.port.Sent.TheVariants.{Slot, Number}
 use Rattle.pf_asks.specs.Desks.{Call, CallsLead, IsLook, Led, Submitted, Fetched, WasAcked, Took}
-use Rattle.pf_asks.specs.Ports.{Drives, DrivesFrom, Goes, GoesOn, Hands, IsHanded, IsLed, LooksFor, PortIs, Stays, answered, goes_to, reply_if}
+use Rattle.pf_asks.specs.Ports.{Drives, DrivesFrom, Goes, GoesOn, Hands, Hears, HearsFrom, IsHanded, IsLed, LooksFor, PortIs, Stays, answered, goes_to, reply_if}
 use Rattle.pf_ports.specs.Calls.{number_in, slot_in}
 use Rattle.pf_group.specs.declared.event.GroupEvent.{GroupEvent}
 use Rattle.pf_group.specs.declared.event.GroupEvent.TheVariants as asked
@@ -168,7 +168,7 @@ module _ (old : ChunkIs) (p : PortIs) (ask : Ask) (reply : Option Reply) (next :
 
   -- it stays
   pub record Keeps : Type 0 where
-    pub not_told : IsNotTold
+    pub none : reply ≡ None
     pub leader : Option (ℕ × ℕ)
     pub led : IsTrue old.group.told → leader_of g ≡ leader
     pub goes : Goes p ask leader [] p
@@ -177,7 +177,7 @@ module _ (old : ChunkIs) (p : PortIs) (ask : Ask) (reply : Option Reply) (next :
 
   -- it was handed on
   pub record HandsIt : Type 0 where
-    pub not_told : IsNotTold
+    pub none : reply ≡ None
     pub term : ℕ
     pub server : ℕ
     pub led : IsTrue old.group.told → leader_of g ≡ Some (term, server)
@@ -186,23 +186,26 @@ module _ (old : ChunkIs) (p : PortIs) (ask : Ask) (reply : Option Reply) (next :
     pub hands : HandsTo old ask server sent after
     pub next_is : next ≡ record p { sent = sent_of hands.answer; last = term }
 
+  pub data LedOn : Type 0 where
+    StaysThere : Keeps → LedOn
+    WasHanded : HandsIt → LedOn
+
   pub data WentOn : Type 0 where
     GivesReply : Replies → WentOn
-    StaysThere : Keeps → WentOn
-    WasHanded : HandsIt → WentOn
+    WasLed : IsNotTold → LedOn → WentOn
 
   module _ (legal : IsTrue old.group.told → IsLegal old.group.setup old.group.history) (fresh : (n : ℕ) → p.sent ≡ Some (Number n) → slice_get old.group.taken n ≡ Some false) where
-    by_leader : (mid : ChunkIs) → mid ≡ old → IsNotTold → (leader : Option (ℕ × ℕ)) → (IsTrue old.group.told → leader_of g ≡ leader) → (rest : List Call) → Goes p ask leader rest next → CallsLead Says mid rest after → WentOn
-    by_leader mid same un None led rest goes lead =
+    by_leader : (mid : ChunkIs) → mid ≡ old → reply ≡ None → (leader : Option (ℕ × ℕ)) → (IsTrue old.group.told → leader_of g ≡ leader) → (rest : List Call) → Goes p ask leader rest next → CallsLead Says mid rest after → LedOn
+    by_leader mid same none None led rest goes lead =
         let here : after ≡ mid = subst (λ calls. CallsLead Says mid calls after) goes.none lead in
-        StaysThere (record { not_told = un; leader = None; led = led; goes = record { none = refl; same = refl }; next_is = goes.same; same = here ∙ same })
-    by_leader mid same un (Some (term, server)) led rest goes lead = by_test (goes_to p.sent p.last term) refl goes
+        StaysThere (record { none = none; leader = None; led = led; goes = record { none = refl; same = refl }; next_is = goes.same; same = here ∙ same })
+    by_leader mid same none (Some (term, server)) led rest goes lead = by_test (goes_to p.sent p.last term) refl goes
       where
-        by_test : (b : Bool) → goes_to p.sent p.last term ≡ b → cond b (IsHanded p ask term server rest next) (Stays p rest next) → WentOn
+        by_test : (b : Bool) → goes_to p.sent p.last term ≡ b → cond b (IsHanded p ask term server rest next) (Stays p rest next) → LedOn
         by_test false is stays =
             let here : after ≡ mid = subst (λ calls. CallsLead Says mid calls after) stays.none lead in
             StaysThere (record {
-              not_told = un;
+              none = none;
               leader = Some (term, server);
               led = led;
               goes = subst (λ b. cond b (IsHanded p ask term server [] p) (Stays p [] p)) (sym is) (record { none = refl; same = refl });
@@ -214,7 +217,7 @@ module _ (old : ChunkIs) (p : PortIs) (ask : Ask) (reply : Option Reply) (next :
             let says = subst (λ (x : ChunkIs). Says x h.call after) same (subst (λ (x : ChunkIs). Says mid h.call x) (sym lead_one.2) lead_one.1) in
             let hands = hands_to old ask server h.call h.sent after h.hands says in
             WasHanded (record {
-              not_told = un;
+              none = none;
               term = term;
               server = server;
               led = led;
@@ -224,10 +227,10 @@ module _ (old : ChunkIs) (p : PortIs) (ask : Ask) (reply : Option Reply) (next :
               next_is = h.is ∙ ap (λ s. let q : PortIs = record p { sent = s; last = term } in q) hands.sent_is;
             })
 
-    led : (mid : ChunkIs) → mid ≡ old → IsNotTold → (calls : List Call) → IsLed p ask calls next → CallsLead Says mid calls after → WentOn
-    led mid same un calls is lead =
+    led : (mid : ChunkIs) → mid ≡ old → reply ≡ None → (calls : List Call) → IsLed p ask calls next → CallsLead Says mid calls after → LedOn
+    led mid same none calls is lead =
         let l = subst (λ all. CallsLead Says mid all after) is.asked lead in
-        by_leader l.0 (l.1.0 ∙ same) un is.leader (λ told. sym (l.1.1 (subst (λ (c : ChunkIs). IsTrue c.group.told) (sym same) told) ∙ ap (λ (c : ChunkIs). leader_of (state_of c.group)) same)) is.rest is.goes l.2
+        by_leader l.0 (l.1.0 ∙ same) none is.leader (λ told. sym (l.1.1 (subst (λ (c : ChunkIs). IsTrue c.group.told) (sym same) told) ∙ ap (λ (c : ChunkIs). leader_of (state_of c.group)) same)) is.rest is.goes l.2
 
     -- what a look tells
     record Looked (sent : Sent) (mid : ChunkIs) (r : Option Reply) : Type 0 where
@@ -264,7 +267,7 @@ module _ (old : ChunkIs) (p : PortIs) (ask : Ask) (reply : Option Reply) (next :
     looked (Number n) is look mid r looks says = absurd looks
 
     by_reply : (sent : Sent) → p.sent ≡ Some sent → (mid : ChunkIs) (r : Option Reply) → reply ≡ r → Looked sent mid r → (rest : List Call) → GoesOn r p ask rest next → CallsLead Says mid rest after → WentOn
-    by_reply sent is mid None none l rest goes lead = led mid (l.idle refl) (record { none = none; untold = λ told. ap (λ s. reply_to g s p.last) is ∙ l.told told }) rest goes lead
+    by_reply sent is mid None none l rest goes lead = WasLed (record { none = none; untold = λ told. ap (λ s. reply_to g s p.last) is ∙ l.told told }) (led mid (l.idle refl) none rest goes lead)
     by_reply sent is mid (Some given) some l rest goes lead =
         let here : after ≡ mid = subst (λ calls. CallsLead Says mid calls after) goes.0 lead in
         GivesReply (record {
@@ -278,10 +281,29 @@ module _ (old : ChunkIs) (p : PortIs) (ask : Ask) (reply : Option Reply) (next :
         })
 
     by_sent : (sent : Option Sent) → p.sent ≡ sent → (calls : List Call) → DrivesFrom sent p ask calls reply next → CallsLead Says old calls after → WentOn
-    by_sent None is calls drives lead = led old refl (record { none = drives.0; untold = λ told. ap (λ s. reply_to g s p.last) is }) calls drives.1 lead
+    by_sent None is calls drives lead = WasLed (record { none = drives.0; untold = λ told. ap (λ s. reply_to g s p.last) is }) (led old refl drives.0 calls drives.1 lead)
     by_sent (Some sent) is calls drives lead =
         let l = subst (λ all. CallsLead Says old all after) drives.asked lead in
         by_reply sent is l.0 reply refl (looked sent is drives.look l.0 reply drives.looks l.1) drives.rest drives.goes l.2
 
+    -- its ask was led alone
+    pub led_on : (calls : List Call) → reply ≡ None → IsLed p ask calls next → CallsLead Says old calls after → LedOn
+    led_on calls none is lead = led old refl none calls is lead
+
     pub went_on : (calls : List Call) → Drives p ask calls reply next → CallsLead Says old calls after → WentOn
     went_on calls drives lead = by_sent p.sent refl calls drives lead
+
+    silent_by : (sent : Option Sent) → p.sent ≡ sent → (calls : List Call) → HearsFrom sent p calls None next → reply ≡ None → CallsLead Says old calls after → IsNotTold × (after ≡ old) × (next ≡ p)
+    silent_by None is calls hears none lead = (
+      record { none = none; untold = λ told. ap (λ s. reply_to g s p.last) is },
+      subst (λ cs. CallsLead Says old cs after) hears.1.none lead,
+      hears.1.same,
+    )
+    silent_by (Some sent) is calls hears none lead =
+        let l = subst (λ cs. CallsLead Says old cs after) hears.once lead in
+        let told = looked sent is hears.look l.0 None hears.looks l.1 in
+        (record { none = none; untold = λ its. ap (λ s. reply_to g s p.last) is ∙ told.told its }, l.2 ∙ told.idle refl, hears.is)
+
+    -- where none was heard, there is none, and nothing is different
+    pub heard_none : (calls : List Call) → Hears p calls reply next → reply ≡ None → CallsLead Says old calls after → IsNotTold × (after ≡ old) × (next ≡ p)
+    heard_none calls hears none lead = silent_by p.sent refl calls (subst (λ r. HearsFrom p.sent p calls r next) none hears) none lead

@@ -30,12 +30,14 @@ use Rattle.pf_applyrounds.proofs.Extending.{Extends, extends_refl}
 use Rattle.pf_applyrounds.proofs.Growing.{grown_refl, taken_grows}
 use Rattle.pf_applyrounds.proofs.Told.{told_length}
 use Rattle.pf_chunk.specs.declared.waiting.Waiting.{Waiting}
+use Rattle.pf_chunk.specs.declared.driving.Step.{Step}
+use Rattle.pf_chunk.specs.declared.driving.Step.TheVariants.{Hear, Lead, Drive}
 use Rattle.pf_chunk.specs.Asks.{leader_of, reply_to}
-use Rattle.pf_chunk.specs.Driving.{Driven, HandsOn, HasDriven, Heeds, PortDrove, ask_after, driven, driven_at, driven_for, event_of_ask, handed, handed_to, idle, led_to, replied, sent_of, with_port}
+use Rattle.pf_chunk.specs.Driving.{Driven, HandsOn, HasDriven, HasGone, HasHeard, Heeds, PortDrove, ask_after, driven, driven_at, driven_for, event_of_ask, handed, handed_to, heard, heard_at, heard_for, heard_if, idle, led, led_at, led_for, led_to, replied, run_by, sent_of, with_port}
 use Rattle.pf_chunk.specs.Runs.{ChunkRun}
 use Rattle.pf_chunk.specs.Views.{ArePorts, ChunkIs, IsFetched, IsKept, IsReady, run_of}
 use Rattle.pf_chunk.proofs.Begun.{happened_extends}
-use Rattle.pf_chunk.proofs.Calls.{GivesReply, HandsIt, Keeps, Replies, StaysThere, WasHanded, WentOn, hand, went_on}
+use Rattle.pf_chunk.proofs.Calls.{GivesReply, HandsIt, IsNotTold, Keeps, LedOn, Replies, StaysThere, WasHanded, WasLed, WentOn, hand, went_on}
 use Rattle.pf_chunk.proofs.Happened.{Comes, Fills, IsMidway, filled_up}
 use Rattle.pf_chunk.proofs.Members.{every_place}
 use Rattle.pf_chunk.proofs.Midway.{claims, kept_quietly, next_read}
@@ -89,11 +91,51 @@ module _ (halts : List Halt) (c : ChunkRun) (m : ℕ) where
   pub driven_extends : Extends c.group (driven halts c m).chunk.group
   driven_extends = port_extends (slice_get c.ports m)
 
+  led_for_extends : (p : PortIs) (ask : Option Ask) → Extends c.group (led_for halts c m p ask).chunk.group
+  led_for_extends p None = extends_refl c.group
+  led_for_extends p (Some ask) = handed_extends p ask (leader_of c.group.state)
+
+  led_at_extends : (p : Option PortIs) → Extends c.group (led_at halts c m p).chunk.group
+  led_at_extends None = extends_refl c.group
+  led_at_extends (Some p) = led_for_extends p p.ask
+
+  pub led_extends : Extends c.group (led halts c m).chunk.group
+  led_extends = led_at_extends (slice_get c.ports m)
+
+module _ (c : ChunkRun) (m : ℕ) where
+  heard_if_extends : (p : PortIs) (reply : Option Reply) → Extends c.group (heard_if c m p reply).chunk.group
+  heard_if_extends p None = extends_refl c.group
+  heard_if_extends p (Some reply) = extends_refl c.group
+
+  heard_for_extends : (p : PortIs) (ask : Option Ask) → Extends c.group (heard_for c m p ask).chunk.group
+  heard_for_extends p None = extends_refl c.group
+  heard_for_extends p (Some ask) = heard_if_extends p (reply_to c.group.state p.sent p.last)
+
+  heard_at_extends : (p : Option PortIs) → Extends c.group (heard_at c m p).chunk.group
+  heard_at_extends None = extends_refl c.group
+  heard_at_extends (Some p) = heard_for_extends p p.ask
+
+  pub heard_extends : Extends c.group (heard c m).chunk.group
+  heard_extends = heard_at_extends (slice_get c.ports m)
+
+pub run_extends : (step : Step) (halts : List Halt) (c : ChunkRun) (m : ℕ) → Extends c.group (run_by step halts c m).chunk.group
+run_extends Hear halts c m = heard_extends c m
+run_extends Lead halts c m = led_extends halts c m
+run_extends Drive halts c m = driven_extends halts c m
+
 module _ (m : ℕ) (old : ChunkIs) (p : PortIs) (ask : Ask) (there : slice_get old.ports m ≡ Some p) (pending : p.ask ≡ Some ask) (ready : IsReady old) where
   -- the run looks for a reply
   looks_for : (halts : List Halt) (r : Option Reply) → reply_to (state_of old.group) p.sent p.last ≡ r → driven halts (run_of halts old) m ≡ replied halts (run_of halts old) m p ask r
   looks_for halts r told =
       ap (driven_at halts (run_of halts old) m) there ∙ ap (driven_for halts (run_of halts old) m p) pending ∙ ap (replied halts (run_of halts old) m p ask) told
+
+  -- and in the first half of a step
+  pub hears_for : (halts : List Halt) (r : Option Reply) → reply_to (state_of old.group) p.sent p.last ≡ r → heard (run_of halts old) m ≡ heard_if (run_of halts old) m p r
+  hears_for halts r told = ap (heard_at (run_of halts old) m) there ∙ ap (heard_for (run_of halts old) m p) pending ∙ ap (heard_if (run_of halts old) m p) told
+
+  -- or at once for the leader
+  pub leads_for : (halts : List Halt) → led halts (run_of halts old) m ≡ led_to halts (run_of halts old) m p ask (leader_of (state_of old.group))
+  leads_for halts = ap (led_at halts (run_of halts old) m) there ∙ ap (led_for halts (run_of halts old) m p) pending
 
   -- there is one, and the port is silent then
   module _ (taken : List Bool) (count : length taken ≡ length old.group.taken) (same : (j : ℕ) → (p.sent ≡ Some (Number j) → ⊥) → slice_get taken j ≡ slice_get old.group.taken j) (q : PortIs) (silent : q.sent ≡ None) where
@@ -170,28 +212,30 @@ module _ (m : ℕ) (old : ChunkIs) (p : PortIs) (ask : Ask) (there : slice_get o
   by_leader halts None goes = refl
   by_leader halts (Some (term, server)) goes = by_goes halts term server (goes_to p.sent p.last term) goes
 
-  has_stayed : (IsTrue old.group.told → reply_to (state_of old.group) p.sent p.last ≡ None) → (leader : Option (ℕ × ℕ)) → (IsTrue old.group.told → leader_of (state_of old.group) ≡ leader) → Goes p ask leader [] p → (before : List ℕ) → HasDriven m old before None before old
-  has_stayed untold leader led goes before = record {
-    grown = grown_refl old.group;
-    ready = ready;
-    left = λ told k is. inl is;
-    first = refl;
-    text = [];
-    place = None;
-    put = sym (append-nil before);
-    run = λ halts tells. looks_for halts None (untold tells.told) ∙ ap (led_to halts (run_of halts old) m p ask) (led tells.told) ∙ by_leader halts leader goes;
-  }
+  -- where the run looks for the leader
+  module _ (step : Step) (leads : (halts : List Halt) → IsTrue old.group.told → run_by step halts (run_of halts old) m ≡ led_to halts (run_of halts old) m p ask (leader_of (state_of old.group))) where
+    has_stayed : (leader : Option (ℕ × ℕ)) → (IsTrue old.group.told → leader_of (state_of old.group) ≡ leader) → Goes p ask leader [] p → (before : List ℕ) → HasGone step m old before None before old
+    has_stayed leader led goes before = record {
+      grown = grown_refl old.group;
+      ready = ready;
+      left = λ told k is. inl is;
+      first = refl;
+      text = [];
+      place = None;
+      put = sym (append-nil before);
+      run = λ halts tells. leads halts tells.told ∙ ap (led_to halts (run_of halts old) m p ask) (led tells.told) ∙ by_leader halts leader goes;
+    }
 
-  -- it is handed on
-  driven_handed : (halts : List Halt) (term server : ℕ) → reply_to (state_of old.group) p.sent p.last ≡ None → leader_of (state_of old.group) ≡ Some (term, server) → goes_to p.sent p.last term ≡ true
-      → driven halts (run_of halts old) m ≡ handed (length old.group.history) (filled_up (sends m p term) (event_of (hand ask server) false) halts (run_of halts old))
-  driven_handed halts term server untold led goes =
-      let c = run_of halts old in
-      looks_for halts None untold
-      ∙ ap (led_to halts c m p ask) led
-      ∙ ap (λ b. if b then handed_to halts c m p (event_of_ask ask server) term else idle c) goes
-      ∙ ap (λ event. handed (length c.group.history) (filled_up (sends m p term) event halts c)) (same_event ask server)
-      ∙ ap (λ n. handed n (filled_up (sends m p term) (event_of (hand ask server) false) halts c)) (told_length halts old.group.number 0 old.group.history)
+    -- it is handed on
+    run_handed : (halts : List Halt) (term server : ℕ) → IsTrue old.group.told → leader_of (state_of old.group) ≡ Some (term, server) → goes_to p.sent p.last term ≡ true
+        → run_by step halts (run_of halts old) m ≡ handed (length old.group.history) (filled_up (sends m p term) (event_of (hand ask server) false) halts (run_of halts old))
+    run_handed halts term server told led goes =
+        let c = run_of halts old in
+        leads halts told
+        ∙ ap (led_to halts c m p ask) led
+        ∙ ap (λ b. if b then handed_to halts c m p (event_of_ask ask server) term else idle c) goes
+        ∙ ap (λ event. handed (length c.group.history) (filled_up (sends m p term) event halts c)) (same_event ask server)
+        ∙ ap (λ n. handed n (filled_up (sends m p term) (event_of (hand ask server) false) halts c)) (told_length halts old.group.number 0 old.group.history)
 
   module _ (term server : ℕ) (answer : Answer) (new : GroupIs) (stepped : HasStepped old.group (hand ask server) answer new) where
     abbrev h : Happening
@@ -242,7 +286,7 @@ module _ (m : ℕ) (old : ChunkIs) (p : PortIs) (ask : Ask) (there : slice_get o
     }
 
 -- the ask was handed on by one event
-pub record IsHandedOn (m : ℕ) (old : ChunkIs) (reply : Option Reply) (new : ChunkIs) : Type 0 where
+pub record IsHandedOn (step : Step) (m : ℕ) (old : ChunkIs) (reply : Option Reply) (new : ChunkIs) : Type 0 where
   pub p : PortIs
   pub ask : Ask
   pub term : ℕ
@@ -251,46 +295,108 @@ pub record IsHandedOn (m : ℕ) (old : ChunkIs) (reply : Option Reply) (new : Ch
   pub none : reply ≡ None
   pub stepped : HasStepped old.group (hand ask server) answer new.group
   pub midway : IsMidway (sends m p term) old (hand ask server) answer new
-  pub run : IsTrue old.group.told → (halts : List Halt) → driven halts (run_of halts old) m ≡ handed (length old.group.history) (filled_up (sends m p term) (event_of (hand ask server) false) halts (run_of halts old))
+  pub run : IsTrue old.group.told → (halts : List Halt) → run_by step halts (run_of halts old) m ≡ handed (length old.group.history) (filled_up (sends m p term) (event_of (hand ask server) false) halts (run_of halts old))
+
+-- the first half of a step
+pub record IsHeard (m : ℕ) (old : ChunkIs) (reply : Option Reply) (new : ChunkIs) : Type 0 where
+  pub went : HasHeard m old reply new
+  pub port : PortDrove m reply old new
+  pub quiet : new.group.history ≡ old.group.history
 
 -- a reply that is not heeded is none that fits, and there is none such where the disks tell their content
-record IsHeeded (m : ℕ) (old : ChunkIs) (reply : Option Reply) (new : ChunkIs) (h : HandsOn m old reply new) (given : Reply) : Type 0 where
+record IsHeeded (m : ℕ) (old : ChunkIs) (reply : Option Reply) (new : ChunkIs) (h : HandsOn Drive m old reply new) (given : Reply) : Type 0 where
   next : PortIs
   is : h.next ≡ next
   silent : next.sent ≡ None
   asks : next.ask ≡ ask_after reply h.port.ask
   heeded : IsTrue old.group.told → (reply ≡ Some given) × (next ≡ answered_port h.port)
 
-module _ (m : ℕ) (old new : ChunkIs) (reply : Option Reply) (h : HandsOn m old reply new) (ready : IsReady old) (legal : IsTrue old.group.told → IsLegal old.group.setup old.group.history) where
-  abbrev out : ChunkIs
+module _ (step : Step) (m : ℕ) (old new : ChunkIs) (reply : Option Reply) (h : HandsOn step m old reply new) (ready : IsReady old) where
+  abbrev pub out : ChunkIs
   out = record old { ports = slice_set old.ports m new_port }
 
-  went : WentOn out h.port h.ask h.given h.left h.after
-  went = went_on out h.port h.ask h.given h.left h.after legal (λ n sent. (ready.kept.ports_fit.reads m h.port n h.there sent).pending) h.calls h.drives h.leads
-
   -- where it stands in its place again
-  back : (group : GroupIs) (port : PortIs) → h.after ≡ record out { group = group } → h.next ≡ port → new ≡ record old { group = group; ports = slice_set old.ports m port }
+  pub back : (group : GroupIs) (port : PortIs) → h.after ≡ record out { group = group } → h.next ≡ port → new ≡ record old { group = group; ports = slice_set old.ports m port }
   back group port after_is next_is =
       h.is
       ∙ ap (λ (c : ChunkIs). let x : ChunkIs = record c { ports = slice_set c.ports m h.next } in x) after_is
       ∙ ap (λ (ps : List PortIs). let x : ChunkIs = record old { group = group; ports = ps } in x) (set_again old.ports m new_port h.next ∙ ap (slice_set old.ports m) next_is)
 
   -- no reply was given
-  none_given : h.given ≡ None → (reply ≡ None) × (h.next ≡ h.left)
+  pub none_given : h.given ≡ None → (reply ≡ None) × (h.next ≡ h.left)
   none_given none = subst (λ o. Heeds h.ask o h.left reply h.next) none h.heeds
 
+  -- all is as it was
+  pub same_again : h.given ≡ None → h.after ≡ out → h.left ≡ h.port → new ≡ old
+  same_again none after_is left_is = back old.group h.port after_is ((none_given none).1 ∙ left_is) ∙ ap (λ (ps : List PortIs). let x : ChunkIs = record old { ports = ps } in x) (set_same old.ports m h.port h.there)
+
   stayed : Keeps out h.port h.ask h.given h.left h.after → new ≡ old
-  stayed k = back old.group h.port k.same ((none_given k.not_told.none).1 ∙ k.next_is) ∙ ap (λ (ps : List PortIs). let x : ChunkIs = record old { ports = ps } in x) (set_same old.ports m h.port h.there)
+  stayed k = same_again k.none k.same k.next_is
 
   handed_is : (k : HandsIt out h.port h.ask h.given h.left h.after) → new ≡ record old { group = h.after.group; ports = slice_set old.ports m (record h.port { sent = sent_of k.hands.answer; last = k.term }) }
-  handed_is k = back h.after.group _ k.hands.rest ((none_given k.not_told.none).1 ∙ k.next_is)
+  handed_is k = back h.after.group _ k.hands.rest ((none_given k.none).1 ∙ k.next_is)
 
   longer : HandsIt out h.port h.ask h.given h.left h.after → length new.group.history ≡ length old.group.history → ⊥
   longer k same =
       omega (arith, same, ap (λ (c : ChunkIs). length c.group.history) (handed_is k), ap (λ (g : GroupIs). length g.history) k.hands.stepped.steps.recorded, length-append old.group.history (record { event = event_of (hand h.ask k.server) k.hands.stepped.found; answer = k.hands.answer } ∷ []))
 
+  -- what it did to its port
+  pub port_facts : (port : PortIs) → new.ports ≡ slice_set old.ports m port → port.ask ≡ ask_after reply h.port.ask → (h.port.sent ≡ None → reply ≡ None) → PortDrove m reply old new
+  port_facts port ports asks unsent = record {
+    port = port;
+    ports = ports;
+    asks = λ before at. asks ∙ ap (λ (q : PortIs). ask_after reply q.ask) (same_Some h.port before (sym h.there ∙ at));
+    unsent = λ before at none. unsent (ap (λ (q : PortIs). q.sent) (same_Some h.port before (sym h.there ∙ at)) ∙ none);
+  }
+
+  pub led_port : LedOn out h.port h.ask h.given h.left h.after → PortDrove m reply old new
+  led_port led = elim led [
+    | StaysThere k ↦
+        let none = (none_given k.none).0 in
+        port_facts h.port (ap (λ (c : ChunkIs). c.ports) (stayed k) ∙ sym (set_same old.ports m h.port h.there)) (ap (λ (o : Option Reply). ask_after o h.port.ask) (sym none)) (λ _. none)
+    | WasHanded k ↦
+        let none = (none_given k.none).0 in
+        port_facts (record h.port { sent = sent_of k.hands.answer; last = k.term }) (ap (λ (c : ChunkIs). c.ports) (handed_is k)) (ap (λ (o : Option Reply). ask_after o h.port.ask) (sym none)) (λ _. none)
+  ]
+
+  module _ (leads : (halts : List Halt) → IsTrue old.group.told → run_by step halts (run_of halts old) m ≡ led_to halts (run_of halts old) m h.port h.ask (leader_of (state_of old.group))) where
+    -- no event took place
+    pub led_still : LedOn out h.port h.ask h.given h.left h.after → length new.group.history ≡ length old.group.history → (before : List ℕ) → HasGone step m old before reply before new
+    led_still led same before = elim led [
+      | StaysThere k ↦
+          subst (λ o. HasGone step m old before o before new) (sym (none_given k.none).0) (subst (HasGone step m old before None before) (sym (stayed k))
+          (has_stayed m old h.port h.ask h.there h.pending ready step leads k.leader k.led k.goes before))
+      | WasHanded k ↦ absurd (longer k same)
+    ]
+
+    -- one did
+    pub led_away : LedOn out h.port h.ask h.given h.left h.after → (length new.group.history ≡ length old.group.history → ⊥) → IsHandedOn step m old reply new
+    led_away led more = elim led [
+      | StaysThere k ↦ absurd (more (ap (λ (c : ChunkIs). length c.group.history) (stayed k)))
+      | WasHanded k ↦
+          let is = handed_is k in record {
+            p = h.port;
+            ask = h.ask;
+            term = k.term;
+            server = k.server;
+            answer = k.hands.answer;
+            none = (none_given k.none).0;
+            stepped = subst (λ (c : ChunkIs). HasStepped old.group (hand h.ask k.server) k.hands.answer c.group) (sym is) k.hands.stepped;
+            midway = subst (IsMidway (sends m h.port k.term) old (hand h.ask k.server) k.hands.answer) (sym is)
+                (midway_handed m old h.port h.ask h.there h.pending ready k.term k.server k.hands.answer h.after.group k.hands.stepped);
+            run = λ told halts. run_handed m old h.port h.ask h.there h.pending ready step leads halts k.term k.server told (k.led told) k.goes;
+          }
+    ]
+
+module _ (m : ℕ) (old new : ChunkIs) (reply : Option Reply) (h : HandsOn Drive m old reply new) (ready : IsReady old) (legal : IsTrue old.group.told → IsLegal old.group.setup old.group.history) where
+  abbrev around : ChunkIs
+  around = out Drive m old new reply h ready
+
+  went : WentOn around h.port h.ask h.given h.left h.after
+  went = went_on around h.port h.ask h.given h.left h.after legal (λ n sent. (ready.kept.ports_fit.reads m h.port n h.there sent).pending) h.calls h.steps h.leads
+
   -- one was
-  heeded : (r : Replies out h.port h.ask h.given h.left h.after) → IsHeeded m old reply new h r.given
+  heeded : (r : Replies around h.port h.ask h.given h.left h.after) → IsHeeded m old reply new h r.given
   heeded r = elim (subst (λ o. Heeds h.ask o h.left reply h.next) r.is h.heeds) [
     | inl fits ↦ record {
       next = answered_port h.port;
@@ -309,7 +415,7 @@ module _ (m : ℕ) (old new : ChunkIs) (reply : Option Reply) (h : HandsOn m old
   ]
 
   -- the run gives that reply
-  module _ (r : Replies out h.port h.ask h.given h.left h.after) (group : GroupIs) where
+  module _ (r : Replies around h.port h.ask h.given h.left h.after) (group : GroupIs) where
     abbrev ends_at : ChunkIs
     ends_at = record old { group = group; ports = slice_set old.ports m (heeded r).next }
 
@@ -321,85 +427,85 @@ module _ (m : ℕ) (old new : ChunkIs) (reply : Option Reply) (h : HandsOn m old
         ∙ ap (λ q. let d : Driven = record { chunk = with_port (run_of halts old) m q; reply = reply; text = []; place = None } in d) (sym its.1)
         ∙ ap (λ c. let d : Driven = record { chunk = record { group = c; waiting = old.waiting; ports = slice_set old.ports m (heeded r).next }; reply = reply; text = []; place = None } in d) (sym (same halts))
 
-  replied_so : (r : Replies out h.port h.ask h.given h.left h.after) (before : List ℕ) → HasDriven m old before reply before new × (new.group.history ≡ old.group.history)
-  replied_so r before = elim r.takes [
-    | inl same ↦
-        let is = back old.group (heeded r).next same (heeded r).is in (
-          subst (HasDriven m old before reply before) (sym is)
-              (has_taken m old h.port h.ask h.there h.pending ready old.group.taken refl (λ j _. refl) (heeded r).next (heeded r).silent reply (run_replies r old.group (λ halts. refl)) before),
-          ap (λ (c : ChunkIs). c.group.history) is,
-        )
-    | inr took ↦
-        let taken = slice_set old.group.taken took.0 true in
-        let is = back (record old.group { taken = taken }) (heeded r).next took.2 (heeded r).is in (
-          subst (HasDriven m old before reply before) (sym is)
-              (has_taken m old h.port h.ask h.there h.pending ready taken (set_length old.group.taken took.0 true)
-              (λ j other. set_elsewhere old.group.taken took.0 j true (λ same. other (took.1 ∙ ap (λ n. Some (Number n)) (sym same)))) (heeded r).next (heeded r).silent reply
-              (run_replies r (record old.group { taken = taken }) (λ halts. refl)) before),
-          ap (λ (c : ChunkIs). c.group.history) is,
-        )
+  -- the chunk then
+  record Ended (r : Replies around h.port h.ask h.given h.left h.after) : Type 0 where
+    taken : List Bool
+    count : length taken ≡ length old.group.taken
+    same : (j : ℕ) → (h.port.sent ≡ Some (Number j) → ⊥) → slice_get taken j ≡ slice_get old.group.taken j
+    is : new ≡ ends_at r (record old.group { taken = taken })
+
+  ended : (r : Replies around h.port h.ask h.given h.left h.after) → Ended r
+  ended r = elim r.takes [
+    | inl same ↦ record { taken = old.group.taken; count = refl; same = λ j _. refl; is = back Drive m old new reply h ready old.group (heeded r).next same (heeded r).is }
+    | inr took ↦ record {
+      taken = slice_set old.group.taken took.0 true;
+      count = set_length old.group.taken took.0 true;
+      same = λ j other. set_elsewhere old.group.taken took.0 j true (λ same. other (took.1 ∙ ap (λ n. Some (Number n)) (sym same)));
+      is = back Drive m old new reply h ready (record old.group { taken = slice_set old.group.taken took.0 true }) (heeded r).next took.2 (heeded r).is;
+    }
   ]
 
-  -- what it did to its port
-  port_facts : (port : PortIs) → new.ports ≡ slice_set old.ports m port → port.ask ≡ ask_after reply h.port.ask → (h.port.sent ≡ None → reply ≡ None) → PortDrove m reply old new
-  port_facts port ports asks unsent = record {
-    port = port;
-    ports = ports;
-    asks = λ before at. asks ∙ ap (λ (q : PortIs). ask_after reply q.ask) (same_Some h.port before (sym h.there ∙ at));
-    unsent = λ before at none. unsent (ap (λ (q : PortIs). q.sent) (same_Some h.port before (sym h.there ∙ at)) ∙ none);
-  }
+  module _ (r : Replies around h.port h.ask h.given h.left h.after) where
+    abbrev its_group : GroupIs
+    its_group = record old.group { taken = (ended r).taken }
 
-  replied_port : (r : Replies out h.port h.ask h.given h.left h.after) → new.ports ≡ slice_set old.ports m (heeded r).next
-  replied_port r = elim r.takes [
-    | inl same ↦ ap (λ (c : ChunkIs). c.ports) (back old.group (heeded r).next same (heeded r).is)
-    | inr took ↦ ap (λ (c : ChunkIs). c.ports) (back (record old.group { taken = slice_set old.group.taken took.0 true }) (heeded r).next took.2 (heeded r).is)
-  ]
+    its_end : (before : List ℕ) → HasDriven m old before reply before (ends_at r its_group)
+    its_end before = has_taken m old h.port h.ask h.there h.pending ready (ended r).taken (ended r).count (ended r).same (heeded r).next (heeded r).silent reply (run_replies r its_group (λ halts. refl)) before
+
+    replied_so : (before : List ℕ) → HasDriven m old before reply before new × (new.group.history ≡ old.group.history)
+    replied_so before = (subst (HasDriven m old before reply before) (sym (ended r).is) (its_end before), ap (λ (c : ChunkIs). c.group.history) (ended r).is)
+
+    -- so the first half comes to it too
+    hears_so : (halts : List Halt) → IsTrue old.group.told → heard (run_of halts old) m ≡ record { chunk = run_of halts (ends_at r its_group); reply = reply; text = []; place = None }
+    hears_so halts told =
+        let its = r.told told in
+        hears_for m old h.port h.ask h.there h.pending ready halts (Some r.given) its
+        ∙ sym (looks_for m old h.port h.ask h.there h.pending ready halts (Some r.given) its)
+        ∙ run_replies r its_group (λ halts. refl) halts told
+
+    heard_so : HasHeard m old reply new
+    heard_so =
+        let d = its_end [] in
+        subst (HasHeard m old reply) (sym (ended r).is)
+        (record { grown = d.grown; ready = d.ready; left = d.left; first = d.first; run = λ halts tells. hears_so halts (subst IsTrue d.grown.told tells.told) })
+
+  replied_port : (r : Replies around h.port h.ask h.given h.left h.after) → PortDrove m reply old new
+  replied_port r = port_facts Drive m old new reply h ready (heeded r).next (ap (λ (c : ChunkIs). c.ports) (ended r).is) (heeded r).asks (λ none. absurd (none-some r.sent (sym none ∙ r.was)))
 
   pub port_drove : PortDrove m reply old new
   port_drove = elim went [
-    | GivesReply r ↦ port_facts (heeded r).next (replied_port r) (heeded r).asks (λ none. absurd (none-some r.sent (sym none ∙ r.was)))
-    | StaysThere k ↦
-        let none = (none_given k.not_told.none).0 in
-        port_facts h.port (ap (λ (c : ChunkIs). c.ports) (stayed k) ∙ sym (set_same old.ports m h.port h.there)) (ap (λ (o : Option Reply). ask_after o h.port.ask) (sym none)) (λ _. none)
-    | WasHanded k ↦
-        let none = (none_given k.not_told.none).0 in
-        port_facts (record h.port { sent = sent_of k.hands.answer; last = k.term }) (ap (λ (c : ChunkIs). c.ports) (handed_is k)) (ap (λ (o : Option Reply). ask_after o h.port.ask) (sym none)) (λ _. none)
+    | GivesReply r ↦ replied_port r
+    | WasLed un led ↦ led_port Drive m old new reply h ready led
   ]
+
+  leads : IsNotTold around h.port h.ask h.given h.left h.after → (halts : List Halt) → IsTrue old.group.told → driven halts (run_of halts old) m ≡ led_to halts (run_of halts old) m h.port h.ask (leader_of (state_of old.group))
+  leads un halts told = looks_for m old h.port h.ask h.there h.pending ready halts None (un.untold told)
 
   -- no event took place
   pub no_event : length new.group.history ≡ length old.group.history → (before : List ℕ) → HasDriven m old before reply before new
   no_event same before = elim went [
     | GivesReply r ↦ (replied_so r before).0
-    | StaysThere k ↦
-        subst (λ o. HasDriven m old before o before new) (sym (none_given k.not_told.none).0) (subst (HasDriven m old before None before) (sym (stayed k))
-        (has_stayed m old h.port h.ask h.there h.pending ready k.not_told.untold k.leader k.led k.goes before))
-    | WasHanded k ↦ absurd (longer k same)
+    | WasLed un led ↦ led_still Drive m old new reply h ready (leads un) led same before
   ]
 
   -- one did
-  pub an_event : (length new.group.history ≡ length old.group.history → ⊥) → IsHandedOn m old reply new
+  pub an_event : (length new.group.history ≡ length old.group.history → ⊥) → IsHandedOn Drive m old reply new
   an_event more = elim went [
     | GivesReply r ↦ absurd (more (ap length (replied_so r []).1))
-    | StaysThere k ↦ absurd (more (ap (λ (c : ChunkIs). length c.group.history) (stayed k)))
-    | WasHanded k ↦
-        let is = handed_is k in record {
-          p = h.port;
-          ask = h.ask;
-          term = k.term;
-          server = k.server;
-          answer = k.hands.answer;
-          none = (none_given k.not_told.none).0;
-          stepped = subst (λ (c : ChunkIs). HasStepped old.group (hand h.ask k.server) k.hands.answer c.group) (sym is) k.hands.stepped;
-          midway = subst (IsMidway (sends m h.port k.term) old (hand h.ask k.server) k.hands.answer) (sym is)
-              (midway_handed m old h.port h.ask h.there h.pending ready k.term k.server k.hands.answer h.after.group k.hands.stepped);
-          run = λ told halts. driven_handed m old h.port h.ask h.there h.pending ready halts k.term k.server (k.not_told.untold told) (k.led told) k.goes;
-        }
+    | WasLed un led ↦ led_away Drive m old new reply h ready (leads un) led more
+  ]
+
+  -- it gave a reply: so did its first half
+  pub heard_reply : (given : Reply) → h.given ≡ Some given → IsHeard m old reply new
+  heard_reply given is = elim went [
+    | GivesReply r ↦ record { went = heard_so r; port = replied_port r; quiet = (replied_so r []).1 }
+    | WasLed un led ↦ absurd (none-some given (sym un.none ∙ is))
   ]
 
 -- what followed on the event
-pub has_driven : (m : ℕ) (old mid new : ChunkIs) (reply : Option Reply) (h : IsHandedOn m old reply mid) (before after : List ℕ) → Comes (sends m h.p h.term) old (hand h.ask h.server) h.answer mid before after new → HasDriven m old before reply after new
-has_driven m old mid new reply h before after comes =
-    subst (λ o. HasDriven m old before o after new) (sym h.none) (record {
+pub has_gone : (step : Step) (m : ℕ) (old mid new : ChunkIs) (reply : Option Reply) (h : IsHandedOn step m old reply mid) (before after : List ℕ) → Comes (sends m h.p h.term) old (hand h.ask h.server) h.answer mid before after new → HasGone step m old before reply after new
+has_gone step m old mid new reply h before after comes =
+    subst (λ o. HasGone step m old before o after new) (sym h.none) (record {
       grown = comes.grown;
       ready = comes.ready;
       left = comes.left;

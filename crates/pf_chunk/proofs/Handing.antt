@@ -1,4 +1,4 @@
--- A port that is driven over the rest of its chunk.
+-- A port that takes a step over the rest of its chunk.
 use Rattle.std.proofs.Common.{◌≡◌, ℕ, ◌<◌, inl, inr, List, Option, Some, None, length, slice_get, slice_set, arith, refl, sym, ap, subst, ◌∙◌}
 use Rattle.std.specs.Prelude.{IfSome, IsSome, IsTrue}
 use Rattle.std.specs.Option.{option_and_then}
@@ -12,9 +12,11 @@ use Rattle.pf_network.proofs.Lists.{set_again, set_length, set_same}
 use Rattle.pf_asks.specs.declared.port.Sent.{Sent}
 use Rattle.pf_asks.specs.declared.port.Sent.TheVariants.{Slot, Number}
 use Rattle.pf_asks.specs.Desks.{Call, CallsLead, IsLook}
-use Rattle.pf_asks.specs.Ports.{Drives, DrivesFrom, IsCounted, IsOfKind, PortIs, new_port}
+use Rattle.pf_asks.specs.Ports.{DrivesFrom, HearsFrom, IsCounted, IsOfKind, PortIs, new_port}
+use Rattle.pf_chunk.specs.declared.driving.Step.{Step}
+use Rattle.pf_chunk.specs.declared.driving.Step.TheVariants.{Hear, Lead, Drive}
 use Rattle.pf_chunk.specs.Asks.{Counts, Says}
-use Rattle.pf_chunk.specs.Driving.{HandsOn, Heeds, ask_of}
+use Rattle.pf_chunk.specs.Driving.{HandsOn, Heeds, StepsBy, ask_of}
 use Rattle.pf_chunk.specs.Views.{ChunkIs, IsReady}
 use Rattle.pf_chunk.proofs.Calls.{lead_ports, looks_same}
 
@@ -26,6 +28,16 @@ silent_by : (p left : PortIs) (ask : Ask) (calls : List Call) (sent : Option Sen
 silent_by p left ask calls None given drives is = absurd (false≢true (subst IsSome drives.0 is))
 silent_by p left ask calls (Some sent) None drives is = absurd (false≢true is)
 silent_by p left ask calls (Some sent) (Some reply) drives is = ap (λ (q : PortIs). q.ask) drives.goes.1
+
+silent_heard : (p left : PortIs) (calls : List Call) (sent : Option Sent) (given : Option Reply) → HearsFrom sent p calls given left → IsSome given → left.ask ≡ None
+silent_heard p left calls None given hears is = absurd (false≢true (subst IsSome hears.0 is))
+silent_heard p left calls (Some sent) None hears is = absurd (false≢true is)
+silent_heard p left calls (Some sent) (Some reply) hears is = ap (λ (q : PortIs). q.ask) hears.is
+
+silent_after : (step : Step) (p left : PortIs) (ask : Ask) (calls : List Call) (given : Option Reply) → StepsBy step p ask calls given left → IsSome given → left.ask ≡ None
+silent_after Hear p left ask calls given steps is = silent_heard p left calls p.sent given steps is
+silent_after Lead p left ask calls given steps is = absurd (false≢true (subst IsSome steps.0 is))
+silent_after Drive p left ask calls given steps is = silent_by p left ask calls p.sent given steps is
 
 pub kind_of : (p : PortIs) (given : Option Reply) (ask : Ask) → p.ask ≡ Some ask → IfSome given (λ r. (ask : Ask) → p.ask ≡ Some ask → IsOfKind ask r) → IfSome given (IsOfKind ask)
 kind_of p None ask is kind = tt
@@ -67,20 +79,20 @@ module _ (m : ℕ) (old : ChunkIs) (p : PortIs) (there : slice_get old.ports m �
     inside_by : (calls : List Call) → CallsLead Says start calls after → m < length old.ports → m < length after.ports
     inside_by calls lead low = omega (arith, low, ap (λ (ps : List PortIs). length ps) (lead_ports start calls after lead ∙ ap (λ (c : ChunkIs). c.ports) start_is), set_length old.ports m new_port)
 
-    -- the port was driven, and what it gave is heeded
-    module _ (given : Option Reply) (drove : (ask : Ask) → p.ask ≡ Some ask → (calls : List Call) × CallsLead Says start calls after × Drives p ask calls given left) (asks : IsSome (ask_of old.ports m)) where
+    -- the port took the step, and what it gave is heeded
+    module _ (step : Step) (given : Option Reply) (stepped : (ask : Ask) → p.ask ≡ Some ask → (calls : List Call) × CallsLead Says start calls after × StepsBy step p ask calls given left) (asks : IsSome (ask_of old.ports m)) where
       pub inside : m < length old.ports → m < length after.ports
-      inside low = let a = pending asks in let d = drove a.0 a.1 in inside_by d.0 d.1 low
+      inside low = let a = pending asks in let d = stepped a.0 a.1 in inside_by d.0 d.1 low
 
       -- an answered ask is pending no more
       pub silent_then : IsSome given → left.ask ≡ None
-      silent_then is = let a = pending asks in let d = drove a.0 a.1 in silent_by p left a.0 d.0 p.sent given d.2 is
+      silent_then is = let a = pending asks in let d = stepped a.0 a.1 in silent_after step p left a.0 d.0 given d.2 is
 
       pub hands_on : (next : PortIs) (reply : Option Reply) (final : ChunkIs) → final ≡ record after { ports = slice_set after.ports m next }
-          → (IsTrue old.group.told → IfSome given (λ r. (ask : Ask) → p.ask ≡ Some ask → Answers ask r)) → ((ask : Ask) → p.ask ≡ Some ask → Heeds ask given left reply next) → HandsOn m old reply final
+          → (IsTrue old.group.told → IfSome given (λ r. (ask : Ask) → p.ask ≡ Some ask → Answers ask r)) → ((ask : Ask) → p.ask ≡ Some ask → Heeds ask given left reply next) → HandsOn step m old reply final
       hands_on next reply final final_is fits heeds =
           let a = pending asks in
-          let d = drove a.0 a.1 in record {
+          let d = stepped a.0 a.1 in record {
             port = p;
             there = there;
             ask = a.0;
@@ -90,7 +102,7 @@ module _ (m : ℕ) (old : ChunkIs) (p : PortIs) (there : slice_get old.ports m �
             leads = subst (λ (c : ChunkIs). CallsLead Says c d.0 after) start_is d.1;
             given = given;
             left = left;
-            drives = d.2;
+            steps = d.2;
             fits = λ told. fits_it given a.0 a.1 (fits told);
             next = next;
             heeds = heeds a.0 a.1;

@@ -26,6 +26,8 @@ pub mod Counted
 pub mod Calls
 pub mod Handing
 pub mod Driven
+pub mod Hearing
+pub mod Advancing
 pub mod Waited
 pub mod Searching
 pub mod Unanswered

@@ -14,13 +14,15 @@ use Rattle.pf_protocol.specs.declared.events.Event.TheVariants.{Fetch, Submit}
 use Rattle.pf_asks.specs.declared.port.Sent.{Sent}
 use Rattle.pf_asks.specs.declared.port.Sent.TheVariants.{Slot, Number}
 use Rattle.pf_asks.specs.Desks.{Call, CallsLead}
-use Rattle.pf_asks.specs.Ports.{Drives, PortIs, answered as answered_port, goes_to, new_port}
+use Rattle.pf_asks.specs.Ports.{Drives, Hears, IsLed, PortIs, answered as answered_port, goes_to, new_port}
 use Rattle.pf_group.specs.GroupIs.{state_of}
 use Rattle.pf_group.specs.Packets.{NoneComesBack}
 use Rattle.pf_applyrounds.specs.Agreeing.{TellsOfGroup}
 use Rattle.pf_applyrounds.specs.Chunks.{answered}
 use Rattle.pf_applyrounds.specs.Growing.{HasGrown}
 use Rattle.pf_applyrounds.specs.Halts.{Halt}
+use Rattle.pf_chunk.specs.declared.driving.Step.{Step}
+use Rattle.pf_chunk.specs.declared.driving.Step.TheVariants.{Hear, Lead, Drive}
 use Rattle.pf_chunk.specs.Asks.{Says, leader_of, reply_to}
 use Rattle.pf_chunk.specs.Happenings.{Happened, happened}
 use Rattle.pf_chunk.specs.Runs.{ChunkRun}
@@ -78,8 +80,11 @@ led_to halts c m p ask None = idle c
 led_to halts c m p ask (Some (term, server)) = if goes_to p.sent p.last term then handed_to halts c m p (event_of_ask ask server) term else idle c
 
 -- an answered ask is pending no more
+abbrev pub replying : ChunkRun → (m : ℕ) → PortIs → Reply → Driven
+replying c m p reply = record { chunk = with_port c m (answered_port p); reply = Some reply; text = []; place = None }
+
 abbrev pub replied : List Halt → ChunkRun → (m : ℕ) → PortIs → Ask → Option Reply → Driven
-replied halts c m p ask (Some reply) = record { chunk = with_port c m (answered_port p); reply = Some reply; text = []; place = None }
+replied halts c m p ask (Some reply) = replying c m p reply
 replied halts c m p ask None = led_to halts c m p ask (leader_of c.group.state)
 
 abbrev pub driven_for : List Halt → ChunkRun → (m : ℕ) → PortIs → Option Ask → Driven
@@ -94,9 +99,42 @@ driven_at halts c m (Some p) = driven_for halts c m p p.ask
 abbrev pub driven : List Halt → ChunkRun → (m : ℕ) → Driven
 driven halts c m = driven_at halts c m (slice_get c.ports m)
 
+abbrev pub heard_if : ChunkRun → (m : ℕ) → PortIs → Option Reply → Driven
+heard_if c m p (Some reply) = replying c m p reply
+heard_if c m p None = idle c
+
+abbrev pub heard_for : ChunkRun → (m : ℕ) → PortIs → Option Ask → Driven
+heard_for c m p None = idle c
+heard_for c m p (Some ask) = heard_if c m p (reply_to c.group.state p.sent p.last)
+
+abbrev pub heard_at : ChunkRun → (m : ℕ) → Option PortIs → Driven
+heard_at c m None = idle c
+heard_at c m (Some p) = heard_for c m p p.ask
+
+-- the first half of a step of the port of mount m: its reply, if there is one
+abbrev pub heard : ChunkRun → (m : ℕ) → Driven
+heard c m = heard_at c m (slice_get c.ports m)
+
+abbrev pub led_for : List Halt → ChunkRun → (m : ℕ) → PortIs → Option Ask → Driven
+led_for halts c m p None = idle c
+led_for halts c m p (Some ask) = led_to halts c m p ask (leader_of c.group.state)
+
+abbrev pub led_at : List Halt → ChunkRun → (m : ℕ) → Option PortIs → Driven
+led_at halts c m None = idle c
+led_at halts c m (Some p) = led_for halts c m p p.ask
+
+-- the other half: no answer is looked for
+abbrev pub led : List Halt → ChunkRun → (m : ℕ) → Driven
+led halts c m = led_at halts c m (slice_get c.ports m)
+
+abbrev pub run_by : Step → List Halt → ChunkRun → (m : ℕ) → Driven
+run_by Hear halts c m = heard c m
+run_by Lead halts c m = led halts c m
+run_by Drive halts c m = driven halts c m
+
 -- under every list of halts that tells of the group afterwards, the step comes to this chunk, gives this reply and writes this text,
 -- which was put at the end of a buffer
-pub record HasDriven (m : ℕ) (old : ChunkIs) (before : List ℕ) (reply : Option Reply) (after : List ℕ) (new : ChunkIs) : Type 0 where
+pub record HasGone (step : Step) (m : ℕ) (old : ChunkIs) (before : List ℕ) (reply : Option Reply) (after : List ℕ) (new : ChunkIs) : Type 0 where
   pub grown : HasGrown old.group new.group
   pub ready : IsReady new
   pub left : IsTrue old.group.told → NoneComesBack (state_of old.group) (state_of new.group)
@@ -104,7 +142,21 @@ pub record HasDriven (m : ℕ) (old : ChunkIs) (before : List ℕ) (reply : Opti
   pub text : List ℕ
   pub place : Option ℕ
   pub put : after ≡ before ++ text
-  pub run : (halts : List Halt) → TellsOfGroup halts new.group → driven halts (run_of halts old) m ≡ record { chunk = run_of halts new; reply = reply; text = text; place = place }
+  pub run : (halts : List Halt) → TellsOfGroup halts new.group → run_by step halts (run_of halts old) m ≡ record { chunk = run_of halts new; reply = reply; text = text; place = place }
+
+abbrev pub HasDriven : (m : ℕ) (old : ChunkIs) (before : List ℕ) (reply : Option Reply) (after : List ℕ) (new : ChunkIs) → Type 0
+HasDriven m old before reply after new = HasGone Drive m old before reply after new
+
+abbrev pub HasLed : (m : ℕ) (old : ChunkIs) (before after : List ℕ) (new : ChunkIs) → Type 0
+HasLed m old before after new = HasGone Lead m old before None after new
+
+-- under every list of halts that tells of the group afterwards, the first half of a step comes to this chunk and gives this reply
+pub record HasHeard (m : ℕ) (old : ChunkIs) (reply : Option Reply) (new : ChunkIs) : Type 0 where
+  pub grown : HasGrown old.group new.group
+  pub ready : IsReady new
+  pub left : IsTrue old.group.told → NoneComesBack (state_of old.group) (state_of new.group)
+  pub first : new.first_left ≡ old.first_left
+  pub run : (halts : List Halt) → TellsOfGroup halts new.group → heard (run_of halts old) m ≡ record { chunk = run_of halts new; reply = reply; text = []; place = None }
 
 -- an answered ask is pending no more
 abbrev pub ask_after : Option Reply → Option Ask → Option Ask
@@ -131,8 +183,14 @@ Heeds ask None left reply next = (reply ≡ None) × (next ≡ left)
 Heeds ask (Some given) left reply next =
     (Answers ask given × (reply ≡ Some given) × (next ≡ left)) ⊎ ((Answers ask given → ⊥) × (reply ≡ None) × (next ≡ record left { ask = Some ask; sent = None }))
 
--- the port was driven over the rest of the chunk, and stands in its place again; nothing is followed up
-pub record HandsOn (m : ℕ) (old : ChunkIs) (reply : Option Reply) (new : ChunkIs) : Type 0 where
+-- a step of a port, or a half of it, by these calls of the desk
+abbrev pub StepsBy : Step → (old : PortIs) → Ask → List Call → Option Reply → (new : PortIs) → Type 0
+StepsBy Hear old ask calls reply new = Hears old calls reply new
+StepsBy Lead old ask calls reply new = (reply ≡ None) × IsLed old ask calls new
+StepsBy Drive old ask calls reply new = Drives old ask calls reply new
+
+-- the port took the step over the rest of the chunk, and stands in its place again; nothing is followed up
+pub record HandsOn (step : Step) (m : ℕ) (old : ChunkIs) (reply : Option Reply) (new : ChunkIs) : Type 0 where
   pub port : PortIs
   pub there : slice_get old.ports m ≡ Some port
   pub ask : Ask
@@ -142,7 +200,7 @@ pub record HandsOn (m : ℕ) (old : ChunkIs) (reply : Option Reply) (new : Chunk
   pub leads : CallsLead Says (record old { ports = slice_set old.ports m new_port }) calls after
   pub given : Option Reply
   pub left : PortIs
-  pub drives : Drives port ask calls given left
+  pub steps : StepsBy step port ask calls given left
   pub fits : IsTrue old.group.told → IfSome given (Answers ask)
   pub next : PortIs
   pub heeds : Heeds ask given left reply next

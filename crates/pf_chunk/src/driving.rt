@@ -1,24 +1,58 @@
 //! Ports of hosts, and of the mover of a chunk, into a group.
 ghost use Rattle.std.specs.Prelude.{◌≡◌, ◌<◌, IfOk, IfSome, IsSome, List, None, OnErr, OnOk, Some, map};
 ghost use Rattle.std.specs.Option.{option_and_then};
-ghost use Rattle.pf_asks.specs.Ports.{IsOfKind, rehomed};
+ghost use Rattle.pf_asks.specs.Desks.{Call, CallsLead, IsLook};
+ghost use Rattle.pf_asks.specs.Ports.{IsCounted, IsOfKind, rehomed};
 ghost use Rattle.pf_base.specs.Asks.{Answers, IsValid};
 ghost use Rattle.pf_base.specs.Span.{IsWritable};
 ghost use Rattle.pf_base.specs.declared.asks.Ask.{Ask as AskIs};
+ghost use Rattle.pf_entry.specs.Lists.{Every};
 ghost use Rattle.pf_applyrounds.specs.Halts.{Halt};
-ghost use Rattle.pf_chunk.specs.Driving.{HasDriven, HandsOn, Heeds, PortDrove, ask_of, asked, driven, read_in};
+ghost use Rattle.pf_chunk.specs.Driving.{HasDriven, HasGone, HasHeard, HasLed, HandsOn, Heeds, PortDrove, StepsBy, ask_of, asked, driven, led, read_in, run_by};
 ghost use Rattle.pf_chunk.specs.Runs.{left_by_ports, most_ports, new_ports, taking_ports};
 ghost use Rattle.pf_chunk.specs.Steps.{HasFailed};
 ghost use Rattle.pf_chunk.specs.Views.{IsReady, run_of};
 
 use crate::ChunkGroup;
-use pf_asks::Port;
+use pf_asks::{Desk, Port};
 use pf_base::{Ask, NoMemory, Range, Reply};
 use pf_copy::{Gate, Workers};
 use pf_disk::Disk;
 use std::alloc::Global;
 use std::mem::{replace, swap};
 use std::thread::Threads;
+
+/// A step of a port, or a half of it: its reply is heard, its ask is handed on, or where there is no reply its ask is handed on.
+#[derive(Clone, Copy)]
+pub enum Step {
+    Hear,
+    Lead,
+    Drive,
+}
+
+/// The port takes the step over the rest of its chunk. `NoMemory` (1) leaves the port as it was; the chunk was asked nothing but how things
+/// stand.
+fn take_step<K: Desk>(
+    port: &mut Port,
+    step: Step,
+    alloc: Global,
+    desk: &mut K,
+) -> Result<Option<Reply>, NoMemory>
+    requires pending { (ask : AskIs) × (port.old.ask ≡ Some ask) }
+    ensures stepped { IfOk result (λ reply. (ask : AskIs) → port.old.ask ≡ Some ask → (calls : List Call) × CallsLead K.says desk.old calls desk.new × StepsBy step port.old ask calls reply port.new) }
+    ensures kind { IfOk result (λ reply. IfSome reply (λ r. (ask : AskIs) → port.old.ask ≡ Some ask → IsOfKind ask r)) }
+    ensures whole { IsCounted (K.counts desk.old) port.old.sent port.old.ask → IfOk result (λ reply. IfSome reply (λ r. (ask : AskIs) → port.old.ask ≡ Some ask → Answers ask r)) }
+    ensures err { OnErr result ((port.new ≡ port.old) × ((calls : List Call) × CallsLead K.says desk.old calls desk.new × Every IsLook calls)) }
+{
+    match step {
+        Step::Hear => port.hear(alloc, desk),
+        Step::Lead => {
+            port.lead(alloc, desk)?;
+            Ok(None)
+        }
+        Step::Drive => port.drive(alloc, desk),
+    }
+}
 
 /// The chunk and the range of a pending read.
 fn pending_read(port: &Port) -> Option<(u8, Range)>
@@ -104,8 +138,71 @@ impl<D: Disk + Drop> ChunkGroup<D> {
         ensures port { IfOk result (λ reply. PortDrove mount reply self.old self.new) }
         ensures err { OnErr result (HasFailed (λ halts. (driven halts (run_of halts self.old) mount).chunk.group) self.old.group self.new.group) }
     {
+        self.advance(Step::Drive, workers, mount, out)
+    }
+
+    /// The other half of a step alone: the pending ask is handed to the leader of the greatest term, if it goes there, and no answer is looked
+    /// for. It is one event of the group; what follows on it is as in `ask`.
+    ///
+    /// After `NoMemory` (1) the group stands after its last whole step, with no job in hand: a beginning of what would have happened.
+    pub fn lead<R: Threads + Sync, G: Gate + Sync>(
+        &mut self,
+        workers: &Workers<'_, R, G>,
+        mount: u8,
+        out: &mut Vec<u8>,
+    ) -> Result<(), NoMemory>
+        requires ready { IsReady self.old }
+        requires mount { mount < most_ports }
+        requires pending { IsSome (ask_of self.old.ports mount) }
+        ensures went { OnOk result (HasLed mount self.old out.old.items out.new.items self.new) }
+        ensures next { OnOk result (self.new.next ≡ self.old.next) }
+        ensures port { OnOk result (PortDrove mount None self.old self.new) }
+        ensures err { OnErr result (HasFailed (λ halts. (led halts (run_of halts self.old) mount).chunk.group) self.old.group self.new.group) }
+    {
+        self.advance(Step::Lead, workers, mount, out)?;
+        Ok(())
+    }
+
+    /// The first half of a step alone: the reply to the pending ask of a mount, or of the mover, if the group has answered its last
+    /// submission, which is pending no more then; one that does not fit is not heeded, as in `drive`. Else nothing is different. It is no
+    /// event of the group.
+    ///
+    /// `NoMemory` (1) leaves the chunk as it was.
+    pub fn hear(&mut self, alloc: Global, mount: u8) -> Result<Option<Reply>, NoMemory>
+        requires ready { IsReady self.old }
+        requires mount { mount < most_ports }
+        requires pending { IsSome (ask_of self.old.ports mount) }
+        ensures went { IfOk result (λ reply. HasHeard mount self.old reply self.new) }
+        ensures answers { IfOk result (λ reply. IfSome reply (λ r. (ask : AskIs) → ask_of self.old.ports mount ≡ Some ask → Answers ask r)) }
+        ensures next { OnOk result (self.new.next ≡ self.old.next) }
+        ensures port { IfOk result (λ reply. PortDrove mount reply self.old self.new) }
+        ensures err { OnErr result (self.new ≡ self.old) }
+    {
+        // That the history is legal is asked of the proof alone.
+        let _legal = self.history();
+        self.hand_on(Step::Hear, alloc, mount)
+    }
+
+    /// A step, and what follows on it. After `NoMemory` (1) a beginning of that has happened.
+    fn advance<R: Threads + Sync, G: Gate + Sync>(
+        &mut self,
+        step: Step,
+        workers: &Workers<'_, R, G>,
+        mount: u8,
+        out: &mut Vec<u8>,
+    ) -> Result<Option<Reply>, NoMemory>
+        requires ready { IsReady self.old }
+        requires mount { mount < most_ports }
+        requires pending { IsSome (ask_of self.old.ports mount) }
+        ensures went { IfOk result (λ reply. HasGone step mount self.old out.old.items reply out.new.items self.new) }
+        ensures none { IfOk result (λ reply. step ≡ Step.Lead → reply ≡ None) }
+        ensures answers { IfOk result (λ reply. IfSome reply (λ r. (ask : AskIs) → ask_of self.old.ports mount ≡ Some ask → Answers ask r)) }
+        ensures next { OnOk result (self.new.next ≡ self.old.next) }
+        ensures port { IfOk result (λ reply. PortDrove mount reply self.old self.new) }
+        ensures err { OnErr result (HasFailed (λ halts. (run_by step halts (run_of halts self.old) mount).chunk.group) self.old.group self.new.group) }
+    {
         let before = self.history().len();
-        let reply = self.hand_on(workers.alloc, mount)?;
+        let reply = self.hand_on(step, workers.alloc, mount)?;
         if self.history().len() == before {
             return Ok(reply);
         }
@@ -114,17 +211,17 @@ impl<D: Disk + Drop> ChunkGroup<D> {
     }
 
     /// The step itself; what follows on it is left to the caller. `NoMemory` (1) leaves the chunk as it was.
-    fn hand_on(&mut self, alloc: Global, mount: u8) -> Result<Option<Reply>, NoMemory>
+    fn hand_on(&mut self, step: Step, alloc: Global, mount: u8) -> Result<Option<Reply>, NoMemory>
         requires ready { IsReady self.old }
         requires mount { mount < most_ports }
         requires pending { IsSome (ask_of self.old.ports mount) }
-        ensures went { IfOk result (λ reply. HandsOn mount self.old reply self.new) }
+        ensures went { IfOk result (λ reply. HandsOn step mount self.old reply self.new) }
         ensures answers { IfOk result (λ reply. IfSome reply (λ r. (ask : AskIs) → ask_of self.old.ports mount ≡ Some ask → Answers ask r)) }
         ensures err { OnErr result (self.new ≡ self.old) }
     {
         let mut port = replace(&mut self.ports[mount as usize], Port::new());
         let read = pending_read(&port);
-        let reply = match port.drive(alloc, self) {
+        let reply = match take_step(&mut port, step, alloc, self) {
             Ok(reply) => reply,
             Err(fault) => {
                 self.ports[mount as usize] = port;

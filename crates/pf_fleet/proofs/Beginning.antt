@@ -23,9 +23,13 @@ use Rattle.pf_hosts.specs.Moments.{Carries, Moves}
 use Rattle.pf_hosts.specs.Parts.{AreQuiet}
 use Rattle.pf_hosts.specs.Steps.{AreReady, IsAskingAt, IsHostOf, runs}
 use Rattle.pf_hosts.proofs.Groups.{run_there}
+use Rattle.pf_anchorhosts.specs.Hosts.{AnchoredHostIs, pending_at}
+use Rattle.pf_anchorhosts.specs.Steps as over
+use Rattle.pf_anchorhosts.specs.Steps.{IsAnchoredHostOf}
 use Rattle.pf_fleet.specs.Moves.{HasBegunMove}
-use Rattle.pf_fleet.specs.Steps.{AreHostsOf, FleetIs, HasMover, IsFleetOf, stands_at}
+use Rattle.pf_fleet.specs.Steps.{AreAnchoredOf, AreHostsOf, FleetIs, HasMover, IsFleetOf, stands_at}
 use Rattle.pf_fleet.specs.Volumes.{Told, VolumeRun, after_telling, carries_on, mover_puts, moves, moves_from, with_new}
+use Rattle.pf_fleet.proofs.Over.{some_over}
 use Rattle.pf_fleet.proofs.Routing.{between_groups, home_moved, home_stays, moving_to, routed_begun}
 use Rattle.pf_fleet.proofs.Taking.{fleet_moving, hosts_put, mover_put, ready_put, run_put, stepped_so}
 
@@ -188,6 +192,65 @@ module _ (old : List ChunkIs) (home : ℕ) (from group : ChunkIs) (there : slice
           ]
         ]
 
+    module _ (host : AnchoredHostIs) (is_host : IsAnchoredHostOf r old host) where
+      over_asking_mid : (port c : ℕ) → over.IsAskingAt r old host.mount port c → over.IsAskingAt after mid host.mount port c
+      over_asking_mid port c at = elim (cases_eq c chunk) [
+        | inl same ↦
+            let k_home : at.k ≡ home = same_Some at.k home (sym at.home ∙ ap (home_of r) same ∙ at_home) in
+            let c_from : at.c ≡ from = same_Some at.c from (sym at.there ∙ ap (slice_get old) k_home ∙ there) in
+            let its = subst (λ (x : ChunkIs). slice_get x.ports host.mount.files.mount ≡ Some at.its) c_from at.its_there in record {
+              k = length old;
+              home = ap (home_of after) same ∙ its_home;
+              c = taken;
+              there = taken_there;
+              its = rehomed at.its;
+              its_there = slice_get-map rehomed from.ports host.mount.files.mount ∙ ap (option_map rehomed) its;
+              ask = at.ask;
+              pending = at.pending;
+              of_chunk = at.of_chunk;
+              awaits = at.awaits;
+            }
+        | inr other ↦ record {
+          k = at.k;
+          home = home_after c other ∙ at.home;
+          c = at.c;
+          there = others_there at.k at.c (λ e. other (is.apart c chunk home (at.home ∙ ap (λ (n : ℕ). Some n) e) at_home)) at.there;
+          its = at.its;
+          its_there = at.its_there;
+          ask = at.ask;
+          pending = at.pending;
+          of_chunk = at.of_chunk;
+          awaits = at.awaits;
+        }
+      ]
+
+      -- where a chunk's asks went before
+      over_home : (c : ℕ) → home_of r c ≡ Some home → home_of after c ≡ Some (length old)
+      over_home c at = ap (home_of after) (is.apart c chunk home at at_home) ∙ its_home
+
+      over_there : (c j : ℕ) → j ≢ home → home_of r c ≡ Some j → home_of after c ≡ Some j
+      over_there c j other at = home_after c (λ e. other (same_Some j home (sym at ∙ ap (home_of r) e ∙ at_home))) ∙ at
+
+      pub over_mid : IsAnchoredHostOf after mid host
+      over_mid = record {
+        volume = is_host.volume;
+        ports = is_host.ports;
+        asking = λ port c at. over_asking_mid port c (is_host.asking port c at);
+        apart = is_host.apart;
+        anchors = is_host.anchors;
+        quiet = quiet;
+      } where
+        quiet : (j : ℕ) (c : ChunkIs) → ((port d : ℕ) → pending_at host port ≡ Some d → home_of after d ≢ Some j) → slice_get mid j ≡ Some c → (port : PortIs) → slice_get c.ports host.mount.files.mount ≡ Some port → port.ask ≡ None
+        quiet j c other at port its = elim (mid_cases j c at) [
+          | inl end ↦
+              let was = rehomed_from from.ports host.mount.files.mount port (ap (λ (x : ChunkIs). slice_get x.ports host.mount.files.mount) end.1 ∙ its) in
+              was.2 ∙ is_host.quiet home from (λ p d pends e. other p d pends (over_home d e ∙ ap (λ (n : ℕ). Some n) (sym end.0))) there was.0 was.1
+          | inr front ↦ elim front [
+            | inl here ↦ new_quiet host.mount.files.mount port (ap (λ (x : ChunkIs). slice_get x.ports host.mount.files.mount) here.1 ∙ its)
+            | inr elsewhere ↦ is_host.quiet j c (λ p d pends e. other p d pends (over_there d j elsewhere.0 e)) elsewhere.1 port its
+          ]
+        ]
+
 -- The chunk begins to move
 module _ (old : List ChunkIs) (f : FleetIs) (is_fleet : IsFleetOf old f) (ready : AreReady old) (none : f.routes.moving ≡ None) (few : length old < 8) (chunk : ℕ) (chunk_low : chunk < length f.routes.routes)
     (home : ℕ) (at_home : home_of f.routes chunk ≡ Some home) (from group : ChunkIs) (there : slice_get old home ≡ Some from) (number : group.group.number ≡ length old)
@@ -221,6 +284,12 @@ module _ (old : List ChunkIs) (f : FleetIs) (is_fleet : IsFleetOf old f) (ready 
         few = is.few;
         large = is.large;
         each = λ n host at. let it = is.each n host at in record { number = it.number; volume = it.volume; is_host = host_mid old home from group there f.routes none chunk at_home is.routed host it.is_host; calls = it.calls };
+        anchored = some_over (AreAnchoredOf old f) (AreAnchoredOf middle (fleet_then m)) (λ hosts its. record {
+          room = its.room;
+          alone = its.alone;
+          few = its.few;
+          each = λ n host at. let it = its.each n host at in record { number = it.number; volume = it.volume; is_host = over_mid old home from group there f.routes none chunk at_home is.routed host it.is_host; calls = it.calls };
+        }) f.anchored is.anchored;
         free = λ n high under. quiet_mid old home from group there n (is.free n high under);
       }
 
@@ -278,7 +347,7 @@ module _ (old : List ChunkIs) (f : FleetIs) (is_fleet : IsFleetOf old f) (ready 
           let not_home : length old ≢ home = λ e. absurd (omega (arith, e, low old home from group there)) in
           let at_last = set_elsewhere middle home (length old) is not_home ∙ taken_there old home from group there in
           subst (λ (x : ChunkIs). x ≡ record group { ports = x.ports }) (same_Some (taken old home from group there) now (sym at_last ∙ at)) refl;
-      hosts = (refl, refl, refl);
+      hosts = (refl, refl, refl, refl);
       told = Moves chunk (length old) ∷ Carries chunk None (Read span) ∷ [];
       silent = refl;
       run = λ halts tells. begun_run halts;

@@ -31,7 +31,8 @@ use Rattle.pf_fleet.specs.Moves.{HasTakenUp, on_reply}
 use Rattle.pf_fleet.specs.Steps.{AllStay, AreHostsOf, AwaitsAt, FleetIs, HasGone, HasMover, HasStopped, IsAskOf, IsFleetOf, IsMoverOf, stands_at}
 use Rattle.pf_fleet.specs.Volumes.{Told, VolumeRun, after_telling, asked_group, asks_in, followed, mover_hands, mover_hands_to, mover_hears_in, mover_replied, mover_steps, mover_steps_at}
 use Rattle.pf_fleet.proofs.Growing.{all_stand, begun_through, gone_stays, grown_refl_all, grown_trans_all, replied_lengthens, tells_before}
-use Rattle.pf_fleet.proofs.Keeping.{gone_ports, hosts_stay}
+use Rattle.pf_fleet.proofs.Keeping.{hosts_stay}
+use Rattle.pf_fleet.proofs.Ports.{gone_ports}
 
 -- the group to which the mover's ask goes
 abbrev pub group_in : FleetIs → Option ℕ
@@ -89,7 +90,7 @@ answer_fits mover Writing (asks.Read chunk span) reply of_kind answers = absurd 
 
 -- the hosts are not touched
 pub hosts_after : (old new : List ChunkIs) (f : FleetIs) → HaveGone mover_port old new → AreHostsOf old f → AreHostsOf new f
-hosts_after old new f gone is = hosts_stay old new f f gone.count (λ n low. gone_ports mover_port n old new gone (λ e. absurd (omega (arith, e, low)))) (refl, refl, refl, refl) is
+hosts_after old new f gone is = hosts_stay old new f f gone.count (λ n low. gone_ports mover_port n old new gone (λ e. absurd (omega (arith, e, low)))) (refl, refl, refl, refl, refl) is
 
 module _ (old new : List ChunkIs) (f : FleetIs) (k : ℕ) (is_fleet : IsFleetOf old f) (asks : group_in f ≡ Some k) (before after : List ℕ) where
   abbrev a : AsksAt old f k

@@ -48,7 +48,7 @@ module _ (event : Event) (k : ℕ) (old : List ChunkIs) (was is : ChunkIs) (flee
       put = h.put ∙ ap (λ text. before ++ text) (sym (append-nil h.text));
       run = λ halts tells.
           ap (λ (it : Happened). saying it.text (with_chunk (stands_at halts old fleet) it.chunk)) (h.run halts (tells k is (set_there old k was is there)))
-          ∙ ap (λ (chunks : List ChunkRun). saying h.text (record { extent = fleet.volume; chunks = chunks; hosts = fleet.hosts; routes = fleet.routes; mover = fleet.mover }))
+          ∙ ap (λ (chunks : List ChunkRun). saying h.text (record { extent = fleet.volume; chunks = chunks; hosts = fleet.hosts; anchored = fleet.anchored; routes = fleet.routes; mover = fleet.mover }))
           (ap (λ n. slice_set (runs halts old) n (run_of halts is)) number_is ∙ set_mapped (run_of halts) old k is);
     }
 

@@ -32,8 +32,10 @@ use Rattle.pf_hosts.specs.Steps.{HaveBegun, HaveGone, HaveGrown, TellsAll, runs}
 use Rattle.pf_hosts.proofs.Driving.{one_by_one}
 use Rattle.pf_hosts.proofs.Groups.{all_begun, begun_on, run_there}
 use Rattle.pf_hosts.proofs.Lengthening.{Lengthens, drove_lengthens, lengthens_refl, lengthens_trans, put_lengthens, stepped_lengthens}
+use Rattle.pf_anchorhosts.specs.Hosts.{AnchoredHostIs}
+use Rattle.pf_anchorhosts.proofs.Lengthening as over
 use Rattle.pf_fleet.specs.Steps.{AllStay, Stays}
-use Rattle.pf_fleet.specs.Volumes.{VolumeRun, all_step, carries, host_at, host_steps, hosts_step, mover_group, mover_hands, mover_hands_to, mover_hears_in, mover_replied, mover_steps, mover_steps_at, step_of, these_step}
+use Rattle.pf_fleet.specs.Volumes.{AnchoredHosts, VolumeRun, all_step, anchored_at, anchored_hosts_step, anchored_step_in, anchored_step_of, anchored_steps, carries, host_at, host_steps, hosts_step, how_many, mover_group, mover_hands, mover_hands_to, mover_hears_in, mover_replied, mover_steps, mover_steps_at, step_of, these_anchored_step, these_step}
 
 pub grown_refl_all : (chunks : List ChunkIs) → HaveGrown chunks chunks
 grown_refl_all chunks = record { count = refl; each = λ k x y at to. subst (λ (z : ChunkIs). HasGrown x.group z.group) (same_Some x y (sym at ∙ to)) (grown_refl x.group) }
@@ -157,7 +159,7 @@ at_lengthens halts m v (Some host) = stepped_lengthens halts v.routes v.chunks h
 pub host_lengthens : (halts : List Halt) (m : ℕ) (v : VolumeRun) → Lengthens v.chunks (host_steps halts m v).volume.chunks
 host_lengthens halts m v = at_lengthens halts m v (host_at v.hosts m)
 
-pub these_lengthen : (halts : List Halt) (mounts : List ℕ) (v : VolumeRun) → Lengthens v.chunks (these_step halts mounts v).volume.chunks
+these_lengthen : (halts : List Halt) (mounts : List ℕ) (v : VolumeRun) → Lengthens v.chunks (these_step halts mounts v).volume.chunks
 these_lengthen halts [] v = lengthens_refl v.chunks
 these_lengthen halts (m ∷ mounts) v =
     let first = (host_steps halts m v).volume in
@@ -166,6 +168,29 @@ these_lengthen halts (m ∷ mounts) v =
 pub hosts_lengthen : (halts : List Halt) (v : VolumeRun) → Lengthens v.chunks (hosts_step halts v).volume.chunks
 unfolding hosts_step
 hosts_lengthen halts v = these_lengthen halts (range_with_len 0 (length v.hosts)) v
+
+-- So do those of hosts over anchors
+
+over_of_lengthens : (halts : List Halt) (m : ℕ) (v : VolumeRun) (hosts : AnchoredHosts) (host : Option AnchoredHostIs) → Lengthens v.chunks (anchored_step_of halts m v hosts host).volume.chunks
+over_of_lengthens halts m v hosts None = lengthens_refl v.chunks
+over_of_lengthens halts m v hosts (Some host) = over.stepped_lengthens halts v.routes v.chunks host
+
+over_in_lengthens : (halts : List Halt) (m : ℕ) (v : VolumeRun) (o : Option AnchoredHosts) → Lengthens v.chunks (anchored_step_in halts m v o).volume.chunks
+over_in_lengthens halts m v None = lengthens_refl v.chunks
+over_in_lengthens halts m v (Some hosts) = over_of_lengthens halts m v hosts (anchored_at hosts m)
+
+pub over_lengthens : (halts : List Halt) (m : ℕ) (v : VolumeRun) → Lengthens v.chunks (anchored_steps halts m v).volume.chunks
+over_lengthens halts m v = over_in_lengthens halts m v v.anchored
+
+these_over_lengthen : (halts : List Halt) (mounts : List ℕ) (v : VolumeRun) → Lengthens v.chunks (these_anchored_step halts mounts v).volume.chunks
+these_over_lengthen halts [] v = lengthens_refl v.chunks
+these_over_lengthen halts (m ∷ mounts) v =
+    let first = (anchored_steps halts m v).volume in
+    lengthens_trans v.chunks first.chunks (these_anchored_step halts mounts first).volume.chunks (over_lengthens halts m v) (these_over_lengthen halts mounts first)
+
+pub all_over_lengthen : (halts : List Halt) (v : VolumeRun) → Lengthens v.chunks (anchored_hosts_step halts v).volume.chunks
+unfolding anchored_hosts_step
+all_over_lengthen halts v = these_over_lengthen halts (range_with_len 0 (how_many v.anchored)) v
 
 -- So do steps of the mover
 
@@ -205,5 +230,7 @@ mover_lengthens halts v = steps_lengthen_at halts (mover_group v) v
 
 pub all_lengthen : (halts : List Halt) (v : VolumeRun) → Lengthens v.chunks (all_step halts v).volume.chunks
 all_lengthen halts v =
-    let mid : VolumeRun = (hosts_step halts v).volume in
-    lengthens_trans v.chunks mid.chunks (mover_steps halts mid).volume.chunks (hosts_lengthen halts v) (mover_lengthens halts mid)
+    let first : VolumeRun = (hosts_step halts v).volume in
+    let mid : VolumeRun = (anchored_hosts_step halts first).volume in
+    lengthens_trans v.chunks first.chunks (mover_steps halts mid).volume.chunks (hosts_lengthen halts v)
+    (lengthens_trans first.chunks mid.chunks (mover_steps halts mid).volume.chunks (all_over_lengthen halts first) (mover_lengthens halts mid))

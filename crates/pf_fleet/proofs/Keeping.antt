@@ -1,9 +1,8 @@
 -- The hosts of a volume stay those of its groups.
-use Rattle.std.proofs.Common.{◌≡◌, ◌≢◌, ℕ, ◌<◌, ◌≤◌, List, length, Option, Some, None, slice_get, slice_set, inl, inr, refl, sym, ap, subst, ◌∙◌, arith}
+use Rattle.std.proofs.Common.{◌≡◌, ◌≢◌, IfSome, ℕ, ◌<◌, ◌≤◌, List, [], length, Option, Some, None, slice_get, slice_set, inl, inr, refl, sym, ap, subst, ◌∙◌, arith}
 use Rattle.std.proofs.lemmas.Bool.{cases_eq}
-use Rattle.std.proofs.lemmas.Option.{same_Some, slice_get_within}
-use Rattle.pf_entry.proofs.Lists.{set_there}
-use Rattle.pf_network.proofs.Lists.{set_elsewhere, set_length, something_there}
+use Rattle.std.proofs.lemmas.Option.{none-some, same_Some, slice_get_within}
+use Rattle.pf_network.proofs.Lists.{set_length}
 use Rattle.pf_volume.specs.Volumes.{Extent, IsVolume, size_of}
 use Rattle.pf_move.specs.declared.mover.Asked.{Asked}
 use Rattle.pf_move.specs.declared.routes.Moving.{Moving}
@@ -14,48 +13,23 @@ use Rattle.pf_chunk.specs.Views.{ChunkIs}
 use Rattle.pf_hosts.specs.Hosts.{HostIs, number_of}
 use Rattle.pf_hosts.specs.Parts.{AreQuiet}
 use Rattle.pf_hosts.specs.Steps.{HaveGone, IsAskingAt, IsHostOf}
-use Rattle.pf_hosts.proofs.Driving.{one_by_one}
-use Rattle.pf_fleet.specs.Steps.{AreHostsOf, AwaitsAt, FleetIs, HasMover, IsFleetOf, IsHostAt}
-use Rattle.pf_fleet.specs.Volumes.{Hosts, asked_group, host_at, there}
-
--- the ports of mount n are as they were
-pub record HasPorts (n : ℕ) (old new : List ChunkIs) : Type 0 where
-  pub count : length new ≡ length old
-  pub each : (k : ℕ) (was is : ChunkIs) → slice_get old k ≡ Some was → slice_get new k ≡ Some is → slice_get is.ports n ≡ slice_get was.ports n
-
--- a step of another mount leaves them
-pub gone_ports : (m n : ℕ) (old new : List ChunkIs) → HaveGone m old new → n ≢ m → HasPorts n old new
-gone_ports m n old new gone other = record { count = gone.count; each = λ k was is before after. (gone.each k was is before after).others n other }
-
--- and so does what leaves the ports of one chunk
-pub one_ports : (n k : ℕ) (old : List ChunkIs) (was is : ChunkIs) → slice_get old k ≡ Some was → is.ports ≡ was.ports → HasPorts n old (slice_set old k is)
-one_ports n k old was is at ports = record {
-  count = set_length old k is;
-  each = one_by_one n k old was is at (λ x y. slice_get y.ports n ≡ slice_get x.ports n) (ap (λ ps. slice_get ps n) ports) (λ c. refl);
-}
-
-pub same_ports : (n : ℕ) (chunks : List ChunkIs) → HasPorts n chunks chunks
-same_ports n chunks = record { count = refl; each = λ k was is at to. ap (λ (c : ChunkIs). slice_get c.ports n) (same_Some is was (sym to ∙ at)) }
+use Rattle.pf_anchorage.specs.Places.{HasAnchors}
+use Rattle.pf_anchorhosts.specs.Hosts as over
+use Rattle.pf_anchorhosts.specs.Hosts.{AnchoredHostIs}
+use Rattle.pf_anchorhosts.specs.Steps.{IsAnchoredHostOf}
+use Rattle.pf_fleet.specs.Steps.{AreAnchoredOf, AreHostsOf, AwaitsAt, FleetIs, HasMover, IsAnchoredAt, IsFleetOf, IsHostAt}
+use Rattle.pf_fleet.specs.Volumes.{AnchoredHosts, Hosts, anchored_at, asked_group, count_in, host_at}
+use Rattle.pf_fleet.proofs.Over.{all_over_stay, host_put, others_put, over_at_stays, place_is_low, place_there, some_over}
+use Rattle.pf_fleet.proofs.Ports.{HasPorts, after, before, gone_ports, one_ports, quiet_stays, same_ports}
 
 module _ (n : ℕ) (old new : List ChunkIs) (stay : HasPorts n old new) where
-  pub before : (k : ℕ) (is : ChunkIs) → slice_get new k ≡ Some is → (was : ChunkIs) × (slice_get old k ≡ Some was)
-  before k is at = something_there old k (subst (λ c. k < c) stay.count (slice_get_within new k is at))
-
-  pub after : (k : ℕ) (was : ChunkIs) → slice_get old k ≡ Some was → (is : ChunkIs) × (slice_get new k ≡ Some is)
-  after k was at = something_there new k (subst (λ c. k < c) (sym stay.count) (slice_get_within old k was at))
-
-  pub quiet_stays : AreQuiet n old → AreQuiet n new
-  quiet_stays quiet k is at port its =
-      let was = before k is at in
-      quiet k was.0 was.1 port (sym (stay.each k was.0 is was.1 at) ∙ its)
-
   module _ (routes : RoutesIs) (host : HostIs) (number : number_of host.mount ≡ n) where
     port_stays : (k : ℕ) (was is : ChunkIs) → slice_get old k ≡ Some was → slice_get new k ≡ Some is → slice_get is.ports (number_of host.mount) ≡ slice_get was.ports (number_of host.mount)
     port_stays k was is at to = subst (λ m. slice_get is.ports m ≡ slice_get was.ports m) (sym number) (stay.each k was is at to)
 
     asking_stays : (chunk : ℕ) → IsAskingAt routes old host.mount chunk → IsAskingAt routes new host.mount chunk
     asking_stays chunk at =
-        let is = after at.k at.c at.there in record {
+        let is = after n old new stay at.k at.c at.there in record {
           k = at.k;
           home = at.home;
           c = is.0;
@@ -75,14 +49,14 @@ module _ (n : ℕ) (old new : List ChunkIs) (stay : HasPorts n old new) where
       volume = is_host.volume;
       asking = λ chunk at. asking_stays chunk (is_host.asking chunk at);
       quiet = λ k is other at port its.
-          let was = before k is at in
+          let was = before n old new stay k is at in
           is_host.quiet k was.0 other was.1 port (sym (port_stays k was.0 is was.1 at) ∙ its);
       resting = is_host.resting;
     }
 
   awaits_stay : n ≡ mover_port → (mover : MoverIs) (asked : Asked) (k : ℕ) → AwaitsAt old mover asked k → AwaitsAt new mover asked k
   awaits_stay number mover asked k at =
-      let is = after k at.c at.there in record {
+      let is = after n old new stay k at.c at.there in record {
         c = is.0;
         there = is.1;
         port = at.port;
@@ -122,22 +96,9 @@ at_stays old new f g m host stay volume routes calls is = record {
   calls = omega (arith, is.calls, calls);
 }
 
--- Host m is put in its place
-
--- there is a place
-pub place_there : (hosts : Hosts) (m : ℕ) (host : HostIs) → host_at hosts m ≡ Some host → slice_get hosts m ≡ Some (Some host)
-place_there hosts m host is = by (slice_get hosts m) refl is where
-  by : (o : Option (Option HostIs)) → slice_get hosts m ≡ o → there o ≡ Some host → slice_get hosts m ≡ Some (Some host)
-  by None at none = absurd (cc)
-  by (Some it) at is_it = at ∙ ap (λ (x : Option HostIs). Some x) is_it
-
--- its number is below the mover's
-pub host_is_low : (hosts : Hosts) (m : ℕ) (host : HostIs) → host_at hosts m ≡ Some host → length hosts ≤ 16 → m < mover_port
-host_is_low hosts m host at few = omega (arith, few, slice_get_within hosts m (Some host) (place_there hosts m host at))
-
 -- the same hosts, where all ports of theirs are as they were
-pub hosts_stay : (old new : List ChunkIs) (f g : FleetIs) → length new ≡ length old → ((n : ℕ) → n < mover_port → HasPorts n old new) → (g.hosts ≡ f.hosts) × (g.calls ≡ f.calls) × (g.volume ≡ f.volume) × (g.routes ≡ f.routes) → AreHostsOf old f → AreHostsOf new g
-hosts_stay old new f g count stay (hosts, calls, volume, routes) is = record {
+pub hosts_stay : (old new : List ChunkIs) (f g : FleetIs) → length new ≡ length old → ((n : ℕ) → n < mover_port → HasPorts n old new) → (g.hosts ≡ f.hosts) × (g.anchored ≡ f.anchored) × (g.calls ≡ f.calls) × (g.volume ≡ f.volume) × (g.routes ≡ f.routes) → AreHostsOf old f → AreHostsOf new g
+hosts_stay old new f g count stay (hosts, anchored, calls, volume, routes) is = record {
   volume = subst IsVolume (sym volume) is.volume;
   groups = subst (λ n. n ≤ 8) (sym count) is.groups;
   count = ap (λ (v : Extent). v.chunks) volume ∙ is.count ∙ ap (λ (r : RoutesIs). length r.routes) (sym routes);
@@ -146,17 +107,21 @@ hosts_stay old new f g count stay (hosts, calls, volume, routes) is = record {
   large = λ some. subst (λ v. 4112 ≤ size_of v) (sym volume) (is.large (λ none. some (ap (λ (hs : Hosts). length hs) hosts ∙ none)));
   each = λ m host at.
       let at_old : host_at f.hosts m ≡ Some host = ap (λ (hs : Hosts). host_at hs m) (sym hosts) ∙ at in
-      at_stays old new f g m host (stay m (host_is_low f.hosts m host at_old is.few)) volume routes (omega (arith, calls)) (is.each m host at_old);
-  free = λ m high low. quiet_stays m old new (stay m low) (is.free m (subst (λ (hs : Hosts). length hs ≤ m) hosts high) low);
+      at_stays old new f g m host (stay m (place_is_low f.hosts m host at_old is.few)) volume routes (omega (arith, calls)) (is.each m host at_old);
+  anchored = subst (λ (o : Option AnchoredHosts). IfSome o (AreAnchoredOf new g)) (sym anchored)
+      (some_over (AreAnchoredOf old f) (AreAnchoredOf new g) (λ over its. all_over_stay old new f g over stay hosts volume routes (omega (arith, calls)) its) f.anchored is.anchored);
+  free = λ m high low.
+      let was : count_in f.hosts f.anchored ≤ m = subst (λ (o : Option AnchoredHosts). count_in f.hosts o ≤ m) anchored (subst (λ (hs : Hosts). count_in hs g.anchored ≤ m) hosts high) in
+      quiet_stays m old new (stay m low) (is.free m was low);
 }
 
 -- they know nothing of the mover
 pub hosts_of : (chunks : List ChunkIs) (f : FleetIs) (mover : Option MoverIs) → AreHostsOf chunks f → AreHostsOf chunks (record f { mover = mover })
-hosts_of chunks f mover is = hosts_stay chunks chunks f (record f { mover = mover }) refl (λ n low. same_ports n chunks) (refl, refl, refl, refl) is
+hosts_of chunks f mover is = hosts_stay chunks chunks f (record f { mover = mover }) refl (λ n low. same_ports n chunks) (refl, refl, refl, refl, refl) is
 
 pub fleet_stays : (old new : List ChunkIs) (f : FleetIs) → length new ≡ length old → ((n : ℕ) → HasPorts n old new) → IsFleetOf old f → IsFleetOf new f
 fleet_stays old new f count stay is = record {
-  are_hosts = hosts_stay old new f f count (λ n low. stay n) (refl, refl, refl, refl) is.are_hosts;
+  are_hosts = hosts_stay old new f f count (λ n low. stay n) (refl, refl, refl, refl, refl) is.are_hosts;
   mover = mover_stays old new (stay mover_port) f.volume.sectors f.routes.moving (between f.routes) f.mover is.mover;
 }
 
@@ -164,7 +129,15 @@ fleet_stays old new f count stay is = record {
 pub fleet_after_event : (k : ℕ) (old : List ChunkIs) (was is : ChunkIs) (f : FleetIs) → slice_get old k ≡ Some was → is.ports ≡ was.ports → IsFleetOf old f → IsFleetOf (slice_set old k is) f
 fleet_after_event k old was is f at ports = fleet_stays old (slice_set old k is) f (set_length old k is) (λ n. one_ports n k old was is at ports)
 
--- Hosts that differ at mount m alone, whose ports alone may be others
+-- the same mover, where its ports are as they were
+mover_keeps : (old new : List ChunkIs) (f g : FleetIs) → HasPorts mover_port old new → g.volume ≡ f.volume → (g.routes ≡ f.routes) × (g.mover ≡ f.mover) → IsFleetOf old f → HasMover new g.volume.sectors g.routes.moving (between g.routes) g.mover
+mover_keeps old new f g stay volume (routes, mover) is =
+    let stays = mover_stays old new stay f.volume.sectors f.routes.moving (between f.routes) f.mover is.mover in
+    subst (λ (v : Extent). HasMover new v.sectors g.routes.moving (between g.routes) g.mover) (sym volume)
+    (subst (λ (r : RoutesIs). HasMover new f.volume.sectors r.moving (between r) g.mover) (sym routes)
+    (subst (λ (it : Option MoverIs). HasMover new f.volume.sectors f.routes.moving (between f.routes) it) (sym mover) stays))
+
+-- Hosts that differ at mount m alone, whose ports alone may be others. None is over anchors
 pub record DifferAt (m : ℕ) (old new : List ChunkIs) (f g : FleetIs) : Type 0 where
   pub count : length new ≡ length old
   pub stay : (n : ℕ) → n ≢ m → HasPorts n old new
@@ -172,6 +145,7 @@ pub record DifferAt (m : ℕ) (old new : List ChunkIs) (f g : FleetIs) : Type 0 
   pub volume : g.volume ≡ f.volume
   pub routes : (g.routes ≡ f.routes) × (g.mover ≡ f.mover)
   pub calls : f.calls ≤ g.calls
+  pub plain : (f.anchored ≡ None) × (g.anchored ≡ None)
   pub few : length g.hosts ≤ 16
   pub large : length g.hosts ≢ 0 → 4112 ≤ size_of f.volume
   pub others : (n : ℕ) → n ≢ m → host_at g.hosts n ≡ host_at f.hosts n
@@ -189,7 +163,8 @@ module _ (m : ℕ) (old new : List ChunkIs) (f g : FleetIs) (d : DifferAt m old 
     few = d.few;
     large = λ some. subst (λ v. 4112 ≤ size_of v) (sym d.volume) (d.large some);
     each = each;
-    free = free;
+    anchored = subst (λ (o : Option AnchoredHosts). IfSome o (AreAnchoredOf new g)) (sym d.plain.1) tt;
+    free = λ n high low. free n (subst (λ (o : Option AnchoredHosts). count_in g.hosts o ≤ n) d.plain.1 high) low;
   } where
     each : (n : ℕ) (host : HostIs) → host_at g.hosts n ≡ Some host → IsHostAt new g n host
     each n host at = elim (cases_eq n m) [
@@ -200,24 +175,18 @@ module _ (m : ℕ) (old new : List ChunkIs) (f g : FleetIs) (d : DifferAt m old 
     free : (n : ℕ) → length g.hosts ≤ n → n < mover_port → AreQuiet n new
     free n high low = elim (cases_eq n m) [
       | inl same ↦ subst (λ k. AreQuiet k new) (sym same) (d.quiet (subst (λ k. length g.hosts ≤ k) same high) (subst (λ k. k < mover_port) same low))
-      | inr other ↦ quiet_stays n old new (d.stay n other) (is.free n (d.past n other high) low)
+      | inr other ↦ quiet_stays n old new (d.stay n other) (is.free n (subst (λ (o : Option AnchoredHosts). count_in f.hosts o ≤ n) (sym d.plain.0) (d.past n other high)) low)
     ]
 
   pub fleet_keeps : IsFleetOf old f → IsFleetOf new g
-  fleet_keeps is =
-      let stays = mover_stays old new d.mover_stay f.volume.sectors f.routes.moving (between f.routes) f.mover is.mover in record {
-        are_hosts = hosts_keep is.are_hosts;
-        mover =
-            subst (λ (v : Extent). HasMover new v.sectors g.routes.moving (between g.routes) g.mover) (sym d.volume)
-            (subst (λ (r : RoutesIs). HasMover new f.volume.sectors r.moving (between r) g.mover) (sym d.routes.0)
-            (subst (λ (mover : Option MoverIs). HasMover new f.volume.sectors f.routes.moving (between f.routes) mover) (sym d.routes.1) stays));
-      }
+  fleet_keeps is = record { are_hosts = hosts_keep is.are_hosts; mover = mover_keeps old new f g d.mover_stay d.volume d.routes is }
 
-pub host_put : (hosts : Hosts) (m : ℕ) (host next : HostIs) → host_at hosts m ≡ Some host → host_at (slice_set hosts m (Some next)) m ≡ Some next
-host_put hosts m host next is = ap there (set_there hosts m (Some host) (Some next) (place_there hosts m host is))
-
-pub others_put : (hosts : Hosts) (m n : ℕ) (next : Option HostIs) → n ≢ m → host_at (slice_set hosts m next) n ≡ host_at hosts n
-others_put hosts m n next other = ap there (set_elsewhere hosts m n next other)
+-- where there is a host, none is over anchors
+pub none_over : (chunks : List ChunkIs) (f : FleetIs) (m : ℕ) (host : HostIs) → AreHostsOf chunks f → host_at f.hosts m ≡ Some host → f.anchored ≡ None
+none_over chunks f m host is at = by f.anchored refl is.anchored where
+  by : (o : Option AnchoredHosts) → f.anchored ≡ o → IfSome o (AreAnchoredOf chunks f) → f.anchored ≡ None
+  by None none its = none
+  by (Some hosts) some its = absurd (none-some host (ap (λ (hs : Hosts). host_at hs m) (sym its.alone) ∙ at))
 
 -- a host goes on, and so do the chunks
 pub fleet_with_host : (m : ℕ) (old new : List ChunkIs) (f : FleetIs) (host next : HostIs) (calls : ℕ) → IsFleetOf old f → host_at f.hosts m ≡ Some host → HaveGone m old new → IsHostOf f.routes new next
@@ -227,18 +196,108 @@ fleet_with_host m old new f host next calls is at gone is_host number volume few
     let g : FleetIs = record f { hosts = slice_set f.hosts m (Some next); calls = calls } in
     let length_is : length g.hosts ≡ length f.hosts = set_length f.hosts m (Some next) in
     let low : m < length f.hosts = slice_get_within f.hosts m (Some host) (place_there f.hosts m host at) in
+    let plain = none_over old f m host is.are_hosts at in
     fleet_keeps m old new f g (record {
       count = gone.count;
       stay = λ n other. gone_ports m n old new gone other;
-      mover_stay = gone_ports m mover_port old new gone (λ e. let under = host_is_low f.hosts m host at is.are_hosts.few in absurd (omega (arith, e, under)));
+      mover_stay = gone_ports m mover_port old new gone (λ e. let under = place_is_low f.hosts m host at is.are_hosts.few in absurd (omega (arith, e, under)));
       volume = refl;
       routes = (refl, refl);
       calls = more;
+      plain = (plain, plain);
       few = subst (λ n. n ≤ 16) (sym length_is) is.are_hosts.few;
       large = λ some. is.are_hosts.large (λ none. some (length_is ∙ none));
       others = λ n other. others_put f.hosts m n (Some next) other;
       past = λ n other high. subst (λ c. c ≤ n) length_is high;
       its = λ x at_x. subst (λ (h : HostIs). IsHostAt new g m h) (same_Some next x (sym (host_put f.hosts m host next at) ∙ at_x))
+          (record { number = number; volume = volume; is_host = is_host; calls = few });
+      quiet = λ high under. absurd (omega (arith, high, length_is, low));
+    }) is
+
+-- Hosts over anchors that differ at mount m alone, whose ports alone may be others
+pub record DifferOver (m : ℕ) (old new : List ChunkIs) (f g : FleetIs) (hosts after : AnchoredHosts) : Type 0 where
+  pub count : length new ≡ length old
+  pub stay : (n : ℕ) → n ≢ m → HasPorts n old new
+  pub mover_stay : HasPorts mover_port old new
+  pub volume : g.volume ≡ f.volume
+  pub routes : (g.routes ≡ f.routes) × (g.mover ≡ f.mover)
+  pub calls : f.calls ≤ g.calls
+  pub plain : g.hosts ≡ f.hosts
+  pub was : f.anchored ≡ Some hosts
+  pub now : g.anchored ≡ Some after
+  pub few : length after ≤ 16
+  pub others : (n : ℕ) → n ≢ m → anchored_at after n ≡ anchored_at hosts n
+  pub past : (n : ℕ) → n ≢ m → length after ≤ n → length hosts ≤ n
+  pub its : (host : AnchoredHostIs) → anchored_at after m ≡ Some host → IsAnchoredAt new g m host
+  pub quiet : length after ≤ m → m < mover_port → AreQuiet m new
+
+module _ (m : ℕ) (old new : List ChunkIs) (f g : FleetIs) (hosts after : AnchoredHosts) (d : DifferOver m old new f g hosts after) where
+  over_keep : AreHostsOf old f → AreHostsOf new g
+  over_keep is = record {
+    volume = subst IsVolume (sym d.volume) is.volume;
+    groups = subst (λ n. n ≤ 8) (sym d.count) is.groups;
+    count = ap (λ (v : Extent). v.chunks) d.volume ∙ is.count ∙ ap (λ (r : RoutesIs). length r.routes) (sym d.routes.0);
+    routed = subst (AreRouted (length new)) (sym d.routes.0) (subst (λ n. AreRouted n f.routes) (sym d.count) is.routed);
+    few = subst (λ (hs : Hosts). length hs ≤ 16) (sym d.plain) is.few;
+    large = λ some. subst (λ v. 4112 ≤ size_of v) (sym d.volume) (is.large (λ none. some (ap (λ (hs : Hosts). length hs) d.plain ∙ none)));
+    each = λ n host at. absurd (none-some host (ap (λ (hs : Hosts). host_at hs n) (sym alone) ∙ at));
+    anchored = subst (λ (o : Option AnchoredHosts). IfSome o (AreAnchoredOf new g)) (sym d.now) (record {
+      room = subst HasAnchors (sym d.volume) its.room;
+      alone = alone;
+      few = d.few;
+      each = each;
+    });
+    free = λ n high low. free n (subst (λ (o : Option AnchoredHosts). count_in g.hosts o ≤ n) d.now high) low;
+  } where
+    its : AreAnchoredOf old f hosts
+    its = subst (λ (o : Option AnchoredHosts). IfSome o (AreAnchoredOf old f)) d.was is.anchored
+
+    alone : g.hosts ≡ []
+    alone = d.plain ∙ its.alone
+
+    each : (n : ℕ) (host : AnchoredHostIs) → anchored_at after n ≡ Some host → IsAnchoredAt new g n host
+    each n host at = elim (cases_eq n m) [
+      | inl same ↦ subst (λ k. IsAnchoredAt new g k host) (sym same) (d.its host (subst (λ k. anchored_at after k ≡ Some host) same at))
+      | inr other ↦ over_at_stays old new f g n host (d.stay n other) d.volume d.routes.0 d.calls (its.each n host (sym (d.others n other) ∙ at))
+    ]
+
+    free : (n : ℕ) → length after ≤ n → n < mover_port → AreQuiet n new
+    free n high low = elim (cases_eq n m) [
+      | inl same ↦ subst (λ k. AreQuiet k new) (sym same) (d.quiet (subst (λ k. length after ≤ k) same high) (subst (λ k. k < mover_port) same low))
+      | inr other ↦ quiet_stays n old new (d.stay n other) (is.free n (subst (λ (o : Option AnchoredHosts). count_in f.hosts o ≤ n) (sym d.was) (d.past n other high)) low)
+    ]
+
+  pub fleet_keeps_over : IsFleetOf old f → IsFleetOf new g
+  fleet_keeps_over is = record { are_hosts = over_keep is.are_hosts; mover = mover_keeps old new f g d.mover_stay d.volume d.routes is }
+
+-- the hosts over anchors of a volume
+pub over_of : (chunks : List ChunkIs) (f : FleetIs) (hosts : AnchoredHosts) → AreHostsOf chunks f → f.anchored ≡ Some hosts → AreAnchoredOf chunks f hosts
+over_of chunks f hosts is at = subst (λ (o : Option AnchoredHosts). IfSome o (AreAnchoredOf chunks f)) at is.anchored
+
+-- a host over anchors goes on, and so do the chunks
+pub fleet_with_over : (m : ℕ) (old new : List ChunkIs) (f : FleetIs) (hosts : AnchoredHosts) (host next : AnchoredHostIs) (calls : ℕ) → IsFleetOf old f → f.anchored ≡ Some hosts → anchored_at hosts m ≡ Some host → HaveGone m old new
+    → IsAnchoredHostOf f.routes new next → over.number_of next.mount ≡ m → next.mount.files.volume ≡ f.volume → next.mount.files.calls ≤ calls → f.calls ≤ calls
+    → IsFleetOf new (record f { anchored = Some (slice_set hosts m (Some next)); calls = calls })
+fleet_with_over m old new f hosts host next calls is some at gone is_host number volume few more =
+    let after : AnchoredHosts = slice_set hosts m (Some next) in
+    let g : FleetIs = record f { anchored = Some after; calls = calls } in
+    let its = over_of old f hosts is.are_hosts some in
+    let length_is : length after ≡ length hosts = set_length hosts m (Some next) in
+    let low : m < length hosts = slice_get_within hosts m (Some host) (place_there hosts m host at) in
+    fleet_keeps_over m old new f g hosts after (record {
+      count = gone.count;
+      stay = λ n other. gone_ports m n old new gone other;
+      mover_stay = gone_ports m mover_port old new gone (λ e. let under = place_is_low hosts m host at its.few in absurd (omega (arith, e, under)));
+      volume = refl;
+      routes = (refl, refl);
+      calls = more;
+      plain = refl;
+      was = some;
+      now = refl;
+      few = subst (λ n. n ≤ 16) (sym length_is) its.few;
+      others = λ n other. others_put hosts m n (Some next) other;
+      past = λ n other high. subst (λ c. c ≤ n) length_is high;
+      its = λ x at_x. subst (λ (h : AnchoredHostIs). IsAnchoredAt new g m h) (same_Some next x (sym (host_put hosts m host next at) ∙ at_x))
           (record { number = number; volume = volume; is_host = is_host; calls = few });
       quiet = λ high under. absurd (omega (arith, high, length_is, low));
     }) is

@@ -1,8 +1,11 @@
 pub mod Lists
+pub mod Ports
+pub mod Over
 pub mod Keeping
 pub mod Growing
 pub mod Parts
 pub mod Events
+pub mod Rows
 pub mod Steps
 pub mod Joining
 pub mod Routing

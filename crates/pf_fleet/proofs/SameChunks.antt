@@ -42,7 +42,7 @@ module _ (old new : List ChunkIs) (same : AreSame old new) where
   -- a run stands at the same
   pub same_stands : (halts : List Halt) (f : FleetIs) → stands_at halts new f ≡ stands_at halts old f
   same_stands halts f =
-      let make : List ChunkRun → VolumeRun = λ cs. record { extent = f.volume; chunks = cs; hosts = f.hosts; routes = f.routes; mover = f.mover } in
+      let make : List ChunkRun → VolumeRun = λ cs. record { extent = f.volume; chunks = cs; hosts = f.hosts; anchored = f.anchored; routes = f.routes; mover = f.mover } in
       ap make (mapped_same halts old new same.count same.each)
 
   -- nothing happened to the groups

@@ -25,7 +25,7 @@ use Rattle.pf_fleet.proofs.Growing.{all_told, grown_trans_all, tells_before, tol
 use Rattle.pf_fleet.proofs.Places.{begin_ready, begin_same, move_ready, move_same}
 use Rattle.pf_fleet.proofs.Rooms.{room, room_few, room_less, room_one}
 use Rattle.pf_fleet.proofs.SameChunks.{same_fleet, same_grown, same_stands}
-use Rattle.pf_fleet.proofs.Steps.{same_refl, same_trans}
+use Rattle.pf_fleet.proofs.Rows.{same_refl, same_trans}
 use Rattle.pf_fleet.proofs.Tries.{AreUpTo, IsUpTo, delivery, none_passed, told_on, try_is, up_to_later, up_to_more, up_to_moved, up_to_other}
 
 -- Each of the tries was a delivery, or passed over another packet. The chunks have room for few more

@@ -32,10 +32,13 @@ use Rattle.pf_hosts.specs.Steps.{AreReady, IsHostOf, runs}
 use Rattle.pf_hosts.proofs.Driving.{one_by_one, ready_one}
 use Rattle.pf_hosts.proofs.Groups.{run_there}
 use Rattle.pf_hosts.proofs.Stepping.{put_gone}
+use Rattle.pf_anchorhosts.specs.Hosts.{AnchoredHostIs}
+use Rattle.pf_anchorhosts.specs.Steps.{IsAnchoredHostOf}
 use Rattle.pf_fleet.specs.Moves.{HasTakenUp, IsOfPiece, on_reply, wanted}
-use Rattle.pf_fleet.specs.Steps.{AreHostsOf, AwaitsAt, FleetIs, HasMover, IsAskOf, IsFleetOf, IsMoverOf, stands_at}
+use Rattle.pf_fleet.specs.Steps.{AreAnchoredOf, AreHostsOf, AwaitsAt, FleetIs, HasMover, IsAskOf, IsFleetOf, IsMoverOf, stands_at}
 use Rattle.pf_fleet.specs.Volumes.{VolumeRun, asked_group, asks_in, carries, carries_on}
 use Rattle.pf_fleet.proofs.Driving.{hosts_after}
+use Rattle.pf_fleet.proofs.Over.{some_over}
 use Rattle.pf_fleet.proofs.Routing.{home_of_moving, home_switched, length_switched, none_moving, routed_switched}
 
 -- What a step of the mover wants is of its next piece, and of its own chunk
@@ -152,7 +155,7 @@ module _ (old : List ChunkIs) (f : FleetIs) (moving : Moving) (b : Between) (m :
       ready = ready_put old k was is there ask ready quiet run same is_ready;
       is_fleet = fleet_moving (slice_set old k is) f moving b m at between_is mover_is (hosts_put old k was is there ask ready quiet run same is_ready f hosts)
           (mover_put old k was is there ask ready quiet run same is_ready f.volume.sectors moving b m what refl of_kind chunk pieces going awaits);
-      same = record { volume = refl; count = refl; calls = refl };
+      same = record { volume = refl; count = refl; anchored = refl; calls = refl };
       ports = are_put old k was is there ask ready quiet run same is_ready;
       unsent = λ j it. unsent_put old k was is there ask ready quiet run same is_ready j (same_Some j k (sym it ∙ next_is));
       told = λ heard. Carries m.chunk heard next ∷ [];
@@ -252,6 +255,28 @@ host_switched r groups chunks host routed is = record {
   same_at None = refl
   same_at (Some chunk) = home_switched r routed.moving chunk
 
+over_switched : (r : RoutesIs) (groups : ℕ) (chunks : List ChunkIs) (host : AnchoredHostIs) → AreRouted groups r → IsAnchoredHostOf r chunks host → IsAnchoredHostOf (switched r) chunks host
+over_switched r groups chunks host routed is = record {
+  volume = is.volume ∙ sym (length_switched r);
+  ports = is.ports;
+  asking = λ port chunk at.
+      let it = is.asking port chunk at in record {
+        k = it.k;
+        home = home_switched r routed.moving chunk ∙ it.home;
+        c = it.c;
+        there = it.there;
+        its = it.its;
+        its_there = it.its_there;
+        ask = it.ask;
+        pending = it.pending;
+        of_chunk = it.of_chunk;
+        awaits = it.awaits;
+      };
+  apart = is.apart;
+  anchors = is.anchors;
+  quiet = λ k c other. is.quiet k c (λ port chunk at e. other port chunk at (home_switched r routed.moving chunk ∙ e));
+}
+
 abbrev pub with_switched : FleetIs → FleetIs
 with_switched f = record f { routes = switched f.routes; mover = None }
 
@@ -264,6 +289,12 @@ hosts_switched chunks f is = record {
   few = is.few;
   large = is.large;
   each = λ m host at. let it = is.each m host at in record { number = it.number; volume = it.volume; is_host = host_switched f.routes (length chunks) chunks host is.routed it.is_host; calls = it.calls };
+  anchored = some_over (AreAnchoredOf chunks f) (AreAnchoredOf chunks (with_switched f)) (λ hosts its. record {
+    room = its.room;
+    alone = its.alone;
+    few = its.few;
+    each = λ m host at. let it = its.each m host at in record { number = it.number; volume = it.volume; is_host = over_switched f.routes (length chunks) chunks host is.routed it.is_host; calls = it.calls };
+  }) f.anchored is.anchored;
   free = is.free;
 }
 
@@ -279,7 +310,7 @@ switch_taken chunks f m hosts ready quiet before after put = record {
     are_hosts = hosts_switched chunks f hosts;
     mover = subst (λ (moving : Option Moving). HasMover chunks f.volume.sectors moving (between (switched f.routes)) None) (sym (none_moving f.routes)) (none_has (between (switched f.routes)));
   };
-  same = record { volume = refl; count = refl; calls = refl };
+  same = record { volume = refl; count = refl; anchored = refl; calls = refl };
   ports = record { count = refl; each = λ k was is at to. subst (IsPut mover_port was) (same_Some was is (sym at ∙ to)) (record { same = refl; others = λ n other. refl }) };
   unsent = λ k it. absurd (asks_nothing (between (switched f.routes)) k it);
   told = λ heard. Carries m.chunk heard Switch ∷ Writes (event_line (moved_text m.chunk)) ∷ [];
@@ -303,7 +334,7 @@ pub heard_taken : (old new : List ChunkIs) (f g : FleetIs) (m then : MoverIs) (r
 heard_taken old new f g m then reply next before after stepped t = record {
   ready = t.ready;
   is_fleet = t.is_fleet;
-  same = record { volume = t.same.volume; count = t.same.count; calls = t.same.calls };
+  same = record { volume = t.same.volume; count = t.same.count; anchored = t.same.anchored; calls = t.same.calls };
   ports = t.ports;
   unsent = t.unsent;
   told = t.told;

@@ -23,7 +23,7 @@ pub record HasBegunMove (chunk : ℕ) (group : ChunkIs) (old : List ChunkIs) (fl
   pub count : length new ≡ suc (length old)
   pub groups : (k : ℕ) (was is : ChunkIs) → slice_get old k ≡ Some was → slice_get new k ≡ Some is → is ≡ record was { ports = is.ports }
   pub last : (is : ChunkIs) → slice_get new (length old) ≡ Some is → is ≡ record group { ports = is.ports }
-  pub hosts : (next.hosts ≡ fleet.hosts) × (next.calls ≡ fleet.calls) × (next.volume ≡ fleet.volume)
+  pub hosts : (next.hosts ≡ fleet.hosts) × (next.anchored ≡ fleet.anchored) × (next.calls ≡ fleet.calls) × (next.volume ≡ fleet.volume)
   pub told : List Moment
   pub silent : text_of told ≡ []
   pub run : (halts : List Halt) → TellsAll halts new → moves chunk (run_of halts group) (stands_at halts old fleet) ≡ record { volume = stands_at halts new next; told = told }

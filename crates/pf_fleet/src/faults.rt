@@ -44,6 +44,14 @@ impl From<AllocError> for JoinFault {
     }
 }
 
+impl From<NoMemory> for JoinFault {
+    ghost from_gives = { λ _ fault. fault ≡ joins_no_more };
+
+    fn from(_: NoMemory) -> Self {
+        JoinFault::NoMemory
+    }
+}
+
 impl From<MountFault> for JoinFault {
     ghost from_gives = { λ fault join. join ≡ join_fault fault };
 

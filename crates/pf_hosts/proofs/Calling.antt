@@ -50,7 +50,7 @@ rests_quiet routes chunks host is_host rests k c there port its =
       by (Some chunk) none home = none chunk refl
 
 -- the words of a call have its name
-named_as : (call : Call) (file : FileCall) → IsReadAs call file → name_of file ≡ name_of_words call
+pub named_as : (call : Call) (file : FileCall) → IsReadAs call file → name_of file ≡ name_of_words call
 named_as (words.Mkdir w) (paths.Mkdir p) read = refl
 named_as (words.Create w) (paths.Create p) read = refl
 named_as (words.Write w at byte count) (paths.Write p offset value many) read = refl

@@ -51,7 +51,7 @@ pub home_here : (routes : RoutesIs) (chunks : List ChunkIs) (host : HostIs) (k :
 home_here routes chunks host k a = ap (option_and_then (home_of routes)) a.at ∙ a.home
 
 -- only chunks of the volume are routed
-home_within : (groups : ℕ) (r : RoutesIs) (chunk k : ℕ) → AreRouted groups r → home_of r chunk ≡ Some k → chunk < length r.routes
+pub home_within : (groups : ℕ) (r : RoutesIs) (chunk k : ℕ) → AreRouted groups r → home_of r chunk ≡ Some k → chunk < length r.routes
 home_within groups r chunk k routed is = by r.moving routed.moving is where
   got : (route : Option Route) → slice_get r.routes chunk ≡ route → option_map (λ (x : Route). x.group) route ≡ Some k → chunk < length r.routes
   got None there is = absurd (none-some k is)

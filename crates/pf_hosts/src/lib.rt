@@ -7,3 +7,4 @@ mod names;
 
 pub use host::{Host, drive_at};
 pub use laws::calls_are_read_by_their_words;
+pub use names::name_of;

@@ -26,7 +26,7 @@ use Rattle.pf_move.specs.Routes.{RoutesIs, home_of}
 use Rattle.pf_fleet.specs.Volumes.{VolumeRun, carries, moved_from, mover_group, moves_from}
 use Rattle.pf_fleet.specs.Volumes as volumes
 use Rattle.pf_mounted.specs.Mounts.{last_ask, life_of}
-use Rattle.pf_mounted.specs.Scripts.{IsScript}
+use Rattle.pf_mounted.specs.Scripts.{IsPlainRun}
 use Rattle.pf_mounted.proofs.Each.{AreEach, all_more, each_at, none_told, one_more}
 use Rattle.pf_mounted.proofs.Holding.{none_asked}
 use Rattle.pf_mounted.proofs.Lives.{IsQuiet, called_ask}
@@ -194,16 +194,16 @@ module _ (halts : List Halt) where
       }
 
   -- a turn in which nothing was heard is new
-  turn_new : (sessions : List Session) (lines : List Line) → IsScript lines → (before after : List Moment) (m : ℕ) (next : Option Ask) → (world_run halts sessions lines).told ≡ before ++ Turns m None next ∷ after
+  turn_new : (sessions : List Session) (lines : List Line) → IsPlainRun halts sessions lines → (before after : List Moment) (m : ℕ) (next : Option Ask) → (world_run halts sessions lines).told ≡ before ++ Turns m None next ∷ after
       → IsNew (world_run halts sessions lines).world.volume.extent before (Turns m None next)
   turn_new sessions lines script before after m next same =
       let run = world_run halts sessions lines in
       let new = λ (sessions : List Session) (chunks sectors names format : ℕ). let is : IsTurned (made halts sessions chunks sectors names format).volume [] = record { hosts = new_told halts sessions chunks sectors names format; each = none_told (IsNew (record { chunks = chunks; sectors = sectors })) } in is in
       each_at (IsNew run.world.volume.extent) run.told before (Turns m None next) after (running halts IsTurned kept new sessions lines script).each same
 
-  pub turns_new : (sessions : List Session) (lines : List Line) → IsScript lines → (before after : List Moment) (m : ℕ) (next : Option Ask) → (world_run halts sessions lines).told ≡ before ++ Turns m None next ∷ after → IsNewAt (world_run halts sessions lines).world.volume.extent before m
+  pub turns_new : (sessions : List Session) (lines : List Line) → IsPlainRun halts sessions lines → (before after : List Moment) (m : ℕ) (next : Option Ask) → (world_run halts sessions lines).told ≡ before ++ Turns m None next ∷ after → IsNewAt (world_run halts sessions lines).world.volume.extent before m
   turns_new sessions lines script before after m next same = (turn_new sessions lines script before after m next same).0
 
   -- and its mount asked nothing before
-  pub turns_free : (sessions : List Session) (lines : List Line) → IsScript lines → (before after : List Moment) (m : ℕ) (next : Option Ask) → (world_run halts sessions lines).told ≡ before ++ Turns m None next ∷ after → last_ask before m ≡ None
+  pub turns_free : (sessions : List Session) (lines : List Line) → IsPlainRun halts sessions lines → (before after : List Moment) (m : ℕ) (next : Option Ask) → (world_run halts sessions lines).told ≡ before ++ Turns m None next ∷ after → last_ask before m ≡ None
   turns_free sessions lines script before after m next same = (turn_new sessions lines script before after m next same).1

@@ -20,7 +20,7 @@ use Rattle.pf_mounted.specs.Journals.{deeds, doings}
 use Rattle.pf_mounted.specs.Late.{AreEndsTold, IsPlanned}
 use Rattle.pf_mounted.specs.Lists.{IsListOf}
 use Rattle.pf_mounted.specs.Mounts.{mount_after}
-use Rattle.pf_mounted.specs.Scripts.{IsScript}
+use Rattle.pf_mounted.specs.Scripts.{IsPlainRun}
 use Rattle.pf_mounted.proofs.Counting.{calls_of_lines}
 use Rattle.pf_mounted.proofs.Finished.{below_ended, below_planned}
 use Rattle.pf_mounted.proofs.Holding.{calls_of_words, mounts_alone}
@@ -30,7 +30,7 @@ use Rattle.pf_mounted.proofs.Sizing.{has_room}
 use Rattle.pf_mounted.proofs.Standing.{each_done, hosts_are_told}
 use Rattle.pf_mounted.proofs.Together.{registers_held}
 
-module _ (halts : List Halt) (sessions : List Session) (lines : List Line) (script : IsScript lines) (lawful : IsLawfulRun (world_run halts sessions lines).world) (volume : IsVolume (world_run halts sessions lines).world.volume.extent)
+module _ (halts : List Halt) (sessions : List Session) (lines : List Line) (script : IsPlainRun halts sessions lines) (lawful : IsLawfulRun (world_run halts sessions lines).world) (volume : IsVolume (world_run halts sessions lines).world.volume.extent)
     (some : 0 < length (world_run halts sessions lines).world.volume.hosts) where
   all_registers : AreAllRegisters (doings (world_run halts sessions lines).world.volume.extent (answers halts sessions lines script lawful) (world_run halts sessions lines).told)
   all_registers =
@@ -49,7 +49,7 @@ module _ (halts : List Halt) (sessions : List Session) (lines : List Line) (scri
       planned_late_of_all run.world.volume.extent (answers halts sessions lines script lawful) run.told volume (known halts sessions lines script lawful).turns (can_be halts sessions lines script lawful volume some) all_registers
 
 -- of a list of the run
-module _ (halts : List Halt) (sessions : List Session) (lines : List Line) (script : IsScript lines) (lawful : IsLawfulRun (world_run halts sessions lines).world) (volume : IsVolume (world_run halts sessions lines).world.volume.extent)
+module _ (halts : List Halt) (sessions : List Session) (lines : List Line) (script : IsPlainRun halts sessions lines) (lawful : IsLawfulRun (world_run halts sessions lines).world) (volume : IsVolume (world_run halts sessions lines).world.volume.extent)
     (few : length lines < 2 ^ 32) (some : 0 < length (world_run halts sessions lines).world.volume.hosts)
     (list : List (List ℕ)) (is : IsListOf (world_run halts sessions lines).world.volume.extent (world_run halts sessions lines).world.volume.chunks (world_run halts sessions lines).told list) where
   registers : AreAllRegisters (doings (world_run halts sessions lines).world.volume.extent is.answer_at (world_run halts sessions lines).told)

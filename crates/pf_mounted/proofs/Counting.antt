@@ -17,7 +17,7 @@ use Rattle.pf_files.specs.Calls.{WorkIs}
 use Rattle.pf_mount.specs.declared.work.Next.{Next}
 use Rattle.pf_mount.specs.declared.work.Next.TheVariants.{Ask as Asks, Ready, Done}
 use Rattle.pf_mount.specs.Mounts.{MountIs, Outcome, answered, opening, starting}
-use Rattle.pf_report.specs.Mounts.{mount_text}
+use Rattle.pf_report.specs.Mounts.{mount_text, started_text}
 use Rattle.pf_applyrounds.specs.Chunks.{Chunk}
 use Rattle.pf_applyrounds.specs.Halts.{Halt}
 use Rattle.pf_chunk.specs.Asking.{fetches, is_range, submits}
@@ -27,9 +27,11 @@ use Rattle.pf_chunk.specs.Runs.{ChunkRun}
 use Rattle.pf_hosts.specs.Moments.{Begins, Carries, Ends, Hands, Heard, Moment, Moves as MovesTo, Turns, Writes}
 use Rattle.pf_hosts.specs.Hosts.{Drove, HostIs, Stepped, call_of, comes_of, drove, events_of, group_of, hands_on, hands_to, next_of, number_of, replied, stepped, stepped_at}
 use Rattle.pf_hosts.specs.Words.{read_call}
+use Rattle.pf_anchorhosts.specs.Hosts.{AnchoredHostIs}
+use Rattle.pf_anchorhosts.specs.Hosts as over
 use Rattle.pf_fleet.specs.Settling.{Goes, Name, delivered, enough_tries, goes_on, name_of, settle_next, settle_to, settled}
 use Rattle.pf_fleet.specs.Settling as settling_specs
-use Rattle.pf_fleet.specs.Volumes.{VolumeRun, all_step, begins, happens, host_at, host_steps, hosts_step, mounts, mover_steps, moves, quietly, step_of, these_step}
+use Rattle.pf_fleet.specs.Volumes.{AnchoredHosts, VolumeRun, all_step, anchored_at, anchored_hosts_step, begins, begins_over, happens, host_at, host_steps, hosts_step, mount_count, mounts, mounts_in, mover_steps, moves, quietly, step_of, these_step}
 use Rattle.pf_fleet.specs.Volumes as volumes
 use Rattle.pf_script.specs.Lines.{group_of as group_of_line}
 use Rattle.pf_move.specs.Routes.{RoutesIs, home_of}
@@ -41,12 +43,13 @@ use Rattle.pf_threads.specs.Sessions.{Session, next_session}
 use Rattle.pf_world.specs.declared.line.Line.{Line}
 use Rattle.pf_world.specs.Worlds.{World, at_chunk, refused_text, said_only, told_of}
 use Rattle.pf_world.specs.Worlds as worlds
-use Rattle.pf_world.specs.Lines.{asked, begins_if, begins_move, decided, held_told, is_made, is_of_mounts, joins, kill_of, kind_after, line_told, live_as, made_group, mounts_as, no_event_of, rests, run_told, show_of, shown_of, submits_as, with_kind}
+use Rattle.pf_world.specs.Lines.{anchors_unless, asked, begins_if, begins_move, begins_over_if, call_in, call_over, decided, held_told, is_made, is_of_mounts, joins, keeps_from_anchors, kill_in, kill_of, kill_over, kind_after, line_told, live_as, made_group, mounts_as, no_event_of, rests, rests_over, run_told, show_in, show_of, show_over, shown_of, submits_as, with_kind}
 use Rattle.pf_world.specs.Lines as lines_specs
 use Rattle.pf_world.specs.Reports.{run_from, world_run}
 use Rattle.pf_mounted.specs.Mounts.{Life, calling, life_of, lived, mount_after, mount_in, turned}
 use Rattle.pf_mounted.proofs.Changing.{answered_keeps, starting_keeps}
 use Rattle.pf_mounted.proofs.Lives.{IsQuiet}
+use Rattle.pf_mounted.proofs.Plain.{IsNoMounts, anchored_no_mounts, begun_no_mounts}
 use Rattle.pf_mounted.proofs.Ports.{drives_at}
 
 -- Calls that begin
@@ -143,6 +146,15 @@ quiet_none (MovesTo its to) quiet = tt
 quiet_none (Carries its reply wants) quiet = tt
 quiet_none (Ends m answer) quiet = tt
 
+no_mounts_none : (moment : Moment) → IsNoMounts moment → BeginsNone moment
+no_mounts_none (Begins m call) none = none
+no_mounts_none (Turns m heard next) none = tt
+no_mounts_none (Hands m k place) none = tt
+no_mounts_none (Writes text) none = tt
+no_mounts_none (MovesTo its to) none = tt
+no_mounts_none (Carries its reply wants) none = tt
+no_mounts_none (Ends m answer) none = tt
+
 next_none : (r : RoutesIs) (chunks : List ChunkRun) (heard : Option Heard) (call : Option FileCall) (mount : MountIs) (next : Next) → AreNone (next_of r chunks heard call mount next).told
 next_none r chunks heard call mount (Asks ask) = (tt, tt)
 next_none r chunks heard call mount Ready = (tt, (tt, tt))
@@ -185,12 +197,19 @@ module _ (halts : List Halt) where
   unfolding hosts_step
   hosts_none v = these_none (range_with_len 0 (length v.hosts)) v
 
+  -- nor do those of hosts over anchors
+  anchored_none : (v : VolumeRun) → AreNone (anchored_hosts_step halts v).told
+  anchored_none v = every_more IsNoMounts BeginsNone no_mounts_none (anchored_hosts_step halts v).told (anchored_no_mounts halts v)
+
   -- nor does the mover
   mover_none : (v : VolumeRun) → AreNone (mover_steps halts v).told
   mover_none v = every_more IsQuiet BeginsNone quiet_none (mover_steps halts v).told (mover_quiet halts v)
 
   all_none_begin : (v : VolumeRun) → AreNone (all_step halts v).told
-  all_none_begin v = let t = hosts_step halts v in both t.told (mover_steps halts t.volume).told (hosts_none v) (mover_none t.volume)
+  all_none_begin v =
+      let t = hosts_step halts v in
+      let s = volumes.followed t (anchored_hosts_step halts) in
+      both s.told (mover_steps halts s.volume).told (both t.told (anchored_hosts_step halts t.volume).told (hosts_none v) (anchored_none t.volume)) (mover_none s.volume)
 
   happens_none : (v : VolumeRun) (h : Happened) → AreNone (happens halts v h).told
   happens_none v h = (tt, all_none_begin (volumes.with_chunk v h.chunk))
@@ -261,14 +280,18 @@ module _ (halts : List Halt) where
     shown_none None text = tt
     shown_none (Some c) text = (tt, tt)
 
+    mounts_none : (v : VolumeRun) (o : Option AnchoredHosts) → AreNone (mounts_in v o).told
+    mounts_none v None = let o : Outcome = opening (length v.hosts) v.extent in next_none v.routes v.chunks None None o.mount o.next
+    mounts_none v (Some anchored) = tt
+
     joins_none : AreNone (joins halts w number).told
     joins_none =
         let v : VolumeRun = w.volume in
-        let new = worlds.stepped halts w number (mounts v) (mount_text (length v.hosts)) in
+        let new = worlds.stepped halts w number (mounts v) (mount_text (mount_count v)) in
         let refused : ℕ → worlds.Told = λ fault. worlds.stepped halts w number (quietly v) (refused_text fault) in
-        by_test (nat_lt (size_of v.extent) 4112) (λ b. AreNone (if b then refused 93 else if nat_le 16 (length v.hosts) then refused 92 else new).told) (λ _. stepped_too (quietly v) (refused_text 93) tt)
-        (λ _. by_test (nat_le 16 (length v.hosts)) (λ b. AreNone (if b then refused 92 else new).told) (λ _. stepped_too (quietly v) (refused_text 92) tt)
-        (λ _. let o : Outcome = opening (length v.hosts) v.extent in stepped_too (mounts v) (mount_text (length v.hosts)) (next_none v.routes v.chunks None None o.mount o.next)))
+        by_test (nat_lt (size_of v.extent) 4112) (λ b. AreNone (if b then refused 93 else if nat_le 16 (mount_count v) then refused 92 else new).told) (λ _. stepped_too (quietly v) (refused_text 93) tt)
+        (λ _. by_test (nat_le 16 (mount_count v)) (λ b. AreNone (if b then refused 92 else new).told) (λ _. stepped_too (quietly v) (refused_text 92) tt)
+        (λ _. stepped_too (mounts v) (mount_text (mount_count v)) (mounts_none v v.anchored)))
 
     mount_none : (kind : Kind) → AreNone (mounts_as kind halts w number).told
     mount_none Raw = (tt, tt)
@@ -281,6 +304,38 @@ module _ (halts : List Halt) where
     show_none : (m : ℕ) (o : Option HostIs) → AreNone (show_of w number m o).told
     show_none m None = (tt, tt)
     show_none m (Some host) = (tt, (tt, tt))
+
+    kill_over_none : (m : ℕ) (anchored : AnchoredHosts) (o : Option AnchoredHostIs) → AreNone (kill_over w number m anchored o).told
+    kill_over_none m anchored None = (tt, tt)
+    kill_over_none m anchored (Some host) = (tt, tt)
+
+    kill_in_none : (m : ℕ) (o : Option AnchoredHosts) → AreNone (kill_in w number m o).told
+    kill_in_none m None = kill_none m (host_at w.volume.hosts m)
+    kill_in_none m (Some anchored) = kill_over_none m anchored (anchored_at anchored m)
+
+    show_over_none : (m : ℕ) (o : Option AnchoredHostIs) → AreNone (show_over w number m o).told
+    show_over_none m None = (tt, tt)
+    show_over_none m (Some host) = (tt, (tt, tt))
+
+    show_in_none : (m : ℕ) (o : Option AnchoredHosts) → AreNone (show_in w number m o).told
+    show_in_none m None = show_none m (host_at w.volume.hosts m)
+    show_in_none m (Some anchored) = show_over_none m (anchored_at anchored m)
+
+    anchors_none : (o : Option ℕ) → AreNone (anchors_unless w number o).told
+    anchors_none None = (tt, tt)
+    anchors_none (Some refusal) = (tt, tt)
+
+    -- over anchors no call is told to begin
+    begins_over_none : (m : ℕ) (anchored : AnchoredHosts) (host : AnchoredHostIs) (o : Option FileCall) → AreNone (begins_over_if halts w number m anchored host o).told
+    begins_over_none m anchored host None = stepped_too (quietly w.volume) (refused_text 80) tt
+    begins_over_none m anchored host (Some call) =
+        stepped_too (begins_over m anchored host call w.volume) started_text (every_more IsNoMounts BeginsNone no_mounts_none (over.begun w.volume.chunks host call).told (begun_no_mounts w.volume.chunks host call))
+
+    call_over_none : (m : ℕ) (words : Call) (anchored : AnchoredHosts) (o : Option AnchoredHostIs) → AreNone (call_over halts w number m words anchored o).told
+    call_over_none m words anchored None = stepped_too (quietly w.volume) (refused_text 96) tt
+    call_over_none m words anchored (Some host) =
+        by_test (rests_over host.mount.task.work) (λ b. AreNone (if b then begins_over_if halts w number m anchored host (read_call words) else worlds.stepped halts w number (quietly w.volume) (refused_text 91)).told)
+        (λ _. begins_over_none m anchored host (read_call words)) (λ _. stepped_too (quietly w.volume) (refused_text 91) tt)
 
     -- but a call
     begins_one : (m : ℕ) (host : HostIs) (o : Option FileCall) → begun_in (begins_if halts w number m host o).told ≤ 1
@@ -296,6 +351,10 @@ module _ (halts : List Halt) where
     call_one m words (Some host) =
         by_test (rests host.mount.work) (λ b. begun_in (if b then begins_if halts w number m host (read_call words) else worlds.stepped halts w number (quietly w.volume) (refused_text 91)).told ≤ 1)
         (λ _. begins_one m host (read_call words)) (λ _. few _ (stepped_too (quietly w.volume) (refused_text 91) tt))
+
+    call_in_one : (m : ℕ) (words : Call) (o : Option AnchoredHosts) → begun_in (call_in halts w number m words o).told ≤ 1
+    call_in_one m words None = call_one m words (host_at w.volume.hosts m)
+    call_in_one m words (Some anchored) = few _ (call_over_none m words anchored (anchored_at anchored m))
 
   -- a move begins no call
   begins_move_one : (w : World) (number chunk : ℕ) → begun_in (begins_move halts w number chunk).told ≤ 1
@@ -326,15 +385,16 @@ module _ (halts : List Halt) where
   run_one w number (commands.Mark g i) = few _ (chunk_none w number g _)
   run_one w number (commands.Settle limit) = few _ (both (settled halts limit w.volume).told _ (settled_none limit w.volume) (tt, tt))
   run_one w number (commands.Live g hosts writes workers turns) = let kind : Kind = decided w.kind Raw in few _ (live_none (with_kind w kind) number kind g)
+  run_one w number commands.Anchors = few _ (anchors_none w number (keeps_from_anchors w.kind w.volume.hosts w.volume.anchored w.volume.extent))
   run_one w number commands.Mount = let kind : Kind = decided w.kind Mounted in few _ (mount_none (with_kind w kind) number kind)
-  run_one w number (commands.Kill m) = few _ (kill_none w number m (host_at w.volume.hosts m))
-  run_one w number (commands.Call m words) = call_one w number m words (host_at w.volume.hosts m)
+  run_one w number (commands.Kill m) = few _ (kill_in_none w number m w.volume.anchored)
+  run_one w number (commands.Call m words) = call_in_one w number m words w.volume.anchored
   run_one w number (commands.ShowLog g i) = few _ (shown_none w number (slice_get w.volume.chunks g) _)
   run_one w number (commands.ShowApplied g i) = few _ (shown_none w number (slice_get w.volume.chunks g) _)
   run_one w number (commands.ShowSectors g i) = few _ (shown_none w number (slice_get w.volume.chunks g) _)
   run_one w number (commands.ShowAcked g) = few _ (shown_none w number (slice_get w.volume.chunks g) _)
   run_one w number (commands.ShowMark g i s) = few _ (shown_none w number (slice_get w.volume.chunks g) _)
-  run_one w number (commands.ShowMount m) = few _ (show_none w number m (host_at w.volume.hosts m))
+  run_one w number (commands.ShowMount m) = few _ (show_in_none w number m w.volume.anchored)
   run_one w number (commands.Move chunk) = move_one w number chunk w.kind
 
   line_one : (w : World) (number : ℕ) (command : Command) → begun_in (line_told halts w number command).told ≤ 1

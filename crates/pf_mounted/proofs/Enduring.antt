@@ -10,7 +10,7 @@ use Rattle.pf_world.specs.Reports.{world_run}
 use Rattle.pf_threads.specs.Sessions.{Session}
 use Rattle.pf_world.specs.declared.line.Line.{Line}
 use Rattle.pf_mounted.specs.Mounts.{life_of, mount_after}
-use Rattle.pf_mounted.specs.Scripts.{IsScript}
+use Rattle.pf_mounted.specs.Scripts.{IsPlainRun}
 use Rattle.pf_mounted.proofs.Holding.{mounts_alone}
 use Rattle.pf_mounted.proofs.Lawful.{answers, can_be, known}
 use Rattle.pf_mounted.proofs.Never.{none_fails}
@@ -18,7 +18,7 @@ use Rattle.pf_mounted.proofs.Sizing.{has_room}
 use Rattle.pf_mounted.proofs.Together.{life_there}
 use Rattle.pf_mounted.proofs.Unfailing.{HasFailed}
 
-module _ (halts : List Halt) (sessions : List Session) (lines : List Line) (script : IsScript lines) (lawful : IsLawfulRun (world_run halts sessions lines).world) (volume : IsVolume (world_run halts sessions lines).world.volume.extent)
+module _ (halts : List Halt) (sessions : List Session) (lines : List Line) (script : IsPlainRun halts sessions lines) (lawful : IsLawfulRun (world_run halts sessions lines).world) (volume : IsVolume (world_run halts sessions lines).world.volume.extent)
     (some : 0 < length (world_run halts sessions lines).world.volume.hosts) where
   pub endures : (before after : List Moment) → (world_run halts sessions lines).told ≡ before ++ after → (m : ℕ) (mount : MountIs) → mount_after (world_run halts sessions lines).world.volume.extent before m ≡ Some mount → mount.work ≢ Fails
   endures before after same m mount made fails =

@@ -30,7 +30,7 @@ use Rattle.pf_hosts.specs.Moments.{Begins, Hands, Heard, Moment, Turns, Writes}
 use Rattle.pf_hosts.specs.Hosts.{HostIs, Stepped, begun, comes_of, made_host, number_of, stepped}
 use Rattle.pf_hosts.specs.Words.{read_call}
 use Rattle.pf_hosts.proofs.Machine.{starting_keeps}
-use Rattle.pf_fleet.specs.Volumes.{Hosts, VolumeRun, asks_in, begins, host_at, mounts, mover_steps, mover_steps_at, quietly, with_chunk}
+use Rattle.pf_fleet.specs.Volumes.{Hosts, VolumeRun, asks_in, begins, host_at, mounts_in, mover_steps, mover_steps_at, quietly, with_chunk}
 use Rattle.pf_fleet.specs.Volumes as volumes
 use Rattle.pf_world.specs.Lines.{rests}
 use Rattle.pf_world.specs.Reports.{world_run}
@@ -44,7 +44,7 @@ use Rattle.pf_mounted.specs.Handing.{AreCallsOfWords, AreHandedOn, AreMountsAlon
 use Rattle.pf_mounted.specs.Hearing.{IsHeard}
 use Rattle.pf_mounted.specs.Mounts.{last_ask, life_of}
 use Rattle.pf_mounted.specs.Pasts.{mover_trace, past_in, past_of}
-use Rattle.pf_mounted.specs.Scripts.{IsScript}
+use Rattle.pf_mounted.specs.Scripts.{IsPlainRun}
 use Rattle.pf_mounted.proofs.Bearing.{IsBearing, bearing_on}
 use Rattle.pf_mounted.proofs.Writers.{adds_none, alone_set, alone_told}
 use Rattle.pf_mounted.proofs.Each.{AreEach, each_at, none_told, one_more}
@@ -147,10 +147,10 @@ module _ (kind : Option Kind) (halts : List Halt) (v : VolumeRun) (told : List M
     free_mount : HasAsked of (length v.hosts) None v.chunks
     free_mount = subst (λ ask. HasAsked of (length v.hosts) ask v.chunks) (is.hosts.past (length v.hosts) (omega arith)).1 (is.hosts.ports (length v.hosts) small)
 
-    mount_so : AreSo kind count (told ++ (mounts v).told) (mounts v).volume.chunks
+    mount_so : AreSo kind count (told ++ (mounts_in v None).told) (mounts_in v None).volume.chunks
     mount_so = comes_so kind count (length v.chunks) v.routes told is.hosts.routes v.chunks is.so None None (opening (length v.hosts) v.extent) small free_mount tt
 
-    mount_borne : IsBearing count (told ++ (mounts v).told) (mounts v).volume.chunks v.routes v.routes.moving v.mover
+    mount_borne : IsBearing count (told ++ (mounts_in v None).told) (mounts_in v None).volume.chunks v.routes v.routes.moving v.mover
     mount_borne =
         let none = is.hosts.past (length v.hosts) (omega arith) in
         step_bearing v told (length v.hosts) (made_host v.routes v.chunks (length v.hosts) v.extent) of is.hosts.routes.homes small
@@ -310,10 +310,10 @@ module _ (halts : List Halt) where
         none = λ other. (refl, refl, none_told (λ before. IsQuiet));
       }
 
-  as_run : (sessions : List Session) (lines : List Line) → IsScript lines → IsAsRun (world_run halts sessions lines).world.kind (world_run halts sessions lines).world.volume (world_run halts sessions lines).told
+  as_run : (sessions : List Session) (lines : List Line) → IsPlainRun halts sessions lines → IsAsRun (world_run halts sessions lines).world.kind (world_run halts sessions lines).world.volume (world_run halts sessions lines).told
   as_run sessions lines script = running_in halts IsAsRun kept new sessions lines script
 
-  module _ (sessions : List Session) (lines : List Line) (script : IsScript lines) where
+  module _ (sessions : List Session) (lines : List Line) (script : IsPlainRun halts sessions lines) where
     abbrev run : Told
     run = world_run halts sessions lines
 

@@ -10,7 +10,7 @@ use Rattle.pf_threads.specs.Sessions.{Session}
 use Rattle.pf_world.specs.declared.line.Line.{Line}
 use Rattle.pf_mounted.specs.Fitting.{IsOfRun}
 use Rattle.pf_mounted.specs.Journals.{CanBeDoings}
-use Rattle.pf_mounted.specs.Scripts.{IsScript}
+use Rattle.pf_mounted.specs.Scripts.{IsPlainRun}
 use Rattle.pf_mounted.proofs.Beginning.{turns_free}
 use Rattle.pf_mounted.proofs.Holding.{calls_of_words, handed_on, mounts_alone, ports_driven, reached_within, replies_heard, replies_since}
 use Rattle.pf_mounted.proofs.OfMounts.{run_of_mounts}
@@ -19,7 +19,7 @@ use Rattle.pf_mounted.proofs.Sizing.{has_room}
 use Rattle.pf_mounted.proofs.Standing.{each_done, hosts_are_told}
 use Rattle.pf_mounted.proofs.Together.{AsksTold, can_all}
 
-module _ (halts : List Halt) (sessions : List Session) (lines : List Line) (script : IsScript lines) (lawful : IsLawfulRun (world_run halts sessions lines).world) where
+module _ (halts : List Halt) (sessions : List Session) (lines : List Line) (script : IsPlainRun halts sessions lines) (lawful : IsLawfulRun (world_run halts sessions lines).world) where
   -- the answers whose bytes were heard
   abbrev pub answers : ℕ → Answered
   answers = (run_of_mounts halts sessions lines script lawful).0

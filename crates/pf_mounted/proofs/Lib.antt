@@ -1,4 +1,6 @@
+pub mod Plain
 pub mod Running
+pub mod Bare
 pub mod Applying
 pub mod Each
 pub mod Reaching

@@ -20,7 +20,7 @@ use Rattle.pf_world.specs.declared.line.Line.{Line}
 use Rattle.pf_world.specs.Reports.{world_run}
 use Rattle.pf_world.specs.Worlds.{made}
 use Rattle.pf_mounted.specs.Carrying.{turn_of}
-use Rattle.pf_mounted.specs.Scripts.{IsScript}
+use Rattle.pf_mounted.specs.Scripts.{IsPlainRun}
 use Rattle.pf_mounted.proofs.Each.{AreEach, all_more, none_told, one_more}
 use Rattle.pf_mounted.proofs.Hauling.{hauled, step_chunk}
 use Rattle.pf_mounted.proofs.Hosts.{begins_to, makes_to, steps_to}
@@ -231,5 +231,5 @@ module _ (halts : List Halt) where
   }
 
   -- each call of the mover is a step of it
-  pub run_steps : (sessions : List Session) (lines : List Line) → IsScript lines → let run = world_run halts sessions lines in AreEach (IsStepOf (pieces_of run.world.volume)) run.told
+  pub run_steps : (sessions : List Session) (lines : List Line) → IsPlainRun halts sessions lines → let run = world_run halts sessions lines in AreEach (IsStepOf (pieces_of run.world.volume)) run.told
   run_steps sessions lines script = (running halts IsSteered kept new_steered sessions lines script).each

@@ -24,20 +24,23 @@ use Rattle.pf_chunk.specs.Runs.{ChunkRun}
 use Rattle.pf_hosts.specs.Hosts.{Drove, HostIs, Stepped, call_of as pending_call, comes_of, drove, drove_of, events_of, group_of, handed, hands_on, hands_to, next_of, number_of, replied, stepped, stepped_at}
 use Rattle.pf_hosts.specs.Moments.{Begins, Carries, Ends, Hands, Heard, Moment, Moves as MovesTo, Turns, Writes}
 use Rattle.pf_hosts.specs.Words.{read_call}
+use Rattle.pf_anchorhosts.specs.Hosts.{AnchoredHostIs}
+use Rattle.pf_anchorhosts.specs.Hosts as over
 use Rattle.pf_fleet.specs.Settling.{Goes, Name, Next, delivered, enough_tries, goes_on, name_of, next_of as left_of, settle_next, settle_to, settled}
-use Rattle.pf_fleet.specs.Volumes.{Told, VolumeRun, all_step, begins, happens, host_at, host_steps, hosts_step, mounts, mover_steps, moves, quietly, step_of, these_step}
+use Rattle.pf_fleet.specs.Volumes.{AnchoredHosts, Told, VolumeRun, all_step, anchored_at, anchored_hosts_step, begins, begins_over, followed as and_then, happens, host_at, host_steps, hosts_step, mount_count, mounts, mounts_in, mover_steps, moves, quietly, step_of, these_step}
 use Rattle.pf_script.specs.Lines.{group_of as group_of_line}
 use Rattle.pf_move.specs.Routes.{RoutesIs, home_of}
 use Rattle.pf_report.specs.Moves.{moving_text}
 use Rattle.std.specs.Option.{is_some}
 use Rattle.pf_mounted.proofs.Hauling.{mover_quiet, moves_quiet}
 use Rattle.pf_mounted.proofs.Lives.{AreQuiet}
+use Rattle.pf_mounted.proofs.Plain.{anchored_no_mounts, begun_no_mounts, no_mounts_quiet}
 use Rattle.pf_world.specs.declared.kind.Kind.{Kind}
 use Rattle.pf_world.specs.declared.kind.Kind.TheVariants.{Mounted, Raw}
 use Rattle.pf_threads.specs.Sessions.{Session, next_session}
 use Rattle.pf_world.specs.declared.line.Line.{Line}
 use Rattle.pf_world.specs.Worlds.{World, at_chunk, no_world, refused_text, said_only, stepped as line_stepped, told_of}
-use Rattle.pf_world.specs.Lines.{asked, begins_if, begins_move, call_of, decided, held_told, is_made, is_of_mounts, joins, kill_of, kind_after, line_told, live_as, made_group, mounts_as, no_event_of, rests, run_told, show_of, shown_of, submits_as, with_kind}
+use Rattle.pf_world.specs.Lines.{anchors_unless, asked, begins_if, begins_move, begins_over_if, call_in, call_of, call_over, decided, held_told, is_made, is_of_mounts, joins, keeps_from_anchors, kill_in, kill_of, kill_over, kind_after, line_told, live_as, made_group, mounts_as, no_event_of, rests, rests_over, run_told, show_in, show_of, show_over, shown_of, submits_as, with_kind}
 use Rattle.pf_world.specs.Reports.{run_from, world_run}
 use Rattle.pf_mounted.specs.Trees.{calls_of}
 use Rattle.pf_mounted.proofs.Naming.{calls_on}
@@ -123,7 +126,12 @@ module _ (m : ℕ) where
     quiet_still (Turns n heard next ∷ told) quiet = absurd quiet.0
 
     all_still : (v : VolumeRun) → IsStill (all_step halts v).told
-    all_still v = let t = hosts_step halts v in both_still t.told (mover_steps halts t.volume).told (hosts_still v) (quiet_still (mover_steps halts t.volume).told (mover_quiet halts t.volume))
+    all_still v =
+        let t = hosts_step halts v in
+        let over_them = (anchored_hosts_step halts t.volume).told in
+        let s = and_then t (anchored_hosts_step halts) in
+        both_still s.told (mover_steps halts s.volume).told (both_still t.told over_them (hosts_still v) (quiet_still over_them (no_mounts_quiet over_them (anchored_no_mounts halts t.volume))))
+        (quiet_still (mover_steps halts s.volume).told (mover_quiet halts s.volume))
 
     happens_still : (v : VolumeRun) (h : Happened) → IsStill (happens halts v h).told
     happens_still v h = all_still _
@@ -234,16 +242,58 @@ module _ (m : ℕ) where
       live_few Mounted chunk = omega arith
       live_few Raw chunk = held_few (drop 1 w.sessions) (next_session w.sessions) (slice_get w.volume.chunks chunk)
 
+      mounts_still : (v : VolumeRun) (o : Option AnchoredHosts) → IsStill (mounts_in v o).told
+      mounts_still v None = let o = opening (length v.hosts) v.extent in next_still v.routes v.chunks None None o.mount o.next
+      mounts_still v (Some anchored) = refl
+
       joined_few : IsFew (joins halts w number).told
       joined_few =
-          let new = line_stepped halts w number (mounts w.volume) (mount_text (length w.volume.hosts)) in
-          let o = opening (length w.volume.hosts) w.volume.extent in
-          let still = next_still w.volume.routes w.volume.chunks None None o.mount o.next in
+          let new = line_stepped halts w number (mounts w.volume) (mount_text (mount_count w.volume)) in
+          let still = mounts_still w.volume w.volume.anchored in
           let full = line_stepped halts w number (quietly w.volume) (refused_text 92) in
-          by_test (nat_lt (size_of w.volume.extent) 4112) (λ b. IsFew (if b then line_stepped halts w number (quietly w.volume) (refused_text 93) else if nat_le 16 (length w.volume.hosts) then full else new).told)
+          by_test (nat_lt (size_of w.volume.extent) 4112) (λ b. IsFew (if b then line_stepped halts w number (quietly w.volume) (refused_text 93) else if nat_le 16 (mount_count w.volume) then full else new).told)
           (λ _. refused_few w number (refused_text 93))
-          (λ _. by_test (nat_le 16 (length w.volume.hosts)) (λ b. IsFew (if b then full else new).told) (λ _. refused_few w number (refused_text 92))
-          (λ _. stepped_few w number (mounts w.volume) (mount_text (length w.volume.hosts)) (omega (arith, still))))
+          (λ _. by_test (nat_le 16 (mount_count w.volume)) (λ b. IsFew (if b then full else new).told) (λ _. refused_few w number (refused_text 92))
+          (λ _. stepped_few w number (mounts w.volume) (mount_text (mount_count w.volume)) (omega (arith, still))))
+
+      -- Over anchors no call is told to begin
+
+      killed_over_few : (k : ℕ) (anchored : AnchoredHosts) (host : Option AnchoredHostIs) → IsFew (kill_over w number k anchored host).told
+      killed_over_few k anchored None = omega arith
+      killed_over_few k anchored (Some host) = omega arith
+
+      killed_in_few : (k : ℕ) (o : Option AnchoredHosts) → IsFew (kill_in w number k o).told
+      killed_in_few k None = killed_few k (host_at w.volume.hosts k)
+      killed_in_few k (Some anchored) = killed_over_few k anchored (anchored_at anchored k)
+
+      show_over_few : (k : ℕ) (host : Option AnchoredHostIs) → IsFew (show_over w number k host).told
+      show_over_few k None = omega arith
+      show_over_few k (Some host) = omega arith
+
+      show_in_few : (k : ℕ) (o : Option AnchoredHosts) → IsFew (show_in w number k o).told
+      show_in_few k None = show_few k (host_at w.volume.hosts k)
+      show_in_few k (Some anchored) = show_over_few k (anchored_at anchored k)
+
+      anchored_few : (o : Option ℕ) → IsFew (anchors_unless w number o).told
+      anchored_few None = omega arith
+      anchored_few (Some refusal) = omega arith
+
+      begins_over_few : (k : ℕ) (anchored : AnchoredHosts) (host : AnchoredHostIs) (call : Option FileCall) → IsFew (begins_over_if halts w number k anchored host call).told
+      begins_over_few k anchored host None = refused_few w number (refused_text 80)
+      begins_over_few k anchored host (Some call) =
+          let told = (over.begun w.volume.chunks host call).told in
+          let still = quiet_still told (no_mounts_quiet told (begun_no_mounts w.volume.chunks host call)) in
+          stepped_few w number (begins_over k anchored host call w.volume) started_text (omega (arith, still))
+
+      called_over_few : (k : ℕ) (call : Call) (anchored : AnchoredHosts) (host : Option AnchoredHostIs) → IsFew (call_over halts w number k call anchored host).told
+      called_over_few k call anchored None = refused_few w number (refused_text 96)
+      called_over_few k call anchored (Some host) =
+          by_test (rests_over host.mount.task.work) (λ b. IsFew (if b then begins_over_if halts w number k anchored host (read_call call) else line_stepped halts w number (quietly w.volume) (refused_text 91)).told)
+          (λ _. begins_over_few k anchored host (read_call call)) (λ _. refused_few w number (refused_text 91))
+
+      called_in_few : (k : ℕ) (call : Call) (o : Option AnchoredHosts) → IsFew (call_in halts w number k call o).told
+      called_in_few k call None = called_few k call (host_at w.volume.hosts k)
+      called_in_few k call (Some anchored) = called_over_few k call anchored (anchored_at anchored k)
 
       mounted_few : (kind : Kind) → IsFew (mounts_as kind halts w number).told
       mounted_few Raw = omega arith
@@ -279,15 +329,16 @@ module _ (m : ℕ) where
     run_line_few w number (commands.Mark g i) = at_few w number g _
     run_line_few w number (commands.Settle limit) = still_few (settled halts limit w.volume).told _ (settled_still limit w.volume)
     run_line_few w number (commands.Live g hosts writes workers turns) = live_few (with_kind w (decided w.kind Raw)) number (decided w.kind Raw) g
+    run_line_few w number commands.Anchors = anchored_few w number (keeps_from_anchors w.kind w.volume.hosts w.volume.anchored w.volume.extent)
     run_line_few w number commands.Mount = mounted_few (with_kind w (decided w.kind Mounted)) number (decided w.kind Mounted)
-    run_line_few w number (commands.Kill k) = killed_few w number k (host_at w.volume.hosts k)
-    run_line_few w number (commands.Call k call) = called_few w number k call (host_at w.volume.hosts k)
+    run_line_few w number (commands.Kill k) = killed_in_few w number k w.volume.anchored
+    run_line_few w number (commands.Call k call) = called_in_few w number k call w.volume.anchored
     run_line_few w number (commands.ShowLog g i) = shown_few w number (slice_get w.volume.chunks g) _
     run_line_few w number (commands.ShowApplied g i) = shown_few w number (slice_get w.volume.chunks g) _
     run_line_few w number (commands.ShowSectors g i) = shown_few w number (slice_get w.volume.chunks g) _
     run_line_few w number (commands.ShowAcked g) = shown_few w number (slice_get w.volume.chunks g) _
     run_line_few w number (commands.ShowMark g i s) = shown_few w number (slice_get w.volume.chunks g) _
-    run_line_few w number (commands.ShowMount k) = show_few w number k (host_at w.volume.hosts k)
+    run_line_few w number (commands.ShowMount k) = show_in_few w number k w.volume.anchored
     run_line_few w number (commands.Move chunk) = move_few w number chunk w.kind
 
     line_few : (w : World) (number : ℕ) (command : Command) → IsFew (line_told halts w number command).told

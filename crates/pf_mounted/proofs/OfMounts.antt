@@ -38,13 +38,14 @@ use Rattle.pf_mounted.specs.Hosted.{AreOfReads, IsOfRead}
 use Rattle.pf_mounted.specs.Journals.{AreOfMounts, CanBegin, HasBegun, IsAnswerOf, IsOfMount, IsTurn}
 use Rattle.pf_mounted.specs.Mounts.{IsDone, Life, RestsIn, ask_in, asked_in, calling, hearing, last_ask, life_of, lived, mount_in, next_ask, opened, turned}
 use Rattle.pf_mounted.specs.Pasts.{past_of}
-use Rattle.pf_mounted.specs.Scripts.{IsScript}
+use Rattle.pf_mounted.specs.Scripts.{IsPlainRun}
 use Rattle.pf_mounted.proofs.Beginning.{turns_new}
 use Rattle.pf_mounted.proofs.Each.{AreEach, each_at}
 use Rattle.pf_mounted.proofs.Given.{in_kind}
 use Rattle.pf_mounted.proofs.Hearing.{IsSo}
 use Rattle.pf_mounted.proofs.Holding.{moments_so, replies_heard}
 use Rattle.pf_mounted.proofs.Lives.{called_life, its_own, life_on, turned_life}
+use Rattle.pf_mounted.proofs.Plain.{AreNoMounts, IsNoMounts}
 use Rattle.pf_mounted.proofs.Standing.{AreTold, each_done, hosts_are_told}
 
 -- Answers
@@ -147,7 +148,7 @@ module _ (v : Extent) (m : ℕ) where
 
 -- Runs
 
-module _ (halts : List Halt) (sessions : List Session) (lines : List Line) (script : IsScript lines) where
+module _ (halts : List Halt) (sessions : List Session) (lines : List Line) (script : IsPlainRun halts sessions lines) where
   abbrev run : Told
   run = world_run halts sessions lines
 
@@ -268,3 +269,30 @@ module _ (halts : List Halt) (sessions : List Session) (lines : List Line) (scri
     -- each moment is what its mount does, with the group's answers
     pub run_of_mounts : (answer_at : ℕ → Answered) × AreOfMounts e answer_at [] run.told × AreOfReads count chunks answer_at run.told
     run_of_mounts = (answer_at, of_mounts [] run.told refl, of_reads)
+
+-- where nothing is told of mounts, that is none's
+none_of_mount : (e : Extent) (before : List Moment) (answer : Answered) (y : Moment) → IsNoMounts y → IsOfMount e before answer y
+none_of_mount e before answer (Begins m call) none = absurd none
+none_of_mount e before answer (Turns m heard next) none = absurd none
+none_of_mount e before answer (Hands m k place) none = tt
+none_of_mount e before answer (Writes text) none = tt
+none_of_mount e before answer (MovesTo its to) none = tt
+none_of_mount e before answer (Carries its reply wants) none = tt
+none_of_mount e before answer (Ends m answer_of) none = tt
+
+all_of_none : (e : Extent) (before told : List Moment) → AreNoMounts told → AreOfMounts e (λ place. any_answer) before told
+all_of_none e before [] none = tt
+all_of_none e before (y ∷ told) none = (none_of_mount e before any_answer y none.0, all_of_none e (before ++ y ∷ []) told none.1)
+
+none_turns : (before : List Moment) (m : ℕ) (heard : Option Heard) (next : Option Ask) (after : List Moment) → AreNoMounts (before ++ Turns m heard next ∷ after) → ⊥
+none_turns [] m heard next after none = none.0
+none_turns (y ∷ before) m heard next after none = none_turns before m heard next after none.1
+
+pub none_of_mounts : (halts : List Halt) (sessions : List Session) (lines : List Line) → let run = world_run halts sessions lines in AreNoMounts run.told
+    → (answer_at : ℕ → Answered) × AreOfMounts run.world.volume.extent answer_at [] run.told × AreOfReads run.world.volume.extent.chunks run.world.volume.chunks answer_at run.told
+none_of_mounts halts sessions lines none =
+    let run = world_run halts sessions lines in (
+      λ place. any_answer,
+      all_of_none run.world.volume.extent [] run.told none,
+      λ before after m k heard next range sectors same pending bytes. absurd (none_turns before m (Some heard) next after (subst AreNoMounts same none)),
+    )

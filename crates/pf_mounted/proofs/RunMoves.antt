@@ -20,7 +20,7 @@ use Rattle.pf_world.specs.declared.line.Line.{Line}
 use Rattle.pf_mounted.specs.Epochs.{group_at, home_of as home_of_group}
 use Rattle.pf_mounted.specs.Movers.{AreMoves, carried_ask, role_of_reply}
 use Rattle.pf_mounted.specs.Pasts.{mover_trace, past_in}
-use Rattle.pf_mounted.specs.Scripts.{IsScript}
+use Rattle.pf_mounted.specs.Scripts.{IsPlainRun}
 use Rattle.pf_mounted.proofs.Epoching.{AreBegun, group_home}
 use Rattle.pf_mounted.proofs.Given.{in_kind}
 use Rattle.pf_mounted.proofs.Holding.{each_so, is_borne, movers_driven}
@@ -29,7 +29,7 @@ use Rattle.pf_mounted.proofs.MoverCalls.{calls_follow}
 use Rattle.pf_mounted.proofs.MoverTurns.{run_steps}
 
 -- no group has two chunks
-module _ (halts : List Halt) (sessions : List Session) (lines : List Line) (script : IsScript lines) where
+module _ (halts : List Halt) (sessions : List Session) (lines : List Line) (script : IsPlainRun halts sessions lines) where
   begun : AreBegun (world_run halts sessions lines).world.volume.extent.chunks (world_run halts sessions lines).told
   begun = record {
     begins = λ before after chunk to same.
@@ -42,7 +42,7 @@ module _ (halts : List Halt) (sessions : List Session) (lines : List Line) (scri
       → home_of_group (world_run halts sessions lines).world.volume.extent.chunks (world_run halts sessions lines).told group ≡ Some (record { chunk = chunk; epoch = epoch })
   groups_apart chunk epoch group low at = group_home (world_run halts sessions lines).world.volume.extent.chunks (world_run halts sessions lines).told begun chunk epoch group low at
 
-module _ (halts : List Halt) (sessions : List Session) (lines : List Line) (script : IsScript lines) (lawful : IsLawfulRun (world_run halts sessions lines).world) where
+module _ (halts : List Halt) (sessions : List Session) (lines : List Line) (script : IsPlainRun halts sessions lines) (lawful : IsLawfulRun (world_run halts sessions lines).world) where
   abbrev run : Told
   run = world_run halts sessions lines
 

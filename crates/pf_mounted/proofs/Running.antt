@@ -1,9 +1,10 @@
--- What holds of a new volume, and is kept by all that lines and hosts do to one, holds of the run of every script.
-use Rattle.std.proofs.Common.{◌≡◌, ℕ, zero, suc, Bool, true, false, not, if◌then◌else◌, List, [], ◌∷◌, ◌++◌, drop, length, Option, Some, None, slice_get, refl, sym, ap, subst, append-nil}
+-- What holds of a new volume, and is kept by all that lines and hosts do to one, holds of the run of every script; and of each run in which the
+-- journal never lies on three anchors, what is kept as long as it does not.
+use Rattle.std.proofs.Common.{◌≡◌, ℕ, zero, suc, Bool, true, false, not, if◌then◌else◌, List, [], ◌∷◌, ◌++◌, drop, length, Option, Some, None, slice_get, arith, refl, sym, ap, subst, append-nil, ◌∙◌}
 use Rattle.std.specs.Prelude.{nat_le, nat_lt}
 use Rattle.std.specs.List.{range_with_len}
 use Rattle.std.specs.Option.{is_some}
-use Rattle.std.proofs.lemmas.Bool.{false≢true}
+use Rattle.std.proofs.lemmas.Bool.{false≢true, ltb-false}
 use Rattle.std.proofs.lemmas.List.{append_assoc}
 use Rattle.std.proofs.lemmas.Option.{none-some, same_Some}
 use Rattle.pf_base.specs.Span.{Span}
@@ -19,7 +20,7 @@ use Rattle.pf_protocol.specs.declared.answers.Answer.TheVariants.{Done}
 use Rattle.pf_protocol.specs.declared.events.Event.{Event}
 use Rattle.pf_protocol.specs.declared.events.Event.TheVariants as events
 use Rattle.pf_group.specs.Packets.{is_passed_over}
-use Rattle.pf_volume.specs.Volumes.{size_of}
+use Rattle.pf_volume.specs.Volumes.{Extent, size_of}
 use Rattle.pf_tree.specs.declared.calls.FileCall.{FileCall}
 use Rattle.pf_tree.specs.Listings.{listing}
 use Rattle.pf_report.specs.Moves.{moving_text}
@@ -36,26 +37,29 @@ use Rattle.pf_chunk.specs.Saying.{answer_line, said}
 use Rattle.pf_hosts.specs.Moments.{Moment, Writes}
 use Rattle.pf_hosts.specs.Hosts.{HostIs}
 use Rattle.pf_hosts.specs.Hosts as hosts
+use Rattle.pf_anchorhosts.specs.Hosts.{AnchoredHostIs}
+use Rattle.pf_anchorhosts.specs.Hosts as over
 use Rattle.pf_hosts.specs.Words.{read_call}
 use Rattle.pf_fleet.specs.Settling.{Goes, Name, Next, Settled, delivered, ends, enough_tries, goes_on, least_left, name_of, next_in, next_of, settle_next, settle_to, settled, tried}
 use Rattle.pf_fleet.specs.Settled.{settling}
-use Rattle.pf_fleet.specs.Volumes.{VolumeRun, all_step, begins, happens, host_at, host_steps, hosts_step, killed, mounts, mover_steps, moves, quietly, saying, step_of, these_step, with_chunk, with_host}
+use Rattle.pf_fleet.specs.Volumes.{AnchoredHosts, Hosts, VolumeRun, all_step, anchored_at, anchored_hosts_step, anchored_step_in, anchored_step_of, anchored_steps, anchors, begins, begins_over, count_in, happens, host_at, host_steps, hosts_step, how_many, joined_over, killed, killed_over, mount_count, mounts, mounts_in, mover_steps, moves, quietly, saying, step_of, these_anchored_step, these_step, with_anchored, with_chunk, with_host}
 use Rattle.pf_fleet.specs.Volumes as volumes
 use Rattle.pf_world.specs.declared.kind.Kind.{Kind}
 use Rattle.pf_world.specs.declared.kind.Kind.TheVariants.{Mounted, Raw}
 use Rattle.pf_threads.specs.Sessions.{Session, next_session, session_text}
 use Rattle.pf_world.specs.declared.line.Line.{Line}
 use Rattle.pf_world.specs.Worlds.{Told, World, at_chunk, ended, made, made_answer, no_world, refused_text, said_only, stepped, told_of}
-use Rattle.pf_world.specs.Lines.{asked, begins_if, begins_move, call_of, decided, held_told, is_made, is_of_mounts, joins, kill_of, kind_after, line_told, live_as, made_group, mounts_as, move_told, no_event_of, rests, run_told, show_of, shown_of, submits_as}
+use Rattle.pf_world.specs.Lines.{anchors_unless, are_late, asked, begins_if, begins_move, begins_over_if, call_in, call_of, call_over, decided, held_told, is_made, is_of_mounts, is_raw, joins, keeps_from_anchors, kill_in, kill_of, kill_over, kind_after, lacks_anchors, line_told, live_as, made_group, mounts_as, move_told, no_event_of, rests, rests_over, run_told, show_in, show_of, show_over, shown_of, submits_as}
 use Rattle.pf_world.specs.Reports.{run_from, world_run}
-use Rattle.pf_mounted.specs.Scripts.{IsScript, makes_volume}
+use Rattle.pf_mounted.specs.Scripts.{IsPlainRun, IsScript, makes_volume}
+use Rattle.pf_mounted.proofs.Plain.{mover_same, moves_same}
 use Rattle.pf_mounted.proofs.Writing.{IsNoWrite}
 
 -- a group that is made for a move
 abbrev pub new_group : List Halt → VolumeRun → (names format : ℕ) → ChunkRun
 new_group halts v names format = new_run (made_chunk halts v.extent.sectors names format (length v.chunks))
 
--- A property of a run's kind, its volume and all that was told so far is kept where the kind is decided, by lines of text, by an event of a
+-- A property of a run's kind, its volume and all that was told so far is kept, where the journal does not lie on anchors, where the kind is decided, by lines of text, by an event of a
 -- chunk, by a write that a line submits or a session of threads in a raw run, by a read that a line takes up, by the step of a host or of the
 -- mover, where a host comes in a run with mounts, begins the call of words or goes, and where a chunk begins to move to a new group
 pub record IsKeptIn (halts : List Halt) (P : Option Kind → VolumeRun → List Moment → Type 0) : Type 0 where
@@ -71,7 +75,7 @@ pub record IsKeptIn (halts : List Halt) (P : Option Kind → VolumeRun → List 
   pub carrying : (kind : Option Kind) (v : VolumeRun) (told : List Moment) → P kind v told → P kind (mover_steps halts v).volume (told ++ (mover_steps halts v).told)
   pub moving : (v : VolumeRun) (told : List Moment) (names format chunk : ℕ) → is_some v.routes.moving ≡ false → nat_le 8 (length v.chunks) ≡ false → P (Some Mounted) v told
       → P (Some Mounted) (moves chunk (new_group halts v names format) v).volume (told ++ (moves chunk (new_group halts v names format) v).told)
-  pub mounting : (v : VolumeRun) (told : List Moment) → nat_lt (size_of v.extent) 4112 ≡ false → nat_le 16 (length v.hosts) ≡ false → P (Some Mounted) v told → P (Some Mounted) (mounts v).volume (told ++ (mounts v).told)
+  pub mounting : (v : VolumeRun) (told : List Moment) → nat_lt (size_of v.extent) 4112 ≡ false → nat_le 16 (length v.hosts) ≡ false → P (Some Mounted) v told → P (Some Mounted) (mounts_in v None).volume (told ++ (mounts_in v None).told)
   pub beginning : (kind : Option Kind) (v : VolumeRun) (told : List Moment) (m : ℕ) (host : HostIs) (words : Call) (call : FileCall) → host_at v.hosts m ≡ Some host → rests host.mount.work ≡ true → read_call words ≡ Some call → P kind v told
       → P kind (begins m host call v).volume (told ++ (begins m host call v).told)
   pub killing : (kind : Option Kind) (v : VolumeRun) (told : List Moment) (m : ℕ) (host : HostIs) → host_at v.hosts m ≡ Some host → P kind v told → P kind (killed m v) told
@@ -87,7 +91,7 @@ pub record IsKept (halts : List Halt) (P : VolumeRun → List Moment → Type 0)
   pub carrying : (v : VolumeRun) (told : List Moment) → P v told → P (mover_steps halts v).volume (told ++ (mover_steps halts v).told)
   pub moving : (v : VolumeRun) (told : List Moment) (names format chunk : ℕ) → is_some v.routes.moving ≡ false → nat_le 8 (length v.chunks) ≡ false → P v told
       → P (moves chunk (new_group halts v names format) v).volume (told ++ (moves chunk (new_group halts v names format) v).told)
-  pub mounting : (v : VolumeRun) (told : List Moment) → nat_lt (size_of v.extent) 4112 ≡ false → nat_le 16 (length v.hosts) ≡ false → P v told → P (mounts v).volume (told ++ (mounts v).told)
+  pub mounting : (v : VolumeRun) (told : List Moment) → nat_lt (size_of v.extent) 4112 ≡ false → nat_le 16 (length v.hosts) ≡ false → P v told → P (mounts_in v None).volume (told ++ (mounts_in v None).told)
   pub beginning : (v : VolumeRun) (told : List Moment) (m : ℕ) (host : HostIs) (call : FileCall) → host_at v.hosts m ≡ Some host → rests host.mount.work ≡ true → P v told
       → P (begins m host call v).volume (told ++ (begins m host call v).told)
   pub killing : (v : VolumeRun) (told : List Moment) (m : ℕ) (host : HostIs) → host_at v.hosts m ≡ Some host → P v told → P (killed m v) told
@@ -108,7 +112,83 @@ in_any_kind halts P kept = record {
   killing = λ kind. kept.killing;
 }
 
-module _ (halts : List Halt) (P : Option Kind → VolumeRun → List Moment → Type 0) (kept : IsKeptIn halts P) where
+-- In any run it is kept so, and where the journal comes to lie on three anchors, as no mount was made; and where a host over anchors comes, takes a
+-- step, begins a call or goes
+pub record IsKeptThrough (halts : List Halt) (P : Option Kind → VolumeRun → List Moment → Type 0) : Type 0 where
+  pub deciding : (kind : Kind) (v : VolumeRun) (told : List Moment) → P None v told → P (Some kind) v told
+  pub writing : (kind : Option Kind) (v : VolumeRun) (told : List Moment) (text : List ℕ) → P kind v told → P kind v (told ++ Writes text ∷ [])
+  pub happening : (kind : Option Kind) (v : VolumeRun) (told : List Moment) (k : ℕ) (c : ChunkRun) (event : Event) → slice_get v.chunks k ≡ Some c → IsNoWrite event → P kind v told → P kind (with_chunk v (happened halts c event).chunk) told
+  pub submitting : (v : VolumeRun) (told : List Moment) (k : ℕ) (c : ChunkRun) (server : ℕ) (op : Op) → slice_get v.chunks k ≡ Some c → P (Some Raw) v told
+      → P (Some Raw) (with_chunk v (happened halts c (events.Submit server op)).chunk) told
+  pub threading : (v : VolumeRun) (told : List Moment) (k : ℕ) (c : ChunkRun) (its : List Event) → slice_get v.chunks k ≡ Some c → P (Some Raw) v told → P (Some Raw) (with_chunk v (all_happened halts its c).chunk) told
+  pub reading : (kind : Option Kind) (v : VolumeRun) (told : List Moment) (k : ℕ) (c : ChunkRun) (server : ℕ) (range : Span) → slice_get v.chunks k ≡ Some c → P kind v told → P kind (with_chunk v (fetched halts server range c).chunk) told
+  pub stepping : (kind : Option Kind) (v : VolumeRun) (told : List Moment) (m : ℕ) (host : HostIs) → host_at v.hosts m ≡ Some host → P kind v told
+      → P kind (with_host v m (hosts.stepped halts v.routes v.chunks host)).volume (told ++ (hosts.stepped halts v.routes v.chunks host).told)
+  pub carrying : (kind : Option Kind) (v : VolumeRun) (told : List Moment) → P kind v told → P kind (mover_steps halts v).volume (told ++ (mover_steps halts v).told)
+  pub moving : (v : VolumeRun) (told : List Moment) (names format chunk : ℕ) → is_some v.routes.moving ≡ false → nat_le 8 (length v.chunks) ≡ false → P (Some Mounted) v told
+      → P (Some Mounted) (moves chunk (new_group halts v names format) v).volume (told ++ (moves chunk (new_group halts v names format) v).told)
+  pub mounting : (v : VolumeRun) (told : List Moment) → v.anchored ≡ None → nat_lt (size_of v.extent) 4112 ≡ false → nat_le 16 (length v.hosts) ≡ false → P (Some Mounted) v told → P (Some Mounted) (mounts_in v None).volume (told ++ (mounts_in v None).told)
+  pub beginning : (kind : Option Kind) (v : VolumeRun) (told : List Moment) (m : ℕ) (host : HostIs) (words : Call) (call : FileCall) → host_at v.hosts m ≡ Some host → rests host.mount.work ≡ true → read_call words ≡ Some call → P kind v told
+      → P kind (begins m host call v).volume (told ++ (begins m host call v).told)
+  pub killing : (kind : Option Kind) (v : VolumeRun) (told : List Moment) (m : ℕ) (host : HostIs) → host_at v.hosts m ≡ Some host → P kind v told → P kind (killed m v) told
+  pub anchoring : (kind : Option Kind) (v : VolumeRun) (told : List Moment) → v.anchored ≡ None → length v.hosts ≡ 0 → P kind v told → P kind (anchors v) told
+  pub over_mounting : (v : VolumeRun) (told : List Moment) (anchored : AnchoredHosts) → v.anchored ≡ Some anchored → nat_lt (size_of v.extent) 4112 ≡ false → nat_le 16 (length anchored) ≡ false → P (Some Mounted) v told
+      → P (Some Mounted) (joined_over v anchored).volume (told ++ (joined_over v anchored).told)
+  pub over_stepping : (kind : Option Kind) (v : VolumeRun) (told : List Moment) (anchored : AnchoredHosts) (m : ℕ) (host : AnchoredHostIs) → v.anchored ≡ Some anchored → anchored_at anchored m ≡ Some host → P kind v told
+      → P kind (with_anchored v anchored m (over.stepped halts v.routes v.chunks host)).volume (told ++ (over.stepped halts v.routes v.chunks host).told)
+  pub over_beginning : (kind : Option Kind) (v : VolumeRun) (told : List Moment) (anchored : AnchoredHosts) (m : ℕ) (host : AnchoredHostIs) (words : Call) (call : FileCall) → v.anchored ≡ Some anchored → anchored_at anchored m ≡ Some host
+      → rests_over host.mount.task.work ≡ true → read_call words ≡ Some call → P kind v told
+      → P kind (begins_over m anchored host call v).volume (told ++ (begins_over m anchored host call v).told)
+  pub over_killing : (kind : Option Kind) (v : VolumeRun) (told : List Moment) (anchored : AnchoredHosts) (m : ℕ) (host : AnchoredHostIs) → v.anchored ≡ Some anchored → anchored_at anchored m ≡ Some host → P kind v told
+      → P kind (killed_over m anchored v) told
+
+-- as long as the journal does not lie on anchors
+abbrev Plainly : (P : Option Kind → VolumeRun → List Moment → Type 0) → Option Kind → VolumeRun → List Moment → Type 0
+Plainly P kind v told = v.anchored ≡ None → P kind v told
+
+not_plain : (hosts : AnchoredHosts) → Some hosts ≡ None → ⊥
+not_plain hosts same = none-some hosts (sym same)
+
+plainly : (halts : List Halt) (P : Option Kind → VolumeRun → List Moment → Type 0) → IsKeptIn halts P → IsKeptThrough halts (Plainly P)
+plainly halts P kept = record {
+  deciding = λ kind v told is none. kept.deciding kind v told (is none);
+  writing = λ kind v told text is none. kept.writing kind v told text (is none);
+  happening = λ kind v told k c event at never is none. kept.happening kind v told k c event at never (is none);
+  submitting = λ v told k c server op at is none. kept.submitting v told k c server op at (is none);
+  threading = λ v told k c its at is none. kept.threading v told k c its at (is none);
+  reading = λ kind v told k c server range at is none. kept.reading kind v told k c server range at (is none);
+  stepping = λ kind v told m host at is none. kept.stepping kind v told m host at (is none);
+  carrying = λ kind v told is none. kept.carrying kind v told (is (sym (mover_same halts v).0 ∙ none));
+  moving = λ v told names format chunk free few is none. kept.moving v told names format chunk free few (is (sym (moves_same chunk (new_group halts v names format) v).0 ∙ none));
+  mounting = λ v told plain large few is none. kept.mounting v told large few (is plain);
+  beginning = λ kind v told m host words call at rest said is none. kept.beginning kind v told m host words call at rest said (is none);
+  killing = λ kind v told m host at is none. kept.killing kind v told m host at (is none);
+  anchoring = λ kind v told plain no_host is none. absurd (not_plain _ none);
+  over_mounting = λ v told anchored there large few is none. absurd (not_plain _ none);
+  over_stepping = λ kind v told anchored m host there at is none. absurd (not_plain _ none);
+  over_beginning = λ kind v told anchored m host words call there at rest said is none. absurd (not_plain _ none);
+  over_killing = λ kind v told anchored m host there at is none. absurd (not_plain _ none);
+}
+
+-- what let the journal come to lie on anchors
+module _ (kind : Option Kind) (hosts : Hosts) (extent : Extent) where
+  not_late : (anchored : Option AnchoredHosts) → are_late hosts anchored ≡ false → (anchored ≡ None) × (length hosts ≡ 0)
+  not_late None free = let none = ltb-false 0 (length hosts) free in (refl, omega (arith, none))
+  not_late (Some its) late = absurd (false≢true (sym late))
+
+  abbrev if_late : Option AnchoredHosts → Option ℕ
+  if_late anchored = if are_late hosts anchored then Some 99 else if lacks_anchors extent then Some 98 else None
+
+  abbrev if_lacking : Option ℕ
+  if_lacking = if lacks_anchors extent then Some 98 else None
+
+  let_anchor : (anchored : Option AnchoredHosts) → keeps_from_anchors kind hosts anchored extent ≡ None → (anchored ≡ None) × (length hosts ≡ 0)
+  let_anchor anchored =
+      by_test (is_raw kind) (λ b. if◌then◌else◌ {A = Option ℕ} b (Some 95) (if_late anchored) ≡ None → (anchored ≡ None) × (length hosts ≡ 0)) (λ _ none. absurd (none-some 95 (sym none)))
+      (λ _. by_test (are_late hosts anchored) (λ b. if◌then◌else◌ {A = Option ℕ} b (Some 99) if_lacking ≡ None → (anchored ≡ None) × (length hosts ≡ 0)) (λ _ none. absurd (none-some 99 (sym none)))
+      (λ free none. not_late anchored free))
+
+module _ (halts : List Halt) (P : Option Kind → VolumeRun → List Moment → Type 0) (kept : IsKeptThrough halts P) where
   module _ (kind : Option Kind) where
     -- it holds after this, which was told behind what was told before
     abbrev Comes : (told : List Moment) → volumes.Told → Type 0
@@ -143,9 +223,30 @@ module _ (halts : List Halt) (P : Option Kind → VolumeRun → List Moment → 
     unfolding hosts_step
     hosts_all v told is = these (range_with_len 0 (length v.hosts)) v told is
 
-    -- each host, and then the mover
+    over_step : (m : ℕ) (v : VolumeRun) (told : List Moment) → P kind v told → Comes told (anchored_steps halts m v)
+    over_step m v told is = by v.anchored refl
+      where
+        one : (anchored : AnchoredHosts) (o : Option AnchoredHostIs) → v.anchored ≡ Some anchored → anchored_at anchored m ≡ o → Comes told (anchored_step_of halts m v anchored o)
+        one anchored None there at = nothing_told v told is
+        one anchored (Some host) there at = kept.over_stepping kind v told anchored m host there at is
+
+        by : (o : Option AnchoredHosts) → v.anchored ≡ o → Comes told (anchored_step_in halts m v o)
+        by None there = nothing_told v told is
+        by (Some anchored) there = one anchored (anchored_at anchored m) there refl
+
+    these_over : (ms : List ℕ) (v : VolumeRun) (told : List Moment) → P kind v told → Comes told (these_anchored_step halts ms v)
+    these_over [] v told is = nothing_told v told is
+    these_over (m ∷ ms) v told is = follow told (anchored_steps halts m v) (these_anchored_step halts ms) (over_step m v told is) (these_over ms)
+
+    over_all : (v : VolumeRun) (told : List Moment) → P kind v told → Comes told (anchored_hosts_step halts v)
+    unfolding anchored_hosts_step
+    over_all v told is = these_over (range_with_len 0 (how_many v.anchored)) v told is
+
+    -- each host, those over anchors, and then the mover
     all_on : (v : VolumeRun) (told : List Moment) → P kind v told → Comes told (all_step halts v)
-    all_on v told is = follow told (hosts_step halts v) (mover_steps halts) (hosts_all v told is) (kept.carrying kind)
+    all_on v told is =
+        let t : volumes.Told = hosts_step halts v in
+        follow told (volumes.followed t (anchored_hosts_step halts)) (mover_steps halts) (follow told t (anchored_hosts_step halts) (hosts_all v told is) over_all) (kept.carrying kind)
 
     -- something happened to a chunk
     after_event : (v : VolumeRun) (told : List Moment) (h : Happened) → P kind (with_chunk v h.chunk) told → Comes told (happens halts v h)
@@ -247,6 +348,15 @@ module _ (halts : List Halt) (P : Option Kind → VolumeRun → List Moment → 
     kill m None there = say w number (refused_text 96) told is
     kill m (Some host) there = end w number (quietly (killed m w.volume)) (said Done) told (nothing_told w.kind (killed m w.volume) told (kept.killing w.kind w.volume told m host there is))
 
+    kill_over_it : (m : ℕ) (anchored : AnchoredHosts) (o : Option AnchoredHostIs) → w.volume.anchored ≡ Some anchored → anchored_at anchored m ≡ o → Tells told (kill_over w number m anchored o)
+    kill_over_it m anchored None there at = say w number (refused_text 96) told is
+    kill_over_it m anchored (Some host) there at =
+        end w number (quietly (killed_over m anchored w.volume)) (said Done) told (nothing_told w.kind (killed_over m anchored w.volume) told (kept.over_killing w.kind w.volume told anchored m host there at is))
+
+    kill_it : (m : ℕ) (o : Option AnchoredHosts) → w.volume.anchored ≡ o → Tells told (kill_in w number m o)
+    kill_it m None there = kill m (host_at w.volume.hosts m) refl
+    kill_it m (Some anchored) there = kill_over_it m anchored (anchored_at anchored m) there refl
+
     begin : (m : ℕ) (host : HostIs) (words : Call) → host_at w.volume.hosts m ≡ Some host → rests host.mount.work ≡ true → (o : Option FileCall) → read_call words ≡ o → Tells told (begins_if halts w number m host o)
     begin m host words there free None said_so = refuse w number (refused_text 80) told is
     begin m host words there free (Some call) said_so = step w number (begins m host call w.volume) started_text told (kept.beginning w.kind w.volume told m host words call there free said_so is)
@@ -258,11 +368,45 @@ module _ (halts : List Halt) (P : Option Kind → VolumeRun → List Moment → 
         (λ free. begin m host words there free (read_call words) refl)
         (λ _. refuse w number (refused_text 91) told is)
 
+    module _ (m : ℕ) (words : Call) (anchored : AnchoredHosts) (there : w.volume.anchored ≡ Some anchored) where
+      begin_over : (host : AnchoredHostIs) → anchored_at anchored m ≡ Some host → rests_over host.mount.task.work ≡ true → (o : Option FileCall) → read_call words ≡ o → Tells told (begins_over_if halts w number m anchored host o)
+      begin_over host at free None said_so = refuse w number (refused_text 80) told is
+      begin_over host at free (Some call) said_so =
+          step w number (begins_over m anchored host call w.volume) started_text told (kept.over_beginning w.kind w.volume told anchored m host words call there at free said_so is)
+
+      call_over_it : (o : Option AnchoredHostIs) → anchored_at anchored m ≡ o → Tells told (call_over halts w number m words anchored o)
+      call_over_it None at = refuse w number (refused_text 96) told is
+      call_over_it (Some host) at =
+          by_test (rests_over host.mount.task.work) (λ b. Tells told (if b then begins_over_if halts w number m anchored host (read_call words) else stepped halts w number (quietly w.volume) (refused_text 91)))
+          (λ free. begin_over host at free (read_call words) refl)
+          (λ _. refuse w number (refused_text 91) told is)
+
+    call_it : (m : ℕ) (words : Call) (o : Option AnchoredHosts) → w.volume.anchored ≡ o → Tells told (call_in halts w number m words o)
+    call_it m words None there = call m words (host_at w.volume.hosts m) refl
+    call_it m words (Some anchored) there = call_over_it m words anchored there (anchored_at anchored m) refl
+
     show_mount : (m : ℕ) (o : Option HostIs) → Tells told (show_of w number m o)
     show_mount m None = say w number (refused_text 96) told is
     show_mount m (Some host) =
         let lines = tree_lines (listing host.mount.files.tables) in
         end w number (saying lines w.volume) (state_text m host.mount.upto (not (rests host.mount.work))) told (kept.writing w.kind w.volume told lines is)
+
+    show_over_it : (m : ℕ) (o : Option AnchoredHostIs) → Tells told (show_over w number m o)
+    show_over_it m None = say w number (refused_text 96) told is
+    show_over_it m (Some host) =
+        let lines = tree_lines (listing host.mount.files.tables) in
+        end w number (saying lines w.volume) (state_text m host.mount.upto (not (rests_over host.mount.task.work))) told (kept.writing w.kind w.volume told lines is)
+
+    show_it : (m : ℕ) (o : Option AnchoredHosts) → Tells told (show_in w number m o)
+    show_it m None = show_mount m (host_at w.volume.hosts m)
+    show_it m (Some anchored) = show_over_it m (anchored_at anchored m)
+
+    -- the journal comes to lie on anchors
+    anchor : (o : Option ℕ) → keeps_from_anchors w.kind w.volume.hosts w.volume.anchored w.volume.extent ≡ o → Tells told (anchors_unless w number o)
+    anchor (Some refusal) keeps = say w number (refused_text refusal) told is
+    anchor None lets =
+        let free = let_anchor w.kind w.volume.hosts w.volume.extent w.volume.anchored lets in
+        end w number (quietly (anchors w.volume)) (said Done) told (nothing_told w.kind (anchors w.volume) told (kept.anchoring w.kind w.volume told free.0 free.1 is))
 
   -- Lines that ask for a kind of run
 
@@ -290,17 +434,21 @@ module _ (halts : List Halt) (P : Option Kind → VolumeRun → List Moment → 
         end (of_kind Raw) number (happens halts v now) (session_text c.group now.chunk.group session.ended) told (after_event (Some Raw) v told now (kept.threading v told k c session.events there is))
 
     abbrev new_mount : Told
-    new_mount = stepped halts (of_kind Mounted) number (mounts v) (mount_text (length v.hosts))
+    new_mount = stepped halts (of_kind Mounted) number (mounts v) (mount_text (mount_count v))
 
     abbrev if_few : Told
-    if_few = if nat_le 16 (length v.hosts) then stepped halts (of_kind Mounted) number (quietly v) (refused_text 92) else new_mount
+    if_few = if nat_le 16 (mount_count v) then stepped halts (of_kind Mounted) number (quietly v) (refused_text 92) else new_mount
+
+    join_in : P (Some Mounted) v told → nat_lt (size_of v.extent) 4112 ≡ false → (o : Option AnchoredHosts) → v.anchored ≡ o → nat_le 16 (count_in v.hosts o) ≡ false → Comes (Some Mounted) told (mounts_in v o)
+    join_in is large None there few = kept.mounting v told there large few is
+    join_in is large (Some anchored) there few = kept.over_mounting v told anchored there large few is
 
     join : P (Some Mounted) v told → Tells told (joins halts (of_kind Mounted) number)
     join is =
         let w : World = of_kind Mounted in
         by_test (nat_lt (size_of v.extent) 4112) (λ b. Tells told (if b then stepped halts w number (quietly v) (refused_text 93) else if_few)) (λ _. refuse w number (refused_text 93) told is)
-        (λ large. by_test (nat_le 16 (length v.hosts)) (λ b. Tells told (if b then stepped halts w number (quietly v) (refused_text 92) else new_mount)) (λ _. refuse w number (refused_text 92) told is)
-        (λ few. step w number (mounts v) (mount_text (length v.hosts)) told (kept.mounting v told large few is)))
+        (λ large. by_test (nat_le 16 (mount_count v)) (λ b. Tells told (if b then stepped halts w number (quietly v) (refused_text 92) else new_mount)) (λ _. refuse w number (refused_text 92) told is)
+        (λ few. step w number (mounts v) (mount_text (mount_count v)) told (join_in is large v.anchored refl few)))
 
     mount_as : (kind : Kind) → P (Some kind) v told → Tells told (mounts_as kind halts (of_kind kind) number)
     mount_as Raw is = say (of_kind Raw) number (refused_text 95) told is
@@ -355,15 +503,16 @@ module _ (halts : List Halt) (P : Option Kind → VolumeRun → List Moment → 
       let s : Settled = settled halts limit w.volume in
       end w number (settling limit halts w.volume) (settle_text s.stopped) told (settles w.kind limit w.volume told is)
   run_line w number told is (commands.Live g hosts writes workers turns) none = let kind : Kind = decided w.kind Raw in hold_as w.volume w.names w.format w.sessions number told kind (decide w.kind Raw w.volume told is) g
+  run_line w number told is commands.Anchors none = anchor w number told is (keeps_from_anchors w.kind w.volume.hosts w.volume.anchored w.volume.extent) refl
   run_line w number told is commands.Mount none = let kind : Kind = decided w.kind Mounted in mount_as w.volume w.names w.format w.sessions number told kind (decide w.kind Mounted w.volume told is)
-  run_line w number told is (commands.Kill m) none = kill w number told is m (host_at w.volume.hosts m) refl
-  run_line w number told is (commands.Call m words) none = call w number told is m words (host_at w.volume.hosts m) refl
+  run_line w number told is (commands.Kill m) none = kill_it w number told is m w.volume.anchored refl
+  run_line w number told is (commands.Call m words) none = call_it w number told is m words w.volume.anchored refl
   run_line w number told is (commands.ShowLog g i) none = show w number told is (slice_get w.volume.chunks g) _
   run_line w number told is (commands.ShowApplied g i) none = show w number told is (slice_get w.volume.chunks g) _
   run_line w number told is (commands.ShowSectors g i) none = show w number told is (slice_get w.volume.chunks g) _
   run_line w number told is (commands.ShowAcked g) none = show w number told is (slice_get w.volume.chunks g) _
   run_line w number told is (commands.ShowMark g i s) none = show w number told is (slice_get w.volume.chunks g) _
-  run_line w number told is (commands.ShowMount m) none = show_mount w number told is m (host_at w.volume.hosts m)
+  run_line w number told is (commands.ShowMount m) none = show_it w number told is m w.volume.anchored
   run_line w number told is (commands.Move chunk) none = move w number told is chunk
 
   -- a line that is refused decides the kind all the same
@@ -394,12 +543,16 @@ module _ (halts : List Halt) (P : Option Kind → VolumeRun → List Moment → 
         kept.writing None w.volume [] (answer_line number (made_answer w)) (new sessions chunks sectors names format)
     first_line sessions number command is = absurd (false≢true is)
 
-    pub running_in : (sessions : List Session) (lines : List Line) → IsScript lines → P (world_run halts sessions lines).world.kind (world_run halts sessions lines).world.volume (world_run halts sessions lines).told
-    running_in sessions [] is = absurd is
-    running_in sessions (first ∷ lines) is =
+    pub running_through : (sessions : List Session) (lines : List Line) → IsScript lines → P (world_run halts sessions lines).world.kind (world_run halts sessions lines).world.volume (world_run halts sessions lines).told
+    running_through sessions [] is = absurd is
+    running_through sessions (first ∷ lines) is =
         let t : Told = line_told halts (no_world sessions) first.number first.command in
         run lines t.world t.told is.1 (first_line sessions first.number first.command is.0)
 
+pub running_in : (halts : List Halt) (P : Option Kind → VolumeRun → List Moment → Type 0) → IsKeptIn halts P → ((sessions : List Session) (chunks sectors names format : ℕ) → P None (made halts sessions chunks sectors names format).volume [])
+    → (sessions : List Session) (lines : List Line) → IsPlainRun halts sessions lines → P (world_run halts sessions lines).world.kind (world_run halts sessions lines).world.volume (world_run halts sessions lines).told
+running_in halts P kept new sessions lines is = running_through halts (Plainly P) (plainly halts P kept) (λ its chunks sectors names format none. new its chunks sectors names format) sessions lines is.script is.plain
+
 pub running : (halts : List Halt) (P : VolumeRun → List Moment → Type 0) → IsKept halts P → ((sessions : List Session) (chunks sectors names format : ℕ) → P (made halts sessions chunks sectors names format).volume [])
-    → (sessions : List Session) (lines : List Line) → IsScript lines → P (world_run halts sessions lines).world.volume (world_run halts sessions lines).told
+    → (sessions : List Session) (lines : List Line) → IsPlainRun halts sessions lines → P (world_run halts sessions lines).world.volume (world_run halts sessions lines).told
 running halts P kept new sessions lines is = running_in halts (λ kind v told. P v told) (in_any_kind halts P kept) new sessions lines is

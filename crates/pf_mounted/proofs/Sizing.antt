@@ -37,7 +37,7 @@ use Rattle.pf_world.specs.Worlds.{made}
 use Rattle.pf_world.specs.Reports.{world_run}
 use Rattle.pf_threads.specs.Sessions.{Session}
 use Rattle.pf_world.specs.declared.line.Line.{Line}
-use Rattle.pf_mounted.specs.Scripts.{IsScript}
+use Rattle.pf_mounted.specs.Scripts.{IsPlainRun}
 use Rattle.pf_mounted.proofs.Growing.{all_grow, fetched_grows, happened_grows}
 use Rattle.pf_mounted.proofs.Replying.{driven_grows}
 use Rattle.pf_mounted.proofs.Hauling.{hauled}
@@ -192,5 +192,5 @@ module _ (halts : List Halt) where
   }
 
   -- after each script
-  pub has_room : (sessions : List Session) (lines : List Line) → IsScript lines → HasRoomFor (world_run halts sessions lines).world.kind (world_run halts sessions lines).world.volume
+  pub has_room : (sessions : List Session) (lines : List Line) → IsPlainRun halts sessions lines → HasRoomFor (world_run halts sessions lines).world.kind (world_run halts sessions lines).world.volume
   has_room sessions lines is = running_in halts Kept kept new sessions lines is

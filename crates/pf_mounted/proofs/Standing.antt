@@ -41,7 +41,7 @@ use Rattle.pf_world.specs.Worlds.{first_routes, made}
 use Rattle.pf_world.specs.Reports.{world_run}
 use Rattle.pf_mounted.specs.Mounts.{AreDone, IsDone, Life, last_ask, life_of, mount_in, of_chunk}
 use Rattle.pf_mounted.specs.Pasts.{first_chunk}
-use Rattle.pf_mounted.specs.Scripts.{IsScript}
+use Rattle.pf_mounted.specs.Scripts.{IsPlainRun}
 use Rattle.pf_mounted.proofs.Growing.{all_grow, all_ports}
 use Rattle.pf_mounted.proofs.Hosts.{IsTold, StepsTo, begins_to, makes_to, steps_to, told_quietly}
 use Rattle.pf_mounted.proofs.Lives.{AreQuiet, IsOf, done_at, done_on, life_on, others_done, other_ask, other_life, same_ask, same_life}
@@ -518,7 +518,7 @@ module _ (halts : List Halt) where
       }
 
   -- after each script
-  pub hosts_are_told : (sessions : List Session) (lines : List Line) → IsScript lines → AreTold (world_run halts sessions lines).world.volume (world_run halts sessions lines).told
+  pub hosts_are_told : (sessions : List Session) (lines : List Line) → IsPlainRun halts sessions lines → AreTold (world_run halts sessions lines).world.volume (world_run halts sessions lines).told
   hosts_are_told sessions lines is = running halts AreTold (all_told halts) new_told sessions lines is
 
 -- The asks in ports

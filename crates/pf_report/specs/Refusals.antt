@@ -33,6 +33,8 @@ refusal_texts =
     ∷ (95, codes "raw")
     ∷ (96, codes "no mount")
     ∷ (97, codes "old format")
+    ∷ (98, codes "no anchors")
+    ∷ (99, codes "too late")
     ∷ (100, codes "no spare")
     ∷ (101, codes "moving")
     ∷ (102, codes "no group")

@@ -42,6 +42,8 @@ fn text_of(number: u32) -> Option<&'static [u8]>
         95 => b"raw",
         96 => b"no mount",
         97 => b"old format",
+        98 => b"no anchors",
+        99 => b"too late",
         100 => b"no spare",
         101 => b"moving",
         102 => b"no group",

@@ -332,6 +332,7 @@ fn place_later(alloc: Global, named: Named, form: Form) -> Result<Command, LineF
             server,
             slot,
         } => place_mark(named, group, server, slot),
+        Form::Anchors => Ok(Command::Anchors),
         Form::Mount => Ok(Command::Mount),
         Form::Kill { mount } => place_kill(mount),
         Form::Call { mount, call } => place_call(alloc, mount, call),

@@ -20,3 +20,4 @@ pub mod Lived
 pub mod Made
 pub mod Unmade
 pub mod Moved
+pub mod Anchored

@@ -73,7 +73,7 @@ raised_world w world = record {
 pub begun_world : (old : WorldIs) (chunk : ℕ) (group : ChunkIs) (told : Bool) (before : List (ℕ × ℕ)) (answer : Answer) → IsWorld old → groups.IsMade (length old.chunks) old.sectors old.names old.format told before group.group answer → (mid : List ChunkIs) (fleet : FleetIs)
     → moves.HasBegunMove chunk group old.chunks old.fleet mid fleet → length old.chunks < old.fleet.volume.chunks + old.moves → length old.chunks < 8 → IsWorld (record old { chunks = mid; fleet = fleet })
 begun_world old chunk group told before answer world made mid fleet begun fits few =
-    let volume : fleet.volume ≡ old.fleet.volume = begun.hosts.2 in record {
+    let volume : fleet.volume ≡ old.fleet.volume = begun.hosts.3 in record {
       volume = ap (λ (v : Extent). is_volume v.chunks old.sectors old.names old.format) volume ∙ world.volume;
       each = each;
       is_fleet = begun.is_fleet;
@@ -315,8 +315,8 @@ module _ (old : WorldIs) (number chunk : ℕ) where
           is_world = still_world (record old { chunks = mid; fleet = fleet; moves = old.moves + 1 }) chunks next old.kind world went.ready went.is_fleet went.grown same.volume;
           goes_on = moved_on went.grown;
           groups = (omega (arith, went.grown.count, begun.count), omega (arith, went.grown.count, begun.count));
-          volume = same.volume ∙ begun.hosts.2;
-          calls = omega (arith, same.calls, begun.hosts.1);
+          volume = same.volume ∙ begun.hosts.3;
+          calls = omega (arith, same.calls, begun.hosts.2);
           moves = omega arith;
           sessions = [];
           takes = refl;

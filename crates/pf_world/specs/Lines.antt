@@ -1,5 +1,5 @@
 -- What each line of a script does to a world, and what it tells.
-use Rattle.std.specs.Prelude.{ℕ, Bool, true, false, not, nat_le, nat_lt, if◌then◌else◌, List, [], ◌∷◌, drop, length, Option, Some, None, slice_get}
+use Rattle.std.specs.Prelude.{ℕ, Bool, true, false, not, ◌||◌, nat_le, nat_lt, if◌then◌else◌, List, [], ◌∷◌, drop, length, Option, Some, None, slice_get}
 use Rattle.std.specs.Option.{is_some}
 use Rattle.pf_base.specs.declared.calls.Call.{Call}
 use Rattle.pf_tree.specs.declared.calls.FileCall.{FileCall}
@@ -10,9 +10,12 @@ use Rattle.pf_script.specs.declared.command.Command.TheVariants as commands
 use Rattle.pf_entry.specs.declared.ops.Op.TheVariants.{Mark}
 use Rattle.pf_protocol.specs.declared.answers.Answer.TheVariants.{Done}
 use Rattle.pf_protocol.specs.declared.events.Event.TheVariants as events
-use Rattle.pf_volume.specs.Volumes.{size_of}
+use Rattle.pf_volume.specs.Volumes.{Extent, size_of}
 use Rattle.pf_mount.specs.declared.work.Work.{Work}
 use Rattle.pf_mount.specs.declared.work.Work.TheVariants.{Rests}
+use Rattle.pf_anchormount.specs.declared.work.Work.{Work as WorkOver}
+use Rattle.pf_anchormount.specs.declared.work.Work.TheVariants.{Rests as RestsOver}
+use Rattle.pf_anchorhosts.specs.Hosts.{AnchoredHostIs}
 use Rattle.pf_report.specs.Moves.{moving_text}
 use Rattle.pf_report.specs.Texts.{settle_text}
 use Rattle.pf_report.specs.Mounts.{mount_text, started_text, state_text, tree_lines}
@@ -29,7 +32,7 @@ use Rattle.pf_hosts.specs.Hosts.{HostIs}
 use Rattle.pf_hosts.specs.Words.{read_call}
 use Rattle.pf_fleet.specs.Settling.{settled}
 use Rattle.pf_fleet.specs.Settled.{settling}
-use Rattle.pf_fleet.specs.Volumes.{begins, happens, host_at, killed, mounts, moves, quietly, saying}
+use Rattle.pf_fleet.specs.Volumes.{AnchoredHosts, Hosts, anchored_at, anchors, begins, begins_over, happens, host_at, killed, killed_over, mount_count, mounts, moves, quietly, saying}
 use Rattle.pf_threads.specs.Sessions.{Session, next_session, session_text}
 use Rattle.pf_world.specs.declared.kind.Kind.{Kind}
 use Rattle.pf_world.specs.declared.kind.Kind.TheVariants.{Mounted, Raw}
@@ -107,8 +110,8 @@ live_told halts w number chunk =
 abbrev pub joins : List Halt → World → (number : ℕ) → Told
 joins halts w number =
     if nat_lt (size_of w.volume.extent) 4112 then stepped halts w number (quietly w.volume) (refused_text 93)
-    else if nat_le 16 (length w.volume.hosts) then stepped halts w number (quietly w.volume) (refused_text 92)
-    else stepped halts w number (mounts w.volume) (mount_text (length w.volume.hosts))
+    else if nat_le 16 (mount_count w.volume) then stepped halts w number (quietly w.volume) (refused_text 92)
+    else stepped halts w number (mounts w.volume) (mount_text (mount_count w.volume))
 
 -- in a raw run no mount is made
 abbrev pub mounts_as : Kind → List Halt → World → (number : ℕ) → Told
@@ -123,6 +126,17 @@ mount_told halts w number =
 abbrev pub kill_of : World → (number mount : ℕ) → Option HostIs → Told
 kill_of w number mount None = said_only w number (refused_text 96)
 kill_of w number mount (Some host) = ended w number (quietly (killed mount w.volume)) (said Done)
+
+abbrev pub kill_over : World → (number mount : ℕ) → AnchoredHosts → Option AnchoredHostIs → Told
+kill_over w number mount hosts None = said_only w number (refused_text 96)
+kill_over w number mount hosts (Some host) = ended w number (quietly (killed_over mount hosts w.volume)) (said Done)
+
+abbrev pub kill_in : World → (number mount : ℕ) → Option AnchoredHosts → Told
+kill_in w number mount None = kill_of w number mount (host_at w.volume.hosts mount)
+kill_in w number mount (Some hosts) = kill_over w number mount hosts (anchored_at hosts mount)
+
+abbrev pub kill_told : World → (number mount : ℕ) → Told
+kill_told w number mount = kill_in w number mount w.volume.anchored
 
 abbrev pub rests : Work → Bool
 rests Rests = true
@@ -139,10 +153,72 @@ call_of halts w number mount call None = stepped halts w number (quietly w.volum
 call_of halts w number mount call (Some host) =
     if rests host.mount.work then begins_if halts w number mount host (read_call call) else stepped halts w number (quietly w.volume) (refused_text 91)
 
+abbrev pub rests_over : WorkOver → Bool
+rests_over RestsOver = true
+rests_over work = false
+
+abbrev pub begins_over_if : List Halt → World → (number mount : ℕ) → AnchoredHosts → AnchoredHostIs → Option FileCall → Told
+begins_over_if halts w number mount hosts host None = stepped halts w number (quietly w.volume) (refused_text 80)
+begins_over_if halts w number mount hosts host (Some call) = stepped halts w number (begins_over mount hosts host call w.volume) started_text
+
+abbrev pub call_over : List Halt → World → (number mount : ℕ) → Call → AnchoredHosts → Option AnchoredHostIs → Told
+call_over halts w number mount call hosts None = stepped halts w number (quietly w.volume) (refused_text 96)
+call_over halts w number mount call hosts (Some host) =
+    if rests_over host.mount.task.work then begins_over_if halts w number mount hosts host (read_call call) else stepped halts w number (quietly w.volume) (refused_text 91)
+
+abbrev pub call_in : List Halt → World → (number mount : ℕ) → Call → Option AnchoredHosts → Told
+call_in halts w number mount call None = call_of halts w number mount call (host_at w.volume.hosts mount)
+call_in halts w number mount call (Some hosts) = call_over halts w number mount call hosts (anchored_at hosts mount)
+
+abbrev pub call_told : List Halt → World → (number mount : ℕ) → Call → Told
+call_told halts w number mount call = call_in halts w number mount call w.volume.anchored
+
 abbrev pub show_of : World → (number mount : ℕ) → Option HostIs → Told
 show_of w number mount None = said_only w number (refused_text 96)
 show_of w number mount (Some host) =
     ended w number (saying (tree_lines (listing host.mount.files.tables)) w.volume) (state_text mount host.mount.upto (not (rests host.mount.work)))
+
+abbrev pub show_over : World → (number mount : ℕ) → Option AnchoredHostIs → Told
+show_over w number mount None = said_only w number (refused_text 96)
+show_over w number mount (Some host) =
+    ended w number (saying (tree_lines (listing host.mount.files.tables)) w.volume) (state_text mount host.mount.upto (not (rests_over host.mount.task.work)))
+
+abbrev pub show_in : World → (number mount : ℕ) → Option AnchoredHosts → Told
+show_in w number mount None = show_of w number mount (host_at w.volume.hosts mount)
+show_in w number mount (Some hosts) = show_over w number mount (anchored_at hosts mount)
+
+abbrev pub show_told : World → (number mount : ℕ) → Told
+show_told w number mount = show_in w number mount w.volume.anchored
+
+-- Anchors
+
+-- lines of the script began the run
+abbrev pub is_raw : Option Kind → Bool
+is_raw None = false
+is_raw (Some kind) = not (is_mounted kind)
+
+-- the journal lies on three anchors, or a mount was made
+abbrev pub are_late : Hosts → Option AnchoredHosts → Bool
+are_late hosts anchored = is_some anchored || nat_lt 0 (length hosts)
+
+-- too few chunks, or too few sectors in each
+abbrev pub lacks_anchors : Extent → Bool
+lacks_anchors extent = nat_lt extent.chunks 4 || nat_lt extent.sectors 4096
+
+-- what keeps the journal from three anchors, if anything does
+abbrev pub keeps_from_anchors : Option Kind → Hosts → Option AnchoredHosts → Extent → Option ℕ
+keeps_from_anchors kind hosts anchored extent =
+    if is_raw kind then Some 95
+    else if are_late hosts anchored then Some 99
+    else if lacks_anchors extent then Some 98 else None
+
+abbrev pub anchors_unless : World → (number : ℕ) → Option ℕ → Told
+anchors_unless w number (Some refusal) = said_only w number (refused_text refusal)
+anchors_unless w number None = ended w number (quietly (anchors w.volume)) (said Done)
+
+-- the journal lies on three anchors from here on
+abbrev pub anchors_told : World → (number : ℕ) → Told
+anchors_told w number = anchors_unless w number (keeps_from_anchors w.kind w.volume.hosts w.volume.anchored w.volume.extent)
 
 -- Moves
 
@@ -183,15 +259,16 @@ run_told halts w number (commands.Fetch g i s n) = asked halts w number g i s n 
 run_told halts w number (commands.Mark g i) = at_chunk halts w number g (λ c. happened halts c (events.Submit i Mark))
 run_told halts w number (commands.Settle limit) = settle_told halts w number limit
 run_told halts w number (commands.Live g hosts writes workers turns) = live_told halts w number g
+run_told halts w number commands.Anchors = anchors_told w number
 run_told halts w number commands.Mount = mount_told halts w number
-run_told halts w number (commands.Kill m) = kill_of w number m (host_at w.volume.hosts m)
-run_told halts w number (commands.Call m call) = call_of halts w number m call (host_at w.volume.hosts m)
+run_told halts w number (commands.Kill m) = kill_told w number m
+run_told halts w number (commands.Call m call) = call_told halts w number m call
 run_told halts w number (commands.ShowLog g i) = shows w number g (λ c. of_server c.state i log_shown)
 run_told halts w number (commands.ShowApplied g i) = shows w number g (λ c. of_server c.state i applied_shown)
 run_told halts w number (commands.ShowSectors g i) = shows w number g (λ c. of_server c.state i sectors_shown)
 run_told halts w number (commands.ShowAcked g) = shows w number g (λ c. acked_shown c.state)
 run_told halts w number (commands.ShowMark g i s) = shows w number g (λ c. of_server c.state i (mark_shown s))
-run_told halts w number (commands.ShowMount m) = show_of w number m (host_at w.volume.hosts m)
+run_told halts w number (commands.ShowMount m) = show_told w number m
 run_told halts w number (commands.Move chunk) = move_told halts w number chunk
 
 -- the kind of the run after a line, also after one that is refused

@@ -33,7 +33,7 @@ first_routes chunks = record { routes = map (λ k. record { group = k; epoch = 0
 
 -- a volume with these groups, without hosts
 abbrev pub new_volume : Extent → List ChunkRun → VolumeRun
-new_volume extent chunks = record { extent = extent; chunks = chunks; hosts = []; routes = first_routes extent.chunks; mover = None }
+new_volume extent chunks = record { extent = extent; chunks = chunks; hosts = []; anchored = None; routes = first_routes extent.chunks; mover = None }
 
 -- before the volume is made
 abbrev pub no_world : List Session → World

@@ -1,6 +1,6 @@
 //! Kinds of runs.
 ghost use Rattle.std.specs.Prelude.{◌≡◌};
-ghost use Rattle.pf_world.specs.Lines.{decided, is_mounted, is_of_mounts, kind_after};
+ghost use Rattle.pf_world.specs.Lines.{decided, is_mounted, is_of_mounts, is_raw, kind_after};
 
 use pf_script::Command;
 
@@ -41,6 +41,16 @@ pub(crate) fn kind_after(kind: Option<Kind>, command: &Command) -> Option<Kind>
         Command::Live { .. } => Some(Kind::Raw.decided(kind)),
         Command::Mount => Some(Kind::Mounted.decided(kind)),
         _ => kind,
+    }
+}
+
+/// Whether lines that submit or run threads began the run.
+pub(crate) fn is_raw(kind: Option<Kind>) -> bool
+    ensures { result ≡ is_raw kind }
+{
+    match kind {
+        Some(kind) => !kind.is_mounted(),
+        None => false,
     }
 }
 

@@ -3,6 +3,7 @@
 //! Each line of the script ends with one line of the report; before it stands a line for each read that it answered.
 #![tactic(auto)]
 
+mod anchoring;
 mod disks;
 mod kind;
 mod laws;

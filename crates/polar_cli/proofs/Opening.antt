@@ -71,7 +71,7 @@ bare sectors names format = record {
   names = names;
   format = format;
   chunks = [];
-  fleet = record { volume = record { chunks = 0; sectors = 0 }; hosts = []; calls = 0; routes = record { routes = []; moving = None }; mover = None };
+  fleet = record { volume = record { chunks = 0; sectors = 0 }; hosts = []; anchored = None; calls = 0; routes = record { routes = []; moving = None }; mover = None };
   moves = 0;
   kind = None;
   passes = None;

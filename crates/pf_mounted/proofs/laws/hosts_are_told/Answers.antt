@@ -1,12 +1,13 @@
+use Rattle.pf_mounted.proofs.Bare.{plain_with_host}
 use Rattle.pf_mounted.proofs.Standing.{ask_in_port, hosts_are_told, no_ask_in_port}
 use Rattle.pf_mounted.proofs.laws.hosts_are_told.Goals as goal
 use Rattle.pf_world.specs.Reports.{world_run}
 
 pub returns-clause-mounts : goal.returns-clause-mounts
-returns-clause-mounts c = λ halts sessions lines is m host at. ((hosts_are_told halts sessions lines is).hosts m host at).mount
+returns-clause-mounts c = λ halts sessions lines is m host at. ((hosts_are_told halts sessions lines (plain_with_host halts sessions lines is m host at)).hosts m host at).mount
 
 pub returns-clause-asks : goal.returns-clause-asks
-returns-clause-asks c = λ halts sessions lines is m host at. ((hosts_are_told halts sessions lines is).hosts m host at).at
+returns-clause-asks c = λ halts sessions lines is m host at. ((hosts_are_told halts sessions lines (plain_with_host halts sessions lines is m host at)).hosts m host at).at
 
 pub returns-clause-ports : goal.returns-clause-ports
 returns-clause-ports c = λ halts sessions lines is chunk k m group small home at.

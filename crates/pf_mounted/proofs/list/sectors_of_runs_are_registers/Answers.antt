@@ -1,4 +1,5 @@
 use Rattle.pf_world.specs.Reports.{world_run}
+use Rattle.pf_mounted.proofs.Bare.{plain_with_hosts}
 use Rattle.pf_mounted.proofs.Holding.{mounts_alone}
 use Rattle.pf_mounted.proofs.Lawful.{answers, known}
 use Rattle.pf_mounted.proofs.Moved.{are_routed}
@@ -8,6 +9,7 @@ use Rattle.pf_mounted.proofs.list.sectors_of_runs_are_registers.Goals as goal
 pub returns : goal.returns
 returns c = λ halts sessions lines script lawful volume some.
     let run = world_run halts sessions lines in
-    let room = has_room halts sessions lines script in
-    are_routed run.world.volume.extent run.world.volume.chunks (answers halts sessions lines script lawful) run.told (known halts sessions lines script lawful) volume room.chunks
-    (mounts_alone halts sessions lines script (room.mounted some))
+    let plain = plain_with_hosts halts sessions lines script some in
+    let room = has_room halts sessions lines plain in
+    are_routed run.world.volume.extent run.world.volume.chunks (answers halts sessions lines plain lawful) run.told (known halts sessions lines plain lawful) volume room.chunks
+    (mounts_alone halts sessions lines plain (room.mounted some))

@@ -1,7 +1,7 @@
 use Rattle.std.proofs.Common.{◌≡◌, ◌∷◌, [], true, false, refl, rules, sym, ap, subst, ◌∙◌}
 use Rattle.pf_asks.specs.Desks.{Led}
 use Rattle.pf_asks.specs.Ports.{Hands, PortIs, goes_to}
-use Rattle.pf_asks.proofs.Driving.{led_nowhere, led_past, led_there, on_err}
+use Rattle.pf_asks.proofs.Driving.{led_lower, led_nowhere, led_past, led_there, on_err}
 use Rattle.pf_asks.proofs.port.Port.lead.Goals as goal
 
 pub returns-in_default-clause-led : goal.returns-in_default-clause-led
@@ -27,3 +27,15 @@ pub returns-in_err-sent-clause-err : goal.returns-in_err-sent-clause-err
 returns-in_err-sent-clause-err g c =
     on_err c.from_residual-in_err-sent.result _
     (refl, (Led c.in_ok-term.field-0 ∷ [], (c.leader.new.self, c.in_ok-term.ensures.ok, c.in_err-sent.ensures.err), (tt, tt)))
+
+pub returns-in_default-clause-never_lower : goal.returns-in_default-clause-never_lower
+returns-in_default-clause-never_lower g c =
+    led_lower g.K.Desk.says c.args.self.now c.requires.pending.0 c.args.desk.now c.leader.new.self c.args.self.now (returns-in_default-clause-led g c c.requires.pending.0 c.requires.pending.1)
+
+pub returns-else-goes-clause-never_lower : goal.returns-else-goes-clause-never_lower
+returns-else-goes-clause-never_lower g c =
+    led_lower g.K.Desk.says c.args.self.now c.requires.pending.0 c.args.desk.now c.leader.new.self c.args.self.now (returns-else-goes-clause-led g c c.requires.pending.0 c.requires.pending.1)
+
+pub returns-in_ok-sent-clause-never_lower : goal.returns-in_ok-sent-clause-never_lower
+returns-in_ok-sent-clause-never_lower g c =
+    led_lower g.K.Desk.says c.args.self.now c.requires.pending.0 c.args.desk.now c.hand.new.desk _ (returns-in_ok-sent-clause-led g c c.requires.pending.0 c.requires.pending.1)

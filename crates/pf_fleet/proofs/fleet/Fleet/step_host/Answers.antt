@@ -22,11 +22,11 @@ module _ (m : ℕ) (old : List ChunkIs) (v f : FleetIs) (same : v ≡ f) (is_fle
   none_went out ready none =
       subst (λ (x : FleetIs). HasGone (λ halts v. host_steps halts m v) old x out old (record v { hosts = slice_set v.hosts m it }) out) same
       (subst (λ (hosts : Hosts). HasGone (λ halts v. host_steps halts m v) old v out old (record v { hosts = hosts }) out) (sym (set_same v.hosts m it place_is))
-      (no_host m old v of_these out ready (ap there place_is ∙ none)))
+      (no_host m old v of_these out ready (ap (λ (o : Option (Option HostIs)). there o) place_is ∙ none)))
 
   module _ (host : HostIs) (is : it ≡ Some host) where
     at_it : host_at v.hosts m ≡ Some host
-    at_it = ap there place_is ∙ is
+    at_it = ap (λ (o : Option (Option HostIs)). there o) place_is ∙ is
 
     its_host : IsHostOf v.routes old host
     its_host = (of_these.are_hosts.each m host at_it).is_host
@@ -44,32 +44,32 @@ module _ (m : ℕ) (old : List ChunkIs) (v f : FleetIs) (same : v ≡ f) (is_fle
 
 pub returns-in_default-clause-went : goal.returns-in_default-clause-went
 returns-in_default-clause-went g c =
-    let v : FleetIs = record { volume = c.self.inside.volume; hosts = c.self.inside.hosts.items; calls = c.self.inside.calls; routes = c.self.inside.routes; mover = c.self.inside.mover } in
+    let v : FleetIs = record { volume = c.self.inside.volume; hosts = c.self.inside.hosts.items; anchored = c.self.inside.anchored; calls = c.self.inside.calls; routes = c.self.inside.routes; mover = c.self.inside.mover } in
     none_went c.args.mount c.args.chunks.now v c.args.self.now c.self.view_is c.requires.fleet c.requires.mount c.index_mut.result.now c.index_mut.ensures.value
     c.args.out.now.items c.requires.ready c.in_default.is
 
 pub step-requires-clause-host : goal.step-requires-clause-host
 step-requires-clause-host g c κs within =
-    let v : FleetIs = record { volume = c.self.inside.volume; hosts = c.self.inside.hosts.items; calls = c.self.inside.calls; routes = c.self.inside.routes; mover = c.self.inside.mover } in
+    let v : FleetIs = record { volume = c.self.inside.volume; hosts = c.self.inside.hosts.items; anchored = c.self.inside.anchored; calls = c.self.inside.calls; routes = c.self.inside.routes; mover = c.self.inside.mover } in
     its_host c.args.mount c.args.chunks.now v c.args.self.now c.self.view_is c.requires.fleet c.requires.mount c.index_mut.result.now c.index_mut.ensures.value c.in-Some.host c.in-Some.is
 
 pub returns-clause-went : goal.returns-clause-went
 returns-clause-went g c =
-    let v : FleetIs = record { volume = c.self.inside.volume; hosts = c.self.inside.hosts.items; calls = c.self.inside.calls; routes = c.self.inside.routes; mover = c.self.inside.mover } in
+    let v : FleetIs = record { volume = c.self.inside.volume; hosts = c.self.inside.hosts.items; anchored = c.self.inside.anchored; calls = c.self.inside.calls; routes = c.self.inside.routes; mover = c.self.inside.mover } in
     on_ok_weaker c.step.result
     (one_went c.args.mount c.args.chunks.now v c.args.self.now c.self.view_is c.requires.fleet c.requires.mount c.index_mut.result.now c.index_mut.ensures.value c.in-Some.host c.in-Some.is
     c.args.out.now.items c.step.new.out.items c.step.new.chunks c.step.new.self) c.step.ensures.went
 
 pub returns-clause-stay : goal.returns-clause-stay
 returns-clause-stay g c =
-    let v : FleetIs = record { volume = c.self.inside.volume; hosts = c.self.inside.hosts.items; calls = c.self.inside.calls; routes = c.self.inside.routes; mover = c.self.inside.mover } in
+    let v : FleetIs = record { volume = c.self.inside.volume; hosts = c.self.inside.hosts.items; anchored = c.self.inside.anchored; calls = c.self.inside.calls; routes = c.self.inside.routes; mover = c.self.inside.mover } in
     on_ok_weaker c.step.result
     (one_stays c.args.mount c.args.chunks.now v c.args.self.now c.self.view_is c.requires.fleet c.requires.mount c.index_mut.result.now c.index_mut.ensures.value c.in-Some.host c.in-Some.is
     c.args.out.now.items c.step.new.out.items c.step.new.chunks c.step.new.self) c.step.ensures.went
 
 pub returns-clause-err : goal.returns-clause-err
 returns-clause-err g c =
-    let v : FleetIs = record { volume = c.self.inside.volume; hosts = c.self.inside.hosts.items; calls = c.self.inside.calls; routes = c.self.inside.routes; mover = c.self.inside.mover } in
+    let v : FleetIs = record { volume = c.self.inside.volume; hosts = c.self.inside.hosts.items; anchored = c.self.inside.anchored; calls = c.self.inside.calls; routes = c.self.inside.routes; mover = c.self.inside.mover } in
     on_err_weaker c.step.result
     (one_stopped c.args.mount c.args.chunks.now v c.args.self.now c.self.view_is c.requires.fleet c.requires.mount c.index_mut.result.now c.index_mut.ensures.value c.in-Some.host c.in-Some.is
     c.step.new.chunks) c.step.ensures.err

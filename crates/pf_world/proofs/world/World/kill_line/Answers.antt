@@ -3,12 +3,11 @@ use Rattle.std.proofs.lemmas.Bool.{false≢true}
 use Rattle.pf_script.specs.declared.command.Command.TheVariants as commands
 use Rattle.pf_report.specs.Refusals.{refusal_text}
 use Rattle.pf_report.specs.Texts.{line_of}
-use Rattle.pf_fleet.specs.Volumes.{host_at}
 use Rattle.pf_world.specs.Steps.{HasFailed, HasRun}
 use Rattle.pf_world.specs.Views.{IsWorld, WorldIs, WorldOn}
 use Rattle.pf_world.proofs.Failing.{on_err}
 use Rattle.pf_world.proofs.Happening.{becomes}
-use Rattle.pf_world.proofs.Mounts.{host_there, killed_fails, killed_runs, none_killed_runs}
+use Rattle.pf_world.proofs.Mounts.{killed_fails, killed_runs, none_killed_runs}
 use Rattle.pf_world.proofs.Results.{on_ok}
 use Rattle.pf_world.proofs.world.World.kill_line.Goals.{in-Ok, in-Err}
 use Rattle.pf_world.proofs.world.World.kill_line.Goals as goal
@@ -24,11 +23,10 @@ returns-clause-ran g c =
     let Ran : Vec ℕ Global → Type 0 = λ out. HasRun c.args.self.now.world c.args.number (commands.Kill c.args.mount) before out.items next in
     elim c.match-kill.branch [
       | in-Ok w ↦
-          let host = host_there (host_at i.fleet.hosts c.args.mount) (λ none. false≢true (w.in-Ok.ensures.none.1 none)) in
           subst (λ r. OnOk r (Ran c.match-kill.out)) (sym w.result-is)
           (on_ok w.put_answer.result _ (Ran c.match-kill.out) (λ put. subst Ran (sym w.out-is)
           (subst (λ (x : WorldIs). HasRun x c.args.number (commands.Kill c.args.mount) before w.put_answer.new.out.items next) same
-          (killed_runs old c.args.number c.args.mount world before w.put_answer.new.out.items c.kill.new.self w.in-Ok.ensures.killed (w.in-Ok.ensures.still i.chunks.items world.is_fleet) host.0 host.1 put))) w.put_answer.ensures.ok)
+          (killed_runs old c.args.number c.args.mount world before w.put_answer.new.out.items c.kill.new.self w.in-Ok.ensures.killed (w.in-Ok.ensures.still i.chunks.items world.is_fleet) (λ none. false≢true (w.in-Ok.ensures.none.1 none)) put))) w.put_answer.ensures.ok)
       | in-Err w ↦
           subst (λ r. OnOk r (Ran c.match-kill.out)) (sym w.result-is)
           (on_ok w.put_refusal.result _ (Ran c.match-kill.out) (λ put. subst Ran (sym w.out-is)

@@ -23,6 +23,11 @@ returns-in-Live-clause-made g c =
     line_makes_none g.D.Disk.faults c.live_line.result c.args.self.now c.live_line.new.self c.args.number 0 _ c.args.out.now.items c.live_line.new.out.items
     refl c.live_line.ensures.spare c.live_line.ensures.ran c.live_line.ensures.err
 
+pub returns-in-Anchors-clause-made : goal.returns-in-Anchors-clause-made
+returns-in-Anchors-clause-made g c =
+    line_makes_none g.D.Disk.faults c.anchors_line.result c.args.self.now c.anchors_line.new.self c.args.number 0 _ c.args.out.now.items c.anchors_line.new.out.items
+    refl c.anchors_line.ensures.spare c.anchors_line.ensures.ran c.anchors_line.ensures.err
+
 pub returns-in-Mount-clause-made : goal.returns-in-Mount-clause-made
 returns-in-Mount-clause-made g c =
     line_makes_none g.D.Disk.faults c.mount_line.result c.args.self.now c.mount_line.new.self c.args.number 0 _ c.args.out.now.items c.mount_line.new.out.items

@@ -1,0 +1,92 @@
+-- What a host over anchors does only adds to the histories of the groups.
+use Rattle.pf_chunk.proofs.Driven.{heard_extends, led_extends}
+use Rattle.pf_chunk.specs.Driving.{heard, led}
+use Rattle.std.proofs.Common.{◌≡◌, ℕ, List, Bool, true, false, Option, Some, None, if◌then◌else◌, slice_get, slice_set, refl, sym, subst}
+use Rattle.pf_base.specs.declared.asks.Ask.{Ask}
+use Rattle.pf_base.specs.declared.asks.Reply.{Reply}
+use Rattle.pf_base.specs.Asks.{chunk_of}
+use Rattle.pf_applyrounds.specs.Halts.{Halt}
+use Rattle.pf_chunk.specs.Runs.{ChunkRun}
+use Rattle.pf_move.specs.Routes.{RoutesIs, home_of}
+use Rattle.pf_anchormount.specs.Anchored.{ask_at}
+use Rattle.pf_hosts.proofs.Lengthening.{Lengthens, lengthens_one, lengthens_refl, lengthens_trans, put_lengthens}
+use Rattle.pf_anchorhosts.specs.Hosts.{AnchoredHostIs, Stepped, asks, asks_all, asks_for, asks_on, chunk_for, followed, group_of, hands, hands_at, hands_of, hears, hears_all, hears_at, hears_of, number_of, pends_for, puts_if, quietly, stepped, takes_if}
+
+-- and then more was done
+follow_lengthens : (chunks : List ChunkRun) (s : Stepped) (next : List ChunkRun → AnchoredHostIs → Stepped) → Lengthens chunks s.chunks → ((cs : List ChunkRun) (h : AnchoredHostIs) → Lengthens cs (next cs h).chunks) → Lengthens chunks (followed s next).chunks
+follow_lengthens chunks s next first more = lengthens_trans chunks s.chunks (next s.chunks s.host).chunks first (more s.chunks s.host)
+
+-- Answers
+
+pub takes_chunks : (chunks : List ChunkRun) (host : AnchoredHostIs) (port : ℕ) (reply : Option Reply) → (takes_if chunks host port reply).chunks ≡ chunks
+takes_chunks chunks host port None = refl
+takes_chunks chunks host port (Some reply) = refl
+
+hears_of_lengthens : (chunks : List ChunkRun) (host : AnchoredHostIs) (port k : ℕ) (at : Option ChunkRun) → slice_get chunks k ≡ at → Lengthens chunks (hears_of chunks host port k at).chunks
+hears_of_lengthens chunks host port k None there = lengthens_refl chunks
+hears_of_lengthens chunks host port k (Some c) there =
+    let d = heard c (number_of host.mount) in
+    subst (Lengthens chunks) (sym (takes_chunks (slice_set chunks k d.chunk) host port d.reply)) (lengthens_one chunks k c d.chunk there (heard_extends c (number_of host.mount)))
+
+hears_at_lengthens : (chunks : List ChunkRun) (host : AnchoredHostIs) (port : ℕ) (group : Option ℕ) → Lengthens chunks (hears_at chunks host port group).chunks
+hears_at_lengthens chunks host port None = lengthens_refl chunks
+hears_at_lengthens chunks host port (Some k) = hears_of_lengthens chunks host port k (slice_get chunks k) refl
+
+pub hears_lengthens : (routes : RoutesIs) (port : ℕ) (chunks : List ChunkRun) (host : AnchoredHostIs) → Lengthens chunks (hears routes port chunks host).chunks
+hears_lengthens routes port chunks host = hears_at_lengthens chunks host port (group_of routes host port)
+
+hears_all_lengthen : (routes : RoutesIs) (chunks : List ChunkRun) (host : AnchoredHostIs) → Lengthens chunks (hears_all routes chunks host).chunks
+hears_all_lengthen routes chunks host =
+    let one = hears routes 0 chunks host in
+    let two = followed one (hears routes 1) in
+    let three = followed two (hears routes 2) in
+    follow_lengthens chunks three (hears routes 3)
+    (follow_lengthens chunks two (hears routes 2)
+    (follow_lengthens chunks one (hears routes 1) (hears_lengthens routes 0 chunks host) (hears_lengthens routes 1)) (hears_lengthens routes 2)) (hears_lengthens routes 3)
+
+-- Asks
+
+puts_if_lengthens : (routes : RoutesIs) (port : ℕ) (chunks : List ChunkRun) (host : AnchoredHostIs) (ask : Option Ask) → Lengthens chunks (puts_if routes port chunks host ask).chunks
+puts_if_lengthens routes port chunks host None = lengthens_refl chunks
+puts_if_lengthens routes port chunks host (Some ask) = put_lengthens chunks (home_of routes (chunk_of ask)) (number_of host.mount) ask
+
+either : (b : Bool) (chunks : List ChunkRun) (x y : Stepped) → Lengthens chunks x.chunks → Lengthens chunks y.chunks → Lengthens chunks (if b then x else y).chunks
+either true chunks x y of_x of_y = of_x
+either false chunks x y of_x of_y = of_y
+
+asks_for_lengthens : (routes : RoutesIs) (port : ℕ) (chunks : List ChunkRun) (host : AnchoredHostIs) (chunk : Option ℕ) → Lengthens chunks (asks_for routes port chunks host chunk).chunks
+asks_for_lengthens routes port chunks host None = lengthens_refl chunks
+asks_for_lengthens routes port chunks host (Some chunk) =
+    either (pends_for host chunk) chunks (quietly chunks host) (puts_if routes port chunks host (ask_at host.mount port)) (lengthens_refl chunks) (puts_if_lengthens routes port chunks host (ask_at host.mount port))
+
+pub asks_lengthens : (routes : RoutesIs) (port : ℕ) (chunks : List ChunkRun) (host : AnchoredHostIs) → Lengthens chunks (asks routes port chunks host).chunks
+asks_lengthens routes port chunks host = asks_for_lengthens routes port chunks host (chunk_for host.mount port)
+
+hands_of_lengthens : (halts : List Halt) (chunks : List ChunkRun) (host : AnchoredHostIs) (k : ℕ) (at : Option ChunkRun) → slice_get chunks k ≡ at → Lengthens chunks (hands_of halts chunks host k at).chunks
+hands_of_lengthens halts chunks host k None there = lengthens_refl chunks
+hands_of_lengthens halts chunks host k (Some c) there = lengthens_one chunks k c (led halts c (number_of host.mount)).chunk there (led_extends halts c (number_of host.mount))
+
+hands_at_lengthens : (halts : List Halt) (chunks : List ChunkRun) (host : AnchoredHostIs) (group : Option ℕ) → Lengthens chunks (hands_at halts chunks host group).chunks
+hands_at_lengthens halts chunks host None = lengthens_refl chunks
+hands_at_lengthens halts chunks host (Some k) = hands_of_lengthens halts chunks host k (slice_get chunks k) refl
+
+pub hands_lengthens : (halts : List Halt) (routes : RoutesIs) (port : ℕ) (chunks : List ChunkRun) (host : AnchoredHostIs) → Lengthens chunks (hands halts routes port chunks host).chunks
+hands_lengthens halts routes port chunks host = hands_at_lengthens halts chunks host (group_of routes host port)
+
+pub asks_on_lengthens : (halts : List Halt) (routes : RoutesIs) (port : ℕ) (chunks : List ChunkRun) (host : AnchoredHostIs) → Lengthens chunks (asks_on halts routes port chunks host).chunks
+asks_on_lengthens halts routes port chunks host =
+    follow_lengthens chunks (asks routes port chunks host) (hands halts routes port) (asks_lengthens routes port chunks host) (hands_lengthens halts routes port)
+
+pub asks_all_lengthen : (halts : List Halt) (routes : RoutesIs) (chunks : List ChunkRun) (host : AnchoredHostIs) → Lengthens chunks (asks_all halts routes chunks host).chunks
+asks_all_lengthen halts routes chunks host =
+    let one = asks_on halts routes 0 chunks host in
+    let two = followed one (asks_on halts routes 1) in
+    let three = followed two (asks_on halts routes 2) in
+    follow_lengthens chunks three (asks_on halts routes 3)
+    (follow_lengthens chunks two (asks_on halts routes 2)
+    (follow_lengthens chunks one (asks_on halts routes 1) (asks_on_lengthens halts routes 0 chunks host) (asks_on_lengthens halts routes 1)) (asks_on_lengthens halts routes 2)) (asks_on_lengthens halts routes 3)
+
+pub stepped_lengthens : (halts : List Halt) (routes : RoutesIs) (chunks : List ChunkRun) (host : AnchoredHostIs) → Lengthens chunks (stepped halts routes chunks host).chunks
+unfolding stepped
+stepped_lengthens halts routes chunks host =
+    follow_lengthens chunks (hears_all routes chunks host) (asks_all halts routes) (hears_all_lengthen routes chunks host) (asks_all_lengthen halts routes)

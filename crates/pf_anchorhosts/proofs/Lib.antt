@@ -1,0 +1,10 @@
+pub mod Lengthening
+pub mod Parts
+pub mod Meeting
+pub mod Reaching
+pub mod Pending
+pub mod Hearing
+pub mod Asking
+pub mod Handing
+pub mod Steps
+pub mod Calling

@@ -1,0 +1,31 @@
+-- How mounts over anchors come, and how their calls begin.
+use Rattle.std.specs.Prelude.{◌≡◌, ℕ, suc, ◌++◌, List, Some}
+use Rattle.pf_base.specs.declared.calls.Call.{Call}
+use Rattle.pf_tree.specs.declared.calls.FileCall.{FileCall}
+use Rattle.pf_mount.specs.declared.faults.StartFault.{StartFault}
+use Rattle.pf_mount.specs.declared.faults.StartFault.TheVariants.{NoMemory, BadName, CallPending}
+use Rattle.pf_chunk.specs.Runs.{ChunkRun}
+use Rattle.pf_chunk.specs.Views.{ChunkIs}
+use Rattle.pf_move.specs.Routes.{RoutesIs}
+use Rattle.pf_hosts.specs.Moments.{Moment, text_of}
+use Rattle.pf_hosts.specs.Words.{read_call}
+use Rattle.pf_anchorhosts.specs.Hosts.{AnchoredHostIs, begun, number_of}
+use Rattle.pf_anchorhosts.specs.Steps.{IsAnchoredHostOf}
+
+-- a call began, with its paths read; no group is touched
+pub record HasBegunCall (call : Call) (before : List ℕ) (host : AnchoredHostIs) (after : List ℕ) (next : AnchoredHostIs) : Type 0 where
+  pub file : FileCall
+  pub read : read_call call ≡ Some file
+  pub is_host : (routes : RoutesIs) (chunks : List ChunkIs) → IsAnchoredHostOf routes chunks host → IsAnchoredHostOf routes chunks next
+  pub number : number_of next.mount ≡ number_of host.mount
+  pub volume : next.mount.files.volume ≡ host.mount.files.volume
+  pub calls : next.mount.files.calls ≡ suc host.mount.files.calls
+  pub told : List Moment
+  pub put : after ≡ before ++ text_of told
+  pub run : (chunks : List ChunkRun) → begun chunks host file ≡ record { chunks = chunks; host = next; told = told }
+
+-- a refusal leaves the host as it was
+abbrev pub Refuses : StartFault → (old new : AnchoredHostIs) → Type 0
+Refuses NoMemory old new = Unit {0}
+Refuses BadName old new = new ≡ old
+Refuses CallPending old new = new ≡ old

@@ -1,0 +1,175 @@
+-- A host over anchors: its mount, and its ports into the groups that serve the chunks.
+use Rattle.std.specs.Prelude.{ℕ, false, ◌==◌, if◌then◌else◌, List, [], ◌∷◌, ◌++◌, Bool, Option, Some, None, slice_get, slice_set}
+use Rattle.std.specs.List.{list_any}
+use Rattle.std.specs.Option.{option_and_then, option_map}
+use Rattle.pf_base.specs.declared.asks.Ask.{Ask}
+use Rattle.pf_base.specs.declared.asks.Reply.{Reply}
+use Rattle.pf_base.specs.Asks.{chunk_of}
+use Rattle.pf_tree.specs.declared.calls.FileCall.{FileCall}
+use Rattle.pf_volume.specs.Volumes.{Extent}
+use Rattle.pf_report.specs.Texts.{event_line}
+use Rattle.pf_report.specs.Mounts.{ready_text}
+use Rattle.pf_applyrounds.specs.Halts.{Halt}
+use Rattle.pf_chunk.specs.Runs.{ChunkRun}
+use Rattle.pf_chunk.specs.Driving.{Driven, heard, led}
+use Rattle.pf_move.specs.Routes.{RoutesIs, home_of, served_by}
+use Rattle.pf_anchormount.specs.declared.work.AnchoredNext.{AnchoredNext}
+use Rattle.pf_anchormount.specs.declared.work.AnchoredNext.TheVariants.{Ready, Done}
+use Rattle.pf_anchormount.specs.Anchored.{AnchoredIs, answered, ask_at, asked as having_asked, opening, starting}
+use Rattle.pf_hosts.specs.Hosts.{call_of, drove_as, ended_line, put_at}
+use Rattle.pf_hosts.specs.Moments.{Moment, Writes}
+
+pub record AnchoredHostIs : Type 0 where
+  pub mount : AnchoredIs
+  pub at : List (Option ℕ)  -- of each of its four ports the chunk of the ask that is pending there
+
+abbrev pub number_of : AnchoredIs → ℕ
+number_of m = m.files.mount
+
+-- the groups of a volume and one of its hosts over anchors, and what is told
+pub record Stepped : Type 0 where
+  pub chunks : List ChunkRun
+  pub host : AnchoredHostIs
+  pub told : List Moment
+
+abbrev pub quietly : List ChunkRun → AnchoredHostIs → Stepped
+quietly chunks host = record { chunks = chunks; host = host; told = [] }
+
+-- and then this
+abbrev pub followed : Stepped → (List ChunkRun → AnchoredHostIs → Stepped) → Stepped
+followed s next =
+    let after = next s.chunks s.host in
+    record after { told = s.told ++ after.told }
+
+-- Ports
+
+abbrev pub same_chunk : Option ℕ → Option ℕ
+same_chunk chunk = chunk
+
+-- the chunk of the ask that is pending at a port
+abbrev pub pending_at : AnchoredHostIs → (port : ℕ) → Option ℕ
+pending_at host port = option_and_then same_chunk (slice_get host.at port)
+
+-- the group to which that ask goes: none where nothing is pending there, or its chunk is moving
+abbrev pub group_of : RoutesIs → AnchoredHostIs → (port : ℕ) → Option ℕ
+group_of routes host port = option_and_then (served_by routes) (pending_at host port)
+
+abbrev pub is_of : (chunk : ℕ) → Option ℕ → Bool
+is_of chunk None = false
+is_of chunk (Some its) = its == chunk
+
+-- some ask for the chunk is pending
+abbrev pub pends_for : AnchoredHostIs → (chunk : ℕ) → Bool
+pends_for host chunk = list_any (is_of chunk) host.at
+
+-- Answers
+
+-- the line of what ended by a step of the mount, in which this call was pending
+abbrev pub ended : (mount : ℕ) → Option FileCall → Option AnchoredNext → List Moment
+ended mount call None = []
+ended mount call (Some Ready) = Writes (event_line (ready_text mount)) ∷ []
+ended mount call (Some (Done answer)) = Writes (ended_line mount call answer) ∷ []
+
+-- the mount takes a reply at the port, which is free then
+abbrev pub takes : List ChunkRun → AnchoredHostIs → (port : ℕ) → Reply → Stepped
+takes chunks host port reply =
+    let o = answered host.mount port reply in record {
+      chunks = chunks;
+      host = record { mount = o.mount; at = slice_set host.at port None };
+      told = ended (number_of host.mount) (call_of host.mount.files.pending) o.next;
+    }
+
+abbrev pub takes_if : List ChunkRun → AnchoredHostIs → (port : ℕ) → Option Reply → Stepped
+takes_if chunks host port None = quietly chunks host
+takes_if chunks host port (Some reply) = takes chunks host port reply
+
+-- the port of the mount into group k is looked at
+abbrev pub hears_as : List ChunkRun → AnchoredHostIs → (port k : ℕ) → Driven → Stepped
+hears_as chunks host port k d = takes_if (slice_set chunks k d.chunk) host port d.reply
+
+abbrev pub hears_of : List ChunkRun → AnchoredHostIs → (port k : ℕ) → Option ChunkRun → Stepped
+hears_of chunks host port k None = quietly chunks host
+hears_of chunks host port k (Some c) = hears_as chunks host port k (heard c (number_of host.mount))
+
+abbrev pub hears_at : List ChunkRun → AnchoredHostIs → (port : ℕ) → (group : Option ℕ) → Stepped
+hears_at chunks host port None = quietly chunks host
+hears_at chunks host port (Some k) = hears_of chunks host port k (slice_get chunks k)
+
+-- where the ask that is pending at the port was answered, the mount takes the reply
+abbrev pub hears : RoutesIs → (port : ℕ) → List ChunkRun → AnchoredHostIs → Stepped
+hears routes port chunks host = hears_at chunks host port (group_of routes host port)
+
+-- each port in turn
+abbrev pub hears_all : RoutesIs → List ChunkRun → AnchoredHostIs → Stepped
+hears_all routes chunks host = followed (followed (followed (hears routes 0 chunks host) (hears routes 1)) (hears routes 2)) (hears routes 3)
+
+-- Asks
+
+-- the chunk of what the mount asks at the port next: the anchor, or that of its file data
+abbrev pub chunk_for : AnchoredIs → (port : ℕ) → Option ℕ
+chunk_for m port = if port == 3 then option_map chunk_of m.task.ask else Some port
+
+-- an ask goes into the mount's port into the group that has the asks for its chunk
+abbrev pub puts : RoutesIs → (port : ℕ) → List ChunkRun → AnchoredHostIs → Ask → Stepped
+puts routes port chunks host ask = record {
+  chunks = put_at chunks (home_of routes (chunk_of ask)) (number_of host.mount) ask;
+  host = record { mount = having_asked host.mount port; at = slice_set host.at port (Some (chunk_of ask)) };
+  told = [];
+}
+
+abbrev pub puts_if : RoutesIs → (port : ℕ) → List ChunkRun → AnchoredHostIs → Option Ask → Stepped
+puts_if routes port chunks host None = quietly chunks (record host { mount = having_asked host.mount port })
+puts_if routes port chunks host (Some ask) = puts routes port chunks host ask
+
+abbrev pub asks_for : RoutesIs → (port : ℕ) → List ChunkRun → AnchoredHostIs → (chunk : Option ℕ) → Stepped
+asks_for routes port chunks host None = quietly chunks host
+asks_for routes port chunks host (Some chunk) = if pends_for host chunk then quietly chunks host else puts_if routes port chunks host (ask_at host.mount port)
+
+-- what the mount asks at the port goes into its group, unless an ask for the same chunk is pending
+abbrev pub asks : RoutesIs → (port : ℕ) → List ChunkRun → AnchoredHostIs → Stepped
+asks routes port chunks host = asks_for routes port chunks host (chunk_for host.mount port)
+
+abbrev pub hands_of : List Halt → List ChunkRun → AnchoredHostIs → (k : ℕ) → Option ChunkRun → Stepped
+hands_of halts chunks host k None = quietly chunks host
+hands_of halts chunks host k (Some c) =
+    let d = drove_as chunks (number_of host.mount) k (led halts c (number_of host.mount)) in
+    record { chunks = d.chunks; host = host; told = d.told }
+
+abbrev pub hands_at : List Halt → List ChunkRun → AnchoredHostIs → (group : Option ℕ) → Stepped
+hands_at halts chunks host None = quietly chunks host
+hands_at halts chunks host (Some k) = hands_of halts chunks host k (slice_get chunks k)
+
+-- the ask that is pending at the port goes to the leader of the greatest term, where the port's rule says so
+abbrev pub hands : List Halt → RoutesIs → (port : ℕ) → List ChunkRun → AnchoredHostIs → Stepped
+hands halts routes port chunks host = hands_at halts chunks host (group_of routes host port)
+
+abbrev pub asks_on : List Halt → RoutesIs → (port : ℕ) → List ChunkRun → AnchoredHostIs → Stepped
+asks_on halts routes port chunks host = followed (asks routes port chunks host) (hands halts routes port)
+
+-- each port in turn
+abbrev pub asks_all : List Halt → RoutesIs → List ChunkRun → AnchoredHostIs → Stepped
+asks_all halts routes chunks host =
+    followed (followed (followed (asks_on halts routes 0 chunks host) (asks_on halts routes 1)) (asks_on halts routes 2)) (asks_on halts routes 3)
+
+-- One step of a host over anchors: the mount takes what its ports were answered, each port in turn; and then each port has what the mount asks
+-- there next, and hands it on. An ask for a chunk that is moving waits
+unfoldable pub stepped : List Halt → RoutesIs → List ChunkRun → AnchoredHostIs → Stepped
+stepped halts routes chunks host = followed (hears_all routes chunks host) (asks_all halts routes)
+
+-- Mounts come, and calls begin
+
+abbrev pub no_asks : List (Option ℕ)
+no_asks = None ∷ None ∷ None ∷ None ∷ []
+
+-- the host of a new mount; it asks in its steps alone
+abbrev pub made_host : (number : ℕ) → Extent → AnchoredHostIs
+made_host number volume = record { mount = opening number volume; at = no_asks }
+
+-- a call begins, and perhaps ends
+abbrev pub begun : List ChunkRun → AnchoredHostIs → FileCall → Stepped
+begun chunks host call =
+    let o = starting host.mount call in record {
+      chunks = chunks;
+      host = record host { mount = o.mount };
+      told = ended (number_of host.mount) (Some call) o.next;
+    }

@@ -1,0 +1,4 @@
+pub mod Hosts
+pub mod Steps
+pub mod Parts
+pub mod Calling

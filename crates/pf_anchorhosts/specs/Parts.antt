@@ -1,0 +1,61 @@
+-- What the parts of a step come to.
+use Rattle.std.specs.Prelude.{◌≡◌, ℕ, ◌++◌, List, [], Option, Some, None, slice_get, slice_set}
+use Rattle.pf_base.specs.declared.asks.Reply.{Reply}
+use Rattle.pf_files.specs.declared.call_names.CallName.{CallName}
+use Rattle.pf_report.specs.Texts.{event_line}
+use Rattle.pf_report.specs.Mounts.{ready_text}
+use Rattle.pf_applyrounds.specs.Halts.{Halt}
+use Rattle.pf_chunk.specs.Driving.{Driven, PortDrove, heard, led}
+use Rattle.pf_chunk.specs.Runs.{ChunkRun}
+use Rattle.pf_chunk.specs.Views.{ChunkIs, run_of}
+use Rattle.pf_anchormount.specs.declared.work.AnchoredNext.{AnchoredNext}
+use Rattle.pf_anchormount.specs.declared.work.AnchoredNext.TheVariants.{Ready, Done}
+use Rattle.pf_hosts.specs.Moments.{Moment, text_of}
+use Rattle.pf_hosts.specs.Parts.{end_text}
+use Rattle.pf_hosts.specs.Steps.{AreReady, HaveBegun, HaveGone, HaveGrown, TellsAll, runs}
+use Rattle.pf_anchorhosts.specs.Hosts.{AnchoredHostIs, takes}
+
+-- the line of what ended, with a call of this name
+abbrev pub next_text : (mount : ℕ) → Option CallName → Option AnchoredNext → List ℕ
+next_text mount name None = []
+next_text mount name (Some Ready) = event_line (ready_text mount)
+next_text mount name (Some (Done answer)) = end_text mount name answer
+
+-- what a list of halts makes of a group
+abbrev pub GroupStep : Type 0
+GroupStep = List Halt → ChunkRun → Driven
+
+-- The port of a mount into group k took this step
+pub record HasMet (step : GroupStep) (mount k : ℕ) (old : List ChunkIs) (before : List ℕ) (reply : Option Reply) (after : List ℕ) (new : List ChunkIs) : Type 0 where
+  pub ready : AreReady new
+  pub gone : HaveGone mount old new
+  pub was : ChunkIs
+  pub there : slice_get old k ≡ Some was
+  pub is : ChunkIs
+  pub one : new ≡ slice_set old k is
+  pub port : PortDrove mount reply was is
+  pub text : List ℕ
+  pub place : Option ℕ
+  pub put : after ≡ before ++ text
+  pub run : (halts : List Halt) → TellsAll halts new → step halts (run_of halts was) ≡ record { chunk = run_of halts is; reply = reply; text = text; place = place }
+
+-- it was looked at: nothing is written
+abbrev pub HasHeardAt : (mount k : ℕ) (old : List ChunkIs) → Option Reply → (new : List ChunkIs) → Type 0
+HasHeardAt mount k old reply new = HasMet (λ halts c. heard c mount) mount k old [] reply [] new
+
+-- its ask went to the leader, where the port's rule says so
+abbrev pub HasLedAt : (mount k : ℕ) (old : List ChunkIs) (before after : List ℕ) (new : List ChunkIs) → Type 0
+HasLedAt mount k old before after new = HasMet (λ halts c. led halts c mount) mount k old before None after new
+
+-- there was no memory for the whole of it
+pub record HasNotLedAt (mount k : ℕ) (old new : List ChunkIs) : Type 0 where
+  pub was : ChunkIs
+  pub there : slice_get old k ≡ Some was
+  pub grown : HaveGrown old new
+  pub begun : (halts : List Halt) → TellsAll halts new → HaveBegun halts old (slice_set (runs halts old) k (led halts (run_of halts was) mount).chunk) new
+
+-- the mount took a reply, whatever the groups are
+pub record HasTaken (port : ℕ) (reply : Reply) (before : List ℕ) (host : AnchoredHostIs) (after : List ℕ) (next : AnchoredHostIs) : Type 0 where
+  pub told : List Moment
+  pub put : after ≡ before ++ text_of told
+  pub run : (chunks : List ChunkRun) → takes chunks host port reply ≡ record { chunks = chunks; host = next; told = told }

@@ -1,0 +1,7 @@
+//! A host of a volume whose journal lies on three anchors: a mount over anchors, and its ports into the groups that serve the chunks.
+#![tactic(auto)]
+
+mod host;
+mod ports;
+
+pub use host::AnchoredHost;

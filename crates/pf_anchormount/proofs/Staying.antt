@@ -1,0 +1,384 @@
+-- What a port awaits it awaits until it is answered.
+use Rattle.std.proofs.Common.{◌≡◌, ◌≢◌, ℕ, zero, suc, ◌<◌, Bool, true, false, cond, not, ◌&&◌, ◌==◌, if◌then◌else◌, List, [], Option, Some, None, replicate, refl, sym, subst, ◌∙◌, arith}
+use Rattle.std.specs.Prelude.{unwrap_or}
+use Rattle.std.proofs.lemmas.Bool.{eqb-false, eqb-true}
+use Rattle.std.proofs.lemmas.List.{length-replicate}
+use Rattle.pf_base.specs.Asks.{Answers as AnswersAsk}
+use Rattle.pf_base.specs.declared.asks.Ask.{Ask}
+use Rattle.pf_base.specs.declared.asks.Ask.TheVariants as asks
+use Rattle.pf_base.specs.declared.asks.Reply.{Reply}
+use Rattle.pf_base.specs.declared.asks.Reply.TheVariants.{Written, Bytes}
+use Rattle.pf_inodes.specs.declared.changes.Txn.{Txn}
+use Rattle.pf_tree.specs.Held.{Held, data_of}
+use Rattle.pf_tree.specs.declared.calls.FileCall.{FileCall}
+use Rattle.pf_txn.specs.Spelling.{spell_txn}
+use Rattle.pf_txn.specs.Reading.{txn_in}
+use Rattle.pf_paxos.specs.declared.block.Block.{Block}
+use Rattle.pf_paxos.specs.Blocks.{zero_block}
+use Rattle.pf_anchors.specs.declared.anchors.AnchorNext.{AnchorNext}
+use Rattle.pf_anchors.specs.declared.anchors.AnchorNext.TheVariants.{Write, Read, Idle}
+use Rattle.pf_anchors.specs.declared.anchors.AnchorStep.{AnchorStep}
+use Rattle.pf_anchors.specs.declared.anchors.AnchorStep.TheVariants.{Go, Abort, NoValue, Decided}
+use Rattle.pf_anchors.specs.declared.anchors.Stage.{Stage}
+use Rattle.pf_anchors.specs.declared.anchors.Stage.TheVariants.{Writes, ReadsLow, ReadsHigh, Done}
+use Rattle.pf_anchors.specs.Anchors.{fresh, part_at, read_at}
+use Rattle.pf_files.specs.declared.answers.CallAnswer.TheVariants.{Refused}
+use Rattle.pf_files.specs.declared.answers.CallFault.TheVariants.{JournalFull}
+use Rattle.pf_files.specs.declared.calls.Pending.{Pending}
+use Rattle.pf_files.specs.declared.calls.Planned.{Planned}
+use Rattle.pf_files.specs.declared.calls.Planned.TheVariants.{Refuses, Proposes, Goes}
+use Rattle.pf_files.specs.declared.moving.Moved.{Moved}
+use Rattle.pf_files.specs.declared.moving.Moved.TheVariants.{Asks, Ends}
+use Rattle.pf_files.specs.declared.moving.Moving.{Moving}
+use Rattle.pf_files.specs.Calls.{applied_in, is_of, planned, size_in}
+use Rattle.pf_files.specs.Moving.{moves, moves_on}
+use Rattle.pf_mount.specs.Mounts.{blocks_in}
+use Rattle.pf_anchorage.specs.declared.errands.Errand.{Errand}
+use Rattle.pf_anchorage.specs.declared.errands.Errand.TheVariants.{Free, OfSync, OfPause, LateWrite, LateRead}
+use Rattle.pf_anchorage.specs.declared.errands.Errands.{Errands}
+use Rattle.pf_anchorage.specs.declared.looks.Looks.{Looks}
+use Rattle.pf_anchorage.specs.Errands.{all_late, errand_at, is_free, is_free_of, is_waiting, late, least_free, left_behind, with_errand}
+use Rattle.pf_anchorage.specs.Looks.{are_looked, have_found, having_looked, look_at, new_looks}
+use Rattle.pf_anchorage.specs.Places.{reads_first, reads_half}
+use Rattle.pf_anchorage.specs.Positions.{can_start, having_read, having_seen, starting_ballot}
+use Rattle.pf_anchormount.specs.declared.stand.Handed.{Handed}
+use Rattle.pf_anchormount.specs.declared.stand.Stand.{Stand}
+use Rattle.pf_anchormount.specs.declared.stand.Step.{Step}
+use Rattle.pf_anchormount.specs.declared.work.Task.{Task}
+use Rattle.pf_anchormount.specs.declared.work.Work.{Work}
+use Rattle.pf_anchormount.specs.declared.work.Work.TheVariants.{Rests, Syncs, Ballots, Pauses, Moves}
+use Rattle.pf_anchormount.specs.Anchored.{AnchoredIs, Worked, advanced, anchor_hands, answered, ask_at, asked, asked_anchor, asked_data, ballot_answered, ballot_read, balloted, ballots, ballots_on, data_answered, done, errand_answered, freed, hands, hands_nothing, having_started, held_in, look_answered, looks_on, moved, pause_answered, paused, pauses, pauses_on, plans, plans_as, port_answered, proceeds, proceeds_with, proposes, stand_of, starting, synced, syncs, syncs_on, turns_to, works_on}
+use Rattle.pf_anchormount.specs.Standing.{Answers, AnswersData, AnswersErrand, Awaits, AwaitsStill}
+use Rattle.pf_anchormount.proofs.Asked.{having_read_asked, next_asked, started_asked, written_asked}
+
+-- Errands
+
+errand_other : (e : Errands) (a b : ℕ) (x : Errand) → a < 3 → b < 3 → b ≢ a → errand_at (with_errand e a x) b ≡ errand_at e b
+errand_other e a b x low_a low_b apart = by (a == 0) refl (a == 1) refl (b == 0) refl (b == 1) refl
+  where
+    by : (i : Bool) → (a == 0) ≡ i → (j : Bool) → (a == 1) ≡ j → (k : Bool) → (b == 0) ≡ k → (l : Bool) → (b == 1) ≡ l → (let r = cond i (record e { errand_0 = x }) (cond j (record e { errand_1 = x }) (record e { errand_2 = x })) in cond k r.errand_0 (cond l r.errand_1 r.errand_2)) ≡ cond k e.errand_0 (cond l e.errand_1 e.errand_2)
+    by true is_i j is_j true is_k l is_l = absurd (apart (eqb-true b 0 is_k ∙ sym (eqb-true a 0 is_i)))
+    by true is_i j is_j false is_k true is_l = refl
+    by true is_i j is_j false is_k false is_l = refl
+    by false is_i true is_j true is_k l is_l = refl
+    by false is_i true is_j false is_k true is_l = absurd (apart (eqb-true b 1 is_l ∙ sym (eqb-true a 1 is_j)))
+    by false is_i true is_j false is_k false is_l = refl
+    by false is_i false is_j true is_k l is_l = refl
+    by false is_i false is_j false is_k true is_l = refl
+    by false is_i false is_j false is_k false is_l = absurd (omega (arith, apart, low_a, low_b, eqb-false a 0 is_i, eqb-false a 1 is_j, eqb-false b 0 is_k, eqb-false b 1 is_l))
+
+late_answers : (x : Errand) (n : AnchorNext) (reply : Reply) → AnswersErrand x n reply → AnswersErrand (late x) n reply
+late_answers Free n reply is = is
+late_answers OfSync n reply is = is
+late_answers OfPause n reply is = is
+late_answers LateWrite n reply is = is
+late_answers (LateRead count) n reply is = is
+
+left_answers : (x : Errand) (n : AnchorNext) (reply : Reply) → AnswersErrand x n reply → AnswersErrand (left_behind x n) Idle reply
+left_answers Free (Write block) reply is = is
+left_answers Free (Read half) reply is = is
+left_answers Free Idle reply is = absurd is
+left_answers OfSync n reply is = is
+left_answers OfPause n reply is = is
+left_answers LateWrite n reply is = is
+left_answers (LateRead count) n reply is = is
+
+-- Steps, at another anchor
+
+module _ (q : ℕ) where
+  abbrev AnswersAt : Stand → Reply → Type 0
+  AnswersAt s reply = AnswersErrand (errand_at s.errands q) (part_at s.position.anchors.parts q).asked reply
+
+  -- what answers this anchor before answers it after
+  abbrev Keeps : (before after : Stand) → Type 0
+  Keeps s t = (reply : Reply) → AnswersAt s reply → AnswersAt t reply
+
+  same_keeps : (s t : Stand) → errand_at t.errands q ≡ errand_at s.errands q → (part_at t.position.anchors.parts q).asked ≡ (part_at s.position.anchors.parts q).asked → Keeps s t
+  same_keeps s t errand next reply is =
+      subst (λ (x : Errand). AnswersErrand x (part_at t.position.anchors.parts q).asked reply) (sym errand)
+      (subst (λ (n : AnchorNext). AnswersErrand (errand_at s.errands q) n reply) (sym next) is)
+
+  late_keeps : (s : Stand) → Keeps s (record s { errands = all_late s.errands })
+  late_keeps s reply = by (part_at s.position.anchors.parts q).asked (q == 0) (q == 1)
+    where
+      by : (n : AnchorNext) (b c : Bool) → (let e = s.errands in AnswersErrand (cond b e.errand_0 (cond c e.errand_1 e.errand_2)) n reply → AnswersErrand (cond b (late e.errand_0) (cond c (late e.errand_1) (late e.errand_2))) n reply)
+      by n true c = late_answers s.errands.errand_0 n reply
+      by n false true = late_answers s.errands.errand_1 n reply
+      by n false false = late_answers s.errands.errand_2 n reply
+
+  advanced_keeps : (s : Stand) → Keeps s (advanced s)
+  advanced_keeps s reply = by (q == 0) (q == 1)
+    where
+      by : (b c : Bool) → (let e = s.errands in let ps = s.position.anchors.parts in let x = fresh zero_block in AnswersErrand (cond b e.errand_0 (cond c e.errand_1 e.errand_2)) (cond b ps.part_0 (cond c ps.part_1 ps.part_2)).asked reply → AnswersErrand (cond b (left_behind e.errand_0 ps.part_0.asked) (cond c (left_behind e.errand_1 ps.part_1.asked) (left_behind e.errand_2 ps.part_2.asked))) (cond b x (cond c x x)).asked reply)
+      by true c = left_answers s.errands.errand_0 s.position.anchors.parts.part_0.asked reply
+      by false true = left_answers s.errands.errand_1 s.position.anchors.parts.part_1.asked reply
+      by false false = left_answers s.errands.errand_2 s.position.anchors.parts.part_2.asked reply
+
+  keeps_if : (s : Stand) (b : Bool) (x y : Step) → Keeps s x.stand → Keeps s y.stand → (let z : Step = if b then x else y in Keeps s z.stand)
+  keeps_if s true x y of_x of_y = of_x
+  keeps_if s false x y of_x of_y = of_y
+
+  same : (s : Stand) → Keeps s s
+  same s reply is = is
+
+  ballots_keep : (s : Stand) (input : Option (List ℕ)) → Keeps s (ballots s input).stand
+  ballots_keep s input =
+      let t : Stand = record s { position = starting_ballot s.position input } in
+      keeps_if s (can_start s.position) (turns_to t (Ballots input)) (pauses s input 0)
+      (same_keeps s t refl (started_asked q s.position.anchors s.position.rivals.seen input)) (same s)
+
+  paused_keeps : (s : Stand) (input : Option (List ℕ)) (left : ℕ) → Keeps s (paused s input left).stand
+  paused_keeps s input zero = ballots_keep s input
+  paused_keeps s input (suc left) = same s
+
+  moved_keeps : (s : Stand) (x : Moved) → Keeps s (moved s x).stand
+  moved_keeps s (Asks ask moving) = same s
+  moved_keeps s (Ends answer) = same s
+
+  proposes_keeps : (s : Stand) (txn : Txn) → Keeps s (proposes s txn).stand
+  proposes_keeps s txn = keeps_if s (s.upto == 255) (done s (Refused JournalFull)) (ballots s (Some (spell_txn txn))) (same s) (ballots_keep s (Some (spell_txn txn)))
+
+  plans_as_keeps : (s : Stand) (x : Planned) → Keeps s (plans_as s x).stand
+  plans_as_keeps s (Refuses fault) = same s
+  plans_as_keeps s (Proposes txn) = proposes_keeps s txn
+  plans_as_keeps s (Goes step) = moved_keeps s step
+
+  plans_keeps : (s : Stand) (h : Held) (p : Pending) → Keeps s (plans s h p).stand
+  plans_keeps s h p = plans_as_keeps s (planned s.mount s.volume (data_of h.first h.tables) h.tables p)
+
+  synced_keeps : (s : Stand) (h : Held) (p : Option Pending) → Keeps s (synced s h p).stand
+  synced_keeps s h None = same s
+  synced_keeps s h (Some p) = plans_keeps s h p
+
+  pub syncs_keeps : (s : Stand) (h : Held) (p : Option Pending) → Keeps s (syncs s h p).stand
+  syncs_keeps s h p =
+      keeps_if s (s.upto == 255) (synced s h p) (turns_to (record s { errands = all_late s.errands }) (Syncs new_looks))
+      (synced_keeps s h p) (late_keeps s)
+
+  syncs_on_keeps : (s : Stand) (h : Held) (p : Option Pending) (looks : Looks) → Keeps s (syncs_on s h p looks).stand
+  syncs_on_keeps s h p looks =
+      keeps_if s (not (are_looked looks)) (turns_to s (Syncs looks)) (if have_found looks then ballots s None else synced s h p)
+      (same s)
+      (keeps_if s (have_found looks) (ballots s None) (synced s h p) (ballots_keep s None) (synced_keeps s h p))
+
+  proceeds_with_keeps : (s : Stand) (before after : Held) (txn : Option Txn) (p : Pending) → Keeps s (proceeds_with s before after txn p).stand
+  proceeds_with_keeps s before after txn p =
+      keeps_if s (is_of s.mount p.number txn) (moved s (moves s.volume after.tables (size_in before.tables p.call) p.call)) (plans s after p)
+      (moved_keeps s (moves s.volume after.tables (size_in before.tables p.call) p.call)) (plans_keeps s after p)
+
+  proceeds_keeps : (s : Stand) (before after : Held) (txn : Option Txn) (input : Option (List ℕ)) (p : Option Pending) → Keeps s (proceeds s before after txn input p).stand
+  proceeds_keeps s before after txn (Some input) (Some p) = proceeds_with_keeps s before after txn p
+  proceeds_keeps s before after txn (Some input) None = syncs_keeps s after None
+  proceeds_keeps s before after txn None p = syncs_keeps s after p
+
+  balloted_keeps : (s : Stand) (h : Held) (p : Option Pending) (input : Option (List ℕ)) (step : AnchorStep) → Keeps s (balloted s h p input step).step.stand
+  balloted_keeps s h p input Go = same s
+  balloted_keeps s h p input (Abort mbal) = same s
+  balloted_keeps s h p input NoValue = synced_keeps s h p
+  balloted_keeps s h p input (Decided value) = λ reply is.
+      proceeds_keeps (advanced s) h (record h { tables = applied_in h.tables (txn_in value) }) (txn_in value) input p reply (advanced_keeps s reply is)
+
+  module _ (a : ℕ) (low : a < 3) (low_q : q < 3) (apart : q ≢ a) (s : Stand) (h : Held) (p : Option Pending) where
+    freed_keeps : Keeps s (freed s a)
+    freed_keeps = same_keeps s (freed s a) (errand_other s.errands a q Free low low_q apart) refl
+
+    having_read_keeps : (blocks : List Block) → Keeps s (record s { position = having_read s.position a blocks })
+    having_read_keeps blocks = same_keeps s (record s { position = having_read s.position a blocks }) refl (having_read_asked q a low low_q apart s.position blocks)
+
+    read_keeps : (work : Work) (blocks : List Block) → Keeps s (ballot_read s h p work a blocks).step.stand
+    read_keeps (Ballots input) blocks = λ reply is.
+        balloted_keeps (record s { position = having_read s.position a blocks }) h p input (read_at s.position.anchors a blocks).step reply (having_read_keeps blocks reply is)
+    read_keeps Rests blocks = having_read_keeps blocks
+    read_keeps (Syncs looks) blocks = having_read_keeps blocks
+    read_keeps (Pauses input left) blocks = having_read_keeps blocks
+    read_keeps (Moves moving) blocks = having_read_keeps blocks
+
+    ballot_keeps : (work : Work) (reply : Reply) → Keeps s (ballot_answered s h p work a reply).step.stand
+    ballot_keeps work Written = same_keeps s (ballot_answered s h p work a Written).step.stand refl (written_asked q a low low_q apart s.position.anchors)
+    ballot_keeps work (Bytes sectors) = read_keeps work (blocks_in sectors)
+
+    look_keeps : (work : Work) (reply : Reply) → Keeps s (look_answered (freed s a) h p work a reply).stand
+    look_keeps (Syncs looks) (Bytes sectors) = λ reply is.
+        syncs_on_keeps (record (freed s a) { position = having_seen s.position (blocks_in sectors) }) h p (having_looked looks a (blocks_in sectors)) reply (freed_keeps reply is)
+    look_keeps (Syncs looks) Written = freed_keeps
+    look_keeps Rests reply = freed_keeps
+    look_keeps (Ballots input) reply = freed_keeps
+    look_keeps (Pauses input left) reply = freed_keeps
+    look_keeps (Moves moving) reply = freed_keeps
+
+    pause_keeps : (work : Work) → Keeps s (pause_answered (freed s a) work).stand
+    pause_keeps (Pauses input left) = λ reply is. paused_keeps (freed s a) input left reply (freed_keeps reply is)
+    pause_keeps Rests = freed_keeps
+    pause_keeps (Syncs looks) = freed_keeps
+    pause_keeps (Ballots input) = freed_keeps
+    pause_keeps (Moves moving) = freed_keeps
+
+    errand_keeps : (errand : Errand) (work : Work) (reply : Reply) → Keeps s (errand_answered errand s h p work a reply).step.stand
+    errand_keeps Free work reply = ballot_keeps work reply
+    errand_keeps OfSync work reply = look_keeps work reply
+    errand_keeps OfPause work reply = pause_keeps work
+    errand_keeps LateWrite work reply = freed_keeps
+    errand_keeps (LateRead count) work reply = freed_keeps
+
+    -- what is handed out
+    hands_keeps : (errand : Errand) (ask : Ask) → Keeps s (hands s a errand ask).stand
+    hands_keeps errand ask = same_keeps s (hands s a errand ask).stand (errand_other s.errands a q errand low low_q apart) refl
+
+    looks_on_keeps : (stage : Stage) → Keeps s (looks_on s a stage).stand
+    looks_on_keeps ReadsLow = hands_keeps OfSync (reads_half s.volume a s.upto 0)
+    looks_on_keeps ReadsHigh = hands_keeps OfSync (reads_half s.volume a s.upto 1)
+    looks_on_keeps Writes = same s
+    looks_on_keeps Done = same s
+
+    pauses_on_keeps : Keeps s (pauses_on s a).stand
+    pauses_on_keeps = by (not (is_waiting s.errands) && (a == least_free s.errands s.position.anchors.parts))
+      where
+        by : (b : Bool) → (let x : Handed = if b then hands s a OfPause (reads_first s.volume a s.upto) else hands_nothing s in Keeps s x.stand)
+        by true = hands_keeps OfPause (reads_first s.volume a s.upto)
+        by false = same s
+
+    works_on_keeps : (work : Work) → Keeps s (works_on s work a).stand
+    works_on_keeps (Syncs looks) = looks_on_keeps (look_at looks a).stage
+    works_on_keeps (Ballots input) = same_keeps s (ballots_on s a).stand refl (next_asked q a low low_q apart s.position.anchors)
+    works_on_keeps (Pauses input left) = pauses_on_keeps
+    works_on_keeps Rests = same s
+    works_on_keeps (Moves moving) = same s
+
+    anchor_hands_keeps : (work : Work) → Keeps s (anchor_hands s work a).stand
+    anchor_hands_keeps work = by (is_free s.errands s.position.anchors.parts a)
+      where
+        by : (b : Bool) → (let x : Handed = if b then works_on s work a else hands_nothing s in Keeps s x.stand)
+        by true = works_on_keeps work
+        by false = same s
+
+  data_keeps : (s : Stand) (h : Held) (work : Work) (reply : Reply) → Keeps s (data_answered s h work reply).stand
+  data_keeps s h (Moves moving) reply = moved_keeps s (moves_on s.volume h.tables moving reply)
+  data_keeps s h Rests reply = same s
+  data_keeps s h (Syncs looks) reply = same s
+  data_keeps s h (Ballots input) reply = same s
+  data_keeps s h (Pauses input left) reply = same s
+
+  port_keeps : (s : Stand) (h : Held) (p : Option Pending) (work : Work) (port : ℕ) (reply : Reply) → port < 4 → q < 3 → q ≢ port → Keeps s (port_answered s h p work port reply).step.stand
+  port_keeps s h p work port reply low low_q apart = by (port == 3) refl
+    where
+      by : (b : Bool) → (port == 3) ≡ b → (let x : Worked = if b then record { step = data_answered s h work reply; tables = h.tables } else errand_answered (errand_at s.errands port) s h p work port reply in Keeps s x.step.stand)
+      by true e = data_keeps s h work reply
+      by false e = errand_keeps port (omega (arith, low, eqb-false port 3 e)) low_q apart s h p (errand_at s.errands port) work reply
+
+  asked_keeps : (m : AnchoredIs) (port : ℕ) → port < 4 → q < 3 → q ≢ port → Keeps (stand_of m) (stand_of (asked m port))
+  asked_keeps m port low low_q apart = by (port == 3) refl
+    where
+      by : (b : Bool) → (port == 3) ≡ b → (let n : AnchoredIs = if b then asked_data m else asked_anchor m port in Keeps (stand_of m) (stand_of n))
+      by true e = same (stand_of m)
+      by false e = anchor_hands_keeps port (omega (arith, low, eqb-false port 3 e)) low_q apart (stand_of m) (held_in m.files) m.files.pending m.task.work
+
+-- File data
+
+-- what a mount that awaits file data is at work on stays while an anchor is answered
+moving_stays : (s : Stand) (h : Held) (p : Option Pending) (moving : Moving) (errand : Errand) (a : ℕ) (reply : Reply) → (errand_answered errand s h p (Moves moving) a reply).step.task ≡ None
+moving_stays s h p moving Free a Written = refl
+moving_stays s h p moving Free a (Bytes sectors) = refl
+moving_stays s h p moving OfSync a reply = refl
+moving_stays s h p moving OfPause a reply = refl
+moving_stays s h p moving LateWrite a reply = refl
+moving_stays s h p moving (LateRead count) a reply = refl
+
+abbrev AnswersTask : Task → Reply → Type 0
+AnswersTask task reply = AnswersData task.work task.ask reply
+
+module _ (s : Stand) (h : Held) (p : Option Pending) (task : Task) (awaited : Reply) where
+  task_stays : (work : Work) (waiting : Option Ask) → AnswersData work waiting awaited → (errand : Errand) (a : ℕ) (reply : Reply) → (errand_answered errand s h p work a reply).step.task ≡ None
+  task_stays (Moves moving) waiting is errand a reply = moving_stays s h p moving errand a reply
+  task_stays Rests waiting is errand a reply = absurd is
+  task_stays (Syncs looks) waiting is errand a reply = absurd is
+  task_stays (Ballots input) waiting is errand a reply = absurd is
+  task_stays (Pauses input left) waiting is errand a reply = absurd is
+
+  data_stays : (port : ℕ) (reply : Reply) → 3 ≢ port → AnswersTask task awaited → AnswersTask (unwrap_or (port_answered s h p task.work port reply).step.task task) awaited
+  data_stays port reply apart is = by (port == 3) refl
+    where
+      by : (b : Bool) → (port == 3) ≡ b → (let x : Worked = if b then record { step = data_answered s h task.work reply; tables = h.tables } else errand_answered (errand_at s.errands port) s h p task.work port reply in AnswersTask (unwrap_or x.step.task task) awaited)
+      by true e = absurd (apart (sym (eqb-true port 3 e)))
+      by false e = subst (λ (o : Option Task). AnswersTask (unwrap_or o task) awaited) (sym (task_stays task.work task.ask is (errand_at s.errands port) port reply)) is
+
+data_asked : (m : AnchoredIs) (port : ℕ) (reply : Reply) → 3 ≢ port → AnswersTask m.task reply → AnswersTask (asked m port).task reply
+data_asked m port reply apart is = by (port == 3) refl
+  where
+    by : (b : Bool) → (port == 3) ≡ b → (let n : AnchoredIs = if b then asked_data m else asked_anchor m port in AnswersTask n.task reply)
+    by true e = absurd (apart (sym (eqb-true port 3 e)))
+    by false e = is
+
+-- What is awaited
+
+module _ (m n : AnchoredIs) (port : ℕ) (at_anchor : port < 3 → Keeps port (stand_of m) (stand_of n)) (at_data : port ≡ 3 → (reply : Reply) → AnswersTask m.task reply → AnswersTask n.task reply) where
+  stays_awaited : AwaitsStill m n port
+  stays_awaited None = λ awaits. tt
+  stays_awaited (Some ask) = λ awaits reply is. record {
+    port_low = (awaits reply is).port_low;
+    anchor = λ low. at_anchor low reply ((awaits reply is).anchor low);
+    data_port = λ e. at_data e reply ((awaits reply is).data_port e);
+  }
+
+-- another port
+apart_from : (port other : ℕ) → other ≢ port → other ≡ 3 → 3 ≢ port
+apart_from port other apart is e = apart (is ∙ e)
+
+pub answered_awaits : (m : AnchoredIs) (port other : ℕ) (reply : Reply) → port < 4 → other ≢ port → AwaitsStill m (answered m port reply).mount other
+answered_awaits m port other reply low apart =
+    stays_awaited m (answered m port reply).mount other
+    (λ low_other. port_keeps other (stand_of m) (held_in m.files) m.files.pending m.task.work port reply low low_other apart)
+    (λ is awaited. data_stays (stand_of m) (held_in m.files) m.files.pending m.task awaited port reply (apart_from port other apart is))
+
+pub asked_awaits : (m : AnchoredIs) (port other : ℕ) → port < 4 → other ≢ port → AwaitsStill m (asked m port) other
+asked_awaits m port other low apart =
+    stays_awaited m (asked m port) other
+    (λ low_other. asked_keeps other m port low low_other apart)
+    (λ is reply. data_asked m port reply (apart_from port other apart is))
+
+pub starting_awaits : (m : AnchoredIs) (call : FileCall) (port : ℕ) → m.task.work ≡ Rests → AwaitsStill m (starting m call).mount port
+starting_awaits m call port rests =
+    let n = having_started m call in
+    stays_awaited m (starting m call).mount port
+    (λ low. syncs_keeps port (stand_of n) (held_in n.files) n.files.pending)
+    (λ is reply answers. absurd (subst (λ (work : Work). AnswersData work m.task.ask reply) rests answers))
+
+-- What is silent
+
+-- every ask has an answer
+answer_to : (ask : Ask) → (reply : Reply) × AnswersAsk ask reply
+answer_to (asks.Write chunk span sectors) = (Written, tt)
+answer_to (asks.Read chunk span) = (Bytes (replicate span.count []), length-replicate span.count [])
+
+none_waits : (work : Work) (waiting : Option Ask) (reply : Reply) → AnswersData work waiting reply → waiting ≡ None
+none_waits (Moves moving) None reply is = refl
+none_waits (Moves moving) (Some ask) reply is = absurd is
+none_waits Rests waiting reply is = absurd is
+none_waits (Syncs looks) waiting reply is = absurd is
+none_waits (Ballots input) waiting reply is = absurd is
+none_waits (Pauses input left) waiting reply is = absurd is
+
+not_free : (x : Errand) (n : AnchorNext) (reply : Reply) → AnswersErrand x n reply → is_free_of x n ≡ false
+not_free Free (Write block) reply is = refl
+not_free Free (Read half) reply is = refl
+not_free Free Idle reply is = absurd is
+not_free OfSync n reply is = refl
+not_free OfPause n reply is = refl
+not_free LateWrite n reply is = refl
+not_free (LateRead count) n reply is = refl
+
+pub awaiting_is_silent : (m : AnchoredIs) (port : ℕ) (ask : Ask) → Awaits m port (Some ask) → ask_at m port ≡ None
+awaiting_is_silent m port ask awaits = by (port == 3) refl
+  where
+    answers : Answers m port (answer_to ask).0
+    answers = awaits (answer_to ask).0 (answer_to ask).1
+
+    nothing : (b : Bool) → b ≡ false → (let x : Handed = if b then works_on (stand_of m) m.task.work port else hands_nothing (stand_of m) in x.ask ≡ None)
+    nothing true e = absurd (grind (arith, e))
+    nothing false e = refl
+
+    by : (b : Bool) → (port == 3) ≡ b → (if b then m.task.ask else (anchor_hands (stand_of m) m.task.work port).ask) ≡ None
+    by true e = none_waits m.task.work m.task.ask (answer_to ask).0 (answers.data_port (eqb-true port 3 e))
+    by false e =
+        let low : port < 3 = omega (arith, answers.port_low, eqb-false port 3 e) in
+        nothing (is_free m.errands m.position.anchors.parts port)
+        (not_free (errand_at m.errands port) (part_at m.position.anchors.parts port).asked (answer_to ask).0 (answers.anchor low))

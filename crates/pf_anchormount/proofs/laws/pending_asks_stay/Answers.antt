@@ -1,0 +1,18 @@
+use Rattle.pf_anchormount.proofs.Going.{asks_the_anchor}
+use Rattle.pf_anchormount.proofs.Staying.{answered_awaits, asked_awaits, awaiting_is_silent, starting_awaits}
+use Rattle.pf_anchormount.proofs.laws.pending_asks_stay.Goals as goal
+
+pub returns-clause-answered : goal.returns-clause-answered
+returns-clause-answered c = λ m port other reply low apart. answered_awaits m port other reply low apart
+
+pub returns-clause-asked : goal.returns-clause-asked
+returns-clause-asked c = λ m port other low apart. asked_awaits m port other low apart
+
+pub returns-clause-starting : goal.returns-clause-starting
+returns-clause-starting c = λ m call port rests. starting_awaits m call port rests
+
+pub returns-clause-silent : goal.returns-clause-silent
+returns-clause-silent c = λ m port ask awaits. awaiting_is_silent m port ask awaits
+
+pub returns-clause-of_anchors : goal.returns-clause-of_anchors
+returns-clause-of_anchors c = λ m port ask is low e. asks_the_anchor m is port low ask e

@@ -1,0 +1,45 @@
+use Rattle.std.proofs.Common.{◌≡◌, ◌++◌, IfSome, Some, None, sym, ap, subst, ◌∙◌}
+use Rattle.pf_script.specs.declared.command.Command.TheVariants.{Anchors}
+use Rattle.pf_report.specs.Refusals.{refusal_text}
+use Rattle.pf_world.specs.Steps.{HasFailed, HasRun}
+use Rattle.pf_world.specs.Views.{IsWorld, WorldIs, WorldOn}
+use Rattle.pf_world.proofs.Anchored.{anchored_runs, anchors_fail, kept_from, kept_runs, kept_said}
+use Rattle.pf_world.proofs.Failing.{on_err}
+use Rattle.pf_world.proofs.Happening.{answer_put, becomes}
+use Rattle.pf_world.proofs.Results.{on_ok}
+use Rattle.pf_world.proofs.world.World.anchors_line.Goals as goal
+
+pub put_refusal-requires : goal.put_refusal-requires
+put_refusal-requires g c = kept_said c.args.self.now.world c.in-Some.refusal (sym c.keeps_from_anchors.ensures ∙ c.in-Some.is)
+
+pub returns-in-Some-clause-ran : goal.returns-in-Some-clause-ran
+returns-in-Some-clause-ran g c =
+    let w = c.args.self.now.world in
+    let kept = sym c.keeps_from_anchors.ensures ∙ c.in-Some.is in
+    let before = c.args.out.now.items in
+    let after = c.put_refusal.new.out.items in
+    on_ok c.put_refusal.result _ _ (λ put.
+    kept_runs w c.args.number c.requires.world before after c.in-Some.refusal kept
+    (answer_put (refusal_text c.in-Some.refusal) c.args.number before after (kept_said w c.in-Some.refusal kept) put)) c.put_refusal.ensures.ok
+
+pub returns-in-Some-clause-err : goal.returns-in-Some-clause-err
+returns-in-Some-clause-err g c = on_err c.put_refusal.result _ (anchors_fail c.args.self.now.world c.args.number c.args.self.now.world.fleet)
+
+pub returns-clause-ran : goal.returns-clause-ran
+returns-clause-ran g c =
+    let i = c.self.inside in
+    let old : WorldIs = record { sectors = i.sectors; names = i.names; format = i.format; chunks = i.chunks.items; fleet = i.fleet; moves = i.moves; kind = i.kind; passes = i.passes } in
+    let same : old ≡ c.args.self.now.world = ap (λ (o : WorldOn g.row.D.Denot). o.world) c.self.view_is in
+    let free : kept_from old ≡ None = ap kept_from same ∙ sym c.keeps_from_anchors.ensures ∙ c.in_default.is in
+    let before = c.args.out.now.items in
+    let after = c.put_answer.new.out.items in
+    on_ok c.put_answer.result _ _ (λ put.
+    subst (λ (x : WorldIs). HasRun x c.args.number Anchors before after (becomes old old.chunks c.anchor.new.self old.kind)) same
+    (anchored_runs old c.args.number (subst IsWorld (sym same) c.requires.world) before after c.anchor.new.self c.anchor.ensures free put)) c.put_answer.ensures.ok
+
+pub returns-clause-err : goal.returns-clause-err
+returns-clause-err g c =
+    let i = c.self.inside in
+    let old : WorldIs = record { sectors = i.sectors; names = i.names; format = i.format; chunks = i.chunks.items; fleet = i.fleet; moves = i.moves; kind = i.kind; passes = i.passes } in
+    let same : old ≡ c.args.self.now.world = ap (λ (o : WorldOn g.row.D.Denot). o.world) c.self.view_is in
+    on_err c.put_answer.result _ (subst (λ (x : WorldIs). HasFailed x c.args.number Anchors (becomes old old.chunks c.anchor.new.self old.kind)) same (anchors_fail old c.args.number c.anchor.new.self))
