@@ -7,18 +7,18 @@ use Rattle.std.proofs.lemmas.Option.{none-some, same_Some}
 use Rattle.pf_base.specs.declared.asks.Ask.{Ask}
 use Rattle.pf_base.specs.Asks.{chunk_of}
 use Rattle.pf_entry.proofs.Lists.{set_cases, set_there}
-use Rattle.pf_network.proofs.Lists.{set_elsewhere, set_length, set_mapped, something_there}
+use Rattle.pf_hosts.specs.pf_network.proofs.Lists.{set_elsewhere, set_length, set_mapped, something_there}
 use Rattle.pf_asks.specs.Ports.{PortIs}
 use Rattle.pf_anchormount.specs.Anchored.{AnchoredIs, anchor_hands, ask_at, asked as having_asked, asked_anchor, asked_data, stand_of}
 use Rattle.pf_anchormount.specs.Standing.{Awaits, AwaitsStill}
-use Rattle.pf_applyrounds.specs.Growing.{HasGrown}
-use Rattle.pf_applyrounds.specs.Halts.{Halt}
-use Rattle.pf_applyrounds.proofs.Growing.{grown_refl}
-use Rattle.pf_chunk.specs.Driving.{asked, asked_at}
-use Rattle.pf_chunk.specs.Runs.{ChunkRun}
-use Rattle.pf_chunk.specs.Views.{ChunkIs, IsReady, run_of}
-use Rattle.pf_group.specs.GroupIs.{GroupIs, state_of}
-use Rattle.pf_group.specs.Packets.{NoneComesBack}
+use Rattle.pf_hosts.specs.pf_applyrounds.specs.Growing.{HasGrown}
+use Rattle.pf_hosts.specs.pf_applyrounds.specs.Halts.{Halt}
+use Rattle.pf_hosts.specs.pf_applyrounds.proofs.Growing.{grown_refl}
+use Rattle.pf_hosts.specs.pf_chunk.specs.Driving.{asked, asked_at}
+use Rattle.pf_hosts.specs.pf_chunk.specs.Runs.{ChunkRun}
+use Rattle.pf_hosts.specs.pf_chunk.specs.Views.{ChunkIs, IsReady, run_of}
+use Rattle.pf_hosts.specs.pf_group.specs.GroupIs.{GroupIs, state_of}
+use Rattle.pf_hosts.specs.pf_group.specs.Packets.{NoneComesBack}
 use Rattle.pf_move.specs.Routes.{RoutesIs, home_of}
 use Rattle.pf_hosts.specs.Hosts.{put_at, run_after, with_run}
 use Rattle.pf_hosts.specs.Steps.{Goes, runs}

@@ -13,7 +13,7 @@ use Rattle.pf_anchormount.specs.declared.work.Work.{Work}
 use Rattle.pf_anchormount.specs.declared.work.Work.TheVariants.{Rests, Syncs, Ballots, Pauses, Moves}
 use Rattle.pf_anchormount.specs.Anchored.{AnchoredIs, Outcome, starting}
 use Rattle.pf_anchormount.specs.Standing.{AwaitsStill}
-use Rattle.pf_chunk.specs.Views.{ChunkIs}
+use Rattle.pf_hosts.specs.pf_chunk.specs.Views.{ChunkIs}
 use Rattle.pf_move.specs.Routes.{RoutesIs}
 use Rattle.pf_hosts.specs.Parts.{AreQuiet}
 use Rattle.pf_hosts.specs.Calling.{name_of_words}

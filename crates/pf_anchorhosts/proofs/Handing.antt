@@ -1,8 +1,8 @@
 -- A pending ask of a host over anchors is handed on.
 use Rattle.std.proofs.Common.{◌≡◌, ℕ, List, [], ◌∷◌, ◌++◌, Option, Some, None, refl, sym, ap, subst, ◌∙◌, append-nil}
-use Rattle.pf_network.proofs.Lists.{set_mapped}
-use Rattle.pf_chunk.specs.Driving.{Driven, led}
-use Rattle.pf_chunk.specs.Views.{ChunkIs, run_of}
+use Rattle.pf_hosts.specs.pf_network.proofs.Lists.{set_mapped}
+use Rattle.pf_hosts.specs.pf_chunk.specs.Driving.{Driven, led}
+use Rattle.pf_hosts.specs.pf_chunk.specs.Views.{ChunkIs, run_of}
 use Rattle.pf_move.specs.Routes.{RoutesIs}
 use Rattle.pf_hosts.specs.Moments.{Writes, text_of}
 use Rattle.pf_hosts.specs.Hosts.{drove_as, handed}

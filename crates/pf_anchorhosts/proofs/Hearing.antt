@@ -1,5 +1,5 @@
 -- A port of a host over anchors is looked at, and its reply is taken.
-use Rattle.pf_chunk.specs.Driving.{heard}
+use Rattle.pf_hosts.specs.pf_chunk.specs.Driving.{heard}
 use Rattle.std.proofs.Common.{◌≡◌, ◌≢◌, ℕ, List, [], ◌++◌, length, Option, Some, None, slice_get, slice_set, inl, inr, refl, sym, ap, subst, ◌∙◌, append-nil}
 use Rattle.std.specs.Prelude.{IfSome}
 use Rattle.std.specs.Option.{option_map}
@@ -8,7 +8,7 @@ use Rattle.pf_base.specs.declared.asks.Ask.{Ask}
 use Rattle.pf_base.specs.declared.asks.Reply.{Reply}
 use Rattle.pf_base.specs.Asks.{Answers as AnswersAsk}
 use Rattle.pf_entry.proofs.Lists.{set_cases, set_there}
-use Rattle.pf_network.proofs.Lists.{set_elsewhere, set_length, set_mapped}
+use Rattle.pf_hosts.specs.pf_network.proofs.Lists.{set_elsewhere, set_length, set_mapped}
 use Rattle.pf_asks.specs.Ports.{PortIs}
 use Rattle.pf_files.specs.declared.call_names.CallName.{CallName}
 use Rattle.pf_files.specs.CallNames.{name_of}
@@ -18,8 +18,8 @@ use Rattle.pf_anchormount.specs.declared.work.AnchoredNext.{AnchoredNext}
 use Rattle.pf_anchormount.specs.declared.work.AnchoredNext.TheVariants.{Ready, Done}
 use Rattle.pf_anchormount.specs.Anchored.{AnchoredIs, Outcome, answered}
 use Rattle.pf_anchormount.specs.Standing.{Answers, AwaitsStill}
-use Rattle.pf_applyrounds.specs.Halts.{Halt}
-use Rattle.pf_chunk.specs.Views.{ChunkIs, run_of}
+use Rattle.pf_hosts.specs.pf_applyrounds.specs.Halts.{Halt}
+use Rattle.pf_hosts.specs.pf_chunk.specs.Views.{ChunkIs, run_of}
 use Rattle.pf_move.specs.Routes.{RoutesIs, home_of}
 use Rattle.pf_hosts.specs.Moments.{text_of}
 use Rattle.pf_hosts.specs.Hosts.{call_of}

@@ -1,12 +1,12 @@
 -- What a host over anchors does only adds to the histories of the groups.
-use Rattle.pf_chunk.proofs.Driven.{heard_extends, led_extends}
-use Rattle.pf_chunk.specs.Driving.{heard, led}
+use Rattle.pf_hosts.specs.pf_chunk.proofs.Driven.{heard_extends, led_extends}
+use Rattle.pf_hosts.specs.pf_chunk.specs.Driving.{heard, led}
 use Rattle.std.proofs.Common.{◌≡◌, ℕ, List, Bool, true, false, Option, Some, None, if◌then◌else◌, slice_get, slice_set, refl, sym, subst}
 use Rattle.pf_base.specs.declared.asks.Ask.{Ask}
 use Rattle.pf_base.specs.declared.asks.Reply.{Reply}
 use Rattle.pf_base.specs.Asks.{chunk_of}
-use Rattle.pf_applyrounds.specs.Halts.{Halt}
-use Rattle.pf_chunk.specs.Runs.{ChunkRun}
+use Rattle.pf_hosts.specs.pf_applyrounds.specs.Halts.{Halt}
+use Rattle.pf_hosts.specs.pf_chunk.specs.Runs.{ChunkRun}
 use Rattle.pf_move.specs.Routes.{RoutesIs, home_of}
 use Rattle.pf_anchormount.specs.Anchored.{ask_at}
 use Rattle.pf_hosts.proofs.Lengthening.{Lengthens, lengthens_one, lengthens_refl, lengthens_trans, put_lengthens}

@@ -4,17 +4,17 @@ use Rattle.std.proofs.lemmas.List.{length-map}
 use Rattle.std.proofs.lemmas.Option.{same_Some}
 use Rattle.pf_base.specs.declared.asks.Reply.{Reply}
 use Rattle.pf_entry.proofs.Lists.{set_cases, set_there}
-use Rattle.pf_network.proofs.Lists.{set_elsewhere, set_length}
-use Rattle.pf_applyrounds.specs.Agreeing.{TellsOfGroup}
-use Rattle.pf_applyrounds.specs.Begun.{HasBegun}
-use Rattle.pf_applyrounds.specs.Growing.{HasGrown}
-use Rattle.pf_applyrounds.specs.Halts.{Halt}
-use Rattle.pf_applyrounds.proofs.Extending.{extends_refl}
-use Rattle.pf_applyrounds.proofs.Growing.{grown_refl}
-use Rattle.pf_chunk.specs.Driving.{PortDrove, led}
-use Rattle.pf_chunk.specs.Runs.{ChunkRun}
-use Rattle.pf_chunk.specs.Steps.{HasFailed}
-use Rattle.pf_chunk.specs.Views.{ChunkIs, IsReady, run_of}
+use Rattle.pf_hosts.specs.pf_network.proofs.Lists.{set_elsewhere, set_length}
+use Rattle.pf_hosts.specs.pf_applyrounds.specs.Agreeing.{TellsOfGroup}
+use Rattle.pf_hosts.specs.pf_applyrounds.specs.Begun.{HasBegun}
+use Rattle.pf_hosts.specs.pf_applyrounds.specs.Growing.{HasGrown}
+use Rattle.pf_hosts.specs.pf_applyrounds.specs.Halts.{Halt}
+use Rattle.pf_hosts.specs.pf_applyrounds.proofs.Extending.{extends_refl}
+use Rattle.pf_hosts.specs.pf_applyrounds.proofs.Growing.{grown_refl}
+use Rattle.pf_hosts.specs.pf_chunk.specs.Driving.{PortDrove, led}
+use Rattle.pf_hosts.specs.pf_chunk.specs.Runs.{ChunkRun}
+use Rattle.pf_hosts.specs.pf_chunk.specs.Steps.{HasFailed}
+use Rattle.pf_hosts.specs.pf_chunk.specs.Views.{ChunkIs, IsReady, run_of}
 use Rattle.pf_hosts.specs.Steps.{AreReady, Goes, HaveGone, TellsAll, runs}
 use Rattle.pf_hosts.proofs.Driving.{one_by_one, ready_one}
 use Rattle.pf_hosts.proofs.Groups.{all_begun, goes_refl, grown_left, run_there}

@@ -2,12 +2,12 @@
 use Rattle.std.proofs.Common.{◌≡◌, ℕ, ◌<◌, List, ◌++◌, Some, slice_get, append_assoc, refl, sym, ap, subst, ◌∙◌}
 use Rattle.std.proofs.lemmas.List.{length-map}
 use Rattle.std.proofs.lemmas.Option.{same_Some, slice_get_within}
-use Rattle.pf_network.proofs.Lists.{something_there}
-use Rattle.pf_applyrounds.specs.Growing.{HasGrown}
-use Rattle.pf_applyrounds.specs.Halts.{Halt}
-use Rattle.pf_applyrounds.proofs.Growing.{grown_refl, grown_tells, grown_trans}
-use Rattle.pf_chunk.specs.Runs.{ChunkRun}
-use Rattle.pf_chunk.specs.Views.{ChunkIs, run_of}
+use Rattle.pf_hosts.specs.pf_network.proofs.Lists.{something_there}
+use Rattle.pf_hosts.specs.pf_applyrounds.specs.Growing.{HasGrown}
+use Rattle.pf_hosts.specs.pf_applyrounds.specs.Halts.{Halt}
+use Rattle.pf_hosts.specs.pf_applyrounds.proofs.Growing.{grown_refl, grown_tells, grown_trans}
+use Rattle.pf_hosts.specs.pf_chunk.specs.Runs.{ChunkRun}
+use Rattle.pf_hosts.specs.pf_chunk.specs.Views.{ChunkIs, run_of}
 use Rattle.pf_move.specs.Routes.{AreRouted, RoutesIs}
 use Rattle.pf_hosts.specs.Moments.{text_of}
 use Rattle.pf_hosts.specs.Steps.{HaveBegun, HaveGone, HaveGrown, TellsAll, runs}

@@ -9,7 +9,7 @@ use Rattle.std.proofs.lemmas.Option.{none-some, same_Some}
 use Rattle.pf_base.specs.declared.asks.Ask.{Ask}
 use Rattle.pf_asks.specs.Ports.{PortIs}
 use Rattle.pf_anchormount.specs.Standing.{Awaits}
-use Rattle.pf_chunk.specs.Views.{ChunkIs}
+use Rattle.pf_hosts.specs.pf_chunk.specs.Views.{ChunkIs}
 use Rattle.pf_move.specs.Routes.{AreRouted, RoutesIs, home_of, served_by}
 use Rattle.pf_hosts.specs.Parts.{IsPending}
 use Rattle.pf_hosts.proofs.Routing.{home_within, served_home}

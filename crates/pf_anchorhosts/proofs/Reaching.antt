@@ -6,11 +6,11 @@ use Rattle.pf_base.specs.declared.asks.Ask.{Ask}
 use Rattle.pf_base.specs.declared.asks.Reply.{Reply}
 use Rattle.pf_base.specs.declared.errors.NoMemory.{NoMemory}
 use Rattle.pf_base.specs.Asks.{Answers}
-use Rattle.pf_network.proofs.Lists.{set_same}
+use Rattle.pf_hosts.specs.pf_network.proofs.Lists.{set_same}
 use Rattle.pf_asks.specs.Ports.{PortIs}
-use Rattle.pf_chunk.specs.Driving.{HasHeard, HasLed, PortDrove, ask_of, heard, led}
-use Rattle.pf_chunk.specs.Steps.{HasFailed}
-use Rattle.pf_chunk.specs.Views.{ChunkIs, run_of}
+use Rattle.pf_hosts.specs.pf_chunk.specs.Driving.{HasHeard, HasLed, PortDrove, ask_of, heard, led}
+use Rattle.pf_hosts.specs.pf_chunk.specs.Steps.{HasFailed}
+use Rattle.pf_hosts.specs.pf_chunk.specs.Views.{ChunkIs, run_of}
 use Rattle.pf_hosts.specs.Parts.{IsPending}
 use Rattle.pf_hosts.specs.Steps.{AreReady}
 use Rattle.pf_anchorhosts.specs.Parts.{HasHeardAt, HasLedAt, HasNotLedAt}

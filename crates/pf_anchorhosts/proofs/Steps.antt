@@ -1,6 +1,6 @@
 -- A step of a host over anchors: its four ports, each in turn.
 use Rattle.std.proofs.Common.{ℕ, List}
-use Rattle.pf_chunk.specs.Views.{ChunkIs}
+use Rattle.pf_hosts.specs.pf_chunk.specs.Views.{ChunkIs}
 use Rattle.pf_move.specs.Routes.{RoutesIs}
 use Rattle.pf_anchorhosts.specs.Hosts.{AnchoredHostIs, asks, asks_on, hands, hears, hears_all, asks_all, stepped}
 use Rattle.pf_anchorhosts.specs.Steps.{HasDone, HasNotDone, HasNotStepped, HasStepped, Part}

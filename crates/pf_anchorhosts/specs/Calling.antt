@@ -4,8 +4,8 @@ use Rattle.pf_base.specs.declared.calls.Call.{Call}
 use Rattle.pf_tree.specs.declared.calls.FileCall.{FileCall}
 use Rattle.pf_mount.specs.declared.faults.StartFault.{StartFault}
 use Rattle.pf_mount.specs.declared.faults.StartFault.TheVariants.{NoMemory, BadName, CallPending}
-use Rattle.pf_chunk.specs.Runs.{ChunkRun}
-use Rattle.pf_chunk.specs.Views.{ChunkIs}
+use Rattle.pf_hosts.specs.pf_chunk.specs.Runs.{ChunkRun}
+use Rattle.pf_hosts.specs.pf_chunk.specs.Views.{ChunkIs}
 use Rattle.pf_move.specs.Routes.{RoutesIs}
 use Rattle.pf_hosts.specs.Moments.{Moment, text_of}
 use Rattle.pf_hosts.specs.Words.{read_call}

@@ -9,9 +9,9 @@ use Rattle.pf_tree.specs.declared.calls.FileCall.{FileCall}
 use Rattle.pf_volume.specs.Volumes.{Extent}
 use Rattle.pf_report.specs.Texts.{event_line}
 use Rattle.pf_report.specs.Mounts.{ready_text}
-use Rattle.pf_applyrounds.specs.Halts.{Halt}
-use Rattle.pf_chunk.specs.Runs.{ChunkRun}
-use Rattle.pf_chunk.specs.Driving.{Driven, heard, led}
+use Rattle.pf_hosts.specs.pf_applyrounds.specs.Halts.{Halt}
+use Rattle.pf_hosts.specs.pf_chunk.specs.Runs.{ChunkRun}
+use Rattle.pf_hosts.specs.pf_chunk.specs.Driving.{Driven, heard, led}
 use Rattle.pf_move.specs.Routes.{RoutesIs, home_of, served_by}
 use Rattle.pf_anchormount.specs.declared.work.AnchoredNext.{AnchoredNext}
 use Rattle.pf_anchormount.specs.declared.work.AnchoredNext.TheVariants.{Ready, Done}

@@ -4,10 +4,10 @@ use Rattle.pf_base.specs.declared.asks.Reply.{Reply}
 use Rattle.pf_files.specs.declared.call_names.CallName.{CallName}
 use Rattle.pf_report.specs.Texts.{event_line}
 use Rattle.pf_report.specs.Mounts.{ready_text}
-use Rattle.pf_applyrounds.specs.Halts.{Halt}
-use Rattle.pf_chunk.specs.Driving.{Driven, PortDrove, heard, led}
-use Rattle.pf_chunk.specs.Runs.{ChunkRun}
-use Rattle.pf_chunk.specs.Views.{ChunkIs, run_of}
+use Rattle.pf_hosts.specs.pf_applyrounds.specs.Halts.{Halt}
+use Rattle.pf_hosts.specs.pf_chunk.specs.Driving.{Driven, PortDrove, heard, led}
+use Rattle.pf_hosts.specs.pf_chunk.specs.Runs.{ChunkRun}
+use Rattle.pf_hosts.specs.pf_chunk.specs.Views.{ChunkIs, run_of}
 use Rattle.pf_anchormount.specs.declared.work.AnchoredNext.{AnchoredNext}
 use Rattle.pf_anchormount.specs.declared.work.AnchoredNext.TheVariants.{Ready, Done}
 use Rattle.pf_hosts.specs.Moments.{Moment, text_of}

@@ -3,7 +3,7 @@ ghost use Rattle.std.specs.Prelude.{◌≡◌, ◌≢◌, ◌↔◌, ◌+◌, �
 ghost use Rattle.pf_anchorage.specs.Places.{HasAnchors};
 ghost use Rattle.pf_anchormount.specs.Standing.{Answers};
 ghost use Rattle.pf_anchormount.specs.declared.work.Work.TheVariants.{Rests};
-ghost use Rattle.pf_chunk.specs.Views.{ChunkIs};
+ghost use Rattle.pf_hosts.specs.pf_chunk.specs.Views.{ChunkIs};
 ghost use Rattle.pf_hosts.specs.Parts.{AreQuiet};
 ghost use Rattle.pf_hosts.specs.Steps.{AreReady};
 ghost use Rattle.pf_hosts.specs.Words.{read_call};
@@ -16,10 +16,10 @@ ghost use Rattle.pf_anchorhosts.specs.Steps.{AreReadyFor, HasDone, HasNotDone, H
 use crate::ports::{hear_at, lead_at, put_next};
 use pf_anchormount::{AnchoredMount, pending_asks_stay};
 use pf_base::{Call, NoMemory, Reply};
-use pf_chunk::ChunkGroup;
 use pf_copy::{Gate, Workers};
 use pf_disk::Disk;
 use pf_hosts::name_of;
+use pf_hosts::pf_chunk::ChunkGroup;
 use pf_mount::StartFault;
 use pf_move::Routes;
 use pf_tree::Tree;

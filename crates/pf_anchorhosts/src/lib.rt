@@ -5,3 +5,5 @@ mod host;
 mod ports;
 
 pub use host::AnchoredHost;
+pub use pf_hosts;
+pub use pf_hosts::pf_chunk;

@@ -3,19 +3,20 @@ ghost use Rattle.std.specs.Prelude.{◌≡◌, ◌<◌, ◌++◌, IfOk, IfSome, 
 ghost use Rattle.pf_asks.specs.Ports.{PortIs};
 ghost use Rattle.pf_base.specs.Asks.{Answers as AnswersAsk};
 ghost use Rattle.pf_base.specs.declared.asks.Ask.{Ask as AskIs};
-ghost use Rattle.pf_chunk.specs.Runs.{most_ports};
-ghost use Rattle.pf_chunk.specs.Views.{ChunkIs};
-ghost use Rattle.pf_hosts.specs.Parts.{IsPending, end_text};
+ghost use Rattle.pf_hosts.specs.pf_chunk.specs.Runs.{most_ports};
+ghost use Rattle.pf_hosts.specs.pf_chunk.specs.Views.{ChunkIs};
+ghost use Rattle.pf_hosts.specs.Parts.{IsPending};
 ghost use Rattle.pf_hosts.specs.Steps.{AreReady};
 ghost use Rattle.pf_anchorhosts.specs.Parts.{HasHeardAt, HasLedAt, HasNotLedAt, next_text};
 
 use pf_anchormount::AnchoredNext;
 use pf_base::{NoMemory, Reply};
-use pf_chunk::ChunkGroup;
 use pf_copy::{Gate, Workers};
 use pf_disk::Disk;
-use pf_files::{CallAnswer, CallName};
-use pf_report::{put_call, put_ready};
+use pf_files::CallName;
+use pf_hosts::pf_chunk::ChunkGroup;
+use pf_hosts::put_end;
+use pf_report::put_ready;
 use std::alloc::Global;
 use std::thread::Threads;
 
@@ -53,22 +54,6 @@ pub(crate) fn lead_at<D: Disk + Drop, R: Threads + Sync, G: Gate + Sync>(
 {
     let chunk = &mut chunks[group as usize];
     chunk.lead(workers, mount, out)
-}
-
-/// Puts the event line of a call that ended. A mount whose superblock is another's ends without one.
-fn put_end(
-    out: &mut Vec<u8>,
-    mount: u8,
-    name: Option<CallName>,
-    answer: CallAnswer,
-) -> Result<(), NoMemory>
-    ensures ok { OnOk result (out.new.items ≡ out.old.items ++ end_text mount name answer) }
-    ensures err { OnErr result (out.new.items ≡ out.old.items) }
-{
-    match name {
-        Some(name) => put_call(out, mount, name, &answer),
-        None => Ok(()),
-    }
 }
 
 /// Puts the event line of what ended, if something did.

@@ -12,7 +12,7 @@ use Rattle.pf_protocol.specs.Answers.{IsAnswer, Turn, answer_at, answer_to, clai
 use Rattle.pf_protocol.specs.Fitting.{GroupFits}
 use Rattle.pf_protocol.specs.Leading.{on_resend}
 use Rattle.pf_protocol.specs.Saving.{on_checkpoint}
-use Rattle.pf_network.specs.Going.{acts_at, receiver}
+use Rattle.pf_group.specs.pf_network.specs.Going.{acts_at, receiver}
 use Rattle.pf_applyrounds.specs.Agreeing.{is_halted}
 use Rattle.pf_applyrounds.specs.Telling.{server_at}
 use Rattle.pf_applyrounds.proofs.Following.{halted_is}

@@ -8,7 +8,7 @@ use Rattle.pf_protocol.specs.declared.events.Happening.{Happening}
 use Rattle.pf_protocol.specs.Servers.{Setup}
 use Rattle.pf_protocol.specs.Groups.{Group, ending, happens, opening}
 use Rattle.pf_protocol.specs.Histories.{History, run}
-use Rattle.pf_network.specs.Going.{acts_at}
+use Rattle.pf_group.specs.pf_network.specs.Going.{acts_at}
 use Rattle.pf_group.specs.GroupIs.{GroupIs, state_of}
 use Rattle.pf_applyrounds.specs.Halts.{Halt, Making}
 use Rattle.pf_applyrounds.specs.Agreeing.{is_halted}

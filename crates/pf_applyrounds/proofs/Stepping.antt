@@ -15,7 +15,7 @@ use Rattle.pf_protocol.specs.declared.answers.Refusal.TheVariants.{Down, NoneFre
 use Rattle.pf_protocol.specs.declared.events.Event.{Event}
 use Rattle.pf_protocol.specs.declared.events.Event.TheVariants.{Claim, Finish, GiveBack}
 use Rattle.pf_protocol.specs.Answers.{IsAnswer, answer_to, finish_answer, may_halt}
-use Rattle.pf_network.specs.Readings.{taken_after}
+use Rattle.pf_group.specs.pf_network.specs.Readings.{taken_after}
 use Rattle.pf_group.specs.declared.event.GroupEvent.TheVariants as asked
 use Rattle.pf_group.specs.GroupIs.{GroupIs, state_of}
 use Rattle.pf_group.specs.Steps.{HasStepped, Steps}

@@ -12,7 +12,7 @@ use Rattle.pf_protocol.specs.Outcomes.{Outcome}
 use Rattle.pf_protocol.specs.Saving.{restarted, renewed, claimed}
 use Rattle.pf_protocol.specs.Rows.{on_packet, settled}
 use Rattle.pf_protocol.specs.Groups.{Sent, Group, Ending, Whole, CutOff, Missed, Untouched, acted, cut_off, ended, step_of, at_server, delivered_in, delivered, lost, stopped, begun, restart, claim_of, claim_at, claim_or, first_claim, only, counted_election, ending, happens}
-use Rattle.pf_network.specs.Going.{acts_at, receiver}
+use Rattle.pf_group.specs.pf_network.specs.Going.{acts_at, receiver}
 use Rattle.pf_applyrounds.specs.Telling.{found_in}
 
 -- how a server comes to be stopped after an event: with one state, or cut off in the event, or as it was before and is still

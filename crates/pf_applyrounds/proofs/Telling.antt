@@ -13,7 +13,7 @@ use Rattle.pf_protocol.specs.declared.events.Event.TheVariants.{Restart}
 use Rattle.pf_protocol.specs.declared.events.Happening.{Happening}
 use Rattle.pf_protocol.proofs.ForMoments.{legal_before}
 use Rattle.pf_protocol.proofs.ForHistories.{legal_fits}
-use Rattle.pf_network.specs.Going.{acts_at}
+use Rattle.pf_group.specs.pf_network.specs.Going.{acts_at}
 use Rattle.pf_group.specs.GroupIs.{GroupIs}
 use Rattle.pf_applyrounds.specs.Halts.{Halt, failed_by, found_by, is_at, is_before, is_cut, is_making, tells_found}
 use Rattle.pf_applyrounds.specs.Chunks.{Chunk, listed_at}

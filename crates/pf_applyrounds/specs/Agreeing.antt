@@ -9,7 +9,7 @@ use Rattle.pf_protocol.specs.declared.events.Event.{Event}
 use Rattle.pf_protocol.specs.declared.events.Happening.{Happening}
 use Rattle.pf_protocol.specs.Groups.{ending, happens}
 use Rattle.pf_protocol.specs.Histories.{History, IsPrefix}
-use Rattle.pf_network.specs.Going.{acts_at}
+use Rattle.pf_group.specs.pf_network.specs.Going.{acts_at}
 use Rattle.pf_group.specs.GroupIs.{GroupIs, state_of}
 use Rattle.pf_applyrounds.specs.Halts.{Halt, failed_by, is_at, is_cut}
 use Rattle.pf_applyrounds.specs.Chunks.{Chunk, listed, listed_at}

@@ -10,3 +10,5 @@ pub mod Closed
 pub mod Telling
 pub mod Growing
 pub mod Begun
+pub use Rattle.pf_group.specs.pf_network
+pub use Rattle.pf_group

@@ -8,7 +8,7 @@ use Rattle.pf_protocol.specs.declared.answers.Answer.TheVariants.{Done}
 use Rattle.pf_protocol.specs.declared.events.Event.{Event}
 use Rattle.pf_protocol.specs.declared.events.Event.TheVariants.{Restart}
 use Rattle.pf_protocol.specs.declared.events.Happening.{Happening}
-use Rattle.pf_network.specs.Going.{acts_at}
+use Rattle.pf_group.specs.pf_network.specs.Going.{acts_at}
 use Rattle.pf_group.specs.GroupIs.{GroupIs}
 use Rattle.pf_applyrounds.specs.Agreeing.{is_halted}
 use Rattle.pf_applyrounds.specs.Halts.{At, Halt, Making}

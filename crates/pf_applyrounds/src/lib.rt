@@ -9,3 +9,5 @@ mod claiming;
 mod ending;
 
 pub use applying::apply_all;
+pub use pf_group;
+pub use pf_group::pf_network;

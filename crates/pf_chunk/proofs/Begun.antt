@@ -6,10 +6,10 @@ use Rattle.pf_protocol.specs.declared.events.Event.TheVariants as events
 use Rattle.pf_protocol.specs.Histories.{IsPrefix, replay}
 use Rattle.pf_entry.proofs.Cases.{by_test}
 use Rattle.pf_protocol.proofs.ForMoments.{prefix_of, whole_prefix}
-use Rattle.pf_group.specs.declared.event.GroupEvent.{GroupEvent}
-use Rattle.pf_group.specs.Events.{event_of}
-use Rattle.pf_group.specs.GroupIs.{GroupIs}
-use Rattle.pf_group.specs.Steps.{HasStepped, IsLeft}
+use Rattle.pf_applyrounds.specs.pf_group.specs.declared.event.GroupEvent.{GroupEvent}
+use Rattle.pf_applyrounds.specs.pf_group.specs.Events.{event_of}
+use Rattle.pf_applyrounds.specs.pf_group.specs.GroupIs.{GroupIs}
+use Rattle.pf_applyrounds.specs.pf_group.specs.Steps.{HasStepped, IsLeft}
 use Rattle.pf_applyrounds.specs.Agreeing.{TellsOfGroup, chunk_of, told_from, told_history}
 use Rattle.pf_applyrounds.specs.Begun.{HasBegun}
 use Rattle.pf_applyrounds.specs.Chunks.{Chunk, after, answered}

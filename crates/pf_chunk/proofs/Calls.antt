@@ -25,12 +25,12 @@ use Rattle.pf_asks.specs.declared.port.Sent.TheVariants.{Slot, Number}
 use Rattle.pf_asks.specs.Desks.{Call, CallsLead, IsLook, Led, Submitted, Fetched, WasAcked, Took}
 use Rattle.pf_asks.specs.Ports.{Drives, DrivesFrom, Goes, GoesOn, Hands, Hears, HearsFrom, IsHanded, IsLed, LooksFor, PortIs, Stays, answered, goes_to, reply_if}
 use Rattle.pf_ports.specs.Calls.{number_in, slot_in}
-use Rattle.pf_group.specs.declared.event.GroupEvent.{GroupEvent}
-use Rattle.pf_group.specs.declared.event.GroupEvent.TheVariants as asked
-use Rattle.pf_group.specs.GroupIs.{GroupIs, state_of}
-use Rattle.pf_group.specs.Readers.{LacksAnswer}
-use Rattle.pf_group.specs.Steps.{HasStepped}
-use Rattle.pf_network.specs.Shown.{is_acked}
+use Rattle.pf_applyrounds.specs.pf_group.specs.declared.event.GroupEvent.{GroupEvent}
+use Rattle.pf_applyrounds.specs.pf_group.specs.declared.event.GroupEvent.TheVariants as asked
+use Rattle.pf_applyrounds.specs.pf_group.specs.GroupIs.{GroupIs, state_of}
+use Rattle.pf_applyrounds.specs.pf_group.specs.Readers.{LacksAnswer}
+use Rattle.pf_applyrounds.specs.pf_group.specs.Steps.{HasStepped}
+use Rattle.pf_ports.specs.pf_network.specs.Shown.{is_acked}
 use Rattle.pf_chunk.specs.Asks.{Says, leader_of, reply_to}
 use Rattle.pf_chunk.specs.Driving.{sent_of}
 use Rattle.pf_chunk.specs.Views.{ChunkIs}

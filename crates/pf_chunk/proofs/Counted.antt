@@ -17,8 +17,8 @@ use Rattle.pf_protocol.specs.Answers.{Claimed, IsAnswer, IsLegal, IsLegalFrom, I
 use Rattle.pf_protocol.specs.Leading.{on_fetch}
 use Rattle.pf_positions.proofs.Answers.{eight_given}
 use Rattle.pf_positions.proofs.Taking.{answered_taken_up}
-use Rattle.pf_group.specs.GroupIs.{GroupIs}
-use Rattle.pf_group.specs.Readers.{HasTaken}
+use Rattle.pf_applyrounds.specs.pf_group.specs.GroupIs.{GroupIs}
+use Rattle.pf_applyrounds.specs.pf_group.specs.Readers.{HasTaken}
 use Rattle.pf_chunk.specs.Views.{IsFetched}
 
 number_apart : (number : ℕ) (refusal : Refusal) → ReadIs number ≡ Refused refusal → ⊥

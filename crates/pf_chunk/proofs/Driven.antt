@@ -16,13 +16,13 @@ use Rattle.pf_protocol.specs.declared.answers.Answer.TheVariants.{Done, Slot as 
 use Rattle.pf_protocol.specs.declared.events.Event.TheVariants.{Fetch}
 use Rattle.pf_protocol.specs.declared.events.Happening.{Happening}
 use Rattle.pf_protocol.specs.Answers.{IsLegal, claims_after}
-use Rattle.pf_network.specs.Readings.{taken_after}
-use Rattle.pf_network.proofs.Lists.{at_end, set_again, set_elsewhere, set_length, set_same, set_there}
+use Rattle.pf_ports.specs.pf_network.specs.Readings.{taken_after}
+use Rattle.pf_ports.specs.pf_network.proofs.Lists.{at_end, set_again, set_elsewhere, set_length, set_same, set_there}
 use Rattle.pf_asks.specs.declared.port.Sent.TheVariants.{Number}
 use Rattle.pf_asks.specs.Ports.{Goes, IsHanded, PortIs, Stays, answered as answered_port, goes_to, new_port}
-use Rattle.pf_group.specs.Events.{event_of}
-use Rattle.pf_group.specs.GroupIs.{GroupIs, state_of}
-use Rattle.pf_group.specs.Steps.{HasStepped}
+use Rattle.pf_applyrounds.specs.pf_group.specs.Events.{event_of}
+use Rattle.pf_applyrounds.specs.pf_group.specs.GroupIs.{GroupIs, state_of}
+use Rattle.pf_applyrounds.specs.pf_group.specs.Steps.{HasStepped}
 use Rattle.pf_applyrounds.specs.Agreeing.{chunk_of}
 use Rattle.pf_applyrounds.specs.Chunks.{answered}
 use Rattle.pf_applyrounds.specs.Halts.{Halt}

@@ -15,7 +15,7 @@ use Rattle.pf_protocol.proofs.ForMoments.{replay_goes_on}
 use Rattle.pf_applyrounds.specs.Jobs.{IsClaimOrFinish, IsOfRound}
 use Rattle.pf_chunk.specs.Waiting.{GoesQuietly, StepsReads}
 use Rattle.pf_chunk.proofs.Keeping.{taken_up}
-use Rattle.pf_group.proofs.Sending.{OnlySent, run_sent}
+use Rattle.pf_applyrounds.specs.pf_group.proofs.Sending.{OnlySent, run_sent}
 use Rattle.pf_chunk.proofs.Stepped.{legal_goes_quietly, steps_reads}
 
 -- a group before an event, after it, and after all that could be applied was

@@ -9,13 +9,13 @@ use Rattle.pf_protocol.specs.declared.events.Event.{Event}
 use Rattle.pf_protocol.specs.declared.events.Happening.{Happening}
 use Rattle.pf_protocol.specs.Histories.{replay}
 use Rattle.pf_protocol.specs.Answers.{IsLegal, claims_of}
-use Rattle.pf_group.specs.declared.event.GroupEvent.{GroupEvent}
-use Rattle.pf_group.specs.declared.event.GroupEvent.TheVariants as asked
-use Rattle.pf_group.specs.Events.{event_of}
-use Rattle.pf_group.specs.Going.{Goes, Takes}
-use Rattle.pf_group.specs.GroupIs.{GroupIs, state_of}
-use Rattle.pf_group.specs.Packets.{NoneComesBack, is_left_in}
-use Rattle.pf_group.specs.Steps.{Steps}
+use Rattle.pf_applyrounds.specs.pf_group.specs.declared.event.GroupEvent.{GroupEvent}
+use Rattle.pf_applyrounds.specs.pf_group.specs.declared.event.GroupEvent.TheVariants as asked
+use Rattle.pf_applyrounds.specs.pf_group.specs.Events.{event_of}
+use Rattle.pf_applyrounds.specs.pf_group.specs.Going.{Goes, Takes}
+use Rattle.pf_applyrounds.specs.pf_group.specs.GroupIs.{GroupIs, state_of}
+use Rattle.pf_applyrounds.specs.pf_group.specs.Packets.{NoneComesBack, is_left_in}
+use Rattle.pf_applyrounds.specs.pf_group.specs.Steps.{Steps}
 use Rattle.pf_report.specs.Texts.{answer_text}
 use Rattle.pf_applyrounds.specs.Agreeing.{TellsOfGroup, chunk_of}
 use Rattle.pf_applyrounds.specs.Growing.{HasGrown}

@@ -4,7 +4,7 @@ use Rattle.std.specs.Prelude.{IfOk, IsTrue}
 use Rattle.std.proofs.lemmas.Option.{same_Some}
 use Rattle.std.proofs.lemmas.Result.{IfOk-weaker}
 use Rattle.pf_base.specs.declared.asks.Reply.{Reply}
-use Rattle.pf_network.proofs.Lists.{set_same}
+use Rattle.pf_ports.specs.pf_network.proofs.Lists.{set_same}
 use Rattle.pf_protocol.specs.Answers.{IsLegal}
 use Rattle.pf_asks.specs.Ports.{Drives, Hears, PortIs}
 use Rattle.pf_asks.proofs.Driving.{drives_so}

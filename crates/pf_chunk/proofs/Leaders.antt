@@ -6,8 +6,8 @@ use Rattle.pf_protocol.specs.Groups.{Group}
 use Rattle.pf_protocol.specs.Histories.{History, RunsAs, replay}
 use Rattle.pf_protocol.specs.Safety.{OneLeader, leads}
 use Rattle.pf_protocol.proofs.ForMoments.{whole_prefix}
-use Rattle.pf_network.specs.Shown.{IsLeader, Serves}
-use Rattle.pf_network.proofs.Shown.{IsGreatest, one_more_leader}
+use Rattle.pf_ports.specs.pf_network.specs.Shown.{IsLeader, Serves}
+use Rattle.pf_ports.specs.pf_network.proofs.Shown.{IsGreatest, one_more_leader}
 use Rattle.pf_chunk.specs.Asks.{leader_of, served_at, served_by, served_in}
 
 module _ (g : Group) where

@@ -2,8 +2,8 @@
 use Rattle.std.proofs.Common.{ℕ, ◌≤◌, inl, inr}
 use Rattle.std.specs.Prelude.{IsTrue}
 use Rattle.std.proofs.lemmas.Bool.{cases_lt}
-use Rattle.pf_group.specs.GroupIs.{state_of}
-use Rattle.pf_group.specs.Packets.{IsFirstLeft}
+use Rattle.pf_applyrounds.specs.pf_group.specs.GroupIs.{state_of}
+use Rattle.pf_applyrounds.specs.pf_group.specs.Packets.{IsFirstLeft}
 use Rattle.pf_chunk.specs.Views.{ChunkIs, IsReady}
 
 -- a settling begins at it

@@ -11,9 +11,9 @@ use Rattle.pf_entry.specs.Sets
 use Rattle.pf_entry.proofs.Sets.{contains-retain, same_set}
 use Rattle.pf_protocol.specs.Servers.{Running, Server}
 use Rattle.pf_protocol.specs.Groups.{Acked as AckedIs, Group}
-use Rattle.pf_network.specs.declared.kept.Acked.{Acked}
-use Rattle.pf_network.specs.Showing.{acked_of}
-use Rattle.pf_group.specs.Readers.{IsAppliedOf, OfRunning}
+use Rattle.pf_ports.specs.pf_network.specs.declared.kept.Acked.{Acked}
+use Rattle.pf_ports.specs.pf_network.specs.Showing.{acked_of}
+use Rattle.pf_applyrounds.specs.pf_group.specs.Readers.{IsAppliedOf, OfRunning}
 use Rattle.pf_report.specs.Texts.{applied_text, line_of, spaced}
 use Rattle.pf_chunk.specs.Showing.{IsShown, applied_shown, if_runs}
 

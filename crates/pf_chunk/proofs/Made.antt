@@ -5,10 +5,10 @@ use Rattle.pf_protocol.specs.declared.answers.Answer.{Answer}
 use Rattle.pf_protocol.specs.Servers.{Setup}
 use Rattle.pf_protocol.specs.Groups.{opening}
 use Rattle.pf_asks.specs.Ports.{new_port}
-use Rattle.pf_group.specs.GroupIs.{GroupIs}
-use Rattle.pf_group.specs.Making.{IsMade, setup_with}
+use Rattle.pf_applyrounds.specs.pf_group.specs.GroupIs.{GroupIs}
+use Rattle.pf_applyrounds.specs.pf_group.specs.Making.{IsMade, setup_with}
 use Rattle.pf_applyrounds.proofs.Opening.{opening_is_applied}
-use Rattle.pf_group.specs.Packets.{is_left_in}
+use Rattle.pf_applyrounds.specs.pf_group.specs.Packets.{is_left_in}
 use Rattle.pf_chunk.specs.Runs.{most_ports}
 use Rattle.pf_chunk.specs.Views.{IsReady}
 use Rattle.pf_chunk.proofs.Rehomed.{no_read}

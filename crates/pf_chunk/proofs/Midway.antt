@@ -11,12 +11,12 @@ use Rattle.pf_protocol.specs.Groups.{ending, happens}
 use Rattle.pf_protocol.specs.Answers.{claims_after, claims_of}
 use Rattle.pf_protocol.proofs.ForMoments.{replay_goes_on}
 use Rattle.pf_asks.specs.Ports.{PortIs}
-use Rattle.pf_group.specs.declared.event.GroupEvent.{GroupEvent}
-use Rattle.pf_group.specs.declared.event.GroupEvent.TheVariants as asked
-use Rattle.pf_group.specs.Events.{event_of}
-use Rattle.pf_group.specs.GroupIs.{GroupIs, state_of}
-use Rattle.pf_group.specs.Steps.{HasStepped, IsNew as IsFresh, Steps}
-use Rattle.pf_group.proofs.Claims.{claims_more}
+use Rattle.pf_applyrounds.specs.pf_group.specs.declared.event.GroupEvent.{GroupEvent}
+use Rattle.pf_applyrounds.specs.pf_group.specs.declared.event.GroupEvent.TheVariants as asked
+use Rattle.pf_applyrounds.specs.pf_group.specs.Events.{event_of}
+use Rattle.pf_applyrounds.specs.pf_group.specs.GroupIs.{GroupIs, state_of}
+use Rattle.pf_applyrounds.specs.pf_group.specs.Steps.{HasStepped, IsNew as IsFresh, Steps}
+use Rattle.pf_applyrounds.specs.pf_group.proofs.Claims.{claims_more}
 use Rattle.pf_report.specs.Texts.{answer_text}
 use Rattle.pf_applyrounds.specs.Agreeing.{chunk_of}
 use Rattle.pf_applyrounds.proofs.Stepping.{answered_now}

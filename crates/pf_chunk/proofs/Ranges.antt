@@ -11,7 +11,7 @@ use Rattle.pf_protocol.specs.declared.answers.Answer.{Answer}
 use Rattle.pf_protocol.specs.declared.events.Event.TheVariants as events
 use Rattle.pf_protocol.specs.Servers.{Condition, Running, Stopped, Unformatted}
 use Rattle.pf_base.specs.declared.errors.NoMemory.{NoMemory}
-use Rattle.pf_group.specs.GroupIs.{GroupIs, state_of}
+use Rattle.pf_applyrounds.specs.pf_group.specs.GroupIs.{GroupIs, state_of}
 use Rattle.pf_report.specs.Texts.{answer_text}
 use Rattle.pf_applyrounds.specs.Chunks.{Chunk}
 use Rattle.pf_applyrounds.specs.Halts.{Halt}

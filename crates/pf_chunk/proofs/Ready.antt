@@ -13,11 +13,11 @@ use Rattle.pf_protocol.specs.declared.answers.Answer.{Answer}
 use Rattle.pf_protocol.specs.declared.answers.Answer.TheVariants.{Done, Slot as SlotIs, Term as TermIs, Read as ReadIs, Base as BaseIs, Job as JobIs, Refused}
 use Rattle.pf_protocol.specs.Groups.{reads_after}
 use Rattle.pf_protocol.specs.Histories.{History}
-use Rattle.pf_network.specs.Readings.{taken_after}
-use Rattle.pf_network.proofs.Lists.{at_end, at_front, set_elsewhere, set_length, set_there}
+use Rattle.pf_ports.specs.pf_network.specs.Readings.{taken_after}
+use Rattle.pf_ports.specs.pf_network.proofs.Lists.{at_end, at_front, set_elsewhere, set_length, set_there}
 use Rattle.pf_asks.specs.declared.port.Sent.TheVariants.{Number}
 use Rattle.pf_asks.specs.Ports.{PortIs}
-use Rattle.pf_group.specs.GroupIs.{GroupIs, state_of}
+use Rattle.pf_applyrounds.specs.pf_group.specs.GroupIs.{GroupIs, state_of}
 use Rattle.pf_chunk.specs.declared.waiting.Waiting.{Waiting}
 use Rattle.pf_chunk.specs.Steps.{AreGoneThrough}
 use Rattle.pf_chunk.specs.Views.{ArePorts, IsFetched, IsKept}

@@ -22,7 +22,7 @@ use Rattle.pf_protocol.specs.Rows.{on_message, on_packet}
 use Rattle.pf_protocol.specs.Groups.{Group, Sent}
 use Rattle.pf_protocol.specs.Answers.{Turn, IsAnswer, answer_at, answer_by, answer_to, delivery_answer, deliver_turn, elect_refusal, elect_turn, fetch_refusal, fetch_turn, is_mark, is_serving, loss_answer, most_elections, packets_full, half_size, plain, refuse, restart_answer, room_refusal, stop_answer, submit_refusal, submit_turn, window_full}
 use Rattle.pf_entry.proofs.Cases.{by_test}
-use Rattle.pf_group.specs.Steps.{EndsSo, GoesByRules}
+use Rattle.pf_applyrounds.specs.pf_group.specs.Steps.{EndsSo, GoesByRules}
 use Rattle.pf_report.specs.Texts.{answer_text}
 
 abbrev pub HasText : Answer → Type 0

@@ -2,13 +2,13 @@
 use Rattle.std.proofs.Common.{◌≡◌, ◌≢◌, ℕ, true, false, not, ◌&&◌, ◌==◌, cond, List, [], ◌∷◌, ◌++◌, Some, slice_get, slice_set, sym, ap, subst, ◌∙◌, append-nil}
 use Rattle.std.specs.List.{flat_map}
 use Rattle.std.specs.Prelude.{IsTrue}
-use Rattle.pf_network.specs.Showing.{HasAnswer}
+use Rattle.pf_ports.specs.pf_network.specs.Showing.{HasAnswer}
 use Rattle.pf_entry.specs.Ops.{Sector}
 use Rattle.pf_entry.proofs.Lists.{every_get}
 use Rattle.pf_protocol.specs.Groups.{Group}
 use Rattle.pf_protocol.specs.Answers.{IsLegal}
-use Rattle.pf_group.specs.GroupIs.{GroupIs, state_of}
-use Rattle.pf_group.specs.Readers.{HasTaken, LacksAnswer, OfRunning}
+use Rattle.pf_applyrounds.specs.pf_group.specs.GroupIs.{GroupIs, state_of}
+use Rattle.pf_applyrounds.specs.pf_group.specs.Readers.{HasTaken, LacksAnswer, OfRunning}
 use Rattle.pf_report.specs.Texts.{event_line, read_text}
 use Rattle.pf_chunk.specs.declared.waiting.Waiting.{Waiting}
 use Rattle.pf_chunk.specs.Telling.{is_answered, is_some_of, lines_of, read_line, may_wait, runs_in, taken_with}

@@ -5,7 +5,7 @@ use Rattle.pf_protocol.specs.Answers.{most_packets}
 use Rattle.pf_protocol.specs.declared.events.Event.TheVariants.{Deliver}
 use Rattle.pf_chunk.specs.declared.settling.Try.TheVariants.{Delivered, Passed}
 use Rattle.pf_chunk.specs.Happenings.{happened}
-use Rattle.pf_group.specs.Packets.{is_passed_over}
+use Rattle.pf_applyrounds.specs.pf_group.specs.Packets.{is_passed_over}
 use Rattle.pf_chunk.specs.Settling.{HasTried}
 use Rattle.pf_chunk.specs.Steps.{Event as EventIs, HasHappened}
 use Rattle.pf_chunk.specs.Views.{ChunkIs}

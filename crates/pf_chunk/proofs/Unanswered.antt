@@ -6,11 +6,11 @@ use Rattle.std.specs.Prelude.{IsTrue}
 use Rattle.std.proofs.lemmas.Bool.{and_parts, cond-true, cond-false, true≢false}
 use Rattle.pf_entry.specs.Lists.{Every}
 use Rattle.pf_entry.proofs.Lists.{every_get}
-use Rattle.pf_network.specs.Shown.{ListsUnread}
+use Rattle.pf_ports.specs.pf_network.specs.Shown.{ListsUnread}
 use Rattle.pf_protocol.specs.Groups.{Group}
-use Rattle.pf_group.specs.declared.errors.Down.{Down}
-use Rattle.pf_group.specs.GroupIs.{GroupIs, state_of}
-use Rattle.pf_group.specs.Readers.{TellsOf}
+use Rattle.pf_applyrounds.specs.pf_group.specs.declared.errors.Down.{Down}
+use Rattle.pf_applyrounds.specs.pf_group.specs.GroupIs.{GroupIs, state_of}
+use Rattle.pf_applyrounds.specs.pf_group.specs.Readers.{TellsOf}
 use Rattle.pf_chunk.specs.declared.waiting.Waiting.{Waiting}
 use Rattle.pf_chunk.specs.Steps.{AreGoneThrough, ReadsAreTold}
 use Rattle.pf_chunk.specs.Telling.{AreTermsOf, is_answered, is_some_of, may_wait, read_line, runs_in, taken_all, told_of}

@@ -1,7 +1,7 @@
 -- What lines ask of a chunk.
 use Rattle.std.specs.Prelude.{ℕ, ◌<◌, Bool, true, false, List, Option, Some, None}
 use Rattle.pf_applyrounds.specs.Halts.{Halt}
-use Rattle.pf_group.specs.Events.{event_of}
+use Rattle.pf_applyrounds.specs.pf_group.specs.Events.{event_of}
 use Rattle.pf_chunk.specs.declared.asked.Asked.{Asked}
 use Rattle.pf_chunk.specs.declared.asked.Asked.TheVariants.{Event, Fetch, Submit}
 use Rattle.pf_chunk.specs.Asking.{fetches, is_range, submits}

@@ -7,17 +7,17 @@ use Rattle.pf_base.specs.Span.{Span}
 use Rattle.pf_protocol.specs.Servers.{Condition, Role, Running, Serving}
 use Rattle.pf_protocol.specs.Groups.{Group}
 use Rattle.pf_protocol.specs.declared.answers.Answer.{Answer}
-use Rattle.pf_network.specs.Shown.{is_acked, later_of}
+use Rattle.pf_ports.specs.pf_network.specs.Shown.{is_acked, later_of}
 use Rattle.pf_asks.specs.declared.port.Sent.{Sent}
 use Rattle.pf_asks.specs.declared.port.Sent.TheVariants.{Slot, Number}
 use Rattle.pf_asks.specs.Desks.{Call, Led, Submitted, Fetched, WasAcked, Took}
 use Rattle.pf_asks.specs.Ports.{reply_if}
 use Rattle.pf_ports.specs.Calls.{number_in, slot_in}
-use Rattle.pf_group.specs.declared.event.GroupEvent.{GroupEvent}
-use Rattle.pf_group.specs.declared.event.GroupEvent.TheVariants as asked
-use Rattle.pf_group.specs.GroupIs.{state_of}
-use Rattle.pf_group.specs.Readers.{HasTaken, LacksAnswer}
-use Rattle.pf_group.specs.Steps.{HasStepped}
+use Rattle.pf_applyrounds.specs.pf_group.specs.declared.event.GroupEvent.{GroupEvent}
+use Rattle.pf_applyrounds.specs.pf_group.specs.declared.event.GroupEvent.TheVariants as asked
+use Rattle.pf_applyrounds.specs.pf_group.specs.GroupIs.{state_of}
+use Rattle.pf_applyrounds.specs.pf_group.specs.Readers.{HasTaken, LacksAnswer}
+use Rattle.pf_applyrounds.specs.pf_group.specs.Steps.{HasStepped}
 use Rattle.pf_chunk.specs.Views.{ChunkIs, IsFetched}
 use Rattle.pf_chunk.specs.Waiting.{answers_of}
 

@@ -15,8 +15,8 @@ use Rattle.pf_asks.specs.declared.port.Sent.{Sent}
 use Rattle.pf_asks.specs.declared.port.Sent.TheVariants.{Slot, Number}
 use Rattle.pf_asks.specs.Desks.{Call, CallsLead}
 use Rattle.pf_asks.specs.Ports.{Drives, Hears, IsLed, PortIs, answered as answered_port, goes_to, new_port}
-use Rattle.pf_group.specs.GroupIs.{state_of}
-use Rattle.pf_group.specs.Packets.{NoneComesBack}
+use Rattle.pf_applyrounds.specs.pf_group.specs.GroupIs.{state_of}
+use Rattle.pf_applyrounds.specs.pf_group.specs.Packets.{NoneComesBack}
 use Rattle.pf_applyrounds.specs.Agreeing.{TellsOfGroup}
 use Rattle.pf_applyrounds.specs.Chunks.{answered}
 use Rattle.pf_applyrounds.specs.Growing.{HasGrown}

@@ -4,7 +4,7 @@ use Rattle.std.specs.List.{fold}
 use Rattle.pf_asks.specs.Ports.{PortIs}
 use Rattle.pf_protocol.specs.declared.answers.Answer.TheVariants.{Done}
 use Rattle.pf_protocol.specs.declared.events.Event.{Event}
-use Rattle.pf_group.specs.GroupIs.{GroupIs, state_of}
+use Rattle.pf_applyrounds.specs.pf_group.specs.GroupIs.{GroupIs, state_of}
 use Rattle.pf_applyrounds.specs.Halts.{Halt}
 use Rattle.pf_applyrounds.specs.Chunks.{Chunk, after}
 use Rattle.pf_chunk.specs.declared.waiting.Waiting.{Waiting}

@@ -14,3 +14,6 @@ pub mod Settling
 pub mod Asks
 pub mod Driving
 pub mod Lending
+pub use Rattle.pf_ports.specs.pf_network
+pub use Rattle.pf_applyrounds.specs.pf_group
+pub use Rattle.pf_applyrounds

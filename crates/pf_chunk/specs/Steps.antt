@@ -4,7 +4,7 @@ use Rattle.pf_entry.specs.Lists.{Every}
 use Rattle.pf_protocol.specs.Answers.{IsLegal, claims_of}
 use Rattle.pf_protocol.specs.Groups.{Group}
 use Rattle.pf_protocol.specs.declared.answers.Answer.{Answer}
-use Rattle.pf_group.specs.GroupIs.{GroupIs, state_of}
+use Rattle.pf_applyrounds.specs.pf_group.specs.GroupIs.{GroupIs, state_of}
 use Rattle.pf_report.specs.Texts.{answer_text}
 use Rattle.pf_applyrounds.specs.Halts.{Halt}
 use Rattle.pf_applyrounds.specs.Chunks.{Chunk}
@@ -14,7 +14,7 @@ use Rattle.pf_applyrounds.specs.Agreeing.{TellsOfGroup, chunk_of}
 use Rattle.pf_applyrounds.specs.Begun.{HasBegun}
 use Rattle.pf_applyrounds.specs.Growing.{HasGrown}
 use Rattle.pf_chunk.specs.Happenings.{Happened}
-use Rattle.pf_group.specs.Packets.{NoneComesBack}
+use Rattle.pf_applyrounds.specs.pf_group.specs.Packets.{NoneComesBack}
 use Rattle.pf_chunk.specs.Telling.{may_wait, now_taken, taken_all, told_of}
 use Rattle.pf_chunk.specs.Runs.{ChunkRun}
 use Rattle.pf_chunk.specs.Views.{ChunkIs, IsListed, IsReady, run_of}

@@ -8,7 +8,7 @@ use Rattle.pf_protocol.specs.declared.events.Event.TheVariants.{Fetch}
 use Rattle.pf_protocol.specs.Servers.{Condition, Running, Setup}
 use Rattle.pf_protocol.specs.Histories.{History, IsPrefix, replay}
 use Rattle.pf_protocol.specs.Groups.{Answered, Group}
-use Rattle.pf_group.specs.GroupIs.{GroupIs}
+use Rattle.pf_applyrounds.specs.pf_group.specs.GroupIs.{GroupIs}
 use Rattle.pf_report.specs.Texts.{event_line, read_text}
 use Rattle.pf_chunk.specs.declared.waiting.Waiting.{Waiting}
 use Rattle.pf_chunk.specs.Waiters.{is_term}

@@ -10,8 +10,8 @@ use Rattle.pf_protocol.specs.Answers.{claims_of}
 use Rattle.pf_protocol.specs.Histories.{History}
 use Rattle.pf_asks.specs.declared.port.Sent.TheVariants.{Number}
 use Rattle.pf_asks.specs.Ports.{PortIs}
-use Rattle.pf_group.specs.GroupIs.{GroupIs, state_of}
-use Rattle.pf_group.specs.Packets.{is_left_in}
+use Rattle.pf_applyrounds.specs.pf_group.specs.GroupIs.{GroupIs, state_of}
+use Rattle.pf_applyrounds.specs.pf_group.specs.Packets.{is_left_in}
 use Rattle.pf_applyrounds.specs.Agreeing.{chunk_of}
 use Rattle.pf_applyrounds.specs.Halts.{Halt}
 use Rattle.pf_applyrounds.specs.Rounds.{IsApplied}

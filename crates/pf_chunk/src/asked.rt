@@ -3,8 +3,8 @@ ghost use Rattle.std.specs.Prelude.{◌≡◌, ◌<◌};
 ghost use Rattle.pf_chunk.specs.Asked.{MayAsk, no_range_of, unless_range};
 ghost use Rattle.pf_chunk.specs.Asking.{is_range};
 
+use pf_applyrounds::pf_group::GroupEvent;
 use pf_base::ServerId;
-use pf_group::GroupEvent;
 
 /// What a line asks of a chunk.
 #[derive(Drop)]

@@ -1,7 +1,7 @@
 //! Lines that write and read sectors.
 ghost use Rattle.std.specs.Prelude.{◌≡◌, ◌<◌, ◌++◌, IfOk, IfSome, IsSome, IsTrue, OnErr, slice_get};
 ghost use Rattle.std.specs.Option.{option_to_list};
-ghost use Rattle.pf_group.specs.GroupIs.{state_of};
+ghost use Rattle.pf_applyrounds.specs.pf_group.specs.GroupIs.{state_of};
 ghost use Rattle.pf_protocol.specs.declared.answers.Answer.TheVariants.{Read};
 ghost use Rattle.pf_report.specs.Texts.{answer_text};
 ghost use Rattle.pf_chunk.specs.Asked.{MayAsk, asked_happened};
@@ -12,10 +12,10 @@ ghost use Rattle.pf_chunk.specs.Views.{IsReady, run_of};
 
 use crate::waiting::WaitingReads;
 use crate::{Asked, ChunkGroup, Waiting};
+use pf_applyrounds::pf_group::GroupEvent;
 use pf_base::{Data, NoMemory, Payload, Range, ServerId};
 use pf_copy::{Gate, Workers};
 use pf_disk::Disk;
-use pf_group::GroupEvent;
 use pf_protocol::{Answer, Refusal};
 use std::thread::Threads;
 

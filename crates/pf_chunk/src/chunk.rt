@@ -1,10 +1,10 @@
 //! A group, with what a report needs beside it.
 ghost use Rattle.std.specs.Prelude.{◌≡◌, [], IfErr, IfOk, IsTrue, List, replicate};
 ghost use Rattle.pf_protocol.specs.Answers.{IsLegal, IsSetup};
-ghost use Rattle.pf_group.specs.Crashing.{AllLeaveAtCrash, LeavesAtCrash};
-ghost use Rattle.pf_group.specs.Leaving.{LeavesIn, as_seen};
-ghost use Rattle.pf_group.specs.Sound.{IsSound};
-ghost use Rattle.pf_group.specs.Making.{IsMade, setup_with, six_faults};
+ghost use Rattle.pf_applyrounds.specs.pf_group.specs.Crashing.{AllLeaveAtCrash, LeavesAtCrash};
+ghost use Rattle.pf_applyrounds.specs.pf_group.specs.Leaving.{LeavesIn, as_seen};
+ghost use Rattle.pf_applyrounds.specs.pf_group.specs.Sound.{IsSound};
+ghost use Rattle.pf_applyrounds.specs.pf_group.specs.Making.{IsMade, setup_with, six_faults};
 ghost use Rattle.pf_asks.specs.Ports.{new_port};
 ghost use Rattle.pf_applyrounds.specs.Agreeing.{chunk_of};
 ghost use Rattle.pf_applyrounds.specs.Halts.{Halt};
@@ -12,10 +12,10 @@ ghost use Rattle.pf_chunk.specs.Runs.{most_ports, new_run};
 ghost use Rattle.pf_chunk.specs.Views.{IsReady, run_of};
 
 use crate::waiting::WaitingReads;
+use pf_applyrounds::pf_group::{Group, Six};
 use pf_asks::Port;
 use pf_base::NoMemory;
 use pf_disk::Disk;
-use pf_group::{Group, Six};
 use pf_protocol::{Answer, Happening};
 use std::alloc::Global;
 use std::marker::Model;

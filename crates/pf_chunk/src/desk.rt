@@ -4,10 +4,10 @@ ghost use Rattle.pf_entry.specs.Lists.{Every};
 ghost use Rattle.pf_chunk.specs.Asks.{Counts, Says};
 
 use crate::ChunkGroup;
+use pf_applyrounds::pf_group::GroupEvent;
 use pf_asks::Desk;
 use pf_base::{Data, NoMemory, Payload, Range, Sector, ServerId, Slot, Term};
 use pf_disk::Disk;
-use pf_group::GroupEvent;
 use pf_protocol::Answer;
 use std::alloc::Global;
 

@@ -141,6 +141,26 @@ impl<D: Disk + Drop> ChunkGroup<D> {
         self.advance(Step::Drive, workers, mount, out)
     }
 
+    /// The first half of a step alone: the reply to the pending ask of a mount, or of the mover, if the group has answered its last
+    /// submission, which is pending no more then; one that does not fit is not heeded, as in `drive`. Else nothing is different. It is no
+    /// event of the group.
+    ///
+    /// `NoMemory` (1) leaves the chunk as it was.
+    pub fn hear(&mut self, alloc: Global, mount: u8) -> Result<Option<Reply>, NoMemory>
+        requires ready { IsReady self.old }
+        requires mount { mount < most_ports }
+        requires pending { IsSome (ask_of self.old.ports mount) }
+        ensures went { IfOk result (λ reply. HasHeard mount self.old reply self.new) }
+        ensures answers { IfOk result (λ reply. IfSome reply (λ r. (ask : AskIs) → ask_of self.old.ports mount ≡ Some ask → Answers ask r)) }
+        ensures next { OnOk result (self.new.next ≡ self.old.next) }
+        ensures port { IfOk result (λ reply. PortDrove mount reply self.old self.new) }
+        ensures err { OnErr result (self.new ≡ self.old) }
+    {
+        // That the history is legal is asked of the proof alone.
+        let _legal = self.history();
+        self.hand_on(Step::Hear, alloc, mount)
+    }
+
     /// The other half of a step alone: the pending ask is handed to the leader of the greatest term, if it goes there, and no answer is looked
     /// for. It is one event of the group; what follows on it is as in `ask`.
     ///
@@ -161,26 +181,6 @@ impl<D: Disk + Drop> ChunkGroup<D> {
     {
         self.advance(Step::Lead, workers, mount, out)?;
         Ok(())
-    }
-
-    /// The first half of a step alone: the reply to the pending ask of a mount, or of the mover, if the group has answered its last
-    /// submission, which is pending no more then; one that does not fit is not heeded, as in `drive`. Else nothing is different. It is no
-    /// event of the group.
-    ///
-    /// `NoMemory` (1) leaves the chunk as it was.
-    pub fn hear(&mut self, alloc: Global, mount: u8) -> Result<Option<Reply>, NoMemory>
-        requires ready { IsReady self.old }
-        requires mount { mount < most_ports }
-        requires pending { IsSome (ask_of self.old.ports mount) }
-        ensures went { IfOk result (λ reply. HasHeard mount self.old reply self.new) }
-        ensures answers { IfOk result (λ reply. IfSome reply (λ r. (ask : AskIs) → ask_of self.old.ports mount ≡ Some ask → Answers ask r)) }
-        ensures next { OnOk result (self.new.next ≡ self.old.next) }
-        ensures port { IfOk result (λ reply. PortDrove mount reply self.old self.new) }
-        ensures err { OnErr result (self.new ≡ self.old) }
-    {
-        // That the history is legal is asked of the proof alone.
-        let _legal = self.history();
-        self.hand_on(Step::Hear, alloc, mount)
     }
 
     /// A step, and what follows on it. After `NoMemory` (1) a beginning of that has happened.

@@ -1,7 +1,7 @@
 //! One event, and what follows on it.
 ghost use Rattle.std.specs.Prelude.{◌≡◌, [], IfOk, OnErr, OnOk, false};
 ghost use Rattle.pf_protocol.specs.Answers.{claims_of};
-ghost use Rattle.pf_group.specs.Events.{event_of};
+ghost use Rattle.pf_applyrounds.specs.pf_group.specs.Events.{event_of};
 ghost use Rattle.pf_applyrounds.specs.Agreeing.{chunk_of};
 ghost use Rattle.pf_applyrounds.specs.Rounds.{applied};
 ghost use Rattle.pf_chunk.specs.Happenings.{happened};
@@ -12,10 +12,10 @@ ghost use Rattle.pf_chunk.specs.Views.{IsListed, IsReady, run_of};
 use crate::ChunkGroup;
 use crate::telling::tell_reads;
 use pf_applyrounds::apply_all;
+use pf_applyrounds::pf_group::GroupEvent;
 use pf_base::NoMemory;
 use pf_copy::{Gate, Workers};
 use pf_disk::Disk;
-use pf_group::GroupEvent;
 use pf_protocol::Answer;
 use std::thread::Threads;
 

@@ -22,5 +22,6 @@ pub use asked::Asked;
 pub use chunk::{ChunkGroup, MOVER};
 pub use laws::reads_are_answered_while_they_wait;
 pub use lending::Lent;
+pub use pf_applyrounds::pf_group;
 pub use settling::Try;
 pub use waiting::Waiting;

@@ -1,19 +1,19 @@
 //! Packets are delivered until none is left.
 ghost use Rattle.std.specs.Prelude.{◌≡◌, ◌≤◌, ◌<◌, ◌+◌, IfOk, IfSome, IsTrue, OnErr, OnOk, None, Some, true};
-ghost use Rattle.pf_group.specs.GroupIs.{state_of};
+ghost use Rattle.pf_applyrounds.specs.pf_group.specs.GroupIs.{state_of};
 ghost use Rattle.pf_protocol.specs.Answers.{most_packets};
 ghost use Rattle.pf_protocol.specs.declared.events.Event.TheVariants.{Deliver};
 ghost use Rattle.pf_chunk.specs.Happenings.{happened};
-ghost use Rattle.pf_group.specs.Packets.{IsFirstLeft, is_left_in, least_from};
+ghost use Rattle.pf_applyrounds.specs.pf_group.specs.Packets.{IsFirstLeft, is_left_in, least_from};
 ghost use Rattle.pf_chunk.specs.Settling.{HasTried};
 ghost use Rattle.pf_chunk.specs.Steps.{HasFailed};
 ghost use Rattle.pf_chunk.specs.Views.{IsReady, run_of};
 
 use crate::ChunkGroup;
+use pf_applyrounds::pf_group::{GroupEvent, is_passed_over};
 use pf_base::NoMemory;
 use pf_copy::{Gate, Workers};
 use pf_disk::Disk;
-use pf_group::{GroupEvent, is_passed_over};
 use std::thread::Threads;
 
 /// What became of a packet that a settling took.

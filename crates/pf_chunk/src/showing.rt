@@ -1,12 +1,12 @@
 //! Lines that show a group, as it is where its disks tell their content. A server that does not run is told as `down`.
 ghost use Rattle.std.specs.Prelude.{◌≡◌, ◌<◌, IfOk, IsTrue, OnErr, OnOk, length, map};
-ghost use Rattle.pf_group.specs.GroupIs.{state_of};
+ghost use Rattle.pf_applyrounds.specs.pf_group.specs.GroupIs.{state_of};
 ghost use Rattle.pf_chunk.specs.Showing.{IsShown, acked_shown, applied_shown, log_shown, mark_shown, of_server, sectors_shown};
 
 use crate::ChunkGroup;
 use pf_base::{NoMemory, ServerId, Slot};
 use pf_disk::Disk;
-use pf_network::Acked;
+use pf_ports::pf_network::Acked;
 use pf_report::{put_acked, put_applied, put_log, put_mark, put_refusal, put_sectors};
 use std::alloc::Global;
 

@@ -2,15 +2,15 @@
 ghost use Rattle.std.specs.Prelude.{◌≡◌, ◌≢◌, ℕ, ◌<◌, ◌++◌, List, false, true, IfOk, IsTrue, OnOk, Some, map, slice_get};
 ghost use Rattle.pf_entry.specs.Lists.{Every};
 ghost use Rattle.pf_entry.specs.Tables.{ascends};
-ghost use Rattle.pf_group.specs.GroupIs.{state_of};
+ghost use Rattle.pf_applyrounds.specs.pf_group.specs.GroupIs.{state_of};
 ghost use Rattle.pf_chunk.specs.Steps.{AreGoneThrough, ReadsAreTold};
 ghost use Rattle.pf_chunk.specs.Telling.{AreTermsOf, lines_of, may_wait, now_taken, taken_with};
 
 use crate::Waiting;
 use crate::waiting::{Terms, WaitingReads};
+use pf_applyrounds::pf_group::Group;
 use pf_base::NoMemory;
 use pf_disk::Disk;
-use pf_group::Group;
 use pf_report::put_read;
 
 /// Puts a line for the read if it was answered. Whether it waits on: not where its server runs in its term no more. It is handed out at

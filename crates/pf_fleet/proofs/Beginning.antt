@@ -7,22 +7,22 @@ use Rattle.std.proofs.lemmas.Option.{none-some, same_Some, slice_get-map, slice_
 use Rattle.pf_base.specs.Span.{Span}
 use Rattle.pf_base.specs.declared.asks.Ask.TheVariants as asks
 use Rattle.pf_entry.proofs.Lists.{set_cases, set_there}
-use Rattle.pf_network.proofs.Lists.{at_end, at_front, end_cases, set_elsewhere, set_length, set_mapped}
+use Rattle.pf_anchorhosts.specs.pf_network.proofs.Lists.{at_end, at_front, end_cases, set_elsewhere, set_length, set_mapped}
 use Rattle.pf_asks.specs.Ports.{PortIs, new_port, rehomed}
-use Rattle.pf_applyrounds.specs.Halts.{Halt}
+use Rattle.pf_anchorhosts.specs.pf_applyrounds.specs.Halts.{Halt}
 use Rattle.pf_move.specs.declared.mover.Asked.TheVariants.{Reading}
 use Rattle.pf_move.specs.declared.mover.MoveNext.TheVariants.{Read, Switch}
 use Rattle.pf_move.specs.declared.routes.Moving.{Moving}
 use Rattle.pf_move.specs.Movers.{MoverIs, Step, new_mover, piece, step}
 use Rattle.pf_move.specs.Routes.{AreRouted, Between, RoutesIs, between, home_of}
-use Rattle.pf_chunk.specs.Driving.{asked}
-use Rattle.pf_chunk.specs.Runs.{ChunkRun, mover_port, new_ports}
-use Rattle.pf_chunk.specs.Views.{ChunkIs, IsReady, run_of}
-use Rattle.pf_hosts.specs.Hosts.{HostIs, number_of}
-use Rattle.pf_hosts.specs.Moments.{Carries, Moves}
-use Rattle.pf_hosts.specs.Parts.{AreQuiet}
-use Rattle.pf_hosts.specs.Steps.{AreReady, IsAskingAt, IsHostOf, runs}
-use Rattle.pf_hosts.proofs.Groups.{run_there}
+use Rattle.pf_anchorhosts.specs.pf_chunk.specs.Driving.{asked}
+use Rattle.pf_anchorhosts.specs.pf_chunk.specs.Runs.{ChunkRun, mover_port, new_ports}
+use Rattle.pf_anchorhosts.specs.pf_chunk.specs.Views.{ChunkIs, IsReady, run_of}
+use Rattle.pf_anchorhosts.specs.pf_hosts.specs.Hosts.{HostIs, number_of}
+use Rattle.pf_anchorhosts.specs.pf_hosts.specs.Moments.{Carries, Moves}
+use Rattle.pf_anchorhosts.specs.pf_hosts.specs.Parts.{AreQuiet}
+use Rattle.pf_anchorhosts.specs.pf_hosts.specs.Steps.{AreReady, IsAskingAt, IsHostOf, runs}
+use Rattle.pf_anchorhosts.specs.pf_hosts.proofs.Groups.{run_there}
 use Rattle.pf_anchorhosts.specs.Hosts.{AnchoredHostIs, pending_at}
 use Rattle.pf_anchorhosts.specs.Steps as over
 use Rattle.pf_anchorhosts.specs.Steps.{IsAnchoredHostOf}

@@ -5,33 +5,33 @@ use Rattle.std.proofs.lemmas.Option.{same_Some, slice_get_within}
 use Rattle.std.specs.List.{range_with_len}
 use Rattle.std.specs.Option.{option_map}
 use Rattle.pf_entry.proofs.Lists.{set_cases, set_there}
-use Rattle.pf_network.proofs.Lists.{set_elsewhere, set_length, something_there}
+use Rattle.pf_anchorhosts.specs.pf_network.proofs.Lists.{set_elsewhere, set_length, something_there}
 use Rattle.pf_protocol.specs.Groups.{Group, opening}
 use Rattle.pf_protocol.specs.Histories.{replay, run}
-use Rattle.pf_group.specs.GroupIs.{GroupIs, state_of}
-use Rattle.pf_group.specs.Packets.{NoneComesBack}
-use Rattle.pf_group.proofs.Sending.{OnlySent, run_sent}
-use Rattle.pf_applyrounds.specs.Agreeing.{TellsOfGroup}
-use Rattle.pf_applyrounds.specs.Begun.{HasBegun}
-use Rattle.pf_applyrounds.specs.Growing.{HasGrown}
-use Rattle.pf_applyrounds.specs.Halts.{Halt}
-use Rattle.pf_applyrounds.proofs.Extending.{extends_refl}
-use Rattle.pf_applyrounds.proofs.Growing.{grown_refl, grown_tells, grown_trans}
-use Rattle.pf_chunk.specs.Runs.{ChunkRun, mover_port}
-use Rattle.pf_chunk.specs.Views.{ChunkIs, run_of}
-use Rattle.pf_chunk.proofs.Following.{run_on}
+use Rattle.pf_anchorhosts.specs.pf_group.specs.GroupIs.{GroupIs, state_of}
+use Rattle.pf_anchorhosts.specs.pf_group.specs.Packets.{NoneComesBack}
+use Rattle.pf_anchorhosts.specs.pf_group.proofs.Sending.{OnlySent, run_sent}
+use Rattle.pf_anchorhosts.specs.pf_applyrounds.specs.Agreeing.{TellsOfGroup}
+use Rattle.pf_anchorhosts.specs.pf_applyrounds.specs.Begun.{HasBegun}
+use Rattle.pf_anchorhosts.specs.pf_applyrounds.specs.Growing.{HasGrown}
+use Rattle.pf_anchorhosts.specs.pf_applyrounds.specs.Halts.{Halt}
+use Rattle.pf_anchorhosts.specs.pf_applyrounds.proofs.Extending.{extends_refl}
+use Rattle.pf_anchorhosts.specs.pf_applyrounds.proofs.Growing.{grown_refl, grown_tells, grown_trans}
+use Rattle.pf_anchorhosts.specs.pf_chunk.specs.Runs.{ChunkRun, mover_port}
+use Rattle.pf_anchorhosts.specs.pf_chunk.specs.Views.{ChunkIs, run_of}
+use Rattle.pf_anchorhosts.specs.pf_chunk.proofs.Following.{run_on}
 use Rattle.pf_base.specs.declared.asks.Ask.TheVariants as asks
 use Rattle.pf_base.specs.declared.asks.Reply.{Reply}
 use Rattle.pf_move.specs.declared.mover.MoveNext.{MoveNext}
 use Rattle.pf_move.specs.declared.mover.MoveNext.TheVariants.{Read, Write, Switch}
 use Rattle.pf_move.specs.Movers.{MoverIs, Step, step}
 use Rattle.pf_move.specs.Routes as routes
-use Rattle.pf_hosts.specs.Moments.{Heard}
-use Rattle.pf_hosts.specs.Hosts.{Drove, HostIs, drove, events_of}
-use Rattle.pf_hosts.specs.Steps.{HaveBegun, HaveGone, HaveGrown, TellsAll, runs}
-use Rattle.pf_hosts.proofs.Driving.{one_by_one}
-use Rattle.pf_hosts.proofs.Groups.{all_begun, begun_on, run_there}
-use Rattle.pf_hosts.proofs.Lengthening.{Lengthens, drove_lengthens, lengthens_refl, lengthens_trans, put_lengthens, stepped_lengthens}
+use Rattle.pf_anchorhosts.specs.pf_hosts.specs.Moments.{Heard}
+use Rattle.pf_anchorhosts.specs.pf_hosts.specs.Hosts.{Drove, HostIs, drove, events_of}
+use Rattle.pf_anchorhosts.specs.pf_hosts.specs.Steps.{HaveBegun, HaveGone, HaveGrown, TellsAll, runs}
+use Rattle.pf_anchorhosts.specs.pf_hosts.proofs.Driving.{one_by_one}
+use Rattle.pf_anchorhosts.specs.pf_hosts.proofs.Groups.{all_begun, begun_on, run_there}
+use Rattle.pf_anchorhosts.specs.pf_hosts.proofs.Lengthening.{Lengthens, drove_lengthens, lengthens_refl, lengthens_trans, put_lengthens, stepped_lengthens}
 use Rattle.pf_anchorhosts.specs.Hosts.{AnchoredHostIs}
 use Rattle.pf_anchorhosts.proofs.Lengthening as over
 use Rattle.pf_fleet.specs.Steps.{AllStay, Stays}

@@ -2,19 +2,19 @@
 use Rattle.std.proofs.Common.{◌≡◌, ◌≢◌, ◌⊎◌, ℕ, zero, suc, ◌+◌, ◌<◌, ◌≤◌, List, [], ◌∷◌, ◌++◌, length, Option, Some, None, is_some, add-one, slice_get, slice_set, length-append, inl, inr, refl, sym, ap, subst, ◌∙◌, arith}
 use Rattle.std.proofs.lemmas.Option.{same_Some}
 use Rattle.pf_base.specs.declared.calls.Call.{Call}
-use Rattle.pf_network.proofs.Lists.{at_end, set_length}
+use Rattle.pf_anchorhosts.specs.pf_network.proofs.Lists.{at_end, set_length}
 use Rattle.pf_mount.specs.declared.work.Work.{Work}
 use Rattle.pf_mount.specs.declared.work.Work.TheVariants.{Rests, Fails, ReadsSuper, WritesSuper, Syncs, Ballots, Pauses, Moves}
 use Rattle.pf_volume.specs.Volumes.{Extent, size_of}
 use Rattle.pf_move.specs.Routes.{RoutesIs}
-use Rattle.pf_chunk.specs.Runs.{mover_port}
-use Rattle.pf_chunk.specs.Views.{ChunkIs}
-use Rattle.pf_hosts.specs.Calling.{HasBegunCall, HasMade}
-use Rattle.pf_hosts.specs.Hosts.{HostIs, Stepped}
-use Rattle.pf_hosts.specs.Moments.{text_of}
-use Rattle.pf_hosts.specs.Parts.{AreQuiet}
-use Rattle.pf_hosts.specs.Steps.{AreReady, HaveGone, runs}
-use Rattle.pf_hosts.proofs.Stepping.{gone_grown, gone_refl}
+use Rattle.pf_anchorhosts.specs.pf_chunk.specs.Runs.{mover_port}
+use Rattle.pf_anchorhosts.specs.pf_chunk.specs.Views.{ChunkIs}
+use Rattle.pf_anchorhosts.specs.pf_hosts.specs.Calling.{HasBegunCall, HasMade}
+use Rattle.pf_anchorhosts.specs.pf_hosts.specs.Hosts.{HostIs, Stepped}
+use Rattle.pf_anchorhosts.specs.pf_hosts.specs.Moments.{text_of}
+use Rattle.pf_anchorhosts.specs.pf_hosts.specs.Parts.{AreQuiet}
+use Rattle.pf_anchorhosts.specs.pf_hosts.specs.Steps.{AreReady, HaveGone, runs}
+use Rattle.pf_anchorhosts.specs.pf_hosts.proofs.Stepping.{gone_grown, gone_refl}
 use Rattle.pf_anchormount.specs.declared.work.Work as over_work
 use Rattle.pf_anchormount.specs.declared.work.Work.TheVariants as over_works
 use Rattle.pf_anchorhosts.specs.Calling as over_calling

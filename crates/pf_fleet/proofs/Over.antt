@@ -2,10 +2,10 @@
 use Rattle.std.proofs.Common.{◌≡◌, ◌≢◌, IfSome, ℕ, ◌<◌, ◌≤◌, List, length, Option, Some, None, slice_get, slice_set, refl, sym, ap, subst, ◌∙◌, arith}
 use Rattle.std.proofs.lemmas.Option.{slice_get_within}
 use Rattle.pf_entry.proofs.Lists.{set_there}
-use Rattle.pf_network.proofs.Lists.{set_elsewhere}
+use Rattle.pf_anchorhosts.specs.pf_network.proofs.Lists.{set_elsewhere}
 use Rattle.pf_move.specs.Routes.{RoutesIs}
-use Rattle.pf_chunk.specs.Runs.{mover_port}
-use Rattle.pf_chunk.specs.Views.{ChunkIs}
+use Rattle.pf_anchorhosts.specs.pf_chunk.specs.Runs.{mover_port}
+use Rattle.pf_anchorhosts.specs.pf_chunk.specs.Views.{ChunkIs}
 use Rattle.pf_anchorage.specs.Places.{HasAnchors}
 use Rattle.pf_anchorhosts.specs.Hosts.{AnchoredHostIs, number_of}
 use Rattle.pf_anchorhosts.specs.Steps.{IsAnchoredHostOf, IsAskingAt}

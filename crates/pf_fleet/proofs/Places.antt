@@ -4,15 +4,15 @@ use Rattle.std.specs.List.{range_with_len}
 use Rattle.std.proofs.lemmas.Bool.{cases_lt, false≢true}
 use Rattle.std.proofs.lemmas.Option.{none-some, same_Some, slice_get_within}
 use Rattle.pf_entry.proofs.Lists.{set_cases, set_there}
-use Rattle.pf_network.proofs.Lists.{set_elsewhere, set_length, something_there}
+use Rattle.pf_anchorhosts.specs.pf_network.proofs.Lists.{set_elsewhere, set_length, something_there}
 use Rattle.pf_protocol.specs.Groups.{Group}
-use Rattle.pf_group.specs.GroupIs.{GroupIs, state_of}
-use Rattle.pf_group.specs.Packets.{IsFirstLeft, is_left_in, least_from}
-use Rattle.pf_group.proofs.Leasts.{least_is}
-use Rattle.pf_group.proofs.Passing.{least_found}
-use Rattle.pf_chunk.specs.Views.{ChunkIs, IsReady}
-use Rattle.pf_hosts.specs.Steps.{AreReady}
-use Rattle.pf_hosts.proofs.Driving.{one_by_one}
+use Rattle.pf_anchorhosts.specs.pf_group.specs.GroupIs.{GroupIs, state_of}
+use Rattle.pf_anchorhosts.specs.pf_group.specs.Packets.{IsFirstLeft, is_left_in, least_from}
+use Rattle.pf_anchorhosts.specs.pf_group.proofs.Leasts.{least_is}
+use Rattle.pf_anchorhosts.specs.pf_group.proofs.Passing.{least_found}
+use Rattle.pf_anchorhosts.specs.pf_chunk.specs.Views.{ChunkIs, IsReady}
+use Rattle.pf_anchorhosts.specs.pf_hosts.specs.Steps.{AreReady}
+use Rattle.pf_anchorhosts.specs.pf_hosts.proofs.Driving.{one_by_one}
 use Rattle.pf_fleet.specs.Nexts.{AllBegin, AllMoveUp, AreQuietBelow, Begins, IsNext, MovesUp}
 use Rattle.pf_fleet.proofs.SameChunks.{AreSame}
 

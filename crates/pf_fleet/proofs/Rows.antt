@@ -1,11 +1,11 @@
 -- Hosts take their steps, one after another.
 use Rattle.std.proofs.Common.{◌≡◌, ℕ, ◌+◌, ◌-◌, ◌<◌, List, [], ◌∷◌, ◌++◌, append-nil, append_assoc, refl, sym, ap, ◌∙◌, arith}
 use Rattle.std.specs.List.{range_with_len}
-use Rattle.pf_applyrounds.specs.Halts.{Halt}
-use Rattle.pf_chunk.specs.Views.{ChunkIs}
-use Rattle.pf_hosts.specs.Moments.{Moment}
-use Rattle.pf_hosts.specs.Steps.{AreReady}
-use Rattle.pf_hosts.proofs.Lengthening.{Lengthens, lengthens_refl, lengthens_trans}
+use Rattle.pf_anchorhosts.specs.pf_applyrounds.specs.Halts.{Halt}
+use Rattle.pf_anchorhosts.specs.pf_chunk.specs.Views.{ChunkIs}
+use Rattle.pf_anchorhosts.specs.pf_hosts.specs.Moments.{Moment}
+use Rattle.pf_anchorhosts.specs.pf_hosts.specs.Steps.{AreReady}
+use Rattle.pf_anchorhosts.specs.pf_hosts.proofs.Lengthening.{Lengthens, lengthens_refl, lengthens_trans}
 use Rattle.pf_fleet.specs.Steps.{AllStay, AreSameHosts, FleetIs, HasGone, HasStopped, IsFleetOf, Part, stands_at}
 use Rattle.pf_fleet.specs.Volumes.{Told, VolumeRun, after_telling, followed, quietly}
 use Rattle.pf_fleet.proofs.Growing.{grown_refl_all, stay_refl, stay_trans}

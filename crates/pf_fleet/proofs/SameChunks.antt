@@ -1,15 +1,15 @@
 -- Chunks that differ in where their settlings stand alone.
 use Rattle.std.proofs.Common.{◌≡◌, ℕ, suc, List, [], ◌∷◌, length, Some, slice_get, arith, refl, sym, ap, subst, ◌∙◌}
 use Rattle.pf_asks.specs.Ports.{PortIs}
-use Rattle.pf_group.specs.GroupIs.{GroupIs}
-use Rattle.pf_applyrounds.specs.Agreeing.{chunk_of}
-use Rattle.pf_applyrounds.specs.Growing.{HasGrown}
-use Rattle.pf_applyrounds.specs.Halts.{Halt}
-use Rattle.pf_applyrounds.proofs.Growing.{grown_refl}
-use Rattle.pf_chunk.specs.declared.waiting.Waiting.{Waiting}
-use Rattle.pf_chunk.specs.Runs.{ChunkRun}
-use Rattle.pf_chunk.specs.Views.{ChunkIs, run_of}
-use Rattle.pf_hosts.specs.Steps.{HaveGrown, runs}
+use Rattle.pf_anchorhosts.specs.pf_group.specs.GroupIs.{GroupIs}
+use Rattle.pf_anchorhosts.specs.pf_applyrounds.specs.Agreeing.{chunk_of}
+use Rattle.pf_anchorhosts.specs.pf_applyrounds.specs.Growing.{HasGrown}
+use Rattle.pf_anchorhosts.specs.pf_applyrounds.specs.Halts.{Halt}
+use Rattle.pf_anchorhosts.specs.pf_applyrounds.proofs.Growing.{grown_refl}
+use Rattle.pf_anchorhosts.specs.pf_chunk.specs.declared.waiting.Waiting.{Waiting}
+use Rattle.pf_anchorhosts.specs.pf_chunk.specs.Runs.{ChunkRun}
+use Rattle.pf_anchorhosts.specs.pf_chunk.specs.Views.{ChunkIs, run_of}
+use Rattle.pf_anchorhosts.specs.pf_hosts.specs.Steps.{HaveGrown, runs}
 use Rattle.pf_fleet.specs.Steps.{FleetIs, IsFleetOf, stands_at}
 use Rattle.pf_fleet.specs.Volumes.{VolumeRun}
 use Rattle.pf_fleet.proofs.Keeping.{fleet_stays}

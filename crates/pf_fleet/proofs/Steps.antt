@@ -2,12 +2,12 @@
 use Rattle.std.proofs.Common.{◌≡◌, ℕ, ◌<◌, List, [], ◌∷◌, length, Option, Some, None, slice_set, append-nil, refl, sym, ap, subst, ◌∙◌, arith}
 use Rattle.std.specs.List.{range_with_len}
 use Rattle.std.specs.Option.{option_map}
-use Rattle.pf_network.proofs.Lists.{set_length}
-use Rattle.pf_applyrounds.specs.Halts.{Halt}
-use Rattle.pf_chunk.specs.Views.{ChunkIs}
-use Rattle.pf_hosts.specs.Hosts.{HostIs, Stepped, number_of}
-use Rattle.pf_hosts.specs.Steps.{AreReady, HasNotStepped, HasStepped, HaveBegun, HaveGone}
-use Rattle.pf_hosts.proofs.Stepping.{gone_grown}
+use Rattle.pf_anchorhosts.specs.pf_network.proofs.Lists.{set_length}
+use Rattle.pf_anchorhosts.specs.pf_applyrounds.specs.Halts.{Halt}
+use Rattle.pf_anchorhosts.specs.pf_chunk.specs.Views.{ChunkIs}
+use Rattle.pf_anchorhosts.specs.pf_hosts.specs.Hosts.{HostIs, Stepped, number_of}
+use Rattle.pf_anchorhosts.specs.pf_hosts.specs.Steps.{AreReady, HasNotStepped, HasStepped, HaveBegun, HaveGone}
+use Rattle.pf_anchorhosts.specs.pf_hosts.proofs.Stepping.{gone_grown}
 use Rattle.pf_anchorhosts.specs.Hosts as over
 use Rattle.pf_anchorhosts.specs.Hosts.{AnchoredHostIs}
 use Rattle.pf_anchorhosts.specs.Steps as over_steps

@@ -9,9 +9,9 @@ use Rattle.pf_base.specs.declared.asks.Ask.TheVariants as asks
 use Rattle.pf_base.specs.declared.asks.Reply.{Reply}
 use Rattle.pf_base.specs.declared.asks.Reply.TheVariants.{Written, Bytes}
 use Rattle.pf_entry.proofs.Lists.{set_there}
-use Rattle.pf_network.proofs.Lists.{set_elsewhere, set_length, set_mapped, something_there}
+use Rattle.pf_anchorhosts.specs.pf_network.proofs.Lists.{set_elsewhere, set_length, set_mapped, something_there}
 use Rattle.pf_asks.specs.Ports.{PortIs}
-use Rattle.pf_applyrounds.specs.Halts.{Halt}
+use Rattle.pf_anchorhosts.specs.pf_applyrounds.specs.Halts.{Halt}
 use Rattle.pf_move.specs.declared.mover.Asked.{Asked}
 use Rattle.pf_move.specs.declared.mover.Asked.TheVariants.{Reading, Writing}
 use Rattle.pf_move.specs.declared.mover.MoveNext.{MoveNext}
@@ -22,16 +22,16 @@ use Rattle.pf_move.specs.declared.routes.Route.{Route}
 use Rattle.pf_move.specs.Routes.{AreRouted, Between, RoutesIs, between, between_in, home_of, switched}
 use Rattle.pf_report.specs.Moves.{moved_text}
 use Rattle.pf_report.specs.Texts.{event_line}
-use Rattle.pf_chunk.specs.Driving.{ask_of, asked, asked_at}
-use Rattle.pf_chunk.specs.Runs.{ChunkRun, mover_port}
-use Rattle.pf_chunk.specs.Views.{ChunkIs, IsReady, run_of}
-use Rattle.pf_hosts.specs.Hosts.{HostIs, put_at, run_after, with_run}
-use Rattle.pf_hosts.specs.Moments.{Carries, Heard, Writes}
-use Rattle.pf_hosts.specs.Parts.{ArePut, AreQuiet, IsPut}
-use Rattle.pf_hosts.specs.Steps.{AreReady, IsHostOf, runs}
-use Rattle.pf_hosts.proofs.Driving.{one_by_one, ready_one}
-use Rattle.pf_hosts.proofs.Groups.{run_there}
-use Rattle.pf_hosts.proofs.Stepping.{put_gone}
+use Rattle.pf_anchorhosts.specs.pf_chunk.specs.Driving.{ask_of, asked, asked_at}
+use Rattle.pf_anchorhosts.specs.pf_chunk.specs.Runs.{ChunkRun, mover_port}
+use Rattle.pf_anchorhosts.specs.pf_chunk.specs.Views.{ChunkIs, IsReady, run_of}
+use Rattle.pf_anchorhosts.specs.pf_hosts.specs.Hosts.{HostIs, put_at, run_after, with_run}
+use Rattle.pf_anchorhosts.specs.pf_hosts.specs.Moments.{Carries, Heard, Writes}
+use Rattle.pf_anchorhosts.specs.pf_hosts.specs.Parts.{ArePut, AreQuiet, IsPut}
+use Rattle.pf_anchorhosts.specs.pf_hosts.specs.Steps.{AreReady, IsHostOf, runs}
+use Rattle.pf_anchorhosts.specs.pf_hosts.proofs.Driving.{one_by_one, ready_one}
+use Rattle.pf_anchorhosts.specs.pf_hosts.proofs.Groups.{run_there}
+use Rattle.pf_anchorhosts.specs.pf_hosts.proofs.Stepping.{put_gone}
 use Rattle.pf_anchorhosts.specs.Hosts.{AnchoredHostIs}
 use Rattle.pf_anchorhosts.specs.Steps.{IsAnchoredHostOf}
 use Rattle.pf_fleet.specs.Moves.{HasTakenUp, IsOfPiece, on_reply, wanted}

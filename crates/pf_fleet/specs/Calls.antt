@@ -8,9 +8,9 @@ use Rattle.pf_mount.specs.declared.faults.MountFault.TheVariants as mounts
 use Rattle.pf_mount.specs.declared.faults.StartFault.{StartFault}
 use Rattle.pf_mount.specs.declared.faults.StartFault.TheVariants as starts
 use Rattle.pf_mount.specs.declared.work.Work.TheVariants.{Rests}
-use Rattle.pf_hosts.specs.Hosts.{HostIs}
-use Rattle.pf_hosts.specs.Words.{read_call}
-use Rattle.pf_chunk.specs.Views.{ChunkIs}
+use Rattle.pf_anchorhosts.specs.pf_hosts.specs.Hosts.{HostIs}
+use Rattle.pf_anchorhosts.specs.pf_hosts.specs.Words.{read_call}
+use Rattle.pf_anchorhosts.specs.pf_chunk.specs.Views.{ChunkIs}
 use Rattle.pf_fleet.specs.declared.faults.CallFault.{CallFault}
 use Rattle.pf_fleet.specs.declared.faults.CallFault.TheVariants.{NoMemory, BadName, CallPending, NoMount}
 use Rattle.pf_fleet.specs.declared.faults.JoinFault.{JoinFault}

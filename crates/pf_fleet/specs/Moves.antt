@@ -3,12 +3,12 @@ use Rattle.std.specs.Prelude.{◌≡◌, ℕ, suc, [], ◌++◌, List, length, O
 use Rattle.std.specs.Option.{option_and_then}
 use Rattle.pf_asks.specs.Ports.{PortIs}
 use Rattle.pf_base.specs.declared.asks.Reply.{Reply}
-use Rattle.pf_applyrounds.specs.Halts.{Halt}
-use Rattle.pf_chunk.specs.Runs.{mover_port}
-use Rattle.pf_chunk.specs.Views.{ChunkIs, run_of}
-use Rattle.pf_hosts.specs.Moments.{Heard, Moment, text_of}
-use Rattle.pf_hosts.specs.Parts.{ArePut}
-use Rattle.pf_hosts.specs.Steps.{AreReady, TellsAll}
+use Rattle.pf_anchorhosts.specs.pf_applyrounds.specs.Halts.{Halt}
+use Rattle.pf_anchorhosts.specs.pf_chunk.specs.Runs.{mover_port}
+use Rattle.pf_anchorhosts.specs.pf_chunk.specs.Views.{ChunkIs, run_of}
+use Rattle.pf_anchorhosts.specs.pf_hosts.specs.Moments.{Heard, Moment, text_of}
+use Rattle.pf_anchorhosts.specs.pf_hosts.specs.Parts.{ArePut}
+use Rattle.pf_anchorhosts.specs.pf_hosts.specs.Steps.{AreReady, TellsAll}
 use Rattle.pf_move.specs.declared.mover.MoveNext.{MoveNext}
 use Rattle.pf_move.specs.declared.mover.MoveNext.TheVariants.{Read, Write, Switch}
 use Rattle.pf_move.specs.Movers.{MoverIs, piece, step}

@@ -9,19 +9,19 @@ use Rattle.pf_move.specs.declared.mover.Asked.TheVariants.{Reading, Writing}
 use Rattle.pf_move.specs.declared.routes.Moving.{Moving}
 use Rattle.pf_move.specs.Movers.{MoverIs, piece}
 use Rattle.pf_move.specs.Routes.{AreRouted, Between, RoutesIs, between}
-use Rattle.pf_chunk.specs.Runs.{mover_port}
+use Rattle.pf_anchorhosts.specs.pf_chunk.specs.Runs.{mover_port}
 use Rattle.pf_protocol.specs.declared.answers.Answer.{Answer}
-use Rattle.pf_group.specs.GroupIs.{state_of}
-use Rattle.pf_group.specs.Packets.{NoneComesBack}
+use Rattle.pf_anchorhosts.specs.pf_group.specs.GroupIs.{state_of}
+use Rattle.pf_anchorhosts.specs.pf_group.specs.Packets.{NoneComesBack}
 use Rattle.pf_report.specs.Texts.{answer_text}
 use Rattle.pf_volume.specs.Volumes.{Extent, IsVolume, size_of}
-use Rattle.pf_applyrounds.specs.Halts.{Halt}
-use Rattle.pf_chunk.specs.Steps.{Event}
-use Rattle.pf_chunk.specs.Views.{ChunkIs, run_of}
-use Rattle.pf_hosts.specs.Moments.{Moment, text_of}
-use Rattle.pf_hosts.specs.Hosts.{HostIs, number_of}
-use Rattle.pf_hosts.specs.Parts.{AreQuiet}
-use Rattle.pf_hosts.specs.Steps.{AreReady, HaveBegun, HaveGrown, IsHostOf, TellsAll, runs}
+use Rattle.pf_anchorhosts.specs.pf_applyrounds.specs.Halts.{Halt}
+use Rattle.pf_anchorhosts.specs.pf_chunk.specs.Steps.{Event}
+use Rattle.pf_anchorhosts.specs.pf_chunk.specs.Views.{ChunkIs, run_of}
+use Rattle.pf_anchorhosts.specs.pf_hosts.specs.Moments.{Moment, text_of}
+use Rattle.pf_anchorhosts.specs.pf_hosts.specs.Hosts.{HostIs, number_of}
+use Rattle.pf_anchorhosts.specs.pf_hosts.specs.Parts.{AreQuiet}
+use Rattle.pf_anchorhosts.specs.pf_hosts.specs.Steps.{AreReady, HaveBegun, HaveGrown, IsHostOf, TellsAll, runs}
 use Rattle.pf_anchorage.specs.Places.{HasAnchors}
 use Rattle.pf_anchorhosts.specs.Hosts as over
 use Rattle.pf_anchorhosts.specs.Hosts.{AnchoredHostIs}

@@ -15,13 +15,13 @@ use Rattle.pf_move.specs.Routes.{Between, RoutesIs, between, home_of, switched}
 use Rattle.pf_report.specs.Moves.{moved_text}
 use Rattle.pf_report.specs.Texts.{event_line}
 use Rattle.pf_tree.specs.declared.calls.FileCall.{FileCall}
-use Rattle.pf_applyrounds.specs.Halts.{Halt}
-use Rattle.pf_chunk.specs.Happenings.{Happened}
-use Rattle.pf_chunk.specs.Runs.{ChunkRun, left_by_ports, mover_port, taking_ports}
-use Rattle.pf_hosts.specs.Hosts.{Drove, HostIs, Stepped, begun, drove, events_of, made_host, put_at, stepped}
+use Rattle.pf_anchorhosts.specs.pf_applyrounds.specs.Halts.{Halt}
+use Rattle.pf_anchorhosts.specs.pf_chunk.specs.Happenings.{Happened}
+use Rattle.pf_anchorhosts.specs.pf_chunk.specs.Runs.{ChunkRun, left_by_ports, mover_port, taking_ports}
+use Rattle.pf_anchorhosts.specs.pf_hosts.specs.Hosts.{Drove, HostIs, Stepped, begun, drove, events_of, made_host, put_at, stepped}
 use Rattle.pf_anchorhosts.specs.Hosts as over
 use Rattle.pf_anchorhosts.specs.Hosts.{AnchoredHostIs}
-use Rattle.pf_hosts.specs.Moments.{Carries, Heard, Moment, Moves, Writes}
+use Rattle.pf_anchorhosts.specs.pf_hosts.specs.Moments.{Carries, Heard, Moment, Moves, Writes}
 
 -- hosts by the numbers of their mounts: none where one was killed
 abbrev pub Hosts : Type 0

@@ -1,14 +1,14 @@
 //! Calls of hosts begin.
 ghost use Rattle.std.specs.Prelude.{◌≡◌, ◌≢◌, ◌+◌, ◌<◌, ◌^◌, IfErr, IsSome, List, None, OnErr, OnOk};
-ghost use Rattle.pf_chunk.specs.Views.{ChunkIs};
-ghost use Rattle.pf_hosts.specs.Steps.{AreReady};
+ghost use Rattle.pf_anchorhosts.specs.pf_chunk.specs.Views.{ChunkIs};
+ghost use Rattle.pf_anchorhosts.specs.pf_hosts.specs.Steps.{AreReady};
 ghost use Rattle.pf_fleet.specs.Calls.{HasCalled, HaveBegunFew, IsCause};
 ghost use Rattle.pf_fleet.specs.Steps.{IsFleetOf};
 
 use crate::copies::copy_of;
 use crate::{CallFault, Fleet};
+use pf_anchorhosts::pf_chunk::ChunkGroup;
 use pf_base::Call;
-use pf_chunk::ChunkGroup;
 use pf_disk::Disk;
 use std::alloc::Global;
 

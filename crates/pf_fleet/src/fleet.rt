@@ -8,7 +8,7 @@ ghost use Rattle.pf_volume.specs.Volumes.{IsVolume};
 
 use crate::anchored::Anchored;
 use pf_anchorhosts::AnchoredHost;
-use pf_hosts::Host;
+use pf_anchorhosts::pf_hosts::Host;
 use pf_move::{Mover, Routes};
 use pf_volume::Volume;
 use std::alloc::Global;

@@ -2,18 +2,18 @@
 ghost use Rattle.std.specs.Prelude.{◌≡◌, ◌↔◌, ◌<◌, ◌≤◌, IfErr, IfOk, IsErr, IsErrOf, IsSome, List, None, OnErr, OnOk, length};
 ghost use Rattle.pf_anchorage.specs.Places.{HasAnchors};
 ghost use Rattle.pf_volume.specs.Volumes.{size_of};
-ghost use Rattle.pf_chunk.specs.Views.{ChunkIs};
-ghost use Rattle.pf_hosts.specs.Steps.{AreReady};
+ghost use Rattle.pf_anchorhosts.specs.pf_chunk.specs.Views.{ChunkIs};
+ghost use Rattle.pf_anchorhosts.specs.pf_hosts.specs.Steps.{AreReady};
 ghost use Rattle.pf_fleet.specs.Calls.{HasJoined, IsNone, killed_in};
 ghost use Rattle.pf_fleet.specs.Steps.{IsFleetOf};
 ghost use Rattle.pf_fleet.specs.Volumes.{count_in, host_at};
 
 use crate::fleet::MOST_MOUNTS;
 use crate::{Fleet, JoinFault, NoMount};
+use pf_anchorhosts::pf_chunk::ChunkGroup;
+use pf_anchorhosts::pf_hosts::Host;
 use pf_base::NoMemory;
-use pf_chunk::ChunkGroup;
 use pf_disk::Disk;
-use pf_hosts::Host;
 use pf_layout::has_room;
 use std::alloc::Global;
 

@@ -1,12 +1,12 @@
 //! Steps of hosts, and of the mover.
 ghost use Rattle.std.specs.Prelude.{◌≡◌, ◌<◌, OnErr, OnOk, length};
-ghost use Rattle.pf_hosts.specs.Steps.{AreReady};
+ghost use Rattle.pf_anchorhosts.specs.pf_hosts.specs.Steps.{AreReady};
 ghost use Rattle.pf_fleet.specs.Steps.{AllStay, AreSameHosts, HasGone, HasStopped, IsFleetOf};
 ghost use Rattle.pf_fleet.specs.Volumes.{all_step, anchored_hosts_step, anchored_steps, host_steps, hosts_step, how_many};
 
 use crate::Fleet;
+use pf_anchorhosts::pf_chunk::ChunkGroup;
 use pf_base::NoMemory;
-use pf_chunk::ChunkGroup;
 use pf_copy::{Gate, Workers};
 use pf_disk::Disk;
 use std::thread::Threads;

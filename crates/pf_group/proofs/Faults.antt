@@ -9,7 +9,7 @@ use Rattle.pf_protocol.specs.Groups.{Group}
 use Rattle.pf_protocol.specs.Servers.{Setup}
 use Rattle.pf_diskstore.specs.declared.kept.Kept.{Kept}
 use Rattle.pf_diskstore.specs.Faults.{faults_of}
-use Rattle.pf_server.specs.declared.server.Server.{Server}
+use Rattle.pf_network.specs.pf_server.specs.declared.server.Server.{Server}
 use Rattle.pf_network.specs.declared.network.Network.{Network}
 use Rattle.pf_network.specs.Going.{KeepsOthers, HasFault, Passes, Touches, WasTouched, store_at}
 use Rattle.pf_network.specs.Showing.{Shows}

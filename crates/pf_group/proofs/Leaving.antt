@@ -9,15 +9,15 @@ use Rattle.pf_protocol.specs.Histories.{replay}
 use Rattle.pf_diskstore.specs.declared.kept.Kept.{Kept}
 use Rattle.pf_store.specs.Stores.{StoreModel}
 use Rattle.pf_format.specs.Opening.{head_of}
-use Rattle.pf_server.specs.declared.server.Server.{Server}
+use Rattle.pf_network.specs.pf_server.specs.declared.server.Server.{Server}
 use Rattle.pf_restart.specs.declared.seat.Seat.{Seat}
-use Rattle.pf_server.specs.Conditions.{HasOne, Leaves, Meets}
-use Rattle.pf_server.specs.declared.state.Doubt.{Doubt}
-use Rattle.pf_server.specs.declared.state.Doubt.TheVariants.{Settled, Open, Read}
-use Rattle.pf_server.specs.declared.state.State.{State}
-use Rattle.pf_server.specs.declared.state.State.TheVariants.{Runs, Stopped, Unformatted}
-use Rattle.pf_server.specs.Turns.{IsOf}
-use Rattle.pf_server.proofs.Restarting.{IsOfEither, of_either, one_of}
+use Rattle.pf_network.specs.pf_server.specs.Conditions.{HasOne, Leaves, Meets}
+use Rattle.pf_network.specs.pf_server.specs.declared.state.Doubt.{Doubt}
+use Rattle.pf_network.specs.pf_server.specs.declared.state.Doubt.TheVariants.{Settled, Open, Read}
+use Rattle.pf_network.specs.pf_server.specs.declared.state.State.{State}
+use Rattle.pf_network.specs.pf_server.specs.declared.state.State.TheVariants.{Runs, Stopped, Unformatted}
+use Rattle.pf_network.specs.pf_server.specs.Turns.{IsOf}
+use Rattle.pf_network.specs.pf_server.proofs.Restarting.{IsOfEither, of_either, one_of}
 use Rattle.pf_diskstore.specs.Model.{kept_model}
 use Rattle.pf_group.specs.declared.group.Group.TheInside.{Inside}
 use Rattle.pf_group.specs.Halves.{told_in}

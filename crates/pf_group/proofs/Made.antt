@@ -13,9 +13,9 @@ use Rattle.pf_protocol.specs.Servers.{Setup, Running as RunningIs, Unformatted a
 use Rattle.pf_protocol.specs.Groups.{opening, unless_failed}
 use Rattle.pf_store.specs.Stores.{StoreModel}
 use Rattle.pf_restart.specs.declared.seat.Seat.{Seat}
-use Rattle.pf_server.specs.declared.server.Server.{Server}
-use Rattle.pf_server.specs.declared.state.State.TheVariants.{Unformatted}
-use Rattle.pf_server.specs.Conditions.{Meets}
+use Rattle.pf_network.specs.pf_server.specs.declared.server.Server.{Server}
+use Rattle.pf_network.specs.pf_server.specs.declared.state.State.TheVariants.{Unformatted}
+use Rattle.pf_network.specs.pf_server.specs.Conditions.{Meets}
 use Rattle.pf_diskstore.specs.declared.kept.Kept.{Kept}
 use Rattle.pf_format.specs.Opening.{head_of, opening_server, seat_in}
 use Rattle.pf_format.specs.Rooms.{Place}

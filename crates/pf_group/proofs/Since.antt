@@ -11,7 +11,7 @@ use Rattle.pf_protocol.specs.Histories.{History, replay}
 use Rattle.pf_protocol.specs.Servers.{Setup}
 use Rattle.pf_diskstore.specs.Kept.{LeavesStates}
 use Rattle.pf_diskstore.specs.declared.kept.Kept.{Kept}
-use Rattle.pf_server.specs.declared.server.Server.{Server}
+use Rattle.pf_network.specs.pf_server.specs.declared.server.Server.{Server}
 use Rattle.pf_network.specs.declared.network.Network.{Network}
 use Rattle.pf_network.specs.Going.{KeepsOthers, Passes, Touches, WasTouched, is_quiet, store_at}
 use Rattle.pf_network.specs.Showing.{Shows}

@@ -16,8 +16,8 @@ use Rattle.pf_protocol.proofs.ForMoments.{legal_goes_on, replay_goes_on}
 use Rattle.pf_protocol.proofs.ForRows.{few_starts}
 use Rattle.pf_protocol.proofs.ForHistories.{legal_fits, viable_opening}
 use Rattle.pf_store.specs.Stores.{StoreModel}
-use Rattle.pf_server.specs.Conditions.{IsFit, IsHonest}
-use Rattle.pf_server.specs.declared.server.Server.{Server}
+use Rattle.pf_network.specs.pf_server.specs.Conditions.{IsFit, IsHonest}
+use Rattle.pf_network.specs.pf_server.specs.declared.server.Server.{Server}
 use Rattle.pf_network.specs.declared.network.Network.{Network}
 use Rattle.pf_network.specs.Going.{HasBegunSomehow, HasGone, HasStayed, IsHonestAt, IsToldAt}
 use Rattle.pf_network.specs.Pasts.{Past}

@@ -6,7 +6,7 @@ use Rattle.pf_entry.specs.Records.{Durable}
 use Rattle.pf_diskstore.specs.declared.kept.Kept.{Kept}
 use Rattle.pf_diskstore.specs.Faults.{faults_of}
 use Rattle.pf_diskstore.specs.Kept.{OneRose, WentOn, tells}
-use Rattle.pf_server.specs.declared.server.Server.{Server}
+use Rattle.pf_network.specs.pf_server.specs.declared.server.Server.{Server}
 use Rattle.pf_network.specs.declared.network.Network.{Network}
 
 -- what a store says of its disks

@@ -16,7 +16,7 @@ use Rattle.pf_group.specs.Halves.{all_counts, told_in, was_in}
 use Rattle.pf_group.specs.Pasts.{IsPast}
 use Rattle.pf_group.specs.Standing.{AllTell, StandsFor}
 use Rattle.pf_format.specs.Opening.{head_of}
-use Rattle.pf_server.specs.declared.server.Server.{Server}
+use Rattle.pf_network.specs.pf_server.specs.declared.server.Server.{Server}
 
 module _ {D : Type 0} where
   -- a group with this history and these servers, whose last step that may have touched disks began with those

@@ -4,7 +4,7 @@ use Rattle.pf_disk.specs.Crashes.{Images}
 use Rattle.pf_entry.specs.Records.{Durable}
 use Rattle.pf_diskstore.specs.Kept.{LeavesStates}
 use Rattle.pf_protocol.specs.Servers.{Condition, Running, Stopped, Unformatted}
-use Rattle.pf_server.specs.Turns.{IsOf}
+use Rattle.pf_network.specs.pf_server.specs.Turns.{IsOf}
 use Rattle.pf_format.specs.Opening.{head_of}
 use Rattle.pf_network.specs.Showing.{seat_of}
 use Rattle.pf_group.specs.GroupIs.{GroupIs, state_of}

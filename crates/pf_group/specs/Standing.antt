@@ -4,7 +4,7 @@ use Rattle.pf_protocol.specs.Servers.{Setup}
 use Rattle.pf_protocol.specs.Histories.{History, replay}
 use Rattle.pf_protocol.specs.Answers.{IsLegal, claims_of}
 use Rattle.pf_store.specs.Stores.{StoreModel}
-use Rattle.pf_server.specs.declared.server.Server.{Server}
+use Rattle.pf_network.specs.pf_server.specs.declared.server.Server.{Server}
 use Rattle.pf_network.specs.declared.network.Network.{Network}
 use Rattle.pf_network.specs.Going.{IsReached}
 use Rattle.pf_network.specs.Pasts.{CoversRestarts, Past}

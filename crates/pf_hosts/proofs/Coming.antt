@@ -9,13 +9,13 @@ use Rattle.pf_files.specs.declared.answers.CallAnswer.{CallAnswer}
 use Rattle.pf_files.specs.declared.call_names.CallName.{CallName}
 use Rattle.pf_files.specs.CallNames.{name_of}
 use Rattle.pf_entry.proofs.Lists.{set_there}
-use Rattle.pf_network.proofs.Lists.{set_elsewhere, set_length, set_mapped}
+use Rattle.pf_chunk.specs.pf_network.proofs.Lists.{set_elsewhere, set_length, set_mapped}
 use Rattle.pf_asks.specs.Ports.{PortIs}
 use Rattle.pf_mount.specs.declared.work.Work.TheVariants.{Rests, Fails}
 use Rattle.pf_mount.specs.declared.work.Next.{Next}
 use Rattle.pf_mount.specs.declared.work.Next.TheVariants.{Ask as Asks}
 use Rattle.pf_mount.specs.Mounts.{MountIs}
-use Rattle.pf_applyrounds.specs.Halts.{Halt}
+use Rattle.pf_chunk.specs.pf_applyrounds.specs.Halts.{Halt}
 use Rattle.pf_chunk.specs.Driving.{asked, asked_at, ask_of}
 use Rattle.pf_chunk.specs.Runs.{ChunkRun}
 use Rattle.pf_chunk.specs.Views.{ChunkIs, IsReady, run_of}

@@ -4,13 +4,13 @@ use Rattle.std.proofs.lemmas.List.{length-map}
 use Rattle.std.proofs.lemmas.Option.{same_Some}
 use Rattle.pf_base.specs.declared.asks.Reply.{Reply}
 use Rattle.pf_entry.proofs.Lists.{set_cases, set_there}
-use Rattle.pf_network.proofs.Lists.{set_elsewhere, set_length, set_mapped}
-use Rattle.pf_applyrounds.specs.Agreeing.{TellsOfGroup}
-use Rattle.pf_applyrounds.specs.Begun.{HasBegun}
-use Rattle.pf_applyrounds.specs.Growing.{HasGrown}
-use Rattle.pf_applyrounds.specs.Halts.{Halt}
-use Rattle.pf_applyrounds.proofs.Extending.{extends_refl}
-use Rattle.pf_applyrounds.proofs.Growing.{grown_refl}
+use Rattle.pf_chunk.specs.pf_network.proofs.Lists.{set_elsewhere, set_length, set_mapped}
+use Rattle.pf_chunk.specs.pf_applyrounds.specs.Agreeing.{TellsOfGroup}
+use Rattle.pf_chunk.specs.pf_applyrounds.specs.Begun.{HasBegun}
+use Rattle.pf_chunk.specs.pf_applyrounds.specs.Growing.{HasGrown}
+use Rattle.pf_chunk.specs.pf_applyrounds.specs.Halts.{Halt}
+use Rattle.pf_chunk.specs.pf_applyrounds.proofs.Extending.{extends_refl}
+use Rattle.pf_chunk.specs.pf_applyrounds.proofs.Growing.{grown_refl}
 use Rattle.pf_chunk.specs.Driving.{HasDriven, PortDrove, driven}
 use Rattle.pf_chunk.specs.Runs.{ChunkRun}
 use Rattle.pf_chunk.specs.Steps.{HasFailed}

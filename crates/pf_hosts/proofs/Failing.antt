@@ -3,11 +3,11 @@ use Rattle.std.proofs.Common.{◌≡◌, ℕ, ◌<◌, List, Option, Some, refl,
 use Rattle.std.proofs.lemmas.List.{length-map}
 use Rattle.std.proofs.lemmas.Option.{same_Some, slice_get_within}
 use Rattle.pf_base.specs.declared.asks.Reply.{Reply}
-use Rattle.pf_network.proofs.Lists.{something_there}
+use Rattle.pf_chunk.specs.pf_network.proofs.Lists.{something_there}
 use Rattle.pf_mount.specs.Mounts.{answered}
-use Rattle.pf_applyrounds.specs.Growing.{HasGrown}
-use Rattle.pf_applyrounds.specs.Halts.{Halt}
-use Rattle.pf_applyrounds.proofs.Growing.{grown_refl, grown_tells, grown_trans}
+use Rattle.pf_chunk.specs.pf_applyrounds.specs.Growing.{HasGrown}
+use Rattle.pf_chunk.specs.pf_applyrounds.specs.Halts.{Halt}
+use Rattle.pf_chunk.specs.pf_applyrounds.proofs.Growing.{grown_refl, grown_tells, grown_trans}
 use Rattle.pf_chunk.specs.Runs.{ChunkRun}
 use Rattle.pf_chunk.specs.Views.{ChunkIs, run_of}
 use Rattle.pf_move.specs.Routes.{RoutesIs}

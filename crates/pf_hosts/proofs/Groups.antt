@@ -6,18 +6,18 @@ use Rattle.pf_protocol.specs.Groups.{Group, ending, happens, opening}
 use Rattle.pf_protocol.specs.Histories.{History, IsPrefix, replay, run}
 use Rattle.pf_protocol.specs.Servers.{Setup}
 use Rattle.pf_protocol.proofs.ForMoments.{prefix_of}
-use Rattle.pf_group.specs.GroupIs.{GroupIs, state_of}
-use Rattle.pf_group.specs.Packets.{NoneComesBack}
-use Rattle.pf_group.specs.Readers.{is_left}
-use Rattle.pf_group.proofs.Sending.{run_sent}
-use Rattle.pf_applyrounds.specs.Agreeing.{TellsOfGroup, chunk_of, told_from, told_history}
-use Rattle.pf_applyrounds.specs.Begun.{HasBegun}
-use Rattle.pf_applyrounds.specs.Chunks.{Chunk}
-use Rattle.pf_applyrounds.specs.Growing.{HasGrown}
-use Rattle.pf_applyrounds.specs.Halts.{Halt}
-use Rattle.pf_applyrounds.proofs.Extending.{Extends}
-use Rattle.pf_applyrounds.proofs.Growing.{grown_refl}
-use Rattle.pf_applyrounds.proofs.Told.{told_longer, told_replays}
+use Rattle.pf_chunk.specs.pf_group.specs.GroupIs.{GroupIs, state_of}
+use Rattle.pf_chunk.specs.pf_group.specs.Packets.{NoneComesBack}
+use Rattle.pf_chunk.specs.pf_group.specs.Readers.{is_left}
+use Rattle.pf_chunk.specs.pf_group.proofs.Sending.{run_sent}
+use Rattle.pf_chunk.specs.pf_applyrounds.specs.Agreeing.{TellsOfGroup, chunk_of, told_from, told_history}
+use Rattle.pf_chunk.specs.pf_applyrounds.specs.Begun.{HasBegun}
+use Rattle.pf_chunk.specs.pf_applyrounds.specs.Chunks.{Chunk}
+use Rattle.pf_chunk.specs.pf_applyrounds.specs.Growing.{HasGrown}
+use Rattle.pf_chunk.specs.pf_applyrounds.specs.Halts.{Halt}
+use Rattle.pf_chunk.specs.pf_applyrounds.proofs.Extending.{Extends}
+use Rattle.pf_chunk.specs.pf_applyrounds.proofs.Growing.{grown_refl}
+use Rattle.pf_chunk.specs.pf_applyrounds.proofs.Told.{told_longer, told_replays}
 use Rattle.pf_chunk.specs.Views.{ChunkIs, run_of}
 use Rattle.pf_hosts.specs.Steps.{Goes, runs}
 

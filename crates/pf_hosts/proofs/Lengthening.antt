@@ -7,12 +7,12 @@ use Rattle.pf_base.specs.Asks.{chunk_of}
 use Rattle.pf_tree.specs.declared.calls.FileCall.{FileCall}
 use Rattle.pf_volume.specs.Volumes.{Extent}
 use Rattle.pf_entry.proofs.Lists.{set_cases}
-use Rattle.pf_network.proofs.Lists.{set_length, something_there}
+use Rattle.pf_chunk.specs.pf_network.proofs.Lists.{set_length, something_there}
 use Rattle.pf_mount.specs.declared.work.Next.{Next}
 use Rattle.pf_mount.specs.declared.work.Next.TheVariants as nexts
 use Rattle.pf_mount.specs.Mounts.{MountIs, Outcome, answered, opening, starting}
-use Rattle.pf_applyrounds.specs.Halts.{Halt}
-use Rattle.pf_applyrounds.proofs.Extending.{Extends, extends_on, extends_refl}
+use Rattle.pf_chunk.specs.pf_applyrounds.specs.Halts.{Halt}
+use Rattle.pf_chunk.specs.pf_applyrounds.proofs.Extending.{Extends, extends_on, extends_refl}
 use Rattle.pf_chunk.specs.Runs.{ChunkRun}
 use Rattle.pf_asks.specs.Ports.{PortIs}
 use Rattle.pf_chunk.specs.Driving.{asked, asked_at, driven}

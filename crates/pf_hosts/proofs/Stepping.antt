@@ -10,15 +10,15 @@ use Rattle.pf_base.specs.declared.asks.Reply.{Reply}
 use Rattle.pf_files.specs.CallNames.{name_of}
 use Rattle.pf_files.specs.declared.calls.Pending.{Pending}
 use Rattle.pf_entry.proofs.Lists.{set_cases, set_there}
-use Rattle.pf_network.proofs.Lists.{set_elsewhere, something_there}
-use Rattle.pf_group.specs.GroupIs.{GroupIs, state_of}
-use Rattle.pf_group.specs.Packets.{NoneComesBack}
+use Rattle.pf_chunk.specs.pf_network.proofs.Lists.{set_elsewhere, something_there}
+use Rattle.pf_chunk.specs.pf_group.specs.GroupIs.{GroupIs, state_of}
+use Rattle.pf_chunk.specs.pf_group.specs.Packets.{NoneComesBack}
 use Rattle.pf_asks.specs.Ports.{PortIs}
 use Rattle.pf_mount.specs.Mounts.{Answers, MountIs, answered}
-use Rattle.pf_applyrounds.specs.Growing.{HasGrown}
-use Rattle.pf_applyrounds.specs.Halts.{Halt}
-use Rattle.pf_applyrounds.proofs.Growing.{grown_refl, grown_tells, grown_trans}
-use Rattle.pf_applyrounds.proofs.Told.{told_length}
+use Rattle.pf_chunk.specs.pf_applyrounds.specs.Growing.{HasGrown}
+use Rattle.pf_chunk.specs.pf_applyrounds.specs.Halts.{Halt}
+use Rattle.pf_chunk.specs.pf_applyrounds.proofs.Growing.{grown_refl, grown_tells, grown_trans}
+use Rattle.pf_chunk.specs.pf_applyrounds.proofs.Told.{told_length}
 use Rattle.pf_chunk.specs.Views.{ChunkIs}
 use Rattle.pf_move.specs.Routes.{RoutesIs, home_of}
 use Rattle.pf_hosts.specs.Moments.{Heard, Moment, lines_in, text_of}

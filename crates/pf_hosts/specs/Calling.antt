@@ -8,7 +8,7 @@ use Rattle.pf_files.specs.declared.call_names.CallName.TheVariants.{Mkdir, Creat
 use Rattle.pf_volume.specs.Volumes.{Extent}
 use Rattle.pf_mount.specs.declared.faults.StartFault.{StartFault}
 use Rattle.pf_mount.specs.declared.faults.StartFault.TheVariants.{NoMemory, BadName, CallPending}
-use Rattle.pf_applyrounds.specs.Halts.{Halt}
+use Rattle.pf_chunk.specs.pf_applyrounds.specs.Halts.{Halt}
 use Rattle.pf_chunk.specs.Views.{ChunkIs}
 use Rattle.pf_move.specs.Routes.{RoutesIs}
 use Rattle.pf_hosts.specs.Moments.{Moment, text_of}

@@ -14,7 +14,7 @@ use Rattle.pf_mount.specs.declared.work.Next.TheVariants.{Ask as Asks, Ready, Do
 use Rattle.pf_mount.specs.Mounts.{MountIs, Outcome, answered, opening, starting}
 use Rattle.pf_report.specs.Texts.{event_line}
 use Rattle.pf_report.specs.Mounts.{call_text, ready_text}
-use Rattle.pf_applyrounds.specs.Halts.{Halt}
+use Rattle.pf_chunk.specs.pf_applyrounds.specs.Halts.{Halt}
 use Rattle.pf_chunk.specs.Runs.{ChunkRun}
 use Rattle.pf_move.specs.Routes.{RoutesIs, home_of, served_by}
 use Rattle.pf_chunk.specs.Driving.{Driven, asked, driven}

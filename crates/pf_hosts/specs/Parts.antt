@@ -12,7 +12,7 @@ use Rattle.pf_mount.specs.Mounts.{MountIs, Outcome}
 use Rattle.pf_asks.specs.Ports.{PortIs}
 use Rattle.pf_report.specs.Texts.{event_line}
 use Rattle.pf_report.specs.Mounts.{call_text}
-use Rattle.pf_applyrounds.specs.Halts.{Halt}
+use Rattle.pf_chunk.specs.pf_applyrounds.specs.Halts.{Halt}
 use Rattle.pf_chunk.specs.Driving.{PortDrove}
 use Rattle.pf_chunk.specs.Views.{ChunkIs}
 use Rattle.pf_move.specs.Routes.{RoutesIs, home_of}

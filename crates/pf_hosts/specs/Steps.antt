@@ -3,16 +3,16 @@ use Rattle.std.specs.Prelude.{◌≡◌, ◌≢◌, ◌⊎◌, ℕ, ◌++◌, Li
 use Rattle.std.specs.Option.{option_and_then}
 use Rattle.pf_base.specs.declared.asks.Ask.{Ask}
 use Rattle.pf_base.specs.Asks.{chunk_of}
-use Rattle.pf_group.specs.GroupIs.{state_of}
-use Rattle.pf_group.specs.Packets.{NoneComesBack}
+use Rattle.pf_chunk.specs.pf_group.specs.GroupIs.{state_of}
+use Rattle.pf_chunk.specs.pf_group.specs.Packets.{NoneComesBack}
 use Rattle.pf_asks.specs.Ports.{PortIs}
 use Rattle.pf_mount.specs.declared.work.Work.TheVariants.{Rests, Fails}
 use Rattle.pf_mount.specs.Mounts.{MountIs}
 use Rattle.pf_mount.specs.Awaiting.{Awaits}
-use Rattle.pf_applyrounds.specs.Halts.{Halt}
-use Rattle.pf_applyrounds.specs.Agreeing.{TellsOfGroup}
-use Rattle.pf_applyrounds.specs.Begun.{HasBegun}
-use Rattle.pf_applyrounds.specs.Growing.{HasGrown}
+use Rattle.pf_chunk.specs.pf_applyrounds.specs.Halts.{Halt}
+use Rattle.pf_chunk.specs.pf_applyrounds.specs.Agreeing.{TellsOfGroup}
+use Rattle.pf_chunk.specs.pf_applyrounds.specs.Begun.{HasBegun}
+use Rattle.pf_chunk.specs.pf_applyrounds.specs.Growing.{HasGrown}
 use Rattle.pf_chunk.specs.Runs.{ChunkRun}
 use Rattle.pf_move.specs.Routes.{RoutesIs, home_of}
 use Rattle.pf_chunk.specs.Views.{ChunkIs, IsReady, run_of}

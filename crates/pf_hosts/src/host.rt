@@ -70,8 +70,9 @@ pub fn drive_at<D: Disk + Drop, R: Threads + Sync, G: Gate + Sync>(
     chunk.drive(workers, mount, out)
 }
 
-/// Puts the event line of a call that ended. A mount whose superblock is another's ends without one.
-fn put_end(
+/// Puts the event line of a call that ended at the end of `out`. A mount whose superblock is another's ends without one. The one error is
+/// `NoMemory` (1), which leaves `out` as it was.
+pub fn put_end(
     out: &mut Vec<u8>,
     mount: u8,
     name: Option<CallName>,

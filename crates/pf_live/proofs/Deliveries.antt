@@ -8,10 +8,10 @@ use Rattle.pf_turn.specs.Own.{EachOf}
 use Rattle.pf_protocol.specs.Groups.{Group}
 use Rattle.pf_protocol.specs.declared.answers.Answer.{Answer}
 use Rattle.pf_protocol.specs.declared.events.Event.TheVariants.{Deliver}
-use Rattle.pf_group.specs.GroupIs.{GroupIs}
-use Rattle.pf_group.specs.Packets.{IsPassedUpTo, is_passed_over, least_from}
-use Rattle.pf_group.proofs.Sending.{OnlySent, run_sent}
-use Rattle.pf_group.proofs.Passing.{IsFound, least_found, least_is, one_more_passed, passed_further, passed_later}
+use Rattle.pf_shared.specs.pf_group.specs.GroupIs.{GroupIs}
+use Rattle.pf_shared.specs.pf_group.specs.Packets.{IsPassedUpTo, is_passed_over, least_from}
+use Rattle.pf_shared.specs.pf_group.proofs.Sending.{OnlySent, run_sent}
+use Rattle.pf_shared.specs.pf_group.proofs.Passing.{IsFound, least_found, least_is, one_more_passed, passed_further, passed_later}
 use Rattle.pf_shared.specs.declared.moment.Moment.{Moment}
 use Rattle.pf_shared.specs.declared.moment.Moment.TheVariants.{Happened, Look}
 use Rattle.pf_shared.specs.Moments.{entry, happenings}
@@ -99,7 +99,7 @@ module _ (turns : ℕ) (root : GroupIs) (begun : Trace) (n : ℕ) (alone : Type 
     there : HasDelivered turns root begun n s.adds.found next made
     there = delivered_finds seen s.adds.found next made s.adds.finds h
 
-    found_it : IsTrue root.told → IsFound (Rattle.pf_group.specs.Packets.is_left_in (state_at root s.adds.found)) next (length (state_at root s.adds.found).packets) k
+    found_it : IsTrue root.told → IsFound (Rattle.pf_shared.specs.pf_group.specs.Packets.is_left_in (state_at root s.adds.found)) next (length (state_at root s.adds.found).packets) k
     found_it told = least_found (state_at root s.adds.found) next k (least told)
 
     sent_on : OnlySent (state_at root s.adds.found).packets (state_at root new).packets

@@ -4,8 +4,8 @@ use Rattle.pf_turn.specs.declared.log.Stamped.{Stamped}
 use Rattle.pf_turn.specs.Lists.{entries_of}
 use Rattle.pf_turn.specs.Own.{EachOf}
 use Rattle.pf_turn.proofs.Own.{each_longer, each_snoc}
-use Rattle.pf_group.specs.GroupIs.{GroupIs}
-use Rattle.pf_group.proofs.Fresh.{none_is_free}
+use Rattle.pf_shared.specs.pf_group.specs.GroupIs.{GroupIs}
+use Rattle.pf_shared.specs.pf_group.proofs.Fresh.{none_is_free}
 use Rattle.pf_entry.specs.declared.ops.Op.{Op}
 use Rattle.pf_entry.specs.declared.ops.Op.TheVariants.{Write, Noop, Mark}
 use Rattle.pf_entry.specs.declared.ops.Job.{Job}

@@ -4,7 +4,7 @@ use Rattle.pf_turn.specs.declared.log.Stamped.{Stamped}
 use Rattle.pf_turn.specs.Lists.{Begins}
 use Rattle.pf_protocol.specs.Histories.{History, replay, run}
 use Rattle.pf_protocol.proofs.ForMoments.{run_parts}
-use Rattle.pf_group.specs.GroupIs.{GroupIs}
+use Rattle.pf_shared.specs.pf_group.specs.GroupIs.{GroupIs}
 use Rattle.pf_shared.specs.declared.moment.Moment.{Moment}
 use Rattle.pf_shared.specs.declared.moment.Moment.TheVariants.{Happened, Look}
 use Rattle.pf_shared.specs.Moments.{happenings, with_moment}

@@ -16,9 +16,9 @@ use Rattle.pf_protocol.specs.Groups.{Acked, Group}
 use Rattle.pf_protocol.specs.declared.answers.Answer.{Answer}
 use Rattle.pf_protocol.specs.declared.answers.Answer.TheVariants as answers
 use Rattle.pf_protocol.specs.declared.events.Event.TheVariants.{Submit}
-use Rattle.pf_group.specs.declared.errors.Down.{Down}
-use Rattle.pf_group.specs.GroupIs.{GroupIs}
-use Rattle.pf_group.specs.Readers.{TellsOf}
+use Rattle.pf_shared.specs.pf_group.specs.declared.errors.Down.{Down}
+use Rattle.pf_shared.specs.pf_group.specs.GroupIs.{GroupIs}
+use Rattle.pf_shared.specs.pf_group.specs.Readers.{TellsOf}
 use Rattle.pf_rings.specs.Passes.{taken_by}
 use Rattle.pf_rings.specs.declared.view.Request.{Request}
 use Rattle.pf_shared.specs.declared.moment.Moment.{Moment}
@@ -26,7 +26,7 @@ use Rattle.pf_shared.specs.declared.moment.Moment.TheVariants.{Happened, Look}
 use Rattle.pf_shared.specs.Calls.{Adds, Finds, Steps}
 use Rattle.pf_shared.specs.Moments.{entry}
 use Rattle.pf_shared.specs.Since.{state_at}
-use Rattle.pf_network.specs.Shown.{is_acked}
+use Rattle.pf_shared.specs.pf_network.specs.Shown.{is_acked}
 use Rattle.pf_live.specs.declared.plan.Plan.{Plan}
 use Rattle.pf_live.specs.declared.serving.Served.{Served}
 use Rattle.pf_live.specs.declared.serving.Standing.{Standing}

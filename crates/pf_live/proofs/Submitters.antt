@@ -7,7 +7,7 @@ use Rattle.pf_entry.proofs.Lists.{set_cases, set_there}
 use Rattle.pf_turn.specs.Lists.{Begins}
 use Rattle.pf_turn.specs.Own.{EachOf}
 use Rattle.pf_disk.specs.declared.disk.Disk.{Ghosts}
-use Rattle.pf_group.specs.GroupIs.{GroupIs}
+use Rattle.pf_shared.specs.pf_group.specs.GroupIs.{GroupIs}
 use Rattle.pf_leadercell.specs.Passes.{IsPassOf}
 use Rattle.pf_leadercell.specs.declared.cell.LeaderCell.{LeaderCell}
 use Rattle.pf_rings.specs.declared.ring.Ring.{Ring}

@@ -7,3 +7,7 @@ pub mod Ends
 pub mod Workers
 pub mod Switches
 pub mod Submitters
+pub use Rattle.pf_shared.specs.pf_network
+pub use Rattle.pf_shared.specs.pf_group
+pub use Rattle.pf_shared.specs.pf_applyrounds
+pub use Rattle.pf_shared

@@ -12,6 +12,8 @@ mod switching;
 pub use applying::Applier;
 pub use hosting::Host;
 pub use line::LiveLine;
+pub use pf_shared;
+pub use pf_shared::{pf_applyrounds, pf_group};
 pub use plan::Plan;
 pub use serving::{Served, Standing};
 pub use submitting::Submitter;

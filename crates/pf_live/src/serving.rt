@@ -1,6 +1,6 @@
 //! A host, as the worker that submits knows it.
 ghost use Rattle.std.specs.Prelude.{◌≡◌, ℕ, ◌<◌, IfOk, OnErr};
-ghost use Rattle.pf_group.specs.GroupIs.{GroupIs};
+ghost use Rattle.pf_shared.specs.pf_group.specs.GroupIs.{GroupIs};
 ghost use Rattle.pf_leadercell.specs.Passes.{IsPassOf};
 ghost use Rattle.pf_shared.specs.Calls.{Finds};
 ghost use Rattle.pf_shared.specs.Seats.{IsAlone, IsSameSeat, IsSeatOf, number_of, root_in, seen_by};
@@ -13,11 +13,11 @@ use crate::plan::Plan;
 use pf_base::{Data, NoMemory, Payload, Range, ServerId, Slot, Term};
 use pf_copy::Gate;
 use pf_disk::Disk;
-use pf_group::Down;
 use pf_leadercell::LeaderPass;
 use pf_protocol::Answer;
 use pf_rings::{Request, Ring, RingPass};
 use pf_shared::GroupSeat;
+use pf_shared::pf_group::Down;
 use std::sync::Wait;
 
 /// The number that the gate is told of the worker that submits.

@@ -7,9 +7,9 @@ use pf_base::NoMemory;
 use pf_copy::Gate;
 use pf_crew::Turned;
 use pf_disk::Disk;
-use pf_group::is_passed_over;
 use pf_leadercell::LeaderPass;
 use pf_shared::GroupSeat;
+use pf_shared::pf_group::is_passed_over;
 use std::snapshot::Snapshot;
 use std::sync::Wait;
 

@@ -4,13 +4,13 @@ use denote.Enum.Declared as enums
 use denote.Param.Send.{IsSend, IsSync, enum_send, recorded_send, recorded_sync, sendable, struct_send, struct_sync, view_send}
 use denote.Struct.Declared.{shape}
 use Rattle.pf_disk.specs.declared.disk.Disk.{Ghosts}
-use Rattle.pf_group.specs.contracts.group.Group as Group
-use Rattle.pf_group.specs.contracts.group.Group.TheInside as Inside
-use Rattle.pf_shared.specs.contracts.moment.Moment as Moment
-use Rattle.pf_shared.specs.contracts.start.Start as Start
-use Rattle.pf_shared.specs.contracts.behind.Behind as Behind
-use Rattle.pf_shared.specs.contracts.parts.GroupSeat as GroupSeat
-use Rattle.pf_shared.specs.contracts.parts.SharedGroup as SharedGroup
+use Rattle.pf_live.specs.pf_group.specs.contracts.group.Group as Group
+use Rattle.pf_live.specs.pf_group.specs.contracts.group.Group.TheInside as Inside
+use Rattle.pf_live.specs.pf_shared.specs.contracts.moment.Moment as Moment
+use Rattle.pf_live.specs.pf_shared.specs.contracts.start.Start as Start
+use Rattle.pf_live.specs.pf_shared.specs.contracts.behind.Behind as Behind
+use Rattle.pf_live.specs.pf_shared.specs.contracts.parts.GroupSeat as GroupSeat
+use Rattle.pf_live.specs.pf_shared.specs.contracts.parts.SharedGroup as SharedGroup
 use Rattle.pf_live.specs.contracts.applying.Applier as Applier
 use Rattle.pf_live.specs.contracts.line.LiveLine as LiveLine
 use Rattle.pf_live.specs.contracts.submitting.Submitter as Submitter
@@ -24,10 +24,10 @@ use Rattle.std.proofs.sync.atomic.AtomicBool.TheSendSync as bit
 use Rattle.pf_turn.proofs.parts.TurnSeat.TheSendSync as seat
 use Rattle.pf_turn.proofs.parts.TurnLock.TheSendSync as lock
 use Rattle.pf_turn.proofs.log.Stamped.TheSendSync as stamped
-use Rattle.pf_network.proofs.network.Network.TheSendSync as network
+use Rattle.pf_live.specs.pf_network.proofs.network.Network.TheSendSync as network
 use Rattle.pf_diskstore.proofs.kept.Kept.TheSendSync as kept
-use Rattle.pf_group.proofs.past.Past.TheSendSync as past
-use Rattle.pf_shared.proofs.moment.Did.TheSendSync as did
+use Rattle.pf_live.specs.pf_group.proofs.past.Past.TheSendSync as past
+use Rattle.pf_live.specs.pf_shared.proofs.moment.Did.TheSendSync as did
 use Rattle.pf_leadercell.proofs.cell.LeaderCell.TheSendSync as cell
 use Rattle.pf_live.proofs.plan.Plan.TheSendSync as plan
 use Rattle.pf_rings.proofs.ring.Ring.TheSendSync as ring

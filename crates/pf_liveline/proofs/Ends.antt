@@ -1,6 +1,6 @@
 -- The three ends of a line.
 use Rattle.std.proofs.Common.{◌≡◌, ℕ, ◌<◌, Some, arith, refl}
-use Rattle.pf_group.specs.GroupIs.{GroupIs}
+use Rattle.pf_live.specs.pf_group.specs.GroupIs.{GroupIs}
 use Rattle.pf_base.specs.declared.live_end.LiveEnd.{LiveEnd}
 use Rattle.pf_base.specs.declared.live_end.LiveEnd.TheVariants.{Done, Stalled, TurnsSpent}
 use Rattle.pf_live.specs.declared.plan.Plan.{Plan}
@@ -12,7 +12,7 @@ module _ (plan : Plan) (root : GroupIs) (list : Trace) where
   done_open : ((h : ℕ) → h < plan.hosts → acked_of root h list ≡ plan.writes) → (h : ℕ) × IsOpen plan root list h → ⊥
   done_open all one = let is = all one.0 one.1.0 in let low = one.1.1 in omega arith
 
-  none_left : (k : ℕ) → NoneIsLeft root list → least_left (Rattle.pf_shared.specs.Since.state_at root list) list ≡ Some k → ⊥
+  none_left : (k : ℕ) → NoneIsLeft root list → least_left (Rattle.pf_live.specs.pf_shared.specs.Since.state_at root list) list ≡ Some k → ⊥
   none_left k none some = cc
 
   -- at most one holds

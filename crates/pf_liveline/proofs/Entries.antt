@@ -5,8 +5,8 @@ use Rattle.pf_turn.specs.declared.log.Stamped.{Stamped}
 use Rattle.pf_turn.specs.Lists.{Begins}
 use Rattle.pf_turn.specs.Own.{AllAfter, EachAfter}
 use Rattle.pf_turn.proofs.Lists.{begins_trans}
-use Rattle.pf_shared.specs.declared.moment.Moment.{Moment}
-use Rattle.pf_shared.specs.Moments.{entry}
+use Rattle.pf_live.specs.pf_shared.specs.declared.moment.Moment.{Moment}
+use Rattle.pf_live.specs.pf_shared.specs.Moments.{entry}
 use Rattle.pf_live.specs.Deliveries.{Trace}
 
 -- the entries of one seat

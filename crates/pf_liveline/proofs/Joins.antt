@@ -3,7 +3,7 @@ use Rattle.std.proofs.Common.{◌≡◌, ℕ, zero, suc, ◌-◌, ◌<◌, List,
 use Rattle.pf_turn.specs.Lists.{Every, SameOf, entries_of}
 use Rattle.pf_turn.specs.Own.{down_from}
 use Rattle.pf_turn.proofs.Own.{down_has}
-use Rattle.pf_shared.specs.declared.moment.Moment.{Moment}
+use Rattle.pf_live.specs.pf_shared.specs.declared.moment.Moment.{Moment}
 use Rattle.pf_live.specs.Deliveries.{Trace}
 
 -- the next number comes before those below it

@@ -9,14 +9,14 @@ use Rattle.pf_turn.specs.declared.log.Stamped.{Stamped}
 use Rattle.pf_protocol.specs.Groups.{Acked}
 use Rattle.pf_protocol.specs.declared.answers.Answer.TheVariants.{Refused}
 use Rattle.pf_protocol.specs.declared.events.Event.TheVariants.{Submit}
-use Rattle.pf_network.specs.Shown.{IsLeader, is_acked}
-use Rattle.pf_group.specs.GroupIs.{GroupIs}
+use Rattle.pf_live.specs.pf_network.specs.Shown.{IsLeader, is_acked}
+use Rattle.pf_live.specs.pf_group.specs.GroupIs.{GroupIs}
 use Rattle.pf_rings.specs.declared.ring.Ring.{Ring}
 use Rattle.pf_rings.specs.declared.view.Request.{Request}
-use Rattle.pf_shared.specs.declared.moment.Moment.{Moment}
-use Rattle.pf_shared.specs.declared.moment.Moment.TheVariants.{Happened}
-use Rattle.pf_shared.specs.Moments.{entry}
-use Rattle.pf_shared.specs.Since.{state_at}
+use Rattle.pf_live.specs.pf_shared.specs.declared.moment.Moment.{Moment}
+use Rattle.pf_live.specs.pf_shared.specs.declared.moment.Moment.TheVariants.{Happened}
+use Rattle.pf_live.specs.pf_shared.specs.Moments.{entry}
+use Rattle.pf_live.specs.pf_shared.specs.Since.{state_at}
 use Rattle.pf_base.specs.declared.live_end.LiveEnd.TheVariants.{Done, Stalled, TurnsSpent}
 use Rattle.pf_live.specs.declared.hosting.Host.{Host}
 use Rattle.pf_live.specs.declared.plan.Plan.{Plan}
@@ -125,7 +125,7 @@ module _ (plan : Plan) (root : GroupIs) (old new : Trace) (un : IsUnchanged root
 
   pub least_same : least_left (state_at root new) new ≡ least_left (state_at root old) old
   least_same = let alike : (λ (k : ℕ). is_passed k new) ≡ (λ (k : ℕ). is_passed k old) = λ i k. un.passed k i in
-      ap (λ g. least_left g new) un.state ∙ ap (λ (p : ℕ → Bool). Rattle.std.proofs.Common.find (λ k. Rattle.pf_group.specs.Packets.is_left_in (state_at root old) k && not (p k)) (Rattle.std.specs.List.range_with_len 0 (length (state_at root old).packets))) alike
+      ap (λ g. least_left g new) un.state ∙ ap (λ (p : ℕ → Bool). Rattle.std.proofs.Common.find (λ k. Rattle.pf_live.specs.pf_group.specs.Packets.is_left_in (state_at root old) k && not (p k)) (Rattle.std.specs.List.range_with_len 0 (length (state_at root old).packets))) alike
 
   pub refused_on : (h j : ℕ) → WasRefused plan root old h j → WasRefused plan root new h j
   refused_on h j r = record { server = r.server; term = r.term; leads = subst (λ g. IsLeader g (Some (r.term, r.server))) (sym un.state) r.leads; refused = refused_later plan old new un.begins un.count h j r.server r.refused }

@@ -6,14 +6,14 @@ use Rattle.pf_turn.specs.Lists.{Begins, entries_of}
 use Rattle.pf_turn.specs.Own.{AreKnown, EachOf}
 use Rattle.pf_turn.proofs.Lists.{begins_refl, begins_trans, each_is}
 use Rattle.pf_disk.specs.declared.disk.Disk.{Ghosts}
-use Rattle.pf_group.specs.GroupIs.{GroupIs}
+use Rattle.pf_live.specs.pf_group.specs.GroupIs.{GroupIs}
 use Rattle.pf_leadercell.specs.declared.cell.LeaderCell.{LeaderCell}
 use Rattle.pf_rings.specs.declared.ring.Ring.{Ring}
-use Rattle.pf_shared.specs.Hands.{Key, hand_of}
-use Rattle.pf_shared.specs.Moments.{entry}
-use Rattle.pf_shared.specs.declared.parts.GroupSeat.{GroupSeat}
-use Rattle.pf_shared.specs.declared.parts.SharedGroup.{SharedGroup}
-use Rattle.pf_shared.specs.Seats.{IsFirst, IsSeatOf, gone_of, number_of, out_of, root_in, seen_by, splits_of}
+use Rattle.pf_live.specs.pf_shared.specs.Hands.{Key, hand_of}
+use Rattle.pf_live.specs.pf_shared.specs.Moments.{entry}
+use Rattle.pf_live.specs.pf_shared.specs.declared.parts.GroupSeat.{GroupSeat}
+use Rattle.pf_live.specs.pf_shared.specs.declared.parts.SharedGroup.{SharedGroup}
+use Rattle.pf_live.specs.pf_shared.specs.Seats.{IsFirst, IsSeatOf, gone_of, number_of, out_of, root_in, seen_by, splits_of}
 use Rattle.pf_live.specs.declared.applying.Applier.{Applier}
 use Rattle.pf_live.specs.declared.hosting.Host.{Host}
 use Rattle.pf_liveline.specs.declared.worker.Worker.{Worker}

@@ -9,21 +9,21 @@ use Rattle.pf_turn.proofs.Lists.{begins_refl, begins_trans, entries-append}
 use Rattle.pf_base.specs.declared.errors.NoMemory.{NoMemory}
 use Rattle.pf_disk.specs.declared.disk.Disk.{Ghosts}
 use Rattle.pf_protocol.specs.Groups.{Group}
-use Rattle.pf_group.specs.GroupIs.{GroupIs}
-use Rattle.pf_group.specs.Packets.{IsPassedUpTo, least_from}
-use Rattle.pf_group.proofs.Passing.{least_is, passed_later}
+use Rattle.pf_live.specs.pf_group.specs.GroupIs.{GroupIs}
+use Rattle.pf_live.specs.pf_group.specs.Packets.{IsPassedUpTo, least_from}
+use Rattle.pf_live.specs.pf_group.proofs.Passing.{least_is, passed_later}
 use Rattle.pf_leadercell.specs.declared.cell.LeaderCell.{LeaderCell}
 use Rattle.pf_rings.specs.declared.ring.Ring.{Ring}
-use Rattle.pf_shared.specs.declared.moment.Moment.{Moment}
-use Rattle.pf_shared.specs.declared.moment.Moment.TheVariants.{Look}
-use Rattle.pf_shared.specs.declared.parts.GroupSeat.{GroupSeat}
-use Rattle.pf_shared.specs.declared.parts.SharedGroup.{SharedGroup}
-use Rattle.pf_shared.specs.Calls.{Finds}
-use Rattle.pf_shared.specs.Looks.{Looks}
-use Rattle.pf_shared.specs.Hands.{hand_of}
-use Rattle.pf_shared.specs.Moments.{entry}
-use Rattle.pf_shared.specs.Seats.{IsAlone, IsSameSeat, IsSeatOf, number_of, root_in, seen_by}
-use Rattle.pf_shared.specs.Since.{state_at}
+use Rattle.pf_live.specs.pf_shared.specs.declared.moment.Moment.{Moment}
+use Rattle.pf_live.specs.pf_shared.specs.declared.moment.Moment.TheVariants.{Look}
+use Rattle.pf_live.specs.pf_shared.specs.declared.parts.GroupSeat.{GroupSeat}
+use Rattle.pf_live.specs.pf_shared.specs.declared.parts.SharedGroup.{SharedGroup}
+use Rattle.pf_live.specs.pf_shared.specs.Calls.{Finds}
+use Rattle.pf_live.specs.pf_shared.specs.Looks.{Looks}
+use Rattle.pf_live.specs.pf_shared.specs.Hands.{hand_of}
+use Rattle.pf_live.specs.pf_shared.specs.Moments.{entry}
+use Rattle.pf_live.specs.pf_shared.specs.Seats.{IsAlone, IsSameSeat, IsSeatOf, number_of, root_in, seen_by}
+use Rattle.pf_live.specs.pf_shared.specs.Since.{state_at}
 use Rattle.pf_live.specs.declared.plan.Plan.{Plan}
 use Rattle.pf_live.specs.Deliveries.{Trace, deliveries, delivers, is_passed, least_left, passes_over}
 use Rattle.pf_live.specs.Lines.{Does, IsLive}

@@ -5,16 +5,16 @@ use Rattle.pf_turn.specs.Lists.{Begins, entries_of}
 use Rattle.pf_turn.proofs.Lists.{begins_refl}
 use Rattle.pf_turn.proofs.Own.{each_none}
 use Rattle.pf_disk.specs.declared.disk.Disk.{Ghosts}
-use Rattle.pf_group.specs.GroupIs.{GroupIs}
-use Rattle.pf_group.specs.Packets.{IsPassedUpTo}
+use Rattle.pf_live.specs.pf_group.specs.GroupIs.{GroupIs}
+use Rattle.pf_live.specs.pf_group.specs.Packets.{IsPassedUpTo}
 use Rattle.pf_leadercell.specs.Passes.{IsFirst, IsPassOf}
 use Rattle.pf_leadercell.specs.declared.cell.LeaderCell.{LeaderCell}
 use Rattle.pf_rings.specs.declared.ring.Ring.{Ring}
-use Rattle.pf_shared.specs.declared.parts.GroupSeat.{GroupSeat}
-use Rattle.pf_shared.specs.declared.parts.SharedGroup.{SharedGroup}
-use Rattle.pf_shared.specs.Hands.{hand_of}
-use Rattle.pf_shared.specs.Seats.{IsSeatOf, number_of, root_in, seen_by, splits_of}
-use Rattle.pf_shared.specs.Since.{state_at}
+use Rattle.pf_live.specs.pf_shared.specs.declared.parts.GroupSeat.{GroupSeat}
+use Rattle.pf_live.specs.pf_shared.specs.declared.parts.SharedGroup.{SharedGroup}
+use Rattle.pf_live.specs.pf_shared.specs.Hands.{hand_of}
+use Rattle.pf_live.specs.pf_shared.specs.Seats.{IsSeatOf, number_of, root_in, seen_by, splits_of}
+use Rattle.pf_live.specs.pf_shared.specs.Since.{state_at}
 use Rattle.pf_live.specs.declared.applying.Applier.{Applier}
 use Rattle.pf_live.specs.declared.hosting.Host.{Host}
 use Rattle.pf_live.specs.declared.plan.Plan.{Plan}

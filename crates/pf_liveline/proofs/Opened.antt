@@ -4,13 +4,13 @@ use Rattle.pf_entry.specs.Lists.{Every}
 use Rattle.pf_turn.specs.Lists.{entries_of}
 use Rattle.pf_turn.specs.Own.{AllOfSeats, down_from}
 use Rattle.pf_disk.specs.declared.disk.Disk.{Ghosts}
-use Rattle.pf_group.specs.GroupIs.{GroupIs}
+use Rattle.pf_live.specs.pf_group.specs.GroupIs.{GroupIs}
 use Rattle.pf_rings.specs.Passes.{IsHostOf, IsServerOf, put_by, taken_by}
 use Rattle.pf_rings.specs.declared.ring.Ring.{Ring}
-use Rattle.pf_shared.specs.declared.parts.GroupSeat.{GroupSeat}
-use Rattle.pf_shared.specs.declared.parts.SharedGroup.{SharedGroup}
-use Rattle.pf_shared.specs.Hands.{hand_of}
-use Rattle.pf_shared.specs.Seats.{IsFirst, IsSeatOf, gone_of, out_of, root_in, seen_by, splits_of}
+use Rattle.pf_live.specs.pf_shared.specs.declared.parts.GroupSeat.{GroupSeat}
+use Rattle.pf_live.specs.pf_shared.specs.declared.parts.SharedGroup.{SharedGroup}
+use Rattle.pf_live.specs.pf_shared.specs.Hands.{hand_of}
+use Rattle.pf_live.specs.pf_shared.specs.Seats.{IsFirst, IsSeatOf, gone_of, out_of, root_in, seen_by, splits_of}
 use Rattle.pf_live.specs.declared.hosting.Host.{Host}
 use Rattle.pf_live.specs.declared.plan.Plan.{Plan}
 use Rattle.pf_live.specs.declared.serving.Served.{Served}

@@ -8,7 +8,7 @@ use Rattle.pf_rings.specs.declared.view.Request.{Request}
 use Rattle.pf_live.specs.declared.hosting.Host.{Host}
 use Rattle.pf_live.specs.declared.plan.Plan.{Plan}
 use Rattle.pf_live.specs.declared.serving.Served.{Served}
-use Rattle.pf_group.specs.GroupIs.{GroupIs}
+use Rattle.pf_live.specs.pf_group.specs.GroupIs.{GroupIs}
 use Rattle.pf_live.specs.Deliveries.{Trace}
 use Rattle.pf_live.specs.Submitters.{AllFed, AllStand, IsFed, Stands}
 use Rattle.pf_live.specs.Writes.{first_requests, request_of}

@@ -7,13 +7,13 @@ use Rattle.pf_turn.specs.Own.{AllOfSeats, AreKnown, EachOf, down_from}
 use Rattle.pf_turn.proofs.Lists.{begins_trans}
 use Rattle.pf_turn.proofs.Own.{all_known}
 use Rattle.pf_disk.specs.declared.disk.Disk.{Ghosts}
-use Rattle.pf_group.specs.GroupIs.{GroupIs}
+use Rattle.pf_live.specs.pf_group.specs.GroupIs.{GroupIs}
 use Rattle.pf_leadercell.specs.declared.cell.LeaderCell.{LeaderCell}
 use Rattle.pf_rings.specs.declared.ring.Ring.{Ring}
-use Rattle.pf_shared.specs.declared.parts.GroupSeat.{GroupSeat}
-use Rattle.pf_shared.specs.declared.parts.SharedGroup.{SharedGroup}
-use Rattle.pf_shared.specs.Hands.{Key, hand_of}
-use Rattle.pf_shared.specs.Seats.{root_in, seen_by, splits_of}
+use Rattle.pf_live.specs.pf_shared.specs.declared.parts.GroupSeat.{GroupSeat}
+use Rattle.pf_live.specs.pf_shared.specs.declared.parts.SharedGroup.{SharedGroup}
+use Rattle.pf_live.specs.pf_shared.specs.Hands.{Key, hand_of}
+use Rattle.pf_live.specs.pf_shared.specs.Seats.{root_in, seen_by, splits_of}
 use Rattle.pf_live.specs.declared.plan.Plan.{Plan}
 use Rattle.pf_live.specs.Deliveries.{Trace}
 use Rattle.pf_live.specs.Lines.{Applying, IsLive, role_of}
@@ -34,7 +34,7 @@ pub neither : (b c : Bool) → (b || c) ≡ false → b ≡ false
 neither true c is = is
 neither false c is = refl
 
-made_as : (turns : ℕ) (root : Rattle.pf_group.specs.GroupIs.GroupIs) (begun rest list : Trace) (n next made : ℕ) → begun ++ rest ≡ list → entries_of n begun ≡ [] → DeliversAlone n rest → HasDelivered turns root begun n list next made → HasMade turns root list next made
+made_as : (turns : ℕ) (root : Rattle.pf_live.specs.pf_group.specs.GroupIs.GroupIs) (begun rest list : Trace) (n next made : ℕ) → begun ++ rest ≡ list → entries_of n begun ≡ [] → DeliversAlone n rest → HasDelivered turns root begun n list next made → HasMade turns root list next made
 made_as turns root begun rest list n next made is fresh alone d = subst (λ l. HasMade turns root l next made) is (at (subst (λ l. HasDelivered turns root begun n l next made) (sym is) d))
   where
     at : HasDelivered turns root begun n (begun ++ rest) next made → HasMade turns root (begun ++ rest) next made
@@ -48,7 +48,7 @@ made_as turns root begun rest list n next made is fresh alone d = subst (λ l. H
 module _ {D : Type 0} {disk : Ghosts D} (group : SharedGroup D disk) (cell : LeaderCell) (plan : Plan) (rings : List Ring) (begun : GroupSeat D disk) (is : IsLineSeat group plan begun) (a : Taken D disk) (mid first : GroupSeat D disk)
     (taken : IsTaken group cell plan rings begun a mid) (joining : IsJoining group plan begun a.submitted.value (splits_of begun + plan.workers + 2) first) (on : Begins (seen_by mid) (seen_by first))
     (same : (n : ℕ) → n ≤ splits_of begun + 2 → entries_of n (seen_by first) ≡ entries_of n (seen_by mid)) (fed : AllFed plan a.served.items) where
-  abbrev P : ℕ → Trace → Rattle.pf_shared.specs.declared.moment.Moment.Moment → Type 0
+  abbrev P : ℕ → Trace → Rattle.pf_live.specs.pf_shared.specs.declared.moment.Moment.Moment → Type 0
   P = IsSince plan (root_in group) (seen_by begun) (splits_of begun) (seen_by a.submitted.value)
 
   all : AllOfSeats P (seen_by begun ++ joining.since.0)

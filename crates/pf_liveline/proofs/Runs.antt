@@ -12,13 +12,13 @@ use Rattle.pf_turn.proofs.Lists.{begins_refl, entries-append}
 use Rattle.pf_protocol.specs.Groups.{Group}
 use Rattle.pf_protocol.specs.declared.events.Event.{Event}
 use Rattle.pf_protocol.specs.declared.events.Event.TheVariants.{Submit, Deliver}
-use Rattle.pf_group.specs.GroupIs.{GroupIs}
-use Rattle.pf_group.specs.Packets.{is_left_in, is_passed_over}
-use Rattle.pf_shared.specs.declared.moment.Moment.{Moment}
-use Rattle.pf_shared.specs.declared.moment.Moment.TheVariants.{Happened, Look}
-use Rattle.pf_shared.specs.Moments.{entry}
-use Rattle.pf_shared.specs.Since.{state_at}
-use Rattle.pf_shared.proofs.Since.{rest_of_all}
+use Rattle.pf_live.specs.pf_group.specs.GroupIs.{GroupIs}
+use Rattle.pf_live.specs.pf_group.specs.Packets.{is_left_in, is_passed_over}
+use Rattle.pf_live.specs.pf_shared.specs.declared.moment.Moment.{Moment}
+use Rattle.pf_live.specs.pf_shared.specs.declared.moment.Moment.TheVariants.{Happened, Look}
+use Rattle.pf_live.specs.pf_shared.specs.Moments.{entry}
+use Rattle.pf_live.specs.pf_shared.specs.Since.{state_at}
+use Rattle.pf_live.specs.pf_shared.proofs.Since.{rest_of_all}
 use Rattle.pf_live.specs.declared.plan.Plan.{Plan}
 use Rattle.pf_live.specs.Deliveries.{IsNextDelivery, Trace, deliveries, delivers, is_delivery, is_delivery_of, is_passed, passes_over}
 use Rattle.pf_live.specs.Lines.{Applying, Delivering, Does, DoesAs, IsLive, Submitting, role_at, role_of}

@@ -6,13 +6,13 @@ use Rattle.pf_turn.specs.Lists.{entries_of}
 use Rattle.pf_disk.specs.declared.disk.Disk.{Ghosts}
 use Rattle.pf_protocol.specs.declared.answers.Answer.{Answer}
 use Rattle.pf_protocol.specs.declared.events.Event.{Event}
-use Rattle.pf_group.specs.GroupIs.{GroupIs}
-use Rattle.pf_shared.specs.declared.moment.Moment.{Moment}
-use Rattle.pf_shared.specs.declared.moment.Moment.TheVariants.{Happened, Look}
-use Rattle.pf_shared.specs.declared.parts.GroupSeat.{GroupSeat}
-use Rattle.pf_shared.specs.declared.parts.SharedGroup.{SharedGroup}
-use Rattle.pf_shared.specs.Hands.{Key, hand_after, hand_by, hand_of}
-use Rattle.pf_shared.specs.Seats.{root_in, seen_by, splits_of}
+use Rattle.pf_live.specs.pf_group.specs.GroupIs.{GroupIs}
+use Rattle.pf_live.specs.pf_shared.specs.declared.moment.Moment.{Moment}
+use Rattle.pf_live.specs.pf_shared.specs.declared.moment.Moment.TheVariants.{Happened, Look}
+use Rattle.pf_live.specs.pf_shared.specs.declared.parts.GroupSeat.{GroupSeat}
+use Rattle.pf_live.specs.pf_shared.specs.declared.parts.SharedGroup.{SharedGroup}
+use Rattle.pf_live.specs.pf_shared.specs.Hands.{Key, hand_after, hand_by, hand_of}
+use Rattle.pf_live.specs.pf_shared.specs.Seats.{root_in, seen_by, splits_of}
 use Rattle.pf_live.specs.declared.plan.Plan.{Plan}
 use Rattle.pf_live.specs.Deliveries.{Trace}
 use Rattle.pf_live.specs.Lines.{Applying, Delivering, Does, DoesAs, IsLive, Role, Submitting, role_of}

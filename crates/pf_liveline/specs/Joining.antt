@@ -3,9 +3,9 @@ use Rattle.std.specs.Prelude.{◌≡◌, ℕ, ◌+◌, ◌<◌, []}
 use Rattle.pf_turn.specs.Lists.{Begins, entries_of}
 use Rattle.pf_turn.specs.Own.{AreKnown, EachOf, down_from}
 use Rattle.pf_disk.specs.declared.disk.Disk.{Ghosts}
-use Rattle.pf_shared.specs.declared.parts.GroupSeat.{GroupSeat}
-use Rattle.pf_shared.specs.declared.parts.SharedGroup.{SharedGroup}
-use Rattle.pf_shared.specs.Seats.{IsFirst, IsSeatOf, gone_of, out_of, root_in, seen_by, splits_of}
+use Rattle.pf_live.specs.pf_shared.specs.declared.parts.GroupSeat.{GroupSeat}
+use Rattle.pf_live.specs.pf_shared.specs.declared.parts.SharedGroup.{SharedGroup}
+use Rattle.pf_live.specs.pf_shared.specs.Seats.{IsFirst, IsSeatOf, gone_of, out_of, root_in, seen_by, splits_of}
 use Rattle.pf_live.specs.declared.plan.Plan.{Plan}
 use Rattle.pf_liveline.specs.Runs.{IsSince}
 

@@ -2,17 +2,17 @@
 use Rattle.std.specs.Prelude.{◌≡◌, ◌⊎◌, ℕ, ◌-◌, ◌<◌, ◌≤◌, Bool, true, false, IsTrue, List, Contains, length, Option, Some, None, slice_get}
 use Rattle.pf_turn.specs.Lists.{Begins}
 use Rattle.pf_disk.specs.declared.disk.Disk.{Ghosts}
-use Rattle.pf_network.specs.Shown.{IsLeader}
-use Rattle.pf_group.specs.GroupIs.{GroupIs}
+use Rattle.pf_live.specs.pf_network.specs.Shown.{IsLeader}
+use Rattle.pf_live.specs.pf_group.specs.GroupIs.{GroupIs}
 use Rattle.pf_leadercell.specs.Passes as cells
 use Rattle.pf_leadercell.specs.Published.{last_of}
 use Rattle.pf_leadercell.specs.declared.cell.LeaderCell.{LeaderCell}
 use Rattle.pf_leadercell.specs.declared.cell.LeaderPass.{LeaderPass}
 use Rattle.pf_rings.specs.declared.ring.Ring.{Ring}
 use Rattle.pf_rings.specs.declared.view.Request.{Request}
-use Rattle.pf_shared.specs.declared.parts.SharedGroup.{SharedGroup}
-use Rattle.pf_shared.specs.Seats.{root_in, seen_by, splits_of}
-use Rattle.pf_shared.specs.Since.{state_at}
+use Rattle.pf_live.specs.pf_shared.specs.declared.parts.SharedGroup.{SharedGroup}
+use Rattle.pf_live.specs.pf_shared.specs.Seats.{root_in, seen_by, splits_of}
+use Rattle.pf_live.specs.pf_shared.specs.Since.{state_at}
 use Rattle.pf_base.specs.declared.live_end.LiveEnd.{LiveEnd}
 use Rattle.pf_live.specs.declared.plan.Plan.{Plan}
 use Rattle.pf_live.specs.declared.serving.Served.{Served}

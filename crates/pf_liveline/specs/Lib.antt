@@ -8,3 +8,8 @@ pub mod Crews
 pub mod Opening
 pub mod Judging
 pub mod Rounds
+pub use Rattle.pf_live.specs.pf_network
+pub use Rattle.pf_live.specs.pf_group
+pub use Rattle.pf_live.specs.pf_applyrounds
+pub use Rattle.pf_live.specs.pf_shared
+pub use Rattle.pf_live

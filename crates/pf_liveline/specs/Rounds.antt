@@ -4,8 +4,8 @@ use Rattle.pf_turn.specs.Lists.{Begins}
 use Rattle.pf_disk.specs.declared.disk.Disk.{Ghosts}
 use Rattle.pf_leadercell.specs.declared.cell.LeaderCell.{LeaderCell}
 use Rattle.pf_rings.specs.declared.ring.Ring.{Ring}
-use Rattle.pf_shared.specs.declared.parts.SharedGroup.{SharedGroup}
-use Rattle.pf_shared.specs.Seats.{root_in, seen_by, splits_of}
+use Rattle.pf_live.specs.pf_shared.specs.declared.parts.SharedGroup.{SharedGroup}
+use Rattle.pf_live.specs.pf_shared.specs.Seats.{root_in, seen_by, splits_of}
 use Rattle.pf_base.specs.declared.live_end.LiveEnd.{LiveEnd}
 use Rattle.pf_live.specs.declared.plan.Plan.{Plan}
 use Rattle.pf_liveline.specs.declared.crew.Crew.{Crew}

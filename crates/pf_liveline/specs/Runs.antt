@@ -1,9 +1,9 @@
 -- What the entries of one run's seats are.
 use Rattle.std.specs.Prelude.{◌≡◌, ◌⊎◌, ℕ, ◌+◌, ◌<◌, ◌≤◌, [], ◌∷◌, ◌++◌, length}
 use Rattle.pf_turn.specs.Lists.{Begins}
-use Rattle.pf_group.specs.GroupIs.{GroupIs}
-use Rattle.pf_shared.specs.declared.moment.Moment.{Moment}
-use Rattle.pf_shared.specs.Moments.{entry}
+use Rattle.pf_live.specs.pf_group.specs.GroupIs.{GroupIs}
+use Rattle.pf_live.specs.pf_shared.specs.declared.moment.Moment.{Moment}
+use Rattle.pf_live.specs.pf_shared.specs.Moments.{entry}
 use Rattle.pf_live.specs.declared.plan.Plan.{Plan}
 use Rattle.pf_live.specs.Deliveries.{Trace}
 use Rattle.pf_live.specs.Roles.{Applies}

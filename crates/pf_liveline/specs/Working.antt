@@ -4,9 +4,9 @@ use Rattle.std.proofs.Common.{◌∙◌, refl}
 use Rattle.pf_disk.specs.declared.disk.Disk.{Ghosts}
 use Rattle.pf_leadercell.specs.declared.cell.LeaderCell.{LeaderCell}
 use Rattle.pf_rings.specs.declared.ring.Ring.{Ring}
-use Rattle.pf_shared.specs.declared.parts.GroupSeat.{GroupSeat}
-use Rattle.pf_shared.specs.declared.parts.SharedGroup.{SharedGroup}
-use Rattle.pf_shared.specs.Seats.{IsSameSeat}
+use Rattle.pf_live.specs.pf_shared.specs.declared.parts.GroupSeat.{GroupSeat}
+use Rattle.pf_live.specs.pf_shared.specs.declared.parts.SharedGroup.{SharedGroup}
+use Rattle.pf_live.specs.pf_shared.specs.Seats.{IsSameSeat}
 use Rattle.pf_live.specs.declared.applying.Applier.{Applier}
 use Rattle.pf_live.specs.declared.hosting.Host.{Host}
 use Rattle.pf_live.specs.declared.plan.Plan.{Plan}

@@ -1,8 +1,8 @@
 //! A live line between two runs of its threads, and whether it has come to an end.
 ghost use Rattle.std.specs.Prelude.{◌≡◌, ℕ, ◌<◌, IfOk, IfSome, IsTrue, Some, true};
-ghost use Rattle.pf_network.specs.Shown.{IsLeader, is_acked};
-ghost use Rattle.pf_shared.specs.Seats.{root_in, seen_by};
-ghost use Rattle.pf_shared.specs.Since.{state_at};
+ghost use Rattle.pf_live.specs.pf_network.specs.Shown.{IsLeader, is_acked};
+ghost use Rattle.pf_live.specs.pf_shared.specs.Seats.{root_in, seen_by};
+ghost use Rattle.pf_live.specs.pf_shared.specs.Since.{state_at};
 ghost use Rattle.pf_live.specs.Deliveries.{least_left};
 ghost use Rattle.pf_live.specs.Ends.{NoneIsLeft};
 ghost use Rattle.pf_liveline.specs.Crews.{IsCrew};
@@ -11,8 +11,8 @@ ghost use Rattle.pf_liveline.specs.Judging.{AllSubmitted, AreRefused, HasCount, 
 use pf_base::{LiveEnd, NoMemory, ServerId, Slot, Term};
 use pf_disk::Disk;
 use pf_leadercell::LeaderPass;
+use pf_live::pf_shared::GroupSeat;
 use pf_live::{Host, LiveLine, Served, Standing};
-use pf_shared::GroupSeat;
 use std::sync::Wait;
 
 /// A live line between two runs of its threads: the group's first seat, and what its workers keep.

@@ -1,7 +1,7 @@
 //! A live line runs until it has come to an end.
 ghost use Rattle.std.specs.Prelude.{◌+◌, IfOk, IsTrue};
 ghost use Rattle.pf_turn.specs.Lists.{Begins};
-ghost use Rattle.pf_shared.specs.Seats.{root_in, seen_by};
+ghost use Rattle.pf_live.specs.pf_shared.specs.Seats.{root_in, seen_by};
 ghost use Rattle.pf_liveline.specs.Crews.{IsCrew};
 ghost use Rattle.pf_liveline.specs.Judging.{AllSubmitted, IsJudged, IsPublished};
 ghost use Rattle.pf_liveline.specs.Rounds.{HasRun, HasRunOn};

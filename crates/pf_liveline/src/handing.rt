@@ -2,9 +2,9 @@
 ghost use Rattle.std.specs.Prelude.{◌≡◌, ◌≢◌, ℕ, ◌<◌, IfOk, IsTrue, Some, slice_get, true};
 ghost use Rattle.pf_protocol.specs.declared.answers.Answer.TheVariants.{Refused};
 ghost use Rattle.pf_protocol.specs.declared.answers.Refusal.{Refusal};
-ghost use Rattle.pf_network.specs.Shown.{IsLeader};
-ghost use Rattle.pf_shared.specs.Seats.{root_in, seen_by};
-ghost use Rattle.pf_shared.specs.Since.{state_at};
+ghost use Rattle.pf_live.specs.pf_network.specs.Shown.{IsLeader};
+ghost use Rattle.pf_live.specs.pf_shared.specs.Seats.{root_in, seen_by};
+ghost use Rattle.pf_live.specs.pf_shared.specs.Since.{state_at};
 ghost use Rattle.pf_liveline.specs.Crews.{IsCrew};
 ghost use Rattle.pf_liveline.specs.Judging.{AllSubmitted, AreSubmitted, HasJudged, HasLooked, IsPublished, IsRefusedBy};
 

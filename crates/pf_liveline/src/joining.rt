@@ -2,13 +2,13 @@
 ghost use Rattle.std.specs.Prelude.{◌≡◌, ℕ, ◌-◌, ◌<◌};
 ghost use Rattle.pf_turn.specs.Lists.{Begins, entries_of};
 ghost use Rattle.pf_turn.specs.Own.{EachOf};
-ghost use Rattle.pf_shared.specs.Seats.{IsSeatOf, number_of, root_in, seen_by, splits_of};
+ghost use Rattle.pf_live.specs.pf_shared.specs.Seats.{IsSeatOf, number_of, root_in, seen_by, splits_of};
 ghost use Rattle.pf_liveline.specs.Joining.{IsJoining};
 ghost use Rattle.pf_liveline.specs.Runs.{IsSince};
 
 use pf_disk::Disk;
 use pf_live::Plan;
-use pf_shared::{GroupSeat, SharedGroup};
+use pf_live::pf_shared::{GroupSeat, SharedGroup};
 use std::snapshot::Snapshot;
 
 /// Takes in the next seat of a run. What its entries are is known from then on.

@@ -15,4 +15,6 @@ mod worker;
 pub use crew::Crew;
 pub use ending::run_to_end;
 pub use opening::{Passes, close, open};
+pub use pf_live;
+pub use pf_live::{pf_applyrounds, pf_group};
 pub use running::run;

@@ -1,14 +1,14 @@
 //! The workers of a run.
 ghost use Rattle.std.specs.Prelude.{◌≡◌, ◌+◌, ◌<◌, ◌≤◌, ◌^◌, [], vec_capacity, vec_len};
-ghost use Rattle.pf_shared.specs.Seats.{IsFirst, IsSeatOf, gone_of, out_of, seen_by, splits_of};
+ghost use Rattle.pf_live.specs.pf_shared.specs.Seats.{IsFirst, IsSeatOf, gone_of, out_of, seen_by, splits_of};
 ghost use Rattle.pf_liveline.specs.Crews.{IsCrew};
 ghost use Rattle.pf_liveline.specs.Mustered.{AreHosts, AreMustered};
 
 use crate::crew::Crew;
 use crate::worker::Worker;
 use pf_disk::Disk;
+use pf_live::pf_shared::GroupSeat;
 use pf_live::{Applier, Host, LiveLine, Submitter, Switch};
-use pf_shared::GroupSeat;
 use std::collections::VecDeque;
 use std::snapshot::Snapshot;
 

@@ -2,7 +2,7 @@
 ghost use Rattle.std.specs.Prelude.{◌≡◌, ◌+◌, ◌<◌, ◌≤◌, [], IfOk, false, vec_capacity};
 ghost use Rattle.pf_crew.specs.Places.{Each, Pairs};
 ghost use Rattle.pf_turn.specs.Lists.{Begins};
-ghost use Rattle.pf_shared.specs.Seats.{IsFirst, IsSeatOf, gone_of, out_of, seen_by, splits_of};
+ghost use Rattle.pf_live.specs.pf_shared.specs.Seats.{IsFirst, IsSeatOf, gone_of, out_of, seen_by, splits_of};
 ghost use Rattle.pf_liveline.specs.Crews.{AllEnded, IsCrew, IsLineSeat};
 ghost use Rattle.pf_liveline.specs.Mustered.{AreMustered};
 ghost use Rattle.pf_liveline.specs.Working.{IsSameWorker, IsWorker};
@@ -15,8 +15,8 @@ use crate::worker::{Worker, run_workers};
 use pf_base::NoMemory;
 use pf_copy::Gate;
 use pf_disk::Disk;
+use pf_live::pf_shared::GroupSeat;
 use pf_live::{Host, LiveLine, Plan, Served};
-use pf_shared::GroupSeat;
 use std::alloc::Global;
 use std::collections::VecDeque;
 use std::snapshot::Snapshot;

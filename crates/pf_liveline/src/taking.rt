@@ -1,8 +1,8 @@
 //! The workers of a run come back.
 ghost use Rattle.std.specs.Prelude.{◌≡◌, ℕ, ◌+◌, ◌-◌, ◌<◌, ◌≤◌, [], None, false, vec_capacity};
 ghost use Rattle.pf_turn.specs.Lists.{Begins, entries_of};
-ghost use Rattle.pf_shared.specs.Hands.{Key, hand_of};
-ghost use Rattle.pf_shared.specs.Seats.{IsFirst, IsSeatOf, gone_of, number_of, out_of, seen_by, splits_of};
+ghost use Rattle.pf_live.specs.pf_shared.specs.Hands.{Key, hand_of};
+ghost use Rattle.pf_live.specs.pf_shared.specs.Seats.{IsFirst, IsSeatOf, gone_of, number_of, out_of, seen_by, splits_of};
 ghost use Rattle.pf_live.specs.Roles.{EndsWith, nothing_free};
 ghost use Rattle.pf_live.specs.Workers.{IsApplier};
 ghost use Rattle.pf_liveline.specs.Crews.{IsLineSeat};
@@ -15,8 +15,8 @@ use crate::worker::Worker;
 use pf_copy::Gate;
 use pf_disk::Disk;
 use pf_leadercell::LeaderPass;
+use pf_live::pf_shared::GroupSeat;
 use pf_live::{Applier, Host, LiveLine, Served, Submitter, Switch};
-use pf_shared::GroupSeat;
 use std::collections::VecDeque;
 use std::snapshot::Snapshot;
 use std::sync::Wait;

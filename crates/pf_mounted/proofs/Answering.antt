@@ -21,9 +21,9 @@ use Rattle.pf_protocol.specs.Histories.{History, replay}
 use Rattle.pf_protocol.specs.Ports.{IsTarget, Submission}
 use Rattle.pf_ports.specs.Replies.{IsReplied, WasRead, WasWritten}
 use Rattle.pf_positions.specs.Deeds.{Deed, IsPending, PortAsk, PortReply, Put, Got, Puts, Submits, Takes, WasGot, WasPut}
-use Rattle.pf_chunk.specs.Runs.{ChunkRun}
+use Rattle.pf_world.specs.pf_chunk.specs.Runs.{ChunkRun}
 use Rattle.pf_volume.specs.Volumes.{Extent}
-use Rattle.pf_hosts.specs.Moments.{Heard, Moment, Hands, Turns}
+use Rattle.pf_world.specs.pf_hosts.specs.Moments.{Heard, Moment, Hands, Turns}
 use Rattle.pf_mounted.specs.Handing.{reached}
 use Rattle.pf_mounted.specs.Journals.{IsTurn, client_of, deeds, port_ask, port_reply, turn_steps}
 use Rattle.pf_mounted.specs.Mounts.{Life, last_ask, life_of, mount_in}

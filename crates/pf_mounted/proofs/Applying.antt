@@ -5,9 +5,9 @@ use Rattle.pf_entry.specs.declared.ops.Job.{Job}
 use Rattle.pf_protocol.specs.declared.answers.Answer.{Answer}
 use Rattle.pf_protocol.specs.declared.answers.Answer.TheVariants as answers
 use Rattle.pf_protocol.specs.declared.events.Event.TheVariants.{Claim, Finish}
-use Rattle.pf_applyrounds.specs.Halts.{Halt}
-use Rattle.pf_applyrounds.specs.Chunks.{Chunk, after, answered}
-use Rattle.pf_applyrounds.specs.Rounds.{Claims, applied, claim_on, claims_to, enough, finished, round, rounds_to}
+use Rattle.pf_world.specs.pf_applyrounds.specs.Halts.{Halt}
+use Rattle.pf_world.specs.pf_applyrounds.specs.Chunks.{Chunk, after, answered}
+use Rattle.pf_world.specs.pf_applyrounds.specs.Rounds.{Claims, applied, claim_on, claims_to, enough, finished, round, rounds_to}
 
 module _ (halts : List Halt) (P : Chunk → Type 0) (claimed : (c : Chunk) → P c → P (after halts c Claim)) (ended : (c : Chunk) (server life slot : ℕ) → P c → P (after halts c (Finish server life slot))) where
   claim : (answer : Answer) (c : Chunk) (more : Chunk → Claims) → P c → P (more c).chunk → P (claim_on answer c more).chunk

@@ -5,7 +5,7 @@ use Rattle.std.proofs.lemmas.Bool.{cases_eq, ne_eqb}
 use Rattle.std.proofs.lemmas.List.{append_assoc}
 use Rattle.std.proofs.lemmas.Option.{none-some, same_Some}
 use Rattle.pf_entry.specs.Lists.{Every}
-use Rattle.pf_hosts.specs.Moments.{Moment, Begins, Carries, Ends, Hands, Moves, Turns, Writes}
+use Rattle.pf_world.specs.pf_hosts.specs.Moments.{Moment, Begins, Carries, Ends, Hands, Moves, Turns, Writes}
 use Rattle.pf_mounted.specs.Epochs.{group_at, groups_in_turn, moved_to}
 use Rattle.pf_mounted.specs.Pasts.{is_at}
 use Rattle.pf_mounted.proofs.Epoching.{AreBegun, begun_until, group_stays, groups_on, next_group}

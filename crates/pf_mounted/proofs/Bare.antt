@@ -1,17 +1,17 @@
 -- A run in which the journal came to lie on three anchors, or no mount was made, tells nothing of mounts.
 use Rattle.std.proofs.Common.{◌≡◌, ◌⊎◌, ℕ, zero, suc, ◌<◌, inl, inr, List, [], ◌∷◌, ◌++◌, length, Option, Some, None, arith, refl, sym, ap, subst, ◌∙◌, length-append}
 use Rattle.std.proofs.lemmas.Option.{none-some}
-use Rattle.pf_network.proofs.Lists.{set_length}
+use Rattle.pf_ports.specs.pf_network.proofs.Lists.{set_length}
 use Rattle.pf_move.specs.Movers.{Step, step}
 use Rattle.pf_move.specs.Routes.{home_of}
-use Rattle.pf_applyrounds.specs.Halts.{Halt}
-use Rattle.pf_chunk.specs.Runs.{mover_port}
-use Rattle.pf_hosts.specs.Hosts.{HostIs, begun, drove, made_host, stepped}
-use Rattle.pf_hosts.specs.Moments.{Moment, Writes}
-use Rattle.pf_anchorhosts.specs.Hosts as over
-use Rattle.pf_fleet.specs.Volumes.{AnchoredHosts, Hosts, VolumeRun, carries_on, host_at, moves}
+use Rattle.pf_world.specs.pf_applyrounds.specs.Halts.{Halt}
+use Rattle.pf_world.specs.pf_chunk.specs.Runs.{mover_port}
+use Rattle.pf_world.specs.pf_hosts.specs.Hosts.{HostIs, begun, drove, made_host, stepped}
+use Rattle.pf_world.specs.pf_hosts.specs.Moments.{Moment, Writes}
+use Rattle.pf_world.specs.pf_anchorhosts.specs.Hosts as over
+use Rattle.pf_world.specs.pf_fleet.specs.Volumes.{AnchoredHosts, Hosts, VolumeRun, carries_on, host_at, moves}
 use Rattle.pf_world.specs.declared.kind.Kind.{Kind}
-use Rattle.pf_threads.specs.Sessions.{Session}
+use Rattle.pf_world.specs.pf_threads.specs.Sessions.{Session}
 use Rattle.pf_world.specs.declared.line.Line.{Line}
 use Rattle.pf_world.specs.Reports.{world_run}
 use Rattle.pf_mounted.specs.Scripts.{IsPlainRun, IsScript}

@@ -16,7 +16,7 @@ use Rattle.pf_entry.proofs.Lists.{every_append, every_more, set_cases}
 use Rattle.pf_protocol.specs.Answers.{IsLegal}
 use Rattle.pf_protocol.specs.Histories.{History, replay}
 use Rattle.pf_protocol.specs.Servers.{Setup}
-use Rattle.pf_network.proofs.Lists.{set_elsewhere, set_there}
+use Rattle.pf_ports.specs.pf_network.proofs.Lists.{set_elsewhere, set_there}
 use Rattle.pf_asks.specs.Ports.{IsOfKind, PortIs}
 use Rattle.pf_move.specs.declared.mover.Asked.{Asked}
 use Rattle.pf_move.specs.declared.mover.Asked.TheVariants.{Reading, Writing}
@@ -29,13 +29,13 @@ use Rattle.pf_move.specs.Routes as routes_of
 use Rattle.pf_ports.specs.Calls.{Past}
 use Rattle.pf_ports.specs.Driven.{IsDriven, Puts}
 use Rattle.pf_ports.specs.Replies.{IsReplied}
-use Rattle.pf_applyrounds.specs.Chunks.{Chunk}
-use Rattle.pf_applyrounds.specs.Halts.{Halt}
-use Rattle.pf_chunk.specs.Driving.{Driven, ask_after, asked, asked_at, driven}
-use Rattle.pf_chunk.specs.Runs.{ChunkRun, mover_port}
-use Rattle.pf_hosts.specs.Hosts.{Drove, drove, drove_as, drove_of, events_of, handed, put_at, run_after, with_run}
-use Rattle.pf_hosts.specs.Moments.{Begins, Carries, Ends, Hands, Heard, Moment, Moves as MovesTo, Turns, Writes}
-use Rattle.pf_fleet.specs.Volumes.{VolumeRun}
+use Rattle.pf_world.specs.pf_applyrounds.specs.Chunks.{Chunk}
+use Rattle.pf_world.specs.pf_applyrounds.specs.Halts.{Halt}
+use Rattle.pf_world.specs.pf_chunk.specs.Driving.{Driven, ask_after, asked, asked_at, driven}
+use Rattle.pf_world.specs.pf_chunk.specs.Runs.{ChunkRun, mover_port}
+use Rattle.pf_world.specs.pf_hosts.specs.Hosts.{Drove, drove, drove_as, drove_of, events_of, handed, put_at, run_after, with_run}
+use Rattle.pf_world.specs.pf_hosts.specs.Moments.{Begins, Carries, Ends, Hands, Heard, Moment, Moves as MovesTo, Turns, Writes}
+use Rattle.pf_world.specs.pf_fleet.specs.Volumes.{VolumeRun}
 use Rattle.pf_world.specs.declared.kind.Kind.{Kind}
 use Rattle.pf_mounted.specs.Carrying.{asked_of}
 use Rattle.pf_mounted.specs.Epochs.{epoch_of, group_at, serving}

@@ -10,21 +10,21 @@ use Rattle.pf_volume.specs.Volumes.{Extent}
 use Rattle.pf_mount.specs.declared.work.Next.{Next}
 use Rattle.pf_mount.specs.declared.work.Next.TheVariants.{Ask as Asks, Ready, Done}
 use Rattle.pf_mount.specs.Mounts.{MountIs, Outcome, answered, opening, starting}
-use Rattle.pf_applyrounds.specs.Halts.{Halt}
-use Rattle.pf_chunk.specs.Runs.{ChunkRun, mover_port}
-use Rattle.pf_hosts.specs.Moments.{Begins, Carries, Ends, Hands, Heard, Moment, Moves as MovesTo, Turns, Writes}
-use Rattle.pf_hosts.specs.Hosts.{Drove, HostIs, Stepped, begun, call_of, comes_of, drove, events_of, group_of, hands_on, hands_to, next_of, number_of, replied, stepped, stepped_at}
-use Rattle.pf_hosts.proofs.Machine.{starting_keeps}
+use Rattle.pf_world.specs.pf_applyrounds.specs.Halts.{Halt}
+use Rattle.pf_world.specs.pf_chunk.specs.Runs.{ChunkRun, mover_port}
+use Rattle.pf_world.specs.pf_hosts.specs.Moments.{Begins, Carries, Ends, Hands, Heard, Moment, Moves as MovesTo, Turns, Writes}
+use Rattle.pf_world.specs.pf_hosts.specs.Hosts.{Drove, HostIs, Stepped, begun, call_of, comes_of, drove, events_of, group_of, hands_on, hands_to, next_of, number_of, replied, stepped, stepped_at}
+use Rattle.pf_world.specs.pf_hosts.proofs.Machine.{starting_keeps}
 use Rattle.pf_world.specs.Reports.{world_run}
 use Rattle.pf_world.specs.Worlds.{made}
-use Rattle.pf_threads.specs.Sessions.{Session}
+use Rattle.pf_world.specs.pf_threads.specs.Sessions.{Session}
 use Rattle.pf_world.specs.declared.line.Line.{Line}
 use Rattle.pf_move.specs.declared.mover.MoveNext.{MoveNext}
 use Rattle.pf_move.specs.declared.mover.MoveNext.TheVariants.{Read, Switch, Write}
 use Rattle.pf_move.specs.Movers.{MoverIs, Step, new_mover, step}
 use Rattle.pf_move.specs.Routes.{RoutesIs, home_of}
-use Rattle.pf_fleet.specs.Volumes.{VolumeRun, carries, moved_from, mover_group, moves_from}
-use Rattle.pf_fleet.specs.Volumes as volumes
+use Rattle.pf_world.specs.pf_fleet.specs.Volumes.{VolumeRun, carries, moved_from, mover_group, moves_from}
+use Rattle.pf_world.specs.pf_fleet.specs.Volumes as volumes
 use Rattle.pf_mounted.specs.Mounts.{last_ask, life_of}
 use Rattle.pf_mounted.specs.Scripts.{IsPlainRun}
 use Rattle.pf_mounted.proofs.Each.{AreEach, all_more, each_at, none_told, one_more}

@@ -9,11 +9,11 @@ use Rattle.pf_paxos.specs.Journals.{AreAllRegisters}
 use Rattle.pf_epochs.proofs.Positions.{routed_journal}
 use Rattle.pf_journal.specs.Sectors.{block_in}
 use Rattle.pf_mount.specs.Mounts.{MountIs}
-use Rattle.pf_hosts.specs.Moments.{Moment, Begins, Ends}
-use Rattle.pf_applyrounds.specs.Halts.{Halt}
+use Rattle.pf_world.specs.pf_hosts.specs.Moments.{Moment, Begins, Ends}
+use Rattle.pf_world.specs.pf_applyrounds.specs.Halts.{Halt}
 use Rattle.pf_world.specs.Headline.{IsLawfulRun}
 use Rattle.pf_world.specs.Reports.{world_run}
-use Rattle.pf_threads.specs.Sessions.{Session}
+use Rattle.pf_world.specs.pf_threads.specs.Sessions.{Session}
 use Rattle.pf_world.specs.declared.line.Line.{Line}
 use Rattle.pf_mounted.specs.Hosted.{groups_of}
 use Rattle.pf_mounted.specs.Journals.{deeds, doings}

@@ -13,9 +13,9 @@ use Rattle.pf_entry.specs.declared.ops.Op.{Op}
 use Rattle.pf_entry.specs.declared.ops.Op.TheVariants as ops
 use Rattle.pf_protocol.specs.Groups.{Answered}
 use Rattle.pf_positions.specs.Deeds.{Acks, Brings, BringsBy, Deed, Got, Hands as HandsOn, IsOfEpoch, PortAsk, PortReply, Put, Puts, Reads, Submits, Takes}
-use Rattle.pf_chunk.specs.Runs.{ChunkRun}
+use Rattle.pf_world.specs.pf_chunk.specs.Runs.{ChunkRun}
 use Rattle.pf_volume.specs.Volumes.{Extent}
-use Rattle.pf_hosts.specs.Moments.{Heard, Moment, Hands, Turns}
+use Rattle.pf_world.specs.pf_hosts.specs.Moments.{Heard, Moment, Hands, Turns}
 use Rattle.pf_mounted.specs.Handing.{reach_at, reached}
 use Rattle.pf_mounted.specs.Journals.{client_of, deeds, port_ask, port_reply}
 use Rattle.pf_mounted.specs.Epochs.{epoch_of, group_at, serving}

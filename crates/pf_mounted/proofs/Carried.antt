@@ -20,8 +20,8 @@ use Rattle.pf_move.specs.declared.mover.Asked.{Asked}
 use Rattle.pf_move.specs.declared.mover.Asked.TheVariants.{Reading, Writing}
 use Rattle.pf_move.specs.declared.mover.MoveNext.{MoveNext}
 use Rattle.pf_move.specs.declared.mover.MoveNext.TheVariants.{Read, Write, Switch}
-use Rattle.pf_chunk.specs.Runs.{mover_port}
-use Rattle.pf_hosts.specs.Moments.{Begins, Carries, Ends, Hands, Moment, Moves, Turns, Writes}
+use Rattle.pf_world.specs.pf_chunk.specs.Runs.{mover_port}
+use Rattle.pf_world.specs.pf_hosts.specs.Moments.{Begins, Carries, Ends, Hands, Moment, Moves, Turns, Writes}
 use Rattle.pf_mounted.specs.Pasts.{MoverTrace, Trace, at_carry, carrying, first_chunk, handed_at, handed_by, is_at, mover_trace, moves_into, no_moves, no_trace, numbered, trace_in, with_port}
 use Rattle.pf_mounted.proofs.Lives.{not_its_own}
 use Rattle.pf_mounted.proofs.Placing.{at_seam, by_ends, get_either, get_first, only_one, some_within}

@@ -22,7 +22,7 @@ use Rattle.pf_mount.specs.declared.work.Work.{Work}
 use Rattle.pf_mount.specs.declared.work.Work.TheVariants.{Ballots}
 use Rattle.pf_mount.specs.Decisions.{decided_by, decided_in}
 use Rattle.pf_mount.specs.Mounts.{MountIs, blocks_in, finds_value, is_gathering_high}
-use Rattle.pf_hosts.specs.Moments.{Moment}
+use Rattle.pf_world.specs.pf_hosts.specs.Moments.{Moment}
 use Rattle.pf_mounted.specs.Finding.{HasFound, HasPutIn}
 use Rattle.pf_mounted.specs.Mounts.{Life, last_ask, life_of, mount_after, mount_in}
 use Rattle.pf_mounted.specs.Journals.{AreOfMounts, CanBeDoings, doings}

@@ -23,7 +23,7 @@ use Rattle.pf_entry.specs.Sets.{empty}
 use Rattle.pf_ports.specs.Replies.{IsReplied, WasRead as ReadBack, WasWritten as WrittenBack}
 use Rattle.pf_entry.specs.declared.ops.Op.{Op}
 use Rattle.pf_entry.specs.declared.ops.Op.TheVariants.{Write}
-use Rattle.pf_network.proofs.Lists.{something_there}
+use Rattle.pf_ports.specs.pf_network.proofs.Lists.{something_there}
 use Rattle.pf_protocol.specs.declared.answers.Answer.{Answer}
 use Rattle.pf_protocol.specs.declared.answers.Answer.TheVariants.{Read as ReadIs}
 use Rattle.pf_protocol.specs.Answers.{IsLegal}
@@ -41,10 +41,10 @@ use Rattle.pf_move.specs.declared.mover.MoveNext.{MoveNext}
 use Rattle.pf_move.specs.declared.mover.MoveNext.TheVariants as nexts
 use Rattle.pf_move.specs.Movers.{MoverIs, new_mover, piece}
 use Rattle.pf_move.specs.Turns.{Copy, Turn, Turns as AreTurns, answers, given, is_switched, written}
-use Rattle.pf_chunk.specs.Driving.{event_of_ask}
-use Rattle.pf_chunk.specs.Runs.{ChunkRun, mover_port}
+use Rattle.pf_world.specs.pf_chunk.specs.Driving.{event_of_ask}
+use Rattle.pf_world.specs.pf_chunk.specs.Runs.{ChunkRun, mover_port}
 use Rattle.pf_volume.specs.Volumes.{Extent, IsVolume}
-use Rattle.pf_hosts.specs.Moments.{Carries, Hands, Heard, Moment, Turns}
+use Rattle.pf_world.specs.pf_hosts.specs.Moments.{Carries, Hands, Heard, Moment, Turns}
 use Rattle.pf_mounted.specs.Carrying.{asked_of, moves_of, turn_of}
 use Rattle.pf_mounted.specs.Epochs.{epoch_of, group_at, groups_in_turn, moved_to, serving}
 use Rattle.pf_mounted.specs.Journals.{deeds}

@@ -10,7 +10,7 @@ use Rattle.pf_entry.proofs.Cases.{by_test}
 use Rattle.pf_entry.proofs.Lists.{every_append, every_more}
 use Rattle.pf_script.specs.declared.command.Command.{Command}
 use Rattle.pf_script.specs.declared.command.Command.TheVariants as commands
-use Rattle.pf_group.specs.Packets.{is_passed_over}
+use Rattle.pf_world.specs.pf_group.specs.Packets.{is_passed_over}
 use Rattle.pf_volume.specs.Volumes.{Extent, size_of}
 use Rattle.pf_tree.specs.declared.calls.FileCall.{FileCall}
 use Rattle.pf_files.specs.Calls.{WorkIs}
@@ -18,28 +18,28 @@ use Rattle.pf_mount.specs.declared.work.Next.{Next}
 use Rattle.pf_mount.specs.declared.work.Next.TheVariants.{Ask as Asks, Ready, Done}
 use Rattle.pf_mount.specs.Mounts.{MountIs, Outcome, answered, opening, starting}
 use Rattle.pf_report.specs.Mounts.{mount_text, started_text}
-use Rattle.pf_applyrounds.specs.Chunks.{Chunk}
-use Rattle.pf_applyrounds.specs.Halts.{Halt}
-use Rattle.pf_chunk.specs.Asking.{fetches, is_range, submits}
-use Rattle.pf_chunk.specs.Happenings.{Happened}
-use Rattle.pf_chunk.specs.Lending.{all_happened}
-use Rattle.pf_chunk.specs.Runs.{ChunkRun}
-use Rattle.pf_hosts.specs.Moments.{Begins, Carries, Ends, Hands, Heard, Moment, Moves as MovesTo, Turns, Writes}
-use Rattle.pf_hosts.specs.Hosts.{Drove, HostIs, Stepped, call_of, comes_of, drove, events_of, group_of, hands_on, hands_to, next_of, number_of, replied, stepped, stepped_at}
-use Rattle.pf_hosts.specs.Words.{read_call}
-use Rattle.pf_anchorhosts.specs.Hosts.{AnchoredHostIs}
-use Rattle.pf_anchorhosts.specs.Hosts as over
-use Rattle.pf_fleet.specs.Settling.{Goes, Name, delivered, enough_tries, goes_on, name_of, settle_next, settle_to, settled}
-use Rattle.pf_fleet.specs.Settling as settling_specs
-use Rattle.pf_fleet.specs.Volumes.{AnchoredHosts, VolumeRun, all_step, anchored_at, anchored_hosts_step, begins, begins_over, happens, host_at, host_steps, hosts_step, mount_count, mounts, mounts_in, mover_steps, moves, quietly, step_of, these_step}
-use Rattle.pf_fleet.specs.Volumes as volumes
+use Rattle.pf_world.specs.pf_applyrounds.specs.Chunks.{Chunk}
+use Rattle.pf_world.specs.pf_applyrounds.specs.Halts.{Halt}
+use Rattle.pf_world.specs.pf_chunk.specs.Asking.{fetches, is_range, submits}
+use Rattle.pf_world.specs.pf_chunk.specs.Happenings.{Happened}
+use Rattle.pf_world.specs.pf_chunk.specs.Lending.{all_happened}
+use Rattle.pf_world.specs.pf_chunk.specs.Runs.{ChunkRun}
+use Rattle.pf_world.specs.pf_hosts.specs.Moments.{Begins, Carries, Ends, Hands, Heard, Moment, Moves as MovesTo, Turns, Writes}
+use Rattle.pf_world.specs.pf_hosts.specs.Hosts.{Drove, HostIs, Stepped, call_of, comes_of, drove, events_of, group_of, hands_on, hands_to, next_of, number_of, replied, stepped, stepped_at}
+use Rattle.pf_world.specs.pf_hosts.specs.Words.{read_call}
+use Rattle.pf_world.specs.pf_anchorhosts.specs.Hosts.{AnchoredHostIs}
+use Rattle.pf_world.specs.pf_anchorhosts.specs.Hosts as over
+use Rattle.pf_world.specs.pf_fleet.specs.Settling.{Goes, Name, delivered, enough_tries, goes_on, name_of, settle_next, settle_to, settled}
+use Rattle.pf_world.specs.pf_fleet.specs.Settling as settling_specs
+use Rattle.pf_world.specs.pf_fleet.specs.Volumes.{AnchoredHosts, VolumeRun, all_step, anchored_at, anchored_hosts_step, begins, begins_over, happens, host_at, host_steps, hosts_step, mount_count, mounts, mounts_in, mover_steps, moves, quietly, step_of, these_step}
+use Rattle.pf_world.specs.pf_fleet.specs.Volumes as volumes
 use Rattle.pf_script.specs.Lines.{group_of as group_of_line}
 use Rattle.pf_move.specs.Routes.{RoutesIs, home_of}
 use Rattle.pf_report.specs.Moves.{moving_text}
 use Rattle.pf_mounted.proofs.Hauling.{mover_quiet, moves_quiet}
 use Rattle.pf_world.specs.declared.kind.Kind.{Kind}
 use Rattle.pf_world.specs.declared.kind.Kind.TheVariants.{Mounted, Raw}
-use Rattle.pf_threads.specs.Sessions.{Session, next_session}
+use Rattle.pf_world.specs.pf_threads.specs.Sessions.{Session, next_session}
 use Rattle.pf_world.specs.declared.line.Line.{Line}
 use Rattle.pf_world.specs.Worlds.{World, at_chunk, refused_text, said_only, told_of}
 use Rattle.pf_world.specs.Worlds as worlds

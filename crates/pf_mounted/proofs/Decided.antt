@@ -15,7 +15,7 @@ use Rattle.pf_volume.specs.Volumes.{Extent, size_of}
 use Rattle.pf_files.specs.Calls.{WorkIs, applied_in}
 use Rattle.pf_mount.specs.Mounts.{MountIs}
 use Rattle.pf_mount.specs.Decisions.{decided_by, tables_by, upto_by}
-use Rattle.pf_hosts.specs.Moments.{Begins, Carries, Ends, Hands, Heard, Moment, Moves as MovesTo, Turns, Writes}
+use Rattle.pf_world.specs.pf_hosts.specs.Moments.{Begins, Carries, Ends, Hands, Heard, Moment, Moves as MovesTo, Turns, Writes}
 use Rattle.pf_mounted.specs.Mounts.{Life, after_txns, calling, values_in, decisions, hearing, life_of, lived, mount_after, mount_in, tables_from, turned, txns_in}
 use Rattle.pf_mounted.proofs.Changing.{answered_keeps, starting_keeps}
 

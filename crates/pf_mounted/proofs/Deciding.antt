@@ -7,11 +7,11 @@ use Rattle.std.proofs.lemmas.List.{append_assoc}
 use Rattle.std.proofs.lemmas.Option.{none-some}
 use Rattle.pf_base.specs.declared.asks.Ask.{Ask}
 use Rattle.pf_entry.proofs.Cases.{by_test}
-use Rattle.pf_network.proofs.Lists.{end_cases}
+use Rattle.pf_ports.specs.pf_network.proofs.Lists.{end_cases}
 use Rattle.pf_tree.specs.declared.calls.FileCall.{FileCall}
 use Rattle.pf_volume.specs.Volumes.{Extent}
 use Rattle.pf_mount.specs.Decisions.{decided_by}
-use Rattle.pf_hosts.specs.Moments.{Begins, Carries, Ends, Hands, Heard, Moment, Moves as MovesTo, Turns, Writes}
+use Rattle.pf_world.specs.pf_hosts.specs.Moments.{Begins, Carries, Ends, Hands, Heard, Moment, Moves as MovesTo, Turns, Writes}
 use Rattle.pf_mounted.specs.Mounts.{HasDecided, IsLonger, Life, calling, values_in, decisions, life_of, lived, mount_in, turned}
 use Rattle.pf_mounted.proofs.Lives.{life_on}
 use Rattle.pf_mounted.proofs.Decided.{AreDecided, all_decided}

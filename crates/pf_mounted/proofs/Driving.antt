@@ -12,7 +12,7 @@ use Rattle.pf_entry.specs.Lists.{Every}
 use Rattle.pf_entry.specs.declared.ops.Op.TheVariants.{Write}
 use Rattle.pf_entry.proofs.Cases.{by_test}
 use Rattle.pf_entry.proofs.Lists.{every_append}
-use Rattle.pf_network.proofs.Lists.{at_end, at_front, set_there}
+use Rattle.pf_ports.specs.pf_network.proofs.Lists.{at_end, at_front, set_there}
 use Rattle.pf_protocol.specs.declared.answers.Answer.{Answer}
 use Rattle.pf_protocol.specs.declared.events.Event.{Event}
 use Rattle.pf_protocol.specs.declared.events.Event.TheVariants.{Fetch, Submit}
@@ -27,13 +27,13 @@ use Rattle.pf_asks.specs.Desks.{Fetched, Submitted}
 use Rattle.pf_asks.specs.Ports.{PortIs, answered as answered_port, goes_to}
 use Rattle.pf_ports.specs.Calls.{Past, fetching_of, number_in, slot_in, submission_of, with_read, with_write}
 use Rattle.pf_ports.specs.Driven.{IsDriven, IsStep, Others, Steps}
-use Rattle.pf_applyrounds.specs.Halts.{Halt}
-use Rattle.pf_applyrounds.specs.Chunks.{after, answered, listed}
-use Rattle.pf_chunk.specs.Asks.{leader_of, reply_to}
-use Rattle.pf_chunk.specs.Driving.{Driven, driven, driven_at, driven_for, event_of_ask, handed_to, idle, led_to, replied, sent_of, with_port}
-use Rattle.pf_chunk.specs.Runs.{ChunkRun, mover_port}
-use Rattle.pf_hosts.specs.Hosts.{handed}
-use Rattle.pf_hosts.specs.Moments.{Hands, Moment, Writes}
+use Rattle.pf_world.specs.pf_applyrounds.specs.Halts.{Halt}
+use Rattle.pf_world.specs.pf_applyrounds.specs.Chunks.{after, answered, listed}
+use Rattle.pf_world.specs.pf_chunk.specs.Asks.{leader_of, reply_to}
+use Rattle.pf_world.specs.pf_chunk.specs.Driving.{Driven, driven, driven_at, driven_for, event_of_ask, handed_to, idle, led_to, replied, sent_of, with_port}
+use Rattle.pf_world.specs.pf_chunk.specs.Runs.{ChunkRun, mover_port}
+use Rattle.pf_world.specs.pf_hosts.specs.Hosts.{handed}
+use Rattle.pf_world.specs.pf_hosts.specs.Moments.{Hands, Moment, Writes}
 use Rattle.pf_mounted.specs.Pasts.{MoverTrace, Trace, handed_at, handed_by, mover_trace, moves_into, past_in, past_of, trace_in, trace_of, with_port as with_port_of}
 use Rattle.pf_mounted.proofs.Growing.{after_grows, after_history, followed_grows, followed_ports}
 use Rattle.pf_mounted.proofs.Handovers.{IsHandedAt, IsHandedIf, driven_hands}

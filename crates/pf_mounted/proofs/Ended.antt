@@ -6,7 +6,7 @@ use Rattle.std.proofs.lemmas.Bool.{eq-eqb, eqb-true}
 use Rattle.std.proofs.lemmas.List.{append_assoc}
 use Rattle.std.proofs.lemmas.Option.{none-some, same_Some}
 use Rattle.pf_base.specs.declared.asks.Ask.{Ask}
-use Rattle.pf_network.proofs.Lists.{at_end, at_front}
+use Rattle.pf_ports.specs.pf_network.proofs.Lists.{at_end, at_front}
 use Rattle.pf_entry.proofs.Cases.{by_test}
 use Rattle.pf_protocol.specs.Groups.{Answered}
 use Rattle.pf_volume.specs.Volumes.{Extent, IsVolume}
@@ -20,7 +20,7 @@ use Rattle.pf_mount.specs.declared.work.Next.{Next}
 use Rattle.pf_mount.specs.declared.work.Next.TheVariants.{Ask as Asks, Ready, Done}
 use Rattle.pf_mount.specs.declared.work.Work.{Work}
 use Rattle.pf_mount.specs.declared.work.Work.TheVariants.{Rests, Fails, ReadsSuper, WritesSuper, Syncs, Ballots, Pauses, Moves}
-use Rattle.pf_hosts.specs.Moments.{Begins, Carries, Ends, Hands, Heard, Moment, Moves as MovesTo, Turns, Writes}
+use Rattle.pf_world.specs.pf_hosts.specs.Moments.{Begins, Carries, Ends, Hands, Heard, Moment, Moves as MovesTo, Turns, Writes}
 use Rattle.pf_mounted.specs.Handing.{AreCallsOfWords}
 use Rattle.pf_mounted.specs.Exchanges.{Exchange, exchange, exchanged, exchanges, exchanges_from}
 use Rattle.pf_mounted.specs.Journals.{AreOfMounts, CanBegin, HasBegun, IsOfMount, IsTurn}

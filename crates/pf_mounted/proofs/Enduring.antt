@@ -3,11 +3,11 @@ use Rattle.std.proofs.Common.{◌≡◌, ◌≢◌, ℕ, ◌<◌, List, ◌++◌
 use Rattle.pf_volume.specs.Volumes.{IsVolume}
 use Rattle.pf_mount.specs.Mounts.{MountIs}
 use Rattle.pf_mount.specs.declared.work.Work.TheVariants.{Fails}
-use Rattle.pf_hosts.specs.Moments.{Moment}
-use Rattle.pf_applyrounds.specs.Halts.{Halt}
+use Rattle.pf_world.specs.pf_hosts.specs.Moments.{Moment}
+use Rattle.pf_world.specs.pf_applyrounds.specs.Halts.{Halt}
 use Rattle.pf_world.specs.Headline.{IsLawfulRun}
 use Rattle.pf_world.specs.Reports.{world_run}
-use Rattle.pf_threads.specs.Sessions.{Session}
+use Rattle.pf_world.specs.pf_threads.specs.Sessions.{Session}
 use Rattle.pf_world.specs.declared.line.Line.{Line}
 use Rattle.pf_mounted.specs.Mounts.{life_of, mount_after}
 use Rattle.pf_mounted.specs.Scripts.{IsPlainRun}

@@ -6,11 +6,11 @@ use Rattle.std.proofs.lemmas.Grind.{flat_map-append, fold-append}
 use Rattle.std.proofs.lemmas.List.{append_assoc}
 use Rattle.std.proofs.lemmas.Option.{none-some, same_Some}
 use Rattle.pf_entry.proofs.Cases.{by_test}
-use Rattle.pf_network.proofs.Lists.{something_there}
+use Rattle.pf_ports.specs.pf_network.proofs.Lists.{something_there}
 use Rattle.pf_move.specs.declared.mover.MoveNext.{MoveNext}
 use Rattle.pf_move.specs.declared.mover.MoveNext.TheVariants.{Read, Write, Switch}
-use Rattle.pf_chunk.specs.Runs.{ChunkRun}
-use Rattle.pf_hosts.specs.Moments.{Heard, Moment, Begins, Carries, Ends, Hands, Moves, Turns, Writes}
+use Rattle.pf_world.specs.pf_chunk.specs.Runs.{ChunkRun}
+use Rattle.pf_world.specs.pf_hosts.specs.Moments.{Heard, Moment, Begins, Carries, Ends, Hands, Moves, Turns, Writes}
 use Rattle.pf_mounted.specs.Epochs.{Home, epoch_of, group_at, groups_in_turn, home_from, home_of, is_switch, moved_to}
 use Rattle.pf_mounted.specs.Movers.{IsAtRest, IsOnTheMove}
 use Rattle.pf_mounted.proofs.Lives.{its_own, not_its_own}

@@ -24,7 +24,7 @@ use Rattle.pf_positions.proofs.Volumes.{turns_told}
 use Rattle.pf_journal.specs.Sectors.{block_in}
 use Rattle.pf_mount.specs.declared.work.Work.TheVariants.{Ballots}
 use Rattle.pf_mount.specs.Mounts.{MountIs}
-use Rattle.pf_hosts.specs.Moments.{Heard, Moment}
+use Rattle.pf_world.specs.pf_hosts.specs.Moments.{Heard, Moment}
 use Rattle.pf_mounted.specs.Mounts.{Life, last_ask, life_of}
 use Rattle.pf_mounted.specs.Journals.{AreOfMounts, CanBeDoings, CanBeTold, IsHearing, call_of, deeds, doings, port_reply}
 use Rattle.pf_mounted.proofs.Balloting.{is_move, made, replies}

@@ -9,7 +9,7 @@ use Rattle.pf_tree.specs.declared.calls.FileCall.{FileCall}
 use Rattle.pf_files.specs.declared.answers.CallAnswer.{CallAnswer}
 use Rattle.pf_paxos.specs.Journals.{AreAllRegisters, IsTransactionList}
 use Rattle.pf_mount.specs.Mounts.{MountIs}
-use Rattle.pf_hosts.specs.Moments.{Moment, Begins, Ends}
+use Rattle.pf_world.specs.pf_hosts.specs.Moments.{Moment, Begins, Ends}
 use Rattle.pf_mounted.specs.Finding.{HasPutIn}
 use Rattle.pf_mounted.specs.Journals.{AreOfMounts, CanBeDoings, doings}
 use Rattle.pf_mounted.specs.Late.{AreEndsTold, IsPlanned}

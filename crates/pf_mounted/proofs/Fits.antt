@@ -8,10 +8,10 @@ use Rattle.pf_base.specs.declared.asks.Ask.{Ask}
 use Rattle.pf_entry.proofs.Cases.{by_test}
 use Rattle.pf_protocol.specs.Groups.{Answered}
 use Rattle.pf_positions.specs.Deeds.{Acks, Brings, Deed, Fits, Got, Groups, Hands as HandsOn, PortAsk, PortReply, Put, Reads, Submits, Takes}
-use Rattle.pf_chunk.specs.Runs.{ChunkRun}
+use Rattle.pf_world.specs.pf_chunk.specs.Runs.{ChunkRun}
 use Rattle.pf_volume.specs.Volumes.{Extent}
 use Rattle.pf_mount.specs.Mounts.{answered}
-use Rattle.pf_hosts.specs.Moments.{Heard, Moment, Moves, Turns}
+use Rattle.pf_world.specs.pf_hosts.specs.Moments.{Heard, Moment, Moves, Turns}
 use Rattle.pf_paxos.specs.Journals.{Does}
 use Rattle.pf_mounted.specs.Fitting.{IsOfRun}
 use Rattle.pf_mounted.specs.Hosted.{groups_of}

@@ -15,12 +15,12 @@ use Rattle.pf_protocol.specs.Answers.{IsLegal}
 use Rattle.pf_protocol.specs.Groups.{Answered}
 use Rattle.pf_protocol.specs.Histories.{History, replay}
 use Rattle.pf_protocol.specs.Servers.{Setup}
-use Rattle.pf_network.proofs.Lists.{at_end, at_front}
-use Rattle.pf_group.specs.GroupIs.{GroupIs}
+use Rattle.pf_ports.specs.pf_network.proofs.Lists.{at_end, at_front}
+use Rattle.pf_world.specs.pf_group.specs.GroupIs.{GroupIs}
 use Rattle.pf_ports.specs.Calls.{Past, fetching}
 use Rattle.pf_ports.specs.Replies.{IsReplied, WasRead}
-use Rattle.pf_chunk.specs.Views.{IsFetched}
-use Rattle.pf_chunk.proofs.Counted.{counted}
+use Rattle.pf_world.specs.pf_chunk.specs.Views.{IsFetched}
+use Rattle.pf_world.specs.pf_chunk.proofs.Counted.{counted}
 
 -- an answered read has as many sectors as its range, as if its answer was not handed out before
 whole_read : (setup : Setup) (history : History) → IsLegal setup history → (number : ℕ) (range : Span) → IsFetched history number range → (k : ℕ) (a : Answered) → slice_get (replay setup history).answered k ≡ Some a → a.number ≡ number

@@ -27,7 +27,7 @@ use Rattle.pf_mount.specs.Decisions.{decided_by, decided_in, value_in}
 use Rattle.pf_mount.specs.declared.work.Work.{Work}
 use Rattle.pf_mount.specs.declared.work.Work.TheVariants.{Rests, Fails, ReadsSuper, WritesSuper, Syncs, Ballots, Pauses, Moves}
 use Rattle.pf_mount.specs.Mounts.{MountIs, Outcome, answered, blocks_in}
-use Rattle.pf_hosts.specs.Moments.{Heard}
+use Rattle.pf_world.specs.pf_hosts.specs.Moments.{Heard}
 use Rattle.pf_mounted.specs.Mounts.{Life, ask_in, hearing}
 use Rattle.pf_mounted.specs.Journals.{CanBeTold, CanTurn, FindsValue, IsAnswerOf, IsHearing, Step, asking, asks_on, ballot_next, call_of, client_of, hearing_steps, hears, port_ask, port_reply, stays_in}
 use Rattle.pf_mounted.proofs.Coming.{BeginsFrom, Comes, HasRoom, Pends, ballot_ask}

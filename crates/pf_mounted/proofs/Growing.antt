@@ -8,14 +8,14 @@ use Rattle.pf_protocol.specs.declared.events.Event.TheVariants as events
 use Rattle.pf_protocol.specs.Groups.{ending, happens}
 use Rattle.pf_protocol.specs.Histories.{IsPrefix, replay}
 use Rattle.pf_protocol.proofs.ForMoments.{prefix_of, replay_goes_on, whole_prefix}
-use Rattle.pf_applyrounds.specs.Halts.{Halt}
-use Rattle.pf_applyrounds.specs.Chunks.{Chunk, after, answered, listed}
-use Rattle.pf_applyrounds.specs.Rounds.{applied}
-use Rattle.pf_chunk.specs.Asking.{fetched}
-use Rattle.pf_chunk.specs.Happenings.{followed, happened}
-use Rattle.pf_chunk.specs.Lending.{after_all, all_happened}
-use Rattle.pf_chunk.specs.Runs.{ChunkRun}
-use Rattle.pf_chunk.proofs.Begun.{filled_group}
+use Rattle.pf_world.specs.pf_applyrounds.specs.Halts.{Halt}
+use Rattle.pf_world.specs.pf_applyrounds.specs.Chunks.{Chunk, after, answered, listed}
+use Rattle.pf_world.specs.pf_applyrounds.specs.Rounds.{applied}
+use Rattle.pf_world.specs.pf_chunk.specs.Asking.{fetched}
+use Rattle.pf_world.specs.pf_chunk.specs.Happenings.{followed, happened}
+use Rattle.pf_world.specs.pf_chunk.specs.Lending.{after_all, all_happened}
+use Rattle.pf_world.specs.pf_chunk.specs.Runs.{ChunkRun}
+use Rattle.pf_world.specs.pf_chunk.proofs.Begun.{filled_group}
 use Rattle.pf_mounted.proofs.Applying.{all_applied}
 
 pub record Grows (c d : Chunk) : Type 0 where

@@ -9,12 +9,12 @@ use Rattle.pf_protocol.specs.declared.events.Event.{Event}
 use Rattle.pf_protocol.specs.declared.events.Happening.{Happening}
 use Rattle.pf_protocol.specs.Histories.{History}
 use Rattle.pf_asks.specs.Ports.{PortIs, goes_to}
-use Rattle.pf_network.proofs.Lists.{at_end, at_front}
-use Rattle.pf_applyrounds.specs.Halts.{Halt}
-use Rattle.pf_applyrounds.specs.Chunks.{after, answered, listed}
-use Rattle.pf_chunk.specs.Asks.{leader_of, reply_to}
-use Rattle.pf_chunk.specs.Driving.{Driven, driven, driven_at, driven_for, event_of_ask, handed_to, idle, led_to, replied, sent_of, with_port}
-use Rattle.pf_chunk.specs.Runs.{ChunkRun}
+use Rattle.pf_ports.specs.pf_network.proofs.Lists.{at_end, at_front}
+use Rattle.pf_world.specs.pf_applyrounds.specs.Halts.{Halt}
+use Rattle.pf_world.specs.pf_applyrounds.specs.Chunks.{after, answered, listed}
+use Rattle.pf_world.specs.pf_chunk.specs.Asks.{leader_of, reply_to}
+use Rattle.pf_world.specs.pf_chunk.specs.Driving.{Driven, driven, driven_at, driven_for, event_of_ask, handed_to, idle, led_to, replied, sent_of, with_port}
+use Rattle.pf_world.specs.pf_chunk.specs.Runs.{ChunkRun}
 use Rattle.pf_mounted.proofs.Growing.{after_history, followed_grows}
 use Rattle.pf_mounted.proofs.Writing.{AddsNoWrite, happened_adds_one}
 

@@ -8,12 +8,12 @@ use Rattle.pf_move.specs.declared.mover.MoveNext.{MoveNext}
 use Rattle.pf_move.specs.declared.mover.MoveNext.TheVariants.{Read, Switch, Write}
 use Rattle.pf_move.specs.Movers.{MoverIs, Step, is_zero, new_mover, piece, reads_on, step}
 use Rattle.pf_entry.proofs.Lists.{every_append}
-use Rattle.pf_applyrounds.specs.Halts.{Halt}
-use Rattle.pf_chunk.specs.Runs.{ChunkRun, mover_port}
-use Rattle.pf_hosts.specs.Hosts.{Drove, drove, events_of}
-use Rattle.pf_hosts.specs.Moments.{Heard, Moment}
-use Rattle.pf_fleet.specs.Volumes.{VolumeRun, carries, carries_on, moved_from, mover_group, mover_hands, mover_hands_to, mover_hears_in, mover_replied, mover_steps, mover_steps_at, moves_from}
-use Rattle.pf_fleet.specs.Volumes as volumes
+use Rattle.pf_world.specs.pf_applyrounds.specs.Halts.{Halt}
+use Rattle.pf_world.specs.pf_chunk.specs.Runs.{ChunkRun, mover_port}
+use Rattle.pf_world.specs.pf_hosts.specs.Hosts.{Drove, drove, events_of}
+use Rattle.pf_world.specs.pf_hosts.specs.Moments.{Heard, Moment}
+use Rattle.pf_world.specs.pf_fleet.specs.Volumes.{VolumeRun, carries, carries_on, moved_from, mover_group, mover_hands, mover_hands_to, mover_hears_in, mover_replied, mover_steps, mover_steps_at, moves_from}
+use Rattle.pf_world.specs.pf_fleet.specs.Volumes as volumes
 use Rattle.pf_mounted.proofs.Lives.{AreQuiet, IsQuiet}
 use Rattle.pf_mounted.proofs.Ports.{drives_at}
 

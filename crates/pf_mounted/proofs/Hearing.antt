@@ -17,17 +17,17 @@ use Rattle.pf_protocol.specs.Histories.{History}
 use Rattle.pf_protocol.specs.Servers.{Setup}
 use Rattle.pf_protocol.proofs.ForMoments.{legal_before}
 use Rattle.pf_asks.specs.Ports.{PortIs}
-use Rattle.pf_network.proofs.Lists.{at_front, set_elsewhere}
+use Rattle.pf_ports.specs.pf_network.proofs.Lists.{at_front, set_elsewhere}
 use Rattle.pf_ports.specs.Calls.{Past}
 use Rattle.pf_ports.specs.Driven.{IsDriven}
 use Rattle.pf_ports.specs.Replies.{IsReplied}
-use Rattle.pf_applyrounds.specs.Halts.{Halt}
-use Rattle.pf_applyrounds.specs.Chunks.{Chunk}
-use Rattle.pf_chunk.specs.Driving.{asked, asked_at, driven, event_of_ask}
-use Rattle.pf_chunk.specs.Runs.{ChunkRun, mover_port}
-use Rattle.pf_hosts.specs.Moments.{Begins, Carries, Ends, Hands, Heard, Moment, Moves as MovesTo, Turns, Writes}
-use Rattle.pf_hosts.specs.Hosts.{Drove, drove, drove_as, drove_of, events_of, handed, put_at, run_after, with_run}
-use Rattle.pf_hosts.specs.Words.{read_call}
+use Rattle.pf_world.specs.pf_applyrounds.specs.Halts.{Halt}
+use Rattle.pf_world.specs.pf_applyrounds.specs.Chunks.{Chunk}
+use Rattle.pf_world.specs.pf_chunk.specs.Driving.{asked, asked_at, driven, event_of_ask}
+use Rattle.pf_world.specs.pf_chunk.specs.Runs.{ChunkRun, mover_port}
+use Rattle.pf_world.specs.pf_hosts.specs.Moments.{Begins, Carries, Ends, Hands, Heard, Moment, Moves as MovesTo, Turns, Writes}
+use Rattle.pf_world.specs.pf_hosts.specs.Hosts.{Drove, drove, drove_as, drove_of, events_of, handed, put_at, run_after, with_run}
+use Rattle.pf_world.specs.pf_hosts.specs.Words.{read_call}
 use Rattle.pf_mounted.specs.Carrying.{asked_of}
 use Rattle.pf_mounted.specs.Epochs.{serving}
 use Rattle.pf_mounted.specs.Handing.{IsHandedOn, carried_by, heard_by, reach_at, reached}

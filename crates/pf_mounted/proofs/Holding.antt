@@ -20,24 +20,24 @@ use Rattle.pf_move.specs.Movers.{MoverIs}
 use Rattle.pf_move.specs.Routes.{Between, between, home_of}
 use Rattle.pf_asks.specs.Ports.{PortIs, new_port}
 use Rattle.pf_ports.specs.Driven.{Begins as BeginsDriven, IsDriven}
-use Rattle.pf_applyrounds.specs.Halts.{Halt}
-use Rattle.pf_applyrounds.specs.Chunks.{made_chunk}
-use Rattle.pf_chunk.specs.Asking.{fetched}
-use Rattle.pf_chunk.specs.Happenings.{happened}
-use Rattle.pf_chunk.specs.Lending.{all_happened}
-use Rattle.pf_chunk.specs.Runs.{ChunkRun, most_ports, mover_port, new_run}
-use Rattle.pf_hosts.specs.Moments.{Begins, Hands, Heard, Moment, Turns, Writes}
-use Rattle.pf_hosts.specs.Hosts.{HostIs, Stepped, begun, comes_of, made_host, number_of, stepped}
-use Rattle.pf_hosts.specs.Words.{read_call}
-use Rattle.pf_hosts.proofs.Machine.{starting_keeps}
-use Rattle.pf_fleet.specs.Volumes.{Hosts, VolumeRun, asks_in, begins, host_at, mounts_in, mover_steps, mover_steps_at, quietly, with_chunk}
-use Rattle.pf_fleet.specs.Volumes as volumes
+use Rattle.pf_world.specs.pf_applyrounds.specs.Halts.{Halt}
+use Rattle.pf_world.specs.pf_applyrounds.specs.Chunks.{made_chunk}
+use Rattle.pf_world.specs.pf_chunk.specs.Asking.{fetched}
+use Rattle.pf_world.specs.pf_chunk.specs.Happenings.{happened}
+use Rattle.pf_world.specs.pf_chunk.specs.Lending.{all_happened}
+use Rattle.pf_world.specs.pf_chunk.specs.Runs.{ChunkRun, most_ports, mover_port, new_run}
+use Rattle.pf_world.specs.pf_hosts.specs.Moments.{Begins, Hands, Heard, Moment, Turns, Writes}
+use Rattle.pf_world.specs.pf_hosts.specs.Hosts.{HostIs, Stepped, begun, comes_of, made_host, number_of, stepped}
+use Rattle.pf_world.specs.pf_hosts.specs.Words.{read_call}
+use Rattle.pf_world.specs.pf_hosts.proofs.Machine.{starting_keeps}
+use Rattle.pf_world.specs.pf_fleet.specs.Volumes.{Hosts, VolumeRun, asks_in, begins, host_at, mounts_in, mover_steps, mover_steps_at, quietly, with_chunk}
+use Rattle.pf_world.specs.pf_fleet.specs.Volumes as volumes
 use Rattle.pf_world.specs.Lines.{rests}
 use Rattle.pf_world.specs.Reports.{world_run}
 use Rattle.pf_world.specs.Worlds.{Told, made}
 use Rattle.pf_world.specs.declared.kind.Kind.{Kind}
 use Rattle.pf_world.specs.declared.kind.Kind.TheVariants.{Mounted, Raw}
-use Rattle.pf_threads.specs.Sessions.{Session}
+use Rattle.pf_world.specs.pf_threads.specs.Sessions.{Session}
 use Rattle.pf_world.specs.declared.line.Line.{Line}
 use Rattle.pf_mounted.specs.Epochs.{serving}
 use Rattle.pf_mounted.specs.Handing.{AreCallsOfWords, AreHandedOn, AreMountsAlone, reached}

@@ -13,12 +13,12 @@ use Rattle.pf_mount.specs.declared.work.Next.{Next}
 use Rattle.pf_mount.specs.declared.work.Next.TheVariants.{Ask as Asks, Ready, Done}
 use Rattle.pf_mount.specs.Mounts.{MountIs, Outcome, answered}
 use Rattle.pf_move.specs.Routes.{RoutesIs, home_of, served_by}
-use Rattle.pf_applyrounds.specs.Halts.{Halt}
-use Rattle.pf_chunk.specs.Driving.{Driven, ask_after, asked, driven}
-use Rattle.pf_chunk.specs.Runs.{ChunkRun, mover_port}
-use Rattle.pf_hosts.specs.Moments.{Heard, Moment, Turns, Writes}
-use Rattle.pf_hosts.specs.Hosts.{Drove, HostIs, Stepped, call_of, comes_of, drove, drove_of, events_of, group_of, handed, hands_on, hands_to, next_of, number_of, put_at, replied, run_after, stepped, stepped_at, with_run}
-use Rattle.pf_hosts.proofs.Machine.{answered_keeps}
+use Rattle.pf_world.specs.pf_applyrounds.specs.Halts.{Halt}
+use Rattle.pf_world.specs.pf_chunk.specs.Driving.{Driven, ask_after, asked, driven}
+use Rattle.pf_world.specs.pf_chunk.specs.Runs.{ChunkRun, mover_port}
+use Rattle.pf_world.specs.pf_hosts.specs.Moments.{Heard, Moment, Turns, Writes}
+use Rattle.pf_world.specs.pf_hosts.specs.Hosts.{Drove, HostIs, Stepped, call_of, comes_of, drove, drove_of, events_of, group_of, handed, hands_on, hands_to, next_of, number_of, put_at, replied, run_after, stepped, stepped_at, with_run}
+use Rattle.pf_world.specs.pf_hosts.proofs.Machine.{answered_keeps}
 use Rattle.pf_world.specs.declared.kind.Kind.{Kind}
 use Rattle.pf_world.specs.declared.kind.Kind.TheVariants.{Raw}
 use Rattle.pf_mounted.specs.Handing.{AreMountsAlone}

@@ -18,12 +18,12 @@ use Rattle.pf_mount.specs.declared.work.Work.{Work}
 use Rattle.pf_mount.specs.declared.work.Next.{Next}
 use Rattle.pf_mount.specs.declared.work.Next.TheVariants.{Ask as Asks, Ready, Done}
 use Rattle.pf_mount.specs.Mounts.{MountIs, Outcome, answered, opening, starting}
-use Rattle.pf_applyrounds.specs.Halts.{Halt}
+use Rattle.pf_world.specs.pf_applyrounds.specs.Halts.{Halt}
 use Rattle.pf_move.specs.Routes.{RoutesIs, home_of, served_by}
-use Rattle.pf_chunk.specs.Driving.{ask_after}
-use Rattle.pf_chunk.specs.Runs.{ChunkRun}
-use Rattle.pf_hosts.specs.Moments.{Heard, Moment, Begins, Turns}
-use Rattle.pf_hosts.specs.Hosts.{Drove, HostIs, Stepped, after_telling, begun, call_of, comes_of, drove, events_of, group_of, hands_on, hands_to, made_host, next_of, number_of, replied, stepped, stepped_at}
+use Rattle.pf_world.specs.pf_chunk.specs.Driving.{ask_after}
+use Rattle.pf_world.specs.pf_chunk.specs.Runs.{ChunkRun}
+use Rattle.pf_world.specs.pf_hosts.specs.Moments.{Heard, Moment, Begins, Turns}
+use Rattle.pf_world.specs.pf_hosts.specs.Hosts.{Drove, HostIs, Stepped, after_telling, begun, call_of, comes_of, drove, events_of, group_of, hands_on, hands_to, made_host, next_of, number_of, replied, stepped, stepped_at}
 use Rattle.pf_world.specs.Lines.{rests}
 use Rattle.pf_mounted.specs.Mounts.{AreDone, IsDone, answer_in, ask_in, last_answer, lived, last_ask, life_of, mount_after, mount_in, turned}
 use Rattle.pf_mounted.proofs.Changing.{WorksFor, answered_keeps, starting_keeps}

@@ -15,7 +15,7 @@ use Rattle.pf_mount.specs.Decisions.{decided_by}
 use Rattle.pf_mount.specs.declared.work.Work.{Work}
 use Rattle.pf_mount.specs.declared.work.Work.TheVariants.{Rests, Ballots}
 use Rattle.pf_mount.specs.Mounts.{MountIs, answered, opening, starting}
-use Rattle.pf_hosts.specs.Moments.{Begins, Carries, Ends, Hands, Heard, Moment, Moves as MovesTo, Turns, Writes}
+use Rattle.pf_world.specs.pf_hosts.specs.Moments.{Begins, Carries, Ends, Hands, Heard, Moment, Moves as MovesTo, Turns, Writes}
 use Rattle.pf_mounted.specs.Mounts.{Life, ask_in, calling, hearing, last_ask, life_of, lived, mount_in, next_ask, opened, turned}
 use Rattle.pf_mounted.specs.Journals.{AreOfMounts, CanBeDoing, CanBeDoings, CanBeTold, CanBegin, CanTurn, FindsValue, IsHearing, IsOfMount, IsTurn}
 use Rattle.pf_mounted.proofs.Lives.{life_on, its_own}

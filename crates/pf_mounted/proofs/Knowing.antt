@@ -21,7 +21,7 @@ use Rattle.pf_positions.specs.Deeds.{Takes}
 use Rattle.pf_mount.specs.declared.work.Work.{Work}
 use Rattle.pf_mount.specs.declared.work.Work.TheVariants.{Rests, Fails, ReadsSuper, WritesSuper, Syncs, Ballots, Pauses, Moves}
 use Rattle.pf_mount.specs.Mounts.{MountIs, aborted, answered, balloted, blocks_in, finds_value, goes_on, on_bytes, on_written, opening, seeing, starting, with_proposer}
-use Rattle.pf_hosts.specs.Moments.{Begins, Carries, Ends, Hands, Heard, Moment, Moves as MovesTo, Turns, Writes}
+use Rattle.pf_world.specs.pf_hosts.specs.Moments.{Begins, Carries, Ends, Hands, Heard, Moment, Moves as MovesTo, Turns, Writes}
 use Rattle.pf_mounted.specs.Finding.{HasFound}
 use Rattle.pf_mounted.specs.Mounts.{Life, asked_in, calling, last_ask, life_of, lived, mount_after, mount_in, turned}
 use Rattle.pf_mounted.specs.Epochs.{Home, epoch_of, home_of}

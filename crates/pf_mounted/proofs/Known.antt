@@ -12,9 +12,9 @@ use Rattle.pf_protocol.specs.Histories.{IsPrefix}
 use Rattle.pf_protocol.specs.Ports.{FollowsRule, Submission, submitting}
 use Rattle.pf_ports.specs.Rising.{IsRising}
 use Rattle.pf_ports.proofs.Stepping.{follows, rises}
-use Rattle.pf_chunk.specs.Runs.{ChunkRun, mover_port}
+use Rattle.pf_world.specs.pf_chunk.specs.Runs.{ChunkRun, mover_port}
 use Rattle.pf_volume.specs.Volumes.{Extent}
-use Rattle.pf_hosts.specs.Moments.{Heard, Moment, Hands, Turns}
+use Rattle.pf_world.specs.pf_hosts.specs.Moments.{Heard, Moment, Hands, Turns}
 use Rattle.pf_mounted.specs.Fitting.{IsOfRun}
 use Rattle.pf_mounted.specs.Handing.{IsHandedOn, reached}
 use Rattle.pf_mounted.specs.Hearing.{IsHeard}

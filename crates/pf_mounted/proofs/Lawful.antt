@@ -2,11 +2,11 @@
 use Rattle.std.proofs.Common.{ℕ, ◌<◌, List, [], length, refl}
 use Rattle.pf_protocol.specs.Groups.{Answered}
 use Rattle.pf_volume.specs.Volumes.{IsVolume}
-use Rattle.pf_hosts.specs.Moments.{Turns}
-use Rattle.pf_applyrounds.specs.Halts.{Halt}
+use Rattle.pf_world.specs.pf_hosts.specs.Moments.{Turns}
+use Rattle.pf_world.specs.pf_applyrounds.specs.Halts.{Halt}
 use Rattle.pf_world.specs.Headline.{IsLawfulRun}
 use Rattle.pf_world.specs.Reports.{world_run}
-use Rattle.pf_threads.specs.Sessions.{Session}
+use Rattle.pf_world.specs.pf_threads.specs.Sessions.{Session}
 use Rattle.pf_world.specs.declared.line.Line.{Line}
 use Rattle.pf_mounted.specs.Fitting.{IsOfRun}
 use Rattle.pf_mounted.specs.Journals.{CanBeDoings}

@@ -11,7 +11,7 @@ use Rattle.pf_entry.proofs.Cases.{by_test}
 use Rattle.pf_entry.proofs.Lists.{every_append}
 use Rattle.pf_protocol.specs.Histories.{History}
 use Rattle.pf_protocol.specs.Servers.{Setup}
-use Rattle.pf_network.proofs.Lists.{at_end, set_length, something_there}
+use Rattle.pf_ports.specs.pf_network.proofs.Lists.{at_end, set_length, something_there}
 use Rattle.pf_asks.specs.Ports.{PortIs, new_port, rehomed}
 use Rattle.pf_move.specs.declared.mover.Asked.{Asked}
 use Rattle.pf_move.specs.declared.mover.Asked.TheVariants.{Reading, Writing}
@@ -20,12 +20,12 @@ use Rattle.pf_move.specs.Movers.{MoverIs, Step, new_mover, step}
 use Rattle.pf_move.specs.Routes.{RoutesIs, home_in, home_of}
 use Rattle.pf_ports.specs.Calls.{Past, new_past}
 use Rattle.pf_ports.specs.Driven.{Begins as BeginsDriven, IsDriven, Puts}
-use Rattle.pf_applyrounds.specs.Chunks.{Chunk, made_chunk}
-use Rattle.pf_applyrounds.specs.Halts.{Halt}
-use Rattle.pf_chunk.specs.Runs.{ChunkRun, left_by_ports, mover_port, new_run, taking_ports}
-use Rattle.pf_hosts.specs.Moments.{Begins, Carries, Ends, Hands, Moment, Moves as MovesTo, Turns, Writes}
-use Rattle.pf_fleet.specs.Volumes.{VolumeRun, carries_on, moved_from, moves, moves_from}
-use Rattle.pf_fleet.specs.Volumes as volumes
+use Rattle.pf_world.specs.pf_applyrounds.specs.Chunks.{Chunk, made_chunk}
+use Rattle.pf_world.specs.pf_applyrounds.specs.Halts.{Halt}
+use Rattle.pf_world.specs.pf_chunk.specs.Runs.{ChunkRun, left_by_ports, mover_port, new_run, taking_ports}
+use Rattle.pf_world.specs.pf_hosts.specs.Moments.{Begins, Carries, Ends, Hands, Moment, Moves as MovesTo, Turns, Writes}
+use Rattle.pf_world.specs.pf_fleet.specs.Volumes.{VolumeRun, carries_on, moved_from, moves, moves_from}
+use Rattle.pf_world.specs.pf_fleet.specs.Volumes as volumes
 use Rattle.pf_world.specs.declared.kind.Kind.{Kind}
 use Rattle.pf_mounted.specs.Handing.{AreMountsAlone}
 use Rattle.pf_mounted.specs.Mounts.{last_ask, of_chunk}

@@ -3,7 +3,7 @@ use Rattle.std.proofs.Common.{◌≡◌, ℕ, suc, ◌+◌, ◌<◌, ◌≤◌, 
 use Rattle.std.proofs.lemmas.Bool.{cond-true, cond-false, eq-eqb, false≢true, le-ltb, ltb-true, or_cases}
 use Rattle.std.proofs.lemmas.List.{append_assoc, take-append-le, take_all}
 use Rattle.std.proofs.lemmas.Option.{none-some, slice_get_within}
-use Rattle.pf_network.proofs.Lists.{at_end, at_front, end_cases}
+use Rattle.pf_ports.specs.pf_network.proofs.Lists.{at_end, at_front, end_cases}
 use Rattle.pf_entry.proofs.Cases.{by_test}
 use Rattle.pf_entry.specs.Lists.{Every}
 use Rattle.pf_paxos.specs.declared.block.Block.{Block}

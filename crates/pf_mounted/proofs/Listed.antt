@@ -11,8 +11,8 @@ use Rattle.pf_paxos.proofs.Longest.{transaction_list}
 use Rattle.pf_files.specs.declared.answers.CallAnswer.{CallAnswer}
 use Rattle.pf_mount.specs.Mounts.{MountIs}
 use Rattle.pf_mount.specs.declared.work.Work.TheVariants.{Fails}
-use Rattle.pf_chunk.specs.Runs.{ChunkRun}
-use Rattle.pf_hosts.specs.Moments.{Ends, Moment}
+use Rattle.pf_world.specs.pf_chunk.specs.Runs.{ChunkRun}
+use Rattle.pf_world.specs.pf_hosts.specs.Moments.{Ends, Moment}
 use Rattle.pf_mounted.specs.Handing.{AreCallsOfWords}
 use Rattle.pf_mounted.specs.Hosted.{AreOfReads, groups_of}
 use Rattle.pf_mounted.specs.Journals.{AreOfMounts, CanBeDoings, deeds, doings}

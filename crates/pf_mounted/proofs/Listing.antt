@@ -7,7 +7,7 @@ use Rattle.std.proofs.Math.Seq.{take-append_seam}
 use Rattle.pf_protocol.specs.Groups.{Answered}
 use Rattle.pf_volume.specs.Volumes.{Extent}
 use Rattle.pf_positions.specs.Deeds.{Deed}
-use Rattle.pf_hosts.specs.Moments.{Moment}
+use Rattle.pf_world.specs.pf_hosts.specs.Moments.{Moment}
 use Rattle.pf_mounted.specs.Journals.{Step, deeds, steps_at, steps_from}
 use Rattle.pf_mounted.proofs.Dealing.{deeds_in}
 use Rattle.pf_mounted.proofs.Placing.{at_seam, by_ends, get_either, get_first, get_second, map_both, parted, some_within, take_goes_on, take_one_more}

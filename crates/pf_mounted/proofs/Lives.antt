@@ -12,7 +12,7 @@ use Rattle.pf_files.specs.declared.answers.CallAnswer.{CallAnswer}
 use Rattle.pf_volume.specs.Volumes.{Extent}
 use Rattle.pf_mount.specs.Mounts.{MountIs, Outcome, answered, opening, starting}
 use Rattle.pf_mount.specs.declared.work.Next.{Next}
-use Rattle.pf_hosts.specs.Moments.{Begins, Carries, Ends, Hands, Heard, Moment, Moves as MovesTo, Turns, Writes}
+use Rattle.pf_world.specs.pf_hosts.specs.Moments.{Begins, Carries, Ends, Hands, Heard, Moment, Moves as MovesTo, Turns, Writes}
 use Rattle.pf_world.specs.Lines.{rests}
 use Rattle.pf_mounted.specs.Mounts.{AreDone, IsDone, Life, RestsIn, answer_in, ask_in, asked_in, calling, last_answer, last_ask, life_of, lived, mount_after, mount_in, next_ask, turned}
 

@@ -10,16 +10,16 @@ use Rattle.pf_base.specs.declared.asks.Reply.TheVariants.{Bytes}
 use Rattle.pf_protocol.specs.Servers.{Candidate, Condition, Follower, Merging, Role, Running, Server, Serving, Setup, Stopped, Unformatted}
 use Rattle.pf_protocol.specs.Groups.{Acked, Answered, Group}
 use Rattle.pf_protocol.specs.Histories.{RunsAs, replay}
-use Rattle.pf_network.specs.Showing.{HasAnswer}
-use Rattle.pf_network.specs.Shown.{IsLeader, Serves, is_acked}
-use Rattle.pf_network.proofs.Shown.{IsGreatest, one_more_leader}
+use Rattle.pf_ports.specs.pf_network.specs.Showing.{HasAnswer}
+use Rattle.pf_ports.specs.pf_network.specs.Shown.{IsLeader, Serves, is_acked}
+use Rattle.pf_ports.specs.pf_network.proofs.Shown.{IsGreatest, one_more_leader}
 use Rattle.pf_asks.specs.declared.port.Sent.{Sent}
 use Rattle.pf_asks.specs.declared.port.Sent.TheVariants.{Slot, Number}
 use Rattle.pf_asks.specs.Desks.{Call, Took, WasAcked}
 use Rattle.pf_asks.specs.Ports.{LooksFor}
 use Rattle.pf_ports.specs.Calls.{HasAcked, Past, Says}
-use Rattle.pf_chunk.specs.Asks.{leader_of, reply_to, served_at, served_by, served_in}
-use Rattle.pf_chunk.specs.Waiting.{answers_of}
+use Rattle.pf_world.specs.pf_chunk.specs.Asks.{leader_of, reply_to, served_at, served_by, served_in}
+use Rattle.pf_world.specs.pf_chunk.specs.Waiting.{answers_of}
 
 -- The leader
 

@@ -12,9 +12,9 @@ use Rattle.pf_positions.proofs.Answers.{prefix_taken}
 use Rattle.pf_epochs.specs.Routed.{IsRouted}
 use Rattle.pf_epochs.specs.Sectors.{RoutedSector}
 use Rattle.pf_epochs.proofs.Sectors.{routed_sector}
-use Rattle.pf_chunk.specs.Runs.{ChunkRun}
+use Rattle.pf_world.specs.pf_chunk.specs.Runs.{ChunkRun}
 use Rattle.pf_volume.specs.Volumes.{Extent, IsVolume}
-use Rattle.pf_hosts.specs.Moments.{Moment}
+use Rattle.pf_world.specs.pf_hosts.specs.Moments.{Moment}
 use Rattle.pf_mounted.specs.Epochs.{epoch_of, group_at}
 use Rattle.pf_mounted.specs.Fitting.{IsOfRun}
 use Rattle.pf_mounted.specs.Handing.{AreMountsAlone, reached}

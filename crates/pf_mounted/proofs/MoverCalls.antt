@@ -14,7 +14,7 @@ use Rattle.pf_move.specs.declared.mover.MoveNext.{MoveNext}
 use Rattle.pf_move.specs.declared.mover.MoveNext.TheVariants.{Read, Switch, Write}
 use Rattle.pf_move.specs.Movers.{Fits, MoverIs, Step, is_zero, new_mover, piece, reads_on, step}
 use Rattle.pf_move.specs.Turns.{Turn, Turns as AreTurns}
-use Rattle.pf_hosts.specs.Moments.{Begins, Carries, Ends, Hands, Heard, Moment, Moves as MovesTo, Turns, Writes}
+use Rattle.pf_world.specs.pf_hosts.specs.Moments.{Begins, Carries, Ends, Hands, Heard, Moment, Moves as MovesTo, Turns, Writes}
 use Rattle.pf_mounted.specs.Carrying.{carried, moves_of, turn_of, with_turn}
 use Rattle.pf_mounted.specs.Movers.{ask_to_carry, asked_to_carry, carried_ask}
 use Rattle.pf_mounted.proofs.Each.{AreEach, each_at}

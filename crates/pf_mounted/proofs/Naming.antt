@@ -13,8 +13,8 @@ use Rattle.pf_tree.specs.declared.calls.FileCall.{FileCall}
 use Rattle.pf_files.specs.Calls.{WorkIs}
 use Rattle.pf_files.specs.declared.calls.Pending.{Pending}
 use Rattle.pf_mount.specs.Mounts.{MountIs, answered, opening, starting}
-use Rattle.pf_network.proofs.Lists.{at_end, at_front}
-use Rattle.pf_hosts.specs.Moments.{Begins, Carries, Ends, Hands, Heard, Moment, Moves as MovesTo, Turns, Writes}
+use Rattle.pf_ports.specs.pf_network.proofs.Lists.{at_end, at_front}
+use Rattle.pf_world.specs.pf_hosts.specs.Moments.{Begins, Carries, Ends, Hands, Heard, Moment, Moves as MovesTo, Turns, Writes}
 use Rattle.pf_mounted.specs.Mounts.{Life, RestsIn, calling, life_of, lived, mount_after, mount_in, turned}
 use Rattle.pf_mounted.specs.Trees.{AreBegunAtRest, call_begun, call_named, calls_of, numbered}
 use Rattle.pf_mounted.proofs.Changing.{answered_keeps, starting_keeps}

@@ -22,9 +22,9 @@ use Rattle.pf_files.specs.Blocks.{bytes_of, reads, run_at, writes}
 use Rattle.pf_mount.specs.declared.work.Work.{Work}
 use Rattle.pf_mount.specs.declared.work.Work.TheVariants.{ReadsSuper}
 use Rattle.pf_mount.specs.Mounts.{MountIs}
-use Rattle.pf_chunk.specs.Driving.{event_of_ask}
-use Rattle.pf_chunk.specs.Runs.{ChunkRun}
-use Rattle.pf_hosts.specs.Moments.{Begins, Carries, Ends, Hands, Heard, Moment, Moves as MovesTo, Turns, Writes}
+use Rattle.pf_world.specs.pf_chunk.specs.Driving.{event_of_ask}
+use Rattle.pf_world.specs.pf_chunk.specs.Runs.{ChunkRun}
+use Rattle.pf_world.specs.pf_hosts.specs.Moments.{Begins, Carries, Ends, Hands, Heard, Moment, Moves as MovesTo, Turns, Writes}
 use Rattle.pf_paxos.specs.Journals.{journal_from, new_journal}
 use Rattle.std.proofs.lemmas.Bool.{cases_lt, eqb-true}
 use Rattle.std.proofs.Math.Seq.{take-append_seam}

@@ -14,7 +14,7 @@ use Rattle.pf_asks.specs.Desks.{Call, Fetched, Led, Submitted, Took, WasAcked}
 use Rattle.pf_asks.specs.Ports.{DrivesFrom, Goes, GoesOn, Hands, IsHanded, IsLed, IsOfKind, IsSentOf, PortIs, Stays, goes_to, reply_if}
 use Rattle.pf_ports.specs.Calls.{Past}
 use Rattle.pf_ports.specs.Driven.{Begins, IsDriven, Others, Puts, Steps}
-use Rattle.pf_chunk.specs.Asks.{reply_to}
+use Rattle.pf_world.specs.pf_chunk.specs.Asks.{reply_to}
 
 sent_none : (ask : Option Ask) → IsSentOf ask None
 sent_none None = tt

@@ -9,8 +9,8 @@ use Rattle.pf_epochs.specs.Positions.{IsRoutedJournal, IsRoutedPosition}
 use Rattle.pf_epochs.proofs.Positions.{routed_journal}
 use Rattle.pf_journal.specs.Sectors.{block_in}
 use Rattle.pf_mount.specs.Mounts.{MountIs}
-use Rattle.pf_chunk.specs.Runs.{ChunkRun}
-use Rattle.pf_hosts.specs.Moments.{Moment}
+use Rattle.pf_world.specs.pf_chunk.specs.Runs.{ChunkRun}
+use Rattle.pf_world.specs.pf_hosts.specs.Moments.{Moment}
 use Rattle.pf_mounted.specs.Hosted.{groups_of}
 use Rattle.pf_mounted.specs.Journals.{AreOfMounts, CanBeDoings, Step, deeds, doings, steps_at, steps_from, steps_of}
 use Rattle.pf_mounted.specs.Mounts.{decisions, mount_after, tables_from}

@@ -9,8 +9,8 @@ use Rattle.pf_positions.specs.Homes.{chunk_of, sector_of}
 use Rattle.pf_positions.specs.Volumes.{half_at, home_of}
 use Rattle.pf_epochs.specs.Routed.{AreOfPorts}
 use Rattle.pf_volume.specs.Volumes.{Extent, IsVolume, size_of}
-use Rattle.pf_chunk.specs.Runs.{ChunkRun}
-use Rattle.pf_hosts.specs.Moments.{Hands, Moment, Moves}
+use Rattle.pf_world.specs.pf_chunk.specs.Runs.{ChunkRun}
+use Rattle.pf_world.specs.pf_hosts.specs.Moments.{Hands, Moment, Moves}
 use Rattle.pf_mounted.specs.Epochs.{epoch_of, group_at}
 use Rattle.pf_mounted.specs.Handing.{AreHandedOn, AreMountsAlone}
 use Rattle.pf_mounted.specs.Hosted.{groups_of}

@@ -14,13 +14,13 @@ use Rattle.pf_move.specs.Routes.{RoutesIs, home_of}
 use Rattle.pf_anchormount.specs.declared.work.AnchoredNext.{AnchoredNext}
 use Rattle.pf_anchormount.specs.declared.work.AnchoredNext.TheVariants.{Done, Ready}
 use Rattle.pf_anchormount.specs.Anchored.{answered, ask_at, starting}
-use Rattle.pf_applyrounds.specs.Halts.{Halt}
-use Rattle.pf_chunk.specs.Driving.{driven}
-use Rattle.pf_chunk.specs.Runs.{ChunkRun}
-use Rattle.pf_hosts.specs.Hosts.{call_of, drove, drove_of, handed}
-use Rattle.pf_hosts.specs.Moments.{Begins, Carries, Ends, Hands, Heard, Moment, Moves as MovesTo, Turns, Writes}
-use Rattle.pf_anchorhosts.specs.Hosts.{AnchoredHostIs, Stepped, asks, asks_all, asks_for, asks_on, begun, chunk_for, ended, followed, group_of, hands, hands_at, hands_of, hears, hears_all, hears_at, hears_of, number_of, pends_for, puts_if, quietly, stepped, takes_if}
-use Rattle.pf_fleet.specs.Volumes.{AnchoredHosts, VolumeRun, anchored_at, anchored_hosts_step, anchored_step_in, anchored_step_of, anchored_steps, carries, how_many, moved_from, mover_steps, moves, moves_from, these_anchored_step}
+use Rattle.pf_world.specs.pf_applyrounds.specs.Halts.{Halt}
+use Rattle.pf_world.specs.pf_chunk.specs.Driving.{driven}
+use Rattle.pf_world.specs.pf_chunk.specs.Runs.{ChunkRun}
+use Rattle.pf_world.specs.pf_hosts.specs.Hosts.{call_of, drove, drove_of, handed}
+use Rattle.pf_world.specs.pf_hosts.specs.Moments.{Begins, Carries, Ends, Hands, Heard, Moment, Moves as MovesTo, Turns, Writes}
+use Rattle.pf_world.specs.pf_anchorhosts.specs.Hosts.{AnchoredHostIs, Stepped, asks, asks_all, asks_for, asks_on, begun, chunk_for, ended, followed, group_of, hands, hands_at, hands_of, hears, hears_all, hears_at, hears_of, number_of, pends_for, puts_if, quietly, stepped, takes_if}
+use Rattle.pf_world.specs.pf_fleet.specs.Volumes.{AnchoredHosts, VolumeRun, anchored_at, anchored_hosts_step, anchored_step_in, anchored_step_of, anchored_steps, carries, how_many, moved_from, mover_steps, moves, moves_from, these_anchored_step}
 use Rattle.pf_mounted.proofs.Hauling.{hauled}
 use Rattle.pf_mounted.proofs.Lives.{IsQuiet}
 

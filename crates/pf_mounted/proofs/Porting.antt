@@ -16,12 +16,12 @@ use Rattle.pf_protocol.specs.Histories.{IsPrefix}
 use Rattle.pf_protocol.specs.Ports.{IsTarget, Submission, submitting}
 use Rattle.pf_ports.specs.Rising.{IsRising}
 use Rattle.pf_positions.specs.Deeds.{Groups, IsHanded, IsPending, IsPort, Puts, Submits}
-use Rattle.pf_chunk.specs.Driving.{event_of_ask}
-use Rattle.pf_chunk.specs.Runs.{ChunkRun}
+use Rattle.pf_world.specs.pf_chunk.specs.Driving.{event_of_ask}
+use Rattle.pf_world.specs.pf_chunk.specs.Runs.{ChunkRun}
 use Rattle.pf_volume.specs.Volumes.{Extent}
 use Rattle.pf_mount.specs.declared.work.Work.{Work}
 use Rattle.pf_mount.specs.declared.work.Work.TheVariants.{Rests, Fails, ReadsSuper, WritesSuper, Syncs, Ballots, Pauses, Moves}
-use Rattle.pf_hosts.specs.Moments.{Moment, Hands}
+use Rattle.pf_world.specs.pf_hosts.specs.Moments.{Moment, Hands}
 use Rattle.pf_mounted.specs.Handing.{reached}
 use Rattle.pf_mounted.specs.Epochs.{epoch_of, group_at, home_of}
 use Rattle.pf_mounted.specs.Hosted.{among_deeds, groups_of, history_of, setup_at, setup_of, told_history, writes_at}

@@ -10,20 +10,20 @@ use Rattle.pf_entry.specs.Lists.{Every}
 use Rattle.pf_volume.specs.Volumes.{Extent}
 use Rattle.pf_entry.proofs.Cases.{by_test}
 use Rattle.pf_entry.proofs.Lists.{set_cases}
-use Rattle.pf_network.proofs.Lists.{set_elsewhere, set_length, set_there}
+use Rattle.pf_ports.specs.pf_network.proofs.Lists.{set_elsewhere, set_length, set_there}
 use Rattle.pf_protocol.specs.declared.events.Event.{Event}
 use Rattle.pf_asks.specs.declared.port.Sent.{Sent}
 use Rattle.pf_asks.specs.Ports.{PortIs, answered as answered_port, goes_to}
-use Rattle.pf_applyrounds.specs.Chunks.{answered}
-use Rattle.pf_applyrounds.specs.Halts.{Halt}
-use Rattle.pf_chunk.specs.Asking.{fetched}
-use Rattle.pf_chunk.specs.Asks.{leader_of, reply_to}
-use Rattle.pf_chunk.specs.Driving.{Driven, ask_after, asked, asked_at, driven, driven_at, driven_for, event_of_ask, handed_to, idle, led_to, replied, sent_of, with_port}
-use Rattle.pf_chunk.specs.Happenings.{followed, happened}
-use Rattle.pf_chunk.specs.Runs.{ChunkRun, most_ports}
-use Rattle.pf_chunk.proofs.Driven.{driven_extends}
-use Rattle.pf_hosts.specs.Moments.{Writes}
-use Rattle.pf_hosts.specs.Hosts.{Drove, drove, drove_of, handed, put_at, run_after, with_run}
+use Rattle.pf_world.specs.pf_applyrounds.specs.Chunks.{answered}
+use Rattle.pf_world.specs.pf_applyrounds.specs.Halts.{Halt}
+use Rattle.pf_world.specs.pf_chunk.specs.Asking.{fetched}
+use Rattle.pf_world.specs.pf_chunk.specs.Asks.{leader_of, reply_to}
+use Rattle.pf_world.specs.pf_chunk.specs.Driving.{Driven, ask_after, asked, asked_at, driven, driven_at, driven_for, event_of_ask, handed_to, idle, led_to, replied, sent_of, with_port}
+use Rattle.pf_world.specs.pf_chunk.specs.Happenings.{followed, happened}
+use Rattle.pf_world.specs.pf_chunk.specs.Runs.{ChunkRun, most_ports}
+use Rattle.pf_world.specs.pf_chunk.proofs.Driven.{driven_extends}
+use Rattle.pf_world.specs.pf_hosts.specs.Moments.{Writes}
+use Rattle.pf_world.specs.pf_hosts.specs.Hosts.{Drove, drove, drove_of, handed, put_at, run_after, with_run}
 use Rattle.pf_mounted.specs.Mounts.{AreDone, Life, of_chunk}
 use Rattle.pf_mounted.proofs.Lives.{AreQuiet, IsOf, its_own, not_its_own}
 use Rattle.pf_mounted.proofs.Routing.{Having, IsHome, IsHomeOf, IsStill}

@@ -1,7 +1,7 @@
 -- How far the histories of groups are told of.
 use Rattle.std.proofs.Common.{◌≡◌, ℕ, ◌≤◌, List, [], ◌∷◌, ◌++◌, arith, refl, sym, ◌∙◌}
 use Rattle.std.proofs.lemmas.List.{append_assoc}
-use Rattle.pf_hosts.specs.Moments.{Moment}
+use Rattle.pf_world.specs.pf_hosts.specs.Moments.{Moment}
 use Rattle.pf_mounted.specs.Handing.{reach_at, reached, reached_from}
 use Rattle.pf_mounted.proofs.Each.{AreEach, each_at}
 

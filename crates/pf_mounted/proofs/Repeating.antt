@@ -5,7 +5,7 @@ use Rattle.std.proofs.lemmas.Bool.{cases_order, eq-eqb}
 use Rattle.std.proofs.lemmas.List.{append_assoc, take_at, take_all}
 use Rattle.std.proofs.lemmas.Nat.{from_be_bytes-to_be_bytes_4}
 use Rattle.std.proofs.lemmas.Option.{none-some, same_Some}
-use Rattle.pf_network.proofs.Lists.{at_front, something_there}
+use Rattle.pf_ports.specs.pf_network.proofs.Lists.{at_front, something_there}
 use Rattle.pf_inodes.specs.declared.changes.Txn.{Txn}
 use Rattle.pf_txn.specs.Reading.{txn_in}
 use Rattle.pf_txn.specs.Spelling.{spell_txn}
@@ -25,7 +25,7 @@ use Rattle.pf_mount.specs.declared.work.Work.{Work}
 use Rattle.pf_mount.specs.declared.work.Work.TheVariants.{Ballots}
 use Rattle.pf_mount.specs.Decisions.{decided_in, upto_by}
 use Rattle.pf_mount.specs.Mounts.{MountIs, answered}
-use Rattle.pf_hosts.specs.Moments.{Moment, Turns}
+use Rattle.pf_world.specs.pf_hosts.specs.Moments.{Moment, Turns}
 use Rattle.pf_mounted.specs.Finding.{HasPutIn}
 use Rattle.pf_mounted.specs.Journals.{AreOfMounts, CanBeDoings, Step, doings, steps_from}
 use Rattle.pf_mounted.specs.Mounts.{HasDecided, decisions, life_of, mount_after, mount_in, turned}

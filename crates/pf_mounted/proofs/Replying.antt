@@ -12,11 +12,11 @@ use Rattle.pf_ports.specs.Calls.{Past}
 use Rattle.pf_ports.specs.Driven.{IsDriven}
 use Rattle.pf_ports.specs.Replies.{IsReplied}
 use Rattle.pf_ports.proofs.Stepping.{answers}
-use Rattle.pf_applyrounds.specs.Chunks.{answered}
-use Rattle.pf_applyrounds.specs.Halts.{Halt}
-use Rattle.pf_chunk.specs.Asks.{leader_of, reply_to}
-use Rattle.pf_chunk.specs.Driving.{Driven, driven, driven_at, driven_for, event_of_ask, handed_to, idle, led_to, replied, sent_of, with_port}
-use Rattle.pf_chunk.specs.Runs.{ChunkRun}
+use Rattle.pf_world.specs.pf_applyrounds.specs.Chunks.{answered}
+use Rattle.pf_world.specs.pf_applyrounds.specs.Halts.{Halt}
+use Rattle.pf_world.specs.pf_chunk.specs.Asks.{leader_of, reply_to}
+use Rattle.pf_world.specs.pf_chunk.specs.Driving.{Driven, driven, driven_at, driven_for, event_of_ask, handed_to, idle, led_to, replied, sent_of, with_port}
+use Rattle.pf_world.specs.pf_chunk.specs.Runs.{ChunkRun}
 use Rattle.pf_mounted.specs.Pasts.{Trace, past_in}
 use Rattle.pf_mounted.proofs.Growing.{Grows, grows_refl, happened_grows}
 use Rattle.pf_mounted.proofs.Telling.{reply_step}

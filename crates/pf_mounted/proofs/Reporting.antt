@@ -38,8 +38,8 @@ use Rattle.pf_files.specs.declared.moving.Moved.{Moved}
 use Rattle.pf_mount.specs.Decisions.{IsRefusedAs, plan_on}
 use Rattle.pf_mount.specs.Mounts.{MountIs}
 use Rattle.pf_mount.specs.declared.work.Work.TheVariants.{Fails}
-use Rattle.pf_hosts.specs.Moments.{Moment}
-use Rattle.pf_hosts.proofs.Words.{call_spelled}
+use Rattle.pf_world.specs.pf_hosts.specs.Moments.{Moment}
+use Rattle.pf_world.specs.pf_hosts.proofs.Words.{call_spelled}
 use Rattle.pf_mounted.specs.Answering.{AreNamesIn, IsAnswered, IsAnswerIn, IsRefusedBy}
 use Rattle.pf_mounted.specs.Finding.{HasPutIn}
 use Rattle.pf_mounted.specs.Handing.{AreCallsOfWords}

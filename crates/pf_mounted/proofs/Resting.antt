@@ -40,7 +40,7 @@ use Rattle.pf_mount.specs.declared.work.Work.TheVariants.{Rests, Fails, ReadsSup
 use Rattle.pf_mount.specs.Decisions.{decided_by, decided_in, upto_by, value_in}
 use Rattle.pf_mount.specs.Positions.{can_start}
 use Rattle.pf_mount.specs.Mounts.{MountIs, Outcome, aborted, advanced, answered, asking, balloted, ballots, blocks_in, done, finds_value, goes_on, has_bal, moved, on_bytes, on_written, paused, pauses, plans, plans_as, proceeds, proceeds_with, reads_half, seeing, starting, super_read, synced, syncs, syncs_on, with_proposer, writes_own}
-use Rattle.pf_hosts.specs.Moments.{Begins, Carries, Ends, Hands, Heard, Moment, Moves as MovesTo, Turns, Writes}
+use Rattle.pf_world.specs.pf_hosts.specs.Moments.{Begins, Carries, Ends, Hands, Heard, Moment, Moves as MovesTo, Turns, Writes}
 use Rattle.pf_mounted.specs.Journals.{AreOfMounts, CanBegin, IsOfMount}
 use Rattle.pf_mounted.specs.Mounts.{Life, answer_in, calling, last_answer, life_of, lived, mount_after, mount_in, turned}
 use Rattle.pf_mounted.proofs.Changing.{answered_keeps, having_started, starting_keeps}

@@ -8,14 +8,14 @@ use Rattle.std.proofs.lemmas.Option.{none-some, same_Some, slice_get_within}
 use Rattle.pf_entry.specs.Lists.{Every}
 use Rattle.pf_entry.proofs.Cases.{by_test}
 use Rattle.pf_entry.proofs.Lists.{set_cases}
-use Rattle.pf_network.proofs.Lists.{set_elsewhere, set_length, set_there, something_there}
+use Rattle.pf_ports.specs.pf_network.proofs.Lists.{set_elsewhere, set_length, set_there, something_there}
 use Rattle.pf_move.specs.declared.mover.MoveNext.{MoveNext}
 use Rattle.pf_move.specs.declared.mover.MoveNext.TheVariants.{Read, Write, Switch}
 use Rattle.pf_move.specs.declared.routes.Moving.{Moving}
 use Rattle.pf_move.specs.declared.routes.Route.{Route}
 use Rattle.pf_move.specs.Routes.{RoutesIs, home_in, home_of, risen, served_by, served_in, switched, switched_in, switched_to}
 use Rattle.pf_move.specs.Routes as routes
-use Rattle.pf_hosts.specs.Moments.{Begins, Carries, Ends, Hands, Heard, Moment, Moves as MovesTo, Turns, Writes}
+use Rattle.pf_world.specs.pf_hosts.specs.Moments.{Begins, Carries, Ends, Hands, Heard, Moment, Moves as MovesTo, Turns, Writes}
 use Rattle.pf_mounted.specs.Epochs.{epoch_of, group_at, groups_in_turn, moved_to, serving}
 use Rattle.pf_mounted.specs.Movers.{IsAtRest, IsOnTheMove}
 use Rattle.pf_mounted.specs.Pasts.{is_at}

@@ -2,20 +2,20 @@
 use Rattle.std.proofs.Common.{◌≡◌, ℕ, ◌/◌, ◌<◌, List, ◌∷◌, ◌++◌, Some, take, arith}
 use Rattle.pf_base.specs.Asks.{Answers}
 use Rattle.pf_base.specs.declared.asks.Ask.{Ask}
-use Rattle.pf_network.proofs.Lists.{something_there}
+use Rattle.pf_ports.specs.pf_network.proofs.Lists.{something_there}
 use Rattle.pf_protocol.proofs.ForMoments.{legal_before}
 use Rattle.pf_protocol.specs.Histories.{History}
 use Rattle.pf_positions.proofs.Answers.{prefix_taken}
 use Rattle.pf_volume.specs.Volumes.{IsVolume}
 use Rattle.pf_move.specs.declared.mover.MoveNext.{MoveNext}
 use Rattle.pf_ports.specs.Calls.{Past}
-use Rattle.pf_applyrounds.specs.Halts.{Halt}
-use Rattle.pf_chunk.specs.Runs.{ChunkRun}
-use Rattle.pf_hosts.specs.Moments.{Carries, Hands, Heard, Moment, Moves as MovesTo, Turns}
+use Rattle.pf_world.specs.pf_applyrounds.specs.Halts.{Halt}
+use Rattle.pf_world.specs.pf_chunk.specs.Runs.{ChunkRun}
+use Rattle.pf_world.specs.pf_hosts.specs.Moments.{Carries, Hands, Heard, Moment, Moves as MovesTo, Turns}
 use Rattle.pf_world.specs.Headline.{IsLawfulRun}
 use Rattle.pf_world.specs.Reports.{world_run}
 use Rattle.pf_world.specs.Worlds.{Told}
-use Rattle.pf_threads.specs.Sessions.{Session}
+use Rattle.pf_world.specs.pf_threads.specs.Sessions.{Session}
 use Rattle.pf_world.specs.declared.line.Line.{Line}
 use Rattle.pf_mounted.specs.Epochs.{group_at, home_of as home_of_group}
 use Rattle.pf_mounted.specs.Movers.{AreMoves, carried_ask, role_of_reply}

@@ -15,10 +15,10 @@ use Rattle.pf_protocol.specs.Groups.{Group}
 use Rattle.pf_protocol.specs.Answers.{IsAnswer, answer_at, answer_by, answer_to, fetch_refusal, fetch_turn, may_halt}
 use Rattle.pf_asks.specs.declared.port.Sent.TheVariants.{Slot, Number}
 use Rattle.pf_ports.specs.Calls.{number_in, slot_in}
-use Rattle.pf_applyrounds.specs.Chunks.{Chunk, answered}
-use Rattle.pf_applyrounds.specs.Halts.{Halt, is_cut}
-use Rattle.pf_chunk.specs.Driving.{sent_of}
-use Rattle.pf_chunk.proofs.Keeping.{taken_up}
+use Rattle.pf_world.specs.pf_applyrounds.specs.Chunks.{Chunk, answered}
+use Rattle.pf_world.specs.pf_applyrounds.specs.Halts.{Halt, is_cut}
+use Rattle.pf_world.specs.pf_chunk.specs.Driving.{sent_of}
+use Rattle.pf_world.specs.pf_chunk.proofs.Keeping.{taken_up}
 
 -- a run answers as the group may
 by_halt : (setup : Setup) (g : Group) (event : Event) (cut may : Bool) → may_halt setup g event ≡ may → IsAnswer setup g event (if cut && may then Refused Halted else answer_to setup g event)

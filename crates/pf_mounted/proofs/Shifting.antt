@@ -14,8 +14,8 @@ use Rattle.pf_move.specs.declared.mover.Asked.TheVariants.{Reading, Writing}
 use Rattle.pf_move.specs.declared.mover.MoveNext.{MoveNext}
 use Rattle.pf_move.specs.declared.mover.MoveNext.TheVariants.{Read, Write, Switch}
 use Rattle.pf_move.specs.Turns.{Turn}
-use Rattle.pf_chunk.specs.Runs.{mover_port}
-use Rattle.pf_hosts.specs.Moments.{Begins, Carries, Ends, Hands, Heard, Moment, Moves, Turns, Writes}
+use Rattle.pf_world.specs.pf_chunk.specs.Runs.{mover_port}
+use Rattle.pf_world.specs.pf_hosts.specs.Moments.{Begins, Carries, Ends, Hands, Heard, Moment, Moves, Turns, Writes}
 use Rattle.pf_mounted.specs.Carrying.{carried, moves_of, turn_of, with_turn}
 use Rattle.pf_mounted.specs.Epochs.{epoch_of, group_at, groups_in_turn, moved_to}
 use Rattle.pf_mounted.specs.Movers.{IsAtRest, IsOnTheMove, ask_to_carry, asked_to_carry, carried_ask, role_of_ask}

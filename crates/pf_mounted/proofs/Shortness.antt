@@ -9,8 +9,8 @@ use Rattle.pf_layout.specs.Paths.{IsName}
 use Rattle.pf_tree.specs.declared.calls.FileCall.{FileCall}
 use Rattle.pf_tree.specs.declared.calls.FileCall.TheVariants as paths
 use Rattle.pf_txn.specs.Spelling.{IsShort, IsShortCall}
-use Rattle.pf_hosts.specs.Words.{read_call}
-use Rattle.pf_hosts.proofs.Words.{call_spelled}
+use Rattle.pf_world.specs.pf_hosts.specs.Words.{read_call}
+use Rattle.pf_world.specs.pf_hosts.proofs.Words.{call_spelled}
 
 last_short : (p : Path) → AllByRecursion IsName p → IsShort p
 last_short [] names = tt

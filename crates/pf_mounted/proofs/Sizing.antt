@@ -9,7 +9,7 @@ use Rattle.pf_base.specs.Asks.{chunk_of}
 use Rattle.pf_base.specs.declared.asks.Ask.{Ask}
 use Rattle.pf_base.specs.declared.asks.Reply.{Reply}
 use Rattle.pf_entry.proofs.Lists.{set_cases}
-use Rattle.pf_network.proofs.Lists.{end_cases, set_length}
+use Rattle.pf_ports.specs.pf_network.proofs.Lists.{end_cases, set_length}
 use Rattle.pf_tree.specs.declared.calls.FileCall.{FileCall}
 use Rattle.pf_volume.specs.Volumes.{Extent, size_of}
 use Rattle.pf_asks.specs.Ports.{PortIs}
@@ -17,25 +17,25 @@ use Rattle.pf_mount.specs.declared.work.Next.{Next}
 use Rattle.pf_mount.specs.declared.work.Next.TheVariants.{Ask as Asks, Ready, Done}
 use Rattle.pf_mount.specs.Mounts.{MountIs, Outcome, answered, opening, starting}
 use Rattle.pf_protocol.specs.declared.events.Event.TheVariants as events
-use Rattle.pf_applyrounds.specs.Chunks.{made_chunk}
-use Rattle.pf_applyrounds.specs.Halts.{Halt}
-use Rattle.pf_chunk.specs.Driving.{asked, asked_at, driven}
-use Rattle.pf_chunk.specs.Asking.{fetched}
-use Rattle.pf_chunk.specs.Happenings.{happened}
-use Rattle.pf_chunk.specs.Lending.{all_happened}
-use Rattle.pf_chunk.specs.Runs.{ChunkRun, left_by_ports, mover_port, new_run, taking_ports}
-use Rattle.pf_hosts.specs.Moments.{Heard, Moment}
-use Rattle.pf_hosts.specs.Hosts.{Drove, HostIs, Stepped, begun, call_of, comes_of, drove, drove_of, events_of, group_of, hands_to, next_of, number_of, put_at, replied, run_after, stepped, stepped_at, with_run}
+use Rattle.pf_world.specs.pf_applyrounds.specs.Chunks.{made_chunk}
+use Rattle.pf_world.specs.pf_applyrounds.specs.Halts.{Halt}
+use Rattle.pf_world.specs.pf_chunk.specs.Driving.{asked, asked_at, driven}
+use Rattle.pf_world.specs.pf_chunk.specs.Asking.{fetched}
+use Rattle.pf_world.specs.pf_chunk.specs.Happenings.{happened}
+use Rattle.pf_world.specs.pf_chunk.specs.Lending.{all_happened}
+use Rattle.pf_world.specs.pf_chunk.specs.Runs.{ChunkRun, left_by_ports, mover_port, new_run, taking_ports}
+use Rattle.pf_world.specs.pf_hosts.specs.Moments.{Heard, Moment}
+use Rattle.pf_world.specs.pf_hosts.specs.Hosts.{Drove, HostIs, Stepped, begun, call_of, comes_of, drove, drove_of, events_of, group_of, hands_to, next_of, number_of, put_at, replied, run_after, stepped, stepped_at, with_run}
 use Rattle.pf_move.specs.declared.mover.MoveNext.{MoveNext}
 use Rattle.pf_move.specs.declared.mover.MoveNext.TheVariants.{Read, Switch, Write}
 use Rattle.pf_move.specs.Movers.{MoverIs, Step, new_mover, step}
 use Rattle.pf_move.specs.Routes.{RoutesIs, home_of}
-use Rattle.pf_fleet.specs.Volumes.{VolumeRun, carries, moved_from, moves_from, with_chunk, with_new}
+use Rattle.pf_world.specs.pf_fleet.specs.Volumes.{VolumeRun, carries, moved_from, moves_from, with_chunk, with_new}
 use Rattle.pf_world.specs.declared.kind.Kind.{Kind}
 use Rattle.pf_world.specs.declared.kind.Kind.TheVariants.{Mounted, Raw}
 use Rattle.pf_world.specs.Worlds.{made}
 use Rattle.pf_world.specs.Reports.{world_run}
-use Rattle.pf_threads.specs.Sessions.{Session}
+use Rattle.pf_world.specs.pf_threads.specs.Sessions.{Session}
 use Rattle.pf_world.specs.declared.line.Line.{Line}
 use Rattle.pf_mounted.specs.Scripts.{IsPlainRun}
 use Rattle.pf_mounted.proofs.Growing.{all_grow, fetched_grows, happened_grows}

@@ -11,7 +11,7 @@ use Rattle.pf_entry.specs.Lists.{Every}
 use Rattle.pf_base.specs.declared.asks.Ask.{Ask}
 use Rattle.pf_entry.proofs.Cases.{by_test}
 use Rattle.pf_entry.proofs.Lists.{every_more, set_cases}
-use Rattle.pf_network.proofs.Lists.{end_cases, set_length, something_there}
+use Rattle.pf_ports.specs.pf_network.proofs.Lists.{end_cases, set_length, something_there}
 use Rattle.pf_protocol.specs.declared.events.Event.TheVariants.{Fetch}
 use Rattle.pf_volume.specs.Volumes.{Extent}
 use Rattle.pf_asks.specs.Ports.{PortIs, new_port, rehomed}
@@ -23,19 +23,19 @@ use Rattle.pf_move.specs.Movers.{MoverIs, Step, new_mover, step}
 use Rattle.pf_move.specs.Routes.{RoutesIs, home_of, switched}
 use Rattle.pf_report.specs.Moves.{moved_text}
 use Rattle.pf_report.specs.Texts.{event_line}
-use Rattle.pf_applyrounds.specs.Chunks.{Chunk, after, made_chunk}
-use Rattle.pf_applyrounds.specs.Halts.{Halt}
-use Rattle.pf_applyrounds.proofs.Extending.{after_extends, applied_extends}
-use Rattle.pf_chunk.specs.Asking.{fetched}
-use Rattle.pf_chunk.specs.Driving.{ask_of}
-use Rattle.pf_chunk.specs.Happenings.{followed, happened}
-use Rattle.pf_chunk.specs.Lending.{all_happened}
-use Rattle.pf_chunk.specs.Runs.{ChunkRun, left_by_ports, most_ports, mover_port, new_run, taking_ports}
-use Rattle.pf_chunk.proofs.Begun.{happened_extends}
-use Rattle.pf_hosts.specs.Moments.{Carries, Heard, Moment, Moves as MovesTo, Writes}
-use Rattle.pf_hosts.specs.Hosts.{Drove, HostIs, Stepped, begun, drove, made_host, put_at, stepped}
-use Rattle.pf_fleet.specs.Volumes.{Hosts, VolumeRun, carries, carries_on, host_at, killed, moved_from, mover_group, mover_steps, moves, moves_from, there, with_chunk, with_new}
-use Rattle.pf_threads.specs.Sessions.{Session}
+use Rattle.pf_world.specs.pf_applyrounds.specs.Chunks.{Chunk, after, made_chunk}
+use Rattle.pf_world.specs.pf_applyrounds.specs.Halts.{Halt}
+use Rattle.pf_world.specs.pf_applyrounds.proofs.Extending.{after_extends, applied_extends}
+use Rattle.pf_world.specs.pf_chunk.specs.Asking.{fetched}
+use Rattle.pf_world.specs.pf_chunk.specs.Driving.{ask_of}
+use Rattle.pf_world.specs.pf_chunk.specs.Happenings.{followed, happened}
+use Rattle.pf_world.specs.pf_chunk.specs.Lending.{all_happened}
+use Rattle.pf_world.specs.pf_chunk.specs.Runs.{ChunkRun, left_by_ports, most_ports, mover_port, new_run, taking_ports}
+use Rattle.pf_world.specs.pf_chunk.proofs.Begun.{happened_extends}
+use Rattle.pf_world.specs.pf_hosts.specs.Moments.{Carries, Heard, Moment, Moves as MovesTo, Writes}
+use Rattle.pf_world.specs.pf_hosts.specs.Hosts.{Drove, HostIs, Stepped, begun, drove, made_host, put_at, stepped}
+use Rattle.pf_world.specs.pf_fleet.specs.Volumes.{Hosts, VolumeRun, carries, carries_on, host_at, killed, moved_from, mover_group, mover_steps, moves, moves_from, there, with_chunk, with_new}
+use Rattle.pf_world.specs.pf_threads.specs.Sessions.{Session}
 use Rattle.pf_world.specs.declared.line.Line.{Line}
 use Rattle.pf_world.specs.Worlds.{first_routes, made}
 use Rattle.pf_world.specs.Reports.{world_run}

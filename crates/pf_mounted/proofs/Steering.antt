@@ -16,12 +16,12 @@ use Rattle.pf_move.specs.Movers.{MoverIs, Step, step}
 use Rattle.pf_move.specs.Routes.{Between, RoutesIs, between, between_in, switched}
 use Rattle.pf_report.specs.Moves.{moved_text}
 use Rattle.pf_report.specs.Texts.{event_line}
-use Rattle.pf_applyrounds.specs.Halts.{Halt}
-use Rattle.pf_chunk.specs.Runs.{mover_port}
-use Rattle.pf_hosts.specs.Hosts.{Drove, drove, events_of, put_at}
-use Rattle.pf_hosts.specs.Moments.{Carries, Heard, Moment, Writes}
-use Rattle.pf_fleet.specs.Volumes.{VolumeRun, asked_group, asks_in, carries, mover_group, mover_hands, mover_hands_to, mover_hears_in, mover_replied, mover_steps, mover_steps_at}
-use Rattle.pf_fleet.specs.Volumes as volumes
+use Rattle.pf_world.specs.pf_applyrounds.specs.Halts.{Halt}
+use Rattle.pf_world.specs.pf_chunk.specs.Runs.{mover_port}
+use Rattle.pf_world.specs.pf_hosts.specs.Hosts.{Drove, drove, events_of, put_at}
+use Rattle.pf_world.specs.pf_hosts.specs.Moments.{Carries, Heard, Moment, Writes}
+use Rattle.pf_world.specs.pf_fleet.specs.Volumes.{VolumeRun, asked_group, asks_in, carries, mover_group, mover_hands, mover_hands_to, mover_hears_in, mover_replied, mover_steps, mover_steps_at}
+use Rattle.pf_world.specs.pf_fleet.specs.Volumes as volumes
 use Rattle.pf_world.specs.declared.kind.Kind.{Kind}
 use Rattle.pf_mounted.specs.Movers.{ask_to_carry, role_of_ask}
 use Rattle.pf_mounted.proofs.Bearing.{Bears, IsBearing, IsFree, ask_bears, ask_so, asked_by, back_then, between_is, drove_so, free_then, group_for, none_bears, step_asks, switch_so}

@@ -28,8 +28,8 @@ use Rattle.pf_paxos.specs.Runs.{Starts}
 use Rattle.pf_paxos.proofs.Listing.{call_there}
 use Rattle.pf_paxos.proofs.PuttingIn.{was_put_in}
 use Rattle.pf_mount.specs.Mounts.{MountIs}
-use Rattle.pf_hosts.specs.Moments.{Moment}
-use Rattle.pf_hosts.proofs.Words.{call_spelled}
+use Rattle.pf_world.specs.pf_hosts.specs.Moments.{Moment}
+use Rattle.pf_world.specs.pf_hosts.proofs.Words.{call_spelled}
 use Rattle.pf_mounted.specs.Finding.{HasPutIn}
 use Rattle.pf_mounted.specs.Handing.{AreCallsOfWords}
 use Rattle.pf_mounted.specs.Journals.{AreOfMounts, CanBeDoings, Step, doings, steps_from}

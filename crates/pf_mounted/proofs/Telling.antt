@@ -10,19 +10,19 @@ use Rattle.pf_entry.specs.Lists.{Every}
 use Rattle.pf_entry.proofs.Lists.{every_append, every_more}
 use Rattle.pf_protocol.specs.Histories.{History, IsPrefix, replay}
 use Rattle.pf_protocol.specs.Servers.{Setup}
-use Rattle.pf_network.specs.Shown.{IsLeader}
-use Rattle.pf_network.proofs.Lists.{set_elsewhere, set_there}
+use Rattle.pf_ports.specs.pf_network.specs.Shown.{IsLeader}
+use Rattle.pf_ports.specs.pf_network.proofs.Lists.{set_elsewhere, set_there}
 use Rattle.pf_asks.specs.declared.port.Sent.{Sent}
 use Rattle.pf_asks.specs.Desks.{Call, Led}
 use Rattle.pf_asks.specs.Ports.{DrivesFrom, Hands as HandsTo, IsHanded, IsLed, PortIs, Stays, answered as answered_port, goes_to}
 use Rattle.pf_move.specs.declared.mover.Asked.{Asked}
 use Rattle.pf_ports.specs.Calls.{Past, Says}
 use Rattle.pf_ports.specs.Driven.{IsDriven, IsStep, Others, Puts}
-use Rattle.pf_applyrounds.specs.Chunks.{Chunk}
-use Rattle.pf_chunk.specs.Asks.{leader_of, reply_to}
-use Rattle.pf_chunk.specs.Driving.{asked, asked_at, with_port}
-use Rattle.pf_chunk.specs.Runs.{ChunkRun, mover_port}
-use Rattle.pf_hosts.specs.Moments.{Heard, Moment, Turns}
+use Rattle.pf_world.specs.pf_applyrounds.specs.Chunks.{Chunk}
+use Rattle.pf_world.specs.pf_chunk.specs.Asks.{leader_of, reply_to}
+use Rattle.pf_world.specs.pf_chunk.specs.Driving.{asked, asked_at, with_port}
+use Rattle.pf_world.specs.pf_chunk.specs.Runs.{ChunkRun, mover_port}
+use Rattle.pf_world.specs.pf_hosts.specs.Moments.{Heard, Moment, Turns}
 use Rattle.pf_mounted.specs.Pasts.{MoverTrace, Trace, asks_after, asking, at_carry, at_moment, mover_trace, moves_into, past_in, past_of, trace_in, trace_of}
 use Rattle.pf_mounted.proofs.Growing.{Grows}
 use Rattle.pf_mounted.proofs.Lives.{its_own, not_its_own}

@@ -17,10 +17,10 @@ use Rattle.pf_protocol.specs.declared.events.Event.{Event}
 use Rattle.pf_protocol.specs.declared.events.Event.TheVariants as events
 use Rattle.pf_protocol.specs.declared.events.Happening.{Happening}
 use Rattle.pf_protocol.specs.Histories.{History}
-use Rattle.pf_network.proofs.Lists.{at_front, something_there}
+use Rattle.pf_ports.specs.pf_network.proofs.Lists.{at_front, something_there}
 use Rattle.pf_ports.specs.Calls.{Past}
-use Rattle.pf_chunk.specs.Runs.{mover_port}
-use Rattle.pf_hosts.specs.Moments.{Begins, Carries, Ends, Hands, Heard, Moment, Moves as MovesTo, Turns, Writes}
+use Rattle.pf_world.specs.pf_chunk.specs.Runs.{mover_port}
+use Rattle.pf_world.specs.pf_hosts.specs.Moments.{Begins, Carries, Ends, Hands, Heard, Moment, Moves as MovesTo, Turns, Writes}
 use Rattle.pf_mounted.specs.Mounts.{asked_in, last_ask}
 use Rattle.pf_mounted.specs.Pasts.{LastAsk, MoverTrace, Trace, after_moment, asks_after, asking, at_carry, at_moment, first_chunk, handed_at, handed_by, is_at, moves_into, no_moves, no_trace, number_of, numbered, past_in, past_of, trace_in, trace_of, with_port}
 

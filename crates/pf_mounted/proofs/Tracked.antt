@@ -18,7 +18,7 @@ use Rattle.pf_protocol.specs.declared.events.Happening.{Happening}
 use Rattle.pf_protocol.specs.Histories.{History}
 use Rattle.pf_protocol.specs.Ports.{Submission}
 use Rattle.pf_ports.specs.Calls.{Fetching}
-use Rattle.pf_hosts.specs.Moments.{Begins, Carries, Ends, Hands, Heard, Moment, Moves as MovesTo, Turns, Writes}
+use Rattle.pf_world.specs.pf_hosts.specs.Moments.{Begins, Carries, Ends, Hands, Heard, Moment, Moves as MovesTo, Turns, Writes}
 use Rattle.pf_mounted.specs.Pasts.{LastAsk, Trace, after_moment, asking, asks_after, at_moment, first_chunk, handed_at, handed_by, is_at, no_trace, number_of, rehomed_in, trace_of}
 use Rattle.pf_mounted.proofs.Lives.{its_own, not_its_own}
 use Rattle.pf_mounted.proofs.Placing.{at_seam, by_ends, get_either, get_first, only_one, some_within}

@@ -17,7 +17,7 @@ use Rattle.pf_move.specs.declared.mover.MoveNext.{MoveNext}
 use Rattle.pf_move.specs.declared.mover.MoveNext.TheVariants.{Read, Write, Switch}
 use Rattle.pf_move.specs.Movers.{Fits, MoverIs, Step, is_zero, new_mover, piece, reads_on, step}
 use Rattle.pf_move.specs.Turns.{Copy, Turn, Turns as AreTurns, answers, answers_in, given, given_by, is_switch, is_switched, written, written_by}
-use Rattle.pf_hosts.specs.Moments.{Begins, Carries, Ends, Hands, Heard, Moment, Moves, Turns, Writes}
+use Rattle.pf_world.specs.pf_hosts.specs.Moments.{Begins, Carries, Ends, Hands, Heard, Moment, Moves, Turns, Writes}
 use Rattle.pf_mounted.specs.Carrying.{carried, moves_of, turn_of, with_turn}
 use Rattle.pf_mounted.specs.Epochs.{epoch_of}
 use Rattle.pf_mounted.specs.Movers.{IsOnTheMove, ask_to_carry}

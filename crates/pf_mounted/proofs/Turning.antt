@@ -2,7 +2,7 @@
 use Rattle.std.proofs.Common.{◌≡◌, ℕ, ◌+◌, ◌<◌, ◌≤◌, List, [], ◌∷◌, ◌++◌, length, Option, Some, slice_get, inl, inr, arith, sym, ap, subst, ◌∙◌, length-append}
 use Rattle.std.proofs.lemmas.List.{take-append-le}
 use Rattle.std.proofs.lemmas.Option.{slice_get_within}
-use Rattle.pf_network.proofs.Lists.{at_end, at_front, end_cases, something_there}
+use Rattle.pf_ports.specs.pf_network.proofs.Lists.{at_end, at_front, end_cases, something_there}
 use Rattle.pf_paxos.specs.declared.block.Block.{Block}
 use Rattle.pf_paxos.specs.Blocks.{zero_block}
 use Rattle.pf_paxos.specs.Registers.{Ask, AreRegisters, IsAnswered, Reply, Turn, block_before, block_from, member}

@@ -12,7 +12,7 @@ use Rattle.pf_protocol.specs.Histories.{History}
 use Rattle.pf_tree.specs.declared.calls.FileCall.{FileCall}
 use Rattle.pf_volume.specs.Volumes.{Extent}
 use Rattle.pf_mount.specs.Mounts.{MountIs, answered, opening, starting}
-use Rattle.pf_hosts.specs.Moments.{Begins, Carries, Ends, Hands, Heard, Moment, Moves as MovesTo, Turns, Writes}
+use Rattle.pf_world.specs.pf_hosts.specs.Moments.{Begins, Carries, Ends, Hands, Heard, Moment, Moves as MovesTo, Turns, Writes}
 use Rattle.pf_mounted.specs.Journals.{AreOfMounts, CanBegin, IsOfMount, IsTurn}
 use Rattle.pf_mounted.specs.Mounts.{Life, ask_in, asked_in, calling, last_ask, life_of, lived, mount_in, turned}
 use Rattle.pf_mounted.specs.Pasts.{trace_of}

@@ -10,13 +10,13 @@ use Rattle.pf_protocol.specs.declared.answers.Answer.{Answer}
 use Rattle.pf_protocol.specs.declared.events.Event.TheVariants.{Submit}
 use Rattle.pf_protocol.specs.declared.events.Happening.{Happening}
 use Rattle.pf_asks.specs.Ports.{PortIs}
-use Rattle.pf_network.proofs.Lists.{end_cases}
-use Rattle.pf_applyrounds.specs.Chunks.{Chunk}
-use Rattle.pf_applyrounds.specs.Halts.{Halt}
-use Rattle.pf_chunk.specs.Driving.{Driven, asked, asked_at, driven, event_of_ask}
-use Rattle.pf_chunk.specs.Runs.{ChunkRun}
-use Rattle.pf_hosts.specs.Hosts.{drove_of, handed, run_after, with_run}
-use Rattle.pf_hosts.specs.Moments.{Hands, Moment, Writes}
+use Rattle.pf_ports.specs.pf_network.proofs.Lists.{end_cases}
+use Rattle.pf_world.specs.pf_applyrounds.specs.Chunks.{Chunk}
+use Rattle.pf_world.specs.pf_applyrounds.specs.Halts.{Halt}
+use Rattle.pf_world.specs.pf_chunk.specs.Driving.{Driven, asked, asked_at, driven, event_of_ask}
+use Rattle.pf_world.specs.pf_chunk.specs.Runs.{ChunkRun}
+use Rattle.pf_world.specs.pf_hosts.specs.Hosts.{drove_of, handed, run_after, with_run}
+use Rattle.pf_world.specs.pf_hosts.specs.Moments.{Hands, Moment, Writes}
 use Rattle.pf_mounted.specs.Handing.{AreMountsAlone}
 use Rattle.pf_mounted.proofs.Handovers.{IsHandedIf, driven_hands}
 use Rattle.pf_mounted.proofs.Writing.{AddsNoWrite, none_added}

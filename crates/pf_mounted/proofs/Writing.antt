@@ -8,14 +8,14 @@ use Rattle.pf_protocol.specs.declared.events.Event.{Event}
 use Rattle.pf_protocol.specs.declared.events.Event.TheVariants as events
 use Rattle.pf_protocol.specs.declared.events.Happening.{Happening}
 use Rattle.pf_protocol.specs.Histories.{History}
-use Rattle.pf_network.proofs.Lists.{end_cases}
-use Rattle.pf_applyrounds.specs.Halts.{Halt}
-use Rattle.pf_applyrounds.specs.Chunks.{Chunk, after, answered, listed, listed_at}
-use Rattle.pf_applyrounds.specs.Rounds.{applied}
-use Rattle.pf_chunk.specs.Asking.{fetched}
-use Rattle.pf_chunk.specs.Happenings.{followed, happened}
-use Rattle.pf_chunk.specs.Runs.{ChunkRun}
-use Rattle.pf_chunk.proofs.Begun.{filled_group}
+use Rattle.pf_ports.specs.pf_network.proofs.Lists.{end_cases}
+use Rattle.pf_world.specs.pf_applyrounds.specs.Halts.{Halt}
+use Rattle.pf_world.specs.pf_applyrounds.specs.Chunks.{Chunk, after, answered, listed, listed_at}
+use Rattle.pf_world.specs.pf_applyrounds.specs.Rounds.{applied}
+use Rattle.pf_world.specs.pf_chunk.specs.Asking.{fetched}
+use Rattle.pf_world.specs.pf_chunk.specs.Happenings.{followed, happened}
+use Rattle.pf_world.specs.pf_chunk.specs.Runs.{ChunkRun}
+use Rattle.pf_world.specs.pf_chunk.proofs.Begun.{filled_group}
 use Rattle.pf_mounted.proofs.Applying.{all_applied}
 use Rattle.pf_mounted.proofs.Growing.{after_history}
 

@@ -17,7 +17,7 @@ use Rattle.pf_files.specs.Moving.{stat_of}
 use Rattle.pf_files.specs.declared.answers.CallAnswer.{CallAnswer}
 use Rattle.pf_files.specs.declared.answers.CallAnswer.TheVariants.{Fine, Bytes, Names, Refused}
 use Rattle.pf_files.specs.declared.answers.CallFault.TheVariants.{JournalFull}
-use Rattle.pf_hosts.specs.Moments.{Moment}
+use Rattle.pf_world.specs.pf_hosts.specs.Moments.{Moment}
 use Rattle.pf_mounted.specs.Exchanges.{AreBytesOf, Exchange}
 use Rattle.pf_mounted.specs.Mounts.{tables_from}
 use Rattle.pf_mounted.specs.Trees.{call_named, data_blocks, tree_after}

@@ -5,7 +5,7 @@ use Rattle.std.specs.Option.{option_map}
 use Rattle.pf_base.specs.declared.asks.Reply.{Reply}
 use Rattle.pf_base.specs.declared.asks.Reply.TheVariants.{Bytes, Written}
 use Rattle.pf_move.specs.Turns.{Turn}
-use Rattle.pf_hosts.specs.Moments.{Heard, Moment, Carries, Moves}
+use Rattle.pf_world.specs.pf_hosts.specs.Moments.{Heard, Moment, Carries, Moves}
 use Rattle.pf_mounted.specs.Epochs.{epoch_of, group_at}
 
 -- the group of which a reply to the mover of the chunk comes: it reads the one that serves it, and writes the next

@@ -2,7 +2,7 @@
 use Rattle.std.specs.Prelude.{ℕ, ◌==◌, nat_lt, Bool, false, if◌then◌else◌, List, [], ◌∷◌, ◌++◌, length, Option, Some, None, slice_get}
 use Rattle.std.specs.List.{count_by, flat_map}
 use Rattle.pf_move.specs.declared.mover.MoveNext.TheVariants.{Switch}
-use Rattle.pf_hosts.specs.Moments.{Moment, Carries, Moves}
+use Rattle.pf_world.specs.pf_hosts.specs.Moments.{Moment, Carries, Moves}
 
 abbrev pub moved_to : (chunk : ℕ) → Moment → List ℕ
 moved_to chunk (Moves c group) = if c == chunk then group ∷ [] else []

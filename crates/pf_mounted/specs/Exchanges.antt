@@ -11,7 +11,7 @@ use Rattle.pf_tree.specs.Trees.{block_count}
 use Rattle.pf_files.specs.Blocks.{bytes_of, reads_block}
 use Rattle.pf_files.specs.Filling.{wanted}
 use Rattle.pf_files.specs.Moving.{block_at}
-use Rattle.pf_hosts.specs.Moments.{Heard, Moment, Turns}
+use Rattle.pf_world.specs.pf_hosts.specs.Moments.{Heard, Moment, Turns}
 use Rattle.pf_mounted.specs.Mounts.{asked_in}
 
 -- an ask with its reply

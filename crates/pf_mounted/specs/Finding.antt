@@ -7,7 +7,7 @@ use Rattle.pf_paxos.specs.Syncs.{FindsBal}
 use Rattle.pf_volume.specs.Volumes.{Extent}
 use Rattle.pf_mount.specs.declared.work.Work.TheVariants.{Ballots}
 use Rattle.pf_mount.specs.Mounts.{MountIs}
-use Rattle.pf_hosts.specs.Moments.{Moment}
+use Rattle.pf_world.specs.pf_hosts.specs.Moments.{Moment}
 use Rattle.pf_mounted.specs.Mounts.{mount_after}
 
 -- by some moment a read had found a nonzero bal in the position, and no ballot of the mount ran there

@@ -6,9 +6,9 @@ use Rattle.pf_asks.specs.Ports.{PortIs}
 use Rattle.pf_protocol.specs.Answers.{IsLegal}
 use Rattle.pf_protocol.specs.Groups.{Answered}
 use Rattle.pf_ports.specs.Driven.{IsDriven}
-use Rattle.pf_chunk.specs.Runs.{ChunkRun, mover_port}
+use Rattle.pf_world.specs.pf_chunk.specs.Runs.{ChunkRun, mover_port}
 use Rattle.pf_volume.specs.Volumes.{Extent}
-use Rattle.pf_hosts.specs.Moments.{Heard, Moment, Turns}
+use Rattle.pf_world.specs.pf_hosts.specs.Moments.{Heard, Moment, Turns}
 use Rattle.pf_mounted.specs.Handing.{AreHandedOn, reached}
 use Rattle.pf_mounted.specs.Hearing.{IsHeard}
 use Rattle.pf_mounted.specs.Hosted.{AreOfReads}

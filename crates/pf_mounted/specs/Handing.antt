@@ -8,11 +8,11 @@ use Rattle.pf_entry.specs.Ops.{Sector}
 use Rattle.pf_entry.specs.declared.ops.Op.TheVariants.{Write}
 use Rattle.pf_protocol.specs.declared.answers.Answer.{Answer}
 use Rattle.pf_protocol.specs.declared.events.Event.TheVariants.{Submit}
-use Rattle.pf_chunk.specs.Driving.{event_of_ask}
-use Rattle.pf_chunk.specs.Runs.{ChunkRun, mover_port}
-use Rattle.pf_hosts.specs.Moments.{Heard, Moment, Begins, Carries, Hands, Turns}
+use Rattle.pf_world.specs.pf_chunk.specs.Driving.{event_of_ask}
+use Rattle.pf_world.specs.pf_chunk.specs.Runs.{ChunkRun, mover_port}
+use Rattle.pf_world.specs.pf_hosts.specs.Moments.{Heard, Moment, Begins, Carries, Hands, Turns}
 use Rattle.pf_tree.specs.declared.calls.FileCall.{FileCall}
-use Rattle.pf_hosts.specs.Words.{read_call}
+use Rattle.pf_world.specs.pf_hosts.specs.Words.{read_call}
 use Rattle.pf_mounted.specs.Carrying.{asked_of}
 use Rattle.pf_mounted.specs.Epochs.{serving}
 use Rattle.pf_mounted.specs.Pasts.{is_at}

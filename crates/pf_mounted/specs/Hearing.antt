@@ -4,8 +4,8 @@ use Rattle.pf_base.specs.Asks.{chunk_of}
 use Rattle.pf_base.specs.declared.asks.Ask.{Ask}
 use Rattle.pf_protocol.specs.Answers.{IsLegal}
 use Rattle.pf_ports.specs.Replies.{IsReplied}
-use Rattle.pf_chunk.specs.Runs.{ChunkRun}
-use Rattle.pf_hosts.specs.Moments.{Heard, Moment}
+use Rattle.pf_world.specs.pf_chunk.specs.Runs.{ChunkRun}
+use Rattle.pf_world.specs.pf_hosts.specs.Moments.{Heard, Moment}
 use Rattle.pf_mounted.specs.Epochs.{serving}
 use Rattle.pf_mounted.specs.Mounts.{last_ask}
 use Rattle.pf_mounted.specs.Pasts.{past_of}

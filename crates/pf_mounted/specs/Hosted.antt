@@ -12,9 +12,9 @@ use Rattle.pf_protocol.specs.Ports.{Submission}
 use Rattle.pf_protocol.specs.Shown.{small_group}
 use Rattle.pf_positions.specs.Deeds.{Groups}
 use Rattle.pf_ports.specs.Replies.{WasRead}
-use Rattle.pf_chunk.specs.Runs.{ChunkRun}
+use Rattle.pf_world.specs.pf_chunk.specs.Runs.{ChunkRun}
 use Rattle.pf_volume.specs.Volumes.{Extent}
-use Rattle.pf_hosts.specs.Moments.{Heard, Moment, Turns}
+use Rattle.pf_world.specs.pf_hosts.specs.Moments.{Heard, Moment, Turns}
 use Rattle.pf_move.specs.Turns.{Turn, written}
 use Rattle.pf_move.specs.declared.mover.Asked.TheVariants.{Writing}
 use Rattle.pf_mounted.specs.Carrying.{moves_of}

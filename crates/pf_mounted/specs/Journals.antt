@@ -21,7 +21,7 @@ use Rattle.pf_mount.specs.declared.work.Work.{Work}
 use Rattle.pf_tree.specs.declared.calls.FileCall.{FileCall}
 use Rattle.pf_mount.specs.declared.work.Work.TheVariants.{Ballots, Moves, Rests, Syncs}
 use Rattle.pf_mount.specs.Mounts.{MountIs, answered, blocks_in, finds_value, opening, starting}
-use Rattle.pf_hosts.specs.Moments.{Heard, Moment, Begins, Turns, Hands}
+use Rattle.pf_world.specs.pf_hosts.specs.Moments.{Heard, Moment, Begins, Turns, Hands}
 use Rattle.pf_mounted.specs.Epochs.{Home, epoch_of, home_of}
 use Rattle.pf_mounted.specs.Mounts.{Life, ask_in, last_ask, life_of, mount_after, mount_in, turned}
 

@@ -10,8 +10,8 @@ use Rattle.pf_tree.specs.Standing.{StandsFor}
 use Rattle.pf_txn.specs.Reading.{txn_in}
 use Rattle.pf_files.specs.declared.answers.CallAnswer.{CallAnswer}
 use Rattle.pf_mount.specs.Mounts.{MountIs}
-use Rattle.pf_chunk.specs.Runs.{ChunkRun}
-use Rattle.pf_hosts.specs.Moments.{Ends, Moment}
+use Rattle.pf_world.specs.pf_chunk.specs.Runs.{ChunkRun}
+use Rattle.pf_world.specs.pf_hosts.specs.Moments.{Ends, Moment}
 use Rattle.pf_mounted.specs.Answering.{IsAnswered}
 use Rattle.pf_mounted.specs.Exchanges.{exchanges}
 use Rattle.pf_mounted.specs.Hosted.{AreOfReads, groups_of}

@@ -15,7 +15,7 @@ use Rattle.pf_mount.specs.Mounts.{MountIs, Outcome, answered, opening, starting}
 use Rattle.pf_mount.specs.Decisions.{decided_by}
 use Rattle.pf_mount.specs.declared.work.Next.{Next}
 use Rattle.pf_mount.specs.declared.work.Next.TheVariants.{Ask as Asks, Done}
-use Rattle.pf_hosts.specs.Moments.{Heard, Moment, Begins, Ends, Turns}
+use Rattle.pf_world.specs.pf_hosts.specs.Moments.{Heard, Moment, Begins, Ends, Turns}
 use Rattle.pf_world.specs.Lines.{rests}
 
 pub record Life : Type 0 where

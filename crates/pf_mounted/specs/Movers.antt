@@ -17,10 +17,10 @@ use Rattle.pf_move.specs.declared.mover.MoveNext.{MoveNext}
 use Rattle.pf_move.specs.declared.mover.MoveNext.TheVariants.{Read, Write, Switch}
 use Rattle.pf_move.specs.Movers.{MoverIs, new_mover}
 use Rattle.pf_move.specs.Turns.{Turn, Turns as AreTurns}
-use Rattle.pf_chunk.specs.Driving.{event_of_ask}
-use Rattle.pf_chunk.specs.Runs.{ChunkRun, mover_port}
+use Rattle.pf_world.specs.pf_chunk.specs.Driving.{event_of_ask}
+use Rattle.pf_world.specs.pf_chunk.specs.Runs.{ChunkRun, mover_port}
 use Rattle.pf_volume.specs.Volumes.{Extent, IsVolume}
-use Rattle.pf_hosts.specs.Moments.{Heard, Moment, Carries, Hands, Moves, Turns}
+use Rattle.pf_world.specs.pf_hosts.specs.Moments.{Heard, Moment, Carries, Hands, Moves, Turns}
 use Rattle.pf_mounted.specs.Carrying.{asked_of, moves_of}
 use Rattle.pf_mounted.specs.Epochs.{epoch_of, group_at, groups_in_turn}
 use Rattle.pf_mounted.specs.Handing.{reached}

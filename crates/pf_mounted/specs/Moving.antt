@@ -5,9 +5,9 @@ use Rattle.pf_epochs.specs.Copying.{IsCarriedOut}
 use Rattle.pf_epochs.specs.Routed.{IsRouted}
 use Rattle.pf_epochs.specs.Sectors.{RoutedSector}
 use Rattle.pf_move.specs.Turns.{Turn}
-use Rattle.pf_chunk.specs.Runs.{ChunkRun}
+use Rattle.pf_world.specs.pf_chunk.specs.Runs.{ChunkRun}
 use Rattle.pf_volume.specs.Volumes.{Extent}
-use Rattle.pf_hosts.specs.Moments.{Moment}
+use Rattle.pf_world.specs.pf_hosts.specs.Moments.{Moment}
 use Rattle.pf_mounted.specs.Carrying.{moves_of}
 use Rattle.pf_mounted.specs.Epochs.{epoch_of}
 use Rattle.pf_mounted.specs.Hosted.{AreOfReads, groups_of}

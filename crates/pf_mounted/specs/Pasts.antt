@@ -14,8 +14,8 @@ use Rattle.pf_move.specs.declared.mover.MoveNext.{MoveNext}
 use Rattle.pf_move.specs.declared.mover.Asked.{Asked}
 use Rattle.pf_move.specs.declared.mover.Asked.TheVariants.{Reading, Writing}
 use Rattle.pf_move.specs.declared.mover.MoveNext.TheVariants.{Read, Write}
-use Rattle.pf_chunk.specs.Runs.{mover_port}
-use Rattle.pf_hosts.specs.Moments.{Moment, Carries, Hands, Moves, Turns}
+use Rattle.pf_world.specs.pf_chunk.specs.Runs.{mover_port}
+use Rattle.pf_world.specs.pf_hosts.specs.Moments.{Moment, Carries, Hands, Moves, Turns}
 
 -- what a mount asked in its last turn: of which chunk, and the number of the ask
 pub record LastAsk : Type 0 where

@@ -9,7 +9,7 @@ use Rattle.pf_tree.specs.declared.calls.FileCall.{FileCall}
 use Rattle.pf_tree.specs.Trees.{Data, Tree, changed, new_tree}
 use Rattle.pf_txn.specs.Reading.{txn_in}
 use Rattle.pf_paxos.specs.Journals.{AreAllRegisters, Begins as BeginsList, IsTransactionList, journal_before}
-use Rattle.pf_hosts.specs.Moments.{Moment, Begins}
+use Rattle.pf_world.specs.pf_hosts.specs.Moments.{Moment, Begins}
 use Rattle.pf_mounted.specs.Journals.{AreOfMounts, CanBeDoings, doings}
 use Rattle.pf_mounted.specs.Mounts.{RestsIn, life_of}
 

@@ -1,13 +1,13 @@
 //! The law of who writes a block.
 ghost use Rattle.std.specs.Prelude.{◌≡◌, ℕ, ◌<◌, ◌≤◌, ◌++◌, [], List, Some, slice_get};
-ghost use Rattle.pf_chunk.specs.Runs.{ChunkRun};
+ghost use Rattle.pf_world.specs.pf_chunk.specs.Runs.{ChunkRun};
 ghost use Rattle.pf_positions.specs.Homes.{chunk_of, sector_of};
 ghost use Rattle.pf_entry.specs.Ops.{Sector};
 ghost use Rattle.pf_epochs.specs.Routed.{AreOfPorts};
 ghost use Rattle.pf_protocol.specs.Ports.{Submission};
 ghost use Rattle.pf_registers.specs.Orders.{given};
 ghost use Rattle.pf_positions.specs.Volumes.{home_of};
-ghost use Rattle.pf_hosts.specs.Moments.{Moment};
+ghost use Rattle.pf_world.specs.pf_hosts.specs.Moments.{Moment};
 ghost use Rattle.pf_mounted.specs.Handing.{AreHandedOn, AreMountsAlone};
 ghost use Rattle.pf_mounted.specs.Hosted.{groups_of};
 ghost use Rattle.pf_mounted.specs.Journals.{AreOfMounts, CanBeDoings};

@@ -1,7 +1,7 @@
 //! Laws of what file calls answer.
 ghost use Rattle.std.specs.Prelude.{◌≡◌, ◌≢◌, ℕ, ◌++◌, List, Some};
 ghost use Rattle.pf_files.specs.declared.answers.CallAnswer.{CallAnswer as AnswerIs};
-ghost use Rattle.pf_hosts.specs.Moments.{Moment};
+ghost use Rattle.pf_world.specs.pf_hosts.specs.Moments.{Moment};
 ghost use Rattle.pf_mount.specs.Mounts.{MountIs};
 ghost use Rattle.pf_mount.specs.declared.work.Work.TheVariants.{Fails};
 ghost use Rattle.pf_mounted.specs.Answering.{IsAnswered};

@@ -2,7 +2,7 @@
 ghost use Rattle.std.specs.Prelude.{◌≡◌, ◌≢◌, ℕ, true, ◌++◌, ◌∷◌, [], List, Option, None, Some};
 ghost use Rattle.pf_base.specs.declared.asks.Reply.TheVariants.{Bytes};
 ghost use Rattle.pf_entry.specs.Ops.{Sector};
-ghost use Rattle.pf_hosts.specs.Moments.{Moment};
+ghost use Rattle.pf_world.specs.pf_hosts.specs.Moments.{Moment};
 ghost use Rattle.pf_mount.specs.Decisions.{decided_by};
 ghost use Rattle.pf_mount.specs.Mounts.{MountIs, blocks_in, finds_value};
 ghost use Rattle.pf_mount.specs.declared.work.Work.TheVariants.{Ballots};

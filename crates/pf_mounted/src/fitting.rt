@@ -2,9 +2,9 @@
 ghost use Rattle.std.specs.Prelude.{◌≡◌, ℕ, ◌<◌, ◌++◌, ◌∷◌, [], List, None, Option, Some, length};
 ghost use Rattle.pf_base.specs.Asks.{chunk_of};
 ghost use Rattle.pf_base.specs.declared.asks.Ask.{Ask as AskIs};
-ghost use Rattle.pf_chunk.specs.Runs.{ChunkRun};
+ghost use Rattle.pf_world.specs.pf_chunk.specs.Runs.{ChunkRun};
 ghost use Rattle.pf_positions.specs.Deeds.{Fits, Takes};
-ghost use Rattle.pf_hosts.specs.Moments.{Heard, Moment, Turns};
+ghost use Rattle.pf_world.specs.pf_hosts.specs.Moments.{Heard, Moment, Turns};
 ghost use Rattle.pf_mounted.specs.Epochs.{epoch_of};
 ghost use Rattle.pf_mounted.specs.Fitting.{IsOfRun};
 ghost use Rattle.pf_mounted.specs.Hosted.{groups_of};

@@ -1,15 +1,15 @@
 //! What ports handed on, in the run of every script with any list of halts.
 ghost use Rattle.std.specs.Prelude.{◌≡◌, ◌≢◌, ℕ, ◌≤◌, ◌++◌, ◌∷◌, List, Option, Some, None, length, slice_get};
 ghost use Rattle.pf_base.specs.declared.asks.Ask.{Ask as AskIs};
-ghost use Rattle.pf_chunk.specs.Runs.{ChunkRun};
-ghost use Rattle.pf_hosts.specs.Moments.{Heard, Moment, Turns};
+ghost use Rattle.pf_world.specs.pf_chunk.specs.Runs.{ChunkRun};
+ghost use Rattle.pf_world.specs.pf_hosts.specs.Moments.{Heard, Moment, Turns};
 ghost use Rattle.pf_mounted.specs.Handing.{AreCallsOfWords, AreHandedOn, AreMountsAlone, reached};
 ghost use Rattle.pf_mounted.specs.Mounts.{life_of};
 ghost use Rattle.pf_mounted.specs.Scripts.{IsPlainRun, IsScript};
-ghost use Rattle.pf_applyrounds.specs.Halts.{Halt};
+ghost use Rattle.pf_world.specs.pf_applyrounds.specs.Halts.{Halt};
 ghost use Rattle.pf_world.specs.Reports.{world_run};
 ghost use Rattle.pf_world.specs.declared.kind.Kind.TheVariants.{Mounted};
-ghost use Rattle.pf_threads.specs.Sessions.{Session};
+ghost use Rattle.pf_world.specs.pf_threads.specs.Sessions.{Session};
 ghost use Rattle.pf_world.specs.declared.line.Line.{Line as LineIs};
 
 /// Where the journal never lies on three anchors, each event by which a port was told to hand an ask on is that of what its mount asked last, and lies behind all of the group's history

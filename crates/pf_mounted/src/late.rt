@@ -1,7 +1,7 @@
 //! Laws of the position at which a call is planned.
 ghost use Rattle.std.specs.Prelude.{◌≡◌, ℕ, ◌<◌, ◌≤◌, ◌^◌, ◌++◌, ◌∷◌, [], List, Some, length, slice_get};
 ghost use Rattle.pf_files.specs.declared.answers.CallAnswer.{CallAnswer};
-ghost use Rattle.pf_hosts.specs.Moments.{Begins, Ends, Moment};
+ghost use Rattle.pf_world.specs.pf_hosts.specs.Moments.{Begins, Ends, Moment};
 ghost use Rattle.pf_inodes.specs.declared.changes.Txn.{Txn as TxnIs};
 ghost use Rattle.pf_mount.specs.Mounts.{MountIs};
 ghost use Rattle.pf_mounted.specs.Journals.{AreOfMounts, CanBeDoings, doings};
@@ -11,13 +11,13 @@ ghost use Rattle.pf_mounted.specs.Mounts.{mount_after};
 ghost use Rattle.pf_mounted.specs.Scripts.{IsScript};
 ghost use Rattle.pf_paxos.specs.Journals.{AreAllRegisters, IsTransactionList};
 ghost use Rattle.pf_protocol.specs.Groups.{Answered};
-ghost use Rattle.pf_applyrounds.specs.Halts.{Halt};
+ghost use Rattle.pf_world.specs.pf_applyrounds.specs.Halts.{Halt};
 ghost use Rattle.pf_tree.specs.declared.calls.FileCall.{FileCall};
 ghost use Rattle.pf_txn.specs.Reading.{txn_in};
 ghost use Rattle.pf_volume.specs.Volumes.{Extent, IsVolume};
 ghost use Rattle.pf_world.specs.Headline.{IsLawfulRun};
 ghost use Rattle.pf_world.specs.Reports.{world_run};
-ghost use Rattle.pf_threads.specs.Sessions.{Session};
+ghost use Rattle.pf_world.specs.pf_threads.specs.Sessions.{Session};
 ghost use Rattle.pf_world.specs.declared.line.Line.{Line as LineIs};
 
 /// Once a call has been planned, its mount stands no lower than any mount stood as the call began. So it is over what was told, and in each

@@ -5,11 +5,11 @@ ghost use Rattle.pf_base.specs.Asks.{chunk_of};
 ghost use Rattle.pf_base.specs.declared.asks.Ask.{Ask as AskIs};
 ghost use Rattle.pf_files.specs.declared.answers.CallAnswer.{CallAnswer};
 ghost use Rattle.pf_asks.specs.Ports.{PortIs};
-ghost use Rattle.pf_chunk.specs.Driving.{ask_of};
-ghost use Rattle.pf_chunk.specs.Runs.{ChunkRun, mover_port};
-ghost use Rattle.pf_fleet.specs.Volumes.{host_at};
-ghost use Rattle.pf_hosts.specs.Hosts.{HostIs};
-ghost use Rattle.pf_hosts.specs.Moments.{Begins, Ends, Heard, Moment, Turns};
+ghost use Rattle.pf_world.specs.pf_chunk.specs.Driving.{ask_of};
+ghost use Rattle.pf_world.specs.pf_chunk.specs.Runs.{ChunkRun, mover_port};
+ghost use Rattle.pf_world.specs.pf_fleet.specs.Volumes.{host_at};
+ghost use Rattle.pf_world.specs.pf_hosts.specs.Hosts.{HostIs};
+ghost use Rattle.pf_world.specs.pf_hosts.specs.Moments.{Begins, Ends, Heard, Moment, Turns};
 ghost use Rattle.pf_mount.specs.Mounts.{MountIs};
 ghost use Rattle.pf_move.specs.declared.mover.Asked.{Asked};
 ghost use Rattle.pf_move.specs.declared.routes.Route.{Route};
@@ -21,7 +21,7 @@ ghost use Rattle.pf_mounted.specs.Journals.{AreOfMounts, CanBeDoings, deeds, doi
 ghost use Rattle.pf_mounted.specs.Pasts.{mover_trace, past_in, past_of};
 ghost use Rattle.pf_mounted.specs.Scripts.{IsPlainRun, IsScript};
 ghost use Rattle.pf_ports.specs.Driven.{IsDriven};
-ghost use Rattle.pf_applyrounds.specs.Halts.{Halt};
+ghost use Rattle.pf_world.specs.pf_applyrounds.specs.Halts.{Halt};
 ghost use Rattle.pf_tree.specs.declared.calls.FileCall.{FileCall};
 ghost use Rattle.pf_volume.specs.Volumes.{Extent, IsVolume};
 ghost use Rattle.pf_positions.specs.Volumes.{IsSameJournal};
@@ -29,7 +29,7 @@ ghost use Rattle.pf_journal.specs.Sectors.{block_in};
 ghost use Rattle.pf_paxos.specs.Journals.{journal_from, new_journal};
 ghost use Rattle.pf_protocol.specs.Groups.{Answered};
 ghost use Rattle.pf_world.specs.Reports.{world_run};
-ghost use Rattle.pf_threads.specs.Sessions.{Session};
+ghost use Rattle.pf_world.specs.pf_threads.specs.Sessions.{Session};
 ghost use Rattle.pf_world.specs.declared.line.Line.{Line as LineIs};
 
 /// Where the journal never lies on three anchors, each port of a mount into each group did, in the order in which it was told, what a port

@@ -1,17 +1,17 @@
 //! One list of transactions.
 ghost use Rattle.std.specs.Prelude.{◌≡◌, ◌≢◌, ℕ, ◌^◌, ◌<◌, ◌++◌, List, Some, length};
-ghost use Rattle.pf_hosts.specs.Moments.{Moment};
+ghost use Rattle.pf_world.specs.pf_hosts.specs.Moments.{Moment};
 ghost use Rattle.pf_mount.specs.Mounts.{MountIs};
 ghost use Rattle.pf_mount.specs.declared.work.Work.TheVariants.{Fails};
 ghost use Rattle.pf_mounted.specs.Lists.{HasOneList};
 ghost use Rattle.pf_mounted.specs.Moving.{AreRoutedSectors};
 ghost use Rattle.pf_mounted.specs.Mounts.{mount_after};
 ghost use Rattle.pf_mounted.specs.Scripts.{IsScript};
-ghost use Rattle.pf_applyrounds.specs.Halts.{Halt};
+ghost use Rattle.pf_world.specs.pf_applyrounds.specs.Halts.{Halt};
 ghost use Rattle.pf_volume.specs.Volumes.{IsVolume};
 ghost use Rattle.pf_world.specs.Headline.{IsLawfulRun};
 ghost use Rattle.pf_world.specs.Reports.{world_run};
-ghost use Rattle.pf_threads.specs.Sessions.{Session};
+ghost use Rattle.pf_world.specs.pf_threads.specs.Sessions.{Session};
 ghost use Rattle.pf_world.specs.declared.line.Line.{Line as LineIs};
 
 /// In a run with a mount, whose groups are lawful, there is one list of transactions, decided position by position over the groups that serve

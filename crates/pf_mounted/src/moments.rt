@@ -2,8 +2,8 @@
 ghost use Rattle.std.specs.Prelude.{◌≡◌, ℕ, ◌≤◌, ◌++◌, ◌∷◌, [], List, Option, Some, None, length, slice_get};
 ghost use Rattle.pf_base.specs.Asks.{chunk_of};
 ghost use Rattle.pf_base.specs.declared.asks.Ask.{Ask as AskIs};
-ghost use Rattle.pf_chunk.specs.Runs.{ChunkRun, most_ports};
-ghost use Rattle.pf_hosts.specs.Moments.{Heard, Moment, Turns};
+ghost use Rattle.pf_world.specs.pf_chunk.specs.Runs.{ChunkRun, most_ports};
+ghost use Rattle.pf_world.specs.pf_hosts.specs.Moments.{Heard, Moment, Turns};
 ghost use Rattle.pf_mounted.specs.Epochs.{serving};
 ghost use Rattle.pf_mounted.specs.Handing.{reached};
 ghost use Rattle.pf_mounted.specs.Hosted.{AreOfReads};
@@ -11,10 +11,10 @@ ghost use Rattle.pf_mounted.specs.Journals.{AreOfMounts};
 ghost use Rattle.pf_mounted.specs.Mounts.{last_ask};
 ghost use Rattle.pf_mounted.specs.Scripts.{IsPlainRun, IsScript};
 ghost use Rattle.pf_protocol.specs.Groups.{Answered};
-ghost use Rattle.pf_applyrounds.specs.Halts.{Halt};
+ghost use Rattle.pf_world.specs.pf_applyrounds.specs.Halts.{Halt};
 ghost use Rattle.pf_world.specs.Headline.{IsLawfulRun};
 ghost use Rattle.pf_world.specs.Reports.{world_run};
-ghost use Rattle.pf_threads.specs.Sessions.{Session};
+ghost use Rattle.pf_world.specs.pf_threads.specs.Sessions.{Session};
 ghost use Rattle.pf_world.specs.declared.line.Line.{Line as LineIs};
 
 /// In a run whose groups are lawful each moment that is told is what its mount does after all that was told before, and the bytes that it

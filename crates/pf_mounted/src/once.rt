@@ -1,17 +1,17 @@
 //! Laws of how often a call stands in the transaction list, and of how many calls there are.
 ghost use Rattle.std.specs.Prelude.{◌≡◌, ℕ, ◌<◌, ◌≤◌, ◌^◌, [], List, Some, length, slice_get};
-ghost use Rattle.pf_hosts.specs.Moments.{Moment};
+ghost use Rattle.pf_world.specs.pf_hosts.specs.Moments.{Moment};
 ghost use Rattle.pf_inodes.specs.declared.changes.Txn.{Txn as TxnIs};
 ghost use Rattle.pf_mount.specs.Mounts.{MountIs};
 ghost use Rattle.pf_mounted.specs.Journals.{AreOfMounts, CanBeDoings, doings};
 ghost use Rattle.pf_mounted.specs.Mounts.{mount_after};
 ghost use Rattle.pf_paxos.specs.Journals.{AreAllRegisters, IsTransactionList};
 ghost use Rattle.pf_protocol.specs.Groups.{Answered};
-ghost use Rattle.pf_applyrounds.specs.Halts.{Halt};
+ghost use Rattle.pf_world.specs.pf_applyrounds.specs.Halts.{Halt};
 ghost use Rattle.pf_txn.specs.Reading.{txn_in};
 ghost use Rattle.pf_volume.specs.Volumes.{Extent, IsVolume};
 ghost use Rattle.pf_world.specs.Reports.{world_run};
-ghost use Rattle.pf_threads.specs.Sessions.{Session};
+ghost use Rattle.pf_world.specs.pf_threads.specs.Sessions.{Session};
 ghost use Rattle.pf_world.specs.declared.line.Line.{Line as LineIs};
 
 /// A call has at most one transaction: no two positions of the transaction list have values that spell transactions of one call. Fewer than

@@ -2,7 +2,7 @@
 ghost use Rattle.std.specs.Prelude.{◌≡◌, ℕ, ◌≤◌, List, Some};
 ghost use Rattle.pf_base.specs.declared.asks.Reply.{Reply};
 ghost use Rattle.pf_base.specs.declared.calls.Call.{Call};
-ghost use Rattle.pf_hosts.specs.Words.{read_call};
+ghost use Rattle.pf_world.specs.pf_hosts.specs.Words.{read_call};
 ghost use Rattle.pf_mount.specs.declared.work.Work.TheVariants.{Ballots};
 ghost use Rattle.pf_mount.specs.Decisions.{decided_by};
 ghost use Rattle.pf_mount.specs.Mounts.{MountIs, answered, opening, starting};

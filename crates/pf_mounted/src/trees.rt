@@ -1,16 +1,16 @@
 //! Laws of the user's tree.
 ghost use Rattle.std.specs.Prelude.{◌≡◌, ℕ, ◌≤◌, ◌++◌, List, Some, length, take};
-ghost use Rattle.pf_hosts.specs.Moments.{Moment};
+ghost use Rattle.pf_world.specs.pf_hosts.specs.Moments.{Moment};
 ghost use Rattle.pf_mount.specs.Mounts.{MountIs};
 ghost use Rattle.pf_mounted.specs.Handing.{AreCallsOfWords};
 ghost use Rattle.pf_mounted.specs.Mounts.{mount_after, tables_from};
 ghost use Rattle.pf_mounted.specs.Trees.{AreBegunAtRest, AreFewCalls, IsOverList, calls_of, data_blocks, tree_after};
 ghost use Rattle.pf_protocol.specs.Groups.{Answered};
-ghost use Rattle.pf_applyrounds.specs.Halts.{Halt};
+ghost use Rattle.pf_world.specs.pf_applyrounds.specs.Halts.{Halt};
 ghost use Rattle.pf_tree.specs.Standing.{StandsFor};
 ghost use Rattle.pf_volume.specs.Volumes.{Extent, IsVolume};
 ghost use Rattle.pf_world.specs.Reports.{world_run};
-ghost use Rattle.pf_threads.specs.Sessions.{Session};
+ghost use Rattle.pf_world.specs.pf_threads.specs.Sessions.{Session};
 ghost use Rattle.pf_world.specs.declared.line.Line.{Line as LineIs};
 
 /// After the first transactions of the list, however many, the tables stand for the user's tree after the calls that these name. So at each

@@ -10,3 +10,4 @@ pub mod Unread
 pub mod Showing
 pub mod Shown
 pub mod Turned
+pub use Rattle.pf_server

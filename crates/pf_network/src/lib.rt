@@ -25,5 +25,6 @@ pub use keeping::put;
 pub use kept::{Acked, Parcel, Reading};
 pub use lives::restarts_lead_on;
 pub use network::Network;
+pub use pf_server;
 pub use quiet::is_quiet;
 pub use reads::ReadTable;

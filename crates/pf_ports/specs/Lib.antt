@@ -3,3 +3,4 @@ pub mod Driven
 pub mod Replies
 pub mod Rising
 pub mod Worked
+pub use Rattle.pf_network

@@ -10,3 +10,4 @@ pub use laws::{
     driven_ports_follow_the_rule, driven_ports_hand_writes_to_leaders, looks_do_nothing,
     rehomed_ports_begin_anew, replies_answer_the_last_submission,
 };
+pub use pf_network;

@@ -4,29 +4,29 @@ use Rattle.pf_disk.specs.declared.disk.Disk.{Ghosts}
 use Rattle.pf_protocol.specs.Answers.{claims_of}
 use Rattle.pf_protocol.specs.Histories.{History, IsPrefix, RunsAs}
 use Rattle.pf_protocol.specs.Servers.{Server}
-use Rattle.pf_group.specs.GroupIs.{GroupIs, state_of}
+use Rattle.pf_liveline.specs.pf_group.specs.GroupIs.{GroupIs, state_of}
 use Rattle.pf_leadercell.specs.Passes as cells
 use Rattle.pf_leadercell.specs.declared.cell.LeaderCell.{LeaderCell}
 use Rattle.pf_rings.specs.declared.ring.Ring.{Ring}
-use Rattle.pf_applyrounds.specs.Adding.{Adds}
-use Rattle.pf_applyrounds.specs.Agreeing.{TellsOfGroup, chunk_of}
-use Rattle.pf_applyrounds.specs.Begun.{HasBegun}
-use Rattle.pf_applyrounds.specs.Closed.{IsClosed}
-use Rattle.pf_applyrounds.specs.Growing.{HasGrown}
-use Rattle.pf_applyrounds.specs.Halts.{Halt}
-use Rattle.pf_applyrounds.specs.Rounds.{IsApplied, applied}
-use Rattle.pf_applyrounds.proofs.Growing.{grown_refl}
-use Rattle.pf_shared.specs.declared.parts.GroupSeat.{GroupSeat}
-use Rattle.pf_shared.specs.declared.parts.SharedGroup.{SharedGroup}
-use Rattle.pf_shared.specs.Moments.{handed_out}
-use Rattle.pf_shared.specs.Seats.{root_in, seen_by, splits_of}
-use Rattle.pf_shared.specs.Since.{whole}
+use Rattle.pf_liveline.specs.pf_applyrounds.specs.Adding.{Adds}
+use Rattle.pf_liveline.specs.pf_applyrounds.specs.Agreeing.{TellsOfGroup, chunk_of}
+use Rattle.pf_liveline.specs.pf_applyrounds.specs.Begun.{HasBegun}
+use Rattle.pf_liveline.specs.pf_applyrounds.specs.Closed.{IsClosed}
+use Rattle.pf_liveline.specs.pf_applyrounds.specs.Growing.{HasGrown}
+use Rattle.pf_liveline.specs.pf_applyrounds.specs.Halts.{Halt}
+use Rattle.pf_liveline.specs.pf_applyrounds.specs.Rounds.{IsApplied, applied}
+use Rattle.pf_liveline.specs.pf_applyrounds.proofs.Growing.{grown_refl}
+use Rattle.pf_liveline.specs.pf_shared.specs.declared.parts.GroupSeat.{GroupSeat}
+use Rattle.pf_liveline.specs.pf_shared.specs.declared.parts.SharedGroup.{SharedGroup}
+use Rattle.pf_liveline.specs.pf_shared.specs.Moments.{handed_out}
+use Rattle.pf_liveline.specs.pf_shared.specs.Seats.{root_in, seen_by, splits_of}
+use Rattle.pf_liveline.specs.pf_shared.specs.Since.{whole}
 use Rattle.pf_base.specs.declared.live_end.LiveEnd.{LiveEnd}
-use Rattle.pf_live.specs.declared.plan.Plan.{Plan}
-use Rattle.pf_live.specs.declared.serving.Served.{Served}
-use Rattle.pf_live.specs.Submissions.{numbers_of}
-use Rattle.pf_live.proofs.Stands.{stands_within}
-use Rattle.pf_live.proofs.Submissions.{every_at}
+use Rattle.pf_liveline.specs.pf_live.specs.declared.plan.Plan.{Plan}
+use Rattle.pf_liveline.specs.pf_live.specs.declared.serving.Served.{Served}
+use Rattle.pf_liveline.specs.pf_live.specs.Submissions.{numbers_of}
+use Rattle.pf_liveline.specs.pf_live.proofs.Stands.{stands_within}
+use Rattle.pf_liveline.specs.pf_live.proofs.Submissions.{every_at}
 use Rattle.pf_liveline.specs.declared.crew.Crew.{Crew}
 use Rattle.pf_liveline.specs.Crews.{AllEnded, IsCrew}
 use Rattle.pf_liveline.specs.Judging.{IsPublished}

@@ -4,26 +4,26 @@ use Rattle.pf_turn.specs.Lists.{entries_of}
 use Rattle.pf_protocol.specs.Answers.{claims_of}
 use Rattle.pf_protocol.specs.Servers.{Server}
 use Rattle.pf_protocol.specs.Histories.{RunsAs}
-use Rattle.pf_network.specs.Shown.{IsLeader}
-use Rattle.pf_group.specs.GroupIs.{GroupIs, state_of}
+use Rattle.pf_liveline.specs.pf_network.specs.Shown.{IsLeader}
+use Rattle.pf_liveline.specs.pf_group.specs.GroupIs.{GroupIs, state_of}
 use Rattle.pf_leadercell.specs.Passes as cells
 use Rattle.pf_leadercell.specs.Published.{last_of}
-use Rattle.pf_applyrounds.specs.Adding.{Adds}
-use Rattle.pf_applyrounds.specs.Agreeing.{TellsOfGroup, chunk_of}
-use Rattle.pf_applyrounds.specs.Begun.{HasBegun}
-use Rattle.pf_applyrounds.specs.Closed.{IsClosed}
-use Rattle.pf_applyrounds.specs.Growing.{HasGrown}
-use Rattle.pf_applyrounds.specs.Halts.{Halt}
-use Rattle.pf_applyrounds.specs.Rounds.{IsApplied, applied}
-use Rattle.pf_shared.specs.Moments.{handed_out}
-use Rattle.pf_shared.specs.Since.{state_at, whole}
-use Rattle.pf_live.specs.declared.plan.Plan.{Plan}
-use Rattle.pf_live.specs.declared.serving.Served.{Served}
-use Rattle.pf_live.specs.Deliveries.{Trace}
-use Rattle.pf_live.specs.Ends.{HasEnd}
-use Rattle.pf_live.specs.Lines.{Applying, IsLive, role_of}
-use Rattle.pf_live.specs.Roles.{EndsWith, nothing_free}
-use Rattle.pf_live.specs.Submissions.{numbers_of}
+use Rattle.pf_liveline.specs.pf_applyrounds.specs.Adding.{Adds}
+use Rattle.pf_liveline.specs.pf_applyrounds.specs.Agreeing.{TellsOfGroup, chunk_of}
+use Rattle.pf_liveline.specs.pf_applyrounds.specs.Begun.{HasBegun}
+use Rattle.pf_liveline.specs.pf_applyrounds.specs.Closed.{IsClosed}
+use Rattle.pf_liveline.specs.pf_applyrounds.specs.Growing.{HasGrown}
+use Rattle.pf_liveline.specs.pf_applyrounds.specs.Halts.{Halt}
+use Rattle.pf_liveline.specs.pf_applyrounds.specs.Rounds.{IsApplied, applied}
+use Rattle.pf_liveline.specs.pf_shared.specs.Moments.{handed_out}
+use Rattle.pf_liveline.specs.pf_shared.specs.Since.{state_at, whole}
+use Rattle.pf_liveline.specs.pf_live.specs.declared.plan.Plan.{Plan}
+use Rattle.pf_liveline.specs.pf_live.specs.declared.serving.Served.{Served}
+use Rattle.pf_liveline.specs.pf_live.specs.Deliveries.{Trace}
+use Rattle.pf_liveline.specs.pf_live.specs.Ends.{HasEnd}
+use Rattle.pf_liveline.specs.pf_live.specs.Lines.{Applying, IsLive, role_of}
+use Rattle.pf_liveline.specs.pf_live.specs.Roles.{EndsWith, nothing_free}
+use Rattle.pf_liveline.specs.pf_live.specs.Submissions.{numbers_of}
 use Rattle.pf_liveline.specs.declared.opening.Passes.{Passes}
 use Rattle.pf_liveline.specs.Meeting.{AreMet}
 use Rattle.pf_session.specs.declared.session.Lived.{Lived}

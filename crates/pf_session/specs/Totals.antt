@@ -2,8 +2,8 @@
 use Rattle.std.specs.Prelude.{◌≡◌, ℕ, ◌-◌, IsTrue, List, [], ◌∷◌, drop, length}
 use Rattle.std.specs.List.{count_by}
 use Rattle.pf_protocol.specs.Histories.{History}
-use Rattle.pf_group.specs.GroupIs.{GroupIs, state_of}
-use Rattle.pf_live.specs.Lines.{applies_done}
+use Rattle.pf_liveline.specs.pf_group.specs.GroupIs.{GroupIs, state_of}
+use Rattle.pf_liveline.specs.pf_live.specs.Lines.{applies_done}
 use Rattle.pf_session.specs.declared.totals.Beginning.{Beginning}
 use Rattle.pf_session.specs.declared.totals.Totals.{Totals}
 

@@ -7,5 +7,7 @@ mod session;
 mod tests;
 mod totals;
 
+pub use pf_liveline;
+pub use pf_liveline::pf_live;
 pub use session::{Lived, live};
 pub use totals::Totals;

@@ -1,20 +1,20 @@
 //! A live line over one group, from its beginning to its end.
 ghost use Rattle.std.specs.Prelude.{◌≡◌, [], IfOk, OnErr};
 ghost use Rattle.pf_protocol.specs.Answers.{claims_of};
-ghost use Rattle.pf_applyrounds.specs.Growing.{HasGrown};
-ghost use Rattle.pf_shared.specs.Seats.{root_in, splits_of};
+ghost use Rattle.pf_liveline.specs.pf_applyrounds.specs.Growing.{HasGrown};
+ghost use Rattle.pf_liveline.specs.pf_shared.specs.Seats.{root_in, splits_of};
 ghost use Rattle.pf_liveline.specs.Crews.{IsCrew};
 ghost use Rattle.pf_session.specs.Totals.{IsBeginning};
 ghost use Rattle.pf_session.specs.Sessions.{HasLived, HasStopped};
 
 use crate::lent::Lent;
 use crate::totals::{Beginning, Totals};
-use pf_applyrounds::apply_all;
 use pf_base::{LiveEnd, NoMemory};
 use pf_copy::{Gate, Workers};
 use pf_disk::Disk;
-use pf_group::Group;
-use pf_live::{LiveLine, Plan};
+use pf_liveline::pf_applyrounds::apply_all;
+use pf_liveline::pf_group::Group;
+use pf_liveline::pf_live::{LiveLine, Plan};
 use pf_liveline::{Crew, Passes, close, open, run_to_end};
 use std::sync::Wait;
 use std::thread::Threads;

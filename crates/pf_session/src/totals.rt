@@ -1,13 +1,13 @@
 //! What happened to a group since an earlier moment, in numbers.
 ghost use Rattle.std.specs.Prelude.{◌≡◌, ◌≤◌, length};
-ghost use Rattle.pf_group.specs.GroupIs.{GroupIs};
-ghost use Rattle.pf_applyrounds.specs.Growing.{HasGrown};
-ghost use Rattle.pf_live.specs.Lines.{applies_done};
+ghost use Rattle.pf_liveline.specs.pf_group.specs.GroupIs.{GroupIs};
+ghost use Rattle.pf_liveline.specs.pf_applyrounds.specs.Growing.{HasGrown};
+ghost use Rattle.pf_liveline.specs.pf_live.specs.Lines.{applies_done};
 ghost use Rattle.pf_session.specs.Totals.{AreTotals, IsBeginning, applied_on, applied_on_each};
 
 use pf_base::ServerId;
 use pf_disk::Disk;
-use pf_group::Group;
+use pf_liveline::pf_group::Group;
 use pf_protocol::{Answer, Event, Happening};
 
 /// What a live line came to, in numbers.

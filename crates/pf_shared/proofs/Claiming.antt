@@ -11,7 +11,7 @@ use Rattle.pf_protocol.specs.declared.answers.Answer.{Answer}
 use Rattle.pf_protocol.specs.declared.answers.Answer.TheVariants.{Job as JobIs}
 use Rattle.pf_protocol.specs.declared.events.Event.TheVariants.{Claim, Finish, GiveBack}
 use Rattle.pf_protocol.specs.Answers.{Claimed, claims_of, is_claim}
-use Rattle.pf_group.specs.Steps.{IsNew}
+use Rattle.pf_applyrounds.specs.pf_group.specs.Steps.{IsNew}
 use Rattle.pf_shared.specs.declared.moment.Moment.{Moment}
 use Rattle.pf_shared.specs.declared.moment.Moment.TheVariants.{Happened, Look}
 use Rattle.pf_shared.specs.declared.moment.Did.{Did}

@@ -8,12 +8,12 @@ use Rattle.pf_entry.specs.Ops.{Sector}
 use Rattle.pf_protocol.specs.Servers.{Server}
 use Rattle.pf_protocol.specs.Groups.{Group}
 use Rattle.pf_protocol.specs.Histories.{History, replay}
-use Rattle.pf_group.specs.declared.errors.Down.{Down}
-use Rattle.pf_group.specs.Going.{Takes, WentBy}
-use Rattle.pf_group.specs.GroupIs.{GroupIs, state_of}
-use Rattle.pf_group.proofs.Chains.{by_one, by_same}
-use Rattle.pf_group.specs.Readers.{HasTaken, LacksAnswer, TellsOf}
-use Rattle.pf_group.specs.Roots.{root_of}
+use Rattle.pf_applyrounds.specs.pf_group.specs.declared.errors.Down.{Down}
+use Rattle.pf_applyrounds.specs.pf_group.specs.Going.{Takes, WentBy}
+use Rattle.pf_applyrounds.specs.pf_group.specs.GroupIs.{GroupIs, state_of}
+use Rattle.pf_applyrounds.specs.pf_group.proofs.Chains.{by_one, by_same}
+use Rattle.pf_applyrounds.specs.pf_group.specs.Readers.{HasTaken, LacksAnswer, TellsOf}
+use Rattle.pf_applyrounds.specs.pf_group.specs.Roots.{root_of}
 use Rattle.pf_applyrounds.specs.Growing.{Pays}
 use Rattle.pf_applyrounds.proofs.Paying.{pays_refl, pays_same}
 use Rattle.pf_shared.specs.declared.errors.LookFault.{LookFault}

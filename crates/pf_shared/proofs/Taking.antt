@@ -16,8 +16,8 @@ use Rattle.pf_protocol.specs.declared.events.Event.TheVariants.{Claim}
 use Rattle.pf_protocol.specs.declared.events.Happening.{Happening}
 use Rattle.pf_protocol.specs.Histories.{History}
 use Rattle.pf_protocol.specs.Answers.{IsLegal, claims_of}
-use Rattle.pf_group.specs.GroupIs.{GroupIs}
-use Rattle.pf_group.specs.Sound.{IsSound}
+use Rattle.pf_applyrounds.specs.pf_group.specs.GroupIs.{GroupIs}
+use Rattle.pf_applyrounds.specs.pf_group.specs.Sound.{IsSound}
 use Rattle.pf_shared.specs.declared.moment.Moment.{Moment}
 use Rattle.pf_shared.specs.declared.moment.Moment.TheVariants.{Happened}
 use Rattle.pf_shared.specs.declared.behind.Behind.{Behind}

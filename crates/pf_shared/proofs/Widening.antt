@@ -6,9 +6,9 @@ use Rattle.pf_turn.specs.Lists.{entries_of}
 use Rattle.pf_protocol.specs.Groups.{Group}
 use Rattle.pf_protocol.specs.declared.answers.Answer.{Answer}
 use Rattle.pf_protocol.specs.declared.events.Event.{Event}
-use Rattle.pf_group.specs.declared.event.GroupEvent.{GroupEvent}
-use Rattle.pf_group.specs.Events.{event_of}
-use Rattle.pf_group.specs.GroupIs.{GroupIs}
+use Rattle.pf_applyrounds.specs.pf_group.specs.declared.event.GroupEvent.{GroupEvent}
+use Rattle.pf_applyrounds.specs.pf_group.specs.Events.{event_of}
+use Rattle.pf_applyrounds.specs.pf_group.specs.GroupIs.{GroupIs}
 use Rattle.pf_shared.specs.declared.moment.Moment.{Moment}
 use Rattle.pf_shared.specs.Moments.{entry}
 use Rattle.pf_shared.specs.Since.{state_at}

@@ -6,7 +6,7 @@ use Rattle.pf_protocol.specs.Histories.{History, replay}
 use Rattle.pf_protocol.specs.declared.answers.Answer.{Answer}
 use Rattle.pf_protocol.specs.declared.events.Event.{Event}
 use Rattle.pf_protocol.specs.Answers.{IsAnswer, MayHappen, claims_of}
-use Rattle.pf_group.specs.Steps.{EndsSo, GoesByRules, IsNew}
+use Rattle.pf_applyrounds.specs.pf_group.specs.Steps.{EndsSo, GoesByRules, IsNew}
 
 -- The event could be asked for after this history. It was answered as the rules say in the group that the servers stood for: the state after the
 -- history, where their disks tell their content. Where they do not, restarts may have begun from any state that fits, so of that group no more

@@ -10,10 +10,10 @@ use Rattle.pf_protocol.specs.declared.answers.Answer.{Answer}
 use Rattle.pf_protocol.specs.declared.answers.Answer.TheVariants.{Job as JobIs}
 use Rattle.pf_protocol.specs.declared.events.Event.{Event}
 use Rattle.pf_protocol.specs.Answers.{IsLegal}
-use Rattle.pf_group.specs.declared.event.GroupEvent.{GroupEvent}
-use Rattle.pf_group.specs.Events.{event_of}
-use Rattle.pf_group.specs.GroupIs.{GroupIs}
-use Rattle.pf_group.specs.Sound.{IsSound}
+use Rattle.pf_applyrounds.specs.pf_group.specs.declared.event.GroupEvent.{GroupEvent}
+use Rattle.pf_applyrounds.specs.pf_group.specs.Events.{event_of}
+use Rattle.pf_applyrounds.specs.pf_group.specs.GroupIs.{GroupIs}
+use Rattle.pf_applyrounds.specs.pf_group.specs.Sound.{IsSound}
 use Rattle.pf_shared.specs.declared.moment.Moment.{Moment}
 use Rattle.pf_shared.specs.declared.moment.Moment.TheVariants.{Happened}
 use Rattle.pf_shared.specs.Answering.{IsAnswered}

@@ -12,3 +12,6 @@ pub mod Looks
 pub mod Telling
 pub mod Delivering
 pub mod Submitting
+pub use Rattle.pf_applyrounds.specs.pf_network
+pub use Rattle.pf_applyrounds.specs.pf_group
+pub use Rattle.pf_applyrounds

@@ -6,10 +6,10 @@ use Rattle.pf_entry.specs.Lists.{Every}
 use Rattle.pf_entry.specs.Ops.{Sector}
 use Rattle.pf_protocol.specs.Servers.{Server}
 use Rattle.pf_protocol.specs.Groups.{Group}
-use Rattle.pf_network.specs.Showing.{HasAnswer}
-use Rattle.pf_group.specs.declared.errors.Down.{Down}
-use Rattle.pf_group.specs.Readers.{IsDown, OfRunning}
-use Rattle.pf_group.specs.GroupIs.{GroupIs}
+use Rattle.pf_applyrounds.specs.pf_network.specs.Showing.{HasAnswer}
+use Rattle.pf_applyrounds.specs.pf_group.specs.declared.errors.Down.{Down}
+use Rattle.pf_applyrounds.specs.pf_group.specs.Readers.{IsDown, OfRunning}
+use Rattle.pf_applyrounds.specs.pf_group.specs.GroupIs.{GroupIs}
 use Rattle.pf_shared.specs.declared.errors.LookFault.{LookFault}
 use Rattle.pf_shared.specs.declared.errors.LookFault.TheVariants as faults
 use Rattle.pf_shared.specs.declared.moment.Moment.{Moment}

@@ -2,7 +2,7 @@
 use Rattle.std.specs.Prelude.{ℕ, Bool, true, List, [], ◌∷◌, Some, None, slice_set}
 use Rattle.pf_turn.specs.declared.log.Stamped.{Stamped}
 use Rattle.pf_protocol.specs.Histories.{History}
-use Rattle.pf_network.specs.Readings.{taken_after}
+use Rattle.pf_applyrounds.specs.pf_network.specs.Readings.{taken_after}
 use Rattle.pf_shared.specs.declared.moment.Moment.{Moment}
 use Rattle.pf_shared.specs.declared.moment.Moment.TheVariants.{Happened, Look}
 

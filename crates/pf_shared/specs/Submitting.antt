@@ -4,9 +4,9 @@ use Rattle.pf_turn.specs.declared.log.Stamped.{Stamped}
 use Rattle.pf_entry.specs.declared.ops.Op.{Op}
 use Rattle.pf_protocol.specs.declared.answers.Answer.{Answer}
 use Rattle.pf_protocol.specs.declared.events.Event.TheVariants.{Submit}
-use Rattle.pf_group.specs.declared.errors.Down.{Down}
-use Rattle.pf_group.specs.GroupIs.{GroupIs}
-use Rattle.pf_group.specs.Readers.{TellsOf}
+use Rattle.pf_applyrounds.specs.pf_group.specs.declared.errors.Down.{Down}
+use Rattle.pf_applyrounds.specs.pf_group.specs.GroupIs.{GroupIs}
+use Rattle.pf_applyrounds.specs.pf_group.specs.Readers.{TellsOf}
 use Rattle.pf_shared.specs.declared.moment.Moment.{Moment}
 use Rattle.pf_shared.specs.Calls.{Steps}
 use Rattle.pf_shared.specs.Since.{state_at}

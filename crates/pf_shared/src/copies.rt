@@ -2,17 +2,17 @@
 //! (`NoMemory`, 1), nothing is told.
 ghost use Rattle.std.specs.Prelude.{◌≡◌, ◌<◌, IfOk, IsTrue, map, slice_get};
 ghost use Rattle.std.specs.FinMap as finite;
-ghost use Rattle.pf_network.specs.Showing.{acked_of};
-ghost use Rattle.pf_network.specs.Shown.{is_acked};
-ghost use Rattle.pf_group.specs.GroupIs.{state_of};
-ghost use Rattle.pf_group.specs.Readers.{IsAppliedOf, TellsOf, snapshot_in};
+ghost use Rattle.pf_applyrounds.specs.pf_network.specs.Showing.{acked_of};
+ghost use Rattle.pf_applyrounds.specs.pf_network.specs.Shown.{is_acked};
+ghost use Rattle.pf_applyrounds.specs.pf_group.specs.GroupIs.{state_of};
+ghost use Rattle.pf_applyrounds.specs.pf_group.specs.Readers.{IsAppliedOf, TellsOf, snapshot_in};
 
+use pf_applyrounds::pf_group::{Down, Group};
+use pf_applyrounds::pf_network::Acked;
 use pf_base::{NoMemory, Sectors, ServerId, Slot, Term};
 use pf_disk::Disk;
 use pf_entry::Entry;
-use pf_group::{Down, Group};
 use pf_holes::SlotSet;
-use pf_network::Acked;
 use std::alloc::Global;
 
 /// The slots that were acknowledged to hosts, in order.

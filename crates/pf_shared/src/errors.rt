@@ -3,8 +3,8 @@ ghost use Rattle.std.specs.Prelude.{◌≡◌};
 ghost use Rattle.pf_shared.specs.Faults.{number_of};
 ghost use Rattle.pf_shared.specs.declared.errors.LookFault.TheVariants.{Down as IsDown, NoMemory as WantsMemory};
 
+use pf_applyrounds::pf_group::Down;
 use pf_base::NoMemory;
-use pf_group::Down;
 use thiserror::Error;
 
 /// Why a look tells nothing of a server.

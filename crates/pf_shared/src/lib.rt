@@ -18,4 +18,6 @@ pub use behind::Behind;
 pub use errors::LookFault;
 pub use moment::{Did, Moment};
 pub use parts::{GroupSeat, SharedGroup};
+pub use pf_applyrounds;
+pub use pf_applyrounds::pf_group;
 pub use start::Start;

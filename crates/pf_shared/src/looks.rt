@@ -6,10 +6,10 @@
 ghost use Rattle.std.specs.Prelude.{◌≡◌, ◌<◌, ◌≤◌, ◌++◌, ◌∷◌, [], IfOk, IfSome, IsTrue, None, Ok, OnErr, OnOk, length, map, slice_get};
 ghost use Rattle.std.specs.FinMap as finite;
 ghost use Rattle.pf_entry.specs.Sets as set;
-ghost use Rattle.pf_network.specs.Showing.{acked_of};
-ghost use Rattle.pf_network.specs.Shown.{IsLeader, is_acked};
-ghost use Rattle.pf_group.specs.Packets.{least_from};
-ghost use Rattle.pf_group.specs.Readers.{IsAppliedOf, is_left, snapshot_in};
+ghost use Rattle.pf_applyrounds.specs.pf_network.specs.Showing.{acked_of};
+ghost use Rattle.pf_applyrounds.specs.pf_network.specs.Shown.{IsLeader, is_acked};
+ghost use Rattle.pf_applyrounds.specs.pf_group.specs.Packets.{least_from};
+ghost use Rattle.pf_applyrounds.specs.pf_group.specs.Readers.{IsAppliedOf, is_left, snapshot_in};
 ghost use Rattle.pf_turn.specs.Seats as turns;
 ghost use Rattle.pf_shared.specs.declared.moment.Moment.TheVariants.{Look};
 ghost use Rattle.pf_shared.specs.Behinds.{list_of};
@@ -20,12 +20,12 @@ ghost use Rattle.pf_shared.specs.Seats.{IsAlone, IsSameSeat, IsSeatOf, number_of
 ghost use Rattle.pf_shared.specs.Telling.{Tells, TellsAt};
 
 use crate::{Behind, GroupSeat, LookFault, SharedGroup, copies};
+use pf_applyrounds::pf_group::Down;
+use pf_applyrounds::pf_network::Acked;
 use pf_base::{Data, NoMemory, Sectors, ServerId, Slot, Term};
 use pf_disk::Disk;
 use pf_entry::Entry;
-use pf_group::Down;
 use pf_holes::SlotSet;
-use pf_network::Acked;
 use pf_turn::Turn;
 use std::alloc::Global;
 use std::sync::Wait;

@@ -1,8 +1,8 @@
 //! The group as it was before its first turn.
 ghost use Rattle.std.specs.Prelude.{◌≡◌};
 
+use pf_applyrounds::pf_group::Group;
 use pf_disk::Disk;
-use pf_group::Group;
 use std::marker::Model;
 use std::snapshot::Snapshot;
 
@@ -13,7 +13,7 @@ pub struct Start<D: Disk> {
 }
 
 impl<D: Disk> Model for Start<D> {
-    ghost use Rattle.pf_group.specs.GroupIs.{GroupIs};
+    ghost use Rattle.pf_applyrounds.specs.pf_group.specs.GroupIs.{GroupIs};
 
     ghost Value = { GroupIs };
 

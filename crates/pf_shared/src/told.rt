@@ -9,9 +9,9 @@ ghost use Rattle.pf_shared.specs.Submitting.{HasSubmitted};
 ghost use Rattle.pf_shared.specs.Seats.{IsAlone, IsSameSeat, IsSeatOf, number_of, root_in, seen_by};
 
 use crate::{GroupSeat, SharedGroup};
+use pf_applyrounds::pf_group::{Down, GroupEvent};
 use pf_base::{NoMemory, Payload, Range, ServerId, Term};
 use pf_disk::Disk;
-use pf_group::{Down, GroupEvent};
 use pf_protocol::Answer;
 use std::alloc::Global;
 use std::sync::Wait;

@@ -9,17 +9,17 @@ use Rattle.pf_protocol.specs.Groups.{Group, opening}
 use Rattle.pf_protocol.specs.Histories.{History, replay, run}
 use Rattle.pf_protocol.specs.Answers.{IsLegal, IsLegalFrom, claims_of}
 use Rattle.pf_protocol.proofs.ForMoments.{legal_before}
-use Rattle.pf_group.specs.GroupIs.{GroupIs, state_of}
-use Rattle.pf_group.specs.Packets.{is_left_in}
-use Rattle.pf_group.proofs.Sending.{run_sent}
-use Rattle.pf_applyrounds.specs.Agreeing.{TellsOfGroup, chunk_of}
-use Rattle.pf_applyrounds.specs.Chunks.{Chunk}
-use Rattle.pf_applyrounds.specs.Growing.{HasGrown}
-use Rattle.pf_applyrounds.specs.Halts.{Halt}
-use Rattle.pf_applyrounds.specs.Rounds.{applied}
-use Rattle.pf_applyrounds.proofs.Growing.{grown_tells, grown_trans, taken_grows}
-use Rattle.pf_shared.specs.Moments.{happenings}
-use Rattle.pf_live.specs.declared.plan.Plan.{Plan}
+use Rattle.pf_chunk.specs.pf_group.specs.GroupIs.{GroupIs, state_of}
+use Rattle.pf_chunk.specs.pf_group.specs.Packets.{is_left_in}
+use Rattle.pf_chunk.specs.pf_group.proofs.Sending.{run_sent}
+use Rattle.pf_chunk.specs.pf_applyrounds.specs.Agreeing.{TellsOfGroup, chunk_of}
+use Rattle.pf_chunk.specs.pf_applyrounds.specs.Chunks.{Chunk}
+use Rattle.pf_chunk.specs.pf_applyrounds.specs.Growing.{HasGrown}
+use Rattle.pf_chunk.specs.pf_applyrounds.specs.Halts.{Halt}
+use Rattle.pf_chunk.specs.pf_applyrounds.specs.Rounds.{applied}
+use Rattle.pf_chunk.specs.pf_applyrounds.proofs.Growing.{grown_tells, grown_trans, taken_grows}
+use Rattle.pf_session.specs.pf_shared.specs.Moments.{happenings}
+use Rattle.pf_session.specs.pf_live.specs.declared.plan.Plan.{Plan}
 use Rattle.pf_session.specs.declared.session.Lived.{Lived}
 use Rattle.pf_session.specs.Sessions.{HasLived}
 use Rattle.pf_session.specs.Totals.{applied_on_each}

@@ -7,20 +7,20 @@ use Rattle.pf_protocol.specs.Histories.{History, replay}
 use Rattle.pf_protocol.specs.Answers.{IsLegal}
 use Rattle.pf_protocol.proofs.ForMoments.{whole_prefix}
 use Rattle.pf_protocol.specs.declared.events.Event.{Event}
-use Rattle.pf_group.specs.GroupIs.{GroupIs}
-use Rattle.pf_applyrounds.specs.Agreeing.{TellsOfGroup, chunk_of, told_from, told_history}
-use Rattle.pf_applyrounds.specs.Chunks.{Chunk, after}
-use Rattle.pf_applyrounds.specs.Growing.{HasGrown}
-use Rattle.pf_applyrounds.specs.Halts.{Halt}
-use Rattle.pf_applyrounds.proofs.Following.{step_is, tells_before}
-use Rattle.pf_applyrounds.proofs.Growing.{later_tells}
-use Rattle.pf_applyrounds.proofs.Told.{told_longer}
-use Rattle.pf_shared.specs.Moments.{happenings}
-use Rattle.pf_shared.specs.Since.{whole}
-use Rattle.pf_live.specs.declared.plan.Plan.{Plan}
+use Rattle.pf_chunk.specs.pf_group.specs.GroupIs.{GroupIs}
+use Rattle.pf_chunk.specs.pf_applyrounds.specs.Agreeing.{TellsOfGroup, chunk_of, told_from, told_history}
+use Rattle.pf_chunk.specs.pf_applyrounds.specs.Chunks.{Chunk, after}
+use Rattle.pf_chunk.specs.pf_applyrounds.specs.Growing.{HasGrown}
+use Rattle.pf_chunk.specs.pf_applyrounds.specs.Halts.{Halt}
+use Rattle.pf_chunk.specs.pf_applyrounds.proofs.Following.{step_is, tells_before}
+use Rattle.pf_chunk.specs.pf_applyrounds.proofs.Growing.{later_tells}
+use Rattle.pf_chunk.specs.pf_applyrounds.proofs.Told.{told_longer}
+use Rattle.pf_session.specs.pf_shared.specs.Moments.{happenings}
+use Rattle.pf_session.specs.pf_shared.specs.Since.{whole}
+use Rattle.pf_session.specs.pf_live.specs.declared.plan.Plan.{Plan}
 use Rattle.pf_base.specs.declared.live_end.LiveEnd.{LiveEnd}
-use Rattle.pf_live.specs.Deliveries.{Trace}
-use Rattle.pf_live.specs.Ends.{HasEnd}
+use Rattle.pf_session.specs.pf_live.specs.Deliveries.{Trace}
+use Rattle.pf_session.specs.pf_live.specs.Ends.{HasEnd}
 use Rattle.pf_session.specs.Sessions.{HasList}
 use Rattle.pf_chunk.specs.Lending.{after_all}
 use Rattle.pf_chunk.proofs.Following.{legal_rest}

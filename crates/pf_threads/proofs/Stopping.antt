@@ -5,18 +5,18 @@ use Rattle.pf_protocol.specs.declared.answers.Answer.TheVariants.{Done}
 use Rattle.pf_protocol.specs.Histories.{IsPrefix}
 use Rattle.pf_protocol.specs.Answers.{IsLegal}
 use Rattle.pf_protocol.proofs.ForMoments.{legal_before, prefix_of}
-use Rattle.pf_group.specs.GroupIs.{GroupIs}
-use Rattle.pf_applyrounds.specs.Agreeing.{TellsOfGroup, chunk_of, told_history}
-use Rattle.pf_applyrounds.specs.Begun.{HasBegun}
-use Rattle.pf_applyrounds.specs.Chunks.{Chunk}
-use Rattle.pf_applyrounds.specs.Growing.{HasGrown}
-use Rattle.pf_applyrounds.specs.Halts.{Halt}
-use Rattle.pf_applyrounds.specs.Rounds.{applied}
-use Rattle.pf_applyrounds.proofs.Extending.{applied_extends}
-use Rattle.pf_applyrounds.proofs.Growing.{grown_tells, grown_trans}
-use Rattle.pf_shared.specs.Moments.{happenings}
-use Rattle.pf_live.specs.declared.plan.Plan.{Plan}
-use Rattle.pf_live.specs.Deliveries.{Trace}
+use Rattle.pf_chunk.specs.pf_group.specs.GroupIs.{GroupIs}
+use Rattle.pf_chunk.specs.pf_applyrounds.specs.Agreeing.{TellsOfGroup, chunk_of, told_history}
+use Rattle.pf_chunk.specs.pf_applyrounds.specs.Begun.{HasBegun}
+use Rattle.pf_chunk.specs.pf_applyrounds.specs.Chunks.{Chunk}
+use Rattle.pf_chunk.specs.pf_applyrounds.specs.Growing.{HasGrown}
+use Rattle.pf_chunk.specs.pf_applyrounds.specs.Halts.{Halt}
+use Rattle.pf_chunk.specs.pf_applyrounds.specs.Rounds.{applied}
+use Rattle.pf_chunk.specs.pf_applyrounds.proofs.Extending.{applied_extends}
+use Rattle.pf_chunk.specs.pf_applyrounds.proofs.Growing.{grown_tells, grown_trans}
+use Rattle.pf_session.specs.pf_shared.specs.Moments.{happenings}
+use Rattle.pf_session.specs.pf_live.specs.declared.plan.Plan.{Plan}
+use Rattle.pf_session.specs.pf_live.specs.Deliveries.{Trace}
 use Rattle.pf_session.specs.declared.session.Lived.{Lived}
 use Rattle.pf_session.specs.Sessions.{HasList, HasLived, HasStopped}
 use Rattle.pf_chunk.specs.Lending.{after_all, all_happened}

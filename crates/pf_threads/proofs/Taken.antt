@@ -5,14 +5,14 @@ use Rattle.pf_turn.specs.Own.{AllAfter}
 use Rattle.pf_protocol.specs.declared.answers.Answer.{Answer}
 use Rattle.pf_protocol.specs.declared.answers.Answer.TheVariants.{Done, Slot as SlotIs, Term as TermIs, Read as ReadIs, Base as BaseIs, Job as JobIs, Refused}
 use Rattle.pf_protocol.specs.Histories.{History}
-use Rattle.pf_network.specs.Readings.{taken_after}
-use Rattle.pf_group.specs.GroupIs.{GroupIs}
-use Rattle.pf_shared.specs.declared.moment.Moment.{Moment}
-use Rattle.pf_shared.specs.declared.moment.Moment.TheVariants.{Happened, Look}
-use Rattle.pf_shared.specs.Moments.{handed_out, happenings, taken_with, with_moment}
-use Rattle.pf_live.specs.declared.plan.Plan.{Plan}
-use Rattle.pf_live.specs.Deliveries.{Trace}
-use Rattle.pf_live.specs.Lines.{Does}
+use Rattle.pf_chunk.specs.pf_network.specs.Readings.{taken_after}
+use Rattle.pf_chunk.specs.pf_group.specs.GroupIs.{GroupIs}
+use Rattle.pf_session.specs.pf_shared.specs.declared.moment.Moment.{Moment}
+use Rattle.pf_session.specs.pf_shared.specs.declared.moment.Moment.TheVariants.{Happened, Look}
+use Rattle.pf_session.specs.pf_shared.specs.Moments.{handed_out, happenings, taken_with, with_moment}
+use Rattle.pf_session.specs.pf_live.specs.declared.plan.Plan.{Plan}
+use Rattle.pf_session.specs.pf_live.specs.Deliveries.{Trace}
+use Rattle.pf_session.specs.pf_live.specs.Lines.{Does}
 use Rattle.pf_session.specs.declared.session.Lived.{Lived}
 use Rattle.pf_session.specs.Sessions.{HasLived}
 use Rattle.pf_chunk.specs.declared.waiting.Waiting.{Waiting}

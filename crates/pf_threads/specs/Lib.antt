@@ -1,2 +1,9 @@
 pub mod Sessions
 pub mod Steps
+pub use Rattle.pf_chunk.specs.pf_network
+pub use Rattle.pf_chunk.specs.pf_group
+pub use Rattle.pf_chunk.specs.pf_applyrounds
+pub use Rattle.pf_chunk
+pub use Rattle.pf_session.specs.pf_live
+pub use Rattle.pf_session.specs.pf_liveline
+pub use Rattle.pf_session

@@ -1,18 +1,18 @@
 -- What the threads of one live line did to a group.
 use Rattle.std.specs.Prelude.{◌≡◌, ℕ, ◌-◌, IsTrue, List, [], ◌∷◌, ◌++◌, drop, length}
 use Rattle.pf_protocol.specs.declared.events.Event.{Event}
-use Rattle.pf_group.specs.GroupIs.{GroupIs}
+use Rattle.pf_chunk.specs.pf_group.specs.GroupIs.{GroupIs}
 use Rattle.pf_report.specs.Live.{live_text}
-use Rattle.pf_applyrounds.specs.Halts.{Halt}
-use Rattle.pf_applyrounds.specs.Chunks.{Chunk}
-use Rattle.pf_applyrounds.specs.Agreeing.{chunk_of}
-use Rattle.pf_shared.specs.Moments.{happenings}
+use Rattle.pf_chunk.specs.pf_applyrounds.specs.Halts.{Halt}
+use Rattle.pf_chunk.specs.pf_applyrounds.specs.Chunks.{Chunk}
+use Rattle.pf_chunk.specs.pf_applyrounds.specs.Agreeing.{chunk_of}
+use Rattle.pf_session.specs.pf_shared.specs.Moments.{happenings}
 use Rattle.pf_base.specs.declared.live_end.LiveEnd.{LiveEnd}
 use Rattle.pf_base.specs.declared.live_end.LiveEnd.TheVariants.{Done}
-use Rattle.pf_live.specs.declared.plan.Plan.{Plan}
-use Rattle.pf_live.specs.Deliveries.{Trace}
-use Rattle.pf_live.specs.Ends.{HasEnd}
-use Rattle.pf_live.specs.Lines.{IsLive}
+use Rattle.pf_session.specs.pf_live.specs.declared.plan.Plan.{Plan}
+use Rattle.pf_session.specs.pf_live.specs.Deliveries.{Trace}
+use Rattle.pf_session.specs.pf_live.specs.Ends.{HasEnd}
+use Rattle.pf_session.specs.pf_live.specs.Lines.{IsLive}
 use Rattle.pf_session.specs.Totals.{applied_on_each}
 use Rattle.pf_chunk.specs.Lending.{after_all}
 

@@ -4,3 +4,6 @@
 mod living;
 
 pub use living::{live, live_at};
+pub use pf_chunk;
+pub use pf_chunk::pf_group;
+pub use pf_session::{pf_live, pf_liveline};

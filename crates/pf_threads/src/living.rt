@@ -7,8 +7,8 @@ use pf_base::NoMemory;
 use pf_chunk::ChunkGroup;
 use pf_copy::{Gate, Workers};
 use pf_disk::Disk;
-use pf_live::Plan;
 use pf_session::Lived;
+use pf_session::pf_live::Plan;
 use std::sync::Wait;
 use std::thread::Threads;
 

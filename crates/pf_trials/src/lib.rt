@@ -12,6 +12,4 @@ mod disk;
 #[cfg(test)]
 mod rings;
 #[cfg(test)]
-mod shared;
-#[cfg(test)]
 mod turn;

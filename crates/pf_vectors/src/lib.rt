@@ -8,11 +8,7 @@ mod journal;
 #[cfg(test)]
 mod layout;
 #[cfg(test)]
-mod mount;
-#[cfg(test)]
 mod spelling;
-#[cfg(test)]
-mod tree;
 #[cfg(test)]
 mod txn;
 #[cfg(test)]

@@ -9,8 +9,8 @@ use Rattle.pf_report.specs.Refusals.{refusal_text}
 use Rattle.pf_script.specs.declared.command.Command.TheVariants as commands
 use Rattle.pf_protocol.specs.declared.answers.Answer.TheVariants.{Done}
 use Rattle.pf_report.specs.Texts.{line_of}
-use Rattle.pf_applyrounds.specs.Halts.{Halt}
-use Rattle.pf_chunk.specs.Saying.{said}
+use Rattle.pf_threads.specs.pf_applyrounds.specs.Halts.{Halt}
+use Rattle.pf_threads.specs.pf_chunk.specs.Saying.{said}
 use Rattle.pf_fleet.specs.Calls.{HasAnchored}
 use Rattle.pf_fleet.specs.Steps.{FleetIs, Part}
 use Rattle.pf_fleet.specs.Steps as fleets

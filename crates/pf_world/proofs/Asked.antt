@@ -5,16 +5,16 @@ use Rattle.std.proofs.lemmas.List.{length-map}
 use Rattle.pf_script.specs.declared.command.Command.{Command}
 use Rattle.pf_script.specs.declared.command.Command.TheVariants as commands
 use Rattle.pf_protocol.specs.declared.answers.Answer.{Answer}
-use Rattle.pf_group.specs.GroupIs.{state_of}
+use Rattle.pf_threads.specs.pf_group.specs.GroupIs.{state_of}
 use Rattle.pf_report.specs.Texts.{answer_text, line_of}
-use Rattle.pf_applyrounds.specs.Halts.{Halt}
-use Rattle.pf_chunk.specs.declared.asked.Asked.{Asked}
-use Rattle.pf_chunk.specs.declared.asked.Asked.TheVariants.{Submit}
-use Rattle.pf_chunk.specs.Asking.{no_range_answer}
-use Rattle.pf_chunk.specs.Saying.{said}
-use Rattle.pf_chunk.specs.Views.{ChunkIs, run_of}
-use Rattle.pf_hosts.specs.Steps.{HaveBegun}
-use Rattle.pf_hosts.proofs.Groups.{run_there}
+use Rattle.pf_threads.specs.pf_applyrounds.specs.Halts.{Halt}
+use Rattle.pf_threads.specs.pf_chunk.specs.declared.asked.Asked.{Asked}
+use Rattle.pf_threads.specs.pf_chunk.specs.declared.asked.Asked.TheVariants.{Submit}
+use Rattle.pf_threads.specs.pf_chunk.specs.Asking.{no_range_answer}
+use Rattle.pf_threads.specs.pf_chunk.specs.Saying.{said}
+use Rattle.pf_threads.specs.pf_chunk.specs.Views.{ChunkIs, run_of}
+use Rattle.pf_fleet.specs.pf_hosts.specs.Steps.{HaveBegun}
+use Rattle.pf_fleet.specs.pf_hosts.proofs.Groups.{run_there}
 use Rattle.pf_fleet.specs.Volumes.{quietly}
 use Rattle.pf_threads.specs.Sessions.{Session}
 use Rattle.pf_world.specs.declared.kind.Kind.{Kind}

@@ -7,13 +7,13 @@ use Rattle.pf_script.specs.declared.command.Command.TheVariants as commands
 use Rattle.pf_script.specs.declared.named.Named.{Named}
 use Rattle.pf_script.specs.Lines.{group_of}
 use Rattle.pf_entry.proofs.Cases.{by_test}
-use Rattle.pf_group.specs.declared.event.GroupEvent.TheVariants as events
-use Rattle.pf_applyrounds.specs.Halts.{Halt}
-use Rattle.pf_chunk.specs.declared.asked.Asked.{Asked}
-use Rattle.pf_chunk.specs.declared.asked.Asked.TheVariants as asks
-use Rattle.pf_chunk.specs.Asked.{MayAsk, asked_happened, no_range_of, unless_range}
-use Rattle.pf_chunk.specs.Asking.{is_range, submits}
-use Rattle.pf_chunk.specs.Steps.{Event}
+use Rattle.pf_threads.specs.pf_group.specs.declared.event.GroupEvent.TheVariants as events
+use Rattle.pf_threads.specs.pf_applyrounds.specs.Halts.{Halt}
+use Rattle.pf_threads.specs.pf_chunk.specs.declared.asked.Asked.{Asked}
+use Rattle.pf_threads.specs.pf_chunk.specs.declared.asked.Asked.TheVariants as asks
+use Rattle.pf_threads.specs.pf_chunk.specs.Asked.{MayAsk, asked_happened, no_range_of, unless_range}
+use Rattle.pf_threads.specs.pf_chunk.specs.Asking.{is_range, submits}
+use Rattle.pf_threads.specs.pf_chunk.specs.Steps.{Event}
 use Rattle.pf_world.specs.declared.kind.Kind.TheVariants.{Raw}
 use Rattle.pf_world.specs.Worlds.{Told, World, at_chunk, refused_text, said_only}
 use Rattle.pf_world.specs.Lines.{asked, decided, is_made, kind_after, line_told, no_event_of, run_told, submit_told, submits_as, with_kind}

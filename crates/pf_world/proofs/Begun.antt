@@ -13,20 +13,20 @@ use Rattle.pf_script.specs.Lines.{is_volume}
 use Rattle.pf_protocol.specs.Answers.{IsSetup}
 use Rattle.pf_protocol.specs.declared.answers.Answer.{Answer}
 use Rattle.pf_protocol.specs.declared.answers.Answer.TheVariants.{Done}
-use Rattle.pf_network.proofs.Lists.{at_end, at_front, end_cases}
-use Rattle.pf_group.specs.declared.six.Six.{Six}
-use Rattle.pf_group.specs.Halves.{HasRisen}
-use Rattle.pf_group.specs.GroupIs.{GroupIs}
-use Rattle.pf_group.specs.Making as groups
-use Rattle.pf_group.specs.Making.{making_answer, setup_with}
-use Rattle.pf_applyrounds.specs.Halts.{Halt, failed_by}
-use Rattle.pf_applyrounds.specs.Chunks.{made_chunk}
-use Rattle.pf_applyrounds.specs.Agreeing.{TellsOfGroup, chunk_of}
-use Rattle.pf_applyrounds.proofs.Paying.{made_paid}
-use Rattle.pf_chunk.specs.Views.{ChunkIs, IsReady, run_of}
+use Rattle.pf_threads.specs.pf_network.proofs.Lists.{at_end, at_front, end_cases}
+use Rattle.pf_threads.specs.pf_group.specs.declared.six.Six.{Six}
+use Rattle.pf_threads.specs.pf_group.specs.Halves.{HasRisen}
+use Rattle.pf_threads.specs.pf_group.specs.GroupIs.{GroupIs}
+use Rattle.pf_threads.specs.pf_group.specs.Making as groups
+use Rattle.pf_threads.specs.pf_group.specs.Making.{making_answer, setup_with}
+use Rattle.pf_threads.specs.pf_applyrounds.specs.Halts.{Halt, failed_by}
+use Rattle.pf_threads.specs.pf_applyrounds.specs.Chunks.{made_chunk}
+use Rattle.pf_threads.specs.pf_applyrounds.specs.Agreeing.{TellsOfGroup, chunk_of}
+use Rattle.pf_threads.specs.pf_applyrounds.proofs.Paying.{made_paid}
+use Rattle.pf_threads.specs.pf_chunk.specs.Views.{ChunkIs, IsReady, run_of}
 use Rattle.pf_asks.specs.Ports.{PortIs, new_port}
-use Rattle.pf_chunk.specs.Runs.{ChunkRun, most_ports, mover_port, new_run}
-use Rattle.pf_hosts.specs.Parts.{AreQuiet}
+use Rattle.pf_threads.specs.pf_chunk.specs.Runs.{ChunkRun, most_ports, mover_port, new_run}
+use Rattle.pf_fleet.specs.pf_hosts.specs.Parts.{AreQuiet}
 use Rattle.pf_move.specs.declared.routes.Route.{Route}
 use Rattle.pf_move.specs.Routes.{AreFirst, AreRouted, RoutesIs, between, between_in, home_in, home_of}
 use Rattle.pf_volume.specs.Volumes.{Extent, IsVolume}

@@ -7,16 +7,16 @@ use Rattle.std.proofs.lemmas.Option.{none-some, same_Some, slice_get_within}
 use Rattle.pf_entry.specs.Lists.{Every}
 use Rattle.pf_entry.proofs.Lists.{every_flat_map_from, every_more}
 use Rattle.pf_disk.specs.Crashes.{Images}
-use Rattle.pf_network.proofs.Alone.{get_mapped}
-use Rattle.pf_network.proofs.Lists.{something_there}
-use Rattle.pf_group.specs.GroupIs.{GroupIs}
-use Rattle.pf_group.specs.Making.{six_faults}
-use Rattle.pf_applyrounds.specs.Growing.{HasGrown, IsPaid}
-use Rattle.pf_applyrounds.specs.Halts.{Halt}
-use Rattle.pf_applyrounds.specs.Telling.{halts_at, halts_of_group, one_if}
-use Rattle.pf_applyrounds.proofs.Paying.{since_grown}
-use Rattle.pf_chunk.proofs.Members.{every_place}
-use Rattle.pf_chunk.specs.Views.{ChunkIs}
+use Rattle.pf_threads.specs.pf_network.proofs.Alone.{get_mapped}
+use Rattle.pf_threads.specs.pf_network.proofs.Lists.{something_there}
+use Rattle.pf_threads.specs.pf_group.specs.GroupIs.{GroupIs}
+use Rattle.pf_threads.specs.pf_group.specs.Making.{six_faults}
+use Rattle.pf_threads.specs.pf_applyrounds.specs.Growing.{HasGrown, IsPaid}
+use Rattle.pf_threads.specs.pf_applyrounds.specs.Halts.{Halt}
+use Rattle.pf_threads.specs.pf_applyrounds.specs.Telling.{halts_at, halts_of_group, one_if}
+use Rattle.pf_threads.specs.pf_applyrounds.proofs.Paying.{since_grown}
+use Rattle.pf_threads.specs.pf_chunk.proofs.Members.{every_place}
+use Rattle.pf_threads.specs.pf_chunk.specs.Views.{ChunkIs}
 use Rattle.pf_world.specs.Disks.{AreLeft, six_list}
 use Rattle.pf_world.specs.Headline.{AreCaused, AreHalts, FailedTimes, IsCaused, IsPlaceOf, IsSoundWorld, StandsIn}
 use Rattle.pf_world.specs.Making.{AreMadeOn}

@@ -9,17 +9,17 @@ use Rattle.pf_script.specs.declared.command.Command.{Command}
 use Rattle.pf_script.specs.declared.command.Command.TheVariants as commands
 use Rattle.pf_script.specs.declared.command.Command.TheVariants.{Settle}
 use Rattle.pf_protocol.specs.declared.answers.Answer.{Answer}
-use Rattle.pf_network.proofs.Lists.{something_there}
+use Rattle.pf_threads.specs.pf_network.proofs.Lists.{something_there}
 use Rattle.pf_report.specs.Texts.{answer_text, line_of, settle_text}
-use Rattle.pf_applyrounds.specs.Halts.{Halt}
-use Rattle.pf_applyrounds.specs.Growing.{HasGrown}
-use Rattle.pf_applyrounds.proofs.Growing.{grown_refl}
-use Rattle.pf_chunk.specs.Saying.{said}
-use Rattle.pf_chunk.specs.Steps.{Event}
-use Rattle.pf_chunk.specs.Views.{ChunkIs, run_of}
-use Rattle.pf_hosts.specs.Moments.{Moment, Writes, lines_in, text_of}
-use Rattle.pf_hosts.specs.Steps.{AreReady, HaveGrown, TellsAll}
-use Rattle.pf_hosts.proofs.Groups.{run_there}
+use Rattle.pf_threads.specs.pf_applyrounds.specs.Halts.{Halt}
+use Rattle.pf_threads.specs.pf_applyrounds.specs.Growing.{HasGrown}
+use Rattle.pf_threads.specs.pf_applyrounds.proofs.Growing.{grown_refl}
+use Rattle.pf_threads.specs.pf_chunk.specs.Saying.{said}
+use Rattle.pf_threads.specs.pf_chunk.specs.Steps.{Event}
+use Rattle.pf_threads.specs.pf_chunk.specs.Views.{ChunkIs, run_of}
+use Rattle.pf_fleet.specs.pf_hosts.specs.Moments.{Moment, Writes, lines_in, text_of}
+use Rattle.pf_fleet.specs.pf_hosts.specs.Steps.{AreReady, HaveGrown, TellsAll}
+use Rattle.pf_fleet.specs.pf_hosts.proofs.Groups.{run_there}
 use Rattle.pf_fleet.specs.Settled.{HasSettled, settling}
 use Rattle.pf_fleet.specs.Steps.{FleetIs, HasAnswered, HasGone, IsFleetOf, Part}
 use Rattle.pf_fleet.specs.Steps as fleets
@@ -30,7 +30,7 @@ use Rattle.pf_world.specs.Lines.{line_told}
 use Rattle.pf_volume.specs.Volumes.{Extent}
 use Rattle.pf_world.specs.Views.{IsWorld, WorldIs, named_in, stands_at}
 use Rattle.pf_world.specs.Headline.{is_live}
-use Rattle.pf_liveline.specs.declared.opening.Passes.{Passes}
+use Rattle.pf_threads.specs.pf_liveline.specs.declared.opening.Passes.{Passes}
 use Rattle.pf_threads.specs.Sessions.{Session}
 use Rattle.pf_world.specs.Steps.{Ends, GoesOn, HasRun, Keeps, MakesGroups, TakesSessions, moves_after}
 use Rattle.pf_world.proofs.Others.{ends_other, keeps_none, line_other, takes_none, told_with}

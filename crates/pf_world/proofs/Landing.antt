@@ -3,10 +3,10 @@ use Rattle.std.proofs.Common.{◌≡◌, ℕ, List, ◌++◌, length, drop, take
 use Rattle.std.proofs.lemmas.List.{append-nil}
 use Rattle.std.proofs.Math.ListN.{drop_of_length-le}
 use Rattle.std.proofs.Math.Seq.{take-length}
-use Rattle.pf_chunk.specs.Views.{ChunkIs}
-use Rattle.pf_hosts.specs.Steps.{AreReady}
+use Rattle.pf_threads.specs.pf_chunk.specs.Views.{ChunkIs}
+use Rattle.pf_fleet.specs.pf_hosts.specs.Steps.{AreReady}
 use Rattle.pf_fleet.specs.Steps.{FleetIs, IsFleetOf}
-use Rattle.pf_liveline.specs.declared.opening.Passes.{Passes}
+use Rattle.pf_threads.specs.pf_liveline.specs.declared.opening.Passes.{Passes}
 use Rattle.pf_world.specs.declared.kind.Kind.{Kind}
 use Rattle.pf_world.specs.Views.{IsWorld, WorldIs}
 use Rattle.pf_world.proofs.Happening.{becomes, chunks_ready}

@@ -3,7 +3,7 @@ use Rattle.std.proofs.Common.{◌≡◌, ℕ, suc, ◌+◌, ◌<◌, ◌≤◌, 
 use Rattle.std.proofs.lemmas.Option.{none-some, slice_get_within}
 use Rattle.pf_script.specs.declared.command.Command.{Command}
 use Rattle.pf_script.specs.declared.command.Command.TheVariants as commands
-use Rattle.pf_chunk.specs.Views.{ChunkIs}
+use Rattle.pf_threads.specs.pf_chunk.specs.Views.{ChunkIs}
 use Rattle.pf_world.specs.Making.{HasMadeMore}
 use Rattle.pf_world.specs.Steps.{HasFailed, HasRun, MakesGroups, moves_after}
 use Rattle.pf_world.specs.Views.{WorldIs, WorldOn}

@@ -12,20 +12,20 @@ use Rattle.pf_mount.specs.declared.work.Work.TheVariants.{Rests}
 use Rattle.pf_report.specs.Refusals.{refusal_text}
 use Rattle.pf_report.specs.Texts.{line_of}
 use Rattle.pf_report.specs.Mounts.{mount_text, started_text}
-use Rattle.pf_applyrounds.specs.Halts.{Halt}
-use Rattle.pf_chunk.specs.Saying.{said}
-use Rattle.pf_chunk.specs.Views.{ChunkIs}
-use Rattle.pf_hosts.specs.Hosts.{HostIs}
-use Rattle.pf_hosts.specs.Steps.{runs}
-use Rattle.pf_hosts.specs.Words.{read_call}
-use Rattle.pf_hosts.proofs.Lengthening.{Lengthens, begun_lengthens, lengthens_refl, lengthens_trans, made_lengthens}
+use Rattle.pf_threads.specs.pf_applyrounds.specs.Halts.{Halt}
+use Rattle.pf_threads.specs.pf_chunk.specs.Saying.{said}
+use Rattle.pf_threads.specs.pf_chunk.specs.Views.{ChunkIs}
+use Rattle.pf_fleet.specs.pf_hosts.specs.Hosts.{HostIs}
+use Rattle.pf_fleet.specs.pf_hosts.specs.Steps.{runs}
+use Rattle.pf_fleet.specs.pf_hosts.specs.Words.{read_call}
+use Rattle.pf_fleet.specs.pf_hosts.proofs.Lengthening.{Lengthens, begun_lengthens, lengthens_refl, lengthens_trans, made_lengthens}
 use Rattle.pf_fleet.specs.declared.faults.CallFault.{CallFault}
 use Rattle.pf_fleet.specs.declared.faults.CallFault.TheVariants as faults
 use Rattle.pf_fleet.specs.declared.faults.JoinFault.{JoinFault}
 use Rattle.pf_fleet.specs.declared.faults.JoinFault.TheVariants as joins_not
 use Rattle.pf_anchormount.specs.declared.work.Work.{Work as WorkOver}
 use Rattle.pf_anchormount.specs.declared.work.Work.TheVariants.{Rests as RestsOver}
-use Rattle.pf_anchorhosts.specs.Hosts.{AnchoredHostIs}
+use Rattle.pf_fleet.specs.pf_anchorhosts.specs.Hosts.{AnchoredHostIs}
 use Rattle.pf_fleet.specs.Calls.{CalledIn, HasCalled, HasJoined, IsCause, IsCauseIn, IsCauseOver, IsNone, IsPlainCause, call_number, join_number, killed_in}
 use Rattle.pf_fleet.specs.Steps.{AreSameHosts, FleetIs, HasGone, HasStopped, IsFleetOf, Part}
 use Rattle.pf_fleet.specs.Steps as fleets

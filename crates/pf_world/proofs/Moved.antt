@@ -8,35 +8,35 @@ use Rattle.std.proofs.lemmas.List.{append_assoc, append-nil, length-map}
 use Rattle.std.proofs.lemmas.Option.{none-some, same_Some, slice_get_within}
 use Rattle.pf_entry.specs.Lists.{Every}
 use Rattle.pf_entry.proofs.Lists.{every_more}
-use Rattle.pf_network.proofs.Lists.{at_front, something_there}
+use Rattle.pf_threads.specs.pf_network.proofs.Lists.{at_front, something_there}
 use Rattle.pf_protocol.specs.declared.answers.Answer.{Answer}
 use Rattle.pf_script.specs.Lines.{is_volume}
 use Rattle.pf_volume.specs.Volumes.{Extent}
 use Rattle.pf_script.specs.declared.command.Command.TheVariants as commands
 use Rattle.pf_move.specs.declared.routes.Moving.{Moving}
-use Rattle.pf_group.specs.declared.six.Six.{Six}
-use Rattle.pf_group.specs.GroupIs.{GroupIs}
-use Rattle.pf_group.specs.Halves.{HasRisen}
-use Rattle.pf_group.specs.Making as groups
+use Rattle.pf_threads.specs.pf_group.specs.declared.six.Six.{Six}
+use Rattle.pf_threads.specs.pf_group.specs.GroupIs.{GroupIs}
+use Rattle.pf_threads.specs.pf_group.specs.Halves.{HasRisen}
+use Rattle.pf_threads.specs.pf_group.specs.Making as groups
 use Rattle.pf_move.specs.Movers.{Step, new_mover, step}
 use Rattle.pf_move.specs.Routes.{home_of}
 use Rattle.pf_report.specs.Moves.{moving_text}
 use Rattle.pf_report.specs.Refusals.{refusal_text}
 use Rattle.pf_report.specs.Texts.{line_of}
-use Rattle.pf_applyrounds.specs.Agreeing.{TellsOfGroup, chunk_of}
-use Rattle.pf_applyrounds.specs.Begun.{HasBegun}
-use Rattle.pf_applyrounds.specs.Chunks.{made_chunk}
-use Rattle.pf_applyrounds.specs.Growing.{HasGrown}
-use Rattle.pf_applyrounds.specs.Halts.{Halt}
-use Rattle.pf_applyrounds.proofs.Extending.{Extends, extends_on, extends_refl}
-use Rattle.pf_applyrounds.proofs.Growing.{grown_refl}
-use Rattle.pf_applyrounds.proofs.Paying.{made_paid, since_grown}
-use Rattle.pf_chunk.specs.Runs.{ChunkRun, left_by_ports, new_run, taking_ports}
-use Rattle.pf_chunk.specs.Views.{ChunkIs, run_of}
-use Rattle.pf_hosts.specs.Moments.{Writes, lines_in, text_of}
-use Rattle.pf_hosts.specs.Steps.{HaveBegun, HaveGrown, TellsAll, runs}
-use Rattle.pf_hosts.proofs.Groups.{all_begun, run_there}
-use Rattle.pf_hosts.proofs.Lengthening.{lengthens_one}
+use Rattle.pf_threads.specs.pf_applyrounds.specs.Agreeing.{TellsOfGroup, chunk_of}
+use Rattle.pf_threads.specs.pf_applyrounds.specs.Begun.{HasBegun}
+use Rattle.pf_threads.specs.pf_applyrounds.specs.Chunks.{made_chunk}
+use Rattle.pf_threads.specs.pf_applyrounds.specs.Growing.{HasGrown}
+use Rattle.pf_threads.specs.pf_applyrounds.specs.Halts.{Halt}
+use Rattle.pf_threads.specs.pf_applyrounds.proofs.Extending.{Extends, extends_on, extends_refl}
+use Rattle.pf_threads.specs.pf_applyrounds.proofs.Growing.{grown_refl}
+use Rattle.pf_threads.specs.pf_applyrounds.proofs.Paying.{made_paid, since_grown}
+use Rattle.pf_threads.specs.pf_chunk.specs.Runs.{ChunkRun, left_by_ports, new_run, taking_ports}
+use Rattle.pf_threads.specs.pf_chunk.specs.Views.{ChunkIs, run_of}
+use Rattle.pf_fleet.specs.pf_hosts.specs.Moments.{Writes, lines_in, text_of}
+use Rattle.pf_fleet.specs.pf_hosts.specs.Steps.{HaveBegun, HaveGrown, TellsAll, runs}
+use Rattle.pf_fleet.specs.pf_hosts.proofs.Groups.{all_begun, run_there}
+use Rattle.pf_fleet.specs.pf_hosts.proofs.Lengthening.{lengthens_one}
 use Rattle.pf_fleet.specs.Moves as moves
 use Rattle.pf_fleet.specs.Steps.{AreSameHosts, FleetIs, HasGone, HasStopped, IsFleetOf, Part}
 use Rattle.pf_fleet.specs.Steps as fleets

@@ -12,14 +12,14 @@ use Rattle.std.specs.Option.{is_some}
 use Rattle.pf_script.specs.Lines.{group_of}
 use Rattle.pf_report.specs.Moves.{moving_text}
 use Rattle.pf_report.specs.Mounts.{mount_text}
-use Rattle.pf_applyrounds.specs.Chunks.{Chunk}
-use Rattle.pf_applyrounds.specs.Halts.{Halt}
-use Rattle.pf_chunk.specs.Asking.{fetches, is_range, submits}
-use Rattle.pf_chunk.specs.Happenings.{Happened}
-use Rattle.pf_chunk.specs.Runs.{ChunkRun}
-use Rattle.pf_hosts.specs.Hosts.{HostIs}
-use Rattle.pf_hosts.specs.Words.{read_call}
-use Rattle.pf_anchorhosts.specs.Hosts.{AnchoredHostIs}
+use Rattle.pf_threads.specs.pf_applyrounds.specs.Chunks.{Chunk}
+use Rattle.pf_threads.specs.pf_applyrounds.specs.Halts.{Halt}
+use Rattle.pf_threads.specs.pf_chunk.specs.Asking.{fetches, is_range, submits}
+use Rattle.pf_threads.specs.pf_chunk.specs.Happenings.{Happened}
+use Rattle.pf_threads.specs.pf_chunk.specs.Runs.{ChunkRun}
+use Rattle.pf_fleet.specs.pf_hosts.specs.Hosts.{HostIs}
+use Rattle.pf_fleet.specs.pf_hosts.specs.Words.{read_call}
+use Rattle.pf_fleet.specs.pf_anchorhosts.specs.Hosts.{AnchoredHostIs}
 use Rattle.pf_fleet.specs.Volumes.{AnchoredHosts, anchored_at, host_at, mount_count, mounts, moves, quietly}
 use Rattle.pf_threads.specs.Sessions.{Session}
 use Rattle.pf_world.specs.declared.kind.Kind.{Kind}

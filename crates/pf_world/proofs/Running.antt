@@ -8,12 +8,12 @@ use Rattle.std.proofs.lemmas.Option.{slice_get-get_or, slice_get_within}
 use Rattle.pf_script.specs.declared.command.Command.{Command}
 use Rattle.pf_script.specs.declared.command.Command.TheVariants as commands
 use Rattle.pf_protocol.specs.declared.answers.Answer.{Answer}
-use Rattle.pf_applyrounds.specs.Halts.{Halt}
-use Rattle.pf_chunk.specs.Saying.{answer_line}
-use Rattle.pf_group.specs.Making.{making_answer}
-use Rattle.pf_chunk.specs.Runs.{ChunkRun}
-use Rattle.pf_chunk.specs.Views.{ChunkIs, run_of}
-use Rattle.pf_hosts.specs.Moments.{Moment, lines_in, text_of}
+use Rattle.pf_threads.specs.pf_applyrounds.specs.Halts.{Halt}
+use Rattle.pf_threads.specs.pf_chunk.specs.Saying.{answer_line}
+use Rattle.pf_threads.specs.pf_group.specs.Making.{making_answer}
+use Rattle.pf_threads.specs.pf_chunk.specs.Runs.{ChunkRun}
+use Rattle.pf_threads.specs.pf_chunk.specs.Views.{ChunkIs, run_of}
+use Rattle.pf_fleet.specs.pf_hosts.specs.Moments.{Moment, lines_in, text_of}
 use Rattle.pf_world.specs.Worlds.{Told, World, made_answer, no_world}
 use Rattle.pf_world.specs.Lines.{line_told, volume_told}
 use Rattle.pf_world.specs.declared.line.Line.{Line}
@@ -23,8 +23,8 @@ use Rattle.pf_world.specs.Agreeing.{Tells}
 use Rattle.pf_threads.specs.Sessions.{Session}
 use Rattle.pf_world.specs.Steps.{Ends, GoesOn, IsMade, IsLineRun, TakesSessions}
 use Rattle.pf_world.specs.Headline.{EndEach, IsRunTo, RunsTo, is_live}
-use Rattle.pf_applyrounds.proofs.Growing.{grown_tells, grown_trans}
-use Rattle.pf_network.proofs.Lists.{something_there}
+use Rattle.pf_threads.specs.pf_applyrounds.proofs.Growing.{grown_tells, grown_trans}
+use Rattle.pf_threads.specs.pf_network.proofs.Lists.{something_there}
 
 -- the making is halted where some server could not be formatted
 made_says : (halts : List Halt) (sessions : List Session) (w : WorldIs) → made_answer (stands_at halts sessions w) ≡ making_answer (flat_map (λ c. c.group.setup.failed) w.chunks)

@@ -9,12 +9,12 @@ use Rattle.pf_protocol.specs.Histories.{History, replay}
 use Rattle.pf_protocol.specs.Answers.{Claimed, IsAnswer, IsLegal, IsLegalFrom, claims_after}
 use Rattle.pf_protocol.proofs.ForMoments.{replay_goes_on}
 use Rattle.pf_protocol.proofs.ForHistories.{is_member}
-use Rattle.pf_group.specs.GroupIs.{GroupIs}
-use Rattle.pf_applyrounds.specs.Halts.{At, Halt}
-use Rattle.pf_applyrounds.specs.Agreeing.{is_halted}
-use Rattle.pf_applyrounds.specs.Telling.{halts_from, halts_of_event, halts_of_group, making_halts, next_found, server_at}
-use Rattle.pf_applyrounds.proofs.Acting.{halted_there}
-use Rattle.pf_applyrounds.proofs.Following.{halted_is}
+use Rattle.pf_threads.specs.pf_group.specs.GroupIs.{GroupIs}
+use Rattle.pf_threads.specs.pf_applyrounds.specs.Halts.{At, Halt}
+use Rattle.pf_threads.specs.pf_applyrounds.specs.Agreeing.{is_halted}
+use Rattle.pf_threads.specs.pf_applyrounds.specs.Telling.{halts_from, halts_of_event, halts_of_group, making_halts, next_found, server_at}
+use Rattle.pf_threads.specs.pf_applyrounds.proofs.Acting.{halted_there}
+use Rattle.pf_threads.specs.pf_applyrounds.proofs.Following.{halted_is}
 use Rattle.pf_world.specs.Headline.{IsPlaceOf}
 
 -- a halt of one of the servers of this group

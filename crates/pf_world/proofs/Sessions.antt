@@ -11,29 +11,29 @@ use Rattle.pf_protocol.specs.declared.events.Event.TheVariants.{Restart}
 use Rattle.pf_protocol.specs.Histories.{History}
 use Rattle.pf_script.specs.declared.command.Command.{Command}
 use Rattle.pf_script.specs.declared.command.Command.TheVariants as commands
-use Rattle.pf_network.proofs.Lists.{set_there}
-use Rattle.pf_group.specs.GroupIs.{GroupIs}
+use Rattle.pf_threads.specs.pf_network.proofs.Lists.{set_there}
+use Rattle.pf_threads.specs.pf_group.specs.GroupIs.{GroupIs}
 use Rattle.pf_report.specs.Live.{live_text}
 use Rattle.pf_report.specs.Texts.{line_of}
-use Rattle.pf_applyrounds.specs.Agreeing.{TellsOfGroup, chunk_of, told_from, told_history}
-use Rattle.pf_applyrounds.specs.Chunks.{Chunk, after, listed_at}
-use Rattle.pf_applyrounds.specs.Growing.{HasGrown}
-use Rattle.pf_applyrounds.specs.Halts.{Halt}
-use Rattle.pf_applyrounds.specs.Rounds.{applied}
-use Rattle.pf_applyrounds.proofs.Extending.{Extends, after_extends, applied_extends, extends_on, extends_refl}
-use Rattle.pf_applyrounds.proofs.Told.{told_longer}
-use Rattle.pf_live.specs.declared.plan.Plan.{Plan}
-use Rattle.pf_live.specs.Lines.{applies_done}
-use Rattle.pf_session.specs.declared.session.Lived.{Lived}
-use Rattle.pf_session.specs.Totals.{applied_on, applied_on_each}
-use Rattle.pf_chunk.specs.Happenings.{Happened}
-use Rattle.pf_chunk.specs.Lending.{after_all, all_happened}
-use Rattle.pf_chunk.specs.Runs.{ChunkRun}
-use Rattle.pf_chunk.specs.Steps.{Event as ChunkEvent}
-use Rattle.pf_chunk.specs.Views.{ChunkIs, run_of}
-use Rattle.pf_chunk.proofs.Begun.{filled_group}
-use Rattle.pf_hosts.specs.Steps.{AreReady, HaveBegun, HaveGrown, TellsAll}
-use Rattle.pf_hosts.proofs.Groups.{run_there}
+use Rattle.pf_threads.specs.pf_applyrounds.specs.Agreeing.{TellsOfGroup, chunk_of, told_from, told_history}
+use Rattle.pf_threads.specs.pf_applyrounds.specs.Chunks.{Chunk, after, listed_at}
+use Rattle.pf_threads.specs.pf_applyrounds.specs.Growing.{HasGrown}
+use Rattle.pf_threads.specs.pf_applyrounds.specs.Halts.{Halt}
+use Rattle.pf_threads.specs.pf_applyrounds.specs.Rounds.{applied}
+use Rattle.pf_threads.specs.pf_applyrounds.proofs.Extending.{Extends, after_extends, applied_extends, extends_on, extends_refl}
+use Rattle.pf_threads.specs.pf_applyrounds.proofs.Told.{told_longer}
+use Rattle.pf_threads.specs.pf_live.specs.declared.plan.Plan.{Plan}
+use Rattle.pf_threads.specs.pf_live.specs.Lines.{applies_done}
+use Rattle.pf_threads.specs.pf_session.specs.declared.session.Lived.{Lived}
+use Rattle.pf_threads.specs.pf_session.specs.Totals.{applied_on, applied_on_each}
+use Rattle.pf_threads.specs.pf_chunk.specs.Happenings.{Happened}
+use Rattle.pf_threads.specs.pf_chunk.specs.Lending.{after_all, all_happened}
+use Rattle.pf_threads.specs.pf_chunk.specs.Runs.{ChunkRun}
+use Rattle.pf_threads.specs.pf_chunk.specs.Steps.{Event as ChunkEvent}
+use Rattle.pf_threads.specs.pf_chunk.specs.Views.{ChunkIs, run_of}
+use Rattle.pf_threads.specs.pf_chunk.proofs.Begun.{filled_group}
+use Rattle.pf_fleet.specs.pf_hosts.specs.Steps.{AreReady, HaveBegun, HaveGrown, TellsAll}
+use Rattle.pf_fleet.specs.pf_hosts.proofs.Groups.{run_there}
 use Rattle.pf_fleet.specs.Steps.{AreSameHosts, FleetIs, HasGone, HasStopped, IsFleetOf}
 use Rattle.pf_fleet.specs.Steps as fleets
 use Rattle.pf_fleet.specs.Volumes.{all_step, quietly}

@@ -4,26 +4,26 @@ use Rattle.std.proofs.lemmas.Bool.{false≢true}
 use Rattle.pf_script.specs.declared.command.Command.{Command}
 use Rattle.pf_script.specs.declared.command.Command.TheVariants as commands
 use Rattle.pf_protocol.specs.Groups.{Group}
-use Rattle.pf_group.specs.GroupIs.{state_of}
+use Rattle.pf_threads.specs.pf_group.specs.GroupIs.{state_of}
 use Rattle.pf_tree.specs.Listings.{listing}
 use Rattle.pf_mount.specs.declared.work.Work.{Work}
 use Rattle.pf_mount.specs.declared.work.Work.TheVariants.{Rests}
 use Rattle.pf_report.specs.Texts.{line_of}
 use Rattle.pf_report.specs.Mounts.{state_text, tree_lines}
-use Rattle.pf_applyrounds.specs.Chunks.{Chunk}
-use Rattle.pf_applyrounds.specs.Halts.{Halt}
-use Rattle.pf_chunk.specs.Runs.{ChunkRun}
-use Rattle.pf_chunk.specs.Showing.{IsShown}
-use Rattle.pf_chunk.specs.Views.{ChunkIs}
-use Rattle.pf_hosts.specs.Hosts.{HostIs}
-use Rattle.pf_hosts.specs.Moments.{Moment, Writes, text_of}
-use Rattle.pf_hosts.proofs.Groups.{run_there}
+use Rattle.pf_threads.specs.pf_applyrounds.specs.Chunks.{Chunk}
+use Rattle.pf_threads.specs.pf_applyrounds.specs.Halts.{Halt}
+use Rattle.pf_threads.specs.pf_chunk.specs.Runs.{ChunkRun}
+use Rattle.pf_threads.specs.pf_chunk.specs.Showing.{IsShown}
+use Rattle.pf_threads.specs.pf_chunk.specs.Views.{ChunkIs}
+use Rattle.pf_fleet.specs.pf_hosts.specs.Hosts.{HostIs}
+use Rattle.pf_fleet.specs.pf_hosts.specs.Moments.{Moment, Writes, text_of}
+use Rattle.pf_fleet.specs.pf_hosts.proofs.Groups.{run_there}
 use Rattle.pf_fleet.specs.Steps.{FleetIs, HasGone, IsFleetOf, Part}
 use Rattle.pf_fleet.specs.Steps as fleets
 use Rattle.pf_inodes.specs.Tables.{Tables}
 use Rattle.pf_anchormount.specs.declared.work.Work.{Work as WorkOver}
 use Rattle.pf_anchormount.specs.declared.work.Work.TheVariants.{Rests as RestsOver}
-use Rattle.pf_anchorhosts.specs.Hosts.{AnchoredHostIs}
+use Rattle.pf_fleet.specs.pf_anchorhosts.specs.Hosts.{AnchoredHostIs}
 use Rattle.pf_fleet.specs.Volumes.{AnchoredHosts, anchored_at, host_at, quietly, saying}
 use Rattle.pf_world.specs.Asked.{IsShow}
 use Rattle.pf_world.specs.Worlds.{Told, World, ended, refused_text, said_only}

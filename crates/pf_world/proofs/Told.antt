@@ -2,18 +2,18 @@
 use Rattle.std.proofs.Common.{[], ◌≡◌, ℕ, ◌<◌, IsTrue, List, map, Some, slice_get, sym, subst}
 use Rattle.std.specs.List.{flat_map}
 use Rattle.pf_entry.specs.Lists.{Every}
-use Rattle.pf_network.proofs.Alone.{get_mapped}
-use Rattle.pf_chunk.proofs.Members.{mapped_get}
+use Rattle.pf_threads.specs.pf_network.proofs.Alone.{get_mapped}
+use Rattle.pf_threads.specs.pf_chunk.proofs.Members.{mapped_get}
 use Rattle.pf_protocol.specs.Answers.{IsLegal}
-use Rattle.pf_group.specs.GroupIs.{GroupIs}
-use Rattle.pf_group.proofs.Sound.{sound}
-use Rattle.pf_applyrounds.specs.Halts.{Halt}
-use Rattle.pf_applyrounds.specs.Agreeing.{told_history}
-use Rattle.pf_applyrounds.specs.Telling.{halts_of_group}
-use Rattle.pf_applyrounds.proofs.Several.{tells_of_all}
-use Rattle.pf_applyrounds.proofs.Told.{told_legal, told_replays}
-use Rattle.pf_chunk.specs.Views.{ChunkIs, run_of}
-use Rattle.pf_chunk.specs.Runs.{ChunkRun}
+use Rattle.pf_threads.specs.pf_group.specs.GroupIs.{GroupIs}
+use Rattle.pf_threads.specs.pf_group.proofs.Sound.{sound}
+use Rattle.pf_threads.specs.pf_applyrounds.specs.Halts.{Halt}
+use Rattle.pf_threads.specs.pf_applyrounds.specs.Agreeing.{told_history}
+use Rattle.pf_threads.specs.pf_applyrounds.specs.Telling.{halts_of_group}
+use Rattle.pf_threads.specs.pf_applyrounds.proofs.Several.{tells_of_all}
+use Rattle.pf_threads.specs.pf_applyrounds.proofs.Told.{told_legal, told_replays}
+use Rattle.pf_threads.specs.pf_chunk.specs.Views.{ChunkIs, run_of}
+use Rattle.pf_threads.specs.pf_chunk.specs.Runs.{ChunkRun}
 use Rattle.pf_world.specs.Agreeing.{Tells}
 use Rattle.pf_world.specs.Headline.{IsLawful, IsLawfulRun, IsSafeRun, IsSoundWorld}
 use Rattle.pf_world.specs.Views.{WorldIs, stands_at}

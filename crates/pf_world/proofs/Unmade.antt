@@ -8,9 +8,9 @@ use Rattle.pf_script.specs.declared.command.Command.{Command}
 use Rattle.pf_script.specs.declared.command.Command.TheVariants as commands
 use Rattle.pf_script.specs.Lines.{group_of}
 use Rattle.pf_report.specs.Texts.{line_of}
-use Rattle.pf_applyrounds.specs.Halts.{Halt}
-use Rattle.pf_chunk.specs.Views.{run_of}
-use Rattle.pf_hosts.specs.Steps.{HaveBegun}
+use Rattle.pf_threads.specs.pf_applyrounds.specs.Halts.{Halt}
+use Rattle.pf_threads.specs.pf_chunk.specs.Views.{run_of}
+use Rattle.pf_fleet.specs.pf_hosts.specs.Steps.{HaveBegun}
 use Rattle.pf_fleet.specs.Volumes.{quietly}
 use Rattle.pf_fleet.proofs.Growing.{grown_refl_all}
 use Rattle.pf_threads.specs.Sessions.{Session, no_session}

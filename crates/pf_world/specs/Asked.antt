@@ -2,9 +2,9 @@
 use Rattle.std.specs.Prelude.{◌≡◌, ℕ, Option, Some, None}
 use Rattle.pf_script.specs.declared.command.Command.{Command}
 use Rattle.pf_script.specs.declared.command.Command.TheVariants as commands
-use Rattle.pf_group.specs.declared.event.GroupEvent.TheVariants as events
-use Rattle.pf_chunk.specs.declared.asked.Asked.{Asked}
-use Rattle.pf_chunk.specs.declared.asked.Asked.TheVariants.{Event, Fetch, Submit}
+use Rattle.pf_threads.specs.pf_group.specs.declared.event.GroupEvent.TheVariants as events
+use Rattle.pf_threads.specs.pf_chunk.specs.declared.asked.Asked.{Asked}
+use Rattle.pf_threads.specs.pf_chunk.specs.declared.asked.Asked.TheVariants.{Event, Fetch, Submit}
 use Rattle.pf_world.specs.declared.kind.Kind.{Kind}
 use Rattle.pf_world.specs.declared.kind.Kind.TheVariants.{Raw}
 

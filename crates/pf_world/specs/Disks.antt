@@ -1,10 +1,10 @@
 -- The disks of a world: disk 6k + 2i + h of a list is half h of server i of chunk k.
 use Rattle.std.specs.Prelude.{◌≡◌, ℕ, ◌+◌, ◌*◌, ◌<◌, Bool, IsTrue, List, [], ◌∷◌, Option, Some, drop, length, slice_get}
 use Rattle.pf_disk.specs.Crashes.{Images}
-use Rattle.pf_group.specs.declared.six.Six.{Six}
-use Rattle.pf_group.specs.Crashing.{LeavesAtCrash}
-use Rattle.pf_group.specs.Leaving.{LeavesIn, as_seen}
-use Rattle.pf_chunk.specs.Views.{ChunkIs}
+use Rattle.pf_threads.specs.pf_group.specs.declared.six.Six.{Six}
+use Rattle.pf_threads.specs.pf_group.specs.Crashing.{LeavesAtCrash}
+use Rattle.pf_threads.specs.pf_group.specs.Leaving.{LeavesIn, as_seen}
+use Rattle.pf_threads.specs.pf_chunk.specs.Views.{ChunkIs}
 
 -- six disks, server by server
 abbrev pub six_list : {D : Type 0} → Six D → List D

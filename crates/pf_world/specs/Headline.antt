@@ -6,15 +6,15 @@ use Rattle.pf_entry.specs.Lists.{Every}
 use Rattle.pf_protocol.specs.Answers.{IsLegal}
 use Rattle.pf_protocol.specs.Safety.{IsSafe}
 use Rattle.pf_protocol.specs.Histories.{replay}
-use Rattle.pf_group.specs.Crashing.{AllLeaveAtCrash}
-use Rattle.pf_group.specs.GroupIs.{GroupIs}
-use Rattle.pf_group.specs.Sound.{IsSound}
-use Rattle.pf_applyrounds.specs.Halts.{At, Halt, Making, Place}
-use Rattle.pf_applyrounds.specs.Chunks.{Chunk}
-use Rattle.pf_applyrounds.specs.Growing.{IsLast}
-use Rattle.pf_applyrounds.specs.Telling.{halts_at}
-use Rattle.pf_chunk.specs.Runs.{ChunkRun}
-use Rattle.pf_chunk.specs.Views.{ChunkIs}
+use Rattle.pf_threads.specs.pf_group.specs.Crashing.{AllLeaveAtCrash}
+use Rattle.pf_threads.specs.pf_group.specs.GroupIs.{GroupIs}
+use Rattle.pf_threads.specs.pf_group.specs.Sound.{IsSound}
+use Rattle.pf_threads.specs.pf_applyrounds.specs.Halts.{At, Halt, Making, Place}
+use Rattle.pf_threads.specs.pf_applyrounds.specs.Chunks.{Chunk}
+use Rattle.pf_threads.specs.pf_applyrounds.specs.Growing.{IsLast}
+use Rattle.pf_threads.specs.pf_applyrounds.specs.Telling.{halts_at}
+use Rattle.pf_threads.specs.pf_chunk.specs.Runs.{ChunkRun}
+use Rattle.pf_threads.specs.pf_chunk.specs.Views.{ChunkIs}
 use Rattle.pf_script.specs.declared.command.Command.{Command}
 use Rattle.pf_script.specs.declared.command.Command.TheVariants as commands
 use Rattle.pf_threads.specs.Sessions.{Session}

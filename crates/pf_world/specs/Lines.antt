@@ -15,21 +15,21 @@ use Rattle.pf_mount.specs.declared.work.Work.{Work}
 use Rattle.pf_mount.specs.declared.work.Work.TheVariants.{Rests}
 use Rattle.pf_anchormount.specs.declared.work.Work.{Work as WorkOver}
 use Rattle.pf_anchormount.specs.declared.work.Work.TheVariants.{Rests as RestsOver}
-use Rattle.pf_anchorhosts.specs.Hosts.{AnchoredHostIs}
+use Rattle.pf_fleet.specs.pf_anchorhosts.specs.Hosts.{AnchoredHostIs}
 use Rattle.pf_report.specs.Moves.{moving_text}
 use Rattle.pf_report.specs.Texts.{settle_text}
 use Rattle.pf_report.specs.Mounts.{mount_text, started_text, state_text, tree_lines}
-use Rattle.pf_applyrounds.specs.Halts.{Halt}
-use Rattle.pf_applyrounds.specs.Chunks.{Chunk, made_chunk}
-use Rattle.pf_chunk.specs.Asking.{fetches, is_range, no_range_answer, submits}
-use Rattle.pf_chunk.specs.Happenings.{Happened, happened}
-use Rattle.pf_chunk.specs.Lending.{all_happened}
-use Rattle.pf_chunk.specs.Runs.{ChunkRun, new_run}
-use Rattle.pf_chunk.specs.Saying.{answer_line, said}
-use Rattle.pf_chunk.specs.Showing.{acked_shown, applied_shown, log_shown, mark_shown, of_server, sectors_shown}
-use Rattle.pf_hosts.specs.Moments.{Writes}
-use Rattle.pf_hosts.specs.Hosts.{HostIs}
-use Rattle.pf_hosts.specs.Words.{read_call}
+use Rattle.pf_threads.specs.pf_applyrounds.specs.Halts.{Halt}
+use Rattle.pf_threads.specs.pf_applyrounds.specs.Chunks.{Chunk, made_chunk}
+use Rattle.pf_threads.specs.pf_chunk.specs.Asking.{fetches, is_range, no_range_answer, submits}
+use Rattle.pf_threads.specs.pf_chunk.specs.Happenings.{Happened, happened}
+use Rattle.pf_threads.specs.pf_chunk.specs.Lending.{all_happened}
+use Rattle.pf_threads.specs.pf_chunk.specs.Runs.{ChunkRun, new_run}
+use Rattle.pf_threads.specs.pf_chunk.specs.Saying.{answer_line, said}
+use Rattle.pf_threads.specs.pf_chunk.specs.Showing.{acked_shown, applied_shown, log_shown, mark_shown, of_server, sectors_shown}
+use Rattle.pf_fleet.specs.pf_hosts.specs.Moments.{Writes}
+use Rattle.pf_fleet.specs.pf_hosts.specs.Hosts.{HostIs}
+use Rattle.pf_fleet.specs.pf_hosts.specs.Words.{read_call}
 use Rattle.pf_fleet.specs.Settling.{settled}
 use Rattle.pf_fleet.specs.Settled.{settling}
 use Rattle.pf_fleet.specs.Volumes.{AnchoredHosts, Hosts, anchored_at, anchors, begins, begins_over, happens, host_at, killed, killed_over, mount_count, mounts, moves, quietly, saying}

@@ -4,13 +4,13 @@ use Rattle.std.specs.List.{flat_map}
 use Rattle.pf_entry.specs.Lists.{Every}
 use Rattle.pf_protocol.specs.declared.answers.Answer.{Answer}
 use Rattle.pf_protocol.specs.declared.answers.Answer.TheVariants.{Done}
-use Rattle.pf_group.specs.declared.six.Six.{Six}
-use Rattle.pf_group.specs.Making as groups
-use Rattle.pf_applyrounds.specs.Halts.{Halt}
-use Rattle.pf_applyrounds.specs.Agreeing.{chunk_of}
-use Rattle.pf_applyrounds.specs.Growing.{IsPaidSince}
-use Rattle.pf_chunk.specs.Runs.{new_run}
-use Rattle.pf_chunk.specs.Views.{ChunkIs, IsReady, run_of}
+use Rattle.pf_threads.specs.pf_group.specs.declared.six.Six.{Six}
+use Rattle.pf_threads.specs.pf_group.specs.Making as groups
+use Rattle.pf_threads.specs.pf_applyrounds.specs.Halts.{Halt}
+use Rattle.pf_threads.specs.pf_applyrounds.specs.Agreeing.{chunk_of}
+use Rattle.pf_threads.specs.pf_applyrounds.specs.Growing.{IsPaidSince}
+use Rattle.pf_threads.specs.pf_chunk.specs.Runs.{new_run}
+use Rattle.pf_threads.specs.pf_chunk.specs.Views.{ChunkIs, IsReady, run_of}
 use Rattle.pf_fleet.specs.Moves as moves
 use Rattle.pf_world.specs.Views.{IsWorld, WorldIs, WorldOn}
 use Rattle.pf_world.specs.Disks.{six_list}

@@ -6,23 +6,23 @@ use Rattle.pf_script.specs.declared.command.Command.TheVariants as commands
 use Rattle.pf_script.specs.declared.named.Named.{Named}
 use Rattle.pf_script.specs.Lines.{fits, group_of, named_after}
 use Rattle.pf_protocol.specs.declared.answers.Answer.{Answer}
-use Rattle.pf_applyrounds.specs.Halts.{Halt}
-use Rattle.pf_group.specs.GroupIs.{GroupIs}
-use Rattle.pf_group.specs.Making.{making_answer}
-use Rattle.pf_applyrounds.specs.Agreeing.{chunk_of}
-use Rattle.pf_applyrounds.specs.Begun.{HasBegun}
-use Rattle.pf_applyrounds.specs.Growing.{HasGrown}
-use Rattle.pf_chunk.specs.Runs.{ChunkRun}
-use Rattle.pf_chunk.specs.Views.{ChunkIs}
-use Rattle.pf_hosts.specs.Moments.{Moment, text_of}
-use Rattle.pf_hosts.specs.Steps.{HaveBegun}
+use Rattle.pf_threads.specs.pf_applyrounds.specs.Halts.{Halt}
+use Rattle.pf_threads.specs.pf_group.specs.GroupIs.{GroupIs}
+use Rattle.pf_threads.specs.pf_group.specs.Making.{making_answer}
+use Rattle.pf_threads.specs.pf_applyrounds.specs.Agreeing.{chunk_of}
+use Rattle.pf_threads.specs.pf_applyrounds.specs.Begun.{HasBegun}
+use Rattle.pf_threads.specs.pf_applyrounds.specs.Growing.{HasGrown}
+use Rattle.pf_threads.specs.pf_chunk.specs.Runs.{ChunkRun}
+use Rattle.pf_threads.specs.pf_chunk.specs.Views.{ChunkIs}
+use Rattle.pf_fleet.specs.pf_hosts.specs.Moments.{Moment, text_of}
+use Rattle.pf_fleet.specs.pf_hosts.specs.Steps.{HaveBegun}
 use Rattle.pf_fleet.specs.Settled.{HasNotSettled, HasSettled}
 use Rattle.pf_fleet.specs.Settling.{HasEnded, settled}
 use Rattle.pf_fleet.specs.Steps.{FleetIs}
-use Rattle.pf_live.specs.declared.plan.Plan.{Plan}
-use Rattle.pf_live.specs.Deliveries.{Trace}
-use Rattle.pf_liveline.specs.declared.opening.Passes.{Passes}
-use Rattle.pf_session.specs.Sessions.{AreKept}
+use Rattle.pf_threads.specs.pf_live.specs.declared.plan.Plan.{Plan}
+use Rattle.pf_threads.specs.pf_live.specs.Deliveries.{Trace}
+use Rattle.pf_threads.specs.pf_liveline.specs.declared.opening.Passes.{Passes}
+use Rattle.pf_threads.specs.pf_session.specs.Sessions.{AreKept}
 use Rattle.pf_threads.specs.Sessions.{IsPartOfSession, IsPlan, IsSession, IsSessionOf, Session, next_session}
 use Rattle.pf_world.specs.declared.kind.Kind.{Kind}
 use Rattle.pf_world.specs.declared.kind.Kind.TheVariants.{Mounted, Raw}

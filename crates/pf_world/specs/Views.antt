@@ -2,12 +2,12 @@
 use Rattle.std.specs.Prelude.{◌≡◌, ℕ, ◌+◌, ◌≤◌, min, true, List, length, Option, Some, slice_get}
 use Rattle.pf_script.specs.declared.named.Named.{Named}
 use Rattle.pf_script.specs.Lines.{is_volume}
-use Rattle.pf_group.specs.Making.{setup_with}
-use Rattle.pf_applyrounds.specs.Halts.{Halt}
-use Rattle.pf_chunk.specs.Views.{ChunkIs, IsReady}
+use Rattle.pf_threads.specs.pf_group.specs.Making.{setup_with}
+use Rattle.pf_threads.specs.pf_applyrounds.specs.Halts.{Halt}
+use Rattle.pf_threads.specs.pf_chunk.specs.Views.{ChunkIs, IsReady}
 use Rattle.pf_fleet.specs.Steps.{FleetIs, IsFleetOf}
 use Rattle.pf_fleet.specs.Steps as fleets
-use Rattle.pf_liveline.specs.declared.opening.Passes.{Passes}
+use Rattle.pf_threads.specs.pf_liveline.specs.declared.opening.Passes.{Passes}
 use Rattle.pf_threads.specs.Sessions.{Session}
 use Rattle.pf_world.specs.declared.kind.Kind.{Kind}
 use Rattle.pf_world.specs.Worlds.{World}

@@ -2,16 +2,16 @@
 use Rattle.std.specs.Prelude.{ℕ, ◌++◌, List, [], ◌∷◌, map, Option, Some, None, slice_get, unwrap_or}
 use Rattle.std.specs.List.{flat_map, range_with_len}
 use Rattle.pf_protocol.specs.declared.answers.Answer.{Answer}
-use Rattle.pf_group.specs.Making.{making_answer}
+use Rattle.pf_threads.specs.pf_group.specs.Making.{making_answer}
 use Rattle.pf_volume.specs.Volumes.{Extent}
 use Rattle.pf_report.specs.Refusals.{refusal_text}
 use Rattle.pf_report.specs.Texts.{line_of}
-use Rattle.pf_applyrounds.specs.Halts.{Halt}
-use Rattle.pf_applyrounds.specs.Chunks.{made_chunk}
-use Rattle.pf_chunk.specs.Happenings.{Happened}
-use Rattle.pf_chunk.specs.Runs.{ChunkRun, new_run}
-use Rattle.pf_chunk.specs.Saying.{said}
-use Rattle.pf_hosts.specs.Moments.{Moment, Writes}
+use Rattle.pf_threads.specs.pf_applyrounds.specs.Halts.{Halt}
+use Rattle.pf_threads.specs.pf_applyrounds.specs.Chunks.{made_chunk}
+use Rattle.pf_threads.specs.pf_chunk.specs.Happenings.{Happened}
+use Rattle.pf_threads.specs.pf_chunk.specs.Runs.{ChunkRun, new_run}
+use Rattle.pf_threads.specs.pf_chunk.specs.Saying.{said}
+use Rattle.pf_fleet.specs.pf_hosts.specs.Moments.{Moment, Writes}
 use Rattle.pf_fleet.specs.Volumes.{VolumeRun, all_step, happens, quietly}
 use Rattle.pf_fleet.specs.Volumes as volumes
 use Rattle.pf_move.specs.Routes.{RoutesIs}

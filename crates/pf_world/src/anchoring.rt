@@ -6,15 +6,12 @@ ghost use Rattle.pf_world.specs.Steps.{HasFailed, HasRun};
 ghost use Rattle.pf_world.specs.Views.{IsWorld};
 
 use crate::World;
-use crate::kind::is_raw;
+use crate::kind::{RAW, is_raw};
 use pf_base::NoMemory;
 use pf_disk::Disk;
 use pf_protocol::Answer;
 use pf_report::{put_answer, put_refusal};
 use std::alloc::Global;
-
-/// The number of the refusal of anchors in a raw run.
-const RAW: u32 = 95;
 
 /// The number of the refusal of anchors in a volume that is too small for them.
 const NO_ANCHORS: u32 = 98;

@@ -10,9 +10,9 @@ use crate::lines::MOUNTED;
 use pf_base::NoMemory;
 use pf_copy::{Gate, Workers};
 use pf_disk::Disk;
-use pf_live::Plan;
 use pf_report::{put_live, put_refusal};
 use pf_threads::live_at;
+use pf_threads::pf_live::Plan;
 use std::sync::Wait;
 use std::thread::Threads;
 

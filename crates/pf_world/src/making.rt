@@ -2,8 +2,8 @@
 ghost use Rattle.std.specs.Prelude.{◌≡◌, ◌≤◌, ◌*◌, List, [], true, IfErr, IfOk, OnErr, drop, length, reverse, vec_capacity, vec_len};
 ghost use Rattle.pf_script.specs.Lines.{is_volume};
 ghost use Rattle.pf_protocol.specs.Answers.{IsSetup};
-ghost use Rattle.pf_group.specs.Making.{setup_with};
-ghost use Rattle.pf_chunk.specs.Views.{ChunkIs};
+ghost use Rattle.pf_threads.specs.pf_group.specs.Making.{setup_with};
+ghost use Rattle.pf_threads.specs.pf_chunk.specs.Views.{ChunkIs};
 ghost use Rattle.pf_world.specs.Disks.{AreLeft};
 ghost use Rattle.pf_world.specs.Making.{AreBegun, AreNew, HasAdded, HasMade, unless_done};
 ghost use Rattle.pf_world.specs.Headline.{IsSoundWorld};
@@ -12,10 +12,10 @@ ghost use Rattle.pf_world.specs.Steps.{IsMade};
 use crate::World;
 use crate::disks::{put_six, take_six};
 use pf_base::NoMemory;
-use pf_chunk::ChunkGroup;
 use pf_disk::Disk;
 use pf_fleet::Fleet;
 use pf_protocol::Answer;
+use pf_threads::pf_chunk::ChunkGroup;
 use pf_volume::Volume;
 use std::alloc::Global;
 

@@ -1,14 +1,14 @@
 //! Lines that make a mount, end one, or begin a call of one.
 ghost use Rattle.std.specs.Prelude.{◌≡◌, ◌<◌, ◌+◌, ◌^◌, OnErr, OnOk};
 ghost use Rattle.pf_script.specs.declared.command.Command.TheVariants as commands;
-ghost use Rattle.pf_hosts.specs.Steps.{AreReady};
+ghost use Rattle.pf_fleet.specs.pf_hosts.specs.Steps.{AreReady};
 ghost use Rattle.pf_fleet.specs.Steps.{AreSameHosts, HasGone, HasStopped, IsFleetOf};
 ghost use Rattle.pf_fleet.specs.Volumes.{all_step};
 ghost use Rattle.pf_world.specs.Steps.{HasFailed, HasRun};
 ghost use Rattle.pf_world.specs.Views.{IsWorld};
 
 use crate::World;
-use crate::kind::Kind;
+use crate::kind::{Kind, RAW};
 use pf_base::{Call, NoMemory};
 use pf_copy::{Gate, Workers};
 use pf_disk::Disk;
@@ -16,9 +16,6 @@ use pf_fleet::{CallFault, JoinFault};
 use pf_protocol::Answer;
 use pf_report::{put_answer, put_mount, put_refusal, put_started};
 use std::thread::Threads;
-
-/// The number of the refusal of a mount in a raw run.
-const RAW: u32 = 95;
 
 impl<D: Disk + Drop> World<D> {
     /// A line that makes a mount. Each host takes a step at its end.

@@ -7,16 +7,13 @@ ghost use Rattle.pf_world.specs.Steps.{HasFailed, HasRun};
 ghost use Rattle.pf_world.specs.Views.{IsWorld};
 
 use crate::World;
-use crate::kind::is_of_mounts;
+use crate::kind::{RAW, is_of_mounts};
 use crate::making::make;
 use pf_base::NoMemory;
 use pf_copy::{Gate, Workers};
 use pf_disk::Disk;
 use pf_report::{put_moving, put_refusal};
 use std::thread::Threads;
-
-/// The number of the refusal of a move in a run that no mount began.
-const RAW: u32 = 95;
 
 /// The number of the refusal of a move where there are eight groups.
 const NO_SPARE: u32 = 100;

@@ -2,18 +2,18 @@
 ghost use Rattle.std.specs.Prelude.{◌≡◌, ◌<◌, IsSome, IsTrue, None, OnErr, OnOk, Some, length, slice_get};
 ghost use Rattle.std.specs.Option.{option_map_or};
 ghost use Rattle.pf_script.specs.declared.command.Command.TheVariants.{ShowMount};
-ghost use Rattle.pf_group.specs.GroupIs.{state_of};
+ghost use Rattle.pf_threads.specs.pf_group.specs.GroupIs.{state_of};
 ghost use Rattle.pf_world.specs.Asked.{IsShow};
 ghost use Rattle.pf_world.specs.Steps.{HasFailed, HasRun, IsOfMade, MayRun};
 ghost use Rattle.pf_world.specs.Views.{IsWorld, named_in};
 
 use crate::World;
 use pf_base::NoMemory;
-use pf_chunk::ChunkGroup;
 use pf_disk::Disk;
 use pf_fleet::NoMount;
 use pf_report::{put_refusal, put_state, put_tree};
 use pf_script::Command;
+use pf_threads::pf_chunk::ChunkGroup;
 use std::alloc::Global;
 
 impl<D: Disk + Drop> World<D> {

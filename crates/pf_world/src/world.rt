@@ -1,9 +1,9 @@
 //! The world of a script.
 use crate::kind::Kind;
-use pf_chunk::ChunkGroup;
 use pf_disk::Disk;
 use pf_fleet::Fleet;
-use pf_liveline::Passes;
+use pf_threads::pf_chunk::ChunkGroup;
+use pf_threads::pf_liveline::Passes;
 use std::marker::Model;
 
 /// The groups of a volume, in the order in which they were made, on the disks that they were given, and its hosts.

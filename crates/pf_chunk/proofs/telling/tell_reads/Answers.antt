@@ -1,7 +1,7 @@
 use Rattle.std.proofs.Common.{◌≡◌, ℕ, ◌++◌, true, List, [], map, sym, subst, append-nil}
 use Rattle.std.specs.Prelude.{IsTrue}
 use Rattle.pf_entry.specs.Tables.{ascends}
-use Rattle.pf_group.specs.GroupIs.{state_of}
+use Rattle.pf_applyrounds.specs.pf_group.specs.GroupIs.{state_of}
 use Rattle.pf_chunk.specs.declared.waiting.Waiting.{Waiting}
 use Rattle.pf_chunk.specs.Steps.{AreGoneThrough, ReadsAreTold}
 use Rattle.pf_chunk.specs.Waiters.{WaitingAre}

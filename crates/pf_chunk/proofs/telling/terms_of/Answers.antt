@@ -1,4 +1,4 @@
-use Rattle.pf_group.specs.GroupIs.{state_of}
+use Rattle.pf_applyrounds.specs.pf_group.specs.GroupIs.{state_of}
 use Rattle.pf_chunk.proofs.Unanswered.{terms_run}
 use Rattle.pf_chunk.proofs.telling.terms_of.Goals as goal
 

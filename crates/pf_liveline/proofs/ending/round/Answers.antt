@@ -1,5 +1,5 @@
 use Rattle.pf_turn.proofs.Lists.{begins_trans}
-use Rattle.pf_shared.specs.Seats.{seen_by}
+use Rattle.pf_live.specs.pf_shared.specs.Seats.{seen_by}
 use Rattle.pf_liveline.proofs.Rounds.{ran_once, told_any}
 use Rattle.pf_liveline.proofs.ending.round.Goals as goal
 

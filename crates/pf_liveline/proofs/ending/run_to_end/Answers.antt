@@ -1,6 +1,6 @@
 use Rattle.std.proofs.Common.{◌≡◌, ◌+◌, Ok, None, Some, IfOk, IsTrue, ap, ◌∙◌, subst}
 use Rattle.pf_turn.proofs.Lists.{begins_trans}
-use Rattle.pf_shared.specs.Seats.{root_in, seen_by}
+use Rattle.pf_live.specs.pf_shared.specs.Seats.{root_in, seen_by}
 use Rattle.pf_liveline.specs.Judging.{AllSubmitted, IsJudged, IsPublished}
 use Rattle.pf_liveline.specs.Rounds.{HasRunOn}
 use Rattle.pf_liveline.proofs.Rounds.{ran_more, ran_none}

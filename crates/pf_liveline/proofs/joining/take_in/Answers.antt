@@ -2,7 +2,7 @@ use Rattle.std.proofs.Common.{arith, sym, ◌∙◌, subst}
 use Rattle.pf_turn.specs.Own.{AreKnown}
 use Rattle.pf_turn.proofs.Lists.{begins_trans}
 use Rattle.pf_turn.proofs.Own.{each_longer, known_more}
-use Rattle.pf_shared.specs.Seats.{gone_of, number_of, root_in, seen_by, splits_of}
+use Rattle.pf_live.specs.pf_shared.specs.Seats.{gone_of, number_of, root_in, seen_by, splits_of}
 use Rattle.pf_liveline.specs.Runs.{IsSince}
 use Rattle.pf_liveline.proofs.Joins.{joined_others, joined_gone}
 use Rattle.pf_liveline.proofs.joining.take_in.Goals as goal

@@ -1,5 +1,5 @@
 use Rattle.std.proofs.Common.{◌≡◌, arith, sym, ap, ◌∙◌, subst}
-use Rattle.pf_shared.specs.Seats.{root_in, seen_by, splits_of}
+use Rattle.pf_live.specs.pf_shared.specs.Seats.{root_in, seen_by, splits_of}
 use Rattle.pf_live.specs.Submitters.{AllStand}
 use Rattle.pf_liveline.specs.Crews.{HasMade}
 use Rattle.pf_liveline.proofs.Mustered.{new_submitter, new_switch, two_mustered}

@@ -1,5 +1,5 @@
 use Rattle.std.proofs.Common.{◌≡◌, ◌+◌, arith, refl, sym, ◌∙◌, subst}
-use Rattle.pf_shared.specs.Seats.{number_of, splits_of}
+use Rattle.pf_live.specs.pf_shared.specs.Seats.{number_of, splits_of}
 use Rattle.pf_liveline.specs.Mustered.{AreMustered}
 use Rattle.pf_liveline.proofs.Mustered.{mustered_apply, new_applier}
 use Rattle.pf_liveline.proofs.mustering.muster_appliers.Goals as goal

@@ -1,5 +1,5 @@
 use Rattle.std.proofs.Common.{◌≡◌, ◌+◌, vec_len, vec_capacity}
-use Rattle.pf_shared.specs.Seats.{IsFirst, IsSeatOf, gone_of, out_of, seen_by, splits_of}
+use Rattle.pf_live.specs.pf_shared.specs.Seats.{IsFirst, IsSeatOf, gone_of, out_of, seen_by, splits_of}
 use Rattle.pf_liveline.specs.Mustered.{AreMustered}
 use Rattle.pf_liveline.proofs.mustering.muster_appliers.Given as goal
 

@@ -1,5 +1,5 @@
 use Rattle.std.proofs.Common.{◌≡◌, ◌+◌, [], rules, arith, refl, sym, ◌∙◌, subst}
-use Rattle.pf_shared.specs.Seats.{splits_of}
+use Rattle.pf_live.specs.pf_shared.specs.Seats.{splits_of}
 use Rattle.pf_liveline.specs.Mustered.{AreHosts, AreMustered}
 use Rattle.pf_liveline.proofs.Mustered.{hosts_count, mustered_host}
 use Rattle.pf_liveline.proofs.mustering.muster_hosts.Goals as goal

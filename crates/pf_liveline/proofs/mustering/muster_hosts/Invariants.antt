@@ -1,6 +1,6 @@
 use Rattle.std.proofs.Common.{◌≡◌, ℕ, ◌+◌, vec_len, vec_capacity}
 use Rattle.std.specs.VecDeque.{deque_len}
-use Rattle.pf_shared.specs.Seats.{splits_of}
+use Rattle.pf_live.specs.pf_shared.specs.Seats.{splits_of}
 use Rattle.pf_liveline.specs.Mustered.{AreHosts, AreMustered}
 use Rattle.pf_liveline.proofs.mustering.muster_hosts.Given as goal
 

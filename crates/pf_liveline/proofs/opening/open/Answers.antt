@@ -1,5 +1,5 @@
 use Rattle.std.proofs.Common.{sym}
-use Rattle.pf_shared.specs.Seats.{root_in, seen_by}
+use Rattle.pf_live.specs.pf_shared.specs.Seats.{root_in, seen_by}
 use Rattle.pf_liveline.proofs.Opened.{new_made, new_seat, new_stand}
 use Rattle.pf_liveline.proofs.opening.open.Goals as goal
 

@@ -1,5 +1,5 @@
 use Rattle.std.proofs.Common.{arith, ◌∙◌}
-use Rattle.pf_shared.specs.Seats.{root_in, seen_by}
+use Rattle.pf_live.specs.pf_shared.specs.Seats.{root_in, seen_by}
 use Rattle.pf_live.specs.Submitters.{AllFed}
 use Rattle.pf_liveline.proofs.PassesMet.{all_stand_same, fed_again}
 use Rattle.pf_liveline.proofs.Regrouped.{ended_again, line_again, made_again, neither, stand_again}

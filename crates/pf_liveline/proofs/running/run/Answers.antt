@@ -1,5 +1,5 @@
 use Rattle.std.proofs.Common.{◌+◌, ap, sym, subst, ◌∙◌}
-use Rattle.pf_shared.specs.Seats.{splits_of}
+use Rattle.pf_live.specs.pf_shared.specs.Seats.{splits_of}
 use Rattle.pf_liveline.specs.Crews.{AllEnded}
 use Rattle.pf_liveline.proofs.Mustered.{each_mustered, mustered_on}
 use Rattle.pf_liveline.proofs.Regrouped.{neither}

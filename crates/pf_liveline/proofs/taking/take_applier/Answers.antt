@@ -1,7 +1,7 @@
 use Rattle.std.proofs.Common.{◌≡◌, None, arith, ap, ◌∙◌, subst}
 use Rattle.pf_turn.specs.Lists.{entries_of}
-use Rattle.pf_shared.specs.Hands.{hand_of}
-use Rattle.pf_shared.specs.Seats.{number_of, root_in, seen_by, splits_of}
+use Rattle.pf_live.specs.pf_shared.specs.Hands.{hand_of}
+use Rattle.pf_live.specs.pf_shared.specs.Seats.{number_of, root_in, seen_by, splits_of}
 use Rattle.pf_liveline.proofs.Knowing.{knows_applier}
 use Rattle.pf_liveline.proofs.taking.take_applier.Goals as goal
 

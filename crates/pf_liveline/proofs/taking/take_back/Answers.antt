@@ -1,6 +1,6 @@
 use Rattle.std.proofs.Common.{◌≡◌, ◌+◌, ◌-◌, ◌∷◌, vec_capacity, arith, refl, sym, ap, ◌∙◌, subst}
 use Rattle.pf_turn.proofs.Lists.{begins_refl}
-use Rattle.pf_shared.specs.Seats.{seen_by, splits_of}
+use Rattle.pf_live.specs.pf_shared.specs.Seats.{seen_by, splits_of}
 use Rattle.pf_liveline.specs.Joining.{IsJoining}
 use Rattle.pf_liveline.specs.Mustered.{AreHosts}
 use Rattle.pf_liveline.proofs.Knowing.{TakesBack, applies_now, has_room, takes_apply, takes_host}

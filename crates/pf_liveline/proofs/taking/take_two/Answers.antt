@@ -1,6 +1,6 @@
 use Rattle.std.proofs.Common.{◌≡◌, ◌-◌, arith, refl, ap, subst}
 use Rattle.pf_turn.specs.Own.{EachOf}
-use Rattle.pf_shared.specs.Seats.{number_of, root_in, seen_by, splits_of}
+use Rattle.pf_live.specs.pf_shared.specs.Seats.{number_of, root_in, seen_by, splits_of}
 use Rattle.pf_live.specs.Switches.{Delivers}
 use Rattle.pf_liveline.specs.Joining.{IsJoining}
 use Rattle.pf_liveline.specs.Runs.{IsSince}

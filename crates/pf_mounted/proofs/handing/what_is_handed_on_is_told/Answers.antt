@@ -1,5 +1,5 @@
 use Rattle.std.proofs.Common.{[], inl, inr}
-use Rattle.pf_hosts.specs.Moments.{Begins, Turns}
+use Rattle.pf_world.specs.pf_hosts.specs.Moments.{Begins, Turns}
 use Rattle.pf_world.specs.Reports.{world_run}
 use Rattle.pf_mounted.proofs.Bare.{plain_or_none, plain_where_told}
 use Rattle.pf_mounted.proofs.Holding.{calls_of_words, handed_on, mounts_alone, none_lives, none_turns, reached_within}

@@ -1,5 +1,5 @@
 use Rattle.std.proofs.Common.{refl}
-use Rattle.pf_hosts.specs.Moments.{Begins, Ends, Turns}
+use Rattle.pf_world.specs.pf_hosts.specs.Moments.{Begins, Ends, Turns}
 use Rattle.pf_mounted.proofs.Bare.{plain_where_told}
 use Rattle.pf_mounted.proofs.Standing.{each_done, hosts_are_told}
 use Rattle.pf_mounted.proofs.laws.mounts_do_what_is_told.Goals as goal

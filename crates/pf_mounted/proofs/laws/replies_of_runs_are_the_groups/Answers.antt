@@ -1,5 +1,5 @@
 use Rattle.std.proofs.Common.{Some}
-use Rattle.pf_hosts.specs.Moments.{Turns}
+use Rattle.pf_world.specs.pf_hosts.specs.Moments.{Turns}
 use Rattle.pf_mounted.proofs.Bare.{plain_where_told}
 use Rattle.pf_mounted.proofs.Holding.{replies_heard}
 use Rattle.pf_mounted.proofs.laws.replies_of_runs_are_the_groups.Goals as goal

@@ -1,5 +1,5 @@
 use Rattle.std.proofs.Common.{arith, refl}
-use Rattle.pf_hosts.specs.Moments.{Begins, Ends}
+use Rattle.pf_world.specs.pf_hosts.specs.Moments.{Begins, Ends}
 use Rattle.pf_world.specs.Reports.{world_run}
 use Rattle.pf_mounted.proofs.Bare.{plain_with_hosts}
 use Rattle.pf_mounted.proofs.Counting.{calls_of_lines}

@@ -1,5 +1,5 @@
 use Rattle.std.proofs.Common.{None, Some}
-use Rattle.pf_hosts.specs.Moments.{Turns}
+use Rattle.pf_world.specs.pf_hosts.specs.Moments.{Turns}
 use Rattle.pf_mounted.proofs.Bare.{plain_where_told}
 use Rattle.pf_mounted.proofs.Beginning.{turns_free}
 use Rattle.pf_mounted.proofs.Holding.{ports_full, replies_since}

@@ -1,10 +1,10 @@
 use Rattle.std.proofs.Common.{◌≡◌, [], sym, subst}
 use Rattle.std.specs.Prelude.{IfOk, OnErr}
-use Rattle.pf_group.specs.GroupIs.{GroupIs}
+use Rattle.pf_liveline.specs.pf_group.specs.GroupIs.{GroupIs}
 use Rattle.pf_protocol.specs.Answers.{claims_of}
-use Rattle.pf_applyrounds.specs.Growing.{HasGrown}
-use Rattle.pf_applyrounds.proofs.Growing.{grown_refl}
-use Rattle.pf_live.specs.declared.plan.Plan.{Plan}
+use Rattle.pf_liveline.specs.pf_applyrounds.specs.Growing.{HasGrown}
+use Rattle.pf_liveline.specs.pf_applyrounds.proofs.Growing.{grown_refl}
+use Rattle.pf_liveline.specs.pf_live.specs.declared.plan.Plan.{Plan}
 use Rattle.pf_session.specs.Sessions.{HasLived, HasStopped}
 use Rattle.pf_session.specs.Totals.{IsBeginning}
 use Rattle.pf_session.proofs.Living.{stopped_none}

@@ -1,7 +1,7 @@
 use Rattle.std.proofs.Common.{◌≤◌, length, sym, subst}
 use Rattle.std.specs.Prelude.{IfOk}
-use Rattle.pf_applyrounds.proofs.Growing.{grown_trans}
-use Rattle.pf_shared.specs.Seats.{root_in}
+use Rattle.pf_liveline.specs.pf_applyrounds.proofs.Growing.{grown_trans}
+use Rattle.pf_liveline.specs.pf_shared.specs.Seats.{root_in}
 use Rattle.pf_liveline.specs.Rounds.{HasRun}
 use Rattle.pf_session.proofs.Living.{has_applied, listed, lived, longer, stopped_begun, stopped_there}
 use Rattle.pf_session.proofs.session.play.Goals as goal

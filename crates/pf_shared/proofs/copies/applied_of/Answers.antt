@@ -1,5 +1,5 @@
 use Rattle.std.proofs.Common.{subst, sym}
-use Rattle.pf_group.specs.Readers.{IsAppliedOf}
+use Rattle.pf_applyrounds.specs.pf_group.specs.Readers.{IsAppliedOf}
 use Rattle.pf_shared.proofs.copies.applied_of.Goals as goal
 
 pub returns-in_ok-try_clone-in-Ok : goal.returns-in_ok-try_clone-in-Ok

@@ -1,7 +1,7 @@
 use Rattle.std.proofs.Common.{◌≡◌, sym, ap, subst, ◌∙◌}
 use Rattle.std.specs.Prelude.{IfOk, IsTrue, OnErr}
 use Rattle.pf_protocol.specs.Answers.{IsLegal}
-use Rattle.pf_group.specs.GroupIs.{GroupIs}
+use Rattle.pf_chunk.specs.pf_group.specs.GroupIs.{GroupIs}
 use Rattle.pf_session.specs.Sessions.{HasLived, HasStopped}
 use Rattle.pf_chunk.specs.Lending.{HasTold, with_group}
 use Rattle.pf_chunk.specs.Telling.{now_taken}

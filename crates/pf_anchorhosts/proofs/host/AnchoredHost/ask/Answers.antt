@@ -1,11 +1,11 @@
 use Rattle.std.proofs.Common.{◌≡◌, ◌<◌, List, Some, None, length, get_or, sym, ap, subst, ◌∙◌, arith}
 use Rattle.std.proofs.lemmas.Option.{slice_get-get_or}
-use Rattle.pf_network.proofs.Lists.{something_there}
-use Rattle.pf_applyrounds.specs.Halts.{Halt}
+use Rattle.pf_hosts.specs.pf_network.proofs.Lists.{something_there}
+use Rattle.pf_hosts.specs.pf_applyrounds.specs.Halts.{Halt}
 use Rattle.pf_anchormount.specs.Anchored.{AnchoredIs, ask_at, asked as having_asked}
 use Rattle.pf_anchormount.specs.Standing.{Awaits, IsMount}
-use Rattle.pf_chunk.specs.Driving.{ask_of, asked}
-use Rattle.pf_chunk.specs.Views.{run_of}
+use Rattle.pf_hosts.specs.pf_chunk.specs.Driving.{ask_of, asked}
+use Rattle.pf_hosts.specs.pf_chunk.specs.Views.{run_of}
 use Rattle.pf_hosts.proofs.Coming.{no_ask}
 use Rattle.pf_move.specs.Routes.{home_of}
 use Rattle.pf_anchorhosts.specs.Hosts.{AnchoredHostIs, number_of}

@@ -1,5 +1,5 @@
 use Rattle.std.proofs.lemmas.Result.{on_err_weaker, on_ok_weaker}
-use Rattle.pf_group.proofs.Going.{on_err}
+use Rattle.pf_hosts.specs.pf_group.proofs.Going.{on_err}
 use Rattle.pf_anchorhosts.proofs.Steps.{asking, asking_longer, all_four, not_first, not_fourth, not_second, not_third}
 use Rattle.pf_anchorhosts.proofs.host.AnchoredHost.ask_all.Goals as goal
 

@@ -1,6 +1,6 @@
 use Rattle.std.proofs.Common.{[]}
 use Rattle.std.proofs.lemmas.Result.{on_err_weaker, on_ok_weaker}
-use Rattle.pf_group.proofs.Going.{on_err}
+use Rattle.pf_hosts.specs.pf_group.proofs.Going.{on_err}
 use Rattle.pf_anchorhosts.proofs.Parts.{none_done, not_then, ready_on, then_not, went_on}
 use Rattle.pf_anchorhosts.proofs.Steps.{handing, handing_longer, looking, looking_longer}
 use Rattle.pf_anchorhosts.proofs.host.AnchoredHost.ask_on.Goals as goal

@@ -1,7 +1,7 @@
 use Rattle.std.proofs.Common.{Option, Some, None, length, sym, ap, subst, ◌∙◌, arith}
 use Rattle.std.proofs.lemmas.Result.{on_ok_weaker}
 use Rattle.pf_base.specs.declared.asks.Reply.{Reply}
-use Rattle.pf_group.proofs.Going.{on_err}
+use Rattle.pf_hosts.specs.pf_group.proofs.Going.{on_err}
 use Rattle.pf_hosts.specs.Parts.{IsPending}
 use Rattle.pf_anchorhosts.specs.Hosts.{AnchoredHostIs, number_of}
 use Rattle.pf_anchorhosts.specs.Parts.{HasHeardAt, HasTaken}

@@ -1,5 +1,5 @@
 use Rattle.std.proofs.lemmas.Result.{on_err_weaker, on_ok_weaker}
-use Rattle.pf_group.proofs.Going.{on_err}
+use Rattle.pf_hosts.specs.pf_group.proofs.Going.{on_err}
 use Rattle.pf_anchorhosts.proofs.Steps.{has_stepped, not_asked, not_stepped}
 use Rattle.pf_anchorhosts.proofs.host.AnchoredHost.step.Goals as goal
 

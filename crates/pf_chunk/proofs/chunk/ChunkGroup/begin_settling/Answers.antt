@@ -1,7 +1,7 @@
 use Rattle.std.proofs.Common.{◌≤◌, subst, sym}
 use Rattle.std.specs.Prelude.{IsTrue}
-use Rattle.pf_group.specs.GroupIs.{state_of}
-use Rattle.pf_group.specs.Packets.{IsFirstLeft}
+use Rattle.pf_applyrounds.specs.pf_group.specs.GroupIs.{state_of}
+use Rattle.pf_applyrounds.specs.pf_group.specs.Packets.{IsFirstLeft}
 use Rattle.pf_chunk.specs.Views.{ChunkIs, IsReady}
 use Rattle.pf_chunk.proofs.Leasts.{begun_ready}
 use Rattle.pf_chunk.proofs.chunk.ChunkGroup.begin_settling.Goals as goal

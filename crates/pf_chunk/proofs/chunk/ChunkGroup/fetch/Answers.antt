@@ -1,8 +1,8 @@
 use Rattle.std.proofs.Common.{◌≡◌, ◌++◌, refl, sym, ap, subst, ◌∙◌}
 use Rattle.std.specs.Option.{option_to_list}
-use Rattle.pf_group.proofs.Going.{on_err}
-use Rattle.pf_group.specs.declared.event.GroupEvent.TheVariants as asked
-use Rattle.pf_group.specs.Steps.{HasStepped}
+use Rattle.pf_applyrounds.specs.pf_group.proofs.Going.{on_err}
+use Rattle.pf_applyrounds.specs.pf_group.specs.declared.event.GroupEvent.TheVariants as asked
+use Rattle.pf_applyrounds.specs.pf_group.specs.Steps.{HasStepped}
 use Rattle.pf_chunk.specs.Asking.{fetches}
 use Rattle.pf_chunk.specs.Steps.{HasFailed}
 use Rattle.pf_chunk.specs.Views.{ChunkIs, run_of}

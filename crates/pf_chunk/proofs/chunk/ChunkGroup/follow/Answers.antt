@@ -1,5 +1,5 @@
 use Rattle.std.proofs.Common.{subst}
-use Rattle.pf_group.proofs.Going.{on_err}
+use Rattle.pf_applyrounds.specs.pf_group.proofs.Going.{on_err}
 use Rattle.pf_chunk.specs.Steps.{HasFailed}
 use Rattle.pf_chunk.specs.Views.{ChunkIs}
 use Rattle.pf_chunk.proofs.Begun.{apply_of, not_told}

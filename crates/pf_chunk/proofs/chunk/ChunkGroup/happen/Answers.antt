@@ -1,7 +1,7 @@
 use Rattle.std.proofs.Common.{false, ap, refl, subst}
-use Rattle.pf_group.proofs.Going.{on_err}
-use Rattle.pf_group.specs.Events.{event_of}
-use Rattle.pf_group.specs.Steps.{HasStepped}
+use Rattle.pf_applyrounds.specs.pf_group.proofs.Going.{on_err}
+use Rattle.pf_applyrounds.specs.pf_group.specs.Events.{event_of}
+use Rattle.pf_applyrounds.specs.pf_group.specs.Steps.{HasStepped}
 use Rattle.pf_chunk.specs.Happenings.{happened}
 use Rattle.pf_chunk.specs.Steps.{HasFailed}
 use Rattle.pf_chunk.specs.Views.{ChunkIs, run_of}

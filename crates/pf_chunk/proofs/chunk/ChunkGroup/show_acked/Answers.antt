@@ -1,7 +1,7 @@
 use Rattle.std.proofs.Common.{◌≡◌, ◌++◌, ap, map, subst, ◌∙◌}
 use Rattle.std.proofs.lemmas.Result.{on_ok_weaker}
 use Rattle.pf_report.specs.Texts.{acked_text, line_of}
-use Rattle.pf_group.specs.GroupIs.{state_of}
+use Rattle.pf_applyrounds.specs.pf_group.specs.GroupIs.{state_of}
 use Rattle.pf_chunk.specs.Showing.{IsShown, acked_shown}
 use Rattle.pf_chunk.specs.Views.{ChunkIs}
 use Rattle.pf_chunk.proofs.Lines.{same_slots, shown_so}

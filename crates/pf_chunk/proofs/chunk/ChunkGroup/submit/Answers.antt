@@ -1,6 +1,6 @@
 use Rattle.std.proofs.Common.{refl, ◌∙◌}
 use Rattle.std.proofs.lemmas.Result.{on_err_weaker}
-use Rattle.pf_group.proofs.Going.{on_err}
+use Rattle.pf_applyrounds.specs.pf_group.proofs.Going.{on_err}
 use Rattle.pf_chunk.specs.Asking.{submits}
 use Rattle.pf_chunk.specs.Views.{run_of}
 use Rattle.pf_chunk.proofs.Begun.{nothing_failed, submits_extend}

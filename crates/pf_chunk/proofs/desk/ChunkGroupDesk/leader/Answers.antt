@@ -1,6 +1,6 @@
 use Rattle.std.proofs.Common.{◌≡◌, refl, subst}
 use Rattle.std.specs.Prelude.{IsTrue}
-use Rattle.pf_group.specs.GroupIs.{state_of}
+use Rattle.pf_applyrounds.specs.pf_group.specs.GroupIs.{state_of}
 use Rattle.pf_chunk.specs.Asks.{leader_of}
 use Rattle.pf_chunk.specs.Views.{ChunkIs}
 use Rattle.pf_chunk.proofs.Leaders.{the_leader}

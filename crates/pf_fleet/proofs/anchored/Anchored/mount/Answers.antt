@@ -1,9 +1,9 @@
 use Rattle.std.proofs.Common.{◌≡◌, ◌<◌, ℕ, List, [], ◌∷◌, ◌++◌, length, Some, sym, ap, subst, ◌∙◌, arith}
 use Rattle.pf_volume.specs.Volumes.{Extent}
 use Rattle.pf_move.specs.Routes.{RoutesIs}
-use Rattle.pf_chunk.specs.Views.{ChunkIs}
-use Rattle.pf_hosts.specs.Parts.{AreQuiet}
-use Rattle.pf_hosts.specs.Steps.{AreReady}
+use Rattle.pf_anchorhosts.specs.pf_chunk.specs.Views.{ChunkIs}
+use Rattle.pf_anchorhosts.specs.pf_hosts.specs.Parts.{AreQuiet}
+use Rattle.pf_anchorhosts.specs.pf_hosts.specs.Steps.{AreReady}
 use Rattle.pf_anchorhosts.specs.Hosts.{AnchoredHostIs, made_host}
 use Rattle.pf_anchorhosts.specs.Steps.{IsAnchoredHostOf}
 use Rattle.pf_fleet.specs.Calls.{HasJoined}

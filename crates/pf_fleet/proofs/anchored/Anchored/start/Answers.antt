@@ -5,9 +5,9 @@ use Rattle.pf_base.specs.declared.calls.Call.{Call}
 use Rattle.pf_mount.specs.declared.faults.StartFault.{StartFault}
 use Rattle.pf_mount.specs.declared.faults.StartFault.TheVariants.{NoMemory, BadName, CallPending}
 use Rattle.pf_anchormount.specs.declared.work.Work.TheVariants.{Rests}
-use Rattle.pf_chunk.specs.Views.{ChunkIs}
-use Rattle.pf_hosts.specs.Steps.{AreReady}
-use Rattle.pf_hosts.specs.Words.{read_call}
+use Rattle.pf_anchorhosts.specs.pf_chunk.specs.Views.{ChunkIs}
+use Rattle.pf_anchorhosts.specs.pf_hosts.specs.Steps.{AreReady}
+use Rattle.pf_anchorhosts.specs.pf_hosts.specs.Words.{read_call}
 use Rattle.pf_anchorhosts.specs.Calling.{HasBegunCall}
 use Rattle.pf_anchorhosts.specs.Hosts.{AnchoredHostIs}
 use Rattle.pf_fleet.specs.Calls.{HasCalledOver, IsCauseOver, call_fault}

@@ -1,10 +1,10 @@
 use Rattle.std.proofs.Common.{◌≡◌, ◌<◌, ℕ, List, length, get_or, Option, Some, None, slice_get, slice_set, refl, sym, ap, subst, ◌∙◌}
 use Rattle.std.proofs.lemmas.Option.{slice_get_read}
 use Rattle.std.proofs.lemmas.Result.{on_err_weaker, on_ok_weaker}
-use Rattle.pf_network.proofs.Lists.{set_same}
+use Rattle.pf_anchorhosts.specs.pf_network.proofs.Lists.{set_same}
 use Rattle.pf_move.specs.Routes.{RoutesIs}
-use Rattle.pf_chunk.specs.Views.{ChunkIs}
-use Rattle.pf_hosts.specs.Steps.{AreReady}
+use Rattle.pf_anchorhosts.specs.pf_chunk.specs.Views.{ChunkIs}
+use Rattle.pf_anchorhosts.specs.pf_hosts.specs.Steps.{AreReady}
 use Rattle.pf_anchorhosts.specs.Hosts.{AnchoredHostIs, number_of}
 use Rattle.pf_anchorhosts.specs.Steps.{HasNotStepped, HasStepped}
 use Rattle.pf_fleet.specs.Steps.{FleetIs, HasGone, HasStopped, IsFleetOf}

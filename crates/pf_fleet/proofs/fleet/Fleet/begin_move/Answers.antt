@@ -1,14 +1,14 @@
 use Rattle.std.proofs.Common.{◌≡◌, ◌<◌, ◌≤◌, ◌*◌, ◌/◌, ◌+◌, ℕ, List, [], ◌∷◌, ◌++◌, length, get_or, Some, None, slice_get, slice_set, refl, sym, ap, subst, ◌∙◌, length-append, arith}
 use Rattle.std.proofs.lemmas.Option.{get_or_from_slice_get, slice_get_read}
-use Rattle.pf_network.proofs.Lists.{set_length}
+use Rattle.pf_anchorhosts.specs.pf_network.proofs.Lists.{set_length}
 use Rattle.pf_base.specs.declared.asks.Ask.TheVariants as asks
-use Rattle.pf_applyrounds.specs.Halts.{Halt}
+use Rattle.pf_anchorhosts.specs.pf_applyrounds.specs.Halts.{Halt}
 use Rattle.pf_move.specs.declared.mover.MoveNext.{MoveNext}
 use Rattle.pf_move.specs.declared.mover.MoveNext.TheVariants.{Read}
 use Rattle.pf_move.specs.Movers.{AsksFor, MoverIs, Step, new_mover, piece, step}
 use Rattle.pf_move.specs.Routes.{RoutesIs, home_of}
-use Rattle.pf_chunk.specs.Driving.{ask_of, asked}
-use Rattle.pf_chunk.specs.Views.{ChunkIs, IsReady, run_of}
+use Rattle.pf_anchorhosts.specs.pf_chunk.specs.Driving.{ask_of, asked}
+use Rattle.pf_anchorhosts.specs.pf_chunk.specs.Views.{ChunkIs, IsReady, run_of}
 use Rattle.pf_fleet.specs.Moves.{HasBegunMove}
 use Rattle.pf_fleet.specs.Steps.{FleetIs, IsFleetOf}
 use Rattle.pf_fleet.proofs.Beginning.{first_reads, has_begun, home_there, left, mid, middle_quiet, middle_ready}

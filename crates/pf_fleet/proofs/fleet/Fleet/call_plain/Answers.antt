@@ -5,11 +5,11 @@ use Rattle.pf_base.specs.declared.calls.Call.{Call}
 use Rattle.pf_mount.specs.declared.faults.StartFault.{StartFault}
 use Rattle.pf_mount.specs.declared.faults.StartFault.TheVariants.{NoMemory, BadName, CallPending}
 use Rattle.pf_mount.specs.declared.work.Work.TheVariants.{Rests}
-use Rattle.pf_chunk.specs.Views.{ChunkIs}
-use Rattle.pf_hosts.specs.Calling.{HasBegunCall}
-use Rattle.pf_hosts.specs.Hosts.{HostIs}
-use Rattle.pf_hosts.specs.Steps.{IsHostOf}
-use Rattle.pf_hosts.specs.Words.{read_call}
+use Rattle.pf_anchorhosts.specs.pf_chunk.specs.Views.{ChunkIs}
+use Rattle.pf_anchorhosts.specs.pf_hosts.specs.Calling.{HasBegunCall}
+use Rattle.pf_anchorhosts.specs.pf_hosts.specs.Hosts.{HostIs}
+use Rattle.pf_anchorhosts.specs.pf_hosts.specs.Steps.{IsHostOf}
+use Rattle.pf_anchorhosts.specs.pf_hosts.specs.Words.{read_call}
 use Rattle.pf_fleet.specs.Calls.{CalledIn, HasCalled, HasCalledPlain, IsCause, IsCauseIn, IsPlainCause, call_fault}
 use Rattle.pf_fleet.specs.Steps.{FleetIs, IsFleetOf}
 use Rattle.pf_fleet.specs.Volumes.{AnchoredHosts, host_at, there}

@@ -1,8 +1,8 @@
 use Rattle.std.proofs.Common.{◌≡◌, ◌<◌, ◌≤◌, ℕ, List, [], ◌∷◌, ◌++◌, length, Some, None, sym, subst, arith}
 use Rattle.pf_volume.specs.Volumes.{size_of}
-use Rattle.pf_chunk.specs.Views.{ChunkIs}
-use Rattle.pf_hosts.specs.Calling.{HasMade}
-use Rattle.pf_hosts.specs.Hosts.{HostIs}
+use Rattle.pf_anchorhosts.specs.pf_chunk.specs.Views.{ChunkIs}
+use Rattle.pf_anchorhosts.specs.pf_hosts.specs.Calling.{HasMade}
+use Rattle.pf_anchorhosts.specs.pf_hosts.specs.Hosts.{HostIs}
 use Rattle.pf_fleet.specs.Calls.{HasJoined}
 use Rattle.pf_fleet.specs.Steps.{FleetIs, IsFleetOf}
 use Rattle.pf_fleet.specs.Volumes.{Hosts}

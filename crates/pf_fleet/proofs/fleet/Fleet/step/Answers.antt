@@ -1,6 +1,6 @@
 use Rattle.std.proofs.Common.{Result, Ok, Err, OnOk}
 use Rattle.std.proofs.lemmas.Result.{on_err_weaker, on_ok_weaker}
-use Rattle.pf_group.proofs.Going.{on_err}
+use Rattle.pf_anchorhosts.specs.pf_group.proofs.Going.{on_err}
 use Rattle.pf_fleet.proofs.Rows.{same_trans}
 use Rattle.pf_fleet.proofs.Steps.{all_stay, all_went, first_stopped, mover_stopped, then_overs_stopped}
 use Rattle.pf_fleet.proofs.fleet.Fleet.step.Goals as goal

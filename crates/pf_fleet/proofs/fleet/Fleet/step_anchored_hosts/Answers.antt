@@ -1,5 +1,5 @@
 use Rattle.std.proofs.Common.{◌≡◌, ◌<◌, arith}
-use Rattle.pf_group.proofs.Going.{on_err}
+use Rattle.pf_anchorhosts.specs.pf_group.proofs.Going.{on_err}
 use Rattle.pf_fleet.specs.Volumes.{how_many}
 use Rattle.pf_fleet.proofs.Rows.{none_so_far, one_more}
 use Rattle.pf_fleet.proofs.Steps.{over_step, overs_stopped, overs_went, same_many}

@@ -1,10 +1,10 @@
 use Rattle.std.proofs.Common.{◌≡◌, ◌<◌, ℕ, List, length, get_or, Option, Some, None, slice_get, slice_set, refl, sym, ap, subst, ◌∙◌}
 use Rattle.std.proofs.lemmas.Option.{slice_get_read}
 use Rattle.std.proofs.lemmas.Result.{on_err_weaker, on_ok_weaker}
-use Rattle.pf_network.proofs.Lists.{set_same}
-use Rattle.pf_chunk.specs.Views.{ChunkIs}
-use Rattle.pf_hosts.specs.Hosts.{HostIs}
-use Rattle.pf_hosts.specs.Steps.{AreReady, HasNotStepped, HasStepped, IsHostOf}
+use Rattle.pf_anchorhosts.specs.pf_network.proofs.Lists.{set_same}
+use Rattle.pf_anchorhosts.specs.pf_chunk.specs.Views.{ChunkIs}
+use Rattle.pf_anchorhosts.specs.pf_hosts.specs.Hosts.{HostIs}
+use Rattle.pf_anchorhosts.specs.pf_hosts.specs.Steps.{AreReady, HasNotStepped, HasStepped, IsHostOf}
 use Rattle.pf_fleet.specs.Steps.{AllStay, FleetIs, HasGone, HasStopped, IsFleetOf}
 use Rattle.pf_fleet.specs.Volumes.{Hosts, host_at, host_steps, there}
 use Rattle.pf_fleet.proofs.Steps.{fleet_with, host_stays, host_stopped, host_went, no_host}

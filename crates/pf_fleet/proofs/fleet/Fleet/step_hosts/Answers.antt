@@ -1,5 +1,5 @@
 use Rattle.std.proofs.Common.{◌≡◌, ◌<◌, length, arith, ap}
-use Rattle.pf_group.proofs.Going.{on_err}
+use Rattle.pf_anchorhosts.specs.pf_group.proofs.Going.{on_err}
 use Rattle.pf_fleet.specs.Steps.{FleetIs}
 use Rattle.pf_fleet.proofs.Rows.{none_so_far, one_more}
 use Rattle.pf_fleet.proofs.Steps.{host_step, hosts_stopped, hosts_went}

@@ -8,7 +8,7 @@ use Rattle.pf_format.specs.Rooms.{Place}
 use Rattle.pf_protocol.specs.Groups.{opening}
 use Rattle.pf_protocol.specs.Histories.{replay}
 use Rattle.pf_protocol.specs.Servers.{Setup}
-use Rattle.pf_server.specs.declared.server.Server.{Server}
+use Rattle.pf_network.specs.pf_server.specs.declared.server.Server.{Server}
 use Rattle.pf_network.specs.declared.network.Network.{Network}
 use Rattle.pf_network.specs.Readings.{is_taken}
 use Rattle.pf_diskstore.specs.Model.{kept_model}

@@ -2,7 +2,7 @@ use Rattle.std.proofs.Common.{◌≡◌, ℕ, ◌<◌, List, [], ◌∷◌, ◌+
 use Rattle.std.proofs.lemmas.Option.{slice_get-get_or}
 use Rattle.pf_base.specs.declared.asks.Ask.{Ask}
 use Rattle.pf_base.specs.Asks.{chunk_of}
-use Rattle.pf_network.proofs.Lists.{something_there}
+use Rattle.pf_chunk.specs.pf_network.proofs.Lists.{something_there}
 use Rattle.pf_files.specs.declared.answers.CallAnswer.{CallAnswer}
 use Rattle.pf_files.specs.declared.call_names.CallName.{CallName}
 use Rattle.pf_mount.specs.declared.work.Next.{Next}
@@ -11,7 +11,7 @@ use Rattle.pf_mount.specs.Mounts.{MountIs}
 use Rattle.pf_move.specs.Routes.{RoutesIs, home_of}
 use Rattle.pf_report.specs.Texts.{event_line}
 use Rattle.pf_report.specs.Mounts.{ready_text}
-use Rattle.pf_applyrounds.specs.Halts.{Halt}
+use Rattle.pf_chunk.specs.pf_applyrounds.specs.Halts.{Halt}
 use Rattle.pf_chunk.specs.Driving.{ask_of, asked}
 use Rattle.pf_chunk.specs.Views.{ChunkIs, IsReady, run_of}
 use Rattle.pf_mount.specs.Awaiting.{AwaitsNext}

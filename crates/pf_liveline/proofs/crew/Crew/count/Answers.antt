@@ -1,6 +1,6 @@
 use Rattle.std.proofs.Common.{◌≡◌, ◌-◌, true, ◌<◌, ◌≤◌, Some, length, get_or, slice_get, nat_lt, false, ltb-true, arith, refl, sym, ap, ◌∙◌, subst}
 use Rattle.std.proofs.lemmas.Option.{slice_get_read}
-use Rattle.pf_shared.specs.Seats.{root_in, seen_by}
+use Rattle.pf_live.specs.pf_shared.specs.Seats.{root_in, seen_by}
 use Rattle.pf_live.specs.declared.serving.Standing.TheVariants.{Asked, Placed, Settled}
 use Rattle.pf_live.specs.Submitters.{Stands}
 use Rattle.pf_liveline.specs.Judging.{HasCount}

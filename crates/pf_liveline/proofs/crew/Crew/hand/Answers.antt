@@ -2,12 +2,12 @@ use Rattle.std.proofs.Common.{◌≡◌, ◌<◌, Some, length, slice_get, slice
 use Rattle.std.proofs.lemmas.Option.{get_or_from_slice_get, slice_get_read}
 use Rattle.std.specs.Vec.{with_item}
 use Rattle.pf_entry.proofs.Lists.{set_there}
-use Rattle.pf_network.proofs.Lists.{set_elsewhere}
+use Rattle.pf_live.specs.pf_network.proofs.Lists.{set_elsewhere}
 use Rattle.pf_protocol.specs.declared.answers.Answer.TheVariants.{Refused}
 use Rattle.pf_live.specs.declared.serving.Served.{Served}
 use Rattle.pf_live.specs.declared.serving.Standing.TheVariants.{Asked}
 use Rattle.pf_live.specs.Submitters.{IsHanded}
-use Rattle.pf_shared.specs.Seats.{IsAlone, number_of, seen_by}
+use Rattle.pf_live.specs.pf_shared.specs.Seats.{IsAlone, number_of, seen_by}
 use Rattle.pf_liveline.proofs.Handed.{hands_over, judged_by, judged_refl, none_asked, refused_by, refused_entry, submitted_by, submitted_idle}
 use Rattle.pf_liveline.proofs.Judged.{met_count, met_counted}
 use Rattle.pf_liveline.proofs.crew.Crew.hand.Goals as goal

@@ -1,5 +1,5 @@
 use Rattle.std.proofs.Common.{◌≡◌, ℕ, ◌<◌, true}
-use Rattle.pf_shared.specs.Seats.{root_in, seen_by}
+use Rattle.pf_live.specs.pf_shared.specs.Seats.{root_in, seen_by}
 use Rattle.pf_liveline.specs.Judging.{AreSubmitted, HasJudged, IsRefusedBy}
 use Rattle.pf_liveline.proofs.crew.Crew.hand_all.Given as goal
 

@@ -1,5 +1,5 @@
 use Rattle.std.proofs.Common.{◌≡◌}
-use Rattle.pf_network.specs.Shown.{is_acked}
+use Rattle.pf_live.specs.pf_network.specs.Shown.{is_acked}
 use Rattle.pf_liveline.proofs.Looked.{look_result, look_shows}
 use Rattle.pf_liveline.proofs.crew.Crew.is_acked.Goals as goal
 

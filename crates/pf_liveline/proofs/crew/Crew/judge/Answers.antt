@@ -1,7 +1,7 @@
 use Rattle.std.proofs.Common.{sym, subst, ◌∙◌}
 use Rattle.std.proofs.lemmas.Bool.{and_parts}
-use Rattle.pf_network.specs.Shown.{IsLeader}
-use Rattle.pf_shared.specs.Seats.{root_in, seen_by}
+use Rattle.pf_live.specs.pf_network.specs.Shown.{IsLeader}
+use Rattle.pf_live.specs.pf_shared.specs.Seats.{root_in, seen_by}
 use Rattle.pf_liveline.specs.Judging.{AreRefused}
 use Rattle.pf_liveline.proofs.Handed.{judged_between, judged_looked, judged_trans, published_on, refused_leads, submitted_on}
 use Rattle.pf_liveline.proofs.Judged.{none_there}

@@ -1,5 +1,5 @@
 use Rattle.std.proofs.Common.{IsTrue, ℕ, ◌+◌, ◌<◌, Bool, arith, ap, sym, ◌∙◌, subst}
-use Rattle.pf_shared.specs.Seats.{root_in, seen_by}
+use Rattle.pf_live.specs.pf_shared.specs.Seats.{root_in, seen_by}
 use Rattle.pf_liveline.specs.Judging.{AreRefused}
 use Rattle.pf_liveline.proofs.Judged.{SoFar, are_refused_on, goes_on, so_far_acked, so_far_idle, so_far_on, so_far_placed}
 use Rattle.pf_liveline.proofs.Looked.{looked_trans}

@@ -1,5 +1,5 @@
 use Rattle.std.proofs.Common.{◌≡◌, IsTrue}
-use Rattle.pf_shared.specs.Seats.{root_in, seen_by}
+use Rattle.pf_live.specs.pf_shared.specs.Seats.{root_in, seen_by}
 use Rattle.pf_liveline.specs.Judging.{HasLooked}
 use Rattle.pf_liveline.proofs.Judged.{SoFar}
 use Rattle.pf_liveline.proofs.crew.Crew.judge_hosts.Given as goal

@@ -1,4 +1,4 @@
-use Rattle.pf_network.specs.Shown.{IsLeader}
+use Rattle.pf_live.specs.pf_network.specs.Shown.{IsLeader}
 use Rattle.pf_liveline.proofs.Looked.{look_result, look_shows}
 use Rattle.pf_liveline.proofs.crew.Crew.leader.Goals as goal
 

@@ -1,5 +1,5 @@
 use Rattle.std.proofs.Common.{◌≡◌}
-use Rattle.pf_group.specs.Packets.{least_from}
+use Rattle.pf_live.specs.pf_group.specs.Packets.{least_from}
 use Rattle.pf_liveline.proofs.Looked.{least_shows, look_result, look_shows}
 use Rattle.pf_liveline.proofs.crew.Crew.least_left.Goals as goal
 

@@ -1,7 +1,7 @@
 use Rattle.std.proofs.Common.{◌≡◌, None, subst}
-use Rattle.pf_network.specs.Shown.{IsLeader}
-use Rattle.pf_shared.specs.Seats.{root_in, seen_by}
-use Rattle.pf_shared.specs.Since.{state_at}
+use Rattle.pf_live.specs.pf_network.specs.Shown.{IsLeader}
+use Rattle.pf_live.specs.pf_shared.specs.Seats.{root_in, seen_by}
+use Rattle.pf_live.specs.pf_shared.specs.Since.{state_at}
 use Rattle.pf_liveline.proofs.Handed.{published_none, published_some}
 use Rattle.pf_liveline.proofs.crew.Crew.publish.Goals as goal
 

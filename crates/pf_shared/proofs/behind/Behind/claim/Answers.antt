@@ -1,14 +1,14 @@
 use Rattle.std.proofs.Common.{◌≡◌, [], ◌∷◌, ◌++◌, ap, ◌∙◌, length, refl, rules, arith, sym, subst}
-use Rattle.pf_group.specs.GroupIs.{GroupIs}
+use Rattle.pf_applyrounds.specs.pf_group.specs.GroupIs.{GroupIs}
 use Rattle.std.proofs.Math.Logic.{∥∥₁_map}
 use Rattle.pf_protocol.specs.Histories.{History}
 use Rattle.pf_protocol.specs.declared.events.Event.TheVariants.{Claim}
 use Rattle.pf_protocol.specs.declared.events.Happening.{Happening}
 use Rattle.pf_protocol.specs.Answers.{claims_of}
 use Rattle.pf_shared.specs.declared.moment.Did.TheVariants.{Acted}
-use Rattle.pf_group.specs.Roots.{root_of}
-use Rattle.pf_group.specs.Steps.{IsNew}
-use Rattle.pf_group.proofs.Chains.{by_both, by_step}
+use Rattle.pf_applyrounds.specs.pf_group.specs.Roots.{root_of}
+use Rattle.pf_applyrounds.specs.pf_group.specs.Steps.{IsNew}
+use Rattle.pf_applyrounds.specs.pf_group.proofs.Chains.{by_both, by_step}
 use Rattle.pf_applyrounds.proofs.Paying.{pays_trans, step_pays}
 use Rattle.pf_shared.specs.Since.{since, whole}
 use Rattle.pf_shared.specs.Woven.{woven}

@@ -1,5 +1,5 @@
 use Rattle.std.proofs.Common.{◌≡◌, [], ◌∷◌, ◌++◌, ap, ◌∙◌, subst, sym, true, length, refl, rules, arith}
-use Rattle.pf_group.specs.GroupIs.{GroupIs}
+use Rattle.pf_applyrounds.specs.pf_group.specs.GroupIs.{GroupIs}
 use Rattle.std.proofs.Math.Logic.{∥∥₁_map}
 use Rattle.pf_protocol.specs.declared.answers.Answer.TheVariants.{Done}
 use Rattle.pf_protocol.specs.declared.events.Event.TheVariants.{GiveBack}
@@ -7,8 +7,8 @@ use Rattle.pf_protocol.specs.declared.events.Happening.{Happening}
 use Rattle.pf_protocol.specs.Answers.{claims_of, is_claim}
 use Rattle.std.specs.List.{list_any}
 use Rattle.pf_shared.specs.declared.moment.Did.TheVariants.{Acted}
-use Rattle.pf_group.specs.Roots.{root_of}
-use Rattle.pf_group.proofs.Chains.{by_both, by_step}
+use Rattle.pf_applyrounds.specs.pf_group.specs.Roots.{root_of}
+use Rattle.pf_applyrounds.specs.pf_group.proofs.Chains.{by_both, by_step}
 use Rattle.pf_applyrounds.proofs.Paying.{pays_trans, step_pays}
 use Rattle.pf_shared.specs.Since.{since}
 use Rattle.pf_shared.specs.Woven.{woven}
@@ -16,7 +16,7 @@ use Rattle.pf_shared.proofs.Since.{begun_more, since_more}
 use Rattle.pf_shared.proofs.Weaving.{did}
 use Rattle.pf_shared.proofs.Acting.{claims_on, counted_on, handed_on, tidy_on}
 use Rattle.pf_shared.proofs.Claiming.{tidy_return}
-use Rattle.pf_group.proofs.Claims.{one_closed}
+use Rattle.pf_applyrounds.specs.pf_group.proofs.Claims.{one_closed}
 use Rattle.pf_shared.proofs.Ending.{acts, all_claims, open_any, told_now}
 use Rattle.pf_shared.proofs.behind.Behind.give_back.Goals as goal
 

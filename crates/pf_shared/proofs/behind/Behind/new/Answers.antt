@@ -1,7 +1,7 @@
 use Rattle.std.proofs.Common.{◌≡◌, ◌≤◌, ◌∙◌, ◌++◌, [], None, ap, append-nil, length, sym, subst, arith, rules}
-use Rattle.pf_group.specs.Going.{Stays, WentBy}
-use Rattle.pf_group.specs.GroupIs.{GroupIs}
-use Rattle.pf_group.specs.Roots.{root_of}
+use Rattle.pf_applyrounds.specs.pf_group.specs.Going.{Stays, WentBy}
+use Rattle.pf_applyrounds.specs.pf_group.specs.GroupIs.{GroupIs}
+use Rattle.pf_applyrounds.specs.pf_group.specs.Roots.{root_of}
 use Rattle.pf_applyrounds.specs.Growing.{Pays}
 use Rattle.pf_applyrounds.proofs.Paying.{pays_refl}
 use Rattle.pf_protocol.specs.Answers.{claims_of}

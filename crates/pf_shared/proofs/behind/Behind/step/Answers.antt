@@ -2,11 +2,11 @@ use Rattle.std.proofs.Common.{◌≡◌, [], ◌∷◌, ◌++◌, None, ap, ◌�
 use Rattle.std.proofs.Math.Logic.{∥∥₁_map}
 use Rattle.pf_protocol.specs.declared.events.Happening.{Happening}
 use Rattle.pf_protocol.specs.Answers.{claims_of}
-use Rattle.pf_group.specs.Events.{event_of}
-use Rattle.pf_group.specs.GroupIs.{GroupIs}
+use Rattle.pf_applyrounds.specs.pf_group.specs.Events.{event_of}
+use Rattle.pf_applyrounds.specs.pf_group.specs.GroupIs.{GroupIs}
 use Rattle.pf_shared.specs.declared.moment.Did.TheVariants.{Acted}
-use Rattle.pf_group.specs.Roots.{root_of}
-use Rattle.pf_group.proofs.Chains.{by_both, by_left, by_step}
+use Rattle.pf_applyrounds.specs.pf_group.specs.Roots.{root_of}
+use Rattle.pf_applyrounds.specs.pf_group.proofs.Chains.{by_both, by_left, by_step}
 use Rattle.pf_applyrounds.proofs.Paying.{left_pays, only_faults, pays_trans, step_pays}
 use Rattle.pf_shared.specs.Since.{since}
 use Rattle.pf_shared.specs.Woven.{woven}

@@ -3,8 +3,8 @@ use Rattle.std.proofs.Math.Logic.{∥∥₁_map}
 use Rattle.std.specs.Bool.{then_some}
 use Rattle.pf_protocol.specs.Answers.{claims_of}
 use Rattle.pf_shared.specs.declared.moment.Did.TheVariants.{Looked}
-use Rattle.pf_group.specs.GroupIs.{GroupIs, state_of}
-use Rattle.pf_group.proofs.Chains.{by_both}
+use Rattle.pf_applyrounds.specs.pf_group.specs.GroupIs.{GroupIs, state_of}
+use Rattle.pf_applyrounds.specs.pf_group.proofs.Chains.{by_both}
 use Rattle.pf_applyrounds.proofs.Paying.{pays_trans}
 use Rattle.pf_shared.specs.Looks.{HandsOut, read_of}
 use Rattle.pf_shared.proofs.Looking.{has_looked, looked_counted, looked_handed, looked_tidy, read_is, took}

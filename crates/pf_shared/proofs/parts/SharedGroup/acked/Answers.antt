@@ -1,5 +1,5 @@
 use Rattle.std.proofs.Common.{◌≡◌, map}
-use Rattle.pf_network.specs.Showing.{acked_of}
+use Rattle.pf_applyrounds.specs.pf_network.specs.Showing.{acked_of}
 use Rattle.pf_shared.proofs.Looking.{tells}
 use Rattle.pf_shared.proofs.parts.SharedGroup.acked.Goals as goal
 

@@ -1,4 +1,4 @@
-use Rattle.pf_group.specs.Events.{event_of}
+use Rattle.pf_applyrounds.specs.pf_group.specs.Events.{event_of}
 use Rattle.pf_shared.specs.Behinds.{ActsAs, list_of}
 use Rattle.pf_shared.specs.Calls.{Finds, HasStepped}
 use Rattle.pf_shared.specs.Seats.{number_of, root_in, seen_by}

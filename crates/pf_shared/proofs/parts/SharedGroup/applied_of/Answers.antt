@@ -1,4 +1,4 @@
-use Rattle.pf_group.specs.Readers.{IsAppliedOf}
+use Rattle.pf_applyrounds.specs.pf_group.specs.Readers.{IsAppliedOf}
 use Rattle.pf_shared.proofs.Looking.{tells_at}
 use Rattle.pf_shared.proofs.parts.SharedGroup.applied_of.Goals as goal
 

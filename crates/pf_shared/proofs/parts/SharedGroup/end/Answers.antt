@@ -1,5 +1,5 @@
 use Rattle.std.proofs.Common.{IsTrue, ap, ◌∙◌, subst, sym}
-use Rattle.pf_group.specs.GroupIs.{GroupIs}
+use Rattle.pf_applyrounds.specs.pf_group.specs.GroupIs.{GroupIs}
 use Rattle.pf_shared.specs.Behinds.{list_of}
 use Rattle.pf_shared.specs.Seats.{root_in, seen_by}
 use Rattle.pf_shared.specs.Since.{whole}

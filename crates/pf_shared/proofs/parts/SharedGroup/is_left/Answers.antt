@@ -1,5 +1,5 @@
 use Rattle.std.proofs.Common.{◌≡◌, ◌<◌, IsTrue, Ok, slice_get}
-use Rattle.pf_group.specs.Readers.{is_left}
+use Rattle.pf_applyrounds.specs.pf_group.specs.Readers.{is_left}
 use Rattle.pf_shared.proofs.Looking.{tells, told_so}
 use Rattle.pf_shared.proofs.parts.SharedGroup.is_left.Goals as goal
 

@@ -1,5 +1,5 @@
 use Rattle.std.proofs.Common.{◌<◌, IfSome, Ok}
-use Rattle.pf_network.specs.Shown.{IsLeader}
+use Rattle.pf_applyrounds.specs.pf_network.specs.Shown.{IsLeader}
 use Rattle.pf_shared.proofs.Looking.{tells, told_so}
 use Rattle.pf_shared.proofs.parts.SharedGroup.leader.Goals as goal
 

@@ -1,5 +1,5 @@
 use Rattle.std.proofs.Common.{◌≡◌, ◌<◌, ◌≤◌, IfSome, Ok}
-use Rattle.pf_group.specs.Packets.{least_from}
+use Rattle.pf_applyrounds.specs.pf_group.specs.Packets.{least_from}
 use Rattle.pf_shared.proofs.Looking.{tells, told_so}
 use Rattle.pf_shared.proofs.parts.SharedGroup.left_from.Goals as goal
 

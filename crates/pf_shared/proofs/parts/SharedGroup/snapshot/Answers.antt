@@ -1,5 +1,5 @@
 use Rattle.std.proofs.Common.{◌≡◌, slice_get}
-use Rattle.pf_group.specs.Readers.{snapshot_in}
+use Rattle.pf_applyrounds.specs.pf_group.specs.Readers.{snapshot_in}
 use Rattle.pf_shared.proofs.Looking.{tells}
 use Rattle.pf_shared.proofs.parts.SharedGroup.snapshot.Goals as goal
 

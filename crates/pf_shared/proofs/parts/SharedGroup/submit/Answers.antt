@@ -2,8 +2,8 @@ use Rattle.std.proofs.Common.{◌≡◌, IsTrue, Result, Err, sym, subst}
 use Rattle.pf_base.specs.declared.errors.NoMemory.{NoMemory}
 use Rattle.pf_protocol.specs.declared.answers.Answer.{Answer}
 use Rattle.pf_protocol.specs.Groups.{Group}
-use Rattle.pf_group.specs.declared.event.GroupEvent.TheVariants as asked
-use Rattle.pf_group.specs.Readers.{TellsOf}
+use Rattle.pf_applyrounds.specs.pf_group.specs.declared.event.GroupEvent.TheVariants as asked
+use Rattle.pf_applyrounds.specs.pf_group.specs.Readers.{TellsOf}
 use Rattle.pf_shared.specs.Behinds.{list_of}
 use Rattle.pf_shared.specs.Calls.{Finds}
 use Rattle.pf_shared.specs.Seats.{IsAlone, number_of, root_in, seen_by}

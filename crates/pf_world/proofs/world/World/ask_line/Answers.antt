@@ -1,8 +1,8 @@
 use Rattle.std.proofs.Common.{[], ◌≡◌, ◌<◌, None, length, sym, ap, subst, ◌∙◌, arith}
-use Rattle.pf_chunk.specs.Asked.{no_range_of}
+use Rattle.pf_threads.specs.pf_chunk.specs.Asked.{no_range_of}
 use Rattle.std.proofs.lemmas.List.{length-map}
-use Rattle.pf_chunk.specs.Steps.{Event}
-use Rattle.pf_chunk.specs.Views.{run_of}
+use Rattle.pf_threads.specs.pf_chunk.specs.Steps.{Event}
+use Rattle.pf_threads.specs.pf_chunk.specs.Views.{run_of}
 use Rattle.pf_fleet.specs.Steps.{AreSameHosts, HasAnswered, HasNotAnswered}
 use Rattle.pf_world.specs.Steps.{HasFailed, HasRun}
 use Rattle.pf_world.specs.Views.{WorldOn, stands_at}

@@ -1,6 +1,6 @@
 use Rattle.std.proofs.Common.{◌≡◌, ◌+◌, ◌<◌, [], List, length, reverse, slice_get, refl, sym, ap, subst, ◌∙◌, arith}
-use Rattle.pf_chunk.specs.Runs.{ChunkRun}
-use Rattle.pf_chunk.specs.Views.{ChunkIs}
+use Rattle.pf_threads.specs.pf_chunk.specs.Runs.{ChunkRun}
+use Rattle.pf_threads.specs.pf_chunk.specs.Views.{ChunkIs}
 use Rattle.pf_fleet.specs.Moves as moves
 use Rattle.pf_world.specs.Making.{HasBegunMove, HasMade}
 use Rattle.pf_world.specs.Views.{IsWorld, WorldOn}

@@ -2,8 +2,8 @@ use Rattle.std.proofs.Common.{◌≡◌, ◌++◌, IfSome, List, length, sym, ap
 use Rattle.pf_script.specs.declared.command.Command.TheVariants as commands
 use Rattle.pf_report.specs.Refusals.{refusal_text}
 use Rattle.pf_report.specs.Texts.{line_of}
-use Rattle.pf_chunk.specs.Views.{ChunkIs}
-use Rattle.pf_hosts.specs.Steps.{AreReady}
+use Rattle.pf_threads.specs.pf_chunk.specs.Views.{ChunkIs}
+use Rattle.pf_fleet.specs.pf_hosts.specs.Steps.{AreReady}
 use Rattle.pf_fleet.specs.Calls.{HasCalled, call_number}
 use Rattle.pf_fleet.specs.Steps.{HasGone, IsFleetOf}
 use Rattle.pf_fleet.specs.Volumes.{all_step}

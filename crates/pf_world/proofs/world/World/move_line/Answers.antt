@@ -2,7 +2,7 @@ use Rattle.std.proofs.Common.{◌≡◌, ◌+◌, nat_le, true, false, ◌++◌,
 use Rattle.std.specs.Option.{is_some}
 use Rattle.pf_script.specs.declared.command.Command.TheVariants as commands
 use Rattle.pf_report.specs.Refusals.{refusal_text}
-use Rattle.pf_group.specs.Making as groups
+use Rattle.pf_threads.specs.pf_group.specs.Making as groups
 use Rattle.pf_fleet.specs.Steps.{Part}
 use Rattle.pf_fleet.specs.Volumes.{all_step, followed, quietly}
 use Rattle.pf_fleet.proofs.Parts.{then_stopped, went_on}

@@ -1,7 +1,7 @@
 use Rattle.std.proofs.Common.{◌≡◌, refl, sym, subst}
 use Rattle.pf_script.specs.declared.command.Command.{Command}
 use Rattle.pf_script.specs.declared.command.Command.TheVariants as commands
-use Rattle.pf_chunk.specs.Showing.{acked_shown, applied_shown, log_shown, mark_shown, of_server, sectors_shown}
+use Rattle.pf_threads.specs.pf_chunk.specs.Showing.{acked_shown, applied_shown, log_shown, mark_shown, of_server, sectors_shown}
 use Rattle.pf_world.specs.Steps.{HasRun, IsOfMade}
 use Rattle.pf_world.proofs.Failing.{on_err}
 use Rattle.pf_world.proofs.Results.{on_ok}
