@@ -35,11 +35,17 @@ const PORTS: usize = 4;
 const DATA: u8 = 3;
 
 /// A host of a volume whose journal lies on three anchors. At each of its four ports at most one ask is pending at a time.
-#[derive(Drop)]
 pub struct AnchoredHost {
     mount: AnchoredMount,
     /// Of each port the chunk of the ask that is pending there.
     at: [Option<u8>; PORTS],
+}
+
+/// By hand, so that what lets it go calls this, and no crate above proves anew how its parts go.
+impl Drop for AnchoredHost {
+    fn drop(self) {
+        let AnchoredHost { mount: _, at: _ } = self;
+    }
 }
 
 impl Model for AnchoredHost {

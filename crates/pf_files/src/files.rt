@@ -18,7 +18,6 @@ use std::mem::replace;
 
 /// The tables of a mount, the calls that it started, and the one that is pending. It knows nothing of ballots: what proposes
 /// values brings them here once they are decided.
-#[derive(Drop)]
 pub struct FileWork {
     mount: u8,
     volume: Volume,
@@ -26,6 +25,20 @@ pub struct FileWork {
     spare: Option<Spare>,
     calls: u32,
     pending: Option<Pending>,
+}
+
+/// By hand, so that what lets it go calls this, and no crate above proves anew how its parts go.
+impl Drop for FileWork {
+    fn drop(self) {
+        let FileWork {
+            mount: _,
+            volume: _,
+            tree: _,
+            spare: _,
+            calls: _,
+            pending: _,
+        } = self;
+    }
 }
 
 impl Model for FileWork {

@@ -18,7 +18,6 @@ use std::marker::Model;
 pub(crate) const MOST_MOUNTS: usize = 16;
 
 /// The hosts of a volume, at most sixteen in a run, and the mover of a chunk. Its groups are handed to each call.
-#[derive(Drop)]
 pub struct Fleet {
     pub(crate) volume: Volume,
     /// Each by the number of its mount. No number is given twice: that of a killed one stays empty.
@@ -31,6 +30,20 @@ pub struct Fleet {
     pub(crate) routes: Routes,
     /// That of the chunk that is moving.
     pub(crate) mover: Option<Mover>,
+}
+
+/// By hand, so that what lets it go calls this, and no crate above proves anew how its parts go.
+impl Drop for Fleet {
+    fn drop(self) {
+        let Fleet {
+            volume: _,
+            hosts: _,
+            anchored: _,
+            calls: _,
+            routes: _,
+            mover: _,
+        } = self;
+    }
 }
 
 impl Model for Fleet {

@@ -33,11 +33,17 @@ use std::marker::Model;
 use std::thread::Threads;
 
 /// A host of a volume. At most one ask of it is pending at a time.
-#[derive(Drop)]
 pub struct Host {
     mount: Mount,
     /// The chunk whose port has the pending ask.
     at: Option<u8>,
+}
+
+/// By hand, so that what lets it go calls this, and no crate above proves anew how its parts go.
+impl Drop for Host {
+    fn drop(self) {
+        let Host { mount: _, at: _ } = self;
+    }
 }
 
 impl Model for Host {

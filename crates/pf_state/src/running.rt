@@ -35,7 +35,6 @@ pub enum Role {
 }
 
 /// The term, the generation, the starts, and the checkpoint and entries of the log are those of its records.
-#[derive(Drop)]
 pub struct Running {
     pub number: ServerId,
     pub life: u64,
@@ -59,6 +58,31 @@ pub struct Running {
     pub reads: Probes,
     pub replies: Replies,
     pub snapshots: Snapshots,
+}
+
+/// By hand, so that what lets it go calls this, and no crate above proves anew how its parts go.
+impl Drop for Running {
+    fn drop(self) {
+        let Running {
+            number: _,
+            life: _,
+            names: _,
+            format: _,
+            term: _,
+            generation: _,
+            starts: _,
+            log: _,
+            role: _,
+            applied: _,
+            sectors: _,
+            in_hand: _,
+            jobs: _,
+            rooms: _,
+            reads: _,
+            replies: _,
+            snapshots: _,
+        } = self;
+    }
 }
 
 impl Running {
