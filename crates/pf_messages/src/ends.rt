@@ -26,29 +26,31 @@ struct Window {
 
 impl Window {
     /// Forgets the first half.
-    fn forget_half(&mut self) {
+    fn forget_half(&mut self)
+        ensures { self.new.count ≤ 8192 }
+    {
         let first = self.kept.iter().take(HALF);
         let lines = first.filter(|byte| **byte == b'\n').count();
         self.lines = self.lines.saturating_add(lines as u64);
         self.kept.copy_within(HALF.., 0);
-        self.count = HALF;
+        self.count = self.count.saturating_sub(HALF);
     }
 
-    /// One byte more.
-    fn push(&mut self, byte: u8) {
-        if self.count == KEPT {
+    /// At most 8,192 bytes more.
+    fn add(&mut self, bytes: &[u8])
+        requires { length bytes.now ≤ 8192 }
+    {
+        if bytes.len() > KEPT - self.count {
             self.forget_half();
         }
-        if self.count < KEPT {
-            self.kept[self.count] = byte;
-            self.count += 1;
-        }
+        self.kept[self.count..self.count + bytes.len()].copy_from_slice(bytes);
+        self.count += bytes.len();
     }
 
     /// More bytes.
     fn keep(&mut self, bytes: &[u8]) {
-        for byte in bytes {
-            self.push(*byte);
+        for piece in bytes.chunks(HALF) {
+            self.add(piece);
         }
     }
 }
@@ -106,14 +108,11 @@ struct Beginning {
 }
 
 impl Beginning {
-    /// More bytes.
+    /// More bytes, as far as there is room.
     fn keep(&mut self, bytes: &[u8]) {
-        for byte in bytes {
-            if self.count < FRONT {
-                self.kept[self.count] = *byte;
-                self.count += 1;
-            }
-        }
+        let count = bytes.len().min(FRONT - self.count);
+        self.kept[self.count..self.count + count].copy_from_slice(&bytes[..count]);
+        self.count += count;
     }
 }
 

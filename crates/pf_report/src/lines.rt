@@ -8,11 +8,14 @@ use pf_base::NoMemory;
 use pf_text::{put_decimal, put_text};
 use std::alloc::Global;
 
+/// Most lines are no longer, in bytes.
+const SHORT: usize = 64;
+
 /// The begin of the line that answers line `number` of the script.
 pub(crate) fn begun(alloc: Global, number: u32) -> Result<Vec<u8>, NoMemory>
     ensures { IfOk result (λ text. text.items ≡ decimal number ++ 32 ∷ []) }
 {
-    let mut text = Vec::new(alloc);
+    let mut text = Vec::with_capacity(alloc, SHORT)?;
     put_decimal(&mut text, u64::from(number))?;
     put_text(&mut text, b" ")?;
     Ok(text)
