@@ -1,0 +1,5 @@
+pub mod Standing
+pub mod Growing
+pub mod Starting
+pub mod Listing
+pub mod Longest

@@ -1,0 +1,5 @@
+use Rattle.pf_anchorlist.proofs.Listing.{list_decided}
+use Rattle.pf_anchorlist.proofs.laws.lists_are_decided.Goals as goal
+
+pub returns : goal.returns
+returns c = list_decided

@@ -1,0 +1,5 @@
+use Rattle.pf_anchorlist.proofs.Longest.{transaction_list}
+use Rattle.pf_anchorlist.proofs.laws.transaction_lists_exist.Goals as goal
+
+pub returns : goal.returns
+returns c = transaction_list
