@@ -26,6 +26,7 @@ pub const MOVER: u8 = 16;
 const MOST_PORTS: usize = 17;
 
 /// The group of a chunk, with the ports of hosts into it.
+#[derive(Drop)]
 pub struct ChunkGroup<D: Disk> {
     pub(crate) group: Group<D>,
     pub(crate) number: u8,
@@ -37,20 +38,6 @@ pub struct ChunkGroup<D: Disk> {
     pub(crate) next: u32,
     /// The ways of hosts to the group, each by the number of its mount, and that of a mover.
     pub(crate) ports: Vec<Port>,
-}
-
-/// By hand, so that what lets it go calls this, and no crate above proves anew how its parts go.
-impl<D: Disk + Drop> Drop for ChunkGroup<D> {
-    fn drop(self) {
-        let ChunkGroup {
-            group: _,
-            number: _,
-            waiting: _,
-            first_left: _,
-            next: _,
-            ports: _,
-        } = self;
-    }
 }
 
 impl<D: Disk> Model for ChunkGroup<D> {
@@ -136,14 +123,7 @@ impl<D: Disk + Drop> ChunkGroup<D> {
         ensures crash_1 { IsTrue self.group.told → LeavesAtCrash D.seen D.moment D.left_since D.tells_moments self.group 1 result.s1h0 result.s1h1 }
         ensures crash_2 { IsTrue self.group.told → LeavesAtCrash D.seen D.moment D.left_since D.tells_moments self.group 2 result.s2h0 result.s2h1 }
     {
-        let ChunkGroup {
-            group,
-            number: _,
-            waiting: _,
-            first_left: _,
-            next: _,
-            ports: _,
-        } = self;
+        let ChunkGroup { group, .. } = self;
         group.into_disks()
     }
 }

@@ -129,15 +129,9 @@ impl<D: Disk + Drop> World<D> {
         ensures { (before : List D) → drop (6 * length self.world.chunks) before ≡ self.spare → 6 * length self.world.chunks ≤ length before → AreLeft D.seen D.may_leave D.faults D.moment D.left_since D.tells D.tells_moments self.world.chunks before result.items }
     {
         let World {
-            sectors: _,
-            names: _,
-            format: _,
             mut chunks,
-            fleet: _,
-            moves: _,
-            kind: _,
-            passes: _,
             spare,
+            ..
         } = self;
         let mut disks = spare;
         while let Some(chunk) = chunks.pop() {

@@ -7,6 +7,7 @@ use pf_threads::pf_liveline::Passes;
 use std::marker::Model;
 
 /// The groups of a volume, in the order in which they were made, on the disks that they were given, and its hosts.
+#[derive(Drop)]
 pub struct World<D: Disk> {
     pub(crate) sectors: u32,
     pub(crate) names: u8,
@@ -21,23 +22,6 @@ pub struct World<D: Disk> {
     pub(crate) passes: Option<Passes>,
     /// The disks that no chunk has, in the reverse of their order. It has room for all of them.
     pub(crate) spare: Vec<D>,
-}
-
-/// By hand, so that what lets it go calls this, and no crate above proves anew how its parts go.
-impl<D: Disk + Drop> Drop for World<D> {
-    fn drop(self) {
-        let World {
-            sectors: _,
-            names: _,
-            format: _,
-            chunks: _,
-            fleet: _,
-            moves: _,
-            kind: _,
-            passes: _,
-            spare: _,
-        } = self;
-    }
 }
 
 impl<D: Disk> Model for World<D> {
