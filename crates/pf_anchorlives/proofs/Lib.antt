@@ -1,0 +1,9 @@
+pub mod Reading
+pub mod Pending
+pub mod Going
+pub mod Following
+pub mod Living
+pub mod Asking
+pub mod Hearing
+pub mod Telling
+pub mod Turning

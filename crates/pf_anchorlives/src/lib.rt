@@ -1,0 +1,9 @@
+//! Mounts over anchors share one list of transactions: laws of all that any number of them may hear.
+#![tactic(auto)]
+
+mod laws;
+
+pub use laws::{
+    answers_are_turns, mounts_are_of_a_journal, mounts_over_anchors_share_one_list,
+    tables_are_those_of_decisions,
+};
