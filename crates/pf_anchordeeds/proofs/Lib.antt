@@ -1,0 +1,10 @@
+pub mod Lying
+pub mod Turns
+pub mod Owing
+pub mod Asking
+pub mod Hearing
+pub mod Standing
+pub mod Telling
+pub mod Room
+pub mod Behind
+pub mod Sharing

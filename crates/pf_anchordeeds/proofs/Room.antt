@@ -1,0 +1,206 @@
+-- A mount asks nothing in the journal past its last position.
+use Rattle.std.proofs.Common.{◌≡◌, ◌≢◌, ℕ, zero, suc, ◌<◌, ◌≤◌, Bool, true, false, cond, not, ◌==◌, List, Option, Some, None, arith, refl}
+use Rattle.std.specs.Prelude.{unwrap_or}
+use Rattle.std.proofs.lemmas.Bool.{eqb-false}
+use Rattle.pf_base.specs.declared.asks.Reply.{Reply}
+use Rattle.pf_base.specs.declared.asks.Reply.TheVariants.{Written, Bytes}
+use Rattle.pf_inodes.specs.declared.changes.Txn.{Txn}
+use Rattle.pf_inodes.specs.Tables.{Tables}
+use Rattle.pf_tree.specs.Held.{Held, data_of}
+use Rattle.pf_txn.specs.Spelling.{spell_txn}
+use Rattle.pf_txn.specs.Reading.{txn_in}
+use Rattle.pf_paxos.specs.declared.block.Block.{Block}
+use Rattle.pf_anchors.specs.declared.anchors.AnchorStep.{AnchorStep}
+use Rattle.pf_anchors.specs.declared.anchors.AnchorStep.TheVariants.{Go, Abort, NoValue, Decided}
+use Rattle.pf_anchors.specs.Anchors.{read_at}
+use Rattle.pf_files.specs.declared.answers.CallAnswer.TheVariants.{Refused}
+use Rattle.pf_files.specs.declared.answers.CallFault.TheVariants.{JournalFull}
+use Rattle.pf_files.specs.declared.calls.Pending.{Pending}
+use Rattle.pf_files.specs.declared.calls.Planned.{Planned}
+use Rattle.pf_files.specs.declared.calls.Planned.TheVariants.{Refuses, Proposes, Goes}
+use Rattle.pf_files.specs.declared.moving.Moved.{Moved}
+use Rattle.pf_files.specs.declared.moving.Moved.TheVariants.{Asks as AsksData, Ends}
+use Rattle.pf_files.specs.Calls.{applied_in, is_of, planned, size_in}
+use Rattle.pf_files.specs.Moving.{moves, moves_on}
+use Rattle.pf_mount.specs.Mounts.{blocks_in}
+use Rattle.pf_anchorage.specs.declared.errands.Errand.{Errand}
+use Rattle.pf_anchorage.specs.declared.errands.Errand.TheVariants.{Free, OfSync, OfPause, LateWrite, LateRead}
+use Rattle.pf_anchorage.specs.declared.looks.Looks.{Looks}
+use Rattle.pf_anchorage.specs.Errands.{all_late, all_left, errand_at, with_errand}
+use Rattle.pf_anchorage.specs.Looks.{are_looked, have_found, having_looked, new_looks}
+use Rattle.pf_anchorage.specs.Positions.{can_start, having_read, having_seen, new_position, starting_ballot}
+use Rattle.pf_anchormount.specs.declared.work.Task.{Task}
+use Rattle.pf_anchormount.specs.declared.work.Work.{Work}
+use Rattle.pf_anchormount.specs.declared.work.Work.TheVariants.{Rests, Syncs, Ballots, Pauses, Moves}
+use Rattle.pf_anchormount.specs.Anchored.{AnchoredIs, Worked, asked_anchor, asked_data, ballot_answered, ballot_read, balloted, ballots, data_answered, done, errand_answered, freed, having_started, held_in, look_answered, moved, pause_answered, paused, pauses, plans, plans_as, port_answered, proceeds, proceeds_with, proposes, stand_of, synced, syncs, syncs_on, turns_to}
+use Rattle.pf_anchorlives.specs.Lives.{Asks, Begins, Hears, Input, mount_after}
+
+-- there is a position where one is read or decided
+abbrev pub HasRoom : Work → (upto : ℕ) → Type 0
+HasRoom (Syncs looks) upto = upto < 255
+HasRoom (Ballots input) upto = upto < 255
+HasRoom (Pauses input left) upto = upto < 255
+HasRoom work upto = upto ≤ 255
+
+pub room_most : (work : Work) (upto : ℕ) → HasRoom work upto → upto ≤ 255
+room_most (Syncs looks) upto room = omega (arith, room)
+room_most (Ballots input) upto room = omega (arith, room)
+room_most (Pauses input left) upto room = omega (arith, room)
+room_most Rests upto room = room
+room_most (Moves moving) upto room = room
+
+less : (n : ℕ) → n ≤ 255 → (n == 255) ≡ false → n < 255
+less n low apart = let no : n ≢ 255 = eqb-false n 255 apart in omega (arith, low, no)
+
+-- Steps. What a mount is at work on stays, or it turns to something
+
+module _ (task : Task) where
+  abbrev RoomAfter : Worked → Type 0
+  RoomAfter w = HasRoom (unwrap_or w.step.task task).work w.step.stand.upto
+
+  module _ (t : Tables) where
+    room_if : (b : Bool) (x y : Worked) → (b ≡ true → RoomAfter x) → (b ≡ false → RoomAfter y) → RoomAfter (record { step = cond b x.step y.step; tables = t })
+    room_if true x y of_x of_y = of_x refl
+    room_if false x y of_x of_y = of_y refl
+
+    module _ (n : AnchoredIs) where
+      ballots_room : (input : Option (List ℕ)) → n.upto < 255 → RoomAfter (record { step = ballots (stand_of n) input; tables = t })
+      ballots_room input low =
+          room_if (can_start n.position)
+          (record { step = turns_to (stand_of (record n { position = starting_ballot n.position input })) (Ballots input); tables = t })
+          (record { step = pauses (stand_of n) input 0; tables = t })
+          (λ _. low) (λ _. low)
+
+      paused_room : (input : Option (List ℕ)) (left : ℕ) → n.upto < 255 → RoomAfter (record { step = paused (stand_of n) input left; tables = t })
+      paused_room input zero low = ballots_room input low
+      paused_room input (suc left) low = low
+
+      moved_room : (x : Moved) → n.upto ≤ 255 → RoomAfter (record { step = moved (stand_of n) x; tables = t })
+      moved_room (AsksData ask moving) low = low
+      moved_room (Ends answer) low = low
+
+      proposes_room : (txn : Txn) → n.upto ≤ 255 → RoomAfter (record { step = proposes (stand_of n) txn; tables = t })
+      proposes_room txn low =
+          room_if (n.upto == 255)
+          (record { step = done (stand_of n) (Refused JournalFull); tables = t })
+          (record { step = ballots (stand_of n) (Some (spell_txn txn)); tables = t })
+          (λ _. low) (λ apart. ballots_room (Some (spell_txn txn)) (less n.upto low apart))
+
+      plans_as_room : (x : Planned) → n.upto ≤ 255 → RoomAfter (record { step = plans_as (stand_of n) x; tables = t })
+      plans_as_room (Refuses fault) low = low
+      plans_as_room (Proposes txn) low = proposes_room txn low
+      plans_as_room (Goes step) low = moved_room step low
+
+      plans_room : (h : Held) (p : Pending) → n.upto ≤ 255 → RoomAfter (record { step = plans (stand_of n) h p; tables = t })
+      plans_room h p low = plans_as_room (planned n.files.mount n.files.volume (data_of h.first h.tables) h.tables p) low
+
+      synced_room : (h : Held) (p : Option Pending) → n.upto ≤ 255 → RoomAfter (record { step = synced (stand_of n) h p; tables = t })
+      synced_room h None low = low
+      synced_room h (Some p) low = plans_room h p low
+
+      syncs_room : (h : Held) (p : Option Pending) → n.upto ≤ 255 → RoomAfter (record { step = syncs (stand_of n) h p; tables = t })
+      syncs_room h p low =
+          room_if (n.upto == 255)
+          (record { step = synced (stand_of n) h p; tables = t })
+          (record { step = turns_to (stand_of (record n { errands = all_late n.errands })) (Syncs new_looks); tables = t })
+          (λ _. synced_room h p low) (λ apart. less n.upto low apart)
+
+      syncs_on_room : (h : Held) (p : Option Pending) (looks : Looks) → n.upto < 255 → RoomAfter (record { step = syncs_on (stand_of n) h p looks; tables = t })
+      syncs_on_room h p looks low =
+          room_if (not (are_looked looks))
+          (record { step = turns_to (stand_of n) (Syncs looks); tables = t })
+          (record { step = cond (have_found looks) (ballots (stand_of n) None) (synced (stand_of n) h p); tables = t })
+          (λ _. low)
+          (λ _. room_if (have_found looks)
+          (record { step = ballots (stand_of n) None; tables = t })
+          (record { step = synced (stand_of n) h p; tables = t })
+          (λ _. ballots_room None low) (λ _. synced_room h p (omega (arith, low))))
+
+      proceeds_with_room : (before after : Held) (txn : Option Txn) (p : Pending) → n.upto ≤ 255 → RoomAfter (record { step = proceeds_with (stand_of n) before after txn p; tables = t })
+      proceeds_with_room before after txn p low =
+          let x : Moved = moves n.files.volume after.tables (size_in before.tables p.call) p.call in
+          room_if (is_of n.files.mount p.number txn)
+          (record { step = moved (stand_of n) x; tables = t })
+          (record { step = plans (stand_of n) after p; tables = t })
+          (λ _. moved_room x low) (λ _. plans_room after p low)
+
+      proceeds_room : (before after : Held) (txn : Option Txn) (input : Option (List ℕ)) (p : Option Pending) → n.upto ≤ 255 → RoomAfter (record { step = proceeds (stand_of n) before after txn input p; tables = t })
+      proceeds_room before after txn (Some input) (Some p) low = proceeds_with_room before after txn p low
+      proceeds_room before after txn (Some input) None low = syncs_room after None low
+      proceeds_room before after txn None p low = syncs_room after p low
+
+  -- Answers
+
+  module _ (n : AnchoredIs) (h : Held) (p : Option Pending) (stays : HasRoom task.work n.upto) where
+    -- a decision leaves the position, and there is one more at most
+    abbrev next : AnchoredIs
+    next = record n { upto = suc n.upto; position = new_position n.files.mount; errands = all_left n.errands n.position.anchors.parts }
+
+    balloted_room : (input : Option (List ℕ)) (step : AnchorStep) → n.upto < 255 → RoomAfter (balloted (stand_of n) h p input step)
+    balloted_room input Go low = stays
+    balloted_room input (Abort mbal) low = low
+    balloted_room input NoValue low = synced_room h.tables n h p (omega (arith, low))
+    balloted_room input (Decided value) low =
+        proceeds_room (applied_in h.tables (txn_in value)) next h (record h { tables = applied_in h.tables (txn_in value) }) (txn_in value) input p (omega (arith, low))
+
+  module _ (m : AnchoredIs) (h : Held) (p : Option Pending) (stays : HasRoom task.work m.upto) where
+    ballot_read_room : (work : Work) → HasRoom work m.upto → (a : ℕ) (blocks : List Block) → RoomAfter (ballot_read (stand_of m) h p work a blocks)
+    ballot_read_room (Ballots input) room a blocks = balloted_room (record m { position = having_read m.position a blocks }) h p stays input (read_at m.position.anchors a blocks).step room
+    ballot_read_room Rests room a blocks = stays
+    ballot_read_room (Syncs looks) room a blocks = stays
+    ballot_read_room (Pauses input left) room a blocks = stays
+    ballot_read_room (Moves moving) room a blocks = stays
+
+    ballot_room : (work : Work) → HasRoom work m.upto → (a : ℕ) (reply : Reply) → RoomAfter (ballot_answered (stand_of m) h p work a reply)
+    ballot_room work room a Written = stays
+    ballot_room work room a (Bytes sectors) = ballot_read_room work room a (blocks_in sectors)
+
+    look_room : (work : Work) → HasRoom work m.upto → (a : ℕ) (reply : Reply) → RoomAfter (record { step = look_answered (freed (stand_of m) a) h p work a reply; tables = h.tables })
+    look_room (Syncs looks) room a (Bytes sectors) =
+        syncs_on_room h.tables (record m { errands = with_errand m.errands a Free; position = having_seen m.position (blocks_in sectors) }) h p (having_looked looks a (blocks_in sectors)) room
+    look_room (Syncs looks) room a Written = stays
+    look_room Rests room a reply = stays
+    look_room (Ballots input) room a reply = stays
+    look_room (Pauses input left) room a reply = stays
+    look_room (Moves moving) room a reply = stays
+
+    pause_room : (work : Work) → HasRoom work m.upto → (a : ℕ) → RoomAfter (record { step = pause_answered (freed (stand_of m) a) work; tables = h.tables })
+    pause_room (Pauses input left) room a = paused_room h.tables (record m { errands = with_errand m.errands a Free }) input left room
+    pause_room Rests room a = stays
+    pause_room (Syncs looks) room a = stays
+    pause_room (Ballots input) room a = stays
+    pause_room (Moves moving) room a = stays
+
+    errand_room : (errand : Errand) (work : Work) → HasRoom work m.upto → (a : ℕ) (reply : Reply) → RoomAfter (errand_answered errand (stand_of m) h p work a reply)
+    errand_room Free work room a reply = ballot_room work room a reply
+    errand_room OfSync work room a reply = look_room work room a reply
+    errand_room OfPause work room a reply = pause_room work room a
+    errand_room LateWrite work room a reply = stays
+    errand_room (LateRead count) work room a reply = stays
+
+    data_room : (work : Work) → HasRoom work m.upto → (reply : Reply) → RoomAfter (record { step = data_answered (stand_of m) h work reply; tables = h.tables })
+    data_room (Moves moving) room reply = moved_room h.tables m (moves_on m.files.volume h.tables moving reply) room
+    data_room Rests room reply = stays
+    data_room (Syncs looks) room reply = stays
+    data_room (Ballots input) room reply = stays
+    data_room (Pauses input left) room reply = stays
+
+    port_room : (work : Work) → HasRoom work m.upto → (port : ℕ) (reply : Reply) → RoomAfter (port_answered (stand_of m) h p work port reply)
+    port_room work room port reply = by (port == 3)
+      where
+        by : (b : Bool) → RoomAfter (cond b (record { step = data_answered (stand_of m) h work reply; tables = h.tables }) (errand_answered (errand_at m.errands port) (stand_of m) h p work port reply))
+        by true = data_room work room reply
+        by false = errand_room (errand_at m.errands port) work room port reply
+
+-- An input
+
+pub room_after : (m : AnchoredIs) (input : Input) → HasRoom m.task.work m.upto → HasRoom (mount_after m input).task.work (mount_after m input).upto
+room_after m (Begins call) room =
+    let n = having_started m call in
+    syncs_room m.task n.files.tables n (held_in n.files) n.files.pending (room_most m.task.work m.upto room)
+room_after m (Hears port reply) room = port_room m.task m (held_in m.files) m.files.pending room m.task.work room port reply
+room_after m (Asks port) room = by (port == 3)
+  where
+    by : (b : Bool) → (let n : AnchoredIs = cond b (asked_data m) (asked_anchor m port) in HasRoom n.task.work n.upto)
+    by true = room
+    by false = room

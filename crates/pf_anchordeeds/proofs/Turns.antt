@@ -1,0 +1,137 @@
+-- What doings are at an anchor, in one position of the journal.
+use Rattle.std.proofs.Common.{◌≡◌, ◌≢◌, ℕ, ◌≤◌, ◌⊎◌, inl, inr, ◌==◌, Bool, true, false, cond, nat_lt, List, Option, Some, None, arith, refl, sym, ap, ◌∙◌}
+use Rattle.std.proofs.lemmas.Bool.{cond-false, eqb-true, le-ltb, ne_eqb}
+use Rattle.pf_base.specs.declared.asks.Reply.{Reply}
+use Rattle.pf_entry.proofs.Cases.{by_test}
+use Rattle.pf_paxos.specs.Registers.{Turn}
+use Rattle.pf_paxos.specs.Runs.{idle_turn}
+use Rattle.pf_anchors.specs.declared.anchors.AnchorNext.{AnchorNext}
+use Rattle.pf_anchors.specs.declared.anchors.AnchorNext.TheVariants.{Write, Read, Idle}
+use Rattle.pf_anchors.specs.Anchors.{AnchorsIs, next_of, part_at}
+use Rattle.pf_anchors.specs.Deciding.{AnchorTurn, turn_on}
+use Rattle.pf_anchors.specs.Runs.{Act, Asks as AsksNext, At, Calls, GetsRead, IsWritten, Mounts, Otherwise, Starts, move_at, move_in, no_turn, turn_answered, turn_asking, turn_of, turn_of_move}
+use Rattle.pf_anchorlist.specs.Journals.{Acts, Ballots as BeginsBallot, Doing, Journal, Looks, event_at, stands}
+use Rattle.pf_anchormount.specs.declared.work.Work.{Work}
+use Rattle.pf_anchormount.specs.declared.work.Work.TheVariants.{Ballots, Moves, Pauses, Rests, Syncs}
+use Rattle.pf_anchormount.specs.Anchored.{AnchoredIs}
+use Rattle.pf_anchorlives.specs.Doings.{act_of, asks_for, began, began_in, hears_for, looker, mbal_at, nothing, reply_of}
+use Rattle.pf_anchorlives.specs.Lives.{OfBallot, OfPause, OfSync, Waiting}
+
+-- Turns at one anchor
+
+pub idle_on : (a : ℕ) → turn_on a no_turn ≡ idle_turn
+idle_on a = by (0 == a)
+  where
+    by : (b : Bool) → cond b idle_turn idle_turn ≡ idle_turn
+    by true = refl
+    by false = refl
+
+-- of an anchor, or nobody's
+abbrev IsAt : (anchor : ℕ) → AnchorTurn → Type 0
+IsAt anchor t = (t.anchor ≡ anchor) ⊎ (t ≡ no_turn)
+
+at_other : (a anchor : ℕ) (t : AnchorTurn) → anchor ≢ a → IsAt anchor t → turn_on a t ≡ idle_turn
+at_other a anchor t apart (inl at) = cond-false (t.anchor == a) t.turn idle_turn (ne_eqb t.anchor a (λ e. apart (sym at ∙ e)))
+at_other a anchor t apart (inr none) = ap (turn_on a) none ∙ idle_on a
+
+asking_at : (client anchor : ℕ) (next : AnchorNext) → IsAt anchor (turn_asking client anchor next)
+asking_at client anchor (Write block) = inl refl
+asking_at client anchor (Read half) = inl refl
+asking_at client anchor Idle = inr refl
+
+move_is_at : (n anchor : ℕ) (p : AnchorsIs) (act : Act) (asked : AnchorNext) → IsAt anchor (turn_of_move (move_at n anchor p act asked))
+move_is_at n anchor p AsksNext asked = asking_at n anchor (next_of p anchor)
+move_is_at n anchor p IsWritten (Write block) = inl refl
+move_is_at n anchor p IsWritten (Read half) = inr refl
+move_is_at n anchor p IsWritten Idle = inr refl
+move_is_at n anchor p (GetsRead blocks) (Read half) = inl refl
+move_is_at n anchor p (GetsRead blocks) (Write block) = inr refl
+move_is_at n anchor p (GetsRead blocks) Idle = inr refl
+
+call_is_at : (n anchor : ℕ) (ps : Mounts) (act : Act) → IsAt anchor (turn_of ps (Calls n (At anchor act)))
+call_is_at n anchor ps act = by (nat_lt n 16) (nat_lt anchor 3)
+  where
+    by : (b c : Bool) → IsAt anchor (turn_of_move (cond b (cond c (move_at n anchor (ps n) act (part_at (ps n).parts anchor).asked) None) None))
+    by true true = move_is_at n anchor (ps n) act (part_at (ps n).parts anchor).asked
+    by true false = inr refl
+    by false c = inr refl
+
+-- Doings
+
+module _ (j : Journal) (a q : ℕ) where
+  abbrev pub turn_at : Doing → Turn
+  turn_at d = turn_on a (turn_of (j.mounts q) (event_at q j d))
+
+  pub nothing_is : turn_at nothing ≡ idle_turn
+  nothing_is = by (q == 255)
+    where
+      by : (b : Bool) → turn_on a (turn_of (j.mounts q) (cond b (Otherwise no_turn) (Otherwise no_turn))) ≡ idle_turn
+      by true = idle_on a
+      by false = idle_on a
+
+  ballot_is : (n above : ℕ) (input : Option (List ℕ)) → turn_at (BeginsBallot n above input) ≡ idle_turn
+  ballot_is n above input = by (q == stands j n)
+    where
+      called : (c : Bool) → turn_on a (turn_of_move (cond c (move_in n (j.mounts q n) (Starts above input)) None)) ≡ idle_turn
+      called true = idle_on a
+      called false = idle_on a
+
+      by : (b : Bool) → turn_on a (turn_of (j.mounts q) (cond b (Calls n (Starts above input)) (Otherwise no_turn))) ≡ idle_turn
+      by true = called (nat_lt n 16)
+      by false = idle_on a
+
+  -- in the position that it is of
+  pub acts_is : (n u anchor : ℕ) (act : Act) → turn_at (Acts n u anchor act) ≡ cond (q == u) (turn_on a (turn_of (j.mounts u) (Calls n (At anchor act)))) idle_turn
+  acts_is n u anchor act =
+      by_test (q == u) (λ b. turn_on a (turn_of (j.mounts q) (cond b (Calls n (At anchor act)) (Otherwise no_turn))) ≡ cond b (turn_on a (turn_of (j.mounts u) (Calls n (At anchor act)))) idle_turn)
+      (λ same. ap (λ k. turn_on a (turn_of (j.mounts k) (Calls n (At anchor act)))) (eqb-true q u same))
+      (λ other. idle_on a)
+
+  pub looks_is : (u : ℕ) (t : AnchorTurn) → 16 ≤ t.turn.client → turn_at (Looks u t) ≡ cond (q == u) (turn_on a t) idle_turn
+  looks_is u t past =
+      by_test (q == u) (λ b. turn_on a (turn_of (j.mounts q) (cond b (Otherwise t) (Otherwise no_turn))) ≡ cond b (turn_on a t) idle_turn)
+      (λ same. ap (turn_on a) (cond-false (nat_lt t.turn.client 16) no_turn t (le-ltb t.turn.client 16 past)))
+      (λ other. idle_on a)
+
+  -- no ballot that begins asks anything yet
+  pub began_is : (before after : AnchoredIs) → turn_at (began before after) ≡ idle_turn
+  began_is before after = by after.task.work
+    where
+      begins : (b : Bool) (n seen : ℕ) (input : Option (List ℕ)) → turn_at (cond b (BeginsBallot n seen input) nothing) ≡ idle_turn
+      begins true n seen input = ballot_is n seen input
+      begins false n seen input = nothing_is
+
+      by : (work : Work) → turn_at (began_in work before.files.mount (mbal_at before after.upto) after.position.anchors.own.mbal after.position.rivals.seen) ≡ idle_turn
+      by (Ballots input) = begins (nat_lt (mbal_at before after.upto) after.position.anchors.own.mbal) before.files.mount after.position.rivals.seen input
+      by Rests = nothing_is
+      by (Syncs looks) = nothing_is
+      by (Pauses input left) = nothing_is
+      by (Moves moving) = nothing_is
+
+  -- What is asked and answered at another anchor is nothing at this one
+
+  if_other : (b : Bool) (t : AnchorTurn) (anchor : ℕ) → anchor ≢ a → IsAt anchor t → cond b (turn_on a t) idle_turn ≡ idle_turn
+  if_other true t anchor apart at = at_other a anchor t apart at
+  if_other false t anchor apart at = refl
+
+  acts_elsewhere : (n u anchor : ℕ) (act : Act) → anchor ≢ a → turn_at (Acts n u anchor act) ≡ idle_turn
+  acts_elsewhere n u anchor act apart = acts_is n u anchor act ∙ if_other (q == u) (turn_of (j.mounts u) (Calls n (At anchor act))) anchor apart (call_is_at n anchor (j.mounts u) act)
+
+  looks_elsewhere : (u anchor : ℕ) (t : AnchorTurn) → anchor ≢ a → 16 ≤ t.turn.client → IsAt anchor t → turn_at (Looks u t) ≡ idle_turn
+  looks_elsewhere u anchor t apart past at = looks_is u t past ∙ if_other (q == u) t anchor apart at
+
+  asks_elsewhere : (n anchor : ℕ) (w : Option Waiting) → anchor ≢ a → turn_at (asks_for n anchor w) ≡ idle_turn
+  asks_elsewhere n anchor None apart = nothing_is
+  asks_elsewhere n anchor (Some (OfBallot u)) apart = acts_elsewhere n u anchor AsksNext apart
+  asks_elsewhere n anchor (Some (OfSync u half)) apart = looks_elsewhere u anchor (turn_asking (looker n) anchor (Read half)) apart (omega arith) (inl refl)
+  asks_elsewhere n anchor (Some OfPause) apart = nothing_is
+
+  pub asks_now_elsewhere : (b : Bool) (n anchor : ℕ) (w : Option Waiting) → anchor ≢ a → turn_at (cond b (asks_for n anchor w) nothing) ≡ idle_turn
+  asks_now_elsewhere true n anchor w apart = asks_elsewhere n anchor w apart
+  asks_now_elsewhere false n anchor w apart = nothing_is
+
+  pub hears_elsewhere : (n anchor : ℕ) (reply : Reply) (w : Option Waiting) → anchor ≢ a → turn_at (hears_for n anchor reply w) ≡ idle_turn
+  hears_elsewhere n anchor reply None apart = nothing_is
+  hears_elsewhere n anchor reply (Some (OfBallot u)) apart = acts_elsewhere n u anchor (act_of reply) apart
+  hears_elsewhere n anchor reply (Some (OfSync u half)) apart = looks_elsewhere u anchor (turn_answered (looker n) anchor (reply_of reply)) apart (omega arith) (inl refl)
+  hears_elsewhere n anchor reply (Some OfPause) apart = nothing_is
