@@ -64,7 +64,7 @@ module _ (halts : List Halt) (c : ChunkRun) (m : ℕ) where
           adds = subst (λ (z : Happening). AddsNoWrite (c.group.history ++ z ∷ []) d.chunk.group.history) same (happened_adds_one halts mid event);
         }
 
-    leader_hands : (leader : Option (ℕ × ℕ)) → let d : Driven = led_to halts c m p ask leader in IsHandedIf m c d d.place
+    pub leader_hands : (leader : Option (ℕ × ℕ)) → let d : Driven = led_to halts c m p ask leader in IsHandedIf m c d d.place
     leader_hands None = refl
     leader_hands (Some (term, server)) =
         by_test (goes_to p.sent p.last term) (λ b. let d : Driven = if b then handed_to halts c m p (event_of_ask ask server) term else idle c in IsHandedIf m c d d.place)

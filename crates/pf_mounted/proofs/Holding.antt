@@ -1,7 +1,7 @@
 -- In the run of every script each port was driven as was told, each reply that a mount heard is its group's, and what ports handed on is told.
-use Rattle.std.proofs.Common.{◌≡◌, ◌≢◌, ℕ, zero, suc, ◌+◌, ◌<◌, ◌≤◌, nat_le, inl, inr, true, false, List, [], ◌∷◌, ◌++◌, length, Option, Some, None, slice_get, slice_set, replicate, arith, refl, sym, ap, subst, ◌∙◌, append-nil}
+use Rattle.std.proofs.Common.{◌≡◌, ◌≢◌, ℕ, zero, suc, ◌<◌, ◌≤◌, inl, inr, true, List, [], ◌∷◌, ◌++◌, length, Option, Some, None, slice_get, slice_set, replicate, arith, refl, sym, ap, subst, ◌∙◌, append-nil}
 use Rattle.std.specs.Option.{option_and_then, option_map}
-use Rattle.std.proofs.lemmas.Bool.{false≢true, leb-false}
+use Rattle.std.proofs.lemmas.Bool.{false≢true}
 use Rattle.std.proofs.lemmas.Option.{none-some, same_Some}
 use Rattle.pf_base.specs.Asks.{chunk_of}
 use Rattle.pf_base.specs.declared.asks.Ask.{Ask}
@@ -54,12 +54,14 @@ use Rattle.pf_mounted.proofs.Hosting.{AreSo, behind, comes_so, stepped_so}
 use Rattle.pf_mounted.proofs.Hosts.{StepsTo, WorksAt, begins_to, makes_to, steps_to}
 use Rattle.pf_mounted.proofs.Leaving.{moves_so}
 use Rattle.pf_mounted.proofs.Lives.{IsQuiet}
+use Rattle.pf_mounted.proofs.Placed.{made_there}
 use Rattle.pf_mounted.proofs.Ports.{HasAsked, asked_still, fetched_ports, happened_ports, none_asked_of}
 use Rattle.pf_mounted.proofs.Routing.{Having, IsHome, still_routes}
 use Rattle.pf_mounted.proofs.Running.{IsKeptIn, running_in}
-use Rattle.pf_mounted.proofs.Standing.{all_told, few_at, new_chunk, new_told}
+use Rattle.pf_mounted.proofs.Standing.{all_told, few_at, new_told}
 use Rattle.pf_mounted.proofs.Steering.{IsBorne, mover_so}
 use Rattle.pf_mounted.proofs.Telling.{IsAsTold, MoverAsTold, passed, regrown}
+use Rattle.pf_mounted.proofs.Throughout.{fewer}
 use Rattle.pf_mounted.proofs.Tracing.{Passes, asks_of, writes_pass}
 use Rattle.pf_mounted.proofs.Writing.{AddsNoWrite, fetched_adds, happened_adds}
 
@@ -179,9 +181,6 @@ module _ (kind : Option Kind) (halts : List Halt) (v : VolumeRun) (told : List M
         (begins_to v.routes of is.hosts.routes.homes halts v.extent m told v.chunks host (is.hosts.hosts m host at) (is.hosts.ports m small) is.hosts.placed call rest) is.bears
 
 module _ (halts : List Halt) where
-  fewer_hosts : (n : ℕ) → nat_le 16 n ≡ false → n < mover_port
-  fewer_hosts n few = omega (arith, leb-false 16 n few)
-
   kept : IsKeptIn halts IsAsRun
   kept =
       let hosts = all_told halts in record {
@@ -250,7 +249,7 @@ module _ (halts : List Halt) where
         };
         moving = λ v told names format chunk free few is. record { borne = moves_so halts v told names format chunk free (Some Mounted) is.borne; none = λ other. absurd (other refl) };
         mounting = λ v told large few is.
-            let small = fewer_hosts (length v.hosts) few in record {
+            let small = fewer (length v.hosts) few in record {
               borne = record { hosts = hosts.mounting v told large few is.borne.hosts; so = mount_so (Some Mounted) halts v told is.borne small; bears = mount_borne (Some Mounted) halts v told is.borne small };
               none = λ other. absurd (other refl);
             };
@@ -295,8 +294,7 @@ module _ (halts : List Halt) where
 
   new : (sessions : List Session) (chunks sectors names format : ℕ) → IsAsRun None (made halts sessions chunks sectors names format).volume []
   new sessions chunks sectors names format =
-      let is : (k : ℕ) (c : ChunkRun) → slice_get (made halts sessions chunks sectors names format).volume.chunks k ≡ Some c → new_run (made_chunk halts sectors names format k) ≡ c =
-      λ k c at. let same : 0 + k ≡ k = omega arith in ap (λ i. new_run (made_chunk halts sectors names format i)) (sym same) ∙ new_chunk (λ i. new_run (made_chunk halts sectors names format i)) chunks 0 k c at in record {
+      let is = made_there halts sessions chunks sectors names format in record {
         borne = record {
           hosts = new_told halts sessions chunks sectors names format;
           so = record {
@@ -360,9 +358,6 @@ module _ (halts : List Halt) where
     -- by events of all the history that was told of
     pub replies_since : (m : ℕ) (before after : List Moment) (heard : Heard) (next : Option Ask) (ask : Ask) → run.told ≡ before ++ Turns m (Some heard) next ∷ after → last_ask before m ≡ Some ask → (k : ℕ) → serving before (chunk_of ask) ≡ Some k → reached k before ≤ heard.by
     replies_since m before after heard next ask same pending k serves = (each_so before (Turns m (Some heard) next) after same).since ask pending k serves
-
-    pub ports_full : (k : ℕ) (c : ChunkRun) → slice_get chunks k ≡ Some c → length c.ports ≡ most_ports
-    ports_full k c there = (is_borne.hosts.placed k c there).ports
 
     -- what ports handed on is told
     pub handed_on : AreHandedOn chunks run.told

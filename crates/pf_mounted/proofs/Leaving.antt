@@ -37,10 +37,11 @@ use Rattle.pf_mounted.proofs.Hauling.{step_chunk}
 use Rattle.pf_mounted.proofs.Hearing.{AllGrow, IsSo, all_grown, grow_more, grow_on, grow_set}
 use Rattle.pf_mounted.proofs.Hosting.{AreSo}
 use Rattle.pf_mounted.proofs.Lives.{its_own, not_its_own}
+use Rattle.pf_mounted.proofs.Placed.{came_from, rehomed_at, with_both}
 use Rattle.pf_mounted.proofs.Ports.{HasAsked, asked_for}
 use Rattle.pf_mounted.proofs.Routing.{IsHome, all_rest, begins_fresh, of_other, small}
 use Rattle.pf_mounted.proofs.Running.{new_group}
-use Rattle.pf_mounted.proofs.Standing.{IsPair, began, came_from, chunks_are, from, none_moving, rehomed_at}
+use Rattle.pf_mounted.proofs.Standing.{IsPair, began, chunks_are, from, none_moving}
 use Rattle.pf_mounted.proofs.Steering.{IsBorne, went}
 use Rattle.pf_mounted.proofs.Telling.{IsAsTold, MoverAsTold}
 use Rattle.pf_mounted.proofs.Tracked.{IsElsewhere}
@@ -147,7 +148,7 @@ module _ (kind : Option Kind) (halts : List Halt) (v : VolumeRun) (told : List M
   source_there = (from halts v told is.hosts rests chunk h home group refl).1
 
   abbrev chunks_on : List ChunkRun
-  chunks_on = slice_set v.chunks h (left_by_ports source) ++ taking_ports source (new_run group) ∷ []
+  chunks_on = with_both v.chunks h source (new_run group)
 
   abbrev under : RoutesIs
   under = record v.routes { moving = Some (record { chunk = chunk; to = n }) }
@@ -347,7 +348,7 @@ module _ (kind : Option Kind) (halts : List Halt) (v : VolumeRun) (told : List M
   -- All of them
 
   abbrev where_from : (k : ℕ) (c : ChunkRun) → slice_get chunks_on k ≡ Some c → ((k ≡ h) × (left_by_ports source ≡ c)) ⊎ ((k ≢ h) × (slice_get v.chunks k ≡ Some c)) ⊎ ((k ≡ n) × (target ≡ c))
-  where_from = came_from halts v told is.hosts rests chunk h home group refl
+  where_from = came_from v.chunks h source (new_run group)
 
   grown_on : AllGrow v.chunks chunks_on
   grown_on = grow_on v.chunks (slice_set v.chunks h (left_by_ports source)) chunks_on (grow_set v.chunks h source (left_by_ports source) source_there (grows_refl source.group)) (grow_more (slice_set v.chunks h (left_by_ports source)) target)
@@ -428,7 +429,7 @@ module _ (halts : List Halt) where
           let s : Step = step m None in
           let moving : Moving = record { chunk = chunk; to = length v.chunks } in
           let source = (from halts v told is.hosts rests chunk h at group refl).0 in
-          let new : List ChunkRun = slice_set v.chunks h (left_by_ports source) ++ taking_ports source (new_run group) ∷ [] in
+          let new : List ChunkRun = with_both v.chunks h source (new_run group) in
           let w : List ChunkRun → VolumeRun = λ chunks. record v { chunks = chunks; routes = record v.routes { moving = Some moving }; mover = Some m } in
           let on = told ++ MovesTo chunk (length v.chunks) ∷ [] in
           let first = began halts v told is.hosts rests chunk h at group refl m refl in

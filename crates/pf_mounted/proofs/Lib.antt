@@ -19,6 +19,11 @@ pub mod Changing
 pub mod Lives
 pub mod Ports
 pub mod Hosts
+pub mod PortSteps
+pub mod Ported
+pub mod PortedOver
+pub mod Throughout
+pub mod Placed
 pub mod Standing
 pub mod Decided
 pub mod Deciding

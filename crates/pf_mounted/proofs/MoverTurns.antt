@@ -28,7 +28,8 @@ use Rattle.pf_mounted.proofs.Lives.{its_own}
 use Rattle.pf_mounted.proofs.Ports.{drives_at}
 use Rattle.pf_mounted.proofs.Routing.{IsStill}
 use Rattle.pf_mounted.proofs.Running.{IsKept, new_group, running}
-use Rattle.pf_mounted.proofs.Standing.{AreTold, all_told, carries_told, few_at, fewer, hauls_told, new_told}
+use Rattle.pf_mounted.proofs.Standing.{AreTold, all_told, carries_told, few_at, hauls_told, new_told}
+use Rattle.pf_mounted.proofs.Throughout.{fewer}
 use Rattle.pf_mounted.proofs.Tracing.{asks_of}
 
 -- The mover of a chunk, as what was told makes it
@@ -214,7 +215,7 @@ module _ (halts : List Halt) where
         moving = λ v told names format chunk free few is. moves_steered v told names format chunk (home_of v.routes chunk) refl is (hosts.moving v told names format chunk free few is.hosts);
         mounting = λ v told large few is.
             let none = is.hosts.past (length v.hosts) (omega arith) in
-            let small = fewer halts (length v.hosts) few in
+            let small = fewer (length v.hosts) few in
             let steps = makes_to v.routes (asks_of v.extent.chunks told) is.hosts.routes.homes v.extent (length v.hosts) told v.chunks none.0 none.1 (is.hosts.ports (length v.hosts) small) is.hosts.placed in
             host_steered v told (length v.hosts) (made_host v.routes v.chunks (length v.hosts) v.extent) _ refl refl steps.still (hosts.mounting v told large few is.hosts) is;
         beginning = λ v told m host call at rest is.

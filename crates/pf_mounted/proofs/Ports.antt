@@ -206,7 +206,7 @@ module _ (halts : List Halt) (c : ChunkRun) (m : ℕ) where
         let q : PortIs = record p { sent = sent_of (answered halts c.group event); last = term } in
         puts q (handed_to halts c m p event term) (happened_ports halts (with_port c m q) event) refl (λ none. refl)
 
-    leads : (ask : Ask) (leader : Option (ℕ × ℕ)) → DrivesPort m c (led_to halts c m p ask leader)
+    pub leads : (ask : Ask) (leader : Option (ℕ × ℕ)) → DrivesPort m c (led_to halts c m p ask leader)
     leads ask None = stays
     leads ask (Some (term, server)) =
         by_test (goes_to p.sent p.last term) (λ b. DrivesPort m c (if b then handed_to halts c m p (event_of_ask ask server) term else idle c))

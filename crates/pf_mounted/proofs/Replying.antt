@@ -27,7 +27,7 @@ module _ (halts : List Halt) (c : ChunkRun) (m : ℕ) where
   abbrev Grown : Driven → Type 0
   Grown d = Grows c.group d.chunk.group
 
-  leader_grows : (p : PortIs) (ask : Ask) (leader : Option (ℕ × ℕ)) → Grown (led_to halts c m p ask leader)
+  pub leader_grows : (p : PortIs) (ask : Ask) (leader : Option (ℕ × ℕ)) → Grown (led_to halts c m p ask leader)
   leader_grows p ask None = grows_refl c.group
   leader_grows p ask (Some (term, server)) =
       let event : Event = event_of_ask ask server in

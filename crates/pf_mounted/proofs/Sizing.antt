@@ -39,10 +39,10 @@ use Rattle.pf_world.specs.pf_threads.specs.Sessions.{Session}
 use Rattle.pf_world.specs.declared.line.Line.{Line}
 use Rattle.pf_mounted.specs.Scripts.{IsPlainRun}
 use Rattle.pf_mounted.proofs.Growing.{all_grow, fetched_grows, happened_grows}
+use Rattle.pf_mounted.proofs.Placed.{made_there}
 use Rattle.pf_mounted.proofs.Replying.{driven_grows}
 use Rattle.pf_mounted.proofs.Hauling.{hauled}
 use Rattle.pf_mounted.proofs.Running.{IsKeptIn, new_group, running_in}
-use Rattle.pf_mounted.proofs.Standing.{new_chunk}
 
 -- each chunk has so many sectors
 abbrev pub AreSized : (sectors : ℕ) → List ChunkRun → Type 0
@@ -187,7 +187,7 @@ module _ (halts : List Halt) where
     mounted = λ some. absurd (omega (arith, some));
     chunks = record {
       made = let count = length-map (range_with_len 0 chunks) (λ (k : ℕ). new_run (made_chunk halts sectors names format k)) ∙ length-range_with_len 0 chunks in omega (arith, count);
-      sized = λ k c at. ap (λ (x : ChunkRun). x.group.setup.chunk) (sym (new_chunk (λ i. new_run (made_chunk halts sectors names format i)) chunks 0 k c at));
+      sized = λ k c at. ap (λ (x : ChunkRun). x.group.setup.chunk) (sym (made_there halts sessions chunks sectors names format k c at));
     };
   }
 

@@ -1,9 +1,9 @@
 -- In every run all hosts have the mounts that what is told makes.
-use Rattle.std.proofs.Common.{◌≡◌, ◌≢◌, ◌⊎◌, ℕ, zero, suc, ◌+◌, ◌/◌, ◌<◌, ◌≤◌, if◌then◌else◌, nat_lt, append-nil, lt-ltb, List, [], ◌∷◌, ◌++◌, length, map, replicate, Option, Some, None, slice_get, slice_set, inl, inr, arith, refl, sym, ap, subst, ◌∙◌, length-append, lit≤, false, nat_le}
+use Rattle.std.proofs.Common.{◌≡◌, ◌≢◌, ◌⊎◌, ℕ, zero, suc, ◌+◌, ◌/◌, ◌<◌, ◌≤◌, if◌then◌else◌, nat_lt, append-nil, lt-ltb, List, [], ◌∷◌, ◌++◌, length, map, Option, Some, None, slice_get, slice_set, inl, inr, arith, refl, sym, ap, subst, ◌∙◌, length-append, lit≤, false}
 use Rattle.std.specs.List.{range_with_len}
 use Rattle.std.specs.Option.{is_some, option_and_then, option_map}
-use Rattle.std.proofs.lemmas.Bool.{cases_eq, false≢true, leb-false, ltb-true}
-use Rattle.std.proofs.lemmas.List.{append_assoc, length-map, length-replicate}
+use Rattle.std.proofs.lemmas.Bool.{cases_eq, false≢true, ltb-true}
+use Rattle.std.proofs.lemmas.List.{append_assoc, length-map}
 use Rattle.std.proofs.lemmas.List.FromFn.{length-range_with_len}
 use Rattle.std.proofs.lemmas.Option.{none-some, same_Some, slice_get_within}
 use Rattle.pf_base.specs.Span.{Span}
@@ -14,7 +14,7 @@ use Rattle.pf_entry.proofs.Lists.{every_more, set_cases}
 use Rattle.pf_ports.specs.pf_network.proofs.Lists.{end_cases, set_length, something_there}
 use Rattle.pf_protocol.specs.declared.events.Event.TheVariants.{Fetch}
 use Rattle.pf_volume.specs.Volumes.{Extent}
-use Rattle.pf_asks.specs.Ports.{PortIs, new_port, rehomed}
+use Rattle.pf_asks.specs.Ports.{PortIs}
 use Rattle.pf_move.specs.declared.mover.MoveNext.{MoveNext}
 use Rattle.pf_move.specs.declared.mover.MoveNext.TheVariants.{Read, Switch, Write}
 use Rattle.pf_move.specs.declared.routes.Moving.{Moving}
@@ -30,7 +30,7 @@ use Rattle.pf_world.specs.pf_chunk.specs.Asking.{fetched}
 use Rattle.pf_world.specs.pf_chunk.specs.Driving.{ask_of}
 use Rattle.pf_world.specs.pf_chunk.specs.Happenings.{followed, happened}
 use Rattle.pf_world.specs.pf_chunk.specs.Lending.{all_happened}
-use Rattle.pf_world.specs.pf_chunk.specs.Runs.{ChunkRun, left_by_ports, most_ports, mover_port, new_run, taking_ports}
+use Rattle.pf_world.specs.pf_chunk.specs.Runs.{ChunkRun, most_ports, mover_port, new_run}
 use Rattle.pf_world.specs.pf_chunk.proofs.Begun.{happened_extends}
 use Rattle.pf_world.specs.pf_hosts.specs.Moments.{Carries, Heard, Moment, Moves as MovesTo, Writes}
 use Rattle.pf_world.specs.pf_hosts.specs.Hosts.{Drove, HostIs, Stepped, begun, drove, made_host, put_at, stepped}
@@ -46,9 +46,11 @@ use Rattle.pf_mounted.proofs.Growing.{all_grow, all_ports}
 use Rattle.pf_mounted.proofs.Hosts.{IsTold, StepsTo, begins_to, makes_to, steps_to, told_quietly}
 use Rattle.pf_mounted.proofs.Lives.{AreQuiet, IsOf, done_at, done_on, life_on, others_done, other_ask, other_life, same_ask, same_life}
 use Rattle.pf_mounted.proofs.Hauling.{hauled, step_chunk}
-use Rattle.pf_mounted.proofs.Ports.{ArePlaced, HasAsked, asked_for, asked_still, drives_at, fetched_ports, happened_ports, nothing_for, placed_with, put_counts, put_others, put_placed}
+use Rattle.pf_mounted.proofs.Placed.{came_from, made_there, new_placed, new_port_asks, one_longer, placed_event, placed_there, rehomed_at, with_both}
+use Rattle.pf_mounted.proofs.Ports.{ArePlaced, HasAsked, asked_for, asked_still, drives_at, fetched_ports, happened_ports, nothing_for, put_counts, put_others, put_placed}
 use Rattle.pf_mounted.proofs.Routing.{AreRoutes, Having, IsAsk, IsHome, IsStill, ask_routes, move_routes, of_new, of_other, still_no_move, still_routes, switch_routes, switched_is}
 use Rattle.pf_mounted.proofs.Running.{IsKept, new_group, running}
+use Rattle.pf_mounted.proofs.Throughout.{fewer, some_there}
 use Rattle.pf_mounted.proofs.Tracing.{IsNoMove, asks_of, asks_still, at_apart, at_same}
 
 -- there is a mover exactly while its chunk is moving
@@ -68,26 +70,10 @@ pub record AreTold (v : VolumeRun) (told : List Moment) : Type 0 where
   pub past : (m : ℕ) → length v.hosts ≤ m → (life_of v.extent told m ≡ None) × (last_ask told m ≡ None)
   pub pair : IsPair v.routes.moving v.mover
 
--- Ports in their places
-
-new_port_asks : (n m : ℕ) (port : PortIs) → slice_get (replicate n new_port) m ≡ Some port → port.ask ≡ None
-new_port_asks zero m port is = absurd (none-some port is)
-new_port_asks (suc n) zero port is = ap (λ (p : PortIs). p.ask) (sym (same_Some new_port port is))
-new_port_asks (suc n) (suc m) port is = new_port_asks n m port is
-
-pub rehomed_at : (ports : List PortIs) (m : ℕ) (port : PortIs) → slice_get (map rehomed ports) m ≡ Some port → (before : PortIs) × (slice_get ports m ≡ Some before) × (port ≡ rehomed before)
-rehomed_at [] m port at = absurd (none-some port at)
-rehomed_at (p ∷ ports) zero port at = (p, refl, sym (same_Some (rehomed p) port at))
-rehomed_at (p ∷ ports) (suc m) port at = rehomed_at ports m port at
-
 -- Hosts in their places
 
-place_there : (o : Option (Option HostIs)) (host : HostIs) → there o ≡ Some host → o ≡ Some (Some host)
-place_there None host is = absurd (none-some host is)
-place_there (Some o) host is = ap (λ (x : Option HostIs). Some x) is
-
 pub in_place : (hosts : Hosts) (m : ℕ) (host : HostIs) → host_at hosts m ≡ Some host → slice_get hosts m ≡ Some (Some host)
-in_place hosts m host is = place_there (slice_get hosts m) host is
+in_place hosts m host is = some_there (slice_get hosts m) host is
 
 abbrev pub ItsOrAnother : (hosts : Hosts) (m : ℕ) (its : HostIs) (n : ℕ) (host : HostIs) → Type 0
 ItsOrAnother hosts m its n host = ((n ≡ m) × (its ≡ host)) ⊎ ((n ≢ m) × (host_at hosts n ≡ Some host))
@@ -142,7 +128,7 @@ chunk_told v told k c d at ports number are =
       hosts = are.hosts;
       routes = subst (λ n. AreRoutes v.extent.chunks n v.routes told) (sym (set_length v.chunks d.group.number d)) are.routes;
       ports = λ m small. asked_still (asks_of v.extent.chunks told) m (last_ask told m) v.chunks d.group.number c d place (ap (λ ps. slice_get ps m) ports) (are.ports m small);
-      placed = placed_with v.chunks d.group.number c d place number (ap length ports) are.placed;
+      placed = placed_event v.chunks k c d at ports number are.placed;
       few = are.few;
       done = are.done;
       past = are.past;
@@ -213,9 +199,6 @@ module _ (halts : List Halt) where
 
   pub few_at : (v : VolumeRun) (told : List Moment) → AreTold v told → (m : ℕ) (host : HostIs) → host_at v.hosts m ≡ Some host → m < mover_port
   few_at v told are m host at = let within = slice_get_within v.hosts m (Some host) (in_place v.hosts m host at) in omega (arith, within, are.few)
-
-  pub fewer : (n : ℕ) → nat_le 16 n ≡ false → n < 16
-  fewer n few = omega (arith, leb-false 16 n few)
 
   -- The mover
 
@@ -305,13 +288,10 @@ module _ (halts : List Halt) where
     from = something_there v.chunks h (are.routes.within chunk h home)
 
     abbrev chunks_on : List ChunkRun
-    chunks_on = slice_set v.chunks h (left_by_ports from.0) ++ taking_ports from.0 (new_run group) ∷ []
+    chunks_on = with_both v.chunks h from.0 (new_run group)
 
     pub chunks_are : with_new v.chunks h (slice_get v.chunks h) (new_run group) ≡ chunks_on
     chunks_are = ap (λ o. with_new v.chunks h o (new_run group)) from.1
-
-    pub longer : length chunks_on ≡ suc n
-    longer = let sum = length-append (slice_set v.chunks h (left_by_ports from.0)) (taking_ports from.0 (new_run group) ∷ []) in let same = set_length v.chunks h (left_by_ports from.0) in omega (arith, sum, same)
 
     abbrev old : Having
     old = asks_of count told
@@ -333,18 +313,8 @@ module _ (halts : List Halt) where
         of_other count n v.routes told are.routes rests chunk h home k other
         ∙ ap (λ b. if b then None else old k) (at_apart (old k) chunk (λ same. elsewhere (sym ((subst (IsHome old chunk) home (are.routes.homes chunk)).alone k same))))
 
-    -- where a group at a place came from
-    pub came_from : (k : ℕ) (c : ChunkRun) → slice_get chunks_on k ≡ Some c → ((k ≡ h) × (left_by_ports from.0 ≡ c)) ⊎ ((k ≢ h) × (slice_get v.chunks k ≡ Some c)) ⊎ ((k ≡ n) × (taking_ports from.0 (new_run group) ≡ c))
-    came_from k c at = elim (end_cases (slice_set v.chunks h (left_by_ports from.0)) (taking_ports from.0 (new_run group)) k c at) [
-      | inl before ↦ elim (set_cases v.chunks h (left_by_ports from.0) k c before) [
-        | inl here ↦ inl (here.0, here.1)
-        | inr elsewhere ↦ inr (inl (elsewhere.0, elsewhere.1))
-      ]
-      | inr last ↦ inr (inr (last.0 ∙ set_length v.chunks h (left_by_ports from.0), last.1))
-    ]
-
     asks_there : (m : ℕ) → m < mover_port → HasAsked new m (last_ask told_on m) chunks_on
-    asks_there m small k c port at its = elim (came_from k c at) [
+    asks_there m small k c port at its = elim (came_from v.chunks h from.0 (new_run group) k c at) [
       | inl here ↦
           let none : port.ask ≡ None = new_port_asks most_ports m port (ap (λ (x : ChunkRun). slice_get x.ports m) here.1 ∙ its) in
           none ∙ sym (ap (λ o. asked_for o (last_ask told_on m)) (ap new here.0 ∙ left))
@@ -361,24 +331,12 @@ module _ (halts : List Halt) where
       ]
     ]
 
-    placed_there : ArePlaced chunks_on
-    placed_there k c at = elim (came_from k c at) [
-      | inl here ↦ record { number = ap (λ (x : ChunkRun). x.group.number) (sym here.1) ∙ (are.placed h from.0 from.1).number ∙ sym here.0; ports = ap (λ (x : ChunkRun). length x.ports) (sym here.1) ∙ length-replicate most_ports new_port }
-      | inr other ↦ elim other [
-        | inl elsewhere ↦ are.placed k c elsewhere.1
-        | inr last ↦ record {
-          number = ap (λ (x : ChunkRun). x.group.number) (sym last.1) ∙ number ∙ sym last.0;
-          ports = ap (λ (x : ChunkRun). length x.ports) (sym last.1) ∙ length-map from.0.ports rehomed ∙ (are.placed h from.0 from.1).ports;
-        }
-      ]
-    ]
-
     pub began : (mover : MoverIs) → mover.chunk ≡ chunk → AreTold (record v { chunks = chunks_on; routes = record v.routes { moving = Some (record { chunk = chunk; to = n }) }; mover = Some mover }) told_on
     began mover its = record {
       hosts = λ m host at. told_quietly v.extent m told (MovesTo chunk n ∷ []) host (tt, tt) (are.hosts m host at);
-      routes = subst (λ i. AreRoutes count i (record v.routes { moving = Some (record { chunk = chunk; to = n }) }) told_on) (sym longer) (move_routes count n v.routes told are.routes rests chunk h home);
+      routes = subst (λ i. AreRoutes count i (record v.routes { moving = Some (record { chunk = chunk; to = n }) }) told_on) (sym (one_longer v.chunks h from.0 (new_run group))) (move_routes count n v.routes told are.routes rests chunk h home);
       ports = asks_there;
-      placed = placed_there;
+      placed = placed_there v.chunks h from.0 (new_run group) from.1 number are.placed;
       few = are.few;
       done = λ m. done_on v.extent m told (MovesTo chunk n ∷ []) None (are.done m) (tt, tt);
       past = λ m high. (same_life told (MovesTo chunk n ∷ []) (tt, tt) m v.extent ∙ (are.past m high).0, same_ask told (MovesTo chunk n ∷ []) (tt, tt) m ∙ (are.past m high).1);
@@ -430,12 +388,6 @@ module _ (halts : List Halt) where
   }
 
 -- A new volume
-
--- the chunk at a place of new ones
-pub new_chunk : (f : ℕ → ChunkRun) (n first k : ℕ) (c : ChunkRun) → slice_get (map f (range_with_len first n)) k ≡ Some c → f (first + k) ≡ c
-new_chunk f zero first k c is = absurd (none-some c is)
-new_chunk f (suc n) first zero c is = let same : first + 0 ≡ first = omega arith in ap f same ∙ same_Some (f first) c is
-new_chunk f (suc n) first (suc k) c is = let same : first + suc k ≡ first + 1 + k = omega arith in ap f same ∙ new_chunk f n (first + 1) k c is
 
 -- each chunk is served by the group of its own number
 module _ (count : ℕ) where
@@ -501,17 +453,13 @@ module _ (halts : List Halt) where
   pub new_told : (sessions : List Session) (chunks sectors names format : ℕ) → AreTold (made halts sessions chunks sectors names format).volume []
   new_told sessions chunks sectors names format =
       let f : ℕ → ChunkRun = λ k. new_run (made_chunk halts sectors names format k) in
-      let is : (k : ℕ) (c : ChunkRun) → slice_get (map f (range_with_len 0 chunks)) k ≡ Some c → f k ≡ c =
-      λ k c at. let same : k ≡ 0 + k = omega arith in ap f same ∙ new_chunk f chunks 0 k c at in record {
+      let is = made_there halts sessions chunks sectors names format in record {
         hosts = λ m host at. absurd (none-some host at);
         routes = subst (λ n. AreRoutes chunks n (first_routes chunks) []) (sym (length-map (range_with_len 0 chunks) f ∙ length-range_with_len 0 chunks)) (new_routes chunks);
         pair = tt;
         ports = λ m small k c port at its.
             new_port_asks most_ports m port (ap (λ (x : ChunkRun). slice_get x.ports m) (is k c at) ∙ its) ∙ sym (nothing_for (first_chunk chunks k));
-        placed = λ k c at. record {
-          number = ap (λ (x : ChunkRun). x.group.number) (sym (is k c at));
-          ports = ap (λ (x : ChunkRun). length x.ports) (sym (is k c at)) ∙ length-replicate most_ports new_port;
-        };
+        placed = new_placed halts sessions chunks sectors names format;
         few = lit≤ tt;
         done = λ m. tt;
         past = λ m high. (refl, refl);

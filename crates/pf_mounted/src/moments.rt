@@ -9,7 +9,7 @@ ghost use Rattle.pf_mounted.specs.Handing.{reached};
 ghost use Rattle.pf_mounted.specs.Hosted.{AreOfReads};
 ghost use Rattle.pf_mounted.specs.Journals.{AreOfMounts};
 ghost use Rattle.pf_mounted.specs.Mounts.{last_ask};
-ghost use Rattle.pf_mounted.specs.Scripts.{IsPlainRun, IsScript};
+ghost use Rattle.pf_mounted.specs.Scripts.{IsScript};
 ghost use Rattle.pf_protocol.specs.Groups.{Answered};
 ghost use Rattle.pf_world.specs.pf_applyrounds.specs.Halts.{Halt};
 ghost use Rattle.pf_world.specs.Headline.{IsLawfulRun};
@@ -24,10 +24,9 @@ pub fn moments_are_of_mounts()
 {}
 
 /// A mount that hears nothing in its turn asked nothing before. One that hears a reply does so when its group's history has come at least as
-/// far as was told before. Each chunk has as many ports as there can be mounts, where the journal never
-/// lies on three anchors.
+/// far as was told before. Each chunk has as many ports as there can be mounts.
 pub fn turns_come_in_time()
     ensures begins { (halts : List Halt) (sessions : List Session) (lines : List LineIs) → IsScript lines → let run = world_run halts sessions lines in (m : ℕ) (before after : List Moment) (next : Option AskIs) → run.told ≡ before ++ Turns m None next ∷ after → last_ask before m ≡ None }
     ensures since { (halts : List Halt) (sessions : List Session) (lines : List LineIs) → IsScript lines → let run = world_run halts sessions lines in (m : ℕ) (before after : List Moment) (heard : Heard) (next : Option AskIs) (ask : AskIs) → run.told ≡ before ++ Turns m (Some heard) next ∷ after → last_ask before m ≡ Some ask → (k : ℕ) → serving before (chunk_of ask) ≡ Some k → reached k before ≤ heard.by }
-    ensures ports { (halts : List Halt) (sessions : List Session) (lines : List LineIs) → IsPlainRun halts sessions lines → let run = world_run halts sessions lines in (k : ℕ) (c : ChunkRun) → slice_get run.world.volume.chunks k ≡ Some c → length c.ports ≡ most_ports }
+    ensures ports { (halts : List Halt) (sessions : List Session) (lines : List LineIs) → IsScript lines → let run = world_run halts sessions lines in (k : ℕ) (c : ChunkRun) → slice_get run.world.volume.chunks k ≡ Some c → length c.ports ≡ most_ports }
 {}

@@ -2,7 +2,8 @@ use Rattle.std.proofs.Common.{None, Some}
 use Rattle.pf_world.specs.pf_hosts.specs.Moments.{Turns}
 use Rattle.pf_mounted.proofs.Bare.{plain_where_told}
 use Rattle.pf_mounted.proofs.Beginning.{turns_free}
-use Rattle.pf_mounted.proofs.Holding.{ports_full, replies_since}
+use Rattle.pf_mounted.proofs.Holding.{replies_since}
+use Rattle.pf_mounted.proofs.Placed.{ports_full}
 use Rattle.pf_mounted.proofs.moments.turns_come_in_time.Goals as goal
 
 pub returns-clause-begins : goal.returns-clause-begins
