@@ -15,7 +15,6 @@ use Rattle.pf_mount.specs.declared.work.Work.{Work}
 use Rattle.pf_mount.specs.Mounts.{Outcome, opening, starting}
 use Rattle.pf_move.specs.declared.mover.Asked.{Asked}
 use Rattle.pf_move.specs.declared.mover.Asked.TheVariants.{Reading, Writing}
-use Rattle.pf_move.specs.declared.routes.Route.{Route}
 use Rattle.pf_move.specs.Movers.{MoverIs}
 use Rattle.pf_move.specs.Routes.{Between, between, home_of}
 use Rattle.pf_asks.specs.Ports.{PortIs, new_port}
@@ -346,10 +345,6 @@ module _ (halts : List Halt) where
     -- so were the mover's
     pub movers_driven : (k : ℕ) (role : Asked) (c : ChunkRun) → slice_get chunks k ≡ Some c → (port : PortIs) × IsDriven c.group.setup (past_in c.group.history (mover_trace c.group.history k role many run.told)) port
     movers_driven k role c at = let port = (is_borne.so.ports k c at).hauled role in (port.port, port.its)
-
-    -- the routes are as was told
-    pub routes_told : (chunk : ℕ) (route : Route) → slice_get run.world.volume.routes.routes chunk ≡ Some route → serving run.told chunk ≡ Some route.group
-    routes_told chunk route there = (is_borne.hosts.routes.served chunk route there).0
 
     -- whatever a mount heard is its group's answer
     pub replies_heard : (m : ℕ) (before after : List Moment) (heard : Heard) (next : Option Ask) → run.told ≡ before ++ Turns m (Some heard) next ∷ after → IsHeard many chunks m before heard

@@ -32,6 +32,7 @@ use Rattle.pf_mounted.specs.Mounts.{last_ask, of_chunk}
 use Rattle.pf_mounted.specs.Pasts.{LastAsk, MoverTrace, Trace, at_carry, first_chunk, handed_at, is_at, moves_into, no_moves, no_trace, number_of, numbered, past_in, past_of, trace_in, trace_of, with_port as with_port_of}
 use Rattle.pf_mounted.proofs.Bearing.{IsBearing, IsFree, no_one, step_asks}
 use Rattle.pf_mounted.proofs.Each.{one_more}
+use Rattle.pf_mounted.proofs.Epoching.{IsBegun}
 use Rattle.pf_mounted.proofs.Growing.{grows_refl}
 use Rattle.pf_mounted.proofs.Hauling.{step_chunk}
 use Rattle.pf_mounted.proofs.Hearing.{AllGrow, IsSo, all_grown, grow_more, grow_on, grow_set}
@@ -39,9 +40,10 @@ use Rattle.pf_mounted.proofs.Hosting.{AreSo}
 use Rattle.pf_mounted.proofs.Lives.{its_own, not_its_own}
 use Rattle.pf_mounted.proofs.Placed.{came_from, rehomed_at, with_both}
 use Rattle.pf_mounted.proofs.Ports.{HasAsked, asked_for}
-use Rattle.pf_mounted.proofs.Routing.{IsHome, all_rest, begins_fresh, of_other, small}
+use Rattle.pf_mounted.proofs.Routed.{IsPair, begins_so, new_is, none_moving, source_of}
+use Rattle.pf_mounted.proofs.Routing.{IsHome, of_other}
 use Rattle.pf_mounted.proofs.Running.{new_group}
-use Rattle.pf_mounted.proofs.Standing.{IsPair, began, chunks_are, from, none_moving}
+use Rattle.pf_mounted.proofs.Standing.{began, routed}
 use Rattle.pf_mounted.proofs.Steering.{IsBorne, went}
 use Rattle.pf_mounted.proofs.Telling.{IsAsTold, MoverAsTold}
 use Rattle.pf_mounted.proofs.Tracked.{IsElsewhere}
@@ -142,10 +144,10 @@ module _ (kind : Option Kind) (halts : List Halt) (v : VolumeRun) (told : List M
   told_on = told ++ y ∷ []
 
   abbrev source : ChunkRun
-  source = (from halts v told is.hosts rests chunk h home group refl).0
+  source = (source_of v told (routed v told is.hosts) chunk h home).0
 
   source_there : slice_get v.chunks h ≡ Some source
-  source_there = (from halts v told is.hosts rests chunk h home group refl).1
+  source_there = (source_of v told (routed v told is.hosts) chunk h home).1
 
   abbrev chunks_on : List ChunkRun
   chunks_on = with_both v.chunks h source (new_run group)
@@ -375,14 +377,17 @@ module _ (kind : Option Kind) (halts : List Halt) (v : VolumeRun) (told : List M
     ]
   ]
 
+  begun : IsBegun count told chunk n
+  begun = begins_so v told (routed v told is.hosts) chunk h home rests
+
   pub leaves_so : AreSo kind count told_on chunks_on
   leaves_so = record {
     ports = all_as_told;
     each = one_more (IsSo count chunks_on) told y (all_grown count told v.chunks chunks_on grown_on is.so.each) (record {
-      small = small count n v.routes told is.hosts.routes rests chunk h home;
-      rests = all_rest count n v.routes told is.hosts.routes rests chunk h home;
-      behind = is.hosts.routes.made;
-      fresh = begins_fresh count n v.routes told is.hosts.routes rests chunk h home;
+      small = begun.small;
+      rests = begun.rests;
+      behind = begun.behind;
+      fresh = begun.fresh;
       group = target;
       there = target_there;
     });
@@ -423,17 +428,16 @@ module _ (halts : List Halt) where
       by : (o : Option ℕ) → home_of v.routes chunk ≡ o → let t : volumes.Told = moves_from chunk o (new_group halts v names format) v in IsBorne kind t.volume (told ++ t.told)
       by None at = subst (IsBorne kind v) (sym (append-nil told)) is
       by (Some h) at =
-          let rests = none_moving halts v.routes.moving free in
+          let rests = none_moving v.routes.moving free in
           let group = made_chunk halts v.extent.sectors names format (length v.chunks) in
           let m : MoverIs = new_mover chunk (v.extent.sectors / 8) in
           let s : Step = step m None in
           let moving : Moving = record { chunk = chunk; to = length v.chunks } in
-          let source = (from halts v told is.hosts rests chunk h at group refl).0 in
-          let new : List ChunkRun = with_both v.chunks h source (new_run group) in
+          let new : List ChunkRun = with_both v.chunks h (source_of v told (routed v told is.hosts) chunk h at).0 (new_run group) in
           let w : List ChunkRun → VolumeRun = λ chunks. record v { chunks = chunks; routes = record v.routes { moving = Some moving }; mover = Some m } in
           let on = told ++ MovesTo chunk (length v.chunks) ∷ [] in
           let first = began halts v told is.hosts rests chunk h at group refl m refl in
           let done = went kind halts (w new) on first (leaves_so kind halts v told is rests names format chunk h at) moving refl (leaves_free kind halts v told is rests names format chunk h at) m s.mover refl (step_chunk m None) None tt s.next (step_asks m None) in
           let t : volumes.Told = carries_on (moved_from v chunk h (new_run group)) None s in
           subst (IsBorne kind t.volume) (append_assoc told (MovesTo chunk (length v.chunks) ∷ []) t.told)
-          (subst (λ (chunks : List ChunkRun). let x : volumes.Told = carries_on (w chunks) None s in IsBorne kind x.volume (on ++ x.told)) (sym (chunks_are halts v told is.hosts rests chunk h at group refl)) done.0)
+          (subst (λ (chunks : List ChunkRun). let x : volumes.Told = carries_on (w chunks) None s in IsBorne kind x.volume (on ++ x.told)) (sym (new_is v told (routed v told is.hosts) chunk h at (new_run group))) done.0)

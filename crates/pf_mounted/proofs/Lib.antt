@@ -24,6 +24,8 @@ pub mod Ported
 pub mod PortedOver
 pub mod Throughout
 pub mod Placed
+pub mod Starting
+pub mod Routed
 pub mod Standing
 pub mod Decided
 pub mod Deciding

@@ -17,30 +17,14 @@ use Rattle.pf_world.specs.Reports.{world_run}
 use Rattle.pf_world.specs.Worlds.{Told}
 use Rattle.pf_world.specs.pf_threads.specs.Sessions.{Session}
 use Rattle.pf_world.specs.declared.line.Line.{Line}
-use Rattle.pf_mounted.specs.Epochs.{group_at, home_of as home_of_group}
 use Rattle.pf_mounted.specs.Movers.{AreMoves, carried_ask, role_of_reply}
 use Rattle.pf_mounted.specs.Pasts.{mover_trace, past_in}
 use Rattle.pf_mounted.specs.Scripts.{IsPlainRun}
-use Rattle.pf_mounted.proofs.Epoching.{AreBegun, group_home}
 use Rattle.pf_mounted.proofs.Given.{in_kind}
 use Rattle.pf_mounted.proofs.Holding.{each_so, is_borne, movers_driven}
 use Rattle.pf_mounted.proofs.Hearing.{IsSo}
 use Rattle.pf_mounted.proofs.MoverCalls.{calls_follow}
 use Rattle.pf_mounted.proofs.MoverTurns.{run_steps}
-
--- no group has two chunks
-module _ (halts : List Halt) (sessions : List Session) (lines : List Line) (script : IsPlainRun halts sessions lines) where
-  begun : AreBegun (world_run halts sessions lines).world.volume.extent.chunks (world_run halts sessions lines).told
-  begun = record {
-    begins = λ before after chunk to same.
-        let b = each_so halts sessions lines script before (MovesTo chunk to) after same in
-        record { small = b.small; rests = b.rests; behind = b.behind; fresh = b.fresh };
-    carries = λ before after chunk heard next same. (each_so halts sessions lines script before (Carries chunk heard next) after same).0;
-  }
-
-  pub groups_apart : (chunk epoch group : ℕ) → chunk < (world_run halts sessions lines).world.volume.extent.chunks → group_at (world_run halts sessions lines).told chunk epoch ≡ Some group
-      → home_of_group (world_run halts sessions lines).world.volume.extent.chunks (world_run halts sessions lines).told group ≡ Some (record { chunk = chunk; epoch = epoch })
-  groups_apart chunk epoch group low at = group_home (world_run halts sessions lines).world.volume.extent.chunks (world_run halts sessions lines).told begun chunk epoch group low at
 
 module _ (halts : List Halt) (sessions : List Session) (lines : List Line) (script : IsPlainRun halts sessions lines) (lawful : IsLawfulRun (world_run halts sessions lines).world) where
   abbrev run : Told

@@ -1,15 +1,12 @@
 -- In every run all hosts have the mounts that what is told makes.
-use Rattle.std.proofs.Common.{◌≡◌, ◌≢◌, ◌⊎◌, ℕ, zero, suc, ◌+◌, ◌/◌, ◌<◌, ◌≤◌, if◌then◌else◌, nat_lt, append-nil, lt-ltb, List, [], ◌∷◌, ◌++◌, length, map, Option, Some, None, slice_get, slice_set, inl, inr, arith, refl, sym, ap, subst, ◌∙◌, length-append, lit≤, false}
-use Rattle.std.specs.List.{range_with_len}
+use Rattle.std.proofs.Common.{◌≡◌, ◌≢◌, ◌⊎◌, ℕ, ◌/◌, ◌<◌, ◌≤◌, if◌then◌else◌, append-nil, List, [], ◌∷◌, ◌++◌, length, Option, Some, None, slice_get, slice_set, inl, inr, arith, refl, sym, ap, subst, ◌∙◌, length-append, lit≤, false}
 use Rattle.std.specs.Option.{is_some, option_and_then, option_map}
-use Rattle.std.proofs.lemmas.Bool.{cases_eq, false≢true, ltb-true}
-use Rattle.std.proofs.lemmas.List.{append_assoc, length-map}
-use Rattle.std.proofs.lemmas.List.FromFn.{length-range_with_len}
+use Rattle.std.proofs.lemmas.Bool.{cases_eq}
+use Rattle.std.proofs.lemmas.List.{append_assoc}
 use Rattle.std.proofs.lemmas.Option.{none-some, same_Some, slice_get_within}
 use Rattle.pf_base.specs.Span.{Span}
 use Rattle.pf_entry.specs.Lists.{Every}
 use Rattle.pf_base.specs.declared.asks.Ask.{Ask}
-use Rattle.pf_entry.proofs.Cases.{by_test}
 use Rattle.pf_entry.proofs.Lists.{every_more, set_cases}
 use Rattle.pf_ports.specs.pf_network.proofs.Lists.{end_cases, set_length, something_there}
 use Rattle.pf_protocol.specs.declared.events.Event.TheVariants.{Fetch}
@@ -17,8 +14,6 @@ use Rattle.pf_volume.specs.Volumes.{Extent}
 use Rattle.pf_asks.specs.Ports.{PortIs}
 use Rattle.pf_move.specs.declared.mover.MoveNext.{MoveNext}
 use Rattle.pf_move.specs.declared.mover.MoveNext.TheVariants.{Read, Switch, Write}
-use Rattle.pf_move.specs.declared.routes.Moving.{Moving}
-use Rattle.pf_move.specs.declared.routes.Route.{Route}
 use Rattle.pf_move.specs.Movers.{MoverIs, Step, new_mover, step}
 use Rattle.pf_move.specs.Routes.{RoutesIs, home_of, switched}
 use Rattle.pf_report.specs.Moves.{moved_text}
@@ -34,10 +29,10 @@ use Rattle.pf_world.specs.pf_chunk.specs.Runs.{ChunkRun, most_ports, mover_port,
 use Rattle.pf_world.specs.pf_chunk.proofs.Begun.{happened_extends}
 use Rattle.pf_world.specs.pf_hosts.specs.Moments.{Carries, Heard, Moment, Moves as MovesTo, Writes}
 use Rattle.pf_world.specs.pf_hosts.specs.Hosts.{Drove, HostIs, Stepped, begun, drove, made_host, put_at, stepped}
-use Rattle.pf_world.specs.pf_fleet.specs.Volumes.{Hosts, VolumeRun, carries, carries_on, host_at, killed, moved_from, mover_group, mover_steps, moves, moves_from, there, with_chunk, with_new}
+use Rattle.pf_world.specs.pf_fleet.specs.Volumes.{Hosts, VolumeRun, carries, carries_on, host_at, killed, moved_from, mover_group, mover_steps, moves, moves_from, there, with_chunk}
 use Rattle.pf_world.specs.pf_threads.specs.Sessions.{Session}
 use Rattle.pf_world.specs.declared.line.Line.{Line}
-use Rattle.pf_world.specs.Worlds.{first_routes, made}
+use Rattle.pf_world.specs.Worlds.{made}
 use Rattle.pf_world.specs.Reports.{world_run}
 use Rattle.pf_mounted.specs.Mounts.{AreDone, IsDone, Life, last_ask, life_of, mount_in, of_chunk}
 use Rattle.pf_mounted.specs.Pasts.{first_chunk}
@@ -46,18 +41,14 @@ use Rattle.pf_mounted.proofs.Growing.{all_grow, all_ports}
 use Rattle.pf_mounted.proofs.Hosts.{IsTold, StepsTo, begins_to, makes_to, steps_to, told_quietly}
 use Rattle.pf_mounted.proofs.Lives.{AreQuiet, IsOf, done_at, done_on, life_on, others_done, other_ask, other_life, same_ask, same_life}
 use Rattle.pf_mounted.proofs.Hauling.{hauled, step_chunk}
-use Rattle.pf_mounted.proofs.Placed.{came_from, made_there, new_placed, new_port_asks, one_longer, placed_event, placed_there, rehomed_at, with_both}
-use Rattle.pf_mounted.proofs.Ports.{ArePlaced, HasAsked, asked_for, asked_still, drives_at, fetched_ports, happened_ports, nothing_for, put_counts, put_others, put_placed}
-use Rattle.pf_mounted.proofs.Routing.{AreRoutes, Having, IsAsk, IsHome, IsStill, ask_routes, move_routes, of_new, of_other, still_no_move, still_routes, switch_routes, switched_is}
+use Rattle.pf_mounted.proofs.Placed.{came_from, made_there, new_placed, new_port_asks, placed_event, placed_there, rehomed_at, with_both}
+use Rattle.pf_mounted.proofs.Ports.{ArePlaced, HasAsked, asked_for, asked_still, drives_at, fetched_ports, happened_ports, nothing_for, put_others, put_placed}
+use Rattle.pf_mounted.proofs.Routed.{IsPair, IsRouted, RoutedOf, began_routed, carries_routed, new_is, none_moving, source_of}
+use Rattle.pf_mounted.proofs.Routing.{AreRoutes, Having, IsHome, IsStill, of_new, of_other, still_no_move, still_routes}
 use Rattle.pf_mounted.proofs.Running.{IsKept, new_group, running}
+use Rattle.pf_mounted.proofs.Starting.{new_routes}
 use Rattle.pf_mounted.proofs.Throughout.{fewer, some_there}
 use Rattle.pf_mounted.proofs.Tracing.{IsNoMove, asks_of, asks_still, at_apart, at_same}
-
--- there is a mover exactly while its chunk is moving
-abbrev pub IsPair : Option Moving → Option MoverIs → Type 0
-IsPair None None = Unit {0}
-IsPair (Some moving) (Some mover) = mover.chunk ≡ moving.chunk
-IsPair moving mover = ⊥
 
 -- what is kept by all that lines and hosts do
 pub record AreTold (v : VolumeRun) (told : List Moment) : Type 0 where
@@ -69,6 +60,9 @@ pub record AreTold (v : VolumeRun) (told : List Moment) : Type 0 where
   pub done : (m : ℕ) → AreDone v.extent m None told
   pub past : (m : ℕ) → length v.hosts ≤ m → (life_of v.extent told m ≡ None) × (last_ask told m ≡ None)
   pub pair : IsPair v.routes.moving v.mover
+
+pub routed : (v : VolumeRun) (told : List Moment) → AreTold v told → RoutedOf v told
+routed v told are = record { routes = are.routes; pair = are.pair }
 
 -- Hosts in their places
 
@@ -235,38 +229,25 @@ module _ (halts : List Halt) where
       pair = pair;
     }
 
-  pair_on : (moving : Option Moving) (old mover : MoverIs) → mover.chunk ≡ old.chunk → IsPair moving (Some old) → IsPair moving (Some mover)
-  pair_on None old mover same pair = pair
-  pair_on (Some moving) old mover same pair = same ∙ pair
-
-  paired : (moving : Option Moving) (old : MoverIs) → IsPair moving (Some old) → (its : Moving) × (moving ≡ Some its) × (old.chunk ≡ its.chunk)
-  paired None old pair = absurd pair
-  paired (Some its) old pair = (its, refl, pair)
-
   -- an ask of its goes into its port
-  asks_told : (v : VolumeRun) (told : List Moment) → AreTold v told → (old mover : MoverIs) → v.mover ≡ Some old → mover.chunk ≡ old.chunk → (heard : Option Heard) (next : MoveNext) → IsAsk next → (group : Option ℕ) (ask : Ask)
-      → AreTold (record v { chunks = put_at v.chunks group mover_port ask; mover = Some mover }) (told ++ Carries mover.chunk heard next ∷ [])
-  asks_told v told are old mover its same heard next is_ask group ask =
+  asks_told : (v : VolumeRun) (told : List Moment) → AreTold v told → (mover : MoverIs) (heard : Option Heard) (next : MoveNext) (group : Option ℕ) (ask : Ask)
+      → IsRouted v.extent.chunks v.routes (Some mover) (put_at v.chunks group mover_port ask) (told ++ Carries mover.chunk heard next ∷ []) → AreTold (record v { chunks = put_at v.chunks group mover_port ask; mover = Some mover }) (told ++ Carries mover.chunk heard next ∷ [])
+  asks_told v told are mover heard next group ask is =
       let chunks = put_at v.chunks group mover_port ask in
       went_on v told are (Carries mover.chunk heard next) [] (tt, tt) (λ m life. (tt, tt)) chunks
       (λ m its_ask of small. put_others mover_port ask v.chunks of group m its_ask (λ is. omega (arith, small, is))) (put_placed mover_port ask v.chunks group) v.routes (Some mover)
-      (λ k. asks_still v.extent.chunks told (Carries mover.chunk heard next ∷ []) k (tt, tt))
-      (subst (λ n. AreRoutes v.extent.chunks n v.routes (told ++ Carries mover.chunk heard next ∷ [])) (sym (put_counts mover_port ask v.chunks group)) (ask_routes v.extent.chunks (length v.chunks) v.routes told are.routes mover.chunk heard next is_ask))
-      (pair_on v.routes.moving old mover same (subst (IsPair v.routes.moving) its are.pair))
+      (λ k. asks_still v.extent.chunks told (Carries mover.chunk heard next ∷ []) k (tt, tt)) is.routes is.pair
 
   pub carries_told : (v : VolumeRun) (told : List Moment) → AreTold v told → (old mover : MoverIs) → v.mover ≡ Some old → mover.chunk ≡ old.chunk → (heard : Option Heard) (next : MoveNext)
       → AreTold (carries v mover heard next).volume (told ++ (carries v mover heard next).told)
-  carries_told v told are old mover its same heard (Read span) = asks_told v told are old mover its same heard (Read span) tt _ _
-  carries_told v told are old mover its same heard (Write span sectors) = asks_told v told are old mover its same heard (Write span sectors) tt _ _
+  carries_told v told are old mover its same heard (Read span) = asks_told v told are mover heard (Read span) _ _ (carries_routed v told (routed v told are) old mover its same heard (Read span))
+  carries_told v told are old mover its same heard (Write span sectors) = asks_told v told are mover heard (Write span sectors) _ _ (carries_routed v told (routed v told are) old mover its same heard (Write span sectors))
   carries_told v told are old mover its same heard Switch =
-      let pair = paired v.routes.moving old (subst (IsPair v.routes.moving) its are.pair) in
-      let text = event_line (moved_text mover.chunk) in
+      let line : Moment = Writes (event_line (moved_text mover.chunk)) in
       let y : Moment = Carries mover.chunk heard Switch in
-      let first = subst (λ c. AreRoutes v.extent.chunks (length v.chunks) (switched v.routes) (told ++ Carries c heard Switch ∷ [])) (sym (same ∙ pair.2)) (switch_routes v.extent.chunks (length v.chunks) v.routes told are.routes pair.0 pair.1 heard) in
-      went_on v told are y (Writes text ∷ []) (tt, (tt, tt)) (λ m life. (tt, (tt, tt))) v.chunks (λ m ask of small is. is) (λ is. is) (switched v.routes) None
-      (λ k. asks_still v.extent.chunks told (y ∷ Writes text ∷ []) k (tt, (tt, tt)))
-      (subst (AreRoutes v.extent.chunks (length v.chunks) (switched v.routes)) (append_assoc told (y ∷ []) (Writes text ∷ [])) (still_routes v.extent.chunks (length v.chunks) (switched v.routes) (told ++ y ∷ []) (Writes text ∷ []) (tt, tt) first))
-      (subst (λ (x : RoutesIs). IsPair x.moving None) (sym (switched_is v.extent.chunks (length v.chunks) v.routes told are.routes pair.0 pair.1)) tt)
+      let is = carries_routed v told (routed v told are) old mover its same heard Switch in
+      went_on v told are y (line ∷ []) (tt, (tt, tt)) (λ m life. (tt, (tt, tt))) v.chunks (λ m ask of small is. is) (λ is. is) (switched v.routes) None
+      (λ k. asks_still v.extent.chunks told (y ∷ line ∷ []) k (tt, (tt, tt))) is.routes is.pair
 
   pub mover_told : (v : VolumeRun) (told : List Moment) → AreTold v told → AreTold (mover_steps halts v).volume (told ++ (mover_steps halts v).told)
   mover_told v told are = hauled halts AreTold hauls_told (λ w so_far old heard its is. let s : Step = step old (Some heard.reply) in carries_told w so_far is old s.mover its (step_chunk old (Some heard.reply)) (Some heard) s.next) v told are
@@ -284,14 +265,11 @@ module _ (halts : List Halt) where
     abbrev told_on : List Moment
     told_on = told ++ MovesTo chunk n ∷ []
 
-    pub from : (c : ChunkRun) × (slice_get v.chunks h ≡ Some c)
-    from = something_there v.chunks h (are.routes.within chunk h home)
+    abbrev pub from : (c : ChunkRun) × (slice_get v.chunks h ≡ Some c)
+    from = source_of v told (routed v told are) chunk h home
 
     abbrev chunks_on : List ChunkRun
     chunks_on = with_both v.chunks h from.0 (new_run group)
-
-    pub chunks_are : with_new v.chunks h (slice_get v.chunks h) (new_run group) ≡ chunks_on
-    chunks_are = ap (λ o. with_new v.chunks h o (new_run group)) from.1
 
     abbrev old : Having
     old = asks_of count told
@@ -332,20 +310,17 @@ module _ (halts : List Halt) where
     ]
 
     pub began : (mover : MoverIs) → mover.chunk ≡ chunk → AreTold (record v { chunks = chunks_on; routes = record v.routes { moving = Some (record { chunk = chunk; to = n }) }; mover = Some mover }) told_on
-    began mover its = record {
-      hosts = λ m host at. told_quietly v.extent m told (MovesTo chunk n ∷ []) host (tt, tt) (are.hosts m host at);
-      routes = subst (λ i. AreRoutes count i (record v.routes { moving = Some (record { chunk = chunk; to = n }) }) told_on) (sym (one_longer v.chunks h from.0 (new_run group))) (move_routes count n v.routes told are.routes rests chunk h home);
-      ports = asks_there;
-      placed = placed_there v.chunks h from.0 (new_run group) from.1 number are.placed;
-      few = are.few;
-      done = λ m. done_on v.extent m told (MovesTo chunk n ∷ []) None (are.done m) (tt, tt);
-      past = λ m high. (same_life told (MovesTo chunk n ∷ []) (tt, tt) m v.extent ∙ (are.past m high).0, same_ask told (MovesTo chunk n ∷ []) (tt, tt) m ∙ (are.past m high).1);
-      pair = its;
-    }
-
-  pub none_moving : (moving : Option Moving) → is_some moving ≡ false → moving ≡ None
-  none_moving None none = refl
-  none_moving (Some moving) none = absurd (false≢true (sym none))
+    began mover its =
+        let is = began_routed v told (routed v told are) chunk h home rests (new_run group) mover its in record {
+          hosts = λ m host at. told_quietly v.extent m told (MovesTo chunk n ∷ []) host (tt, tt) (are.hosts m host at);
+          routes = is.routes;
+          ports = asks_there;
+          placed = placed_there v.chunks h from.0 (new_run group) from.1 number are.placed;
+          few = are.few;
+          done = λ m. done_on v.extent m told (MovesTo chunk n ∷ []) None (are.done m) (tt, tt);
+          past = λ m high. (same_life told (MovesTo chunk n ∷ []) (tt, tt) m v.extent ∙ (are.past m high).0, same_ask told (MovesTo chunk n ∷ []) (tt, tt) m ∙ (are.past m high).1);
+          pair = is.pair;
+        }
 
   pub moves_told : (v : VolumeRun) (told : List Moment) (names format chunk : ℕ) → is_some v.routes.moving ≡ false → AreTold v told
       → AreTold (moves chunk (new_group halts v names format) v).volume (told ++ (moves chunk (new_group halts v names format) v).told)
@@ -360,7 +335,7 @@ module _ (halts : List Halt) where
           let s : Step = step m None in
           let was = began v told are rests chunk h at group refl m refl in
           let w : VolumeRun = moved_from v chunk h (new_run group) in
-          let first = subst (λ (chunks : List ChunkRun). AreTold (record w { chunks = chunks; mover = Some m }) (told ++ MovesTo chunk (length v.chunks) ∷ [])) (sym (chunks_are v told are rests chunk h at group refl)) was in
+          let first = subst (λ (chunks : List ChunkRun). AreTold (record w { chunks = chunks; mover = Some m }) (told ++ MovesTo chunk (length v.chunks) ∷ [])) (sym (new_is v told (routed v told are) chunk h at (new_run group))) was in
           let t = carries_on w None s in
           subst (AreTold t.volume) (append_assoc told (MovesTo chunk (length v.chunks) ∷ []) t.told)
           (carries_told (record w { mover = Some m }) (told ++ MovesTo chunk (length v.chunks) ∷ []) first m s.mover refl (step_chunk m None) None s.next)
@@ -389,73 +364,12 @@ module _ (halts : List Halt) where
 
 -- A new volume
 
--- each chunk is served by the group of its own number
-module _ (count : ℕ) where
-  abbrev first_of : ℕ → Route
-  first_of k = record { group = k; epoch = 0 }
-
-  abbrev firsts : RoutesIs
-  firsts = first_routes count
-
-  counted : length firsts.routes ≡ count
-  counted = length-map (range_with_len 0 count) first_of ∙ length-range_with_len 0 count
-
-  first_route : (n first k : ℕ) (route : Route) → slice_get (map first_of (range_with_len first n)) k ≡ Some route → first_of (first + k) ≡ route
-  first_route zero first k route is = absurd (none-some route is)
-  first_route (suc n) first zero route is = let same : first + 0 ≡ first = omega arith in ap first_of same ∙ same_Some (first_of first) route is
-  first_route (suc n) first (suc k) route is = let same : first + suc k ≡ first + 1 + k = omega arith in ap first_of same ∙ first_route n (first + 1) k route is
-
-  own : (chunk : ℕ) (route : Route) → slice_get firsts.routes chunk ≡ Some route → (route.group ≡ chunk) × (chunk < count)
-  own chunk route there =
-      let low = slice_get_within firsts.routes chunk route there in
-      let same : 0 + chunk ≡ chunk = omega arith in
-      (ap (λ (x : Route). x.group) (sym (first_route count 0 chunk route there)) ∙ same, omega (arith, low, counted))
-
-  first_has : (k chunk : ℕ) → first_chunk count k ≡ Some chunk → (k ≡ chunk) × (k < count)
-  first_has k chunk is = by_test (nat_lt k count) (λ b. nat_lt k count ≡ b → (if b then Some k else None) ≡ Some chunk → (k ≡ chunk) × (k < count))
-      (λ _ low same. (same_Some k chunk same, ltb-true k count low)) (λ _ _ none. absurd (none-some chunk none)) refl is
-
-  has_first : (k : ℕ) → k < count → first_chunk count k ≡ Some k
-  has_first k low = ap (λ b. if b then Some k else None) (lt-ltb k count low)
-
-  first_home : (chunk : ℕ) (o : Option Route) → slice_get firsts.routes chunk ≡ o → IsHome (first_chunk count) chunk (option_map (λ (x : Route). x.group) o)
-  first_home chunk None none = λ j has.
-      let is = first_has j chunk has in
-      let there = something_there firsts.routes chunk (let low : chunk < count = subst (λ i. i < count) is.0 is.1 in omega (arith, low, counted)) in
-      absurd (none-some there.0 (sym none ∙ there.1))
-  first_home chunk (Some route) there =
-      let is = own chunk route there in record {
-        here = ap (first_chunk count) is.0 ∙ has_first chunk is.1;
-        alone = λ j has. (first_has j chunk has).0 ∙ sym is.0;
-      }
-
-  first_group : (chunk k : ℕ) (o : Option Route) → slice_get firsts.routes chunk ≡ o → option_map (λ (x : Route). x.group) o ≡ Some k → k < count
-  first_group chunk k None there is = absurd (none-some k is)
-  first_group chunk k (Some route) there is = let its = own chunk route there in subst (λ i. i < count) (sym its.0 ∙ same_Some route.group k is) its.1
-
-  only_first : (chunk epoch group : ℕ) → slice_get (chunk ∷ []) epoch ≡ Some group → group ≡ chunk
-  only_first chunk zero group is = sym (same_Some chunk group is)
-  only_first chunk (suc epoch) group is = absurd (none-some group is)
-
-  pub new_routes : AreRoutes count count firsts []
-  new_routes = record {
-    count_is = counted;
-    made = omega arith;
-    homes = λ chunk. first_home chunk (slice_get firsts.routes chunk) refl;
-    within = λ chunk k home. first_group chunk k (slice_get firsts.routes chunk) refl home;
-    served = λ chunk route there. let is = own chunk route there in (ap (λ i. Some i) (sym is.0), subst (λ i. i < count) (sym is.0) is.1);
-    turns = λ chunk low. refl;
-    to = λ moving none. absurd (none-some moving none);
-    fresh = λ chunk epoch group low at. subst (λ i. i < count) (sym (only_first chunk epoch group at)) low;
-  }
-
 module _ (halts : List Halt) where
   pub new_told : (sessions : List Session) (chunks sectors names format : ℕ) → AreTold (made halts sessions chunks sectors names format).volume []
   new_told sessions chunks sectors names format =
-      let f : ℕ → ChunkRun = λ k. new_run (made_chunk halts sectors names format k) in
       let is = made_there halts sessions chunks sectors names format in record {
         hosts = λ m host at. absurd (none-some host at);
-        routes = subst (λ n. AreRoutes chunks n (first_routes chunks) []) (sym (length-map (range_with_len 0 chunks) f ∙ length-range_with_len 0 chunks)) (new_routes chunks);
+        routes = new_routes halts sessions chunks sectors names format;
         pair = tt;
         ports = λ m small k c port at its.
             new_port_asks most_ports m port (ap (λ (x : ChunkRun). slice_get x.ports m) (is k c at) ∙ its) ∙ sym (nothing_for (first_chunk chunks k));

@@ -29,8 +29,9 @@ use Rattle.pf_mounted.proofs.Hauling.{step_chunk}
 use Rattle.pf_mounted.proofs.Hearing.{IsBackIf}
 use Rattle.pf_mounted.proofs.Hosting.{AreSo}
 use Rattle.pf_mounted.proofs.Ports.{IsUnsent, drives_at, put_unsent}
+use Rattle.pf_mounted.proofs.Routed.{IsPair, paired}
 use Rattle.pf_mounted.proofs.Routing.{switched_is}
-use Rattle.pf_mounted.proofs.Standing.{AreTold, IsPair, carries_told, hauls_told}
+use Rattle.pf_mounted.proofs.Standing.{AreTold, carries_told, hauls_told}
 
 -- what is known of a volume in a run
 pub record IsBorne (kind : Option Kind) (v : VolumeRun) (told : List Moment) : Type 0 where
@@ -49,12 +50,8 @@ module _ (kind : Option Kind) (halts : List Halt) (v : VolumeRun) (told : List M
   abbrev count : ℕ
   count = v.extent.chunks
 
-  paired : (moving_is : Option Moving) → moving_is ≡ Some moving → IsPair moving_is (Some old) → old.chunk ≡ moving.chunk
-  paired None none pair = absurd (none-some moving none)
-  paired (Some its) is pair = pair ∙ ap (λ (x : Moving). x.chunk) (same_Some its moving is)
-
   its : mover.chunk ≡ moving.chunk
-  its = same ∙ paired v.routes.moving moves (subst (IsPair v.routes.moving) was hosts.pair)
+  its = let pair = paired v.routes.moving old (subst (IsPair v.routes.moving) was hosts.pair) in same ∙ pair.2 ∙ ap (λ (x : Moving). x.chunk) (same_Some pair.0 moving (sym pair.1 ∙ moves))
 
   groups : between v.routes ≡ Some (record { from = f.from; to = moving.to })
   groups = between_is kind count v told hosts.routes so moving moves f mover its heard back

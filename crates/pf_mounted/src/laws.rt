@@ -46,11 +46,11 @@ pub fn movers_of_runs_are_driven()
     ensures { (halts : List Halt) (sessions : List Session) (lines : List LineIs) → IsPlainRun halts sessions lines → let run = world_run halts sessions lines in (k : ℕ) (role : Asked) (c : ChunkRun) → slice_get run.world.volume.chunks k ≡ Some c → (port : PortIs) × IsDriven c.group.setup (past_in c.group.history (mover_trace c.group.history k role run.world.volume.extent.chunks run.told)) port }
 {}
 
-/// The routes of such a run are what it told: each chunk is served by the group of its epoch, and a chunk that is moving has its asks at the next
+/// The routes of a run are what it told: each chunk is served by the group of its epoch, and a chunk that is moving has its asks at the next
 /// one. No group has two chunks.
 pub fn routes_are_told()
-    ensures served { (halts : List Halt) (sessions : List Session) (lines : List LineIs) → IsPlainRun halts sessions lines → let run = world_run halts sessions lines in let v = run.world.volume in (chunk : ℕ) (route : Route) → slice_get v.routes.routes chunk ≡ Some route → serving run.told chunk ≡ Some route.group }
-    ensures apart { (halts : List Halt) (sessions : List Session) (lines : List LineIs) → IsPlainRun halts sessions lines → let run = world_run halts sessions lines in let count = run.world.volume.extent.chunks in (chunk epoch group : ℕ) → chunk < count → group_at run.told chunk epoch ≡ Some group → home_of_group count run.told group ≡ Some (record { chunk = chunk; epoch = epoch }) }
+    ensures served { (halts : List Halt) (sessions : List Session) (lines : List LineIs) → IsScript lines → let run = world_run halts sessions lines in let v = run.world.volume in (chunk : ℕ) (route : Route) → slice_get v.routes.routes chunk ≡ Some route → serving run.told chunk ≡ Some route.group }
+    ensures apart { (halts : List Halt) (sessions : List Session) (lines : List LineIs) → IsScript lines → let run = world_run halts sessions lines in let count = run.world.volume.extent.chunks in (chunk epoch group : ℕ) → chunk < count → group_at run.told chunk epoch ≡ Some group → home_of_group count run.told group ≡ Some (record { chunk = chunk; epoch = epoch }) }
 {}
 
 /// Whatever a mount was told to have heard is, in every legal history of the group that served its ask's chunk, the group's answer to the last

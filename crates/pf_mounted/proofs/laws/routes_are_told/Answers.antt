@@ -1,5 +1,4 @@
-use Rattle.pf_mounted.proofs.Holding.{routes_told}
-use Rattle.pf_mounted.proofs.RunMoves.{groups_apart}
+use Rattle.pf_mounted.proofs.Routed.{groups_apart, routes_told}
 use Rattle.pf_mounted.proofs.laws.routes_are_told.Goals as goal
 
 pub returns-clause-served : goal.returns-clause-served
