@@ -7,7 +7,6 @@ use Rattle.std.proofs.lemmas.List.{append_assoc}
 use Rattle.std.proofs.lemmas.Option.{none-some, same_Some, slice_get_within}
 use Rattle.pf_base.specs.Asks.{chunk_of}
 use Rattle.pf_base.specs.declared.asks.Ask.{Ask}
-use Rattle.pf_base.specs.declared.asks.Ask.TheVariants as asks
 use Rattle.pf_base.specs.declared.asks.Reply.{Reply}
 use Rattle.pf_base.specs.declared.asks.Reply.TheVariants.{Bytes, Written}
 use Rattle.pf_entry.specs.Lists.{Every}
@@ -17,7 +16,7 @@ use Rattle.pf_protocol.specs.Answers.{IsLegal}
 use Rattle.pf_protocol.specs.Histories.{History, replay}
 use Rattle.pf_protocol.specs.Servers.{Setup}
 use Rattle.pf_ports.specs.pf_network.proofs.Lists.{set_elsewhere, set_there}
-use Rattle.pf_asks.specs.Ports.{IsOfKind, PortIs}
+use Rattle.pf_asks.specs.Ports.{PortIs}
 use Rattle.pf_move.specs.declared.mover.Asked.{Asked}
 use Rattle.pf_move.specs.declared.mover.Asked.TheVariants.{Reading, Writing}
 use Rattle.pf_move.specs.declared.mover.MoveNext.{MoveNext}
@@ -48,7 +47,7 @@ use Rattle.pf_mounted.proofs.Hearing.{AllSo, IsBackIf, IsSo, all_grown, all_plai
 use Rattle.pf_mounted.proofs.Handovers.{IsHandedAt}
 use Rattle.pf_mounted.proofs.Hosting.{AreSo, handed_passes, passed_all, set_told}
 use Rattle.pf_mounted.proofs.Lives.{its_own}
-use Rattle.pf_mounted.proofs.OfKinds.{reply_of_kind}
+use Rattle.pf_mounted.proofs.OfKinds.{kind_role, reply_of_kind}
 use Rattle.pf_mounted.proofs.Ports.{HasAsked, asked_for, drives_at, none_asked_of, put_asked}
 use Rattle.pf_mounted.proofs.Replying.{driven_replies, reply_is}
 use Rattle.pf_mounted.proofs.Routing.{AreRoutes, Having, IsHomeOf, IsStill, old_one, on_the_move, still_groups, still_no_move}
@@ -316,12 +315,6 @@ module _ (kind : Option Kind) (halts : List Halt) (count n : ℕ) (r : RoutesIs)
     free = none_asked_of (borne moving.chunk k) no_one mover_port d.chunks (subst (λ o. HasAsked (borne moving.chunk k) mover_port (ask_after o (Some b.ask)) d.chunks) same asks_after_it);
     roles = roles_more count told d.told b.from moving.to moving.chunk (every_more IsStill IsNoMove still_no_move d.told drives_still) b.roles;
   }
-
-  kind_role : (ask : Ask) (reply : Reply) → IsOfKind ask reply → role_of_reply reply ≡ role_of_ask ask
-  kind_role (asks.Write chunk span sectors) Written of = refl
-  kind_role (asks.Read chunk span) (Bytes sectors) of = refl
-  kind_role (asks.Write chunk span sectors) (Bytes bytes) of = absurd of
-  kind_role (asks.Read chunk span) Written of = absurd of
 
   asked_role : (all : List Moment) (reply : Reply) → asked_of all moving.chunk reply ≡ group_of_role all moving.chunk (role_of_reply reply)
   asked_role all Written = refl

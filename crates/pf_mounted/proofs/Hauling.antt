@@ -31,11 +31,11 @@ step_chunk m (Some Written) = reads_chunk (record m { done = m.done + 1 })
 step_chunk m (Some (Bytes sectors)) =
     chunk_if (is_zero sectors) (reads_on (record m { done = m.done + 1 })) (record { next = Write (piece m.done) sectors; mover = record m { asked = Some Writing } }) m.chunk (reads_chunk (record m { done = m.done + 1 })) refl
 
--- what is kept where its port takes a step, and where it carries on, is kept by its steps
+-- what is kept where its port takes a step, and where this is answered and it carries on, is kept by its steps
 module _ (halts : List Halt) (P : VolumeRun → List Moment → Type 0)
     (drives : (v : VolumeRun) (told : List Moment) (k : ℕ) → mover_group v ≡ Some k → P v told → P (record v { chunks = (drove halts v.chunks mover_port k).chunks }) (told ++ (drove halts v.chunks mover_port k).told))
-    (carries_so : (v : VolumeRun) (told : List Moment) (old : MoverIs) (heard : Heard) → v.mover ≡ Some old → P v told
-    → P (carries_on v (Some heard) (step old (Some heard.reply))).volume (told ++ (carries_on v (Some heard) (step old (Some heard.reply))).told)) where
+    (answers : (v : VolumeRun) (told : List Moment) (k : ℕ) (old : MoverIs) (reply : Reply) → mover_group v ≡ Some k → v.mover ≡ Some old → (drove halts v.chunks mover_port k).reply ≡ Some reply → P v told
+    → let d : Drove = drove halts v.chunks mover_port k in let t : volumes.Told = carries_on (record v { chunks = d.chunks }) (Some (record { reply = reply; by = events_of (slice_get d.chunks k) })) (step old (Some reply)) in P t.volume ((told ++ d.told) ++ t.told)) where
   abbrev Comes : List Moment → volumes.Told → Type 0
   Comes told t = P t.volume (told ++ t.told)
 
@@ -49,28 +49,44 @@ module _ (halts : List Halt) (P : VolumeRun → List Moment → Type 0)
   hands_to None v told same is = nothing v told is
   hands_to (Some k) v told same is = drives v told k same is
 
-  hears : (v : VolumeRun) (told : List Moment) (heard : Heard) (o : Option MoverIs) → v.mover ≡ o → P v told → Comes told (mover_hears_in v heard o)
-  hears v told heard None same is = nothing v told is
-  hears v told heard (Some mover) same is = carries_so v told mover heard same is
+  module _ (v : VolumeRun) (told : List Moment) (k : ℕ) (group : mover_group v ≡ Some k) (is : P v told) where
+    abbrev d : Drove
+    d = drove halts v.chunks mover_port k
 
-  replies : (v : VolumeRun) (told : List Moment) (k : ℕ) (d : Drove) (reply : Option Reply) → P (record v { chunks = d.chunks }) (told ++ d.told) → Comes told (mover_replied halts v k d reply)
-  replies v told k d None is = is
-  replies v told k d (Some reply) is =
-      let heard : Heard = record { reply = reply; by = events_of (slice_get d.chunks k) } in
-      let w : VolumeRun = record v { chunks = d.chunks } in
-      let t : volumes.Told = mover_hears_in w heard v.mover in
-      let last : volumes.Told = mover_hands halts t.volume in
-      behind last.volume told d.told (t.told ++ last.told)
-      (behind last.volume (told ++ d.told) t.told last.told
-      (hands_to (mover_group t.volume) t.volume ((told ++ d.told) ++ t.told) refl (hears w (told ++ d.told) heard v.mover refl is)))
+    abbrev w : VolumeRun
+    w = record v { chunks = d.chunks }
+
+    hears : (reply : Reply) → d.reply ≡ Some reply → (o : Option MoverIs) → v.mover ≡ o → Comes (told ++ d.told) (mover_hears_in w (record { reply = reply; by = events_of (slice_get d.chunks k) }) o)
+    hears reply replied None same = nothing w (told ++ d.told) (drives v told k group is)
+    hears reply replied (Some mover) same = answers v told k mover reply group same replied is
+
+    replies : (reply : Option Reply) → d.reply ≡ reply → Comes told (mover_replied halts v k d reply)
+    replies None same = drives v told k group is
+    replies (Some reply) same =
+        let heard : Heard = record { reply = reply; by = events_of (slice_get d.chunks k) } in
+        let t : volumes.Told = mover_hears_in w heard v.mover in
+        let last : volumes.Told = mover_hands halts t.volume in
+        behind last.volume told d.told (t.told ++ last.told)
+        (behind last.volume (told ++ d.told) t.told last.told
+        (hands_to (mover_group t.volume) t.volume ((told ++ d.told) ++ t.told) refl (hears reply same v.mover refl)))
 
   steps : (group : Option ℕ) (v : VolumeRun) (told : List Moment) → mover_group v ≡ group → P v told → Comes told (mover_steps_at halts group v)
   steps None v told same is = nothing v told is
-  steps (Some k) v told same is = let d : Drove = drove halts v.chunks mover_port k in replies v told k d d.reply (drives v told k same is)
+  steps (Some k) v told same is = replies v told k same is (drove halts v.chunks mover_port k).reply refl
 
-  pub hauled : (v : VolumeRun) (told : List Moment) → P v told → P (mover_steps halts v).volume (told ++ (mover_steps halts v).told)
+  pub hauled_so : (v : VolumeRun) (told : List Moment) → P v told → P (mover_steps halts v).volume (told ++ (mover_steps halts v).told)
   unfolding mover_steps
-  hauled v told is = steps (mover_group v) v told refl is
+  hauled_so v told is = steps (mover_group v) v told refl is
+
+-- so it is with what is kept where its port takes a step, and where it carries on, whatever it heard
+module _ (halts : List Halt) (P : VolumeRun → List Moment → Type 0)
+    (drives : (v : VolumeRun) (told : List Moment) (k : ℕ) → mover_group v ≡ Some k → P v told → P (record v { chunks = (drove halts v.chunks mover_port k).chunks }) (told ++ (drove halts v.chunks mover_port k).told))
+    (carries_so : (v : VolumeRun) (told : List Moment) (old : MoverIs) (heard : Heard) → v.mover ≡ Some old → P v told
+    → P (carries_on v (Some heard) (step old (Some heard.reply))).volume (told ++ (carries_on v (Some heard) (step old (Some heard.reply))).told)) where
+  pub hauled : (v : VolumeRun) (told : List Moment) → P v told → P (mover_steps halts v).volume (told ++ (mover_steps halts v).told)
+  hauled = hauled_so halts P drives (λ v told k old reply group there replied is.
+      let d : Drove = drove halts v.chunks mover_port k in
+      carries_so (record v { chunks = d.chunks }) (told ++ d.told) old (record { reply = reply; by = events_of (slice_get d.chunks k) }) there (drives v told k group is))
 
 -- What it tells is nothing to any mount
 

@@ -33,9 +33,8 @@ use Rattle.pf_mounted.specs.Pasts.{LastAsk, MoverTrace, Trace, at_carry, first_c
 use Rattle.pf_mounted.proofs.Bearing.{IsBearing, IsFree, no_one, step_asks}
 use Rattle.pf_mounted.proofs.Each.{one_more}
 use Rattle.pf_mounted.proofs.Epoching.{IsBegun}
-use Rattle.pf_mounted.proofs.Growing.{grows_refl}
 use Rattle.pf_mounted.proofs.Hauling.{step_chunk}
-use Rattle.pf_mounted.proofs.Hearing.{AllGrow, IsSo, all_grown, grow_more, grow_on, grow_set}
+use Rattle.pf_mounted.proofs.Hearing.{AllGrow, IsSo, all_grown}
 use Rattle.pf_mounted.proofs.Hosting.{AreSo}
 use Rattle.pf_mounted.proofs.Lives.{its_own, not_its_own}
 use Rattle.pf_mounted.proofs.Placed.{came_from, rehomed_at, with_both}
@@ -48,6 +47,7 @@ use Rattle.pf_mounted.proofs.Steering.{IsBorne, went}
 use Rattle.pf_mounted.proofs.Telling.{IsAsTold, MoverAsTold}
 use Rattle.pf_mounted.proofs.Tracked.{IsElsewhere}
 use Rattle.pf_mounted.proofs.Tracing.{IsPending, IsWithin, asks_of, at_apart, at_same, is_hauled, is_trace, moves_more, past_more, reading_apart}
+use Rattle.pf_mounted.proofs.Within.{grow_both}
 use Rattle.pf_mounted.proofs.Writers.{alone_told}
 
 -- A group of which nothing was told
@@ -353,7 +353,7 @@ module _ (kind : Option Kind) (halts : List Halt) (v : VolumeRun) (told : List M
   where_from = came_from v.chunks h source (new_run group)
 
   grown_on : AllGrow v.chunks chunks_on
-  grown_on = grow_on v.chunks (slice_set v.chunks h (left_by_ports source)) chunks_on (grow_set v.chunks h source (left_by_ports source) source_there (grows_refl source.group)) (grow_more (slice_set v.chunks h (left_by_ports source)) target)
+  grown_on = grow_both v.chunks h source (new_run group) source_there
 
   target_there : slice_get chunks_on n ≡ Some target
   target_there = ap (slice_get chunks_on) (sym (set_length v.chunks h (left_by_ports source))) ∙ at_end (slice_set v.chunks h (left_by_ports source)) target

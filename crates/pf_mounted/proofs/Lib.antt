@@ -26,6 +26,8 @@ pub mod Throughout
 pub mod Placed
 pub mod Starting
 pub mod Routed
+pub mod Wanted
+pub mod Within
 pub mod Standing
 pub mod Decided
 pub mod Deciding

@@ -1,5 +1,5 @@
 -- A port's reply is of the kind of its ask, whatever the group did.
-use Rattle.std.proofs.Common.{◌≡◌, ℕ, Bool, true, false, List, Option, Some, None, sym, subst, cond}
+use Rattle.std.proofs.Common.{◌≡◌, ℕ, Bool, true, false, List, Option, Some, None, refl, sym, subst, cond}
 use Rattle.std.specs.Option.{option_map}
 use Rattle.std.proofs.lemmas.Option.{none-some, same_Some}
 use Rattle.pf_base.specs.declared.asks.Ask.{Ask}
@@ -15,8 +15,9 @@ use Rattle.pf_asks.specs.Ports.{DrivesFrom, Goes, GoesOn, Hands, IsHanded, IsLed
 use Rattle.pf_ports.specs.Calls.{Past}
 use Rattle.pf_ports.specs.Driven.{Begins, IsDriven, Others, Puts, Steps}
 use Rattle.pf_world.specs.pf_chunk.specs.Asks.{reply_to}
+use Rattle.pf_mounted.specs.Movers.{role_of_ask, role_of_reply}
 
-sent_none : (ask : Option Ask) → IsSentOf ask None
+pub sent_none : (ask : Option Ask) → IsSentOf ask None
 sent_none None = tt
 sent_none (Some (Write chunk span sectors)) = tt
 sent_none (Some (Read chunk span)) = tt
@@ -73,7 +74,7 @@ driven_well setup past port (Puts before its ask number above none is) = sent_no
 driven_well setup past port (Steps before new its next ask reply step is) = from_well its ask step.pending (driven_well setup before its is) its.sent step.calls reply next step.drives
 
 -- the reply is of that kind
-reply_kind : (g : Group) (ask : Ask) (sent : Option Sent) (last : ℕ) → IsSentOf (Some ask) sent → (reply : Reply) → reply_to g sent last ≡ Some reply → IsOfKind ask reply
+pub reply_kind : (g : Group) (ask : Ask) (sent : Option Sent) (last : ℕ) → IsSentOf (Some ask) sent → (reply : Reply) → reply_to g sent last ≡ Some reply → IsOfKind ask reply
 reply_kind g ask None last well reply is = absurd (none-some reply is)
 reply_kind g (Write chunk span sectors) (Some (Slot slot)) last well Written is = tt
 reply_kind g (Write chunk span sectors) (Some (Slot slot)) last well (Bytes bytes) is_so = absurd (by _ is_so)
@@ -89,6 +90,13 @@ reply_kind g (Read chunk span) (Some (Number number)) last well Written is_so = 
     by : (o : Option Answered) → option_map (λ (a : Answered). Bytes a.bytes) o ≡ Some Written → ⊥
     by None is = none-some Written is
     by (Some a) is = let same = same_Some (Bytes a.bytes) Written is in cc
+
+-- and it is of the group that has the role of the ask
+pub kind_role : (ask : Ask) (reply : Reply) → IsOfKind ask reply → role_of_reply reply ≡ role_of_ask ask
+kind_role (Write chunk span sectors) Written of = refl
+kind_role (Read chunk span) (Bytes sectors) of = refl
+kind_role (Write chunk span sectors) (Bytes bytes) of = absurd of
+kind_role (Read chunk span) Written of = absurd of
 
 pub reply_of_kind : (setup : Setup) (past : Past) (port : PortIs) → IsDriven setup past port → (g : Group) (ask : Ask) → port.ask ≡ Some ask → (reply : Reply) → reply_to g port.sent port.last ≡ Some reply → IsOfKind ask reply
 reply_of_kind setup past port driven g ask pending reply is = reply_kind g ask port.sent port.last (subst (λ (a : Option Ask). IsSentOf a port.sent) pending (driven_well setup past port driven)) reply is

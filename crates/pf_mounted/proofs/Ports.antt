@@ -104,14 +104,14 @@ pub none_asked_of : (of its : Having) (m : ℕ) (chunks : List ChunkRun) → Has
 none_asked_of of its m chunks before k c port at there = before k c port at there ∙ nothing_for (of k) ∙ sym (nothing_for (its k))
 
 module _ (m : ℕ) (ask : Ask) where
-  put_there : (c : ChunkRun) (at : Option PortIs) (port : PortIs) → slice_get c.ports m ≡ at → slice_get (asked_at c m ask at).ports m ≡ Some port → (port.ask ≡ Some ask) × (port.sent ≡ None)
+  pub put_there : (c : ChunkRun) (at : Option PortIs) (port : PortIs) → slice_get c.ports m ≡ at → slice_get (asked_at c m ask at).ports m ≡ Some port → (port.ask ≡ Some ask) × (port.sent ≡ None)
   put_there c None port none there = absurd (none-some port (sym none ∙ there))
   put_there c (Some p) port some there =
       let q : PortIs = record p { ask = Some ask; sent = None } in
       let same : q ≡ port = same_Some q port (sym (set_there c.ports m q (slice_get_within c.ports m p some)) ∙ there) in
       (ap (λ (x : PortIs). x.ask) (sym same), ap (λ (x : PortIs). x.sent) (sym same))
 
-  put_elsewhere : (n : ℕ) (c : ChunkRun) (at : Option PortIs) → n ≢ m → slice_get (asked_at c m ask at).ports n ≡ slice_get c.ports n
+  pub put_elsewhere : (n : ℕ) (c : ChunkRun) (at : Option PortIs) → n ≢ m → slice_get (asked_at c m ask at).ports n ≡ slice_get c.ports n
   put_elsewhere n c None other = refl
   put_elsewhere n c (Some p) other = set_elsewhere c.ports m n (record p { ask = Some ask; sent = None }) other
 

@@ -53,7 +53,7 @@ pub record IsAsTold (count : ℕ) (told : List Moment) (k : ℕ) (c : ChunkRun) 
 abbrev pub AreAsTold : (count : ℕ) → List Moment → List ChunkRun → Type 0
 AreAsTold count told chunks = (k : ℕ) (c : ChunkRun) → slice_get chunks k ≡ Some c → IsAsTold count told k c
 
-prefix_length : (earlier history : History) → IsPrefix earlier history → length earlier ≤ length history
+pub prefix_length : (earlier history : History) → IsPrefix earlier history → length earlier ≤ length history
 prefix_length earlier history p = omega (arith, length-append earlier p.rest, ap length p.whole)
 
 -- Others make events

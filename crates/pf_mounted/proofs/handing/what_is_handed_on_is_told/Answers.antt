@@ -5,6 +5,7 @@ use Rattle.pf_mounted.proofs.Bare.{plain_or_none, plain_where_told}
 use Rattle.pf_mounted.proofs.Holding.{calls_of_words, handed_on, mounts_alone, none_lives, none_turns, reached_within}
 use Rattle.pf_mounted.proofs.Lives.{same_life}
 use Rattle.pf_mounted.proofs.Plain.{no_mounts_quiet}
+use Rattle.pf_mounted.proofs.Within.{reached_all}
 use Rattle.pf_mounted.proofs.handing.what_is_handed_on_is_told.Goals as goal
 
 pub returns-clause-handed : goal.returns-clause-handed
@@ -28,4 +29,7 @@ returns-clause-calls c = λ halts sessions lines script before after m call same
     calls_of_words halts sessions lines (plain_where_told halts sessions lines script before (Begins m call) after same (λ none. none)) before after m call same
 
 pub returns-clause-reached : goal.returns-clause-reached
-returns-clause-reached c = reached_within
+returns-clause-reached c = λ halts sessions lines script. elim (plain_or_none halts sessions lines script) [
+  | inl plain ↦ reached_within halts sessions lines plain
+  | inr none ↦ reached_all halts sessions lines script none
+]
