@@ -7,3 +7,4 @@ pub mod RecordLaws
 pub mod SizeLaws
 pub mod BodyLaws
 pub mod Joins
+pub mod SectorRows

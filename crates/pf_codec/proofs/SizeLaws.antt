@@ -1,5 +1,5 @@
 -- Spellings have as many bytes as their sizes say.
-use Rattle.std.proofs.Common.{◌≡◌, ℕ, ◌+◌, ◌*◌, ◌<◌, ◌^◌, List, [], ◌∷◌, ◌++◌, length, refl, sym, ap, ◌∙◌, arith, length-append}
+use Rattle.std.proofs.Common.{◌≡◌, ℕ, ◌+◌, ◌*◌, ◌<◌, ◌≤◌, ◌^◌, lit≤, List, [], ◌∷◌, ◌++◌, length, refl, sym, ap, ◌∙◌, arith, length-append}
 use Rattle.std.specs.Int.{w16, w32, w64}
 use Rattle.std.specs.List.{flat_map, sum_by}
 use Rattle.std.specs.FinMap
@@ -12,7 +12,7 @@ use Rattle.pf_entry.specs.Sets
 use Rattle.pf_entry.specs.Lists.{Every}
 use Rattle.pf_entry.proofs.Lists.{every_more}
 use Rattle.pf_entry.specs.Sizes.{op_size, entry_size, entries_size, starts_size, slots_size, sectors_size, vote_size, payload_size, body_size}
-use Rattle.pf_entry.specs.Canonical.{Bounds, IsCanonicalOp, IsCanonicalEntry, IsCanonicalVote, IsCanonicalFor}
+use Rattle.pf_entry.specs.Canonical.{Bounds, second_format, IsCanonicalOp, IsCanonicalEntry, IsCanonicalVote, IsCanonicalFor}
 use Rattle.pf_entry.specs.declared.ops.Op.{Op}
 use Rattle.pf_entry.specs.declared.ops.Op.TheVariants.{Write, Noop, Mark}
 use Rattle.pf_entry.specs.declared.entries.Named.{Named}
@@ -73,6 +73,15 @@ op_len bounds (Write range payload) c =
     omega (arith, all, range_len range, sectors)
 op_len bounds Noop c = refl
 op_len bounds Mark c = refl
+
+pub op_most : (op : Op) → IsCanonicalOp second_format op → op_size op ≤ 4102
+op_most (Write range payload) c = let few = c.0.few in let count = c.1 in omega (arith, few, count)
+op_most Noop c = lit≤ tt
+op_most Mark c = lit≤ tt
+
+pub names_most : second_format.names ≤ 16
+unfolding second_format
+names_most = lit≤ tt
 
 pub entry_len : (bounds : Bounds) (e : Entry) → IsCanonicalEntry bounds e → length (entry_bytes e) ≡ entry_size e
 unfolding entry_bytes

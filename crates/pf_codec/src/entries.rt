@@ -27,7 +27,7 @@ fn read_name(reader: &mut Reader) -> Result<Named, ReadFault>
 fn read_names(alloc: Global, reader: &mut Reader, count: u8) -> Result<Vec<Named>, ReadFault>
     ensures { Gives (λ names. names.items) result reader.new (row_at name_at count reader.old) }
 {
-    let mut names = Vec::new(alloc);
+    let mut names = Vec::with_capacity(alloc, count as usize)?;
     for _ in 0..count {
         let name = read_name(reader)?;
         names.push(name)?;

@@ -8,6 +8,7 @@ mod keys;
 mod laws;
 mod reader;
 mod reading;
+mod sizes;
 mod tables;
 mod votes;
 mod writer;
@@ -22,6 +23,7 @@ pub use laws::{
 };
 pub use reader::Reader;
 pub use reading::read_record;
+pub use sizes::{entry_size, vote_size};
 pub use tables::{read_sectors, read_slots};
 pub use votes::read_vote;
 pub use writer::Writer;

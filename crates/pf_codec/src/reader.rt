@@ -93,18 +93,6 @@ impl<'a> Reader<'a> {
         Ok(u64::from_be_bytes(*field))
     }
 
-    /// A sector.
-    #[tactic(auto, unfolding(crate::specs::Parsers::bytes_at, crate::specs::Reading::sector_at))]
-    pub(crate) fn sector(&mut self) -> Result<Sector, ReadFault>
-        ensures { Gives (λ sector. sector) result self.new (sector_at self.old) }
-    {
-        let Some((sector, rest)) = self.rest.split_first_chunk() else {
-            return Err(ReadFault::Malformed);
-        };
-        self.rest = rest;
-        Ok(*sector)
-    }
-
     /// A range: empty at sector 0, of 1 to 8 sectors below 4,096, or the whole chunk.
     #[tactic(auto, unfolding(crate::specs::Reading::range_at, crate::specs::Parsers::followed_by, crate::specs::Parsers::checked))]
     pub(crate) fn range(&mut self) -> Result<Range, ReadFault>
@@ -122,12 +110,13 @@ impl<'a> Reader<'a> {
     pub(crate) fn sectors(&mut self, alloc: Global, count: u32) -> Result<Vec<Sector>, ReadFault>
         ensures { Gives (λ sectors. sectors.items) result self.new (row_at sector_at count self.old) }
     {
-        let room = (count as usize).min(self.rest.len() / SECTOR_BYTES);
-        let mut sectors = Vec::with_capacity(alloc, room)?;
-        for _ in 0..count {
-            let sector = self.sector()?;
-            sectors.push(sector)?;
+        let wanted = count as usize;
+        let (whole, _) = self.rest.as_chunks::<SECTOR_BYTES>();
+        if whole.len() < wanted {
+            return Err(ReadFault::Malformed);
         }
+        let sectors = Vec::from_slice(alloc, &whole[..wanted])?;
+        self.rest = &self.rest[SECTOR_BYTES * wanted..];
         Ok(sectors)
     }
 }

@@ -1,5 +1,5 @@
 //! Bytes that are written at the end.
-ghost use Rattle.std.specs.Prelude.{◌≡◌, [], ◌++◌, OnOk};
+ghost use Rattle.std.specs.Prelude.{◌≡◌, [], ◌++◌, IfOk, OnOk};
 ghost use Rattle.std.specs.Int.{w16, w32, w64};
 ghost use Rattle.pf_codec.specs.Spelling.{number, byte, range_bytes, sectors_in_row};
 
@@ -30,6 +30,16 @@ impl Writer {
         Writer {
             bytes: Vec::new(alloc),
         }
+    }
+
+    /// No bytes yet, and room for `room` of them, so that so many are written without taking memory again. The one error
+    /// is `NoMemory` (1).
+    pub fn with_room(alloc: Global, room: usize) -> Result<Writer, NoMemory>
+        ensures { IfOk result (λ writer. writer ≡ []) }
+    {
+        Ok(Writer {
+            bytes: Vec::with_capacity(alloc, room)?,
+        })
     }
 
     /// All bytes.
@@ -93,9 +103,6 @@ impl Writer {
     pub(crate) fn sectors(&mut self, sectors: &[Sector]) -> Result<(), NoMemory>
         ensures { OnOk result (self.new ≡ self.old ++ sectors_in_row sectors.now) }
     {
-        for sector in sectors {
-            self.all(sector)?;
-        }
-        Ok(())
+        self.all(sectors.as_flattened())
     }
 }

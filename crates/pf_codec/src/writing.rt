@@ -1,15 +1,16 @@
 //! Entries, votes and records at the end of bytes.
 ghost use Rattle.std.specs.Prelude.{◌≡◌, ◌<◌, ◌≤◌, ◌^◌, ◌++◌, IfOk, OnOk, length};
-ghost use Rattle.std.specs.Int.{w32, w64};
+ghost use Rattle.std.specs.Int.{w64};
 ghost use Rattle.std.specs.List.{flat_map};
 ghost use Rattle.std.specs.FinMap as finite;
 ghost use Rattle.pf_entry.specs.Canonical.{IsCanonicalEntry, IsCanonicalVote, IsCanonicalImage, IsCanonicalRecord, second_format};
 ghost use Rattle.pf_entry.specs.Lists.{Every};
 ghost use Rattle.pf_entry.specs.Sets as set;
 ghost use Rattle.pf_entry.specs.StartMaps.{start_rows};
-ghost use Rattle.pf_codec.specs.Spelling.{number, byte, name_bytes, op_bytes, entry_bytes, entries_bytes, start_bytes, starts_bytes, slots_bytes, sectors_bytes, vote_bytes, log_bytes, kind_of, payload_bytes, body_bytes};
+ghost use Rattle.pf_codec.specs.Spelling.{number, name_bytes, op_bytes, entry_bytes, entries_bytes, start_bytes, starts_bytes, slots_bytes, sectors_bytes, vote_bytes, log_bytes, kind_of, payload_bytes, body_bytes};
 
 use crate::Writer;
+use crate::sizes::payload_size;
 use pf_base::{NoMemory, Sectors, Slot};
 use pf_entry::{Entry, Named, Op, Record, Slots, Start, Starts, VoteLog};
 use std::alloc::Global;
@@ -206,39 +207,24 @@ fn write_payload(writer: &mut Writer, rec: &Record) -> Result<(), NoMemory>
     }
 }
 
-/// The payload of a record.
-fn spell_payload(alloc: Global, rec: &Record) -> Result<Vec<u8>, NoMemory>
-    requires { IsCanonicalRecord 2 rec.now }
-    ensures { IfOk result (λ bytes. bytes.items ≡ payload_bytes rec.now) }
-{
-    let mut payload = Writer::new(alloc);
-    write_payload(&mut payload, rec)?;
-    Ok(payload.into_vec())
-}
-
-/// A kind, the length of a payload, the payload and a closed gate.
-#[tactic(auto, using(std::proofs::lemmas::List::append_assoc))]
-fn frame(alloc: Global, kind: u8, payload: &[u8]) -> Result<Vec<u8>, NoMemory>
-    requires { length payload.now < 2 ^ 32 }
-    ensures { IfOk result (λ bytes. bytes.items ≡ byte kind ++ (number w32 (length payload.now) ++ (payload.now ++ byte 0))) }
-{
-    let mut body = Writer::new(alloc);
-    body.u8(kind)?;
-    body.u32(payload.len() as u32)?;
-    body.all(payload)?;
-    body.u8(CLOSED)?;
-    Ok(body.into_vec())
-}
-
 /// The body of a record: its kind, the length of its payload in four bytes, its payload, and the closed gate of the record
 /// after it. It is as long as its size says. The one error is `NoMemory` (1).
+#[tactic(auto, using(std::proofs::lemmas::List::append_assoc), unfolding(crate::specs::Spelling::body_bytes))]
 pub fn spell_record(alloc: Global, rec: &Record) -> Result<Vec<u8>, NoMemory>
     requires { IsCanonicalRecord 2 rec.now }
     ensures { IfOk result (λ bytes. bytes.items ≡ body_bytes rec.now) }
 {
-    let payload = spell_payload(alloc, rec)?;
-    frame(alloc, kind_of(rec), &payload)
+    let size = payload_size(rec);
+    let mut body = Writer::with_room(alloc, size as usize + AROUND)?;
+    body.u8(kind_of(rec))?;
+    body.u32(size)?;
+    write_payload(&mut body, rec)?;
+    body.u8(CLOSED)?;
+    Ok(body.into_vec())
 }
+
+/// The bytes of a body round its payload: a kind, a length and a gate.
+const AROUND: usize = 6;
 
 /// The gate of a record that is not there yet.
 const CLOSED: u8 = 0;

@@ -6,7 +6,7 @@ use Rattle.pf_codec.proofs.entries.read_names.Goals as goal
 
 pub returns-in_err-name : goal.returns-in_err-name
 returns-in_err-name c =
-    let p = err_from_is_err_and c.from_residual.result c.from_residual.ensures.1 in
+    let p = err_from_is_err_and c.from_residual-in_err-name.result c.from_residual-in_err-name.ensures.1 in
     rw (p.1, p.2) (ends name_at c.in_err-name.field-0.0 c.loop.names.items c.args.count c.loop.counter c.loop.reader (row_at name_at c.args.count c.args.reader.now) c.loop-test.true c.in_err-name.ensures c.loop.invariant)
 
 pub loop-preserved : goal.loop-preserved

@@ -1,17 +1,17 @@
-use Rattle.std.proofs.lemmas.Result.{err_from_is_err_and}
+use Rattle.std.proofs.Common.{◌≡◌, ◌/◌, ◌<◌, ◌≤◌, length, sym, ap, ◌∙◌, arith}
 use Rattle.pf_codec.specs.Parsers.{row_at}
 use Rattle.pf_codec.specs.Reading.{sector_at}
-use Rattle.pf_codec.proofs.Rows.{goes_on, ends, is_done}
+use Rattle.pf_codec.proofs.SectorRows.{bulk_found, bulk_missing}
 use Rattle.pf_codec.proofs.reader.Reader.sectors.Goals as goal
 
-pub returns-in_err-sector : goal.returns-in_err-sector
-returns-in_err-sector c =
-    let p = err_from_is_err_and c.from_residual-in_err-sector.result c.from_residual-in_err-sector.ensures.1 in
-    rw (p.1, p.2) (ends sector_at c.in_err-sector.field-0.0 c.loop.sectors.items c.args.count c.loop.counter c.loop.self (row_at sector_at c.args.count c.args.self.now) c.loop-test.true c.in_err-sector.ensures c.loop.invariant)
-
-pub loop-preserved : goal.loop-preserved
-loop-preserved c =
-    rw c.in_ok-push.ensures.items (goes_on sector_at c.loop.sectors.items c.args.count c.loop.counter c.loop.self c.in_ok-sector.sector c.sector.new.self (row_at sector_at c.args.count c.args.self.now) c.loop-test.true c.in_ok-sector.ensures c.loop.invariant)
+pub returns-then-whole-wanted : goal.returns-then-whole-wanted
+returns-then-whole-wanted c =
+    let few : length c.self.inside.rest.now / 512 < c.args.count = omega (arith, c.if-whole-wanted.true, c.as_chunks.ensures.front_len) in
+    let viewed : c.args.self.now ≡ c.self.inside.rest.now = sym c.self.view_is in
+    ap (row_at sector_at c.args.count) viewed ∙ bulk_missing c.args.count c.self.inside.rest.now few
 
 pub returns : goal.returns
-returns c = is_done sector_at c.loop.sectors.items c.args.count c.loop.counter c.loop.self (row_at sector_at c.args.count c.args.self.now) c.loop-test.false c.loop.invariant
+returns c =
+    let enough : c.args.count ≤ length c.self.inside.rest.now / 512 = omega (arith, c.if-whole-wanted.false, c.as_chunks.ensures.front_len) in
+    let viewed : c.args.self.now ≡ c.self.inside.rest.now = sym c.self.view_is in
+    ap (row_at sector_at c.args.count) viewed ∙ bulk_found c.args.count c.self.inside.rest.now c.as_chunks.result.0.now c.in_ok-sectors.sectors.items enough c.as_chunks.ensures.front c.in_ok-sectors.ensures.items
