@@ -1,10 +1,8 @@
 -- Packets have as many bytes as their sizes say.
-use Rattle.std.proofs.Common.{◌≡◌, ℕ, ◌+◌, ◌≤◌, lit≤, ◌++◌, length, refl, ◌∙◌, arith, length-append}
+use Rattle.std.proofs.Common.{◌≡◌, ℕ, ◌+◌, ◌++◌, length, refl, ◌∙◌, arith, length-append}
 use Rattle.std.specs.Int.{w64}
-use Rattle.pf_entry.specs.Sizes.{op_size, message_size, packet_size}
-use Rattle.pf_entry.specs.Canonical.{second_format, IsCanonicalOp, IsCanonicalMessage, IsCanonicalPacket}
-use Rattle.pf_entry.specs.declared.ops.Op.{Op}
-use Rattle.pf_entry.specs.declared.ops.Op.TheVariants.{Write, Noop, Mark}
+use Rattle.pf_entry.specs.Sizes.{message_size, packet_size}
+use Rattle.pf_entry.specs.Canonical.{second_format, IsCanonicalMessage, IsCanonicalPacket}
 use Rattle.pf_entry.specs.declared.packets.Packet.{Packet}
 use Rattle.pf_entry.specs.declared.packets.Body.{Body}
 use Rattle.pf_entry.specs.declared.packets.Body.TheVariants.{RequestVote, Vote, Accept, Ack, Nack, Commit, Probe, ProbeOk, Image}
@@ -36,12 +34,3 @@ unfolding packet_bytes packet_size
 packet_len p c =
     let all = length-append (number w64 p.term) (message_bytes p.body) in
     omega (arith, all, len64 p.term, message_len p.term p.body c.message)
-
-pub op_most : (op : Op) → IsCanonicalOp second_format op → op_size op ≤ 4102
-op_most (Write range payload) c = let few = c.0.few in let count = c.1 in omega (arith, few, count)
-op_most Noop c = lit≤ tt
-op_most Mark c = lit≤ tt
-
-pub names_most : second_format.names ≤ 16
-unfolding second_format
-names_most = lit≤ tt

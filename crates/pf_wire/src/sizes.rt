@@ -1,55 +1,11 @@
 //! How many bytes a packet takes.
-ghost use Rattle.std.specs.Prelude.{◌≡◌, ◌+◌, ◌*◌, ◌<◌, ◌≤◌, ◌^◌, length, sum_by};
-ghost use Rattle.pf_entry.specs.Canonical.{IsCanonicalEntry, IsCanonicalVote, IsCanonicalMessage, IsCanonicalPacket, second_format};
-ghost use Rattle.pf_entry.specs.Lists.{Every};
-ghost use Rattle.pf_entry.specs.Sizes.{op_size, entry_size, vote_size, message_size, packet_size};
+ghost use Rattle.std.specs.Prelude.{◌≡◌, ◌<◌, ◌^◌};
+ghost use Rattle.pf_entry.specs.Canonical.{IsCanonicalMessage, IsCanonicalPacket};
+ghost use Rattle.pf_entry.specs.Sizes.{message_size, packet_size};
 
 use pf_base::Term;
-use pf_entry::{Body, Entry, Op, Packet, VoteLog};
-
-/// The bytes of an op.
-fn op_size(op: &Op) -> u64
-    ensures { result ≡ op_size op.now }
-{
-    match op {
-        Op::Write { range: _, payload } => 6 + 512 * payload.len() as u64,
-        Op::Noop => 1,
-        Op::Mark => 1,
-    }
-}
-
-/// The bytes of an entry.
-fn entry_size(entry: &Entry) -> u64
-    requires { IsCanonicalEntry second_format entry.now }
-    ensures size { result ≡ entry_size entry.now }
-    ensures most { result ≤ 4400 }
-{
-    25 + 13 * entry.look.as_slice().len() as u64 + op_size(&entry.op)
-}
-
-/// The bytes of entries without their count.
-fn entries_size(entries: &[Entry]) -> u64
-    requires few { length entries.now < 2 ^ 32 }
-    requires canonical { Every (IsCanonicalEntry second_format) entries.now }
-    ensures size { result ≡ sum_by entry_size entries.now }
-    ensures most { result ≤ 4400 * length entries.now }
-{
-    let mut size = 0;
-    for entry in entries {
-        size += entry_size(entry);
-    }
-    size
-}
-
-/// The bytes of a vote.
-fn vote_size(vote: &VoteLog) -> u64
-    requires { IsCanonicalVote second_format vote.now }
-    ensures size { result ≡ vote_size vote.now }
-    ensures most { result < 2 ^ 48 }
-{
-    let starts = vote.starts.as_slice().len() as u64;
-    14 + 16 * starts + entries_size(vote.log.as_slice())
-}
+use pf_codec::{entry_size, vote_size};
+use pf_entry::{Body, Packet};
 
 /// The bytes of a message.
 fn message_size(term: Term, body: &Body) -> u64

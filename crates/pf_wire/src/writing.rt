@@ -5,6 +5,7 @@ ghost use Rattle.pf_entry.specs.Canonical.{IsCanonicalMessage, IsCanonicalPacket
 ghost use Rattle.pf_codec.specs.Spelling.{number};
 ghost use Rattle.pf_wire.specs.Packets.{kind_of, message_bytes, packet_bytes};
 
+use crate::length_of;
 use pf_base::{NoMemory, Term};
 use pf_codec::{Writer, write_entry, write_sectors, write_slots, write_vote};
 use pf_entry::{Body, Packet};
@@ -84,7 +85,7 @@ pub fn encode(alloc: Global, packet: &Packet) -> Result<Vec<u8>, NoMemory>
     requires { IsCanonicalPacket packet.now }
     ensures { IfOk result (λ bytes. bytes.items ≡ packet_bytes packet.now) }
 {
-    let mut writer = Writer::new(alloc);
+    let mut writer = Writer::with_room(alloc, length_of(packet) as usize)?;
     write_packet(&mut writer, packet)?;
     Ok(writer.into_vec())
 }
