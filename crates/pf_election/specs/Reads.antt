@@ -1,6 +1,6 @@
 -- Reads that wait for an answer.
 use Rattle.std.specs.Prelude.{◌≡◌, ℕ, ◌<◌, ◌≤◌, Bool, true, false, not, ◌&&◌, ◌==◌, if◌then◌else◌, nat_lt, List, length, slice_index_or, Option, Some, None, refl}
-use Rattle.std.specs.List.{list_all, remove}
+use Rattle.std.specs.List.{count_by, list_all, remove}
 use Rattle.std.specs.Coded.{Coded, code_by, coded×, coded_ℕ, coded_bool}
 use Rattle.pf_base.specs.Span.{Span}
 use Rattle.pf_entry.specs.Maps.{Numbers}
@@ -19,6 +19,10 @@ read_code =
 -- its leader was confirmed after it was asked, and every slot that it named is applied
 abbrev pub is_ready : (ℕ → Bool) → Read → Bool
 is_ready applied r = r.confirmed && list_all applied (Sets.items r.named)
+
+-- how many are confirmed
+abbrev pub confirmed_in : List Read → ℕ
+confirmed_in reads = count_by (λ r. r.confirmed) reads
 
 abbrev pub is_above : ℕ → Option ℕ → Bool
 is_above number None = true

@@ -28,19 +28,23 @@ pub struct Read {
 #[derive(Drop)]
 pub struct Probes {
     reads: Vec<Read>,
+    /// How many of them are confirmed.
+    confirmed: usize,
 }
 
 impl Model for Probes {
-    ghost use Rattle.std.specs.Prelude.{List};
+    ghost use Rattle.std.specs.Prelude.{◌≡◌, List};
     ghost use Rattle.std.specs.Coded.{coded_list};
     ghost use Rattle.pf_election.specs.declared.probes.Read.{Read};
-    ghost use Rattle.pf_election.specs.Reads.{read_code};
+    ghost use Rattle.pf_election.specs.Reads.{confirmed_in, read_code};
 
     ghost Value = { List Read };
 
     ghost coded = { coded_list read_code };
 
     ghost view = { λ a. a.reads.items };
+
+    ghost invariant = { λ a. a.confirmed ≡ confirmed_in a.reads.items };
 }
 
 impl Probes {
@@ -50,6 +54,7 @@ impl Probes {
     {
         Probes {
             reads: Vec::new(alloc),
+            confirmed: 0,
         }
     }
 
@@ -81,19 +86,26 @@ impl Probes {
     {
         for place in 0..self.reads.len() {
             if self.reads[place].number == number {
-                self.reads[place].confirmed = true;
+                if !self.reads[place].confirmed {
+                    self.reads[place].confirmed = true;
+                    self.confirmed += 1;
+                }
             }
         }
     }
 
     /// Takes out the least read that is confirmed and whose named slots are applied, and tells its number and range.
-    /// `None` exactly where there is none; the reads are then the same.
+    /// `None` exactly where there is none; the reads are then the same. Where none is confirmed, it goes through none.
     pub fn take_ready(&mut self, applied: &SlotSet) -> Option<(u64, Range)>
         ensures least { MatchOption result (NonePasses (is_ready (set.contains applied.now.slots)) self.old) (λ r. IsTaken (is_ready (set.contains applied.now.slots)) self.old r.0 r.1 self.new) }
         ensures same { IfNone result (self.new ≡ self.old) }
     {
+        if self.confirmed == 0 {
+            return None;
+        }
         let place = least_ready(&self.reads, applied)?;
         let read = self.reads.remove(place);
+        self.confirmed -= 1;
         Some((read.number, read.range))
     }
 
