@@ -2,8 +2,9 @@
 ghost use Rattle.std.specs.Prelude.{◌≡◌, ◌+◌, ◌-◌, ◌≤◌, ◌<◌, [], ◌∷◌, ◌++◌, IfNone, IfSome, IsTrue, OnErr, OnOk, length, slice_range};
 ghost use Rattle.std.specs.VecDeque.{deque_capacity, deque_len};
 ghost use Rattle.pf_base.specs.Span.{fits_in};
+ghost use Rattle.pf_state.specs.Replying.{IsRoom};
 
-use pf_base::{NoMemory, Range, Sectors};
+use pf_base::{NoMemory, Range, Sector, Sectors};
 use pf_sectors::SectorTable;
 use std::alloc::Global;
 use std::collections::VecDeque;
@@ -13,8 +14,8 @@ use std::marker::Model;
 /// of its answer as it is asked.
 #[derive(Drop)]
 pub struct Replies {
-    /// Each of eight sectors.
-    rooms: Vec<Sectors>,
+    /// Each without sectors, and with room for eight.
+    rooms: Vec<Vec<Sector>>,
     answers: VecDeque<(u64, Sectors)>,
 }
 
@@ -57,7 +58,7 @@ impl Replies {
     {
         self.rooms.reserve(1)?;
         self.answers.reserve(self.rooms.len() + 1)?;
-        let room = Sectors::new(Vec::from_slice(alloc, &[[0u8; 512]; 8])?);
+        let room = Vec::with_capacity(alloc, 8)?;
         self.rooms.push(room)?;
         Ok(())
     }
@@ -70,10 +71,8 @@ impl Replies {
         ensures { self.new ≡ record { rooms = self.old.rooms - 1; answers = self.old.answers ++ (number, slice_range table.now range.first (range.first + range.count)) ∷ [] } }
     {
         if let Some(room) = self.rooms.pop() {
-            let mut sectors = room.into_vec();
-            sectors.truncate(range.count() as usize);
-            table.read(range, &mut sectors);
-            put_last(&mut self.answers, (number, Sectors::new(sectors)));
+            let sectors = fill(room, range, table);
+            put_last(&mut self.answers, (number, sectors));
         }
     }
 
@@ -84,6 +83,20 @@ impl Replies {
     {
         self.answers.pop_front()
     }
+}
+
+/// The sectors of the range, in the room.
+fn fill(mut room: Vec<Sector>, range: Range, table: &SectorTable) -> Sectors
+    requires room { IsRoom room }
+    requires count { range.count ≤ 8 }
+    requires fits { IsTrue (fits_in range (length table.now)) }
+    ensures { result ≡ slice_range table.now range.first (range.first + range.count) }
+{
+    let first = range.first() as usize;
+    let end = first + range.count() as usize;
+    // There is room, so this does not fail.
+    let _ = room.extend_from_slice(&table.as_slice()[first..end]);
+    Sectors::new(room)
 }
 
 /// Puts the answer behind the others, where there is room for it.
