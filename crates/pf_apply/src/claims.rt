@@ -70,8 +70,8 @@ fn room_for(alloc: Global, op: &Op, sectors: &SectorTable) -> Result<Option<Sect
 {
     match op {
         Op::Mark => {
-            let room = sectors.copied(alloc)?;
-            Ok(Some(room))
+            let room = vec![in alloc; [0; 512]; sectors.as_slice().len()]?;
+            Ok(Some(Sectors::new(room)))
         }
         Op::Write { .. } | Op::Noop => Ok(None),
     }
