@@ -1,19 +1,25 @@
 -- Reads that are confirmed one after another.
-use Rattle.std.proofs.Common.{◌≡◌, ◌≢◌, ℕ, suc, ◌+◌, ◌<◌, ◌≤◌, inl, inr, true, false, List, [], ◌∷◌, map, length, get_or, slice_set, arith, refl, sym, ap, subst, ◌∙◌}
-use Rattle.std.proofs.lemmas.Bool.{cases_eq, cond-true, cond-false, eq-eqb, ne_eqb}
+use Rattle.std.proofs.Common.{◌≡◌, ◌≢◌, ℕ, suc, ◌+◌, ◌<◌, ◌≤◌, inl, inr, Bool, true, false, List, [], ◌∷◌, map, length, get_or, slice_set, Ok, Err, arith, refl, sym, ap, subst, ◌∙◌}
+use Rattle.std.specs.List.Sorted.{IsBinarySearchResult, IsNonDecreasingBy}
+use Rattle.std.specs.Ordering.{nat_cmp, ordering_index}
+use Rattle.std.proofs.lemmas.Cmp.{ranked}
+use Rattle.std.proofs.lemmas.Bool.Decides.{nat_tests}
+use Rattle.std.proofs.lemmas.List.Sorted.{IsNonDecreasingBy-from_default}
+use Rattle.pf_holes.specs.SlotSets.{IsRising}
+use Rattle.std.proofs.lemmas.Bool.{cases_eq, cases_lt, cond-true, cond-false, eq-eqb, ne_eqb}
 use Rattle.std.proofs.lemmas.Grind.{get_or-set_at}
-use Rattle.std.proofs.lemmas.List.{get_or-set_other, length-set}
+use Rattle.std.proofs.lemmas.List.{get_or-map, get_or-set_other, length-map, length-set}
 use Rattle.pf_election.specs.declared.probes.Read.{Read}
-use Rattle.pf_election.specs.Reads.{confirm, confirmed_in}
-use Rattle.pf_election.proofs.Counting.{counted_set, few_confirmed}
+use Rattle.pf_election.specs.Reads.{AreKept, confirm, numbers_in}
+use Rattle.pf_election.proofs.Counting.{kept_set}
 use Rattle.pf_election.proofs.Least.{element, same_at}
 
 -- the first n are changed, the others are as they were, and so many are confirmed
-pub record IsChanged (f : Read → Read) (old new : List Read) (n confirmed : ℕ) : Type 0 where
+pub record IsChanged (f : Read → Read) (old new : List Read) (n confirmed : ℕ) (in_order : Bool) : Type 0 where
   pub len : length new ≡ length old
   pub done : (k : ℕ) (d : Read) → k < n → k < length old → get_or new k d ≡ f (get_or old k d)
   pub left : (k : ℕ) (d : Read) → n ≤ k → get_or new k d ≡ get_or old k d
-  pub counted : confirmed ≡ confirmed_in new
+  pub kept : AreKept new confirmed in_order
 
 pub all_changed : (f : Read → Read) (old new : List Read) → length new ≡ length old → ((k : ℕ) (d : Read) → k < length old → get_or new k d ≡ f (get_or old k d)) → new ≡ map f old
 all_changed f [] [] len done = refl
@@ -32,13 +38,13 @@ confirm_other number r apart = cond-false _ _ _ (ne_eqb r.number number apart)
 confirm_again : (number : ℕ) (r : Read) → r.number ≡ number → r.confirmed ≡ true → confirm number r ≡ r
 confirm_again number r is was = confirm_own number r is ∙ (λ i. record r { confirmed = sym was i })
 
-module _ (f : Read → Read) (old new : List Read) (n confirmed : ℕ) (x : Read) (l : IsChanged f old new n confirmed) (lt : n < length old) (at : x ≡ get_or new n x) where
+module _ (f : Read → Read) (old new : List Read) (n confirmed : ℕ) (in_order : Bool) (x : Read) (l : IsChanged f old new n confirmed in_order) (lt : n < length old) (at : x ≡ get_or new n x) where
   -- the next read, as it was
   there : (d : Read) → get_or old n d ≡ x
   there d = sym (l.left n d (omega arith)) ∙ same_at new n x (get_or new n d) x (omega (arith, l.len)) (sym at) (element new n d (omega (arith, l.len)))
 
   -- the next one stays as it is
-  pub one_kept : f x ≡ x → IsChanged f old new (n + 1) confirmed
+  pub one_kept : f x ≡ x → IsChanged f old new (n + 1) confirmed in_order
   one_kept stays = record {
     len = l.len;
     done = λ k d low within.
@@ -47,12 +53,12 @@ module _ (f : Read → Read) (old new : List Read) (n confirmed : ℕ) (x : Read
           | inr apart ↦ l.done k d (omega arith) within
         ];
     left = λ k d low. l.left k d (omega arith);
-    counted = l.counted;
+    kept = l.kept;
   }
 
   -- the next one is changed
-  pub one_changed : (y : Read) → f x ≡ y → x.confirmed ≡ false → y.confirmed ≡ true → IsChanged f old (slice_set new n y) (n + 1) (confirmed + 1)
-  one_changed y to was is = record {
+  pub one_changed : (y : Read) → f x ≡ y → x.number ≡ y.number → x.confirmed ≡ false → y.confirmed ≡ true → IsChanged f old (slice_set new n y) (n + 1) (confirmed + 1) in_order
+  one_changed y to number was is = record {
     len = let same = length-set new n y in omega (arith, same, l.len);
     done = λ k d low within.
         elim (cases_eq k n) [
@@ -62,26 +68,77 @@ module _ (f : Read → Read) (old new : List Read) (n confirmed : ℕ) (x : Read
           | inr apart ↦ get_or-set_other new n k y d apart ∙ l.done k d (omega arith) within
         ];
     left = λ k d low. get_or-set_other new n k y d (λ same. absurd (omega (arith, same, low))) ∙ l.left k d (omega arith);
-    counted =
-        let more = counted_set new n x y (omega (arith, l.len)) (ap (λ (r : Read). r.confirmed) (sym at) ∙ was) is in
-        omega (arith, more, l.counted);
+    kept = kept_set new n x y confirmed in_order l.kept (omega (arith, l.len)) at number was is;
   }
 
-  -- so there is room to count it
-  pub one_counted : x.confirmed ≡ false → confirmed + 1 ≤ length old
-  one_counted was =
-      let y = record x { confirmed = true } in
-      let more = counted_set new n x y (omega (arith, l.len)) (ap (λ (r : Read). r.confirmed) (sym at) ∙ was) refl in
-      let few = few_confirmed (slice_set new n y) in
-      let same = length-set new n y in
-      omega (arith, more, few, same, l.len, l.counted)
+module _ (number : ℕ) (old new : List Read) (n confirmed : ℕ) (in_order : Bool) (x : Read) (l : IsChanged (confirm number) old new n confirmed in_order) (lt : n < length old) (at : x ≡ get_or new n x) where
+  pub confirmed_now : x.number ≡ number → x.confirmed ≡ false → IsChanged (confirm number) old (slice_set new n (record x { confirmed = true })) (n + 1) (confirmed + 1) in_order
+  confirmed_now is was = one_changed (confirm number) old new n confirmed in_order x l lt at (record x { confirmed = true }) (confirm_own number x is) refl was refl
 
-module _ (number : ℕ) (old new : List Read) (n confirmed : ℕ) (x : Read) (l : IsChanged (confirm number) old new n confirmed) (lt : n < length old) (at : x ≡ get_or new n x) where
-  pub confirmed_now : x.number ≡ number → x.confirmed ≡ false → IsChanged (confirm number) old (slice_set new n (record x { confirmed = true })) (n + 1) (confirmed + 1)
-  confirmed_now is was = one_changed (confirm number) old new n confirmed x l lt at (record x { confirmed = true }) (confirm_own number x is) was refl
+  pub confirmed_before : x.number ≡ number → x.confirmed ≡ true → IsChanged (confirm number) old new (n + 1) confirmed in_order
+  confirmed_before is was = one_kept (confirm number) old new n confirmed in_order x l lt at (confirm_again number x is was)
 
-  pub confirmed_before : x.number ≡ number → x.confirmed ≡ true → IsChanged (confirm number) old new (n + 1) confirmed
-  confirmed_before is was = one_kept (confirm number) old new n confirmed x l lt at (confirm_again number x is was)
+  pub not_asked : x.number ≢ number → IsChanged (confirm number) old new (n + 1) confirmed in_order
+  not_asked apart = one_kept (confirm number) old new n confirmed in_order x l lt at (confirm_other number x apart)
 
-  pub not_asked : x.number ≢ number → IsChanged (confirm number) old new (n + 1) confirmed
-  not_asked apart = one_kept (confirm number) old new n confirmed x l lt at (confirm_other number x apart)
+-- a search among reads that are in the order of their numbers
+module _ (number : ℕ) (reads : List Read) (rising : IsRising (numbers_in reads)) where
+  apart_from : (k place : ℕ) (d e : Read) → k < length reads → place < length reads → k ≢ place → (get_or reads place e).number ≡ number → (get_or reads k d).number ≢ number
+  apart_from k place d e lt within apart own same =
+      let len = length-map reads (λ (r : Read). r.number) in
+      let one = get_or-map (λ (r : Read). r.number) reads k d 0 lt in
+      let other = get_or-map (λ (r : Read). r.number) reads place e 0 within in
+      elim (cases_lt k place) [
+        | inl below ↦ (let h : get_or (numbers_in reads) k 0 < get_or (numbers_in reads) place 0 = rising k place below (omega (arith, len, within)) in omega (arith, h, one, other, own, same))
+        | inr above ↦ (let h : get_or (numbers_in reads) place 0 < get_or (numbers_in reads) k 0 = rising place k (omega (arith, above, apart)) (omega (arith, len, lt)) in omega (arith, h, one, other, own, same))
+      ]
+
+  -- the one that is found is the only one
+  pub confirmed_at : (place : ℕ) (x : Read) → place < length reads → x ≡ get_or reads place x → x.number ≡ number → slice_set reads place (record x { confirmed = true }) ≡ map (confirm number) reads
+  confirmed_at place x within at own =
+      all_changed (confirm number) reads (slice_set reads place (record x { confirmed = true })) (length-set reads place (record x { confirmed = true })) (λ k d lt.
+      elim (cases_eq k place) [
+        | inl same ↦
+            get_or-set_at reads place k (record x { confirmed = true }) d same within
+            ∙ sym (confirm_own number x own)
+            ∙ ap (confirm number) (sym (subst (λ j. get_or reads j d ≡ x) (sym same) (same_at reads place x (get_or reads place d) x within (sym at) (element reads place d within))))
+        | inr apart ↦
+            get_or-set_other reads place k (record x { confirmed = true }) d apart
+            ∙ sym (confirm_other number (get_or reads k d) (apart_from k place d x lt within apart (ap (λ (r : Read). r.number) (sym at) ∙ own)))
+      ])
+
+  pub confirmed_already : (place : ℕ) (x : Read) → place < length reads → x ≡ get_or reads place x → x.number ≡ number → x.confirmed ≡ true → reads ≡ map (confirm number) reads
+  confirmed_already place x within at own was =
+      all_changed (confirm number) reads reads refl (λ k d lt.
+      elim (cases_eq k place) [
+        | inl same ↦
+            let there : get_or reads k d ≡ x = subst (λ j. get_or reads j d ≡ x) (sym same) (same_at reads place x (get_or reads place d) x within (sym at) (element reads place d within)) in
+            there ∙ sym (confirm_again number x own was) ∙ ap (confirm number) (sym there)
+        | inr apart ↦ sym (confirm_other number (get_or reads k d) (apart_from k place d x lt within apart (ap (λ (r : Read). r.number) (sym at) ∙ own)))
+      ])
+
+  comparisons_rise : (d : Read) → IsNonDecreasingBy (λ (r : Read). ordering_index (nat_cmp r.number number)) reads
+  comparisons_rise d =
+      IsNonDecreasingBy-from_default (λ (r : Read). ordering_index (nat_cmp r.number number)) reads d (λ i j le lt.
+      let len = length-map reads (λ (r : Read). r.number) in
+      let one = get_or-map (λ (r : Read). r.number) reads i d 0 (omega (arith, le, lt)) in
+      let other = get_or-map (λ (r : Read). r.number) reads j d 0 lt in
+      let low : (get_or reads i d).number ≤ (get_or reads j d).number = elim (cases_eq i j) [
+        | inl same ↦ (let e : (get_or reads i d).number ≡ (get_or reads j d).number = ap (λ k. (get_or reads k d).number) same in omega (arith, e))
+        | inr apart ↦ (let h : get_or (numbers_in reads) i 0 < get_or (numbers_in reads) j 0 = rising i j (omega (arith, le, apart)) (omega (arith, len, lt)) in omega (arith, h, one, other))
+      ] in
+      grind (arith, nat_tests))
+
+  pub found_at : (place : ℕ) (x : Read) → x ≡ get_or reads place x → IsBinarySearchResult (λ (r : Read). nat_cmp r.number number) reads (Ok place) → x.number ≡ number
+  found_at place x at is = ap (λ (r : Read). r.number) at ∙ ranked _ number _ (sym (is x))
+
+  -- where none is found, none is confirmed
+  pub none_found : (place : ℕ) → IsBinarySearchResult (λ (r : Read). nat_cmp r.number number) reads (Err place) → reads ≡ map (confirm number) reads
+  none_found place is =
+      all_changed (confirm number) reads reads refl (λ k d lt.
+      let parts = is (comparisons_rise d) in
+      sym (confirm_other number (get_or reads k d) (λ same.
+      elim (cases_lt k place) [
+        | inl under ↦ (let h : (get_or reads k d).number < number = ranked _ number _ (sym (parts.0 k d (omega arith) under)) in omega (arith, h, same))
+        | inr over ↦ (let h : number < (get_or reads k d).number = ranked _ number _ (sym (parts.1 k d over lt)) in omega (arith, h, same))
+      ])))

@@ -1,10 +1,15 @@
 -- How many reads are confirmed.
-use Rattle.std.proofs.Common.{◌≡◌, ℕ, ◌+◌, ◌<◌, ◌≤◌, Bool, true, false, cond, List, [], ◌∷◌, ◌++◌, length, get_or, slice_set, arith, refl, sym, ap, ◌∙◌}
+use Rattle.std.proofs.Common.{◌≡◌, ℕ, zero, suc, ◌+◌, ◌-◌, inl, inr, IsTrue, subst, ◌<◌, ◌≤◌, Bool, true, false, cond, List, [], ◌∷◌, ◌++◌, length, get_or, slice_set, arith, refl, sym, ap, ◌∙◌}
 use Rattle.std.specs.List.{remove}
-use Rattle.std.proofs.lemmas.Bool.{cond-true, cond-false}
+use Rattle.std.proofs.lemmas.Bool.{cases_lt, cond-true, cond-false}
 use Rattle.std.proofs.lemmas.List.Sums.{count_by-le-length, sum_by-append, sum_by-cons, sum_by-remove, sum_by-set}
+use Rattle.std.proofs.Math.Seq.{get_or-append_seam}
+use Rattle.std.proofs.lemmas.List.{get_or-map, get_or_append_left, length-append, length-map, length-set}
+use Rattle.pf_holes.specs.SlotSets.{IsRising}
+use Rattle.pf_holes.proofs.SlotLists.{rising-remove}
 use Rattle.pf_election.specs.declared.probes.Read.{Read}
-use Rattle.pf_election.specs.Reads.{IsAt, confirmed_in}
+use Rattle.pf_election.specs.Reads.{AreKept, IsAt, confirmed_in, numbers_in}
+use Rattle.pf_election.proofs.Least.{element, same_at}
 
 abbrev one_of : Read → ℕ
 one_of r = cond r.confirmed 1 0
@@ -50,3 +55,83 @@ none_confirmed reads none r k lt at =
 
 pub few_confirmed : (reads : List Read) → confirmed_in reads ≤ length reads
 few_confirmed reads = count_by-le-length (λ (x : Read). x.confirmed) reads
+
+numbers-set : (reads : List Read) (k : ℕ) (y : Read) → (get_or reads k y).number ≡ y.number → numbers_in (slice_set reads k y) ≡ numbers_in reads
+numbers-set [] k y same = refl
+numbers-set (r ∷ rs) zero y same = ap (λ n. n ∷ numbers_in rs) (sym same)
+numbers-set (r ∷ rs) (suc k) y same = ap (λ ns. r.number ∷ ns) (numbers-set rs k y same)
+
+numbers-remove : (reads : List Read) (k : ℕ) → numbers_in (remove reads k) ≡ remove (numbers_in reads) k
+numbers-remove [] zero = refl
+numbers-remove [] (suc k) = refl
+numbers-remove (r ∷ rs) zero = refl
+numbers-remove (r ∷ rs) (suc k) = ap (λ ns. r.number ∷ ns) (numbers-remove rs k)
+
+numbers-push : (reads : List Read) (r : Read) → numbers_in (reads ++ r ∷ []) ≡ numbers_in reads ++ r.number ∷ []
+numbers-push [] r = refl
+numbers-push (x ∷ xs) r = ap (λ ns. x.number ∷ ns) (numbers-push xs r)
+
+same_number : (reads : List Read) (k : ℕ) (x y : Read) → k < length reads → x ≡ get_or reads k x → x.number ≡ y.number → (get_or reads k y).number ≡ y.number
+same_number reads k x y lt at same = ap (λ (r : Read). r.number) (same_at reads k x (get_or reads k y) x lt (sym at) (element reads k y lt)) ∙ same
+
+-- one read is confirmed
+pub kept_set : (reads : List Read) (k : ℕ) (x y : Read) (confirmed : ℕ) (in_order : Bool) → AreKept reads confirmed in_order → k < length reads → x ≡ get_or reads k x → x.number ≡ y.number → x.confirmed ≡ false → y.confirmed ≡ true → AreKept (slice_set reads k y) (confirmed + 1) in_order
+kept_set reads k x y confirmed in_order kept lt at same was is = record {
+  counted =
+      let more = counted_set reads k x y lt (ap (λ (r : Read). r.confirmed) (sym at) ∙ was) is in
+      omega (arith, more, kept.counted);
+  order = λ noted. subst IsRising (sym (numbers-set reads k y (same_number reads k x y lt at same))) (kept.order noted);
+}
+
+-- so there is room to count it
+pub one_counted : (reads : List Read) (k : ℕ) (x : Read) (confirmed : ℕ) (in_order : Bool) → AreKept reads confirmed in_order → k < length reads → x ≡ get_or reads k x → x.confirmed ≡ false → confirmed + 1 ≤ length reads
+one_counted reads k x confirmed in_order kept lt at was =
+    let y = record x { confirmed = true } in
+    let more = counted_set reads k x y lt (ap (λ (r : Read). r.confirmed) (sym at) ∙ was) refl in
+    let few = few_confirmed (slice_set reads k y) in
+    let same = length-set reads k y in
+    omega (arith, more, few, same, kept.counted)
+
+-- one that was confirmed goes
+pub kept_less : (reads : List Read) (k : ℕ) (d : Read) (confirmed : ℕ) (in_order : Bool) → AreKept reads confirmed in_order → k < length reads → (get_or reads k d).confirmed ≡ true → AreKept (remove reads k) (confirmed - 1) in_order
+kept_less reads k d confirmed in_order kept lt is = record {
+  counted = let less = counted_less reads k d lt is in omega (arith, less, kept.counted);
+  order = λ noted. let len = length-map reads (λ (r : Read). r.number) in subst IsRising (sym (numbers-remove reads k)) (rising-remove (numbers_in reads) k (omega (arith, len, lt)) (kept.order noted));
+}
+
+-- one more is asked
+pub kept_more : (reads : List Read) (r : Read) (confirmed : ℕ) (in_order last : Bool) → AreKept reads confirmed in_order → r.confirmed ≡ false → (IsTrue last → IsTrue in_order) → (IsTrue last → IsRising (numbers_in reads) → IsRising (numbers_in reads ++ r.number ∷ [])) → AreKept (reads ++ r ∷ []) confirmed last
+kept_more reads r confirmed in_order last kept was noted then = record {
+  counted = kept.counted ∙ sym (counted_more reads r was);
+  order = λ is. subst IsRising (sym (numbers-push reads r)) (then is (kept.order (noted is)));
+}
+
+-- a greater number behind numbers that rise
+pub rising_push : (ns : List ℕ) (m : ℕ) → IsRising ns → ((k : ℕ) → k < length ns → get_or ns k 0 < m) → IsRising (ns ++ m ∷ [])
+rising_push ns m rising low i j lt in_list =
+    let len = length-append ns (m ∷ []) in
+    let first = get_or_append_left ns (m ∷ []) 0 i (omega (arith, len, lt, in_list)) in
+    elim (cases_lt j (length ns)) [
+      | inl inside ↦ (let h : get_or ns i 0 < get_or ns j 0 = rising i j lt inside in let second = get_or_append_left ns (m ∷ []) 0 j inside in omega (arith, h, first, second))
+      | inr over ↦
+          (let h = low i (omega (arith, len, lt, in_list)) in
+          let same : length ns ≡ j = omega (arith, len, over, in_list) in
+          let second : get_or (ns ++ m ∷ []) j 0 ≡ m = subst (λ k. get_or (ns ++ m ∷ []) k 0 ≡ m) same (get_or-append_seam ns m [] 0) in
+          omega (arith, h, first, second))
+    ]
+
+-- a number above the last of the reads
+pub rising_last : (reads : List Read) (m k : ℕ) (last : Read) → length reads ≡ k + 1 → last ≡ get_or reads k last → last.number < m → IsRising (numbers_in reads) → IsRising (numbers_in reads ++ m ∷ [])
+rising_last reads m k last many at lt rising =
+    let len = length-map reads (λ (r : Read). r.number) in
+    let there = get_or-map (λ (r : Read). r.number) reads k last 0 (omega (arith, many)) in
+    let own = ap (λ (r : Read). r.number) at in
+    rising_push (numbers_in reads) m rising (λ i inside.
+    elim (cases_lt i k) [
+      | inl below ↦ (let h : get_or (numbers_in reads) i 0 < get_or (numbers_in reads) k 0 = rising i k below (omega (arith, len, many)) in omega (arith, h, there, own, lt))
+      | inr over ↦ (let same : get_or (numbers_in reads) i 0 ≡ get_or (numbers_in reads) k 0 = ap (λ j. get_or (numbers_in reads) j 0) (omega (arith, over, inside, len, many)) in omega (arith, same, there, own, lt))
+    ])
+
+pub rising_first : (reads : List Read) (m : ℕ) → length reads ≡ 0 → IsRising (numbers_in reads ++ m ∷ [])
+rising_first [] m none = λ i j lt in_list. absurd (omega (arith, lt, in_list))
+rising_first (r ∷ rs) m none = absurd (omega (arith, none))

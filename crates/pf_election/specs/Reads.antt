@@ -1,11 +1,12 @@
 -- Reads that wait for an answer.
-use Rattle.std.specs.Prelude.{◌≡◌, ℕ, ◌<◌, ◌≤◌, Bool, true, false, not, ◌&&◌, ◌==◌, if◌then◌else◌, nat_lt, List, length, slice_index_or, Option, Some, None, refl}
+use Rattle.std.specs.Prelude.{◌≡◌, ℕ, ◌<◌, ◌≤◌, Bool, true, false, not, ◌&&◌, ◌==◌, if◌then◌else◌, nat_lt, IsTrue, List, length, map, slice_index_or, Option, Some, None, refl}
 use Rattle.std.specs.List.{count_by, list_all, remove}
 use Rattle.std.specs.Coded.{Coded, code_by, coded×, coded_ℕ, coded_bool}
 use Rattle.pf_base.specs.Span.{Span}
 use Rattle.pf_entry.specs.Maps.{Numbers}
 use Rattle.pf_entry.specs.Sets
 use Rattle.pf_entry.specs.EntryMaps.{span_code}
+use Rattle.pf_holes.specs.SlotSets.{IsRising}
 use Rattle.pf_election.specs.declared.probes.Read.{Read}
 
 -- how these values are told apart
@@ -23,6 +24,14 @@ is_ready applied r = r.confirmed && list_all applied (Sets.items r.named)
 -- how many are confirmed
 abbrev pub confirmed_in : List Read → ℕ
 confirmed_in reads = count_by (λ r. r.confirmed) reads
+
+abbrev pub numbers_in : List Read → List ℕ
+numbers_in reads = map (λ r. r.number) reads
+
+-- so many are confirmed, and they are in the order of their numbers where that is noted
+pub record AreKept (reads : List Read) (confirmed : ℕ) (in_order : Bool) : Type 0 where
+  pub counted : confirmed ≡ confirmed_in reads
+  pub order : IsTrue in_order → IsRising (numbers_in reads)
 
 abbrev pub is_above : ℕ → Option ℕ → Bool
 is_above number None = true

@@ -1,8 +1,9 @@
 //! Reads at a leader that has to find out whether it still leads.
-ghost use Rattle.std.specs.Prelude.{◌≡◌, ◌<◌, ◌++◌, ◌∷◌, [], ◌&&◌, IfNone, IfSome, MatchOption, OnErr, OnOk, false, length, map};
+ghost use Rattle.std.specs.Prelude.{◌≡◌, ◌<◌, ◌++◌, ◌∷◌, [], ◌&&◌, IfNone, IfSome, MatchOption, IsTrue, OnErr, OnOk, false, length, map};
 ghost use Rattle.std.specs.List.{list_all};
 ghost use Rattle.pf_entry.specs.Sets as set;
-ghost use Rattle.pf_election.specs.Reads.{IsLeast, IsLeastNumber, IsLower, IsTaken, NonePasses, confirm, is_above, is_ready, is_unconfirmed};
+ghost use Rattle.pf_holes.specs.SlotSets.{IsRising};
+ghost use Rattle.pf_election.specs.Reads.{IsLeast, IsLeastNumber, IsLower, IsTaken, NonePasses, confirm, is_above, is_ready, is_unconfirmed, numbers_in};
 
 use pf_base::{NoMemory, Range};
 use pf_entry::Slots;
@@ -30,13 +31,15 @@ pub struct Probes {
     reads: Vec<Read>,
     /// How many of them are confirmed.
     confirmed: usize,
+    /// Whether each was given a greater number than the one before it.
+    in_order: bool,
 }
 
 impl Model for Probes {
-    ghost use Rattle.std.specs.Prelude.{◌≡◌, List};
+    ghost use Rattle.std.specs.Prelude.{List};
     ghost use Rattle.std.specs.Coded.{coded_list};
     ghost use Rattle.pf_election.specs.declared.probes.Read.{Read};
-    ghost use Rattle.pf_election.specs.Reads.{confirmed_in, read_code};
+    ghost use Rattle.pf_election.specs.Reads.{AreKept, read_code};
 
     ghost Value = { List Read };
 
@@ -44,7 +47,7 @@ impl Model for Probes {
 
     ghost view = { λ a. a.reads.items };
 
-    ghost invariant = { λ a. a.confirmed ≡ confirmed_in a.reads.items };
+    ghost invariant = { λ a. AreKept a.reads.items a.confirmed a.in_order };
 }
 
 impl Probes {
@@ -55,6 +58,7 @@ impl Probes {
         Probes {
             reads: Vec::new(alloc),
             confirmed: 0,
+            in_order: true,
         }
     }
 
@@ -71,17 +75,36 @@ impl Probes {
         ensures ok { OnOk result (self.new ≡ self.old ++ record { number = number; range = range; named = named; confirmed = false } ∷ []) }
         ensures err { OnErr result (self.new ≡ self.old) }
     {
+        let in_order = self.in_order && is_above_all(&self.reads, number);
         self.reads.push(Read {
             number,
             range,
             named,
             confirmed: false,
         })?;
+        self.in_order = in_order;
         Ok(())
     }
 
-    /// Another server has answered a probe for the read of this number.
+    /// Another server has answered a probe for the read of this number. Where the numbers are in order, the read is found in a number
+    /// of steps that grows as the logarithm of how many wait.
     pub fn confirm(&mut self, number: u64)
+        ensures { self.new ≡ map (confirm number) self.old }
+    {
+        if !self.in_order {
+            self.confirm_each(number);
+            return;
+        }
+        if let Ok(place) = self.reads.binary_search_by_key(&number, |read| read.number) {
+            if !self.reads[place].confirmed {
+                self.reads[place].confirmed = true;
+                self.confirmed += 1;
+            }
+        }
+    }
+
+    /// Goes through all the reads, and confirms each of this number.
+    fn confirm_each(&mut self, number: u64)
         ensures { self.new ≡ map (confirm number) self.old }
     {
         for place in 0..self.reads.len() {
@@ -117,6 +140,14 @@ impl Probes {
         let place = least_unconfirmed(&self.reads, after)?;
         Some(self.reads[place].number)
     }
+}
+
+/// Whether the number is greater than that of the last read, if there is one.
+fn is_above_all(reads: &[Read], number: u64) -> bool
+    ensures { IsTrue result → IsRising (numbers_in reads.now) → IsRising (numbers_in reads.now ++ number ∷ []) }
+{
+    let count = reads.len();
+    count == 0 || reads[count - 1].number < number
 }
 
 /// The place of the least read that is ready.

@@ -1,49 +1,49 @@
-use Rattle.std.proofs.Common.{◌≡◌, ◌+◌, ◌<◌, get_or, length, map, arith, sym, ap, subst, ◌∙◌}
-use Rattle.pf_election.specs.Reads.{confirm}
-use Rattle.pf_election.proofs.Confirming.{IsChanged, all_changed, confirmed_before, confirmed_now, not_asked, one_counted}
-use Rattle.pf_election.proofs.Least.{same_at}
+use Rattle.std.proofs.Common.{rules, ◌≡◌, ◌<◌, true, Ok, Err, List, length, map, arith, refl, sym, ap, subst, ◌∙◌}
+use Rattle.std.specs.List.Sorted.{IsBinarySearchResult}
+use Rattle.std.specs.Ordering.{nat_cmp}
+use Rattle.std.proofs.lemmas.List.Sorted.{answers_always}
 use Rattle.pf_election.specs.declared.probes.Read.{Read}
-use Rattle.pf_election.specs.declared.probes.Probes.TheInside.{Inside}
+use Rattle.pf_election.specs.Reads.{confirm}
+use Rattle.pf_election.proofs.Confirming.{confirmed_already, confirmed_at, found_at, none_found}
+use Rattle.pf_election.proofs.Counting.{kept_set}
+use Rattle.pf_election.proofs.Least.{same_at}
 use Rattle.pf_election.proofs.probes.Probes.confirm.Goals as goal
-use Rattle.pf_election.proofs.probes.Probes.confirm.Goals.{then-index-number+then-not-index, then-index-number+else-not-index, else-index-number}
-
-pub returns : goal.returns
-returns c =
-    let old = c.self.inside.reads.items in
-    all_changed (confirm c.args.number) old c.loop-place.self-inside.reads.items c.loop-place.invariant.len
-    (λ k d lt. c.loop-place.invariant.done k d (omega (arith, c.len-place-end.ensures, c.loop-place-test.false)) lt)
-    ∙ ap (map (confirm c.args.number)) c.self.view_is
 
 pub invariant_of-self : goal.invariant_of-self
-invariant_of-self c = c.loop-place.invariant.counted
+invariant_of-self c =
+    let reads = c.self.inside.reads.items in
+    let x = c.index_mut.result.now in
+    let within : c.in-Ok.place < length reads = omega (arith, c.in-Ok.ensures.bound, ap length c.deref.ensures.value) in
+    let one = same_at reads c.in-Ok.place c.index.result.now x c.index.result.now within (sym c.index.ensures) (sym c.index_mut.ensures.value) in
+    kept_set reads c.in-Ok.place x (record x { confirmed = true }) c.self.inside.confirmed c.self.inside.in_order c.self.invariant within c.index_mut.ensures.value refl
+    (ap (λ (r : Read). r.confirmed) one ∙ c.if-not-index.true) refl
 
-pub overflow_add-self : goal.overflow_add-self
-overflow_add-self c =
-    let old = c.self.inside.reads.items in
-    let some = one_counted (confirm c.args.number) old c.loop-place.self-inside.reads.items c.loop-place.place c.loop-place.self-inside.confirmed c.index-then-index-number.result.now c.loop-place.invariant (omega (arith, c.loop-place-test.true, c.len-place-end.ensures)) c.index-then-index-number.ensures c.if-not-index.true in
-    let fits = c.len-place-end.type_inv in
-    omega (arith, some, c.len-place-end.ensures, fits)
-
-pub loop-place-preserved : goal.loop-place-preserved
-loop-place-preserved c =
+pub returns-then-not-index : goal.returns-then-not-index
+returns-then-not-index c =
+    let reads = c.self.inside.reads.items in
     let number = c.args.number in
-    let old = c.self.inside.reads.items in
-    let new = c.loop-place.self-inside.reads.items in
-    let place = c.loop-place.place in
-    let many = c.loop-place.self-inside.confirmed in
-    let lt : place < length old = omega (arith, c.loop-place-test.true, c.len-place-end.ensures) in
-    let one = λ (x y : Read) (a : x ≡ get_or new place x) (b : y ≡ get_or new place y). same_at new place x y x (omega (arith, lt, c.loop-place.invariant.len)) (sym a) (sym b) in
-    let is = λ (inside : Inside). IsChanged (confirm number) old inside.reads.items (place + 1) inside.confirmed in
-    elim c.if-index-number.branch [
-      | then-index-number+then-not-index w ↦
-          subst is (sym w.self-inside-is)
-          (confirmed_now number old new place many w.index_mut.result.now c.loop-place.invariant lt w.index_mut.ensures.value
-          (ap (λ (r : Read). r.number) (one c.index.result.now w.index_mut.result.now c.index.ensures w.index_mut.ensures.value) ∙ w.if-index-number.true)
-          (ap (λ (r : Read). r.confirmed) (one w.index-then-index-number.result.now w.index_mut.result.now w.index-then-index-number.ensures w.index_mut.ensures.value) ∙ w.if-not-index.true))
-      | then-index-number+else-not-index w ↦
-          subst is (sym w.self-inside-is) (confirmed_before number old new place many w.index-then-index-number.result.now c.loop-place.invariant lt w.index-then-index-number.ensures
-          (ap (λ (r : Read). r.number) (one c.index.result.now w.index-then-index-number.result.now c.index.ensures w.index-then-index-number.ensures) ∙ w.if-index-number.true)
-          w.if-not-index.false)
-      | else-index-number w ↦
-          subst is (sym w.self-inside-is) (not_asked number old new place many c.index.result.now c.loop-place.invariant lt c.index.ensures w.if-index-number.false)
-    ]
+    let x = c.index_mut.result.now in
+    let rising = c.self.invariant.order c.if-not-self.false in
+    let within : c.in-Ok.place < length reads = omega (arith, c.in-Ok.ensures.bound, ap length c.deref.ensures.value) in
+    let found = subst (λ (rs : List Read). IsBinarySearchResult (λ (r : Read). nat_cmp r.number number) rs (Ok c.in-Ok.place)) c.deref.ensures.value (c.in-Ok.ensures.position (λ (r : Read). r.number) (answers_always _ _ _ (λ f a r g called. search rules))) in
+    confirmed_at number reads rising c.in-Ok.place x within c.index_mut.ensures.value (found_at number reads rising c.in-Ok.place x c.index_mut.ensures.value found)
+    ∙ ap (map (confirm number)) c.self.view_is
+
+pub returns-else-not-index : goal.returns-else-not-index
+returns-else-not-index c =
+    let reads = c.self.inside.reads.items in
+    let number = c.args.number in
+    let x = c.index.result.now in
+    let rising = c.self.invariant.order c.if-not-self.false in
+    let within : c.in-Ok.place < length reads = omega (arith, c.in-Ok.ensures.bound, ap length c.deref.ensures.value) in
+    let found = subst (λ (rs : List Read). IsBinarySearchResult (λ (r : Read). nat_cmp r.number number) rs (Ok c.in-Ok.place)) c.deref.ensures.value (c.in-Ok.ensures.position (λ (r : Read). r.number) (answers_always _ _ _ (λ f a r g called. search rules))) in
+    subst (λ (rs : List Read). rs ≡ map (confirm number) rs) c.self.view_is
+    (confirmed_already number reads rising c.in-Ok.place x within c.index.ensures (found_at number reads rising c.in-Ok.place x c.index.ensures found) c.if-not-index.false)
+
+pub returns-in_default : goal.returns-in_default
+returns-in_default c =
+    let reads = c.self.inside.reads.items in
+    let number = c.args.number in
+    let rising = c.self.invariant.order c.if-not-self.false in
+    let none = subst (λ (rs : List Read). IsBinarySearchResult (λ (r : Read). nat_cmp r.number number) rs (Err c.in_default.field-0)) c.deref.ensures.value (c.in_default.ensures.position (λ (r : Read). r.number) (answers_always _ _ _ (λ f a r g called. search rules))) in
+    subst (λ (rs : List Read). rs ≡ map (confirm number) rs) c.self.view_is (none_found number reads rising c.in_default.field-0 none)

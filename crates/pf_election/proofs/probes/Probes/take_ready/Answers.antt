@@ -1,7 +1,10 @@
-use Rattle.std.proofs.Common.{length, refl, sym, ap, subst, ◌∙◌}
+use Rattle.std.proofs.Common.{◌-◌, List, length, refl, sym, ap, subst, ◌∙◌}
 use Rattle.std.specs.List.{remove}
 use Rattle.pf_entry.specs.Sets as set
-use Rattle.pf_election.specs.Reads.{IsAt, IsLeastAt, is_ready}
+use Rattle.pf_election.specs.Reads.{AreKept, IsAt, IsLeastAt, is_ready}
+use Rattle.std.proofs.lemmas.Bool.{and_parts}
+use Rattle.pf_election.specs.declared.probes.Read.{Read}
+use Rattle.pf_election.proofs.Counting.{kept_less}
 use Rattle.pf_election.proofs.probes.Probes.take_ready.Goals as goal
 
 pub returns-clause-least : goal.returns-clause-least
@@ -19,3 +22,14 @@ returns-clause-least c =
       range_is = refl;
       others = c.remove-read.ensures.items ∙ ap (λ reads. remove reads place) c.self.view_is;
     }
+
+pub invariant_of-self : goal.invariant_of-self
+invariant_of-self c =
+    let reads = c.self.inside.reads.items in
+    let place = c.in_ok-place.place in
+    let read = c.remove-read.result in
+    let test = is_ready (set.contains c.args.applied.now.slots) in
+    let least = subst (λ reads. IsLeastAt test reads (length reads) place) c.deref.ensures.value c.in_ok-place.ensures in
+    let at : IsAt reads place read = sym c.remove-read.ensures.value in
+    subst (λ (rs : List Read). AreKept rs (c.self.inside.confirmed - 1) c.self.inside.in_order) (sym c.remove-read.ensures.items)
+    (kept_less reads place read c.self.inside.confirmed c.self.inside.in_order c.self.invariant least.inside (ap (λ (r : Read). r.confirmed) at ∙ (and_parts _ _ (least.here read at)).0))

@@ -1,0 +1,25 @@
+use Rattle.std.proofs.Common.{◌++◌, ◌∷◌, [], List, Bool, IsTrue, false, refl, sym, subst, ◌∙◌}
+use Rattle.pf_holes.specs.SlotSets.{IsRising}
+use Rattle.pf_election.specs.declared.probes.Read.{Read}
+use Rattle.pf_election.specs.Reads.{AreKept, numbers_in}
+use Rattle.pf_election.proofs.Counting.{kept_more}
+use Rattle.pf_election.proofs.probes.Probes.ask.Goals as goal
+use Rattle.pf_election.proofs.probes.Probes.ask.Goals.{then-self, else-self}
+
+no_truth : IsTrue false → ⊥
+no_truth is = cc
+
+pub invariant_of-self-2 : goal.invariant_of-self-2
+invariant_of-self-2 c =
+    let inside = c.self.inside in
+    let reads = inside.reads.items in
+    let r : Read = record { number = c.args.number; range = c.args.range; named = c.args.named; confirmed = false } in
+    let more = λ (last : Bool). kept_more reads r inside.confirmed inside.in_order last c.self.invariant refl in
+    subst (λ (xs : List Read). AreKept xs inside.confirmed c.if-self.in_order) (sym c.in_ok-push.ensures.items)
+    (elim c.if-self.branch [
+      | then-self w ↦
+          subst (AreKept (reads ++ r ∷ []) inside.confirmed) (sym w.in_order-is)
+          (more w.is_above_all-in_order.result (λ _. w.if-self.true)
+          (λ is. subst (λ (xs : List Read). IsRising (numbers_in xs) → IsRising (numbers_in xs ++ c.args.number ∷ [])) w.deref.ensures.value (w.is_above_all-in_order.ensures is)))
+      | else-self w ↦ subst (AreKept (reads ++ r ∷ []) inside.confirmed) (sym w.in_order-is) (more inside.in_order (λ is. is) (λ is. absurd (no_truth (sym w.if-self.false ∙ is))))
+    ])

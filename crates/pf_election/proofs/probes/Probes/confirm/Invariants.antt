@@ -1,6 +1,0 @@
-use Rattle.pf_election.specs.Reads.{confirm}
-use Rattle.pf_election.proofs.Confirming.{IsChanged}
-use Rattle.pf_election.proofs.probes.Probes.confirm.Given as goal
-
-abbrev pub invariant-loop-place : goal.invariant-loop-place
-invariant-loop-place l = IsChanged (confirm l.number) l.initial.self-inside.reads.items l.self-inside.reads.items l.place l.self-inside.confirmed
