@@ -1,9 +1,11 @@
 -- The least read that passes a test, along a list.
 use Rattle.std.proofs.Common.{◌≡◌, ℕ, zero, suc, ◌+◌, ◌<◌, ◌≤◌, inl, inr, Bool, true, false, List, [], ◌∷◌, length, get_or, Option, Some, None, arith, refl, sym, ap, subst, ◌∙◌}
-use Rattle.std.proofs.lemmas.Bool.{cases_eq, ltb-true, ltb-false}
+use Rattle.std.proofs.lemmas.List.{get_or-map, length-map}
+use Rattle.std.proofs.lemmas.Bool.{cases_eq, cases_lt, ltb-true, ltb-false}
 use Rattle.std.specs.Option.{IfSome}
 use Rattle.pf_election.specs.declared.probes.Read.{Read}
-use Rattle.pf_election.specs.Reads.{IsAt, IsLeast, IsLower}
+use Rattle.pf_election.specs.Reads.{IsAt, IsLeast, IsLeastAt, IsLower, numbers_in}
+use Rattle.pf_holes.specs.SlotSets.{IsRising}
 
 -- a read at any default is the element
 pub same_at : (rows : List Read) (k : ℕ) (d e x : Read) → k < length rows → get_or rows k d ≡ x → get_or rows k e ≡ e → e ≡ x
@@ -83,3 +85,22 @@ one_lower passes reads n o x l lt is pass lower = record {
         let less : r.number < p.number = ltb-true r.number p.number (sym (lower r p at there_it_is)) in
         let upto : p.number ≤ other.number = l.least p other k there_it_is low there pass in
         omega arith
+
+-- of reads that are in the order of their numbers, the first that passes is the least
+pub first_is_least : (passes : Read → Bool) (reads : List Read) (place : ℕ) → IsRising (numbers_in reads) → IsLeastAt passes reads (place + 1) place → place < length reads → IsLeastAt passes reads (length reads) place
+first_is_least passes reads place rising l lt = record {
+  inside = lt;
+  here = l.here;
+  least = λ r other k at low there pass.
+      elim (cases_lt place k) [
+        | inl above ↦
+            (let len = length-map reads (λ (x : Read). x.number) in
+            let one = get_or-map (λ (x : Read). x.number) reads place r 0 lt in
+            let two = get_or-map (λ (x : Read). x.number) reads k other 0 low in
+            let h : get_or (numbers_in reads) place 0 < get_or (numbers_in reads) k 0 = rising place k above (omega (arith, len, low)) in
+            let own = ap (λ (x : Read). x.number) at in
+            let its = ap (λ (x : Read). x.number) there in
+            omega (arith, h, one, two, own, its))
+        | inr upto ↦ l.least r other k at (omega (arith, upto)) there pass
+      ];
+}

@@ -126,7 +126,7 @@ impl Probes {
         if self.confirmed == 0 {
             return None;
         }
-        let place = least_ready(&self.reads, applied)?;
+        let place = least_ready(&self.reads, applied, self.in_order)?;
         let read = self.reads.remove(place);
         self.confirmed -= 1;
         Some((read.number, read.range))
@@ -150,13 +150,17 @@ fn is_above_all(reads: &[Read], number: u64) -> bool
     count == 0 || reads[count - 1].number < number
 }
 
-/// The place of the least read that is ready.
-fn least_ready(reads: &[Read], applied: &SlotSet) -> Option<usize>
+/// The place of the least read that is ready. Where the reads are in the order of their numbers, it is the first.
+fn least_ready(reads: &[Read], applied: &SlotSet, in_order: bool) -> Option<usize>
+    requires { IsTrue in_order → IsRising (numbers_in reads.now) }
     ensures { IsLeast (is_ready (set.contains applied.now.slots)) reads.now (length reads.now) result }
 {
     let mut least = None;
     for place in 0..reads.len() {
         if is_ready(&reads[place], applied) && is_lower(reads, place, least) {
+            if in_order {
+                return Some(place);
+            }
             least = Some(place);
         }
     }
