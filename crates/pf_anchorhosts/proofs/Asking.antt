@@ -1,11 +1,12 @@
 -- What the mount asks at a port goes into its group.
 use Rattle.std.proofs.Common.{◌≡◌, ◌≢◌, ◌⊎◌, ℕ, ◌<◌, Bool, true, false, ◌==◌, if◌then◌else◌, List, [], length, Option, Some, None, slice_get, slice_set, inl, inr, refl, sym, ap, subst, ◌∙◌, append-nil, arith}
-use Rattle.std.specs.Option.{option_map}
+use Rattle.std.specs.Prelude.{nat_lt}
 use Rattle.std.proofs.lemmas.Bool.{false≢true}
 use Rattle.std.proofs.lemmas.Bool.Decides.{eqb_tells}
 use Rattle.std.proofs.lemmas.Option.{none-some, same_Some}
 use Rattle.pf_base.specs.declared.asks.Ask.{Ask}
 use Rattle.pf_base.specs.Asks.{chunk_of}
+use Rattle.pf_entry.proofs.Cases.{by_test}
 use Rattle.pf_entry.proofs.Lists.{set_cases, set_there}
 use Rattle.pf_hosts.specs.pf_network.proofs.Lists.{set_elsewhere, set_length, set_mapped, something_there}
 use Rattle.pf_asks.specs.Ports.{PortIs}
@@ -25,7 +26,7 @@ use Rattle.pf_hosts.specs.Steps.{Goes, runs}
 use Rattle.pf_hosts.proofs.Driving.{ready_one}
 use Rattle.pf_hosts.proofs.Groups.{left_refl, run_there}
 use Rattle.pf_hosts.proofs.Stepping.{gone_refl}
-use Rattle.pf_anchorhosts.specs.Hosts.{AnchoredHostIs, Stepped, asks, asks_for, chunk_for, number_of, pending_at, pends_for, puts, puts_if, quietly}
+use Rattle.pf_anchorhosts.specs.Hosts.{AnchoredHostIs, Stepped, asks, asks_for, chunk_for, data_chunk, number_of, pending_at, pends_for, puts, puts_if, quietly}
 use Rattle.pf_anchorhosts.specs.Steps.{AreReadyFor, HasDone, IsAnchoredHostOf, IsAskingAt}
 use Rattle.pf_anchorhosts.proofs.Meeting.{gone_one}
 use Rattle.pf_anchorhosts.proofs.Pending.{at_place, found_so, pends_there}
@@ -40,6 +41,11 @@ pub files_stay : (m : AnchoredIs) (port : ℕ) → (having_asked m port).files �
 files_stay m port = kept_by (port == 3) m (asked_data m) (asked_anchor m port) refl refl
 
 -- What a port asks
+
+-- the chunk of file data is that of the ask
+data_of : (ask : Ask) (chunk : ℕ) → data_chunk (Some ask) ≡ Some chunk → chunk_of ask ≡ chunk
+data_of ask chunk =
+    by_test (nat_lt (chunk_of ask) 3) (λ b. (if b then None else Some (chunk_of ask)) ≡ Some chunk → chunk_of ask ≡ chunk) (λ _ none. absurd (none-some chunk none)) (λ _ same. same_Some (chunk_of ask) chunk same)
 
 -- nothing is handed out
 pub asks_nothing : (routes : RoutesIs) (chunks : List ChunkIs) (host : AnchoredHostIs) (port : ℕ) → AreReadyFor routes chunks host
@@ -99,14 +105,14 @@ module _ (routes : RoutesIs) (chunks : List ChunkIs) (host : AnchoredHostIs) (po
   none_for p at = false≢true (sym l.free ∙ found_so host p chunk at)
 
   -- at the port for file data an ask waits, and at the others the anchor is asked
-  at_data : (port == 3) ≡ true → (ask_at host.mount port ≡ host.mount.task.ask) × (option_map chunk_of host.mount.task.ask ≡ Some chunk)
+  at_data : (port == 3) ≡ true → (ask_at host.mount port ≡ host.mount.task.ask) × (data_chunk host.mount.task.ask ≡ Some chunk)
   at_data is = (
     ap (λ (c : Bool). if c then host.mount.task.ask else (anchor_hands (stand_of host.mount) host.mount.task.work port).ask) is,
-    sym (ap (λ (c : Bool). if c then option_map chunk_of host.mount.task.ask else Some port) is) ∙ l.is,
+    sym (ap (λ (c : Bool). if c then data_chunk host.mount.task.ask else Some port) is) ∙ l.is,
   )
 
   at_anchor : (port == 3) ≡ false → port ≡ chunk
-  at_anchor is = same_Some port chunk (sym (ap (λ (c : Bool). if c then option_map chunk_of host.mount.task.ask else Some port) is) ∙ l.is)
+  at_anchor is = same_Some port chunk (sym (ap (λ (c : Bool). if c then data_chunk host.mount.task.ask else Some port) is) ∙ l.is)
 
   -- nothing is pending at the port itself
   none_here : (its : ℕ) → pending_at host port ≡ Some its → ⊥
@@ -114,7 +120,7 @@ module _ (routes : RoutesIs) (chunks : List ChunkIs) (host : AnchoredHostIs) (po
     | inl at_three ↦
         let w = ready.is_host.asking port its at in
         let both = at_data at_three.0 in
-        none-some chunk (sym (ap (option_map chunk_of) (sym both.0 ∙ l.silent w.ask w.awaits)) ∙ both.1)
+        none-some chunk (sym (ap data_chunk (sym both.0 ∙ l.silent w.ask w.awaits)) ∙ both.1)
     | inr anchor ↦
         let low : port < 3 = omega (arith, l.low, anchor.1) in
         none_for port (at ∙ ap (λ (n : ℕ). Some n) (ready.is_host.anchors port its low at ∙ at_anchor anchor.0))
@@ -125,7 +131,7 @@ module _ (routes : RoutesIs) (chunks : List ChunkIs) (host : AnchoredHostIs) (po
   of_chunk ask is = elim (eqb_tells port 3) [
     | inl at_three ↦
         let both = at_data at_three.0 in
-        same_Some (chunk_of ask) chunk (sym (ap (option_map chunk_of) (sym both.0 ∙ is)) ∙ both.1)
+        data_of ask chunk (sym (ap data_chunk (sym both.0 ∙ is)) ∙ both.1)
     | inr anchor ↦
         let low : port < 3 = omega (arith, l.low, anchor.1) in
         l.of_anchor ask low is ∙ at_anchor anchor.0

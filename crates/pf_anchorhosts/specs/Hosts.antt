@@ -1,7 +1,7 @@
 -- A host over anchors: its mount, and its ports into the groups that serve the chunks.
-use Rattle.std.specs.Prelude.{ℕ, false, ◌==◌, if◌then◌else◌, List, [], ◌∷◌, ◌++◌, Bool, Option, Some, None, slice_get, slice_set}
+use Rattle.std.specs.Prelude.{ℕ, false, ◌==◌, nat_lt, if◌then◌else◌, List, [], ◌∷◌, ◌++◌, Bool, Option, Some, None, slice_get, slice_set}
 use Rattle.std.specs.List.{list_any}
-use Rattle.std.specs.Option.{option_and_then, option_map}
+use Rattle.std.specs.Option.{option_and_then}
 use Rattle.pf_base.specs.declared.asks.Ask.{Ask}
 use Rattle.pf_base.specs.declared.asks.Reply.{Reply}
 use Rattle.pf_base.specs.Asks.{chunk_of}
@@ -105,9 +105,14 @@ hears_all routes chunks host = followed (followed (followed (hears routes 0 chun
 
 -- Asks
 
+-- File data lie in no anchor. Tables that stand for no tree may have a file's block there; an ask for such a block is never put
+abbrev pub data_chunk : Option Ask → Option ℕ
+data_chunk None = None
+data_chunk (Some ask) = if nat_lt (chunk_of ask) 3 then None else Some (chunk_of ask)
+
 -- the chunk of what the mount asks at the port next: the anchor, or that of its file data
 abbrev pub chunk_for : AnchoredIs → (port : ℕ) → Option ℕ
-chunk_for m port = if port == 3 then option_map chunk_of m.task.ask else Some port
+chunk_for m port = if port == 3 then data_chunk m.task.ask else Some port
 
 -- an ask goes into the mount's port into the group that has the asks for its chunk
 abbrev pub puts : RoutesIs → (port : ℕ) → List ChunkRun → AnchoredHostIs → Ask → Stepped

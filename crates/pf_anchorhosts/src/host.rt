@@ -31,6 +31,9 @@ use std::thread::Threads;
 /// How many ports a host has.
 const PORTS: usize = 4;
 
+/// The chunks below this are the anchors.
+const ANCHORS: u8 = 3;
+
 /// The port for file data. Those below it are the ports into the anchors.
 const DATA: u8 = 3;
 
@@ -212,15 +215,15 @@ impl AnchoredHost {
         Some(route.group)
     }
 
-    /// The chunk of what the mount asks at the port next: the anchor, or that of its file data.
+    /// The chunk of what the mount asks at the port next: the anchor, or that of its file data, which lie in no anchor.
     fn chunk_for(&self, port: u8) -> Option<u8>
         ensures { result ≡ chunk_for self.now.mount port }
     {
-        if port == DATA {
-            self.mount.data_chunk()
-        } else {
-            Some(port)
+        if port != DATA {
+            return Some(port);
         }
+        let chunk = self.mount.data_chunk()?;
+        if chunk < ANCHORS { None } else { Some(chunk) }
     }
 
     /// Whether some ask for the chunk is pending.

@@ -7,3 +7,5 @@ pub mod Asking
 pub mod Hearing
 pub mod Telling
 pub mod Turning
+pub mod Spelling
+pub mod Spelled

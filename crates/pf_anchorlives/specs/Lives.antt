@@ -7,6 +7,7 @@ use Rattle.pf_volume.specs.Volumes.{Extent, size_of}
 use Rattle.pf_inodes.specs.Tables.{Tables, new_tables}
 use Rattle.pf_tree.specs.declared.calls.FileCall.{FileCall}
 use Rattle.pf_txn.specs.Reading.{txn_in}
+use Rattle.pf_txn.specs.Spelling.{IsShortCall}
 use Rattle.pf_anchors.specs.declared.anchors.AnchorNext.{AnchorNext}
 use Rattle.pf_anchors.specs.declared.anchors.AnchorNext.TheVariants.{Idle}
 use Rattle.pf_anchors.specs.declared.anchors.AnchorStep.{AnchorStep}
@@ -155,3 +156,12 @@ CanComeFrom lives (t ∷ told) = CanCome lives t × CanComeFrom (lived lives t) 
 -- each input is one that its mount can take then
 abbrev pub CanBe : Extent → List Told → Type 0
 CanBe v told = CanComeFrom (all_opened v) told
+
+-- each call that begins has short names, as each call of words has
+abbrev pub IsShortInput : Input → Type 0
+IsShortInput (Begins call) = IsShortCall call
+IsShortInput input = Unit {0}
+
+abbrev pub AreShort : List Told → Type 0
+AreShort [] = Unit {0}
+AreShort (t ∷ told) = IsShortInput t.input × AreShort told

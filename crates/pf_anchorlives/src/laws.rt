@@ -1,13 +1,14 @@
 //! Laws of all that mounts over anchors may hear.
 ghost use Rattle.std.specs.Prelude.{◌≡◌, ◌≢◌, ℕ, ◌<◌, ◌≤◌, List, length, None, Some};
 ghost use Rattle.pf_base.specs.declared.asks.Reply.{Reply};
-ghost use Rattle.pf_volume.specs.Volumes.{Extent};
+ghost use Rattle.pf_volume.specs.Volumes.{Extent, IsVolume};
 ghost use Rattle.pf_paxos.specs.Journals.{Begins};
 ghost use Rattle.pf_anchors.specs.Runs.{At, Calls, turn_answered, turn_of};
 ghost use Rattle.pf_anchorlist.specs.Journals.{AreAllRegistersAt, IsTransactionList, journal_from, new_journal};
 ghost use Rattle.pf_anchormount.specs.Standing.{Answers};
 ghost use Rattle.pf_anchorlives.specs.Doings.{act_of, doings, reply_of};
-ghost use Rattle.pf_anchorlives.specs.Lives.{CanBe, OfBallot, Told, lives, tables_from};
+ghost use Rattle.pf_journal.specs.Sectors.{HasSpelling};
+ghost use Rattle.pf_anchorlives.specs.Lives.{AreShort, CanBe, OfBallot, Told, lives, tables_from};
 
 /// Whatever any number of mounts over anchors hear, they are mounts of a journal over these anchors: each mount's list there is what its
 /// own ballots told as decided, it stands behind as many positions, and its ballots at its position are those of the journal.
@@ -34,4 +35,10 @@ pub fn tables_are_those_of_decisions()
 pub fn mounts_over_anchors_share_one_list()
     ensures mounts { (v : Extent) (told : List Told) (m other : ℕ) → CanBe v told → AreAllRegistersAt (doings v told) → m < 16 → other < 16 → length (lives v told m).decided ≤ length (lives v told other).decided → Begins (lives v told m).decided (lives v told other).decided }
     ensures list { (v : Extent) (told : List Told) (m : ℕ) (list : List (List ℕ)) → CanBe v told → AreAllRegistersAt (doings v told) → m < 16 → IsTransactionList (doings v told) list → Begins (lives v told m).decided list }
+{}
+
+/// The own block of each mount, which its ballots write, has a spelling as a sector, whatever the mounts hear, where the names of their calls
+/// are short.
+pub fn ballots_write_spelled_blocks()
+    ensures { (v : Extent) (told : List Told) (m : ℕ) → IsVolume v → AreShort told → HasSpelling (lives v told m).mount.position.anchors.own }
 {}

@@ -4,6 +4,6 @@
 mod laws;
 
 pub use laws::{
-    answers_are_turns, mounts_are_of_a_journal, mounts_over_anchors_share_one_list,
-    tables_are_those_of_decisions,
+    answers_are_turns, ballots_write_spelled_blocks, mounts_are_of_a_journal,
+    mounts_over_anchors_share_one_list, tables_are_those_of_decisions,
 };

@@ -20,11 +20,11 @@ use Rattle.pf_mounted.proofs.Plain.{AreNoMounts, HasSameHosts, IsNoMounts, begun
 use Rattle.pf_mounted.proofs.Running.{IsKeptThrough, new_group, running_through}
 
 -- over anchors no other mount is made; and without one nothing is told of any
-record IsBare (v : VolumeRun) (told : List Moment) : Type 0 where
-  bare : (anchored : AnchoredHosts) → v.anchored ≡ Some anchored → length v.hosts ≡ 0
-  none : length v.hosts ≡ 0 → AreNoMounts told
+pub record IsBare (v : VolumeRun) (told : List Moment) : Type 0 where
+  pub bare : (anchored : AnchoredHosts) → v.anchored ≡ Some anchored → length v.hosts ≡ 0
+  pub none : length v.hosts ≡ 0 → AreNoMounts told
 
-some_hosts : (hosts : Hosts) (m : ℕ) (host : HostIs) → host_at hosts m ≡ Some host → length hosts ≡ 0 → ⊥
+pub some_hosts : (hosts : Hosts) (m : ℕ) (host : HostIs) → host_at hosts m ≡ Some host → length hosts ≡ 0 → ⊥
 some_hosts [] m host at none = none-some host at
 some_hosts (first ∷ hosts) m host at none = omega (arith, none)
 
@@ -43,10 +43,10 @@ with_hosts v w told all m host its at same long is = record {
 }
 
 module _ (halts : List Halt) where
-  abbrev Bare : Option Kind → VolumeRun → List Moment → Type 0
+  abbrev pub Bare : Option Kind → VolumeRun → List Moment → Type 0
   Bare kind v told = IsBare v told
 
-  kept : IsKeptThrough halts Bare
+  pub kept : IsKeptThrough halts Bare
   kept = record {
     deciding = λ kind v told is. is;
     writing = λ kind v told text is. more_bare v v told (Writes text ∷ []) (refl, refl) (tt, tt) is;
@@ -73,7 +73,7 @@ module _ (halts : List Halt) where
         };
     beginning = λ kind v told m host words call at rest said is. with_hosts v _ told _ m host None at refl (set_length v.hosts m (Some (begun v.routes v.chunks host call).host)) is;
     killing = λ kind v told m host at is. with_hosts v _ told _ m host None at refl (set_length v.hosts m None) is;
-    anchoring = λ kind v told plain none is. record { bare = λ anchored there. none; none = is.none };
+    anchoring = λ kind v told plain none room is. record { bare = λ anchored there. none; none = is.none };
     over_mounting = λ v told anchored there large few is. record { bare = λ its at. is.bare anchored there; none = λ zero. both_no_mounts told [] (is.none zero) tt };
     over_stepping = λ kind v told anchored m host there at is. record {
       bare = λ its now. is.bare anchored there;

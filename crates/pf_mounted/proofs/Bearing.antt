@@ -35,7 +35,6 @@ use Rattle.pf_world.specs.pf_chunk.specs.Runs.{ChunkRun, mover_port}
 use Rattle.pf_world.specs.pf_hosts.specs.Hosts.{Drove, drove, drove_as, drove_of, events_of, handed, put_at, run_after, with_run}
 use Rattle.pf_world.specs.pf_hosts.specs.Moments.{Begins, Carries, Ends, Hands, Heard, Moment, Moves as MovesTo, Turns, Writes}
 use Rattle.pf_world.specs.pf_fleet.specs.Volumes.{VolumeRun}
-use Rattle.pf_world.specs.declared.kind.Kind.{Kind}
 use Rattle.pf_mounted.specs.Carrying.{asked_of}
 use Rattle.pf_mounted.specs.Epochs.{epoch_of, group_at, serving}
 use Rattle.pf_mounted.specs.Handing.{reached}
@@ -53,7 +52,6 @@ use Rattle.pf_mounted.proofs.Replying.{driven_replies, reply_is}
 use Rattle.pf_mounted.proofs.Routing.{AreRoutes, Having, IsHomeOf, IsStill, old_one, on_the_move, still_groups, still_no_move}
 use Rattle.pf_mounted.proofs.Telling.{AreAsTold, IsAsTold, MoverAsTold, passed, port_passed}
 use Rattle.pf_mounted.proofs.Tracing.{IsNoMove, IsWithin, asks_of, is_hauled, moves_more, writes_pass}
-use Rattle.pf_mounted.proofs.Writers.{alone_told, asked_alone, drove_alone}
 
 -- What the mover's ports have to ask
 
@@ -213,7 +211,7 @@ module _ (count : ℕ) (told more : List Moment) (chunks new : List ChunkRun) (r
 
 -- A step of its port
 
-module _ (kind : Option Kind) (halts : List Halt) (count n : ℕ) (r : RoutesIs) (told : List Moment) (routes : AreRoutes count n r told) (chunks : List ChunkRun) (is : AreSo kind count told chunks) (moving : Moving) (moves : r.moving ≡ Some moving) (mover : MoverIs)
+module _ (known : Type 0) (halts : List Halt) (count n : ℕ) (r : RoutesIs) (told : List Moment) (routes : AreRoutes count n r told) (chunks : List ChunkRun) (is : AreSo known count told chunks) (moving : Moving) (moves : r.moving ≡ Some moving) (mover : MoverIs)
     (b : Bears count told chunks r moving mover) where
   abbrev role : Asked
   role = role_of_ask b.ask
@@ -242,10 +240,10 @@ module _ (kind : Option Kind) (halts : List Halt) (count n : ℕ) (r : RoutesIs)
   asked_it c there port at = b.waits k c port there at ∙ ap (λ o. asked_for o (Some b.ask)) (borne_home moving.chunk k).here ∙ its_own (chunk_of b.ask) moving.chunk (Some b.ask) None b.of
 
   module _ (c : ChunkRun) (there : slice_get chunks k ≡ Some c) where
-    hands_so : (place : ℕ) → IsHandedAt mover_port c (driven halts c mover_port) place → IsSo count (drove_as chunks mover_port k (driven halts c mover_port)).chunks told (Hands mover_port k place)
+    hands_so : (place : ℕ) → IsHandedAt mover_port c (driven halts c mover_port) place → IsSo known count (drove_as chunks mover_port k (driven halts c mover_port)).chunks told (Hands mover_port k place)
     hands_so place h =
         let same : h.ask ≡ b.ask = same_Some h.ask b.ask (sym h.pending ∙ asked_it c there h.port h.there) in record {
-          of_mount = λ small. absurd (omega (arith, small));
+          of_mount = λ _ small. absurd (omega (arith, small));
           rests = λ small. absurd (omega (arith, small));
           of_mover = λ _. (
             refl,
@@ -256,34 +254,33 @@ module _ (kind : Option Kind) (halts : List Halt) (count n : ℕ) (r : RoutesIs)
               pending = b.pending ∙ ap (λ a. Some a) (sym same);
               of = ap (λ a. group_of_role told moving.chunk (role_of_ask a)) same ∙ group_is role;
               group = (driven halts c mover_port).chunk;
-              there = now_there halts count told chunks is.each mover_port k c there;
+              there = now_there known halts count told chunks is.each mover_port k c there;
               server = h.server;
               answer = h.answer;
               is = h.is;
             },
           );
-          behind = behind_all halts count told chunks is.each mover_port k c there place h;
+          behind = behind_all known halts count told chunks is.each mover_port k c there place h;
           group = (driven halts c mover_port).chunk;
-          there = now_there halts count told chunks is.each mover_port k c there;
-          within = event_within halts count told chunks is.each mover_port k c there place h;
+          there = now_there known halts count told chunks is.each mover_port k c there;
+          within = event_within known halts count told chunks is.each mover_port k c there place h;
         }
 
-  drove_ports : (o : Option ChunkRun) → slice_get chunks k ≡ o → AreAsTold count (told ++ (drove_of halts chunks mover_port k o).told) (drove_of halts chunks mover_port k o).chunks
-  drove_ports None there = λ j c at. passed_all count told j c [] tt (is.ports j c at)
+  drove_ports : (o : Option ChunkRun) → slice_get chunks k ≡ o → AreAsTold known count (told ++ (drove_of halts chunks mover_port k o).told) (drove_of halts chunks mover_port k o).chunks
+  drove_ports None there = λ j c at. passed_all known count told j c [] tt (is.ports j c at)
   drove_ports (Some c) there =
       let d : Driven = driven halts c mover_port in
-      set_told count told (handed mover_port k d.place ++ Writes d.text ∷ []) chunks k d.chunk is.ports (mover_told halts count told k c (is.ports k c there) mover_port refl role (its_role role c.group.history))
+      set_told known count told (handed mover_port k d.place ++ Writes d.text ∷ []) chunks k d.chunk is.ports (mover_told known halts count told k c (is.ports k c there) mover_port refl role (its_role role c.group.history))
       (λ j apart. handed_passes (asks_of count told j) j mover_port k d.place d.text apart)
 
-  drove_each : (o : Option ChunkRun) → slice_get chunks k ≡ o → AllSo count (told ++ (drove_of halts chunks mover_port k o).told) (drove_of halts chunks mover_port k o).chunks
-  drove_each None there = all_plain count chunks told [] is.each tt
-  drove_each (Some c) there = drove_said halts count told chunks is.each mover_port k c there (hands_so c there)
+  drove_each : (o : Option ChunkRun) → slice_get chunks k ≡ o → AllSo known count (told ++ (drove_of halts chunks mover_port k o).told) (drove_of halts chunks mover_port k o).chunks
+  drove_each None there = all_plain known count chunks told [] is.each tt
+  drove_each (Some c) there = drove_said known halts count told chunks is.each mover_port k c there (hands_so c there)
 
-  pub drove_so : AreSo kind count (told ++ d.told) d.chunks
+  pub drove_so : AreSo known count (told ++ d.told) d.chunks
   drove_so = record {
     ports = drove_ports (slice_get chunks k) refl;
     each = drove_each (slice_get chunks k) refl;
-    alone = λ own. drove_alone halts chunks told (is.alone own) mover_port k (slice_get chunks k) refl;
   }
 
   drives_still : Every IsStill d.told
@@ -335,7 +332,7 @@ module _ (kind : Option Kind) (halts : List Halt) (count n : ℕ) (r : RoutesIs)
       let text = (driven halts c mover_port).text in
       let all : List Moment = told ++ Writes text ∷ [] in
       let heard : Heard = record { reply = reply; by = events_of (slice_get its.chunks k) } in
-      let by_length = by_is halts count told chunks is.each mover_port k c there reply r0 in
+      let by_length = by_is known halts count told chunks is.each mover_port k c there reply r0 in
       let same_ask : r0.ask ≡ b.ask = same_Some r0.ask b.ask (sym r0.pending ∙ asked_it c there r0.port r0.there) in
       let port = (is.ports k c there).hauled role in
       let history = c.group.history in
@@ -345,19 +342,19 @@ module _ (kind : Option Kind) (halts : List Halt) (count n : ℕ) (r : RoutesIs)
       kind_role r0.ask reply (reply_of_kind c.group.setup (past_in history (mover_trace history k role count told)) r0.port driven_so c.group.state r0.ask r0.pending reply r0.told) ∙ ap role_of_ask same_ask in
       let traced : mover_trace history k (role_of_reply reply) count all ≡ mover_trace history k role count told =
       ap (λ x. mover_trace history k x count all) kind_is ∙ ap (λ (t : MoverTrace). trace_in t role) (moves_more history k count told (Writes text)) in
-      subst (λ (x : List Moment). IsCarriedBack count its.chunks x moving.chunk heard) (sym (told_is halts count told chunks is.each mover_port k c there reply r0)) (record {
+      subst (λ (x : List Moment). IsCarriedBack count its.chunks x moving.chunk heard) (sym (told_is known halts count told chunks is.each mover_port k c there reply r0)) (record {
         ask = r0.ask;
         pending = still_carried told (Writes text ∷ []) moving.chunk (tt, tt) ∙ b.pending ∙ ap (λ a. Some a) (sym same_ask);
         number = k;
         of = asked_role all reply ∙ ap (group_of_role all moving.chunk) kind_is ∙ role_still (Writes text ∷ []) (tt, tt) role ∙ group_is role;
-        since = subst (λ (x : List Moment). reached k x ≤ heard.by) (told_is halts count told chunks is.each mover_port k c there reply r0) (reached_by halts count told chunks is.each mover_port k c there reply r0);
+        since = subst (λ (x : List Moment). reached k x ≤ heard.by) (told_is known halts count told chunks is.each mover_port k c there reply r0) (reached_by known halts count told chunks is.each mover_port k c there reply r0);
         group = now;
-        there = now_there halts count told chunks is.each mover_port k c there;
+        there = now_there known halts count told chunks is.each mover_port k c there;
         within = omega (arith, by_length);
         replied = λ legal.
             let replied_it = reply_is c (is.ports k c there).stands (mover_trace history k role count told) r0.port driven_so r0.ask r0.pending reply r0.told (subst (λ (g : Chunk). IsLegal g.setup g.history) r0.still legal) in
             subst (λ (setup : Setup). IsReplied setup (past_in (take heard.by now.group.history) (mover_trace (take heard.by now.group.history) k (role_of_reply reply) count all)) r0.ask reply) (sym (ap (λ (g : Chunk). g.setup) r0.still))
-            (subst (λ (h : History). IsReplied c.group.setup (past_in h (mover_trace h k (role_of_reply reply) count all)) r0.ask reply) (sym (taken halts count told chunks is.each mover_port k c there reply r0))
+            (subst (λ (h : History). IsReplied c.group.setup (past_in h (mover_trace h k (role_of_reply reply) count all)) r0.ask reply) (sym (taken known halts count told chunks is.each mover_port k c there reply r0))
             (subst (λ (t : Trace). IsReplied c.group.setup (past_in history t) r0.ask reply) (sym traced) replied_it));
       })
 
@@ -405,14 +402,14 @@ carry_other history k t chunk heard next its other =
     (λ _. number_other history (suc t.count) t.role next one its other ∙ counted_once t (suc t.count) its) (λ _. refl)
 
 -- the group is not asked: its ports are as they were
-carry_passed : (count : ℕ) (told : List Moment) (k : ℕ) (c : ChunkRun) (chunk : ℕ) (heard : Option Heard) (next : MoveNext) → IsOther (moves_into c.group.history k count told).role (asked_by next) → IsAsTold count told k c
-    → IsAsTold count (told ++ Carries chunk heard next ∷ []) k c
-carry_passed count told k c chunk heard next other is =
+carry_passed : (known : Type 0) (count : ℕ) (told : List Moment) (k : ℕ) (c : ChunkRun) (chunk : ℕ) (heard : Option Heard) (next : MoveNext) → IsOther (moves_into c.group.history k count told).role (asked_by next) → IsAsTold known count told k c
+    → IsAsTold known count (told ++ Carries chunk heard next ∷ []) k c
+carry_passed known count told k c chunk heard next other is =
     let y : Moment = Carries chunk heard next in record {
       number = is.number;
       stands = is.stands;
       within = every_append _ told (y ∷ []) is.within (tt, tt);
-      driven = λ m small. port_passed count told k c y is m tt refl (is.driven m small);
+      driven = λ of_mounts m small. port_passed known count told k c y is m tt refl (is.driven of_mounts m small);
       hauled = λ role. went_past count told k c y role (ap (past_in c.group.history) (carry_other c.group.history k (moves_into c.group.history k count told) chunk heard next role other)) tt (is.hauled role);
     }
 
@@ -436,7 +433,7 @@ number_not_its n Writing Reading (Write span sectors) t apart = refl
 number_not_its n Writing Reading Switch t apart = refl
 
 -- an ask is put into the port of the group that has its role
-module _ (count : ℕ) (told : List Moment) (k : ℕ) (c : ChunkRun) (is : IsAsTold count told k c) (chunk : ℕ) (heard : Option Heard) (next : MoveNext) (role : Asked) (asks_so : asked_by next ≡ Some role)
+module _ (known : Type 0) (count : ℕ) (told : List Moment) (k : ℕ) (c : ChunkRun) (is : IsAsTold known count told k c) (chunk : ℕ) (heard : Option Heard) (next : MoveNext) (role : Asked) (asks_so : asked_by next ≡ Some role)
     (has : (moves_into c.group.history k count told).role ≡ Some role) (of : (moves_into c.group.history k count told).chunk ≡ chunk) (ask : Ask) (free : (p : PortIs) → slice_get c.ports mover_port ≡ Some p → p.ask ≡ None) where
   abbrev y : Moment
   y = Carries chunk heard next
@@ -496,15 +493,15 @@ module _ (count : ℕ) (told : List Moment) (k : ℕ) (c : ChunkRun) (is : IsAsT
         there = λ is_its. absurd (apart (same_Some its role (sym (subst (λ (g : Chunk). (moves_into g.history k count (told ++ y ∷ [])).role ≡ Some its) (same_group o) is_its) ∙ still_role)));
       }
 
-  pub carry_asked : IsAsTold count (told ++ y ∷ []) k (asked c mover_port ask)
+  pub carry_asked : IsAsTold known count (told ++ y ∷ []) k (asked c mover_port ask)
   carry_asked =
       let o = slice_get c.ports mover_port in
       let group = same_group o in record {
         number = ap (λ (g : Chunk). g.number) group ∙ is.number;
         stands = subst (λ (g : Chunk). g.state ≡ replay g.setup g.history) (sym group) is.stands;
         within = subst (λ (g : Chunk). Every (IsWithin k (length g.history)) (told ++ y ∷ [])) (sym group) (every_append (IsWithin k (length history)) told (y ∷ []) is.within (tt, tt));
-        driven = λ m small.
-            let was = port_passed count told k c y is m tt refl (is.driven m small) in record {
+        driven = λ of_mounts m small.
+            let was = port_passed known count told k c y is m tt refl (is.driven of_mounts m small) in record {
               port = was.port;
               its = subst (λ (g : Chunk). IsDriven g.setup (past_of count g.history m k (told ++ y ∷ [])) was.port) (sym group) was.its;
               there = λ chunk its_chunk. other_port o m small ∙ was.there chunk its_chunk;
@@ -517,13 +514,13 @@ module _ (count : ℕ) (told : List Moment) (k : ℕ) (c : ChunkRun) (is : IsAsT
 
 -- What it wants done comes of it
 
-module _ (kind : Option Kind) (count : ℕ) (v : VolumeRun) (told : List Moment) (routes : AreRoutes count (length v.chunks) v.routes told) (is : AreSo kind count told v.chunks) (moving : Moving) (moves : v.routes.moving ≡ Some moving) (f : IsFree count told v.chunks v.routes moving)
+module _ (known : Type 0) (count : ℕ) (v : VolumeRun) (told : List Moment) (routes : AreRoutes count (length v.chunks) v.routes told) (is : AreSo known count told v.chunks) (moving : Moving) (moves : v.routes.moving ≡ Some moving) (f : IsFree count told v.chunks v.routes moving)
     (mover : MoverIs) (its : mover.chunk ≡ moving.chunk) (heard : Option Heard) (back : IsBackIf count v.chunks told moving.chunk heard) where
   pub between_is : between v.routes ≡ Some (record { from = f.from; to = moving.to })
   between_is = ap (between_in v.routes.routes) moves ∙ ap (option_map (λ (g : ℕ). let b : Between = record { from = g; to = moving.to } in b)) f.from_is
 
   -- it is so of the moment
-  carry_so : (next : MoveNext) → IsSo count v.chunks told (Carries mover.chunk heard next)
+  carry_so : (next : MoveNext) → IsSo known count v.chunks told (Carries mover.chunk heard next)
   carry_so next = subst (λ c. IsOnTheMove count told c × IsBackIf count v.chunks told c heard) (sym its) (on_the_move count (length v.chunks) v.routes told routes moving moves, back)
 
   other_if : (history : History) (k : ℕ) (role : Asked) (next : MoveNext) → asked_by next ≡ Some role → k ≢ group_for f.from moving.to role → IsOther (moves_into history k count told).role (asked_by next)
@@ -558,24 +555,23 @@ module _ (kind : Option Kind) (count : ℕ) (v : VolumeRun) (told : List Moment)
     has_role Reading history = f.roles.reads history
     has_role Writing history = f.roles.writes history
 
-    put_ports : (o : Option ChunkRun) → slice_get v.chunks g ≡ o → AreAsTold count (told ++ saying ∷ []) (with_run v.chunks g (run_after o (λ c. asked c mover_port ask)))
+    put_ports : (o : Option ChunkRun) → slice_get v.chunks g ≡ o → AreAsTold known count (told ++ saying ∷ []) (with_run v.chunks g (run_after o (λ c. asked c mover_port ask)))
     put_ports None there = λ j c now.
-        carry_passed count told j c mover.chunk heard next (other_if c.group.history j role next asks_so (λ same. none-some c (sym there ∙ ap (slice_get v.chunks) (sym same) ∙ now))) (is.ports j c now)
+        carry_passed known count told j c mover.chunk heard next (other_if c.group.history j role next asks_so (λ same. none-some c (sym there ∙ ap (slice_get v.chunks) (sym same) ∙ now))) (is.ports j c now)
     put_ports (Some c) there = λ j x now. elim (set_cases v.chunks g (asked c mover_port ask) j x now) [
       | inl here ↦
-          subst (λ (i : ℕ). IsAsTold count (told ++ saying ∷ []) i x) (sym here.0) (subst (λ (z : ChunkRun). IsAsTold count (told ++ saying ∷ []) g z) here.1
-          (carry_asked count told g c (is.ports g c there) mover.chunk heard next role asks_so (has_role role c.group.history).0 ((has_role role c.group.history).1 ∙ sym its) ask (λ p at. f.free g c p there at)))
-      | inr away ↦ carry_passed count told j x mover.chunk heard next (other_if x.group.history j role next asks_so away.0) (is.ports j x away.1)
+          subst (λ (i : ℕ). IsAsTold known count (told ++ saying ∷ []) i x) (sym here.0) (subst (λ (z : ChunkRun). IsAsTold known count (told ++ saying ∷ []) g z) here.1
+          (carry_asked known count told g c (is.ports g c there) mover.chunk heard next role asks_so (has_role role c.group.history).0 ((has_role role c.group.history).1 ∙ sym its) ask (λ p at. f.free g c p there at)))
+      | inr away ↦ carry_passed known count told j x mover.chunk heard next (other_if x.group.history j role next asks_so away.0) (is.ports j x away.1)
     ]
 
     abbrev new : List ChunkRun
     new = put_at v.chunks (Some g) mover_port ask
 
-    pub ask_so : AreSo kind count (told ++ saying ∷ []) new
+    pub ask_so : AreSo known count (told ++ saying ∷ []) new
     ask_so = record {
       ports = put_ports (slice_get v.chunks g) refl;
-      each = all_grown count (told ++ saying ∷ []) v.chunks new (put_grow v.chunks (Some g) mover_port ask) (one_more (IsSo count v.chunks) told saying is.each (carry_so next));
-      alone = λ own. asked_alone v.chunks told (saying ∷ []) mover_port g ask (slice_get v.chunks g) refl (is.alone own);
+      each = all_grown known count (told ++ saying ∷ []) v.chunks new (put_grow v.chunks (Some g) mover_port ask) (one_more (IsSo known count v.chunks) told saying is.each (carry_so next));
     }
 
     pub ask_bears : mover.asked ≡ Some role → Bears count (told ++ saying ∷ []) new v.routes moving mover
@@ -596,11 +592,10 @@ module _ (kind : Option Kind) (count : ℕ) (v : VolumeRun) (told : List Moment)
   switch_passed : (h : History) (k : ℕ) → IsOther (moves_into h k count told).role None
   switch_passed h k r has none = none-some r none
 
-  pub switch_so : (text : List ℕ) → AreSo kind count (told ++ Carries mover.chunk heard Switch ∷ Writes text ∷ []) v.chunks
+  pub switch_so : (text : List ℕ) → AreSo known count (told ++ Carries mover.chunk heard Switch ∷ Writes text ∷ []) v.chunks
   switch_so text =
       let y : Moment = Carries mover.chunk heard Switch in
-      subst (λ (all : List Moment). AreSo kind count all v.chunks) (append_assoc told (y ∷ []) (Writes text ∷ [])) (record {
-        ports = λ k c at. passed count (told ++ y ∷ []) k c (Writes text) (carry_passed count told k c mover.chunk heard Switch (switch_passed c.group.history k) (is.ports k c at)) (writes_pass (asks_of count (told ++ y ∷ []) k) k text);
-        each = all_plain count v.chunks (told ++ y ∷ []) (Writes text ∷ []) (one_more (IsSo count v.chunks) told y is.each (carry_so Switch)) (tt, tt);
-        alone = λ own. alone_told v.chunks (told ++ y ∷ []) (Writes text ∷ []) (alone_told v.chunks told (y ∷ []) (is.alone own));
+      subst (λ (all : List Moment). AreSo known count all v.chunks) (append_assoc told (y ∷ []) (Writes text ∷ [])) (record {
+        ports = λ k c at. passed known count (told ++ y ∷ []) k c (Writes text) (carry_passed known count told k c mover.chunk heard Switch (switch_passed c.group.history k) (is.ports k c at)) (writes_pass (asks_of count (told ++ y ∷ []) k) k text);
+        each = all_plain known count v.chunks (told ++ y ∷ []) (Writes text ∷ []) (one_more (IsSo known count v.chunks) told y is.each (carry_so Switch)) (tt, tt);
       })

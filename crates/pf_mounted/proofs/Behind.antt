@@ -23,7 +23,8 @@ use Rattle.pf_mounted.specs.Mounts.{mount_after}
 use Rattle.pf_mounted.specs.Scripts.{IsPlainRun}
 use Rattle.pf_mounted.proofs.Counting.{calls_of_lines}
 use Rattle.pf_mounted.proofs.Finished.{below_ended, below_planned}
-use Rattle.pf_mounted.proofs.Holding.{calls_of_words, mounts_alone}
+use Rattle.pf_mounted.proofs.Holding.{calls_of_words}
+use Rattle.pf_mounted.proofs.OwnWrites.{mounts_alone}
 use Rattle.pf_mounted.proofs.Lawful.{answers, asks_told, can_be, known}
 use Rattle.pf_mounted.proofs.Missing.{planned_late_of_all}
 use Rattle.pf_mounted.proofs.Sizing.{has_room}
@@ -39,7 +40,7 @@ module _ (halts : List Halt) (sessions : List Session) (lines : List Line) (scri
       let chunks = run.world.volume.chunks in
       let its = answers halts sessions lines script lawful in
       let room = has_room halts sessions lines script in
-      registers_held v chunks its run.told (known halts sessions lines script lawful) volume (room.room some) room.chunks (mounts_alone halts sessions lines script (room.mounted some)) (calls_of_words halts sessions lines script) (asks_told halts sessions lines script lawful)
+      registers_held v chunks its run.told (known halts sessions lines script lawful) volume (room.room some) room.chunks (mounts_alone halts sessions lines script.script (room.mounted some)) (calls_of_words halts sessions lines script) (asks_told halts sessions lines script lawful)
 
   pub planned_late : (before mid after : List Moment) (m : ℕ) (call : FileCall) → (world_run halts sessions lines).told ≡ before ++ Begins m call ∷ (mid ++ after)
       → (mount : MountIs) → mount_after (world_run halts sessions lines).world.volume.extent (before ++ Begins m call ∷ mid) m ≡ Some mount → IsPlanned mount.work

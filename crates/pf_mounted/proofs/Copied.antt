@@ -34,7 +34,7 @@ use Rattle.pf_protocol.specs.Histories.{History, IsPrefix, replay}
 use Rattle.pf_protocol.specs.Ports.{FollowsRule, HasEnded, IsTarget, Submission, submitting}
 use Rattle.pf_protocol.specs.Servers.{Setup}
 use Rattle.pf_ports.proofs.Stepping.{follows}
-use Rattle.pf_positions.specs.Deeds.{BringsBy, Deed, Groups}
+use Rattle.pf_positions.specs.Deeds.{BringsBy, Deed, Groups, Submits}
 use Rattle.pf_move.specs.declared.mover.Asked.{Asked}
 use Rattle.pf_move.specs.declared.mover.Asked.TheVariants.{Reading, Writing}
 use Rattle.pf_move.specs.declared.mover.MoveNext.{MoveNext}
@@ -44,25 +44,22 @@ use Rattle.pf_move.specs.Turns.{Copy, Turn, Turns as AreTurns, answers, given, i
 use Rattle.pf_world.specs.pf_chunk.specs.Driving.{event_of_ask}
 use Rattle.pf_world.specs.pf_chunk.specs.Runs.{ChunkRun, mover_port}
 use Rattle.pf_volume.specs.Volumes.{Extent, IsVolume}
-use Rattle.pf_world.specs.pf_hosts.specs.Moments.{Carries, Hands, Heard, Moment, Turns}
+use Rattle.pf_world.specs.pf_hosts.specs.Moments.{Carries, Hands, Heard, Moment}
 use Rattle.pf_mounted.specs.Carrying.{asked_of, moves_of, turn_of}
-use Rattle.pf_mounted.specs.Epochs.{epoch_of, group_at, groups_in_turn, moved_to, serving}
-use Rattle.pf_mounted.specs.Journals.{deeds}
-use Rattle.std.specs.List.{flat_map}
-use Rattle.pf_mounted.specs.Fitting.{IsOfRun}
+use Rattle.pf_mounted.specs.Epochs.{epoch_of, group_at, groups_in_turn}
 use Rattle.pf_mounted.specs.Handing.{reach_at, reached}
-use Rattle.pf_mounted.specs.Hosted.{among_copies, carried_into, groups_of, history_of, setup_at, setup_of, told_history}
-use Rattle.pf_mounted.specs.Movers.{IsAtRest, IsCarriedBack, IsOnTheMove, carried_ask, group_of_role, role_of_ask, role_of_reply}
+use Rattle.pf_mounted.specs.Hosted.{among_copies, history_of}
+use Rattle.pf_mounted.specs.Movers.{IsCarriedBack, IsOnTheMove, carried_ask, group_of_role, role_of_ask, role_of_reply}
 use Rattle.pf_mounted.specs.Pasts.{MoverTrace, Trace, mover_trace, past_in, trace_in}
 use Rattle.pf_mounted.proofs.Asking.{none_anew}
-use Rattle.pf_mounted.proofs.Bringing.{brought_at, handed_at, reached_before, same_group, serving_then}
 use Rattle.pf_mounted.proofs.Carried.{all_carried_on, carried_writes_stay}
-use Rattle.pf_mounted.proofs.Epoching.{AreBegun, begun_until, epoch_rises, group_stays, groups_on, same_home, some_group}
-use Rattle.pf_mounted.proofs.Known.{IsKnown, are_begun, begun_then, cut_at, knows}
+use Rattle.pf_mounted.proofs.Epoching.{AreBegun, begun_until, epoch_rises, group_stays, same_home, some_group}
+use Rattle.pf_mounted.proofs.Known.{are_begun}
+use Rattle.pf_mounted.proofs.OfMoves.{AreGroupsOf, IsOfMoves, begun_first, cut_by}
 use Rattle.pf_mounted.proofs.Placing.{at_seam, get_first, get_mapped, get_take, map_get, parted, some_within, take_fewer, take_goes_on, take_one_more}
-use Rattle.pf_mounted.proofs.Reached.{all_within, carried_reaches, hands_reach, heard_reaches, reached_more, reaches}
+use Rattle.pf_mounted.proofs.Reached.{all_within, carried_reaches, hands_reach, reached_more, reaches}
 use Rattle.pf_mounted.proofs.Shifting.{IsUnderWay, is_called, under_way, wanted}
-use Rattle.pf_mounted.proofs.Submitting.{writes_in}
+use Rattle.pf_mounted.proofs.MoverWrites.{writes_in}
 use Rattle.pf_mounted.proofs.Tracing.{moves_longer}
 use Rattle.pf_mounted.proofs.Turned.{Answered as AnsweredAt, IsAfter, IsCallAt, answered_at, bytes_of, each_call, extra, is_after, is_answer, is_given, last_asked, last_move, turns_before, turns_stay, written_both, written_of}
 
@@ -84,15 +81,37 @@ reads_in : (ask : Ask) (server its : ℕ) (range : Span) → event_of_ask ask se
 reads_in (asks.Read chunk span) server its range is = refl
 reads_in (asks.Write chunk span sectors) server its range is = absurd (cc)
 
-module _ (v : Extent) (chunks : List ChunkRun) (answer_at : ℕ → Answered) (whole : List Moment) (run : IsOfRun v chunks answer_at whole) (volume : IsVolume v) (told rest : List Moment) (part : whole ≡ told ++ rest) where
+-- What deeds owe to a move of a chunk out of the group k of this epoch, or into it
+
+-- whatever the deeds brought of the epoch came before each read of the mover's in that move
+abbrev pub AreHeardBefore : Extent → (told : List Moment) → List Deed → (chunk epoch k : ℕ) → Type 0
+AreHeardBefore v told ds chunk epoch k =
+    (q place : ℕ)
+    → slice_get told q ≡ Some (Hands mover_port k place)
+    → IsOnTheMove v.chunks (take q told) chunk
+    → epoch_of (take q told) chunk ≡ epoch
+    → (moment by : ℕ) (deed : Deed)
+    → slice_get ds moment ≡ Some deed
+    → BringsBy chunk epoch by deed
+    → by ≤ place
+
+-- what they submit to the next epoch's group, they submit after the move has ended, behind all that was told of it then
+abbrev pub AreHandedAfter : (told : List Moment) → List Deed → (chunk epoch k : ℕ) → Type 0
+AreHandedAfter told ds chunk epoch k =
+    (moment client by : ℕ)
+    → slice_get ds moment ≡ Some (Submits client chunk (suc epoch) by)
+    → (q : ℕ) × (suc epoch ≤ epoch_of (take q told) chunk) × (reached k (take q told) ≤ by)
+
+module _ (v : Extent) (chunks : List ChunkRun) (answer_at : ℕ → Answered) (whole : List Moment) (run : IsOfMoves v chunks whole) (volume : IsVolume v) (told rest : List Moment) (part : whole ≡ told ++ rest) (upto : ℕ → ℕ) (groups : Groups)
+    (are : AreGroupsOf v answer_at chunks told upto groups) where
   pub begun : AreBegun v.chunks told
-  begun = begun_then v chunks answer_at whole run told rest part
+  begun = begun_first v chunks whole run.moves told rest part
 
   pub begun_at : (p : ℕ) → AreBegun v.chunks (take p told)
   begun_at p = begun_until v.chunks (take p told) (drop p told) (subst (AreBegun v.chunks) (sym (take-append-drop p told)) begun)
 
   pub whole_at : (p : ℕ) (x : Moment) → slice_get told p ≡ Some x → whole ≡ take p told ++ x ∷ (drop (suc p) told ++ rest)
-  whole_at p x at = cut_at v chunks answer_at whole run told rest part p x at
+  whole_at p x at = cut_by v chunks whole run.moves told rest part p x at
 
   pub till_end : (p chunk epoch k : ℕ) → group_at (take p told) chunk epoch ≡ Some k → group_at told chunk epoch ≡ Some k
   till_end p chunk epoch k at = ap (λ (b : List Moment). group_at b chunk epoch) (sym (take-append-drop p told)) ∙ group_stays (take p told) (drop p told) chunk epoch k at
@@ -100,20 +119,23 @@ module _ (v : Extent) (chunks : List ChunkRun) (answer_at : ℕ → Answered) (w
   -- a move of a chunk, from the group of one epoch into that of the next
   module _ (chunk e : ℕ) (small : chunk < v.chunks) (k0 k1 : ℕ) (c0 c1 : ChunkRun) (old_at : group_at told chunk e ≡ Some k0) (new_at : group_at told chunk (suc e) ≡ Some k1) (old_there : slice_get chunks k0 ≡ Some c0) (new_there : slice_get chunks k1 ≡ Some c1)
       (turns : List Turn) (moves_at : slice_get (moves_of told chunk) e ≡ Some turns) where
-    abbrev pub groups : Groups
-    groups = groups_of v answer_at chunks told
-
     pub old_setup : groups.setup chunk e ≡ c0.group.setup
-    old_setup = ap (setup_at v answer_at chunks told) old_at ∙ ap setup_of old_there
+    old_setup = are.setup chunk e k0 c0 old_at old_there
 
-    pub old_history : groups.history chunk e ≡ take (reached k0 told) c0.group.history
-    old_history = ap (told_history v answer_at chunks told) old_at ∙ ap (λ o. take (reached k0 told) (history_of o)) old_there
+    pub old_history : groups.history chunk e ≡ take (upto k0) c0.group.history
+    old_history = are.history chunk e k0 c0 old_at old_there
 
     pub new_setup : groups.setup chunk (suc e) ≡ c1.group.setup
-    new_setup = ap (setup_at v answer_at chunks told) new_at ∙ ap setup_of new_there
+    new_setup = are.setup chunk (suc e) k1 c1 new_at new_there
 
-    pub new_history : groups.history chunk (suc e) ≡ take (reached k1 told) c1.group.history
-    new_history = ap (told_history v answer_at chunks told) new_at ∙ ap (λ o. take (reached k1 told) (history_of o)) new_there
+    pub new_history : groups.history chunk (suc e) ≡ take (upto k1) c1.group.history
+    new_history = are.history chunk (suc e) k1 c1 new_at new_there
+
+    old_far : reached k0 told ≤ upto k0
+    old_far = are.far k0 c0 old_there
+
+    new_far : reached k1 told ≤ upto k1
+    new_far = are.far k1 c1 new_there
 
     pub all_calls : (mover : MoverIs) × AreTurns (new_mover chunk (v.sectors / 8)) turns mover
     all_calls =
@@ -294,7 +316,7 @@ module _ (v : Extent) (chunks : List ChunkRun) (answer_at : ℕ → Answered) (w
 
     pub moved_are : groups.moved chunk e ≡ map copied trace_writes
     moved_are =
-        ap (carried_into v answer_at chunks told chunk e) new_at
+        are.moved chunk e k1 new_at
         ∙ ap (λ o. map (among_copies v answer_at chunks told (unwrap_or (slice_get (moves_of told chunk) e) [])) (mover_trace (history_of o) k1 Writing v.chunks told).writes) new_there
         ∙ ap (λ o. map (among_copies v answer_at chunks told (unwrap_or o [])) trace_writes) moves_at
 
@@ -340,7 +362,8 @@ module _ (v : Extent) (chunks : List ChunkRun) (answer_at : ℕ → Answered) (w
         let w = write_at j a at in
         let to = reaches k1 told w.moment (Hands mover_port k1 w.place) w.at in
         let is = hands_reach k1 (take w.moment told) mover_port w.place in
-        let more = take_goes_on c1.group.history (reached k1 told) (suc w.place) (omega (arith, to, is)) in
+        let far = new_far in
+        let more = take_goes_on c1.group.history (upto k1) (suc w.place) (omega (arith, to, is, far)) in
         subst (λ h. IsPrefix (a.before ++ submitting a ∷ []) h) (sym new_history) (record {
           rest = more.0;
           whole = ap (λ b. (b ++ submitting a ∷ []) ++ more.0) w.since ∙ ap (λ b. b ++ more.0) (sym (take_one_more c1.group.history w.place (submitting a) w.is)) ∙ sym more.1;
@@ -517,9 +540,10 @@ module _ (v : Extent) (chunks : List ChunkRun) (answer_at : ℕ → Answered) (w
         let legal : IsLegal h.back.group.group.setup h.back.group.group.history = subst (λ (x : ChunkRun). IsLegal x.group.setup x.group.history) (sym group) (run.legal k0 c0 old_there) in
         let reach = carried_reaches k0 (take p told) chunk h.heard h.next (ap (asked_of (take p told) chunk) h.is ∙ of) in
         let to = reaches k0 told p (Carries chunk (Some h.heard) h.next) h.at in
-        from p by (omega (arith, reach, to)) (some_within told p (Carries chunk (Some h.heard) h.next) h.at) (back_is Reading k0 h.back.number c0 h.back.group p by h.back.ask (asks.Read chunk (piece n)) h.heard.reply (Bytes sectors) number group ask h.is refl (h.back.replied legal))
+        let far = old_far in
+        from p by (omega (arith, reach, to, far)) (some_within told p (Carries chunk (Some h.heard) h.next) h.at) (back_is Reading k0 h.back.number c0 h.back.group p by h.back.ask (asks.Read chunk (piece n)) h.heard.reply (Bytes sectors) number group ask h.is refl (h.back.replied legal))
       where
-        from : (p by : ℕ) → by ≤ reached k0 told → p < length told → ReadBack c0.group.setup (past_in (take by c0.group.history) (mover_trace (take by c0.group.history) k0 Reading v.chunks (take p told))) (piece n) sectors → WasReadAt n sectors
+        from : (p by : ℕ) → by ≤ upto k0 → p < length told → ReadBack c0.group.setup (past_in (take by c0.group.history) (mover_trace (take by c0.group.history) k0 Reading v.chunks (take p told))) (piece n) sectors → WasReadAt n sectors
         from p by low within w =
             let history = c0.group.history in
             let c = (all_carried_on (take by history) k0 v.chunks (take p told)).1 w.m w.final w.at in
@@ -534,7 +558,8 @@ module _ (v : Extent) (chunks : List ChunkRun) (answer_at : ℕ → Answered) (w
             let m = fetch_at q c.place w.final.server w.final.range w.final.answer there event in
             let to = reaches k0 told q x there in
             let is = hands_reach k0 (take q told) mover_port c.place in
-            let stays = answered_stays c0.group.setup (take by history) (take (reached k0 told) history) w.k w.read (taken_before by (reached k0 told) history low) w.answered in record {
+            let far = old_far in
+            let stays = answered_stays c0.group.setup (take by history) (take (upto k0) history) w.k w.read (taken_before by (upto k0) history low) w.answered in record {
               read = w.read;
               gives = w.gives;
               of_range = w.of_range;
@@ -546,7 +571,7 @@ module _ (v : Extent) (chunks : List ChunkRun) (answer_at : ℕ → Answered) (w
               at = there;
               server = w.final.server;
               taken =
-                  ap (λ hs. slice_get hs c.place) old_history ∙ get_take history (reached k0 told) c.place (omega (arith, to, is)) ∙ event
+                  ap (λ hs. slice_get hs c.place) old_history ∙ get_take history (upto k0) c.place (omega (arith, to, is, far)) ∙ event
                   ∙ ap (λ r. Some (record { event = Fetch w.final.server r; answer = w.final.answer })) w.asked ∙ ap (λ o. Some (record { event = Fetch w.final.server (piece n); answer = o })) w.numbered;
             }
 
@@ -760,13 +785,14 @@ module _ (v : Extent) (chunks : List ChunkRun) (answer_at : ℕ → Answered) (w
             let a = acked_at write copy low there in
             let by = a.low in
             let most = reached_low (suc a.moment) in
-            a.written_so (groups.history chunk (suc e)) x bytes (subst (IsPrefix (take a.by c1.group.history)) (sym new_history) (taken_before a.by (reached k1 told) c1.group.history (omega (arith, by, most)))) gives;
+            let far = new_far in
+            a.written_so (groups.history chunk (suc e)) x bytes (subst (IsPrefix (take a.by c1.group.history)) (sym new_history) (taken_before a.by (upto k1) c1.group.history (omega (arith, by, most, far)))) gives;
       }
 
       legal_old : IsLegal (groups.setup chunk e) (groups.history chunk e)
       legal_old =
           subst (λ (setup : Setup). IsLegal setup (groups.history chunk e)) (sym old_setup)
-          (subst (IsLegal c0.group.setup) (sym old_history) (legal_before c0.group.setup (take (reached k0 told) c0.group.history) c0.group.history (prefix_taken (reached k0 told) c0.group.history) (run.legal k0 c0 old_there)))
+          (subst (IsLegal c0.group.setup) (sym old_history) (legal_before c0.group.setup (take (upto k0) c0.group.history) c0.group.history (prefix_taken (upto k0) c0.group.history) (run.legal k0 c0 old_there)))
 
       -- all that was written of a piece was acknowledged before whatever comes after the move
       pub all_acked : (q bound first : ℕ) → suc e ≤ epoch_of (take q told) chunk → reached k1 (take q told) ≤ bound → WereWritten groups chunk first (suc e) bound
@@ -789,46 +815,21 @@ module _ (v : Extent) (chunks : List ChunkRun) (answer_at : ℕ → Answered) (w
           let same = ap (reached k1) further.1 in
           let by = x.low in
           let most = reached_low (suc p) in
+          let far = new_far in
           let starts : IsPrefix (take x.by c1.group.history) (take bound (groups.history chunk (suc e))) =
           subst (λ hs. IsPrefix (take x.by c1.group.history) (take bound hs)) (sym new_history)
-          (subst (λ hs. IsPrefix hs (take bound (take (reached k1 told) c1.group.history))) (take_fewer c1.group.history (reached k1 told) x.by (omega (arith, by, most)))
-          (taken_before x.by bound (take (reached k1 told) c1.group.history) (omega (arith, by, up, same, low)))) in
+          (subst (λ hs. IsPrefix hs (take bound (take (upto k1) c1.group.history))) (take_fewer c1.group.history (upto k1) x.by (omega (arith, by, most, far)))
+          (taken_before x.by bound (take (upto k1) c1.group.history) (omega (arith, by, up, same, low)))) in
           x.written_so (take bound (groups.history chunk (suc e))) (first + nth) its starts (ap (λ o. given_to o (first + nth)) (sym h.2) ∙ gives)
 
       -- The piece was moved
 
-      module _ (ended : e < epoch_of told chunk) (prior : (q bound first : ℕ) → e ≤ epoch_of (take q told) chunk → reached k0 (take q told) ≤ bound → WereWritten groups chunk first e bound) where
-        known_old : IsKnown v chunks answer_at told chunk e k0 c0
-        known_old = knows v chunks answer_at whole run told rest part chunk e k0 small (omega (arith, ended)) old_at c0 old_there
+      module _ (ds : List Deed) (prior : (q bound first : ℕ) → e ≤ epoch_of (take q told) chunk → reached k0 (take q told) ≤ bound → WereWritten groups chunk first e bound) (hears : AreHeardBefore v told ds chunk e k0) (waits : AreHandedAfter told ds chunk e k1) where
+        -- each ask was handed on behind what was told
+        behind_at : (q m k place : ℕ) → slice_get told q ≡ Some (Hands m k place) → reached k (take q told) ≤ place
+        behind_at q m k place at = run.behind (take q told) (drop (suc q) told ++ rest) m k place (whole_at q (Hands m k place) at)
 
-        known_new : IsKnown v chunks answer_at told chunk (suc e) k1 c1
-        known_new = knows v chunks answer_at whole run told rest part chunk (suc e) k1 small (omega (arith, ended)) new_at c1 new_there
-
-        -- a mount heard of the old group before the mover read it
-        heard_before : (q place : ℕ) (m : IsInMove q) → slice_get told q ≡ Some (Hands mover_port k0 place) → (moment by : ℕ) (deed : Deed) → slice_get (deeds v answer_at told) moment ≡ Some deed → BringsBy chunk e by deed → by ≤ place
-        heard_before q place m at moment by deed there is =
-            let b = brought_at v chunks answer_at told chunk e k0 c0 known_old moment e by deed there is in
-            let s = b.moment in
-            let rests = subst (IsAtRest v.chunks (take s told)) b.of (known_old.hears s b.m b.back b.next b.ask b.at b.pending) in
-            let resting = rests.groups in
-            let now = b.now in
-            let moving = m.moving.groups in
-            let now_too = m.now in
-            let earlier : s < q = elim (cases_lt s q) [
-              | inl sooner ↦ sooner
-              | inr not_sooner ↦
-                  let further = take_goes_on told s q not_sooner in
-                  let grown = ap length (groups_on (take q told) further.0 chunk) ∙ length-append (groups_in_turn (take q told) chunk) (flat_map (moved_to chunk) further.0) in
-                  let same = ap (λ (l : List Moment). length (groups_in_turn l chunk)) further.1 in absurd (omega (arith, grown, same, resting, now, moving, now_too))
-            ] in
-            let x : Moment = Turns b.m (Some b.back) b.next in
-            let serves : serving (take s told) (chunk_of b.ask) ≡ Some k0 = ap (serving (take s told)) b.of ∙ serving_then v chunks answer_at told chunk e k0 c0 known_old s now in
-            let heard = heard_reaches k0 (take s told) b.m b.back b.next b.ask b.pending serves in
-            let to = reached_before v chunks answer_at told chunk e k0 c0 known_old s q x b.at earlier in
-            let behind = run.handed.behind (take q told) (drop (suc q) told ++ rest) mover_port k0 place (whole_at q (Hands mover_port k0 place) at) in
-            let since = b.since in omega (arith, heard, to, behind, since)
-
-        pub moved : (n : ℕ) → n < pieces → IsMoved groups (deeds v answer_at told) chunk (8 * n) e (last n)
+        pub moved : (n : ℕ) → n < pieces → IsMoved groups ds chunk (8 * n) e (last n)
         moved n low =
             let x = was_last n low in
             let r = x.read in
@@ -842,15 +843,10 @@ module _ (v : Extent) (chunks : List ChunkRun) (answer_at : ℕ → Answered) (w
               place = r.place;
               server = r.server;
               taken = r.taken ∙ ap (λ s. Some (record { event = Fetch r.server s; answer = ReadIs r.read.number })) (sym range) ∙ ap (λ (a : Answered). Some (record { event = Fetch r.server (last n).range; answer = ReadIs a.number })) x.is;
-              after_move = prior r.moment r.place (8 * n) (omega (arith, now)) (run.handed.behind (take r.moment told) (drop (suc r.moment) told ++ rest) mover_port k0 r.place (whole_at r.moment (Hands mover_port k0 r.place) r.at));
-              after_answers = heard_before r.moment r.place r.in_move r.at;
+              after_move = prior r.moment r.place (8 * n) (omega (arith, now)) (behind_at r.moment mover_port k0 r.place r.at);
+              after_answers = hears r.moment r.place r.at r.in_move.moving now;
               rule = rule;
               same = were.same;
               all = were.all;
-              clients_wait = λ moment client by at.
-                  let h = handed_at v chunks answer_at told chunk (suc e) k1 c1 known_new moment client (suc e) by at in
-                  let group = same_group v chunks answer_at told chunk (suc e) k1 c1 known_new h.moment h.group h.home in
-                  let there : slice_get told h.moment ≡ Some (Hands h.m k1 by) = h.at ∙ ap (λ g. Some (Hands h.m g by)) group in
-                  let is = h.now in
-                  all_acked h.moment by (8 * n) (omega (arith, is)) (run.handed.behind (take h.moment told) (drop (suc h.moment) told ++ rest) h.m k1 by (whole_at h.moment (Hands h.m k1 by) there));
+              clients_wait = λ moment client by at. let w = waits moment client by at in all_acked w.0 by (8 * n) w.1 w.2;
             }

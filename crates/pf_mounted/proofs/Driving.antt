@@ -165,7 +165,7 @@ module _ (halts : List Halt) (c : ChunkRun) (stands : c.group.state ≡ replay c
 -- What is told of a step
 
 -- the group grew, and the port of mount m is different
-module _ (count : ℕ) (told : List Moment) (k : ℕ) (d : ChunkRun) (old : List PortIs) (is : IsAsTold count told k (record d { ports = old })) (m : ℕ) (others : (j : ℕ) → j ≢ m → slice_get d.ports j ≡ slice_get old j) (q : PortIs) (there : slice_get d.ports m ≡ Some q) where
+module _ (known : Type 0) (count : ℕ) (told : List Moment) (k : ℕ) (d : ChunkRun) (old : List PortIs) (is : IsAsTold known count told k (record d { ports = old })) (m : ℕ) (others : (j : ℕ) → j ≢ m → slice_get d.ports j ≡ slice_get old j) (q : PortIs) (there : slice_get d.ports m ≡ Some q) where
   abbrev was_run : ChunkRun
   was_run = record d { ports = old }
 
@@ -182,44 +182,44 @@ module _ (count : ℕ) (told : List Moment) (k : ℕ) (d : ChunkRun) (old : List
   hand_passed : (place j : ℕ) → j ≢ m → PortAsTold count told k was_run j → PortAsTold count (told ++ Hands m k place ∷ []) k was_run j
   hand_passed place j apart was =
       let t = trace_of history j k count told in
-      port_passed count told k was_run (Hands m k place) is j tt (ap (past_in history) (test_other (k == k) m j (handed_at (take place history) (slice_get history place) t) t (λ same. apart (sym same)))) was
+      port_passed known count told k was_run (Hands m k place) is j tt (ap (past_in history) (test_other (k == k) m j (handed_at (take place history) (slice_get history place) t) t (λ same. apart (sym same)))) was
 
   hands_within : (place : ℕ) → place < length history → Every (IsWithin k (length history)) (told ++ Hands m k place ∷ [])
   hands_within place low = every_append (IsWithin k (length history)) told (Hands m k place ∷ []) is.within ((λ same. low), tt)
 
   -- that of a mount
   module _ (small : m < mover_port) where
-    pub host_replaced : IsDriven d.group.setup (past_of count history m k told) q → IsAsTold count told k d
+    pub host_replaced : (known → IsDriven d.group.setup (past_of count history m k told) q) → IsAsTold known count told k d
     host_replaced its = record {
       number = is.number;
       stands = is.stands;
       within = is.within;
-      driven = λ j low. elim (cases_eq j m) [
-        | inl same ↦ subst (PortAsTold count told k d) (sym same) (record { port = q; its = its; there = λ chunk of. there })
-        | inr apart ↦ other_port told j apart (is.driven j low)
+      driven = λ of_mounts j low. elim (cases_eq j m) [
+        | inl same ↦ subst (PortAsTold count told k d) (sym same) (record { port = q; its = its of_mounts; there = λ chunk of. there })
+        | inr apart ↦ other_port told j apart (is.driven of_mounts j low)
       ];
       hauled = λ role. other_mover told role (λ same. omega (arith, small, same)) (is.hauled role);
     }
 
-    pub host_handed : (place : ℕ) → place < length history → IsDriven d.group.setup (past_in history (handed_at (take place history) (slice_get history place) (trace_of history m k count told))) q → IsAsTold count (told ++ Hands m k place ∷ []) k d
+    pub host_handed : (place : ℕ) → place < length history → (known → IsDriven d.group.setup (past_in history (handed_at (take place history) (slice_get history place) (trace_of history m k count told))) q) → IsAsTold known count (told ++ Hands m k place ∷ []) k d
     host_handed place low its =
         let t = trace_of history m k count told in
         let x = handed_at (take place history) (slice_get history place) t in record {
           number = is.number;
           stands = is.stands;
           within = hands_within place low;
-          driven = λ j small_one. elim (cases_eq j m) [
+          driven = λ of_mounts j small_one. elim (cases_eq j m) [
             | inl same ↦ subst (PortAsTold count (told ++ Hands m k place ∷ []) k d) (sym same) (record {
               port = q;
-              its = subst (λ (past : Past). IsDriven d.group.setup past q) (sym (past_more history m k count told (Hands m k place) ∙ ap (past_in history) (test_same m m k k x t refl refl))) its;
+              its = subst (λ (past : Past). IsDriven d.group.setup past q) (sym (past_more history m k count told (Hands m k place) ∙ ap (past_in history) (test_same m m k k x t refl refl))) (its of_mounts);
               there = λ chunk of. there;
             })
-            | inr apart ↦ other_port (told ++ Hands m k place ∷ []) j apart (hand_passed place j apart (is.driven j small_one))
+            | inr apart ↦ other_port (told ++ Hands m k place ∷ []) j apart (hand_passed place j apart (is.driven of_mounts j small_one))
           ];
           hauled = λ role.
               let moves = moves_into history k count told in
               other_mover (told ++ Hands m k place ∷ []) role (λ same. omega (arith, small, same))
-              (mover_passed count told k was_run (Hands m k place) is (test_other (k == k) m mover_port (with_port_of (handed_at (take place history) (slice_get history place)) moves.role moves) moves (λ same. omega (arith, small, same))) role (is.hauled role));
+              (mover_passed known count told k was_run (Hands m k place) is (test_other (k == k) m mover_port (with_port_of (handed_at (take place history) (slice_get history place)) moves.role moves) moves (λ same. omega (arith, small, same))) role (is.hauled role));
         }
 
   -- that of the mover, who has this role here
@@ -233,19 +233,19 @@ module _ (count : ℕ) (told : List Moment) (k : ℕ) (d : ChunkRun) (old : List
     one_role : (its : Asked) → its ≢ role → moves.role ≡ Some its → ⊥
     one_role its apart is_its = apart (same_Some its role (sym is_its ∙ has))
 
-    pub mover_replaced : IsDriven d.group.setup (past_in history (mover_trace history k role count told)) q → IsAsTold count told k d
+    pub mover_replaced : IsDriven d.group.setup (past_in history (mover_trace history k role count told)) q → IsAsTold known count told k d
     mover_replaced its = record {
       number = is.number;
       stands = is.stands;
       within = is.within;
-      driven = λ j low. other_port told j (hosts_other j low) (is.driven j low);
+      driven = λ of_mounts j low. other_port told j (hosts_other j low) (is.driven of_mounts j low);
       hauled = λ its_role. elim (same_role its_role role) [
         | inl same ↦ subst (MoverAsTold count told k d) (sym same) (record { port = q; its = its; there = λ _. ap (slice_get d.ports) (sym mine) ∙ there })
         | inr apart ↦ let was = is.hauled its_role in record { port = was.port; its = was.its; there = λ is_its. absurd (one_role its_role apart is_its) }
       ];
     }
 
-    pub mover_handed : (place : ℕ) → place < length history → IsDriven d.group.setup (past_in history (handed_at (take place history) (slice_get history place) (mover_trace history k role count told))) q → IsAsTold count (told ++ Hands m k place ∷ []) k d
+    pub mover_handed : (place : ℕ) → place < length history → IsDriven d.group.setup (past_in history (handed_at (take place history) (slice_get history place) (mover_trace history k role count told))) q → IsAsTold known count (told ++ Hands m k place ∷ []) k d
     mover_handed place low its =
         let change = handed_at (take place history) (slice_get history place) in
         let all = told ++ Hands m k place ∷ [] in
@@ -254,7 +254,7 @@ module _ (count : ℕ) (told : List Moment) (k : ℕ) (d : ChunkRun) (old : List
           number = is.number;
           stands = is.stands;
           within = hands_within place low;
-          driven = λ j small_one. other_port all j (hosts_other j small_one) (hand_passed place j (hosts_other j small_one) (is.driven j small_one));
+          driven = λ of_mounts j small_one. other_port all j (hosts_other j small_one) (hand_passed place j (hosts_other j small_one) (is.driven of_mounts j small_one));
           hauled = λ its_role. elim (same_role its_role role) [
             | inl same ↦ subst (MoverAsTold count all k d) (sym same) (record {
               port = q;
@@ -272,22 +272,22 @@ module _ (count : ℕ) (told : List Moment) (k : ℕ) (d : ChunkRun) (old : List
 
 -- The step of a port
 
-module _ (halts : List Halt) (count : ℕ) (told : List Moment) (k : ℕ) (c : ChunkRun) (is : IsAsTold count told k c) (m : ℕ) where
+module _ (known : Type 0) (halts : List Halt) (count : ℕ) (told : List Moment) (k : ℕ) (c : ChunkRun) (is : IsAsTold known count told k c) (m : ℕ) where
   abbrev d : Driven
   d = driven halts c m
 
   abbrev IsDone : Type 0
-  IsDone = IsAsTold count (told ++ (handed m k d.place ++ Writes d.text ∷ [])) k d.chunk
+  IsDone = IsAsTold known count (told ++ (handed m k d.place ++ Writes d.text ∷ [])) k d.chunk
 
-  grown : IsAsTold count told k (record d.chunk { ports = c.ports })
-  grown = regrown count told k c (record d.chunk { ports = c.ports }) refl (driven_grows halts c m) is
+  grown : IsAsTold known count told k (record d.chunk { ports = c.ports })
+  grown = regrown known count told k c (record d.chunk { ports = c.ports }) (λ of_mounts. refl) refl (driven_grows halts c m) is
 
   -- a trace of what was told before is that of the longer history
   longer : d.chunk.group.history ≡ c.group.history ++ (driven_grows halts c m).later.rest
   longer = sym (driven_grows halts c m).later.whole
 
-  after_text : (all : List Moment) → IsAsTold count all k d.chunk → IsAsTold count (all ++ Writes d.text ∷ []) k d.chunk
-  after_text all told_so = passed count all k d.chunk (Writes d.text) told_so (writes_pass (asks_of count all k) k d.text)
+  after_text : (all : List Moment) → IsAsTold known count all k d.chunk → IsAsTold known count (all ++ Writes d.text ∷ []) k d.chunk
+  after_text all told_so = passed known count all k d.chunk (Writes d.text) told_so (writes_pass (asks_of count all k) k d.text)
 
   low : (place : ℕ) → d.place ≡ Some place → place < length d.chunk.group.history
   low place same = by (subst (IsHandedIf m c d) same (driven_hands halts c m))
@@ -296,24 +296,24 @@ module _ (halts : List Halt) (count : ℕ) (told : List Moment) (k : ℕ) (c : C
       by h = slice_get_within d.chunk.group.history place (record { event = event_of_ask h.ask h.server; answer = h.answer }) h.is
 
   -- of a mount's port, where the group has the asks of a chunk
-  module _ (small : m < mover_port) (chunk : ℕ) (of : asks_of count told k ≡ Some chunk) where
+  module _ (of_mounts : known) (small : m < mover_port) (chunk : ℕ) (of : asks_of count told k ≡ Some chunk) where
     abbrev t : Trace
     t = trace_of c.group.history m k count told
 
     on : DrivesOn halts c is.stands m t d
-    on = let port = is.driven m small in drives_on halts c is.stands m t port.port (port.there chunk of) port.its
+    on = let port = is.driven of_mounts m small in drives_on halts c is.stands m t port.port (port.there chunk of) port.its
 
     same_trace : trace_of d.chunk.group.history m k count told ≡ t
     same_trace = ap (λ (h : History). trace_of h m k count told) longer ∙ trace_longer c.group.history (driven_grows halts c m).later.rest k m count told is.within
 
-    by_place : (place : Option ℕ) → d.place ≡ place → IsDriven d.chunk.group.setup (past_in d.chunk.group.history (handed_if d.chunk.group.history place t)) on.port → IsAsTold count (told ++ (handed m k place ++ Writes d.text ∷ [])) k d.chunk
+    by_place : (place : Option ℕ) → d.place ≡ place → IsDriven d.chunk.group.setup (past_in d.chunk.group.history (handed_if d.chunk.group.history place t)) on.port → IsAsTold known count (told ++ (handed m k place ++ Writes d.text ∷ [])) k d.chunk
     by_place None same its =
-        after_text told (host_replaced count told k d.chunk c.ports grown m (drives_port halts c m).others on.port on.there small
-        (subst (λ (x : Trace). IsDriven d.chunk.group.setup (past_in d.chunk.group.history x) on.port) (sym same_trace) its))
+        after_text told (host_replaced known count told k d.chunk c.ports grown m (drives_port halts c m).others on.port on.there small
+        (λ _. subst (λ (x : Trace). IsDriven d.chunk.group.setup (past_in d.chunk.group.history x) on.port) (sym same_trace) its))
     by_place (Some place) same its =
-        subst (λ (all : List Moment). IsAsTold count all k d.chunk) (append_assoc told (Hands m k place ∷ []) (Writes d.text ∷ []))
-        (after_text (told ++ Hands m k place ∷ []) (host_handed count told k d.chunk c.ports grown m (drives_port halts c m).others on.port on.there small place (low place same)
-        (subst (λ (x : Trace). IsDriven d.chunk.group.setup (past_in d.chunk.group.history (handed_at (take place d.chunk.group.history) (slice_get d.chunk.group.history place) x)) on.port) (sym same_trace) its)))
+        subst (λ (all : List Moment). IsAsTold known count all k d.chunk) (append_assoc told (Hands m k place ∷ []) (Writes d.text ∷ []))
+        (after_text (told ++ Hands m k place ∷ []) (host_handed known count told k d.chunk c.ports grown m (drives_port halts c m).others on.port on.there small place (low place same)
+        (λ _. subst (λ (x : Trace). IsDriven d.chunk.group.setup (past_in d.chunk.group.history (handed_at (take place d.chunk.group.history) (slice_get d.chunk.group.history place) x)) on.port) (sym same_trace) its)))
 
     -- a step of the port is as it was told
     pub host_told : IsDone
@@ -336,13 +336,13 @@ module _ (halts : List Halt) (count : ℕ) (told : List Moment) (k : ℕ) (c : C
     has_still : (moves_into d.chunk.group.history k count told).role ≡ Some role
     has_still = ap (λ (x : MoverTrace). x.role) same_moves ∙ has
 
-    mover_place : (place : Option ℕ) → d.place ≡ place → IsDriven d.chunk.group.setup (past_in d.chunk.group.history (handed_if d.chunk.group.history place u)) mover_on.port → IsAsTold count (told ++ (handed m k place ++ Writes d.text ∷ [])) k d.chunk
+    mover_place : (place : Option ℕ) → d.place ≡ place → IsDriven d.chunk.group.setup (past_in d.chunk.group.history (handed_if d.chunk.group.history place u)) mover_on.port → IsAsTold known count (told ++ (handed m k place ++ Writes d.text ∷ [])) k d.chunk
     mover_place None same its =
-        after_text told (mover_replaced count told k d.chunk c.ports grown m (drives_port halts c m).others mover_on.port mover_on.there mine role has_still
+        after_text told (mover_replaced known count told k d.chunk c.ports grown m (drives_port halts c m).others mover_on.port mover_on.there mine role has_still
         (subst (λ (x : Trace). IsDriven d.chunk.group.setup (past_in d.chunk.group.history x) mover_on.port) (sym same_mover) its))
     mover_place (Some place) same its =
-        subst (λ (all : List Moment). IsAsTold count all k d.chunk) (append_assoc told (Hands m k place ∷ []) (Writes d.text ∷ []))
-        (after_text (told ++ Hands m k place ∷ []) (mover_handed count told k d.chunk c.ports grown m (drives_port halts c m).others mover_on.port mover_on.there mine role has_still place (low place same)
+        subst (λ (all : List Moment). IsAsTold known count all k d.chunk) (append_assoc told (Hands m k place ∷ []) (Writes d.text ∷ []))
+        (after_text (told ++ Hands m k place ∷ []) (mover_handed known count told k d.chunk c.ports grown m (drives_port halts c m).others mover_on.port mover_on.there mine role has_still place (low place same)
         (subst (λ (x : Trace). IsDriven d.chunk.group.setup (past_in d.chunk.group.history (handed_at (take place d.chunk.group.history) (slice_get d.chunk.group.history place) x)) mover_on.port) (sym same_mover) its)))
 
     pub mover_told : IsDone

@@ -11,7 +11,7 @@ use Rattle.pf_world.specs.pf_threads.specs.Sessions.{Session}
 use Rattle.pf_world.specs.declared.line.Line.{Line}
 use Rattle.pf_mounted.specs.Mounts.{life_of, mount_after}
 use Rattle.pf_mounted.specs.Scripts.{IsPlainRun}
-use Rattle.pf_mounted.proofs.Holding.{mounts_alone}
+use Rattle.pf_mounted.proofs.OwnWrites.{mounts_alone}
 use Rattle.pf_mounted.proofs.Lawful.{answers, can_be, known}
 use Rattle.pf_mounted.proofs.Never.{none_fails}
 use Rattle.pf_mounted.proofs.Sizing.{has_room}
@@ -25,5 +25,5 @@ module _ (halts : List Halt) (sessions : List Session) (lines : List Line) (scri
       let run = world_run halts sessions lines in
       let room = has_room halts sessions lines script in
       let its = life_there (life_of run.world.volume.extent before m) mount made in
-      none_fails run.world.volume.extent run.world.volume.chunks (answers halts sessions lines script lawful) run.told (known halts sessions lines script lawful) volume (mounts_alone halts sessions lines script (room.mounted some)) (can_be halts sessions lines script lawful volume some)
+      none_fails run.world.volume.extent run.world.volume.chunks (answers halts sessions lines script lawful) run.told (known halts sessions lines script lawful) volume (mounts_alone halts sessions lines script.script (room.mounted some)) (can_be halts sessions lines script lawful volume some)
       before after same m its.0 its.1 (subst HasFailed (sym (ap (λ (x : MountIs). x.work) its.2 ∙ fails)) tt)

@@ -1,5 +1,5 @@
 -- The deeds of what a run told fit the groups of its chunks, as far as it was told.
-use Rattle.std.proofs.Common.{◌≡◌, ℕ, if◌then◌else◌, List, [], ◌∷◌, ◌++◌, length, Option, Some, None, slice_get, arith, refl, sym, ap, subst, ◌∙◌, ◌≤◌, ◌<◌}
+use Rattle.std.proofs.Common.{◌≡◌, ℕ, if◌then◌else◌, List, [], ◌∷◌, ◌++◌, length, Option, Some, None, arith, refl, sym, ap, subst, ◌∙◌, ◌≤◌, ◌<◌}
 use Rattle.std.specs.Option.{option_map}
 use Rattle.std.proofs.lemmas.List.{append_assoc}
 use Rattle.std.proofs.lemmas.Option.{none-some}
@@ -11,7 +11,7 @@ use Rattle.pf_positions.specs.Deeds.{Acks, Brings, Deed, Fits, Got, Groups, Hand
 use Rattle.pf_world.specs.pf_chunk.specs.Runs.{ChunkRun}
 use Rattle.pf_volume.specs.Volumes.{Extent}
 use Rattle.pf_mount.specs.Mounts.{answered}
-use Rattle.pf_world.specs.pf_hosts.specs.Moments.{Heard, Moment, Moves, Turns}
+use Rattle.pf_world.specs.pf_hosts.specs.Moments.{Heard, Moment, Turns}
 use Rattle.pf_paxos.specs.Journals.{Does}
 use Rattle.pf_mounted.specs.Fitting.{IsOfRun}
 use Rattle.pf_mounted.specs.Hosted.{groups_of}
@@ -21,12 +21,11 @@ use Rattle.pf_mounted.proofs.Answering.{got_at, put_at, waits_at}
 use Rattle.pf_mounted.proofs.Bringing.{epoch_reached, epochs_rise, places_rise, rises_after}
 use Rattle.pf_mounted.proofs.Cutting.{SubmitNothing, cut_fits}
 use Rattle.pf_mounted.proofs.Dealing.{asking_silent, deeds_in}
-use Rattle.pf_mounted.proofs.Known.{IsKnown, begun_then, knows}
+use Rattle.pf_mounted.proofs.Known.{IsKnown, knows}
 use Rattle.pf_mounted.proofs.Listing.{deeds_at, deeds_more}
 use Rattle.pf_mounted.proofs.Pending.{stays_own}
-use Rattle.pf_mounted.specs.Epochs.{group_at, epoch_of}
-use Rattle.pf_mounted.proofs.Epoching.{each_there, some_group}
-use Rattle.pf_mounted.proofs.Placing.{more_is_told}
+use Rattle.pf_mounted.specs.Epochs.{epoch_of}
+use Rattle.pf_mounted.proofs.OfMoves.{HasGroup, group_in}
 use Rattle.pf_mounted.proofs.Porting.{every_port}
 
 -- what is known of each group of the chunk
@@ -55,24 +54,9 @@ module _ (v : Extent) (chunks : List ChunkRun) (answer_at : ℕ → Answered) wh
             got_at v chunks answer_at told chunk epoch e.0 e.1 e.2 client moment by read ask at;
       }
 
-  -- the group of an epoch of the chunk
-  pub record HasGroup (told : List Moment) (chunk epoch : ℕ) : Type 0 where
-    pub k : ℕ
-    pub at : group_at told chunk epoch ≡ Some k
-    pub c : ChunkRun
-    pub there : slice_get chunks k ≡ Some c
-
   module _ (told : List Moment) (is : IsOfRun v chunks answer_at told) where
-    -- each group that a chunk has had is there
-    pub group_there : (before after : List Moment) → told ≡ before ++ after → (chunk epoch k : ℕ) → chunk < v.chunks → group_at before chunk epoch ≡ Some k → (c : ChunkRun) × (slice_get chunks k ≡ Some c)
-    group_there before after part chunk epoch k small at = each_there v.chunks chunks before (λ k low. is.moves.groups k low)
-        (λ first rest c to same. let b = is.moves.begins first (rest ++ after) c to (part ∙ more_is_told first (Moves c to) rest after before same) in (b.group, b.there)) chunk epoch k small at
-
-    pub has_group : (before after : List Moment) → told ≡ before ++ after → (chunk epoch : ℕ) → chunk < v.chunks → epoch ≤ epoch_of before chunk → HasGroup before chunk epoch
-    has_group before after part chunk epoch small low =
-        let some = some_group v.chunks before (begun_then v chunks answer_at told is before after part) chunk epoch low in
-        let there = group_there before after part chunk epoch some.0 small some.1 in
-        record { k = some.0; at = some.1; c = there.0; there = there.1 }
+    pub has_group : (before after : List Moment) → told ≡ before ++ after → (chunk epoch : ℕ) → chunk < v.chunks → epoch ≤ epoch_of before chunk → HasGroup chunks before chunk epoch
+    has_group before after part chunk epoch small low = group_in v chunks told is.moves before after part chunk epoch small low
 
     pub knows_each : (before after : List Moment) → told ≡ before ++ after → (chunk epoch : ℕ) → chunk < v.chunks → epoch ≤ epoch_of before chunk → Knows v chunks answer_at before chunk epoch
     knows_each before after part chunk epoch small low =

@@ -52,9 +52,10 @@ pub record IsHeardSince (count : ℕ) (chunks : List ChunkRun) (m : ℕ) (before
   pub since : (ask : Ask) → last_ask before m ≡ Some ask → (k : ℕ) → serving before (chunk_of ask) ≡ Some k → reached k before ≤ heard.by
   pub rests : (ask : Ask) → last_ask before m ≡ Some ask → IsAtRest count before (chunk_of ask)
 
--- An ask was handed on by this event of a group, behind all of the history that was told of: a mount's, of a chunk at rest, or the mover's
-pub record IsHandedSo (count : ℕ) (chunks : List ChunkRun) (before : List Moment) (m k place : ℕ) : Type 0 where
-  pub of_mount : m < mover_port → IsHandedOn chunks before m k place
+-- An ask was handed on by this event of a group, behind all of the history that was told of: a mount's, of a chunk at rest, and where that is known of
+-- the ports of mounts, what this asked last; or the mover's
+pub record IsHandedSo (known : Type 0) (count : ℕ) (chunks : List ChunkRun) (before : List Moment) (m k place : ℕ) : Type 0 where
+  pub of_mount : known → m < mover_port → IsHandedOn chunks before m k place
   pub rests : m < mover_port → (ask : Ask) → last_ask before m ≡ Some ask → IsAtRest count before (chunk_of ask)
   pub of_mover : mover_port ≤ m → (m ≡ mover_port) × IsCarriedOn count chunks before k place
   pub behind : reached k before ≤ place
@@ -68,16 +69,16 @@ IsBackIf count chunks before chunk (Some heard) = IsCarriedBack count chunks bef
 
 -- Each moment is so, after what was told before: a call is of words, replies and hand-overs are as above, a chunk begins to move to a new group
 -- while all are at rest, and the mover's calls are of the chunk that is on the move
-abbrev pub IsSo : (count : ℕ) → List ChunkRun → (before : List Moment) → Moment → Type 0
-IsSo count chunks before (Begins m call) = (words : Call) × (read_call words ≡ Some call)
-IsSo count chunks before (Turns m (Some heard) next) = IsHeardSince count chunks m before heard
-IsSo count chunks before (Hands m k place) = IsHandedSo count chunks before m k place
-IsSo count chunks before (Carries chunk heard next) = IsOnTheMove count before chunk × IsBackIf count chunks before chunk heard
-IsSo count chunks before (MovesTo chunk to) = BeginsMove count chunks before chunk to
-IsSo count chunks before moment = Unit {0}
+abbrev pub IsSo : (known : Type 0) (count : ℕ) → List ChunkRun → (before : List Moment) → Moment → Type 0
+IsSo known count chunks before (Begins m call) = (words : Call) × (read_call words ≡ Some call)
+IsSo known count chunks before (Turns m (Some heard) next) = IsHeardSince count chunks m before heard
+IsSo known count chunks before (Hands m k place) = IsHandedSo known count chunks before m k place
+IsSo known count chunks before (Carries chunk heard next) = IsOnTheMove count before chunk × IsBackIf count chunks before chunk heard
+IsSo known count chunks before (MovesTo chunk to) = BeginsMove count chunks before chunk to
+IsSo known count chunks before moment = Unit {0}
 
-abbrev pub AllSo : (count : ℕ) → List Moment → List ChunkRun → Type 0
-AllSo count told chunks = AreEach (IsSo count chunks) told
+abbrev pub AllSo : (known : Type 0) (count : ℕ) → List Moment → List ChunkRun → Type 0
+AllSo known count told chunks = AreEach (IsSo known count chunks) told
 
 -- a moment of which nothing is said
 abbrev pub IsPlain : Moment → Type 0
@@ -88,18 +89,18 @@ IsPlain (Carries chunk heard next) = ⊥
 IsPlain (MovesTo chunk to) = ⊥
 IsPlain moment = Unit {0}
 
-plain_so : (count : ℕ) (chunks : List ChunkRun) (before : List Moment) (y : Moment) → IsPlain y → IsSo count chunks before y
-plain_so count chunks before (Begins m call) plain = absurd plain
-plain_so count chunks before (Turns m (Some heard) next) plain = absurd plain
-plain_so count chunks before (Turns m None next) plain = tt
-plain_so count chunks before (Hands m k place) plain = absurd plain
-plain_so count chunks before (Writes text) plain = tt
-plain_so count chunks before (MovesTo chunk to) plain = absurd plain
-plain_so count chunks before (Carries chunk heard next) plain = absurd plain
-plain_so count chunks before (Ends m answer) plain = tt
+plain_so : (known : Type 0) (count : ℕ) (chunks : List ChunkRun) (before : List Moment) (y : Moment) → IsPlain y → IsSo known count chunks before y
+plain_so known count chunks before (Begins m call) plain = absurd plain
+plain_so known count chunks before (Turns m (Some heard) next) plain = absurd plain
+plain_so known count chunks before (Turns m None next) plain = tt
+plain_so known count chunks before (Hands m k place) plain = absurd plain
+plain_so known count chunks before (Writes text) plain = tt
+plain_so known count chunks before (MovesTo chunk to) plain = absurd plain
+plain_so known count chunks before (Carries chunk heard next) plain = absurd plain
+plain_so known count chunks before (Ends m answer) plain = tt
 
-pub all_plain : (count : ℕ) (chunks : List ChunkRun) (told more : List Moment) → AllSo count told chunks → Every IsPlain more → AllSo count (told ++ more) chunks
-all_plain count chunks told more are plain = all_more (IsSo count chunks) IsPlain (plain_so count chunks) told more are plain
+pub all_plain : (known : Type 0) (count : ℕ) (chunks : List ChunkRun) (told more : List Moment) → AllSo known count told chunks → Every IsPlain more → AllSo known count (told ++ more) chunks
+all_plain known count chunks told more are plain = all_more (IsSo known count chunks) IsPlain (plain_so known count chunks) told more are plain
 
 -- Chunks grow
 
@@ -220,13 +221,13 @@ module _ (count : ℕ) (old new : List ChunkRun) (grow : AllGrow old new) where
   back_if before chunk None is = tt
   back_if before chunk (Some heard) is = back_grown before chunk heard is
 
-  moment_grown : (before : List Moment) (y : Moment) → IsSo count old before y → IsSo count new before y
-  moment_grown before (Turns m (Some heard) next) is = record { is = heard_grown m before heard is.is; since = is.since; rests = is.rests }
-  moment_grown before (Turns m None next) is = tt
-  moment_grown before (Hands m k place) h =
+  moment_grown : (known : Type 0) (before : List Moment) (y : Moment) → IsSo known count old before y → IsSo known count new before y
+  moment_grown known before (Turns m (Some heard) next) is = record { is = heard_grown m before heard is.is; since = is.since; rests = is.rests }
+  moment_grown known before (Turns m None next) is = tt
+  moment_grown known before (Hands m k place) h =
       let x = grow k h.group h.there in
       let later = x.grows.later in record {
-        of_mount = λ small. handed_grown m k place before (h.of_mount small);
+        of_mount = λ of_mounts small. handed_grown m k place before (h.of_mount of_mounts small);
         rests = h.rests;
         of_mover = λ high. let was = h.of_mover high in (was.0, carried_grown before k place was.1);
         behind = h.behind;
@@ -234,15 +235,15 @@ module _ (count : ℕ) (old new : List ChunkRun) (grow : AllGrow old new) where
         there = x.there;
         within = omega (arith, h.within, length-append h.group.group.history later.rest, ap length later.whole);
       }
-  moment_grown before (Begins m call) is = is
-  moment_grown before (Writes text) is = tt
-  moment_grown before (MovesTo chunk to_group) is =
+  moment_grown known before (Begins m call) is = is
+  moment_grown known before (Writes text) is = tt
+  moment_grown known before (MovesTo chunk to_group) is =
       let x = grow to_group is.group is.there in record { small = is.small; rests = is.rests; behind = is.behind; fresh = is.fresh; group = x.now; there = x.there }
-  moment_grown before (Carries chunk heard next) is = (is.0, back_if before chunk heard is.1)
-  moment_grown before (Ends m answer) is = tt
+  moment_grown known before (Carries chunk heard next) is = (is.0, back_if before chunk heard is.1)
+  moment_grown known before (Ends m answer) is = tt
 
-pub all_grown : (count : ℕ) (told : List Moment) (old new : List ChunkRun) → AllGrow old new → AllSo count told old → AllSo count told new
-all_grown count told old new grow are place y at = moment_grown count old new grow (take place told) y (are place y at)
+pub all_grown : (known : Type 0) (count : ℕ) (told : List Moment) (old new : List ChunkRun) → AllGrow old new → AllSo known count told old → AllSo known count told new
+all_grown known count told old new grow are place y at = moment_grown count old new grow known (take place told) y (are place y at)
 
 -- How far is told of a history
 
@@ -254,7 +255,7 @@ ask_in k (Some a) ask is = by (chunk_of a == k) refl is
     by true same its = (sym its, ap chunk_of (same_Some ask a its) ∙ eqb-true (chunk_of a) k same)
     by false same its = absurd (none-some ask (sym its))
 
-module _ (count : ℕ) (told : List Moment) (chunks : List ChunkRun) (k : ℕ) (n : ℕ) (none_there : (g : ℕ) (c : ChunkRun) → g ≡ k → slice_get chunks g ≡ Some c → length c.group.history ≤ n) where
+module _ (known : Type 0) (count : ℕ) (told : List Moment) (chunks : List ChunkRun) (k : ℕ) (n : ℕ) (none_there : (g : ℕ) (c : ChunkRun) → g ≡ k → slice_get chunks g ≡ Some c → length c.group.history ≤ n) where
   heard_reach : (before : List Moment) (m : ℕ) (heard : Heard) → IsHeard count chunks m before heard → heard_by k before (last_ask before m) heard.by ≤ n
   heard_reach before m heard is =
       subst (λ o. heard_by k before o heard.by ≤ n) (sym is.pending)
@@ -267,7 +268,7 @@ module _ (count : ℕ) (told : List Moment) (chunks : List ChunkRun) (k : ℕ) (
       by_test (is_at o k) (λ b. is_at o k ≡ b → (if b then heard.by else 0) ≤ n)
       (λ _ at. let most = none_there is.number is.group (same_Some is.number k (sym is.of ∙ is_of o k at)) is.there in omega (arith, most, is.within)) (λ _ _. omega arith) refl
 
-  moment_reach : (before : List Moment) (y : Moment) → IsSo count chunks before y → reach_at k before y ≤ n
+  moment_reach : (before : List Moment) (y : Moment) → IsSo known count chunks before y → reach_at k before y ≤ n
   moment_reach before (Turns m (Some heard) next) is = heard_reach before m heard is.is
   moment_reach before (Turns m None next) is = omega arith
   moment_reach before (Hands m g place) is =
@@ -279,52 +280,52 @@ module _ (count : ℕ) (told : List Moment) (chunks : List ChunkRun) (k : ℕ) (
   moment_reach before (Carries chunk None next) is = omega arith
   moment_reach before (Ends m answer) is = omega arith
 
-  each_low : AllSo count told chunks → AreEach (λ before y. reach_at k before y ≤ n) told
+  each_low : AllSo known count told chunks → AreEach (λ before y. reach_at k before y ≤ n) told
   each_low are place y at = moment_reach (take place told) y (are place y at)
 
-  low_from : AllSo count told chunks → reached k told ≤ n
+  low_from : AllSo known count told chunks → reached k told ≤ n
   low_from are = reached_low k n told (each_low are)
 
-module _ (count : ℕ) (told : List Moment) (chunks : List ChunkRun) (k : ℕ) (c : ChunkRun) (there : slice_get chunks k ≡ Some c) where
+module _ (known : Type 0) (count : ℕ) (told : List Moment) (chunks : List ChunkRun) (k : ℕ) (c : ChunkRun) (there : slice_get chunks k ≡ Some c) where
   its_length : (g : ℕ) (d : ChunkRun) → g ≡ k → slice_get chunks g ≡ Some d → length d.group.history ≤ length c.group.history
   its_length g d same at = let is : d ≡ c = same_Some d c (sym at ∙ ap (slice_get chunks) same ∙ there) in omega (arith, ap (λ (x : ChunkRun). length x.group.history) is)
 
   -- no further than it goes
-  pub told_low : AllSo count told chunks → reached k told ≤ length c.group.history
-  told_low are = low_from count told chunks k (length c.group.history) its_length are
+  pub told_low : AllSo known count told chunks → reached k told ≤ length c.group.history
+  told_low are = low_from known count told chunks k (length c.group.history) its_length are
 
 -- nothing is told of a group that is not there
-pub none_low : (count : ℕ) (told : List Moment) (chunks : List ChunkRun) (k : ℕ) → slice_get chunks k ≡ None → AllSo count told chunks → reached k told ≤ 0
-none_low count told chunks k none are = low_from count told chunks k 0 (λ g d same at. absurd (none-some d (sym none ∙ ap (slice_get chunks) (sym same) ∙ at))) are
+pub none_low : (known : Type 0) (count : ℕ) (told : List Moment) (chunks : List ChunkRun) (k : ℕ) → slice_get chunks k ≡ None → AllSo known count told chunks → reached k told ≤ 0
+none_low known count told chunks k none are = low_from known count told chunks k 0 (λ g d same at. absurd (none-some d (sym none ∙ ap (slice_get chunks) (sym same) ∙ at))) are
 
 -- A port's step
 
-module _ (halts : List Halt) (count : ℕ) (told : List Moment) (chunks : List ChunkRun) (are : AllSo count told chunks) (m k : ℕ) where
+module _ (known : Type 0) (halts : List Halt) (count : ℕ) (told : List Moment) (chunks : List ChunkRun) (are : AllSo known count told chunks) (m k : ℕ) where
   module _ (c : ChunkRun) (there : slice_get chunks k ≡ Some c) where
     abbrev d : Drove
     d = drove_as chunks m k (driven halts c m)
 
-    pub grown : AllSo count told d.chunks
-    grown = all_grown count told chunks d.chunks (grow_set chunks k c (driven halts c m).chunk there (driven_grows halts c m)) are
+    pub grown : AllSo known count told d.chunks
+    grown = all_grown known count told chunks d.chunks (grow_set chunks k c (driven halts c m).chunk there (driven_grows halts c m)) are
 
     pub now_there : slice_get d.chunks k ≡ Some (driven halts c m).chunk
     now_there = set_there chunks k c (driven halts c m).chunk there
 
     -- an ask was handed on
     abbrev pub Hands_so : Type 0
-    Hands_so = (place : ℕ) → IsHandedAt m c (driven halts c m) place → IsHandedSo count d.chunks told m k place
+    Hands_so = (place : ℕ) → IsHandedAt m c (driven halts c m) place → IsHandedSo known count d.chunks told m k place
 
-    told_on : Hands_so → (place : Option ℕ) (text : List ℕ) → IsHandedIf m c (driven halts c m) place → AllSo count (told ++ (handed m k place ++ Writes text ∷ [])) d.chunks
-    told_on so None text hands = all_plain count d.chunks told (Writes text ∷ []) grown (tt, tt)
+    told_on : Hands_so → (place : Option ℕ) (text : List ℕ) → IsHandedIf m c (driven halts c m) place → AllSo known count (told ++ (handed m k place ++ Writes text ∷ [])) d.chunks
+    told_on so None text hands = all_plain known count d.chunks told (Writes text ∷ []) grown (tt, tt)
     told_on so (Some place) text hands =
-        subst (λ (all : List Moment). AllSo count all d.chunks) (append_assoc told (Hands m k place ∷ []) (Writes text ∷ []))
-        (all_plain count d.chunks (told ++ Hands m k place ∷ []) (Writes text ∷ []) (one_more (IsSo count d.chunks) told (Hands m k place) grown (so place hands)) (tt, tt))
+        subst (λ (all : List Moment). AllSo known count all d.chunks) (append_assoc told (Hands m k place ∷ []) (Writes text ∷ []))
+        (all_plain known count d.chunks (told ++ Hands m k place ∷ []) (Writes text ∷ []) (one_more (IsSo known count d.chunks) told (Hands m k place) grown (so place hands)) (tt, tt))
 
-    pub drove_said : Hands_so → AllSo count (told ++ d.told) d.chunks
+    pub drove_said : Hands_so → AllSo known count (told ++ d.told) d.chunks
     drove_said so = told_on so (driven halts c m).place (driven halts c m).text (driven_hands halts c m)
 
     pub behind_all : (place : ℕ) → IsHandedAt m c (driven halts c m) place → reached k told ≤ place
-    behind_all place h = let low = told_low count told chunks k c there are in omega (arith, low, h.at)
+    behind_all place h = let low = told_low known count told chunks k c there are in omega (arith, low, h.at)
 
     pub event_within : (place : ℕ) → IsHandedAt m c (driven halts c m) place → place < length (driven halts c m).chunk.group.history
     event_within place h = slice_get_within (driven halts c m).chunk.group.history place (record { event = event_of_ask h.ask h.server; answer = h.answer }) h.is
@@ -346,8 +347,8 @@ module _ (halts : List Halt) (count : ℕ) (told : List Moment) (chunks : List C
       pub reached_by : reached k (told ++ d.told) ≤ heard.by
       reached_by =
           let text = (driven halts c m).text in
-          let said : AllSo count (told ++ Writes text ∷ []) d.chunks = all_plain count d.chunks told (Writes text ∷ []) grown (tt, tt) in
-          let low = told_low count (told ++ Writes text ∷ []) d.chunks k (driven halts c m).chunk now_there said in
+          let said : AllSo known count (told ++ Writes text ∷ []) d.chunks = all_plain known count d.chunks told (Writes text ∷ []) grown (tt, tt) in
+          let low = told_low known count (told ++ Writes text ∷ []) d.chunks k (driven halts c m).chunk now_there said in
           subst (λ (all : List Moment). reached k all ≤ heard.by) (sym told_is) (omega (arith, low, by_is))
 
 -- That of a mount's port, into a group that has the asks of its ask's chunk and serves it
@@ -355,7 +356,7 @@ module _ (halts : List Halt) (count : ℕ) (told : List Moment) (chunks : List C
 abbrev pub ReplyHeard : (count : ℕ) → List Moment → (m k : ℕ) → Drove → Type 0
 ReplyHeard count told m k d = (reply : Reply) → d.reply ≡ Some reply → IsHeardSince count d.chunks m (told ++ d.told) (record { reply = reply; by = events_of (slice_get d.chunks k) })
 
-module _ (halts : List Halt) (count : ℕ) (told : List Moment) (chunks : List ChunkRun) (is : AreAsTold count told chunks) (are : AllSo count told chunks) (m : ℕ) (small : m < mover_port) (of : Having)
+module _ (known : Type 0) (of_mounts : known) (halts : List Halt) (count : ℕ) (told : List Moment) (chunks : List ChunkRun) (is : AreAsTold known count told chunks) (are : AllSo known count told chunks) (m : ℕ) (small : m < mover_port) (of : Having)
     (asked_so : HasAsked of m (last_ask told m) chunks) (k chunk : ℕ) (has : of k ≡ Some chunk) (of_told : asks_of count told k ≡ Some chunk) (rests : IsAtRest count told chunk) (serves : serving told chunk ≡ Some k) where
   module _ (c : ChunkRun) (there : slice_get chunks k ≡ Some c) where
     abbrev its : Drove
@@ -364,25 +365,25 @@ module _ (halts : List Halt) (count : ℕ) (told : List Moment) (chunks : List C
     asked_it : (port : PortIs) (ask : Ask) → slice_get c.ports m ≡ Some port → port.ask ≡ Some ask → (last_ask told m ≡ Some ask) × (chunk_of ask ≡ chunk)
     asked_it port ask at pending = ask_in chunk (last_ask told m) ask (sym pending ∙ asked_so k c port there at ∙ ap (λ o. asked_for o (last_ask told m)) has)
 
-    hands_so : Hands_so halts count told chunks are m k c there
+    hands_so : Hands_so known halts count told chunks are m k c there
     hands_so place h =
         let a = asked_it h.port h.ask h.there h.pending in record {
-          of_mount = λ _. record {
+          of_mount = λ _ _. record {
             ask = h.ask;
             pending = a.0;
             of = ap (serving told) a.1 ∙ serves;
             chunk = (driven halts c m).chunk;
-            there = now_there halts count told chunks are m k c there;
+            there = now_there known halts count told chunks are m k c there;
             server = h.server;
             answer = h.answer;
             is = h.is;
           };
           rests = λ _ ask pending. subst (IsAtRest count told) (sym a.1 ∙ ap chunk_of (same_Some h.ask ask (sym a.0 ∙ pending))) rests;
           of_mover = λ high. absurd (omega (arith, small, high));
-          behind = behind_all halts count told chunks are m k c there place h;
+          behind = behind_all known halts count told chunks are m k c there place h;
           group = (driven halts c m).chunk;
-          there = now_there halts count told chunks are m k c there;
-          within = event_within halts count told chunks are m k c there place h;
+          there = now_there known halts count told chunks are m k c there;
+          within = event_within known halts count told chunks are m k c there place h;
         }
 
     reply_heard : (reply : Reply) → (driven halts c m).reply ≡ Some reply → IsHeardSince count its.chunks m (told ++ its.told) (record { reply = reply; by = events_of (slice_get its.chunks k) })
@@ -393,39 +394,39 @@ module _ (halts : List Halt) (count : ℕ) (told : List Moment) (chunks : List C
         let all : List Moment = told ++ Writes text ∷ [] in
         let a = asked_it r.port r.ask r.there r.pending in
         let heard : Heard = record { reply = reply; by = events_of (slice_get its.chunks k) } in
-        let by_length = by_is halts count told chunks are m k c there reply r in
+        let by_length = by_is known halts count told chunks are m k c there reply r in
         let silent_ask : last_ask all m ≡ last_ask told m = same_ask told (Writes text ∷ []) (tt, tt) m in
         let serves_on : serving all chunk ≡ serving told chunk = still_serving told (Writes text ∷ []) chunk (tt, tt) in
         let rests_on : IsAtRest count all chunk = still_rests count told (Writes text ∷ []) chunk (tt, tt) rests in
         let its_ask : (ask : Ask) → last_ask all m ≡ Some ask → chunk ≡ chunk_of ask = λ ask pending. sym a.1 ∙ ap chunk_of (same_Some r.ask ask (sym a.0 ∙ sym silent_ask ∙ pending)) in
         let same_past : past_of count c.group.history m k all ≡ past_of count c.group.history m k told = past_same c.group.history m k count told (Writes text) refl in
-        let port = (is k c there).driven m small in
+        let port = (is k c there).driven of_mounts m small in
         let driven_so : IsDriven c.group.setup (past_of count c.group.history m k told) r.port =
         subst (IsDriven c.group.setup (past_of count c.group.history m k told)) (same_Some port.port r.port (sym (port.there chunk of_told) ∙ r.there)) port.its in
-        subst (λ (x : List Moment). IsHeardSince count its.chunks m x heard) (sym (told_is halts count told chunks are m k c there reply r)) (record {
+        subst (λ (x : List Moment). IsHeardSince count its.chunks m x heard) (sym (told_is known halts count told chunks are m k c there reply r)) (record {
           is = record {
             ask = r.ask;
             pending = silent_ask ∙ a.0;
             group = k;
             serves = ap (serving all) a.1 ∙ serves_on ∙ serves;
             chunk = now;
-            there = now_there halts count told chunks are m k c there;
+            there = now_there known halts count told chunks are m k c there;
             within = omega (arith, by_length);
             replied = λ legal.
                 let replied_it = reply_is c (is k c there).stands (trace_of c.group.history m k count told) r.port driven_so r.ask r.pending reply r.told (subst (λ (g : Chunk). IsLegal g.setup g.history) r.still legal) in
                 subst (λ (setup : Setup). IsReplied setup (past_of count (take heard.by now.group.history) m k all) r.ask reply) (sym (ap (λ (g : Chunk). g.setup) r.still))
-                (subst (λ (history : History). IsReplied c.group.setup (past_of count history m k all) r.ask reply) (sym (taken halts count told chunks are m k c there reply r))
+                (subst (λ (history : History). IsReplied c.group.setup (past_of count history m k all) r.ask reply) (sym (taken known halts count told chunks are m k c there reply r))
                 (subst (λ (past : Past). IsReplied c.group.setup past r.ask reply) (sym same_past) replied_it));
           };
           since = λ ask pending j serves_it.
               let same : k ≡ j = same_Some k j (sym serves ∙ sym serves_on ∙ ap (serving all) (its_ask ask pending) ∙ serves_it) in
-              subst (λ i. reached i all ≤ heard.by) same (subst (λ (x : List Moment). reached k x ≤ heard.by) (told_is halts count told chunks are m k c there reply r) (reached_by halts count told chunks are m k c there reply r));
+              subst (λ i. reached i all ≤ heard.by) same (subst (λ (x : List Moment). reached k x ≤ heard.by) (told_is known halts count told chunks are m k c there reply r) (reached_by known halts count told chunks are m k c there reply r));
           rests = λ ask pending. subst (IsAtRest count all) (its_ask ask pending) rests_on;
         })
 
-  pub host_said : (o : Option ChunkRun) → slice_get chunks k ≡ o → AllSo count (told ++ (drove_of halts chunks m k o).told) (drove_of halts chunks m k o).chunks
-  host_said None there = all_plain count chunks told [] are tt
-  host_said (Some c) there = drove_said halts count told chunks are m k c there (hands_so c there)
+  pub host_said : (o : Option ChunkRun) → slice_get chunks k ≡ o → AllSo known count (told ++ (drove_of halts chunks m k o).told) (drove_of halts chunks m k o).chunks
+  host_said None there = all_plain known count chunks told [] are tt
+  host_said (Some c) there = drove_said known halts count told chunks are m k c there (hands_so c there)
 
   pub host_heard : ReplyHeard count told m k (drove halts chunks m k)
   host_heard = by (slice_get chunks k) refl
@@ -440,9 +441,9 @@ abbrev pub IsHeardIf : (count : ℕ) → List ChunkRun → (m : ℕ) → List Mo
 IsHeardIf count chunks m told None = Unit {0}
 IsHeardIf count chunks m told (Some heard) = IsHeardSince count chunks m told heard
 
-pub turn_so : (count : ℕ) (chunks : List ChunkRun) (told : List Moment) → AllSo count told chunks → (m : ℕ) (heard : Option Heard) (next : Option Ask) → IsHeardIf count chunks m told heard → AllSo count (told ++ Turns m heard next ∷ []) chunks
-turn_so count chunks told are m None next new = one_more (IsSo count chunks) told (Turns m None next) are tt
-turn_so count chunks told are m (Some heard) next new = one_more (IsSo count chunks) told (Turns m (Some heard) next) are new
+pub turn_so : (known : Type 0) (count : ℕ) (chunks : List ChunkRun) (told : List Moment) → AllSo known count told chunks → (m : ℕ) (heard : Option Heard) (next : Option Ask) → IsHeardIf count chunks m told heard → AllSo known count (told ++ Turns m heard next ∷ []) chunks
+turn_so known count chunks told are m None next new = one_more (IsSo known count chunks) told (Turns m None next) are tt
+turn_so known count chunks told are m (Some heard) next new = one_more (IsSo known count chunks) told (Turns m (Some heard) next) are new
 
 asked_grow : (chunks : List ChunkRun) (m k : ℕ) (ask : Ask) (o : Option ChunkRun) → slice_get chunks k ≡ o → AllGrow chunks (with_run chunks k (run_after o (λ c. asked c m ask)))
 asked_grow chunks m k ask None there = grow_refl chunks

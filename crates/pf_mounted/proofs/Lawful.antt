@@ -12,7 +12,8 @@ use Rattle.pf_mounted.specs.Fitting.{IsOfRun}
 use Rattle.pf_mounted.specs.Journals.{CanBeDoings}
 use Rattle.pf_mounted.specs.Scripts.{IsPlainRun}
 use Rattle.pf_mounted.proofs.Beginning.{turns_free}
-use Rattle.pf_mounted.proofs.Holding.{calls_of_words, handed_on, mounts_alone, ports_driven, reached_within, replies_heard, replies_since}
+use Rattle.pf_mounted.proofs.Holding.{calls_of_words, handed_on, ports_driven, reached_within, replies_heard, replies_since}
+use Rattle.pf_mounted.proofs.OwnWrites.{mounts_alone}
 use Rattle.pf_mounted.proofs.OfMounts.{run_of_mounts}
 use Rattle.pf_mounted.proofs.RunMoves.{run_moves}
 use Rattle.pf_mounted.proofs.Sizing.{has_room}
@@ -36,7 +37,7 @@ module _ (halts : List Halt) (sessions : List Session) (lines : List Line) (scri
         since = λ m before after heard next ask same asked k serves. replies_since halts sessions lines script m before after heard next ask same asked k serves;
         legal = λ k c at. (lawful k c at).legal;
         driven = ports_driven halts sessions lines script;
-        moves = run_moves halts sessions lines script lawful;
+        moves = run_moves halts sessions lines script.script lawful;
       }
 
   -- each turn asks what its mount asks
@@ -49,4 +50,4 @@ module _ (halts : List Halt) (sessions : List Session) (lines : List Line) (scri
     can_be =
         let run = world_run halts sessions lines in
         let room = has_room halts sessions lines script in
-        can_all run.world.volume.extent run.world.volume.chunks answers run.told known volume (room.room some) room.chunks (mounts_alone halts sessions lines script (room.mounted some)) (calls_of_words halts sessions lines script) asks_told
+        can_all run.world.volume.extent run.world.volume.chunks answers run.told known volume (room.room some) room.chunks (mounts_alone halts sessions lines script.script (room.mounted some)) (calls_of_words halts sessions lines script) asks_told

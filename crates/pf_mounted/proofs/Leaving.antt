@@ -26,8 +26,6 @@ use Rattle.pf_world.specs.pf_chunk.specs.Runs.{ChunkRun, left_by_ports, mover_po
 use Rattle.pf_world.specs.pf_hosts.specs.Moments.{Begins, Carries, Ends, Hands, Moment, Moves as MovesTo, Turns, Writes}
 use Rattle.pf_world.specs.pf_fleet.specs.Volumes.{VolumeRun, carries_on, moved_from, moves, moves_from}
 use Rattle.pf_world.specs.pf_fleet.specs.Volumes as volumes
-use Rattle.pf_world.specs.declared.kind.Kind.{Kind}
-use Rattle.pf_mounted.specs.Handing.{AreMountsAlone}
 use Rattle.pf_mounted.specs.Mounts.{last_ask, of_chunk}
 use Rattle.pf_mounted.specs.Pasts.{LastAsk, MoverTrace, Trace, at_carry, first_chunk, handed_at, is_at, moves_into, no_moves, no_trace, number_of, numbered, past_in, past_of, trace_in, trace_of, with_port as with_port_of}
 use Rattle.pf_mounted.proofs.Bearing.{IsBearing, IsFree, no_one, step_asks}
@@ -37,18 +35,17 @@ use Rattle.pf_mounted.proofs.Hauling.{step_chunk}
 use Rattle.pf_mounted.proofs.Hearing.{AllGrow, IsSo, all_grown}
 use Rattle.pf_mounted.proofs.Hosting.{AreSo}
 use Rattle.pf_mounted.proofs.Lives.{its_own, not_its_own}
+use Rattle.pf_mounted.proofs.Ordered.{began_ordered}
 use Rattle.pf_mounted.proofs.Placed.{came_from, rehomed_at, with_both}
 use Rattle.pf_mounted.proofs.Ports.{HasAsked, asked_for}
 use Rattle.pf_mounted.proofs.Routed.{IsPair, begins_so, new_is, none_moving, source_of}
 use Rattle.pf_mounted.proofs.Routing.{IsHome, of_other}
 use Rattle.pf_mounted.proofs.Running.{new_group}
-use Rattle.pf_mounted.proofs.Standing.{began, routed}
 use Rattle.pf_mounted.proofs.Steering.{IsBorne, went}
 use Rattle.pf_mounted.proofs.Telling.{IsAsTold, MoverAsTold}
 use Rattle.pf_mounted.proofs.Tracked.{IsElsewhere}
 use Rattle.pf_mounted.proofs.Tracing.{IsPending, IsWithin, asks_of, at_apart, at_same, is_hauled, is_trace, moves_more, past_more, reading_apart}
 use Rattle.pf_mounted.proofs.Within.{grow_both}
-use Rattle.pf_mounted.proofs.Writers.{alone_told}
 
 -- A group of which nothing was told
 
@@ -56,11 +53,11 @@ pub every_of : (R : Moment → Type 0) (told : List Moment) → ((place : ℕ) (
 every_of R [] each = tt
 every_of R (y ∷ told) each = (each zero y refl, every_of R told (λ place x at. each (suc place) x at))
 
-module _ (count : ℕ) (chunks : List ChunkRun) (n : ℕ) (none : (c : ChunkRun) → slice_get chunks n ≡ Some c → ⊥) where
+module _ (known : Type 0) (count : ℕ) (chunks : List ChunkRun) (n : ℕ) (none : (c : ChunkRun) → slice_get chunks n ≡ Some c → ⊥) where
   abbrev IsStrange : Moment → Type 0
   IsStrange y = IsWithin n 0 y × IsElsewhere n y
 
-  strange : (before : List Moment) (y : Moment) → IsSo count chunks before y → IsStrange y
+  strange : (before : List Moment) (y : Moment) → IsSo known count chunks before y → IsStrange y
   strange before (Hands m g place) is = ((λ same. absurd (none is.group (ap (slice_get chunks) (sym same) ∙ is.there))), tt)
   strange before (MovesTo chunk to) is = (tt, λ same. none is.group (ap (slice_get chunks) (sym same) ∙ is.there))
   strange before (Turns m heard next) is = (tt, tt)
@@ -127,7 +124,7 @@ rehomed_there (q ∷ ports) (suc m) p at = rehomed_there ports m p at
 
 -- The chunk leaves one group and goes to the other
 
-module _ (kind : Option Kind) (halts : List Halt) (v : VolumeRun) (told : List Moment) (is : IsBorne kind v told) (rests : v.routes.moving ≡ None) (names format chunk h : ℕ) (home : home_of v.routes chunk ≡ Some h) where
+module _ (known : Type 0) (halts : List Halt) (v : VolumeRun) (told : List Moment) (is : IsBorne known v told) (rests : v.routes.moving ≡ None) (names format chunk h : ℕ) (home : home_of v.routes chunk ≡ Some h) where
   abbrev count : ℕ
   count = v.extent.chunks
 
@@ -144,10 +141,10 @@ module _ (kind : Option Kind) (halts : List Halt) (v : VolumeRun) (told : List M
   told_on = told ++ y ∷ []
 
   abbrev source : ChunkRun
-  source = (source_of v told (routed v told is.hosts) chunk h home).0
+  source = (source_of v told is.order.routed chunk h home).0
 
   source_there : slice_get v.chunks h ≡ Some source
-  source_there = (source_of v told (routed v told is.hosts) chunk h home).1
+  source_there = (source_of v told is.order.routed chunk h home).1
 
   abbrev chunks_on : List ChunkRun
   chunks_on = with_both v.chunks h source (new_run group)
@@ -156,30 +153,30 @@ module _ (kind : Option Kind) (halts : List Halt) (v : VolumeRun) (told : List M
   under = record v.routes { moving = Some (record { chunk = chunk; to = n }) }
 
   apart_home : n ≢ h
-  apart_home same = let low = is.hosts.routes.within chunk h home in omega (arith, low, same)
+  apart_home same = let low = is.order.routed.routes.within chunk h home in omega (arith, low, same)
 
   nobody : (c : ChunkRun) → slice_get v.chunks n ≡ Some c → ⊥
   nobody c at = let low = slice_get_within v.chunks n c at in omega (arith, low)
 
   strange_all : Every (IsWithin n 0) told × Every (IsElsewhere n) told
   strange_all = (
-    every_of (IsWithin n 0) told (λ place x at. (strange count v.chunks n nobody (take place told) x (is.so.each place x at)).0),
-    every_of (IsElsewhere n) told (λ place x at. (strange count v.chunks n nobody (take place told) x (is.so.each place x at)).1),
+    every_of (IsWithin n 0) told (λ place x at. (strange known count v.chunks n nobody (take place told) x (is.so.each place x at)).0),
+    every_of (IsElsewhere n) told (λ place x at. (strange known count v.chunks n nobody (take place told) x (is.so.each place x at)).1),
   )
 
   had : asks_of count told h ≡ Some chunk
-  had = (subst (IsHome (asks_of count told) chunk) home (is.hosts.routes.homes chunk)).here
+  had = (subst (IsHome (asks_of count told) chunk) home (is.order.routed.routes.homes chunk)).here
 
   -- another group has not the asks of the chunk
   away : (k : ℕ) → k ≢ h → asks_of count told k ≡ Some chunk → ⊥
-  away k other has = other ((subst (IsHome (asks_of count told) chunk) home (is.hosts.routes.homes chunk)).alone k has)
+  away k other has = other ((subst (IsHome (asks_of count told) chunk) home (is.order.routed.routes.homes chunk)).alone k has)
 
   of_left : asks_of count told_on h ≡ None
-  of_left = of_other count n v.routes told is.hosts.routes rests chunk h home h apart_home ∙ ap (λ b. if b then None else asks_of count told h) (at_same (asks_of count told h) chunk had)
+  of_left = of_other count n v.routes told is.order.routed.routes rests chunk h home h apart_home ∙ ap (λ b. if b then None else asks_of count told h) (at_same (asks_of count told h) chunk had)
 
   of_away : (k : ℕ) → n ≢ k → k ≢ h → asks_of count told_on k ≡ asks_of count told k
   of_away k apart other =
-      of_other count n v.routes told is.hosts.routes rests chunk h home k apart ∙ ap (λ b. if b then None else asks_of count told k) (at_apart (asks_of count told k) chunk (away k other))
+      of_other count n v.routes told is.order.routed.routes rests chunk h home k apart ∙ ap (λ b. if b then None else asks_of count told k) (at_apart (asks_of count told k) chunk (away k other))
 
   -- no chunk is moving: the mover's ports have nothing to ask
   none_there : (o : Option MoverIs) → IsPair None o → IsBearing count told v.chunks v.routes None o → HasAsked no_one mover_port None v.chunks
@@ -187,7 +184,7 @@ module _ (kind : Option Kind) (halts : List Halt) (v : VolumeRun) (told : List M
   none_there (Some mover) pair bears = absurd pair
 
   quiet : HasAsked no_one mover_port None v.chunks
-  quiet = none_there v.mover (subst (λ m. IsPair m v.mover) rests is.hosts.pair) (subst (λ m. IsBearing count told v.chunks v.routes m v.mover) rests is.bears)
+  quiet = none_there v.mover (subst (λ m. IsPair m v.mover) rests is.order.routed.pair) (subst (λ m. IsBearing count told v.chunks v.routes m v.mover) rests is.bears)
 
   -- What the moment is to the traces
 
@@ -237,17 +234,17 @@ module _ (kind : Option Kind) (halts : List Halt) (v : VolumeRun) (told : List M
 
   -- The groups
 
-  within_on : (k : ℕ) (c : ChunkRun) → IsAsTold count told k c → Every (IsWithin k (length c.group.history)) told_on
+  within_on : (k : ℕ) (c : ChunkRun) → IsAsTold known count told k c → Every (IsWithin k (length c.group.history)) told_on
   within_on k c its = every_append (IsWithin k (length c.group.history)) told (y ∷ []) its.within (tt, tt)
 
   -- the one that the ports leave
-  left_told : IsAsTold count told h source → IsAsTold count told_on h (left_by_ports source)
+  left_told : IsAsTold known count told h source → IsAsTold known count told_on h (left_by_ports source)
   left_told its = record {
     number = its.number;
     stands = its.stands;
     within = within_on h source its;
-    driven = λ m low.
-        let was = its.driven m low in record {
+    driven = λ of_mounts m low.
+        let was = its.driven of_mounts m low in record {
           port = was.port;
           its = subst (λ (past : Past). IsDriven source.group.setup past was.port) (sym (trace_other source.group.history m h apart_home)) was.its;
           there = λ c has. absurd (none-some c (sym of_left ∙ has));
@@ -275,14 +272,14 @@ module _ (kind : Option Kind) (halts : List Halt) (v : VolumeRun) (told : List M
           }
 
   -- any other that was there
-  other_told : (k : ℕ) (c : ChunkRun) → n ≢ k → k ≢ h → IsAsTold count told k c → IsAsTold count told_on k c
+  other_told : (k : ℕ) (c : ChunkRun) → n ≢ k → k ≢ h → IsAsTold known count told k c → IsAsTold known count told_on k c
   other_told k c apart elsewhere its =
       let now = moves_other c.group.history k apart (away k elsewhere) in record {
         number = its.number;
         stands = its.stands;
         within = within_on k c its;
-        driven = λ m low.
-            let was = its.driven m low in record {
+        driven = λ of_mounts m low.
+            let was = its.driven of_mounts m low in record {
               port = was.port;
               its = subst (λ (past : Past). IsDriven c.group.setup past was.port) (sym (trace_other c.group.history m k apart)) was.its;
               there = λ chunk_of_it has. was.there chunk_of_it (sym (of_away k apart elsewhere) ∙ has);
@@ -303,16 +300,16 @@ module _ (kind : Option Kind) (halts : List Halt) (v : VolumeRun) (told : List M
   abbrev target : ChunkRun
   target = taking_ports source (new_run group)
 
-  new_told : IsAsTold count told h source → IsAsTold count told_on n target
+  new_told : IsAsTold known count told h source → IsAsTold known count told_on n target
   new_told its = record {
     number = refl;
     stands = refl;
     within = every_append (IsWithin n 0) told (y ∷ []) strange_all.0 (tt, tt);
-    driven = λ m low.
-        let was = its.driven m low in
+    driven = λ of_mounts m low.
+        let was = its.driven of_mounts m low in
         let there = was.there chunk had in
         let known = is_trace [] m n count told in
-        let asks : was.port.ask ≡ of_chunk chunk (last_ask told m) = is.hosts.ports m low h source was.port source_there there ∙ ap (λ o. asked_for o (last_ask told m)) had in record {
+        let asks : was.port.ask ≡ of_chunk chunk (last_ask told m) = (is.order.mounts of_mounts).ports m low h source was.port source_there there ∙ ap (λ o. asked_for o (last_ask told m)) had in record {
           port = rehomed was.port;
           its = subst (λ (past : Past). IsDriven group.setup past (rehomed was.port)) (sym (trace_new [] m n refl))
               (rehomed_driven group.setup [] chunk (trace_of [] m n count told).seen was.port (last_ask told m) (trace_of [] m n count told).pending asks known.pends);
@@ -325,10 +322,10 @@ module _ (kind : Option Kind) (halts : List Halt) (v : VolumeRun) (told : List M
       now = moves_new [] n refl
 
       fresh : IsFresh (moves_into [] n count told)
-      fresh = fresh_moves n count told is.hosts.routes.made strange_all.1
+      fresh = fresh_moves n count told is.order.routed.routes.made strange_all.1
 
       mover_port_there : (p : PortIs) × (slice_get source.ports mover_port ≡ Some p)
-      mover_port_there = something_there source.ports mover_port (let full = (is.hosts.placed h source source_there).ports in omega (arith, full))
+      mover_port_there = something_there source.ports mover_port (let full = (is.order.placed h source source_there).ports in omega (arith, full))
 
       unasked : mover_port_there.0.ask ≡ None
       unasked = quiet h source mover_port_there.0 source_there mover_port_there.1
@@ -358,32 +355,22 @@ module _ (kind : Option Kind) (halts : List Halt) (v : VolumeRun) (told : List M
   target_there : slice_get chunks_on n ≡ Some target
   target_there = ap (slice_get chunks_on) (sym (set_length v.chunks h (left_by_ports source))) ∙ at_end (slice_set v.chunks h (left_by_ports source)) target
 
-  all_as_told : (k : ℕ) (c : ChunkRun) → slice_get chunks_on k ≡ Some c → IsAsTold count told_on k c
+  all_as_told : (k : ℕ) (c : ChunkRun) → slice_get chunks_on k ≡ Some c → IsAsTold known count told_on k c
   all_as_told k c at = elim (where_from k c at) [
-    | inl here ↦ subst (λ (i : ℕ). IsAsTold count told_on i c) (sym here.0) (subst (IsAsTold count told_on h) here.1 (left_told (is.so.ports h source source_there)))
+    | inl here ↦ subst (λ (i : ℕ). IsAsTold known count told_on i c) (sym here.0) (subst (IsAsTold known count told_on h) here.1 (left_told (is.so.ports h source source_there)))
     | inr more ↦ elim more [
       | inl old ↦ other_told k c (λ same. nobody c (ap (slice_get v.chunks) same ∙ old.1)) old.0 (is.so.ports k c old.1)
-      | inr new ↦ subst (λ (i : ℕ). IsAsTold count told_on i c) (sym new.0) (subst (IsAsTold count told_on n) new.1 (new_told (is.so.ports h source source_there)))
-    ]
-  ]
-
-  alone_on : AreMountsAlone v.chunks told → AreMountsAlone chunks_on told_on
-  alone_on are k place server c range sectors answer there at = elim (where_from k c there) [
-    | inl here ↦
-        alone_told v.chunks told (y ∷ []) are k place server source range sectors answer (ap (slice_get v.chunks) here.0 ∙ source_there) (ap (λ (x : ChunkRun). slice_get x.group.history place) here.1 ∙ at)
-    | inr more ↦ elim more [
-      | inl old ↦ alone_told v.chunks told (y ∷ []) are k place server c range sectors answer old.1 at
-      | inr new ↦ absurd (none-some _ (ap (λ (x : ChunkRun). slice_get x.group.history place) new.1 ∙ at))
+      | inr new ↦ subst (λ (i : ℕ). IsAsTold known count told_on i c) (sym new.0) (subst (IsAsTold known count told_on n) new.1 (new_told (is.so.ports h source source_there)))
     ]
   ]
 
   begun : IsBegun count told chunk n
-  begun = begins_so v told (routed v told is.hosts) chunk h home rests
+  begun = begins_so v told is.order.routed chunk h home rests
 
-  pub leaves_so : AreSo kind count told_on chunks_on
+  pub leaves_so : AreSo known count told_on chunks_on
   leaves_so = record {
     ports = all_as_told;
-    each = one_more (IsSo count chunks_on) told y (all_grown count told v.chunks chunks_on grown_on is.so.each) (record {
+    each = one_more (IsSo known count chunks_on) told y (all_grown known count told v.chunks chunks_on grown_on is.so.each) (record {
       small = begun.small;
       rests = begun.rests;
       behind = begun.behind;
@@ -391,7 +378,6 @@ module _ (kind : Option Kind) (halts : List Halt) (v : VolumeRun) (told : List M
       group = target;
       there = target_there;
     });
-    alone = λ own. alone_on (is.so.alone own);
   }
 
   pub leaves_free : IsFree count told_on chunks_on under (record { chunk = chunk; to = n })
@@ -421,23 +407,23 @@ module _ (kind : Option Kind) (halts : List Halt) (v : VolumeRun) (told : List M
 -- The line
 
 module _ (halts : List Halt) where
-  pub moves_so : (v : VolumeRun) (told : List Moment) (names format chunk : ℕ) → is_some v.routes.moving ≡ false → (kind : Option Kind) → IsBorne kind v told
-      → let t : volumes.Told = moves chunk (new_group halts v names format) v in IsBorne kind t.volume (told ++ t.told)
-  moves_so v told names format chunk free kind is = by (home_of v.routes chunk) refl
+  pub moves_so : (v : VolumeRun) (told : List Moment) (names format chunk : ℕ) → is_some v.routes.moving ≡ false → (known : Type 0) → IsBorne known v told
+      → let t : volumes.Told = moves chunk (new_group halts v names format) v in IsBorne known t.volume (told ++ t.told)
+  moves_so v told names format chunk free known is = by (home_of v.routes chunk) refl
     where
-      by : (o : Option ℕ) → home_of v.routes chunk ≡ o → let t : volumes.Told = moves_from chunk o (new_group halts v names format) v in IsBorne kind t.volume (told ++ t.told)
-      by None at = subst (IsBorne kind v) (sym (append-nil told)) is
+      by : (o : Option ℕ) → home_of v.routes chunk ≡ o → let t : volumes.Told = moves_from chunk o (new_group halts v names format) v in IsBorne known t.volume (told ++ t.told)
+      by None at = subst (IsBorne known v) (sym (append-nil told)) is
       by (Some h) at =
           let rests = none_moving v.routes.moving free in
           let group = made_chunk halts v.extent.sectors names format (length v.chunks) in
           let m : MoverIs = new_mover chunk (v.extent.sectors / 8) in
           let s : Step = step m None in
           let moving : Moving = record { chunk = chunk; to = length v.chunks } in
-          let new : List ChunkRun = with_both v.chunks h (source_of v told (routed v told is.hosts) chunk h at).0 (new_run group) in
+          let new : List ChunkRun = with_both v.chunks h (source_of v told is.order.routed chunk h at).0 (new_run group) in
           let w : List ChunkRun → VolumeRun = λ chunks. record v { chunks = chunks; routes = record v.routes { moving = Some moving }; mover = Some m } in
           let on = told ++ MovesTo chunk (length v.chunks) ∷ [] in
-          let first = began halts v told is.hosts rests chunk h at group refl m refl in
-          let done = went kind halts (w new) on first (leaves_so kind halts v told is rests names format chunk h at) moving refl (leaves_free kind halts v told is rests names format chunk h at) m s.mover refl (step_chunk m None) None tt s.next (step_asks m None) in
+          let first = began_ordered known halts v told is.order rests chunk h at group refl m refl in
+          let done = went known halts (w new) on first (leaves_so known halts v told is rests names format chunk h at) moving refl (leaves_free known halts v told is rests names format chunk h at) m s.mover refl (step_chunk m None) None tt s.next (step_asks m None) in
           let t : volumes.Told = carries_on (moved_from v chunk h (new_run group)) None s in
-          subst (IsBorne kind t.volume) (append_assoc told (MovesTo chunk (length v.chunks) ∷ []) t.told)
-          (subst (λ (chunks : List ChunkRun). let x : volumes.Told = carries_on (w chunks) None s in IsBorne kind x.volume (on ++ x.told)) (sym (new_is v told (routed v told is.hosts) chunk h at (new_run group))) done.0)
+          subst (IsBorne known t.volume) (append_assoc told (MovesTo chunk (length v.chunks) ∷ []) t.told)
+          (subst (λ (chunks : List ChunkRun). let x : volumes.Told = carries_on (w chunks) None s in IsBorne known x.volume (on ++ x.told)) (sym (new_is v told is.order.routed chunk h at (new_run group))) done.0)

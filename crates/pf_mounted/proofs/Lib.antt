@@ -1,4 +1,5 @@
 pub mod Plain
+pub mod Counted
 pub mod Running
 pub mod Bare
 pub mod Applying
@@ -15,6 +16,8 @@ pub mod Telling
 pub mod Driving
 pub mod Hosting
 pub mod Holding
+pub mod OwnWrites
+pub mod Ferrying
 pub mod Changing
 pub mod Lives
 pub mod Ports
@@ -108,6 +111,7 @@ pub mod Routing
 pub mod Hauling
 pub mod OfKinds
 pub mod Bearing
+pub mod Ordered
 pub mod Steering
 pub mod Leaving
 pub mod MoverTurns
@@ -115,7 +119,10 @@ pub mod MoverCalls
 pub mod RunMoves
 pub mod Asking
 pub mod Carried
+pub mod OfMoves
+pub mod MoverWrites
 pub mod Copied
+pub mod Conveying
 pub mod Owned
 pub mod Shifting
 pub mod Turned

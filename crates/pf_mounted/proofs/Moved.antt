@@ -1,31 +1,37 @@
 -- A chunk through its epochs, by what was told: its sectors were carried from group to group.
-use Rattle.std.proofs.Common.{◌≡◌, ℕ, zero, suc, ◌+◌, ◌*◌, ◌/◌, ◌%◌, ◌<◌, ◌≤◌, ◌⊎◌, inl, inr, List, [], ◌++◌, take, Some, slice_get, arith, sym, ap, subst, ◌∙◌, append-nil}
+use Rattle.std.proofs.Common.{◌≡◌, ℕ, suc, ◌+◌, ◌*◌, ◌/◌, ◌%◌, ◌<◌, ◌≤◌, inl, inr, List, [], ◌++◌, length, take, Some, slice_get, arith, sym, ap, subst, ◌∙◌, append-nil, length-append}
+use Rattle.std.specs.List.{flat_map}
 use Rattle.std.proofs.lemmas.Bool.{cases_lt}
-use Rattle.std.proofs.lemmas.Option.{none-some, same_Some}
+use Rattle.pf_base.specs.Asks.{chunk_of}
 use Rattle.pf_protocol.specs.Answers.{IsLegal}
 use Rattle.pf_protocol.specs.Groups.{Answered}
-use Rattle.pf_protocol.proofs.ForMoments.{legal_before}
 use Rattle.pf_protocol.specs.Servers.{Setup}
 use Rattle.pf_positions.specs.Deeds.{Groups}
-use Rattle.pf_positions.specs.Moves.{IsMoved, WereWritten}
-use Rattle.pf_positions.proofs.Answers.{prefix_taken}
 use Rattle.pf_epochs.specs.Routed.{IsRouted}
 use Rattle.pf_epochs.specs.Sectors.{RoutedSector}
 use Rattle.pf_epochs.proofs.Sectors.{routed_sector}
-use Rattle.pf_world.specs.pf_chunk.specs.Runs.{ChunkRun}
+use Rattle.pf_world.specs.pf_chunk.specs.Runs.{ChunkRun, mover_port}
 use Rattle.pf_volume.specs.Volumes.{Extent, IsVolume}
-use Rattle.pf_world.specs.pf_hosts.specs.Moments.{Moment}
-use Rattle.pf_mounted.specs.Epochs.{epoch_of, group_at}
+use Rattle.pf_world.specs.pf_hosts.specs.Moments.{Hands, Moment, Turns}
+use Rattle.pf_mounted.specs.Epochs.{epoch_of, group_at, groups_in_turn, moved_to, serving}
 use Rattle.pf_mounted.specs.Fitting.{IsOfRun}
 use Rattle.pf_mounted.specs.Handing.{AreMountsAlone, reached}
-use Rattle.pf_mounted.specs.Hosted.{groups_of, history_of, setup_at, setup_of, told_history}
+use Rattle.pf_mounted.specs.Hosted.{groups_of}
 use Rattle.pf_mounted.specs.Journals.{deeds}
+use Rattle.pf_mounted.specs.Movers.{IsAtRest}
 use Rattle.pf_mounted.specs.Moving.{AreRoutedSectors, WasCarried}
-use Rattle.pf_mounted.proofs.Copied.{all_acked, begun, carried, last, moved, no_answer}
-use Rattle.pf_mounted.proofs.Fits.{HasGroup, deeds_fit, has_group}
+use Rattle.pf_mounted.proofs.Bringing.{brought_at, handed_at, reached_before, same_group, serving_then}
+use Rattle.pf_mounted.proofs.Conveying.{carried_of, last_in, last_of, move_of, moved_in}
+use Rattle.pf_mounted.proofs.Conveying as conveying
+use Rattle.pf_mounted.proofs.Copied.{AreHandedAfter, AreHeardBefore}
+use Rattle.pf_mounted.proofs.Epoching.{groups_on}
+use Rattle.pf_mounted.proofs.Fits.{deeds_fit}
+use Rattle.pf_mounted.proofs.Known.{IsKnown, knows}
+use Rattle.pf_mounted.proofs.OfMoves.{AreGroupsOf, IsOfMoves, group_by, group_in, of_moves, told_groups}
 use Rattle.pf_mounted.proofs.Owned.{ports_alone}
+use Rattle.pf_mounted.proofs.Placing.{take_goes_on}
+use Rattle.pf_mounted.proofs.Reached.{heard_reaches}
 use Rattle.pf_mounted.proofs.Sizing.{AreChunks}
-use Rattle.pf_mounted.proofs.Turned.{IsEnded, is_ended}
 
 module _ (v : Extent) (chunks : List ChunkRun) (answer_at : ℕ → Answered) (whole : List Moment) (run : IsOfRun v chunks answer_at whole) (volume : IsVolume v) (told rest : List Moment) (part : whole ≡ told ++ rest) where
   abbrev groups : Groups
@@ -34,75 +40,73 @@ module _ (v : Extent) (chunks : List ChunkRun) (answer_at : ℕ → Answered) (w
   abbrev pieces : ℕ
   pieces = v.sectors / 8
 
-  group_of : (chunk e : ℕ) → chunk < v.chunks → e ≤ epoch_of told chunk → HasGroup v chunks answer_at told chunk e
-  group_of chunk e small low = has_group v chunks answer_at whole run told rest part chunk e small low
+  abbrev upto : ℕ → ℕ
+  upto k = reached k told
 
-  move_of : (chunk e : ℕ) (small : chunk < v.chunks) → e < epoch_of told chunk → IsEnded v.chunks chunk small told e
-  move_of chunk e small ended = is_ended v.chunks chunk small told (begun v chunks answer_at whole run volume told rest part) e ended
+  abbrev moves_so : IsOfMoves v chunks whole
+  moves_so = of_moves v chunks answer_at whole run
+
+  abbrev groups_so : AreGroupsOf v answer_at chunks told upto groups
+  groups_so = told_groups v answer_at chunks told
 
   pub some_pieces : 0 < pieces
-  some_pieces = let is = volume.blocks.1 in let some = volume.some_sectors in omega (arith, is, some)
+  some_pieces = conveying.some_pieces v chunks answer_at whole moves_so volume told rest part upto groups groups_so
 
   pub whole_pieces : 8 * pieces ≡ v.sectors
-  whole_pieces = let is = volume.blocks.1 in omega (arith, is)
-
-  module _ (chunk e : ℕ) (small : chunk < v.chunks) (ended : e < epoch_of told chunk) where
-    abbrev old : HasGroup v chunks answer_at told chunk e
-    old = group_of chunk e small (omega (arith, ended))
-
-    abbrev new : HasGroup v chunks answer_at told chunk (suc e)
-    new = group_of chunk (suc e) small (omega (arith, ended))
-
-    abbrev move : IsEnded v.chunks chunk small told e
-    move = move_of chunk e small ended
-
-    abbrev last_of : ℕ → Answered
-    last_of = last v chunks answer_at whole run volume told rest part chunk e small old.k new.k old.c new.c old.at new.at old.there new.there move.turns move.at move.switched
-
-    pub was_carried : WasCarried v answer_at chunks told chunk e pieces
-    was_carried = record {
-      turns = move.turns;
-      calls = move.at;
-      last = last_of;
-      carried = carried v chunks answer_at whole run volume told rest part chunk e small old.k new.k old.c new.c old.at new.at old.there new.there move.turns move.at move.switched some_pieces;
-    }
-
-    -- after it all that was written was acknowledged
-    acked_after : (k : ℕ) → group_at told chunk (suc e) ≡ Some k → (q bound first : ℕ) → suc e ≤ epoch_of (take q told) chunk → reached k (take q told) ≤ bound → WereWritten groups chunk first (suc e) bound
-    acked_after k at q bound first later low =
-        let same : k ≡ new.k = same_Some k new.k (sym at ∙ new.at) in
-        all_acked v chunks answer_at whole run volume told rest part chunk e small old.k new.k old.c new.c old.at new.at old.there new.there move.turns move.at move.switched q bound first later
-        (subst (λ g. reached g (take q told) ≤ bound) same low)
-
-  prior : (chunk e : ℕ) → chunk < v.chunks → e < epoch_of told chunk → (k : ℕ) → group_at told chunk e ≡ Some k → (q bound first : ℕ) → e ≤ epoch_of (take q told) chunk → reached k (take q told) ≤ bound → WereWritten groups chunk first e bound
-  prior chunk zero small ended k at q bound first later low = λ j nth a its there. absurd (none-some a there)
-  prior chunk (suc e) small ended k at q bound first later low = acked_after chunk e small (omega (arith, ended)) k at q bound first later low
-
-  moved_of : (chunk e : ℕ) (small : chunk < v.chunks) (ended : e < epoch_of told chunk) (n : ℕ) → n < pieces → IsMoved groups (deeds v answer_at told) chunk (8 * n) e (last_of chunk e small ended n)
-  moved_of chunk e small ended n low =
-      let o = group_of chunk e small (omega (arith, ended)) in
-      let w = group_of chunk (suc e) small (omega (arith, ended)) in
-      let m = move_of chunk e small ended in
-      moved v chunks answer_at whole run volume told rest part chunk e small o.k w.k o.c w.c o.at w.at o.there w.there m.turns m.at m.switched ended (prior chunk e small ended o.k o.at) n low
-
-  -- the mover's last read of a piece in an epoch
-  abbrev last_in : (chunk n e : ℕ) → chunk < v.chunks → (e < epoch_of told chunk) ⊎ (epoch_of told chunk ≤ e) → Answered
-  last_in chunk n e small (inl ended) = last_of chunk e small ended n
-  last_in chunk n e small (inr past) = no_answer
-
-  moved_in : (chunk n e : ℕ) (small : chunk < v.chunks) → n < pieces → e < epoch_of told chunk → (o : (e < epoch_of told chunk) ⊎ (epoch_of told chunk ≤ e)) → IsMoved groups (deeds v answer_at told) chunk (8 * n) e (last_in chunk n e small o)
-  moved_in chunk n e small low ended (inl its) = moved_of chunk e small its n low
-  moved_in chunk n e small low ended (inr past) = absurd (omega (arith, ended, past))
-
-  setup_is : (chunk e k : ℕ) (c : ChunkRun) → group_at told chunk e ≡ Some k → slice_get chunks k ≡ Some c → groups.setup chunk e ≡ c.group.setup
-  setup_is chunk e k c at there = ap (setup_at v answer_at chunks told) at ∙ ap setup_of there
+  whole_pieces = conveying.whole_pieces v chunks answer_at whole moves_so volume told rest part upto groups groups_so
 
   pub legal_of : (chunk e : ℕ) → chunk < v.chunks → e ≤ epoch_of told chunk → IsLegal (groups.setup chunk e) (groups.history chunk e)
-  legal_of chunk e small low =
-      let g = group_of chunk e small low in
-      let history : groups.history chunk e ≡ take (reached g.k told) g.c.group.history = ap (told_history v answer_at chunks told) g.at ∙ ap (λ o. take (reached g.k told) (history_of o)) g.there in
-      subst (λ (setup : Setup). IsLegal setup (groups.history chunk e)) (sym (setup_is chunk e g.k g.c g.at g.there))
-      (subst (IsLegal g.c.group.setup) (sym history) (legal_before g.c.group.setup (take (reached g.k told) g.c.group.history) g.c.group.history (prefix_taken (reached g.k told) g.c.group.history) (run.legal g.k g.c g.there)))
+  legal_of = conveying.legal_of v chunks answer_at whole moves_so volume told rest part upto groups groups_so
+
+  pub was_carried : (chunk e : ℕ) → chunk < v.chunks → e < epoch_of told chunk → WasCarried v answer_at chunks told chunk e pieces
+  was_carried chunk e small ended =
+      let move = move_of v chunks answer_at whole moves_so volume told rest part upto groups groups_so chunk e small ended in record {
+        turns = move.turns;
+        calls = move.at;
+        last = last_of v chunks answer_at whole moves_so volume told rest part upto groups groups_so chunk e small ended;
+        carried = carried_of v chunks answer_at whole moves_so volume told rest part upto groups groups_so chunk e small ended;
+      }
+
+  -- The deeds of mounts
+
+  known : (chunk e k : ℕ) (small : chunk < v.chunks) (low : e ≤ epoch_of told chunk) → group_at told chunk e ≡ Some k → (c : ChunkRun) × IsKnown v chunks answer_at told chunk e k c
+  known chunk e k small low at =
+      let c = group_by v chunks whole run.moves told rest part chunk e k small at in
+      (c.0, knows v chunks answer_at whole run told rest part chunk e k small low at c.0 c.1)
+
+  -- a mount heard of the old group before the mover read it
+  hears : (chunk e k : ℕ) → chunk < v.chunks → e < epoch_of told chunk → group_at told chunk e ≡ Some k → AreHeardBefore v told (deeds v answer_at told) chunk e k
+  hears chunk e k small ended group q place at on_the_move now_too moment by deed there is =
+      let its = known chunk e k small (omega (arith, ended)) group in
+      let b = brought_at v chunks answer_at told chunk e k its.0 its.1 moment e by deed there is in
+      let s = b.moment in
+      let rests = subst (IsAtRest v.chunks (take s told)) b.of (its.1.hears s b.m b.back b.next b.ask b.at b.pending) in
+      let resting = rests.groups in
+      let now = b.now in
+      let moving = on_the_move.groups in
+      let earlier : s < q = elim (cases_lt s q) [
+        | inl sooner ↦ sooner
+        | inr not_sooner ↦
+            let further = take_goes_on told s q not_sooner in
+            let grown = ap length (groups_on (take q told) further.0 chunk) ∙ length-append (groups_in_turn (take q told) chunk) (flat_map (moved_to chunk) further.0) in
+            let same = ap (λ (l : List Moment). length (groups_in_turn l chunk)) further.1 in absurd (omega (arith, grown, same, resting, now, moving, now_too))
+      ] in
+      let x : Moment = Turns b.m (Some b.back) b.next in
+      let serves : serving (take s told) (chunk_of b.ask) ≡ Some k = ap (serving (take s told)) b.of ∙ serving_then v chunks answer_at told chunk e k its.0 its.1 s now in
+      let heard = heard_reaches k (take s told) b.m b.back b.next b.ask b.pending serves in
+      let to = reached_before v chunks answer_at told chunk e k its.0 its.1 s q x b.at earlier in
+      let behind = its.1.behind q mover_port k place at in
+      let since = b.since in omega (arith, heard, to, behind, since)
+
+  -- and handed nothing to the new one before the move had ended
+  waits : (chunk e k : ℕ) → chunk < v.chunks → e < epoch_of told chunk → group_at told chunk (suc e) ≡ Some k → AreHandedAfter told (deeds v answer_at told) chunk e k
+  waits chunk e k small ended group moment client by at =
+      let its = known chunk (suc e) k small (omega (arith, ended)) group in
+      let h = handed_at v chunks answer_at told chunk (suc e) k its.0 its.1 moment client (suc e) by at in
+      let same = same_group v chunks answer_at told chunk (suc e) k its.0 its.1 h.moment h.group h.home in
+      let there : slice_get told h.moment ≡ Some (Hands h.m k by) = h.at ∙ ap (λ g. Some (Hands h.m g by)) same in
+      let is = h.now in
+      (h.moment, omega (arith, is), its.1.behind h.moment h.m k by there)
 
   module _ (are : AreChunks v chunks) (alone : AreMountsAlone chunks whole) where
     pub is_routed : (chunk n : ℕ) → chunk < v.chunks → 8 * n < v.sectors → IsRouted groups (deeds v answer_at told) chunk n
@@ -112,12 +116,12 @@ module _ (v : Extent) (chunks : List ChunkRun) (answer_at : ℕ → Answered) (w
           fits = deeds_fit v chunks answer_at whole run told rest part chunk small;
           legal = λ e le. legal_of chunk e small le;
           inside = λ e le.
-              let g = group_of chunk e small le in
-              let size = ap (λ (s : Setup). s.chunk) (setup_is chunk e g.k g.c g.at g.there) ∙ are.sized g.k g.c g.there in
+              let g = group_in v chunks whole run.moves told rest part chunk e small le in
+              let size = ap (λ (s : Setup). s.chunk) (groups_so.setup chunk e g.k g.c g.at g.there) ∙ are.sized g.k g.c g.there in
               omega (arith, size, low, all, within);
           of_ports = λ e nth le few. ports_alone v chunks answer_at whole told rest run.moves run.handed alone part chunk e (8 * n + nth) small le;
-          last = λ e. last_in chunk n e small (cases_lt e (epoch_of told chunk));
-          moved = λ e ended. moved_in chunk n e small within ended (cases_lt e (epoch_of told chunk));
+          last = λ e. last_in v chunks answer_at whole moves_so volume told rest part upto groups groups_so chunk n e small;
+          moved = λ e ended. moved_in v chunks answer_at whole moves_so volume told rest part upto groups groups_so (deeds v answer_at told) hears waits chunk n e small within ended;
         }
 
 -- so it is of all that a run told

@@ -178,7 +178,7 @@ module _ (v : Extent) (chunks : List ChunkRun) (answer_at : ℕ → Answered) (t
           | inr many_ports ↦
               let on = run.moves.on hands.0 hands.2 hands.1 k (length a.before) same many_ports in
               mover (take (length a.before) c.group.history)
-              (by_mover v answer_at chunks told told [] run.moves run.handed all alone first_chunk e k c first_small group at (length a.before) a.server (Write w.range w.sectors) a.answer there hands.0 hands.2 hands.1 same on.0 on.1)
+              (by_mover v answer_at chunks told told [] run.moves run.handed all alone first_chunk e k c first_small group at (length a.before) a.server (Write w.range w.sectors) a.answer there hands.0 hands.2 hands.1 same on.0)
         ]
 
     wrote_it : given (Write w.range w.sectors) first_sector ≡ Some bytes

@@ -43,7 +43,7 @@ use Rattle.pf_mounted.proofs.Beginning.{turns_new}
 use Rattle.pf_mounted.proofs.Each.{AreEach, each_at}
 use Rattle.pf_mounted.proofs.Given.{in_kind}
 use Rattle.pf_mounted.proofs.Hearing.{IsSo}
-use Rattle.pf_mounted.proofs.Holding.{moments_so, replies_heard}
+use Rattle.pf_mounted.proofs.Holding.{Always, moments_so, replies_heard}
 use Rattle.pf_mounted.proofs.Lives.{called_life, its_own, life_on, turned_life}
 use Rattle.pf_mounted.proofs.Plain.{AreNoMounts, IsNoMounts}
 use Rattle.pf_mounted.proofs.Standing.{AreTold, each_done, hosts_are_told}
@@ -213,7 +213,7 @@ module _ (halts : List Halt) (sessions : List Session) (lines : List Line) (scri
     abbrev IsAnswered : (place : ℕ) → Answered → Type 0
     IsAnswered place answer = (y : Moment) → slice_get run.told place ≡ Some y → IsReadIn count chunks (take place run.told) y answer
 
-    moment_answer : (before : List Moment) (y : Moment) → IsSo count chunks before y → (answer : Answered) × IsReadIn count chunks before y answer
+    moment_answer : (before : List Moment) (y : Moment) → IsSo Always count chunks before y → (answer : Answered) × IsReadIn count chunks before y answer
     moment_answer before (Turns m (Some heard) next) is =
         let h = is.is in
         let a = reply_answer count chunks before m heard h.group h.chunk h.ask heard.reply h.serves h.there (h.replied (lawful h.group h.chunk h.there).legal) in

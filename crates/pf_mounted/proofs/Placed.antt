@@ -18,6 +18,7 @@ use Rattle.pf_world.specs.pf_applyrounds.specs.Halts.{Halt}
 use Rattle.pf_world.specs.pf_chunk.specs.Runs.{ChunkRun, left_by_ports, most_ports, mover_port, new_run, taking_ports}
 use Rattle.pf_world.specs.pf_hosts.specs.Moments.{Heard, Moment}
 use Rattle.pf_world.specs.pf_fleet.specs.Volumes.{VolumeRun, carries, moved_from, moves_from, with_new}
+use Rattle.pf_world.specs.declared.kind.Kind.{Kind}
 use Rattle.pf_world.specs.pf_threads.specs.Sessions.{Session}
 use Rattle.pf_world.specs.declared.line.Line.{Line}
 use Rattle.pf_world.specs.Reports.{world_run}
@@ -74,7 +75,7 @@ module _ (chunks : List ChunkRun) (h : ℕ) (source new : ChunkRun) where
 
 -- What keeps it
 
-placed_new : (chunks : List ChunkRun) (h : ℕ) (new : ChunkRun) (o : Option ChunkRun) → slice_get chunks h ≡ o → new.group.number ≡ length chunks → ArePlaced chunks → ArePlaced (with_new chunks h o new)
+pub placed_new : (chunks : List ChunkRun) (h : ℕ) (new : ChunkRun) (o : Option ChunkRun) → slice_get chunks h ≡ o → new.group.number ≡ length chunks → ArePlaced chunks → ArePlaced (with_new chunks h o new)
 placed_new chunks h new None there number are = are
 placed_new chunks h new (Some source) there number are = placed_there chunks h source new there number are
 
@@ -90,10 +91,10 @@ placed_event chunks k c d at ports number are = placed_with chunks d.group.numbe
 abbrev pub Placed : Extent → RoutesIs → Option MoverIs → List ChunkRun → List Moment → Type 0
 Placed e r mover chunks told = ArePlaced chunks
 
-pub placed_ports : IsKeptByPorts (λ chunks told. ArePlaced chunks)
-placed_ports = record {
+pub placed_ports : (kind : Option Kind) → IsKeptByPorts kind (λ chunks told. ArePlaced chunks)
+placed_ports kind = record {
   telling = λ chunks told y said are. are;
-  growing = λ chunks told k c d at ports grows are. placed_event chunks k c d at ports grows.number are;
+  growing = λ chunks told k c d at ports grows adds are. placed_event chunks k c d at ports grows.number are;
   putting = λ chunks told group m ask low are. put_placed m ask chunks group are;
   stepping = λ chunks told k c m d low at step are. placed_with chunks k c d.chunk at step.grows.number step.count are;
 }
@@ -106,10 +107,11 @@ module _ (halts : List Halt) where
       let s : Step = step (new_mover chunk (v.extent.sectors / 8)) None in
       placed_on (moved_from v chunk h new) s.mover None s.next (placed_new v.chunks h new (slice_get v.chunks h) refl refl are)
 
-  pub all_placed : IsKeptByParts halts Placed
+  pub all_placed : IsKeptByParts halts (λ kind. Placed)
   all_placed = record {
-    ports = λ e r mover. placed_ports;
-    carrying = λ v told are.
+    deciding = λ kind e r mover chunks told are. are;
+    ports = λ kind e r mover. placed_ports kind;
+    carrying = λ kind v told are.
         hauled halts (HoldsOf Placed) (λ w so_far k group its. (drives_at halts w.chunks mover_port k).placed its)
         (λ w so_far old heard there its. let s : Step = step old (Some heard.reply) in placed_on w s.mover (Some heard) s.next its) v told are;
     moving = λ v told names format chunk free are. placed_move v names format chunk (home_of v.routes chunk) are;
@@ -137,4 +139,4 @@ module _ (halts : List Halt) where
 
   -- each group has all ports after each script
   pub ports_full : (sessions : List Session) (lines : List Line) → IsScript lines → (k : ℕ) (c : ChunkRun) → slice_get (world_run halts sessions lines).world.volume.chunks k ≡ Some c → length c.ports ≡ most_ports
-  ports_full sessions lines script k c there = (throughout halts Placed (all_placed halts) new_placed sessions lines script k c there).ports
+  ports_full sessions lines script k c there = (throughout halts (λ kind. Placed) (all_placed halts) new_placed sessions lines script k c there).ports

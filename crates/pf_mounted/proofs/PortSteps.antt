@@ -14,12 +14,13 @@ use Rattle.pf_mounted.proofs.Handovers.{IsHandedIf, driven_hands, leader_hands}
 use Rattle.pf_mounted.proofs.Ports.{DrivesPort, drives_port, leads}
 use Rattle.pf_mounted.proofs.Replying.{driven_grows, leader_grows}
 
--- events are added, there are as many ports, no other port is different, and the event that handed an ask on lies in the history
+-- events are added, there are as many ports, no other port is different, and an ask was handed on by the next event, which lies in the history, or by none
 pub record IsPortStep (m : ℕ) (c : ChunkRun) (d : Driven) : Type 0 where
   pub grows : Grows c.group d.chunk.group
   pub count : length d.chunk.ports ≡ length c.ports
   pub others : (n : ℕ) → n ≢ m → slice_get d.chunk.ports n ≡ slice_get c.ports n
   pub hands : (place : ℕ) → d.place ≡ Some place → place < length d.chunk.group.history
+  pub handed : IsHandedIf m c d d.place
 
 place_within : (m : ℕ) (c : ChunkRun) (d : Driven) (o : Option ℕ) → IsHandedIf m c d o → (place : ℕ) → o ≡ Some place → place < length d.chunk.group.history
 place_within m c d None none place is = absurd (none-some place is)
@@ -28,7 +29,7 @@ place_within m c d (Some n) h place is =
 
 module _ (c : ChunkRun) (m : ℕ) where
   idles : IsPortStep m c (idle c)
-  idles = record { grows = grows_refl c.group; count = refl; others = λ n other. refl; hands = λ place none. absurd (none-some place none) }
+  idles = record { grows = grows_refl c.group; count = refl; others = λ n other. refl; hands = λ place none. absurd (none-some place none); handed = refl }
 
   -- an answer is heard, and nothing is handed on
   hears_if : (p : PortIs) (reply : Option Reply) → IsPortStep m c (heard_if c m p reply) × ((heard_if c m p reply).place ≡ None)
@@ -39,6 +40,7 @@ module _ (c : ChunkRun) (m : ℕ) where
       count = set_length c.ports m (answered_port p);
       others = λ n other. set_elsewhere c.ports m n (answered_port p) other;
       hands = λ place none. absurd (none-some place none);
+      handed = refl;
     },
     refl,
   )
@@ -56,7 +58,7 @@ module _ (c : ChunkRun) (m : ℕ) where
 
   -- by its parts
   together : (d : Driven) → Grows c.group d.chunk.group → DrivesPort m c d → IsHandedIf m c d d.place → IsPortStep m c d
-  together d grows drives hands = record { grows = grows; count = drives.count; others = drives.others; hands = place_within m c d d.place hands }
+  together d grows drives hands = record { grows = grows; count = drives.count; others = drives.others; hands = place_within m c d d.place hands; handed = hands }
 
   module _ (halts : List Halt) where
     -- an ask is handed on, and no answer is looked for

@@ -1,5 +1,5 @@
 -- What is kept by the steps of ports is kept by those of hosts.
-use Rattle.std.proofs.Common.{◌≡◌, ℕ, ◌<◌, List, [], ◌∷◌, ◌++◌, Option, Some, None, slice_get, slice_set, refl, sym, subst, append-nil}
+use Rattle.std.proofs.Common.{◌≡◌, ◌≢◌, ℕ, ◌<◌, List, [], ◌∷◌, ◌++◌, Option, Some, None, slice_get, slice_set, refl, sym, subst, append-nil}
 use Rattle.std.proofs.lemmas.List.{append_assoc}
 use Rattle.pf_base.specs.Asks.{chunk_of}
 use Rattle.pf_base.specs.declared.asks.Ask.{Ask}
@@ -17,8 +17,11 @@ use Rattle.pf_world.specs.pf_chunk.specs.Runs.{ChunkRun, mover_port}
 use Rattle.pf_world.specs.pf_hosts.specs.Moments.{Begins, Carries, Hands, Heard, Moment, Moves as MovesTo, Turns, Writes}
 use Rattle.pf_world.specs.pf_hosts.specs.Hosts.{Drove, HostIs, Stepped, after_telling, begun, call_of, comes_of, drove, drove_as, drove_of, events_of, group_of, handed, hands_on, hands_to, made_host, next_of, number_of, put_at, replied, stepped, stepped_at}
 use Rattle.pf_world.specs.pf_hosts.proofs.Machine.{answered_keeps, starting_keeps}
+use Rattle.pf_world.specs.declared.kind.Kind.{Kind}
+use Rattle.pf_world.specs.declared.kind.Kind.TheVariants.{Raw}
 use Rattle.pf_mounted.proofs.Growing.{Grows}
 use Rattle.pf_mounted.proofs.PortSteps.{IsPortStep, drives_step}
+use Rattle.pf_mounted.proofs.Writing.{AddsNoWrite}
 
 -- a moment of a mount, or a line
 abbrev pub IsSaid : Moment → Type 0
@@ -27,15 +30,16 @@ IsSaid (MovesTo chunk to) = ⊥
 IsSaid (Carries chunk heard next) = ⊥
 IsSaid moment = Unit {0}
 
--- A property of groups and of what was told is kept where something is said, where something happens to a group, and where an ask is put into
--- the port of a mount or this takes a step
-pub record IsKeptByPorts (P : List ChunkRun → List Moment → Type 0) : Type 0 where
+-- A property of groups and of what was told is kept in a run of this kind where something is said, where something happens to a group, which is no
+-- write but in a raw run, and where an ask is put into the port of a mount or this takes a step
+pub record IsKeptByPorts (kind : Option Kind) (P : List ChunkRun → List Moment → Type 0) : Type 0 where
   pub telling : (chunks : List ChunkRun) (told : List Moment) (y : Moment) → IsSaid y → P chunks told → P chunks (told ++ y ∷ [])
-  pub growing : (chunks : List ChunkRun) (told : List Moment) (k : ℕ) (c d : ChunkRun) → slice_get chunks k ≡ Some c → d.ports ≡ c.ports → Grows c.group d.group → P chunks told → P (slice_set chunks d.group.number d) told
+  pub growing : (chunks : List ChunkRun) (told : List Moment) (k : ℕ) (c d : ChunkRun) → slice_get chunks k ≡ Some c → d.ports ≡ c.ports → Grows c.group d.group → (kind ≢ Some Raw → AddsNoWrite c.group.history d.group.history) → P chunks told
+      → P (slice_set chunks d.group.number d) told
   pub putting : (chunks : List ChunkRun) (told : List Moment) (group : Option ℕ) (m : ℕ) (ask : Ask) → m < mover_port → P chunks told → P (put_at chunks group m ask) told
   pub stepping : (chunks : List ChunkRun) (told : List Moment) (k : ℕ) (c : ChunkRun) (m : ℕ) (d : Driven) → m < mover_port → slice_get chunks k ≡ Some c → IsPortStep m c d → P chunks told → P (slice_set chunks k d.chunk) (told ++ handed m k d.place)
 
-module _ (P : List ChunkRun → List Moment → Type 0) (kept : IsKeptByPorts P) where
+module _ (kind : Option Kind) (P : List ChunkRun → List Moment → Type 0) (kept : IsKeptByPorts kind P) where
   pub all_said : (chunks : List ChunkRun) (told more : List Moment) → Every IsSaid more → P chunks told → P chunks (told ++ more)
   all_said chunks told [] said is = subst (P chunks) (sym (append-nil told)) is
   all_said chunks told (y ∷ more) said is = subst (P chunks) (append_assoc told (y ∷ []) more) (all_said chunks (told ++ y ∷ []) more said.1 (kept.telling chunks told y said.0 is))

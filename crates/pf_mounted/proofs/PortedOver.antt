@@ -17,6 +17,7 @@ use Rattle.pf_world.specs.pf_chunk.specs.Runs.{ChunkRun, mover_port}
 use Rattle.pf_world.specs.pf_hosts.specs.Hosts.{call_of, handed, put_at}
 use Rattle.pf_world.specs.pf_hosts.specs.Moments.{Moment}
 use Rattle.pf_world.specs.pf_anchorhosts.specs.Hosts.{AnchoredHostIs, Stepped, asks, asks_all, asks_for, asks_on, begun, chunk_for, ended, followed, group_of, hands, hands_at, hands_of, hears, hears_all, hears_at, hears_of, number_of, pends_for, puts_if, quietly, stepped, takes_if}
+use Rattle.pf_world.specs.declared.kind.Kind.{Kind}
 use Rattle.pf_mounted.proofs.PortSteps.{hears_step, leads_step}
 use Rattle.pf_mounted.proofs.Ported.{IsKeptByPorts, IsSaid, all_said, step_kept}
 
@@ -29,7 +30,7 @@ ended_said m call (Some (Done answer)) = (tt, tt)
 asks_as : (mount : AnchoredIs) (port : ℕ) → (having_asked mount port).files.mount ≡ mount.files.mount
 asks_as mount port = by_test (port == 3) (λ b. (if b then asked_data mount else asked_anchor mount port).files.mount ≡ mount.files.mount) (λ _. refl) (λ _. refl)
 
-module _ (P : List ChunkRun → List Moment → Type 0) (kept : IsKeptByPorts P) where
+module _ (kind : Option Kind) (P : List ChunkRun → List Moment → Type 0) (kept : IsKeptByPorts kind P) where
   -- it is kept, and the mount has a number below that of the mover's port
   abbrev pub IsKeptOver : List Moment → Stepped → Type 0
   IsKeptOver told s = P s.chunks (told ++ s.told) × (number_of s.host.mount < mover_port)
@@ -45,7 +46,7 @@ module _ (P : List ChunkRun → List Moment → Type 0) (kept : IsKeptByPorts P)
       (subst (P after.chunks) (append_assoc told s.told after.told) both.0, both.1)
 
   idle_kept : (chunks : List ChunkRun) (told : List Moment) (host : AnchoredHostIs) → number_of host.mount < mover_port → P chunks told → IsKeptOver told (quietly chunks host)
-  idle_kept chunks told host low is = (all_said P kept chunks told [] tt is, low)
+  idle_kept chunks told host low is = (all_said kind P kept chunks told [] tt is, low)
 
   -- Answers
 
@@ -60,7 +61,7 @@ module _ (P : List ChunkRun → List Moment → Type 0) (kept : IsKeptByPorts P)
   takes_kept chunks told host port (Some reply) low is =
       let call = call_of host.mount.files.pending in
       let next = (answered host.mount port reply).next in
-      (all_said P kept chunks told (ended (number_of host.mount) call next) (ended_said (number_of host.mount) call next) is, low)
+      (all_said kind P kept chunks told (ended (number_of host.mount) call next) (ended_said (number_of host.mount) call next) is, low)
 
   module _ (r : RoutesIs) where
     hears_kept : (port : ℕ) → Keeps (hears r port)
@@ -88,10 +89,10 @@ module _ (P : List ChunkRun → List Moment → Type 0) (kept : IsKeptByPorts P)
     -- Asks
 
     puts_kept : (port : ℕ) (chunks : List ChunkRun) (told : List Moment) (host : AnchoredHostIs) (ask : Option Ask) → number_of host.mount < mover_port → P chunks told → IsKeptOver told (puts_if r port chunks host ask)
-    puts_kept port chunks told host None low is = (all_said P kept chunks told [] tt is, subst (λ n. n < mover_port) (sym (asks_as host.mount port)) low)
+    puts_kept port chunks told host None low is = (all_said kind P kept chunks told [] tt is, subst (λ n. n < mover_port) (sym (asks_as host.mount port)) low)
     puts_kept port chunks told host (Some ask) low is =
         let group = home_of r (chunk_of ask) in
-        (all_said P kept (put_at chunks group (number_of host.mount) ask) told [] tt (kept.putting chunks told group (number_of host.mount) ask low is), subst (λ n. n < mover_port) (sym (asks_as host.mount port)) low)
+        (all_said kind P kept (put_at chunks group (number_of host.mount) ask) told [] tt (kept.putting chunks told group (number_of host.mount) ask low is), subst (λ n. n < mover_port) (sym (asks_as host.mount port)) low)
 
     asks_kept : (port : ℕ) → Keeps (asks r port)
     asks_kept port chunks told host low is = by (chunk_for host.mount port)
@@ -108,7 +109,7 @@ module _ (P : List ChunkRun → List Moment → Type 0) (kept : IsKeptByPorts P)
         where
           at : (k : ℕ) (o : Option ChunkRun) → slice_get chunks k ≡ o → IsKeptOver told (hands_of halts chunks host k o)
           at k None there = idle_kept chunks told host low is
-          at k (Some c) there = let m = number_of host.mount in (step_kept P kept chunks told k c m (led halts c m) low there (leads_step c m halts) is, low)
+          at k (Some c) there = let m = number_of host.mount in (step_kept kind P kept chunks told k c m (led halts c m) low there (leads_step c m halts) is, low)
 
           by : (group : Option ℕ) → IsKeptOver told (hands_at halts chunks host group)
           by None = idle_kept chunks told host low is
@@ -132,4 +133,4 @@ module _ (P : List ChunkRun → List Moment → Type 0) (kept : IsKeptByPorts P)
   -- a call begins
   pub over_begun : (chunks : List ChunkRun) (told : List Moment) (host : AnchoredHostIs) (call : FileCall) → number_of host.mount < mover_port → P chunks told → IsKeptOver told (begun chunks host call)
   over_begun chunks told host call low is =
-      let next = (starting host.mount call).next in (all_said P kept chunks told (ended (number_of host.mount) (Some call) next) (ended_said (number_of host.mount) (Some call) next) is, low)
+      let next = (starting host.mount call).next in (all_said kind P kept chunks told (ended (number_of host.mount) (Some call) next) (ended_said (number_of host.mount) (Some call) next) is, low)

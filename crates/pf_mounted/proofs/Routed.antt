@@ -22,9 +22,11 @@ use Rattle.pf_world.specs.pf_hosts.specs.Moments.{Begins, Carries, Ends, Hands, 
 use Rattle.pf_world.specs.pf_hosts.specs.Hosts.{drove, handed, put_at}
 use Rattle.pf_world.specs.pf_fleet.specs.Volumes.{VolumeRun, carries, moved_from, moves_from, with_new}
 use Rattle.pf_world.specs.pf_fleet.specs.Volumes as volumes
+use Rattle.pf_world.specs.declared.kind.Kind.{Kind}
 use Rattle.pf_world.specs.pf_threads.specs.Sessions.{Session}
 use Rattle.pf_world.specs.declared.line.Line.{Line}
 use Rattle.pf_world.specs.Reports.{world_run}
+use Rattle.pf_world.specs.Worlds.{made}
 use Rattle.pf_mounted.specs.Epochs.{group_at, home_of as home_of_group, serving}
 use Rattle.pf_mounted.specs.Movers.{IsOnTheMove}
 use Rattle.pf_mounted.specs.Scripts.{IsScript}
@@ -140,7 +142,7 @@ module _ (v : VolumeRun) (told : List Moment) (is : RoutedOf v told) (chunk h : 
 
 -- What was told of moves
 
-abbrev IsMoveSo : (count : ℕ) → List Moment → Moment → Type 0
+abbrev pub IsMoveSo : (count : ℕ) → List Moment → Moment → Type 0
 IsMoveSo count before (MovesTo chunk to) = IsBegun count before chunk to
 IsMoveSo count before (Carries chunk heard next) = IsOnTheMove count before chunk
 IsMoveSo count before moment = Unit {0}
@@ -168,11 +170,11 @@ handed_still m k None = tt
 handed_still m k (Some place) = (tt, tt)
 
 -- the routes are so, and so is each moment of a move
-record AreRouted (count : ℕ) (r : RoutesIs) (mover : Option MoverIs) (chunks : List ChunkRun) (told : List Moment) : Type 0 where
-  is : IsRouted count r mover chunks told
-  each : AreEach (IsMoveSo count) told
+pub record AreRouted (count : ℕ) (r : RoutesIs) (mover : Option MoverIs) (chunks : List ChunkRun) (told : List Moment) : Type 0 where
+  pub is : IsRouted count r mover chunks told
+  pub each : AreEach (IsMoveSo count) told
 
-abbrev Routed : Extent → RoutesIs → Option MoverIs → List ChunkRun → List Moment → Type 0
+abbrev pub Routed : Extent → RoutesIs → Option MoverIs → List ChunkRun → List Moment → Type 0
 Routed e r mover chunks told = AreRouted e.chunks r mover chunks told
 
 module _ (count : ℕ) (r : RoutesIs) (mover : Option MoverIs) where
@@ -185,10 +187,10 @@ module _ (count : ℕ) (r : RoutesIs) (mover : Option MoverIs) where
   quietly_routed : (chunks new : List ChunkRun) (told : List Moment) → length new ≡ length chunks → AreRouted count r mover chunks told → AreRouted count r mover new told
   quietly_routed chunks new told same are = record { is = same_routed count r mover chunks new told same are.is; each = are.each }
 
-  routed_ports : IsKeptByPorts (AreRouted count r mover)
-  routed_ports = record {
+  routed_ports : (kind : Option Kind) → IsKeptByPorts kind (AreRouted count r mover)
+  routed_ports kind = record {
     telling = λ chunks told y said. stays_routed chunks chunks told (y ∷ []) refl (said_still y said, tt);
-    growing = λ chunks told k c d at ports grows. quietly_routed chunks (slice_set chunks d.group.number d) told (set_length chunks d.group.number d);
+    growing = λ chunks told k c d at ports grows adds. quietly_routed chunks (slice_set chunks d.group.number d) told (set_length chunks d.group.number d);
     putting = λ chunks told group m ask low. quietly_routed chunks (put_at chunks group m ask) told (put_counts m ask chunks group);
     stepping = λ chunks told k c m d low at step. stays_routed chunks (slice_set chunks k d.chunk) told (handed m k d.place) (set_length chunks k d.chunk) (handed_still m k d.place);
   }
@@ -210,6 +212,13 @@ carried_so v told old mover its same heard next are =
           each = subst (AreEach (IsMoveSo v.extent.chunks)) (append_assoc told (y ∷ []) (line ∷ [])) (all_more (IsMoveSo v.extent.chunks) IsStill (still_so v.extent.chunks) (told ++ y ∷ []) (line ∷ []) (one Switch) (tt, tt));
         }
 
+-- so moves and the mover's calls are as they are to be
+pub all_begun : (count : ℕ) (told : List Moment) → AreEach (IsMoveSo count) told → AreBegun count told
+all_begun count told each = record {
+  begins = λ before after chunk to same. each_at (IsMoveSo count) told before (MovesTo chunk to) after each same;
+  carries = λ before after chunk heard next same. each_at (IsMoveSo count) told before (Carries chunk heard next) after each same;
+}
+
 module _ (halts : List Halt) where
   moves_so : (v : VolumeRun) (told : List Moment) (names format chunk : ℕ) (o : Option ℕ) → v.routes.moving ≡ None → home_of v.routes chunk ≡ o → HoldsOf Routed v told
       → let t : volumes.Told = moves_from chunk o (new_group halts v names format) v in HoldsOf Routed t.volume (told ++ t.told)
@@ -227,34 +236,38 @@ module _ (halts : List Halt) where
       let t : volumes.Told = carries w s.mover None s.next in
       subst (HoldsOf Routed t.volume) (append_assoc told (y ∷ []) t.told) (carried_so (record w { mover = Some m }) (told ++ y ∷ []) m s.mover refl (step_chunk m None) None s.next first)
 
-  all_routed : IsKeptByParts halts Routed
+  -- the mover's port takes a step
+  pub drives_routed : (v : VolumeRun) (told : List Moment) (k : ℕ) → HoldsOf Routed v told → HoldsOf Routed (record v { chunks = (drove halts v.chunks mover_port k).chunks }) (told ++ (drove halts v.chunks mover_port k).told)
+  drives_routed v told k its =
+      let d = drives_at halts v.chunks mover_port k in
+      stays_routed v.extent.chunks v.routes v.mover v.chunks (drove halts v.chunks mover_port k).chunks told (drove halts v.chunks mover_port k).told d.count d.still its
+
+  -- and it carries on
+  pub answers_routed : (v : VolumeRun) (told : List Moment) (old : MoverIs) (heard : Heard) → v.mover ≡ Some old → HoldsOf Routed v told
+      → let s : Step = step old (Some heard.reply) in HoldsOf Routed (carries v s.mover (Some heard) s.next).volume (told ++ (carries v s.mover (Some heard) s.next).told)
+  answers_routed v told old heard there its = let s : Step = step old (Some heard.reply) in carried_so v told old s.mover there (step_chunk old (Some heard.reply)) (Some heard) s.next its
+
+  pub all_routed : IsKeptByParts halts (λ kind. Routed)
   all_routed = record {
-    ports = λ e r mover. routed_ports e.chunks r mover;
-    carrying = λ v told are.
-        hauled halts (HoldsOf Routed)
-        (λ w so_far k group its. let d = drives_at halts w.chunks mover_port k in stays_routed w.extent.chunks w.routes w.mover w.chunks (drove halts w.chunks mover_port k).chunks so_far (drove halts w.chunks mover_port k).told d.count d.still its)
-        (λ w so_far old heard there its. let s : Step = step old (Some heard.reply) in carried_so w so_far old s.mover there (step_chunk old (Some heard.reply)) (Some heard) s.next its) v told are;
+    deciding = λ kind e r mover chunks told are. are;
+    ports = λ kind e r mover. routed_ports e.chunks r mover kind;
+    carrying = λ kind v told are. hauled halts (HoldsOf Routed) (λ w so_far k group. drives_routed w so_far k) answers_routed v told are;
     moving = λ v told names format chunk free are. moves_so v told names format chunk (home_of v.routes chunk) (none_moving v.routes.moving free) refl are;
   }
 
+  pub new_routed : (sessions : List Session) (chunks sectors names format : ℕ) → HoldsOf Routed (made halts sessions chunks sectors names format).volume []
+  new_routed sessions chunks sectors names format = record { is = record { routes = new_routes halts sessions chunks sectors names format; pair = tt }; each = none_told (IsMoveSo chunks) }
+
   module _ (sessions : List Session) (lines : List Line) (script : IsScript lines) where
     run_routed : HoldsOf Routed (world_run halts sessions lines).world.volume (world_run halts sessions lines).told
-    run_routed = throughout halts Routed all_routed (λ its chunks sectors names format. record {
-      is = record { routes = new_routes halts its chunks sectors names format; pair = tt };
-      each = none_told (IsMoveSo chunks);
-    }) sessions lines script
+    run_routed = throughout halts (λ kind. Routed) all_routed new_routed sessions lines script
 
     -- each chunk is served by the group that was told
     pub routes_told : (chunk : ℕ) (route : Route) → slice_get (world_run halts sessions lines).world.volume.routes.routes chunk ≡ Some route → serving (world_run halts sessions lines).told chunk ≡ Some route.group
     routes_told chunk route there = (run_routed.is.routes.served chunk route there).0
 
     begun : AreBegun (world_run halts sessions lines).world.volume.extent.chunks (world_run halts sessions lines).told
-    begun =
-        let run = world_run halts sessions lines in
-        let count = run.world.volume.extent.chunks in record {
-          begins = λ before after chunk to same. each_at (IsMoveSo count) run.told before (MovesTo chunk to) after run_routed.each same;
-          carries = λ before after chunk heard next same. each_at (IsMoveSo count) run.told before (Carries chunk heard next) after run_routed.each same;
-        }
+    begun = let run = world_run halts sessions lines in all_begun run.world.volume.extent.chunks run.told run_routed.each
 
     -- no group has two chunks
     pub groups_apart : (chunk epoch group : ℕ) → chunk < (world_run halts sessions lines).world.volume.extent.chunks → group_at (world_run halts sessions lines).told chunk epoch ≡ Some group

@@ -57,7 +57,7 @@ still_no_move (Begins m call) still = tt
 still_no_move (Ends m answer) still = tt
 
 -- it is no switch, and no move begins
-abbrev IsNoChange : (chunk : ℕ) → Moment → Type 0
+abbrev pub IsNoChange : (chunk : ℕ) → Moment → Type 0
 IsNoChange chunk y = (moved_to chunk y ≡ []) × (epoch_of (y ∷ []) chunk ≡ 0)
 
 still_change : (chunk : ℕ) (y : Moment) → IsStill y → IsNoChange chunk y
@@ -74,16 +74,16 @@ abbrev pub IsAsk : MoveNext → Type 0
 IsAsk Switch = ⊥
 IsAsk next = Unit {0}
 
-ask_change : (chunk c : ℕ) (heard : Option Heard) (next : MoveNext) → IsAsk next → IsNoChange chunk (Carries c heard next)
+pub ask_change : (chunk c : ℕ) (heard : Option Heard) (next : MoveNext) → IsAsk next → IsNoChange chunk (Carries c heard next)
 ask_change chunk c heard (Read span) ask = (refl, refl)
 ask_change chunk c heard (Write span sectors) ask = (refl, refl)
 ask_change chunk c heard Switch ask = absurd ask
 
 module _ (told : List Moment) (y : Moment) (chunk : ℕ) (none : IsNoChange chunk y) where
-  same_groups : groups_in_turn (told ++ y ∷ []) chunk ≡ groups_in_turn told chunk
+  pub same_groups : groups_in_turn (told ++ y ∷ []) chunk ≡ groups_in_turn told chunk
   same_groups = groups_on told (y ∷ []) chunk ∙ ap (λ gs. groups_in_turn told chunk ++ (gs ++ [])) none.0 ∙ append-nil (groups_in_turn told chunk)
 
-  same_epoch : epoch_of (told ++ y ∷ []) chunk ≡ epoch_of told chunk
+  pub same_epoch : epoch_of (told ++ y ∷ []) chunk ≡ epoch_of told chunk
   same_epoch = let both = epoch_on told (y ∷ []) chunk in omega (arith, both, none.1)
 
 -- moments that are still change nothing

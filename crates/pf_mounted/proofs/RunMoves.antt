@@ -19,14 +19,14 @@ use Rattle.pf_world.specs.pf_threads.specs.Sessions.{Session}
 use Rattle.pf_world.specs.declared.line.Line.{Line}
 use Rattle.pf_mounted.specs.Movers.{AreMoves, carried_ask, role_of_reply}
 use Rattle.pf_mounted.specs.Pasts.{mover_trace, past_in}
-use Rattle.pf_mounted.specs.Scripts.{IsPlainRun}
+use Rattle.pf_mounted.specs.Scripts.{IsScript}
 use Rattle.pf_mounted.proofs.Given.{in_kind}
-use Rattle.pf_mounted.proofs.Holding.{each_so, is_borne, movers_driven}
+use Rattle.pf_mounted.proofs.Ferrying.{Never, each_so, is_ferried, movers_driven}
 use Rattle.pf_mounted.proofs.Hearing.{IsSo}
 use Rattle.pf_mounted.proofs.MoverCalls.{calls_follow}
 use Rattle.pf_mounted.proofs.MoverTurns.{run_steps}
 
-module _ (halts : List Halt) (sessions : List Session) (lines : List Line) (script : IsPlainRun halts sessions lines) (lawful : IsLawfulRun (world_run halts sessions lines).world) where
+module _ (halts : List Halt) (sessions : List Session) (lines : List Line) (script : IsScript lines) (lawful : IsLawfulRun (world_run halts sessions lines).world) where
   abbrev run : Told
   run = world_run halts sessions lines
 
@@ -36,7 +36,7 @@ module _ (halts : List Halt) (sessions : List Session) (lines : List Line) (scri
   abbrev count : ℕ
   count = run.world.volume.extent.chunks
 
-  so : (before : List Moment) (y : Moment) (after : List Moment) → run.told ≡ before ++ y ∷ after → IsSo count chunks before y
+  so : (before : List Moment) (y : Moment) (after : List Moment) → run.told ≡ before ++ y ∷ after → IsSo Never count chunks before y
   so = each_so halts sessions lines script
 
   -- the mover was answered in kind
@@ -53,7 +53,7 @@ module _ (halts : List Halt) (sessions : List Session) (lines : List Line) (scri
 
   pub run_moves : AreMoves run.world.volume.extent chunks run.told
   run_moves = record {
-    groups = λ k low. something_there chunks k (let made = (is_borne halts sessions lines script).hosts.routes.made in omega (arith, low, made));
+    groups = λ k low. something_there chunks k (let made = (is_ferried halts sessions lines script).order.routed.routes.made in omega (arith, low, made));
     begins = λ before after chunk to same. so before (MovesTo chunk to) after same;
     hands = λ before after m k place ask same small pending. (so before (Hands m k place) after same).rests small ask pending;
     hears = λ before after m heard next ask same pending. (so before (Turns m (Some heard) next) after same).rests ask pending;

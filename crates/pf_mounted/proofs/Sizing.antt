@@ -37,12 +37,14 @@ use Rattle.pf_world.specs.Worlds.{made}
 use Rattle.pf_world.specs.Reports.{world_run}
 use Rattle.pf_world.specs.pf_threads.specs.Sessions.{Session}
 use Rattle.pf_world.specs.declared.line.Line.{Line}
-use Rattle.pf_mounted.specs.Scripts.{IsPlainRun}
+use Rattle.pf_mounted.specs.Scripts.{IsPlainRun, IsScript}
 use Rattle.pf_mounted.proofs.Growing.{all_grow, fetched_grows, happened_grows}
 use Rattle.pf_mounted.proofs.Placed.{made_there}
+use Rattle.pf_mounted.proofs.Ported.{IsKeptByPorts}
 use Rattle.pf_mounted.proofs.Replying.{driven_grows}
 use Rattle.pf_mounted.proofs.Hauling.{hauled}
 use Rattle.pf_mounted.proofs.Running.{IsKeptIn, new_group, running_in}
+use Rattle.pf_mounted.proofs.Throughout.{HoldsOf, IsKeptByParts, throughout}
 
 -- each chunk has so many sectors
 abbrev pub AreSized : (sectors : ℕ) → List ChunkRun → Type 0
@@ -53,7 +55,7 @@ pub record AreChunks (extent : Extent) (chunks : List ChunkRun) : Type 0 where
   pub made : extent.chunks ≤ length chunks
   pub sized : AreSized extent.sectors chunks
 
-set_sized : (e : Extent) (chunks : List ChunkRun) (n k : ℕ) (c d : ChunkRun) → slice_get chunks k ≡ Some c → d.group.setup ≡ c.group.setup → AreChunks e chunks → AreChunks e (slice_set chunks n d)
+pub set_sized : (e : Extent) (chunks : List ChunkRun) (n k : ℕ) (c d : ChunkRun) → slice_get chunks k ≡ Some c → d.group.setup ≡ c.group.setup → AreChunks e chunks → AreChunks e (slice_set chunks n d)
 set_sized e chunks n k c d at same are = record {
   made = subst (λ i. e.chunks ≤ i) (sym (set_length chunks n d)) are.made;
   sized = λ j x there. elim (set_cases chunks n d j x there) [
@@ -63,7 +65,7 @@ set_sized e chunks n k c d at same are = record {
 }
 
 module _ (halts : List Halt) (e : Extent) where
-  drove_sized : (chunks : List ChunkRun) (m k : ℕ) → AreChunks e chunks → AreChunks e (drove halts chunks m k).chunks
+  pub drove_sized : (chunks : List ChunkRun) (m k : ℕ) → AreChunks e chunks → AreChunks e (drove halts chunks m k).chunks
   drove_sized chunks m k are = by (slice_get chunks k) refl
     where
       by : (o : Option ChunkRun) → slice_get chunks k ≡ o → AreChunks e (drove_of halts chunks m k o).chunks
@@ -78,7 +80,7 @@ module _ (halts : List Halt) (e : Extent) where
       same_setup None = refl
       same_setup (Some p) = refl
 
-  put_sized : (chunks : List ChunkRun) (group : Option ℕ) (m : ℕ) (ask : Ask) → AreChunks e chunks → AreChunks e (put_at chunks group m ask)
+  pub put_sized : (chunks : List ChunkRun) (group : Option ℕ) (m : ℕ) (ask : Ask) → AreChunks e chunks → AreChunks e (put_at chunks group m ask)
   put_sized chunks None m ask are = are
   put_sized chunks (Some g) m ask are = put_in chunks g m ask (slice_get chunks g) refl are
 
@@ -110,7 +112,7 @@ module _ (halts : List Halt) (e : Extent) where
   step_sized r chunks host are = at_sized r chunks host (group_of r host) are
 
   -- a chunk moves to a new group
-  new_sized : (chunks : List ChunkRun) (home : ℕ) (o : Option ChunkRun) (new : ChunkRun) → slice_get chunks home ≡ o → new.group.setup.chunk ≡ e.sectors → AreChunks e chunks → AreChunks e (with_new chunks home o new)
+  pub new_sized : (chunks : List ChunkRun) (home : ℕ) (o : Option ChunkRun) (new : ChunkRun) → slice_get chunks home ≡ o → new.group.setup.chunk ≡ e.sectors → AreChunks e chunks → AreChunks e (with_new chunks home o new)
   new_sized chunks home None new at size are = are
   new_sized chunks home (Some c) new at size are =
       let old = set_sized e chunks home home c (left_by_ports c) at refl are in record {
@@ -194,3 +196,62 @@ module _ (halts : List Halt) where
   -- after each script
   pub has_room : (sessions : List Session) (lines : List Line) → IsPlainRun halts sessions lines → HasRoomFor (world_run halts sessions lines).world.kind (world_run halts sessions lines).world.volume
   has_room sessions lines is = running_in halts Kept kept new sessions lines is
+
+-- In the run of every script
+
+abbrev pub Sized : Extent → RoutesIs → Option MoverIs → List ChunkRun → List Moment → Type 0
+Sized e r mover chunks told = AreChunks e chunks
+
+module _ (halts : List Halt) where
+  carried_sized : (v : VolumeRun) (mover : MoverIs) (heard : Option Heard) (next : MoveNext) → AreChunks v.extent v.chunks → AreChunks v.extent (carries v mover heard next).volume.chunks
+  carried_sized v mover heard (Read span) are = put_sized halts v.extent v.chunks _ mover_port _ are
+  carried_sized v mover heard (Write span sectors) are = put_sized halts v.extent v.chunks _ mover_port _ are
+  carried_sized v mover heard Switch are = are
+
+  moved_sized : (v : VolumeRun) (names format chunk : ℕ) (home : Option ℕ) → AreChunks v.extent v.chunks → AreChunks v.extent (moves_from chunk home (new_group halts v names format) v).volume.chunks
+  moved_sized v names format chunk None are = are
+  moved_sized v names format chunk (Some h) are =
+      let new = new_group halts v names format in
+      let s : Step = step (new_mover chunk (v.extent.sectors / 8)) None in
+      carried_sized (moved_from v chunk h new) s.mover None s.next (new_sized halts v.extent v.chunks h (slice_get v.chunks h) new refl refl are)
+
+  extent_carried : (v : VolumeRun) (mover : MoverIs) (heard : Option Heard) (next : MoveNext) → (carries v mover heard next).volume.extent ≡ v.extent
+  extent_carried v mover heard (Read span) = refl
+  extent_carried v mover heard (Write span sectors) = refl
+  extent_carried v mover heard Switch = refl
+
+  extent_moved : (v : VolumeRun) (names format chunk : ℕ) (home : Option ℕ) → (moves_from chunk home (new_group halts v names format) v).volume.extent ≡ v.extent
+  extent_moved v names format chunk None = refl
+  extent_moved v names format chunk (Some h) =
+      let new = new_group halts v names format in
+      let s : Step = step (new_mover chunk (v.extent.sectors / 8)) None in
+      extent_carried (moved_from v chunk h new) s.mover None s.next
+
+  sized_ports : (kind : Option Kind) (e : Extent) → IsKeptByPorts kind (λ chunks told. AreChunks e chunks)
+  sized_ports kind e = record {
+    telling = λ chunks told y said are. are;
+    growing = λ chunks told k c d at ports grows adds are. set_sized e chunks d.group.number k c d at grows.setup are;
+    putting = λ chunks told group m ask low are. put_sized halts e chunks group m ask are;
+    stepping = λ chunks told k c m d low at step are. set_sized e chunks k k c d.chunk at step.grows.setup are;
+  }
+
+  pub all_sized : IsKeptByParts halts (λ kind. Sized)
+  all_sized = record {
+    deciding = λ kind e r mover chunks told are. are;
+    ports = λ kind e r mover. sized_ports kind e;
+    carrying = λ kind v told are.
+        hauled halts (HoldsOf Sized) (λ w so_far k group its. drove_sized halts w.extent w.chunks mover_port k its)
+        (λ w so_far old heard there its.
+        let s : Step = step old (Some heard.reply) in
+        subst (λ (e : Extent). AreChunks e (carries w s.mover (Some heard) s.next).volume.chunks) (sym (extent_carried w s.mover (Some heard) s.next)) (carried_sized w s.mover (Some heard) s.next its)) v told are;
+    moving = λ v told names format chunk free are.
+        let home = home_of v.routes chunk in
+        subst (λ (e : Extent). AreChunks e (moves_from chunk home (new_group halts v names format) v).volume.chunks) (sym (extent_moved v names format chunk home)) (moved_sized v names format chunk home are);
+  }
+
+  pub new_chunks : (sessions : List Session) (chunks sectors names format : ℕ) → AreChunks (made halts sessions chunks sectors names format).volume.extent (made halts sessions chunks sectors names format).volume.chunks
+  new_chunks sessions chunks sectors names format = (new halts sessions chunks sectors names format).chunks
+
+  -- the chunks are those of the volume after each script
+  pub are_chunks : (sessions : List Session) (lines : List Line) → IsScript lines → AreChunks (world_run halts sessions lines).world.volume.extent (world_run halts sessions lines).world.volume.chunks
+  are_chunks sessions lines script = throughout halts (λ kind. Sized) all_sized new_chunks sessions lines script

@@ -22,21 +22,20 @@ use Rattle.pf_world.specs.pf_hosts.specs.Hosts.{Drove, drove, events_of, put_at}
 use Rattle.pf_world.specs.pf_hosts.specs.Moments.{Carries, Heard, Moment, Writes}
 use Rattle.pf_world.specs.pf_fleet.specs.Volumes.{VolumeRun, asked_group, asks_in, carries, mover_group, mover_hands, mover_hands_to, mover_hears_in, mover_replied, mover_steps, mover_steps_at}
 use Rattle.pf_world.specs.pf_fleet.specs.Volumes as volumes
-use Rattle.pf_world.specs.declared.kind.Kind.{Kind}
 use Rattle.pf_mounted.specs.Movers.{ask_to_carry, role_of_ask}
 use Rattle.pf_mounted.proofs.Bearing.{Bears, IsBearing, IsFree, ask_bears, ask_so, asked_by, back_then, between_is, drove_so, free_then, group_for, none_bears, step_asks, switch_so}
 use Rattle.pf_mounted.proofs.Hauling.{step_chunk}
 use Rattle.pf_mounted.proofs.Hearing.{IsBackIf}
 use Rattle.pf_mounted.proofs.Hosting.{AreSo}
+use Rattle.pf_mounted.proofs.Ordered.{IsOrdered, carries_ordered, hauls_ordered}
 use Rattle.pf_mounted.proofs.Ports.{IsUnsent, drives_at, put_unsent}
 use Rattle.pf_mounted.proofs.Routed.{IsPair, paired}
 use Rattle.pf_mounted.proofs.Routing.{switched_is}
-use Rattle.pf_mounted.proofs.Standing.{AreTold, carries_told, hauls_told}
 
--- what is known of a volume in a run
-pub record IsBorne (kind : Option Kind) (v : VolumeRun) (told : List Moment) : Type 0 where
-  pub hosts : AreTold v told
-  pub so : AreSo kind v.extent.chunks told v.chunks
+-- what is known of a volume in a run: of the ports of mounts only where that is known
+pub record IsBorne (known : Type 0) (v : VolumeRun) (told : List Moment) : Type 0 where
+  pub order : IsOrdered known v told
+  pub so : AreSo known v.extent.chunks told v.chunks
   pub bears : IsBearing v.extent.chunks told v.chunks v.routes v.routes.moving v.mover
 
 -- the mover's pending ask was not handed on yet
@@ -45,16 +44,16 @@ IsUnsentIn v = (k : ℕ) → mover_group v ≡ Some k → IsUnsent mover_port k 
 
 -- The mover goes on
 
-module _ (kind : Option Kind) (halts : List Halt) (v : VolumeRun) (told : List Moment) (hosts : AreTold v told) (so : AreSo kind v.extent.chunks told v.chunks) (moving : Moving) (moves : v.routes.moving ≡ Some moving)
+module _ (known : Type 0) (halts : List Halt) (v : VolumeRun) (told : List Moment) (order : IsOrdered known v told) (so : AreSo known v.extent.chunks told v.chunks) (moving : Moving) (moves : v.routes.moving ≡ Some moving)
     (f : IsFree v.extent.chunks told v.chunks v.routes moving) (old mover : MoverIs) (was : v.mover ≡ Some old) (same : mover.chunk ≡ old.chunk) (heard : Option Heard) (back : IsBackIf v.extent.chunks v.chunks told moving.chunk heard) where
   abbrev count : ℕ
   count = v.extent.chunks
 
   its : mover.chunk ≡ moving.chunk
-  its = let pair = paired v.routes.moving old (subst (IsPair v.routes.moving) was hosts.pair) in same ∙ pair.2 ∙ ap (λ (x : Moving). x.chunk) (same_Some pair.0 moving (sym pair.1 ∙ moves))
+  its = let pair = paired v.routes.moving old (subst (IsPair v.routes.moving) was order.routed.pair) in same ∙ pair.2 ∙ ap (λ (x : Moving). x.chunk) (same_Some pair.0 moving (sym pair.1 ∙ moves))
 
   groups : between v.routes ≡ Some (record { from = f.from; to = moving.to })
-  groups = between_is kind count v told hosts.routes so moving moves f mover its heard back
+  groups = between_is known count v told order.routed.routes so moving moves f mover its heard back
 
   -- the group that it asks next
   group_asked : (role : Asked) → mover.asked ≡ Some role → asks_in (between v.routes) mover.asked ≡ Some (group_for f.from moving.to role)
@@ -62,38 +61,38 @@ module _ (kind : Option Kind) (halts : List Halt) (v : VolumeRun) (told : List M
   group_asked Writing asked = ap (asks_in (between v.routes)) asked ∙ ap (λ b. asks_in b (Some Writing)) groups
 
   module _ (next : MoveNext) (role : Asked) (asked : mover.asked ≡ Some role) (asks_so : asked_by next ≡ Some role) (ask : Ask) (of : chunk_of ask ≡ moving.chunk) (of_role : role_of_ask ask ≡ role) (to_carry : ask_to_carry moving.chunk next ≡ Some ask)
-      (group : Option ℕ) (group_is : group ≡ Some (group_for f.from moving.to role)) (told_so : AreTold (record v { chunks = put_at v.chunks group mover_port ask; mover = Some mover }) (told ++ Carries mover.chunk heard next ∷ [])) where
+      (group : Option ℕ) (group_is : group ≡ Some (group_for f.from moving.to role)) (told_so : IsOrdered known (record v { chunks = put_at v.chunks group mover_port ask; mover = Some mover }) (told ++ Carries mover.chunk heard next ∷ [])) where
     abbrev asking : VolumeRun
     asking = record v { chunks = put_at v.chunks group mover_port ask; mover = Some mover }
 
     abbrev all : List Moment
     all = told ++ Carries mover.chunk heard next ∷ []
 
-    asks_borne : IsBorne kind asking all × IsUnsentIn asking
+    asks_borne : IsBorne known asking all × IsUnsentIn asking
     asks_borne = (
       record {
-        hosts = told_so;
-        so = subst (λ o. AreSo kind count all (put_at v.chunks o mover_port ask)) (sym group_is) (ask_so kind count v told hosts.routes so moving moves f mover its heard back next role asks_so ask of of_role to_carry);
+        order = told_so;
+        so = subst (λ o. AreSo known count all (put_at v.chunks o mover_port ask)) (sym group_is) (ask_so known count v told order.routed.routes so moving moves f mover its heard back next role asks_so ask of of_role to_carry);
         bears = subst (λ m. IsBearing count all (put_at v.chunks group mover_port ask) v.routes m (Some mover)) (sym moves)
-            (subst (λ o. Bears count all (put_at v.chunks o mover_port ask) v.routes moving mover) (sym group_is) (ask_bears kind count v told hosts.routes so moving moves f mover its heard back next role asks_so ask of of_role to_carry asked));
+            (subst (λ o. Bears count all (put_at v.chunks o mover_port ask) v.routes moving mover) (sym group_is) (ask_bears known count v told order.routed.routes so moving moves f mover its heard back next role asks_so ask of of_role to_carry asked));
       },
       λ k here. put_unsent mover_port ask v.chunks group k (group_is ∙ sym (group_asked role asked) ∙ here),
     )
 
-  pub went : (next : MoveNext) → mover.asked ≡ asked_by next → let t : volumes.Told = carries v mover heard next in IsBorne kind t.volume (told ++ t.told) × IsUnsentIn t.volume
+  pub went : (next : MoveNext) → mover.asked ≡ asked_by next → let t : volumes.Told = carries v mover heard next in IsBorne known t.volume (told ++ t.told) × IsUnsentIn t.volume
   went (Read span) asked =
       asks_borne (Read span) Reading asked refl (asks.Read mover.chunk span) its refl (ap (λ c. Some (asks.Read c span)) (sym its)) (option_map (λ (b : Between). b.from) (between v.routes)) (ap (option_map (λ (b : Between). b.from)) groups)
-      (carries_told halts v told hosts old mover was same heard (Read span))
+      (carries_ordered known halts v told order old mover was same heard (Read span))
   went (Write span sectors) asked =
       asks_borne (Write span sectors) Writing asked refl (asks.Write mover.chunk span sectors) its refl (ap (λ c. Some (asks.Write c span sectors)) (sym its)) (option_map (λ (b : Between). b.to) (between v.routes)) (ap (option_map (λ (b : Between). b.to)) groups)
-      (carries_told halts v told hosts old mover was same heard (Write span sectors))
+      (carries_ordered known halts v told order old mover was same heard (Write span sectors))
   went Switch asked =
       let text = event_line (moved_text mover.chunk) in
       let all = told ++ Carries mover.chunk heard Switch ∷ Writes text ∷ [] in
-      let is = switched_is count (length v.chunks) v.routes told hosts.routes moving moves in (
+      let is = switched_is count (length v.chunks) v.routes told order.routed.routes moving moves in (
         record {
-          hosts = carries_told halts v told hosts old mover was same heard Switch;
-          so = switch_so kind count v told hosts.routes so moving moves f mover its heard back text;
+          order = carries_ordered known halts v told order old mover was same heard Switch;
+          so = switch_so known count v told order.routed.routes so moving moves f mover its heard back text;
           bears = subst (λ (r : RoutesIs). IsBearing count all v.chunks r r.moving None) (sym is) f.free;
         },
         λ k here. absurd (none-some k (sym (none_asked (between (switched v.routes))) ∙ here)),
@@ -106,7 +105,7 @@ module _ (kind : Option Kind) (halts : List Halt) (v : VolumeRun) (told : List M
 -- Its steps
 
 -- what it asks, where it asks something
-pub record InUse (kind : Option Kind) (v : VolumeRun) (told : List Moment) (k : ℕ) : Type 0 where
+pub record InUse (known : Type 0) (v : VolumeRun) (told : List Moment) (k : ℕ) : Type 0 where
   pub moving : Moving
   pub moves : v.routes.moving ≡ Some moving
   pub mover : MoverIs
@@ -114,8 +113,8 @@ pub record InUse (kind : Option Kind) (v : VolumeRun) (told : List Moment) (k : 
   pub b : Bears v.extent.chunks told v.chunks v.routes moving mover
   pub group : k ≡ group_for b.from moving.to (role_of_ask b.ask)
 
-in_use : (kind : Option Kind) (v : VolumeRun) (told : List Moment) (k : ℕ) → IsBorne kind v told → mover_group v ≡ Some k → InUse kind v told k
-in_use kind v told k is group = by v.routes.moving v.mover refl refl is.bears
+in_use : (known : Type 0) (v : VolumeRun) (told : List Moment) (k : ℕ) → IsBorne known v told → mover_group v ≡ Some k → InUse known v told k
+in_use known v told k is group = by v.routes.moving v.mover refl refl is.bears
   where
     asks_none : (b : Option Between) → asks_in b None ≡ None
     asks_none None = refl
@@ -125,7 +124,7 @@ in_use kind v told k is group = by v.routes.moving v.mover refl refl is.bears
     its_group b Reading = refl
     its_group b Writing = refl
 
-    by : (moving : Option Moving) (mover : Option MoverIs) → v.routes.moving ≡ moving → v.mover ≡ mover → IsBearing v.extent.chunks told v.chunks v.routes moving mover → InUse kind v told k
+    by : (moving : Option Moving) (mover : Option MoverIs) → v.routes.moving ≡ moving → v.mover ≡ mover → IsBearing v.extent.chunks told v.chunks v.routes moving mover → InUse known v told k
     by None None moves here bears = absurd (none-some k (sym (asks_none (between v.routes)) ∙ ap (λ o. asks_in (between v.routes) (option_and_then (λ (m : MoverIs). m.asked) o)) (sym here) ∙ group))
     by None (Some mover) moves here bears = absurd bears
     by (Some moving) None moves here bears = absurd bears
@@ -143,34 +142,34 @@ in_use kind v told k is group = by v.routes.moving v.mover refl refl is.bears
           ∙ its_group two (role_of_ask b.ask);
     }
 
-module _ (kind : Option Kind) (halts : List Halt) where
+module _ (known : Type 0) (halts : List Halt) where
   abbrev Comes : List Moment → volumes.Told → Type 0
-  Comes told t = IsBorne kind t.volume (told ++ t.told)
+  Comes told t = IsBorne known t.volume (told ++ t.told)
 
-  nothing : (v : VolumeRun) (told : List Moment) → IsBorne kind v told → IsBorne kind v (told ++ [])
-  nothing v told is = subst (IsBorne kind v) (sym (append-nil told)) is
+  nothing : (v : VolumeRun) (told : List Moment) → IsBorne known v told → IsBorne known v (told ++ [])
+  nothing v told is = subst (IsBorne known v) (sym (append-nil told)) is
 
-  behind_all : (v : VolumeRun) (told more last : List Moment) → IsBorne kind v ((told ++ more) ++ last) → IsBorne kind v (told ++ (more ++ last))
-  behind_all v told more last is = subst (IsBorne kind v) (append_assoc told more last) is
+  behind_all : (v : VolumeRun) (told more last : List Moment) → IsBorne known v ((told ++ more) ++ last) → IsBorne known v (told ++ (more ++ last))
+  behind_all v told more last is = subst (IsBorne known v) (append_assoc told more last) is
 
-  module _ (v : VolumeRun) (told : List Moment) (is : IsBorne kind v told) (k : ℕ) (group : mover_group v ≡ Some k) where
+  module _ (v : VolumeRun) (told : List Moment) (is : IsBorne known v told) (k : ℕ) (group : mover_group v ≡ Some k) where
     abbrev d : Drove
     d = drove halts v.chunks mover_port k
 
     abbrev w : VolumeRun
     w = record v { chunks = d.chunks }
 
-    use_it : InUse kind v told k
-    use_it = in_use kind v told k is group
+    use_it : InUse known v told k
+    use_it = in_use known v told k is group
 
-    so_driven : AreSo kind v.extent.chunks (told ++ d.told) d.chunks
-    so_driven = subst (λ j. let x : Drove = drove halts v.chunks mover_port j in AreSo kind v.extent.chunks (told ++ x.told) x.chunks) (sym use_it.group)
-        (drove_so kind halts v.extent.chunks (length v.chunks) v.routes told is.hosts.routes v.chunks is.so use_it.moving use_it.moves use_it.mover use_it.b)
+    so_driven : AreSo known v.extent.chunks (told ++ d.told) d.chunks
+    so_driven = subst (λ j. let x : Drove = drove halts v.chunks mover_port j in AreSo known v.extent.chunks (told ++ x.told) x.chunks) (sym use_it.group)
+        (drove_so known halts v.extent.chunks (length v.chunks) v.routes told is.order.routed.routes v.chunks is.so use_it.moving use_it.moves use_it.mover use_it.b)
 
     -- nothing was answered
-    settles : d.reply ≡ None → IsBorne kind w (told ++ d.told)
+    settles : d.reply ≡ None → IsBorne known w (told ++ d.told)
     settles none = record {
-      hosts = hauls_told halts v told k group is.hosts;
+      order = hauls_ordered known halts v told is.order k group;
       so = so_driven;
       bears = subst (λ m. IsBearing v.extent.chunks (told ++ d.told) d.chunks v.routes m v.mover) (sym use_it.moves) (subst (IsBearing v.extent.chunks (told ++ d.told) d.chunks v.routes (Some use_it.moving)) (sym use_it.is) (by k use_it.group none));
     }
@@ -178,16 +177,16 @@ module _ (kind : Option Kind) (halts : List Halt) where
         by : (j : ℕ) → j ≡ group_for use_it.b.from use_it.moving.to (role_of_ask use_it.b.ask) → (drove halts v.chunks mover_port j).reply ≡ None
             → let x : Drove = drove halts v.chunks mover_port j in Bears v.extent.chunks (told ++ x.told) x.chunks v.routes use_it.moving use_it.mover
         by j same = subst (λ i. (drove halts v.chunks mover_port i).reply ≡ None → let x : Drove = drove halts v.chunks mover_port i in Bears v.extent.chunks (told ++ x.told) x.chunks v.routes use_it.moving use_it.mover) (sym same)
-            (none_bears kind halts v.extent.chunks (length v.chunks) v.routes told is.hosts.routes v.chunks is.so use_it.moving use_it.moves use_it.mover use_it.b)
+            (none_bears known halts v.extent.chunks (length v.chunks) v.routes told is.order.routed.routes v.chunks is.so use_it.moving use_it.moves use_it.mover use_it.b)
 
     -- the ask was answered, and the mover goes on
-    goes_on : (reply : Reply) → d.reply ≡ Some reply → let heard : Heard = record { reply = reply; by = events_of (slice_get d.chunks k) } in let t : volumes.Told = mover_hears_in w heard v.mover in IsBorne kind t.volume ((told ++ d.told) ++ t.told) × IsUnsentIn t.volume
+    goes_on : (reply : Reply) → d.reply ≡ Some reply → let heard : Heard = record { reply = reply; by = events_of (slice_get d.chunks k) } in let t : volumes.Told = mover_hears_in w heard v.mover in IsBorne known t.volume ((told ++ d.told) ++ t.told) × IsUnsentIn t.volume
     goes_on reply same =
         let heard : Heard = record { reply = reply; by = events_of (slice_get d.chunks k) } in
         let s : Step = step use_it.mover (Some reply) in
         let both = by k use_it.group reply same in
-        subst (λ o. let t : volumes.Told = mover_hears_in w heard o in IsBorne kind t.volume ((told ++ d.told) ++ t.told) × IsUnsentIn t.volume) (sym use_it.is)
-        (went kind halts w (told ++ d.told) (hauls_told halts v told k group is.hosts) so_driven use_it.moving use_it.moves both.0 use_it.mover s.mover use_it.is (step_chunk use_it.mover (Some reply)) (Some heard) both.1 s.next (step_asks use_it.mover (Some reply)))
+        subst (λ o. let t : volumes.Told = mover_hears_in w heard o in IsBorne known t.volume ((told ++ d.told) ++ t.told) × IsUnsentIn t.volume) (sym use_it.is)
+        (went known halts w (told ++ d.told) (hauls_ordered known halts v told is.order k group) so_driven use_it.moving use_it.moves both.0 use_it.mover s.mover use_it.is (step_chunk use_it.mover (Some reply)) (Some heard) both.1 s.next (step_asks use_it.mover (Some reply)))
       where
         Both : ℕ → Type 0
         Both j =
@@ -197,19 +196,19 @@ module _ (kind : Option Kind) (halts : List Halt) where
 
         by : (j : ℕ) → j ≡ group_for use_it.b.from use_it.moving.to (role_of_ask use_it.b.ask) → Both j
         by j its = subst Both (sym its) (λ r r_is. (
-          free_then kind halts v.extent.chunks (length v.chunks) v.routes told is.hosts.routes v.chunks is.so use_it.moving use_it.moves use_it.mover use_it.b r r_is,
-          back_then kind halts v.extent.chunks (length v.chunks) v.routes told is.hosts.routes v.chunks is.so use_it.moving use_it.moves use_it.mover use_it.b r r_is,
+          free_then known halts v.extent.chunks (length v.chunks) v.routes told is.order.routed.routes v.chunks is.so use_it.moving use_it.moves use_it.mover use_it.b r r_is,
+          back_then known halts v.extent.chunks (length v.chunks) v.routes told is.order.routed.routes v.chunks is.so use_it.moving use_it.moves use_it.mover use_it.b r r_is,
         ))
 
   -- what it asks is handed on
-  hands_to : (group : Option ℕ) (v : VolumeRun) (told : List Moment) → mover_group v ≡ group → IsBorne kind v told → IsUnsentIn v → Comes told (mover_hands_to halts group v)
+  hands_to : (group : Option ℕ) (v : VolumeRun) (told : List Moment) → mover_group v ≡ group → IsBorne known v told → IsUnsentIn v → Comes told (mover_hands_to halts group v)
   hands_to None v told same is unsent = nothing v told is
   hands_to (Some k) v told same is unsent = settles v told is k same ((drives_at halts v.chunks mover_port k).unsent (unsent k same))
 
-  pub hands_on_so : (v : VolumeRun) (told : List Moment) → IsBorne kind v told → IsUnsentIn v → Comes told (mover_hands halts v)
+  pub hands_on_so : (v : VolumeRun) (told : List Moment) → IsBorne known v told → IsUnsentIn v → Comes told (mover_hands halts v)
   hands_on_so v told is unsent = hands_to (mover_group v) v told refl is unsent
 
-  replies : (v : VolumeRun) (told : List Moment) (is : IsBorne kind v told) (k : ℕ) (group : mover_group v ≡ Some k) (reply : Option Reply) → (drove halts v.chunks mover_port k).reply ≡ reply → Comes told (mover_replied halts v k (drove halts v.chunks mover_port k) reply)
+  replies : (v : VolumeRun) (told : List Moment) (is : IsBorne known v told) (k : ℕ) (group : mover_group v ≡ Some k) (reply : Option Reply) → (drove halts v.chunks mover_port k).reply ≡ reply → Comes told (mover_replied halts v k (drove halts v.chunks mover_port k) reply)
   replies v told is k group None same = settles v told is k group same
   replies v told is k group (Some reply) same =
       let its : Drove = drove halts v.chunks mover_port k in
@@ -220,10 +219,10 @@ module _ (kind : Option Kind) (halts : List Halt) where
       behind_all last.volume told its.told (t.told ++ last.told)
       (behind_all last.volume (told ++ its.told) t.told last.told (hands_on_so t.volume ((told ++ its.told) ++ t.told) on.0 on.1))
 
-  steps : (group : Option ℕ) (v : VolumeRun) (told : List Moment) → mover_group v ≡ group → IsBorne kind v told → Comes told (mover_steps_at halts group v)
+  steps : (group : Option ℕ) (v : VolumeRun) (told : List Moment) → mover_group v ≡ group → IsBorne known v told → Comes told (mover_steps_at halts group v)
   steps None v told same is = nothing v told is
   steps (Some k) v told same is = replies v told is k same (drove halts v.chunks mover_port k).reply refl
 
-  pub mover_so : (v : VolumeRun) (told : List Moment) → IsBorne kind v told → Comes told (mover_steps halts v)
+  pub mover_so : (v : VolumeRun) (told : List Moment) → IsBorne known v told → Comes told (mover_steps halts v)
   unfolding mover_steps
   mover_so v told is = steps (mover_group v) v told refl is

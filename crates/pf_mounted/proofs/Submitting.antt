@@ -1,5 +1,5 @@
 -- A write that a mount's port hands on gives no bytes to another mount's blocks.
-use Rattle.std.proofs.Common.{◌≡◌, ℕ, suc, ◌+◌, ◌*◌, ◌/◌, ◌%◌, ◌<◌, ◌≤◌, ◌⊎◌, inl, inr, ◌==◌, Bool, true, false, if◌then◌else◌, List, [], ◌∷◌, ◌++◌, length, map, take, drop, Option, Some, None, slice_get, arith, refl, sym, ap, subst, ◌∙◌, le-ltb, unwrap_or}
+use Rattle.std.proofs.Common.{◌≡◌, ℕ, suc, ◌+◌, ◌*◌, ◌/◌, ◌%◌, ◌<◌, ◌≤◌, ◌⊎◌, inl, inr, ◌==◌, Bool, true, false, if◌then◌else◌, List, [], ◌∷◌, ◌++◌, length, map, take, drop, Option, Some, None, slice_get, arith, refl, sym, ap, subst, ◌∙◌, le-ltb}
 use Rattle.std.specs.List.{fold}
 use Rattle.std.specs.Option.{option_map}
 use Rattle.std.proofs.lemmas.Bool.{cond-false, lt-ltb, cases_lt}
@@ -42,30 +42,26 @@ use Rattle.pf_world.specs.pf_chunk.specs.Driving.{event_of_ask}
 use Rattle.pf_world.specs.pf_chunk.specs.Runs.{ChunkRun, mover_port}
 use Rattle.pf_world.specs.pf_hosts.specs.Moments.{Begins, Carries, Ends, Hands, Heard, Moment, Moves as MovesTo, Turns, Writes}
 use Rattle.pf_mounted.specs.Handing.{AreHandedOn, AreMountsAlone, reached, reached_from}
-use Rattle.pf_mounted.specs.Hosted.{among_deeds, groups_of, history_of, writes_at, told_history, among_copies, carried_into}
+use Rattle.pf_mounted.specs.Hosted.{among_deeds, groups_of, history_of, writes_at}
 use Rattle.pf_mounted.specs.Journals.{AreOfMounts, CanBeDoings, CanBeTold, IsOfData, doings}
 use Rattle.pf_mounted.specs.Mounts.{Life, asked_in, calling, last_ask, life_of, lived, turned}
-use Rattle.pf_mounted.specs.Pasts.{Trace, at_moment, handed_at, trace_of, mover_trace}
+use Rattle.pf_mounted.specs.Pasts.{Trace, at_moment, handed_at, trace_of}
 use Rattle.pf_mounted.proofs.Coming.{Pends, ballot_ask}
 use Rattle.pf_mounted.proofs.Journaling.{StandsIn, told_stand}
 use Rattle.pf_mounted.proofs.Lying.{same_place, whole_place}
 use Rattle.pf_mounted.proofs.Seeing.{below, within}
-use Rattle.pf_mounted.specs.Movers.{role_of_ask, AreMoves, IsCarriedOn, group_of_role}
-use Rattle.pf_mounted.proofs.Epoching.{AreBegun, begun_until, group_stays, same_home}
+use Rattle.pf_mounted.specs.Movers.{AreMoves}
+use Rattle.pf_mounted.proofs.Epoching.{AreBegun, group_stays, same_home}
 use Rattle.pf_mounted.specs.Epochs.{group_at, epoch_of}
 use Rattle.pf_mounted.proofs.Placing.{more_is_told, parted, get_mapped, map_get}
 use Rattle.pf_mounted.proofs.Tracked.{all_handed_on, IsElsewhere, trace_on, writes_stay}
-use Rattle.pf_mounted.proofs.Known.{are_begun}
+use Rattle.pf_mounted.proofs.MoverWrites.{into_moved}
+use Rattle.pf_mounted.proofs.OfMoves.{begun_first, told_groups}
 use Rattle.pf_entry.specs.Lists.{Every}
-use Rattle.pf_move.specs.declared.mover.Asked.TheVariants.{Writing}
 use Rattle.pf_positions.specs.Deeds.{Groups}
 use Rattle.pf_positions.specs.Moves.{mover_into}
 use Rattle.pf_epochs.specs.Routed.{AreOfPorts}
-use Rattle.pf_mounted.proofs.Shifting.{under_way}
 use Rattle.pf_mounted.proofs.Asking.{none_anew}
-use Rattle.pf_mounted.proofs.Carried.{among_carried}
-use Rattle.pf_move.specs.Turns.{Turn}
-use Rattle.pf_mounted.specs.Carrying.{moves_of}
 use Rattle.pf_mounted.proofs.Tracing.{test_same}
 
 -- Of an op
@@ -281,20 +277,12 @@ module _ (history earlier : History) (n : ℕ) (h : Happening) (starts : IsPrefi
 
 -- Together
 
--- only a write is submitted
-pub writes_in : (ask : Ask) (server its : ℕ) (op : Op) → event_of_ask ask server ≡ events.Submit its op → role_of_ask ask ≡ Writing
-writes_in (asks.Write chunk span sectors) server its op is = refl
-writes_in (asks.Read chunk span) server its op is = absurd (cc)
-
 module _ (v : Extent) (answer_at : ℕ → Answered) (chunks : List ChunkRun) (told before after : List Moment) (moves : AreMoves v chunks told) (are : AreHandedOn chunks told) (part : told ≡ before ++ after) where
   abbrev groups : Groups
   groups = groups_of v answer_at chunks before
 
   pub begun : AreBegun v.chunks before
-  begun = begun_until v.chunks before after (subst (AreBegun v.chunks) part (are_begun v chunks told moves))
-
-  begun_so : (first rest : List Moment) → before ≡ first ++ rest → AreBegun v.chunks first
-  begun_so first rest same = begun_until v.chunks first rest (subst (AreBegun v.chunks) same begun)
+  begun = begun_first v chunks told moves before after part
 
   away_from : (first rest : List Moment) → before ≡ first ++ rest → (chunk epoch k : ℕ) → chunk < v.chunks → group_at first chunk epoch ≡ Some k → Every (IsElsewhere k) rest
   away_from first rest same chunk epoch k small at = none_anew v.chunks first rest (subst (AreBegun v.chunks) same begun) chunk epoch k small at
@@ -344,43 +332,15 @@ module _ (v : Extent) (answer_at : ℕ → Answered) (chunks : List ChunkRun) (t
             },
           )
 
-      pub by_mover : m ≡ mover_port → IsCarriedOn v.chunks chunks first k place → IsPorts (mover_into groups chunk epoch) (take place c.group.history) server op answer
-      by_mover mover h =
-          let c_is : h.group ≡ c = same_Some h.group c (sym h.there ∙ there) in
-          let event : event_of_ask h.ask h.server ≡ events.Submit server op =
-          ap (λ (x : Happening). x.event) (same_Some (record { event = event_of_ask h.ask h.server; answer = h.answer }) (record { event = events.Submit server op; answer = answer }) (sym h.is ∙ ap (λ (d : ChunkRun). slice_get d.group.history place) c_is ∙ is)) in
-          let writes_it = writes_in h.ask h.server server op event in
-          let e = epoch_of first h.chunk in
-          let group : group_at first h.chunk (suc e) ≡ Some k = subst (λ role. group_of_role first h.chunk role ≡ Some k) writes_it h.of in
-          let home = same_home v.chunks before begun h.chunk chunk (suc e) epoch k h.moving.small small (group_till first (Hands m k place ∷ rest) same h.chunk (suc e) k group) at in
-          let goes = under_way v.chunks first (begun_so first (Hands m k place ∷ rest) same) h.chunk h.moving in
-          let in_use = (goes.new c.group.history k group).role_is in
-          let away = away_from first (Hands m k place ∷ rest) same h.chunk (suc e) k h.moving.small group in
-          let t = mover_trace c.group.history k Writing v.chunks first in
-          let made : Submission = record { write = t.asks; before = take place c.group.history; server = server; op = op; answer = answer } in
-          let nth = length t.writes in
+      pub by_mover : m ≡ mover_port → IsPorts (mover_into groups chunk epoch) (take place c.group.history) server op answer
+      by_mover mover =
           let told_by : before ≡ first ++ Hands mover_port k place ∷ rest = same ∙ ap (λ i. first ++ Hands i k place ∷ rest) mover in
-          let among : slice_get (mover_trace c.group.history k Writing v.chunks before).writes nth ≡ Some made =
-          ap (λ (b : List Moment). slice_get (mover_trace c.group.history k Writing v.chunks b).writes nth) told_by ∙ among_carried c.group.history k v.chunks first rest place server op answer is in_use away.1 in
-          let turns : List Turn = unwrap_or (slice_get (moves_of before chunk) e) [] in
-          let copied = among_copies v answer_at chunks before turns in
-          let at_next : group_at before chunk (suc e) ≡ Some k = ap (group_at before chunk) home.1 ∙ at in
-          let carried_there : groups.moved chunk e ≡ map copied (mover_trace c.group.history k Writing v.chunks before).writes =
-          ap (carried_into v answer_at chunks before chunk e) at_next ∙ ap (λ o. map copied (mover_trace (history_of o) k Writing v.chunks before).writes) there in
-          subst (λ i. IsPorts (mover_into groups chunk i) (take place c.group.history) server op answer) home.1 (record {
-            k = nth;
-            submission = copied made;
-            there = ap (λ (l : List Submission). slice_get l nth) carried_there ∙ map_get copied (mover_trace c.group.history k Writing v.chunks before).writes nth made among;
-            at_moment = refl;
-            to = refl;
-            has_op = refl;
-            has_answer = refl;
-          })
+          into_moved v answer_at chunks told before after moves part (λ i. reached i before) groups (told_groups v answer_at chunks before) chunk epoch k c small at there place server op answer is first rest told_by
 
       of_port : IsOfPort (take place c.group.history) server op answer
       of_port = elim (cases_lt m 16) [
         | inl few ↦ by_mount few
-        | inr many ↦ let on = moves.on first (rest ++ after) m k place all_told many in inl (by_mover on.0 on.1)
+        | inr many ↦ inl (by_mover (moves.on first (rest ++ after) m k place all_told many).0)
       ]
 
     -- it was told before that so much of the history was
@@ -399,7 +359,7 @@ module _ (v : Extent) (answer_at : ℕ → Answered) (chunks : List ChunkRun) (t
         ]
 
     history_is : groups.history chunk epoch ≡ take (reached k before) c.group.history
-    history_is = ap (told_history v answer_at chunks before) at ∙ ap (λ o. take (reached k before) (history_of o)) there
+    history_is = (told_groups v answer_at chunks before).history chunk epoch k c at there
 
     pub of_ports : (x : ℕ) → AreOfPorts groups chunk epoch x
     of_ports x earlier server op answer bytes starts took gives =

@@ -1,5 +1,5 @@
 -- What was told of a chunk tells what its ports did.
-use Rattle.std.proofs.Common.{◌≡◌, ◌≢◌, ℕ, suc, ◌<◌, ◌≤◌, inl, inr, true, cond, if◌then◌else◌, List, [], ◌∷◌, ◌++◌, length, Option, Some, None, slice_get, slice_set, arith, refl, sym, ap, subst, ◌∙◌}
+use Rattle.std.proofs.Common.{◌≡◌, ◌≢◌, ℕ, suc, ◌<◌, ◌≤◌, inl, inr, true, cond, if◌then◌else◌, List, [], ◌∷◌, ◌++◌, length, Option, Some, None, slice_get, arith, refl, sym, ap, subst, ◌∙◌}
 use Rattle.std.proofs.lemmas.Bool.{cases_eq}
 use Rattle.std.proofs.lemmas.List.{length-append}
 use Rattle.std.proofs.lemmas.Option.{none-some, same_Some, slice_get_within}
@@ -20,7 +20,7 @@ use Rattle.pf_ports.specs.Calls.{Past, Says}
 use Rattle.pf_ports.specs.Driven.{IsDriven, IsStep, Others, Puts}
 use Rattle.pf_world.specs.pf_applyrounds.specs.Chunks.{Chunk}
 use Rattle.pf_world.specs.pf_chunk.specs.Asks.{leader_of, reply_to}
-use Rattle.pf_world.specs.pf_chunk.specs.Driving.{asked, asked_at, with_port}
+use Rattle.pf_world.specs.pf_chunk.specs.Driving.{asked, asked_at}
 use Rattle.pf_world.specs.pf_chunk.specs.Runs.{ChunkRun, mover_port}
 use Rattle.pf_world.specs.pf_hosts.specs.Moments.{Heard, Moment, Turns}
 use Rattle.pf_mounted.specs.Pasts.{MoverTrace, Trace, asks_after, asking, at_carry, at_moment, mover_trace, moves_into, past_in, past_of, trace_in, trace_of}
@@ -42,23 +42,24 @@ pub record MoverAsTold (count : ℕ) (told : List Moment) (k : ℕ) (c : ChunkRu
   pub its : IsDriven c.group.setup (past_in c.group.history (mover_trace c.group.history k role count told)) port
   pub there : (moves_into c.group.history k count told).role ≡ Some role → slice_get c.ports mover_port ≡ Some port
 
--- the group has its place, it stands where its history leads, and each port was driven as was told
-pub record IsAsTold (count : ℕ) (told : List Moment) (k : ℕ) (c : ChunkRun) : Type 0 where
+-- the group has its place, it stands where its history leads, and each port of the mover was driven as was told; so was each port of a mount, where that
+-- is known
+pub record IsAsTold (known : Type 0) (count : ℕ) (told : List Moment) (k : ℕ) (c : ChunkRun) : Type 0 where
   pub number : c.group.number ≡ k
   pub stands : c.group.state ≡ replay c.group.setup c.group.history
   pub within : Every (IsWithin k (length c.group.history)) told
-  pub driven : (m : ℕ) → m < mover_port → PortAsTold count told k c m
+  pub driven : known → (m : ℕ) → m < mover_port → PortAsTold count told k c m
   pub hauled : (role : Asked) → MoverAsTold count told k c role
 
-abbrev pub AreAsTold : (count : ℕ) → List Moment → List ChunkRun → Type 0
-AreAsTold count told chunks = (k : ℕ) (c : ChunkRun) → slice_get chunks k ≡ Some c → IsAsTold count told k c
+abbrev pub AreAsTold : (known : Type 0) (count : ℕ) → List Moment → List ChunkRun → Type 0
+AreAsTold known count told chunks = (k : ℕ) (c : ChunkRun) → slice_get chunks k ≡ Some c → IsAsTold known count told k c
 
 pub prefix_length : (earlier history : History) → IsPrefix earlier history → length earlier ≤ length history
 prefix_length earlier history p = omega (arith, length-append earlier p.rest, ap length p.whole)
 
--- Others make events
+-- Others make events; the mover's port is as it was, and where those of mounts are known, so are they
 
-module _ (count : ℕ) (told : List Moment) (k : ℕ) (c d : ChunkRun) (ports : d.ports ≡ c.ports) (g : Grows c.group d.group) (is : IsAsTold count told k c) where
+module _ (known : Type 0) (count : ℕ) (told : List Moment) (k : ℕ) (c d : ChunkRun) (ports : known → d.ports ≡ c.ports) (movers : slice_get d.ports mover_port ≡ slice_get c.ports mover_port) (g : Grows c.group d.group) (is : IsAsTold known count told k c) where
   -- a trace of the one history is that of the other
   others : (t u : Trace) (port : PortIs) → u ≡ t → IsDriven c.group.setup (past_in c.group.history t) port → IsDriven d.group.setup (past_in d.group.history u) port
   others t u port same driven_so =
@@ -69,31 +70,31 @@ module _ (count : ℕ) (told : List Moment) (k : ℕ) (c d : ChunkRun) (ports : 
   moves_same : moves_into d.group.history k count told ≡ moves_into c.group.history k count told
   moves_same = ap (λ (history : History). moves_into history k count told) (sym g.later.whole) ∙ moves_longer c.group.history g.later.rest k count told is.within
 
-  pub regrown : IsAsTold count told k d
+  pub regrown : IsAsTold known count told k d
   regrown = record {
     number = g.number ∙ is.number;
     stands = g.stands is.stands;
     within = every_more (IsWithin k (length c.group.history)) (IsWithin k (length d.group.history)) (within_more k (length c.group.history) (length d.group.history) (prefix_length c.group.history d.group.history g.later)) told is.within;
-    driven = λ m small.
-        let was = is.driven m small in
+    driven = λ of_mounts m small.
+        let was = is.driven of_mounts m small in
         let same : trace_of d.group.history m k count told ≡ trace_of c.group.history m k count told =
         ap (λ (history : History). trace_of history m k count told) (sym g.later.whole) ∙ trace_longer c.group.history g.later.rest k m count told is.within in record {
           port = was.port;
           its = others (trace_of c.group.history m k count told) (trace_of d.group.history m k count told) was.port same was.its;
-          there = λ chunk of. ap (λ (ps : List PortIs). slice_get ps m) ports ∙ was.there chunk of;
+          there = λ chunk of. ap (λ (ps : List PortIs). slice_get ps m) (ports of_mounts) ∙ was.there chunk of;
         };
     hauled = λ role.
         let was = is.hauled role in record {
           port = was.port;
           its = others (mover_trace c.group.history k role count told) (mover_trace d.group.history k role count told) was.port (ap (λ (t : MoverTrace). trace_in t role) moves_same) was.its;
-          there = λ its_role. ap (λ (ps : List PortIs). slice_get ps mover_port) ports ∙ was.there (sym (ap (λ (t : MoverTrace). t.role) moves_same) ∙ its_role);
+          there = λ its_role. movers ∙ was.there (sym (ap (λ (t : MoverTrace). t.role) moves_same) ∙ its_role);
         };
   }
 
 -- More is told
 
 -- a moment that leaves the past of each port
-module _ (count : ℕ) (told : List Moment) (k : ℕ) (c : ChunkRun) (y : Moment) (is : IsAsTold count told k c) where
+module _ (known : Type 0) (count : ℕ) (told : List Moment) (k : ℕ) (c : ChunkRun) (y : Moment) (is : IsAsTold known count told k c) where
   -- of mounts' ports
   pub port_passed : (m : ℕ) → IsNoMove y → past_in c.group.history (at_moment c.group.history m k (trace_of c.group.history m k count told) y) ≡ past_of count c.group.history m k told → PortAsTold count told k c m → PortAsTold count (told ++ y ∷ []) k c m
   port_passed m still same was = record {
@@ -111,32 +112,19 @@ module _ (count : ℕ) (told : List Moment) (k : ℕ) (c : ChunkRun) (y : Moment
         there = λ its_role. was.there (sym (ap (λ (t : MoverTrace). t.role) all) ∙ its_role);
       }
 
-  pub passed : Passes (asks_of count told k) k y → IsAsTold count (told ++ y ∷ []) k c
+  pub passed : Passes (asks_of count told k) k y → IsAsTold known count (told ++ y ∷ []) k c
   passed p = record {
     number = is.number;
     stands = is.stands;
     within = every_append (IsWithin k (length c.group.history)) told (y ∷ []) is.within (p.within (length c.group.history), tt);
-    driven = λ m small. port_passed m p.still (p.nothing c.group.history m (trace_of c.group.history m k count told) (is_trace c.group.history m k count told).of) (is.driven m small);
+    driven = λ of_mounts m small. port_passed m p.still (p.nothing c.group.history m (trace_of c.group.history m k count told) (is_trace c.group.history m k count told).of) (is.driven of_mounts m small);
     hauled = λ role. mover_passed (p.hauls c.group.history (moves_into c.group.history k count told)) role (is.hauled role);
   }
-
--- A port that was driven stands in its place
-pub ported : (count : ℕ) (told : List Moment) (k : ℕ) (c : ChunkRun) (m : ℕ) (q : PortIs) → m < mover_port → IsAsTold count told k c → slice_get (slice_set c.ports m q) m ≡ Some q → IsDriven c.group.setup (past_of count c.group.history m k told) q → IsAsTold count told k (with_port c m q)
-ported count told k c m q small is there its = record {
-  number = is.number;
-  stands = is.stands;
-  within = is.within;
-  driven = λ j low. elim (cases_eq j m) [
-    | inl same ↦ subst (λ i. PortAsTold count told k (with_port c m q) i) (sym same) (record { port = q; its = its; there = λ chunk of. there })
-    | inr apart ↦ let was = is.driven j low in record { port = was.port; its = was.its; there = λ chunk of. set_elsewhere c.ports m j q apart ∙ was.there chunk of }
-  ];
-  hauled = λ role. let was = is.hauled role in record { port = was.port; its = was.its; there = λ its_role. set_elsewhere c.ports m mover_port q (λ same. omega (arith, small, same)) ∙ was.there its_role };
-}
 
 -- An ask is put into a port
 
 -- of a mount
-module _ (count : ℕ) (told : List Moment) (k : ℕ) (c : ChunkRun) (is : IsAsTold count told k c) (m : ℕ) (small : m < mover_port) (heard : Option Heard) (ask : Ask) (of : asks_of count told k ≡ Some (chunk_of ask)) where
+module _ (known : Type 0) (count : ℕ) (told : List Moment) (k : ℕ) (c : ChunkRun) (is : IsAsTold known count told k c) (m : ℕ) (small : m < mover_port) (heard : Option Heard) (ask : Ask) (of : asks_of count told k ≡ Some (chunk_of ask)) where
   abbrev turn : Moment
   turn = Turns m heard (Some ask)
 
@@ -149,7 +137,7 @@ module _ (count : ℕ) (told : List Moment) (k : ℕ) (c : ChunkRun) (is : IsAsT
   other_asks : (j : ℕ) → j ≢ m → PortAsTold count told k c j → PortAsTold count asking_told k c j
   other_asks j apart was =
       let t = trace_of history j k count told in
-      port_passed count told k c turn is j tt (ap (past_in history) (not_its_own m j (record t { pending = asking t (Some ask); asks = asks_after t (Some ask) }) t (λ same. apart (sym same)))) was
+      port_passed known count told k c turn is j tt (ap (past_in history) (not_its_own m j (record t { pending = asking t (Some ask); asks = asks_after t (Some ask) }) t (λ same. apart (sym same)))) was
 
   own_ask : (p : PortIs) → IsDriven c.group.setup (past_of count history m k told) p → p.ask ≡ None → IsDriven c.group.setup (past_of count history m k asking_told) (record p { ask = Some ask; sent = None })
   own_ask p driven_so none =
@@ -160,10 +148,10 @@ module _ (count : ℕ) (told : List Moment) (k : ℕ) (c : ChunkRun) (is : IsAsT
       ∙ ap (λ b. let past : Past = record { history = history; asks = (if b then suc t.seen else t.asks); writes = t.writes; reads = t.reads } in past) (at_same t.of (chunk_of ask) (known.of ∙ of))))
       (Puts (past_of count history m k told) p ask (suc t.seen) (omega (arith, known.low)) none driven_so)
 
-  asked_port : (o : Option PortIs) → slice_get c.ports m ≡ o → ((p : PortIs) → slice_get c.ports m ≡ Some p → p.ask ≡ None) → PortAsTold count asking_told k (asked_at c m ask o) m
-  asked_port None there none = absurd (none-some (is.driven m small).port (sym there ∙ (is.driven m small).there (chunk_of ask) of))
-  asked_port (Some p) there none =
-      let was = is.driven m small in
+  asked_port : known → (o : Option PortIs) → slice_get c.ports m ≡ o → ((p : PortIs) → slice_get c.ports m ≡ Some p → p.ask ≡ None) → PortAsTold count asking_told k (asked_at c m ask o) m
+  asked_port of_mounts None there none = absurd (none-some (is.driven of_mounts m small).port (sym there ∙ (is.driven of_mounts m small).there (chunk_of ask) of))
+  asked_port of_mounts (Some p) there none =
+      let was = is.driven of_mounts m small in
       let same : was.port ≡ p = same_Some was.port p (sym (was.there (chunk_of ask) of) ∙ there) in
       let q : PortIs = record p { ask = Some ask; sent = None } in record {
         port = q;
@@ -179,7 +167,7 @@ module _ (count : ℕ) (told : List Moment) (k : ℕ) (c : ChunkRun) (is : IsAsT
   same_group None = refl
   same_group (Some p) = refl
 
-  pub asked_told : ((p : PortIs) → slice_get c.ports m ≡ Some p → p.ask ≡ None) → IsAsTold count asking_told k (asked c m ask)
+  pub asked_told : ((p : PortIs) → slice_get c.ports m ≡ Some p → p.ask ≡ None) → IsAsTold known count asking_told k (asked c m ask)
   asked_told none =
       let o = slice_get c.ports m in
       let d = asked c m ask in
@@ -187,17 +175,17 @@ module _ (count : ℕ) (told : List Moment) (k : ℕ) (c : ChunkRun) (is : IsAsT
         number = ap (λ (g : Chunk). g.number) group ∙ is.number;
         stands = subst (λ (g : Chunk). g.state ≡ replay g.setup g.history) (sym group) is.stands;
         within = subst (λ (g : Chunk). Every (IsWithin k (length g.history)) asking_told) (sym group) (every_append (IsWithin k (length history)) told (turn ∷ []) is.within (tt, tt));
-        driven = λ j low. elim (cases_eq j m) [
-          | inl same ↦ subst (λ i. PortAsTold count asking_told k d i) (sym same) (asked_port o refl none)
+        driven = λ of_mounts j low. elim (cases_eq j m) [
+          | inl same ↦ subst (λ i. PortAsTold count asking_told k d i) (sym same) (asked_port of_mounts o refl none)
           | inr apart ↦
-              let was = other_asks j apart (is.driven j low) in record {
+              let was = other_asks j apart (is.driven of_mounts j low) in record {
                 port = was.port;
                 its = subst (λ (g : Chunk). IsDriven g.setup (past_of count g.history j k asking_told) was.port) (sym group) was.its;
                 there = λ chunk of_it. other_port o j apart ∙ was.there chunk of_it;
               }
         ];
         hauled = λ role.
-            let was = mover_passed count told k c turn is refl role (is.hauled role) in record {
+            let was = mover_passed known count told k c turn is refl role (is.hauled role) in record {
               port = was.port;
               its = subst (λ (g : Chunk). IsDriven g.setup (past_in g.history (mover_trace g.history k role count asking_told)) was.port) (sym group) was.its;
               there = λ its_role. other_port o mover_port (λ same. omega (arith, small, same)) ∙ was.there (subst (λ (g : Chunk). (moves_into g.history k count asking_told).role ≡ Some role) group its_role);

@@ -1,5 +1,5 @@
 -- What is kept by the steps of ports and of the mover, and where a chunk begins to move, holds of the run of every script.
-use Rattle.std.proofs.Common.{◌≡◌, ℕ, ◌<◌, nat_le, false, inl, inr, List, [], ◌∷◌, ◌++◌, length, Option, Some, None, slice_get, slice_set, arith, sym, ap, subst, ◌∙◌}
+use Rattle.std.proofs.Common.{◌≡◌, ◌≢◌, ℕ, ◌<◌, nat_le, false, inl, inr, List, [], ◌∷◌, ◌++◌, length, Option, Some, None, slice_get, slice_set, arith, refl, sym, ap, subst, ◌∙◌}
 use Rattle.std.specs.Option.{is_some}
 use Rattle.std.proofs.lemmas.Bool.{leb-false}
 use Rattle.std.proofs.lemmas.Option.{none-some, same_Some}
@@ -22,6 +22,7 @@ use Rattle.pf_world.specs.pf_fleet.specs.Volumes.{AnchoredHosts, VolumeRun, move
 use Rattle.pf_world.specs.Worlds.{made}
 use Rattle.pf_world.specs.Reports.{world_run}
 use Rattle.pf_world.specs.declared.kind.Kind.{Kind}
+use Rattle.pf_world.specs.declared.kind.Kind.TheVariants.{Mounted, Raw}
 use Rattle.pf_world.specs.pf_threads.specs.Sessions.{Session}
 use Rattle.pf_world.specs.declared.line.Line.{Line}
 use Rattle.pf_mounted.specs.Scripts.{IsScript}
@@ -31,17 +32,19 @@ use Rattle.pf_mounted.proofs.Ported.{IsKeptByPorts, all_said, begun_kept, made_k
 use Rattle.pf_mounted.proofs.PortedOver.{over_begun, over_kept}
 use Rattle.pf_mounted.proofs.Ports.{fetched_ports, happened_ports}
 use Rattle.pf_mounted.proofs.Running.{IsKeptThrough, new_group, running_through}
+use Rattle.pf_mounted.proofs.Writing.{AddsNoWrite, fetched_adds, happened_adds}
 
 -- a property of a volume's extent, routes, mover and groups, and of what was told, of this volume
 abbrev pub HoldsOf : (P : Extent → RoutesIs → Option MoverIs → List ChunkRun → List Moment → Type 0) → VolumeRun → List Moment → Type 0
 HoldsOf P v told = P v.extent v.routes v.mover v.chunks told
 
--- it is kept by the steps of ports, by those of the mover, and where a chunk begins to move
-pub record IsKeptByParts (halts : List Halt) (P : Extent → RoutesIs → Option MoverIs → List ChunkRun → List Moment → Type 0) : Type 0 where
-  pub ports : (e : Extent) (r : RoutesIs) (mover : Option MoverIs) → IsKeptByPorts (P e r mover)
-  pub carrying : (v : VolumeRun) (told : List Moment) → HoldsOf P v told → HoldsOf P (mover_steps halts v).volume (told ++ (mover_steps halts v).told)
-  pub moving : (v : VolumeRun) (told : List Moment) (names format chunk : ℕ) → is_some v.routes.moving ≡ false → HoldsOf P v told
-      → HoldsOf P (moves chunk (new_group halts v names format) v).volume (told ++ (moves chunk (new_group halts v names format) v).told)
+-- it is kept where the kind of the run is decided, by the steps of ports, by those of the mover, and where a chunk begins to move
+pub record IsKeptByParts (halts : List Halt) (P : Option Kind → Extent → RoutesIs → Option MoverIs → List ChunkRun → List Moment → Type 0) : Type 0 where
+  pub deciding : (kind : Kind) (e : Extent) (r : RoutesIs) (mover : Option MoverIs) (chunks : List ChunkRun) (told : List Moment) → P None e r mover chunks told → P (Some kind) e r mover chunks told
+  pub ports : (kind : Option Kind) (e : Extent) (r : RoutesIs) (mover : Option MoverIs) → IsKeptByPorts kind (P kind e r mover)
+  pub carrying : (kind : Option Kind) (v : VolumeRun) (told : List Moment) → HoldsOf (P kind) v told → HoldsOf (P kind) (mover_steps halts v).volume (told ++ (mover_steps halts v).told)
+  pub moving : (v : VolumeRun) (told : List Moment) (names format chunk : ℕ) → is_some v.routes.moving ≡ false → HoldsOf (P (Some Mounted)) v told
+      → HoldsOf (P (Some Mounted)) (moves chunk (new_group halts v names format) v).volume (told ++ (moves chunk (new_group halts v names format) v).told)
 
 -- Hosts whose ports are none of the mover's
 
@@ -53,10 +56,10 @@ some_there None host is = absurd (none-some host is)
 some_there (Some o) host is = ap (λ x. Some x) is
 
 module _ (Host : Type 0) (number : Host → ℕ) where
-  abbrev AreLow : List (Option Host) → Type 0
+  abbrev pub AreLow : List (Option Host) → Type 0
   AreLow hosts = (m : ℕ) (host : Host) → there (slice_get hosts m) ≡ Some host → number host < mover_port
 
-  no_hosts : AreLow []
+  pub no_hosts : AreLow []
   no_hosts m host at = absurd (none-some host at)
 
   set_low : (hosts : List (Option Host)) (m : ℕ) (its : Host) → AreLow hosts → number its < mover_port → AreLow (slice_set hosts m (Some its))
@@ -77,32 +80,33 @@ module _ (Host : Type 0) (number : Host → ℕ) where
     | inr last ↦ subst (λ (h : Host). number h < mover_port) (same_Some its host last.1) new
   ]
 
-abbrev of_host : HostIs → ℕ
+abbrev pub of_host : HostIs → ℕ
 of_host host = number_of host.mount
 
-abbrev of_anchored : AnchoredHostIs → ℕ
+abbrev pub of_anchored : AnchoredHostIs → ℕ
 of_anchored host = over.number_of host.mount
 
 -- the property holds, and the ports of hosts are none of the mover's
-record IsThrough (P : Extent → RoutesIs → Option MoverIs → List ChunkRun → List Moment → Type 0) (v : VolumeRun) (told : List Moment) : Type 0 where
-  holds : HoldsOf P v told
-  low : AreLow HostIs of_host v.hosts
-  over_low : (anchored : AnchoredHosts) → v.anchored ≡ Some anchored → AreLow AnchoredHostIs of_anchored anchored
+pub record IsThrough (P : Option Kind → Extent → RoutesIs → Option MoverIs → List ChunkRun → List Moment → Type 0) (kind : Option Kind) (v : VolumeRun) (told : List Moment) : Type 0 where
+  pub holds : HoldsOf (P kind) v told
+  pub low : AreLow HostIs of_host v.hosts
+  pub over_low : (anchored : AnchoredHosts) → v.anchored ≡ Some anchored → AreLow AnchoredHostIs of_anchored anchored
 
-module _ (halts : List Halt) (P : Extent → RoutesIs → Option MoverIs → List ChunkRun → List Moment → Type 0) (parts : IsKeptByParts halts P) where
-  abbrev Through : Option Kind → VolumeRun → List Moment → Type 0
-  Through kind v told = IsThrough P v told
+module _ (halts : List Halt) (P : Option Kind → Extent → RoutesIs → Option MoverIs → List ChunkRun → List Moment → Type 0) (parts : IsKeptByParts halts P) where
+  abbrev pub Through : Option Kind → VolumeRun → List Moment → Type 0
+  Through kind v told = IsThrough P kind v told
 
-  abbrev ports_of : (v : VolumeRun) → IsKeptByPorts (P v.extent v.routes v.mover)
-  ports_of v = parts.ports v.extent v.routes v.mover
+  abbrev ports_of : (kind : Option Kind) (v : VolumeRun) → IsKeptByPorts kind (P kind v.extent v.routes v.mover)
+  ports_of kind v = parts.ports kind v.extent v.routes v.mover
 
   -- something happened to a group
-  with_group : (v : VolumeRun) (told : List Moment) (k : ℕ) (c d : ChunkRun) → slice_get v.chunks k ≡ Some c → d.ports ≡ c.ports → Grows c.group d.group → IsThrough P v told → IsThrough P (with_chunk v d) told
-  with_group v told k c d at ports grows is = record { holds = (ports_of v).growing v.chunks told k c d at ports grows is.holds; low = is.low; over_low = is.over_low }
+  with_group : (kind : Option Kind) (v : VolumeRun) (told : List Moment) (k : ℕ) (c d : ChunkRun) → slice_get v.chunks k ≡ Some c → d.ports ≡ c.ports → Grows c.group d.group → (kind ≢ Some Raw → AddsNoWrite c.group.history d.group.history)
+      → IsThrough P kind v told → IsThrough P kind (with_chunk v d) told
+  with_group kind v told k c d at ports grows adds is = record { holds = (ports_of kind v).growing v.chunks told k c d at ports grows adds is.holds; low = is.low; over_low = is.over_low }
 
   -- the hosts are the same
-  same_hosts : (v w : VolumeRun) (told all : List Moment) → HasSameHosts v w → HoldsOf P w all → IsThrough P v told → IsThrough P w all
-  same_hosts v w told all same holds is = record {
+  same_hosts : (kind : Option Kind) (v w : VolumeRun) (told all : List Moment) → HasSameHosts v w → HoldsOf (P kind) w all → IsThrough P kind v told → IsThrough P kind w all
+  same_hosts kind v w told all same holds is = record {
     holds = holds;
     low = subst (AreLow HostIs of_host) (sym same.1) is.low;
     over_low = λ anchored at. is.over_low anchored (sym same.0 ∙ at);
@@ -112,45 +116,47 @@ module _ (halts : List Halt) (P : Extent → RoutesIs → Option MoverIs → Lis
   over_hosts : (now : AnchoredHosts) → AreLow AnchoredHostIs of_anchored now → (anchored : AnchoredHosts) → Some now ≡ Some anchored → AreLow AnchoredHostIs of_anchored anchored
   over_hosts now low anchored same = subst (AreLow AnchoredHostIs of_anchored) (same_Some now anchored same) low
 
-  kept : IsKeptThrough halts Through
+  pub kept : IsKeptThrough halts Through
   kept = record {
-    deciding = λ kind v told is. is;
-    writing = λ kind v told text is. record { holds = (ports_of v).telling v.chunks told (Writes text) tt is.holds; low = is.low; over_low = is.over_low };
-    happening = λ kind v told k c event at never is. with_group v told k c (happened halts c event).chunk at (happened_ports halts c event) (happened_grows halts c event) is;
-    submitting = λ v told k c server op at is. with_group v told k c (happened halts c (Submit server op)).chunk at (happened_ports halts c (Submit server op)) (happened_grows halts c (Submit server op)) is;
-    threading = λ v told k c its at is. with_group v told k c (all_happened halts its c).chunk at (all_ports halts c its) (all_grow halts c its) is;
-    reading = λ kind v told k c server range at is. with_group v told k c (fetched halts server range c).chunk at (fetched_ports halts server range c) (fetched_grows halts c server range) is;
+    deciding = λ kind v told is. record { holds = parts.deciding kind v.extent v.routes v.mover v.chunks told is.holds; low = is.low; over_low = is.over_low };
+    writing = λ kind v told text is. record { holds = (ports_of kind v).telling v.chunks told (Writes text) tt is.holds; low = is.low; over_low = is.over_low };
+    happening = λ kind v told k c event at never is. with_group kind v told k c (happened halts c event).chunk at (happened_ports halts c event) (happened_grows halts c event) (λ own. happened_adds halts c event never) is;
+    submitting = λ v told k c server op at is.
+        with_group (Some Raw) v told k c (happened halts c (Submit server op)).chunk at (happened_ports halts c (Submit server op)) (happened_grows halts c (Submit server op)) (λ own. absurd (own refl)) is;
+    threading = λ v told k c its at is. with_group (Some Raw) v told k c (all_happened halts its c).chunk at (all_ports halts c its) (all_grow halts c its) (λ own. absurd (own refl)) is;
+    reading = λ kind v told k c server range at is.
+        with_group kind v told k c (fetched halts server range c).chunk at (fetched_ports halts server range c) (fetched_grows halts c server range) (λ own. fetched_adds halts c server range) is;
     stepping = λ kind v told m host at is.
         let s : Stepped = stepped halts v.routes v.chunks host in
-        let so = stepped_kept (P v.extent v.routes v.mover) (ports_of v) v.routes halts v.chunks told host (is.low m host at) is.holds in
+        let so = stepped_kept kind (P kind v.extent v.routes v.mover) (ports_of kind v) v.routes halts v.chunks told host (is.low m host at) is.holds in
         record { holds = so.0; low = set_low HostIs of_host v.hosts m s.host is.low so.1; over_low = is.over_low };
-    carrying = λ kind v told is. same_hosts v (mover_steps halts v).volume told (told ++ (mover_steps halts v).told) (mover_same halts v) (parts.carrying v told is.holds) is;
+    carrying = λ kind v told is. same_hosts kind v (mover_steps halts v).volume told (told ++ (mover_steps halts v).told) (mover_same halts v) (parts.carrying kind v told is.holds) is;
     moving = λ v told names format chunk free few is.
         let t = moves chunk (new_group halts v names format) v in
-        same_hosts v t.volume told (told ++ t.told) (moves_same chunk (new_group halts v names format) v) (parts.moving v told names format chunk free is.holds) is;
+        same_hosts (Some Mounted) v t.volume told (told ++ t.told) (moves_same chunk (new_group halts v names format) v) (parts.moving v told names format chunk free is.holds) is;
     mounting = λ v told plain large few is.
         let s : Stepped = made_host v.routes v.chunks (length v.hosts) v.extent in
-        let so = made_kept (P v.extent v.routes v.mover) (ports_of v) v.routes v.chunks told (length v.hosts) v.extent (fewer (length v.hosts) few) is.holds in
+        let so = made_kept (Some Mounted) (P (Some Mounted) v.extent v.routes v.mover) (ports_of (Some Mounted) v) v.routes v.chunks told (length v.hosts) v.extent (fewer (length v.hosts) few) is.holds in
         record { holds = so.0; low = more_low HostIs of_host v.hosts s.host is.low so.1; over_low = is.over_low };
     beginning = λ kind v told m host words call at rest said is.
         let s : Stepped = begun v.routes v.chunks host call in
-        let so = begun_kept (P v.extent v.routes v.mover) (ports_of v) v.routes v.chunks told host call (is.low m host at) is.holds in
+        let so = begun_kept kind (P kind v.extent v.routes v.mover) (ports_of kind v) v.routes v.chunks told host call (is.low m host at) is.holds in
         record { holds = so.0; low = set_low HostIs of_host v.hosts m s.host is.low so.1; over_low = is.over_low };
     killing = λ kind v told m host at is. record { holds = is.holds; low = gone_low HostIs of_host v.hosts m is.low; over_low = is.over_low };
-    anchoring = λ kind v told plain none is. record { holds = is.holds; low = is.low; over_low = over_hosts [] (no_hosts AnchoredHostIs of_anchored) };
+    anchoring = λ kind v told plain none room is. record { holds = is.holds; low = is.low; over_low = over_hosts [] (no_hosts AnchoredHostIs of_anchored) };
     over_mounting = λ v told anchored at large few is.
         let its : AnchoredHostIs = over.made_host (length anchored) v.extent in record {
-          holds = all_said (P v.extent v.routes v.mover) (ports_of v) v.chunks told [] tt is.holds;
+          holds = all_said (Some Mounted) (P (Some Mounted) v.extent v.routes v.mover) (ports_of (Some Mounted) v) v.chunks told [] tt is.holds;
           low = is.low;
           over_low = over_hosts (anchored ++ Some its ∷ []) (more_low AnchoredHostIs of_anchored anchored its (is.over_low anchored at) (fewer (length anchored) few));
         };
     over_stepping = λ kind v told anchored m host at here is.
         let s : over.Stepped = over.stepped halts v.routes v.chunks host in
-        let so = over_kept (P v.extent v.routes v.mover) (ports_of v) v.routes halts v.chunks told host (is.over_low anchored at m host here) is.holds in
+        let so = over_kept kind (P kind v.extent v.routes v.mover) (ports_of kind v) v.routes halts v.chunks told host (is.over_low anchored at m host here) is.holds in
         record { holds = so.0; low = is.low; over_low = over_hosts (slice_set anchored m (Some s.host)) (set_low AnchoredHostIs of_anchored anchored m s.host (is.over_low anchored at) so.1) };
     over_beginning = λ kind v told anchored m host words call at here rest said is.
         let s : over.Stepped = over.begun v.chunks host call in
-        let so = over_begun (P v.extent v.routes v.mover) (ports_of v) v.chunks told host call (is.over_low anchored at m host here) is.holds in
+        let so = over_begun kind (P kind v.extent v.routes v.mover) (ports_of kind v) v.chunks told host call (is.over_low anchored at m host here) is.holds in
         record { holds = so.0; low = is.low; over_low = over_hosts (slice_set anchored m (Some s.host)) (set_low AnchoredHostIs of_anchored anchored m s.host (is.over_low anchored at) so.1) };
     over_killing = λ kind v told anchored m host at here is. record {
       holds = is.holds;
@@ -160,8 +166,8 @@ module _ (halts : List Halt) (P : Extent → RoutesIs → Option MoverIs → Lis
   }
 
   -- it holds after each script, where it holds of a new volume
-  pub throughout : ((sessions : List Session) (chunks sectors names format : ℕ) → HoldsOf P (made halts sessions chunks sectors names format).volume []) → (sessions : List Session) (lines : List Line) → IsScript lines
-      → HoldsOf P (world_run halts sessions lines).world.volume (world_run halts sessions lines).told
+  pub throughout : ((sessions : List Session) (chunks sectors names format : ℕ) → HoldsOf (P None) (made halts sessions chunks sectors names format).volume []) → (sessions : List Session) (lines : List Line) → IsScript lines
+      → HoldsOf (P (world_run halts sessions lines).world.kind) (world_run halts sessions lines).world.volume (world_run halts sessions lines).told
   throughout new sessions lines script =
       (running_through halts Through kept (λ its chunks sectors names format. record {
         holds = new its chunks sectors names format;

@@ -30,6 +30,7 @@ use Rattle.pf_world.specs.pf_hosts.specs.Moments.{Begins, Carries, Ends, Hands, 
 use Rattle.pf_world.specs.pf_hosts.specs.Hosts.{Drove, drove, drove_of, events_of, handed, put_at}
 use Rattle.pf_world.specs.pf_fleet.specs.Volumes.{VolumeRun, asked_group, asks_in, carries, carries_on, moved_from, mover_group, moves_from}
 use Rattle.pf_world.specs.pf_fleet.specs.Volumes as volumes
+use Rattle.pf_world.specs.declared.kind.Kind.{Kind}
 use Rattle.pf_world.specs.pf_threads.specs.Sessions.{Session}
 use Rattle.pf_world.specs.declared.line.Line.{Line}
 use Rattle.pf_world.specs.Reports.{world_run}
@@ -63,10 +64,10 @@ use Rattle.pf_mounted.proofs.Wanted.{AreFree, AreWanted, carries_wanted, free_of
 
 -- A moment that is no mount's tells of no more than there is. (What mounts heard is known with their turns, where the journal does not lie on anchors;
 -- where it does nothing is told of them)
-abbrev IsLow : List ChunkRun → (k : ℕ) → (before : List Moment) → Moment → Type 0
+abbrev pub IsLow : List ChunkRun → (k : ℕ) → (before : List Moment) → Moment → Type 0
 IsLow chunks k before y = IsNoMounts y → reach_at k before y ≤ events_of (slice_get chunks k)
 
-abbrev AreLow : List ChunkRun → List Moment → Type 0
+abbrev pub AreLow : List ChunkRun → List Moment → Type 0
 AreLow chunks told = (k : ℕ) → AreEach (IsLow chunks k) told
 
 said_low : (chunks : List ChunkRun) (k : ℕ) (before : List Moment) (y : Moment) → IsSaid y → IsLow chunks k before y
@@ -125,41 +126,41 @@ module _ (chunks : List ChunkRun) (told : List Moment) (are : AreLow chunks told
 
 -- What is kept
 
-record AreWithin (count : ℕ) (r : RoutesIs) (mover : Option MoverIs) (chunks : List ChunkRun) (told : List Moment) : Type 0 where
-  placed : ArePlaced chunks
-  routed : IsRouted count r mover chunks told
-  wanted : AreWanted r mover chunks
-  low : AreLow chunks told
+pub record AreWithin (count : ℕ) (r : RoutesIs) (mover : Option MoverIs) (chunks : List ChunkRun) (told : List Moment) : Type 0 where
+  pub placed : ArePlaced chunks
+  pub routed : IsRouted count r mover chunks told
+  pub wanted : AreWanted r mover chunks
+  pub low : AreLow chunks told
 
-abbrev Within : Extent → RoutesIs → Option MoverIs → List ChunkRun → List Moment → Type 0
+abbrev pub Within : Extent → RoutesIs → Option MoverIs → List ChunkRun → List Moment → Type 0
 Within e r mover chunks told = AreWithin e.chunks r mover chunks told
 
-within_ports : (count : ℕ) (r : RoutesIs) (mover : Option MoverIs) → IsKeptByPorts (AreWithin count r mover)
-within_ports count r mover = record {
+within_ports : (kind : Option Kind) (count : ℕ) (r : RoutesIs) (mover : Option MoverIs) → IsKeptByPorts kind (AreWithin count r mover)
+within_ports kind count r mover = record {
   telling = λ chunks told y said is. record {
     placed = is.placed;
     routed = still_routed count r mover chunks chunks told (y ∷ []) refl (said_still y said, tt) is.routed;
     wanted = is.wanted;
     low = one_low chunks told y is.low (λ k. said_low chunks k told y said);
   };
-  growing = λ chunks told k c d at ports grows is.
+  growing = λ chunks told k c d at ports grows adds is.
       let n = d.group.number in
       let there : slice_get chunks n ≡ Some c = ap (slice_get chunks) (grows.number ∙ (is.placed k c at).number) ∙ at in record {
-        placed = placed_ports.growing chunks told k c d at ports grows is.placed;
+        placed = (placed_ports kind).growing chunks told k c d at ports grows adds is.placed;
         routed = same_routed count r mover chunks (slice_set chunks n d) told (set_length chunks n d) is.routed;
         wanted = wanted_still r mover chunks (slice_set chunks n d) (same_ports mover_port chunks n c d there (ap (λ ps. slice_get ps mover_port) ports)) is.wanted;
         low = low_grown chunks (slice_set chunks n d) told (grow_set chunks n c d there grows) is.low;
       };
   putting = λ chunks told group m ask small is.
       let new = put_at chunks group m ask in record {
-        placed = placed_ports.putting chunks told group m ask small is.placed;
+        placed = (placed_ports kind).putting chunks told group m ask small is.placed;
         routed = same_routed count r mover chunks new told (put_counts m ask chunks group) is.routed;
         wanted = wanted_still r mover chunks new (put_apart mover_port m ask (λ same. omega (arith, small, same)) chunks group) is.wanted;
         low = low_grown chunks new told (put_grow chunks group m ask) is.low;
       };
   stepping = λ chunks told k c m d small at s is.
       let new = slice_set chunks k d.chunk in record {
-        placed = placed_ports.stepping chunks told k c m d small at s is.placed;
+        placed = (placed_ports kind).stepping chunks told k c m d small at s is.placed;
         routed = still_routed count r mover chunks new told (handed m k d.place) (set_length chunks k d.chunk) (handed_still m k d.place) is.routed;
         wanted = wanted_still r mover chunks new (same_ports mover_port chunks k c d.chunk at (s.others mover_port (λ same. omega (arith, small, same)))) is.wanted;
         low = step_low chunks told is.low m k c d at s;
@@ -263,7 +264,7 @@ module _ (halts : List Halt) where
       (line_low (slice_set chunks k d.chunk) (told ++ handed m k d.place) d.text (step_low chunks told are m k c d there (drives_step c m halts)))
 
   -- the mover's port takes a step
-  drives_within : (v : VolumeRun) (told : List Moment) (k : ℕ) → mover_group v ≡ Some k → HoldsOf Within v told → HoldsOf Within (record v { chunks = (drove halts v.chunks mover_port k).chunks }) (told ++ (drove halts v.chunks mover_port k).told)
+  pub drives_within : (v : VolumeRun) (told : List Moment) (k : ℕ) → mover_group v ≡ Some k → HoldsOf Within v told → HoldsOf Within (record v { chunks = (drove halts v.chunks mover_port k).chunks }) (told ++ (drove halts v.chunks mover_port k).told)
   drives_within v told k group is =
       let d : Drove = drove halts v.chunks mover_port k in
       let drives = drives_at halts v.chunks mover_port k in record {
@@ -274,7 +275,7 @@ module _ (halts : List Halt) where
       }
 
   -- and is answered
-  answers_within : (v : VolumeRun) (told : List Moment) (k : ℕ) (old : MoverIs) (reply : Reply) → mover_group v ≡ Some k → v.mover ≡ Some old → (drove halts v.chunks mover_port k).reply ≡ Some reply → HoldsOf Within v told
+  pub answers_within : (v : VolumeRun) (told : List Moment) (k : ℕ) (old : MoverIs) (reply : Reply) → mover_group v ≡ Some k → v.mover ≡ Some old → (drove halts v.chunks mover_port k).reply ≡ Some reply → HoldsOf Within v told
       → let d : Drove = drove halts v.chunks mover_port k in let t : volumes.Told = carries_on (record v { chunks = d.chunks }) (Some (record { reply = reply; by = events_of (slice_get d.chunks k) })) (step old (Some reply)) in HoldsOf Within t.volume ((told ++ d.told) ++ t.told)
   answers_within v told k old reply group there replied is =
       let d : Drove = drove halts v.chunks mover_port k in
@@ -312,14 +313,15 @@ module _ (halts : List Halt) where
       subst (HoldsOf Within t.volume) (append_assoc told (y ∷ []) t.told)
       (subst (λ (chunks : List ChunkRun). let x : volumes.Told = carries_on (w chunks) None s in HoldsOf Within x.volume ((told ++ y ∷ []) ++ x.told)) (sym (new_is v told is.routed chunk h at new)) done)
 
-  all_within : IsKeptByParts halts Within
+  pub all_within : IsKeptByParts halts (λ kind. Within)
   all_within = record {
-    ports = λ e r mover. within_ports e.chunks r mover;
-    carrying = λ v told is. hauled_so halts (HoldsOf Within) drives_within answers_within v told is;
+    deciding = λ kind e r mover chunks told is. is;
+    ports = λ kind e r mover. within_ports kind e.chunks r mover;
+    carrying = λ kind v told is. hauled_so halts (HoldsOf Within) drives_within answers_within v told is;
     moving = λ v told names format chunk free is. moves_within v told names format chunk (home_of v.routes chunk) (none_moving v.routes.moving free) refl is;
   }
 
-  new_within : (sessions : List Session) (chunks sectors names format : ℕ) → HoldsOf Within (made halts sessions chunks sectors names format).volume []
+  pub new_within : (sessions : List Session) (chunks sectors names format : ℕ) → HoldsOf Within (made halts sessions chunks sectors names format).volume []
   new_within sessions chunks sectors names format = record {
     placed = new_placed halts sessions chunks sectors names format;
     routed = record { routes = new_routes halts sessions chunks sectors names format; pair = tt };
@@ -334,6 +336,6 @@ module _ (halts : List Halt) where
       → reached k (world_run halts sessions lines).told ≤ length c.group.history
   reached_all sessions lines script none k c there =
       let run = world_run halts sessions lines in
-      let is = throughout halts Within all_within new_within sessions lines script in
+      let is = throughout halts (λ kind. Within) all_within new_within sessions lines script in
       subst (λ o. reached k run.told ≤ events_of o) there
       (reached_low k (events_of (slice_get run.world.volume.chunks k)) run.told (λ place y at. is.low k place y at (every_get IsNoMounts run.told place y none at)))

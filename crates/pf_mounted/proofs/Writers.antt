@@ -15,7 +15,7 @@ use Rattle.pf_world.specs.pf_applyrounds.specs.Chunks.{Chunk}
 use Rattle.pf_world.specs.pf_applyrounds.specs.Halts.{Halt}
 use Rattle.pf_world.specs.pf_chunk.specs.Driving.{Driven, asked, asked_at, driven, event_of_ask}
 use Rattle.pf_world.specs.pf_chunk.specs.Runs.{ChunkRun}
-use Rattle.pf_world.specs.pf_hosts.specs.Hosts.{drove_of, handed, run_after, with_run}
+use Rattle.pf_world.specs.pf_hosts.specs.Hosts.{drove_of, handed, put_at, run_after, with_run}
 use Rattle.pf_world.specs.pf_hosts.specs.Moments.{Hands, Moment, Writes}
 use Rattle.pf_mounted.specs.Handing.{AreMountsAlone}
 use Rattle.pf_mounted.proofs.Handovers.{IsHandedIf, driven_hands}
@@ -57,26 +57,28 @@ pub adds_none : (told : List Moment) (k : ℕ) (c d : ChunkRun) → AddsNoWrite 
 adds_none told k c d none place server range sectors answer at = inl (none place server range sectors answer at)
 
 -- a port's step
-module _ (halts : List Halt) (chunks : List ChunkRun) (told : List Moment) (are : AreMountsAlone chunks told) (m k : ℕ) where
-  own_writes : (c : ChunkRun) (d : Driven) (place : Option ℕ) (text : List ℕ) → IsHandedIf m c d place → AddsOwnWrites (told ++ (handed m k place ++ Writes text ∷ [])) k c d.chunk
-  own_writes c d None text hands =
-      adds_none (told ++ (handed m k None ++ Writes text ∷ [])) k c d.chunk (subst (λ (g : Chunk). AddsNoWrite c.group.history g.history) (sym hands) (none_added c.group.history))
-  own_writes c d (Some place) text hands = λ at server range sectors answer write.
+module _ (chunks : List ChunkRun) (told : List Moment) (are : AreMountsAlone chunks told) (m k : ℕ) where
+  own_writes : (c : ChunkRun) (d : Driven) (place : Option ℕ) → IsHandedIf m c d place → AddsOwnWrites (told ++ handed m k place) k c d.chunk
+  own_writes c d None hands = adds_none (told ++ []) k c d.chunk (subst (λ (g : Chunk). AddsNoWrite c.group.history g.history) (sym hands) (none_added c.group.history))
+  own_writes c d (Some place) hands = λ at server range sectors answer write.
       let x : Happening = record { event = event_of_ask hands.ask hands.server; answer = hands.answer } in
       elim (end_cases c.group.history x at (record { event = Submit server (Write range sectors); answer = answer }) (hands.adds at server range sectors answer write)) [
         | inl old ↦ inl old
-        | inr last ↦ inr (told, m, Writes text ∷ [], ap (λ (i : ℕ). told ++ Hands m k i ∷ Writes text ∷ []) (hands.at ∙ sym last.0))
+        | inr last ↦ inr (told, m, [], ap (λ (i : ℕ). told ++ Hands m k i ∷ []) (hands.at ∙ sym last.0))
       ]
 
-  pub drove_alone : (o : Option ChunkRun) → slice_get chunks k ≡ o → AreMountsAlone (drove_of halts chunks m k o).chunks (told ++ (drove_of halts chunks m k o).told)
-  drove_alone None there = alone_told chunks told [] are
-  drove_alone (Some c) there =
+  pub step_alone : (c : ChunkRun) (d : Driven) → slice_get chunks k ≡ Some c → IsHandedIf m c d d.place → AreMountsAlone (slice_set chunks k d.chunk) (told ++ handed m k d.place)
+  step_alone c d there hands = let more = handed m k d.place in alone_set chunks told (told ++ more) (handed_before told more) k c d.chunk there (own_writes c d d.place hands) are
+
+  pub drove_alone : (halts : List Halt) (o : Option ChunkRun) → slice_get chunks k ≡ o → AreMountsAlone (drove_of halts chunks m k o).chunks (told ++ (drove_of halts chunks m k o).told)
+  drove_alone halts None there = alone_told chunks told [] are
+  drove_alone halts (Some c) there =
       let d : Driven = driven halts c m in
-      let more = handed m k d.place ++ Writes d.text ∷ [] in
-      alone_set chunks told (told ++ more) (handed_before told more) k c d.chunk there (own_writes c d d.place d.text (driven_hands halts c m)) are
+      let now = slice_set chunks k d.chunk in
+      subst (AreMountsAlone now) (append_assoc told (handed m k d.place) (Writes d.text ∷ [])) (alone_told now (told ++ handed m k d.place) (Writes d.text ∷ []) (step_alone c d there (driven_hands halts c m)))
 
 -- an ask is put into a port
-pub asked_alone : (chunks : List ChunkRun) (told more : List Moment) (m k : ℕ) (ask : Ask) (o : Option ChunkRun) → slice_get chunks k ≡ o → AreMountsAlone chunks told → AreMountsAlone (with_run chunks k (run_after o (λ c. asked c m ask))) (told ++ more)
+asked_alone : (chunks : List ChunkRun) (told more : List Moment) (m k : ℕ) (ask : Ask) (o : Option ChunkRun) → slice_get chunks k ≡ o → AreMountsAlone chunks told → AreMountsAlone (with_run chunks k (run_after o (λ c. asked c m ask))) (told ++ more)
 asked_alone chunks told more m k ask None there are = alone_told chunks told more are
 asked_alone chunks told more m k ask (Some c) there are =
     alone_set chunks told (told ++ more) (handed_before told more) k c (asked c m ask) there (adds_none (told ++ more) k c (asked c m ask) (subst (λ (g : Chunk). AddsNoWrite c.group.history g.history) (by (slice_get c.ports m)) (none_added c.group.history))) are
@@ -84,3 +86,7 @@ asked_alone chunks told more m k ask (Some c) there are =
     by : (p : Option PortIs) → c.group ≡ (asked_at c m ask p).group
     by None = refl
     by (Some p) = refl
+
+pub put_alone : (chunks : List ChunkRun) (told more : List Moment) (group : Option ℕ) (m : ℕ) (ask : Ask) → AreMountsAlone chunks told → AreMountsAlone (put_at chunks group m ask) (told ++ more)
+put_alone chunks told more None m ask are = alone_told chunks told more are
+put_alone chunks told more (Some k) m ask are = asked_alone chunks told more m k ask (slice_get chunks k) refl are

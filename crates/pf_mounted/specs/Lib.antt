@@ -1,3 +1,4 @@
+pub use Rattle.pf_world
 pub mod Scripts
 pub mod Mounts
 pub mod Epochs

@@ -41,9 +41,9 @@ pub fn ports_of_runs_are_driven()
     ensures there { (halts : List Halt) (sessions : List Session) (lines : List LineIs) → IsPlainRun halts sessions lines → let run = world_run halts sessions lines in let v = run.world.volume in (chunk k m : ℕ) (c : ChunkRun) (port : PortIs) → m < mover_port → home_of v.routes chunk ≡ Some k → slice_get v.chunks k ≡ Some c → slice_get c.ports m ≡ Some port → IsDriven c.group.setup (past_of v.extent.chunks c.group.history m k run.told) port }
 {}
 
-/// So did the mover's ports in such a run, in the move for which a group was made, and in the one away from it.
+/// So did the mover's ports, in the run of every script: in the move for which a group was made, and in the one away from it.
 pub fn movers_of_runs_are_driven()
-    ensures { (halts : List Halt) (sessions : List Session) (lines : List LineIs) → IsPlainRun halts sessions lines → let run = world_run halts sessions lines in (k : ℕ) (role : Asked) (c : ChunkRun) → slice_get run.world.volume.chunks k ≡ Some c → (port : PortIs) × IsDriven c.group.setup (past_in c.group.history (mover_trace c.group.history k role run.world.volume.extent.chunks run.told)) port }
+    ensures { (halts : List Halt) (sessions : List Session) (lines : List LineIs) → IsScript lines → let run = world_run halts sessions lines in (k : ℕ) (role : Asked) (c : ChunkRun) → slice_get run.world.volume.chunks k ≡ Some c → (port : PortIs) × IsDriven c.group.setup (past_in c.group.history (mover_trace c.group.history k role run.world.volume.extent.chunks run.told)) port }
 {}
 
 /// The routes of a run are what it told: each chunk is served by the group of its epoch, and a chunk that is moving has its asks at the next

@@ -9,6 +9,7 @@ ghost use Rattle.pf_mounted.specs.Handing.{reached};
 ghost use Rattle.pf_mounted.specs.Hosted.{AreOfReads};
 ghost use Rattle.pf_mounted.specs.Journals.{AreOfMounts};
 ghost use Rattle.pf_mounted.specs.Mounts.{last_ask};
+ghost use Rattle.pf_mounted.specs.Movers.{AreMoves};
 ghost use Rattle.pf_mounted.specs.Scripts.{IsScript};
 ghost use Rattle.pf_protocol.specs.Groups.{Answered};
 ghost use Rattle.pf_world.specs.pf_applyrounds.specs.Halts.{Halt};
@@ -29,4 +30,10 @@ pub fn turns_come_in_time()
     ensures begins { (halts : List Halt) (sessions : List Session) (lines : List LineIs) → IsScript lines → let run = world_run halts sessions lines in (m : ℕ) (before after : List Moment) (next : Option AskIs) → run.told ≡ before ++ Turns m None next ∷ after → last_ask before m ≡ None }
     ensures since { (halts : List Halt) (sessions : List Session) (lines : List LineIs) → IsScript lines → let run = world_run halts sessions lines in (m : ℕ) (before after : List Moment) (heard : Heard) (next : Option AskIs) (ask : AskIs) → run.told ≡ before ++ Turns m (Some heard) next ∷ after → last_ask before m ≡ Some ask → (k : ℕ) → serving before (chunk_of ask) ≡ Some k → reached k before ≤ heard.by }
     ensures ports { (halts : List Halt) (sessions : List Session) (lines : List LineIs) → IsScript lines → let run = world_run halts sessions lines in (k : ℕ) (c : ChunkRun) → slice_get run.world.volume.chunks k ≡ Some c → length c.ports ≡ most_ports }
+{}
+
+/// In a lawful run, wherever its journal lies, what is told of moves is so: a chunk moves to groups of its own; while it is moving no ask of a
+/// mount is handed on or answered; the mover's calls follow each other, each reply that it hears is its group's, and its ports were driven as was told.
+pub fn moves_are_told()
+    ensures { (halts : List Halt) (sessions : List Session) (lines : List LineIs) → IsScript lines → let run = world_run halts sessions lines in IsLawfulRun run.world → AreMoves run.world.volume.extent run.world.volume.chunks run.told }
 {}

@@ -2,14 +2,19 @@ use Rattle.std.proofs.Common.{[], inl, inr}
 use Rattle.pf_world.specs.pf_hosts.specs.Moments.{Begins, Turns}
 use Rattle.pf_world.specs.Reports.{world_run}
 use Rattle.pf_mounted.proofs.Bare.{plain_or_none, plain_where_told}
-use Rattle.pf_mounted.proofs.Holding.{calls_of_words, handed_on, mounts_alone, none_lives, none_turns, reached_within}
+use Rattle.pf_mounted.proofs.Ferrying.{behind_told}
+use Rattle.pf_mounted.proofs.Holding.{calls_of_words, handed_on, none_lives, none_turns, reached_within}
 use Rattle.pf_mounted.proofs.Lives.{same_life}
+use Rattle.pf_mounted.proofs.OwnWrites.{mounts_alone}
 use Rattle.pf_mounted.proofs.Plain.{no_mounts_quiet}
 use Rattle.pf_mounted.proofs.Within.{reached_all}
 use Rattle.pf_mounted.proofs.handing.what_is_handed_on_is_told.Goals as goal
 
 pub returns-clause-handed : goal.returns-clause-handed
 returns-clause-handed c = handed_on
+
+pub returns-clause-behind : goal.returns-clause-behind
+returns-clause-behind c = behind_told
 
 pub returns-clause-alone : goal.returns-clause-alone
 returns-clause-alone c = mounts_alone

@@ -4,7 +4,8 @@ use Rattle.pf_world.specs.Reports.{world_run}
 use Rattle.pf_mounted.proofs.Bare.{plain_with_hosts}
 use Rattle.pf_mounted.proofs.Counting.{calls_of_lines}
 use Rattle.pf_mounted.proofs.Enduring.{endures}
-use Rattle.pf_mounted.proofs.Holding.{calls_of_words, mounts_alone}
+use Rattle.pf_mounted.proofs.Holding.{calls_of_words}
+use Rattle.pf_mounted.proofs.OwnWrites.{mounts_alone}
 use Rattle.pf_mounted.proofs.Lawful.{answers, asks_told, known}
 use Rattle.pf_mounted.proofs.Numbering.{run_few}
 use Rattle.pf_mounted.proofs.Sizing.{has_room}
@@ -18,7 +19,7 @@ returns c = λ halts sessions lines script lawful volume few some.
     let plain = plain_with_hosts halts sessions lines script some in
     let room = has_room halts sessions lines plain in
     one_list run.world.volume.extent run.world.volume.chunks (answers halts sessions lines plain lawful) run.told (known halts sessions lines plain lawful) volume (room.room some) room.chunks
-    (mounts_alone halts sessions lines plain (room.mounted some)) (calls_of_words halts sessions lines plain) (asks_told halts sessions lines plain lawful)
+    (mounts_alone halts sessions lines plain.script (room.mounted some)) (calls_of_words halts sessions lines plain) (asks_told halts sessions lines plain lawful)
     (record {
       words = calls_of_words halts sessions lines plain;
       rest = λ m before after call same. each_done run.world.volume run.told (hosts_are_told halts sessions lines plain) m before (Begins m call) after same refl;

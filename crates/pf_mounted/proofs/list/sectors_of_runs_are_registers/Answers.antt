@@ -1,6 +1,6 @@
 use Rattle.pf_world.specs.Reports.{world_run}
 use Rattle.pf_mounted.proofs.Bare.{plain_with_hosts}
-use Rattle.pf_mounted.proofs.Holding.{mounts_alone}
+use Rattle.pf_mounted.proofs.OwnWrites.{mounts_alone}
 use Rattle.pf_mounted.proofs.Lawful.{answers, known}
 use Rattle.pf_mounted.proofs.Moved.{are_routed}
 use Rattle.pf_mounted.proofs.Sizing.{has_room}
@@ -12,4 +12,4 @@ returns c = λ halts sessions lines script lawful volume some.
     let plain = plain_with_hosts halts sessions lines script some in
     let room = has_room halts sessions lines plain in
     are_routed run.world.volume.extent run.world.volume.chunks (answers halts sessions lines plain lawful) run.told (known halts sessions lines plain lawful) volume room.chunks
-    (mounts_alone halts sessions lines plain (room.mounted some))
+    (mounts_alone halts sessions lines plain.script (room.mounted some))

@@ -1,0 +1,11 @@
+pub mod Lists
+pub mod Planning
+pub mod Naming
+pub mod Parts
+pub mod Putting
+pub mod Spelling
+pub mod Words
+pub mod Typing
+pub mod Succeeding
+pub mod Ending
+pub mod Repeating

@@ -1,0 +1,11 @@
+pub mod Places
+pub mod Going
+pub mod Telling
+pub mod Working
+pub mod Owing
+pub mod Driving
+pub mod Handing
+pub mod Counting
+pub mod Answering
+pub mod Settling
+pub mod Fitting
