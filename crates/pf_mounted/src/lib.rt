@@ -31,6 +31,6 @@ pub use laws::{
 pub use list::{runs_have_one_list, sectors_of_runs_are_registers, superblocks_are_the_volumes};
 pub use moments::{moments_are_of_mounts, moves_are_told, turns_come_in_time};
 pub use once::{calls_are_of_lines, calls_have_one_transaction};
+pub use pf_world;
 pub use sound::{calls_of_words_are_short, mounts_stay_sound};
 pub use trees::{calls_of_runs_are_few, tables_stand_for_trees};
-pub use pf_world;
