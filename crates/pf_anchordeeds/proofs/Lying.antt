@@ -24,7 +24,8 @@ use Rattle.pf_journal.specs.Sectors.{HasSpelling, block_bytes, block_in}
 use Rattle.pf_journal.proofs.Spelled.{back}
 use Rattle.pf_anchorage.specs.Places.{reads_first, reads_half, writes_own}
 use Rattle.pf_anchorlives.specs.Doings.{reply_of}
-use Rattle.pf_anchordeeds.specs.Deeds.{IsAnswerOf, port_ask, port_reply}
+use Rattle.pf_service.specs.Services.{port_ask, port_reply}
+use Rattle.pf_anchordeeds.specs.Deeds.{IsAnswerOf}
 use Rattle.pf_anchordeeds.specs.Homes.{home_on}
 
 not_true : (b : Bool) → (b ≡ true → ⊥) → b ≡ false

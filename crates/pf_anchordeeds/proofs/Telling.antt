@@ -18,7 +18,8 @@ use Rattle.pf_anchormount.specs.Standing.{Answers}
 use Rattle.pf_anchormount.specs.Anchored.{AnchoredIs}
 use Rattle.pf_anchorlives.specs.Doings.{act_of, asks_now, at_anchor, began, hears_for, nothing, reply_of}
 use Rattle.pf_anchorlives.specs.Lives.{Asks, Begins, CanComeFrom, CanTake, Hears, Input, Life, OfBallot, Told, all_opened, lived, lives_on, mount_after, waits_after, work_waits}
-use Rattle.pf_anchordeeds.specs.Deeds.{AreAnswered, AreAnsweredFrom, Comes, Hands, Happening, IsAnswered, Owed, asks_deed, deed_of, deeds_on, deeds_with, doings_of, doings_with, hands_deed, hears_deed, no_deed, nothing_owed, owed_after, owed_now, owed_on, told_of}
+use Rattle.pf_service.specs.Services.{no_deed}
+use Rattle.pf_anchordeeds.specs.Deeds.{AreAnswered, AreAnsweredFrom, Comes, Hands, Happening, IsAnswered, Owed, asks_deed, deed_of, deeds_on, deeds_with, doings_of, doings_with, hands_deed, hears_deed, nothing_owed, owed_after, owed_now, owed_on, told_of}
 use Rattle.pf_anchordeeds.specs.Homes.{home_on}
 use Rattle.pf_anchordeeds.proofs.Asking.{asks_same}
 use Rattle.pf_anchordeeds.proofs.Hearing.{hears_same}

@@ -2,14 +2,14 @@
 use Rattle.std.specs.Prelude.{◌≡◌, ℕ, ◌<◌, ◌==◌, if◌then◌else◌, List, [], ◌∷◌, Option, Some, None}
 use Rattle.pf_base.specs.Asks.{Answers}
 use Rattle.pf_base.specs.declared.asks.Ask.{Ask}
-use Rattle.pf_base.specs.declared.asks.Ask.TheVariants.{Write, Read}
+use Rattle.pf_base.specs.declared.asks.Ask.TheVariants.{Read}
 use Rattle.pf_base.specs.declared.asks.Reply.{Reply}
-use Rattle.pf_base.specs.declared.asks.Reply.TheVariants.{Written, Bytes}
-use Rattle.pf_entry.specs.declared.ops.Op.TheVariants as ops
+use Rattle.pf_base.specs.declared.asks.Reply.TheVariants.{Bytes}
 use Rattle.pf_protocol.specs.Groups.{Answered}
 use Rattle.pf_volume.specs.Volumes.{Extent}
 use Rattle.pf_paxos.specs.declared.block.Block.{Block}
-use Rattle.pf_positions.specs.Deeds.{Deed, Takes, Submits, PortAsk, Puts, Gets, PortReply, Put, Got}
+use Rattle.pf_positions.specs.Deeds.{Deed, Takes, Submits}
+use Rattle.pf_service.specs.Services.{no_deed, port_ask, port_reply}
 use Rattle.pf_journal.specs.Sectors.{HasSpelling}
 use Rattle.pf_anchorlist.specs.Journals.{Doing}
 use Rattle.pf_anchorage.specs.Places.{HasAnchors}
@@ -80,20 +80,6 @@ owed_on lives owed told mount port =
     if mount == told.mount then owed_after (lives mount).mount (owed mount) told.input port else owed mount port
 
 -- Deeds
-
--- nobody is answered or asks
-abbrev pub no_deed : Deed
-no_deed = Takes 33 None None
-
-abbrev pub port_ask : Ask → PortAsk
-port_ask (Write chunk span sectors) = Puts chunk (ops.Write span sectors)
-port_ask (Read chunk span) = Gets chunk span
-
--- the reply to an ask, from the group of an epoch of its chunk after so many events. (Bytes are those of an answer of the group)
-abbrev pub port_reply : Ask → (epoch by : ℕ) → Answered → Reply → Option PortReply
-port_reply (Write chunk span sectors) epoch by answer Written = Some (Put chunk epoch by (ops.Write span sectors))
-port_reply (Read chunk span) epoch by answer (Bytes sectors) = Some (Got chunk epoch by answer)
-port_reply ask epoch by answer reply = None
 
 abbrev pub asks_deed : Option Owed → Deed
 asks_deed None = no_deed

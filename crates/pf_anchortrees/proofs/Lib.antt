@@ -4,8 +4,6 @@ pub mod Naming
 pub mod Parts
 pub mod Putting
 pub mod Spelling
-pub mod Words
-pub mod Typing
 pub mod Succeeding
 pub mod Ending
 pub mod Repeating

@@ -1,12 +1,5 @@
 -- Places of lists.
-use Rattle.std.proofs.Common.{◌≡◌, ◌⊎◌, inl, inr, ℕ, zero, suc, ◌<◌, List, [], ◌∷◌, ◌++◌, length, take, drop, Some, slice_get, arith, refl, sym, ap, ◌∙◌}
-use Rattle.std.proofs.lemmas.Option.{none-some}
-use Rattle.pf_entry.specs.Lists.{Every}
-
-pub at_front : {X : Type 0} → (xs ys : List X) (k : ℕ) (x : X) → slice_get xs k ≡ Some x → slice_get (xs ++ ys) k ≡ Some x
-at_front [] ys k x is = absurd (none-some x is)
-at_front (z ∷ zs) ys zero x is = is
-at_front (z ∷ zs) ys (suc k) x is = at_front zs ys k x is
+use Rattle.std.proofs.Common.{◌≡◌, ◌⊎◌, inl, inr, ℕ, zero, suc, ◌<◌, List, [], ◌∷◌, ◌++◌, length, Some, slice_get, arith, refl, sym, ap, ◌∙◌}
 
 pub at_end : {X : Type 0} → (xs : List X) (x : X) → slice_get (xs ++ x ∷ []) (length xs) ≡ Some x
 at_end [] x = refl
@@ -17,16 +10,6 @@ pub something_there : {X : Type 0} → (xs : List X) (i : ℕ) → i < length xs
 something_there [] i lt = absurd (omega arith)
 something_there (x ∷ xs) zero lt = (x, refl)
 something_there (x ∷ xs) (suc i) lt = something_there xs i (omega arith)
-
-pub every_take : {X : Type 0} → (P : X → Type 0) (n : ℕ) (xs : List X) → Every P xs → Every P (take n xs)
-every_take P zero xs each = tt
-every_take P (suc n) [] each = tt
-every_take P (suc n) (x ∷ xs) each = (each.0, every_take P n xs each.1)
-
-pub every_drop : {X : Type 0} → (P : X → Type 0) (n : ℕ) (xs : List X) → Every P xs → Every P (drop n xs)
-every_drop P zero xs each = each
-every_drop P (suc n) [] each = tt
-every_drop P (suc n) (x ∷ xs) each = every_drop P n xs each.1
 
 -- of two beginnings of one list the one begins the other
 pub split : {X : Type 0} → (xs ys more rest : List X) → xs ++ more ≡ ys ++ rest → ((zs : List X) × (ys ≡ xs ++ zs)) ⊎ ((zs : List X) × (xs ≡ ys ++ zs))

@@ -1,21 +1,22 @@
 -- The pending call of a mount is its last one, which its number names, whatever is told later.
-use Rattle.std.proofs.Common.{◌≡◌, ℕ, zero, suc, ◌≤◌, ◌==◌, Bool, true, false, if◌then◌else◌, List, [], ◌∷◌, ◌++◌, length, Option, Some, None, slice_get, arith, refl, sym, ap, subst, ◌∙◌, append-nil, length-append}
+use Rattle.std.proofs.Common.{◌≡◌, ℕ, suc, ◌==◌, Bool, true, false, if◌then◌else◌, List, [], ◌∷◌, ◌++◌, length, Option, Some, None, slice_get, arith, refl, sym, ap, subst, ◌∙◌, append-nil, length-append}
 use Rattle.std.specs.List.{cons_option}
 use Rattle.std.proofs.lemmas.List.{append_assoc}
 use Rattle.std.proofs.lemmas.List.Elements.{filter_map-append}
-use Rattle.std.proofs.lemmas.Option.{none-some, slice_get_within}
 use Rattle.pf_entry.proofs.Cases.{by_test}
 use Rattle.pf_volume.specs.Volumes.{Extent}
 use Rattle.pf_tree.specs.declared.calls.FileCall.{FileCall}
 use Rattle.pf_tree.specs.Held.{data_of}
 use Rattle.pf_files.specs.Calls.{planned}
 use Rattle.pf_files.specs.declared.calls.Pending.{Pending}
+use Rattle.pf_plans.specs.Numbered.{numbered}
+use Rattle.pf_plans.proofs.Numbers.{numbered_on}
 use Rattle.pf_anchormount.specs.Anchored.{AnchoredIs, answered, asked, asked_anchor, asked_data, held_in}
 use Rattle.pf_anchormount.specs.declared.work.Work.{Work}
 use Rattle.pf_anchorlives.specs.Lives.{Asks, Begins, Hears, Input, Life, Told, all_opened, lived, lives, lives_from, lives_on, mount_after}
 use Rattle.pf_anchortrees.specs.Lists.{IsPlanned}
-use Rattle.pf_anchortrees.specs.Trees.{call_begun, call_in_input, call_named, calls_of, numbered}
-use Rattle.pf_anchortrees.proofs.Lists.{at_end, at_front}
+use Rattle.pf_anchortrees.specs.Trees.{call_begun, call_in_input, call_named, calls_of}
+use Rattle.pf_anchortrees.proofs.Lists.{at_end}
 use Rattle.pf_anchortrees.proofs.Planning.{GoesOn, IsOfPlan, PlansIn, PutsInPlan, answered_on, asked_on, starting_on}
 
 -- Numbers
@@ -23,18 +24,9 @@ use Rattle.pf_anchortrees.proofs.Planning.{GoesOn, IsOfPlan, PlansIn, PutsInPlan
 pub calls_on : (told more : List Told) (m : ℕ) → calls_of (told ++ more) m ≡ calls_of told m ++ calls_of more m
 calls_on told more m = filter_map-append (call_begun m) told more
 
-numbered_on : (calls more : List FileCall) (number : ℕ) (call : FileCall) → numbered calls number ≡ Some call → numbered (calls ++ more) number ≡ Some call
-numbered_on calls more zero call is = absurd (none-some call is)
-numbered_on calls more (suc before) call is = at_front calls more before call is
-
 -- a call has its number for good
 pub named_on : (told more : List Told) (m number : ℕ) (call : FileCall) → call_named told m number ≡ Some call → call_named (told ++ more) m number ≡ Some call
 named_on told more m number call is = subst (λ calls. numbered calls number ≡ Some call) (sym (calls_on told more m)) (numbered_on (calls_of told m) (calls_of more m) number call is)
-
--- numbers are no greater than the count of the calls
-pub numbered_most : (calls : List FileCall) (number : ℕ) (call : FileCall) → numbered calls number ≡ Some call → number ≤ length calls
-numbered_most calls zero call is = absurd (none-some call is)
-numbered_most calls (suc before) call is = let low = slice_get_within calls before call is in omega (arith, low)
 
 -- Mounts
 

@@ -1,8 +1,6 @@
 -- No call has two transactions in the list: what a mount put in for its call at a later position, it put in when its call had none yet.
-use Rattle.std.proofs.Common.{◌≡◌, ◌≢◌, ℕ, ◌+◌, ◌*◌, ◌<◌, ◌≤◌, ◌^◌, ◌==◌, ◌&&◌, true, if◌then◌else◌, List, [], ◌∷◌, ◌++◌, length, take, drop, get_or, Option, Some, None, slice_get, inl, inr, arith, refl, sym, ap, subst, ◌∙◌, length-append}
-use Rattle.std.specs.Int.{w32, from_be_bytes}
-use Rattle.std.proofs.lemmas.Bool.{cases_order, eq-eqb}
-use Rattle.std.proofs.lemmas.Nat.{from_be_bytes-to_be_bytes_4}
+use Rattle.std.proofs.Common.{◌≡◌, ℕ, ◌+◌, ◌*◌, ◌<◌, ◌≤◌, ◌^◌, ◌==◌, true, if◌then◌else◌, List, [], ◌∷◌, ◌++◌, length, Option, Some, None, slice_get, inl, inr, arith, refl, sym, ap, subst, ◌∙◌, length-append}
+use Rattle.std.proofs.lemmas.Bool.{cases_order}
 use Rattle.std.proofs.lemmas.Option.{same_Some, slice_get_within}
 use Rattle.pf_entry.proofs.Cases.{by_test}
 use Rattle.pf_volume.specs.Volumes.{Extent}
@@ -10,10 +8,11 @@ use Rattle.pf_inodes.specs.declared.changes.Txn.{Txn}
 use Rattle.pf_tree.specs.declared.calls.FileCall.{FileCall}
 use Rattle.pf_tree.specs.Held.{data_of}
 use Rattle.pf_txn.specs.Reading.{txn_in}
-use Rattle.pf_txn.specs.Spelling.{spell_txn}
-use Rattle.pf_txn.proofs.TxnLaws.{txn_found}
 use Rattle.pf_files.specs.Calls.{is_of}
 use Rattle.pf_files.specs.declared.calls.Pending.{Pending}
+use Rattle.pf_plans.proofs.Lists.{at_front}
+use Rattle.pf_plans.proofs.Numbers.{named, numbered_most, read_names}
+use Rattle.pf_plans.proofs.Planned.{planned_names, some_value}
 use Rattle.pf_anchorlist.specs.Journals.{AreAllRegistersAt, IsTransactionList}
 use Rattle.pf_anchormount.specs.Anchored.{AnchoredIs, held_in}
 use Rattle.pf_anchormount.specs.declared.work.Work.{Work}
@@ -23,29 +22,12 @@ use Rattle.pf_anchorlives.specs.Lives.{CanBe, Input, Life, Told, all_opened, dec
 use Rattle.pf_anchortrees.specs.Lists.{HasPutIn, IsPlanned, NamesEachOnce}
 use Rattle.pf_anchortrees.specs.Trees.{AreFewCalls, call_named, calls_of}
 use Rattle.pf_anchortrees.proofs.Ending.{own_ends}
-use Rattle.pf_anchortrees.proofs.Lists.{at_end, at_front, something_there, split}
-use Rattle.pf_anchortrees.proofs.Naming.{IsLastOf, IsNamed, OfPending, input_on, its_calls, its_planned, named_on, numbered_most, told_named}
+use Rattle.pf_anchortrees.proofs.Lists.{at_end, something_there, split}
+use Rattle.pf_anchortrees.proofs.Naming.{IsLastOf, IsNamed, OfPending, input_on, its_calls, its_planned, named_on, told_named}
 use Rattle.pf_anchortrees.proofs.Parts.{lives_on}
 use Rattle.pf_anchortrees.proofs.Planning.{PlansIn, PutsInPlan, progress, stage, stage_most}
 use Rattle.pf_anchortrees.proofs.Putting.{put_in}
-use Rattle.pf_anchortrees.proofs.Succeeding.{begins, planned_names, stands_behind}
-
--- Names of calls
-
--- the transaction that is read of the spelling of one names its call
-read_names : (value : List ℕ) (txn its : Txn) → value ≡ spell_txn its → its.number < 2 ^ 32 → txn_in value ≡ Some txn → (txn.mount ≡ its.mount) × (txn.number ≡ its.number)
-read_names value txn its spells few read =
-    let found = txn_found value txn read in
-    let same : spell_txn txn ≡ spell_txn its = found.spelled ∙ spells in (
-      ap (λ bytes. get_or bytes 0 0) same,
-      sym (from_be_bytes-to_be_bytes_4 txn.number found.typed.number) ∙ ap (λ bytes. from_be_bytes w32 (take 4 (drop 1 bytes))) same ∙ from_be_bytes-to_be_bytes_4 its.number few,
-    )
-
-some_value : (value : List ℕ) (txn : Txn) → txn_in value ≡ Some txn → value ≢ []
-some_value value txn read none = let found = txn_found value txn read in let e = ap length (found.spelled ∙ none) in omega (arith, e)
-
-named : (m n : ℕ) (txn : Txn) → txn.mount ≡ m → txn.number ≡ n → is_of m n (Some txn) ≡ true
-named m n txn mount number = ap (λ b. b && (txn.number == n)) (eq-eqb txn.mount m mount) ∙ eq-eqb txn.number n number
+use Rattle.pf_anchortrees.proofs.Succeeding.{begins, stands_behind}
 
 -- Lives grow
 

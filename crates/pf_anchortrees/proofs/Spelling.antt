@@ -4,7 +4,8 @@ use Rattle.std.specs.List.{cons_option}
 use Rattle.std.proofs.lemmas.Option.{none-some, same_Some}
 use Rattle.pf_tree.specs.declared.calls.FileCall.{FileCall}
 use Rattle.pf_anchorlives.specs.Lives.{AreShort, Asks, Begins, Hears, Input, IsShortInput, Told}
-use Rattle.pf_anchortrees.specs.Spelled.{CanAllBeSpelled, CanBeSpelled, CanInputBeSpelled}
+use Rattle.pf_plans.specs.Spelled.{CanBeSpelled}
+use Rattle.pf_anchortrees.specs.Spelled.{CanAllBeSpelled, CanInputBeSpelled}
 use Rattle.pf_anchortrees.specs.Trees.{call_begun, call_in_input, call_named, calls_of}
 
 input_spelled : (input : Input) (call : FileCall) → CanInputBeSpelled input → call_in_input input ≡ Some call → CanBeSpelled call

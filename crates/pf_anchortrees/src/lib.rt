@@ -5,6 +5,4 @@ mod laws;
 mod trees;
 
 pub use laws::{inputs_are_planned, lists_were_put_in};
-pub use trees::{
-    calls_have_one_transaction, calls_of_words_can_be_spelled, tables_stand_for_trees,
-};
+pub use trees::{calls_have_one_transaction, tables_stand_for_trees};

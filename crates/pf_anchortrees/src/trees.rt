@@ -1,21 +1,13 @@
 //! Laws of the user's tree over anchors.
 ghost use Rattle.std.specs.Prelude.{◌≡◌, ℕ, ◌<◌, ◌≤◌, ◌++◌, List, length, take};
-ghost use Rattle.pf_base.specs.declared.calls.Call.{Call as CallIs};
 ghost use Rattle.pf_volume.specs.Volumes.{Extent, IsVolume};
-ghost use Rattle.pf_layout.specs.Calls.{IsReadAs};
-ghost use Rattle.pf_tree.specs.declared.calls.FileCall.{FileCall as FileCallIs};
 ghost use Rattle.pf_tree.specs.Standing.{StandsFor};
 ghost use Rattle.pf_anchorlist.specs.Journals.{AreAllRegistersAt, IsTransactionList};
 ghost use Rattle.pf_anchorlives.specs.Doings.{doings};
 ghost use Rattle.pf_anchorlives.specs.Lives.{CanBe, Told, lives, tables_from};
 ghost use Rattle.pf_anchortrees.specs.Lists.{NamesEachOnce, StandsInList};
-ghost use Rattle.pf_anchortrees.specs.Spelled.{CanAllBeSpelled, CanBeSpelled};
+ghost use Rattle.pf_anchortrees.specs.Spelled.{CanAllBeSpelled};
 ghost use Rattle.pf_anchortrees.specs.Trees.{AreFewCalls, data_blocks, tree_after};
-
-/// A call that is read of words can be spelled.
-pub fn calls_of_words_can_be_spelled()
-    ensures { (words : CallIs) (call : FileCallIs) → IsReadAs words call → CanBeSpelled call }
-{}
 
 /// After the first transactions of the list, however many, the tables stand for the user's tree after the calls that these name. So after any
 /// part of what was told the tables of each mount stand for the tree after the transactions below its position.

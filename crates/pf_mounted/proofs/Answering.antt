@@ -19,22 +19,26 @@ use Rattle.pf_protocol.specs.Servers.{Setup}
 use Rattle.pf_protocol.specs.Groups.{Answered}
 use Rattle.pf_protocol.specs.Histories.{History, replay}
 use Rattle.pf_protocol.specs.Ports.{IsTarget, Submission}
+use Rattle.pf_registers.proofs.Lists.{got_mapped}
 use Rattle.pf_ports.specs.Replies.{IsReplied, WasRead, WasWritten}
+use Rattle.pf_service.specs.Services.{port_ask, port_reply}
+use Rattle.pf_service.proofs.Answering.{given_is, write_reply, written_is}
+use Rattle.pf_service.proofs.Places.{map_get}
 use Rattle.pf_positions.specs.Deeds.{Deed, IsPending, PortAsk, PortReply, Put, Got, Puts, Submits, Takes, WasGot, WasPut}
 use Rattle.pf_world.specs.pf_chunk.specs.Runs.{ChunkRun}
 use Rattle.pf_volume.specs.Volumes.{Extent}
 use Rattle.pf_world.specs.pf_hosts.specs.Moments.{Heard, Moment, Hands, Turns}
 use Rattle.pf_mounted.specs.Handing.{reached}
-use Rattle.pf_mounted.specs.Journals.{IsTurn, client_of, deeds, port_ask, port_reply, turn_steps}
+use Rattle.pf_mounted.specs.Journals.{IsTurn, client_of, deeds, turn_steps}
 use Rattle.pf_mounted.specs.Mounts.{Life, last_ask, life_of, mount_in}
 use Rattle.pf_mounted.specs.Pasts.{Trace, past_of, trace_of}
-use Rattle.pf_mounted.proofs.Bringing.{got_is, put_is, replied_at, turn_at, write_reply, begun_by, serving_then}
+use Rattle.pf_mounted.proofs.Bringing.{replied_at, turn_at, begun_by, serving_then}
 use Rattle.pf_mounted.proofs.Dealing.{deeds_in, hand_deed, reply_taken}
 use Rattle.pf_mounted.proofs.Following.{first_turn, is_pending, one_asking, one_turn, pending_at, same_client}
 use Rattle.pf_mounted.proofs.Known.{IsKnown}
 use Rattle.pf_mounted.proofs.Listing.{count, count_rises, deed_there}
 use Rattle.pf_mounted.proofs.Pending.{IsNoWrite}
-use Rattle.pf_mounted.proofs.Placing.{get_mapped, get_take, map_get, some_within, take_fewer, take_goes_on, take_one_more}
+use Rattle.pf_mounted.proofs.Placing.{get_take, some_within, take_fewer, take_goes_on, take_one_more}
 use Rattle.pf_mounted.proofs.Porting.{Asked, groups, hand_of, mounts_writes, numbered, numbered_by, own_client, place_reached, same_history, same_setup, written_at}
 use Rattle.pf_mounted.proofs.Reached.{all_within, heard_reaches, reaches}
 use Rattle.pf_mounted.proofs.Tracing.{trace_longer, is_trace}
@@ -200,7 +204,7 @@ module _ (v : Extent) (chunks : List ChunkRun) (answer_at : ℕ → Answered) (t
                 ∙ map_get (numbered v chunks answer_at told chunk epoch k c known) (trace_of past m k v.chunks told).writes w.ended.m w.ended.final final_there;
             is_it = final_number;
             is_last = λ j s there same.
-                let x = get_mapped (numbered v chunks answer_at told chunk epoch k c known) (trace_of past m k v.chunks told).writes j s (ap (λ (l : List Submission). slice_get l j) (sym list) ∙ there) in
+                let x = got_mapped (numbered v chunks answer_at told chunk epoch k c known) (trace_of past m k v.chunks told).writes j s (ap (λ (l : List Submission). slice_get l j) (sym list) ∙ there) in
                 no_later j x.0 x.1 (ap (λ (y : Submission). y.write) x.2 ∙ same);
             slot = w.slot;
             took_slot = w.took_slot;
@@ -306,7 +310,7 @@ module _ (v : Extent) (chunks : List ChunkRun) (answer_at : ℕ → Answered) (t
   put_at client moment by op ask at =
       let x = replied_at v chunks answer_at told chunk epoch k c known moment client (Put chunk epoch by op) ask at in
       let before = take x.moment told in
-      let p = put_is x.ask (epoch_of before (chunk_of x.ask)) x.its.by (answer_at (length before)) x.its.reply chunk epoch by op x.is in
+      let p = written_is x.ask (epoch_of before (chunk_of x.ask)) x.its.by (answer_at (length before)) x.its.reply chunk epoch by op x.is in
       let of = ap chunk_of p.asked in
       let now_in : epoch ≡ epoch_of before chunk = p.first ∙ ap (epoch_of before) of in
       let w = now x.moment x.m x.its x.next x.at x.ask x.pending of now_in in
@@ -322,7 +326,7 @@ module _ (v : Extent) (chunks : List ChunkRun) (answer_at : ℕ → Answered) (t
   got_at client moment by read ask at =
       let x = replied_at v chunks answer_at told chunk epoch k c known moment client (Got chunk epoch by read) ask at in
       let before = take x.moment told in
-      let p = got_is x.ask (epoch_of before (chunk_of x.ask)) x.its.by (answer_at (length before)) x.its.reply chunk epoch by read x.is in
+      let p = given_is x.ask (epoch_of before (chunk_of x.ask)) x.its.by (answer_at (length before)) x.its.reply chunk epoch by read x.is in
       let of = ap chunk_of p.asked in
       let now_in : epoch ≡ epoch_of before chunk = p.first ∙ ap (epoch_of before) of in
       let w = now x.moment x.m x.its x.next x.at x.ask x.pending of now_in in

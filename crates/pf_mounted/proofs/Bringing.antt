@@ -1,23 +1,18 @@
 -- The deeds of a part of a run: what they bring of a chunk, and the places that they hand on.
 use Rattle.std.proofs.Common.{◌≡◌, ℕ, suc, ◌+◌, ◌<◌, ◌≤◌, inl, inr, List, length, take, Option, Some, slice_get, arith, refl, ap, ◌∙◌, drop, sym, subst, take-append-drop}
 use Rattle.std.proofs.lemmas.Bool.{cases_lt}
-use Rattle.std.proofs.lemmas.Option.{none-some, same_Some}
-use Rattle.pf_base.specs.Asks.{Answers, chunk_of}
-use Rattle.pf_base.specs.Span.{Span}
+use Rattle.std.proofs.lemmas.Option.{same_Some}
+use Rattle.pf_base.specs.Asks.{chunk_of}
 use Rattle.pf_base.specs.declared.asks.Ask.{Ask}
-use Rattle.pf_base.specs.declared.asks.Ask.TheVariants.{Write, Read}
-use Rattle.pf_base.specs.declared.asks.Reply.{Reply}
-use Rattle.pf_base.specs.declared.asks.Reply.TheVariants.{Written, Bytes}
-use Rattle.pf_entry.specs.Ops.{Sector}
-use Rattle.pf_entry.specs.declared.ops.Op.{Op}
-use Rattle.pf_entry.specs.declared.ops.Op.TheVariants as ops
 use Rattle.pf_protocol.specs.Groups.{Answered}
-use Rattle.pf_positions.specs.Deeds.{Acks, Brings, BringsBy, Deed, Got, Hands as HandsOn, IsOfEpoch, PortAsk, PortReply, Put, Puts, Reads, Submits, Takes}
+use Rattle.pf_positions.specs.Deeds.{Acks, Brings, BringsBy, Deed, Got, Hands as HandsOn, IsOfEpoch, PortAsk, PortReply, Put, Reads, Submits, Takes}
 use Rattle.pf_world.specs.pf_chunk.specs.Runs.{ChunkRun}
 use Rattle.pf_volume.specs.Volumes.{Extent}
 use Rattle.pf_world.specs.pf_hosts.specs.Moments.{Heard, Moment, Hands, Turns}
+use Rattle.pf_service.specs.Services.{port_reply}
+use Rattle.pf_service.proofs.Answering.{given_is, written_is}
 use Rattle.pf_mounted.specs.Handing.{reach_at, reached}
-use Rattle.pf_mounted.specs.Journals.{client_of, deeds, port_ask, port_reply}
+use Rattle.pf_mounted.specs.Journals.{client_of, deeds}
 use Rattle.pf_mounted.specs.Epochs.{epoch_of, group_at, serving}
 use Rattle.pf_mounted.specs.Movers.{IsAtRest}
 use Rattle.pf_mounted.specs.Mounts.{Life, last_ask, life_of}
@@ -28,47 +23,6 @@ use Rattle.pf_mounted.proofs.Known.{IsKnown}
 use Rattle.pf_mounted.proofs.Listing.{before_end, count, count_next, count_rises, deed_of, deeds_at}
 use Rattle.pf_mounted.proofs.Placing.{get_take, take_fewer, some_within, take_goes_on}
 use Rattle.pf_mounted.proofs.Reached.{hands_reach, heard_reaches, reaches}
-
--- Replies
-
--- a write that was acknowledged
-pub record IsPut (ask : Ask) (now by : ℕ) (reply : Reply) (chunk epoch its : ℕ) (op : Op) : Type 0 where
-  pub span : Span
-  pub sectors : List Sector
-  pub asked : ask ≡ Write chunk span sectors
-  pub replied : reply ≡ Written
-  pub first : epoch ≡ now
-  pub since : by ≡ its
-  pub same : op ≡ ops.Write span sectors
-
-pub put_is : (ask : Ask) (now by : ℕ) (answer : Answered) (reply : Reply) (chunk epoch its : ℕ) (op : Op) → port_reply ask now by answer reply ≡ Some (Put chunk epoch its op) → IsPut ask now by reply chunk epoch its op
-put_is (Write k span sectors) now by answer Written chunk epoch its op is = record { span = span; sectors = sectors; asked = ap (λ i. Write i span sectors) (cc); replied = refl; first = cc; since = cc; same = cc }
-put_is (Write k span sectors) now by answer (Bytes read) chunk epoch its op is = absurd (none-some (Put chunk epoch its op) is)
-put_is (Read k span) now by answer Written chunk epoch its op is = absurd (none-some (Put chunk epoch its op) is)
-put_is (Read k span) now by answer (Bytes read) chunk epoch its op is = absurd (cc)
-
--- a read that was answered
-pub record IsGot (ask : Ask) (now by : ℕ) (answer : Answered) (reply : Reply) (chunk epoch its : ℕ) (read : Answered) : Type 0 where
-  pub span : Span
-  pub sectors : List Sector
-  pub asked : ask ≡ Read chunk span
-  pub replied : reply ≡ Bytes sectors
-  pub first : epoch ≡ now
-  pub since : by ≡ its
-  pub same : answer ≡ read
-
-pub got_is : (ask : Ask) (now by : ℕ) (answer : Answered) (reply : Reply) (chunk epoch its : ℕ) (read : Answered) → port_reply ask now by answer reply ≡ Some (Got chunk epoch its read) → IsGot ask now by answer reply chunk epoch its read
-got_is (Read k span) now by answer (Bytes sectors) chunk epoch its read is = record { span = span; sectors = sectors; asked = ap (λ i. Read i span) (cc); replied = refl; first = cc; since = cc; same = cc }
-got_is (Read k span) now by answer Written chunk epoch its read is = absurd (none-some (Got chunk epoch its read) is)
-got_is (Write k span sectors) now by answer (Bytes bytes) chunk epoch its read is = absurd (none-some (Got chunk epoch its read) is)
-got_is (Write k span sectors) now by answer Written chunk epoch its read is = absurd (cc)
-
--- a write is answered as one
-pub write_reply : (ask : Ask) (now by : ℕ) (answer : Answered) (reply : Reply) (k : ℕ) (op : Op) → port_ask ask ≡ Puts k op → Answers ask reply → port_reply ask now by answer reply ≡ Some (Put k now by op)
-write_reply (Write chunk span sectors) now by answer Written k op is kind =
-    ap (λ i. Some (Put i now by (ops.Write span sectors))) (let same : chunk ≡ k = cc in same) ∙ ap (λ o. Some (Put k now by o)) (let same : ops.Write span sectors ≡ op = cc in same)
-write_reply (Write chunk span sectors) now by answer (Bytes bytes) k op is kind = absurd kind
-write_reply (Read chunk span) now by answer reply k op is kind = absurd (cc)
 
 module _ (v : Extent) (chunks : List ChunkRun) (answer_at : ℕ → Answered) (told : List Moment) (chunk epoch k : ℕ) (c : ChunkRun) (known : IsKnown v chunks answer_at told chunk epoch k c) where
   abbrev ds : List Deed
@@ -221,11 +175,11 @@ module _ (v : Extent) (chunks : List ChunkRun) (answer_at : ℕ → Answered) (t
   pub brought_at : (i its by : ℕ) (d : Deed) → slice_get ds i ≡ Some d → BringsBy chunk its by d → IsBrought i its by
   brought_at i its by _ at (Acks client op ask) =
       let r = replied_at i client (Put chunk its by op) ask at in
-      let p = put_is r.ask (epoch_of (take r.moment told) (chunk_of r.ask)) r.its.by (answer_at (length (take r.moment told))) r.its.reply chunk its by op r.is in
+      let p = written_is r.ask (epoch_of (take r.moment told) (chunk_of r.ask)) r.its.by (answer_at (length (take r.moment told))) r.its.reply chunk its by op r.is in
       record { moment = r.moment; m = r.m; back = r.its; next = r.next; at = r.at; ask = r.ask; pending = r.pending; of = ap chunk_of p.asked; now = p.first ∙ ap (λ (a : Ask). epoch_of (take r.moment told) (chunk_of a)) p.asked; since = p.since; there = r.there }
   brought_at i its by _ at (Reads client read ask) =
       let r = replied_at i client (Got chunk its by read) ask at in
-      let p = got_is r.ask (epoch_of (take r.moment told) (chunk_of r.ask)) r.its.by (answer_at (length (take r.moment told))) r.its.reply chunk its by read r.is in
+      let p = given_is r.ask (epoch_of (take r.moment told) (chunk_of r.ask)) r.its.by (answer_at (length (take r.moment told))) r.its.reply chunk its by read r.is in
       record { moment = r.moment; m = r.m; back = r.its; next = r.next; at = r.at; ask = r.ask; pending = r.pending; of = ap chunk_of p.asked; now = p.first ∙ ap (λ (a : Ask). epoch_of (take r.moment told) (chunk_of a)) p.asked; since = p.since; there = r.there }
 
   -- Epochs

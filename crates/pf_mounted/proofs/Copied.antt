@@ -14,6 +14,7 @@ use Rattle.pf_base.specs.declared.asks.Reply.TheVariants.{Bytes, Written}
 use Rattle.pf_entry.specs.Ops.{Sector}
 use Rattle.pf_registers.specs.Orders.{given as given_to}
 use Rattle.pf_registers.proofs.Staying.{acked_stays, answered_stays}
+use Rattle.pf_registers.proofs.Lists.{got_mapped}
 use Rattle.pf_positions.proofs.Answers.{prefix_taken, taken_before}
 use Rattle.pf_positions.specs.Moves.{IsMoved, WasWritten, WereWritten}
 use Rattle.pf_protocol.proofs.ForMoments.{legal_before}
@@ -34,6 +35,7 @@ use Rattle.pf_protocol.specs.Histories.{History, IsPrefix, replay}
 use Rattle.pf_protocol.specs.Ports.{FollowsRule, HasEnded, IsTarget, Submission, submitting}
 use Rattle.pf_protocol.specs.Servers.{Setup}
 use Rattle.pf_ports.proofs.Stepping.{follows}
+use Rattle.pf_service.proofs.Places.{map_get}
 use Rattle.pf_positions.specs.Deeds.{BringsBy, Deed, Groups, Submits}
 use Rattle.pf_move.specs.declared.mover.Asked.{Asked}
 use Rattle.pf_move.specs.declared.mover.Asked.TheVariants.{Reading, Writing}
@@ -56,7 +58,7 @@ use Rattle.pf_mounted.proofs.Carried.{all_carried_on, carried_writes_stay}
 use Rattle.pf_mounted.proofs.Epoching.{AreBegun, begun_until, epoch_rises, group_stays, same_home, some_group}
 use Rattle.pf_mounted.proofs.Known.{are_begun}
 use Rattle.pf_mounted.proofs.OfMoves.{AreGroupsOf, IsOfMoves, begun_first, cut_by}
-use Rattle.pf_mounted.proofs.Placing.{at_seam, get_first, get_mapped, get_take, map_get, parted, some_within, take_fewer, take_goes_on, take_one_more}
+use Rattle.pf_mounted.proofs.Placing.{at_seam, get_first, get_take, parted, some_within, take_fewer, take_goes_on, take_one_more}
 use Rattle.pf_mounted.proofs.Reached.{all_within, carried_reaches, hands_reach, reached_more, reaches}
 use Rattle.pf_mounted.proofs.Shifting.{IsUnderWay, is_called, under_way, wanted}
 use Rattle.pf_mounted.proofs.MoverWrites.{writes_in}
@@ -321,7 +323,7 @@ module _ (v : Extent) (chunks : List ChunkRun) (answer_at : ℕ → Answered) (w
         ∙ ap (λ o. map (among_copies v answer_at chunks told (unwrap_or o [])) trace_writes) moves_at
 
     pub of_moved : (j : ℕ) (a : Submission) → slice_get (groups.moved chunk e) j ≡ Some a → (b : Submission) × (slice_get trace_writes j ≡ Some b) × (copied b ≡ a)
-    of_moved j a at = get_mapped copied trace_writes j a (ap (λ (l : List Submission). slice_get l j) (sym moved_are) ∙ at)
+    of_moved j a at = got_mapped copied trace_writes j a (ap (λ (l : List Submission). slice_get l j) (sym moved_are) ∙ at)
 
     pub number_of : (j : ℕ) (a : Submission) → slice_get trace_writes j ≡ Some a → IsNumber a.write
     number_of j a at = let w = write_at j a at in subst IsNumber (sym w.number) (number_at w.moment w.in_move w.its w.copy w.wants).0
@@ -390,7 +392,7 @@ module _ (v : Extent) (chunks : List ChunkRun) (answer_at : ℕ → Answered) (w
           at = map_get copied trace_writes ended.m ended.final final_at;
           same = ap place_of ended.same;
           no_later = λ n s there number.
-              let t = get_mapped copied trace_writes n s there in
+              let t = got_mapped copied trace_writes n s there in
               let equal = number_same t.0.write a.write (number_of n t.0 t.1) (number_of j a at) (ap (λ (x : Submission). x.write) t.2 ∙ number) in
               ended.no_later n t.0 (written_stays n t.0 t.1) equal;
           answered = record {
@@ -664,7 +666,7 @@ module _ (v : Extent) (chunks : List ChunkRun) (answer_at : ℕ → Answered) (w
             at = map_get copied trace_writes w.ended.m w.ended.final final_there;
             same = ap place_of final_number ∙ count;
             is_last = λ j s there same.
-                let t = get_mapped copied trace_writes j s there in
+                let t = got_mapped copied trace_writes j s there in
                 none_later j t.0 t.1 (number_same t.0.write n (number_of j t.0 t.1) number_now (ap (λ (y : Submission). y.write) t.2 ∙ same ∙ sym count));
             slot = w.slot;
             took_slot = w.took_slot;

@@ -11,8 +11,9 @@ use Rattle.pf_positions.specs.Deeds.{Deed, PortAsk, PortReply, Submits, Takes}
 use Rattle.pf_mount.specs.declared.work.Work.{Work}
 use Rattle.pf_mount.specs.Mounts.{MountIs, answered}
 use Rattle.pf_world.specs.pf_hosts.specs.Moments.{Begins, Carries, Ends, Hands, Heard, Moment, Moves as MovesTo, Turns, Writes}
+use Rattle.pf_service.specs.Services.{port_ask, port_reply}
 use Rattle.pf_mounted.specs.Epochs.{Home, epoch_of, home_of}
-use Rattle.pf_mounted.specs.Journals.{IsTurn, Step, asking, call_of, client_of, hand_steps, hearing_steps, hears, port_ask, port_reply, stays_in, steps_at, turn_steps}
+use Rattle.pf_mounted.specs.Journals.{IsTurn, Step, asking, call_of, client_of, hand_steps, hearing_steps, hears, stays_in, steps_at, turn_steps}
 use Rattle.pf_paxos.specs.Journals.{Does}
 use Rattle.pf_mounted.specs.Mounts.{Life, hearing, last_ask, life_of, mount_in, opened, turned}
 use Rattle.pf_mounted.proofs.Pending.{stays_own}

@@ -14,6 +14,7 @@ use Rattle.pf_tree.specs.declared.calls.FileCall.{FileCall}
 use Rattle.pf_files.specs.Calls.{WorkIs}
 use Rattle.pf_files.specs.declared.answers.CallAnswer.{CallAnswer}
 use Rattle.pf_files.specs.declared.calls.Pending.{Pending}
+use Rattle.pf_plans.specs.Numbered.{numbered}
 use Rattle.pf_mount.specs.Decisions.{decided_by}
 use Rattle.pf_mount.specs.Mounts.{MountIs, answered, starting}
 use Rattle.pf_mount.specs.declared.work.Next.{Next}
@@ -25,7 +26,7 @@ use Rattle.pf_mounted.specs.Handing.{AreCallsOfWords}
 use Rattle.pf_mounted.specs.Exchanges.{Exchange, exchange, exchanged, exchanges, exchanges_from}
 use Rattle.pf_mounted.specs.Journals.{AreOfMounts, CanBegin, HasBegun, IsOfMount, IsTurn}
 use Rattle.pf_mounted.specs.Mounts.{Life, answer_in, ask_in, asked_in, calling, decisions, hearing, last_answer, last_ask, life_of, lived, mount_after, mount_in, turned, values_in}
-use Rattle.pf_mounted.specs.Trees.{AreBegunAtRest, AreFewCalls, IsOverList, call_named, calls_of, numbered}
+use Rattle.pf_mounted.specs.Trees.{AreBegunAtRest, AreFewCalls, IsOverList, call_named, calls_of}
 use Rattle.pf_mounted.proofs.Changing.{answered_keeps, starting_keeps}
 use Rattle.pf_mounted.proofs.Decided.{tables_of_decisions}
 use Rattle.pf_mounted.proofs.Ending.{EndsAtRest, FitsAsk, EndsIn, IsEnd, LeadsTo, MovesIn, Underway, answered_leads, ends_at_rest, none_asked, starting_leads}

@@ -25,8 +25,9 @@ use Rattle.pf_journal.specs.Sectors.{block_in}
 use Rattle.pf_mount.specs.declared.work.Work.TheVariants.{Ballots}
 use Rattle.pf_mount.specs.Mounts.{MountIs}
 use Rattle.pf_world.specs.pf_hosts.specs.Moments.{Heard, Moment}
+use Rattle.pf_service.specs.Services.{port_reply}
 use Rattle.pf_mounted.specs.Mounts.{Life, last_ask, life_of}
-use Rattle.pf_mounted.specs.Journals.{AreOfMounts, CanBeDoings, CanBeTold, IsHearing, call_of, deeds, doings, port_reply}
+use Rattle.pf_mounted.specs.Journals.{AreOfMounts, CanBeDoings, CanBeTold, IsHearing, call_of, deeds, doings}
 use Rattle.pf_mounted.proofs.Balloting.{is_move, made, replies}
 use Rattle.pf_mounted.proofs.Coming.{HasRoom, Pends, ballot_ask}
 use Rattle.pf_mounted.proofs.Goes.{Stands}

@@ -7,6 +7,7 @@ use Rattle.pf_protocol.specs.Groups.{Answered}
 use Rattle.pf_volume.specs.Volumes.{Extent, IsVolume}
 use Rattle.pf_tree.specs.declared.calls.FileCall.{FileCall}
 use Rattle.pf_files.specs.declared.answers.CallAnswer.{CallAnswer}
+use Rattle.pf_plans.proofs.Planned.{some_value}
 use Rattle.pf_paxos.specs.Journals.{AreAllRegisters, IsTransactionList}
 use Rattle.pf_mount.specs.Mounts.{MountIs}
 use Rattle.pf_world.specs.pf_hosts.specs.Moments.{Moment, Begins, Ends}
@@ -17,7 +18,7 @@ use Rattle.pf_mounted.specs.Mounts.{decisions, mount_after}
 use Rattle.pf_mounted.proofs.Decided.{tables_of_decisions}
 use Rattle.pf_mounted.proofs.Deciding.{decisions_grow}
 use Rattle.pf_mounted.proofs.Missing.{planned_late_of_all}
-use Rattle.pf_mounted.proofs.Repeating.{put_before, put_names, put_progress, some_value}
+use Rattle.pf_mounted.proofs.Repeating.{put_before, put_names, put_progress}
 use Rattle.pf_mounted.proofs.Resting.{ends_at_rest, passes}
 use Rattle.pf_mounted.proofs.Staging.{mount_goes_on, mount_stays, stage}
 

@@ -13,9 +13,10 @@ use Rattle.pf_volume.specs.Volumes.{Extent}
 use Rattle.pf_mount.specs.Mounts.{answered}
 use Rattle.pf_world.specs.pf_hosts.specs.Moments.{Heard, Moment, Turns}
 use Rattle.pf_paxos.specs.Journals.{Does}
+use Rattle.pf_service.specs.Services.{port_ask, port_reply}
 use Rattle.pf_mounted.specs.Fitting.{IsOfRun}
 use Rattle.pf_mounted.specs.Hosted.{groups_of}
-use Rattle.pf_mounted.specs.Journals.{Step, asking, call_of, client_of, deeds, hears, port_ask, port_reply, stays_in, turn_steps}
+use Rattle.pf_mounted.specs.Journals.{Step, asking, call_of, client_of, deeds, hears, stays_in, turn_steps}
 use Rattle.pf_mounted.specs.Mounts.{Life, last_ask, life_of}
 use Rattle.pf_mounted.proofs.Answering.{got_at, put_at, waits_at}
 use Rattle.pf_mounted.proofs.Bringing.{epoch_reached, epochs_rise, places_rise, rises_after}

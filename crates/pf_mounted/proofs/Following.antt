@@ -5,6 +5,7 @@ use Rattle.std.proofs.lemmas.Option.{none-some, same_Some}
 use Rattle.std.proofs.Math.Seq.{length-take-le}
 use Rattle.pf_base.specs.declared.asks.Ask.{Ask}
 use Rattle.pf_ports.specs.pf_network.proofs.Lists.{something_there}
+use Rattle.pf_service.specs.Services.{port_ask}
 use Rattle.pf_protocol.specs.Groups.{Answered}
 use Rattle.pf_protocol.specs.Histories.{History}
 use Rattle.pf_volume.specs.Volumes.{Extent}
@@ -13,7 +14,7 @@ use Rattle.pf_mount.specs.declared.work.Work.{Work}
 use Rattle.pf_mount.specs.declared.work.Work.TheVariants.{Rests, Fails, ReadsSuper, WritesSuper, Syncs, Ballots, Pauses, Moves}
 use Rattle.pf_world.specs.pf_hosts.specs.Moments.{Begins, Carries, Ends, Hands, Heard, Moment, Moves as MovesTo, Turns, Writes}
 use Rattle.pf_mounted.specs.Epochs.{epoch_of}
-use Rattle.pf_mounted.specs.Journals.{IsOfMount, IsTurn, client_of, deeds, port_ask}
+use Rattle.pf_mounted.specs.Journals.{IsOfMount, IsTurn, client_of, deeds}
 use Rattle.pf_mounted.specs.Mounts.{Life, asked_in, last_ask, life_of, mount_in, turned}
 use Rattle.pf_mount.specs.Mounts.{MountIs}
 use Rattle.pf_mounted.specs.Pasts.{trace_of}

@@ -28,8 +28,9 @@ use Rattle.pf_mount.specs.declared.work.Work.{Work}
 use Rattle.pf_mount.specs.declared.work.Work.TheVariants.{Rests, Fails, ReadsSuper, WritesSuper, Syncs, Ballots, Pauses, Moves}
 use Rattle.pf_mount.specs.Mounts.{MountIs, Outcome, answered, blocks_in}
 use Rattle.pf_world.specs.pf_hosts.specs.Moments.{Heard}
+use Rattle.pf_service.specs.Services.{port_ask, port_reply}
 use Rattle.pf_mounted.specs.Mounts.{Life, ask_in, hearing}
-use Rattle.pf_mounted.specs.Journals.{CanBeTold, CanTurn, FindsValue, IsAnswerOf, IsHearing, Step, asking, asks_on, ballot_next, call_of, client_of, hearing_steps, hears, port_ask, port_reply, stays_in}
+use Rattle.pf_mounted.specs.Journals.{CanBeTold, CanTurn, FindsValue, IsAnswerOf, IsHearing, Step, asking, asks_on, ballot_next, call_of, client_of, hearing_steps, hears, stays_in}
 use Rattle.pf_mounted.proofs.Coming.{BeginsFrom, Comes, HasRoom, Pends, ballot_ask}
 use Rattle.pf_mounted.proofs.Balloting.{GoesOn, HeardIn, IsNoBallot, Leaves, WaitsFor, ballot_heard, is_move, made, made_waits, other_heard, replies}
 use Rattle.pf_mounted.proofs.Seeing.{ballot_seen}

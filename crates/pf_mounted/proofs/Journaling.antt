@@ -25,9 +25,10 @@ use Rattle.pf_mount.specs.declared.work.Work.TheVariants.{Rests, Fails, ReadsSup
 use Rattle.pf_mount.specs.Mounts.{MountIs, answered, opening, starting}
 use Rattle.pf_world.specs.pf_hosts.specs.Moments.{Begins, Carries, Ends, Hands, Heard, Moment, Moves as MovesTo, Turns, Writes}
 use Rattle.pf_mount.specs.declared.work.Next.{Next}
+use Rattle.pf_service.specs.Services.{port_ask, port_reply}
 use Rattle.pf_mounted.specs.Mounts.{Life, ask_in, asked_in, calling, values_in, decisions, hearing, last_ask, life_of, lived, mount_after, mount_in, opened, turned}
 use Rattle.pf_mounted.specs.Epochs.{Home, epoch_of, home_of as home_in}
-use Rattle.pf_mounted.specs.Journals.{AreOfMounts, CanBeDoing, CanBeDoings, CanBeTold, CanBegin, CanTurn, call_of, client_of, hand_steps, hearing_steps, hears, port_ask, port_reply, puts, stays_in, IsOfMount, IsTurn, Step, asking, deeds, doings, steps_at, steps_from, steps_of, turn_steps}
+use Rattle.pf_mounted.specs.Journals.{AreOfMounts, CanBeDoing, CanBeDoings, CanBeTold, CanBegin, CanTurn, call_of, client_of, hand_steps, hearing_steps, hears, puts, stays_in, IsOfMount, IsTurn, Step, asking, deeds, doings, steps_at, steps_from, steps_of, turn_steps}
 use Rattle.pf_mounted.proofs.Balloting.{IsNoBallot, starting_no_ballot}
 use Rattle.pf_mounted.proofs.Changing.{having_started, starting_keeps}
 use Rattle.pf_mounted.proofs.Lives.{ask_on, life_on}

@@ -22,10 +22,11 @@ use Rattle.pf_mount.specs.declared.work.Work.{Work}
 use Rattle.pf_mount.specs.declared.work.Work.TheVariants.{Rests, Fails, ReadsSuper, WritesSuper, Syncs, Ballots, Pauses, Moves}
 use Rattle.pf_mount.specs.Mounts.{MountIs, aborted, answered, balloted, blocks_in, finds_value, goes_on, on_bytes, on_written, opening, seeing, starting, with_proposer}
 use Rattle.pf_world.specs.pf_hosts.specs.Moments.{Begins, Carries, Ends, Hands, Heard, Moment, Moves as MovesTo, Turns, Writes}
+use Rattle.pf_service.specs.Services.{port_ask, port_reply}
 use Rattle.pf_mounted.specs.Finding.{HasFound}
 use Rattle.pf_mounted.specs.Mounts.{Life, asked_in, calling, last_ask, life_of, lived, mount_after, mount_in, turned}
 use Rattle.pf_mounted.specs.Epochs.{Home, epoch_of, home_of}
-use Rattle.pf_mounted.specs.Journals.{AreOfMounts, CanBeDoing, CanBeDoings, CanBegin, IsOfMount, IsTurn, Step, asking, asks_on, ballot_next, call_of, client_of, doings, hand_steps, hearing_steps, hears, port_ask, port_reply, puts, stays_in, steps_at, steps_from, turn_steps}
+use Rattle.pf_mounted.specs.Journals.{AreOfMounts, CanBeDoing, CanBeDoings, CanBegin, IsOfMount, IsTurn, Step, asking, asks_on, ballot_next, call_of, client_of, doings, hand_steps, hearing_steps, hears, puts, stays_in, steps_at, steps_from, turn_steps}
 use Rattle.pf_mounted.proofs.Coming.{Pends}
 use Rattle.pf_mounted.proofs.Goes.{IsIdle}
 use Rattle.pf_mounted.proofs.Journaling.{AllStand, StandsIn, told_stand}

@@ -55,7 +55,6 @@ pub mod Filing
 pub mod Spelling
 pub mod Sounding
 pub mod Beginning
-pub mod Given
 pub mod OfMounts
 pub mod Submitting
 pub mod Turning
@@ -89,10 +88,8 @@ pub mod Lawful
 pub mod Staging
 pub mod Repeating
 pub mod Counting
-pub mod Typing
 pub mod Proposing
 pub mod Naming
-pub mod Words
 pub mod Succeeding
 pub mod Numbering
 pub mod Listed

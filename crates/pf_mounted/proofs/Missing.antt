@@ -9,6 +9,7 @@ use Rattle.pf_base.specs.declared.asks.Ask.{Ask}
 use Rattle.pf_base.specs.declared.asks.Reply.{Reply}
 use Rattle.pf_base.specs.declared.asks.Reply.TheVariants.{Written, Bytes}
 use Rattle.pf_ports.specs.pf_network.proofs.Lists.{at_front}
+use Rattle.pf_service.specs.Services.{port_ask, port_reply}
 use Rattle.pf_entry.proofs.Cases.{by_test}
 use Rattle.pf_entry.specs.Lists.{Every}
 use Rattle.pf_protocol.specs.Groups.{Answered}
@@ -28,7 +29,7 @@ use Rattle.pf_world.specs.pf_hosts.specs.Moments.{Begins, Carries, Ends, Hands, 
 use Rattle.pf_mounted.specs.Late.{IsPlanned}
 use Rattle.pf_mounted.specs.Mounts.{Life, asked_in, calling, last_ask, life_of, lived, mount_after, mount_in, turned}
 use Rattle.pf_mounted.specs.Epochs.{epoch_of, home_of}
-use Rattle.pf_mounted.specs.Journals.{AreOfMounts, CanBeDoings, CanBegin, IsOfMount, IsTurn, Step, asking, asks_on, ballot_next, call_of, client_of, doings, hand_steps, hearing_steps, hears, port_ask, port_reply, puts, stays_in, steps_at, steps_from, turn_steps}
+use Rattle.pf_mounted.specs.Journals.{AreOfMounts, CanBeDoings, CanBegin, IsOfMount, IsTurn, Step, asking, asks_on, ballot_next, call_of, client_of, doings, hand_steps, hearing_steps, hears, puts, stays_in, steps_at, steps_from, turn_steps}
 use Rattle.pf_mounted.proofs.Coming.{Pends}
 use Rattle.pf_mounted.proofs.Inducting.{of_at, of_until}
 use Rattle.pf_mounted.proofs.Journaling.{StandsIn, room_most, told_stand}

@@ -23,6 +23,7 @@ use Rattle.pf_volume.specs.Volumes.{Extent}
 use Rattle.pf_world.specs.pf_chunk.specs.Driving.{event_of_ask}
 use Rattle.pf_world.specs.pf_chunk.specs.Runs.{ChunkRun, mover_port}
 use Rattle.pf_world.specs.pf_hosts.specs.Moments.{Hands, Moment}
+use Rattle.pf_service.proofs.Places.{map_get}
 use Rattle.pf_mounted.specs.Carrying.{moves_of}
 use Rattle.pf_mounted.specs.Epochs.{epoch_of, group_at}
 use Rattle.pf_mounted.specs.Handing.{AreMountsAlone}
@@ -33,7 +34,6 @@ use Rattle.pf_mounted.proofs.Asking.{none_anew}
 use Rattle.pf_mounted.proofs.Carried.{among_carried}
 use Rattle.pf_mounted.proofs.Epoching.{AreBegun, begun_until, group_stays, same_home}
 use Rattle.pf_mounted.proofs.OfMoves.{AreGroupsOf, begun_first, whole_by}
-use Rattle.pf_mounted.proofs.Placing.{map_get}
 use Rattle.pf_mounted.proofs.Shifting.{under_way}
 use Rattle.pf_mounted.proofs.Tracked.{IsElsewhere}
 

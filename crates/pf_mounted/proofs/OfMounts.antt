@@ -23,6 +23,7 @@ use Rattle.pf_mount.specs.declared.work.Work.{Work}
 use Rattle.pf_mount.specs.declared.work.Work.TheVariants.{Rests}
 use Rattle.pf_ports.specs.Calls.{Past}
 use Rattle.pf_ports.specs.Replies.{IsReplied}
+use Rattle.pf_service.proofs.Counting.{in_kind}
 use Rattle.pf_world.specs.pf_applyrounds.specs.Halts.{Halt}
 use Rattle.pf_world.specs.pf_chunk.specs.Runs.{ChunkRun}
 use Rattle.pf_world.specs.pf_hosts.specs.Moments.{Begins, Carries, Ends, Hands, Heard, Moment, Moves as MovesTo, Turns, Writes}
@@ -41,7 +42,6 @@ use Rattle.pf_mounted.specs.Pasts.{past_of}
 use Rattle.pf_mounted.specs.Scripts.{IsPlainRun}
 use Rattle.pf_mounted.proofs.Beginning.{turns_new}
 use Rattle.pf_mounted.proofs.Each.{AreEach, each_at}
-use Rattle.pf_mounted.proofs.Given.{in_kind}
 use Rattle.pf_mounted.proofs.Hearing.{IsSo}
 use Rattle.pf_mounted.proofs.Holding.{Always, moments_so, replies_heard}
 use Rattle.pf_mounted.proofs.Lives.{called_life, its_own, life_on, turned_life}

@@ -72,17 +72,6 @@ pub only_one : {X : Type 0} → (x y : X) (j : ℕ) → slice_get (x ∷ []) j �
 only_one x y zero at = (same_Some x y at, refl)
 only_one x y (suc j) at = absurd (none-some y at)
 
--- what stands in a mapped list is of what stood there
-pub get_mapped : {X Y : Type 0} → (f : X → Y) (xs : List X) (k : ℕ) (y : Y) → slice_get (map f xs) k ≡ Some y → (x : X) × (slice_get xs k ≡ Some x) × (f x ≡ y)
-get_mapped f [] k y at = absurd (none-some y at)
-get_mapped f (x ∷ xs) zero y at = (x, refl, same_Some (f x) y at)
-get_mapped f (x ∷ xs) (suc k) y at = get_mapped f xs k y at
-
-pub map_get : {X Y : Type 0} → (f : X → Y) (xs : List X) (k : ℕ) (x : X) → slice_get xs k ≡ Some x → slice_get (map f xs) k ≡ Some (f x)
-map_get f [] k x at = absurd (none-some x at)
-map_get f (z ∷ zs) zero x at = ap (λ y. Some (f y)) (same_Some z x at)
-map_get f (z ∷ zs) (suc k) x at = map_get f zs k x at
-
 pub map_both : {X Y : Type 0} → (f : X → Y) (xs ys : List X) → map f (xs ++ ys) ≡ map f xs ++ map f ys
 map_both f [] ys = refl
 map_both f (x ∷ xs) ys = ap (λ rest. f x ∷ rest) (map_both f xs ys)

@@ -14,7 +14,9 @@ use Rattle.pf_protocol.specs.Servers.{Setup}
 use Rattle.pf_protocol.specs.Groups.{Answered, ending}
 use Rattle.pf_protocol.specs.Histories.{IsPrefix}
 use Rattle.pf_protocol.specs.Ports.{IsTarget, Submission, submitting}
+use Rattle.pf_registers.proofs.Lists.{got_mapped}
 use Rattle.pf_ports.specs.Rising.{IsRising}
+use Rattle.pf_service.specs.Services.{port_ask}
 use Rattle.pf_positions.specs.Deeds.{Groups, IsHanded, IsPending, IsPort, Puts, Submits}
 use Rattle.pf_world.specs.pf_chunk.specs.Driving.{event_of_ask}
 use Rattle.pf_world.specs.pf_chunk.specs.Runs.{ChunkRun}
@@ -29,7 +31,7 @@ use Rattle.pf_mounted.proofs.Asking.{has_asks}
 use Rattle.pf_mounted.proofs.Bringing.{begun_by, stays_till_end}
 use Rattle.pf_mounted.proofs.Epoching.{group_home, same_home}
 use Rattle.pf_mounted.proofs.Tracing.{asks_of, is_trace}
-use Rattle.pf_mounted.specs.Journals.{client_of, deeds, port_ask}
+use Rattle.pf_mounted.specs.Journals.{client_of, deeds}
 use Rattle.pf_mounted.specs.Mounts.{last_ask, mount_in}
 use Rattle.pf_mounted.specs.Pasts.{trace_of}
 use Rattle.pf_mounted.proofs.Dealing.{hand_deed}
@@ -37,7 +39,7 @@ use Rattle.pf_mounted.proofs.Following.{WasAsked, is_pending, one_turn, pending_
 use Rattle.pf_mounted.proofs.Known.{AreInOrder, IsKnown}
 use Rattle.pf_mounted.proofs.Listing.{count, deed_there}
 use Rattle.pf_mounted.proofs.Pending.{IsNoWrite, MayPend}
-use Rattle.pf_mounted.proofs.Placing.{get_mapped, some_within, take_goes_on, take_one_more}
+use Rattle.pf_mounted.proofs.Placing.{some_within, take_goes_on, take_one_more}
 use Rattle.pf_mounted.proofs.Reached.{hands_reach, reaches}
 use Rattle.pf_mounted.proofs.Tracked.{all_handed_on}
 
@@ -207,7 +209,7 @@ module _ (v : Extent) (chunks : List ChunkRun) (answer_at : ℕ → Answered) (t
 
   module _ (m : ℕ) (list : List Submission) (are : groups.writes chunk epoch m ≡ map numbered list) (written : (j : ℕ) (a : Submission) → slice_get list j ≡ Some a → IsWritten m j a × (m < 16)) (rising : IsRising c.group.setup list) (ordered : AreInOrder list) where
     of_list : (j : ℕ) (a : Submission) → slice_get (groups.writes chunk epoch m) j ≡ Some a → (b : Submission) × (slice_get list j ≡ Some b) × (numbered b ≡ a)
-    of_list j a at = get_mapped numbered list j a (ap (λ (l : List Submission). slice_get l j) (sym are) ∙ at)
+    of_list j a at = got_mapped numbered list j a (ap (λ (l : List Submission). slice_get l j) (sym are) ∙ at)
 
     in_front : (j : ℕ) (a b : Submission) → slice_get (groups.writes chunk epoch m) j ≡ Some a → slice_get (groups.writes chunk epoch m) (suc j) ≡ Some b → length a.before < length b.before
     in_front j a b at its =

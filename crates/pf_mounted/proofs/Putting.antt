@@ -21,10 +21,11 @@ use Rattle.pf_mount.specs.declared.work.Work.{Work}
 use Rattle.pf_mount.specs.declared.work.Work.TheVariants.{Ballots, Syncs}
 use Rattle.pf_mount.specs.Mounts.{MountIs, answered, opening}
 use Rattle.pf_world.specs.pf_hosts.specs.Moments.{Begins, Carries, Ends, Hands, Heard, Moment, Moves as MovesTo, Turns, Writes}
+use Rattle.pf_service.specs.Services.{port_ask, port_reply}
 use Rattle.pf_mounted.specs.Finding.{HasPutIn}
 use Rattle.pf_mounted.specs.Mounts.{Life, last_ask, life_of, mount_after, mount_in, turned}
 use Rattle.pf_mounted.specs.Epochs.{Home, epoch_of, home_of}
-use Rattle.pf_mounted.specs.Journals.{AreOfMounts, CanBeDoings, Step, asking, call_of, client_of, doings, hand_steps, hearing_steps, hears, port_ask, port_reply, puts, stays_in, steps_at, turn_steps}
+use Rattle.pf_mounted.specs.Journals.{AreOfMounts, CanBeDoings, Step, asking, call_of, client_of, doings, hand_steps, hearing_steps, hears, puts, stays_in, steps_at, turn_steps}
 use Rattle.pf_mounted.proofs.Decided.{tables_of_decisions}
 use Rattle.pf_mounted.proofs.Goes.{after}
 use Rattle.pf_mounted.proofs.Journaling.{told_lists}

@@ -1,15 +1,11 @@
 -- No call has two transactions in the list: what a mount put in for its call at a later position, it put in when its call had none yet.
-use Rattle.std.proofs.Common.{◌≡◌, ◌≢◌, ℕ, suc, ◌+◌, ◌*◌, ◌<◌, ◌≤◌, ◌^◌, ◌==◌, ◌&&◌, true, List, [], ◌∷◌, ◌++◌, length, take, drop, get_or, map, Option, Some, None, slice_get, inl, inr, arith, refl, sym, ap, subst, ◌∙◌, append-nil}
-use Rattle.std.specs.Int.{w32, from_be_bytes}
-use Rattle.std.proofs.lemmas.Bool.{cases_order, eq-eqb}
+use Rattle.std.proofs.Common.{◌≡◌, ◌≢◌, ℕ, suc, ◌+◌, ◌*◌, ◌<◌, ◌≤◌, ◌^◌, true, List, [], ◌∷◌, ◌++◌, length, take, map, Option, Some, None, slice_get, inl, inr, arith, refl, sym, ap, subst, ◌∙◌, append-nil}
+use Rattle.std.proofs.lemmas.Bool.{cases_order}
 use Rattle.std.proofs.lemmas.List.{append_assoc, take_at, take_all}
-use Rattle.std.proofs.lemmas.Nat.{from_be_bytes-to_be_bytes_4}
 use Rattle.std.proofs.lemmas.Option.{none-some, same_Some}
 use Rattle.pf_ports.specs.pf_network.proofs.Lists.{at_front, something_there}
 use Rattle.pf_inodes.specs.declared.changes.Txn.{Txn}
 use Rattle.pf_txn.specs.Reading.{txn_in}
-use Rattle.pf_txn.specs.Spelling.{spell_txn}
-use Rattle.pf_txn.proofs.TxnLaws.{txn_found}
 use Rattle.pf_protocol.specs.Groups.{Answered}
 use Rattle.pf_volume.specs.Volumes.{Extent, IsVolume}
 use Rattle.pf_base.specs.declared.asks.Reply.{Reply}
@@ -21,6 +17,8 @@ use Rattle.pf_paxos.proofs.Listing.{begins_list, call_there, list_decided}
 use Rattle.pf_paxos.proofs.PuttingIn.{was_put_in}
 use Rattle.pf_files.specs.Calls.{WorkIs, is_of}
 use Rattle.pf_files.specs.declared.calls.Pending.{Pending}
+use Rattle.pf_plans.proofs.Numbers.{named, read_names}
+use Rattle.pf_plans.proofs.Planned.{some_value}
 use Rattle.pf_mount.specs.declared.work.Work.{Work}
 use Rattle.pf_mount.specs.declared.work.Work.TheVariants.{Ballots}
 use Rattle.pf_mount.specs.Decisions.{decided_in, upto_by}
@@ -45,20 +43,10 @@ use Rattle.pf_mounted.proofs.Turning.{earlier_registers}
 -- Names of calls
 
 -- the transaction that is read of such a value names the call
-read_names : (m calls : ℕ) (value : List ℕ) (txn : Txn) → IsOfCall m calls value → calls < 2 ^ 32 → txn_in value ≡ Some txn → (txn.mount ≡ m) × (txn.number ≡ calls)
-read_names m calls value txn is few read =
-    let found = txn_found value txn read in
-    let same : spell_txn txn ≡ spell_txn is.txn = found.spelled ∙ sym is.spells in
-    let number_few : is.txn.number < 2 ^ 32 = subst (λ n. n < 2 ^ 32) (sym is.number) few in (
-      ap (λ bytes. get_or bytes 0 0) same ∙ is.mount,
-      sym (from_be_bytes-to_be_bytes_4 txn.number found.typed.number) ∙ ap (λ bytes. from_be_bytes w32 (take 4 (drop 1 bytes))) same ∙ from_be_bytes-to_be_bytes_4 is.txn.number number_few ∙ is.number,
-    )
-
-pub some_value : (value : List ℕ) (txn : Txn) → txn_in value ≡ Some txn → value ≢ []
-some_value value txn read none = let found = txn_found value txn read in let e = ap length (found.spelled ∙ none) in omega (arith, e)
-
-named : (m n : ℕ) (txn : Txn) → txn.mount ≡ m → txn.number ≡ n → is_of m n (Some txn) ≡ true
-named m n txn mount number = ap (λ b. b && (txn.number == n)) (eq-eqb txn.mount m mount) ∙ eq-eqb txn.number n number
+names_call : (m calls : ℕ) (value : List ℕ) (txn : Txn) → IsOfCall m calls value → calls < 2 ^ 32 → txn_in value ≡ Some txn → (txn.mount ≡ m) × (txn.number ≡ calls)
+names_call m calls value txn is few read =
+    let names = read_names value txn is.txn (sym is.spells) (subst (λ n. n < 2 ^ 32) (sym is.number) few) read in
+    (names.0 ∙ is.mount, names.1 ∙ is.number)
 
 module _ (v : Extent) (answer_at : ℕ → Answered) (told : List Moment) (volume : IsVolume v) (of : AreOfMounts v answer_at [] told) (can : CanBeDoings v [] told) (registers : AreAllRegisters (doings v answer_at told))
     (few : (m : ℕ) (mount : MountIs) → mount_after v told m ≡ Some mount → mount.files.calls < 2 ^ 32) where
@@ -140,7 +128,7 @@ module _ (v : Extent) (answer_at : ℕ → Answered) (told : List Moment) (volum
         let its : IsInput put.mount x.files.calls x.files.pending (Some value) = subst (PutsIn put.mount x.files.calls x.files.pending) put.works calling.puts in
         let count = put_progress in
         let whole_so : told ≡ put.first ++ (put.rest ++ after) = same ∙ ap (λ t. t ++ after) put.told_so ∙ append_assoc put.first put.rest after in
-        read_names put.mount x.files.calls value txn its.0 (few_before put.first (put.rest ++ after) whole_so put.mount x put.stood (omega (arith, count))) read
+        names_call put.mount x.files.calls value txn its.0 (few_before put.first (put.rest ++ after) whole_so put.mount x put.stood (omega (arith, count))) read
 
   -- Two positions
 

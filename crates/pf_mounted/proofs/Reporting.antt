@@ -23,7 +23,6 @@ use Rattle.pf_tree.proofs.Law.{first_none, follows, when_none}
 use Rattle.pf_tree.proofs.Sights.{Stands, node_from, node_in_some, same_refusal, stands_at}
 use Rattle.pf_tree.proofs.Walks.{walk_on}
 use Rattle.pf_txn.specs.Reading.{txn_in}
-use Rattle.pf_txn.proofs.TxnLaws.{txn_found}
 use Rattle.pf_files.specs.Calls.{is_of, planned, planned_by, planned_with, size_in}
 use Rattle.pf_files.specs.Filling.{read_end}
 use Rattle.pf_files.specs.Faults.{fault_of}
@@ -35,6 +34,9 @@ use Rattle.pf_files.specs.declared.calls.Pending.{Pending}
 use Rattle.pf_files.specs.declared.calls.Planned.{Planned}
 use Rattle.pf_files.specs.declared.calls.Planned.TheVariants.{Refuses, Proposes, Goes}
 use Rattle.pf_files.specs.declared.moving.Moved.{Moved}
+use Rattle.pf_plans.specs.Numbered.{tree_with}
+use Rattle.pf_plans.proofs.Planned.{planned_names, some_value}
+use Rattle.pf_plans.proofs.Words.{words_spelled}
 use Rattle.pf_mount.specs.Decisions.{IsRefusedAs, plan_on}
 use Rattle.pf_mount.specs.Mounts.{MountIs}
 use Rattle.pf_mount.specs.declared.work.Work.TheVariants.{Fails}
@@ -45,14 +47,13 @@ use Rattle.pf_mounted.specs.Finding.{HasPutIn}
 use Rattle.pf_mounted.specs.Handing.{AreCallsOfWords}
 use Rattle.pf_mounted.specs.Exchanges.{AreBytesOf, Exchange, exchanges}
 use Rattle.pf_mounted.specs.Mounts.{last_answer, life_of, mount_after, tables_from}
-use Rattle.pf_mounted.specs.Trees.{AreBegunAtRest, AreFewCalls, IsOverList, call_in, call_named, data_blocks, tree_after, tree_with}
+use Rattle.pf_mounted.specs.Trees.{AreBegunAtRest, AreFewCalls, IsOverList, call_in, call_named, data_blocks, tree_after}
 use Rattle.pf_mounted.proofs.Ended.{HasEnded, IsIn, has_ended}
 use Rattle.pf_mounted.proofs.Ending.{AnswersOn, IsFound, IsOwn}
 use Rattle.pf_mounted.proofs.Naming.{named_began}
 use Rattle.pf_mounted.proofs.Placing.{take_one_more}
 use Rattle.pf_mounted.proofs.Rising.{AllRise, ascending, tables_rise}
 use Rattle.pf_mounted.proofs.Succeeding as succeeding
-use Rattle.pf_mounted.proofs.Words.{read_is_call}
 
 -- Names
 
@@ -212,19 +213,16 @@ module _ (v : Extent) (answer_at : ℕ → Answered) (told : List Moment) (list 
   is_call m number call named =
       let began = named_began m told number call named in
       let read = words began.before began.after m call began.told_so in
-      read_is_call read.0 call (call_spelled read.0 call read.1)
+      (words_spelled read.0 call (call_spelled read.0 call read.1)).place
 
   -- Its own transaction
 
   module _ (m number : ℕ) (call : FileCall) (named : call_named told m number ≡ Some call) (n : ℕ) (value : List ℕ) (there : slice_get list n ≡ Some value) (spells : Spells m number value) where
-    some_value : value ≢ []
-    some_value none = succeeding.no_spelling spells.txn ((txn_found value spells.txn spells.spells).spelled ∙ none)
-
     stand : StandsFor d (succeeding.tables_at v answer_at told list volume over words rest few n) (tree_at n)
     stand = let low = slice_get_within list n value there in succeeding.stands_at v answer_at told list volume over words rest few n (omega (arith, low))
 
     put : HasPutIn v told n value
-    put = succeeding.put_in v answer_at told list volume over words rest few n value there some_value
+    put = succeeding.put_in v answer_at told list volume over words rest few n value there (some_value value spells.txn spells.spells)
 
     abbrev p : Pending
     p = (succeeding.plan v answer_at told list volume over words rest few n value stand put).call
@@ -243,7 +241,7 @@ module _ (v : Extent) (answer_at : ℕ → Answered) (told : List Moment) (list 
         let t = succeeding.tables_at v answer_at told list volume over words rest few n in
         let read = succeeding.value_read v answer_at told list volume over words rest few n value stand put in
         let txn : plan.txn ≡ spells.txn = same_Some plan.txn spells.txn (sym read ∙ spells.spells) in
-        let names = succeeding.planned_names put.mount v d t p plan.txn (succeeding.planned_there v answer_at told list volume over words rest few n value stand put) in
+        let names = planned_names put.mount v d t p plan.txn (succeeding.planned_there v answer_at told list volume over words rest few n value stand put) in
         let mount : put.mount ≡ m = sym names.0 ∙ ap (λ (x : Txn). x.mount) txn ∙ spells.mount_is in
         let count : p.number ≡ number = sym names.1 ∙ ap (λ (x : Txn). x.number) txn ∙ spells.number_is in
         let its = succeeding.named v answer_at told list volume over words rest few n value stand put in

@@ -9,6 +9,7 @@ use Rattle.pf_positions.proofs.Answers.{prefix_taken}
 use Rattle.pf_volume.specs.Volumes.{IsVolume}
 use Rattle.pf_move.specs.declared.mover.MoveNext.{MoveNext}
 use Rattle.pf_ports.specs.Calls.{Past}
+use Rattle.pf_service.proofs.Counting.{in_kind}
 use Rattle.pf_world.specs.pf_applyrounds.specs.Halts.{Halt}
 use Rattle.pf_world.specs.pf_chunk.specs.Runs.{ChunkRun}
 use Rattle.pf_world.specs.pf_hosts.specs.Moments.{Carries, Hands, Heard, Moment, Moves as MovesTo, Turns}
@@ -20,7 +21,6 @@ use Rattle.pf_world.specs.declared.line.Line.{Line}
 use Rattle.pf_mounted.specs.Movers.{AreMoves, carried_ask, role_of_reply}
 use Rattle.pf_mounted.specs.Pasts.{mover_trace, past_in}
 use Rattle.pf_mounted.specs.Scripts.{IsScript}
-use Rattle.pf_mounted.proofs.Given.{in_kind}
 use Rattle.pf_mounted.proofs.Ferrying.{Never, each_so, is_ferried, movers_driven}
 use Rattle.pf_mounted.proofs.Hearing.{IsSo}
 use Rattle.pf_mounted.proofs.MoverCalls.{calls_follow}

@@ -22,7 +22,8 @@ use Rattle.pf_journal.proofs.Spelled.{back}
 use Rattle.pf_mount.specs.declared.work.Work.{Work}
 use Rattle.pf_mount.specs.declared.work.Work.TheVariants.{Rests, Fails, ReadsSuper, WritesSuper, Syncs, Ballots, Pauses, Moves}
 use Rattle.pf_mount.specs.Mounts.{MountIs, reads_half, writes_own}
-use Rattle.pf_mounted.specs.Journals.{CanBeTold, IsOfData, client_of, port_ask}
+use Rattle.pf_service.specs.Services.{port_ask}
+use Rattle.pf_mounted.specs.Journals.{CanBeTold, IsOfData, client_of}
 use Rattle.pf_mounted.proofs.Coming.{Pends, ballot_ask}
 use Rattle.pf_mounted.proofs.Lying.{and_first, and_second, elsewhere_read, elsewhere_write, half_read, not_half, not_true, own_write, same_place, single_read, whole_place}
 

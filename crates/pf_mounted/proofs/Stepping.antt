@@ -23,7 +23,8 @@ use Rattle.pf_journal.specs.Sectors.{block_in}
 use Rattle.pf_mount.specs.declared.work.Work.{Work}
 use Rattle.pf_mount.specs.declared.work.Work.TheVariants.{Rests, Fails, ReadsSuper, WritesSuper, Syncs, Ballots, Pauses, Moves}
 use Rattle.pf_mount.specs.Mounts.{MountIs, blocks_in}
-use Rattle.pf_mounted.specs.Journals.{CanBeTold, IsAnswerOf, Step, client_of, hears, nothing, port_ask, port_reply, puts}
+use Rattle.pf_service.specs.Services.{port_ask, port_reply}
+use Rattle.pf_mounted.specs.Journals.{CanBeTold, IsAnswerOf, Step, client_of, hears, nothing, puts}
 use Rattle.pf_mounted.proofs.Coming.{BeginsFrom, HasRoom, Pends, ballot_ask}
 use Rattle.pf_mounted.proofs.Balloting.{IsNoBallot, replies}
 use Rattle.pf_mounted.proofs.Seeing.{ballot_seen, pending_seen, seen}

@@ -25,7 +25,9 @@ use Rattle.pf_protocol.specs.Histories.{History, IsPrefix}
 use Rattle.pf_protocol.specs.Ports.{Submission}
 use Rattle.pf_registers.specs.Firsts.{IsPorts}
 use Rattle.pf_registers.specs.Orders.{given}
+use Rattle.pf_registers.proofs.Lists.{got_mapped}
 use Rattle.pf_ports.specs.pf_network.proofs.Lists.{at_end, at_front}
+use Rattle.pf_service.proofs.Places.{map_get}
 use Rattle.pf_paxos.specs.declared.block.Block.{Block}
 use Rattle.pf_paxos.specs.declared.proposer.Phase.{Phase}
 use Rattle.pf_paxos.specs.declared.proposer.Phase.TheVariants.{Idle, Claiming, GatheringLow, GatheringHigh, Proposing, ConfirmingLow, ConfirmingHigh}
@@ -53,7 +55,7 @@ use Rattle.pf_mounted.proofs.Seeing.{below, within}
 use Rattle.pf_mounted.specs.Movers.{AreMoves}
 use Rattle.pf_mounted.proofs.Epoching.{AreBegun, group_stays, same_home}
 use Rattle.pf_mounted.specs.Epochs.{group_at, epoch_of}
-use Rattle.pf_mounted.proofs.Placing.{more_is_told, parted, get_mapped, map_get}
+use Rattle.pf_mounted.proofs.Placing.{more_is_told, parted}
 use Rattle.pf_mounted.proofs.Tracked.{all_handed_on, IsElsewhere, trace_on, writes_stay}
 use Rattle.pf_mounted.proofs.MoverWrites.{into_moved}
 use Rattle.pf_mounted.proofs.OfMoves.{begun_first, told_groups}
@@ -432,7 +434,7 @@ module _ (v : Extent) (answer_at : ℕ → Answered) (chunks : List ChunkRun) (t
               let traced : slice_get (map among (trace_of c.0.group.history client k v.chunks before).writes) j ≡ Some a =
               ap (λ o. slice_get (map among (trace_of (history_of o) client k v.chunks before).writes) j) (sym c.1)
               ∙ sym (ap (λ b. slice_get (if b then map among (trace_of (history_of (slice_get chunks k)) client k v.chunks before).writes else []) j) (lt-ltb client 16 few)) ∙ at in
-              let x = get_mapped among (trace_of c.0.group.history client k v.chunks before).writes j a traced in
+              let x = got_mapped among (trace_of c.0.group.history client k v.chunks before).writes j a traced in
               of_write epoch client k j c.0 x.0 bytes group c.1 few x.1 (ap (λ (s : Submission). given s.op here_sector) x.2 ∙ gives)
           | inr past ↦
               absurd (none-some a (sym (ap (λ b. slice_get (if b then map among (trace_of (history_of (slice_get chunks k)) client k v.chunks before).writes else []) j) (le-ltb client 16 past)) ∙ at))

@@ -1,28 +1,26 @@
 -- The tables after the first transactions of the list stand for the tree after the calls that these name.
 use Rattle.std.proofs.Common.{◌≡◌, ◌≢◌, ℕ, zero, suc, ◌/◌, ◌<◌, ◌≤◌, ◌^◌, List, [], ◌∷◌, ◌++◌, length, map, take, get_or, Option, Some, None, slice_get, arith, refl, sym, ap, subst, ◌∙◌, length-append, take-suc}
-use Rattle.std.specs.Option.{option_and_then, unwrap_or}
+use Rattle.std.specs.Option.{option_and_then}
 use Rattle.std.proofs.lemmas.List.{take_at}
 use Rattle.std.proofs.lemmas.List.Sums.{fold-append}
 use Rattle.std.proofs.lemmas.Option.{slice_get-get_or}
-use Rattle.pf_base.specs.declared.calls.Call.{Call}
-use Rattle.pf_entry.specs.Lists.{Every}
 use Rattle.pf_protocol.specs.Groups.{Answered}
 use Rattle.pf_volume.specs.Volumes.{Extent, IsVolume, size_of}
-use Rattle.pf_layout.specs.Calls.{IsReadAs}
-use Rattle.pf_inodes.specs.declared.changes.Change.{Change}
 use Rattle.pf_inodes.specs.declared.changes.Txn.{Txn}
 use Rattle.pf_inodes.specs.Tables.{Tables, applied, new_tables}
-use Rattle.pf_tree.specs.Standing.{Follows, StandsFor}
-use Rattle.pf_tree.specs.Trees.{Data, Tree, changed, new_tree}
+use Rattle.pf_tree.specs.Standing.{StandsFor}
+use Rattle.pf_tree.specs.Trees.{Data, Tree, new_tree}
 use Rattle.pf_tree.proofs.New.{new_stands}
-use Rattle.pf_txn.specs.Fields.{IsTyped, IsTypedChange}
 use Rattle.pf_txn.specs.Reading.{txn_in}
-use Rattle.pf_txn.specs.Spelling.{spell_txn}
-use Rattle.pf_txn.proofs.TxnLaws.{txn_again, txn_found}
-use Rattle.pf_files.specs.Calls.{applied_in, data_of, planned, planned_by, planned_with}
+use Rattle.pf_txn.proofs.TxnLaws.{txn_found}
+use Rattle.pf_files.specs.Calls.{applied_in, data_of, planned}
 use Rattle.pf_files.specs.declared.calls.Pending.{Pending}
 use Rattle.pf_files.specs.declared.calls.Planned.TheVariants.{Proposes}
-use Rattle.pf_files.proofs.Proposed.{follows_as, proposed, spelled_as}
+use Rattle.pf_plans.specs.Numbered.{tree_with}
+use Rattle.pf_plans.specs.Spelled.{CanBeSpelled}
+use Rattle.pf_plans.proofs.Numbers.{numbered_most}
+use Rattle.pf_plans.proofs.Planned.{call_followed, few_blocks, no_spelling, planned_names, read_again}
+use Rattle.pf_plans.proofs.Words.{words_spelled}
 use Rattle.pf_paxos.specs.Journals.{Begins as BeginsList, Doing, journal_from, new_journal}
 use Rattle.pf_paxos.specs.Runs.{Starts}
 use Rattle.pf_paxos.proofs.Listing.{call_there}
@@ -34,63 +32,16 @@ use Rattle.pf_mounted.specs.Finding.{HasPutIn}
 use Rattle.pf_mounted.specs.Handing.{AreCallsOfWords}
 use Rattle.pf_mounted.specs.Journals.{AreOfMounts, CanBeDoings, Step, doings, steps_from}
 use Rattle.pf_mounted.specs.Mounts.{decisions, mount_after, tables_from}
-use Rattle.pf_mounted.specs.Trees.{AreBegunAtRest, AreFewCalls, IsOverList, call_in, call_named, calls_of, data_blocks, tree_after, tree_with}
+use Rattle.pf_mounted.specs.Trees.{AreBegunAtRest, AreFewCalls, IsOverList, call_in, call_named, calls_of, data_blocks, tree_after}
 use Rattle.pf_mounted.proofs.Concluding.{small}
 use Rattle.pf_mounted.proofs.Decided.{tables_of_decisions, tables_on}
 use Rattle.pf_mounted.proofs.Inducting.{of_until}
 use Rattle.pf_mounted.proofs.Journaling.{told_lists}
 use Rattle.pf_mounted.proofs.Knowing.{many_blocks}
-use Rattle.pf_mounted.proofs.Naming.{IsNamed, IsNamedIn, its_calls, named_began, named_on, numbered_most}
+use Rattle.pf_mounted.proofs.Naming.{IsNamed, IsNamedIn, its_calls, named_began, named_on}
 use Rattle.pf_mounted.proofs.OneList.{can_until, doings_on}
 use Rattle.pf_mounted.proofs.Proposing.{IsOfPlan, OfPending, PutsInPlan}
 use Rattle.pf_mounted.proofs.Putting.{doings_put}
-use Rattle.pf_mounted.proofs.Tagging.{few_blocks}
-use Rattle.pf_mounted.proofs.Typing.{changes_typed}
-use Rattle.pf_mounted.proofs.Words.{read_bytes, read_is_call, read_short}
-
--- a planned transaction names its call
-module _ (m : ℕ) (v : Extent) (d : Data) (t : Tables) (p : Pending) (txn : Txn) where
-  abbrev pub NamesCall : Type 0
-  NamesCall = (txn.mount ≡ m) × (txn.number ≡ p.number)
-
-  with_changes_names : (cs : List Change) → planned_with m v t p cs ≡ Proposes txn → NamesCall
-  with_changes_names [] e = cc
-  with_changes_names (c ∷ cs) e =
-      let same : record { mount = m; number = p.number; changes = c ∷ cs } ≡ txn = cc in
-      (sym (ap (λ (x : Txn). x.mount) same), sym (ap (λ (x : Txn). x.number) same))
-
-  by_refusal_names : (r : Option ℕ) → planned_by m v d t p r ≡ Proposes txn → NamesCall
-  by_refusal_names (Some refused) e = cc
-  by_refusal_names None e = with_changes_names _ e
-
-  pub planned_names : planned m v d t p ≡ Proposes txn → NamesCall
-  planned_names e = by_refusal_names _ e
-
--- the tables after changes that follow the tree
-followed : (d : Data) (t : Tables) (cs : List Change) (tree : Tree) (after : Option Tree) → StandsFor d t tree → Follows d t cs tree after → StandsFor d (applied t cs) (unwrap_or after tree)
-followed d t cs tree None stand follows = subst (λ changes. StandsFor d (applied t changes) tree) (sym follows) stand
-followed d t cs tree (Some after) stand follows = follows.1
-
--- a planned call of words, on tables that stand for a tree
-module _ (m : ℕ) (v : Extent) (d : Data) (t : Tables) (p : Pending) (txn : Txn) (tree : Tree) (stand : StandsFor d t tree) (few : length t.tags ≤ 4096) (small : m < 16) (low : p.number < 2 ^ 32)
-    (call : Call) (read : IsReadAs call p.call) (plan : planned m v d t p ≡ Proposes txn) where
-  call_followed : StandsFor d (applied t txn.changes) (tree_with d tree (Some p.call))
-  call_followed = followed d t txn.changes tree (changed d tree p.call) stand (follows_as m v d t p txn tree stand (read_is_call call p.call read) plan)
-
-  is_typed : IsTyped txn
-  is_typed =
-      let names = planned_names m v d t p txn plan in
-      let of_call = proposed m v d t p txn plan in record {
-        mount = omega (arith, names.0, small);
-        number = omega (arith, names.1, low);
-        changes = subst (λ cs. Every IsTypedChange cs) (sym of_call.changes_are) (changes_typed d t tree stand few p.call (read_bytes call p.call read) of_call.fine);
-      }
-
-  read_again : txn_in (spell_txn txn) ≡ Some txn
-  read_again = txn_again txn (spelled_as m v d t p txn (record { root = stand.names.root; sizes = stand.sizes }) stand.places (read_short call p.call read) plan) is_typed
-
-pub no_spelling : (txn : Txn) → spell_txn txn ≡ [] → ⊥
-no_spelling txn e = cc
 
 module _ (v : Extent) (answer_at : ℕ → Answered) (told : List Moment) (list : List (List ℕ)) (volume : IsVolume v) (over : IsOverList v answer_at told list)
     (calls : AreCallsOfWords told) (rest : AreBegunAtRest v told) (few : AreFewCalls told) where
@@ -190,11 +141,11 @@ module _ (v : Extent) (answer_at : ℕ → Answered) (told : List Moment) (list 
         ∙ ap (λ k. planned k files.volume (data_of files.tables) files.tables p) (sym its.number)
         ∙ plan.plan
 
-    words : (call : Call) × IsReadAs call p.call
-    words =
+    can_be : CanBeSpelled p.call
+    can_be =
         let began = named_began m told p.number p.call named in
         let read = calls began.before began.after m p.call began.told_so in
-        (read.0, call_spelled read.0 p.call read.1)
+        words_spelled read.0 p.call (call_spelled read.0 p.call read.1)
 
     few_tags : length (tables_at n).tags ≤ 4096
     few_tags = let most = few_blocks v volume in omega (arith, stand.blocks, most)
@@ -210,10 +161,10 @@ module _ (v : Extent) (answer_at : ℕ → Answered) (told : List Moment) (list 
         let names = planned_names m v d (tables_at n) p plan.txn planned_there in
         let its_call : call_named told plan.txn.mount plan.txn.number ≡ Some p.call = ap (λ k. call_named told k plan.txn.number) names.0 ∙ ap (call_named told m) names.1 ∙ named in
         subst (λ call. StandsFor d (applied (tables_at n) plan.txn.changes) (tree_with d (tree_at n) call)) (sym its_call)
-        (call_followed m v d (tables_at n) p plan.txn (tree_at n) stand few_tags m_small low words.0 words.1 planned_there)
+        (call_followed m v d (tables_at n) p plan.txn (tree_at n) stand can_be.place planned_there)
 
     pub value_read : txn_in value ≡ Some plan.txn
-    value_read = ap txn_in plan.spells ∙ read_again m v d (tables_at n) p plan.txn (tree_at n) stand few_tags m_small low words.0 words.1 planned_there
+    value_read = ap txn_in plan.spells ∙ read_again m v d (tables_at n) p plan.txn (tree_at n) stand few_tags m_small low can_be planned_there
 
     stands_with : StandsWith n value (txn_in value)
     stands_with = subst (StandsWith n value) (sym value_read) with_txn

@@ -1,8 +1,7 @@
 -- The blocks that a call tags and frees, on tables whose tags are those of file data.
-use Rattle.std.proofs.Common.{◌≡◌, ℕ, zero, suc, ◌-◌, ◌*◌, ◌/◌, ◌≤◌, inl, inr, true, not, ◌&&◌, ◌==◌, cond, nat_lt, List, [], ◌∷◌, length, take, drop, replicate, set, Option, Some, None, is_some, arith, refl, sym, ◌∙◌}
+use Rattle.std.proofs.Common.{◌≡◌, ℕ, suc, ◌-◌, ◌/◌, ◌≤◌, inl, inr, true, not, ◌&&◌, ◌==◌, cond, nat_lt, List, [], ◌∷◌, length, take, drop, replicate, set, Option, Some, None, is_some, arith, refl, sym, ◌∙◌}
 use Rattle.std.specs.List.{range_with_len}
 use Rattle.std.specs.Option.{option_and_then}
-use Rattle.std.proofs.Math.Nat.{mul-le-mul}
 use Rattle.std.proofs.lemmas.Bool.{cases_lt, cases_eq}
 use Rattle.std.proofs.lemmas.Option.{none-some}
 use Rattle.std.proofs.lemmas.List.{get_or-set_other, get_or_past, get_or-replicate, length-replicate}
@@ -27,18 +26,10 @@ use Rattle.pf_tree.specs.Trees.{blocks_at, block_count, size_at, written_size}
 use Rattle.pf_tree.proofs.Tags.{is_tag_parts}
 use Rattle.pf_inodes.specs.declared.changes.Txn.{Txn}
 use Rattle.pf_files.specs.Calls.{applied_in, data_of}
+use Rattle.pf_plans.proofs.Lists.{every_drop, every_take}
+use Rattle.pf_plans.proofs.Planned.{few_blocks}
 use Rattle.pf_mounted.specs.Sound.{AreSound, HasDataTags, IsDataChange, IsDataTxn}
 use Rattle.pf_mounted.proofs.Respelling.{IsDataBlock, IsDataPlan}
-
-pub every_take : {X : Type 0} → (P : X → Type 0) (n : ℕ) (xs : List X) → Every P xs → Every P (take n xs)
-every_take P zero xs each = tt
-every_take P (suc n) [] each = tt
-every_take P (suc n) (x ∷ xs) each = (each.0, every_take P n xs each.1)
-
-pub every_drop : {X : Type 0} → (P : X → Type 0) (n : ℕ) (xs : List X) → Every P xs → Every P (drop n xs)
-every_drop P zero xs each = each
-every_drop P (suc n) [] each = tt
-every_drop P (suc n) (x ∷ xs) each = every_drop P n xs each.1
 
 -- Plans
 
@@ -165,10 +156,6 @@ none_tagged n b tag is =
       | inl low ↦ none-some tag (sym (get_or-replicate n b None None low) ∙ is)
       | inr past ↦ none-some tag (sym (get_or_past (replicate n None) b None (omega (arith, past, length-replicate {A = Option Tag} n None))) ∙ is)
     ]
-
--- of eight chunks of 4,096 sectors at most
-pub few_blocks : (v : Extent) → IsVolume v → size_of v / 8 ≤ 4096
-few_blocks v is = let most : v.chunks * v.sectors ≤ 8 * 4096 = mul-le-mul is.few_chunks is.few_sectors in omega (arith, most)
 
 pub new_sound : (v : Extent) → IsVolume v → AreSound v (new_tables (size_of v / 8))
 new_sound v is = record {

@@ -1,14 +1,13 @@
 -- What was told of a chunk tells what its ports did.
-use Rattle.std.proofs.Common.{◌≡◌, ◌≢◌, ℕ, suc, ◌<◌, ◌≤◌, inl, inr, true, cond, if◌then◌else◌, List, [], ◌∷◌, ◌++◌, length, Option, Some, None, slice_get, arith, refl, sym, ap, subst, ◌∙◌}
+use Rattle.std.proofs.Common.{◌≡◌, ◌≢◌, ℕ, suc, ◌<◌, inl, inr, true, cond, if◌then◌else◌, List, [], ◌∷◌, ◌++◌, length, Option, Some, None, slice_get, arith, refl, sym, ap, subst, ◌∙◌}
 use Rattle.std.proofs.lemmas.Bool.{cases_eq}
-use Rattle.std.proofs.lemmas.List.{length-append}
 use Rattle.std.proofs.lemmas.Option.{none-some, same_Some, slice_get_within}
 use Rattle.pf_base.specs.Asks.{chunk_of}
 use Rattle.pf_base.specs.declared.asks.Ask.{Ask}
 use Rattle.pf_base.specs.declared.asks.Reply.{Reply}
 use Rattle.pf_entry.specs.Lists.{Every}
 use Rattle.pf_entry.proofs.Lists.{every_append, every_more}
-use Rattle.pf_protocol.specs.Histories.{History, IsPrefix, replay}
+use Rattle.pf_protocol.specs.Histories.{History, replay}
 use Rattle.pf_protocol.specs.Servers.{Setup}
 use Rattle.pf_ports.specs.pf_network.specs.Shown.{IsLeader}
 use Rattle.pf_ports.specs.pf_network.proofs.Lists.{set_elsewhere, set_there}
@@ -18,6 +17,7 @@ use Rattle.pf_asks.specs.Ports.{DrivesFrom, Hands as HandsTo, IsHanded, IsLed, P
 use Rattle.pf_move.specs.declared.mover.Asked.{Asked}
 use Rattle.pf_ports.specs.Calls.{Past, Says}
 use Rattle.pf_ports.specs.Driven.{IsDriven, IsStep, Others, Puts}
+use Rattle.pf_service.proofs.Places.{prefix_long}
 use Rattle.pf_world.specs.pf_applyrounds.specs.Chunks.{Chunk}
 use Rattle.pf_world.specs.pf_chunk.specs.Asks.{leader_of, reply_to}
 use Rattle.pf_world.specs.pf_chunk.specs.Driving.{asked, asked_at}
@@ -54,9 +54,6 @@ pub record IsAsTold (known : Type 0) (count : ℕ) (told : List Moment) (k : ℕ
 abbrev pub AreAsTold : (known : Type 0) (count : ℕ) → List Moment → List ChunkRun → Type 0
 AreAsTold known count told chunks = (k : ℕ) (c : ChunkRun) → slice_get chunks k ≡ Some c → IsAsTold known count told k c
 
-pub prefix_length : (earlier history : History) → IsPrefix earlier history → length earlier ≤ length history
-prefix_length earlier history p = omega (arith, length-append earlier p.rest, ap length p.whole)
-
 -- Others make events; the mover's port is as it was, and where those of mounts are known, so are they
 
 module _ (known : Type 0) (count : ℕ) (told : List Moment) (k : ℕ) (c d : ChunkRun) (ports : known → d.ports ≡ c.ports) (movers : slice_get d.ports mover_port ≡ slice_get c.ports mover_port) (g : Grows c.group d.group) (is : IsAsTold known count told k c) where
@@ -74,7 +71,7 @@ module _ (known : Type 0) (count : ℕ) (told : List Moment) (k : ℕ) (c d : Ch
   regrown = record {
     number = g.number ∙ is.number;
     stands = g.stands is.stands;
-    within = every_more (IsWithin k (length c.group.history)) (IsWithin k (length d.group.history)) (within_more k (length c.group.history) (length d.group.history) (prefix_length c.group.history d.group.history g.later)) told is.within;
+    within = every_more (IsWithin k (length c.group.history)) (IsWithin k (length d.group.history)) (within_more k (length c.group.history) (length d.group.history) (prefix_long c.group.history d.group.history g.later)) told is.within;
     driven = λ of_mounts m small.
         let was = is.driven of_mounts m small in
         let same : trace_of d.group.history m k count told ≡ trace_of c.group.history m k count told =

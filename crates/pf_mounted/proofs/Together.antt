@@ -31,12 +31,13 @@ use Rattle.pf_inodes.specs.declared.changes.Txn.{Txn}
 use Rattle.pf_txn.specs.Spelling.{spell_txn}
 use Rattle.pf_txn.proofs.TxnLaws.{txn_found}
 use Rattle.pf_world.specs.pf_hosts.specs.Moments.{Heard, Moment, Hands, Turns}
+use Rattle.pf_service.specs.Services.{port_reply}
 use Rattle.pf_mounted.specs.Epochs.{epoch_of}
 use Rattle.pf_mounted.specs.Fitting.{IsOfRun}
 use Rattle.pf_mounted.specs.Finding.{HasPutIn}
 use Rattle.pf_mounted.specs.Handing.{AreCallsOfWords, AreMountsAlone}
 use Rattle.pf_mounted.specs.Hosted.{groups_of}
-use Rattle.pf_mounted.specs.Journals.{AreOfMounts, CanBeDoings, FindsValue, IsTurn, call_of, client_of, deeds, doings, port_reply}
+use Rattle.pf_mounted.specs.Journals.{AreOfMounts, CanBeDoings, FindsValue, IsTurn, call_of, client_of, deeds, doings}
 use Rattle.pf_mounted.specs.Lists.{HasOneList}
 use Rattle.pf_mounted.specs.Mounts.{Life, last_ask, life_of, mount_after, mount_in, next_ask}
 use Rattle.pf_mounted.specs.Sound.{IsDataValue, IsSound, IsSoundWork}

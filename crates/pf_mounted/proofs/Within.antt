@@ -11,6 +11,7 @@ use Rattle.pf_base.specs.declared.asks.Reply.TheVariants.{Bytes, Written}
 use Rattle.pf_entry.proofs.Cases.{by_test}
 use Rattle.pf_entry.proofs.Lists.{every_get, set_there}
 use Rattle.pf_ports.specs.pf_network.proofs.Lists.{set_length}
+use Rattle.pf_service.proofs.Places.{prefix_long}
 use Rattle.pf_asks.specs.Ports.{PortIs}
 use Rattle.pf_volume.specs.Volumes.{Extent}
 use Rattle.pf_move.specs.declared.mover.Asked.{Asked}
@@ -55,7 +56,6 @@ use Rattle.pf_mounted.proofs.Routed.{IsRouted, RoutedOf, began_routed, carries_r
 use Rattle.pf_mounted.proofs.Routing.{old_one}
 use Rattle.pf_mounted.proofs.Running.{new_group}
 use Rattle.pf_mounted.proofs.Starting.{new_routes}
-use Rattle.pf_mounted.proofs.Telling.{prefix_length}
 use Rattle.pf_mounted.proofs.Throughout.{HoldsOf, IsKeptByParts, throughout}
 use Rattle.pf_mounted.proofs.Tracing.{is_of}
 use Rattle.pf_mounted.proofs.Wanted.{AreFree, AreWanted, carries_wanted, free_of, hauled_free, hauled_role, hauls_wanted, put_apart, role_asked, same_ports, wanted_still}
@@ -96,7 +96,7 @@ events_grow old new grow k = by (slice_get old k) refl
     by None there = omega arith
     by (Some c) there =
         let to = grow k c there in
-        let more = prefix_length c.group.history to.now.group.history to.grows.later in
+        let more = prefix_long c.group.history to.now.group.history to.grows.later in
         subst (λ o. length c.group.history ≤ events_of o) (sym to.there) more
 
 low_grown : (old new : List ChunkRun) (told : List Moment) → AllGrow old new → AreLow old told → AreLow new told

@@ -2,11 +2,10 @@
 use Rattle.std.specs.Prelude.{◌≡◌, ℕ, ◌+◌, ◌*◌, ◌<◌, ◌≤◌, Bool, true, false, if◌then◌else◌, List, [], ◌∷◌, ◌++◌, length, map, Option, Some, None}
 use Rattle.std.specs.Option.{option_map}
 use Rattle.pf_base.specs.declared.asks.Ask.{Ask}
-use Rattle.pf_base.specs.declared.asks.Ask.TheVariants.{Write, Read}
+use Rattle.pf_base.specs.declared.asks.Ask.TheVariants.{Read}
 use Rattle.pf_base.specs.declared.asks.Reply.{Reply}
 use Rattle.pf_base.specs.declared.asks.Reply.TheVariants.{Written, Bytes}
 use Rattle.pf_base.specs.Asks.{Answers, chunk_of, span_of}
-use Rattle.pf_entry.specs.declared.ops.Op.TheVariants as ops
 use Rattle.pf_protocol.specs.Groups.{Answered}
 use Rattle.pf_volume.specs.Volumes.{Extent}
 use Rattle.pf_paxos.specs.declared.proposer.Next.{Next as BallotNext}
@@ -15,13 +14,14 @@ use Rattle.pf_paxos.specs.Proposers.{ProposerIs, read_in, written_in}
 use Rattle.pf_paxos.specs.Registers.{AsksRead, Gives}
 use Rattle.pf_paxos.specs.Runs.{Call, Starts, IsWritten, IsRead, idle_turn}
 use Rattle.pf_paxos.specs.Journals.{Doing, Does, Reads}
-use Rattle.pf_positions.specs.Deeds.{Deed, Takes, Submits, PortAsk, Puts, Gets, PortReply, Put, Got}
+use Rattle.pf_positions.specs.Deeds.{Deed, Takes, Submits}
 use Rattle.pf_journal.specs.Sectors.{HasSpelling}
 use Rattle.pf_mount.specs.declared.work.Work.{Work}
 use Rattle.pf_tree.specs.declared.calls.FileCall.{FileCall}
 use Rattle.pf_mount.specs.declared.work.Work.TheVariants.{Ballots, Moves, Rests, Syncs}
 use Rattle.pf_mount.specs.Mounts.{MountIs, answered, blocks_in, finds_value, opening, starting}
 use Rattle.pf_world.specs.pf_hosts.specs.Moments.{Heard, Moment, Begins, Turns, Hands}
+use Rattle.pf_service.specs.Services.{port_ask, port_reply}
 use Rattle.pf_mounted.specs.Epochs.{Home, epoch_of, home_of}
 use Rattle.pf_mounted.specs.Mounts.{Life, ask_in, last_ask, life_of, mount_after, mount_in, turned}
 
@@ -33,16 +33,6 @@ pub record Step : Type 0 where
 -- nothing, in each position of the journal
 abbrev pub nothing : Doing
 nothing = Reads 256 idle_turn
-
-abbrev pub port_ask : Ask → PortAsk
-port_ask (Write chunk span sectors) = Puts chunk (ops.Write span sectors)
-port_ask (Read chunk span) = Gets chunk span
-
--- the reply to an ask, from the group of an epoch of its chunk after so many events. (Bytes are those of an answer of the group)
-abbrev pub port_reply : Ask → (epoch by : ℕ) → Answered → Reply → Option PortReply
-port_reply (Write chunk span sectors) epoch by answer Written = Some (Put chunk epoch by (ops.Write span sectors))
-port_reply (Read chunk span) epoch by answer (Bytes sectors) = Some (Got chunk epoch by answer)
-port_reply ask epoch by answer reply = None
 
 -- the reads of a sync are those of another client than the mount's proposer
 abbrev pub client_of : (m : ℕ) → Work → ℕ

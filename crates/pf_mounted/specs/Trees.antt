@@ -1,15 +1,16 @@
 -- The user's tree, by the calls that transactions name.
-use Rattle.std.specs.Prelude.{◌≡◌, ℕ, zero, suc, ◌/◌, ◌<◌, ◌^◌, ◌==◌, if◌then◌else◌, unwrap_or, List, [], ◌∷◌, ◌++◌, length, Option, Some, None, slice_get}
+use Rattle.std.specs.Prelude.{◌≡◌, ℕ, ◌/◌, ◌<◌, ◌^◌, ◌==◌, if◌then◌else◌, List, [], ◌∷◌, ◌++◌, length, Option, Some, None}
 use Rattle.std.specs.List.{filter_map, fold}
 use Rattle.std.specs.Option.{option_and_then}
 use Rattle.pf_protocol.specs.Groups.{Answered}
 use Rattle.pf_volume.specs.Volumes.{Extent, size_of}
 use Rattle.pf_inodes.specs.declared.changes.Txn.{Txn}
 use Rattle.pf_tree.specs.declared.calls.FileCall.{FileCall}
-use Rattle.pf_tree.specs.Trees.{Data, Tree, changed, new_tree}
+use Rattle.pf_tree.specs.Trees.{Data, Tree, new_tree}
 use Rattle.pf_txn.specs.Reading.{txn_in}
 use Rattle.pf_paxos.specs.Journals.{AreAllRegisters, Begins as BeginsList, IsTransactionList, journal_before}
 use Rattle.pf_world.specs.pf_hosts.specs.Moments.{Moment, Begins}
+use Rattle.pf_plans.specs.Numbered.{numbered, tree_with}
 use Rattle.pf_mounted.specs.Journals.{AreOfMounts, CanBeDoings, doings}
 use Rattle.pf_mounted.specs.Mounts.{RestsIn, life_of}
 
@@ -20,11 +21,6 @@ call_begun m moment = None
 -- the calls of mount m, in the order in which they began
 abbrev pub calls_of : List Moment → (m : ℕ) → List FileCall
 calls_of told m = filter_map (call_begun m) told
-
--- they have the numbers from 1 on
-abbrev pub numbered : List FileCall → (number : ℕ) → Option FileCall
-numbered calls zero = None
-numbered calls (suc before) = slice_get calls before
 
 -- the call of mount m with this number, in what was told
 abbrev pub call_named : List Moment → (m number : ℕ) → Option FileCall
@@ -37,11 +33,6 @@ call_in told value = option_and_then (λ (txn : Txn). call_named told txn.mount 
 -- file data begin at block 513
 abbrev pub data_blocks : Extent → Data
 data_blocks v = record { first = 513; blocks = size_of v / 8 }
-
--- the tree after a call, or the same tree where there is none
-abbrev pub tree_with : Data → Tree → Option FileCall → Tree
-tree_with d tree None = tree
-tree_with d tree (Some call) = unwrap_or (changed d tree call) tree
 
 -- the root alone, changed by the calls that the values name, one after another
 abbrev pub tree_after : Extent → List Moment → (values : List (List ℕ)) → Tree

@@ -13,13 +13,14 @@ use Rattle.pf_positions.specs.Deeds.{Deed, Fits, Groups, IsHanded, IsPending, Is
 use Rattle.pf_positions.proofs.Worked.{next_there}
 use Rattle.pf_ports.specs.Calls.{fetching}
 use Rattle.pf_registers.specs.Firsts.{IsPorts}
+use Rattle.pf_registers.proofs.Lists.{got_mapped}
 use Rattle.pf_service.specs.Served.{AreLegal, IsServed}
 use Rattle.pf_service.specs.Services.{Service, by_moment, groups_of, writes_of}
 use Rattle.pf_service.proofs.Answering.{IsGot, IsPut}
 use Rattle.pf_service.proofs.Driving.{Stood, driven, stood}
 use Rattle.pf_service.proofs.Going.{serving_low}
 use Rattle.pf_service.proofs.Handing.{AreHanded, ByRead, ByWrite, Hand, handed}
-use Rattle.pf_service.proofs.Places.{get_mapped, map_get}
+use Rattle.pf_service.proofs.Places.{map_get}
 use Rattle.pf_service.proofs.Settling.{answered}
 use Rattle.pf_service.proofs.Telling.{served_by, told}
 
@@ -38,7 +39,7 @@ module _ (chunk : ℕ) (s : Service) (ds : List Deed) (moved : (chunk epoch : �
 
   module _ (e m : ℕ) (small : m < 16) (x : Stood s e m) where
     of_list : (k : ℕ) (a : Submission) → slice_get (writes_of s e m) k ≡ Some a → (b : Submission) × (slice_get (s.writes e m) k ≡ Some b) × (by_moment b ≡ a)
-    of_list k a at = get_mapped by_moment (s.writes e m) k a (ap (λ (l : List Submission). slice_get l k) (sym (small_writes s e m small)) ∙ at)
+    of_list k a at = got_mapped by_moment (s.writes e m) k a (ap (λ (l : List Submission). slice_get l k) (sym (small_writes s e m small)) ∙ at)
 
     in_front : (k : ℕ) (a b : Submission) → slice_get (writes_of s e m) k ≡ Some a → slice_get (writes_of s e m) (suc k) ≡ Some b → length a.before < length b.before
     in_front k a b at its =
@@ -112,7 +113,7 @@ module _ (chunk : ℕ) (s : Service) (ds : List Deed) (moved : (chunk epoch : �
     there = ap (λ (l : List Submission). slice_get l p.k) (small_writes s e m p.small) ∙ map_get by_moment (s.writes e m) p.k p.submission p.there;
     is_it = ap pred p.number;
     is_last = λ j z at same.
-        let q = get_mapped by_moment (s.writes e m) j z (ap (λ (l : List Submission). slice_get l j) (sym (small_writes s e m p.small)) ∙ at) in
+        let q = got_mapped by_moment (s.writes e m) j z (ap (λ (l : List Submission). slice_get l j) (sym (small_writes s e m p.small)) ∙ at) in
         let number = (h.write e m j q.0 q.1).number in
         p.is_last j q.0 q.1 (number ∙ ap suc (sym (ap pred number) ∙ ap (λ (y : Submission). y.write) q.2 ∙ same));
     slot = p.slot;

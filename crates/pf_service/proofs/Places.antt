@@ -66,12 +66,6 @@ front (x ∷ xs) ys (suc k) low = front xs ys k (omega (arith, low))
 pub one_longer : {X : Type 0} → (xs : List X) (x : X) → length (xs ++ x ∷ []) ≡ suc (length xs)
 one_longer xs x = omega (arith, length-append xs (x ∷ []))
 
--- what stands in a mapped list is of what stood there
-pub get_mapped : {X Y : Type 0} → (f : X → Y) (xs : List X) (k : ℕ) (y : Y) → slice_get (map f xs) k ≡ Some y → (x : X) × (slice_get xs k ≡ Some x) × (f x ≡ y)
-get_mapped f [] k y at = absurd (none-some y at)
-get_mapped f (x ∷ xs) zero y at = (x, refl, same_Some (f x) y at)
-get_mapped f (x ∷ xs) (suc k) y at = get_mapped f xs k y at
-
 pub map_get : {X Y : Type 0} → (f : X → Y) (xs : List X) (k : ℕ) (x : X) → slice_get xs k ≡ Some x → slice_get (map f xs) k ≡ Some (f x)
 map_get f [] k x at = absurd (none-some x at)
 map_get f (z ∷ zs) zero x at = ap (λ y. Some (f y)) (same_Some z x at)

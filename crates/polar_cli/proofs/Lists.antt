@@ -1,5 +1,5 @@
 -- A run of a script's lines has one list.
-use Rattle.std.proofs.Common.{◌≡◌, ℕ, ◌^◌, ◌<◌, true, false, List, [], ◌∷◌, ◌++◌, length, refl, ap, sym, subst}
+use Rattle.std.proofs.Common.{◌≡◌, ℕ, ◌^◌, ◌<◌, true, false, List, [], ◌∷◌, ◌++◌, length, Some, refl, ap, sym, subst}
 use Rattle.pf_entry.specs.Lists.{Every}
 use Rattle.pf_applyrounds.specs.Halts.{Halt}
 use Rattle.pf_script.specs.declared.command.Command.{Command}
@@ -7,6 +7,7 @@ use Rattle.pf_script.specs.declared.command.Command.TheVariants as commands
 use Rattle.pf_script.specs.declared.named.Named.{Named}
 use Rattle.pf_script.specs.Lines.{named_after}
 use Rattle.pf_volume.specs.Volumes.{Extent, IsVolume as IsExtent}
+use Rattle.pf_world.specs.pf_fleet.specs.Volumes.{AnchoredHosts}
 use Rattle.pf_threads.specs.Sessions.{Session}
 use Rattle.pf_world.specs.declared.line.Line.{Line}
 use Rattle.pf_world.specs.Headline.{IsLawfulRun}
@@ -15,9 +16,10 @@ use Rattle.pf_world.specs.Steps.{MayRun, MayRunAll}
 use Rattle.pf_world.specs.Views.{IsWorld, WorldIs, stands_at}
 use Rattle.pf_world.specs.Worlds.{World}
 use Rattle.pf_world.proofs.Begun.{volume_extent}
-use Rattle.pf_mounted.specs.Lists.{HasOneList}
-use Rattle.pf_mounted.specs.Moving.{AreRoutedSectors}
-use Rattle.pf_mounted.specs.Scripts.{IsScript, makes_volume}
+use Rattle.pf_anchored.specs.Lists.{HasOneListOver}
+use Rattle.pf_anchored.specs.pf_mounted.specs.Lists.{HasOneList}
+use Rattle.pf_anchored.specs.pf_mounted.specs.Moving.{AreRoutedSectors}
+use Rattle.pf_anchored.specs.pf_mounted.specs.Scripts.{IsScript, makes_volume}
 use Rattle.polar_cli.specs.Placed.{MakesVolume}
 
 -- what is known of every script
@@ -25,6 +27,11 @@ abbrev pub HaveLists : Type 0
 HaveLists =
     (halts : List Halt) (sessions : List Session) (lines : List Line) → IsScript lines → let run = world_run halts sessions lines in
     IsLawfulRun run.world → IsExtent run.world.volume.extent → length lines < 2 ^ 32 → 0 < length run.world.volume.hosts → HasOneList run.world.volume.extent run.world.volume.chunks run.told
+
+abbrev pub HaveListsOver : Type 0
+HaveListsOver =
+    (halts : List Halt) (sessions : List Session) (lines : List Line) (hosts : AnchoredHosts) → IsScript lines → let run = world_run halts sessions lines in
+    IsLawfulRun run.world → IsExtent run.world.volume.extent → length lines < 2 ^ 32 → run.world.volume.anchored ≡ Some hosts → 0 < length hosts → HasOneListOver run.world.volume run.told hosts
 
 abbrev pub HaveRegisters : Type 0
 HaveRegisters =
@@ -57,6 +64,9 @@ module _ (halts : List Halt) (sessions : List Session) (first : Line) (done rest
 
   pub lists_of : HaveLists → length (first ∷ done) < 2 ^ 32 → let run = world_run halts sessions (first ∷ done) in 0 < length run.world.volume.hosts → HasOneList run.world.volume.extent run.world.volume.chunks run.told
   lists_of have few some = have halts sessions (first ∷ done) script lawful extent few some
+
+  pub lists_over_of : HaveListsOver → length (first ∷ done) < 2 ^ 32 → let run = world_run halts sessions (first ∷ done) in (hosts : AnchoredHosts) → run.world.volume.anchored ≡ Some hosts → 0 < length hosts → HasOneListOver run.world.volume run.told hosts
+  lists_over_of have few hosts over some = have halts sessions (first ∷ done) hosts script lawful extent few over some
 
   pub registers_of : HaveRegisters → let run = world_run halts sessions (first ∷ done) in 0 < length run.world.volume.hosts → AreRoutedSectors run.world.volume.extent run.world.volume.chunks run.told
   registers_of have some = have halts sessions (first ∷ done) script lawful extent some

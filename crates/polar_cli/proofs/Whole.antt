@@ -1,5 +1,5 @@
 -- The lines of a script are run on disks.
-use Rattle.std.proofs.Common.{◌≡◌, ℕ, Bool, IsTrue, ◌*◌, ◌<◌, ◌≤◌, List, [], ◌∷◌, ◌++◌, length, drop, get_or, Option, Some, Ok, Err, slice_get, refl, ap, sym, subst, ◌∙◌, append-nil, arith, lit≤, drop-cons, length-append, length-drop}
+use Rattle.std.proofs.Common.{◌≡◌, ℕ, Bool, IsTrue, ◌*◌, ◌^◌, ◌<◌, ◌≤◌, List, [], ◌∷◌, ◌++◌, length, drop, get_or, Option, Some, Ok, Err, slice_get, refl, ap, sym, subst, ◌∙◌, append-nil, arith, lit≤, drop-cons, length-append, length-drop}
 use Rattle.std.proofs.lemmas.Option.{slice_get_within}
 use Rattle.pf_disk.specs.Crashes.{Images}
 use Rattle.pf_script.specs.declared.command.Command.{Command}
@@ -7,6 +7,7 @@ use Rattle.pf_script.specs.declared.command.Command.TheVariants as commands
 use Rattle.pf_script.specs.Lines.{first_named}
 use Rattle.pf_applyrounds.specs.Halts.{Halt}
 use Rattle.pf_chunk.specs.Views.{ChunkIs}
+use Rattle.pf_world.specs.pf_fleet.specs.Volumes.{AnchoredHosts}
 use Rattle.pf_threads.specs.Sessions.{Session}
 use Rattle.pf_world.specs.declared.line.Line.{Line}
 use Rattle.pf_world.specs.Agreeing.{Tells}
@@ -27,9 +28,10 @@ use Rattle.polar_cli.specs.Placed.{ArePlaced, MakesVolume, IsWhole}
 use Rattle.polar_cli.specs.Scripts.{Judged, script_of}
 use Rattle.polar_cli.specs.Reports.{judged_lines}
 use Rattle.polar_cli.specs.Running.{Counts, HasGoneOn, HasNotOpened, HasOpened, HasRunLines, HasRunTo, IsRuled, LeavesWorld, Stops, acked_count}
-use Rattle.pf_mounted.specs.Lists.{HasOneList}
-use Rattle.pf_mounted.specs.Moving.{AreRoutedSectors}
-use Rattle.polar_cli.proofs.Lists.{HaveLists, HaveRegisters, lists_of, registers_of}
+use Rattle.pf_anchored.specs.Lists.{HasOneListOver}
+use Rattle.pf_anchored.specs.pf_mounted.specs.Lists.{HasOneList}
+use Rattle.pf_anchored.specs.pf_mounted.specs.Moving.{AreRoutedSectors}
+use Rattle.polar_cli.proofs.Lists.{HaveLists, HaveListsOver, HaveRegisters, lists_of, lists_over_of, registers_of}
 use Rattle.polar_cli.proofs.Made.{have_enough, more_made, new_made, numbered, still_spare}
 use Rattle.polar_cli.proofs.Opening.{bare, begun_passed, begun_sound, none_begun, volume_of}
 use Rattle.polar_cli.proofs.Placing.{whole_script}
@@ -108,12 +110,15 @@ module _ {D : Type 0} (seen : D → Option (List ℕ)) (may_leave : D → Images
   abbrev HasLists : List Halt → List Session → List Line → Type 0
   HasLists halts sessions done = let run = world_run halts sessions done in 0 < length run.world.volume.hosts → HasOneList run.world.volume.extent run.world.volume.chunks run.told
 
+  abbrev HasListsOver : List Halt → List Session → List Line → Type 0
+  HasListsOver halts sessions done = let run = world_run halts sessions done in (hosts : AnchoredHosts) → run.world.volume.anchored ≡ Some hosts → 0 < length hosts → HasOneListOver run.world.volume run.told hosts
+
   -- what a list of halts that tells of the world that is left says of the run
   abbrev HasRegisters : List Halt → List Session → List Line → Type 0
   HasRegisters halts sessions done = let run = world_run halts sessions done in 0 < length run.world.volume.hosts → AreRoutedSectors run.world.volume.extent run.world.volume.chunks run.told
 
   went_by_rules : (done : List Line) (text : List ℕ) (before after : List D) (world left : WorldIs) (halts : List Halt) (run : RunsTo done text world) → IsSoundWorld world → IsSoundWorld left → Tells halts world → AreHalts faults halts before after left
-      → (IsLawfulRun (world_run halts run.sessions done).world → HasLists halts run.sessions done × HasRegisters halts run.sessions done) → IsRuled faults run.sessions done text before after world left
+      → (IsLawfulRun (world_run halts run.sessions done).world → HasLists halts run.sessions done × HasListsOver halts run.sessions done × HasRegisters halts run.sessions done) → IsRuled faults run.sessions done text before after world left
   went_by_rules done text before after world left halts run sound sound_left tell told lists =
       let ran : IsRunTo halts run.sessions [] done text world = subst (λ ss. IsRunTo halts ss [] done text world) (append-nil run.sessions) (run.run halts [] tell) in
       let same : stands_at halts [] world ≡ (world_run halts run.sessions done).world = sym ran.world in
@@ -128,7 +133,8 @@ module _ {D : Type 0} (seen : D → Option (List ℕ)) (may_leave : D → Images
           sectors_are_applied_writes = λ k c earlier at part. (safe k c at earlier part).in_order;
           acknowledged_writes_stay = λ k c earlier at part. (safe k c at earlier part).acknowledged;
           one_list = (lists lawful).0;
-          sectors_are_registers = (lists lawful).1;
+          one_list_over_anchors = (lists lawful).1.0;
+          sectors_are_registers = (lists lawful).1.1;
           ends = ran.ends;
           shown = ran.report;
         };
@@ -138,11 +144,11 @@ module _ {D : Type 0} (seen : D → Option (List ℕ)) (may_leave : D → Images
       }
 
   -- the volume was made, lines were run, and the world was closed
-  pub ran_lines : HaveLists → HaveRegisters → (status : Status) (acked : ℕ × ℕ) (lines : List Line) (d : Line) (text : List ℕ) (taken now : Option (List ℕ)) (full : Type 0) (before after : List D) (old new : WorldOn D) → IsWhole lines → 0 < length lines → 48 ≤ length before
+  pub ran_lines : HaveLists → HaveListsOver → HaveRegisters → (status : Status) (acked : ℕ × ℕ) (lines : List Line) (d : Line) (text : List ℕ) (taken now : Option (List ℕ)) (full : Type 0) (before after : List D) (old new : WorldOn D) → IsWhole lines → 0 < length lines → 48 ≤ length before
       → HasOpened faults (get_or lines 0 d) text before old → HasGoneOn status (get_or lines 0 d) (drop 1 lines) taken now full old.world new.world → HasMadeMore faults old new → (IsTrue tells → acked ≡ (acked_count new.world 0, acked_count new.world 1))
       → ((given : List D) → drop (6 * length new.world.chunks) given ≡ new.spare → 6 * length new.world.chunks ≤ length given → AreLeft seen may_leave faults moment left_since tells tells_moments new.world.chunks given after)
       → HasRunLines seen may_leave faults moment left_since tells tells_moments status acked lines taken now full before after
-  ran_lines have registers status acked lines d text taken now full before after old new whole some enough opened gone made_more counted closed =
+  ran_lines have over registers status acked lines d text taken now full before after old new whole some enough opened gone made_more counted closed =
       let small : length old.world.chunks ≤ 8 = is_few (length old.world.chunks) (get_or lines 0 d).command opened.volume in
       let had : 6 * length old.world.chunks ≤ length before = omega (arith, small, enough) in
       let made = new_made faults before old.world opened.fresh in
@@ -164,9 +170,10 @@ module _ {D : Type 0} (seen : D → Option (List ℕ)) (may_leave : D → Images
       went_by_rules (get_or lines 0 d ∷ gone.done) gone.text before after gone.world new.world halts gone.run gone.lawful gone.lawful_left earlier told
       (λ lawful.
       let may = subst (MayRunAll (first_named (length old.world.chunks))) (sym gone.first) (rest_may_run lines d (length old.world.chunks) whole opened.volume) in
-      let stands = ap (λ ss. (world_run halts ss (get_or lines 0 d ∷ gone.done)).world) (sym (append-nil gone.run.sessions)) ∙ (gone.run.run halts [] earlier).world in (
-        lists_of halts gone.run.sessions (get_or lines 0 d) gone.done gone.rest (length old.world.chunks) (first_named (length old.world.chunks)) gone.world opened.volume may gone.is_world stands lawful have
-            (omega (arith, whole.few, ap length gone.first, length-append gone.done gone.rest, length-drop 1 lines)),
+      let stands = ap (λ ss. (world_run halts ss (get_or lines 0 d ∷ gone.done)).world) (sym (append-nil gone.run.sessions)) ∙ (gone.run.run halts [] earlier).world in
+      let few : length (get_or lines 0 d ∷ gone.done) < 2 ^ 32 = omega (arith, whole.few, ap length gone.first, length-append gone.done gone.rest, length-drop 1 lines) in (
+        lists_of halts gone.run.sessions (get_or lines 0 d) gone.done gone.rest (length old.world.chunks) (first_named (length old.world.chunks)) gone.world opened.volume may gone.is_world stands lawful have few,
+        lists_over_of halts gone.run.sessions (get_or lines 0 d) gone.done gone.rest (length old.world.chunks) (first_named (length old.world.chunks)) gone.world opened.volume may gone.is_world stands lawful over few,
         registers_of halts gone.run.sessions (get_or lines 0 d) gone.done gone.rest (length old.world.chunks) (first_named (length old.world.chunks)) gone.world opened.volume may gone.is_world stands lawful registers,
       )) in
       record {

@@ -10,10 +10,11 @@ ghost use Rattle.polar_cli.specs.Running.{HasGoneOn, HasNotOpened, HasOpened, Ha
 
 use crate::ends::write_all;
 use crate::status::Status;
+use pf_anchored::pf_mounted::{runs_have_one_list, sectors_of_runs_are_registers};
+use pf_anchored::runs_over_anchors_have_one_list;
 use pf_copy::{Gate, Workers};
 use pf_disk::Disk;
 use pf_io::Sink;
-use pf_mounted::{runs_have_one_list, sectors_of_runs_are_registers};
 use pf_report::put_answer;
 use pf_script::Command;
 use pf_world::{Line, World};
@@ -105,6 +106,7 @@ pub fn run_lines<K: Sink, D: Disk + Drop + Send, R: Threads + Wait + Sync, G: Ga
     ensures { HasRunLines D.seen D.may_leave D.faults D.moment D.left_since D.tells D.tells_moments result.0 result.1 lines.now (K.taken sink.old) (K.taken sink.new) (Rose (K.faults sink.old) (K.faults sink.new)) disks.old.items disks.new.items }
 {
     runs_have_one_list();
+    runs_over_anchors_have_one_list();
     sectors_of_runs_are_registers();
     let [volume, rest @ ..] = lines else {
         unreachable!()

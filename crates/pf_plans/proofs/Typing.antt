@@ -23,8 +23,8 @@ use Rattle.pf_tree.specs.Trees.{Data, Tree, block_count, blocks_at, file_refusal
 use Rattle.pf_tree.proofs.Law.{few_blocks, first_none, when_none, written_few}
 use Rattle.pf_tree.proofs.Steps.{used_within}
 use Rattle.pf_txn.specs.Fields.{IsTypedChange}
-use Rattle.pf_anchortrees.proofs.Lists.{every_drop, every_take}
-use Rattle.pf_anchortrees.specs.Spelled.{HasByteName, IsByteCall}
+use Rattle.pf_plans.proofs.Lists.{every_drop, every_take}
+use Rattle.pf_plans.specs.Spelled.{HasByteName, IsByteCall}
 
 -- Numbers
 

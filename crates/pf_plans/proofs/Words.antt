@@ -14,7 +14,7 @@ use Rattle.pf_tree.specs.declared.calls.FileCall.TheVariants.{Mkdir, Create, Wri
 use Rattle.pf_tree.specs.Standing.{IsCall}
 use Rattle.pf_txn.specs.Fields.{IsByte}
 use Rattle.pf_txn.specs.Spelling.{IsShort, IsShortCall}
-use Rattle.pf_anchortrees.specs.Spelled.{CanBeSpelled, HasByteName, IsByteCall}
+use Rattle.pf_plans.specs.Spelled.{CanBeSpelled, HasByteName, IsByteCall}
 
 -- Short names
 

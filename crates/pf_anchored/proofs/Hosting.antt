@@ -1,0 +1,248 @@
+-- A host over anchors stays the mount of its life as it hears, asks and hands on, and while others do.
+use Rattle.std.proofs.Common.{◌≡◌, ◌≢◌, ◌⊎◌, ℕ, ◌<◌, ◌≤◌, inl, inr, false, Option, Some, None, slice_set, arith, refl, sym, ap, subst, ◌∙◌}
+use Rattle.std.proofs.lemmas.Bool.{cases_eq, cases_lt, false≢true}
+use Rattle.std.proofs.lemmas.Option.{none-some, same_Some, slice_get_within}
+use Rattle.pf_base.specs.declared.asks.Ask.{Ask}
+use Rattle.pf_base.specs.declared.asks.Reply.{Reply}
+use Rattle.pf_entry.proofs.Lists.{set_cases, set_there}
+use Rattle.pf_ports.specs.pf_network.proofs.Lists.{set_elsewhere, set_length, something_there}
+use Rattle.pf_tree.specs.declared.calls.FileCall.{FileCall}
+use Rattle.pf_volume.specs.Volumes.{Extent}
+use Rattle.pf_service.specs.Services.{Service, but}
+use Rattle.pf_anchormount.specs.declared.work.Work.TheVariants.{Rests}
+use Rattle.pf_anchormount.specs.Anchored.{AnchoredIs, answered, ask_at, asked as having_asked, starting}
+use Rattle.pf_anchormount.specs.Standing.{AwaitsStill}
+use Rattle.pf_anchormount.proofs.Staying.{answered_awaits, asked_awaits, awaiting_is_silent, starting_awaits}
+use Rattle.pf_anchorlives.specs.Lives.{Asks, Begins, Hears, Life, lives_on}
+use Rattle.pf_anchordeeds.specs.Deeds.{Owed}
+use Rattle.pf_anchordeeds.proofs.Owing.{same_volume}
+use Rattle.pf_anchordeeds.proofs.Room.{room_after}
+use Rattle.pf_mounted.specs.pf_world.specs.pf_anchorhosts.specs.Hosts.{AnchoredHostIs, number_of, pending_at, pends_for}
+use Rattle.pf_mounted.specs.pf_world.specs.pf_anchorhosts.proofs.Asking.{files_stay}
+use Rattle.pf_mounted.specs.pf_world.specs.pf_anchorhosts.proofs.Pending.{at_place, found_so, pends_there}
+use Rattle.pf_anchored.proofs.Over.{IsAskedAt, IsHostOf}
+use Rattle.pf_anchored.proofs.Serving.{but_other, but_same}
+use Rattle.pf_anchored.proofs.Waiting.{awaited_after}
+
+-- Ports and their chunks
+
+-- what pends once a port was answered, and once it asked
+pub heard_pends : (host : AnchoredHostIs) (mount : AnchoredIs) (port other chunk : ℕ) → pending_at (record { mount = mount; at = slice_set host.at port None }) other ≡ Some chunk → (other ≢ port) × (pending_at host other ≡ Some chunk)
+heard_pends host mount port other chunk there = elim (set_cases host.at port None other (Some chunk) (at_place (record { mount = mount; at = slice_set host.at port None }) other chunk there)) [
+  | inl here ↦ absurd (none-some chunk here.1)
+  | inr away ↦ (away.0, pends_there host other chunk away.1)
+]
+
+pub asked_pends : (host : AnchoredHostIs) (mount : AnchoredIs) (port c0 other chunk : ℕ) → pending_at (record { mount = mount; at = slice_set host.at port (Some c0) }) other ≡ Some chunk
+    → ((other ≡ port) × (chunk ≡ c0)) ⊎ ((other ≢ port) × (pending_at host other ≡ Some chunk))
+asked_pends host mount port c0 other chunk there = elim (set_cases host.at port (Some c0) other (Some chunk) (at_place (record { mount = mount; at = slice_set host.at port (Some c0) }) other chunk there)) [
+  | inl here ↦ inl (here.0, sym (same_Some c0 chunk here.1))
+  | inr away ↦ inr (away.0, pends_there host other chunk away.1)
+]
+
+module _ (e : Extent) (service : ℕ → Service) (owed : ℕ → Option Owed) (life : Life) (m : ℕ) (host : AnchoredHostIs) (is : IsHostOf e service owed life m host) where
+  pub pends_low : (port chunk : ℕ) → pending_at host port ≡ Some chunk → port < 4
+  pends_low port chunk at = let low = slice_get_within host.at port (Some chunk) (at_place host port chunk at) in omega (arith, low, is.four)
+
+  -- an anchor is no chunk of file data
+  anchor_apart : (port other chunk : ℕ) → port < 3 → 3 ≤ other → pending_at host port ≡ Some chunk → pending_at host other ≡ Some chunk → ⊥
+  anchor_apart port other chunk low past at there =
+      let third : other ≡ 3 = let four = pends_low other chunk there in omega (arith, past, four) in
+      let high = is.files chunk (subst (λ p. pending_at host p ≡ Some chunk) third there) in
+      omega (arith, high, low, is.anchors port chunk low at)
+
+  -- no two ports ask for one chunk
+  pub one_port : (port other chunk : ℕ) → pending_at host port ≡ Some chunk → pending_at host other ≡ Some chunk → port ≡ other
+  one_port port other chunk at there = elim (cases_lt port 3) [
+    | inl low ↦ elim (cases_lt other 3) [
+      | inl less ↦ sym (is.anchors port chunk low at) ∙ is.anchors other chunk less there
+      | inr data_port ↦ absurd (anchor_apart port other chunk low data_port at there)
+    ]
+    | inr data_port ↦ elim (cases_lt other 3) [
+      | inl less ↦ absurd (anchor_apart other port chunk less data_port there at)
+      | inr also ↦ omega (arith, data_port, also, pends_low port chunk at, pends_low other chunk there)
+    ]
+  ]
+
+  -- Others do something
+
+  module _ (now : ℕ → Service) (its : ℕ → Option Owed) (same_owed : (port : ℕ) → its port ≡ owed port) (port_ask : (chunk : ℕ) → ((now chunk).port m).ask ≡ ((service chunk).port m).ask) (port_owed : (chunk : ℕ) → (now chunk).owed m ≡ (service chunk).owed m)
+      (new : Life) (same_life : new ≡ life) where
+    pub host_still : IsHostOf e now its new m host
+    host_still = record {
+      number = is.number;
+      volume = is.volume;
+      room = is.room;
+      waits = is.waits;
+      mount = is.mount ∙ ap (λ (l : Life). l.mount) (sym same_life);
+      four = is.four;
+      anchors = is.anchors;
+      files = is.files;
+      asks = λ port chunk small at.
+          let a = is.asks port chunk small at in record {
+            owes = a.owes;
+            is = port_owed chunk ∙ a.is;
+            pending = port_ask chunk ∙ a.pending;
+            same = λ low. same_owed port ∙ a.same low;
+            of = a.of;
+            awaits = a.awaits;
+          };
+      quiet = λ chunk small none. port_ask chunk ∙ is.quiet chunk small none;
+    }
+
+  -- what is asked at a chunk is asked there still, where the service of that chunk and what the port owes are as they were
+  asked_still : (now : ℕ → Service) (its : ℕ → Option Owed) (mount : AnchoredIs) (port chunk : ℕ) → now chunk ≡ service chunk → its port ≡ owed port → AwaitsStill host.mount mount port → IsAskedAt service owed host.mount m port chunk → IsAskedAt now its mount m port chunk
+  asked_still now its mount port chunk same same_owed awaits a = record {
+    owes = a.owes;
+    is = ap (λ (s : Service). s.owed m) same ∙ a.is;
+    pending = ap (λ (s : Service). (s.port m).ask) same ∙ a.pending;
+    same = λ low. same_owed ∙ a.same low;
+    of = a.of;
+    awaits = awaits (Some a.owes.ask) a.awaits;
+  }
+
+  -- A call begins
+
+  module _ (call : FileCall) (rests : host.mount.task.work ≡ Rests) (its : ℕ → Option Owed) (same_owed : (port : ℕ) → its port ≡ owed port) (new : Life) (life_on : new ≡ lives_on life (Begins call)) where
+    pub host_begins : IsHostOf e service its new m (record host { mount = (starting host.mount call).mount })
+    host_begins = record {
+      number = is.number;
+      volume = same_volume host.mount (Begins call) ∙ is.volume;
+      room = room_after host.mount (Begins call) is.room;
+      waits = awaited_after host.mount (Begins call) is.waits;
+      mount = ap (λ (x : AnchoredIs). (starting x call).mount) is.mount ∙ ap (λ (l : Life). l.mount) (sym life_on);
+      four = is.four;
+      anchors = is.anchors;
+      files = is.files;
+      asks = λ port chunk small at. asked_still service its (starting host.mount call).mount port chunk refl (same_owed port) (starting_awaits host.mount call port rests) (is.asks port chunk small at);
+      quiet = is.quiet;
+    }
+
+  -- A port hears
+
+  module _ (port c0 : ℕ) (at : pending_at host port ≡ Some c0) (t : Service) (free : (t.port m).ask ≡ None) (reply : Reply) (its : ℕ → Option Owed) (same_owed : (other : ℕ) → its other ≡ owed other) (new : Life) (life_on : new ≡ lives_on life (Hears port reply)) where
+    abbrev pub heard_host : AnchoredHostIs
+    heard_host = record { mount = (answered host.mount port reply).mount; at = slice_set host.at port None }
+
+    pends_still : (other chunk : ℕ) → pending_at heard_host other ≡ Some chunk → (other ≢ port) × (pending_at host other ≡ Some chunk)
+    pends_still = heard_pends host (answered host.mount port reply).mount port
+
+    pends_on : (other chunk : ℕ) → other ≢ port → pending_at host other ≡ Some chunk → pending_at heard_host other ≡ Some chunk
+    pends_on other chunk apart there = pends_there heard_host other chunk (set_elsewhere host.at port other None apart ∙ at_place host other chunk there)
+
+    low : port < 4
+    low = pends_low port c0 at
+
+    another : (other chunk : ℕ) → other ≢ port → pending_at host other ≡ Some chunk → chunk ≢ c0
+    another other chunk apart there same = apart (one_port other port c0 (there ∙ ap (λ n. Some n) same) at)
+
+    pub host_hears : IsHostOf e (but service c0 t) its new m heard_host
+    host_hears = record {
+      number = is.number;
+      volume = same_volume host.mount (Hears port reply) ∙ is.volume;
+      room = room_after host.mount (Hears port reply) is.room;
+      waits = awaited_after host.mount (Hears port reply) is.waits;
+      mount = ap (λ (x : AnchoredIs). (answered x port reply).mount) is.mount ∙ ap (λ (l : Life). l.mount) (sym life_on);
+      four = set_length host.at port None ∙ is.four;
+      anchors = λ other chunk less there. is.anchors other chunk less (pends_still other chunk there).1;
+      files = λ chunk there. is.files chunk (pends_still 3 chunk there).1;
+      asks = λ other chunk small there.
+          let was = pends_still other chunk there in
+          asked_still (but service c0 t) its (answered host.mount port reply).mount other chunk (but_other service c0 chunk t (another other chunk was.0 was.1)) (same_owed other) (answered_awaits host.mount port other reply low was.0) (is.asks other chunk small was.1);
+      quiet = λ chunk small none. elim (cases_eq chunk c0) [
+        | inl same ↦ subst (λ i. ((but service c0 t i).port m).ask ≡ None) (sym same) (ap (λ (s : Service). (s.port m).ask) (but_same service c0 t) ∙ free)
+        | inr apart ↦
+            ap (λ (s : Service). (s.port m).ask) (but_other service c0 chunk t apart)
+            ∙ is.quiet chunk small (λ other there. elim (cases_eq other port) [
+              | inl here ↦ apart (same_Some chunk c0 (sym there ∙ ap (pending_at host) here ∙ at))
+              | inr away ↦ none other (pends_on other chunk away there)
+            ])
+      ];
+    }
+
+  -- A port asks
+
+  module _ (port : ℕ) (low : port < 4) (its : ℕ → Option Owed) (new : Life) (life_on : new ≡ lives_on life (Asks port)) where
+    asking_mount : having_asked host.mount port ≡ new.mount
+    asking_mount = ap (λ (x : AnchoredIs). having_asked x port) is.mount ∙ ap (λ (l : Life). l.mount) (sym life_on)
+
+    number_stays : number_of (having_asked host.mount port) ≡ m
+    number_stays = ap (λ f. f.mount) (files_stay host.mount port) ∙ is.number
+
+    volume_stays : (having_asked host.mount port).files.volume ≡ e
+    volume_stays = ap (λ f. f.volume) (files_stay host.mount port) ∙ is.volume
+
+    -- a port with an answer to come asks nothing
+    none_here : (ask : Ask) → ask_at host.mount port ≡ Some ask → (chunk : ℕ) → chunk < e.chunks → pending_at host port ≡ Some chunk → ⊥
+    none_here ask asks_it chunk small at =
+        let a = is.asks port chunk small at in none-some ask (sym (awaiting_is_silent host.mount port a.owes.ask a.awaits) ∙ asks_it)
+
+    -- nothing
+    module _ (none : ask_at host.mount port ≡ None) (same_owed : (other : ℕ) → its other ≡ owed other) (idle : (chunk : ℕ) → pending_at host port ≡ Some chunk → ⊥) where
+      pub host_asks_nothing : IsHostOf e service its new m (record host { mount = having_asked host.mount port })
+      host_asks_nothing = record {
+        number = number_stays;
+        volume = volume_stays;
+        room = room_after host.mount (Asks port) is.room;
+        waits = awaited_after host.mount (Asks port) is.waits;
+        mount = asking_mount;
+        four = is.four;
+        anchors = is.anchors;
+        files = is.files;
+        asks = λ other chunk small at. elim (cases_eq other port) [
+          | inl here ↦ absurd (idle chunk (ap (pending_at host) (sym here) ∙ at))
+          | inr apart ↦ asked_still service its (having_asked host.mount port) other chunk refl (same_owed other) (asked_awaits host.mount port other low apart) (is.asks other chunk small at)
+        ];
+        quiet = is.quiet;
+      }
+
+    -- this, of a chunk for which no port asks
+    module _ (ask : Ask) (asks_it : ask_at host.mount port ≡ Some ask) (c0 : ℕ) (free : pends_for host c0 ≡ false) (of_anchor : port < 3 → c0 ≡ port) (of_data : port ≡ 3 → 3 ≤ c0) (same_owed : (other : ℕ) → other ≢ port → its other ≡ owed other)
+        (now : ℕ → Service) (elsewhere : (chunk : ℕ) → chunk < e.chunks → chunk ≢ c0 → now chunk ≡ service chunk) (here : c0 < e.chunks → IsAskedAt now its (having_asked host.mount port) m port c0) where
+      abbrev pub asked_host : AnchoredHostIs
+      asked_host = record { mount = having_asked host.mount port; at = slice_set host.at port (Some c0) }
+
+      none_for : (other : ℕ) → pending_at host other ≡ Some c0 → ⊥
+      none_for other there = false≢true (sym free ∙ found_so host other c0 there)
+
+      pended : (other chunk : ℕ) → pending_at asked_host other ≡ Some chunk → ((other ≡ port) × (chunk ≡ c0)) ⊎ ((other ≢ port) × (pending_at host other ≡ Some chunk))
+      pended = asked_pends host (having_asked host.mount port) port c0
+
+      pends_now : pending_at asked_host port ≡ Some c0
+      pends_now =
+          let place = something_there host.at port (omega (arith, low, is.four)) in pends_there asked_host port c0 (set_there host.at port place.0 (Some c0) place.1)
+
+      asked_on : (other chunk : ℕ) → other ≢ port → pending_at host other ≡ Some chunk → pending_at asked_host other ≡ Some chunk
+      asked_on other chunk apart there = pends_there asked_host other chunk (set_elsewhere host.at port other (Some c0) apart ∙ at_place host other chunk there)
+
+      pub host_asks : IsHostOf e now its new m asked_host
+      host_asks = record {
+        number = number_stays;
+        volume = volume_stays;
+        room = room_after host.mount (Asks port) is.room;
+        waits = awaited_after host.mount (Asks port) is.waits;
+        mount = asking_mount;
+        four = set_length host.at port (Some c0) ∙ is.four;
+        anchors = λ other chunk less there. elim (pended other chunk there) [
+          | inl same ↦ same.1 ∙ of_anchor (omega (arith, less, same.0)) ∙ sym same.0
+          | inr was ↦ is.anchors other chunk less was.1
+        ];
+        files = λ chunk there. elim (pended 3 chunk there) [
+          | inl same ↦ let past = of_data (sym same.0) in omega (arith, past, same.1)
+          | inr was ↦ is.files chunk was.1
+        ];
+        asks = λ other chunk small there. elim (pended other chunk there) [
+          | inl same ↦
+              subst (λ p. IsAskedAt now its (having_asked host.mount port) m p chunk) (sym same.0)
+              (subst (IsAskedAt now its (having_asked host.mount port) m port) (sym same.1) (here (subst (λ n. n < e.chunks) same.1 small)))
+          | inr was ↦
+              asked_still now its (having_asked host.mount port) other chunk (elsewhere chunk small (λ one. none_for other (was.1 ∙ ap (λ n. Some n) one))) (same_owed other was.0)
+              (asked_awaits host.mount port other low was.0) (is.asks other chunk small was.1)
+        ];
+        quiet = λ chunk small none.
+            ap (λ (s : Service). (s.port m).ask) (elsewhere chunk small (λ same. none port (pends_now ∙ ap (λ n. Some n) (sym same))))
+            ∙ is.quiet chunk small (λ other there. elim (cases_eq other port) [
+              | inl at_it ↦ none_here ask asks_it chunk small (ap (pending_at host) (sym at_it) ∙ there)
+              | inr apart ↦ none other (asked_on other chunk apart there)
+            ]);
+      }

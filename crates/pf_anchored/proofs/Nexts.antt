@@ -1,0 +1,210 @@
+-- What one host over anchors does next, over what is known of the run.
+use Rattle.std.proofs.Common.{◌≡◌, ◌≢◌, ℕ, ◌+◌, ◌<◌, ◌≤◌, inl, inr, ◌==◌, if◌then◌else◌, List, [], ◌∷◌, ◌++◌, length, Some, slice_get, slice_set, arith, refl, sym, ap, subst, ◌∙◌, append-nil}
+use Rattle.std.proofs.lemmas.Bool.{cases_eq, eqb-false, eqb-true}
+use Rattle.std.proofs.lemmas.List.{append_assoc}
+use Rattle.std.proofs.lemmas.Option.{none-some, same_Some}
+use Rattle.pf_entry.specs.Lists.{Every}
+use Rattle.pf_entry.proofs.Cases.{by_test}
+use Rattle.pf_ports.specs.pf_network.proofs.Lists.{set_elsewhere, set_length, set_there}
+use Rattle.pf_volume.specs.Volumes.{Extent}
+use Rattle.pf_positions.specs.Deeds.{Deed}
+use Rattle.pf_service.specs.Services.{Service, but, no_deed}
+use Rattle.pf_service.specs.Served.{AreLegal, IsServed, Passes}
+use Rattle.pf_anchorlives.specs.Lives.{all_opened, lives}
+use Rattle.pf_anchordeeds.specs.Deeds.{AreAnswered, Happening, deeds_on, deeds_with, nothing_owed, told_of}
+use Rattle.pf_anchortrees.specs.Spelled.{CanAllBeSpelled}
+use Rattle.pf_anchortrees.specs.Trees.{calls_of}
+use Rattle.pf_mounted.specs.pf_world.specs.pf_chunk.specs.Runs.{ChunkRun, mover_port}
+use Rattle.pf_mounted.specs.pf_world.specs.pf_hosts.specs.Moments.{Hands, Moment}
+use Rattle.pf_mounted.specs.pf_world.specs.pf_anchorhosts.specs.Hosts.{AnchoredHostIs}
+use Rattle.pf_mounted.specs.pf_world.specs.pf_fleet.specs.Volumes.{AnchoredHosts, VolumeRun, anchored_at}
+use Rattle.pf_mounted.specs.pf_world.specs.pf_fleet.specs.Volumes as volumes
+use Rattle.pf_mounted.specs.Epochs.{group_at}
+use Rattle.pf_mounted.proofs.Routing.{IsStill}
+use Rattle.pf_anchored.proofs.Ends.{deeds_more}
+use Rattle.pf_anchored.proofs.Hosting.{host_still}
+use Rattle.pf_anchored.proofs.Over.{IsHandedBy, IsHostOf, IsOver, IsServing, owed_of}
+use Rattle.pf_anchored.proofs.Serving.{IsNoHanding, IsNoMovers, IsOp, apart_still, serving_elsewhere, serving_here, serving_still}
+
+-- a happening is one of this mount: it leaves what is known of the others, and so many calls begin by it
+pub record IsBy (e : Extent) (hs : List Happening) (m : ℕ) (x : Happening) (more : ℕ) : Type 0 where
+  pub life : (n : ℕ) → n ≢ m → lives e (told_of (hs ++ x ∷ [])) n ≡ lives e (told_of hs) n
+  pub owed : (n port : ℕ) → n ≢ m → owed_of e (hs ++ x ∷ []) n port ≡ owed_of e hs n port
+  pub spelled : CanAllBeSpelled (told_of hs) → CanAllBeSpelled (told_of (hs ++ x ∷ []))
+  pub begins : (n : ℕ) → length (calls_of (told_of (hs ++ x ∷ [])) n) ≤ length (calls_of (told_of hs) n) + more
+
+module _ (calls : ℕ) (v : VolumeRun) (anchored : AnchoredHosts) (m : ℕ) (inside : m < length anchored) where
+  abbrev e : Extent
+  e = v.extent
+
+  -- the run with these groups and this host
+  abbrev pub run_with : List ChunkRun → AnchoredHostIs → VolumeRun
+  run_with chunks host = record v { chunks = chunks; anchored = Some (slice_set anchored m (Some host)) }
+
+  abbrev pub OverWith : List ChunkRun → AnchoredHostIs → List Moment → Type 0
+  OverWith chunks host told = IsOver calls (run_with chunks host) told (slice_set anchored m (Some host))
+
+  -- with so many calls
+  abbrev pub OverThen : (after : ℕ) → List ChunkRun → AnchoredHostIs → List Moment → Type 0
+  OverThen after chunks host told = IsOver after (run_with chunks host) told (slice_set anchored m (Some host))
+
+  its_there : (host : AnchoredHostIs) → anchored_at (slice_set anchored m (Some host)) m ≡ Some host
+  its_there host = ap volumes.there (set_there anchored m (Some host) inside)
+
+  others_there : (host : AnchoredHostIs) (n : ℕ) → n ≢ m → anchored_at (slice_set anchored m (Some host)) n ≡ anchored_at anchored n
+  others_there host n apart = ap volumes.there (set_elsewhere anchored m n (Some host) apart)
+
+  module _ (chunks : List ChunkRun) (host : AnchoredHostIs) (told : List Moment) (is : OverWith chunks host told) where
+    abbrev hs : List Happening
+    hs = is.happenings
+
+    pub its_host : IsHostOf e is.service (owed_of e is.happenings m) (lives e (told_of is.happenings) m) m host
+    its_host = is.host_so m host (its_there host)
+
+    pub number_low : m < 16
+    number_low = let few = is.few in omega (arith, few, inside, set_length anchored m (Some host))
+
+    -- Something happens
+
+    module _ (x : Happening) (begun : ℕ) (by : IsBy e is.happenings m x begun) (late : ℕ) (few : calls + begun ≤ late) (new : List ChunkRun) (next : AnchoredHostIs) (more : List Moment) (still : Every IsStill more) (service : ℕ → Service) (adds : ℕ → List Deed) where
+      abbrev all : List Happening
+      all = hs ++ x ∷ []
+
+      abbrev IsNext : Type 0
+      IsNext = IsHostOf e service (owed_of e all m) (lives e (told_of all) m) m next
+
+      module _ (ports : (chunk n : ℕ) → n ≢ m → (service chunk).port n ≡ (is.service chunk).port n) (owed : (chunk n : ℕ) → n ≢ m → (service chunk).owed n ≡ (is.service chunk).owed n) (its : IsNext) where
+        all_hosts : (n : ℕ) (h : AnchoredHostIs) → anchored_at (slice_set anchored m (Some next)) n ≡ Some h → IsHostOf e service (owed_of e all n) (lives e (told_of all) n) n h
+        all_hosts n h at = elim (cases_eq n m) [
+          | inl same ↦
+              let one : next ≡ h = same_Some next h (sym (its_there next) ∙ ap (anchored_at (slice_set anchored m (Some next))) (sym same) ∙ at) in
+              subst (λ i. IsHostOf e service (owed_of e all i) (lives e (told_of all) i) i h) (sym same) (subst (IsHostOf e service (owed_of e all m) (lives e (told_of all) m) m) one its)
+          | inr apart ↦
+              host_still e is.service (owed_of e hs n) (lives e (told_of hs) n) n h (is.host_so n h (others_there host n apart ∙ sym (others_there next n apart) ∙ at)) service (owed_of e all n)
+              (λ port. by.owed n port apart) (λ chunk. ap (λ p. p.ask) (ports chunk n apart)) (λ chunk. owed chunk n apart) (lives e (told_of all) n) (by.life n apart)
+        ]
+
+        pub over_next : ((chunk : ℕ) → chunk < e.chunks → IsServed chunk (service chunk) (is.deeds chunk ++ adds chunk))
+            → ((anchor : ℕ) → anchor < 3 → adds anchor ≡ deeds_with anchor (lives e (told_of is.happenings)) (owed_of e is.happenings) (x ∷ []))
+            → ((chunk : ℕ) → chunk < e.chunks → IsServing new (told ++ more) chunk (service chunk) (is.deeds chunk ++ adds chunk))
+            → (((chunk : ℕ) → chunk < e.chunks → AreLegal (service chunk)) → AreAnswered e is.happenings → AreAnswered e (is.happenings ++ x ∷ []))
+            → ((chunk : ℕ) → chunk < e.chunks → AreLegal (service chunk) → AreLegal (is.service chunk))
+            → OverThen late new next (told ++ more)
+        over_next served same serving answered legal =
+            let few_hosts = is.few in
+            let count : length (slice_set anchored m (Some next)) ≡ length (slice_set anchored m (Some host)) = set_length anchored m (Some next) ∙ sym (set_length anchored m (Some host)) in
+            let past : (n : ℕ) → length (slice_set anchored m (Some next)) ≤ n → n ≢ m = λ n low here. omega (arith, low, here, inside, set_length anchored m (Some next)) in
+            let was : (n : ℕ) → length (slice_set anchored m (Some next)) ≤ n → length (slice_set anchored m (Some host)) ≤ n = λ n low. omega (arith, low, count) in record {
+              happenings = all;
+              service = service;
+              deeds = λ chunk. is.deeds chunk ++ adds chunk;
+              few = omega (arith, few_hosts, count);
+              anchors = λ its_hosts _. is.anchors (slice_set anchored m (Some host)) refl;
+              none_yet = λ none. absurd (none-some (slice_set anchored m (Some next)) (sym none));
+              spelled = by.spelled is.spelled;
+              few_calls = λ n. let begins = by.begins n in let were = is.few_calls n in omega (arith, begins, were, few);
+              apart = apart_still e.chunks told more still is.apart;
+              served = served;
+              same = λ anchor low.
+                  ap (λ (ds : List Deed). ds ++ adds anchor) (is.same anchor low) ∙ ap (λ (ds : List Deed). deeds_on anchor e hs ++ ds) (same anchor low)
+                  ∙ sym (deeds_more anchor (all_opened e) nothing_owed hs (x ∷ []));
+              serving_so = serving;
+              host_so = all_hosts;
+              fresh = λ n low. by.life n (past n low) ∙ is.fresh n (was n low);
+              unasked = λ n chunk low small. ap (λ p. p.ask) (ports chunk n (past n low)) ∙ is.unasked n chunk (was n low) small;
+              answered = λ legal_now its_hosts _. answered legal_now (is.answered (λ chunk small. legal chunk small (legal_now chunk small)) (slice_set anchored m (Some host)) refl);
+            }
+
+    -- nothing is asked of any chunk, or answered there
+    abbrev pub idle_deeds : List Deed
+    idle_deeds = no_deed ∷ no_deed ∷ []
+
+    pub idle_served : (chunk : ℕ) (s : Service) (ds : List Deed) → IsServed chunk s ds → IsServed chunk s (ds ++ (no_deed ∷ no_deed ∷ []))
+    idle_served chunk s ds its = subst (IsServed chunk s) (append_assoc ds (no_deed ∷ []) (no_deed ∷ [])) (Passes s (ds ++ no_deed ∷ []) (Passes s ds its))
+
+    module _ (x : Happening) (begun : ℕ) (by : IsBy e is.happenings m x begun) (late : ℕ) (few : calls + begun ≤ late) (next : AnchoredHostIs) (more : List Moment) (still : Every IsStill more) (none : IsNoHanding more) where
+      abbrev now_hs : List Happening
+      now_hs = hs ++ x ∷ []
+
+      pub over_idly : IsHostOf e is.service (owed_of e (is.happenings ++ x ∷ []) m) (lives e (told_of (is.happenings ++ x ∷ [])) m) m next
+          → ((anchor : ℕ) → anchor < 3 → idle_deeds ≡ deeds_with anchor (lives e (told_of is.happenings)) (owed_of e is.happenings) (x ∷ []))
+          → (((chunk : ℕ) → chunk < e.chunks → AreLegal (is.service chunk)) → AreAnswered e is.happenings → AreAnswered e (is.happenings ++ x ∷ []))
+          → OverThen late chunks next (told ++ more)
+      over_idly its same answered =
+          over_next x begun by late few chunks next more still is.service (λ chunk. idle_deeds) (λ chunk n apart. refl) (λ chunk n apart. refl) its
+          (λ chunk small. idle_served chunk (is.service chunk) (is.deeds chunk) (is.served chunk small))
+          same
+          (λ chunk small. serving_still chunks told more still none chunk (is.service chunk) (is.deeds chunk) idle_deeds (is.serving_so chunk small))
+          answered
+          (λ chunk small legal. legal)
+
+    -- Lines are told, and nothing happens
+
+    module _ (more : List Moment) (still : Every IsStill more) (none : IsNoHanding more) where
+      pub over_still : OverWith chunks host (told ++ more)
+      over_still = record {
+        happenings = hs;
+        service = is.service;
+        deeds = is.deeds;
+        few = is.few;
+        anchors = is.anchors;
+        none_yet = is.none_yet;
+        spelled = is.spelled;
+        few_calls = is.few_calls;
+        apart = apart_still e.chunks told more still is.apart;
+        served = is.served;
+        same = is.same;
+        serving_so = λ chunk small.
+            subst (IsServing chunks (told ++ more) chunk (is.service chunk)) (append-nil (is.deeds chunk)) (serving_still chunks told more still none chunk (is.service chunk) (is.deeds chunk) [] (is.serving_so chunk small));
+        host_so = is.host_so;
+        fresh = is.fresh;
+        unasked = is.unasked;
+        answered = is.answered;
+      }
+
+    -- A step of the mount's port into the group that has the asks for a chunk
+
+    module _ (c0 : ℕ) (small0 : c0 < v.extent.chunks) (k : ℕ) (c d : ChunkRun) (there : slice_get chunks k ≡ Some c) (t : Service) (o : IsOp m c d (is.service c0) t) (at : group_at told c0 (is.service c0).epoch ≡ Some k)
+        (x : Happening) (by : IsBy e is.happenings m x 0) (next : AnchoredHostIs) (more : List Moment) (still : Every IsStill more) (no_movers : IsNoMovers more)
+        (own other : List Deed) (of_group : (j n g place : ℕ) → slice_get more j ≡ Some (Hands n g place) → g ≡ k)
+        (news : (j n g place epoch : ℕ) → slice_get more j ≡ Some (Hands n g place) → n < mover_port → epoch ≤ (is.service c0).epoch → group_at told c0 epoch ≡ Some g → IsHandedBy c0 epoch place (is.deeds c0 ++ own)) where
+      abbrev service : ℕ → Service
+      service = but is.service c0 t
+
+      abbrev adds : ℕ → List Deed
+      adds chunk = if chunk == c0 then own else other
+
+      serving_all : (chunk : ℕ) → chunk < e.chunks → IsServing (slice_set chunks k d) (told ++ more) chunk (service chunk) (is.deeds chunk ++ adds chunk)
+      serving_all chunk small =
+          by_test (chunk == c0) (λ b. IsServing (slice_set chunks k d) (told ++ more) chunk (if b then t else is.service chunk) (is.deeds chunk ++ (if b then own else other)))
+          (λ same. subst (λ i. IsServing (slice_set chunks k d) (told ++ more) i t (is.deeds i ++ own)) (sym (eqb-true chunk c0 same))
+          (serving_here e.chunks chunks told more still no_movers is.apart k c d there c0 small0 m (is.service c0) t o (is.deeds c0) own (is.serving_so c0 small0) at news))
+          (λ away. serving_elsewhere e.chunks chunks told more still no_movers is.apart k c d there c0 chunk (is.service c0).epoch small0 small (eqb-false chunk c0 away) at (is.service chunk) (is.deeds chunk) other (is.serving_so chunk small) of_group)
+
+      ports : (chunk n : ℕ) → n ≢ m → (service chunk).port n ≡ (is.service chunk).port n
+      ports chunk n apart =
+          by_test (chunk == c0) (λ b. (if b then t else is.service chunk).port n ≡ (is.service chunk).port n)
+          (λ same. o.ports n apart ∙ ap (λ i. (is.service i).port n) (sym (eqb-true chunk c0 same))) (λ _. refl)
+
+      owed : (chunk n : ℕ) → n ≢ m → (service chunk).owed n ≡ (is.service chunk).owed n
+      owed chunk n apart =
+          by_test (chunk == c0) (λ b. (if b then t else is.service chunk).owed n ≡ (is.service chunk).owed n)
+          (λ same. o.owed n apart ∙ ap (λ i. (is.service i).owed n) (sym (eqb-true chunk c0 same))) (λ _. refl)
+
+      legal_before : (chunk : ℕ) → AreLegal (service chunk) → AreLegal (is.service chunk)
+      legal_before chunk =
+          by_test (chunk == c0) (λ b. AreLegal (if b then t else is.service chunk) → AreLegal (is.service chunk))
+          (λ same legal. subst (λ i. AreLegal (is.service i)) (sym (eqb-true chunk c0 same)) (o.legal legal)) (λ _ legal. legal)
+
+      pub over_op : IsServed c0 t (is.deeds c0 ++ own) → ((chunk : ℕ) → chunk < e.chunks → IsServed chunk (is.service chunk) (is.deeds chunk ++ other))
+          → IsHostOf e (but is.service c0 t) (owed_of e (is.happenings ++ x ∷ []) m) (lives e (told_of (is.happenings ++ x ∷ [])) m) m next
+          → ((anchor : ℕ) → anchor < 3 → (if anchor == c0 then own else other) ≡ deeds_with anchor (lives e (told_of is.happenings)) (owed_of e is.happenings) (x ∷ []))
+          → (AreLegal (is.service c0) → AreAnswered e is.happenings → AreAnswered e (is.happenings ++ x ∷ []))
+          → OverWith (slice_set chunks k d) next (told ++ more)
+      over_op served others its same answered =
+          over_next x 0 by calls (omega arith) (slice_set chunks k d) next more still service adds ports owed its
+          (λ chunk small. by_test (chunk == c0) (λ b. IsServed chunk (if b then t else is.service chunk) (is.deeds chunk ++ (if b then own else other)))
+          (λ one. subst (λ i. IsServed i t (is.deeds i ++ own)) (sym (eqb-true chunk c0 one)) served) (λ _. others chunk small))
+          same serving_all
+          (λ legal. answered (legal_before c0 (legal c0 small0)))
+          (λ chunk small. legal_before chunk)

@@ -1,0 +1,121 @@
+-- What is known of a run whose journal lies on three anchors, or may still come to lie there: what came to its mounts, and how its chunks were served.
+use Rattle.std.proofs.Common.{◌≡◌, ◌≢◌, ℕ, suc, ◌<◌, ◌≤◌, List, [], ◌∷◌, length, take, Option, Some, None, slice_get}
+use Rattle.pf_base.specs.Asks.{chunk_of}
+use Rattle.pf_volume.specs.Volumes.{Extent}
+use Rattle.pf_protocol.specs.Histories.{replay}
+use Rattle.pf_positions.specs.Deeds.{Deed, Submits}
+use Rattle.pf_service.specs.Services as services
+use Rattle.pf_service.specs.Services.{Service, serving}
+use Rattle.pf_service.specs.Served.{AreLegal, IsServed}
+use Rattle.pf_anchorage.specs.Places.{HasAnchors}
+use Rattle.pf_anchormount.specs.Anchored.{AnchoredIs}
+use Rattle.pf_anchormount.specs.Standing.{Awaits}
+use Rattle.pf_anchorlives.specs.Lives.{Life, all_opened, lived, lives, opened}
+use Rattle.pf_anchordeeds.specs.Deeds.{AreAnswered, Comes, Hands as HandsOn, Happening, Owed, deeds_on, nothing_owed, owed_on, told_of}
+use Rattle.pf_anchordeeds.proofs.Room.{HasRoom}
+use Rattle.pf_anchortrees.specs.Spelled.{CanAllBeSpelled}
+use Rattle.pf_anchortrees.specs.Trees.{calls_of}
+use Rattle.pf_anchored.proofs.Waiting.{IsAwaited}
+use Rattle.pf_mounted.specs.pf_world.specs.pf_chunk.specs.Runs.{ChunkRun, mover_port}
+use Rattle.pf_mounted.specs.pf_world.specs.pf_hosts.specs.Moments.{Hands, Moment}
+use Rattle.pf_mounted.specs.pf_world.specs.pf_anchorhosts.specs.Hosts.{AnchoredHostIs, number_of, pending_at}
+use Rattle.pf_mounted.specs.pf_world.specs.pf_fleet.specs.Volumes.{AnchoredHosts, VolumeRun, anchored_at}
+use Rattle.pf_mounted.specs.Epochs.{epoch_of, group_at, groups_in_turn}
+use Rattle.pf_mounted.specs.Handing.{reached}
+
+-- what each port of each mount was asked last
+abbrev pub owed_from : (ℕ → Life) → ((mount port : ℕ) → Option Owed) → List Happening → (mount port : ℕ) → Option Owed
+owed_from lives owed [] = owed
+owed_from lives owed (Comes t epoch by answer ∷ hs) = owed_from (lived lives t) (owed_on lives owed t) hs
+owed_from lives owed (HandsOn mount chunk epoch place ∷ hs) = owed_from lives owed hs
+
+abbrev pub owed_of : Extent → List Happening → (mount port : ℕ) → Option Owed
+owed_of v hs = owed_from (all_opened v) nothing_owed hs
+
+-- the group of an epoch of the chunk
+pub record IsGroupOf (chunks : List ChunkRun) (told : List Moment) (chunk : ℕ) (s : Service) (epoch : ℕ) : Type 0 where
+  pub k : ℕ
+  pub at : group_at told chunk epoch ≡ Some k
+  pub c : ChunkRun
+  pub there : slice_get chunks k ≡ Some c
+  pub setup : c.group.setup ≡ s.setup epoch
+  pub history : c.group.history ≡ s.history epoch
+  pub stands : c.group.state ≡ replay c.group.setup c.group.history
+
+-- a mount's port handed something on to the group of this epoch, by the event at this place
+pub record IsHandedBy (chunk epoch place : ℕ) (ds : List Deed) : Type 0 where
+  pub moment : ℕ
+  pub client : ℕ
+  pub at : slice_get ds moment ≡ Some (Submits client chunk epoch place)
+
+-- by this moment of the run the group of this epoch served the chunk, and what was told of it before lies before it began to serve
+pub record HasBegun (told : List Moment) (chunk k epoch since : ℕ) : Type 0 where
+  pub q : ℕ
+  pub low : q ≤ length told
+  pub serves : epoch ≤ epoch_of (take q told) chunk
+  pub reached : reached k (take q told) ≤ since
+
+-- A chunk of the run, as its service has it: its groups in their epochs, and the ports of mounts into the last one. Whatever a mount's port was told
+-- to have handed on is a deed. What the mover read was taken up after the asks had left; and once a group serves, all that was told of it
+-- before has happened
+pub record IsServing (chunks : List ChunkRun) (told : List Moment) (chunk : ℕ) (s : Service) (ds : List Deed) : Type 0 where
+  pub turns : length (groups_in_turn told chunk) ≡ suc s.epoch
+  pub epochs : epoch_of told chunk ≡ serving s
+  pub groups : (epoch : ℕ) → epoch ≤ s.epoch → IsGroupOf chunks told chunk s epoch
+  pub ports : (m k : ℕ) (c : ChunkRun) → m < mover_port → group_at told chunk s.epoch ≡ Some k → slice_get chunks k ≡ Some c → slice_get c.ports m ≡ Some (s.port m)
+  pub handed : (q m k place epoch : ℕ) → slice_get told q ≡ Some (Hands m k place) → m < mover_port → epoch ≤ s.epoch → group_at told chunk epoch ≡ Some k → IsHandedBy chunk epoch place ds
+  pub left : (q k place epoch : ℕ) → slice_get told q ≡ Some (Hands mover_port k place) → epoch < s.epoch → group_at told chunk epoch ≡ Some k → suc epoch < length (groups_in_turn (take q told) chunk) → s.left epoch ≤ place
+  pub since : (k epoch : ℕ) → suc epoch ≤ serving s → group_at told chunk (suc epoch) ≡ Some k → HasBegun told chunk k (suc epoch) (s.since (suc epoch))
+
+-- what is pending at a port of a host is pending in the port of its mount at this chunk, and the mount awaits each answer to it
+pub record IsAskedAt (service : ℕ → Service) (owed : (port : ℕ) → Option Owed) (mount : AnchoredIs) (m port chunk : ℕ) : Type 0 where
+  pub owes : services.Owed
+  pub is : (service chunk).owed m ≡ Some owes
+  pub pending : ((service chunk).port m).ask ≡ Some owes.ask
+  pub same : port < 3 → owed port ≡ Some (record { client = owes.client; ask = owes.ask })
+  pub of : chunk_of owes.ask ≡ chunk
+  pub awaits : Awaits mount port (Some owes.ask)
+
+-- A host of number m is the mount of this life. Its ports 0 to 2 ask for the anchor of that number, and its port for file data for no anchor; and where
+-- none of them asks for a chunk, nothing is pending in the mount's port there. (What lies outside the volume waits for ever, and no port has it)
+pub record IsHostOf (e : Extent) (service : ℕ → Service) (owed : (port : ℕ) → Option Owed) (life : Life) (m : ℕ) (host : AnchoredHostIs) : Type 0 where
+  pub number : number_of host.mount ≡ m
+  pub volume : host.mount.files.volume ≡ e
+  pub room : HasRoom host.mount.task.work host.mount.upto
+  pub waits : IsAwaited host.mount.task.work host.mount.task.ask
+  pub mount : host.mount ≡ life.mount
+  pub four : length host.at ≡ 4
+  pub anchors : (port chunk : ℕ) → port < 3 → pending_at host port ≡ Some chunk → chunk ≡ port
+  pub files : (chunk : ℕ) → pending_at host 3 ≡ Some chunk → 3 ≤ chunk
+  pub asks : (port chunk : ℕ) → chunk < e.chunks → pending_at host port ≡ Some chunk → IsAskedAt service owed host.mount m port chunk
+  pub quiet : (chunk : ℕ) → chunk < e.chunks → ((port : ℕ) → pending_at host port ≢ Some chunk) → ((service chunk).port m).ask ≡ None
+
+-- the hosts over anchors: none where the journal does not lie there yet
+abbrev pub hosts_of : Option AnchoredHosts → AnchoredHosts
+hosts_of None = []
+hosts_of (Some hosts) = hosts
+
+-- no group has two chunks or two epochs
+abbrev pub AreApart : (count : ℕ) → List Moment → Type 0
+AreApart count told =
+    (chunk other epoch by k : ℕ) → chunk < count → other < count → group_at told chunk epoch ≡ Some k → group_at told other by ≡ Some k → (chunk ≡ other) × (epoch ≡ by)
+
+-- What came to the mounts over anchors, how each chunk was served, and the deeds there: at an anchor those of what came, at the others some. So it
+-- is by all that was told. Each mount has begun at most so many calls, as words have them. Where the groups are legal, each answer was one
+pub record IsOver (calls : ℕ) (v : VolumeRun) (told : List Moment) (hosts : AnchoredHosts) : Type 0 where
+  pub happenings : List Happening
+  pub service : (chunk : ℕ) → Service
+  pub deeds : (chunk : ℕ) → List Deed
+  pub few : length hosts ≤ 16
+  pub anchors : (its : AnchoredHosts) → v.anchored ≡ Some its → HasAnchors v.extent
+  pub none_yet : v.anchored ≡ None → happenings ≡ []
+  pub spelled : CanAllBeSpelled (told_of happenings)
+  pub few_calls : (m : ℕ) → length (calls_of (told_of happenings) m) ≤ calls
+  pub apart : AreApart v.extent.chunks told
+  pub served : (chunk : ℕ) → chunk < v.extent.chunks → IsServed chunk (service chunk) (deeds chunk)
+  pub same : (anchor : ℕ) → anchor < 3 → deeds anchor ≡ deeds_on anchor v.extent happenings
+  pub serving_so : (chunk : ℕ) → chunk < v.extent.chunks → IsServing v.chunks told chunk (service chunk) (deeds chunk)
+  pub host_so : (m : ℕ) (host : AnchoredHostIs) → anchored_at hosts m ≡ Some host → IsHostOf v.extent service (owed_of v.extent happenings m) (lives v.extent (told_of happenings) m) m host
+  pub fresh : (m : ℕ) → length hosts ≤ m → lives v.extent (told_of happenings) m ≡ opened m v.extent
+  pub unasked : (m chunk : ℕ) → length hosts ≤ m → chunk < v.extent.chunks → ((service chunk).port m).ask ≡ None
+  pub answered : ((chunk : ℕ) → chunk < v.extent.chunks → AreLegal (service chunk)) → (its : AnchoredHosts) → v.anchored ≡ Some its → AreAnswered v.extent happenings

@@ -1,0 +1,73 @@
+-- A step of a host over anchors keeps what is known of the run.
+use Rattle.std.proofs.Common.{◌≡◌, ℕ, suc, ◌<◌, List, ◌++◌, length, Some, slice_set, arith, subst}
+use Rattle.std.proofs.lemmas.List.{append_assoc}
+use Rattle.std.proofs.lemmas.Option.{slice_get_within}
+use Rattle.pf_volume.specs.Volumes.{IsVolume}
+use Rattle.pf_mounted.specs.pf_world.specs.pf_applyrounds.specs.Halts.{Halt}
+use Rattle.pf_mounted.specs.pf_world.specs.pf_chunk.specs.Runs.{ChunkRun}
+use Rattle.pf_mounted.specs.pf_world.specs.pf_hosts.specs.Moments.{Moment}
+use Rattle.pf_mounted.specs.pf_world.specs.pf_anchorhosts.specs.Hosts.{AnchoredHostIs, Stepped, asks, asks_all, asks_on, followed, hands, hears, hears_all, stepped}
+use Rattle.pf_mounted.specs.pf_world.specs.pf_fleet.specs.Volumes.{AnchoredHosts, VolumeRun, anchored_at, with_anchored}
+use Rattle.pf_mounted.proofs.Routing.{AreRoutes}
+use Rattle.pf_anchored.proofs.Asking.{asks_middle}
+use Rattle.pf_anchored.proofs.Handing.{hands_middle}
+use Rattle.pf_anchored.proofs.Hearing.{hears_middle}
+use Rattle.pf_anchored.proofs.Middle.{AreAnswers, AreSpelled, Middle}
+use Rattle.pf_anchored.proofs.Over.{IsOver}
+use Rattle.pf_anchored.proofs.Places.{host_there, over_with}
+
+module _ (laws : AreAnswers) (spelled : AreSpelled) (halts : List Halt) (calls : ℕ) (v : VolumeRun) (volume : IsVolume v.extent) (anchored : AnchoredHosts) (m : ℕ) (inside : m < length anchored) where
+  abbrev Mid : List ChunkRun → AnchoredHostIs → List Moment → (low high : ℕ) → Type 0
+  Mid chunks host told low high = Middle calls v anchored m inside chunks host told low high
+
+  abbrev CameTo : List Moment → Stepped → (low high : ℕ) → Type 0
+  CameTo told s low high = Mid s.chunks s.host (told ++ s.told) low high
+
+  follow : (told : List Moment) (s : Stepped) (next : List ChunkRun → AnchoredHostIs → Stepped) (low high below above : ℕ) → CameTo told s low high
+      → ((chunks : List ChunkRun) (host : AnchoredHostIs) (told : List Moment) → Mid chunks host told low high → CameTo told (next chunks host) below above) → CameTo told (followed s next) below above
+  follow told s next low high below above is onward =
+      let after : Stepped = next s.chunks s.host in subst (λ (all : List Moment). Mid after.chunks after.host all below above) (append_assoc told s.told after.told) (onward s.chunks s.host (told ++ s.told) is)
+
+  -- it hears
+  hears_at_port : (port : ℕ) → port < 4 → (chunks : List ChunkRun) (host : AnchoredHostIs) (told : List Moment) → Mid chunks host told 0 port → CameTo told (hears v.routes port chunks host) 0 (suc port)
+  hears_at_port port low chunks host told mid = hears_middle calls v anchored m inside laws chunks host told port low mid
+
+  hears_so : (chunks : List ChunkRun) (host : AnchoredHostIs) (told : List Moment) → Mid chunks host told 0 0 → CameTo told (hears_all v.routes chunks host) 0 4
+  hears_so chunks host told mid =
+      let first : Stepped = hears v.routes 0 chunks host in
+      let second : Stepped = followed first (hears v.routes 1) in
+      let third : Stepped = followed second (hears v.routes 2) in
+      follow told third (hears v.routes 3) 0 3 0 4
+      (follow told second (hears v.routes 2) 0 2 0 3
+      (follow told first (hears v.routes 1) 0 1 0 2 (hears_at_port 0 (omega arith) chunks host told mid) (hears_at_port 1 (omega arith)))
+      (hears_at_port 2 (omega arith))) (hears_at_port 3 (omega arith))
+
+  -- it asks and hands on
+  asks_at_port : (port : ℕ) → port < 4 → (chunks : List ChunkRun) (host : AnchoredHostIs) (told : List Moment) → Mid chunks host told port 4 → CameTo told (asks_on halts v.routes port chunks host) (suc port) 4
+  asks_at_port port low chunks host told mid =
+      follow told (asks v.routes port chunks host) (hands halts v.routes port) port 4 (suc port) 4
+      (asks_middle calls v anchored m inside volume spelled chunks host told port low port 4 mid)
+      (λ cs h so_far its. hands_middle calls v anchored m inside halts cs h so_far port low 4 low its)
+
+  asks_so : (chunks : List ChunkRun) (host : AnchoredHostIs) (told : List Moment) → Mid chunks host told 0 4 → CameTo told (asks_all halts v.routes chunks host) 4 4
+  asks_so chunks host told mid =
+      let first : Stepped = asks_on halts v.routes 0 chunks host in
+      let second : Stepped = followed first (asks_on halts v.routes 1) in
+      let third : Stepped = followed second (asks_on halts v.routes 2) in
+      follow told third (asks_on halts v.routes 3) 3 4 4 4
+      (follow told second (asks_on halts v.routes 2) 2 4 3 4
+      (follow told first (asks_on halts v.routes 1) 1 4 2 4 (asks_at_port 0 (omega arith) chunks host told mid) (asks_at_port 1 (omega arith)))
+      (asks_at_port 2 (omega arith))) (asks_at_port 3 (omega arith))
+
+  steps_so : (host : AnchoredHostIs) (told : List Moment) → Mid v.chunks host told 0 0 → CameTo told (stepped halts v.routes v.chunks host) 4 4
+  unfolding stepped
+  steps_so host told mid = follow told (hears_all v.routes v.chunks host) (asks_all halts v.routes) 0 4 4 4 (hears_so v.chunks host told mid) asks_so
+
+-- the hosts are what they are
+pub over_stepping : {calls : ℕ} (laws : AreAnswers) (spelled : AreSpelled) (halts : List Halt) (v : VolumeRun) (told : List Moment) (anchored : AnchoredHosts) (m : ℕ) (host : AnchoredHostIs) → IsVolume v.extent → v.anchored ≡ Some anchored → anchored_at anchored m ≡ Some host
+    → AreRoutes v.extent.chunks (length v.chunks) v.routes told → IsOver calls v told anchored
+    → let s : Stepped = stepped halts v.routes v.chunks host in IsOver calls (with_anchored v anchored m s).volume (told ++ (with_anchored v anchored m s).told) (slice_set anchored m (Some s.host))
+over_stepping {calls} laws spelled halts v told anchored m host volume there at routes over =
+    let place = host_there anchored m host at in
+    let inside = slice_get_within anchored m (Some host) place in
+    (steps_so laws spelled halts calls v volume anchored m inside host told (record { over = over_with v anchored m host told there place over; routes = routes; silent = λ port chunk k c p low high. absurd (omega (arith, high)) })).over

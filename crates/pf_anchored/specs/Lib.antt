@@ -1,0 +1,3 @@
+pub mod Sectors
+pub mod Lists
+pub use Rattle.pf_mounted

@@ -1,0 +1,46 @@
+-- One list of transactions for all mounts over anchors of a run.
+use Rattle.std.specs.Prelude.{◌≡◌, ℕ, ◌<◌, ◌≤◌, List, ◌++◌, Some, slice_get}
+use Rattle.pf_positions.specs.Deeds.{Groups}
+use Rattle.pf_anchorlist.specs.Journals.{IsTransactionList}
+use Rattle.pf_anchorlives.specs.Doings.{doings}
+use Rattle.pf_anchorlives.specs.Lives.{lives}
+use Rattle.pf_anchordeeds.specs.Deeds.{AreAnswered, Happening, told_of}
+use Rattle.pf_anchordeeds.specs.Routed.{AreRouted}
+use Rattle.pf_anchortrees.specs.Lists.{NamesEachOnce, StandsInList}
+use Rattle.pf_anchored.specs.Sectors.{AreRoutedSectorsOver}
+use Rattle.pf_mounted.specs.pf_world.specs.pf_chunk.specs.Runs.{ChunkRun}
+use Rattle.pf_mounted.specs.pf_world.specs.pf_hosts.specs.Moments.{Moment}
+use Rattle.pf_mounted.specs.pf_world.specs.pf_fleet.specs.Volumes.{AnchoredHosts, VolumeRun, anchored_at}
+use Rattle.pf_mounted.specs.pf_world.specs.pf_anchorhosts.specs.Hosts.{AnchoredHostIs}
+use Rattle.pf_mounted.specs.Epochs.{epoch_of, group_at}
+
+-- in this epoch the chunk was served by a group of the run, with all of its history
+pub record IsGroupOf (v : VolumeRun) (told : List Moment) (groups : Groups) (chunk epoch : ℕ) : Type 0 where
+  pub k : ℕ
+  pub at : group_at told chunk epoch ≡ Some k
+  pub c : ChunkRun
+  pub there : slice_get v.chunks k ≡ Some c
+  pub setup : groups.setup chunk epoch ≡ c.group.setup
+  pub history : groups.history chunk epoch ≡ c.group.history
+
+-- the groups that served the chunk in a run, by what was told, in all epochs that there were
+pub record AreGroupsOf (v : VolumeRun) (told : List Moment) (groups : Groups) (chunk : ℕ) : Type 0 where
+  pub moves : groups.moves chunk ≡ epoch_of told chunk
+  pub each : (epoch : ℕ) → epoch ≤ epoch_of told chunk → IsGroupOf v told groups chunk epoch
+
+-- There is what came to the mounts and what their ports handed on, in its order, as each host has its mount by it, and as the groups of the run
+-- answered it, through any number of moves. By it one list is decided, position by position, by Disk Paxos over the sectors of the three
+-- anchors. No call has two transactions in it; and at every moment each mount stands in this list, with tables that stand for the user's tree
+-- after the calls that its transactions name. Each sector of the anchors, and of all other chunks, is one register
+pub record HasOneListOver (v : VolumeRun) (told : List Moment) (hosts : AnchoredHosts) : Type 0 where
+  pub happenings : List Happening
+  pub answered : AreAnswered v.extent happenings
+  pub groups : (chunk : ℕ) → Groups
+  pub of_run : (chunk : ℕ) → chunk < v.extent.chunks → AreGroupsOf v told (groups chunk) chunk
+  pub sectors : AreRoutedSectorsOver v told groups happenings
+  pub routed : AreRouted groups v.extent happenings
+  pub mounts : (m : ℕ) (host : AnchoredHostIs) → anchored_at hosts m ≡ Some host → host.mount ≡ (lives v.extent (told_of happenings) m).mount
+  pub list : List (List ℕ)
+  pub is : IsTransactionList (doings v.extent (told_of happenings)) list
+  pub stands : (before after : List Happening) (m : ℕ) → happenings ≡ before ++ after → m < 16 → StandsInList v.extent (told_of happenings) list (lives v.extent (told_of before) m).mount
+  pub once : NamesEachOnce list

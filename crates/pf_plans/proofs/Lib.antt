@@ -1,0 +1,5 @@
+pub mod Lists
+pub mod Words
+pub mod Typing
+pub mod Planned
+pub mod Numbers
