@@ -20,6 +20,7 @@ use Rattle.pf_anchorlives.specs.Lives.{Told}
 use Rattle.pf_anchordeeds.specs.Deeds.{AreAnswered, told_of}
 use Rattle.pf_anchordeeds.specs.Homes.{home_on}
 use Rattle.pf_anchordeeds.specs.Routed.{AreRouted}
+use Rattle.pf_anchorcalls.proofs.Reporting.{calls_answered}
 use Rattle.pf_anchortrees.specs.Trees.{AreFewCalls}
 use Rattle.pf_anchortrees.proofs.Repeating.{once}
 use Rattle.pf_anchortrees.proofs.Succeeding.{mounts_stand}
@@ -130,4 +131,5 @@ module _ {calls : ℕ} (v : VolumeRun) (told : List Moment) (hosts : AnchoredHos
         stands = λ before after m part small.
             mounts_stand e inputs answered.can_be registers found.0 found.1 volume over.spelled few (told_of before) (told_of after) (ap told_of part ∙ told_more before after) m small;
         once = once e inputs answered.can_be registers found.0 found.1 few;
+        answers = calls_answered e inputs answered.can_be registers found.0 found.1 volume over.spelled few;
       }

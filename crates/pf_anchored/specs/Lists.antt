@@ -1,9 +1,13 @@
 -- One list of transactions for all mounts over anchors of a run.
-use Rattle.std.specs.Prelude.{◌≡◌, ℕ, ◌<◌, ◌≤◌, List, ◌++◌, Some, slice_get}
+use Rattle.std.specs.Prelude.{◌≡◌, ℕ, ◌<◌, ◌≤◌, List, [], ◌∷◌, ◌++◌, Some, slice_get}
+use Rattle.pf_files.specs.declared.answers.CallAnswer.{CallAnswer}
 use Rattle.pf_positions.specs.Deeds.{Groups}
 use Rattle.pf_anchorlist.specs.Journals.{IsTransactionList}
+use Rattle.pf_anchormount.specs.declared.work.AnchoredNext.TheVariants.{Done}
 use Rattle.pf_anchorlives.specs.Doings.{doings}
-use Rattle.pf_anchorlives.specs.Lives.{lives}
+use Rattle.pf_anchorlives.specs.Lives.{Input, Told, lives, mount_after}
+use Rattle.pf_anchorcalls.specs.Answering.{IsAnsweredBy, next_by}
+use Rattle.pf_anchorcalls.specs.Exchanges.{exchanges}
 use Rattle.pf_anchordeeds.specs.Deeds.{AreAnswered, Happening, told_of}
 use Rattle.pf_anchordeeds.specs.Routed.{AreRouted}
 use Rattle.pf_anchortrees.specs.Lists.{NamesEachOnce, StandsInList}
@@ -31,7 +35,8 @@ pub record AreGroupsOf (v : VolumeRun) (told : List Moment) (groups : Groups) (c
 -- There is what came to the mounts and what their ports handed on, in its order, as each host has its mount by it, and as the groups of the run
 -- answered it, through any number of moves. By it one list is decided, position by position, by Disk Paxos over the sectors of the three
 -- anchors. No call has two transactions in it; and at every moment each mount stands in this list, with tables that stand for the user's tree
--- after the calls that its transactions name. Each sector of the anchors, and of all other chunks, is one register
+-- after the calls that its transactions name. Each call that ends is answered as this tree, at the mount's position then, and a read the bytes that
+-- came for it. Each sector of the anchors, and of all other chunks, is one register
 pub record HasOneListOver (v : VolumeRun) (told : List Moment) (hosts : AnchoredHosts) : Type 0 where
   pub happenings : List Happening
   pub answered : AreAnswered v.extent happenings
@@ -44,3 +49,4 @@ pub record HasOneListOver (v : VolumeRun) (told : List Moment) (hosts : Anchored
   pub is : IsTransactionList (doings v.extent (told_of happenings)) list
   pub stands : (before after : List Happening) (m : ℕ) → happenings ≡ before ++ after → m < 16 → StandsInList v.extent (told_of happenings) list (lives v.extent (told_of before) m).mount
   pub once : NamesEachOnce list
+  pub answers : (before after : List Told) (m : ℕ) (input : Input) (answer : CallAnswer) → told_of happenings ≡ before ++ record { mount = m; input = input } ∷ after → next_by (lives v.extent before m).mount input ≡ Some (Done answer) → IsAnsweredBy v.extent (told_of happenings) list (exchanges v.extent (before ++ record { mount = m; input = input } ∷ []) m) m (mount_after (lives v.extent before m).mount input) answer

@@ -1,0 +1,6 @@
+//! Calls of mounts over anchors: laws of what they are answered.
+#![tactic(auto)]
+
+mod laws;
+
+pub use laws::calls_answer_as_the_tree;
