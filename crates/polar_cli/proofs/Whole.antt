@@ -1,6 +1,6 @@
 -- The lines of a script are run on disks.
 use Rattle.std.proofs.Common.{◌≡◌, ℕ, Bool, IsTrue, ◌*◌, ◌^◌, ◌<◌, ◌≤◌, List, [], ◌∷◌, ◌++◌, length, drop, get_or, Option, Some, Ok, Err, slice_get, refl, ap, sym, subst, ◌∙◌, append-nil, arith, lit≤, drop-cons, length-append, length-drop}
-use Rattle.std.proofs.lemmas.Option.{slice_get_within}
+use Rattle.std.proofs.lemmas.Option.{none-some, slice_get_within}
 use Rattle.pf_disk.specs.Crashes.{Images}
 use Rattle.pf_script.specs.declared.command.Command.{Command}
 use Rattle.pf_script.specs.declared.command.Command.TheVariants as commands
@@ -133,8 +133,8 @@ module _ {D : Type 0} (seen : D → Option (List ℕ)) (may_leave : D → Images
           sectors_are_applied_writes = λ k c earlier at part. (safe k c at earlier part).in_order;
           acknowledged_writes_stay = λ k c earlier at part. (safe k c at earlier part).acknowledged;
           one_list = (lists lawful).0;
-          one_list_over_anchors = (lists lawful).1.0;
-          sectors_are_registers = (lists lawful).1.1;
+          one_list_over_anchors = (lists lawful).1;
+          sectors_are_registers = (lists lawful).2;
           ends = ran.ends;
           shown = ran.report;
         };
@@ -208,7 +208,7 @@ module _ {D : Type 0} (seen : D → Option (List ℕ)) (may_leave : D → Images
         none = λ none. refl;
         left = left;
         stops = stops;
-        ruled = λ tell. went_by_rules [] [] before after world left halts run (λ k c there. absurd (no_such k c there)) sound (λ k c there. absurd (no_such k c there)) (told tell) (λ lawful. ((λ some. absurd (omega (arith, some))), (λ some. absurd (omega (arith, some)))));
+        ruled = λ tell. went_by_rules [] [] before after world left halts run (λ k c there. absurd (no_such k c there)) sound (λ k c there. absurd (no_such k c there)) (told tell) (λ lawful. ((λ some. absurd (omega (arith, some))), (λ hosts over some. absurd (none-some hosts over)), (λ some. absurd (omega (arith, some)))));
         disks = disks;
       }
 
