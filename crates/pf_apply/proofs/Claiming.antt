@@ -1,5 +1,5 @@
 -- The least slot that can be claimed.
-use Rattle.std.proofs.Common.{◌≡◌, ℕ, zero, suc, ◌+◌, ◌<◌, ◌≤◌, ◌≢◌, inl, inr, Bool, true, false, not, ◌&&◌, List, length, Option, Some, None, is_some, nat_lt, nat_le, arith, refl, sym, ap, subst, ◌∙◌}
+use Rattle.std.proofs.Common.{◌≡◌, ℕ, zero, suc, ◌+◌, ◌<◌, ◌≤◌, ◌≢◌, inl, inr, Bool, true, false, not, ◌&&◌, length, Option, Some, None, is_some, nat_lt, nat_le, arith, refl, sym, ap, subst, ◌∙◌}
 use Rattle.std.specs.List.{find, range_with_len}
 use Rattle.std.specs.FinMap
 use Rattle.std.specs.Cmp.{nat_cmp_total}
@@ -8,7 +8,6 @@ use Rattle.std.proofs.lemmas.Bool.Decides.{nat_tests}
 use Rattle.std.proofs.lemmas.Option.{same_Some, none-some}
 use Rattle.pf_entry.specs.Sets
 use Rattle.pf_entry.specs.Applying.{is_applied}
-use Rattle.pf_entry.specs.Ops.{Sector}
 use Rattle.pf_entry.specs.Records.{Durable}
 use Rattle.pf_entry.specs.declared.entries.Entry.{Entry}
 use Rattle.pf_entry.specs.declared.ops.Op.{Op}
@@ -145,19 +144,19 @@ module _ (d : Durable) (me : Running) (cached : IsCached d me) where
       by true is = none q low (le_of q after is)
       by false is = not_there q (absent q (lt_of q after is))
 
-  module _ (slot : ℕ) (kept : Op) (room : Option (List Sector)) (is : claimable 4096 (server_of d me) ≡ Some slot) (has : HasRoomFor kept room (length me.sectors)) where
-    room_of_mark : (o : Option (List Sector)) (q : ℕ) → q ≡ slot → HasRoomFor Mark o (length me.sectors) → (x : List Sector) × (FinMap.get (with_room me.rooms slot o) q ≡ Some x) × (length x ≡ length me.sectors)
-    room_of_mark o q same r = (r.0, ap (λ p. FinMap.get (with_room me.rooms slot p) q) r.1 ∙ ap (FinMap.get (FinMap.insert me.rooms slot r.0)) same ∙ get_inserted me.rooms slot r.0, r.2)
+  module _ (slot : ℕ) (kept : Op) (room : Option ℕ) (is : claimable 4096 (server_of d me) ≡ Some slot) (has : HasRoomFor kept room (length me.sectors)) where
+    room_of_mark : (o : Option ℕ) (q : ℕ) → q ≡ slot → HasRoomFor Mark o (length me.sectors) → FinMap.get (with_room me.rooms slot o) q ≡ Some (length me.sectors)
+    room_of_mark o q same r = ap (λ p. FinMap.get (with_room me.rooms slot p) q) r ∙ ap (FinMap.get (FinMap.insert me.rooms slot (length me.sectors))) same ∙ get_inserted me.rooms slot (length me.sectors)
 
-    room_apart : (o : Option (List Sector)) (q : ℕ) → q ≢ slot → FinMap.get (with_room me.rooms slot o) q ≡ FinMap.get me.rooms q
+    room_apart : (o : Option ℕ) (q : ℕ) → q ≢ slot → FinMap.get (with_room me.rooms slot o) q ≡ FinMap.get me.rooms q
     room_apart None q apart = refl
     room_apart (Some x) q apart = get_apart me.rooms slot x q apart
 
-    rooms_then : (q : ℕ) → FinMap.get (FinMap.insert me.in_hand slot kept) q ≡ Some Mark → (x : List Sector) × (FinMap.get (with_room me.rooms slot room) q ≡ Some x) × (length x ≡ length me.sectors)
+    rooms_then : (q : ℕ) → FinMap.get (FinMap.insert me.in_hand slot kept) q ≡ Some Mark → FinMap.get (with_room me.rooms slot room) q ≡ Some (length me.sectors)
     rooms_then q at =
         elim (insert_cases me.in_hand slot kept q Mark at) [
           | inl same ↦ room_of_mark room q same.0 (subst (λ o. HasRoomFor o room (length me.sectors)) same.1 has)
-          | inr apart ↦ let r = cached.rooms q apart.1 in (r.0, room_apart room q apart.0 ∙ r.1, r.2)
+          | inr apart ↦ room_apart room q apart.0 ∙ cached.rooms q apart.1
         ]
 
     near_then : (q : ℕ) → FinMap.contains_key (with_room me.rooms slot room) q ≡ true → FinMap.contains_key (FinMap.insert me.in_hand slot kept) q ≡ true

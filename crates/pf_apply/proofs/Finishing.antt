@@ -1,7 +1,7 @@
 -- Jobs that end.
 use Rattle.std.proofs.Common.{◌≡◌, ℕ, ◌+◌, ◌-◌, ◌<◌, ◌≤◌, ◌≢◌, Bool, true, false, ◌&&◌, ◌||◌, List, [], length, Option, Some, None, Result, Ok, Err, OnErr, is_some, nat_lt, arith, refl, sym, ap, subst, ◌∙◌}
 use Rattle.std.proofs.lemmas.Bool.{cond-true, cond-false, eq-eqb, false≢true, ne_eqb}
-use Rattle.std.proofs.lemmas.Option.{same_Some, none-some}
+use Rattle.std.proofs.lemmas.Option.{none-some}
 use Rattle.std.specs.Option.{MatchOption}
 use Rattle.std.proofs.lemmas.Bool.Decides.{nat_tests}
 use Rattle.std.specs.Ordering.{nat_cmp, eq_by_cmp}
@@ -63,11 +63,10 @@ pub get_others : {X : Type 0} (m : Map X) (k q : ℕ) → q ≢ k → FinMap.get
 get_others m k q apart = FinMap.get-remove nat_cmp_total m k q ∙ cond-false _ _ _ (same_number q k ∙ ne_eqb q k apart)
 
 module _ (d : Durable) (me : Running) (slot : ℕ) (cached : IsCached d me) where
-  rooms_left : (q : ℕ) → FinMap.get (FinMap.remove me.in_hand slot) q ≡ Some Mark → (room : List Sector) × (FinMap.get (FinMap.remove me.rooms slot) q ≡ Some room) × (length room ≡ length me.sectors)
+  rooms_left : (q : ℕ) → FinMap.get (FinMap.remove me.in_hand slot) q ≡ Some Mark → FinMap.get (FinMap.remove me.rooms slot) q ≡ Some (length me.sectors)
   rooms_left q at =
       let was = remove_cases me.in_hand slot q Mark at in
-      let r = cached.rooms q was.1 in
-      (r.0, get_others me.rooms slot q was.0 ∙ r.1, r.2)
+      get_others me.rooms slot q was.0 ∙ cached.rooms q was.1
 
   near_left : (q : ℕ) → FinMap.contains_key (FinMap.remove me.rooms slot) q ≡ true → FinMap.contains_key (FinMap.remove me.in_hand slot) q ≡ true
   near_left q has =
@@ -140,17 +139,17 @@ module _ (d : Durable) (me : Running) (slot : ℕ) (cached : IsCached d me) wher
             role = cached.role;
             jobs = jobs_left (ap is_some held);
             places = omega (arith, cached.places, spare, some_jobs (ap is_some held));
-            rooms = λ q at. let r = rooms_left q at in (r.0, r.1, r.2 ∙ sym same);
+            rooms = λ q at. rooms_left q at ∙ ap Some (sym same);
             near = near_left;
             replies = cached.replies;
           };
         }
 
-pub has_room : (op : Op) (taken held : Option (List Sector)) (chunk : ℕ) → MatchOption taken (held ≡ None) (λ room. held ≡ Some room) → (op ≡ Mark → (room : List Sector) × (held ≡ Some room) × (length room ≡ chunk)) → HasRoomFor op taken chunk
+pub has_room : (op : Op) (taken held : Option ℕ) (chunk : ℕ) → MatchOption taken (held ≡ None) (λ room. held ≡ Some room) → (op ≡ Mark → held ≡ Some chunk) → HasRoomFor op taken chunk
 has_room (Write range payload) taken held chunk is room = tt
 has_room Noop taken held chunk is room = tt
-has_room Mark None held chunk is room = absurd (none-some (room refl).0 (sym is ∙ (room refl).1))
-has_room Mark (Some x) held chunk is room = let r = room refl in (x, refl, ap length (same_Some x r.0 (sym is ∙ r.1)) ∙ r.2)
+has_room Mark None held chunk is room = absurd (none-some chunk (sym is ∙ room refl))
+has_room Mark (Some x) held chunk is room = sym is ∙ room refl
 
 inside_of_fits : (setup : Setup) (op : Op) → OpFits setup op → IsInside setup.chunk op
 inside_of_fits setup (Write range payload) f = (f.0, f.1, f.3)

@@ -1,10 +1,9 @@
 -- Jobs that are claimed.
-use Rattle.std.specs.Prelude.{◌≡◌, ℕ, Bool, true, not, ◌&&◌, List, length, Option, Some, None}
+use Rattle.std.specs.Prelude.{◌≡◌, ℕ, Bool, true, not, ◌&&◌, length, Option, Some, None}
 use Rattle.std.specs.FinMap
 use Rattle.pf_entry.specs.Maps.{Map}
 use Rattle.pf_entry.specs.Sets
 use Rattle.pf_entry.specs.Applying.{is_free}
-use Rattle.pf_entry.specs.Ops.{Sector}
 use Rattle.pf_entry.specs.Records.{Durable}
 use Rattle.pf_entry.specs.declared.entries.Entry.{Entry}
 use Rattle.pf_entry.specs.declared.ops.Job.{Job}
@@ -53,7 +52,7 @@ abbrev pub Plans : Durable → Running → Option Plan → Type 0
 Plans d me None = claimable 4096 (server_of d me) ≡ None
 Plans d me (Some plan) = IsPlan d me plan
 
-abbrev pub with_room : Map (List Sector) → ℕ → Option (List Sector) → Map (List Sector)
+abbrev pub with_room : Map ℕ → ℕ → Option ℕ → Map ℕ
 with_room rooms slot None = rooms
 with_room rooms slot (Some room) = FinMap.insert rooms slot room
 

@@ -1,9 +1,8 @@
 -- Jobs that come back.
-use Rattle.std.specs.Prelude.{◌≡◌, ℕ, List, length, Option, Some, true}
+use Rattle.std.specs.Prelude.{◌≡◌, ℕ, length, Option, Some, true}
 use Rattle.std.specs.FinMap
 use Rattle.pf_base.specs.Span.{fits_in, IsWritable}
 use Rattle.pf_base.specs.declared.filled.Filled.{Filled}
-use Rattle.pf_entry.specs.Ops.{Sector}
 use Rattle.pf_entry.specs.declared.ops.Op.{Op}
 use Rattle.pf_entry.specs.declared.ops.Op.TheVariants.{Write, Noop, Mark}
 use Rattle.pf_state.specs.declared.running.Running.{Running}
@@ -27,7 +26,7 @@ IsInside chunk Noop = Unit {0}
 IsInside chunk Mark = Unit {0}
 
 -- there is memory for the snapshot of a mark
-abbrev pub HasRoomFor : Op → Option (List Sector) → ℕ → Type 0
-HasRoomFor Mark room chunk = (sectors : List Sector) × (room ≡ Some sectors) × (length sectors ≡ chunk)
+abbrev pub HasRoomFor : Op → Option ℕ → ℕ → Type 0
+HasRoomFor Mark room chunk = room ≡ Some chunk
 HasRoomFor Noop room chunk = Unit {0}
 HasRoomFor (Write range payload) room chunk = Unit {0}

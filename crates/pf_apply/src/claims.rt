@@ -8,11 +8,11 @@ ghost use Rattle.pf_apply.specs.Jobs.{HasRoomFor};
 ghost use Rattle.pf_apply.specs.Claims.{Claims, IsLeast, IsPlan, IsReady, Plans, can_claim, can_claim_here, with_room};
 ghost use Rattle.pf_state.specs.Turns.{IsAfter};
 
-use pf_base::{NoMemory, Sectors, Slot};
+use pf_base::{NoMemory, Slot};
 use pf_entry::{Entry, Job, Op};
 use pf_holes::Ring;
 use pf_look::is_free;
-use pf_sectors::SectorTable;
+use pf_sectors::{Room, SectorTable};
 use pf_state::Running;
 use std::alloc::Global;
 
@@ -65,13 +65,13 @@ fn least_claimable(me: &Running) -> Option<&Entry>
 }
 
 /// Memory for the snapshot of a mark; for another op none.
-fn room_for(alloc: Global, op: &Op, sectors: &SectorTable) -> Result<Option<Sectors>, NoMemory>
+fn room_for(alloc: Global, op: &Op, sectors: &SectorTable) -> Result<Option<Room>, NoMemory>
     ensures { IfOk result (λ room. HasRoomFor op.now room (length sectors.now)) }
 {
     match op {
         Op::Mark => {
-            let room = vec![in alloc; [0; 512]; sectors.as_slice().len()]?;
-            Ok(Some(Sectors::new(room)))
+            let room = Room::new(alloc, sectors.as_slice().len())?;
+            Ok(Some(room))
         }
         Op::Write { .. } | Op::Noop => Ok(None),
     }
@@ -90,7 +90,7 @@ pub struct Plan {
     claimed: Claimed,
     kept: Op,
     /// The memory of its snapshot, of a mark.
-    room: Option<Sectors>,
+    room: Option<Room>,
 }
 
 /// The job of the least slot that can be claimed, `None` exactly where there is none.
@@ -120,7 +120,7 @@ fn prepare(alloc: Global, me: &Running) -> Result<Option<Plan>, NoMemory>
     }))
 }
 
-fn keep_room(rooms: &mut Ring<Sectors>, slot: Slot, room: Option<Sectors>)
+fn keep_room(rooms: &mut Ring<Room>, slot: Slot, room: Option<Room>)
     requires { IsNear rooms.old slot }
     ensures { rooms.new ≡ with_room rooms.old slot room }
 {

@@ -1,5 +1,5 @@
 //! Jobs in hand.
-ghost use Rattle.std.specs.Prelude.{◌≡◌, length};
+ghost use Rattle.std.specs.Prelude.{◌≡◌, ◌≤◌, length};
 ghost use Rattle.std.specs.FinMap as finite;
 ghost use Rattle.pf_entry.specs.Records.{Durable};
 ghost use Rattle.pf_protocol.specs.Saving.{applied_op, changed, four_greatest, on_finish, on_give_back, snapshots_after};
@@ -7,28 +7,26 @@ ghost use Rattle.pf_state.specs.Standing.{server_of, IsBounded, IsCached};
 ghost use Rattle.pf_apply.specs.Jobs.{HasRoomFor, IsFilledFor, IsInside, IsJobOf};
 ghost use Rattle.pf_state.specs.Turns.{IsAfter, IsTurn};
 
-use pf_base::{Filled, Range, Sectors, Slot};
+use pf_base::{Filled, Slot};
 use pf_entry::Op;
 use pf_protocol::{Answer, Refusal};
-use pf_sectors::SectorTable;
+use pf_sectors::{Room, SectorTable};
 use pf_state::Running;
 use pf_tables::Snapshots;
 
 /// Keeps the sectors as they are at a mark, in the memory that was taken for them.
-fn keep_snapshot(sectors: &SectorTable, mark: Slot, room: Sectors, snapshots: &mut Snapshots)
-    requires { length room ≡ length sectors.now }
+fn keep_snapshot(sectors: &SectorTable, mark: Slot, room: Room, snapshots: &mut Snapshots)
+    requires { length sectors.now ≤ room }
     ensures { snapshots.new ≡ four_greatest (finite.insert snapshots.old mark sectors.now) }
 {
-    let mut copy = room.into_vec();
-    sectors.read(Range::all(), &mut copy);
-    snapshots.keep(mark, Sectors::new(copy));
+    snapshots.keep(mark, room.fill(sectors.as_slice()));
 }
 
 /// Does to the sectors what the op says, and keeps them where it is a mark.
 fn carry_out(
     op: Op,
     filled: &mut Filled,
-    room: Option<Sectors>,
+    room: Option<Room>,
     sectors: &mut SectorTable,
     snapshots: &mut Snapshots,
 )

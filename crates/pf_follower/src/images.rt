@@ -23,7 +23,7 @@ use pf_election::Probes;
 use pf_entry::{Body, Op, Record, Slots, VoteLog};
 use pf_holes::{Ring, SlotSet};
 use pf_protocol::Answer;
-use pf_sectors::SectorTable;
+use pf_sectors::{Room, SectorTable};
 use pf_state::{Outbox, Role, Running, StepFault, copied_above, save, send};
 use pf_store::Store;
 use std::alloc::Global;
@@ -35,7 +35,7 @@ struct NewHalf {
     applied: SlotSet,
     sectors: SectorTable,
     in_hand: Ring<Op>,
-    rooms: Ring<Sectors>,
+    rooms: Ring<Room>,
 }
 
 /// The sectors of an image, `None` exactly of another record.

@@ -58,7 +58,7 @@ opening_is setup (suc i) = refl
 none_above : (slots : Numbers) (base : ℕ) → slots ≡ Sets.empty → Sets.retain slots (nat_lt base) ≡ Sets.empty
 none_above slots base none = ap (λ s. Sets.retain s (nat_lt base)) none ∙ same_set _ _ (λ q. in_above Sets.empty base q ∙ ap (λ b. b && nat_lt base q) (contains-empty q) ∙ sym (contains-empty q))
 
-module _ (seat : Seat) (made : IsSeat seat) (starts : StartRoom) (log : Holes) (role : Role) (applied : SlotTable) (sectors : List Sector) (in_hand : Map Op) (rooms : Map (List Sector)) (reads : List Asked) (replies : Replying) (snapshots : Map (List Sector)) where
+module _ (seat : Seat) (made : IsSeat seat) (starts : StartRoom) (log : Holes) (role : Role) (applied : SlotTable) (sectors : List Sector) (in_hand : Map Op) (rooms : Map ℕ) (reads : List Asked) (replies : Replying) (snapshots : Map (List Sector)) where
   abbrev me : Running
   me = record {
     number = seat.number;

@@ -47,7 +47,7 @@ applied_back base applied slots high is = ap (λ s. Sets.retain s (nat_lt base))
     ∙ cut base q (Sets.contains applied q) (high q))
 
 module _ (seat : Seat) (life : ℕ) (made : IsSeat seat) (r : Recovered) (begun : HasBegun (setup_at seat) (state_in r)) (unmarked : r.log.committed ≡ Sets.empty)
-    (applied : SlotTable) (sectors : List Sector) (in_hand : Map Op) (rooms : Map (List Sector)) (reads : List Asked) (replies : Replying) (snapshots : Map (List Sector)) where
+    (applied : SlotTable) (sectors : List Sector) (in_hand : Map Op) (rooms : Map ℕ) (reads : List Asked) (replies : Replying) (snapshots : Map (List Sector)) where
   abbrev me : Running
   me = record {
     number = seat.number;

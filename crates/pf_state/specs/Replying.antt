@@ -1,5 +1,5 @@
 -- Answers of reads, and room for more.
-use Rattle.std.specs.Prelude.{◌≡◌, ℕ, ◌+◌, ◌≤◌, List, [], Vec, vec_capacity, length, All, refl}
+use Rattle.std.specs.Prelude.{ℕ, ◌+◌, ◌≤◌, List, length, All, refl}
 use Rattle.std.specs.Coded.{Coded, code_by, coded×, coded_ℕ, coded_list}
 use Rattle.pf_entry.specs.Ops.{Sector}
 
@@ -15,12 +15,7 @@ replying_code =
     (λ p. record { rooms = p.0; answers = p.1 })
     (λ _. refl)
 
--- without sectors, and with room for eight
-pub record IsRoom {Z : Type 0} (room : Vec Sector Z) : Type 0 where
-  pub none : room.items ≡ []
-  pub eight : 8 ≤ vec_capacity room
-
--- each room is one, and there is a place for the answer of each
-pub record HasRooms {Z : Type 0} (rooms : List (Vec Sector Z)) (len capacity : ℕ) : Type 0 where
-  pub each : All IsRoom rooms
+-- each room is for eight sectors, and there is a place for the answer of each
+pub record HasRooms (rooms : List ℕ) (len capacity : ℕ) : Type 0 where
+  pub each : All (λ room. 8 ≤ room) rooms
   pub places : len + length rooms ≤ capacity

@@ -1,8 +1,7 @@
 -- A running server over its records, and what a step of it may end in.
-use Rattle.std.specs.Prelude.{◌≡◌, ◌⊎◌, ◌≢◌, ℕ, ◌+◌, ◌<◌, ◌≤◌, ◌^◌, Bool, true, List, [], length, map, Option, Some, None, Result, Ok, Err, nat_lt}
+use Rattle.std.specs.Prelude.{◌≡◌, ◌⊎◌, ◌≢◌, ℕ, ◌+◌, ◌<◌, ◌≤◌, ◌^◌, true, [], length, map, Option, Some, None, Result, Ok, Err, nat_lt}
 use Rattle.std.specs.FinMap
 use Rattle.pf_entry.specs.Sets
-use Rattle.pf_entry.specs.Ops.{Sector}
 use Rattle.pf_entry.specs.Records.{Durable}
 use Rattle.pf_entry.specs.declared.ops.Op.TheVariants.{Mark}
 use Rattle.pf_election.specs.declared.probes.Read.{Read as Asked}
@@ -83,7 +82,7 @@ pub record IsCached (d : Durable) (me : Running) : Type 0 where
   pub role : IsRoleKept me.number me.role
   pub jobs : me.jobs ≡ FinMap.len me.in_hand
   pub places : me.jobs ≤ me.applied.spare
-  pub rooms : (slot : ℕ) → FinMap.get me.in_hand slot ≡ Some Mark → (room : List Sector) × (FinMap.get me.rooms slot ≡ Some room) × (length room ≡ length me.sectors)
+  pub rooms : (slot : ℕ) → FinMap.get me.in_hand slot ≡ Some Mark → FinMap.get me.rooms slot ≡ Some (length me.sectors)
   pub near : (slot : ℕ) → FinMap.contains_key me.rooms slot ≡ true → FinMap.contains_key me.in_hand slot ≡ true
   pub replies : length me.reads ≤ me.replies.rooms
 

@@ -2,9 +2,10 @@
 ghost use Rattle.std.specs.Prelude.{◌≡◌, IfOk};
 ghost use Rattle.std.specs.FinMap as map;
 
-use pf_base::{NoMemory, Sectors};
+use pf_base::NoMemory;
 use pf_entry::Op;
 use pf_holes::Ring;
+use pf_sectors::Room;
 use pf_tables::Snapshots;
 use std::alloc::Global;
 
@@ -12,7 +13,7 @@ use std::alloc::Global;
 #[derive(Drop)]
 pub struct Idle {
     pub in_hand: Ring<Op>,
-    pub rooms: Ring<Sectors>,
+    pub rooms: Ring<Room>,
     pub snapshots: Snapshots,
 }
 

@@ -2,10 +2,9 @@
 ghost use Rattle.std.specs.Prelude.{◌≡◌, ◌+◌, ◌-◌, ◌≤◌, ◌<◌, [], ◌∷◌, ◌++◌, IfNone, IfSome, IsTrue, OnErr, OnOk, length, slice_range};
 ghost use Rattle.std.specs.VecDeque.{deque_capacity, deque_len};
 ghost use Rattle.pf_base.specs.Span.{fits_in};
-ghost use Rattle.pf_state.specs.Replying.{IsRoom};
 
-use pf_base::{NoMemory, Range, Sector, Sectors};
-use pf_sectors::SectorTable;
+use pf_base::{NoMemory, Range, Sectors};
+use pf_sectors::{Room, SectorTable};
 use std::alloc::Global;
 use std::collections::VecDeque;
 use std::marker::Model;
@@ -14,8 +13,8 @@ use std::marker::Model;
 /// of its answer as it is asked.
 #[derive(Drop)]
 pub struct Replies {
-    /// Each without sectors, and with room for eight.
-    rooms: Vec<Vec<Sector>>,
+    /// Each for eight sectors.
+    rooms: Vec<Room>,
     answers: VecDeque<(u64, Sectors)>,
 }
 
@@ -58,7 +57,7 @@ impl Replies {
     {
         self.rooms.reserve(1)?;
         self.answers.reserve(self.rooms.len() + 1)?;
-        let room = Vec::with_capacity(alloc, 8)?;
+        let room = Room::new(alloc, 8)?;
         self.rooms.push(room)?;
         Ok(())
     }
@@ -86,17 +85,15 @@ impl Replies {
 }
 
 /// The sectors of the range, in the room.
-fn fill(mut room: Vec<Sector>, range: Range, table: &SectorTable) -> Sectors
-    requires room { IsRoom room }
+fn fill(room: Room, range: Range, table: &SectorTable) -> Sectors
+    requires room { 8 ≤ room }
     requires count { range.count ≤ 8 }
     requires fits { IsTrue (fits_in range (length table.now)) }
     ensures { result ≡ slice_range table.now range.first (range.first + range.count) }
 {
     let first = range.first() as usize;
     let end = first + range.count() as usize;
-    // There is room, so this does not fail.
-    let _ = room.extend_from_slice(&table.as_slice()[first..end]);
-    Sectors::new(room)
+    room.fill(&table.as_slice()[first..end])
 }
 
 /// Puts the answer behind the others, where there is room for it.

@@ -5,11 +5,11 @@ ghost use Rattle.pf_protocol.specs.Servers.{upto, has_applied};
 ghost use Rattle.pf_state.specs.Standing.{server_of, IsCached};
 
 use crate::Replies;
-use pf_base::{Sectors, ServerId, Slot, Term};
+use pf_base::{ServerId, Slot, Term};
 use pf_election::{Candidacy, Probes};
 use pf_entry::Op;
 use pf_holes::{HoleLog, Ring, SlotSet};
-use pf_sectors::SectorTable;
+use pf_sectors::{Room, SectorTable};
 use pf_tables::{Acks, Known, Snapshots, StartTable};
 
 /// What a leader keeps.
@@ -54,7 +54,7 @@ pub struct Running {
     pub in_hand: Ring<Op>,
     pub jobs: usize,
     /// The memory of the snapshots of marks in hand, by their slots.
-    pub rooms: Ring<Sectors>,
+    pub rooms: Ring<Room>,
     pub reads: Probes,
     pub replies: Replies,
     pub snapshots: Snapshots,

@@ -1,4 +1,4 @@
-use Rattle.std.proofs.Common.{◌∙◌, length, sym, ap, subst}
+use Rattle.std.proofs.Common.{◌≡◌, ◌∙◌, Some, length, sym, ap, subst}
 use Rattle.pf_entry.specs.declared.ops.Op.{Op}
 use Rattle.pf_protocol.specs.Saving.{changed, snapshots_after}
 use Rattle.pf_apply.specs.Jobs.{HasRoomFor, IsFilledFor, IsInside}
@@ -38,5 +38,5 @@ returns-clause-snapshots c =
       | in-Noop+in-Some-1 w ↦ w.snapshots-is ∙ ap after (sym w.in-Noop.is)
       | in-Noop+in-None-1 w ↦ w.snapshots-is ∙ ap after (sym w.in-Noop.is)
       | in-Mark+in-Some w ↦ w.snapshots-is ∙ w.keep_snapshot.ensures ∙ ap after (sym w.in-Mark.is)
-      | in-Mark+in_default w ↦ let room = subst (λ o. HasRoomFor o c.args.room (length c.args.sectors.now)) w.in-Mark.is c.requires.room in let none = w.in_default.is in let some = room.1 in absurd (cc)
+      | in-Mark+in_default w ↦ let room : c.args.room ≡ Some (length c.args.sectors.now) = subst (λ o. HasRoomFor o c.args.room (length c.args.sectors.now)) w.in-Mark.is c.requires.room in let none = w.in_default.is in absurd (cc)
     ]

@@ -1,0 +1,43 @@
+//! Memory for sectors to come.
+ghost use Rattle.std.specs.Prelude.{◌≡◌, ◌≤◌, IfOk, length};
+
+use pf_base::{NoMemory, Sector, Sectors};
+use std::alloc::Global;
+use std::marker::Model;
+
+/// Memory for some sectors, seen as their number. Nothing is written in it before it is filled.
+#[derive(Drop)]
+pub struct Room {
+    sectors: Vec<Sector>,
+}
+
+impl Model for Room {
+    ghost use Rattle.std.specs.Prelude.{◌≡◌, ℕ, [], vec_capacity};
+
+    ghost Value = { ℕ };
+
+    ghost view = { λ r. vec_capacity r.sectors };
+
+    ghost invariant = { λ r. r.sectors.items ≡ [] };
+}
+
+impl Room {
+    /// Takes memory for `count` sectors. `NoMemory` (1) where there is none.
+    pub fn new(alloc: Global, count: usize) -> Result<Room, NoMemory>
+        ensures { IfOk result (λ room. room ≡ count) }
+    {
+        let sectors = Vec::with_capacity(alloc, count)?;
+        Ok(Room { sectors })
+    }
+
+    /// A copy of these sectors, in this memory. It takes no other.
+    pub fn fill(self, sectors: &[Sector]) -> Sectors
+        requires { length sectors.now ≤ self }
+        ensures { result ≡ sectors.now }
+    {
+        let mut copy = self.sectors;
+        // There is room, so this does not fail.
+        let _ = copy.extend_from_slice(sectors);
+        Sectors::new(copy)
+    }
+}
