@@ -4,7 +4,7 @@ use Rattle.std.specs.Int.{w32, w64, to_be_bytes}
 use Rattle.std.specs.List.{All, AllZip}
 use Rattle.std.proofs.lemmas.Option.{same_Some}
 use Rattle.std.proofs.lemmas.Bool.{false≢true}
-use Rattle.std.proofs.lemmas.List.Elements.{All-cons, All-head, All-nil, All-tail, All-weaker}
+use Rattle.std.proofs.lemmas.List.Elements.{All-head, All-nil, All-tail}
 use Rattle.pf_base.specs.Numbers.{number_at}
 use Rattle.pf_base.proofs.Spellings.{reads_u64}
 use Rattle.pf_chunklog.specs.Records.{Raw, blocks, body_of, spelled}
@@ -20,8 +20,9 @@ use Rattle.pf_codec.proofs.SizeLaws.{payload_len}
 use Rattle.pf_entry.specs.Lists.{Every}
 use Rattle.pf_store.specs.Stores.{BeginsWithImage, IsImageOf, IsNextImage, IsSpelledAs, StandsFor, blank, is_image, state_of}
 use Rattle.pf_store.specs.declared.found.Found.{Found}
-use Rattle.pf_image.specs.Recovery.{AreRecoverable, IsChange, IsFormat, IsImage, IsNext, IsSpelled, Spells, generation, generation_in}
+use Rattle.pf_image.specs.Recovery.{AreRecoverable, IsChange, IsFormat, IsImage, IsNext, Spells, generation, generation_in}
 use Rattle.pf_image.proofs.Files.{recoverable_more}
+use Rattle.pf_image.proofs.Spelled.{spelled_more}
 use Rattle.pf_diskstore.specs.Kept.{IsFirst, IsStateIn}
 
 -- what is written of a record
@@ -78,12 +79,6 @@ all_spelled_one format (raw ∷ raws) (r ∷ rs) [] a b = absurd b
 
 pub one_state : (format : ℕ) (raws : List Raw) (d e : Durable) → IsStateIn (format, raws) d → IsStateIn (format, raws) e → d ≡ e
 one_state format raws d e a b = sym a.state ∙ ap (state_of format) (all_spelled_one format raws a.records b.records a.spelled b.spelled) ∙ b.state
-
-pub spelled_more : (format : ℕ) (raws : List Raw) (raw : Raw) (rs : List Record) (r : Record) → AllZip (Spells format) raws rs → Spells format raw r → AllZip (Spells format) (raws ++ raw ∷ []) (rs ++ r ∷ [])
-spelled_more format [] raw [] r all last = (last, tt)
-spelled_more format [] raw (s ∷ rs) r all last = absurd all
-spelled_more format (x ∷ raws) raw [] r all last = absurd all
-spelled_more format (x ∷ raws) raw (s ∷ rs) r all last = (all.0, spelled_more format raws raw rs r all.1 last)
 
 -- ---- one record more
 
@@ -286,10 +281,6 @@ saved_state d r body is =
     subst (λ (x : Durable). IsStateIn (2, raw_of r ∷ []) x) (stored_alone d r image) (image_state 2 r is.canonical is.fits image)
 
 -- each record of a recoverable half is spelled
-pub are_spelled : (format : ℕ) (raws : List Raw) → AreRecoverable format raws → All (IsSpelled format) raws
-are_spelled format [] are = absurd are
-are_spelled format (image ∷ changes) are = All-cons (IsSpelled format) image changes are.0.1 (All-weaker (IsChange format) (IsSpelled format) (λ raw change. change.1) changes are.1)
-
 -- what was read of a half
 pub read_state : (format : ℕ) (raws : List Raw) (rs : List Record) → AreRecoverable format raws → AllZip (Spells format) raws rs → IsStateIn (format, raws) (state_of format rs)
 read_state format raws rs are all = record { recoverable = are; records = rs; spelled = all; state = refl }

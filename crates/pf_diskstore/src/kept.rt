@@ -1,22 +1,17 @@
 //! Records on two disks.
 ghost use Rattle.std.specs.Prelude.{◌≡◌, ◌≢◌, ◌⊎◌, ◌+◌, ◌≤◌, ◌<◌, ◌^◌, ◌&&◌, [], ◌∷◌, Err, IfErr, IfOk, IfSome, IsErrOf, IsTrue, is_some, length, slice_index};
-ghost use Rattle.std.specs.List.{AllZip};
 ghost use Rattle.pf_disk.specs.Causes.{Rose};
-ghost use Rattle.pf_chunklog.specs.Records.{blocks};
 ghost use Rattle.pf_chunklog.specs.declared.errors.OpenFault.TheVariants.{DiskFault as disk_failed, NotOurs as not_ours};
 ghost use Rattle.pf_entry.specs.Records.{Durable};
 ghost use Rattle.pf_entry.specs.declared.records.Record.{Record as RecordIs};
 ghost use Rattle.pf_store.specs.Stores.{StandsFor, state_of};
-ghost use Rattle.pf_image.specs.Recovery.{AreRecoverable, Spells};
 ghost use Rattle.pf_image.specs.Pairs.{AreLater, current_of, format_of};
 ghost use Rattle.pf_diskstore.specs.Model.{kept_model};
 ghost use Rattle.pf_diskstore.specs.Kept.{FindsState, IsFirst, IsKept, IsReread, LeavesStates, OneRose, WentOn, tells};
 
-use crate::reading::{read_records, used_by};
-use pf_base::NoMemory;
-use pf_chunklog::{AppendFault, OpenFault, RawRecords};
+use pf_chunklog::{AppendFault, OpenFault};
 use pf_disk::Disk;
-use pf_image::{Pair, Place};
+use pf_image::{HalfRecords, Pair, Place};
 use pf_store::{DiskFault, Found, ReloadFault, Store};
 use std::alloc::Global;
 
@@ -97,21 +92,17 @@ impl<D: Disk> Kept<D> {
     }
 
     /// What the pair stands at, with the records that it read.
-    fn spelled(&self, alloc: Global, raws: &RawRecords) -> Result<Found, NoMemory>
-        requires recoverable { AreRecoverable (format_of self.now.pair) raws.now }
-        requires used { ((current_of self.now.pair).used ≡ 9 + length (blocks raws.now)) × ((current_of self.now.pair).used < 2 ^ 64) }
-        ensures format { IfOk result (λ found. found.format ≡ format_of self.now.pair) }
-        ensures used { IfOk result (λ found. found.used ≡ (current_of self.now.pair).used) }
-        ensures records { IfOk result (λ found. AllZip (Spells (format_of self.now.pair)) raws.now found.records.items) }
+    fn found_in(&self, read: HalfRecords) -> Found
+        ensures format { result.format ≡ format_of self.now.pair }
+        ensures used { result.used ≡ (current_of self.now.pair).used }
+        ensures records { result.records ≡ read.records }
     {
-        let format = self.pair.format();
-        let used = used_by(raws.as_slice());
-        let records = read_records(alloc, format, raws.as_slice())?;
-        Ok(Found {
-            format,
-            used,
+        let HalfRecords { raws: _, records } = read;
+        Found {
+            format: self.pair.format(),
+            used: self.pair.used_bytes(),
             records,
-        })
+        }
     }
 
     /// Reads the records, and stands where they were found. On an `Err` the pair may stand there too.
@@ -127,7 +118,7 @@ impl<D: Disk> Kept<D> {
         ensures cause { IsErrOf result ReloadFault.DiskFault → OneRose D.faults self.old.pair self.new.pair }
     {
         match self.pair.reload(alloc) {
-            Ok(raws) => Ok(self.spelled(alloc, &raws)?),
+            Ok(read) => Ok(self.found_in(read)),
             Err(fault) => Err(named(fault)),
         }
     }

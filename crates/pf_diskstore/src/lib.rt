@@ -2,6 +2,5 @@
 #![tactic(auto)]
 
 mod kept;
-mod reading;
 
 pub use kept::Kept;

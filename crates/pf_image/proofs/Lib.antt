@@ -2,3 +2,4 @@ pub mod Files
 pub mod Loading
 pub mod Logs
 pub mod Times
+pub mod Spelled

@@ -9,3 +9,4 @@ mod recovery;
 pub use halves::Half;
 pub use pair::Pair;
 pub use place::Place;
+pub use recovery::HalfRecords;

@@ -1,14 +1,15 @@
 //! A pair of halves: one is current and takes the records, and the next image begins the other.
 ghost use Rattle.std.specs.Prelude.{◌≡◌, ◌⊎◌, ◌+◌, ◌≤◌, ◌<◌, ◌^◌, ◌↔◌, ◌++◌, [], ◌∷◌, List, ℕ, true, IfErr, IfOk, IfSome, IsErrOf, IsTrue, OnErr, OnOk, Some, length, nat_le, is_some, slice_index};
+ghost use Rattle.std.specs.List.{AllZip};
 ghost use Rattle.pf_disk.specs.Causes.{HasCause, Rose};
 ghost use Rattle.pf_disk.specs.Crashes.{Only};
 ghost use Rattle.pf_chunklog.specs.Records.{Holds, Raw, blocks, body_of};
 ghost use Rattle.pf_chunklog.specs.Logs.{IsAtRest, IsCleared, IsOnlyRead, LeavesOnly};
 ghost use Rattle.pf_image.specs.Halves.{half_head, of_half, other};
 ghost use Rattle.pf_image.specs.Current.{IsBegun, IsReady};
-ghost use Rattle.pf_image.specs.Recovery.{AreRecoverable, Content, Finds, IsChange, IsFormat, IsNext, IsRecoverable};
+ghost use Rattle.pf_image.specs.Recovery.{AreRecoverable, Content, Finds, IsChange, IsFormat, IsNext, IsRecoverable, Spells};
 
-use crate::recovery::{Found, newer, read_half};
+use crate::recovery::{Found, HalfRecords, newer, read_half};
 use crate::{Half, Place};
 use pf_chunklog::{AppendFault, ChunkLog, DiskFault, OpenFault, RawRecords};
 use pf_disk::{Disk, Failed};
@@ -256,7 +257,7 @@ impl<D: Disk> Pair<D> {
     {
         let mut pair = Pair::unread(a, b, head);
         match pair.reload(alloc) {
-            Ok(records) => Ok((pair, records)),
+            Ok(read) => Ok((pair, read.raws)),
             Err(fault) => {
                 let (a, b) = pair.into_disks();
                 Err((a, b, fault))
@@ -264,22 +265,24 @@ impl<D: Disk> Pair<D> {
         }
     }
 
-    /// `load` over the pair's own two disks, also after a `DiskFault`. On an `Err` the pair is as it was: the disks read the same.
-    pub fn reload(&mut self, alloc: Global) -> Result<RawRecords, OpenFault>
-        ensures found { IfSome (D.seen self.old.zero.disk) (λ zero. IfSome (D.seen self.old.one.disk) (λ one. IfOk result (Finds self.old.head zero one))) }
-        ensures whole { IfSome (D.seen self.old.zero.disk) (λ _. IfSome (D.seen self.old.one.disk) (λ _. IfOk result (IsWhole D.seen D.may_leave self.new))) }
-        ensures only_records { IfSome (D.seen self.old.zero.disk) (λ zero. IfSome (D.seen self.old.one.disk) (λ one. IfOk result (λ records. (others : List Raw) → Finds self.old.head zero one others → others ≡ records))) }
+    /// `load` over the pair's own two disks, also after a `DiskFault`; what the records spell comes with them. On an `Err` the pair is as
+    /// it was: the disks read the same.
+    pub fn reload(&mut self, alloc: Global) -> Result<HalfRecords, OpenFault>
+        ensures found { IfSome (D.seen self.old.zero.disk) (λ zero. IfSome (D.seen self.old.one.disk) (λ one. IfOk result (λ read. Finds self.old.head zero one read.raws))) }
+        ensures whole { IfSome (D.seen self.old.zero.disk) (λ _. IfSome (D.seen self.old.one.disk) (λ _. IfOk result (λ read. IsWhole D.seen D.may_leave self.new read.raws))) }
+        ensures only_records { IfSome (D.seen self.old.zero.disk) (λ zero. IfSome (D.seen self.old.one.disk) (λ one. IfOk result (λ read. (others : List Raw) → Finds self.old.head zero one others → others ≡ read.raws))) }
         // What was in doubt is settled.
         ensures settled { (before after : Content) → IsInDoubt D.may_leave self.old before after → Tells D.seen self.old
-            → IfOk result (λ records. ((records ≡ before.1) × (format_of self.new ≡ before.0)) ⊎ ((records ≡ after.1) × (format_of self.new ≡ after.0))) }
+            → IfOk result (λ read. ((read.raws ≡ before.1) × (format_of self.new ≡ before.0)) ⊎ ((read.raws ≡ after.1) × (format_of self.new ≡ after.0))) }
         ensures not_ours { IfSome (D.seen self.old.zero.disk) (λ zero. IfSome (D.seen self.old.one.disk) (λ one. IsErrOf result OpenFault.NotOurs
             → (half : Half) (records : List Raw) → IsRecoverable self.old.head half (of_half half zero one) records → ⊥)) }
         ensures err { OnErr result ((records : List Raw) → IsWhole D.seen D.may_leave self.old records → IsWhole D.seen D.may_leave self.new records) }
         ensures same_err { OnErr result (((current_of self.new).used ≡ (current_of self.old).used) × (format_of self.new ≡ format_of self.old)) }
         ensures ready { OnOk result (IsReady D.seen D.may_leave (current_of self.new)) }
         ensures ready_err { OnErr result (IsReady D.seen D.may_leave (current_of self.old) → IsReady D.seen D.may_leave (current_of self.new)) }
-        ensures used { IfOk result (λ records. ((current_of self.new).used ≡ 9 + length (blocks records)) × ((current_of self.new).used < 2 ^ 64)) }
-        ensures recoverable { IfOk result (AreRecoverable (format_of self.new)) }
+        ensures used { IfOk result (λ read. ((current_of self.new).used ≡ 9 + length (blocks read.raws)) × ((current_of self.new).used < 2 ^ 64)) }
+        ensures recoverable { IfOk result (λ read. AreRecoverable (format_of self.new) read.raws) }
+        ensures spelled { IfOk result (λ read. AllZip (Spells (format_of self.new)) read.raws read.records.items) }
         ensures known { OnOk result (IsFormat (format_of self.new)) }
         ensures head { self.new.head ≡ self.old.head }
         ensures zero { IsOnlyRead D.seen D.may_leave self.old.zero.disk self.new.zero.disk }
@@ -336,8 +339,9 @@ impl<D: Disk> Pair<D> {
     }
 
     /// Goes on from what was found in a half, which is current from now on, and hands out its records.
-    fn take(&mut self, half: Half, found: Found) -> RawRecords
-        ensures records { result ≡ found.opened.records }
+    fn take(&mut self, half: Half, found: Found) -> HalfRecords
+        ensures raws { result.raws ≡ found.opened.records }
+        ensures records { result.records ≡ found.records }
         ensures current { self.new.current ≡ half }
         ensures head { self.new.head ≡ self.old.head }
         ensures log_head { (of_half half self.new.zero self.new.one).head ≡ found.opened.head }
@@ -345,10 +349,16 @@ impl<D: Disk> Pair<D> {
         ensures zero { self.new.zero.disk ≡ self.old.zero.disk }
         ensures one { self.new.one.disk ≡ self.old.one.disk }
     {
+        let Found {
+            opened,
+            records,
+            ..
+        } = found;
         self.current = half;
-        match half {
-            Half::Zero => self.zero.resume(found.opened),
-            Half::One => self.one.resume(found.opened),
-        }
+        let raws = match half {
+            Half::Zero => self.zero.resume(opened),
+            Half::One => self.one.resume(opened),
+        };
+        HalfRecords { raws, records }
     }
 }

@@ -1,61 +1,94 @@
 //! Which halves are recoverable.
-ghost use Rattle.std.specs.Prelude.{◌≡◌, ◌≤◌, ◌<◌, ◌^◌, ◌↔◌, ◌+◌, ℕ, List, IfOk, IfSome, IsErrOf, IsNone, IsTrue, None, OnOk, Some, length, slice_index};
-ghost use Rattle.std.specs.List.{All};
+ghost use Rattle.std.specs.Prelude.{◌≡◌, ◌≤◌, ◌<◌, ◌^◌, ◌↔◌, ◌+◌, ◌++◌, ℕ, List, IfOk, IfSome, IsErrOf, IsNone, IsSome, IsTrue, None, OnOk, Some, length, slice_index};
+ghost use Rattle.std.specs.List.{All, AllZip};
 ghost use Rattle.pf_disk.specs.Causes.{Rose};
 ghost use Rattle.pf_disk.specs.Crashes.{Only};
 ghost use Rattle.pf_chunklog.specs.Records.{Raw, blocks};
 ghost use Rattle.pf_chunklog.specs.Logs.{IsAtRest, IsOnlyRead, LeavesOnly};
-ghost use Rattle.pf_image.specs.Recovery.{AreRecoverable, IsBehind, IsChange, IsHead, IsRecoverable, IsSpelled, generation};
+ghost use Rattle.pf_image.specs.Recovery.{AreRecoverable, IsBehind, IsChange, IsHead, IsRecoverable, IsSpelled, Spells, generation};
 ghost use Rattle.pf_image.specs.Halves.{of_half, other};
 
 use crate::Half;
 use pf_base::{Bytes, NoMemory, get_u64};
-use pf_chunklog::{ChunkLog, OpenFault, Opened};
+use pf_chunklog::{ChunkLog, OpenFault, Opened, RawRecords};
 use pf_codec::read_record;
 use pf_disk::Disk;
+use pf_entry::Record;
 use std::alloc::Global;
 
 /// The kind of an image.
 const IMAGE: u8 = 1;
 
+/// The records of a half, as they lie there, and what they spell, one by one.
+#[derive(Drop)]
+pub struct HalfRecords {
+    pub raws: RawRecords,
+    pub records: Vec<Record>,
+}
+
 /// What was read of a recoverable half.
 #[derive(Drop)]
 pub struct Found {
     pub opened: Opened,
+    /// What its records spell, one by one.
+    pub records: Vec<Record>,
     pub generation: u64,
 }
 
-/// Whether a kind and a payload are spelled as the format wants.
-fn is_spelled(alloc: Global, format: u8, raw: &(u8, Bytes)) -> Result<bool, NoMemory>
-    ensures { IfOk result (λ spelled. IsTrue spelled ↔ IsSpelled format raw.now) }
+/// The record that a kind and a payload spell as the format wants; `None` where they spell none.
+fn read_spelled(alloc: Global, format: u8, raw: &(u8, Bytes)) -> Result<Option<Record>, NoMemory>
+    ensures some { IfOk result (λ found. IfSome found (Spells format raw.now)) }
+    ensures none { IfOk result (λ found. IsNone found → IsSpelled format raw.now → ⊥) }
 {
-    let found = read_record(alloc, format, raw.0, raw.1.as_slice())?;
-    Ok(found.is_some())
+    read_record(alloc, format, raw.0, raw.1.as_slice())
 }
 
-/// Whether all are spelled and none is an image.
-fn are_changes(alloc: Global, format: u8, records: &[(u8, Bytes)]) -> Result<bool, NoMemory>
-    ensures { IfOk result (λ changes. IsTrue changes ↔ All (IsChange format) records.now) }
+/// Reads what these spell behind what was read before. Whether all are spelled and none is an image.
+fn read_changes(
+    alloc: Global,
+    format: u8,
+    raws: &[(u8, Bytes)],
+    read: &mut Vec<Record>,
+) -> Result<bool, NoMemory>
+    ensures changes { IfOk result (λ changes. IsTrue changes ↔ All (IsChange format) raws.now) }
+    ensures spelled { IfOk result (λ changes. IsTrue changes → (before : List Raw) → AllZip (Spells format) before read.old.items → AllZip (Spells format) (before ++ raws.now) read.new.items) }
 {
-    for raw in records {
-        if raw.0 == IMAGE || !is_spelled(alloc, format, raw)? {
+    for raw in raws {
+        if raw.0 == IMAGE {
             return Ok(false);
         }
+        let Some(record) = read_spelled(alloc, format, raw)? else {
+            return Ok(false);
+        };
+        read.push(record)?;
     }
     Ok(true)
 }
 
-/// Whether the records are those of a recoverable half.
-fn are_recoverable(alloc: Global, format: u8, records: &[(u8, Bytes)]) -> Result<bool, NoMemory>
-    ensures { IfOk result (λ recoverable. IsTrue recoverable ↔ AreRecoverable format records.now) }
+/// What the records of a recoverable half spell; `None` where they are not those of one.
+fn read_recoverable(
+    alloc: Global,
+    format: u8,
+    raws: &[(u8, Bytes)],
+) -> Result<Option<Vec<Record>>, NoMemory>
+    ensures recoverable { IfOk result (λ found. IsSome found ↔ AreRecoverable format raws.now) }
+    ensures spelled { IfOk result (λ found. IfSome found (λ records. AllZip (Spells format) raws.now records.items)) }
 {
-    let Some((image, changes)) = records.split_first() else {
-        return Ok(false);
+    let Some((image, changes)) = raws.split_first() else {
+        return Ok(None);
     };
-    if image.0 != IMAGE || !is_spelled(alloc, format, image)? {
-        return Ok(false);
+    if image.0 != IMAGE {
+        return Ok(None);
     }
-    are_changes(alloc, format, changes)
+    let Some(first) = read_spelled(alloc, format, image)? else {
+        return Ok(None);
+    };
+    let mut records = Vec::with_capacity(alloc, raws.len())?;
+    records.push(first)?;
+    if !read_changes(alloc, format, changes, &mut records)? {
+        return Ok(None);
+    }
+    Ok(Some(records))
 }
 
 /// The generation of a half.
@@ -81,6 +114,7 @@ pub fn read_half<D: Disk>(
     ensures listed { IfOk result (λ found. IfSome found (λ half_found. IsHead head.now half_found.opened.head half)) }
     ensures size { IfOk result (λ found. IfSome found (λ half_found. (half_found.opened.used ≡ 9 + length (blocks half_found.opened.records)) × (half_found.opened.used < 2 ^ 64))) }
     ensures recoverable { IfOk result (λ found. IfSome found (λ half_found. AreRecoverable (slice_index half_found.opened.head 4) half_found.opened.records)) }
+    ensures spelled { IfOk result (λ found. IfSome found (λ half_found. AllZip (Spells (slice_index half_found.opened.head 4)) half_found.opened.records half_found.records.items)) }
     ensures durable { IfSome (D.seen log.old.disk) (λ file. OnOk result (Only file (D.may_leave log.new.disk))) }
     ensures only_records { IfSome (D.seen log.old.disk) (λ file. IfOk result (λ found. IfSome found (λ half_found. (others : List Raw) → IsRecoverable head.now half file others → others ≡ half_found.opened.records))) }
     ensures none { IfSome (D.seen log.old.disk) (λ file. IfOk result (λ found. IsNone found → (records : List Raw) → IsRecoverable head.now half file records → ⊥)) }
@@ -99,11 +133,16 @@ pub fn read_half<D: Disk>(
         Err(OpenFault::NotOurs) => return Ok(None),
         Err(fault) => return Err(fault),
     };
-    if !are_recoverable(alloc, opened.head[4], opened.records.as_slice())? {
+    let raws = opened.records.as_slice();
+    let Some(records) = read_recoverable(alloc, opened.head[4], raws)? else {
         return Ok(None);
-    }
+    };
     let generation = generation_of(opened.records.as_slice());
-    Ok(Some(Found { opened, generation }))
+    Ok(Some(Found {
+        opened,
+        records,
+        generation,
+    }))
 }
 
 /// The half that a restart takes, of what was found in half 0 and half 1.

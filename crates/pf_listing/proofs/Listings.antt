@@ -9,7 +9,6 @@ use Rattle.pf_image.specs.Halves.{half_head}
 use Rattle.pf_image.specs.Recovery.{Content, FindsIn, Spells}
 use Rattle.pf_image.proofs.Files.{one_content}
 use Rattle.pf_report.specs.Records.{record_line}
-use Rattle.pf_diskstore.proofs.States.{spelled_more}
 use Rattle.pf_listing.specs.Listing.{AreRecords, HasNone, IsListing, TellsRecords, records_text}
 
 one_spelled : (format : ℕ) (raw : Raw) (r s : Record) → Spells format raw r → Spells format raw s → r ≡ s
@@ -52,16 +51,6 @@ one_listing head zero one text other (inl a) (inr (inr b)) = absurd b.0
 one_listing head zero one text other (inr (inl a)) (inr (inr b)) = absurd b.0
 
 -- one line more
-text_more : (records : List Record) (r : Record) → records_text (records ++ r ∷ []) ≡ records_text records ++ record_line r
+pub text_more : (records : List Record) (r : Record) → records_text (records ++ r ∷ []) ≡ records_text records ++ record_line r
 text_more [] r = append-nil (record_line r)
 text_more (s ∷ records) r = ap (λ (l : List ℕ). record_line s ++ l) (text_more records r) ∙ sym (append_assoc (record_line s) (records_text records) (record_line r))
-
-pub told_none : (format : ℕ) → TellsRecords (format, []) []
-told_none format = record { records = []; spelled = tt; text_is = refl }
-
-pub told_more : (format : ℕ) (raws : List Raw) (raw : Raw) (text next : List ℕ) (r : Record) → TellsRecords (format, raws) text → Spells format raw r → next ≡ text ++ record_line r → TellsRecords (format, raws ++ raw ∷ []) next
-told_more format raws raw text next r told spells put = record {
-  records = told.records ++ r ∷ [];
-  spelled = spelled_more format raws raw told.records r told.spelled spells;
-  text_is = put ∙ ap (λ (l : List ℕ). l ++ record_line r) told.text_is ∙ sym (text_more told.records r);
-}

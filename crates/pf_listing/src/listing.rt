@@ -1,32 +1,27 @@
 //! The records of a server, listed.
 ghost use Rattle.std.specs.Prelude.{◌≡◌, ◌≤◌, ◌⊎◌, ℕ, List, IfErr, IfOk, IfSome, IsErrOf, IsTrue};
-ghost use Rattle.std.specs.List.{All};
 ghost use Rattle.pf_disk.specs.Causes.{Rose};
 ghost use Rattle.pf_chunklog.specs.Logs.{IsOnlyRead, LeavesOnly};
-ghost use Rattle.pf_image.specs.Recovery.{AreRecoverable, FindsIn, IsSpelled};
+ghost use Rattle.pf_image.specs.Recovery.{AreRecoverable, FindsIn};
 ghost use Rattle.pf_image.specs.Pairs.{AreLater};
-ghost use Rattle.pf_listing.specs.Listing.{AreRecords, HasNone, IsListing, TellsRecords, disk_fault_line, head_of, not_ours_line, said_of};
+ghost use Rattle.pf_listing.specs.Listing.{AreRecords, HasNone, IsListing, disk_fault_line, head_of, not_ours_line, records_text, said_of};
 
-use pf_base::{Bytes, NoMemory};
+use pf_base::NoMemory;
 use pf_chunklog::OpenFault;
-use pf_codec::read_record;
 use pf_disk::Disk;
+use pf_entry::Record;
 use pf_image::Pair;
 use pf_report::put_record;
 use pf_text::put_text;
 use std::alloc::Global;
 
-/// The lines of the records that these kinds and payloads spell. One record at a time is read.
-fn lines_of(alloc: Global, format: u8, raws: &[(u8, Bytes)]) -> Result<Vec<u8>, NoMemory>
-    requires { All (IsSpelled format) raws.now }
-    ensures { IfOk result (λ text. TellsRecords (format, raws.now) text.items) }
+/// The lines of these records.
+fn lines_of(alloc: Global, records: &[Record]) -> Result<Vec<u8>, NoMemory>
+    ensures { IfOk result (λ text. text.items ≡ records_text records.now) }
 {
     let mut text = Vec::new(alloc);
-    for raw in raws {
-        let Some(record) = read_record(alloc, format, raw.0, raw.1.as_slice())? else {
-            unreachable!()
-        };
-        put_record(&mut text, &record)?;
+    for record in records {
+        put_record(&mut text, record)?;
     }
     Ok(text)
 }
@@ -44,7 +39,7 @@ fn found_lines<D: Disk>(alloc: Global, pair: &mut Pair<D>) -> Result<Vec<u8>, Op
     ensures later { AreLater D.faults pair.old pair.new }
 {
     match pair.reload(alloc) {
-        Ok(raws) => Ok(lines_of(alloc, pair.format(), raws.as_slice())?),
+        Ok(read) => Ok(lines_of(alloc, &read.records)?),
         Err(fault) => Err(fault),
     }
 }

@@ -1,34 +1,18 @@
-use Rattle.std.proofs.Common.{◌≡◌, ◌+◌, [], ◌∷◌, ◌++◌, List, take, sym, ap, subst, ◌∙◌}
+use Rattle.std.proofs.Common.{◌≡◌, ◌+◌, [], ◌∷◌, ◌++◌, ℕ, List, take, sym, ap, ◌∙◌}
 use Rattle.std.proofs.lemmas.List.{take_all, take_more}
-use Rattle.std.proofs.lemmas.List.Elements.{All-get_or}
-use Rattle.std.proofs.lemmas.Option.{none-some}
-use Rattle.pf_chunklog.specs.Records.{Raw}
-use Rattle.pf_chunklog.proofs.Steps.{told}
-use Rattle.pf_image.specs.Recovery.{IsSpelled, Spells}
-use Rattle.pf_listing.specs.Listing.{TellsRecords}
-use Rattle.pf_listing.proofs.Listings.{told_more}
+use Rattle.pf_entry.specs.declared.records.Record.{Record}
+use Rattle.pf_report.specs.Records.{record_line}
+use Rattle.pf_listing.specs.Listing.{records_text}
+use Rattle.pf_listing.proofs.Listings.{text_more}
 use Rattle.pf_listing.proofs.listing.lines_of.Goals as goal
 
-pub unreachable-requires : goal.unreachable-requires
-unreachable-requires c =
-    let here : IsSpelled c.args.format c.raw-item.result =
-    subst (λ (raw : Raw). IsSpelled c.args.format raw) (sym c.raw-item.is) (All-get_or (IsSpelled c.args.format) c.args.raws.now c.loop-raw.raw-index c.raw-item.result c.loop-raw-test.true c.requires) in
-    none-some here.0 (sym c.in_default.is ∙ c.in_ok-record.ensures.only here.0 here.1.fits here.1.canonical here.1.kind (here.1.payload ∙ sym c.as_slice.ensures))
-
-pub loop-raw-preserved : goal.loop-raw-preserved
-loop-raw-preserved c =
-    let raws = c.args.raws.now in
-    let i = c.loop-raw.raw-index in
-    let raw : Raw = c.raw-item.result in
-    let spells : Spells c.args.format raw c.in-Some.record = record {
-      fits = told _ c.in-Some.record _ c.in-Some.is c.in_ok-record.ensures.fits;
-      canonical = told _ c.in-Some.record _ c.in-Some.is c.in_ok-record.ensures.canonical;
-      kind = told _ c.in-Some.record _ c.in-Some.is c.in_ok-record.ensures.of_kind;
-      payload = told _ c.in-Some.record _ c.in-Some.is c.in_ok-record.ensures.payload ∙ c.as_slice.ensures;
-    } in
-    let taken : take (i + 1) raws ≡ take i raws ++ raw ∷ [] = take_more raws i raw c.loop-raw-test.true ∙ ap (λ (x : Raw). take i raws ++ x ∷ []) (sym c.raw-item.is) in
-    subst (λ (l : List Raw). TellsRecords (c.args.format, l) c.put_record.new.out.items) (sym taken)
-    (told_more c.args.format (take i raws) raw c.loop-raw.text.items c.put_record.new.out.items c.in-Some.record c.loop-raw.invariant spells c.in_ok-put_record.ensures.ok)
+pub loop-record-preserved : goal.loop-record-preserved
+loop-record-preserved c =
+    let records = c.args.records.now in
+    let i = c.loop-record.record-index in
+    let record_now : Record = c.record-item.result in
+    let taken : take (i + 1) records ≡ take i records ++ record_now ∷ [] = take_more records i record_now c.loop-record-test.true ∙ ap (λ (x : Record). take i records ++ x ∷ []) (sym c.record-item.is) in
+    c.in_ok-put_record.ensures.ok ∙ ap (λ (l : List ℕ). l ++ record_line record_now) c.loop-record.invariant ∙ sym (text_more (take i records) record_now) ∙ ap records_text (sym taken)
 
 pub returns : goal.returns
-returns c = subst (λ (l : List Raw). TellsRecords (c.args.format, l) c.loop-raw.text.items) (take_all c.loop-raw.raw-index c.args.raws.now c.loop-raw-test.false) c.loop-raw.invariant
+returns c = c.loop-record.invariant ∙ ap records_text (take_all c.loop-record.record-index c.args.records.now c.loop-record-test.false)

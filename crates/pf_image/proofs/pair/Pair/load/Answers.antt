@@ -7,7 +7,7 @@ use Rattle.pf_image.proofs.Files.{err_of}
 use Rattle.pf_image.proofs.pair.Pair.load.Goals as goal
 
 pub returns-in-Ok-clause-only_records : goal.returns-in-Ok-clause-only_records
-returns-in-Ok-clause-only_records g c = if_some (g.D.Disk.seen c.args.a) (λ first. IfSome (g.D.Disk.seen c.args.b) (λ second. (others : List Raw) → Finds c.args.head first second others → others ≡ c.in-Ok.records)) (λ first is_first. if_some (g.D.Disk.seen c.args.b) (λ second. (others : List Raw) → Finds c.args.head first second others → others ≡ c.in-Ok.records) (λ second is_second others found.
+returns-in-Ok-clause-only_records g c = if_some (g.D.Disk.seen c.args.a) (λ first. IfSome (g.D.Disk.seen c.args.b) (λ second. (others : List Raw) → Finds c.args.head first second others → others ≡ c.in-Ok.read.raws)) (λ first is_first. if_some (g.D.Disk.seen c.args.b) (λ second. (others : List Raw) → Finds c.args.head first second others → others ≡ c.in-Ok.read.raws) (λ second is_second others found.
     told _ second _ (ap g.D.Disk.seen c.unread-pair.ensures.one ∙ is_second) (told _ first _ (ap g.D.Disk.seen c.unread-pair.ensures.zero ∙ is_first) c.in-Ok.ensures.only_records) others (subst (λ (h : List ℕ). Finds h first second others) (sym c.unread-pair.ensures.head) found)))
 
 pub returns-in-Err-clause-not_ours : goal.returns-in-Err-clause-not_ours

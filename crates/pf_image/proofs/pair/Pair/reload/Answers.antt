@@ -14,7 +14,7 @@ use Rattle.pf_image.proofs.Logs as logs
 use Rattle.pf_image.proofs.pair.Pair.reload.Goals as goal
 
 pub returns-in-Some-clause-found : goal.returns-in-Some-clause-found
-returns-in-Some-clause-found g c = if_some (g.D.Disk.seen c.args.self.now.zero.disk) (λ first. IfSome (g.D.Disk.seen c.args.self.now.one.disk) (λ second. Finds c.args.self.now.head first second c.take.result)) (λ first is_first. if_some (g.D.Disk.seen c.args.self.now.one.disk) (λ second. Finds c.args.self.now.head first second c.take.result) (λ second is_second.
+returns-in-Some-clause-found g c = if_some (g.D.Disk.seen c.args.self.now.zero.disk) (λ first. IfSome (g.D.Disk.seen c.args.self.now.one.disk) (λ second. Finds c.args.self.now.head first second c.take.result.raws)) (λ first is_first. if_some (g.D.Disk.seen c.args.self.now.one.disk) (λ second. Finds c.args.self.now.head first second c.take.result.raws) (λ second is_second.
     let zero_read : IsRead c.args.self.now.head Zero first (g.D.Disk.may_leave c.read_half.new.log.disk) c.in_ok-zero.zero = record {
       some = told _ first _ is_first c.in_ok-zero.ensures.some;
       listed = c.in_ok-zero.ensures.listed;
@@ -30,15 +30,15 @@ returns-in-Some-clause-found g c = if_some (g.D.Disk.seen c.args.self.now.zero.d
       none = told _ second _ is_second c.in_ok-one.ensures.none;
     } in
     let read : (h : Half) → IsRead c.args.self.now.head h (of_half h first second) (g.D.Disk.may_leave (of_half h c.read_half.new.log c.read_half-2.new.log).disk) (of_half h c.in_ok-zero.zero c.in_ok-one.one) = λ h. elim h as (λ (k : Half). IsRead c.args.self.now.head k (of_half k first second) (g.D.Disk.may_leave (of_half k c.read_half.new.log c.read_half-2.new.log).disk) (of_half k c.in_ok-zero.zero c.in_ok-one.one)) [ Zero ↦ zero_read | One ↦ one_read ] in
-    let finds : Finds c.args.self.now.head first second c.take.result = (
+    let finds : Finds c.args.self.now.head first second c.take.result.raws = (
       c.in-Some.half,
-      subst (λ (l : List Raw). Takes c.args.self.now.head c.in-Some.half (of_half c.in-Some.half first second) (of_half (other c.in-Some.half) first second) l) (sym c.take.ensures.records)
+      subst (λ (l : List Raw). Takes c.args.self.now.head c.in-Some.half (of_half c.in-Some.half first second) (of_half (other c.in-Some.half) first second) l) (sym c.take.ensures.raws)
           (taken c.args.self.now.head c.in-Some.half (of_half c.in-Some.half first second) (of_half (other c.in-Some.half) first second) _ _ (of_half c.in-Some.half c.in_ok-zero.zero c.in_ok-one.one) (of_half (other c.in-Some.half) c.in_ok-zero.zero c.in_ok-one.one) c.in-Some.found c.in-Some.ensures.some.0 (read c.in-Some.half) (read (other c.in-Some.half)) c.in-Some.ensures.some.1),
     ) in
     finds))
 
 pub returns-in-Some-clause-only_records : goal.returns-in-Some-clause-only_records
-returns-in-Some-clause-only_records g c = if_some (g.D.Disk.seen c.args.self.now.zero.disk) (λ first. IfSome (g.D.Disk.seen c.args.self.now.one.disk) (λ second. (others : List Raw) → Finds c.args.self.now.head first second others → others ≡ c.take.result)) (λ first is_first. if_some (g.D.Disk.seen c.args.self.now.one.disk) (λ second. (others : List Raw) → Finds c.args.self.now.head first second others → others ≡ c.take.result) (λ second is_second.
+returns-in-Some-clause-only_records g c = if_some (g.D.Disk.seen c.args.self.now.zero.disk) (λ first. IfSome (g.D.Disk.seen c.args.self.now.one.disk) (λ second. (others : List Raw) → Finds c.args.self.now.head first second others → others ≡ c.take.result.raws)) (λ first is_first. if_some (g.D.Disk.seen c.args.self.now.one.disk) (λ second. (others : List Raw) → Finds c.args.self.now.head first second others → others ≡ c.take.result.raws) (λ second is_second.
     let zero_read : IsRead c.args.self.now.head Zero first (g.D.Disk.may_leave c.read_half.new.log.disk) c.in_ok-zero.zero = record {
       some = told _ first _ is_first c.in_ok-zero.ensures.some;
       listed = c.in_ok-zero.ensures.listed;
@@ -54,12 +54,12 @@ returns-in-Some-clause-only_records g c = if_some (g.D.Disk.seen c.args.self.now
       none = told _ second _ is_second c.in_ok-one.ensures.none;
     } in
     let read : (h : Half) → IsRead c.args.self.now.head h (of_half h first second) (g.D.Disk.may_leave (of_half h c.read_half.new.log c.read_half-2.new.log).disk) (of_half h c.in_ok-zero.zero c.in_ok-one.one) = λ h. elim h as (λ (k : Half). IsRead c.args.self.now.head k (of_half k first second) (g.D.Disk.may_leave (of_half k c.read_half.new.log c.read_half-2.new.log).disk) (of_half k c.in_ok-zero.zero c.in_ok-one.one)) [ Zero ↦ zero_read | One ↦ one_read ] in
-    let finds : Finds c.args.self.now.head first second c.take.result = (
+    let finds : Finds c.args.self.now.head first second c.take.result.raws = (
       c.in-Some.half,
-      subst (λ (l : List Raw). Takes c.args.self.now.head c.in-Some.half (of_half c.in-Some.half first second) (of_half (other c.in-Some.half) first second) l) (sym c.take.ensures.records)
+      subst (λ (l : List Raw). Takes c.args.self.now.head c.in-Some.half (of_half c.in-Some.half first second) (of_half (other c.in-Some.half) first second) l) (sym c.take.ensures.raws)
           (taken c.args.self.now.head c.in-Some.half (of_half c.in-Some.half first second) (of_half (other c.in-Some.half) first second) _ _ (of_half c.in-Some.half c.in_ok-zero.zero c.in_ok-one.one) (of_half (other c.in-Some.half) c.in_ok-zero.zero c.in_ok-one.one) c.in-Some.found c.in-Some.ensures.some.0 (read c.in-Some.half) (read (other c.in-Some.half)) c.in-Some.ensures.some.1),
     ) in
-    λ others found. one_found c.args.self.now.head first second c.take.result others finds found))
+    λ others found. one_found c.args.self.now.head first second c.take.result.raws others finds found))
 
 pub returns-in-Some-clause-settled : goal.returns-in-Some-clause-settled
 returns-in-Some-clause-settled g c = λ before after doubt tells.
@@ -90,7 +90,7 @@ returns-in-Some-clause-settled g c = λ before after doubt tells.
     let format_is : slice_index (of_half c.take.new.self.current c.take.new.self.zero c.take.new.self.one).head 4 ≡ slice_index c.in-Some.found.opened.head 4 =
     ap (λ (h : Half). slice_index (of_half h c.take.new.self.zero c.take.new.self.one).head 4) c.take.ensures.current ∙ ap (λ (l : List ℕ). slice_index l 4) c.take.ensures.log_head in
     let one = λ (content : Content) (found : FindsIn c.args.self.now.head first second content). one_content c.args.self.now.head first second c.in-Some.half c.in-Some.found.opened.head c.in-Some.found.opened.records content is_head rest.1.held mine found in
-    ⊎_elim (λ old. inl (c.take.ensures.records ∙ (one before old).0, format_is ∙ (one before old).1)) (λ new. inr (c.take.ensures.records ∙ (one after new).0, format_is ∙ (one after new).1))
+    ⊎_elim (λ old. inl (c.take.ensures.raws ∙ (one before old).0, format_is ∙ (one before old).1)) (λ new. inr (c.take.ensures.raws ∙ (one after new).0, format_is ∙ (one after new).1))
     (doubt first second (told _ first _ is_first (g.met.D.Disk.among c.args.self.now.zero.disk)) (told _ second _ is_second (g.met.D.Disk.among c.args.self.now.one.disk)))
 
 pub returns-in-None-clause-not_ours : goal.returns-in-None-clause-not_ours
@@ -137,7 +137,7 @@ returns-in-None-clause-err g c = λ records whole.
     kept c.args.self.now.current whole
 
 pub returns-in-Some-clause-whole : goal.returns-in-Some-clause-whole
-returns-in-Some-clause-whole g c = if_some (g.D.Disk.seen c.args.self.now.zero.disk) (λ _. IfSome (g.D.Disk.seen c.args.self.now.one.disk) (λ _. IsCurrent g.D.Disk.seen g.D.Disk.may_leave c.take.new.self.head c.take.new.self.current (of_half c.take.new.self.current c.take.new.self.zero c.take.new.self.one) (of_half (other c.take.new.self.current) c.take.new.self.zero c.take.new.self.one) c.take.result)) (λ first is_first. if_some (g.D.Disk.seen c.args.self.now.one.disk) (λ _. IsCurrent g.D.Disk.seen g.D.Disk.may_leave c.take.new.self.head c.take.new.self.current (of_half c.take.new.self.current c.take.new.self.zero c.take.new.self.one) (of_half (other c.take.new.self.current) c.take.new.self.zero c.take.new.self.one) c.take.result) (λ second is_second.
+returns-in-Some-clause-whole g c = if_some (g.D.Disk.seen c.args.self.now.zero.disk) (λ _. IfSome (g.D.Disk.seen c.args.self.now.one.disk) (λ _. IsCurrent g.D.Disk.seen g.D.Disk.may_leave c.take.new.self.head c.take.new.self.current (of_half c.take.new.self.current c.take.new.self.zero c.take.new.self.one) (of_half (other c.take.new.self.current) c.take.new.self.zero c.take.new.self.one) c.take.result.raws)) (λ first is_first. if_some (g.D.Disk.seen c.args.self.now.one.disk) (λ _. IsCurrent g.D.Disk.seen g.D.Disk.may_leave c.take.new.self.head c.take.new.self.current (of_half c.take.new.self.current c.take.new.self.zero c.take.new.self.one) (of_half (other c.take.new.self.current) c.take.new.self.zero c.take.new.self.one) c.take.result.raws) (λ second is_second.
     let zero_read : IsRead c.args.self.now.head Zero first (g.D.Disk.may_leave c.read_half.new.log.disk) c.in_ok-zero.zero = record {
       some = told _ first _ is_first c.in_ok-zero.ensures.some;
       listed = c.in_ok-zero.ensures.listed;
@@ -162,7 +162,7 @@ returns-in-Some-clause-whole g c = if_some (g.D.Disk.seen c.args.self.now.zero.d
       | One ↦ λ is behind head_is used_is. loaded g.D.Disk.seen g.D.Disk.may_leave c.args.self.now.head One second first c.in_ok-one.one c.in_ok-zero.zero c.in-Some.found c.take.new.self.one c.take.new.self.zero is one_here zero_here behind one_seen zero_seen head_is used_is
     ] in
     let built = build c.in-Some.half c.in-Some.ensures.some.0 c.in-Some.ensures.some.1 c.take.ensures.log_head c.take.ensures.log_used in
-    subst (λ (l : List Raw). IsCurrent g.D.Disk.seen g.D.Disk.may_leave c.take.new.self.head c.take.new.self.current (of_half c.take.new.self.current c.take.new.self.zero c.take.new.self.one) (of_half (other c.take.new.self.current) c.take.new.self.zero c.take.new.self.one) l) (sym c.take.ensures.records)
+    subst (λ (l : List Raw). IsCurrent g.D.Disk.seen g.D.Disk.may_leave c.take.new.self.head c.take.new.self.current (of_half c.take.new.self.current c.take.new.self.zero c.take.new.self.one) (of_half (other c.take.new.self.current) c.take.new.self.zero c.take.new.self.one) l) (sym c.take.ensures.raws)
     (subst (λ (k : Half). IsCurrent g.D.Disk.seen g.D.Disk.may_leave c.take.new.self.head k (of_half k c.take.new.self.zero c.take.new.self.one) (of_half (other k) c.take.new.self.zero c.take.new.self.one) c.in-Some.found.opened.records) (sym c.take.ensures.current)
     (subst (λ (h : List ℕ). IsCurrent g.D.Disk.seen g.D.Disk.may_leave h c.in-Some.half (of_half c.in-Some.half c.take.new.self.zero c.take.new.self.one) (of_half (other c.in-Some.half) c.take.new.self.zero c.take.new.self.one) c.in-Some.found.opened.records) (sym c.take.ensures.head) built))))
 
@@ -172,7 +172,7 @@ returns-in-Some-clause-used g c =
     let size = told _ c.in-Some.found (P c.in-Some.half) c.in-Some.ensures.some.0 (of_each P c.in-Some.half c.in_ok-zero.zero c.in_ok-one.one c.in_ok-zero.ensures.size c.in_ok-one.ensures.size) in
     let used_is : (of_half c.take.new.self.current c.take.new.self.zero c.take.new.self.one).used ≡ c.in-Some.found.opened.used =
     ap (λ (h : Half). (of_half h c.take.new.self.zero c.take.new.self.one).used) c.take.ensures.current ∙ c.take.ensures.log_used in
-    (used_is ∙ size.0 ∙ ap (λ (l : List Raw). 9 + length (blocks l)) (sym c.take.ensures.records), subst (λ (n : ℕ). n < 2 ^ 64) (sym used_is) size.1)
+    (used_is ∙ size.0 ∙ ap (λ (l : List Raw). 9 + length (blocks l)) (sym c.take.ensures.raws), subst (λ (n : ℕ). n < 2 ^ 64) (sym used_is) size.1)
 
 pub returns-in-Some-clause-recoverable : goal.returns-in-Some-clause-recoverable
 returns-in-Some-clause-recoverable g c =
@@ -180,7 +180,7 @@ returns-in-Some-clause-recoverable g c =
     let are = told _ c.in-Some.found (P c.in-Some.half) c.in-Some.ensures.some.0 (of_each P c.in-Some.half c.in_ok-zero.zero c.in_ok-one.one c.in_ok-zero.ensures.recoverable c.in_ok-one.ensures.recoverable) in
     let format_is : slice_index (of_half c.take.new.self.current c.take.new.self.zero c.take.new.self.one).head 4 ≡ slice_index c.in-Some.found.opened.head 4 =
     ap (λ (h : Half). slice_index (of_half h c.take.new.self.zero c.take.new.self.one).head 4) c.take.ensures.current ∙ ap (λ (l : List ℕ). slice_index l 4) c.take.ensures.log_head in
-    subst (λ (f : ℕ). AreRecoverable f c.take.result) (sym format_is) (subst (λ (l : List Raw). AreRecoverable (slice_index c.in-Some.found.opened.head 4) l) (sym c.take.ensures.records) are)
+    subst (λ (f : ℕ). AreRecoverable f c.take.result.raws) (sym format_is) (subst (λ (l : List Raw). AreRecoverable (slice_index c.in-Some.found.opened.head 4) l) (sym c.take.ensures.raws) are)
 
 pub returns-in-Some-clause-known : goal.returns-in-Some-clause-known
 returns-in-Some-clause-known g c =
