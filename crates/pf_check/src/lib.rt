@@ -8,7 +8,6 @@ mod naming;
 mod reaching;
 mod rows;
 mod rules;
-mod spelling;
 mod tables;
 mod tagging;
 

@@ -8,10 +8,10 @@ ghost use Rattle.pf_check.specs.Kinds.{HasGap, IsDirectory, IsOfFile, IsSized, I
 ghost use Rattle.pf_check.specs.Walks.{AreFirst, IsCounted, IsSeen};
 
 use crate::RawInode;
-use crate::spelling::is_name;
 use crate::tables::Tables;
 use crate::tagging::place_of;
 use pf_inodes::{Entry, Tag};
+use pf_layout::is_name;
 
 /// The greatest number of an inode of a volume.
 const LAST_INODE: u16 = 1023;

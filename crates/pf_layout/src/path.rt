@@ -144,8 +144,8 @@ fn last_slash(word: &[u8]) -> Option<usize>
     None
 }
 
-/// Whether these bytes are a name.
-fn is_name(name: &[u8]) -> bool
+/// Whether these bytes are a name: 1 to 24 of `a` to `z`, `0` to `9`, `.`, `_` and `-`, and neither `.` nor `..`.
+pub fn is_name(name: &[u8]) -> bool
     ensures { IsTrue result ↔ IsName name.now }
 {
     !name.is_empty()
