@@ -105,11 +105,8 @@ place_for (asked.Finish filled) found past room = tt
 place_for (asked.Checkpoint server) found past room = room
 
 -- a happening that was asked for can be kept
-pub keepable : (event : GroupEvent) (found : Bool) (history : History) (past : Past) (e : Event) → past.happenings.items ≡ history → e ≡ event_of event found → MayAsk (claims_of [] history) event → HasRoomFor event past → IsKeepable past e
-keepable event found history past e items is may room = subst (IsKeepable past) (sym is) (record {
-  may = subst (λ l. MayHappen (claims_of [] l) (event_of event found)) (sym items) (may_happen (claims_of [] history) event found may);
-  room = place_for event found past room;
-})
+pub keepable : (event : GroupEvent) (found : Bool) (past : Past) (e : Event) → e ≡ event_of event found → MayAsk (claims_of [] past.happenings) event → HasRoomFor event past → IsKeepable past e
+keepable event found past e is may room = subst (IsKeepable past) (sym is) (record { may = may_happen (claims_of [] past.happenings) event found may; room = place_for event found past room })
 
 pub on_err : {A E : Type 0} → (r : Result A E) (P : Type 0) → P → OnErr r P
 on_err (Ok x) P is = tt
@@ -295,10 +292,10 @@ module _ {D : Type 0} (seen : D → Option (List ℕ)) (may_leave : D → Images
     -- as it was, and as it is now
     module _ (number : ℕ) (before after : Began D) (later : History) where
       abbrev Was : GroupIs
-      Was = group_of tells faults moment number setup before.happenings.value.items before.network.value history old
+      Was = group_of tells faults moment number setup before.happenings.value before.network.value history old
 
       abbrev Is : GroupIs
-      Is = group_of tells faults moment number setup after.happenings.value.items after.network.value later new
+      Is = group_of tells faults moment number setup after.happenings.value after.network.value later new
 
       begins_here : IsBegun old history after → BeginsHere Was Is
       begins_here begun =
@@ -308,7 +305,7 @@ module _ {D : Type 0} (seen : D → Option (List ℕ)) (may_leave : D → Images
       begins_so : (event : Event) (answer : Answer) → Came event answer → (b : Bool) → is_quiet event ≡ b → IsBegunIf (not b) old history before after → MatchBool b ((Is.faults ≡ Was.faults) × (Is.time ≡ Was.time)) (BeginsHere Was Is)
       begins_so event answer came true quiet same = (
         all_same faults old new (λ i own. came.quiet quiet i),
-        ap (λ (b : Began D). record Was.time { now = all_counts moment new; began = all_counts moment b.network.value; earlier = b.happenings.value.items }) same
+        ap (λ (b : Began D). record Was.time { now = all_counts moment new; began = all_counts moment b.network.value; earlier = b.happenings.value }) same
             ∙ ap (λ m. record Was.time { now = m }) (all_same moment old new (λ i own. came.quiet quiet i)),
       )
       begins_so event answer came false loud begun = begins_here begun
@@ -335,9 +332,9 @@ module _ {D : Type 0} (seen : D → Option (List ℕ)) (may_leave : D → Images
       -- there was no memory for it
       stays : later ≡ history → after ≡ before → Left None → Is ≡ Was
       stays is same left =
-          ap (λ (b : Began D). group_of tells faults moment number setup b.happenings.value.items b.network.value later new) same
-          ∙ ap (λ l. group_of tells faults moment number setup before.happenings.value.items before.network.value l new) is
-          ∙ ap (λ t. record (group_of tells faults moment number setup before.happenings.value.items before.network.value history new) { taken = t }) left.taken
+          ap (λ (b : Began D). group_of tells faults moment number setup b.happenings.value b.network.value later new) same
+          ∙ ap (λ l. group_of tells faults moment number setup before.happenings.value before.network.value l new) is
+          ∙ ap (λ t. record (group_of tells faults moment number setup before.happenings.value before.network.value history new) { taken = t }) left.taken
           ∙ ap (λ f. record Was { faults = f; time = record Was.time { now = all_counts moment new } }) (all_same faults old new left.others)
           ∙ ap (λ m. record Was { time = record Was.time { now = m } }) (all_same moment old new left.others)
 
@@ -366,14 +363,14 @@ module _ {D : Type 0} (seen : D → Option (List ℕ)) (may_leave : D → Images
       left_of (asked.Checkpoint server) is begun stayed = stays is begun stayed
 
       abbrev StoodAt : Began D → (history : History) → Network (Kept D) → Type 0
-      StoodAt began now network = Stood seen may_leave faults moment left_since tells tells_moments number setup began.happenings.value.items began.network.value now network
+      StoodAt began now network = Stood seen may_leave faults moment left_since tells tells_moments number setup began.happenings.value began.network.value now network
 
       abbrev SinceAt : (right : History) → Began D → Type 0
-      SinceAt right began = IsTrue tells → IsSince seen faults moment left_since tells_moments (replay setup began.happenings.value.items) (replay setup right) began.network.value new
+      SinceAt right began = IsTrue tells → IsSince seen faults moment left_since tells_moments (replay setup began.happenings.value) (replay setup right) began.network.value new
 
       -- after one more event
       module _ (was : StoodAt before history old) (event : Event) (answer : Answer) (is : later ≡ history ++ record { event = event; answer = answer } ∷ []) (low : length later ≤ 2 ^ 32) (may : MayHappen (claims_of [] history) event) (came : Came event answer) where
-        so_gone : (began : Began D) (right : History) → IsLastStep began.happenings.value.items right later → SinceAt right began → StoodAt began later new
+        so_gone : (began : Began D) (right : History) → IsLastStep began.happenings.value right later → SinceAt right began → StoodAt began later new
         so_gone began right last since = record {
           stands = came.stands_then later is low may;
           heads = λ tell. heads_went tell event answer (came.went tell) number (was.heads tell);
@@ -385,20 +382,20 @@ module _ {D : Type 0} (seen : D → Option (List ℕ)) (may_leave : D → Images
         by_quiet : (b : Bool) → is_quiet event ≡ b → IsBegunIf (not b) old history before after → StoodAt after later new
         by_quiet true quiet same =
             subst (λ (b : Began D). StoodAt b later new) (sym same) (so_gone before was.after
-            (quiet_more before.happenings.value.items was.after history later (record { event = event; answer = answer }) was.last quiet is)
-            (λ tell. since_still seen may_leave faults moment left_since tells tells_moments (replay setup before.happenings.value.items) (replay setup was.after) before.network.value old new (λ i own. came.quiet quiet i) (was.since tell)))
+            (quiet_more before.happenings.value was.after history later (record { event = event; answer = answer }) was.last quiet is)
+            (λ tell. since_still seen may_leave faults moment left_since tells tells_moments (replay setup before.happenings.value) (replay setup was.after) before.network.value old new (λ i own. came.quiet quiet i) (was.since tell)))
         by_quiet false loud begun =
             let h : Happening = record { event = event; answer = answer } in
             so_gone after later
             (record { step = inr (h, loud, is ∙ ap (λ l. l ++ h ∷ []) (sym begun.history_is)); since = []; quiet = tt; whole = sym (append-nil later) })
-            (λ tell. since_as seen may_leave faults moment left_since tells tells_moments setup history after.happenings.value.items later _ old new after.network.value begun.network_is begun.history_is (ap (replay setup) is ∙ replay_goes_on setup history h) (since_went tell event answer (came.went tell)))
+            (λ tell. since_as seen may_leave faults moment left_since tells tells_moments setup history after.happenings.value later _ old new after.network.value begun.network_is begun.history_is (ap (replay setup) is ∙ replay_goes_on setup history h) (since_went tell event answer (came.went tell)))
 
         pub stood_gone : IsBegunIf (not (is_quiet event)) old history before after → StoodAt after later new
         stood_gone begun = by_quiet (is_quiet event) refl begun
 
       -- where there was no memory for it
       module _ (was : StoodAt before history old) (is : later ≡ history) where
-        so_left : (own : Option ℕ) → Left own → (began : Began D) (right : History) → IsLastStep began.happenings.value.items right later → SinceAt right began → StoodAt began later new
+        so_left : (own : Option ℕ) → Left own → (began : Began D) (right : History) → IsLastStep began.happenings.value right later → SinceAt right began → StoodAt began later new
         so_left own left began right last since = record {
           stands = stands_still (kept_model seen may_leave faults moment left_since tells_moments) tells setup history old stands new later is left.shows;
           heads = λ tell. heads_stayed tell own (left.stayed tell) number (was.heads tell);
@@ -410,9 +407,9 @@ module _ {D : Type 0} (seen : D → Option (List ℕ)) (may_leave : D → Images
         pub stood_left : (own : Option ℕ) → IsBegunIf (is_some own) old history before after → Left own → StoodAt after later new
         stood_left None same left =
             subst (λ (b : Began D). StoodAt b later new) (sym same) (so_left None left before was.after
-            (subst (IsLastStep before.happenings.value.items was.after) (sym is) was.last)
-            (λ tell. since_still seen may_leave faults moment left_since tells tells_moments (replay setup before.happenings.value.items) (replay setup was.after) before.network.value old new left.others (was.since tell)))
+            (subst (IsLastStep before.happenings.value was.after) (sym is) was.last)
+            (λ tell. since_still seen may_leave faults moment left_since tells tells_moments (replay setup before.happenings.value) (replay setup was.after) before.network.value old new left.others (was.since tell)))
         stood_left (Some server) begun left =
             so_left (Some server) left after later
             (record { step = inl (is ∙ sym begun.history_is); since = []; quiet = tt; whole = sym (append-nil later) })
-            (λ tell. since_as seen may_leave faults moment left_since tells tells_moments setup history after.happenings.value.items later (replay setup history) old new after.network.value begun.network_is begun.history_is (ap (replay setup) is) (since_stayed tell (Some server) (left.stayed tell)))
+            (λ tell. since_as seen may_leave faults moment left_since tells tells_moments setup history after.happenings.value later (replay setup history) old new after.network.value begun.network_is begun.history_is (ap (replay setup) is) (since_stayed tell (Some server) (left.stayed tell)))

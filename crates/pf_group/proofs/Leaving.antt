@@ -74,7 +74,7 @@ three_of xs rest a b c {ys} {zs} last middle first three =
 pub group_leaves : {D : Type 0} → (seen : D → Option (List ℕ)) (may_leave : D → Images) (faults moment : D → ℕ) (left_since : D → ℕ → Images) (tells tells_moments : Bool) (g : Inside D) → IsGroup seen may_leave faults moment left_since tells tells_moments g → Law seen may_leave faults moment left_since tells tells_moments → IsTrue tells → (i : ℕ) (server : Server (Kept D)) → slice_get g.network.servers.items i ≡ Some server → (zero one : Images)
     → ((c : Condition) → Meets (kept_model seen may_leave faults moment left_since tells_moments) server.seat server.store server.state c → IsTrue (told_in seen server.store) → LeavesOf server.store.pair.head (Some c) zero one) → LeavesIn (group_in tells faults moment g) i zero one
 group_leaves seen may_leave faults moment left_since tells tells_moments g is law tell i server there zero one leaves =
-    let shows = now_shows (kept_model seen may_leave faults moment left_since tells_moments) tells (setup_in g) g.past.happenings.items g.network is.stands tell in
+    let shows = now_shows (kept_model seen may_leave faults moment left_since tells_moments) tells (setup_in g) g.past.happenings g.network is.stands tell in
     let m = shows.members i server there in
-    subst (λ head. LeavesOf head (slice_get (replay (setup_in g) g.past.happenings.items).servers i) zero one) (is.heads tell i server there ∙ ap (head_of g.number) m.2.seat)
+    subst (λ head. LeavesOf head (slice_get (replay (setup_in g) g.past.happenings).servers i) zero one) (is.heads tell i server there ∙ ap (head_of g.number) m.2.seat)
     (subst (λ c. LeavesOf server.store.pair.head c zero one) (sym m.1) (leaves m.0 m.2.meets (tell_all seen may_leave faults moment left_since tells tells_moments law tell g.network i server there)))

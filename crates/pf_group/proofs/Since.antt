@@ -153,14 +153,14 @@ module _ {D : Type 0} (seen : D → Option (List ℕ)) (may_leave : D → Images
     pub last : IsLastStep earlier after history
     pub since : IsTrue tells → Since (replay setup earlier) (replay setup after) began network
 
-  pub stood : (g : Inside D) → IsGroup seen may_leave faults moment left_since tells tells_moments g → Stood g.number (setup_in g) g.began.happenings.value.items g.began.network.value g.past.happenings.items g.network
+  pub stood : (g : Inside D) → IsGroup seen may_leave faults moment left_since tells tells_moments g → Stood g.number (setup_in g) g.began.happenings.value g.began.network.value g.past.happenings g.network
   stood g is = record { stands = is.stands; heads = is.heads; after = is.after; last = is.last; since = is.since }
 
   -- an event may be carried out by the rules
   pub told_now : (g : Inside D) (is : IsGroup seen may_leave faults moment left_since tells tells_moments g) → Law → IsTrue tells → (event : GroupEvent) → IsTold (told_in seen) (setup_in g) is.stands.past.group g.network event
   told_now g is law tell event =
-      let few : length g.past.happenings.items ≤ 2 ^ 32 = omega (arith, is.past.few, g.past.happenings.ok.0) in
-      is_told (kept_model seen may_leave faults moment left_since tells_moments) tells (setup_in g) g.past.happenings.items g.network is.stands tell (tell_all law tell g.network) few event
+      let few : length g.past.happenings ≤ 2 ^ 32 = omega (arith, is.past.few, is.past.counted) in
+      is_told (kept_model seen may_leave faults moment left_since tells_moments) tells (setup_in g) g.past.happenings g.network is.stands tell (tell_all law tell g.network) few event
 
   module _ (number : ℕ) (setup : Setup) (earlier : History) (began : Network (Kept D)) (history : History) (network : Network (Kept D)) (is : Stood number setup earlier began history network) (told : Bool) (tell : IsTrue tells) where
     abbrev Now : GroupIs

@@ -9,7 +9,7 @@ module _ {D : Type 0} where
   -- with these servers, after this history
   pub record IsBegun (network : Network (Kept D)) (history : History) (began : Began D) : Type 0 where
     pub network_is : began.network.value ≡ network
-    pub history_is : began.happenings.value.items ≡ history
+    pub history_is : began.happenings.value ≡ history
 
   -- there, where disks may have been touched since
   abbrev pub IsBegunIf : (may_touch : Bool) → Network (Kept D) → History → (old new : Began D) → Type 0

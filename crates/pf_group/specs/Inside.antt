@@ -35,7 +35,7 @@ module _ {D : Type 0} where
   setup_in g = setup_with g.sectors g.names g.format g.failed.items
 
   abbrev pub group_in : (told : Bool) → (faults moment : D → ℕ) → Inside D → GroupIs
-  group_in told faults moment g = group_of told faults moment g.number (setup_in g) g.began.happenings.value.items g.began.network.value g.past.happenings.items g.network
+  group_in told faults moment g = group_of told faults moment g.number (setup_in g) g.began.happenings.value g.began.network.value g.past.happenings g.network
 
   -- a restart looks for each server's own head
   abbrev pub HaveHeads : (number : ℕ) → Network (Kept D) → Type 0
@@ -53,9 +53,9 @@ module _ {D : Type 0} where
   -- The servers stand for what the history led to. Where their disks tell their content, that is the state after it, and it is known what a
   -- crash leaves.
   pub record IsGroup (seen : D → Option (List ℕ)) (may_leave : D → Images) (faults moment : D → ℕ) (left_since : D → ℕ → Images) (tells tells_moments : Bool) (g : Inside D) : Type 0 where
-    pub stands : StandsFor (kept_model seen may_leave faults moment left_since tells_moments) tells (setup_in g) g.past.happenings.items g.network
+    pub stands : StandsFor (kept_model seen may_leave faults moment left_since tells_moments) tells (setup_in g) g.past.happenings g.network
     pub heads : IsTrue tells → HaveHeads g.number g.network
     pub past : IsPast g.past
     pub after : History
-    pub last : IsLastStep g.began.happenings.value.items after g.past.happenings.items
-    pub since : IsTrue tells → IsSince seen faults moment left_since tells_moments (replay (setup_in g) g.began.happenings.value.items) (replay (setup_in g) after) g.began.network.value g.network
+    pub last : IsLastStep g.began.happenings.value after g.past.happenings
+    pub since : IsTrue tells → IsSince seen faults moment left_since tells_moments (replay (setup_in g) g.began.happenings.value) (replay (setup_in g) after) g.began.network.value g.network

@@ -1,5 +1,5 @@
--- What happened to a group, with room for what can't be refused.
-use Rattle.std.specs.Prelude.{ℕ, ◌+◌, ◌-◌, ◌≤◌, ◌^◌, [], length, vec_capacity, vec_len}
+-- What happened to a group, with a place for what can't be refused.
+use Rattle.std.specs.Prelude.{◌≡◌, ℕ, ◌+◌, ◌-◌, ◌≤◌, ◌^◌, [], length}
 use Rattle.pf_protocol.specs.declared.answers.Answer.{Answer}
 use Rattle.pf_protocol.specs.declared.answers.Answer.TheVariants.{Job as JobIs}
 use Rattle.pf_protocol.specs.declared.events.Event.{Event}
@@ -9,6 +9,7 @@ use Rattle.pf_protocol.specs.Answers.{MayHappen, claims_of}
 use Rattle.pf_group.specs.declared.event.GroupEvent.{GroupEvent}
 use Rattle.pf_group.specs.declared.event.GroupEvent.TheVariants as asked
 use Rattle.pf_group.specs.declared.past.Past.{Past}
+use Rattle.pf_group.specs.Applied.{applied_on_each}
 
 -- a claim that was answered opens one, and an end closes at least one
 abbrev pub open_by : ℕ → Event → Answer → ℕ
@@ -20,18 +21,18 @@ open_by n event answer = n
 abbrev pub open_after : ℕ → Happening → ℕ
 open_after n h = open_by n h.event h.answer
 
--- there is room for the end of each open claim
+-- it counts what happened, and there is a place for the end of each open claim
 pub record IsPast (past : Past) : Type 0 where
-  pub claims : length (claims_of [] past.happenings.items) ≤ past.open_ends
-  pub room : vec_len past.happenings + past.open_ends ≤ vec_capacity past.happenings
-  pub few : vec_len past.happenings + past.open_ends ≤ 2 ^ 32
+  pub counted : past.count ≡ length past.happenings
+  pub applied : past.applied ≡ applied_on_each past.happenings
+  pub claims : length (claims_of [] past.happenings) ≤ past.open_ends
+  pub few : past.count + past.open_ends ≤ 2 ^ 32
 
 -- and for one more happening, and its end
-pub record HasPlaces (past : Past) : Type 0 where
-  pub room : vec_len past.happenings + past.open_ends + 2 ≤ vec_capacity past.happenings
-  pub few : vec_len past.happenings + past.open_ends + 2 ≤ 2 ^ 32
+abbrev pub HasPlaces : Past → Type 0
+HasPlaces past = past.count + past.open_ends + 2 ≤ 2 ^ 32
 
--- an end has its room
+-- an end has its place
 abbrev pub HasRoomFor : GroupEvent → Past → Type 0
 HasRoomFor (asked.Finish filled) past = Unit {0}
 HasRoomFor event past = HasPlaces past
@@ -41,7 +42,7 @@ HasPlaceFor past (Finish server life slot) = Unit {0}
 HasPlaceFor past (GiveBack server life slot) = Unit {0}
 HasPlaceFor past event = HasPlaces past
 
--- what may happen, and has its room
+-- what may happen, and has its place
 pub record IsKeepable (past : Past) (event : Event) : Type 0 where
-  pub may : MayHappen (claims_of [] past.happenings.items) event
+  pub may : MayHappen (claims_of [] past.happenings) event
   pub room : HasPlaceFor past event

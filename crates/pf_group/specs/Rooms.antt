@@ -31,7 +31,7 @@ pub record IsPlan {D : Type 0} (plan : Plan D) : Type 0 where
   pub none : vec_len plan.failed ≡ 0
   pub three : 3 ≤ vec_capacity plan.failed
   pub network : IsEmpty plan.network
-  pub history : plan.past.happenings.items ≡ []
+  pub history : plan.past.happenings ≡ []
   pub past : IsPast plan.past
 
 -- it is to be made with these numbers

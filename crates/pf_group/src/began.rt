@@ -9,6 +9,7 @@ ghost use Rattle.pf_group.specs.Events.{MayWant};
 ghost use Rattle.pf_group.specs.Halves.{told_in};
 ghost use Rattle.pf_group.specs.Reacting.{IsTold, MayReact, Reacts, ReactsSomehow, own_of};
 
+use crate::happenings::Happenings;
 use crate::past::Past;
 use crate::react::react;
 use crate::{GroupEvent, Reaction};
@@ -16,7 +17,6 @@ use pf_base::NoMemory;
 use pf_disk::Disk;
 use pf_diskstore::Kept;
 use pf_network::{Network, is_quiet};
-use pf_protocol::Happening;
 use std::alloc::Global;
 use std::snapshot::Snapshot;
 
@@ -24,13 +24,13 @@ use std::snapshot::Snapshot;
 #[derive(Drop)]
 pub struct Began<D: Disk> {
     pub network: Snapshot<Network<Kept<D>>>,
-    pub happenings: Snapshot<Vec<Happening>>,
+    pub happenings: Snapshot<Happenings>,
 }
 
 impl<D: Disk> Began<D> {
     /// Such a step begins now.
     pub fn now(network: &Network<Kept<D>>, past: &Past) -> Began<D>
-        ensures { IsBegun network.now past.now.happenings.items result }
+        ensures { IsBegun network.now past.now.happenings result }
     {
         Began {
             network: Snapshot::of(network),
@@ -63,8 +63,8 @@ pub fn begin<D: Disk + Drop>(
     ensures somehow { (setup : Setup) (came : PastIs) → IsReached (kept_model D.seen D.may_leave D.faults D.moment D.left_since D.tells_moments) setup came network.old
         → ReactsSomehow (kept_model D.seen D.may_leave D.faults D.moment D.left_since D.tells_moments) setup came.group event network.old network.new result }
     ensures sure { OnErr result (MayWant event) }
-    ensures began { IfOk result (λ r. IsBegunIf (not (is_quiet r.event)) network.old past.now.happenings.items began.old began.new) }
-    ensures tried { OnErr result (IsBegunIf (is_some (own_of event)) network.old past.now.happenings.items began.old began.new) }
+    ensures began { IfOk result (λ r. IsBegunIf (not (is_quiet r.event)) network.old past.now.happenings began.old began.new) }
+    ensures tried { OnErr result (IsBegunIf (is_some (own_of event)) network.old past.now.happenings began.old began.new) }
 {
     let now = Began::now(network, past);
     let may_touch = event.may_touch();

@@ -149,7 +149,7 @@ impl<D: Disk + Drop> Plan<D> {
             two,
             failed,
             network,
-            past: Past::new(alloc),
+            past: Past::new(),
         })
     }
 

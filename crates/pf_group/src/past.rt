@@ -1,23 +1,28 @@
-//! What happened to a group, with room for what can't be refused.
-ghost use Rattle.std.specs.Prelude.{◌≡◌, ◌≤◌, ◌^◌, [], ◌∷◌, ◌++◌, OnErr, OnOk};
+//! What happened to a group, with a place for what can't be refused.
+ghost use Rattle.std.specs.Prelude.{◌≡◌, ◌+◌, ◌<◌, ◌≤◌, ◌^◌, [], ◌∷◌, ◌++◌, OnErr, OnOk};
+ghost use Rattle.pf_group.specs.Applied.{applied_on_each, applies_done};
 ghost use Rattle.pf_group.specs.Events.{MayWant};
 ghost use Rattle.pf_group.specs.Pasts.{HasRoomFor, IsKeepable, IsPast, open_after};
 
 use crate::GroupEvent;
-use pf_base::NoMemory;
-use pf_network::put;
+use crate::happenings::Happenings;
+use pf_base::{NoMemory, ServerId};
 use pf_protocol::{Answer, Event, Happening};
-use std::alloc::Global;
+use std::mem;
 
 /// The most happenings of a group, the ends of its open claims with them.
 const MOST: usize = 4_294_967_296;
 
-/// All that happened to a group. It has room for the end of each open claim.
+/// All that happened to a group, in numbers, and as clauses see it. There is a place for the end of each open claim.
 #[derive(Drop)]
 pub struct Past {
-    pub happenings: Vec<Happening>,
+    pub happenings: Happenings,
+    /// How many there are.
+    pub count: usize,
     /// At least the number of claims that were neither finished nor given back.
     pub open_ends: usize,
+    /// How many jobs were finished, and answered `Done`, on servers 0, 1 and 2.
+    pub applied: [u64; 3],
 }
 
 /// How many claims may be open after a happening.
@@ -35,46 +40,71 @@ fn open_after(ends: usize, happening: &Happening) -> usize
     }
 }
 
+/// Whether it is the end of a job of this server that was answered `Done`.
+fn is_applied(happening: &Happening, server: ServerId) -> bool
+    ensures { result ≡ applies_done server happening.now.event happening.now.answer }
+{
+    match (&happening.event, &happening.answer) {
+        (Event::Finish { server: at, .. }, Answer::Done) => *at == server,
+        _ => false,
+    }
+}
+
 impl Past {
     /// Nothing has happened.
-    pub fn new(alloc: Global) -> Past
-        ensures items { result.happenings.items ≡ [] }
+    pub fn new() -> Past
+        ensures none { result.happenings ≡ [] }
         ensures past { IsPast result }
     {
         Past {
-            happenings: Vec::new(alloc),
+            happenings: Happenings::none(),
+            count: 0,
             open_ends: 0,
+            applied: [0; 3],
         }
     }
 
-    /// Makes room for what comes of an event, and for the end of what it claims. An end has its room. `NoMemory` (1) also at the limit
-    /// of 2^32 happenings.
-    pub fn make_room(&mut self, event: &GroupEvent) -> Result<(), NoMemory>
-        requires { IsPast self.old }
-        ensures same { self.new.happenings.items ≡ self.old.happenings.items }
-        ensures past { IsPast self.new }
-        ensures room { OnOk result (HasRoomFor event.now self.new) }
+    /// Whether there is a place for what comes of an event, and for the end of what it claims. An end has its place. `NoMemory` (1) at the
+    /// limit of 2^32 happenings.
+    pub fn room_for(&self, event: &GroupEvent) -> Result<(), NoMemory>
+        requires { IsPast self.now }
+        ensures room { OnOk result (HasRoomFor event.now self.now) }
+        ensures full { OnErr result (2 ^ 32 < self.now.count + self.now.open_ends + 2) }
         ensures sure { OnErr result (MayWant event.now) }
     {
         if let GroupEvent::Finish(_) = event {
             return Ok(());
         }
-        let ends = self.open_ends + 2;
-        if self.happenings.len() + ends > MOST {
+        if self.count + self.open_ends + 2 > MOST {
             return Err(NoMemory);
         }
-        self.happenings.reserve(ends)?;
         Ok(())
+    }
+
+    /// How many jobs were applied on each server, with one more happening.
+    fn applied_with(&self, happening: &Happening) -> [u64; 3]
+        requires { IsPast self.now }
+        ensures { result ≡ applied_on_each (self.now.happenings ++ happening.now ∷ []) }
+    {
+        let [zero, one, two] = self.applied;
+        [
+            zero + u64::from(is_applied(happening, 0)),
+            one + u64::from(is_applied(happening, 1)),
+            two + u64::from(is_applied(happening, 2)),
+        ]
     }
 
     /// One more has happened. It takes no memory.
     pub fn keep(&mut self, happening: Happening)
         requires past { IsPast self.old }
         requires room { IsKeepable self.old happening.event }
-        ensures items { self.new.happenings.items ≡ self.old.happenings.items ++ happening ∷ [] }
+        ensures items { self.new.happenings ≡ self.old.happenings ++ happening ∷ [] }
         ensures past { IsPast self.new }
     {
+        self.applied = self.applied_with(&happening);
+        self.count += 1;
         self.open_ends = open_after(self.open_ends, &happening);
-        put(&mut self.happenings, happening);
+        let before = mem::replace(&mut self.happenings, Happenings::none());
+        self.happenings = before.then(happening);
     }
 }

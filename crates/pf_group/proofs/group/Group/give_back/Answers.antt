@@ -24,11 +24,11 @@ invariant_of-self g c =
     let e : Event = GiveBack c.args.job.server c.args.job.life c.args.job.slot in
     let gone = c.give_back.ensures (setup_in c.self.inside) c.self.invariant.stands.past c.self.invariant.stands.reached in
     let done = gave_done (setup_in c.self.inside) c.self.invariant.stands.past.group c.args.job.server c.args.job.life c.args.job.slot c.give_back.result gone.answered in
-    let went = subst (WentIn g.D.Disk.seen g.D.Disk.may_leave g.D.Disk.faults g.D.Disk.moment g.D.Disk.left_since g.D.Disk.tells g.D.Disk.tells_moments (setup_in c.self.inside) c.self.inside.past.happenings.items c.self.inside.network c.give_back.new.self c.self.invariant.stands.past.group e) done gone in
-    let came = came_went g.D.Disk.seen g.D.Disk.may_leave g.D.Disk.faults g.D.Disk.moment g.D.Disk.left_since g.D.Disk.tells g.D.Disk.tells_moments (setup_in c.self.inside) c.self.inside.past.happenings.items c.self.inside.network c.give_back.new.self c.self.invariant.stands g.met.D.Disk.told e Done went in
+    let went = subst (WentIn g.D.Disk.seen g.D.Disk.may_leave g.D.Disk.faults g.D.Disk.moment g.D.Disk.left_since g.D.Disk.tells g.D.Disk.tells_moments (setup_in c.self.inside) c.self.inside.past.happenings c.self.inside.network c.give_back.new.self c.self.invariant.stands.past.group e) done gone in
+    let came = came_went g.D.Disk.seen g.D.Disk.may_leave g.D.Disk.faults g.D.Disk.moment g.D.Disk.left_since g.D.Disk.tells g.D.Disk.tells_moments (setup_in c.self.inside) c.self.inside.past.happenings c.self.inside.network c.give_back.new.self c.self.invariant.stands g.met.D.Disk.told e Done went in
     let may = subst (λ (v : GroupIs). MayHappen (claims_of [] v.history) e) (sym c.self.view_is) c.requires in
-    let low : length c.keep.new.self.happenings.items ≤ 2 ^ 32 = omega (arith, c.keep.ensures.past.few, c.keep.new.self.happenings.ok.0) in
-    let s = stood_gone g.D.Disk.seen g.D.Disk.may_leave g.D.Disk.faults g.D.Disk.moment g.D.Disk.left_since g.D.Disk.tells g.D.Disk.tells_moments (setup_in c.self.inside) c.self.inside.past.happenings.items c.self.inside.network c.give_back.new.self c.self.invariant.stands g.met.D.Disk.told c.self.inside.number c.self.inside.began c.self.inside.began c.keep.new.self.happenings.items (stood g.D.Disk.seen g.D.Disk.may_leave g.D.Disk.faults g.D.Disk.moment g.D.Disk.left_since g.D.Disk.tells g.D.Disk.tells_moments c.self.inside c.self.invariant) e Done c.keep.ensures.items low may came refl in
+    let low : length c.keep.new.self.happenings ≤ 2 ^ 32 = omega (arith, c.keep.ensures.past.few, c.keep.ensures.past.counted) in
+    let s = stood_gone g.D.Disk.seen g.D.Disk.may_leave g.D.Disk.faults g.D.Disk.moment g.D.Disk.left_since g.D.Disk.tells g.D.Disk.tells_moments (setup_in c.self.inside) c.self.inside.past.happenings c.self.inside.network c.give_back.new.self c.self.invariant.stands g.met.D.Disk.told c.self.inside.number c.self.inside.began c.self.inside.began c.keep.new.self.happenings (stood g.D.Disk.seen g.D.Disk.may_leave g.D.Disk.faults g.D.Disk.moment g.D.Disk.left_since g.D.Disk.tells g.D.Disk.tells_moments c.self.inside c.self.invariant) e Done c.keep.ensures.items low may came refl in
     record { stands = s.stands; heads = s.heads; past = c.keep.ensures.past; after = s.after; last = s.last; since = s.since }
 
 pub returns-clause-went : goal.returns-clause-went
@@ -36,12 +36,12 @@ returns-clause-went g c =
     let e : Event = GiveBack c.args.job.server c.args.job.life c.args.job.slot in
     let gone = c.give_back.ensures (setup_in c.self.inside) c.self.invariant.stands.past c.self.invariant.stands.reached in
     let done = gave_done (setup_in c.self.inside) c.self.invariant.stands.past.group c.args.job.server c.args.job.life c.args.job.slot c.give_back.result gone.answered in
-    let went = subst (WentIn g.D.Disk.seen g.D.Disk.may_leave g.D.Disk.faults g.D.Disk.moment g.D.Disk.left_since g.D.Disk.tells g.D.Disk.tells_moments (setup_in c.self.inside) c.self.inside.past.happenings.items c.self.inside.network c.give_back.new.self c.self.invariant.stands.past.group e) done gone in
-    let came = came_went g.D.Disk.seen g.D.Disk.may_leave g.D.Disk.faults g.D.Disk.moment g.D.Disk.left_since g.D.Disk.tells g.D.Disk.tells_moments (setup_in c.self.inside) c.self.inside.past.happenings.items c.self.inside.network c.give_back.new.self c.self.invariant.stands g.met.D.Disk.told e Done went in
+    let went = subst (WentIn g.D.Disk.seen g.D.Disk.may_leave g.D.Disk.faults g.D.Disk.moment g.D.Disk.left_since g.D.Disk.tells g.D.Disk.tells_moments (setup_in c.self.inside) c.self.inside.past.happenings c.self.inside.network c.give_back.new.self c.self.invariant.stands.past.group e) done gone in
+    let came = came_went g.D.Disk.seen g.D.Disk.may_leave g.D.Disk.faults g.D.Disk.moment g.D.Disk.left_since g.D.Disk.tells g.D.Disk.tells_moments (setup_in c.self.inside) c.self.inside.past.happenings c.self.inside.network c.give_back.new.self c.self.invariant.stands g.met.D.Disk.told e Done went in
     let may = subst (λ (v : GroupIs). MayHappen (claims_of [] v.history) e) (sym c.self.view_is) c.requires in
     let h : Happening = record { event = e; answer = Done } in
-    subst (λ (v : GroupIs). Steps v e Done (group_of g.D.Disk.tells g.D.Disk.faults g.D.Disk.moment c.self.inside.number (setup_in c.self.inside) c.self.inside.began.happenings.value.items c.self.inside.began.network.value c.keep.new.self.happenings.items c.give_back.new.self)) c.self.view_is
-    (steps_of g.D.Disk.seen g.D.Disk.may_leave g.D.Disk.faults g.D.Disk.moment g.D.Disk.left_since g.D.Disk.tells g.D.Disk.tells_moments (setup_in c.self.inside) c.self.inside.past.happenings.items c.self.inside.network c.give_back.new.self c.self.invariant.stands g.met.D.Disk.told c.self.inside.number c.self.inside.began c.self.inside.began c.keep.new.self.happenings.items e Done h c.keep.ensures.items refl refl may refl came)
+    subst (λ (v : GroupIs). Steps v e Done (group_of g.D.Disk.tells g.D.Disk.faults g.D.Disk.moment c.self.inside.number (setup_in c.self.inside) c.self.inside.began.happenings.value c.self.inside.began.network.value c.keep.new.self.happenings c.give_back.new.self)) c.self.view_is
+    (steps_of g.D.Disk.seen g.D.Disk.may_leave g.D.Disk.faults g.D.Disk.moment g.D.Disk.left_since g.D.Disk.tells g.D.Disk.tells_moments (setup_in c.self.inside) c.self.inside.past.happenings c.self.inside.network c.give_back.new.self c.self.invariant.stands g.met.D.Disk.told c.self.inside.number c.self.inside.began c.self.inside.began c.keep.new.self.happenings e Done h c.keep.ensures.items refl refl may refl came)
 
 pub returns-clause-sound : goal.returns-clause-sound
 returns-clause-sound g c = sound _ _
@@ -51,9 +51,9 @@ returns-clause-crash g c told =
     let e : Event = GiveBack c.args.job.server c.args.job.life c.args.job.slot in
     let gone = c.give_back.ensures (setup_in c.self.inside) c.self.invariant.stands.past c.self.invariant.stands.reached in
     let done = gave_done (setup_in c.self.inside) c.self.invariant.stands.past.group c.args.job.server c.args.job.life c.args.job.slot c.give_back.result gone.answered in
-    let went = subst (WentIn g.D.Disk.seen g.D.Disk.may_leave g.D.Disk.faults g.D.Disk.moment g.D.Disk.left_since g.D.Disk.tells g.D.Disk.tells_moments (setup_in c.self.inside) c.self.inside.past.happenings.items c.self.inside.network c.give_back.new.self c.self.invariant.stands.past.group e) done gone in
-    let came = came_went g.D.Disk.seen g.D.Disk.may_leave g.D.Disk.faults g.D.Disk.moment g.D.Disk.left_since g.D.Disk.tells g.D.Disk.tells_moments (setup_in c.self.inside) c.self.inside.past.happenings.items c.self.inside.network c.give_back.new.self c.self.invariant.stands g.met.D.Disk.told e Done went in
+    let went = subst (WentIn g.D.Disk.seen g.D.Disk.may_leave g.D.Disk.faults g.D.Disk.moment g.D.Disk.left_since g.D.Disk.tells g.D.Disk.tells_moments (setup_in c.self.inside) c.self.inside.past.happenings c.self.inside.network c.give_back.new.self c.self.invariant.stands.past.group e) done gone in
+    let came = came_went g.D.Disk.seen g.D.Disk.may_leave g.D.Disk.faults g.D.Disk.moment g.D.Disk.left_since g.D.Disk.tells g.D.Disk.tells_moments (setup_in c.self.inside) c.self.inside.past.happenings c.self.inside.network c.give_back.new.self c.self.invariant.stands g.met.D.Disk.told e Done went in
     let may = subst (λ (v : GroupIs). MayHappen (claims_of [] v.history) e) (sym c.self.view_is) c.requires in
-    let low : length c.keep.new.self.happenings.items ≤ 2 ^ 32 = omega (arith, c.keep.ensures.past.few, c.keep.new.self.happenings.ok.0) in
-    all_leave g.D.Disk.seen g.D.Disk.may_leave g.D.Disk.faults g.D.Disk.moment g.D.Disk.left_since g.D.Disk.tells g.D.Disk.tells_moments c.self.inside.number (setup_in c.self.inside) c.self.inside.began.happenings.value.items c.self.inside.began.network.value c.keep.new.self.happenings.items c.give_back.new.self
-    (stood_gone g.D.Disk.seen g.D.Disk.may_leave g.D.Disk.faults g.D.Disk.moment g.D.Disk.left_since g.D.Disk.tells g.D.Disk.tells_moments (setup_in c.self.inside) c.self.inside.past.happenings.items c.self.inside.network c.give_back.new.self c.self.invariant.stands g.met.D.Disk.told c.self.inside.number c.self.inside.began c.self.inside.began c.keep.new.self.happenings.items (stood g.D.Disk.seen g.D.Disk.may_leave g.D.Disk.faults g.D.Disk.moment g.D.Disk.left_since g.D.Disk.tells g.D.Disk.tells_moments c.self.inside c.self.invariant) e Done c.keep.ensures.items low may came refl) g.D.Disk.tells told
+    let low : length c.keep.new.self.happenings ≤ 2 ^ 32 = omega (arith, c.keep.ensures.past.few, c.keep.ensures.past.counted) in
+    all_leave g.D.Disk.seen g.D.Disk.may_leave g.D.Disk.faults g.D.Disk.moment g.D.Disk.left_since g.D.Disk.tells g.D.Disk.tells_moments c.self.inside.number (setup_in c.self.inside) c.self.inside.began.happenings.value c.self.inside.began.network.value c.keep.new.self.happenings c.give_back.new.self
+    (stood_gone g.D.Disk.seen g.D.Disk.may_leave g.D.Disk.faults g.D.Disk.moment g.D.Disk.left_since g.D.Disk.tells g.D.Disk.tells_moments (setup_in c.self.inside) c.self.inside.past.happenings c.self.inside.network c.give_back.new.self c.self.invariant.stands g.met.D.Disk.told c.self.inside.number c.self.inside.began c.self.inside.began c.keep.new.self.happenings (stood g.D.Disk.seen g.D.Disk.may_leave g.D.Disk.faults g.D.Disk.moment g.D.Disk.left_since g.D.Disk.tells g.D.Disk.tells_moments c.self.inside c.self.invariant) e Done c.keep.ensures.items low may came refl) g.D.Disk.tells told

@@ -16,4 +16,4 @@ returns-clause-sent g c is =
 pub returns-clause-left : goal.returns-clause-left
 returns-clause-left g c told =
     subst (λ (v : GroupIs). c.is_left.result ≡ is_left (slice_get (state_of v).packets c.args.k)) c.self.view_is
-    (left_is _ _ c.args.k c.is_left.result (let shows = now_shows (kept_model g.D.Disk.seen g.D.Disk.may_leave g.D.Disk.faults g.D.Disk.moment g.D.Disk.left_since g.D.Disk.tells_moments) g.D.Disk.tells (setup_in c.self.inside) c.self.inside.past.happenings.items c.self.inside.network c.self.invariant.stands (subst (λ (v : GroupIs). IsTrue v.told) (sym c.self.view_is) told) in shows.traffic.packets) c.is_left.ensures)
+    (left_is _ _ c.args.k c.is_left.result (let shows = now_shows (kept_model g.D.Disk.seen g.D.Disk.may_leave g.D.Disk.faults g.D.Disk.moment g.D.Disk.left_since g.D.Disk.tells_moments) g.D.Disk.tells (setup_in c.self.inside) c.self.inside.past.happenings c.self.inside.network c.self.invariant.stands (subst (λ (v : GroupIs). IsTrue v.told) (sym c.self.view_is) told) in shows.traffic.packets) c.is_left.ensures)

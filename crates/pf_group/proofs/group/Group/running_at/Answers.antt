@@ -14,7 +14,7 @@ running-requires-clause-shown g c = let stands = c.self.invariant.stands in (set
 
 pub returns : goal.returns
 returns g c told =
-    let group = replay (setup_in c.self.inside) c.self.inside.past.happenings.items in
+    let group = replay (setup_in c.self.inside) c.self.inside.past.happenings in
     subst (λ (v : GroupIs). TellsOf (state_of v) c.args.server c.ok_or.result (λ me s. IsMemoryOf me.now s)) c.self.view_is
     (subst (λ r. TellsOf group c.args.server r (λ me s. IsMemoryOf me.now s)) (sym c.ok_or.ensures.value)
-    (memory_told (λ me. me.now) group c.args.server c.running.result _ (c.running.ensures (setup_in c.self.inside) group (now_shows (kept_model g.D.Disk.seen g.D.Disk.may_leave g.D.Disk.faults g.D.Disk.moment g.D.Disk.left_since g.D.Disk.tells_moments) g.D.Disk.tells (setup_in c.self.inside) c.self.inside.past.happenings.items c.self.inside.network c.self.invariant.stands (subst (λ (v : GroupIs). IsTrue v.told) (sym c.self.view_is) told)))))
+    (memory_told (λ me. me.now) group c.args.server c.running.result _ (c.running.ensures (setup_in c.self.inside) group (now_shows (kept_model g.D.Disk.seen g.D.Disk.may_leave g.D.Disk.faults g.D.Disk.moment g.D.Disk.left_since g.D.Disk.tells_moments) g.D.Disk.tells (setup_in c.self.inside) c.self.inside.past.happenings c.self.inside.network c.self.invariant.stands (subst (λ (v : GroupIs). IsTrue v.told) (sym c.self.view_is) told)))))

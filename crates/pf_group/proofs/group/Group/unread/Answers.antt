@@ -10,4 +10,4 @@ use Rattle.pf_group.proofs.group.Group.unread.Goals as goal
 pub returns : goal.returns
 returns g c told =
     subst (λ (v : GroupIs). ListsUnread (state_of v) v.taken c.unread.result.now) c.self.view_is
-    (c.unread.ensures (setup_in c.self.inside) (replay (setup_in c.self.inside) c.self.inside.past.happenings.items) (now_shows (kept_model g.D.Disk.seen g.D.Disk.may_leave g.D.Disk.faults g.D.Disk.moment g.D.Disk.left_since g.D.Disk.tells_moments) g.D.Disk.tells (setup_in c.self.inside) c.self.inside.past.happenings.items c.self.inside.network c.self.invariant.stands (subst (λ (v : GroupIs). IsTrue v.told) (sym c.self.view_is) told)))
+    (c.unread.ensures (setup_in c.self.inside) (replay (setup_in c.self.inside) c.self.inside.past.happenings) (now_shows (kept_model g.D.Disk.seen g.D.Disk.may_leave g.D.Disk.faults g.D.Disk.moment g.D.Disk.left_since g.D.Disk.tells_moments) g.D.Disk.tells (setup_in c.self.inside) c.self.inside.past.happenings c.self.inside.network c.self.invariant.stands (subst (λ (v : GroupIs). IsTrue v.told) (sym c.self.view_is) told)))

@@ -40,15 +40,15 @@ invariant_of-group g c =
     (ap (list_any (λ j. j == 2)) failed ∙ picked_2 (halted_of c.open-zero.result.1) (halted_of c.open-one.result.1) (halted_of c.open-two.result.1)) c.open-two.ensures.outcome c.open-two.ensures.opened c.open-two.ensures.halted c.open-two.ensures.seat))
     e.packets e.places e.bytes e.acked e.readings e.elections in
     record {
-      stands = stands_opening (kept_model g.D.Disk.seen g.D.Disk.may_leave g.D.Disk.faults g.D.Disk.moment g.D.Disk.left_since g.D.Disk.tells_moments) g.D.Disk.tells setup p.past.happenings.items network c.requires.setup c.requires.plan.history shows;
+      stands = stands_opening (kept_model g.D.Disk.seen g.D.Disk.may_leave g.D.Disk.faults g.D.Disk.moment g.D.Disk.left_since g.D.Disk.tells_moments) g.D.Disk.tells setup p.past.happenings network c.requires.setup c.requires.plan.history shows;
       heads = λ tell. three_heads p.number network c.open-zero.result.0 c.open-one.result.0 c.open-two.result.0 servers
           (own_head p.number p.sectors p.names p.format 0 p.zero c.requires.plan.zero c.open-zero.result.0.seat c.open-zero.result.0.store.pair.head c.open-zero.ensures.seat c.open-zero.ensures.head)
           (own_head p.number p.sectors p.names p.format 1 p.one c.requires.plan.one c.open-one.result.0.seat c.open-one.result.0.store.pair.head c.open-one.ensures.seat c.open-one.ensures.head)
           (own_head p.number p.sectors p.names p.format 2 p.two c.requires.plan.two c.open-two.result.0.seat c.open-two.result.0.store.pair.head c.open-two.ensures.seat c.open-two.ensures.head);
       past = c.requires.plan.past;
-      after = p.past.happenings.items;
-      last = record { step = inl (sym c.now-began.ensures.history_is); since = []; quiet = tt; whole = sym (append-nil p.past.happenings.items) };
-      since = λ tell. since_now g.D.Disk.seen g.D.Disk.may_leave g.D.Disk.faults g.D.Disk.moment g.D.Disk.left_since g.D.Disk.tells g.D.Disk.tells_moments setup (opening setup) (replay setup c.now-began.result.happenings.value.items) (replay setup p.past.happenings.items) c.now-began.result.network.value network c.now-began.ensures.network_is shows (tell_all g.D.Disk.seen g.D.Disk.may_leave g.D.Disk.faults g.D.Disk.moment g.D.Disk.left_since g.D.Disk.tells g.D.Disk.tells_moments g.met.D.Disk.told tell network);
+      after = p.past.happenings;
+      last = record { step = inl (sym c.now-began.ensures.history_is); since = []; quiet = tt; whole = sym (append-nil p.past.happenings) };
+      since = λ tell. since_now g.D.Disk.seen g.D.Disk.may_leave g.D.Disk.faults g.D.Disk.moment g.D.Disk.left_since g.D.Disk.tells g.D.Disk.tells_moments setup (opening setup) (replay setup c.now-began.result.happenings.value) (replay setup p.past.happenings) c.now-began.result.network.value network c.now-began.ensures.network_is shows (tell_all g.D.Disk.seen g.D.Disk.may_leave g.D.Disk.faults g.D.Disk.moment g.D.Disk.left_since g.D.Disk.tells g.D.Disk.tells_moments g.met.D.Disk.told tell network);
     }
 
 pub returns : goal.returns
@@ -59,7 +59,7 @@ returns g c =
     let counts = λ (s : Server (Kept g.row.D.Denot)). faults_of g.D.Disk.faults s.store in
     let now = map counts c.put-3.new.list.items in
     let moments = λ (s : Server (Kept g.row.D.Denot)). faults_of g.D.Disk.moment s.store in
-    let time : Times = record { now = map moments c.put-3.new.list.items; began = map moments c.now-began.result.network.value.servers.items; earlier = c.now-began.result.happenings.value.items } in
+    let time : Times = record { now = map moments c.put-3.new.list.items; began = map moments c.now-began.result.network.value.servers.items; earlier = c.now-began.result.happenings.value } in
     let Risen = λ (i : ℕ). HasRisen i (six_faults g.D.Disk.faults c.args.disks) now in
     record {
       failed = c.note-3.new.failed.items;
