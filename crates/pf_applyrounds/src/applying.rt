@@ -104,17 +104,17 @@ pub fn apply_all<D: Disk + Drop, R: Threads + Sync, G: Gate + Sync>(
     for _ in 0..ENOUGH {
         let Ok(done) = round(workers, group) else {
             // In a legal history jobs that were claimed and given back leave the group as it was.
-            let _legal = group.history();
+            group.laws();
             return Err(NoMemory);
         };
         if done == 0 {
             // In a legal history, where nothing is in hand and nothing is free, what can be applied is applied.
-            let _legal = group.history();
+            group.laws();
             return Ok(count);
         }
         count += done;
     }
     // So many jobs do not stand in a legal history, so this is never reached where the disks tell their content.
-    let _legal = group.history();
+    group.laws();
     Ok(count)
 }

@@ -21,7 +21,7 @@ returns-in_default-clause-grown g c =
 pub returns-in_default-clause-begun : goal.returns-in_default-clause-begun
 returns-in_default-clause-begun g c =
     let old = c.args.group.now in let now = c.loop.group in let new = c.round.new.group in let i = c.loop.invariant in
-    begun old now new (12289 - c.loop.counter) (adds_goes old now _ _ i.adds) i.run c.in_default.ensures.returned c.history-legal.ensures.legal i.none c.round.ensures.none
+    begun old now new (12289 - c.loop.counter) (adds_goes old now _ _ i.adds) i.run c.in_default.ensures.returned c.laws.ensures.legal i.none c.round.ensures.none
 
 pub returns-then-done-eq0-clause-grown : goal.returns-then-done-eq0-clause-grown
 returns-then-done-eq0-clause-grown g c =
@@ -40,7 +40,7 @@ returns-then-done-eq0-clause-applied g c told = c.in-Ok.ensures.applied c.if-don
 pub returns-then-done-eq0-clause-closed : goal.returns-then-done-eq0-clause-closed
 returns-then-done-eq0-clause-closed g c told i s runs =
     let new = c.round.new.group in
-    legal_closed new.setup new.history i s (c.history-legal-then-done-eq0.ensures.legal told) c.round.ensures.none (c.in-Ok.ensures.applied c.if-done-eq0.true told) runs
+    legal_closed new.setup new.history i s (c.laws-then-done-eq0.ensures.legal told) c.round.ensures.none (c.in-Ok.ensures.applied c.if-done-eq0.true told) runs
 
 pub returns-then-done-eq0-clause-adds : goal.returns-then-done-eq0-clause-adds
 returns-then-done-eq0-clause-adds g c =
@@ -71,10 +71,10 @@ pub returns-clause-grown : goal.returns-clause-grown
 returns-clause-grown g c = grown c.args.group.now c.loop.group (adds_goes c.args.group.now c.loop.group _ _ c.loop.invariant.adds)
 
 pub returns-clause-run : goal.returns-clause-run
-returns-clause-run g c halts tells = absurd (too_many c.args.group.now c.loop.group c.loop.count c.loop.invariant.adds (omega (arith, c.loop.invariant.some)) c.history-legal-2.ensures.legal tells.told)
+returns-clause-run g c halts tells = absurd (too_many c.args.group.now c.loop.group c.loop.count c.loop.invariant.adds (omega (arith, c.loop.invariant.some)) c.laws-2.ensures.legal tells.told)
 
 pub returns-clause-applied : goal.returns-clause-applied
-returns-clause-applied g c told = absurd (too_many c.args.group.now c.loop.group c.loop.count c.loop.invariant.adds (omega (arith, c.loop.invariant.some)) c.history-legal-2.ensures.legal told)
+returns-clause-applied g c told = absurd (too_many c.args.group.now c.loop.group c.loop.count c.loop.invariant.adds (omega (arith, c.loop.invariant.some)) c.laws-2.ensures.legal told)
 
 pub returns-clause-closed : goal.returns-clause-closed
-returns-clause-closed g c told i s runs = absurd (too_many c.args.group.now c.loop.group c.loop.count c.loop.invariant.adds (omega (arith, c.loop.invariant.some)) c.history-legal-2.ensures.legal told)
+returns-clause-closed g c told i s runs = absurd (too_many c.args.group.now c.loop.group c.loop.count c.loop.invariant.adds (omega (arith, c.loop.invariant.some)) c.laws-2.ensures.legal told)
