@@ -21,7 +21,7 @@ use pf_applyrounds::pf_group::{Group, GroupEvent};
 use pf_base::{Data, Filled, NoMemory};
 use pf_disk::Disk;
 use pf_entry::Job;
-use pf_protocol::{Answer, Happening};
+use pf_protocol::Answer;
 use pf_turn::{Logged, Stamped};
 use std::alloc::Global;
 
@@ -98,13 +98,13 @@ impl<D: Disk + Drop> Behind<D> {
         group
     }
 
-    /// All that happened to the group, in order. It is a legal history, where its disks tell their content.
-    pub(crate) fn happenings(&self) -> &[Happening]
-        ensures items { result.now ≡ self.now.group.history }
+    /// Every law holds of all that happened to the group, and it is a legal history, where its disks tell their content. It does nothing: that
+    /// it is so is asked of the proof alone.
+    pub(crate) fn laws(&self)
         ensures legal { IsTrue self.now.group.told → IsLegal self.now.group.setup self.now.group.history }
         ensures sound { IsSound self.now.group.setup self.now.group.history }
     {
-        self.group.history()
+        self.group.laws();
     }
 
     /// The least packet from `from` on that is left.

@@ -89,7 +89,7 @@ impl<D: Disk + Drop> SharedGroup<D> {
         ensures seen { seen_by seat.new ≡ list_of turn.value }
         ensures history { IsHistory (root_in self.now) (seen_by seat.new) }
     {
-        let _happenings = turn.value.happenings();
+        turn.value.laws();
         self.lock.give(&mut seat.seat, turn);
     }
 

@@ -10,4 +10,4 @@ use Rattle.pf_shared.proofs.parts.SharedGroup.end.Goals as goal
 pub returns-clause-history : goal.returns-clause-history
 returns-clause-history g c = let b = c.args.turn.value in let root : GroupIs = root_in c.args.self.now in
     history_is root b.group.setup (seen_by record { seat = c.give.new.seat }) b.group.history (ap (λ r. r.setup) b.same_root ∙ ap (λ (x : GroupIs). x.setup) c.requires.root)
-    (ap (whole root) c.give.ensures.seen ∙ (ap (λ (x : GroupIs). whole x (list_of b)) (sym c.requires.root) ∙ whole_is b)) (λ told. c.happenings-happenings.ensures.legal (told_now b (subst (λ (x : GroupIs). IsTrue x.told) (sym c.requires.root) told))) c.happenings-happenings.ensures.sound
+    (ap (whole root) c.give.ensures.seen ∙ (ap (λ (x : GroupIs). whole x (list_of b)) (sym c.requires.root) ∙ whole_is b)) (λ told. c.laws.ensures.legal (told_now b (subst (λ (x : GroupIs). IsTrue x.told) (sym c.requires.root) told))) c.laws.ensures.sound
