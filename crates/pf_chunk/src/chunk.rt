@@ -1,5 +1,5 @@
 //! A group, with what a report needs beside it.
-ghost use Rattle.std.specs.Prelude.{◌≡◌, [], IfErr, IfOk, IsTrue, List, replicate};
+ghost use Rattle.std.specs.Prelude.{◌≡◌, [], IfErr, IfOk, IsTrue, List, length, replicate};
 ghost use Rattle.pf_protocol.specs.Answers.{IsLegal, IsSetup};
 ghost use Rattle.pf_applyrounds.specs.pf_group.specs.Crashing.{AllLeaveAtCrash, LeavesAtCrash};
 ghost use Rattle.pf_applyrounds.specs.pf_group.specs.Leaving.{LeavesIn, as_seen};
@@ -16,7 +16,7 @@ use pf_applyrounds::pf_group::{Group, Six};
 use pf_asks::Port;
 use pf_base::NoMemory;
 use pf_disk::Disk;
-use pf_protocol::{Answer, Happening};
+use pf_protocol::Answer;
 use std::alloc::Global;
 use std::marker::Model;
 
@@ -98,16 +98,23 @@ impl<D: Disk + Drop> ChunkGroup<D> {
         Ok((chunk, answer))
     }
 
-    /// All that happened to the group, in order: a legal history, where its disks tell their content. Where they do, a crash at any moment
-    /// since its last step began that may have touched disks left of each server what that may hold before that step or right after it.
-    pub fn history(&self) -> &[Happening]
-        ensures items { result.now ≡ self.now.group.history }
+    /// Every law holds of all that happened to the group, and it is a legal history, where its disks tell their content. Where they do, a
+    /// crash at any moment since its last step began that may have touched disks left of each server what that may hold before that step or
+    /// right after it. It does nothing: that it is so is asked of the proof alone.
+    pub fn laws(&self)
         ensures told { self.now.group.told ≡ D.tells }
         ensures legal { IsTrue self.now.group.told → IsLegal self.now.group.setup self.now.group.history }
         ensures sound { IsSound self.now.group.setup self.now.group.history }
         ensures crash { IsTrue self.now.group.told → AllLeaveAtCrash D.seen D.moment D.left_since D.tells_moments self.now.group }
     {
-        self.group.history()
+        self.group.laws();
+    }
+
+    /// How much has happened to the group.
+    pub(crate) fn happened(&self) -> usize
+        ensures { result ≡ length self.now.group.history }
+    {
+        self.group.happened()
     }
 
     /// Gives the disks back. What the group left on them is said of disks that tell their content.

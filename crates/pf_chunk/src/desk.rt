@@ -26,7 +26,7 @@ impl<D: Disk + Drop> Desk for ChunkGroup<D> {
 
     fn leader(&mut self, _alloc: Global) -> Result<Option<(Term, ServerId)>, NoMemory> {
         // That no term has two leaders is asked of the proof alone.
-        let _sound = self.group.history();
+        self.group.laws();
         Ok(self.group.leader())
     }
 
@@ -68,7 +68,7 @@ impl<D: Disk + Drop> Desk for ChunkGroup<D> {
 
     fn take_read(&mut self, _alloc: Global, number: u64) -> Result<Option<Data>, NoMemory> {
         // That the history is legal is asked of the proof alone.
-        let _legal = self.group.history();
+        self.group.laws();
         Ok(self.group.take_read(number))
     }
 }

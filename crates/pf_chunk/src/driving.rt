@@ -157,7 +157,7 @@ impl<D: Disk + Drop> ChunkGroup<D> {
         ensures err { OnErr result (self.new ≡ self.old) }
     {
         // That the history is legal is asked of the proof alone.
-        let _legal = self.history();
+        self.laws();
         self.hand_on(Step::Hear, alloc, mount)
     }
 
@@ -201,9 +201,11 @@ impl<D: Disk + Drop> ChunkGroup<D> {
         ensures port { IfOk result (λ reply. PortDrove mount reply self.old self.new) }
         ensures err { OnErr result (HasFailed (λ halts. (run_by step halts (run_of halts self.old) mount).chunk.group) self.old.group self.new.group) }
     {
-        let before = self.history().len();
+        // That the history is legal is asked of the proof alone.
+        self.laws();
+        let before = self.happened();
         let reply = self.hand_on(step, workers.alloc, mount)?;
-        if self.history().len() == before {
+        if self.happened() == before {
             return Ok(reply);
         }
         self.follow(workers, out)?;

@@ -51,7 +51,7 @@ impl<D: Disk + Drop> ChunkGroup<D> {
     {
         apply_all(workers, &mut self.group)?;
         // That the history is legal is asked of the proof alone.
-        let _legal = self.group.history();
+        self.group.laws();
         tell_reads(&mut self.group, &mut self.waiting, self.number, out)
     }
 }

@@ -70,7 +70,7 @@ impl<D: Disk + Drop> ChunkGroup<D> {
     {
         let k = self.next;
         // That the history is legal is asked of the proof alone.
-        let _legal = self.group.history();
+        self.group.laws();
         let answer = self.happen(workers, GroupEvent::Deliver(k), out)?;
         if is_passed_over(&answer) {
             self.next = k + 1;

@@ -32,7 +32,7 @@ fn tell_read<D: Disk + Drop>(
     ensures same { group.new ≡ now_taken group.old group.new.taken }
 {
     // That the history is legal is asked of the proof alone.
-    let _legal = group.history();
+    group.laws();
     if let Some(sectors) = group.take_read(one.number) {
         put_read(out, number, one.number, &sectors)?;
         return Ok(false);

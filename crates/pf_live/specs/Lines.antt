@@ -1,10 +1,8 @@
 -- The list of a live line: what each of its seats does.
-use Rattle.std.specs.Prelude.{◌≡◌, ℕ, ◌+◌, ◌-◌, ◌%◌, zero, suc, Bool, true, false, ◌==◌, if◌then◌else◌, length, None, sum_by}
+use Rattle.std.specs.Prelude.{◌≡◌, ℕ, ◌+◌, ◌-◌, ◌%◌, zero, suc, Bool, true, false, if◌then◌else◌, length, None, sum_by}
 use Rattle.pf_turn.specs.Own.{AllOfSeats}
-use Rattle.pf_protocol.specs.declared.answers.Answer.{Answer}
-use Rattle.pf_protocol.specs.declared.answers.Answer.TheVariants.{Done}
 use Rattle.pf_protocol.specs.declared.events.Event.{Event}
-use Rattle.pf_protocol.specs.declared.events.Event.TheVariants.{Finish}
+use Rattle.pf_shared.specs.pf_group.specs.Applied.{applies_done}
 use Rattle.pf_shared.specs.pf_group.specs.GroupIs.{GroupIs, state_of}
 use Rattle.pf_shared.specs.declared.moment.Moment.{Moment}
 use Rattle.pf_shared.specs.declared.moment.Moment.TheVariants.{Happened, Look}
@@ -46,10 +44,6 @@ IsLive plan root list = AllOfSeats (Does plan root) list
 -- what was acknowledged in the line, and what was applied on a server
 abbrev pub acked_in : GroupIs → Trace → ℕ
 acked_in root list = length (state_at root list).acked - length (state_of root).acked
-
-abbrev pub applies_done : (server : ℕ) → Event → Answer → Bool
-applies_done server (Finish i life slot) Done = i == server
-applies_done server event answer = false
 
 abbrev pub applies_at : (server : ℕ) → Moment → Bool
 applies_at server (Happened h) = applies_done server h.event h.answer

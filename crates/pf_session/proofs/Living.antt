@@ -1,9 +1,10 @@
 -- A line that has come to its end.
-use Rattle.std.proofs.Common.{◌≡◌, ◌↔◌, ℕ, zero, suc, ◌-◌, ◌<◌, ◌≤◌, IsTrue, List, [], ◌∷◌, Contains, Some, slice_get, drop, length, length-append, append-nil, ◌++◌, inl, inr, arith, refl, sym, ap, ◌∙◌, subst}
+use Rattle.std.proofs.Common.{◌≡◌, ◌↔◌, ℕ, zero, suc, ◌-◌, ◌<◌, IsTrue, List, [], ◌∷◌, Contains, Some, slice_get, length, append-nil, inl, inr, arith, refl, sym, ap, ◌∙◌, subst}
 use Rattle.pf_disk.specs.declared.disk.Disk.{Ghosts}
 use Rattle.pf_protocol.specs.Answers.{claims_of}
-use Rattle.pf_protocol.specs.Histories.{History, IsPrefix, RunsAs}
+use Rattle.pf_protocol.specs.Histories.{RunsAs}
 use Rattle.pf_protocol.specs.Servers.{Server}
+use Rattle.pf_liveline.specs.pf_group.specs.Applied.{applied_on_each}
 use Rattle.pf_liveline.specs.pf_group.specs.GroupIs.{GroupIs, state_of}
 use Rattle.pf_leadercell.specs.Passes as cells
 use Rattle.pf_leadercell.specs.declared.cell.LeaderCell.{LeaderCell}
@@ -36,7 +37,7 @@ use Rattle.pf_liveline.proofs.Judged.{met_count}
 use Rattle.pf_session.specs.declared.session.Lived.{Lived}
 use Rattle.pf_session.specs.declared.totals.Totals.{Totals}
 use Rattle.pf_session.specs.Sessions.{HasApplied, HasList, HasLived, HasStopped, IsRunOut}
-use Rattle.pf_session.specs.Totals.{AreTotals, applied_on_each}
+use Rattle.pf_session.specs.Totals.{AreTotals, since}
 
 below : {A : Type 0} → (xs : List A) (i : ℕ) (x : A) → slice_get xs i ≡ Some x → i < length xs
 below [] i x there = absurd cc
@@ -107,14 +108,10 @@ pub has_applied : (old new : GroupIs) (count : ℕ) → HasGrown old new → new
     → (IsTrue new.told → (i : ℕ) (s : Server) → RunsAs (state_of new) i s → IsClosed s) → HasApplied old new
 has_applied old new count grown taken none run all adds closed = record { grown = grown; taken = taken; none = none; run = run; applied_all = all; count = count; adds = adds; closed = closed }
 
--- a history that went on is no shorter
-pub longer : (xs ys : History) → IsPrefix xs ys → length xs ≤ length ys
-longer xs ys p = let l : length (xs ++ p.rest) ≡ length ys = ap length p.whole in omega (arith, l, length-append xs p.rest)
-
 -- the totals, by what the counts were
-pub are_totals : (old new : GroupIs) (totals : Totals) (acked happened : ℕ) → HasGrown old new → happened ≡ length old.history → (IsTrue old.told → acked ≡ length (state_of old).acked) → (IsTrue new.told → totals.acked ≡ length (state_of new).acked - acked)
-    → totals.applied ≡ applied_on_each (drop happened new.history) → AreTotals old new totals
-are_totals old new totals acked happened grown at was now applied = record {
+pub are_totals : (old new : GroupIs) (totals : Totals) (acked : ℕ) → HasGrown old new → (IsTrue old.told → acked ≡ length (state_of old).acked) → (IsTrue new.told → totals.acked ≡ length (state_of new).acked - acked)
+    → totals.applied ≡ applied_on_each (since old new) → AreTotals old new totals
+are_totals old new totals acked grown was now applied = record {
   acked = λ told. now (subst IsTrue (sym grown.told) told) ∙ ap (λ n. length (state_of new).acked - n) (was told);
-  applied = applied ∙ ap (λ n. applied_on_each (drop n new.history)) at;
+  applied = applied;
 }

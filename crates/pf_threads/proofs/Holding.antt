@@ -9,6 +9,7 @@ use Rattle.pf_protocol.specs.Groups.{Group, opening}
 use Rattle.pf_protocol.specs.Histories.{History, replay, run}
 use Rattle.pf_protocol.specs.Answers.{IsLegal, IsLegalFrom, claims_of}
 use Rattle.pf_protocol.proofs.ForMoments.{legal_before}
+use Rattle.pf_chunk.specs.pf_group.specs.Applied.{applied_on_each}
 use Rattle.pf_chunk.specs.pf_group.specs.GroupIs.{GroupIs, state_of}
 use Rattle.pf_chunk.specs.pf_group.specs.Packets.{is_left_in}
 use Rattle.pf_chunk.specs.pf_group.proofs.Sending.{run_sent}
@@ -22,7 +23,6 @@ use Rattle.pf_session.specs.pf_shared.specs.Moments.{happenings}
 use Rattle.pf_session.specs.pf_live.specs.declared.plan.Plan.{Plan}
 use Rattle.pf_session.specs.declared.session.Lived.{Lived}
 use Rattle.pf_session.specs.Sessions.{HasLived}
-use Rattle.pf_session.specs.Totals.{applied_on_each}
 use Rattle.pf_chunk.specs.Happenings.{Happened, followed}
 use Rattle.pf_chunk.specs.Lending.{HasTold, after_all}
 use Rattle.pf_chunk.specs.Runs.{ChunkRun}

@@ -1,6 +1,7 @@
 -- What the threads of one live line did to a group.
 use Rattle.std.specs.Prelude.{◌≡◌, ℕ, ◌-◌, IsTrue, List, [], ◌∷◌, ◌++◌, drop, length}
 use Rattle.pf_protocol.specs.declared.events.Event.{Event}
+use Rattle.pf_chunk.specs.pf_group.specs.Applied.{applied_on_each}
 use Rattle.pf_chunk.specs.pf_group.specs.GroupIs.{GroupIs}
 use Rattle.pf_report.specs.Live.{live_text}
 use Rattle.pf_chunk.specs.pf_applyrounds.specs.Halts.{Halt}
@@ -13,7 +14,6 @@ use Rattle.pf_session.specs.pf_live.specs.declared.plan.Plan.{Plan}
 use Rattle.pf_session.specs.pf_live.specs.Deliveries.{Trace}
 use Rattle.pf_session.specs.pf_live.specs.Ends.{HasEnd}
 use Rattle.pf_session.specs.pf_live.specs.Lines.{IsLive}
-use Rattle.pf_session.specs.Totals.{applied_on_each}
 use Rattle.pf_chunk.specs.Lending.{after_all}
 
 -- the events that its seats made, in their order, and how it ended

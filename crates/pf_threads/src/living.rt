@@ -32,7 +32,7 @@ pub fn live<R: Threads + Wait + Sync, D: Disk + Drop + Send, G: Gate + Sync>(
     let (group, told) = pf_session::live(workers, group, plan);
     let mut chunk = lent.back(group);
     // That the history is legal is asked of the proof alone.
-    let _legal = chunk.history();
+    chunk.laws();
     let Ok(lived) = told else {
         return (chunk, Err(NoMemory));
     };

@@ -12,6 +12,7 @@ use Rattle.pf_protocol.specs.Histories.{History}
 use Rattle.pf_script.specs.declared.command.Command.{Command}
 use Rattle.pf_script.specs.declared.command.Command.TheVariants as commands
 use Rattle.pf_threads.specs.pf_network.proofs.Lists.{set_there}
+use Rattle.pf_threads.specs.pf_group.specs.Applied.{applied_on, applied_on_each, applies_done}
 use Rattle.pf_threads.specs.pf_group.specs.GroupIs.{GroupIs}
 use Rattle.pf_report.specs.Live.{live_text}
 use Rattle.pf_report.specs.Texts.{line_of}
@@ -23,9 +24,7 @@ use Rattle.pf_threads.specs.pf_applyrounds.specs.Rounds.{applied}
 use Rattle.pf_threads.specs.pf_applyrounds.proofs.Extending.{Extends, after_extends, applied_extends, extends_on, extends_refl}
 use Rattle.pf_threads.specs.pf_applyrounds.proofs.Told.{told_longer}
 use Rattle.pf_threads.specs.pf_live.specs.declared.plan.Plan.{Plan}
-use Rattle.pf_threads.specs.pf_live.specs.Lines.{applies_done}
 use Rattle.pf_threads.specs.pf_session.specs.declared.session.Lived.{Lived}
-use Rattle.pf_threads.specs.pf_session.specs.Totals.{applied_on, applied_on_each}
 use Rattle.pf_threads.specs.pf_chunk.specs.Happenings.{Happened}
 use Rattle.pf_threads.specs.pf_chunk.specs.Lending.{after_all, all_happened}
 use Rattle.pf_threads.specs.pf_chunk.specs.Runs.{ChunkRun}

@@ -14,7 +14,7 @@ impl<D: Disk + Drop> World<D> {
         ensures crash { IsTrue D.tells → WorldLeavesAtCrash D.seen D.moment D.left_since D.tells_moments self.now.world }
     {
         for chunk in &self.chunks {
-            let _ = chunk.history();
+            chunk.laws();
         }
     }
 }

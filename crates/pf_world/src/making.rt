@@ -136,7 +136,7 @@ impl<D: Disk + Drop> World<D> {
         let mut disks = spare;
         while let Some(chunk) = chunks.pop() {
             // That the group knows whether its disks tell is asked of the proof alone.
-            let _told = chunk.history();
+            chunk.laws();
             put_six(&mut disks, chunk.into_disks());
         }
         disks.reverse();

@@ -67,7 +67,7 @@ impl<D: Disk + Drop> World<D> {
         match self.chunks.get(group as usize) {
             Some(chunk) => {
                 // That the group knows whether its disks tell is asked of the proof alone.
-                let _told = chunk.history();
+                chunk.laws();
                 chunk.acked_count()
             }
             None => 0,

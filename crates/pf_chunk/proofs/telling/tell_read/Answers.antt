@@ -15,15 +15,15 @@ pub returns-in_err-put_read-clause-others : goal.returns-in_err-put_read-clause-
 returns-in_err-put_read-clause-others g c n apart = ap (λ (x : GroupIs). slice_get x.taken n) c.in-Some.ensures.taken.is ∙ set_elsewhere c.args.group.now.taken c.args.one.number n _ (λ same. apart (sym same))
 
 pub returns-in-Some-clause-kept : goal.returns-in-Some-clause-kept
-returns-in-Some-clause-kept g c told = waits_no_more c.args.group.now c.args.one told (c.history-legal.ensures.legal told) c.in-Some.sectors c.take_read.new.self c.in-Some.ensures.taken
+returns-in-Some-clause-kept g c told = waits_no_more c.args.group.now c.args.one told (c.laws.ensures.legal told) c.in-Some.sectors c.take_read.new.self c.in-Some.ensures.taken
 
 pub returns-in-Some-clause-taken : goal.returns-in-Some-clause-taken
-returns-in-Some-clause-taken g c told = is_taken c.args.group.now c.args.one told (c.history-legal.ensures.legal told) c.in-Some.sectors c.take_read.new.self c.in-Some.ensures.taken
+returns-in-Some-clause-taken g c told = is_taken c.args.group.now c.args.one told (c.laws.ensures.legal told) c.in-Some.sectors c.take_read.new.self c.in-Some.ensures.taken
 
 pub returns-in-Some-clause-told : goal.returns-in-Some-clause-told
 returns-in-Some-clause-told g c told =
     c.in_ok-put_read.ensures.ok
-    ∙ ap (λ text. c.args.out.now.items ++ text) (one_line c.args.group.now c.args.one told (c.history-legal.ensures.legal told) c.in-Some.sectors c.take_read.new.self c.in-Some.ensures.taken c.args.number)
+    ∙ ap (λ text. c.args.out.now.items ++ text) (one_line c.args.group.now c.args.one told (c.laws.ensures.legal told) c.in-Some.sectors c.take_read.new.self c.in-Some.ensures.taken c.args.number)
 
 pub returns-in-Some-clause-put : goal.returns-in-Some-clause-put
 returns-in-Some-clause-put g c = (event_line (read_text c.args.number c.args.one.number c.in-Some.sectors), c.in_ok-put_read.ensures.ok)

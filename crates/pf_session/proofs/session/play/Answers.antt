@@ -1,19 +1,13 @@
-use Rattle.std.proofs.Common.{◌≤◌, length, sym, subst}
+use Rattle.std.proofs.Common.{subst}
 use Rattle.std.specs.Prelude.{IfOk}
 use Rattle.pf_liveline.specs.pf_applyrounds.proofs.Growing.{grown_trans}
 use Rattle.pf_liveline.specs.pf_shared.specs.Seats.{root_in}
 use Rattle.pf_liveline.specs.Rounds.{HasRun}
-use Rattle.pf_session.proofs.Living.{has_applied, listed, lived, longer, stopped_begun, stopped_there}
+use Rattle.pf_session.proofs.Living.{has_applied, listed, lived, stopped_begun, stopped_there}
 use Rattle.pf_session.proofs.session.play.Goals as goal
 
 pub apply_all-requires-clause-none : goal.apply_all-requires-clause-none
 apply_all-requires-clause-none g c κs within = c.close-group.ensures.none c.requires.none
-
-pub totals-totals-requires : goal.totals-totals-requires
-totals-totals-requires g c =
-    let root = root_in c.args.line.group in let then = c.close-group.result.0 in let new = c.apply_all.new.group in
-    let grown = grown_trans root then new c.close-group.ensures.grown c.apply_all.ensures.grown in
-    subst (λ n. n ≤ length new.history) (sym c.requires.began.happened) (longer root.history new.history grown.later)
 
 pub returns-in_default-clause-stopped : goal.returns-in_default-clause-stopped
 returns-in_default-clause-stopped g c =

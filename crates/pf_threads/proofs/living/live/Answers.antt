@@ -18,7 +18,7 @@ returns-in_default-clause-err g c =
     let lent = c.lend-group.result.1 in
     let was = c.lend-group.result.0 in
     let is = c.live-group.result.0 in
-    let legal = subst (λ (x : ChunkIs). IsTrue x.group.told → IsLegal x.group.setup x.group.history) c.back-chunk.ensures c.history-legal.ensures.legal in
+    let legal = subst (λ (x : ChunkIs). IsTrue x.group.told → IsLegal x.group.setup x.group.history) c.back-chunk.ensures c.laws.ensures.legal in
     let stopped = subst (λ r. OnErr r (HasStopped c.args.plan was is)) c.in_default.is c.live-group.ensures.stopped in
     subst (λ (x : ChunkIs). HasNotLived c.args.plan x c.back-chunk.result) c.lend-group.ensures.same
     (subst (HasNotLived c.args.plan (with_group lent was)) (sym c.back-chunk.ensures) (stopped_so c.args.plan (with_group lent was) (with_group lent is) legal stopped))
@@ -29,7 +29,7 @@ returns-then-is_err-clause-err g c =
     let was = c.lend-group.result.0 in
     let is = c.live-group.result.0 in
     let new = c.tell.new.self in
-    let legal = subst (λ (x : ChunkIs). IsTrue x.group.told → IsLegal x.group.setup x.group.history) c.back-chunk.ensures c.history-legal.ensures.legal in
+    let legal = subst (λ (x : ChunkIs). IsTrue x.group.told → IsLegal x.group.setup x.group.history) c.back-chunk.ensures c.laws.ensures.legal in
     let lived = subst (λ r. IfOk r (λ its. HasLived c.args.plan was its is)) c.in-Ok.is c.live-group.ensures.lived in
     let taken : new.group ≡ now_taken is new.group.taken = ap (λ (x : ChunkIs). x.group) c.tell.ensures.same ∙ ap (λ (x : ChunkIs). now_taken x.group new.group.taken) c.back-chunk.ensures in
     subst (λ (x : ChunkIs). HasNotLived c.args.plan x new) c.lend-group.ensures.same
@@ -43,7 +43,7 @@ returns-clause-went g c =
     let new = c.tell.new.self in
     let out = c.args.out.now.items in
     let put = c.tell.new.out.items in
-    let legal = subst (λ (x : ChunkIs). IsTrue x.group.told → IsLegal x.group.setup x.group.history) c.back-chunk.ensures c.history-legal.ensures.legal in
+    let legal = subst (λ (x : ChunkIs). IsTrue x.group.told → IsLegal x.group.setup x.group.history) c.back-chunk.ensures c.laws.ensures.legal in
     let lived = subst (λ r. IfOk r (λ its. HasLived c.args.plan was its is)) c.in-Ok.is c.live-group.ensures.lived in
     let told = ok_of c.tell.result _ (sym c.is_err.ensures.value ∙ c.if-is_err.false) c.tell.ensures.told in
     let same : new ≡ record (with_group lent was) { group = now_taken is new.group.taken; waiting = new.waiting } =

@@ -10,7 +10,7 @@ returns-clause-went g c =
     let new = c.hand_on.new.self in
     let m = c.args.mount in
     IfOk-weaker c.hand_on.result (λ reply. IsHeard m old reply new) (λ reply. HasHeard m old reply new) (λ reply h. h.went)
-    (is_heard m old new c.hand_on.result c.requires.ready c.history-legal.ensures.legal c.hand_on.ensures.went)
+    (is_heard m old new c.hand_on.result c.requires.ready c.laws.ensures.legal c.hand_on.ensures.went)
 
 pub returns-clause-port : goal.returns-clause-port
 returns-clause-port g c =
@@ -18,4 +18,4 @@ returns-clause-port g c =
     let new = c.hand_on.new.self in
     let m = c.args.mount in
     IfOk-weaker c.hand_on.result (λ reply. IsHeard m old reply new) (λ reply. PortDrove m reply old new) (λ reply h. h.port)
-    (is_heard m old new c.hand_on.result c.requires.ready c.history-legal.ensures.legal c.hand_on.ensures.went)
+    (is_heard m old new c.hand_on.result c.requires.ready c.laws.ensures.legal c.hand_on.ensures.went)

@@ -10,5 +10,5 @@ pub returns-clause-ok : goal.returns-clause-ok
 returns-clause-ok g c = (
   refl,
   subst (λ (v : ChunkIs). IsTrue v.group.told → c.leader.result ≡ leader_of (state_of v.group)) c.self.view_is
-      (λ told. the_leader c.self.inside.group.setup c.self.inside.group.history c.history-sound.ensures.sound.leaders c.leader.result (c.leader.ensures.leader told)),
+      (λ told. the_leader c.self.inside.group.setup c.self.inside.group.history c.laws.ensures.sound.leaders c.leader.result (c.leader.ensures.leader told)),
 )

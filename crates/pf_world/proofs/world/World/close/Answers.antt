@@ -14,7 +14,7 @@ pub loop-chunk-preserved : goal.loop-chunk-preserved
 loop-chunk-preserved g c =
     let six = c.into_disks.result in
     let e = c.into_disks.ensures in
-    let told = c.history-told.ensures.told in
+    let told = c.laws.ensures.told in
     let tells = subst (λ (b : Bool). IsTrue b) (sym told) in
     record {
       room = omega (arith, c.loop-chunk.invariant.room, c.put_six.ensures.len, c.put_six.ensures.capacity, c.in-Some.ensures.cases, c.in-Some.ensures.capacity);

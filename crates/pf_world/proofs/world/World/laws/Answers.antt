@@ -14,8 +14,8 @@ loop-chunk-init g c = record {
 
 pub loop-chunk-preserved : goal.loop-chunk-preserved
 loop-chunk-preserved g c = record {
-  lawful = one_more IsLawfulGroup c.deref-chunk-items.result.now c.loop-chunk.chunk-index c.chunk-item.result c.chunk-item.is c.loop-chunk-test.true (record { legal = c.history.ensures.legal; sound = c.history.ensures.sound }) c.loop-chunk.invariant.lawful;
-  crash = λ tells. one_more (AllLeaveAtCrash g.D.Disk.seen g.D.Disk.moment g.D.Disk.left_since g.D.Disk.tells_moments) c.deref-chunk-items.result.now c.loop-chunk.chunk-index c.chunk-item.result c.chunk-item.is c.loop-chunk-test.true (c.history.ensures.crash (subst (λ (b : Bool). IsTrue b) (sym c.history.ensures.told) tells)) (c.loop-chunk.invariant.crash tells);
+  lawful = one_more IsLawfulGroup c.deref-chunk-items.result.now c.loop-chunk.chunk-index c.chunk-item.result c.chunk-item.is c.loop-chunk-test.true (record { legal = c.laws.ensures.legal; sound = c.laws.ensures.sound }) c.loop-chunk.invariant.lawful;
+  crash = λ tells. one_more (AllLeaveAtCrash g.D.Disk.seen g.D.Disk.moment g.D.Disk.left_since g.D.Disk.tells_moments) c.deref-chunk-items.result.now c.loop-chunk.chunk-index c.chunk-item.result c.chunk-item.is c.loop-chunk-test.true (c.laws.ensures.crash (subst (λ (b : Bool). IsTrue b) (sym c.laws.ensures.told) tells)) (c.loop-chunk.invariant.crash tells);
 }
 
 pub returns-clause-sound : goal.returns-clause-sound

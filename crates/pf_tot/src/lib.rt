@@ -1,0 +1,6 @@
+//! Scratch.
+#![tactic(auto)]
+
+mod totals;
+
+pub use totals::Totals;
